@@ -1,0 +1,294 @@
+//! The fields of instructions, each in its range.
+
+ghost use Rattle.std.specs.Prelude.{◌≡◌, ℕ, ℤ, ◌<◌};
+ghost use Rattle.rv_decode.specs.Ranges.{IsReg, IsShamt, IsWordShamt, IsCsrUimm, IsImm20, IsCsrNumber, IsImm12, IsBranchOffset, IsJumpOffset};
+
+use std::marker::Model;
+
+/// A register, x0 to x31.
+#[derive(Clone, Copy, Debug, PartialEq, Eq, Drop)]
+pub struct Reg {
+    number: u8,
+}
+
+impl Model for Reg {
+    ghost Value = { ℕ };
+
+    ghost view = { λ r. r.number };
+
+    ghost invariant = { λ r. IsReg r.number };
+
+    ghost inverse = { λ n. record { number = n } };
+}
+
+impl Reg {
+    pub fn new(number: u8) -> Self
+        requires { IsReg number }
+        ensures { result ≡ number }
+    {
+        Reg { number }
+    }
+
+    pub fn number(self) -> u8
+        ensures value { result ≡ self }
+        ensures range { IsReg result }
+    {
+        self.number
+    }
+}
+
+/// How far a shift of 64 bits goes.
+#[derive(Clone, Copy, Debug, PartialEq, Eq, Drop)]
+pub struct Shamt {
+    amount: u8,
+}
+
+impl Model for Shamt {
+    ghost Value = { ℕ };
+
+    ghost view = { λ r. r.amount };
+
+    ghost invariant = { λ r. IsShamt r.amount };
+
+    ghost inverse = { λ n. record { amount = n } };
+}
+
+impl Shamt {
+    pub fn new(amount: u8) -> Self
+        requires { IsShamt amount }
+        ensures { result ≡ amount }
+    {
+        Shamt { amount }
+    }
+
+    pub fn amount(self) -> u8
+        ensures value { result ≡ self }
+        ensures range { IsShamt result }
+    {
+        self.amount
+    }
+}
+
+/// How far a shift of 32 bits goes.
+#[derive(Clone, Copy, Debug, PartialEq, Eq, Drop)]
+pub struct WordShamt {
+    amount: u8,
+}
+
+impl Model for WordShamt {
+    ghost Value = { ℕ };
+
+    ghost view = { λ r. r.amount };
+
+    ghost invariant = { λ r. IsWordShamt r.amount };
+
+    ghost inverse = { λ n. record { amount = n } };
+}
+
+impl WordShamt {
+    pub fn new(amount: u8) -> Self
+        requires { IsWordShamt amount }
+        ensures { result ≡ amount }
+    {
+        WordShamt { amount }
+    }
+
+    pub fn amount(self) -> u8
+        ensures value { result ≡ self }
+        ensures range { IsWordShamt result }
+    {
+        self.amount
+    }
+}
+
+/// The immediate of a CSR instruction, in the place of a register: 0 to 31.
+#[derive(Clone, Copy, Debug, PartialEq, Eq, Drop)]
+pub struct CsrUimm {
+    value: u8,
+}
+
+impl Model for CsrUimm {
+    ghost Value = { ℕ };
+
+    ghost view = { λ r. r.value };
+
+    ghost invariant = { λ r. IsCsrUimm r.value };
+
+    ghost inverse = { λ n. record { value = n } };
+}
+
+impl CsrUimm {
+    pub fn new(value: u8) -> Self
+        requires { IsCsrUimm value }
+        ensures { result ≡ value }
+    {
+        CsrUimm { value }
+    }
+
+    pub fn value(self) -> u8
+        ensures value { result ≡ self }
+        ensures range { IsCsrUimm result }
+    {
+        self.value
+    }
+}
+
+/// The upper 20 bits of an address.
+#[derive(Clone, Copy, Debug, PartialEq, Eq, Drop)]
+pub struct Imm20 {
+    value: u32,
+}
+
+impl Model for Imm20 {
+    ghost Value = { ℕ };
+
+    ghost view = { λ r. r.value };
+
+    ghost invariant = { λ r. IsImm20 r.value };
+
+    ghost inverse = { λ n. record { value = n } };
+}
+
+impl Imm20 {
+    pub fn new(value: u32) -> Self
+        requires { IsImm20 value }
+        ensures { result ≡ value }
+    {
+        Imm20 { value }
+    }
+
+    pub fn value(self) -> u32
+        ensures value { result ≡ self }
+        ensures range { IsImm20 result }
+    {
+        self.value
+    }
+}
+
+/// The number of a control and status register.
+#[derive(Clone, Copy, Debug, PartialEq, Eq, Drop)]
+pub struct CsrNumber {
+    number: u16,
+}
+
+impl Model for CsrNumber {
+    ghost Value = { ℕ };
+
+    ghost view = { λ r. r.number };
+
+    ghost invariant = { λ r. IsCsrNumber r.number };
+
+    ghost inverse = { λ n. record { number = n } };
+}
+
+impl CsrNumber {
+    pub fn new(number: u16) -> Self
+        requires { IsCsrNumber number }
+        ensures { result ≡ number }
+    {
+        CsrNumber { number }
+    }
+
+    pub fn number(self) -> u16
+        ensures value { result ≡ self }
+        ensures range { IsCsrNumber result }
+    {
+        self.number
+    }
+}
+
+/// A signed immediate of 12 bits.
+#[derive(Clone, Copy, Debug, PartialEq, Eq, Drop)]
+pub struct Imm12 {
+    value: i32,
+}
+
+impl Model for Imm12 {
+    ghost Value = { ℤ };
+
+    ghost view = { λ r. r.value };
+
+    ghost invariant = { λ r. IsImm12 r.value };
+
+    ghost inverse = { λ n. record { value = n } };
+}
+
+impl Imm12 {
+    pub fn new(value: i32) -> Self
+        requires { IsImm12 value }
+        ensures { result ≡ value }
+    {
+        Imm12 { value }
+    }
+
+    pub fn value(self) -> i32
+        ensures value { result ≡ self }
+        ensures range { IsImm12 result }
+    {
+        self.value
+    }
+}
+
+/// An even signed offset of 13 bits.
+#[derive(Clone, Copy, Debug, PartialEq, Eq, Drop)]
+pub struct BranchOffset {
+    value: i32,
+}
+
+impl Model for BranchOffset {
+    ghost Value = { ℤ };
+
+    ghost view = { λ r. r.value };
+
+    ghost invariant = { λ r. IsBranchOffset r.value };
+
+    ghost inverse = { λ n. record { value = n } };
+}
+
+impl BranchOffset {
+    pub fn new(value: i32) -> Self
+        requires { IsBranchOffset value }
+        ensures { result ≡ value }
+    {
+        BranchOffset { value }
+    }
+
+    pub fn value(self) -> i32
+        ensures value { result ≡ self }
+        ensures range { IsBranchOffset result }
+    {
+        self.value
+    }
+}
+
+/// An even signed offset of 21 bits.
+#[derive(Clone, Copy, Debug, PartialEq, Eq, Drop)]
+pub struct JumpOffset {
+    value: i32,
+}
+
+impl Model for JumpOffset {
+    ghost Value = { ℤ };
+
+    ghost view = { λ r. r.value };
+
+    ghost invariant = { λ r. IsJumpOffset r.value };
+
+    ghost inverse = { λ n. record { value = n } };
+}
+
+impl JumpOffset {
+    pub fn new(value: i32) -> Self
+        requires { IsJumpOffset value }
+        ensures { result ≡ value }
+    {
+        JumpOffset { value }
+    }
+
+    pub fn value(self) -> i32
+        ensures value { result ≡ self }
+        ensures range { IsJumpOffset result }
+    {
+        self.value
+    }
+}
