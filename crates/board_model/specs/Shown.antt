@@ -1,0 +1,55 @@
+-- How the code's values show those of the model.
+use Rattle.std.specs.Prelude.{◌≡◌, ℕ, Option, Some, None, Result, IfOk, IfErr}
+use Rattle.board_model.specs.declared.durable.Command.{Command}
+use Rattle.board_model.specs.declared.durable.Command.TheVariants as commands
+use Rattle.board_model.specs.declared.durable.Reason.{Reason}
+use Rattle.board_model.specs.declared.durable.Reason.TheVariants.{NoReason, SystemFailure}
+use Rattle.board_model.specs.declared.durable.ImageHead.{ImageHead}
+use Rattle.board_model.specs.declared.durable.Durable.{Durable}
+use Rattle.board_model.specs.declared.refusal.Refusal.{Refusal}
+use Rattle.board_model.specs.declared.refusal.Refusal.TheVariants as refusals
+use Rattle.board_model.specs.Durable.{Image, State, Change, Slot, Reset, Consume, Discard, after, refusal_of}
+
+-- The SBI specification 2.0, chapter SRST: 0 no reason, 1 system failure.
+abbrev pub reason_number : Reason → ℕ
+reason_number NoReason = 0
+reason_number SystemFailure = 1
+
+-- The model's command. A suspension carries a memory, and has a call of its own.
+abbrev pub change_of : Command → Change
+change_of (commands.Slot n) = Slot n
+change_of (commands.Reset r) = Reset r
+change_of commands.Consume = Consume
+change_of commands.Discard = Discard
+
+-- The durable state as the code knows it: all but the memory of the image.
+abbrev pub head_of : Option Image → Option ImageHead
+head_of None = None
+head_of (Some i) = Some (record { serial = i.serial; hart = i.hart; address = i.address; opaque = i.opaque })
+
+abbrev pub durable_of : State → Durable
+durable_of s = record { image = head_of s.image; slot = s.slot; reason = s.reason; next = s.next }
+
+-- The number of a refusal.
+abbrev pub number_of : Refusal → ℕ
+number_of refusals.NotFormatted = 1
+number_of refusals.AlreadyFormatted = 2
+number_of refusals.BadShape = 3
+number_of refusals.BadRecord = 4
+number_of refusals.Device = 5
+number_of refusals.Down = 6
+number_of refusals.Over = 7
+number_of refusals.NoImage = 8
+number_of refusals.BadSlot = 9
+number_of refusals.JournalFull = 10
+number_of refusals.Memory = 11
+number_of refusals.SerialsSpent = 12
+number_of refusals.BadImage = 13
+number_of (refusals.BadScript line) = 14
+number_of refusals.ImageThere = 15
+number_of refusals.Output = 16
+
+-- What a call that computes the next state answers: the table's refusal, or the state after the command.
+pub record IsNextOf (s : State) (c : Change) (result : Result Durable Refusal) : Type 0 where
+  pub goes : IfOk result (λ d. (refusal_of s c ≡ None) × (d ≡ durable_of (after s c)))
+  pub refused : IfErr result (λ e. refusal_of s c ≡ Some (number_of e))

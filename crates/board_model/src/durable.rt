@@ -1,0 +1,115 @@
+//! The durable state as the code knows it, and its commands.
+
+ghost use Rattle.std.specs.Prelude.{◌≡◌, ℕ, List};
+ghost use Rattle.board_model.specs.Durable.{State, Suspend, Consume, Discard};
+ghost use Rattle.board_model.specs.Shown.{reason_number, change_of, durable_of, IsNextOf};
+
+use crate::numbers::{Addr, HartId, Slot};
+use crate::refusal::Refusal;
+
+/// Why the board was reset (SBI specification 2.0, chapter SRST).
+#[derive(Clone, Copy, Debug, PartialEq, Eq, Drop)]
+pub enum Reason {
+    NoReason,
+    SystemFailure,
+}
+
+impl Reason {
+    /// The number that SRST gives it: 0 no reason, 1 system failure.
+    pub fn number(self) -> u32
+        ensures { result ≡ reason_number self }
+    {
+        match self {
+            Reason::NoReason => 0,
+            Reason::SystemFailure => 1,
+        }
+    }
+}
+
+/// A durable command that carries no memory. `Slot` may name any number, and is refused above 3.
+#[derive(Clone, Copy, Debug, PartialEq, Eq, Drop)]
+pub enum Command {
+    Slot(u32),
+    Reset(Reason),
+    Consume,
+    Discard,
+}
+
+/// What stands of an image beside its memory.
+#[derive(Clone, Copy, Debug, PartialEq, Eq, Drop)]
+pub struct ImageHead {
+    /// The serial that its suspension took.
+    pub serial: u64,
+    /// The hart that suspended the board, and that is resumed.
+    pub hart: HartId,
+    /// The address at which it is resumed.
+    pub address: Addr,
+    /// The value that it is resumed with, in a1.
+    pub opaque: u64,
+}
+
+/// The durable state without the image's memory.
+#[derive(Clone, Copy, Debug, PartialEq, Eq, Drop)]
+pub struct Durable {
+    pub image: Option<ImageHead>,
+    pub slot: Slot,
+    pub reason: Reason,
+    /// The serial of the next suspension.
+    pub next: u64,
+}
+
+impl Durable {
+    /// The state after the command: docs/DURABLE.md, "Commands". Refused `BadSlot` for a slot above 3, and `NoImage` for
+    /// Consume or Discard without an image.
+    pub fn after(&self, command: Command) -> Result<Durable, Refusal>
+        ensures { (s : State) → durable_of s ≡ self.now → IsNextOf s (change_of command) result }
+    {
+        match command {
+            Command::Slot(number) => {
+                let slot = Slot::new(number).ok_or(Refusal::BadSlot)?;
+                Ok(Durable { slot, ..*self })
+            }
+            Command::Reset(reason) => Ok(Durable { reason, ..*self }),
+            Command::Consume => self.without_image(),
+            Command::Discard => self.without_image(),
+        }
+    }
+
+    /// The state after a suspension by `hart`, to be resumed at `address` with `opaque` in a1, whatever the memory.
+    /// Refused `SerialsSpent` where the next serial is 2^64 - 1.
+    pub fn after_suspend(
+        &self,
+        hart: HartId,
+        address: Addr,
+        opaque: u64,
+    ) -> Result<Durable, Refusal>
+        ensures { (s : State) (memory : List ℕ) → durable_of s ≡ self.now → IsNextOf s (Suspend hart address opaque memory) result }
+    {
+        let serial = self.next;
+        let next = serial.checked_add(1).ok_or(Refusal::SerialsSpent)?;
+        let image = ImageHead {
+            serial,
+            hart,
+            address,
+            opaque,
+        };
+        Ok(Durable {
+            image: Some(image),
+            next,
+            ..*self
+        })
+    }
+
+    fn without_image(&self) -> Result<Durable, Refusal>
+        ensures consume { (s : State) → durable_of s ≡ self.now → IsNextOf s Consume result }
+        ensures discard { (s : State) → durable_of s ≡ self.now → IsNextOf s Discard result }
+    {
+        if self.image.is_none() {
+            return Err(Refusal::NoImage);
+        }
+        Ok(Durable {
+            image: None,
+            ..*self
+        })
+    }
+}

@@ -1,0 +1,20 @@
+//! The words of the board that every crate above speaks: numbers in their range, the shape of a board, the durable
+//! state with its commands, and the refusals. docs/DURABLE.md tells the rules in plain words.
+#![tactic(auto)]
+
+mod durable;
+mod laws;
+mod limits;
+mod numbers;
+mod refusal;
+mod shape;
+
+pub use durable::{Command, Durable, ImageHead, Reason};
+pub use laws::{image_never_again, longer_list, serials_rise, slot_and_reset_leave_the_image};
+pub use limits::{
+    MAX_COMMANDS, MAX_HARTS, MAX_LANES, MAX_LINE_BYTES, MAX_PAGES, MAX_SCRIPT_LINES, PAGE_BYTES,
+    RAM_BASE, SECTOR_BYTES, SLOTS,
+};
+pub use numbers::{Addr, HartId, PageNo, Slot};
+pub use refusal::Refusal;
+pub use shape::Shape;

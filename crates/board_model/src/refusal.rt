@@ -1,0 +1,87 @@
+//! Why a call was refused.
+
+ghost use Rattle.std.specs.Prelude.{◌≡◌, ℕ};
+ghost use Rattle.board_model.specs.Shown.{number_of};
+ghost use Rattle.board_model.specs.declared.refusal.Refusal.TheVariants.{Memory};
+
+use std::alloc::{AllocError, AllocFailed};
+use thiserror::Error;
+
+/// Why a call was refused. What stands after each refusal is said at the calls, and in docs/REFUSALS.md.
+#[derive(Clone, Copy, Debug, PartialEq, Eq, Drop, Error)]
+pub enum Refusal {
+    #[error("the disk is not formatted")]
+    NotFormatted,
+    #[error("the disk is formatted already")]
+    AlreadyFormatted,
+    #[error("a number of the shape is out of its range, or the disk, the payload or the RAM does not fit the shape")]
+    BadShape,
+    #[error("the selected record is not in its form")]
+    BadRecord,
+    #[error("the device failed, and the durable state is unchanged")]
+    Device,
+    #[error("the fate of a command is in doubt until the disk is opened again")]
+    Down,
+    #[error("this life has ended by a reset or a suspension")]
+    Over,
+    #[error("no image stands")]
+    NoImage,
+    #[error("the boot slot is above 3")]
+    BadSlot,
+    #[error("the journal of this life is full")]
+    JournalFull,
+    #[error("memory was refused")]
+    Memory,
+    #[error("every serial has been given out")]
+    SerialsSpent,
+    #[error("a place of the image is not in its form")]
+    BadImage,
+    #[error("line {0} of the script is not in its form")]
+    BadScript(u64),
+    #[error("an image stands, and a fresh boot would leave it behind")]
+    ImageThere,
+    #[error("the report could not be written")]
+    Output,
+}
+
+impl Refusal {
+    /// The number of the refusal, as reports and fault texts print it (docs/REFUSALS.md).
+    pub fn code(self) -> u32
+        ensures { result ≡ number_of self }
+    {
+        match self {
+            Refusal::NotFormatted => 1,
+            Refusal::AlreadyFormatted => 2,
+            Refusal::BadShape => 3,
+            Refusal::BadRecord => 4,
+            Refusal::Device => 5,
+            Refusal::Down => 6,
+            Refusal::Over => 7,
+            Refusal::NoImage => 8,
+            Refusal::BadSlot => 9,
+            Refusal::JournalFull => 10,
+            Refusal::Memory => 11,
+            Refusal::SerialsSpent => 12,
+            Refusal::BadImage => 13,
+            Refusal::BadScript(_) => 14,
+            Refusal::ImageThere => 15,
+            Refusal::Output => 16,
+        }
+    }
+}
+
+impl From<AllocError> for Refusal {
+    ghost from_gives = { λ _ e. e ≡ Memory };
+
+    fn from(_e: AllocError) -> Refusal {
+        Refusal::Memory
+    }
+}
+
+impl<T: Drop> From<AllocFailed<T>> for Refusal {
+    ghost from_gives = { λ _ e. e ≡ Memory };
+
+    fn from(_e: AllocFailed<T>) -> Refusal {
+        Refusal::Memory
+    }
+}
