@@ -1,0 +1,69 @@
+-- How runs of calls go on.
+use Rattle.std.proofs.Common.{inl, inr, ⊎_elim, refl, sym, subst, arith}
+use Rattle.disk.specs.Facts.{Content, Facts, After, Passes, Stays, Unchanged, Leaves_only}
+
+-- two runs, one after the other
+pub passes_then : (a b c : Facts) (first second : Content → Content → Type 0) → Passes a b first → Passes b c second
+    → ((x y z : Content) → first x y → second y z → first x z) → Passes a c first
+passes_then a b c first second p q goes = record {
+  later = omega (arith, p.later, q.later);
+  now = λ x left. both x (q.now x left);
+  nothing_else = λ t x le left. ⊎_elim (λ past. p.nothing_else t x le past) (λ step. inr (both x step)) (q.nothing_else t x (omega (arith, le, p.later)) left);
+  keeps = λ t x le past. q.keeps t x (omega (arith, le, p.later)) (p.keeps t x le past);
+}
+  where
+    both : (x : Content) → After b second x → After a first x
+    both x step =
+        let from = p.now step.0 step.1 in
+        (from.0, from.1, goes from.0 step.0 x from.2 step.2)
+
+-- and one in which a crash leaves what it might have left before
+pub passes_stays : (a b c : Facts) (step : Content → Content → Type 0) → Passes a b step → Passes b c Stays → Passes a c step
+passes_stays a b c step p q = passes_then a b c step Stays p q (λ x y z s same. subst (λ (w : Content). step x w) (sym same) s)
+
+-- arming a fault is no call
+pub passes_unchanged : (a b : Facts) → Unchanged a b → Passes a b Stays
+passes_unchanged a b same = record {
+  later = omega (arith, same.moment);
+  now = λ c left. (c, (same.now c).0 left, refl);
+  nothing_else = λ t c le left. inl ((same.since t c).0 left);
+  keeps = λ t c le left. (same.since t c).1 left;
+}
+
+-- before the first call
+pub leaves_none : (a : Facts) (P : Content → Type 0) → ((c : Content) → a.since a.moment c → a.may_leave c) → ((c : Content) → a.may_leave c → P c) → Leaves_only a a P
+leaves_none a P only here = record { later = omega arith; now = here; each = λ c left. here c (only c left); before = λ t c le left. inl left }
+
+-- one run more
+pub leaves_more : (a b c : Facts) (P : Content → Type 0) (step : Content → Content → Type 0) → Leaves_only a b P → Passes b c step
+    → ((x y : Content) → b.may_leave x → step x y → P y) → Leaves_only a c P
+leaves_more a b c P step so_far p has = record {
+  later = omega (arith, so_far.later, p.later);
+  now = λ x left. is x (p.now x left);
+  each = λ x left. ⊎_elim (so_far.each x) (is x) (p.nothing_else a.moment x so_far.later left);
+  before = λ t x le left. ⊎_elim (so_far.before t x le) (λ s. inr (is x s)) (p.nothing_else t x (omega (arith, le, so_far.later)) left);
+}
+  where
+    is : (x : Content) → After b step x → P x
+    is x s = has s.0 x s.1 s.2
+
+pub leaves_stays : (a b c : Facts) (P : Content → Type 0) → Leaves_only a b P → Passes b c Stays → Leaves_only a c P
+leaves_stays a b c P so_far p = leaves_more a b c P Stays so_far p (λ x y left same. subst P (sym same) (so_far.now x left))
+
+-- what holds of two runs, one after the other
+pub leaves_then : (a b c : Facts) (P : Content → Type 0) → Leaves_only a b P → Leaves_only b c P → Leaves_only a c P
+leaves_then a b c P first second = record {
+  later = omega (arith, first.later, second.later);
+  now = second.now;
+  each = λ x left. ⊎_elim (first.each x) (λ has. has) (second.before a.moment x first.later left);
+  before = λ t x le left. ⊎_elim (first.before t x le) (λ has. inr has) (second.before t x (omega (arith, le, first.later)) left);
+}
+
+-- what has P has Q
+pub leaves_weaker : (a b : Facts) (P Q : Content → Type 0) → Leaves_only a b P → ((c : Content) → P c → Q c) → Leaves_only a b Q
+leaves_weaker a b P Q only has = record {
+  later = only.later;
+  now = λ x left. has x (only.now x left);
+  each = λ x left. has x (only.each x left);
+  before = λ t x le left. ⊎_elim (λ past. inl past) (λ p. inr (has x p)) (only.before t x le left);
+}
