@@ -1,0 +1,5 @@
+pub mod Words
+pub mod Rows
+pub mod Lines
+pub mod Scripts
+pub mod Seen

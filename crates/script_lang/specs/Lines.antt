@@ -1,0 +1,66 @@
+-- The lines of the script language: a keyword, and its row.
+use Rattle.std.specs.Prelude.{ℕ, List, [], ◌∷◌, Option, Some, None, if◌then◌else◌}
+use Rattle.std.specs.Str.{bytes_eq}
+use Rattle.board_model.specs.Shapes.{Size}
+use Rattle.script_lang.specs.Words.{◌>>=◌, none_of}
+use Rattle.script_lang.specs.Rows.{payload_of, on_of, slot_of, turn_of, call_of, reg_of, pc_of, csr_of, mem_of, cutat_of, cutlane_of, failat_of, faillane_of, cut_of, poke_of}
+use Rattle.script_lang.specs.declared.line.Keyword.{Keyword}
+use Rattle.script_lang.specs.declared.line.Keyword.TheVariants as keywords
+use Rattle.script_lang.specs.declared.line.Line.{Line}
+use Rattle.script_lang.specs.declared.line.Line.TheVariants.{Format, Discard, Pending}
+use lib.Chars.{codes}
+
+abbrev pub keyword_of : List ℕ → Option Keyword
+keyword_of word =
+    if bytes_eq word (codes "payload") then Some keywords.Payload else
+    (if bytes_eq word (codes "format") then Some keywords.Format else
+    (if bytes_eq word (codes "on") then Some keywords.On else
+    (if bytes_eq word (codes "slot") then Some keywords.Slot else
+    (if bytes_eq word (codes "discard") then Some keywords.Discard else
+    (if bytes_eq word (codes "turn") then Some keywords.Turn else
+    (if bytes_eq word (codes "call") then Some keywords.Call else
+    (if bytes_eq word (codes "reg") then Some keywords.Reg else
+    (if bytes_eq word (codes "pc") then Some keywords.Pc else
+    (if bytes_eq word (codes "csr") then Some keywords.Csr else
+    (if bytes_eq word (codes "pending") then Some keywords.Pending else
+    (if bytes_eq word (codes "mem") then Some keywords.Mem else
+    (if bytes_eq word (codes "cutat") then Some keywords.CutAt else
+    (if bytes_eq word (codes "cutlane") then Some keywords.CutLane else
+    (if bytes_eq word (codes "failat") then Some keywords.FailAt else
+    (if bytes_eq word (codes "faillane") then Some keywords.FailLane else
+    (if bytes_eq word (codes "cut") then Some keywords.Cut else
+    (if bytes_eq word (codes "poke") then Some keywords.Poke else None)))))))))))))))))
+
+-- a line that is its keyword alone
+abbrev pub alone : Line → List (List ℕ) → Option Line
+alone line words = do
+  nothing ← none_of words
+  Some line
+
+-- what a keyword and the words after it say, on a board of this size
+abbrev pub body_of : Size → Keyword → List (List ℕ) → Option Line
+body_of size keywords.Payload words = payload_of words
+body_of size keywords.Format words = alone Format words
+body_of size keywords.On words = on_of words
+body_of size keywords.Slot words = slot_of words
+body_of size keywords.Discard words = alone Discard words
+body_of size keywords.Turn words = turn_of size words
+body_of size keywords.Call words = call_of size words
+body_of size keywords.Reg words = reg_of size words
+body_of size keywords.Pc words = pc_of size words
+body_of size keywords.Csr words = csr_of size words
+body_of size keywords.Pending words = alone Pending words
+body_of size keywords.Mem words = mem_of size words
+body_of size keywords.CutAt words = cutat_of words
+body_of size keywords.CutLane words = cutlane_of size words
+body_of size keywords.FailAt words = failat_of words
+body_of size keywords.FailLane words = faillane_of size words
+body_of size keywords.Cut words = cut_of words
+body_of size keywords.Poke words = poke_of size words
+
+-- what the words of a line say
+abbrev pub line_of : Size → List (List ℕ) → Option Line
+line_of size [] = None
+line_of size (first ∷ words) = do
+  keyword ← keyword_of first
+  body_of size keyword words

@@ -1,0 +1,92 @@
+//! What a line of a script says.
+
+use crate::bytes::Bytes;
+use board_model::{HartId, Slot};
+
+/// The four ways to power on.
+#[derive(Clone, Copy, Debug, PartialEq, Eq)]
+pub enum BootMode {
+    /// Boot the slot; refused where an image stands.
+    Fresh,
+    /// Boot the slot and leave an image where it is.
+    Keep,
+    /// Drop the image, then boot the slot; refused without an image.
+    Discard,
+    /// Go on with the image; refused without one.
+    Resume,
+}
+
+/// What a range that was written since the last sync holds after a power cut.
+#[derive(Clone, Copy, Debug, PartialEq, Eq)]
+pub enum Fill {
+    /// Its bytes at that sync.
+    Old,
+    /// The bytes of its last write.
+    New,
+    /// This byte throughout.
+    Byte(u8),
+}
+
+/// The first word of a line.
+#[derive(Clone, Copy, Debug, PartialEq, Eq)]
+pub enum Keyword {
+    Payload,
+    Format,
+    On,
+    Slot,
+    Discard,
+    Turn,
+    Call,
+    Reg,
+    Pc,
+    Csr,
+    Pending,
+    Mem,
+    CutAt,
+    CutLane,
+    FailAt,
+    FailLane,
+    Cut,
+    Poke,
+}
+
+/// A line after the board line. Harts, lanes, addresses and sectors are in the ranges of that board.
+#[derive(Debug, Drop)]
+pub enum Line {
+    /// `payload S HEX`: what the slot boots, 1 to 1,024 bytes.
+    Payload(Slot, Bytes),
+    /// `format`
+    Format,
+    /// `on MODE`: power on.
+    On(BootMode),
+    /// `slot S`: the durable command, with any number below 2^32.
+    Slot(u32),
+    /// `discard`: the durable command.
+    Discard,
+    /// `turn H N`: up to N turns of the hart, 1 to 1,000,000.
+    Turn(HartId, u32),
+    /// `call H EID FID A0 A1 A2`: an SBI call of the hart; missing arguments are 0.
+    Call(HartId, u64, u64, u64, u64, u64),
+    /// `reg H R`: a register, 0 to 31.
+    Reg(HartId, u32),
+    /// `pc H`
+    Pc(HartId),
+    /// `csr H C`: one of the nine CSRs, by its number.
+    Csr(HartId, u32),
+    /// `pending`
+    Pending,
+    /// `mem A N`: that many bytes of RAM from an address on, 1 to 64.
+    Mem(u64, u32),
+    /// `cutat N FILL`: power fails at the N-th disk call from here on, 1 to 1,000,000.
+    CutAt(u32, Fill),
+    /// `cutlane I N FILL`: power fails at the N-th call of that lane from here on.
+    CutLane(u32, u32, Fill),
+    /// `failat N`: the N-th disk call from here on fails.
+    FailAt(u32),
+    /// `faillane I N`: the N-th call of that lane from here on fails.
+    FailLane(u32, u32),
+    /// `cut FILL`: power fails now.
+    Cut(Fill),
+    /// `poke SECTOR OFFSET HEX`: bytes written into one sector past the firmware.
+    Poke(u32, u32, Bytes),
+}

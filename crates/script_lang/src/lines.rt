@@ -1,0 +1,96 @@
+//! One line.
+
+ghost use Rattle.std.specs.Prelude.{◌≡◌, map, IfOk};
+ghost use Rattle.script_lang.specs.Lines.{keyword_of, alone, body_of, line_of};
+
+use crate::line::{Keyword, Line};
+use crate::rows;
+use crate::words::none;
+use board_model::Shape;
+use std::alloc::{AllocError, Global};
+
+fn keyword(word: &[u8]) -> Option<Keyword>
+    ensures { result ≡ keyword_of word.now }
+{
+    macro_rules! first_of {
+        ($($text:literal => $keyword:ident),*) => {
+            $(
+                if word == $text.as_slice() {
+                    return Some(Keyword::$keyword);
+                }
+            )*
+        };
+    }
+    first_of!(
+        b"payload" => Payload,
+        b"format" => Format,
+        b"on" => On,
+        b"slot" => Slot,
+        b"discard" => Discard,
+        b"turn" => Turn,
+        b"call" => Call,
+        b"reg" => Reg,
+        b"pc" => Pc,
+        b"csr" => Csr,
+        b"pending" => Pending,
+        b"mem" => Mem,
+        b"cutat" => CutAt,
+        b"cutlane" => CutLane,
+        b"failat" => FailAt,
+        b"faillane" => FailLane,
+        b"cut" => Cut,
+        b"poke" => Poke
+    );
+    None
+}
+
+/// A line that is its keyword alone.
+fn alone(line: Line, words: &[&[u8]]) -> Option<Line>
+    ensures { result ≡ alone line (map (λ w. w.now) words.now) }
+{
+    none(words)?;
+    Some(line)
+}
+
+fn body(
+    alloc: Global,
+    shape: &Shape,
+    keyword: Keyword,
+    words: &[&[u8]],
+) -> Result<Option<Line>, AllocError>
+    ensures { IfOk result (λ line. line ≡ body_of shape.now keyword (map (λ w. w.now) words.now)) }
+{
+    Ok(match keyword {
+        Keyword::Payload => rows::payload(alloc, words)?,
+        Keyword::Format => alone(Line::Format, words),
+        Keyword::On => rows::on(words),
+        Keyword::Slot => rows::slot(words),
+        Keyword::Discard => alone(Line::Discard, words),
+        Keyword::Turn => rows::turn(shape, words),
+        Keyword::Call => rows::call(shape, words),
+        Keyword::Reg => rows::reg(shape, words),
+        Keyword::Pc => rows::pc(shape, words),
+        Keyword::Csr => rows::csr(shape, words),
+        Keyword::Pending => alone(Line::Pending, words),
+        Keyword::Mem => rows::mem(shape, words),
+        Keyword::CutAt => rows::cutat(words),
+        Keyword::CutLane => rows::cutlane(shape, words),
+        Keyword::FailAt => rows::failat(words),
+        Keyword::FailLane => rows::faillane(shape, words),
+        Keyword::Cut => rows::cut(words),
+        Keyword::Poke => rows::poke(alloc, shape, words)?,
+    })
+}
+
+/// The line that its words say on a board of this shape; None where they are no line.
+pub fn line(alloc: Global, shape: &Shape, words: &[&[u8]]) -> Result<Option<Line>, AllocError>
+    ensures { IfOk result (λ line. line ≡ line_of shape.now (map (λ w. w.now) words.now)) }
+{
+    let [first, others @ ..] = words else {
+        return Ok(None);
+    };
+    let Some(keyword) = keyword(first) else {
+        return Ok(None);
+    };
+    body(alloc, shape, keyword, others)
+}

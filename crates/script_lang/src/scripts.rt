@@ -1,0 +1,162 @@
+//! A whole script.
+
+ghost use Rattle.std.specs.Prelude.{◌≡◌, ◌+◌, ◌≤◌, ◌==◌, map, length, IfOk, ℕ};
+ghost use Rattle.std.specs.List.{slice_split};
+ghost use Rattle.script_lang.specs.Words.{words_of, three_of};
+ghost use Rattle.script_lang.specs.Lines.{line_of};
+ghost use Rattle.script_lang.specs.Scripts.{Gives, is_sound, is_passed, lines_of, size_of_words, board_of, or_fault, rest_of, from_board, lines_from, script_of};
+ghost use Rattle.script_lang.specs.Seen.{view};
+
+use crate::line::Line;
+use crate::lines::line;
+use crate::words::{number, three};
+use board_model::{MAX_LINE_BYTES, MAX_SCRIPT_LINES, Refusal, Shape};
+use std::alloc::{AllocError, Global};
+
+/// A script: the shape of its board, and the lines after the board line.
+#[derive(Drop)]
+pub struct Script {
+    pub shape: Shape,
+    pub lines: Vec<Line>,
+}
+
+fn is_sound(n: u64, line: &[u8]) -> bool
+    ensures { result ≡ is_sound n line.now }
+{
+    n <= MAX_SCRIPT_LINES as u64 && line.len() <= MAX_LINE_BYTES
+}
+
+fn is_passed(line: &[u8]) -> bool
+    ensures { result ≡ is_passed line.now }
+{
+    line.is_empty() || line[0] == b'#'
+}
+
+fn words(alloc: Global, line: &[u8]) -> Result<Vec<&[u8]>, AllocError>
+    ensures { IfOk result (λ v. map (λ w. w.now) v.items ≡ words_of line.now) }
+{
+    line.split(|b| *b == b' ').collect(alloc)
+}
+
+fn all_parts(alloc: Global, script: &[u8]) -> Result<Vec<&[u8]>, AllocError>
+    ensures { IfOk result (λ v. map (λ w. w.now) v.items ≡ slice_split (λ b. b == 10) script.now) }
+{
+    script.split(|b| *b == b'\n').collect(alloc)
+}
+
+fn whole_lines(alloc: Global, script: &[u8]) -> Result<Vec<&[u8]>, AllocError>
+    ensures { IfOk result (λ v. map (λ w. w.now) v.items ≡ lines_of script.now) }
+{
+    let mut lines = all_parts(alloc, script)?;
+    let count = lines.len();
+    if 0 < count && lines[count - 1].is_empty() {
+        lines.truncate(count - 1);
+    }
+    Ok(lines)
+}
+
+fn line_at(alloc: Global, shape: &Shape, n: u64, bytes: &[u8]) -> Result<Line, Refusal>
+    ensures { Gives (λ x. x) result (or_fault n (line_of shape.now (words_of bytes.now))) }
+{
+    let words = words(alloc, bytes)?;
+    match line(alloc, shape, &words)? {
+        Some(line) => Ok(line),
+        None => Err(Refusal::BadScript(n)),
+    }
+}
+
+fn shape(n: u64, words: &[&[u8]]) -> Result<Shape, Refusal>
+    ensures { Gives (λ shape. shape) result (size_of_words n (three_of (map (λ w. w.now) words.now))) }
+{
+    let Some((h, p, l)) = three(words) else {
+        return Err(Refusal::BadScript(n));
+    };
+    match (number(h), number(p), number(l)) {
+        (Some(harts), Some(pages), Some(lanes)) => Shape::new(harts, pages, lanes),
+        _ => Err(Refusal::BadScript(n)),
+    }
+}
+
+fn board_line(n: u64, words: &[&[u8]]) -> Result<Shape, Refusal>
+    ensures { Gives (λ shape. shape) result (board_of n (map (λ w. w.now) words.now)) }
+{
+    match words {
+        [] => Err(Refusal::BadScript(n)),
+        [first, others @ ..] => {
+            if *first == b"board".as_slice() {
+                shape(n, others)
+            } else {
+                Err(Refusal::BadScript(n))
+            }
+        }
+    }
+}
+
+fn board_at(alloc: Global, n: u64, bytes: &[u8]) -> Result<Shape, Refusal>
+    ensures { Gives (λ shape. shape) result (board_of n (words_of bytes.now)) }
+{
+    let words = words(alloc, bytes)?;
+    board_line(n, &words)
+}
+
+#[tactic(auto, unfolding(crate::specs::Scripts::rest_of))]
+fn rest(alloc: Global, shape: &Shape, start: u64, lines: &[&[u8]]) -> Result<Vec<Line>, Refusal>
+    requires { start ≤ 65537 }
+    ensures value { Gives (λ v. v.items) result (rest_of shape.now start (map (λ w. w.now) lines.now)) }
+    ensures few { IfOk result (λ v. length v.items + start ≤ 65537) }
+{
+    let mut found = Vec::new(alloc);
+    let mut n = start;
+    for bytes in lines {
+        if !is_sound(n, bytes) {
+            return Err(Refusal::BadScript(n));
+        }
+        if !is_passed(bytes) {
+            let line = line_at(alloc, shape, n, bytes)?;
+            found.push(line)?;
+        }
+        n += 1;
+    }
+    Ok(found)
+}
+
+fn after_board(alloc: Global, n: u64, bytes: &[u8], others: &[&[u8]]) -> Result<Script, Refusal>
+    requires low { 1 ≤ n }
+    requires high { n ≤ 65536 }
+    ensures value { Gives view result (from_board n bytes.now (map (λ w. w.now) others.now)) }
+    ensures few { IfOk result (λ script. length script.lines.items ≤ 65535) }
+{
+    let shape = board_at(alloc, n, bytes)?;
+    let lines = rest(alloc, &shape, n + 1, others)?;
+    Ok(Script { shape, lines })
+}
+
+#[tactic(auto, unfolding(crate::specs::Scripts::lines_from))]
+fn checked(alloc: Global, lines: &[&[u8]]) -> Result<Script, Refusal>
+    ensures value { Gives view result (lines_from 1 (map (λ w. w.now) lines.now)) }
+    ensures few { IfOk result (λ script. length script.lines.items ≤ 65535) }
+{
+    let mut n = 1;
+    for (i, bytes) in lines.iter().enumerate() {
+        if !is_sound(n, bytes) {
+            return Err(Refusal::BadScript(n));
+        }
+        if !is_passed(bytes) {
+            return after_board(alloc, n, bytes, &lines[i + 1..]);
+        }
+        n += 1;
+    }
+    Err(Refusal::BadScript(1))
+}
+
+/// The script that the bytes say, by the grammar of docs/SCRIPT.md. Any bytes at all are answered: where they are no
+/// script, the refusal is that of the first fault in the order of the lines, `BadShape` for numbers of the board line
+/// that are out of range, and else `BadScript` with the number of the line, from 1. `Memory` is answered only where
+/// memory was refused.
+pub fn parse_script(alloc: Global, script: &[u8]) -> Result<Script, Refusal>
+    ensures value { Gives view result (script_of script.now) }
+    ensures few { IfOk result (λ script. length script.lines.items ≤ 65535) }
+{
+    let lines = whole_lines(alloc, script)?;
+    checked(alloc, &lines)
+}
