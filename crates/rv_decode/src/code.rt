@@ -6,11 +6,15 @@ ghost use Rattle.rv_decode.specs.declared.instr.Instr.{Instr};
 
 use super::fields::{CsrNumber, CsrUimm, Imm20, Reg, Shamt, WordShamt};
 use super::instr::Instr;
+use super::opcode::{
+    ADDIW_FUNCT3, AUIPC, BRANCH, FENCE_FUNCT3, JAL, JALR, JALR_FUNCT3, LOAD, LUI, MISC_MEM, OP,
+    OP_32, OP_IMM, OP_IMM_32, STORE, SYSTEM,
+};
 use super::tables;
 use super::word::{self, Parts};
 
 fn upper(parts: Parts) -> Option<Instr>
-    requires { (parts.opcode ≡ 0x37) ⊎ (parts.opcode ≡ 0x17) }
+    requires { (parts.opcode ≡ LUI) ⊎ (parts.opcode ≡ AUIPC) }
     ensures found { IfSome result (λ i. spells i parts.word) }
     ensures none { IfNone result ((i : Instr) → spells i parts.word → ⊥) }
 {
@@ -23,7 +27,7 @@ fn upper(parts: Parts) -> Option<Instr>
 }
 
 fn jal(parts: Parts) -> Option<Instr>
-    requires { parts.opcode ≡ 0x6f }
+    requires { parts.opcode ≡ JAL }
     ensures found { IfSome result (λ i. spells i parts.word) }
     ensures none { IfNone result ((i : Instr) → spells i parts.word → ⊥) }
 {
@@ -34,11 +38,11 @@ fn jal(parts: Parts) -> Option<Instr>
 }
 
 fn jalr(parts: Parts) -> Option<Instr>
-    requires { parts.opcode ≡ 0x67 }
+    requires { parts.opcode ≡ JALR }
     ensures found { IfSome result (λ i. spells i parts.word) }
     ensures none { IfNone result ((i : Instr) → spells i parts.word → ⊥) }
 {
-    if parts.funct3 == 0 {
+    if parts.funct3 == JALR_FUNCT3 {
         Some(Instr::Jalr {
             rd: Reg::new(parts.rd),
             rs1: Reg::new(parts.rs1),
@@ -50,7 +54,7 @@ fn jalr(parts: Parts) -> Option<Instr>
 }
 
 fn branch(parts: Parts) -> Option<Instr>
-    requires { parts.opcode ≡ 0x63 }
+    requires { parts.opcode ≡ BRANCH }
     ensures found { IfSome result (λ i. spells i parts.word) }
     ensures none { IfNone result ((i : Instr) → spells i parts.word → ⊥) }
 {
@@ -64,7 +68,7 @@ fn branch(parts: Parts) -> Option<Instr>
 }
 
 fn load(parts: Parts) -> Option<Instr>
-    requires { parts.opcode ≡ 0x03 }
+    requires { parts.opcode ≡ LOAD }
     ensures found { IfSome result (λ i. spells i parts.word) }
     ensures none { IfNone result ((i : Instr) → spells i parts.word → ⊥) }
 {
@@ -78,7 +82,7 @@ fn load(parts: Parts) -> Option<Instr>
 }
 
 fn store(parts: Parts) -> Option<Instr>
-    requires { parts.opcode ≡ 0x23 }
+    requires { parts.opcode ≡ STORE }
     ensures found { IfSome result (λ i. spells i parts.word) }
     ensures none { IfNone result ((i : Instr) → spells i parts.word → ⊥) }
 {
@@ -92,7 +96,7 @@ fn store(parts: Parts) -> Option<Instr>
 }
 
 fn imm(parts: Parts) -> Option<Instr>
-    requires { parts.opcode ≡ 0x13 }
+    requires { parts.opcode ≡ OP_IMM }
     ensures found { IfSome result (λ i. spells i parts.word) }
     ensures none { IfNone result ((i : Instr) → spells i parts.word → ⊥) }
 {
@@ -115,7 +119,7 @@ fn imm(parts: Parts) -> Option<Instr>
 }
 
 fn arith(parts: Parts) -> Option<Instr>
-    requires { parts.opcode ≡ 0x33 }
+    requires { parts.opcode ≡ OP }
     ensures found { IfSome result (λ i. spells i parts.word) }
     ensures none { IfNone result ((i : Instr) → spells i parts.word → ⊥) }
 {
@@ -129,11 +133,11 @@ fn arith(parts: Parts) -> Option<Instr>
 }
 
 fn imm_word(parts: Parts) -> Option<Instr>
-    requires { parts.opcode ≡ 0x1b }
+    requires { parts.opcode ≡ OP_IMM_32 }
     ensures found { IfSome result (λ i. spells i parts.word) }
     ensures none { IfNone result ((i : Instr) → spells i parts.word → ⊥) }
 {
-    if parts.funct3 == 0 {
+    if parts.funct3 == ADDIW_FUNCT3 {
         return Some(Instr::AddWord {
             rd: Reg::new(parts.rd),
             rs1: Reg::new(parts.rs1),
@@ -150,7 +154,7 @@ fn imm_word(parts: Parts) -> Option<Instr>
 }
 
 fn arith_word(parts: Parts) -> Option<Instr>
-    requires { parts.opcode ≡ 0x3b }
+    requires { parts.opcode ≡ OP_32 }
     ensures found { IfSome result (λ i. spells i parts.word) }
     ensures none { IfNone result ((i : Instr) → spells i parts.word → ⊥) }
 {
@@ -164,11 +168,11 @@ fn arith_word(parts: Parts) -> Option<Instr>
 }
 
 fn fence(parts: Parts) -> Option<Instr>
-    requires { parts.opcode ≡ 0x0f }
+    requires { parts.opcode ≡ MISC_MEM }
     ensures found { IfSome result (λ i. spells i parts.word) }
     ensures none { IfNone result ((i : Instr) → spells i parts.word → ⊥) }
 {
-    if parts.funct3 == 0 {
+    if parts.funct3 == FENCE_FUNCT3 {
         Some(Instr::Fence {
             rd: Reg::new(parts.rd),
             rs1: Reg::new(parts.rs1),
@@ -180,7 +184,7 @@ fn fence(parts: Parts) -> Option<Instr>
 }
 
 fn system(parts: Parts) -> Option<Instr>
-    requires { parts.opcode ≡ 0x73 }
+    requires { parts.opcode ≡ SYSTEM }
     ensures found { IfSome result (λ i. spells i parts.word) }
     ensures none { IfNone result ((i : Instr) → spells i parts.word → ⊥) }
 {
@@ -214,96 +218,58 @@ pub fn decode(word: u32) -> Option<Instr>
 {
     let parts = word::split(word);
     match parts.opcode {
-        0x37 | 0x17 => upper(parts),
-        0x6f => jal(parts),
-        0x67 => jalr(parts),
-        0x63 => branch(parts),
-        0x03 => load(parts),
-        0x23 => store(parts),
-        0x13 => imm(parts),
-        0x33 => arith(parts),
-        0x1b => imm_word(parts),
-        0x3b => arith_word(parts),
-        0x0f => fence(parts),
-        0x73 => system(parts),
+        LUI | AUIPC => upper(parts),
+        JAL => jal(parts),
+        JALR => jalr(parts),
+        BRANCH => branch(parts),
+        LOAD => load(parts),
+        STORE => store(parts),
+        OP_IMM => imm(parts),
+        OP => arith(parts),
+        OP_IMM_32 => imm_word(parts),
+        OP_32 => arith_word(parts),
+        MISC_MEM => fence(parts),
+        SYSTEM => system(parts),
         _ => None,
     }
 }
 
-/// An arm for each group of instructions.
+/// A match over the groups of instructions, with the names of each group's fields in order.
 macro_rules! words {
-    ($instr:expr; $($group:ident { $($field:ident),* $(,)? } => $word:expr),* $(,)?) => {
+    ($instr:expr; $($group:ident($($field:ident),*) => $word:expr),* $(,)?) => {
         match $instr {
             $(Instr::$group { $($field),* } => $word,)*
         }
     };
 }
 
-/// The word of the instruction.
+/// The one word of the instruction.
 pub fn encode(i: Instr) -> u32
     ensures { spells i result }
 {
     words!(i;
-        Upper { op, rd, imm } => word::u_type(imm, rd, tables::upper_code(op)),
-        Jal { rd, offset } => word::j_type(offset, rd, 0x6f),
-        Jalr { rd, rs1, imm } => word::i_type(imm, rs1, 0, rd, 0x67),
-        Branch {
-            op,
-            rs1,
-            rs2,
-            offset,
-        } => word::b_type(offset, rs2, rs1, tables::branch_code(op), 0x63),
-        Load { op, rd, rs1, imm } => word::i_type(imm, rs1, tables::load_code(op), rd, 0x03),
-        Store { op, rs1, rs2, imm } => word::s_type(
-            imm,
-            rs2,
-            rs1,
-            tables::store_code(op),
-            0x23,
-        ),
-        Imm { op, rd, rs1, imm } => word::i_type(imm, rs1, tables::imm_code(op), rd, 0x13),
-        Shift {
-            op,
-            rd,
-            rs1,
-            amount,
-        } => {
-            let (funct6, funct3) = tables::shift_code(op);
-            word::shift_type(funct6, amount, rs1, funct3, rd, 0x13)
-        },
-        Arith { op, rd, rs1, rs2 } => {
-            let (funct7, funct3) = tables::arith_code(op);
-            word::r_type(funct7, rs2.number(), rs1, funct3, rd, 0x33)
-        },
-        AddWord { rd, rs1, imm } => word::i_type(imm, rs1, 0, rd, 0x1b),
-        ShiftWord {
-            op,
-            rd,
-            rs1,
-            amount,
-        } => {
-            let (funct7, funct3) = tables::shift_word_code(op);
-            word::r_type(funct7, amount.amount(), rs1, funct3, rd, 0x1b)
-        },
-        ArithWord { op, rd, rs1, rs2 } => {
-            let (funct7, funct3) = tables::arith_word_code(op);
-            word::r_type(funct7, rs2.number(), rs1, funct3, rd, 0x3b)
-        },
-        Fence { rd, rs1, imm } => word::i_type(imm, rs1, 0, rd, 0x0f),
-        Csr { op, rd, rs1, csr } => word::c_type(
-            csr,
-            rs1.number(),
-            tables::csr_code(op),
-            rd,
-            0x73,
-        ),
-        CsrImm { op, rd, uimm, csr } => word::c_type(
-            csr,
-            uimm.value(),
-            tables::csr_imm_code(op),
-            rd,
-            0x73,
-        ),
-        System { op } => tables::system_code(op),
+        Upper(op, rd, imm) => word::u_type(imm, rd, tables::upper_code(op)),
+        Jal(rd, offset) => word::j_type(offset, rd, JAL),
+        Jalr(rd, rs1, imm) => word::i_type(imm, rs1, JALR_FUNCT3, rd, JALR),
+        Branch(op, rs1, rs2, offset) => word::b_type(offset, rs2, rs1, tables::branch_code(op), BRANCH),
+        Load(op, rd, rs1, imm) => word::i_type(imm, rs1, tables::load_code(op), rd, LOAD),
+        Store(op, rs1, rs2, imm) => word::s_type(imm, rs2, rs1, tables::store_code(op), STORE),
+        Imm(op, rd, rs1, imm) => word::i_type(imm, rs1, tables::imm_code(op), rd, OP_IMM),
+        Shift(op, rd, rs1, amount) => word::shift_type(tables::shift_code(op), amount, rs1, rd, OP_IMM),
+        Arith(op, rd, rs1, rs2) => word::r_type(tables::arith_code(op), rs2.number(), rs1, rd, OP),
+        AddWord(rd, rs1, imm) => word::i_type(imm, rs1, ADDIW_FUNCT3, rd, OP_IMM_32),
+        ShiftWord(op, rd, rs1, amount) => word::r_type(tables::shift_word_code(op), amount.amount(), rs1, rd, OP_IMM_32),
+        ArithWord(op, rd, rs1, rs2) => word::r_type(tables::arith_word_code(op), rs2.number(), rs1, rd, OP_32),
+        Fence(rd, rs1, imm) => word::i_type(imm, rs1, FENCE_FUNCT3, rd, MISC_MEM),
+        Csr(op, rd, rs1, csr) => word::c_type(csr, rs1.number(), tables::csr_code(op), rd, SYSTEM),
+        CsrImm(op, rd, uimm, csr) => word::c_type(csr, uimm.value(), tables::csr_imm_code(op), rd, SYSTEM),
+        System(op) => tables::system_code(op),
     )
 }
+
+/// No word has two instructions, and no instruction has two words.
+#[tactic(auto, using(crate::proofs::Unique::unique))]
+pub fn one_reading()
+    ensures instruction { (i j : Instr) (w : ℕ) → spells i w → spells j w → i ≡ j }
+    ensures word { (i : Instr) (v w : ℕ) → spells i v → spells i w → v ≡ w }
+{}

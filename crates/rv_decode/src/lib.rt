@@ -2,14 +2,16 @@
 #![tactic(auto)]
 
 mod code;
+mod display;
 mod fields;
 mod instr;
+mod opcode;
 mod tables;
 #[cfg(test)]
 mod tests;
 mod word;
 
-pub use code::{decode, encode};
+pub use code::{decode, encode, one_reading};
 pub use fields::{
     BranchOffset, CsrNumber, CsrUimm, Imm12, Imm20, JumpOffset, Reg, Shamt, WordShamt,
 };

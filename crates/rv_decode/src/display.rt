@@ -1,0 +1,185 @@
+//! Instructions as an assembler writes them.
+//!
+//! The form is that of GNU as and of `objdump -d -M no-aliases,numeric`, with these choices:
+//! one space after the name; the target of a jump or a branch relative to the instruction's own
+//! address, as `.+16`; a control and status register outside this profile by its number; and a
+//! FENCE that fence's own operands cannot show as `.insn`. GNU as reads each of these back as the
+//! same word.
+
+use super::fields::{
+    BranchOffset, CsrNumber, CsrUimm, Imm12, Imm20, JumpOffset, Reg, Shamt, WordShamt,
+};
+use super::instr::Instr;
+use super::tables;
+use std::fmt;
+
+impl fmt::Display for Reg {
+    fn fmt<W: fmt::Write>(&self, f: &mut fmt::Formatter<W>) -> fmt::Result {
+        write!(f, "x{}", self.number())
+    }
+}
+
+impl fmt::Display for Shamt {
+    fn fmt<W: fmt::Write>(&self, f: &mut fmt::Formatter<W>) -> fmt::Result {
+        write!(f, "{:#x}", self.amount())
+    }
+}
+
+impl fmt::Display for WordShamt {
+    fn fmt<W: fmt::Write>(&self, f: &mut fmt::Formatter<W>) -> fmt::Result {
+        write!(f, "{:#x}", self.amount())
+    }
+}
+
+impl fmt::Display for CsrUimm {
+    fn fmt<W: fmt::Write>(&self, f: &mut fmt::Formatter<W>) -> fmt::Result {
+        write!(f, "{}", self.value())
+    }
+}
+
+impl fmt::Display for Imm20 {
+    fn fmt<W: fmt::Write>(&self, f: &mut fmt::Formatter<W>) -> fmt::Result {
+        write!(f, "{:#x}", self.value())
+    }
+}
+
+impl fmt::Display for Imm12 {
+    fn fmt<W: fmt::Write>(&self, f: &mut fmt::Formatter<W>) -> fmt::Result {
+        write!(f, "{}", self.value())
+    }
+}
+
+impl fmt::Display for BranchOffset {
+    fn fmt<W: fmt::Write>(&self, f: &mut fmt::Formatter<W>) -> fmt::Result {
+        write!(f, ".{:+}", self.value())
+    }
+}
+
+impl fmt::Display for JumpOffset {
+    fn fmt<W: fmt::Write>(&self, f: &mut fmt::Formatter<W>) -> fmt::Result {
+        write!(f, ".{:+}", self.value())
+    }
+}
+
+impl fmt::Display for CsrNumber {
+    fn fmt<W: fmt::Write>(&self, f: &mut fmt::Formatter<W>) -> fmt::Result {
+        match self.number() {
+            0x100 => write!(f, "sstatus"),
+            0x104 => write!(f, "sie"),
+            0x105 => write!(f, "stvec"),
+            0x140 => write!(f, "sscratch"),
+            0x141 => write!(f, "sepc"),
+            0x142 => write!(f, "scause"),
+            0x143 => write!(f, "stval"),
+            0x144 => write!(f, "sip"),
+            0x180 => write!(f, "satp"),
+            number => write!(f, "{number:#x}"),
+        }
+    }
+}
+
+/// A set of the accesses that a FENCE orders: device input 8, device output 4, reads 2, writes 1.
+#[derive(Clone, Copy, Drop)]
+struct Accesses(i32);
+
+impl fmt::Display for Accesses {
+    fn fmt<W: fmt::Write>(&self, f: &mut fmt::Formatter<W>) -> fmt::Result {
+        for (weight, letter) in [(8, "i"), (4, "o"), (2, "r"), (1, "w")] {
+            if self.0 & weight != 0 {
+                write!(f, "{letter}")?;
+            }
+        }
+        Ok(())
+    }
+}
+
+/// The immediate of FENCE.TSO, 0x833 in two's complement.
+const FENCE_TSO: i32 = 0x833 - 0x1000;
+
+/// FENCE, whose immediate has the mode in its bits 11 to 8, the accesses before it in 7 to 4 and
+/// those after it in 3 to 0 (RISC-V Unprivileged ISA 20191213, section 2.7).
+fn write_fence<W: fmt::Write>(
+    f: &mut fmt::Formatter<W>,
+    rd: Reg,
+    rs1: Reg,
+    imm: Imm12,
+) -> fmt::Result {
+    let value = imm.value();
+    let (before, after) = (value >> 4, value & 15);
+    if rd.number() != 0 || rs1.number() != 0 {
+        return write!(f, ".insn i 0x0f,0,{rd},{rs1},{imm}");
+    }
+    if value == FENCE_TSO {
+        return write!(f, "fence.tso");
+    }
+    if 1 <= before && before <= 15 && after != 0 {
+        return write!(f, "fence {},{}", Accesses(before), Accesses(after));
+    }
+    write!(f, ".insn i 0x0f,0,{rd},{rs1},{imm}")
+}
+
+impl fmt::Display for Instr {
+    fn fmt<W: fmt::Write>(&self, f: &mut fmt::Formatter<W>) -> fmt::Result {
+        match *self {
+            Instr::Upper { op, rd, imm } => write!(f, "{} {rd},{imm}", tables::upper_name(op)),
+            Instr::Jal { rd, offset } => write!(f, "jal {rd},{offset}"),
+            Instr::Jalr { rd, rs1, imm } => write!(f, "jalr {rd},{imm}({rs1})"),
+            Instr::Branch {
+                op,
+                rs1,
+                rs2,
+                offset,
+            } => write!(f, "{} {rs1},{rs2},{offset}", tables::branch_name(op)),
+            Instr::Load { op, rd, rs1, imm } => write!(
+                f,
+                "{} {rd},{imm}({rs1})",
+                tables::load_name(op)
+            ),
+            Instr::Store { op, rs1, rs2, imm } => write!(
+                f,
+                "{} {rs2},{imm}({rs1})",
+                tables::store_name(op)
+            ),
+            Instr::Imm { op, rd, rs1, imm } => write!(
+                f,
+                "{} {rd},{rs1},{imm}",
+                tables::imm_name(op)
+            ),
+            Instr::Shift {
+                op,
+                rd,
+                rs1,
+                amount,
+            } => write!(f, "{} {rd},{rs1},{amount}", tables::shift_name(op)),
+            Instr::Arith { op, rd, rs1, rs2 } => write!(
+                f,
+                "{} {rd},{rs1},{rs2}",
+                tables::arith_name(op)
+            ),
+            Instr::AddWord { rd, rs1, imm } => write!(f, "addiw {rd},{rs1},{imm}"),
+            Instr::ShiftWord {
+                op,
+                rd,
+                rs1,
+                amount,
+            } => write!(f, "{} {rd},{rs1},{amount}", tables::shift_word_name(op)),
+            Instr::ArithWord { op, rd, rs1, rs2 } => write!(
+                f,
+                "{} {rd},{rs1},{rs2}",
+                tables::arith_word_name(op)
+            ),
+            Instr::Fence { rd, rs1, imm } => write_fence(f, rd, rs1, imm),
+            Instr::Csr { op, rd, rs1, csr } => write!(
+                f,
+                "{} {rd},{csr},{rs1}",
+                tables::csr_name(op)
+            ),
+            Instr::CsrImm { op, rd, uimm, csr } => write!(
+                f,
+                "{} {rd},{csr},{uimm}",
+                tables::csr_imm_name(op)
+            ),
+            Instr::System { op } => write!(f, "{}", tables::system_name(op)),
+        }
+    }
+}
