@@ -8,6 +8,8 @@ mod limits;
 mod numbers;
 mod refusal;
 mod shape;
+#[cfg(test)]
+mod tests;
 
 pub use durable::{Command, Durable, ImageHead, Reason};
 pub use laws::{image_never_again, longer_list, serials_rise, slot_and_reset_leave_the_image};

@@ -111,7 +111,8 @@ impl Shape {
         ensures some { IfSome result (λ a. (a ≡ address) × IsValidAddress self.now address) }
         ensures none { IfNone result (IsValidAddress self.now address → ⊥) }
     {
-        if address < RAM_BASE || self.ram_bytes() as u64 <= address - RAM_BASE {
+        let bytes = self.ram_bytes() as u64;
+        if address < RAM_BASE || bytes <= address - RAM_BASE {
             return None;
         }
         Addr::new(address)
