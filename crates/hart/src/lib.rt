@@ -1,0 +1,25 @@
+//! A hart in supervisor mode, which makes one instruction a step: RV64I with Zicsr of the RISC-V Unprivileged ISA
+//! 20191213, and the supervisor's control and status registers of docs/HART.md.
+#![tactic(auto)]
+
+mod alu;
+mod csr;
+mod laws;
+mod state;
+mod step;
+#[cfg(test)]
+mod tests;
+
+pub use laws::one_result;
+pub use state::Hart;
+
+/// What a step asks of its caller.
+#[derive(Clone, Copy, Debug, PartialEq, Eq, Drop)]
+pub enum Outcome {
+    /// Nothing.
+    Next,
+    /// The hart stands at an ECALL, with the pc on it: the firmware answers the call and moves the pc.
+    Ecall,
+    /// The hart wrote to sip that its pending interrupt is taken.
+    TakePending,
+}
