@@ -1,7 +1,7 @@
 //! The shape of a board, and which numbers are valid on it.
 
-ghost use Rattle.std.specs.Prelude.{◌≡◌, ℕ, ◌*◌, ◌<◌, ◌≤◌, ◌↔◌, IfOk, IsOk, IfErr, IfSome, IfNone};
-ghost use Rattle.board_model.specs.Shapes.{Size, IsSize, board_size, ram_bytes_of, IsValidAddress};
+ghost use Rattle.std.specs.Prelude.{◌≡◌, ℕ, ◌+◌, ◌*◌, ◌<◌, ◌≤◌, ◌↔◌, IfOk, IsOk, IfErr, IfSome, IfNone};
+ghost use Rattle.board_model.specs.Shapes.{Size, IsSize, board_size, ram_bytes_of, IsValidAddress, places_of, area_sectors_of, sectors_of};
 ghost use Rattle.board_model.specs.declared.refusal.Refusal.TheVariants.{BadShape};
 
 use crate::limits::{MAX_HARTS, MAX_LANES, MAX_PAGES, PAGE_BYTES, RAM_BASE};
@@ -80,6 +80,30 @@ impl Shape {
         ensures range { (4096 ≤ result) × (result ≤ 256 * 4096) }
     {
         self.pages as usize * PAGE_BYTES
+    }
+
+    /// The places of a lane in one area of the disk: its pages by its lanes, rounded up. A place keeps one page.
+    pub fn places(&self) -> usize
+        ensures value { result ≡ places_of self.now }
+        ensures range { (1 ≤ result) × (result ≤ 256) }
+    {
+        (self.pages as usize).div_ceil(self.lanes as usize)
+    }
+
+    /// The sectors of one of the disk's two areas.
+    pub fn area_sectors(&self) -> usize
+        ensures value { result ≡ area_sectors_of self.now }
+        ensures range { (9 ≤ result) × (result ≤ 9 * 4 * 256) }
+    {
+        9 * self.lanes as usize * self.places()
+    }
+
+    /// The sectors of the smallest disk for this board.
+    pub fn sectors(&self) -> usize
+        ensures value { result ≡ sectors_of self.now }
+        ensures range { (26 ≤ result) × (result ≤ 8 + 2 * (9 * 4 * 256)) }
+    {
+        8 + 2 * self.area_sectors()
     }
 
     /// The hart of that number, where this board has it.

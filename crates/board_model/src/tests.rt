@@ -181,6 +181,23 @@ fn shapes_end_at_their_limits(rt: HostRuntime) -> Result<(), Fail> {
     Ok(())
 }
 
+/// Sizes from the table of worked scripts: 26 sectors for 1 page and 1 lane, 80 for 4 and 2, 152 for 5 and 4.
+#[test]
+fn shapes_need_so_many_sectors(rt: HostRuntime) -> Result<(), Fail> {
+    for (pages, lanes, places, sectors) in [
+        (1, 1, 1, 26),
+        (4, 2, 2, 80),
+        (5, 4, 2, 152),
+        (256, 1, 256, 4616),
+    ] {
+        let shape = Shape::new(1, pages, lanes).expect(&rt, "a shape within the limits");
+        assert_eq!(rt; shape.places(), places);
+        assert_eq!(rt; shape.sectors(), sectors);
+        assert_eq!(rt; shape.area_sectors(), (sectors - 8) / 2);
+    }
+    Ok(())
+}
+
 #[test]
 fn numbers_end_at_their_limits(rt: HostRuntime) -> Result<(), Fail> {
     let shape = Shape::new(2, 3, 1).expect(&rt, "a shape within the limits");
