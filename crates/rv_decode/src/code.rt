@@ -1,11 +1,11 @@
 //! Words read as instructions, and instructions written as words.
 
 ghost use Rattle.std.specs.Prelude.{◌≡◌, ◌⊎◌, ◌↔◌, ℕ, Some, IfSome, IfNone};
-ghost use Rattle.rv_decode.specs.Spells.{spells};
+ghost use Rattle.rv_decode.specs.Spells.{spells, Reads};
 ghost use Rattle.rv_decode.specs.declared.instr.Instr.{Instr};
 
 use super::fields::{CsrNumber, CsrUimm, Imm20, Reg, Shamt, WordShamt};
-use super::instr::Instr;
+use super::instr::{Instr, by_group};
 use super::opcode::{
     ADDIW_FUNCT3, AUIPC, BRANCH, FENCE_FUNCT3, JAL, JALR, JALR_FUNCT3, LOAD, LUI, MISC_MEM, OP,
     OP_32, OP_IMM, OP_IMM_32, STORE, SYSTEM,
@@ -15,8 +15,7 @@ use super::word::{self, Parts};
 
 fn upper(parts: Parts) -> Option<Instr>
     requires { (parts.opcode ≡ LUI) ⊎ (parts.opcode ≡ AUIPC) }
-    ensures found { IfSome result (λ i. spells i parts.word) }
-    ensures none { IfNone result ((i : Instr) → spells i parts.word → ⊥) }
+    ensures { Reads result parts.word }
 {
     let op = tables::upper_op(parts.opcode)?;
     Some(Instr::Upper {
@@ -28,8 +27,7 @@ fn upper(parts: Parts) -> Option<Instr>
 
 fn jal(parts: Parts) -> Option<Instr>
     requires { parts.opcode ≡ JAL }
-    ensures found { IfSome result (λ i. spells i parts.word) }
-    ensures none { IfNone result ((i : Instr) → spells i parts.word → ⊥) }
+    ensures { Reads result parts.word }
 {
     Some(Instr::Jal {
         rd: Reg::new(parts.rd),
@@ -39,8 +37,7 @@ fn jal(parts: Parts) -> Option<Instr>
 
 fn jalr(parts: Parts) -> Option<Instr>
     requires { parts.opcode ≡ JALR }
-    ensures found { IfSome result (λ i. spells i parts.word) }
-    ensures none { IfNone result ((i : Instr) → spells i parts.word → ⊥) }
+    ensures { Reads result parts.word }
 {
     if parts.funct3 == JALR_FUNCT3 {
         Some(Instr::Jalr {
@@ -55,8 +52,7 @@ fn jalr(parts: Parts) -> Option<Instr>
 
 fn branch(parts: Parts) -> Option<Instr>
     requires { parts.opcode ≡ BRANCH }
-    ensures found { IfSome result (λ i. spells i parts.word) }
-    ensures none { IfNone result ((i : Instr) → spells i parts.word → ⊥) }
+    ensures { Reads result parts.word }
 {
     let op = tables::branch_op(parts.funct3)?;
     Some(Instr::Branch {
@@ -69,8 +65,7 @@ fn branch(parts: Parts) -> Option<Instr>
 
 fn load(parts: Parts) -> Option<Instr>
     requires { parts.opcode ≡ LOAD }
-    ensures found { IfSome result (λ i. spells i parts.word) }
-    ensures none { IfNone result ((i : Instr) → spells i parts.word → ⊥) }
+    ensures { Reads result parts.word }
 {
     let op = tables::load_op(parts.funct3)?;
     Some(Instr::Load {
@@ -83,8 +78,7 @@ fn load(parts: Parts) -> Option<Instr>
 
 fn store(parts: Parts) -> Option<Instr>
     requires { parts.opcode ≡ STORE }
-    ensures found { IfSome result (λ i. spells i parts.word) }
-    ensures none { IfNone result ((i : Instr) → spells i parts.word → ⊥) }
+    ensures { Reads result parts.word }
 {
     let op = tables::store_op(parts.funct3)?;
     Some(Instr::Store {
@@ -97,8 +91,7 @@ fn store(parts: Parts) -> Option<Instr>
 
 fn imm(parts: Parts) -> Option<Instr>
     requires { parts.opcode ≡ OP_IMM }
-    ensures found { IfSome result (λ i. spells i parts.word) }
-    ensures none { IfNone result ((i : Instr) → spells i parts.word → ⊥) }
+    ensures { Reads result parts.word }
 {
     if let Some(op) = tables::imm_op(parts.funct3) {
         return Some(Instr::Imm {
@@ -120,8 +113,7 @@ fn imm(parts: Parts) -> Option<Instr>
 
 fn arith(parts: Parts) -> Option<Instr>
     requires { parts.opcode ≡ OP }
-    ensures found { IfSome result (λ i. spells i parts.word) }
-    ensures none { IfNone result ((i : Instr) → spells i parts.word → ⊥) }
+    ensures { Reads result parts.word }
 {
     let op = tables::arith_op(parts.funct7, parts.funct3)?;
     Some(Instr::Arith {
@@ -134,8 +126,7 @@ fn arith(parts: Parts) -> Option<Instr>
 
 fn imm_word(parts: Parts) -> Option<Instr>
     requires { parts.opcode ≡ OP_IMM_32 }
-    ensures found { IfSome result (λ i. spells i parts.word) }
-    ensures none { IfNone result ((i : Instr) → spells i parts.word → ⊥) }
+    ensures { Reads result parts.word }
 {
     if parts.funct3 == ADDIW_FUNCT3 {
         return Some(Instr::AddWord {
@@ -155,8 +146,7 @@ fn imm_word(parts: Parts) -> Option<Instr>
 
 fn arith_word(parts: Parts) -> Option<Instr>
     requires { parts.opcode ≡ OP_32 }
-    ensures found { IfSome result (λ i. spells i parts.word) }
-    ensures none { IfNone result ((i : Instr) → spells i parts.word → ⊥) }
+    ensures { Reads result parts.word }
 {
     let op = tables::arith_word_op(parts.funct7, parts.funct3)?;
     Some(Instr::ArithWord {
@@ -169,8 +159,7 @@ fn arith_word(parts: Parts) -> Option<Instr>
 
 fn fence(parts: Parts) -> Option<Instr>
     requires { parts.opcode ≡ MISC_MEM }
-    ensures found { IfSome result (λ i. spells i parts.word) }
-    ensures none { IfNone result ((i : Instr) → spells i parts.word → ⊥) }
+    ensures { Reads result parts.word }
 {
     if parts.funct3 == FENCE_FUNCT3 {
         Some(Instr::Fence {
@@ -185,8 +174,7 @@ fn fence(parts: Parts) -> Option<Instr>
 
 fn system(parts: Parts) -> Option<Instr>
     requires { parts.opcode ≡ SYSTEM }
-    ensures found { IfSome result (λ i. spells i parts.word) }
-    ensures none { IfNone result ((i : Instr) → spells i parts.word → ⊥) }
+    ensures { Reads result parts.word }
 {
     let csr = CsrNumber::new(word::bits(parts.word, 20, 12) as u16);
     if let Some(op) = tables::csr_op(parts.funct3) {
@@ -209,7 +197,7 @@ fn system(parts: Parts) -> Option<Instr>
     Some(Instr::System { op })
 }
 
-/// The instruction that the word spells.
+/// The instruction that the word spells, or `None` where no instruction is written so.
 #[tactic(auto, using(crate::proofs::Unique::unique))]
 pub fn decode(word: u32) -> Option<Instr>
     ensures exact { (i : Instr) → (result ≡ Some i) ↔ spells i word }
@@ -234,20 +222,11 @@ pub fn decode(word: u32) -> Option<Instr>
     }
 }
 
-/// A match over the groups of instructions, with the names of each group's fields in order.
-macro_rules! words {
-    ($instr:expr; $($group:ident($($field:ident),*) => $word:expr),* $(,)?) => {
-        match $instr {
-            $(Instr::$group { $($field),* } => $word,)*
-        }
-    };
-}
-
 /// The one word of the instruction.
 pub fn encode(i: Instr) -> u32
     ensures { spells i result }
 {
-    words!(i;
+    by_group!(i;
         Upper(op, rd, imm) => word::u_type(imm, rd, tables::upper_code(op)),
         Jal(rd, offset) => word::j_type(offset, rd, JAL),
         Jalr(rd, rs1, imm) => word::i_type(imm, rs1, JALR_FUNCT3, rd, JALR),

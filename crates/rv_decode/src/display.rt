@@ -9,7 +9,7 @@
 use super::fields::{
     BranchOffset, CsrNumber, CsrUimm, Imm12, Imm20, JumpOffset, Reg, Shamt, WordShamt,
 };
-use super::instr::Instr;
+use super::instr::{Instr, by_group};
 use super::tables;
 use std::fmt;
 
@@ -120,66 +120,23 @@ fn write_fence<W: fmt::Write>(
 
 impl fmt::Display for Instr {
     fn fmt<W: fmt::Write>(&self, f: &mut fmt::Formatter<W>) -> fmt::Result {
-        match *self {
-            Instr::Upper { op, rd, imm } => write!(f, "{} {rd},{imm}", tables::upper_name(op)),
-            Instr::Jal { rd, offset } => write!(f, "jal {rd},{offset}"),
-            Instr::Jalr { rd, rs1, imm } => write!(f, "jalr {rd},{imm}({rs1})"),
-            Instr::Branch {
-                op,
-                rs1,
-                rs2,
-                offset,
-            } => write!(f, "{} {rs1},{rs2},{offset}", tables::branch_name(op)),
-            Instr::Load { op, rd, rs1, imm } => write!(
-                f,
-                "{} {rd},{imm}({rs1})",
-                tables::load_name(op)
-            ),
-            Instr::Store { op, rs1, rs2, imm } => write!(
-                f,
-                "{} {rs2},{imm}({rs1})",
-                tables::store_name(op)
-            ),
-            Instr::Imm { op, rd, rs1, imm } => write!(
-                f,
-                "{} {rd},{rs1},{imm}",
-                tables::imm_name(op)
-            ),
-            Instr::Shift {
-                op,
-                rd,
-                rs1,
-                amount,
-            } => write!(f, "{} {rd},{rs1},{amount}", tables::shift_name(op)),
-            Instr::Arith { op, rd, rs1, rs2 } => write!(
-                f,
-                "{} {rd},{rs1},{rs2}",
-                tables::arith_name(op)
-            ),
-            Instr::AddWord { rd, rs1, imm } => write!(f, "addiw {rd},{rs1},{imm}"),
-            Instr::ShiftWord {
-                op,
-                rd,
-                rs1,
-                amount,
-            } => write!(f, "{} {rd},{rs1},{amount}", tables::shift_word_name(op)),
-            Instr::ArithWord { op, rd, rs1, rs2 } => write!(
-                f,
-                "{} {rd},{rs1},{rs2}",
-                tables::arith_word_name(op)
-            ),
-            Instr::Fence { rd, rs1, imm } => write_fence(f, rd, rs1, imm),
-            Instr::Csr { op, rd, rs1, csr } => write!(
-                f,
-                "{} {rd},{csr},{rs1}",
-                tables::csr_name(op)
-            ),
-            Instr::CsrImm { op, rd, uimm, csr } => write!(
-                f,
-                "{} {rd},{csr},{uimm}",
-                tables::csr_imm_name(op)
-            ),
-            Instr::System { op } => write!(f, "{}", tables::system_name(op)),
-        }
+        by_group!(*self;
+            Upper(op, rd, imm) => write!(f, "{} {rd},{imm}", tables::upper_name(op)),
+            Jal(rd, offset) => write!(f, "jal {rd},{offset}"),
+            Jalr(rd, rs1, imm) => write!(f, "jalr {rd},{imm}({rs1})"),
+            Branch(op, rs1, rs2, offset) => write!(f, "{} {rs1},{rs2},{offset}", tables::branch_name(op)),
+            Load(op, rd, rs1, imm) => write!(f, "{} {rd},{imm}({rs1})", tables::load_name(op)),
+            Store(op, rs1, rs2, imm) => write!(f, "{} {rs2},{imm}({rs1})", tables::store_name(op)),
+            Imm(op, rd, rs1, imm) => write!(f, "{} {rd},{rs1},{imm}", tables::imm_name(op)),
+            Shift(op, rd, rs1, amount) => write!(f, "{} {rd},{rs1},{amount}", tables::shift_name(op)),
+            Arith(op, rd, rs1, rs2) => write!(f, "{} {rd},{rs1},{rs2}", tables::arith_name(op)),
+            AddWord(rd, rs1, imm) => write!(f, "addiw {rd},{rs1},{imm}"),
+            ShiftWord(op, rd, rs1, amount) => write!(f, "{} {rd},{rs1},{amount}", tables::shift_word_name(op)),
+            ArithWord(op, rd, rs1, rs2) => write!(f, "{} {rd},{rs1},{rs2}", tables::arith_word_name(op)),
+            Fence(rd, rs1, imm) => write_fence(f, rd, rs1, imm),
+            Csr(op, rd, rs1, csr) => write!(f, "{} {rd},{csr},{rs1}", tables::csr_name(op)),
+            CsrImm(op, rd, uimm, csr) => write!(f, "{} {rd},{csr},{uimm}", tables::csr_imm_name(op)),
+            System(op) => write!(f, "{}", tables::system_name(op)),
+        )
     }
 }

@@ -1,11 +1,14 @@
-//! The fields of instructions, each in its range.
+//! The fields of instructions, each a type in its range.
+//!
+//! A clause sees each as its plain number. A constructor requires the range, so a caller with a
+//! number from outside tests it first; the decoder's numbers are in range by their width.
 
 ghost use Rattle.std.specs.Prelude.{◌≡◌, ℕ, ℤ, ◌<◌};
 ghost use Rattle.rv_decode.specs.Ranges.{IsReg, IsShamt, IsWordShamt, IsCsrUimm, IsImm20, IsCsrNumber, IsImm12, IsBranchOffset, IsJumpOffset};
 
 use std::marker::Model;
 
-/// A register, x0 to x31.
+/// A register by its number, x0 to x31 (RISC-V Unprivileged ISA 20191213, section 2.1).
 #[derive(Clone, Copy, Debug, PartialEq, Eq, Drop)]
 pub struct Reg {
     number: u8,
@@ -37,7 +40,7 @@ impl Reg {
     }
 }
 
-/// How far a shift of 64 bits goes.
+/// How many bits a shift of 64 bits goes, 0 to 63 (section 5.2).
 #[derive(Clone, Copy, Debug, PartialEq, Eq, Drop)]
 pub struct Shamt {
     amount: u8,
@@ -69,7 +72,7 @@ impl Shamt {
     }
 }
 
-/// How far a shift of 32 bits goes.
+/// How many bits a shift of 32 bits goes, 0 to 31 (section 5.2).
 #[derive(Clone, Copy, Debug, PartialEq, Eq, Drop)]
 pub struct WordShamt {
     amount: u8,
@@ -101,7 +104,7 @@ impl WordShamt {
     }
 }
 
-/// The immediate of a CSR instruction, in the place of a register: 0 to 31.
+/// The immediate of a CSR instruction, 0 to 31 without sign, in the place of rs1 (section 9.1).
 #[derive(Clone, Copy, Debug, PartialEq, Eq, Drop)]
 pub struct CsrUimm {
     value: u8,
@@ -133,7 +136,7 @@ impl CsrUimm {
     }
 }
 
-/// The upper 20 bits of an address.
+/// The bits 31 to 12 of a number, as a number of 20 bits (section 2.4).
 #[derive(Clone, Copy, Debug, PartialEq, Eq, Drop)]
 pub struct Imm20 {
     value: u32,
@@ -165,7 +168,7 @@ impl Imm20 {
     }
 }
 
-/// The number of a control and status register.
+/// The number of a control and status register, of 12 bits (section 9.1).
 #[derive(Clone, Copy, Debug, PartialEq, Eq, Drop)]
 pub struct CsrNumber {
     number: u16,
@@ -197,7 +200,7 @@ impl CsrNumber {
     }
 }
 
-/// A signed immediate of 12 bits.
+/// An immediate of 12 bits with sign, -2,048 to 2,047 (section 2.3).
 #[derive(Clone, Copy, Debug, PartialEq, Eq, Drop)]
 pub struct Imm12 {
     value: i32,
@@ -229,7 +232,7 @@ impl Imm12 {
     }
 }
 
-/// An even signed offset of 13 bits.
+/// How far a branch goes from its own address, in bytes: even, -4,096 to 4,094 (section 2.3).
 #[derive(Clone, Copy, Debug, PartialEq, Eq, Drop)]
 pub struct BranchOffset {
     value: i32,
@@ -261,7 +264,7 @@ impl BranchOffset {
     }
 }
 
-/// An even signed offset of 21 bits.
+/// How far a jump goes from its own address, in bytes: even, -1,048,576 to 1,048,574 (section 2.3).
 #[derive(Clone, Copy, Debug, PartialEq, Eq, Drop)]
 pub struct JumpOffset {
     value: i32,
