@@ -1,0 +1,4 @@
+pub mod Spellings
+pub mod SpelledRecords
+pub mod SpelledPlaces
+pub mod OneSpelling

@@ -1,0 +1,67 @@
+-- A sector is the spelling of one record alone.
+use Rattle.std.proofs.Common.{◌≡◌, ◌∙◌, ℕ, List, [], ◌∷◌, Option, Some, None, length, slice_index, refl, sym, ap, arith}
+use Rattle.board_model.specs.Shapes.{Size}
+use Rattle.board_model.specs.Shown.{reason_number}
+use Rattle.board_model.specs.declared.durable.Reason.{Reason}
+use Rattle.board_model.specs.declared.durable.Reason.TheVariants.{NoReason, SystemFailure}
+use Rattle.layout.specs.Records.{presence_of, IsRecord}
+use Rattle.layout.specs.Read.{StandsIn}
+use Rattle.layout.specs.declared.records.Saved.{Saved}
+use Rattle.layout.specs.declared.records.Record.{Record}
+use Rattle.layout.proofs.SpelledRecords.{slot_in, reason_in, presence_in, next_in, image_in, record_is}
+
+four : (xs : List ℕ) → length xs ≡ 4 → xs ≡ slice_index xs 0 ∷ slice_index xs 1 ∷ slice_index xs 2 ∷ slice_index xs 3 ∷ []
+four [] is = absurd (omega arith)
+four (a ∷ []) is = absurd (omega arith)
+four (a ∷ b ∷ []) is = absurd (omega arith)
+four (a ∷ b ∷ c ∷ []) is = absurd (omega arith)
+four (a ∷ b ∷ c ∷ d ∷ []) is = refl
+four (a ∷ b ∷ c ∷ d ∷ e ∷ xs) is = absurd (omega arith)
+
+one_counts : (xs ys : List ℕ) → length xs ≡ 4 → length ys ≡ 4 → slice_index xs 0 ≡ slice_index ys 0 → slice_index xs 1 ≡ slice_index ys 1
+    → slice_index xs 2 ≡ slice_index ys 2 → slice_index xs 3 ≡ slice_index ys 3 → xs ≡ ys
+one_counts xs ys few less a b c d =
+    four xs few
+    ∙ ap (λ (n : ℕ). n ∷ slice_index xs 1 ∷ slice_index xs 2 ∷ slice_index xs 3 ∷ []) a
+    ∙ ap (λ (n : ℕ). slice_index ys 0 ∷ n ∷ slice_index xs 2 ∷ slice_index xs 3 ∷ []) b
+    ∙ ap (λ (n : ℕ). slice_index ys 0 ∷ slice_index ys 1 ∷ n ∷ slice_index xs 3 ∷ []) c
+    ∙ ap (λ (n : ℕ). slice_index ys 0 ∷ slice_index ys 1 ∷ slice_index ys 2 ∷ n ∷ []) d
+    ∙ sym (four ys less)
+
+one_saved : (sector : List ℕ) (s t : Saved) → StandsIn sector s → StandsIn sector t → length s.counts ≡ 4 → length t.counts ≡ 4 → s ≡ t
+one_saved sector s t a b few less =
+    let counts = one_counts s.counts t.counts few less (sym a.zero ∙ b.zero) (sym a.one ∙ b.one) (sym a.two ∙ b.two) (sym a.three ∙ b.three) in
+    ap (λ (x : ℕ). made x s.head.hart s.head.address s.head.opaque s.area s.counts) (sym a.serial ∙ b.serial)
+    ∙ ap (λ (x : ℕ). made t.head.serial x s.head.address s.head.opaque s.area s.counts) (sym a.hart ∙ b.hart)
+    ∙ ap (λ (x : ℕ). made t.head.serial t.head.hart x s.head.opaque s.area s.counts) (sym a.address ∙ b.address)
+    ∙ ap (λ (x : ℕ). made t.head.serial t.head.hart t.head.address x s.area s.counts) (sym a.opaque ∙ b.opaque)
+    ∙ ap (λ (x : ℕ). made t.head.serial t.head.hart t.head.address t.head.opaque x s.counts) (sym a.area ∙ b.area)
+    ∙ ap (λ (x : List ℕ). made t.head.serial t.head.hart t.head.address t.head.opaque t.area x) counts
+  where
+    made : ℕ → ℕ → ℕ → ℕ → ℕ → List ℕ → Saved
+    made serial hart address opaque area counts =
+        record { head = record { serial = serial; hart = hart; address = address; opaque = opaque }; area = area; counts = counts }
+
+one_reason : (a b : Reason) → reason_number a ≡ reason_number b → a ≡ b
+one_reason NoReason NoReason is = refl
+one_reason NoReason SystemFailure is = absurd (omega arith)
+one_reason SystemFailure NoReason is = absurd (omega arith)
+one_reason SystemFailure SystemFailure is = refl
+
+module _ (size : Size) (r q : Record) (sector : List ℕ) (first : IsRecord size r sector) (second : IsRecord size q sector) where
+  one_image : (i j : Option Saved) → r.image ≡ i → q.image ≡ j → presence_of i ≡ presence_of j → i ≡ j
+  one_image None None a b same = refl
+  one_image None (Some t) a b same = absurd (omega arith)
+  one_image (Some s) None a b same = absurd (omega arith)
+  one_image (Some s) (Some t) a b same =
+      let one = image_in size r sector s first a in
+      let two = image_in size q sector t second b in
+      ap Some (one_saved sector s t one.1 two.1 one.0.counts.four two.0.counts.four)
+
+  pub one_record : r ≡ q
+  one_record =
+      record_is q r.slot r.reason r.next r.image
+      (sym (slot_in size r sector first) ∙ slot_in size q sector second)
+      (one_reason r.reason q.reason (sym (reason_in size r sector first) ∙ reason_in size q sector second))
+      (sym (next_in size r sector first) ∙ next_in size q sector second)
+      (one_image r.image q.image refl refl (sym (presence_in size r sector first) ∙ presence_in size q sector second))

@@ -1,0 +1,22 @@
+//! What the sectors of a disk hold, to bytes and back: superblock, gate, record and place header (docs/STORE.md).
+//!
+//! Each sector has exactly one spelling: reading a sector back is an answer only where the sector is the spelling of
+//! what was read. Nothing here takes memory.
+#![tactic(auto)]
+
+mod fields;
+mod laws;
+mod places;
+mod records;
+mod side;
+mod sizes;
+mod superblocks;
+#[cfg(test)]
+mod tests;
+
+pub use laws::{one_record, one_superblock};
+pub use places::{PlaceHead, parse_place_head, place_head_bytes};
+pub use records::{Record, Saved, gate_bytes, parse_record, record_bytes, selected};
+pub use side::Side;
+pub use sizes::{area_start, lane_start, place_start};
+pub use superblocks::{parse_superblock, superblock_bytes};
