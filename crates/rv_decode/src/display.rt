@@ -106,14 +106,13 @@ fn write_fence<W: fmt::Write>(
 ) -> fmt::Result {
     let value = imm.value();
     let (before, after) = (value >> 4, value & 15);
-    if rd.number() != 0 || rs1.number() != 0 {
-        return write!(f, ".insn i 0x0f,0,{rd},{rs1},{imm}");
-    }
-    if value == FENCE_TSO {
-        return write!(f, "fence.tso");
-    }
-    if 1 <= before && before <= 15 && after != 0 {
-        return write!(f, "fence {},{}", Accesses(before), Accesses(after));
+    if rd.number() == 0 && rs1.number() == 0 {
+        if value == FENCE_TSO {
+            return write!(f, "fence.tso");
+        }
+        if 1 <= before && before <= 15 && after != 0 {
+            return write!(f, "fence {},{}", Accesses(before), Accesses(after));
+        }
     }
     write!(f, ".insn i 0x0f,0,{rd},{rs1},{imm}")
 }
