@@ -6,6 +6,7 @@ ghost use Rattle.hart.specs.Values.{signed, signed_by, floor, residue, extended_
 use rv_decode::{ArithOp, ArithWordOp, BranchOp};
 
 /// The number, sign-extended from 32 bits.
+#[inline(always)]
 pub fn extend(number: u32) -> u64
     ensures { result ≡ extended_32 number }
 {
@@ -17,6 +18,7 @@ pub fn extend(number: u32) -> u64
 }
 
 /// Shifts right, and keeps the sign.
+#[inline(always)]
 fn shift_signed(a: u64, by: u32) -> u64
     requires { by < 64 }
     ensures { signed result ≡ floor (signed a) (2 ^ by) }
@@ -28,6 +30,7 @@ fn shift_signed(a: u64, by: u32) -> u64
     }
 }
 
+#[inline(always)]
 fn shift_word_signed(a: u32, by: u32) -> u32
     requires { by < 32 }
     ensures { signed_by (2 ^ 31) result ≡ floor (signed_by (2 ^ 31) a) (2 ^ by) }
@@ -39,6 +42,7 @@ fn shift_word_signed(a: u32, by: u32) -> u32
     }
 }
 
+#[inline(always)]
 pub fn arith(op: ArithOp, a: u64, b: u64) -> u64
     ensures { Computes op a b result }
 {
@@ -56,6 +60,7 @@ pub fn arith(op: ArithOp, a: u64, b: u64) -> u64
     }
 }
 
+#[inline(always)]
 fn word(op: ArithWordOp, a: u32, b: u32) -> u32
     ensures { ComputesWord op a b result }
 {
@@ -68,12 +73,14 @@ fn word(op: ArithWordOp, a: u32, b: u32) -> u32
     }
 }
 
+#[inline(always)]
 pub fn arith_word(op: ArithWordOp, a: u64, b: u64) -> u64
     ensures { ComputesExtended op a b result }
 {
     extend(word(op, (a % 4294967296) as u32, (b % 4294967296) as u32))
 }
 
+#[inline(always)]
 pub fn is_taken(op: BranchOp, a: u64, b: u64) -> bool
     ensures { IsTrue result ↔ IsTaken op a b }
 {

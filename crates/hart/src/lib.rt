@@ -2,6 +2,7 @@
 //! 20191213, and the supervisor's control and status registers of docs/HART.md.
 #![tactic(auto)]
 
+mod access;
 mod alu;
 mod csr;
 mod laws;
@@ -10,7 +11,7 @@ mod step;
 #[cfg(test)]
 mod tests;
 
-pub use laws::one_result;
+pub use laws::{one_outcome, one_result, one_step};
 pub use state::Hart;
 
 /// What a step asks of its caller.
