@@ -1,0 +1,6 @@
+pub mod Notes
+pub mod Pieces
+pub mod Ranges
+pub mod Rows
+pub mod Stretches
+pub mod Walks

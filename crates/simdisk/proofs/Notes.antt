@@ -1,0 +1,74 @@
+-- What a piece more in the record leaves of what a disk in memory keeps.
+use Rattle.std.proofs.Common.{◌≡◌, ◌⊎◌, inl, inr, ◌∙◌, ℕ, ◌-◌, take, drop, subst, length-drop, ◌+◌, ◌*◌, ◌<◌, ◌≤◌, List, [], ◌∷◌, ◌++◌, length, get_or, map, set, sym, ap, arith, length-append}
+use Rattle.std.proofs.Math.ListN.{get_or-map}
+use Rattle.std.proofs.Math.Nat.{zero-mul}
+use Rattle.std.proofs.lemmas.List.{map-append, map-set, set-get_or, get_or_append_left, get_or_push, length-take-le}
+use Rattle.std.proofs.lemmas.Bool.{cases_lt}
+use Rattle.disk.specs.Facts.{Content, Lent, Torn, sector}
+use Rattle.simdisk.specs.declared.patch.Patch.{Patch}
+use Rattle.simdisk.specs.Record.{Piece, Record, range, ranges, range_at, more_written, more_synced, lent_piece, Untouched, Agrees}
+use Rattle.simdisk.specs.Views.{piece, pieces}
+use Rattle.simdisk.specs.Loans.{Noted}
+use Rattle.simdisk.proofs.Ranges.{durable, untouched_at, agrees_torn}
+use Rattle.simdisk.proofs.Walks.{read_piece}
+
+pub ranges_written : (r r' : Record) (p : Piece) → r' ≡ more_written p r → ranges r'.written ≡ ranges r.written ++ range p ∷ []
+ranges_written r r' p more = ap (λ (q : Record). ranges q.written) more ∙ map-append range r.written (p ∷ [])
+
+pub noted_push : (rs : List (ℕ × ℕ)) (x r : ℕ × ℕ) (i : ℕ) → Noted rs i r → Noted (rs ++ x ∷ []) i r
+noted_push rs x r i noted = (omega (arith, noted.0, length-append rs (x ∷ [])), get_or_append_left rs (x ∷ []) (0, 0) i noted.0 ∙ noted.1)
+
+pub noted_last : (rs : List (ℕ × ℕ)) (r : ℕ × ℕ) (i : ℕ) → length rs ≡ i → Noted (rs ++ r ∷ []) i r
+noted_last rs r i is = (omega (arith, is, length-append rs (r ∷ [])), get_or_push rs r (0, 0) i is)
+
+-- a patch that keeps its range
+pub ranges_set : (patches : List Patch) (i : ℕ) (x new : Patch) → i < length patches → x ≡ get_or patches i x → range (piece new) ≡ range (piece x) → ranges (pieces (set patches i new)) ≡ ranges (pieces patches)
+ranges_set patches i x new lt is same =
+    ap ranges (map-set piece patches i new) ∙ map-set range (pieces patches) i (piece new)
+      ∙ ap (λ (r : ℕ × ℕ). set (ranges (pieces patches)) i r) (same ∙ sym at) ∙ set-get_or (ranges (pieces patches)) i (range (piece x))
+  where
+    at : get_or (ranges (pieces patches)) i (range (piece x)) ≡ range (piece x)
+    at = get_or-map range (pieces patches) i (piece x) ∙ ap range (read_piece patches i x lt is (piece x))
+
+-- what is lent, as a range
+pub range_lent : (l : Lent) (c : Content) → l.first + l.lanes * l.each ≤ length c → range (lent_piece l c) ≡ (l.first, l.lanes * l.each)
+range_lent l c within = ap (λ (n : ℕ). (l.first, n)) (length-take-le (l.lanes * l.each) (drop l.first c) (omega (arith, within, length-drop l.first c)))
+
+-- where nothing is lent, a sync leaves no more than the content
+pub durable_then : (l : Lent) (now c : Content) (r r' : Record) (stood' : Content) → r' ≡ more_synced now (lent_piece l now ∷ []) r → stood' ≡ now → l.lanes ≡ 0 → Agrees stood' (ranges r'.written) c → c ≡ now
+durable_then l now c r r' stood' more is none a =
+    durable l.first (length (lent_piece l now).1) now c empty (subst (λ (s : Content). Agrees s (ranges (lent_piece l now ∷ [])) c) is (subst (λ (q : Record). Agrees stood' (ranges q.written) c) more a))
+  where
+    zero_each : l.lanes * l.each ≡ 0
+    zero_each = ap (λ (n : ℕ). n * l.each) none ∙ zero-mul l.each
+
+    empty : length (take (l.lanes * l.each) (drop l.first now)) ≡ 0
+    empty = ap (λ (n : ℕ). length (take n (drop l.first now))) zero_each
+
+-- what is lent was written before the sync
+pub lent_fewer : (l : Lent) (now : Content) (rs : List (ℕ × ℕ)) (i : ℕ) → l.first + l.lanes * l.each ≤ length now → (0 < l.lanes → Noted rs i (l.first, l.lanes * l.each))
+    → (k : ℕ) → Untouched rs k → Untouched (ranges (lent_piece l now ∷ [])) k
+lent_fewer l now rs i within noted k u = elim (cases_lt 0 l.lanes) [
+  | inl some ↦ (subst (λ (r : ℕ × ℕ). (k < r.0) ⊎ (r.0 + r.1 ≤ k)) (sym (range_lent l now within)) (untouched_at rs i (l.first, l.lanes * l.each) k (noted some).0 (noted some).1 u), tt)
+  | inr none ↦ (subst (λ (r : ℕ × ℕ). (k < r.0) ⊎ (r.0 + r.1 ≤ k)) (sym (range_lent l now within)) (outside (zero_each none)), tt)
+]
+  where
+    zero_each : l.lanes ≤ 0 → l.lanes * l.each ≡ 0
+    zero_each none = let is : l.lanes ≡ 0 = omega arith in ap (λ (n : ℕ). n * l.each) is ∙ zero-mul l.each
+
+    outside : l.lanes * l.each ≡ 0 → (k < l.first) ⊎ (l.first + l.lanes * l.each ≤ k)
+    outside zero = elim (cases_lt k l.first) [ inl low ↦ inl low | inr le ↦ inr (omega (arith, le, zero)) ]
+
+-- what a join brings back is torn where the record has it as written
+pub agrees_join : (l : Lent) (stood : Content) (rs : List (ℕ × ℕ)) (i : ℕ) (now new : Content) → (0 < l.lanes → Noted rs i (l.first, l.lanes * l.each)) → Agrees stood rs now → Torn l.first (l.lanes * l.each) now new
+    → Agrees stood rs new
+agrees_join l stood rs i now new noted a torn = elim (cases_lt 0 l.lanes) [
+  | inl some ↦ agrees_torn stood rs i (l.first, l.lanes * l.each) now new (noted some).0 (noted some).1 a torn
+  | inr none ↦ record { as_long = torn.as_long ∙ a.as_long; same = λ k u. same none k ∙ a.same k u }
+]
+  where
+    zero_each : l.lanes ≤ 0 → l.lanes * l.each ≡ 0
+    zero_each none = let is : l.lanes ≡ 0 = omega arith in ap (λ (n : ℕ). n * l.each) is ∙ zero-mul l.each
+
+    same : l.lanes ≤ 0 → (k : ℕ) → sector new k ≡ sector now k
+    same none k = elim (cases_lt k l.first) [ inl low ↦ torn.before k low | inr le ↦ torn.after k (omega (arith, le, zero_each none)) ]

@@ -1,0 +1,109 @@
+-- Pieces laid over a content.
+use Rattle.std.proofs.Common.{◌≡◌, ◌⊎◌, ◌∙◌, inl, inr, refl, ℕ, ◌+◌, ◌-◌, ◌<◌, ◌≤◌, zero, suc, List, [], ◌∷◌, ◌++◌, length, get_or, take, drop, map, replicate, sym, ap, subst, arith, rules, length-append, length-take, length-drop}
+use Rattle.std.proofs.Math.ListN.{get_or-map}
+use Rattle.std.proofs.lemmas.List.{places, get_or_append_left, get_or-append_right, get_or-take, get_or-drop, get_or_push, ext_get_or, length-map, length-replicate, length-take-le}
+use Rattle.std.proofs.lemmas.Bool.{cases_lt}
+use Rattle.disk.specs.Facts.{Content, sector}
+use Rattle.simdisk.specs.Record.{Piece, put, replay, synced_after, range, ranges, Untouched, Agrees, Fits, settled, filled}
+
+module _ (first : ℕ) (s c : Content) (within : first + length s ≤ length c) where
+  pub length-put : length (put (first, s) c) ≡ length c
+  length-put = search (rules, places)
+
+  pub put_low : (k : ℕ) → k < first → sector (put (first, s) c) k ≡ sector c k
+  put_low k low = search (rules, places)
+
+  pub put_mid : (k : ℕ) → first ≤ k → k < first + length s → sector (put (first, s) c) k ≡ sector s (k - first)
+  put_mid k le lt = search (rules, places)
+
+  pub put_high : (k : ℕ) → first + length s ≤ k → sector (put (first, s) c) k ≡ sector c k
+  put_high k high = search (rules, places)
+
+fits_here : (n : ℕ) (p : Piece) (ps : List Piece) → Fits n (ranges (p ∷ ps)) → p.0 + length p.1 ≤ n
+fits_here n p ps fits = fits 0 (omega arith)
+
+fits_rest : (n : ℕ) (p : Piece) (ps : List Piece) → Fits n (ranges (p ∷ ps)) → Fits n (ranges ps)
+fits_rest n p ps fits i lt = fits (suc i) (omega arith)
+
+-- what is laid over a content leaves the rest of it
+pub length_replay : (ps : List Piece) (c : Content) → Fits (length c) (ranges ps) → length (replay ps c) ≡ length c
+length_replay [] c fits = refl
+length_replay (p ∷ ps) c fits =
+    let here = length-put p.0 p.1 c (fits_here (length c) p ps fits) in
+    length_replay ps (put p c) (rw here (fits_rest (length c) p ps fits)) ∙ here
+
+pub replay_outside : (ps : List Piece) (c : Content) (k : ℕ) → Fits (length c) (ranges ps) → Untouched (ranges ps) k → sector (replay ps c) k ≡ sector c k
+replay_outside [] c k fits u = refl
+replay_outside (p ∷ ps) c k fits u =
+    let within = fits_here (length c) p ps fits in
+    let here = length-put p.0 p.1 c within in
+    replay_outside ps (put p c) k (rw here (fits_rest (length c) p ps fits)) u.1 ∙ elim u.0 [ inl low ↦ put_low p.0 p.1 c within k low | inr high ↦ put_high p.0 p.1 c within k high ]
+
+pub agrees_replay : (ps : List Piece) (stood : Content) → Fits (length stood) (ranges ps) → Agrees stood (ranges ps) (replay ps stood)
+agrees_replay ps stood fits = record { as_long = length_replay ps stood fits; same = λ k u. replay_outside ps stood k fits u }
+
+-- to fill or settle a piece leaves its range
+pub ranges_filled : (byte : ℕ) (ps : List Piece) → ranges (map (filled byte) ps) ≡ ranges ps
+ranges_filled byte [] = refl
+ranges_filled byte (p ∷ ps) =
+    ap (λ (n : ℕ). (p.0, n) ∷ ranges (map (filled byte) ps)) (length-replicate (length p.1) (replicate 512 byte)) ∙ ap (λ (rs : List (ℕ × ℕ)). (p.0, length p.1) ∷ rs) (ranges_filled byte ps)
+
+length-settled : (now : Content) (p : Piece) → p.0 + length p.1 ≤ length now → length (settled now p).1 ≡ length p.1
+length-settled now p within = length-take-le (length p.1) (drop p.0 now) (omega (arith, within, length-drop p.0 now))
+
+pub ranges_settled : (now : Content) (ps : List Piece) → Fits (length now) (ranges ps) → ranges (map (settled now) ps) ≡ ranges ps
+ranges_settled now [] fits = refl
+ranges_settled now (p ∷ ps) fits =
+    ap (λ (n : ℕ). (p.0, n) ∷ ranges (map (settled now) ps)) (length-settled now p (fits_here (length now) p ps fits))
+      ∙ ap (λ (rs : List (ℕ × ℕ)). (p.0, length p.1) ∷ rs) (ranges_settled now ps (fits_rest (length now) p ps fits))
+
+-- pieces as they stand in a content, laid over one that is the same outside them, give that content
+settled_onto : (now : Content) (ps : List Piece) (c : Content) → length c ≡ length now → Fits (length now) (ranges ps) → ((k : ℕ) → Untouched (ranges ps) k → sector c k ≡ sector now k)
+    → replay (map (settled now) ps) c ≡ now
+settled_onto now [] c long fits same = ext_get_or [] c now long (λ k lt. same k tt)
+settled_onto now (p ∷ ps) c long fits same = settled_onto now ps (put q c) (length-put q.0 q.1 c within ∙ long) (fits_rest (length now) p ps fits) (λ k u. here k u)
+  where
+    q : Piece
+    q = settled now p
+
+    inside : p.0 + length p.1 ≤ length now
+    inside = fits_here (length now) p ps fits
+
+    size : length q.1 ≡ length p.1
+    size = length-settled now p inside
+
+    within : q.0 + length q.1 ≤ length c
+    within = rw (size, long) inside
+
+    here : (k : ℕ) → Untouched (ranges ps) k → sector (put q c) k ≡ sector now k
+    here k u = elim (cases_lt k p.0) [
+      | inl low ↦ put_low q.0 q.1 c within k low ∙ same k (inl low, u)
+      | inr le ↦ elim (cases_lt k (p.0 + length p.1)) [
+        | inl lt ↦ put_mid q.0 q.1 c within k le (rw size lt) ∙ middle k le lt
+        | inr high ↦ put_high q.0 q.1 c within k (rw size high) ∙ same k (inr high, u)
+      ]
+    ]
+      where
+        middle : (k : ℕ) → p.0 ≤ k → k < p.0 + length p.1 → sector q.1 (k - p.0) ≡ sector now k
+        middle k le lt = search (rules, places)
+
+pub replay_settled : (stood now : Content) (ps : List Piece) → Agrees stood (ranges ps) now → Fits (length stood) (ranges ps) → replay (map (settled now) ps) stood ≡ now
+replay_settled stood now ps agrees fits = settled_onto now ps stood (sym agrees.as_long) (rw agrees.as_long fits) (λ k u. sym (agrees.same k u))
+
+-- a range more
+pub fits_push : (n : ℕ) (ps : List Piece) (p : Piece) → Fits n (ranges ps) → p.0 + length p.1 ≤ n → Fits n (ranges (ps ++ p ∷ []))
+fits_push n ps p fits within i lt = elim (cases_lt i (length ps)) [
+  | inl less ↦ subst (λ (r : ℕ × ℕ). r.0 + r.1 ≤ n) (sym (at i (get_or_append_left ps (p ∷ []) (0, []) i less))) (fits i (omega (arith, less, length-map ps range)))
+  | inr more ↦ subst (λ (r : ℕ × ℕ). r.0 + r.1 ≤ n) (sym (last (omega (arith, more, lt, length-map (ps ++ p ∷ []) range, length-append ps (p ∷ []))))) within
+]
+  where
+    at : (j : ℕ) → get_or (ps ++ p ∷ []) j (0, []) ≡ get_or ps j (0, []) → get_or (ranges (ps ++ p ∷ [])) j (0, 0) ≡ get_or (ranges ps) j (0, 0)
+    at j same = get_or-map range (ps ++ p ∷ []) j (0, []) ∙ ap range same ∙ sym (get_or-map range ps j (0, []))
+
+    last : length ps ≡ i → get_or (ranges (ps ++ p ∷ [])) i (0, 0) ≡ range p
+    last is = get_or-map range (ps ++ p ∷ []) i (0, []) ∙ ap range (get_or_push ps p (0, []) i is)
+
+-- a sync more
+pub synced_push : (past : List (List Piece)) (epoch : List Piece) (c : Content) → synced_after (past ++ epoch ∷ []) c ≡ replay epoch (synced_after past c)
+synced_push [] epoch c = refl
+synced_push (e ∷ past) epoch c = synced_push past epoch (replay e c)

@@ -1,0 +1,48 @@
+use Rattle.std.proofs.Common.{◌≡◌, ◌∙◌, ◌++◌, ◌∷◌, [], ℕ, ◌*◌, length, ap, sym, rules}
+use Rattle.disk.specs.Facts.{Content}
+use Rattle.simdisk.specs.Record.{ranges}
+use Rattle.simdisk.specs.Views.{pieces}
+use Rattle.simdisk.specs.History.{record_of}
+use Rattle.simdisk.proofs.Ranges.{agrees_write, agrees_push}
+use Rattle.simdisk.proofs.Notes.{ranges_written, noted_push}
+use Rattle.simdisk.proofs.Stretches.{passes_range}
+use Rattle.simdisk.proofs.device.SimDiskDisk.write.Goals as goal
+
+pub invariant_of-self-then-strikes : goal.invariant_of-self-then-strikes
+invariant_of-self-then-strikes c =
+    let s = c.args.self.now in
+    let rs = ranges (pieces s.history.written.items) in
+    let r : ℕ × ℕ = (c.args.first, length c.args.sectors.now) in
+    let more : ranges (pieces c.note.new.self.written.items) ≡ rs ++ r ∷ [] = ranges_written (record_of s.history) (record_of c.note.new.self) (c.args.first, c.args.sectors.now) c.in-Ok.ensures.noted in
+    record {
+      agrees = rw (c.in-Ok.ensures.synced, more) (agrees_push s.history.synced.items rs r s.content.items s.agrees);
+      few = search rules;
+      within = s.within;
+      noted = λ lt. rw more (noted_push rs r (s.loan.first, s.loan.lanes * s.loan.each) s.loan.patch (s.noted lt));
+    }
+
+pub returns-then-strikes-clause-crash : goal.returns-then-strikes-clause-crash
+returns-then-strikes-clause-crash c =
+    let s = c.args.self.now in
+    passes_range s.content.items _ s.history.synced.items c.note.new.self.synced.items (record_of s.history) (record_of c.note.new.self) _ _ _ _ (c.args.first, c.args.sectors.now) c.in-Ok.ensures.noted c.in-Ok.ensures.synced
+        (rw (← s.agrees.as_long) c.requires.within)
+
+pub invariant_of-self-2 : goal.invariant_of-self-2
+invariant_of-self-2 c =
+    let s = c.args.self.now in
+    let rs = ranges (pieces s.history.written.items) in
+    let r : ℕ × ℕ = (c.args.first, length c.args.sectors.now) in
+    let more : ranges (pieces c.note.new.self.written.items) ≡ rs ++ r ∷ [] = ranges_written (record_of s.history) (record_of c.note.new.self) (c.args.first, c.args.sectors.now) c.in-Ok.ensures.noted in
+    let torn = c.overwrite.ensures.written.elsewhere in
+    record {
+      agrees = rw (c.in-Ok.ensures.synced, more) (agrees_write s.history.synced.items rs c.args.first (length c.args.sectors.now) s.content.items c.overwrite.new.content.items s.agrees torn);
+      few = s.few;
+      within = rw torn.as_long s.within;
+      noted = λ lt. rw more (noted_push rs r (s.loan.first, s.loan.lanes * s.loan.each) s.loan.patch (s.noted lt));
+    }
+
+pub returns-clause-crash : goal.returns-clause-crash
+returns-clause-crash c =
+    let s = c.args.self.now in
+    passes_range s.content.items _ s.history.synced.items c.note.new.self.synced.items (record_of s.history) (record_of c.note.new.self) _ _ _ _ (c.args.first, c.args.sectors.now) c.in-Ok.ensures.noted c.in-Ok.ensures.synced
+        (rw (← s.agrees.as_long) c.requires.within)

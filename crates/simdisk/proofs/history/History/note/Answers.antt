@@ -1,0 +1,12 @@
+use Rattle.std.proofs.Common.{◌≡◌, ◌+◌, ◌≤◌, ◌++◌, ◌∷◌, [], length, map, sym, ap, rules}
+use Rattle.std.proofs.lemmas.List.{map-append}
+use Rattle.simdisk.specs.Views.{piece, pieces}
+use Rattle.simdisk.proofs.Pieces.{fits_push}
+use Rattle.simdisk.proofs.history.History.note.Goals as goal
+
+pub invariant_of-self-2 : goal.invariant_of-self-2
+invariant_of-self-2 c =
+    let s = c.args.self.now in
+    let copied : c.in_ok-sectors.sectors.items ≡ c.args.sectors.now = search rules in
+    let pushed : pieces c.push_reserved.new.self.items ≡ pieces s.written.items ++ (c.args.first, c.in_ok-sectors.sectors.items) ∷ [] = search (rules, map-append) in
+    record { as_long = s.as_long; replayed = s.replayed; fits = rw (pushed, copied) (fits_push (length s.synced.items) (pieces s.written.items) (c.args.first, c.args.sectors.now) s.fits c.requires) }

@@ -1,0 +1,12 @@
+-- What each choice leaves of what was written since the last sync.
+use Rattle.std.specs.Prelude.{List, map}
+use Rattle.disk.specs.Facts.{Content}
+use Rattle.simdisk.specs.declared.choice.Choice.{Choice}
+use Rattle.simdisk.specs.declared.choice.Choice.TheVariants.{Byte, Old, New}
+use Rattle.simdisk.specs.Record.{Piece, filled, replay}
+
+-- that byte throughout each piece; what stood at the sync; or the bytes that were written last
+abbrev pub left_by : Choice → Content → List Piece → Content
+left_by (Byte byte) stood pieces = replay (map (filled byte) pieces) stood
+left_by Old stood pieces = stood
+left_by New stood pieces = replay pieces stood

@@ -1,0 +1,12 @@
+-- What is lent, and where the record has it.
+use Rattle.std.specs.Prelude.{◌≡◌, ℕ, ◌<◌, List, length}
+use Rattle.disk.specs.Facts.{Lent}
+use Rattle.simdisk.specs.declared.loan.Loan.{Loan}
+use Rattle.simdisk.specs.Record.{range_at}
+
+abbrev pub lent_of : Loan → Lent
+lent_of loan = record { first = loan.first; lanes = loan.lanes; each = loan.each }
+
+-- that range is one of these, at that place
+abbrev pub Noted : List (ℕ × ℕ) → ℕ → ℕ × ℕ → Type 0
+Noted rs i r = (i < length rs) × (range_at rs i ≡ r)

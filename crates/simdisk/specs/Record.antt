@@ -1,0 +1,98 @@
+-- The record of a disk's writes and syncs, and what a crash may leave by it.
+use Rattle.std.specs.Prelude.{◌≡◌, ◌⊎◌, ℕ, ◌+◌, ◌*◌, ◌≤◌, ◌<◌, List, [], ◌∷◌, ◌++◌, length, take, drop, map, replicate, get_or}
+use Rattle.disk.specs.Facts.{Content, Facts, Lent, sector}
+
+-- sectors in a row, from the first that it names on
+abbrev pub Piece : Type 0
+Piece = ℕ × Content
+
+-- a disk's writes since it was made, or left by a crash
+pub record Record : Type 0 where
+  -- what stood then
+  pub began : Content
+  -- for each sync the pieces written before it, since the sync before, as they stood at it
+  pub past : List (List Piece)
+  -- the pieces written since the last sync, in order, each with the bytes of that write
+  pub written : List Piece
+
+-- the piece as it stands in that content
+abbrev pub settled : Content → Piece → Piece
+settled c piece = (piece.0, take (length piece.1) (drop piece.0 c))
+
+-- the piece with that byte throughout
+abbrev pub filled : ℕ → Piece → Piece
+filled byte piece = (piece.0, replicate (length piece.1) (replicate 512 byte))
+
+-- the content with that piece laid over it
+abbrev pub put : Piece → Content → Content
+put piece c = take piece.0 c ++ (piece.1 ++ drop (piece.0 + length piece.1) c)
+
+-- the content with these pieces laid over it, one after the other
+abbrev pub replay : List Piece → Content → Content
+replay [] c = c
+replay (piece ∷ pieces) c = replay pieces (put piece c)
+
+-- what stood after these syncs
+abbrev pub synced_after : List (List Piece) → Content → Content
+synced_after [] c = c
+synced_after (epoch ∷ epochs) c = synced_after epochs (replay epoch c)
+
+-- what stood at the last sync
+abbrev pub synced : Record → Content
+synced r = synced_after r.past r.began
+
+-- the record of a disk that was just made, or left by a crash
+abbrev pub new_record : Content → Record
+new_record c = record { began = c; past = []; written = [] }
+
+-- one piece more is written
+abbrev pub more_written : Piece → Record → Record
+more_written piece r = record r { written = r.written ++ piece ∷ [] }
+
+-- a sync: the pieces stand as in that content, and these are written from now on
+abbrev pub more_synced : Content → List Piece → Record → Record
+more_synced c pieces r = record { began = r.began; past = r.past ++ map (settled c) r.written ∷ []; written = pieces }
+
+-- where a piece begins, and how many sectors it has
+abbrev pub range : Piece → ℕ × ℕ
+range piece = (piece.0, length piece.1)
+
+abbrev pub ranges : List Piece → List (ℕ × ℕ)
+ranges pieces = map range pieces
+
+-- the sectors that are lent, which count as written
+abbrev pub lent_piece : Lent → Content → Piece
+lent_piece l c = (l.first, take (l.lanes * l.each) (drop l.first c))
+
+-- the sector is in none of these ranges
+abbrev pub Untouched : List (ℕ × ℕ) → ℕ → Type 0
+Untouched [] k = Unit {0}
+Untouched (r ∷ rs) k = ((k < r.0) ⊎ (r.0 + r.1 ≤ k)) × Untouched rs k
+
+-- but for the sectors of these ranges, which are any, c is what stood
+pub record Agrees (stood : Content) (rs : List (ℕ × ℕ)) (c : Content) : Type 0 where
+  pub as_long : length c ≡ length stood
+  pub same : (k : ℕ) → Untouched rs k → sector c k ≡ sector stood k
+
+abbrev pub range_at : List (ℕ × ℕ) → ℕ → ℕ × ℕ
+range_at rs i = get_or rs i (0, 0)
+
+-- each range is within so many sectors
+abbrev pub Fits : ℕ → List (ℕ × ℕ) → Type 0
+Fits n rs = (i : ℕ) → i < length rs → (range_at rs i).0 + (range_at rs i).1 ≤ n
+
+-- a crash before one of these syncs might have left it, where that content stood when they began
+abbrev pub Had : Content → List (List Piece) → Content → Type 0
+Had stood [] c = ⊥
+Had stood (epoch ∷ epochs) c = Agrees stood (ranges epoch) c ⊎ Had (replay epoch stood) epochs c
+
+-- the facts of a disk with that record, whose last sync had that content
+abbrev pub sim_facts : Content → Content → Record → ℕ → Lent → Facts
+sim_facts now stood r failures lent = record {
+  content = now;
+  may_leave = λ c. Agrees stood (ranges r.written) c;
+  moment = length r.past;
+  since = λ t c. Agrees stood (ranges r.written) c ⊎ Had (synced_after (take t r.past) r.began) (drop t r.past) c;
+  failures = failures;
+  lent = lent;
+}

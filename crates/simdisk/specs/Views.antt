@@ -1,0 +1,14 @@
+-- What patches and epochs are to a contract.
+use Rattle.std.specs.Prelude.{List, map}
+use Rattle.simdisk.specs.declared.patch.Patch.{Patch}
+use Rattle.simdisk.specs.declared.patch.Epoch.{Epoch}
+use Rattle.simdisk.specs.Record.{Piece}
+
+abbrev pub piece : Patch → Piece
+piece patch = (patch.first, patch.sectors.items)
+
+abbrev pub pieces : List Patch → List Piece
+pieces patches = map piece patches
+
+abbrev pub epochs : List Epoch → List (List Piece)
+epochs past = map (λ epoch. map piece epoch.patches.items) past

@@ -1,0 +1,61 @@
+// How sectors are lent and taken back.
+ghost use Rattle.std.specs.Prelude.{◌≡◌, ◌≤◌, ◌+◌, ◌*◌, length, map, IfOk};
+ghost use Rattle.disk.specs.Facts.{In_row, Handed, Joined, counted, lane_failures};
+ghost use Rattle.simdisk.specs.Lanes.{lane_view};
+
+use crate::faults::Faults;
+use crate::laid::overwrite;
+use crate::lane::SimLane;
+use crate::patch::copy_of;
+use disk::Sector;
+use std::alloc::{AllocError, Global};
+
+// Lanes over these sectors, in a row. Of the two contents, the second has failed writes too.
+pub(crate) fn lend(
+    alloc: Global,
+    content: &Vec<Sector>,
+    newest: &Vec<Sector>,
+    faults: Faults,
+    first: usize,
+    lanes: usize,
+    each: usize,
+) -> Result<Vec<SimLane>, AllocError>
+    requires few { lanes ≤ 4 }
+    requires within { first + lanes * each ≤ length content.now.items }
+    requires as_long { length newest.now.items ≡ length content.now.items }
+    ensures { IfOk result (λ out. Handed (record { first = first; lanes = lanes; each = each }) content.now.items (map lane_view out.items)) }
+{
+    let mut out = Vec::new(alloc);
+    for lane in 0..lanes {
+        let start = first + lane * each;
+        out.push(SimLane {
+            first: start,
+            sectors: copy_of(alloc, &content[start..start + each])?,
+            newest: copy_of(alloc, &newest[start..start + each])?,
+            failures: 0,
+            faults: faults.of_lane(lane),
+        })?;
+    }
+    Ok(out)
+}
+
+// Puts back what the lanes hold, and answers how often they failed.
+pub(crate) fn take_back(
+    content: &mut Vec<Sector>,
+    first: usize,
+    count: usize,
+    each: usize,
+    lanes: &[SimLane],
+) -> u64
+    requires row { In_row (record { first = first; lanes = count; each = each }) (map lane_view lanes.now) }
+    requires within { first + count * each ≤ length content.old.items }
+    ensures content { Joined (record { first = first; lanes = count; each = each }) (map lane_view lanes.now) content.old.items content.new.items }
+    ensures failures { result ≡ counted 0 (lane_failures (map lane_view lanes.now)) }
+{
+    let mut failures = 0u64;
+    for (i, lane) in lanes.iter().enumerate() {
+        overwrite(content, first + i * each, &lane.sectors);
+        failures = failures.saturating_add(lane.failures);
+    }
+    failures
+}

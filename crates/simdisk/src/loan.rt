@@ -1,0 +1,27 @@
+// What is lent.
+ghost use Rattle.std.specs.Prelude.{◌≡◌};
+
+/// The sectors that are lent: so many lanes of so many sectors each, in a row from the first.
+/// Nothing is lent where there are no lanes.
+#[derive(Clone, Copy, Debug, PartialEq, Eq)]
+pub(crate) struct Loan {
+    pub(crate) first: usize,
+    pub(crate) lanes: usize,
+    pub(crate) each: usize,
+    /// Where the record has them among what was written.
+    pub(crate) patch: usize,
+}
+
+impl Loan {
+    /// Nothing is lent.
+    pub(crate) fn nothing() -> Loan
+        ensures { (result.first ≡ 0) × (result.lanes ≡ 0) × (result.each ≡ 0) }
+    {
+        Loan {
+            first: 0,
+            lanes: 0,
+            each: 0,
+            patch: 0,
+        }
+    }
+}

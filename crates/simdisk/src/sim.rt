@@ -1,0 +1,27 @@
+// The disk in memory.
+ghost use Rattle.std.specs.Prelude.{◌≡◌, ◌≤◌, ◌<◌, ◌+◌, ◌*◌, ◌^◌, length};
+ghost use Rattle.simdisk.specs.Record.{ranges, Agrees};
+ghost use Rattle.simdisk.specs.Views.{pieces};
+ghost use Rattle.simdisk.specs.Loans.{Noted};
+
+use crate::faults::Faults;
+use crate::history::History;
+use crate::loan::Loan;
+use disk::Sector;
+use std::alloc::Global;
+
+/// A disk in memory, which keeps a record of all its writes and syncs.
+#[derive(Drop)]
+pub struct SimDisk {
+    pub(crate) alloc: Global,
+    pub(crate) content: Vec<Sector>,
+    pub(crate) history: History,
+    pub(crate) failures: u64,
+    pub(crate) refused: u64,
+    pub(crate) loan: Loan,
+    pub(crate) faults: Faults,
+    ghost agrees: { Agrees history.synced.items (ranges (pieces history.written.items)) content.items },
+    ghost few: { failures < 2 ^ 64 },
+    ghost within: { loan.first + loan.lanes * loan.each ≤ length content.items },
+    ghost noted: { 0 < loan.lanes → Noted (ranges (pieces history.written.items)) loan.patch (loan.first, loan.lanes * loan.each) },
+}
