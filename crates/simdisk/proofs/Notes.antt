@@ -1,15 +1,19 @@
 -- What a piece more in the record leaves of what a disk in memory keeps.
-use Rattle.std.proofs.Common.{◌≡◌, ◌⊎◌, inl, inr, ◌∙◌, ℕ, ◌-◌, take, drop, subst, length-drop, ◌+◌, ◌*◌, ◌<◌, ◌≤◌, List, [], ◌∷◌, ◌++◌, length, get_or, map, set, sym, ap, arith, length-append}
+use Rattle.std.proofs.Common.{◌≡◌, ◌⊎◌, inl, inr, ⊎_elim, refl, ◌∙◌, ℕ, take, drop, subst, length-drop, ◌+◌, ◌*◌, ◌<◌, ◌≤◌, List, [], ◌∷◌, ◌++◌, length, get_or, map, set, sym, ap, arith, length-append}
 use Rattle.std.proofs.Math.ListN.{get_or-map}
 use Rattle.std.proofs.Math.Nat.{zero-mul}
 use Rattle.std.proofs.lemmas.List.{map-append, map-set, set-get_or, get_or_append_left, get_or_push, length-take-le}
 use Rattle.std.proofs.lemmas.Bool.{cases_lt}
-use Rattle.disk.specs.Facts.{Content, Lent, Torn, sector}
+use Rattle.disk.specs.Facts.{Content, Lent, Torn, Is_fresh, nothing, sector}
 use Rattle.simdisk.specs.declared.patch.Patch.{Patch}
-use Rattle.simdisk.specs.Record.{Piece, Record, range, ranges, range_at, more_written, more_synced, lent_piece, Untouched, Agrees}
+use Rattle.simdisk.specs.Record.{Piece, Record, range, ranges, more_written, more_synced, lent_piece, new_record, replay, filled, sim_facts, Untouched, Agrees, Fits}
 use Rattle.simdisk.specs.Views.{piece, pieces}
 use Rattle.simdisk.specs.Loans.{Noted}
-use Rattle.simdisk.proofs.Ranges.{durable, untouched_at, agrees_torn}
+use Rattle.simdisk.specs.Choices.{left_by}
+use Rattle.simdisk.specs.declared.choice.Choice.{Choice}
+use Rattle.simdisk.specs.declared.choice.Choice.TheVariants.{Byte, Old, New}
+use Rattle.simdisk.proofs.Pieces.{agrees_replay, ranges_filled}
+use Rattle.simdisk.proofs.Ranges.{durable, agrees_all, untouched_at, agrees_torn}
 use Rattle.simdisk.proofs.Walks.{read_piece}
 
 pub ranges_written : (r r' : Record) (p : Piece) → r' ≡ more_written p r → ranges r'.written ≡ ranges r.written ++ range p ∷ []
@@ -25,7 +29,7 @@ noted_last rs r i is = (omega (arith, is, length-append rs (r ∷ [])), get_or_p
 pub ranges_set : (patches : List Patch) (i : ℕ) (x new : Patch) → i < length patches → x ≡ get_or patches i x → range (piece new) ≡ range (piece x) → ranges (pieces (set patches i new)) ≡ ranges (pieces patches)
 ranges_set patches i x new lt is same =
     ap ranges (map-set piece patches i new) ∙ map-set range (pieces patches) i (piece new)
-      ∙ ap (λ (r : ℕ × ℕ). set (ranges (pieces patches)) i r) (same ∙ sym at) ∙ set-get_or (ranges (pieces patches)) i (range (piece x))
+    ∙ ap (λ (r : ℕ × ℕ). set (ranges (pieces patches)) i r) (same ∙ sym at) ∙ set-get_or (ranges (pieces patches)) i (range (piece x))
   where
     at : get_or (ranges (pieces patches)) i (range (piece x)) ≡ range (piece x)
     at = get_or-map range (pieces patches) i (piece x) ∙ ap range (read_piece patches i x lt is (piece x))
@@ -72,3 +76,29 @@ agrees_join l stood rs i now new noted a torn = elim (cases_lt 0 l.lanes) [
 
     same : l.lanes ≤ 0 → (k : ℕ) → sector new k ≡ sector now k
     same none k = elim (cases_lt k l.first) [ inl low ↦ torn.before k low | inr le ↦ torn.after k (omega (arith, le, zero_each none)) ]
+
+-- what is lent is written
+pub lent_written : (l : Lent) (rs : List (ℕ × ℕ)) (i : ℕ) → (0 < l.lanes → Noted rs i (l.first, l.lanes * l.each)) → (k : ℕ) → l.first ≤ k → k < l.first + l.lanes * l.each → Untouched rs k → ⊥
+lent_written l rs i noted k le lt u = elim (cases_lt 0 l.lanes) [
+  | inl some ↦ ⊎_elim (λ low. absurd (omega arith)) (λ high. absurd (omega arith)) (untouched_at rs i (l.first, l.lanes * l.each) k (noted some).0 (noted some).1 u)
+  | inr none ↦ absurd (omega (arith, le, lt, zero_each none))
+]
+  where
+    zero_each : l.lanes ≤ 0 → l.lanes * l.each ≡ 0
+    zero_each none = let is : l.lanes ≡ 0 = omega arith in ap (λ (n : ℕ). n * l.each) is ∙ zero-mul l.each
+
+-- a disk that begins with that content
+pub fresh_of : (now stood : Content) (r : Record) (f : ℕ) (l : Lent) → r ≡ new_record now → stood ≡ now → l ≡ nothing → Is_fresh now (sim_facts now stood r f l)
+fresh_of now stood r f l begun is none = record {
+  reads = refl;
+  durable = λ c a. agrees_all now c (subst (λ (s : Content). Agrees s [] c) is (subst (λ (q : Record). Agrees stood (ranges q.written) c) begun a));
+  none_out = none;
+}
+
+-- each choice is one that a crash may leave
+pub left_agrees : (choice : Choice) (stood : Content) (ps : List Piece) → Fits (length stood) (ranges ps) → Agrees stood (ranges ps) (left_by choice stood ps)
+left_agrees (Byte byte) stood ps fits =
+    let same = ranges_filled byte ps in
+    subst (λ (rs : List (ℕ × ℕ)). Agrees stood rs (replay (map (filled byte) ps) stood)) same (agrees_replay (map (filled byte) ps) stood (subst (λ (rs : List (ℕ × ℕ)). Fits (length stood) rs) (sym same) fits))
+left_agrees Old stood ps fits = record { as_long = refl; same = λ k u. refl }
+left_agrees New stood ps fits = agrees_replay ps stood fits

@@ -1,7 +1,7 @@
 -- Pieces laid over a content.
-use Rattle.std.proofs.Common.{◌≡◌, ◌⊎◌, ◌∙◌, inl, inr, refl, ℕ, ◌+◌, ◌-◌, ◌<◌, ◌≤◌, zero, suc, List, [], ◌∷◌, ◌++◌, length, get_or, take, drop, map, replicate, sym, ap, subst, arith, rules, length-append, length-take, length-drop}
+use Rattle.std.proofs.Common.{◌≡◌, ◌∙◌, inl, inr, refl, ℕ, ◌+◌, ◌-◌, ◌<◌, ◌≤◌, suc, List, [], ◌∷◌, ◌++◌, length, get_or, drop, map, replicate, sym, ap, subst, arith, rules, length-append, length-drop}
 use Rattle.std.proofs.Math.ListN.{get_or-map}
-use Rattle.std.proofs.lemmas.List.{places, get_or_append_left, get_or-append_right, get_or-take, get_or-drop, get_or_push, ext_get_or, length-map, length-replicate, length-take-le}
+use Rattle.std.proofs.lemmas.List.{places, get_or_append_left, get_or_push, ext_get_or, length-map, length-replicate, length-take-le}
 use Rattle.std.proofs.lemmas.Bool.{cases_lt}
 use Rattle.disk.specs.Facts.{Content, sector}
 use Rattle.simdisk.specs.Record.{Piece, put, replay, synced_after, range, ranges, Untouched, Agrees, Fits, settled, filled}
@@ -55,7 +55,7 @@ pub ranges_settled : (now : Content) (ps : List Piece) → Fits (length now) (ra
 ranges_settled now [] fits = refl
 ranges_settled now (p ∷ ps) fits =
     ap (λ (n : ℕ). (p.0, n) ∷ ranges (map (settled now) ps)) (length-settled now p (fits_here (length now) p ps fits))
-      ∙ ap (λ (rs : List (ℕ × ℕ)). (p.0, length p.1) ∷ rs) (ranges_settled now ps (fits_rest (length now) p ps fits))
+    ∙ ap (λ (rs : List (ℕ × ℕ)). (p.0, length p.1) ∷ rs) (ranges_settled now ps (fits_rest (length now) p ps fits))
 
 -- pieces as they stand in a content, laid over one that is the same outside them, give that content
 settled_onto : (now : Content) (ps : List Piece) (c : Content) → length c ≡ length now → Fits (length now) (ranges ps) → ((k : ℕ) → Untouched (ranges ps) k → sector c k ≡ sector now k)

@@ -1,8 +1,8 @@
 -- What writes and syncs leave of the facts.
-use Rattle.std.proofs.Common.{◌≡◌, ◌⊎◌, ◌∙◌, inl, inr, ⊎_elim, refl, ℕ, ◌+◌, ◌<◌, ◌≤◌, zero, suc, List, [], ◌∷◌, ◌++◌, length, take, drop, map, sym, ap, subst, arith, length-append}
+use Rattle.std.proofs.Common.{◌≡◌, ◌⊎◌, ◌∙◌, inl, inr, ⊎_elim, refl, ℕ, ◌+◌, ◌≤◌, List, [], ◌∷◌, ◌++◌, length, take, drop, map, sym, ap, subst, arith, length-append}
 use Rattle.std.proofs.lemmas.List.{map-append, take-append-le, drop-append-le, take-append-drop}
 use Rattle.disk.specs.Facts.{Content, Facts, Lent, After, Passes, Stays, Torn}
-use Rattle.simdisk.specs.Record.{Piece, Record, put, replay, settled, range, ranges, synced_after, more_written, more_synced, Untouched, Agrees, Fits, Had, sim_facts}
+use Rattle.simdisk.specs.Record.{Piece, Record, replay, settled, range, ranges, synced_after, more_written, more_synced, Untouched, Agrees, Fits, Had, sim_facts}
 use Rattle.simdisk.proofs.Ranges.{agrees_push, crash_write, crash_sync}
 use Rattle.simdisk.proofs.Pieces.{ranges_settled}
 
@@ -122,7 +122,7 @@ passes_sync now stood stood' r r' f g l next more is stood_so agrees fits fewer 
         ≡ Had (synced_after (take t r.past) r.began) (drop t r.past ++ map (settled now) r.written ∷ []) c
     with_epoch t c le =
         ap (λ (es : List (List Piece)). Had (synced_after es r.began) (drop t (r.past ++ map (settled now) r.written ∷ [])) c) (take-append-le t r.past (map (settled now) r.written ∷ []) le)
-          ∙ ap (λ (es : List (List Piece)). Had (synced_after (take t r.past) r.began) es c) (drop-append-le t r.past (map (settled now) r.written ∷ []) le)
+        ∙ ap (λ (es : List (List Piece)). Had (synced_after (take t r.past) r.began) es c) (drop-append-le t r.past (map (settled now) r.written ∷ []) le)
 
     split : (t : ℕ) (c : Content) → Had (synced_after (take t r.past) r.began) (drop t r.past ++ map (settled now) r.written ∷ []) c → before.since t c
     split t c had = ⊎_elim (λ h. inr h) (λ a. inl (from t c a)) (had_either (synced_after (take t r.past) r.began) (drop t r.past) (map (settled now) r.written) c had)

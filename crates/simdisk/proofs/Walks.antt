@@ -1,5 +1,5 @@
 -- Loops over patches, as functions of the pieces that they are.
-use Rattle.std.proofs.Common.{◌≡◌, ◌∙◌, refl, ℕ, ◌+◌, ◌-◌, ◌<◌, ◌≤◌, zero, suc, List, [], ◌∷◌, ◌++◌, length, get_or, take, drop, map, set, sym, ap, subst, arith, rules}
+use Rattle.std.proofs.Common.{◌≡◌, ◌∙◌, ℕ, ◌+◌, ◌<◌, ◌≤◌, zero, suc, List, [], ◌∷◌, ◌++◌, length, get_or, take, drop, map, set, sym, ap, subst, arith, rules}
 use Rattle.std.proofs.Math.ListN.{get_or-map}
 use Rattle.std.proofs.lemmas.List.{places, drop_more, drop_all, take_all, take_more, set_at, map-set, map-append, length-map, length-take-le, get_or_at, get_or_default, append_assoc, append-nil}
 use Rattle.disk.specs.Facts.{Content}
@@ -34,18 +34,18 @@ Walked f was i patches = (length patches ≡ length was) × (pieces patches ≡ 
 pub walk_at : (f : Piece → Piece) (was : List Piece) (i : ℕ) (patches : List Patch) (x : Patch) → Walked f was i patches → i < length patches → x ≡ get_or patches i x → piece x ≡ get_or was i (piece x)
 walk_at f was i patches x w lt is =
     sym (read_piece patches i x lt is (piece x)) ∙ ap (λ (ps : List Piece). get_or ps i (piece x)) (w.1 ∙ ap (λ (ps : List Piece). map f (take i was) ++ ps) (drop_more was i (piece x) (omega (arith, lt, w.0))))
-      ∙ get_or_at (map f (take i was)) (get_or was i (piece x)) (drop (i + 1) was) (piece x) i (length-map (take i was) f ∙ length-take-le i was (omega (arith, lt, w.0)))
+    ∙ get_or_at (map f (take i was)) (get_or was i (piece x)) (drop (i + 1) was) (piece x) i (length-map (take i was) f ∙ length-take-le i was (omega (arith, lt, w.0)))
 
 pub walk_more : (f : Piece → Piece) (was : List Piece) (i : ℕ) (patches : List Patch) (x new : Patch) → Walked f was i patches → i < length patches → x ≡ get_or patches i x → piece new ≡ f (piece x)
     → Walked f was (i + 1) (set patches i new)
 walk_more f was i patches x new w lt is changed = (
   search (rules, places),
   map-set piece patches i new
-    ∙ ap (λ (ps : List Piece). set ps i (piece new)) (w.1 ∙ ap (λ (ps : List Piece). map f (take i was) ++ ps) (drop_more was i (piece x) less))
-    ∙ set_at (map f (take i was)) (get_or was i (piece x)) (drop (i + 1) was) (piece new) i (length-map (take i was) f ∙ length-take-le i was (omega arith))
-    ∙ ap (λ (p : Piece). map f (take i was) ++ p ∷ drop (i + 1) was) (changed ∙ ap f (walk_at f was i patches x w lt is))
-    ∙ sym (append_assoc (map f (take i was)) (f (get_or was i (piece x)) ∷ []) (drop (i + 1) was))
-    ∙ ap (λ (ps : List Piece). ps ++ drop (i + 1) was) (sym (ap (map f) (take_more was i (piece x) less) ∙ map-append f (take i was) (get_or was i (piece x) ∷ [])))
+      ∙ ap (λ (ps : List Piece). set ps i (piece new)) (w.1 ∙ ap (λ (ps : List Piece). map f (take i was) ++ ps) (drop_more was i (piece x) less))
+      ∙ set_at (map f (take i was)) (get_or was i (piece x)) (drop (i + 1) was) (piece new) i (length-map (take i was) f ∙ length-take-le i was (omega arith))
+      ∙ ap (λ (p : Piece). map f (take i was) ++ p ∷ drop (i + 1) was) (changed ∙ ap f (walk_at f was i patches x w lt is))
+      ∙ sym (append_assoc (map f (take i was)) (f (get_or was i (piece x)) ∷ []) (drop (i + 1) was))
+      ∙ ap (λ (ps : List Piece). ps ++ drop (i + 1) was) (sym (ap (map f) (take_more was i (piece x) less) ∙ map-append f (take i was) (get_or was i (piece x) ∷ []))),
 )
   where
     less : i < length was

@@ -1,5 +1,5 @@
 -- What faults are to a contract.
-use Rattle.std.specs.Prelude.{◌≡◌, ◌⊎◌, ℕ, Option, Some, None, Bool, true, false}
+use Rattle.std.specs.Prelude.{◌≡◌, ◌⊎◌, ℕ, Option, Some, None, true}
 use Rattle.disk.specs.declared.device.ArmedFault.{ArmedFault}
 use Rattle.disk.specs.Mishaps.{Armed, Unarmed, FaultArmed, CutArmed, Mishaps, armed_by}
 use Rattle.simdisk.specs.declared.faults.Faults.{Faults}

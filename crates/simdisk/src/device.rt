@@ -3,8 +3,8 @@ ghost use Rattle.std.specs.Prelude.{◌≡◌, map};
 ghost use Rattle.disk.specs.Facts.{Passes, Stays, In_row, Joined, counted, nothing, lane_failures};
 ghost use Rattle.disk.specs.Mishaps.{Caused_in_lanes};
 
-use crate::lane::SimLane;
 use crate::laid::overwrite;
+use crate::lane::SimLane;
 use crate::lending::{lend, take_back};
 use crate::loan::Loan;
 use crate::sim::SimDisk;
@@ -76,7 +76,15 @@ impl Disk for SimDisk {
         each: usize,
     ) -> Result<Vec<SimLane>, AllocError> {
         let newest = self.history.newest(self.alloc)?;
-        let out = lend(self.alloc, &self.content, &newest, self.faults, first, lanes, each)?;
+        let out = lend(
+            self.alloc,
+            &self.content,
+            &newest,
+            self.faults,
+            first,
+            lanes,
+            each,
+        )?;
         let loan = Loan {
             first,
             lanes,

@@ -13,9 +13,12 @@ pub(crate) struct Loan {
 }
 
 impl Loan {
+    ghost use Rattle.disk.specs.Facts.{nothing};
+    ghost use Rattle.simdisk.specs.Loans.{lent_of};
+
     /// Nothing is lent.
     pub(crate) fn nothing() -> Loan
-        ensures { (result.first ≡ 0) × (result.lanes ≡ 0) × (result.each ≡ 0) }
+        ensures { lent_of result ≡ nothing }
     {
         Loan {
             first: 0,

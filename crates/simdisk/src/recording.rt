@@ -6,8 +6,8 @@ ghost use Rattle.simdisk.specs.Views.{pieces};
 
 use crate::choice::Choice;
 use crate::history::History;
-use crate::lane::SimLane;
 use crate::laid::{fill, replay_on, settle_on};
+use crate::lane::SimLane;
 use crate::loan::Loan;
 use crate::patch::{Epoch, Patch, copy_of};
 use disk::Sector;
@@ -79,7 +79,12 @@ impl History {
     {
         let end = loan.first + loan.lanes * loan.each;
         let sectors = copy_of(alloc, &content[loan.first..end])?;
-        let next = vec![in alloc; Patch { first: loan.first, sectors }]?;
+        let next = vec![in alloc;
+            Patch {
+                first: loan.first,
+                sectors
+            },
+        ]?;
         self.sync(content, next)
     }
 
@@ -127,6 +132,7 @@ impl History {
     pub(crate) fn left(self, alloc: Global, choice: Choice) -> History
         ensures record { record_of result ≡ new_record (left_by choice self.synced.items (pieces self.written.items)) }
         ensures synced { result.synced.items ≡ left_by choice self.synced.items (pieces self.written.items) }
+        ensures as_long { length result.synced.items ≡ length self.synced.items }
     {
         let mut began = self.began;
         let mut synced = self.synced;

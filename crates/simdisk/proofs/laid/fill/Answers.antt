@@ -1,4 +1,4 @@
-use Rattle.std.proofs.Common.{◌∙◌, ap, sym, rules}
+use Rattle.std.proofs.Common.{◌∙◌, ap, rules}
 use Rattle.std.proofs.lemmas.List.{places}
 use Rattle.simdisk.specs.Record.{filled, ranges}
 use Rattle.simdisk.specs.Views.{pieces}

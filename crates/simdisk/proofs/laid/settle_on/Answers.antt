@@ -12,5 +12,5 @@ returns-clause-synced c =
     let now = c.args.content.now in
     let whole : c.deref.result.now ≡ c.settle.new.patches = c.deref.ensures.value ∙ take_at c.settle.new.patches _ c.args.patches.now.len (c.settle.auto.patches ∙ c.deref_mut.ensures.len) in
     let patches : pieces c.deref.result.now ≡ map (settled now) (pieces c.args.patches.now.items) =
-        ap pieces whole ∙ c.settle.ensures.settled ∙ ap (λ (ps : List Patch). map (settled now) (pieces ps)) c.deref_mut.ensures.value in
+    ap pieces whole ∙ c.settle.ensures.settled ∙ ap (λ (ps : List Patch). map (settled now) (pieces ps)) c.deref_mut.ensures.value in
     c.replay_on.ensures.content ∙ ap (λ (ps : List Piece). replay ps was) patches ∙ replay_settled was now (pieces c.args.patches.now.items) c.requires.agrees c.requires.fits

@@ -1,7 +1,6 @@
 use Rattle.std.proofs.Common.{◌≡◌, ◌∙◌, ◌+◌, ◌*◌, ◌<◌, ℕ, length, get_or, map, take, sym, ap, arith, rules}
 use Rattle.std.proofs.lemmas.List.{length-map}
-use Rattle.disk.specs.Facts.{Content, Lane_facts, Written, lane_at, lane_failures, counted}
-use Rattle.simdisk.specs.declared.lane.SimLane.{SimLane}
+use Rattle.disk.specs.Facts.{Lane_facts, Written, lane_at, lane_failures, counted}
 use Rattle.simdisk.specs.Lanes.{lane_view}
 use Rattle.simdisk.proofs.Rows.{joined_more, failures_more, at_map, counted_more}
 use Rattle.simdisk.proofs.lending.take_back.Goals as goal

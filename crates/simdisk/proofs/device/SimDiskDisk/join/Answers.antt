@@ -1,4 +1,5 @@
-use Rattle.std.proofs.Common.{◌≡◌, ◌∙◌, ℕ, ◌+◌, ◌*◌, ◌≤◌, length, ap, sym, arith, rules}
+use Rattle.std.proofs.Common.{ap, arith, rules}
+use Rattle.disk.specs.Facts.{Lent}
 use Rattle.simdisk.specs.Views.{epochs}
 use Rattle.simdisk.specs.History.{record_of}
 use Rattle.simdisk.specs.Loans.{lent_of}
@@ -16,7 +17,7 @@ invariant_of-self c =
       agrees = rw (all.ranges, all.synced) (agrees_join (lent_of s.loan) s.history.synced.items (ranges (pieces s.history.written.items)) s.loan.patch s.content.items c.take_back-failures.new.content.items s.noted s.agrees c.take_back-failures.ensures.content.elsewhere);
       few = search rules;
       within = search rules;
-      noted = λ lt. absurd (omega (arith, lt, c.nothing-self.ensures.1));
+      noted = λ lt. absurd (omega (arith, lt, ap (λ (l : Lent). l.lanes) c.nothing-self.ensures));
     }
 
 pub returns-clause-crash : goal.returns-clause-crash
@@ -24,4 +25,4 @@ returns-clause-crash c =
     let s = c.args.self.now in
     let all = c.take_newest.ensures in
     passes_ranges s.content.items _ s.history.synced.items c.take_newest.new.self.synced.items (record_of s.history) (record_of c.take_newest.new.self) _ _ _ _ all.ranges
-        (ap (λ past. epochs past.items) all.past) (ap (λ began. began.items) all.began) (ap (λ synced. synced.items) all.synced)
+    (ap (λ past. epochs past.items) all.past) (ap (λ began. began.items) all.began) (ap (λ synced. synced.items) all.synced)

@@ -1,4 +1,4 @@
-use Rattle.std.proofs.Common.{◌≡◌, ◌∙◌, ◌++◌, ◌∷◌, [], ℕ, ◌+◌, ◌*◌, ◌≤◌, List, length, subst, ap, sym, arith, rules}
+use Rattle.std.proofs.Common.{◌≡◌, ◌∙◌, ◌++◌, ◌∷◌, [], ℕ, ◌*◌, length, ap, sym, rules}
 use Rattle.std.proofs.lemmas.List.{length-map}
 use Rattle.disk.specs.Facts.{Lent, Torn, Passes}
 use Rattle.simdisk.specs.Record.{range, ranges, lent_piece, sim_facts}
@@ -18,7 +18,7 @@ invariant_of-self-3 c =
     let r : ℕ × ℕ = (c.args.first, c.args.lanes * c.args.each) in
     let long : length newest ≡ length s.content.items = c.in_ok-newest.ensures.as_long ∙ sym s.agrees.as_long in
     let more : ranges (pieces c.note_loan.new.self.written.items) ≡ rs ++ r ∷ [] =
-        ranges_written (record_of s.history) (record_of c.note_loan.new.self) (lent_piece l newest) c.in_ok-note_loan.ensures.noted ∙ ap (λ (x : ℕ × ℕ). rs ++ x ∷ []) (range_lent l newest (rw long c.requires.within)) in
+    ranges_written (record_of s.history) (record_of c.note_loan.new.self) (lent_piece l newest) c.in_ok-note_loan.ensures.noted ∙ ap (λ (x : ℕ × ℕ). rs ++ x ∷ []) (range_lent l newest (rw long c.requires.within)) in
     record {
       agrees = rw (c.in_ok-note_loan.ensures.synced, more) (agrees_push s.history.synced.items rs r s.content.items s.agrees);
       few = s.few;
@@ -34,6 +34,6 @@ returns-clause-crash c =
     let long : length newest ≡ length s.content.items = c.in_ok-newest.ensures.as_long ∙ sym s.agrees.as_long in
     let size : length (lent_piece l newest).1 ≡ c.args.lanes * c.args.each = ap (λ (x : ℕ × ℕ). x.1) (range_lent l newest (rw long c.requires.within)) in
     let all : Passes (sim_facts s.content.items s.history.synced.items (record_of s.history) s.failures _) (sim_facts s.content.items c.note_loan.new.self.synced.items (record_of c.note_loan.new.self) s.failures l) (Torn c.args.first (length (lent_piece l newest).1)) =
-        passes_range s.content.items s.content.items s.history.synced.items c.note_loan.new.self.synced.items (record_of s.history) (record_of c.note_loan.new.self) _ _ _ _ (lent_piece l newest) c.in_ok-note_loan.ensures.noted c.in_ok-note_loan.ensures.synced
-          (rw (size, ← s.agrees.as_long) c.requires.within) in
+    passes_range s.content.items s.content.items s.history.synced.items c.note_loan.new.self.synced.items (record_of s.history) (record_of c.note_loan.new.self) _ _ _ _ (lent_piece l newest) c.in_ok-note_loan.ensures.noted c.in_ok-note_loan.ensures.synced
+    (rw (size, ← s.agrees.as_long) c.requires.within) in
     rw (← size) all

@@ -1,5 +1,4 @@
-use Rattle.std.proofs.Common.{◌≡◌, ◌∙◌, ◌++◌, ◌∷◌, [], ℕ, ◌*◌, length, ap, sym, rules}
-use Rattle.disk.specs.Facts.{Content}
+use Rattle.std.proofs.Common.{◌≡◌, ◌++◌, ◌∷◌, [], ℕ, ◌*◌, length, rules}
 use Rattle.simdisk.specs.Record.{ranges}
 use Rattle.simdisk.specs.Views.{pieces}
 use Rattle.simdisk.specs.History.{record_of}
@@ -25,7 +24,7 @@ pub returns-then-strikes-clause-crash : goal.returns-then-strikes-clause-crash
 returns-then-strikes-clause-crash c =
     let s = c.args.self.now in
     passes_range s.content.items _ s.history.synced.items c.note.new.self.synced.items (record_of s.history) (record_of c.note.new.self) _ _ _ _ (c.args.first, c.args.sectors.now) c.in-Ok.ensures.noted c.in-Ok.ensures.synced
-        (rw (← s.agrees.as_long) c.requires.within)
+    (rw (← s.agrees.as_long) c.requires.within)
 
 pub invariant_of-self-2 : goal.invariant_of-self-2
 invariant_of-self-2 c =
@@ -45,4 +44,4 @@ pub returns-clause-crash : goal.returns-clause-crash
 returns-clause-crash c =
     let s = c.args.self.now in
     passes_range s.content.items _ s.history.synced.items c.note.new.self.synced.items (record_of s.history) (record_of c.note.new.self) _ _ _ _ (c.args.first, c.args.sectors.now) c.in-Ok.ensures.noted c.in-Ok.ensures.synced
-        (rw (← s.agrees.as_long) c.requires.within)
+    (rw (← s.agrees.as_long) c.requires.within)

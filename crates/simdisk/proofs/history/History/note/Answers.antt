@@ -1,6 +1,6 @@
-use Rattle.std.proofs.Common.{◌≡◌, ◌+◌, ◌≤◌, ◌++◌, ◌∷◌, [], length, map, sym, ap, rules}
+use Rattle.std.proofs.Common.{◌≡◌, ◌++◌, ◌∷◌, [], length, rules}
 use Rattle.std.proofs.lemmas.List.{map-append}
-use Rattle.simdisk.specs.Views.{piece, pieces}
+use Rattle.simdisk.specs.Views.{pieces}
 use Rattle.simdisk.proofs.Pieces.{fits_push}
 use Rattle.simdisk.proofs.history.History.note.Goals as goal
 

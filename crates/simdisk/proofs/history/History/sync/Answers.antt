@@ -1,8 +1,8 @@
-use Rattle.std.proofs.Common.{◌≡◌, ◌∙◌, ◌++◌, ◌∷◌, List, [], length, map, sym, ap, rules}
+use Rattle.std.proofs.Common.{◌≡◌, ◌∙◌, ◌++◌, ◌∷◌, List, [], length, sym, ap, rules}
 use Rattle.std.proofs.lemmas.List.{map-append}
 use Rattle.disk.specs.Facts.{Content}
 use Rattle.simdisk.specs.Record.{Piece, synced_after, replay}
-use Rattle.simdisk.specs.Views.{piece, pieces, epochs}
+use Rattle.simdisk.specs.Views.{pieces, epochs}
 use Rattle.simdisk.proofs.Pieces.{synced_push}
 use Rattle.simdisk.proofs.history.History.sync.Goals as goal
 

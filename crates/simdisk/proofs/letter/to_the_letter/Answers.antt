@@ -1,0 +1,10 @@
+use Rattle.simdisk.specs.Loans.{lent_of}
+use Rattle.simdisk.specs.Record.{ranges}
+use Rattle.simdisk.specs.Views.{pieces}
+use Rattle.simdisk.proofs.Notes.{lent_written}
+use Rattle.simdisk.proofs.letter.to_the_letter.Goals as goal
+
+pub returns-clause-lent : goal.returns-clause-lent
+returns-clause-lent c k le lt u =
+    let d = c.args.disk.now in
+    lent_written (lent_of d.loan) (ranges (pieces d.history.written.items)) d.loan.patch d.noted k le lt u

@@ -1,0 +1,134 @@
+// How a disk in memory is made, and what a crash leaves of it.
+ghost use Rattle.std.specs.Prelude.{◌≡◌, ◌≢◌, ◌⊎◌, ◌/◌, ◌%◌, ℕ, length, replicate, OnOk, IfOk, IfErr};
+ghost use Rattle.std.specs.Simd.{first_chunks};
+ghost use Rattle.disk.specs.Facts.{Is_fresh, Is_left, Unchanged};
+ghost use Rattle.disk.specs.Mishaps.{FaultArmed, CutArmed, no_mishap, mishaps_left};
+ghost use Rattle.simdisk.specs.Record.{synced, new_record};
+ghost use Rattle.simdisk.specs.Choices.{left_by};
+
+use crate::choice::Choice;
+use crate::faults::Faults;
+use crate::history::History;
+use crate::loan::Loan;
+use crate::patch::copy_of;
+use crate::recorded::Recorded;
+use crate::sim::SimDisk;
+use board_model::Refusal;
+use disk::{ArmedFault, Disk, Sector};
+use std::alloc::{AllocError, Global};
+
+impl SimDisk {
+    /// A disk that holds these bytes, sector by sector, all of them durable. Refuses `BadShape`
+    /// exactly where they are not whole sectors, and `Memory` where memory is refused.
+    pub fn new(alloc: Global, bytes: &[u8]) -> Result<SimDisk, Refusal>
+        ensures fresh { IfOk result (λ disk. Is_fresh (first_chunks 512 (length bytes.now / 512) bytes.now) (⟦<SimDisk as Disk>⟧.facts disk)) }
+        ensures no_failure { IfOk result (λ disk. (⟦<SimDisk as Disk>⟧.facts disk).failures ≡ 0) }
+        ensures no_mishap { IfOk result (λ disk. ⟦<SimDisk as Disk>⟧.mishaps disk ≡ no_mishap) }
+        ensures whole { OnOk result (length bytes.now % 512 ≡ 0) }
+        ensures refused { IfErr result (λ e. ((e ≡ Refusal.BadShape) × (length bytes.now % 512 ≢ 0)) ⊎ ((e ≡ Refusal.Memory) × (length bytes.now % 512 ≡ 0))) }
+    {
+        let (sectors, rest) = bytes.as_chunks::<512>();
+        if !rest.is_empty() {
+            return Err(Refusal::BadShape);
+        }
+        let content = copy_of(alloc, sectors)?;
+        Ok(SimDisk::holding(alloc, content)?)
+    }
+
+    /// A disk of so many sectors of zeros, all of them durable.
+    pub fn blank(alloc: Global, sectors: usize) -> Result<SimDisk, AllocError>
+        ensures fresh { IfOk result (λ disk. Is_fresh (replicate sectors (replicate 512 0)) (⟦<SimDisk as Disk>⟧.facts disk)) }
+        ensures no_failure { IfOk result (λ disk. (⟦<SimDisk as Disk>⟧.facts disk).failures ≡ 0) }
+        ensures no_mishap { IfOk result (λ disk. ⟦<SimDisk as Disk>⟧.mishaps disk ≡ no_mishap) }
+    {
+        let content = vec![in alloc; [0; 512]; sectors]?;
+        SimDisk::holding(alloc, content)
+    }
+
+    // A disk of these sectors, all of them durable.
+    fn holding(alloc: Global, content: Vec<Sector>) -> Result<SimDisk, AllocError>
+        ensures fresh { IfOk result (λ disk. Is_fresh content.items (⟦<SimDisk as Disk>⟧.facts disk)) }
+        ensures no_failure { IfOk result (λ disk. (⟦<SimDisk as Disk>⟧.facts disk).failures ≡ 0) }
+        ensures no_mishap { IfOk result (λ disk. ⟦<SimDisk as Disk>⟧.mishaps disk ≡ no_mishap) }
+    {
+        let history = History::begun(alloc, &content)?;
+        Ok(SimDisk {
+            alloc,
+            content,
+            history,
+            failures: 0,
+            refused: 0,
+            loan: Loan::nothing(),
+            faults: Faults::none(),
+        })
+    }
+
+    /// The disk that a crash now leaves by that choice. It goes on counting failures; nothing of it
+    /// is lent, nothing is armed, and power is back. No memory is taken.
+    pub fn after_cut(self, choice: Choice) -> SimDisk
+        ensures left { Is_left (⟦<SimDisk as Disk>⟧.facts self) (⟦<SimDisk as Disk>⟧.facts result) }
+        ensures exact { (⟦<SimDisk as Disk>⟧.facts result).content ≡ left_by choice (synced (⟦<SimDisk as Recorded>⟧.record self)) (⟦<SimDisk as Recorded>⟧.record self).written }
+        ensures mishaps { ⟦<SimDisk as Disk>⟧.mishaps result ≡ mishaps_left (⟦<SimDisk as Disk>⟧.mishaps self) }
+    {
+        let history = self.history.left(self.alloc, choice);
+        let mut content = self.content;
+        content.copy_from_slice(&history.synced);
+        SimDisk {
+            alloc: self.alloc,
+            content,
+            history,
+            failures: self.failures,
+            refused: self.refused,
+            loan: Loan::nothing(),
+            faults: Faults::none(),
+        }
+    }
+
+    /// The n-th call of this disk from now on fails. It replaces what was armed.
+    pub fn fail_at(&mut self, call: u64)
+        ensures facts { Unchanged (⟦<SimDisk as Disk>⟧.facts self.old) (⟦<SimDisk as Disk>⟧.facts self.new) }
+        ensures armed { ⟦<SimDisk as Disk>⟧.mishaps self.new ≡ record (⟦<SimDisk as Disk>⟧.mishaps self.old) { armed = FaultArmed } }
+    {
+        self.arm(ArmedFault::FailAt(call));
+    }
+
+    /// Power is lost within the n-th call of this disk from now on. It replaces what was armed.
+    pub fn cut_at(&mut self, call: u64)
+        ensures facts { Unchanged (⟦<SimDisk as Disk>⟧.facts self.old) (⟦<SimDisk as Disk>⟧.facts self.new) }
+        ensures armed { ⟦<SimDisk as Disk>⟧.mishaps self.new ≡ record (⟦<SimDisk as Disk>⟧.mishaps self.old) { armed = CutArmed } }
+    {
+        self.arm(ArmedFault::CutAt(call));
+    }
+
+    /// The n-th call from now on of the lane of that number fails. It replaces what was armed.
+    pub fn fail_lane(&mut self, lane: usize, call: u64)
+        ensures facts { Unchanged (⟦<SimDisk as Disk>⟧.facts self.old) (⟦<SimDisk as Disk>⟧.facts self.new) }
+        ensures armed { ⟦<SimDisk as Disk>⟧.mishaps self.new ≡ record (⟦<SimDisk as Disk>⟧.mishaps self.old) { armed = FaultArmed } }
+    {
+        self.arm(ArmedFault::FailLane(lane, call));
+    }
+
+    /// Power is lost within the n-th call from now on of the lane of that number. It replaces what
+    /// was armed.
+    pub fn cut_lane(&mut self, lane: usize, call: u64)
+        ensures facts { Unchanged (⟦<SimDisk as Disk>⟧.facts self.old) (⟦<SimDisk as Disk>⟧.facts self.new) }
+        ensures armed { ⟦<SimDisk as Disk>⟧.mishaps self.new ≡ record (⟦<SimDisk as Disk>⟧.mishaps self.old) { armed = CutArmed } }
+    {
+        self.arm(ArmedFault::CutLane(lane, call));
+    }
+
+    /// How often the disk failed by itself, which is where its record was refused memory. A disk
+    /// that a crash left goes on counting.
+    pub fn refused(&self) -> u64
+        ensures { result ≡ (⟦<SimDisk as Disk>⟧.mishaps self.now).own }
+    {
+        self.refused
+    }
+
+    /// What a read gives, sector by sector.
+    pub fn content(&self) -> &[Sector]
+        ensures { result.now ≡ (⟦<SimDisk as Disk>⟧.facts self.now).content }
+    {
+        &self.content
+    }
+}
