@@ -1,0 +1,5 @@
+use Rattle.hsm_words.specs.declared.view.Stage.TheVariants.{Running}
+use Rattle.hsm.proofs.calls.suspend.Given as goal
+
+abbrev pub ghosts-suspend : goal.ghosts-suspend
+ghosts-suspend a = record { by = a.by; target = 0; address = 0; opaque = 0; stage = Running; harts = a.table.now.table.shared.key.harts }

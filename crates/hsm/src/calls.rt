@@ -1,0 +1,180 @@
+//! One function for each call on the hart table.
+
+ghost use Rattle.std.specs.Prelude.{◌≡◌, ◌≢◌, ℕ, ◌+◌, ◌*◌, ◌<◌, ◌↔◌, true, false, IsTrue, MatchBool, MatchOption};
+ghost use Rattle.std.specs.Int.{bit_at};
+ghost use Rattle.hsm_rule.specs.Rule.{stands, noted};
+ghost use Rattle.hsm_rule.specs.States.{IsStarted, is_stopped, stopped, started, suspended, change_at, grant, entry, begin};
+ghost use Rattle.hsm_steps.specs.Told.{after_quiet};
+ghost use Rattle.hsm_steps.specs.Seating.{IsSeatOf, harts_of, crew_of, harts_in};
+ghost use Rattle.hsm_words.specs.declared.view.Stage.TheVariants.{Out, Running, Asleep, Quiet};
+ghost use Rattle.hsm_words.specs.declared.view.Deed.TheVariants.{Looked, Stopped as DidStop, Suspended as DidSuspend, Woke, Quieted, Unquieted};
+ghost use Rattle.hsm.specs.Calls.{stage_of, Sits, KeepsOthers, IsOwnStatus, state_of, named, Starts, EntersAs, FindsNone, ActsAlone};
+
+use crate::state::{State, state_in};
+use board_model::{Addr, HartId};
+use hsm_steps::{HartSeat, HartTable};
+use std::marker::Brand;
+
+/// Starts the target at the address with the opaque value, if it is STOPPED, and says whether it was. The claim of the
+/// target is one step, so of all that start a hart at once just one is told true. The acting hart is STARTED and not
+/// quiet (SBI specification 2.0, `sbi_hart_start`).
+pub fn start(
+    table: &HartTable,
+    seat: HartSeat,
+    by: HartId,
+    target: HartId,
+    address: Addr,
+    opaque: u64,
+) -> (HartSeat, bool)
+    requires seat { IsSeatOf table.now seat }
+    requires acts { stands by Running (harts_in seat) }
+    requires target { target < harts_of table.now }
+    ensures seat { IsSeatOf table.entry.now result.0 }
+    ensures stands { stands by Running (harts_in result.0) }
+    ensures others { KeepsOthers by (harts_in seat) (harts_in result.0) }
+    ensures steps { Starts by target address opaque (harts_in seat) result.1 (harts_in result.0) }
+    ensures alone { ActsAlone (harts_of table.entry.now) (crew_of seat) (crew_of result.0) (λ states. result.1 ≡ is_stopped (states target)) (change_at target (grant address opaque)) }
+{
+    let mut seat = seat;
+    let site = address.value();
+    let found = hsm_steps::claim::<Brand>(table, &mut seat, by, target, site, opaque);
+    let bit = target.number();
+    if found >> bit & 1 != 0 {
+        return (seat, false);
+    }
+    hsm_steps::put_address::<Brand>(table, &mut seat, by, target, site, opaque);
+    hsm_steps::put_opaque::<Brand>(table, &mut seat, by, target, site, opaque);
+    hsm_steps::arm::<Brand>(table, &mut seat, by, target, site, opaque);
+    (seat, true)
+}
+
+/// Enters where the hart is START_PENDING and armed, and then answers the address and the opaque value of the one start
+/// that was granted. None where one look found it not armed, or entered already. The acting hart has not entered.
+pub fn try_enter(table: &HartTable, seat: HartSeat, by: HartId) -> (HartSeat, Option<(Addr, u64)>)
+    requires seat { IsSeatOf table.now seat }
+    requires acts { stands by Out (harts_in seat) }
+    requires by { by < harts_of table.now }
+    ensures seat { IsSeatOf table.entry.now result.0 }
+    ensures stands { MatchOption result.1 (stands by Out (harts_in result.0)) (λ _. stands by Running (harts_in result.0)) }
+    ensures others { KeepsOthers by (harts_in seat) (harts_in result.0) }
+    ensures steps { MatchOption result.1 (FindsNone by (harts_in seat) (harts_in result.0)) (λ e. EntersAs by (harts_in seat) e.0 e.1 (harts_in result.0)) }
+    ensures alone { ActsAlone (harts_of table.entry.now) (crew_of seat) (crew_of result.0) (λ states. result.1 ≡ entry (states by)) (change_at by begin) }
+{
+    let mut seat = seat;
+    let hart = by.number();
+    let found = hsm_steps::look_out::<Brand>(table, &mut seat, by);
+    if found >> (8 + hart) & 1 != 1 {
+        return (seat, None);
+    }
+    if found >> (16 + hart) & 1 != 0 {
+        return (seat, None);
+    }
+    let site = hsm_steps::read_address::<Brand>(table, &mut seat, by);
+    let opaque = hsm_steps::read_opaque::<Brand>(table, &mut seat, by, site);
+    hsm_steps::enter::<Brand>(table, &mut seat, by, site, opaque);
+    let address = Addr::new(site).unwrap();
+    (seat, Some((address, opaque)))
+}
+
+/// Stops the hart, in one step. The acting hart is STARTED and not quiet (SBI specification 2.0, `sbi_hart_stop`).
+pub fn stop(table: &HartTable, seat: HartSeat, by: HartId) -> HartSeat
+    requires seat { IsSeatOf table.now seat }
+    requires acts { stands by Running (harts_in seat) }
+    requires by { by < harts_of table.now }
+    ensures seat { IsSeatOf table.entry.now result }
+    ensures stands { stands by Out (harts_in result) }
+    ensures others { KeepsOthers by (harts_in seat) (harts_in result) }
+    ensures steps { (found : ℕ) × (harts_in result ≡ noted by Out (DidStop found) (harts_in seat)) }
+    ensures alone { ActsAlone (harts_of table.entry.now) (crew_of seat) (crew_of result) (λ _. Unit {0}) (change_at by (λ _. stopped)) }
+{
+    let mut seat = seat;
+    hsm_steps::stop::<Brand>(table, &mut seat, by);
+    seat
+}
+
+/// The state of any hart of the board, by one look. The acting hart is one of the seat, in any state (SBI
+/// specification 2.0, `sbi_hart_get_status`).
+pub fn status(table: &HartTable, seat: HartSeat, by: HartId, hart: HartId) -> (HartSeat, State)
+    requires seat { IsSeatOf table.now seat }
+    requires acts { Sits by (harts_in seat) }
+    requires hart { hart < harts_of table.now }
+    ensures seat { IsSeatOf table.entry.now result.0 }
+    ensures stands { stands by (stage_of by (harts_in seat)) (harts_in result.0) }
+    ensures others { KeepsOthers by (harts_in seat) (harts_in result.0) }
+    ensures steps { (found : ℕ) × (result.1 ≡ state_of hart found) × (harts_in result.0 ≡ noted by (stage_of by (harts_in seat)) (Looked found) (harts_in seat)) }
+    ensures fresh { IsOwnStatus hart (harts_in seat) result.1 }
+    ensures alone { ActsAlone (harts_of table.entry.now) (crew_of seat) (crew_of result.0) (λ states. result.1 ≡ named (states hart)) (λ states. states) }
+{
+    let mut seat = seat;
+    let found = hsm_steps::look::<Brand>(table, &mut seat, by);
+    let number = hart.number();
+    (seat, state_in(found, number))
+}
+
+/// Suspends the hart, in one step. The acting hart is STARTED and not quiet (SBI specification 2.0,
+/// `sbi_hart_suspend`).
+pub fn suspend(table: &HartTable, seat: HartSeat, by: HartId) -> HartSeat
+    requires seat { IsSeatOf table.now seat }
+    requires acts { stands by Running (harts_in seat) }
+    requires by { by < harts_of table.now }
+    ensures seat { IsSeatOf table.entry.now result }
+    ensures stands { stands by Asleep (harts_in result) }
+    ensures others { KeepsOthers by (harts_in seat) (harts_in result) }
+    ensures steps { (found : ℕ) × (harts_in result ≡ noted by Asleep (DidSuspend found) (harts_in seat)) }
+    ensures alone { ActsAlone (harts_of table.entry.now) (crew_of seat) (crew_of result) (λ _. Unit {0}) (change_at by (λ _. suspended)) }
+{
+    let mut seat = seat;
+    hsm_steps::suspend::<Brand>(table, &mut seat, by);
+    seat
+}
+
+/// Wakes the hart, in one step. The acting hart is SUSPENDED.
+pub fn wake(table: &HartTable, seat: HartSeat, by: HartId) -> HartSeat
+    requires seat { IsSeatOf table.now seat }
+    requires acts { stands by Asleep (harts_in seat) }
+    requires by { by < harts_of table.now }
+    ensures seat { IsSeatOf table.entry.now result }
+    ensures stands { stands by Running (harts_in result) }
+    ensures others { KeepsOthers by (harts_in seat) (harts_in result) }
+    ensures steps { (found : ℕ) × (harts_in result ≡ noted by Running (Woke found) (harts_in seat)) }
+    ensures alone { ActsAlone (harts_of table.entry.now) (crew_of seat) (crew_of result) (λ _. Unit {0}) (change_at by (λ _. started)) }
+{
+    let mut seat = seat;
+    hsm_steps::wake::<Brand>(table, &mut seat, by);
+    seat
+}
+
+/// Whether every other hart is STOPPED, by one look. From an answer of true on the hart is quiet: until `unquiet` no
+/// other hart leaves STOPPED. The acting hart is STARTED; one that is quiet already is told true again.
+pub fn quiet(table: &HartTable, seat: HartSeat, by: HartId) -> (HartSeat, bool)
+    requires seat { IsSeatOf table.now seat }
+    requires acts { IsStarted by (harts_in seat) }
+    requires by { by < harts_of table.now }
+    ensures seat { IsSeatOf table.entry.now result.0 }
+    ensures stands { MatchBool result.1 (stands by Quiet (harts_in result.0)) (stands by Running (harts_in result.0)) }
+    ensures still { stands by Quiet (harts_in seat) → result.1 ≡ true }
+    ensures others { KeepsOthers by (harts_in seat) (harts_in result.0) }
+    ensures steps { (found : ℕ) × (IsTrue result.1 ↔ ((t : ℕ) → t < harts_of table.entry.now → t ≢ by → bit_at found t ≡ 0)) × (harts_in result.0 ≡ noted by (after_quiet (harts_of table.entry.now) by found) (Quieted found) (harts_in seat)) }
+    ensures alone { ActsAlone (harts_of table.entry.now) (crew_of seat) (crew_of result.0) (λ states. IsTrue result.1 ↔ ((t : ℕ) → t < harts_of table.entry.now → t ≢ by → states t ≡ stopped)) (λ states. states) }
+{
+    let mut seat = seat;
+    let found = hsm_steps::quiet::<Brand>(table, &mut seat, by);
+    let hart = by.number();
+    let harts = table.harts();
+    (seat, found % (1 << harts) == 1 << hart)
+}
+
+/// Ends the quiet of the hart, in one step.
+pub fn unquiet(table: &HartTable, seat: HartSeat, by: HartId) -> HartSeat
+    requires seat { IsSeatOf table.now seat }
+    requires acts { stands by Quiet (harts_in seat) }
+    ensures seat { IsSeatOf table.entry.now result }
+    ensures stands { stands by Running (harts_in result) }
+    ensures others { KeepsOthers by (harts_in seat) (harts_in result) }
+    ensures steps { (found : ℕ) × (harts_in result ≡ noted by Running (Unquieted found) (harts_in seat)) }
+    ensures alone { ActsAlone (harts_of table.entry.now) (crew_of seat) (crew_of result) (λ _. Unit {0}) (λ states. states) }
+{
+    let mut seat = seat;
+    hsm_steps::unquiet::<Brand>(table, &mut seat, by);
+    seat
+}

@@ -1,0 +1,44 @@
+//! The state of a hart.
+
+ghost use Rattle.std.specs.Prelude.{◌≡◌, ◌<◌};
+ghost use Rattle.hsm.specs.Calls.{code_of, state_of};
+
+/// The state of a hart (SBI specification 2.0, chapter HSM). The standard's STOP_PENDING, SUSPEND_PENDING and
+/// RESUME_PENDING are never answered, since those changes are one step each.
+#[derive(Clone, Copy, Debug, PartialEq, Eq)]
+pub enum State {
+    Started,
+    Stopped,
+    StartPending,
+    Suspended,
+}
+
+impl State {
+    /// The number of the state in the answer of `hart_get_status`: 0, 1, 2 or 4.
+    pub fn code(self) -> u64
+        ensures { result ≡ code_of self }
+    {
+        match self {
+            State::Started => 0,
+            State::Stopped => 1,
+            State::StartPending => 2,
+            State::Suspended => 4,
+        }
+    }
+}
+
+/// The state of a hart, by the first word of the table.
+pub(crate) fn state_in(found: u64, hart: u32) -> State
+    requires { hart < 8 }
+    ensures { result ≡ state_of hart found }
+{
+    if found >> hart & 1 == 0 {
+        State::Stopped
+    } else if found >> (16 + hart) & 1 == 0 {
+        State::StartPending
+    } else if found >> (24 + hart) & 1 == 0 {
+        State::Started
+    } else {
+        State::Suspended
+    }
+}

@@ -1,0 +1,108 @@
+-- The rule of the hart table, which holds between any two steps: a fact of the words and of the views of all seats.
+use Rattle.std.specs.Prelude.{◌≡◌, ◌≢◌, ◌⊎◌, ℕ, ◌+◌, ◌-◌, ◌*◌, ◌<◌, ◌≤◌, List, [], ◌∷◌, ◌==◌, length, if◌then◌else◌}
+use Rattle.std.specs.Int.{bit_at}
+use mathlib.Core.Option.{some}
+use lib.ListN.{get_elem?}
+use Rattle.atomic_table.specs.Table.{State}
+use Rattle.tallies.specs.Sums.{total}
+use Rattle.board_model.specs.Shapes.{IsAddressIn}
+use Rattle.hsm_words.specs.Words.{hart_view, Board, board_of}
+use Rattle.hsm_words.specs.declared.view.Stage.{Stage}
+use Rattle.hsm_words.specs.declared.view.Stage.TheVariants.{Out, Ready, Addressed, Loaded, Running, Claiming, Half, Stored, Asleep, Quiet}
+use Rattle.hsm_words.specs.declared.view.Deed.{Deed}
+use Rattle.hsm_words.specs.declared.view.Deed.TheVariants.{Claimed, Entered}
+use Rattle.hsm_words.specs.declared.view.HartView.{HartView}
+use Rattle.hsm_words.specs.declared.view.Crew.{Crew}
+
+-- an address at which a hart can be started
+abbrev pub IsSite : ℕ → Type 0
+IsSite a = IsAddressIn (256 * 4096) a
+
+-- what each claimed hart was claimed with
+pub record Grants : Type 0 where
+  pub address : ℕ → ℕ
+  pub opaque : ℕ → ℕ
+
+abbrev pub granted : Grants → ℕ → ℕ → ℕ → Grants
+granted g t a o = record { address = λ h. if h == t then a else g.address h; opaque = λ h. if h == t then o else g.opaque h }
+
+-- ---- the ledger of starts
+-- 1 for a claim of this triple that found the target unclaimed
+abbrev pub claim_of : ℕ → ℕ → ℕ → Deed → ℕ
+claim_of t a o (Claimed t' a' o' found) = if t' == t then (if a' == a then (if o' == o then 1 - bit_at found t else 0) else 0) else 0
+claim_of t a o _ = 0
+
+-- 1 for an entry with this triple
+abbrev pub entry_of : ℕ → ℕ → ℕ → Deed → ℕ
+entry_of t a o (Entered h a' o') = if h == t then (if a' == a then (if o' == o then 1 else 0) else 0) else 0
+entry_of t a o _ = 0
+
+-- the weight of all deeds of a seat
+abbrev pub did : (Deed → ℕ) → Crew → ℕ
+did g c = total (λ (v : HartView). total g v.deeds) c.harts
+
+-- 1 where the target is claimed with this address and opaque value and hasn't entered
+abbrev pub is_pending : Board → Grants → ℕ → ℕ → ℕ → ℕ
+is_pending m g t a o = if g.address t == a then (if g.opaque t == o then m.claimed t - m.entered t else 0) else 0
+
+-- 1 where a hart at this stage has a start of the target in flight: it has claimed it and not armed it yet
+abbrev pub fly : ℕ → Stage → ℕ
+fly t (Claiming t' a o) = if t' == t then 1 else 0
+fly t (Half t' a o) = if t' == t then 1 else 0
+fly t (Stored t' a o) = if t' == t then 1 else 0
+fly t _ = 0
+
+-- the starts of the target that the harts of a seat have in flight
+abbrev pub flights : ℕ → Crew → ℕ
+flights t c = total (λ (v : HartView). fly t v.stage) c.harts
+
+-- how often the hart is in a seat
+abbrev pub is_of : ℕ → HartView → ℕ
+is_of h v = if v.hart == h then 1 else 0
+
+abbrev pub seats : ℕ → Crew → ℕ
+seats h c = total (is_of h) c.harts
+
+abbrev pub IsGrantOf : Grants → ℕ → ℕ → ℕ → Type 0
+IsGrantOf g t a o = (g.address t ≡ a) × (g.opaque t ≡ o)
+
+-- where a hart stands is so in the words
+abbrev pub Fits : ℕ → Board → Grants → ℕ → Stage → Type 0
+Fits harts m g h Out = m.entered h ≡ 0
+Fits harts m g h Ready = (m.armed h ≡ 1) × (m.entered h ≡ 0)
+Fits harts m g h (Addressed a) = (m.armed h ≡ 1) × (m.entered h ≡ 0) × (m.address h ≡ a)
+Fits harts m g h (Loaded a o) = (m.armed h ≡ 1) × (m.entered h ≡ 0) × (m.address h ≡ a) × (m.opaque h ≡ o)
+Fits harts m g h Running = (m.entered h ≡ 1) × (m.suspended h ≡ 0)
+Fits harts m g h (Claiming t a o) = (m.entered h ≡ 1) × (m.suspended h ≡ 0) × (t < harts) × IsGrantOf g t a o
+Fits harts m g h (Half t a o) = (m.entered h ≡ 1) × (m.suspended h ≡ 0) × (t < harts) × IsGrantOf g t a o × (m.address t ≡ a)
+Fits harts m g h (Stored t a o) = (m.entered h ≡ 1) × (m.suspended h ≡ 0) × (t < harts) × IsGrantOf g t a o × (m.address t ≡ a) × (m.opaque t ≡ o)
+Fits harts m g h Asleep = (m.entered h ≡ 1) × (m.suspended h ≡ 1)
+Fits harts m g h Quiet = (m.entered h ≡ 1) × (m.suspended h ≡ 0) × ((t : ℕ) → t < harts → t ≢ h → m.claimed t ≡ 0)
+
+-- The words and the views agree. `flying`: a claimed hart that is not armed is the start in flight of just one view. `armed`: until an armed hart enters,
+-- its argument words are its claim's. `once`: every hart is in just one seat.
+pub record Sound (harts : ℕ) (m : Board) (g : Grants) (views : List Crew) : Type 0 where
+  pub order : (h : ℕ) → h < harts → (m.suspended h ≤ m.entered h) × (m.entered h ≤ m.armed h) × (m.armed h ≤ m.claimed h) × (m.claimed h ≤ 1)
+  pub flying : (t : ℕ) → t < harts → total (flights t) views + m.armed t ≡ m.claimed t
+  pub ledger : (t a o : ℕ) → t < harts → total (did (claim_of t a o)) views ≡ total (did (entry_of t a o)) views + is_pending m g t a o
+  pub armed : (t : ℕ) → t < harts → m.armed t ≡ 1 → m.entered t ≡ 0 → (m.address t ≡ g.address t) × (m.opaque t ≡ g.opaque t)
+  pub once : (h : ℕ) → h < harts → total (seats h) views ≡ 1
+  pub none_else : (h : ℕ) → harts ≤ h → total (seats h) views ≡ 0
+  pub fits : (id : ℕ) (c : Crew) (k : ℕ) (v : HartView) → get_elem? views id ≡ some c → get_elem? c.harts k ≡ some v → Fits harts m g v.hart v.stage
+
+-- The rule: some grants fit the words and the views.
+pub record Kept (harts : ℕ) (s : State (Unit {0}) Crew) : Type 0 where
+  pub wide : length s.words ≡ 1 + 2 * harts
+  pub grants : Grants
+  pub sites : (h : ℕ) → IsSite (grants.address h)
+  pub sound : Sound harts (board_of s.words) grants s.views
+
+-- ---- one more deed of the hart, which then stands at this stage
+abbrev pub noted : ℕ → Stage → Deed → List HartView → List HartView
+noted h st x [] = []
+noted h st x (v ∷ vs) = if v.hart == h then hart_view v.hart st (x ∷ v.deeds) ∷ vs else v ∷ noted h st x vs
+
+-- the seat has the hart, once, at this stage
+abbrev pub stands : ℕ → Stage → List HartView → Type 0
+stands h st [] = ⊥
+stands h st (v ∷ vs) = ((v.hart ≡ h) × (v.stage ≡ st)) ⊎ ((v.hart ≢ h) × stands h st vs)

@@ -1,0 +1,4 @@
+pub mod Allowed
+pub mod Later
+pub mod Parting
+pub mod Lists

@@ -1,0 +1,51 @@
+-- Seats of a hart table.
+use Rattle.std.specs.Prelude.{◌≡◌, ℕ, List, [], ◌∷◌, ◌++◌, Option, Some, None}
+use Rattle.atomic_table.specs.declared.shared.Seat.{Seat}
+use Rattle.hsm_words.specs.declared.view.HartView.{HartView}
+use Rattle.hsm_words.specs.declared.view.Crew.{Crew}
+use Rattle.hsm_steps.specs.declared.table.HartTable.{HartTable}
+
+-- The seat is one of this table, and holds nothing else.
+abbrev pub IsSeatOf : HartTable → Seat (Unit {0}) Crew → Type 0
+IsSeatOf t s = (s.table_id ≡ t.table.shared.table_id) × (s.me.1 ≡ [])
+
+-- how many harts the table has
+abbrev pub harts_of : HartTable → ℕ
+harts_of t = t.table.shared.key.harts
+
+-- what the seat knows
+abbrev pub crew_of : Seat (Unit {0}) Crew → Crew
+crew_of s = s.me.0
+
+-- the harts of the seat, each with its stage and its steps
+abbrev pub harts_in : Seat (Unit {0}) Crew → List HartView
+harts_in s = s.me.0.harts
+
+-- ---- lists of seats, of which a taken one leaves None
+abbrev pub IsSomeSeatOf : HartTable → Option (Seat (Unit {0}) Crew) → Type 0
+IsSomeSeatOf t None = ⊥
+IsSomeSeatOf t (Some s) = IsSeatOf t s
+
+-- every place has a seat of the table
+abbrev pub AreSeatsOf : HartTable → List (Option (Seat (Unit {0}) Crew)) → Type 0
+AreSeatsOf t [] = Unit {0}
+AreSeatsOf t (s ∷ ss) = IsSomeSeatOf t s × AreSeatsOf t ss
+
+abbrev pub harts_at : Option (Seat (Unit {0}) Crew) → List HartView
+harts_at None = []
+harts_at (Some s) = harts_in s
+
+-- the harts of each seat of a list
+abbrev pub harts_by_seat : List (Option (Seat (Unit {0}) Crew)) → List (List HartView)
+harts_by_seat [] = []
+harts_by_seat (s ∷ ss) = harts_at s ∷ harts_by_seat ss
+
+-- the harts of all seats of a list
+abbrev pub all_harts : List (Option (Seat (Unit {0}) Crew)) → List HartView
+all_harts [] = []
+all_harts (s ∷ ss) = harts_at s ++ all_harts ss
+
+-- each hart by itself
+abbrev pub one_by_one : List HartView → List (List HartView)
+one_by_one [] = []
+one_by_one (v ∷ vs) = (v ∷ []) ∷ one_by_one vs

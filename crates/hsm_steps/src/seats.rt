@@ -1,0 +1,105 @@
+//! A table is made with one seat of all harts, which is parted and joined again.
+
+ghost use Rattle.std.specs.Prelude.{◌≡◌, ◌≢◌, ◌<◌, ◌≤◌, [], length, IfOk, IfErr};
+ghost use Rattle.hsm_steps.specs.Told.{opening_crew, first_hart, other_harts, together};
+ghost use Rattle.hsm_steps.specs.Seating.{IsSeatOf, harts_of, crew_of, harts_in, AreSeatsOf, harts_by_seat, all_harts, one_by_one};
+ghost use Rattle.arrayvec.specs.ArrayVec.{array_vec_len};
+ghost use Rattle.board_model.specs.declared.refusal.Refusal.TheVariants.{Memory};
+
+use crate::table::{ByHart, HartSeat, HartTable, Seats, Setup};
+use atomic_table::Table;
+use board_model::{HartId, Refusal, Shape};
+use std::alloc::Global;
+
+impl HartTable {
+    /// The table of a board of that shape, with the hart `started` alone STARTED and every other hart STOPPED, and one
+    /// seat of all harts. Refused `Memory` where the words could not be had, and then nothing was made.
+    pub fn new(
+        alloc: Global,
+        shape: Shape,
+        started: HartId,
+    ) -> Result<(HartTable, HartSeat), Refusal>
+        requires { started < shape.harts }
+        ensures seat { IfOk result (λ t. IsSeatOf t.0 t.1) }
+        ensures harts { IfOk result (λ t. harts_of t.0 ≡ shape.harts) }
+        ensures opening { IfOk result (λ t. crew_of t.1 ≡ opening_crew shape.harts started) }
+        ensures memory { IfErr result (λ e. e ≡ Memory) }
+    {
+        let hart = started.number();
+        let mut words = [0; 17];
+        words[0] = 1u64 << hart | 1u64 << (8 + hart) | 1u64 << (16 + hart);
+        let setup = Setup {
+            harts: shape.harts(),
+            started,
+        };
+        let count = 1 + 2 * setup.harts as usize;
+        let (table, seat) = Table::of_words(alloc, &words[..count], &setup)?;
+        Ok((HartTable { table }, seat))
+    }
+
+    /// The number of harts, 1 to 8.
+    pub fn harts(&self) -> u32
+        ensures value { result ≡ harts_of self.now }
+        ensures range { (1 ≤ result) × (result ≤ 8) }
+    {
+        ((self.table.word_count() - 1) / 2) as u32
+    }
+
+    /// The first hart of a seat by itself, and the others.
+    pub fn split_first(&self, seat: HartSeat) -> (HartSeat, HartSeat)
+        requires { IsSeatOf self.now seat }
+        ensures first { IsSeatOf self.now result.0 × (crew_of result.0 ≡ first_hart (crew_of seat)) }
+        ensures others { IsSeatOf self.now result.1 × (crew_of result.1 ≡ other_harts (crew_of seat)) }
+    {
+        let mut seat = seat;
+        let others = self.table.shared.split_seat::<ByHart>(&mut seat);
+        (seat, others)
+    }
+
+    /// Two seats in one, which has the harts of the first before those of the other.
+    pub fn join_two(&self, seat: HartSeat, others: HartSeat) -> HartSeat
+        requires seat { IsSeatOf self.now seat }
+        requires others { IsSeatOf self.now others }
+        ensures seat { IsSeatOf self.now result }
+        ensures both { crew_of result ≡ together (crew_of seat) (crew_of others) }
+    {
+        let mut seat = seat;
+        self.table.shared.join_seat::<ByHart>(&mut seat, others);
+        seat
+    }
+
+    /// A seat for each hart of a seat of all harts, in the order of their numbers.
+    pub fn split(&self, seat: HartSeat) -> Seats
+        requires seat { IsSeatOf self.now seat }
+        requires all { length (harts_in seat) ≡ harts_of self.now }
+        ensures seats { AreSeatsOf self.now result.items }
+        ensures apart { harts_by_seat result.items ≡ one_by_one (harts_in seat) }
+        ensures harts { all_harts result.items ≡ harts_in seat }
+    {
+        let mut seats = Seats::new();
+        let mut rest = seat;
+        for place in 0..self.harts() as usize {
+            prove!(seats.len() == place);
+            let (one, others) = self.split_first(rest);
+            seats.push(Some(one));
+            rest = others;
+        }
+        seats
+    }
+
+    /// The seats of a list in one, which has their harts in the order of the list. It undoes `split`.
+    pub fn join(&self, seats: Seats) -> HartSeat
+        requires seats { AreSeatsOf self.now seats.items }
+        requires some { 0 < array_vec_len seats }
+        ensures seat { IsSeatOf self.now result }
+        ensures harts { harts_in result ≡ all_harts seats.items }
+    {
+        let mut seats = seats;
+        let last = seats.pop().unwrap();
+        let mut whole = last.unwrap();
+        while let Some(before) = seats.pop() {
+            whole = self.join_two(before.unwrap(), whole);
+        }
+        whole
+    }
+}

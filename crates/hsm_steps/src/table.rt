@@ -1,0 +1,89 @@
+//! The table, its rule, and the types of its seats.
+
+ghost use Rattle.std.specs.Prelude.{◌≡◌, ℕ, ◌+◌, ◌*◌, ◌<◌, ◌≤◌};
+ghost use Rattle.hsm_rule.specs.Rule.{Kept};
+ghost use Rattle.hsm_steps.specs.Told.{opening_crew, first_hart, other_harts, together, nobody};
+ghost use Rattle.hsm_words.specs.declared.view.Stage.{Stage};
+ghost use Rattle.hsm_words.specs.declared.view.Stage.TheVariants.{Running};
+
+use arrayvec::ArrayVec;
+use atomic_table::{Join, Seat, Split, Table, TableRule};
+use board_model::HartId;
+use hsm_words::Crew;
+use std::alloc::Global;
+use std::marker::Brand;
+
+/// How many harts there are, and which of them has started. It is fixed when a table is made.
+#[derive(Clone, Copy)]
+pub struct Setup {
+    pub harts: u32,
+    pub started: HartId,
+}
+
+/// The rule of the hart table.
+pub struct Law;
+
+impl TableRule<(), Crew, Setup> for Law {
+    ghost holds = { λ s. Kept s.harts };
+
+    ghost first = { λ s. opening_crew s.harts s.started };
+}
+
+/// What the contract of a step names beside the step's own operands: the acting hart, what its start is for, and the
+/// stage at which it stands. A caller names itself `Brand` and picks the values in its proof.
+pub trait Acting {
+    ghost by: { ℕ };
+
+    ghost target: { ℕ };
+
+    ghost address: { ℕ };
+
+    ghost opaque: { ℕ };
+
+    ghost stage: { Stage };
+
+    ghost harts: { ℕ };
+}
+
+impl Acting for Brand {
+    ghost by = { 0 };
+
+    ghost target = { 0 };
+
+    ghost address = { 0 };
+
+    ghost opaque = { 0 };
+
+    ghost stage = { Running };
+
+    ghost harts = { 0 };
+}
+
+pub(crate) struct ByHart;
+
+impl Split<Crew> for ByHart {
+    ghost left = { first_hart };
+
+    ghost right = { other_harts };
+}
+
+impl Join<Crew> for ByHart {
+    ghost both = { together };
+
+    ghost spent = { nobody };
+}
+
+/// A seat of some of the harts: the right to act as them. It takes no bytes, and may go to another thread.
+pub type HartSeat = Seat<(), Crew>;
+
+/// A seat for each hart of a board, in a list. A seat that is out with its hart leaves `None`.
+pub type Seats = ArrayVec<Option<HartSeat>, 8>;
+
+/// The hart table of one board. Threads share it by reference, each with seats of its own.
+#[derive(Drop)]
+pub struct HartTable {
+    pub(crate) table: Table<(), Crew, Setup, Law, Global>,
+    ghost wide: { table.shared.table_id.words ≡ 1 + 2 * table.shared.key.harts },
+    ghost few: { table.shared.key.harts ≤ 8 },
+    ghost one: { 0 < table.shared.key.harts },
+}

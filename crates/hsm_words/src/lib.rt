@@ -1,0 +1,6 @@
+//! The words of the hart table, and what a seat of it knows (docs/TABLES.md).
+#![tactic(auto)]
+
+mod view;
+
+pub use view::{Crew, Deed, HartView, Stage};

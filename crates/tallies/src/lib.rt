@@ -1,0 +1,3 @@
+//! Sums over the views of the seats of a table, for ledgers that hold between any two steps: `total` of
+//! specs/Sums.antt, and lemmas on what a change of one view, a parted seat and a joined seat leave of a sum.
+#![tactic(auto)]
