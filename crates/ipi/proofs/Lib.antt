@@ -1,0 +1,3 @@
+pub mod Keeps
+pub mod Alone
+pub mod Lists

@@ -1,0 +1,55 @@
+-- Lists of seats: one that grows by the first hart of the rest, and one that shrinks from its end.
+use Rattle.std.proofs.Common.{◌≡◌, ◌+◌, ◌<◌, List, [], ◌∷◌, ◌++◌, length, Option, Some, None, IsSome, refl, sym, ap, ◌∙◌, arith, take, drop, append_assoc, append-nil, rules, subst}
+use Rattle.atomic_table.specs.declared.shared.Seat.{Seat}
+use Rattle.ipi.specs.declared.view.Diary.{Diary}
+use Rattle.ipi.specs.declared.view.Crew.{Crew}
+use Rattle.ipi.specs.declared.table.PendingTable.{PendingTable}
+use Rattle.ipi.specs.Seating.{IsSeatOf, IsSomeSeatOf, AreSeatsOf, diaries_in, diaries_at, diaries_by_seat, all_diaries, one_by_one}
+
+abbrev S : Type 0
+S = Option (Seat (Unit {0}) Crew)
+
+pub by_seat_push : (ss : List S) (s : S) (rest : List (List Diary)) → diaries_by_seat (ss ++ s ∷ []) ++ rest ≡ diaries_by_seat ss ++ diaries_at s ∷ rest
+by_seat_push [] s rest = refl
+by_seat_push (x ∷ ss) s rest = ap (λ (l : List (List Diary)). diaries_at x ∷ l) (by_seat_push ss s rest)
+
+pub all_push : (ss : List S) (s : S) (rest : List Diary) → all_diaries (ss ++ s ∷ []) ++ rest ≡ all_diaries ss ++ (diaries_at s ++ rest)
+all_push [] s rest = append_assoc (diaries_at s) [] rest
+all_push (x ∷ ss) s rest =
+    append_assoc (diaries_at x) (all_diaries (ss ++ s ∷ [])) rest ∙ (ap (λ (l : List Diary). diaries_at x ++ l) (all_push ss s rest) ∙ sym (append_assoc (diaries_at x) (all_diaries ss) (diaries_at s ++ rest)))
+
+pub are_push : (t : PendingTable) (ss : List S) (s : S) → AreSeatsOf t ss → IsSomeSeatOf t s → AreSeatsOf t (ss ++ s ∷ [])
+are_push t [] s a b = (b, tt)
+are_push t (x ∷ ss) s a b = (a.0, are_push t ss s a.1 b)
+
+-- the last seat, and those before it
+pub are_pop : (t : PendingTable) (ss : List S) (s : S) → AreSeatsOf t (ss ++ s ∷ []) → AreSeatsOf t ss × IsSomeSeatOf t s
+are_pop t [] s a = (tt, a.0)
+are_pop t (x ∷ ss) s a = let more = are_pop t ss s a.1 in ((a.0, more.0), more.1)
+
+pub is_some : (t : PendingTable) (s : S) → IsSomeSeatOf t s → IsSome s
+is_some t None a = absurd a
+is_some t (Some s) a = search rules
+
+-- a seat that was taken off the end
+pub last_seat : (t : PendingTable) (items new : List S) (s : S) (w : Seat (Unit {0}) Crew) → items ≡ new ++ s ∷ [] → s ≡ Some w → AreSeatsOf t items
+    → AreSeatsOf t new × IsSeatOf t w × (all_diaries items ≡ all_diaries new ++ diaries_in w)
+last_seat t items new s w is some_w are =
+    let p = are_pop t new s (subst (λ (l : List S). AreSeatsOf t l) is are) in (
+      p.0,
+      subst (λ (x : S). IsSomeSeatOf t x) some_w p.1,
+      ap all_diaries (is ∙ ap (λ (x : S). new ++ x ∷ []) some_w)
+          ∙ (sym (append-nil (all_diaries (new ++ Some w ∷ []))) ∙ (all_push new (Some w) [] ∙ ap (λ (l : List Diary). all_diaries new ++ l) (append-nil (diaries_in w)))),
+    )
+
+pub one_rest : (vs : List Diary) → 0 < length vs → take 1 vs ∷ one_by_one (drop 1 vs) ≡ one_by_one vs
+one_rest [] pos = absurd (omega arith)
+one_rest (v ∷ vs) pos = refl
+
+pub both_rest : (vs : List Diary) → take 1 vs ++ drop 1 vs ≡ vs
+both_rest [] = refl
+both_rest (v ∷ vs) = refl
+
+pub length_rest : (vs : List Diary) → 0 < length vs → length (drop 1 vs) + 1 ≡ length vs
+length_rest [] pos = absurd (omega arith)
+length_rest (v ∷ vs) pos = omega arith

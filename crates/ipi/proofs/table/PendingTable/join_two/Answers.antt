@@ -1,0 +1,10 @@
+use Rattle.std.proofs.Common.{arith}
+use Rattle.ipi.proofs.Keeps.{joins}
+use Rattle.ipi.proofs.table.PendingTable.join_two.Goals as goal
+
+pub join_seat-requires : goal.join_seat-requires
+join_seat-requires c =
+    let t = c.args.self.now in
+    let wide = t.wide in
+    let one = t.one in
+    (c.requires.seat.0, c.requires.others.0, c.requires.others.1, omega arith, joins t.table.shared.key c.args.seat.id c.args.seat.me.0 c.args.others.id c.args.others.me.0)

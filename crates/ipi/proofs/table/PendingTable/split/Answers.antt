@@ -1,0 +1,27 @@
+use Rattle.std.proofs.Common.{◌≡◌, ◌+◌, ◌<◌, ◌++◌, List, length, Some, ap, ◌∙◌, arith, drop, take}
+use Rattle.ipi.specs.declared.view.Diary.{Diary}
+use Rattle.ipi.specs.declared.view.Crew.{Crew}
+use Rattle.ipi.specs.Seating.{diaries_in, diaries_by_seat, all_diaries}
+use Rattle.ipi.proofs.Lists.{by_seat_push, all_push, are_push, one_rest, both_rest, length_rest}
+use Rattle.ipi.proofs.table.PendingTable.split.Goals as goal
+
+pub loop-place-preserved : goal.loop-place-preserved
+loop-place-preserved c =
+    let inv = c.loop-place.invariant in
+    let seats = c.loop-place.seats.items in
+    let harts = diaries_in c.loop-place.rest in
+    let one = c.split_first-one.result.0 in
+    let e = c.split_first-one.ensures in
+    let left = inv.left in
+    let some_left : 0 < length harts = omega arith in
+    let pushed = c.push.ensures.items in
+    let mine : diaries_in one ≡ take 1 harts = ap (λ (d : Crew). d.diaries) e.first.1 in
+    let others : diaries_in c.split_first-one.result.1 ≡ drop 1 harts = ap (λ (d : Crew). d.diaries) e.others.1 in
+    record {
+      seat = e.others.0;
+      are = rw pushed (are_push c.args.self.now seats (Some one) inv.are e.first.0);
+      apart = rw (pushed, others) (by_seat_push seats (Some one) _ ∙ (rw mine (ap (λ (l : List (List Diary)). diaries_by_seat seats ++ l) (one_rest harts some_left)) ∙ inv.apart));
+      harts = rw (pushed, others) (all_push seats (Some one) (drop 1 harts) ∙ (rw mine (ap (λ (l : List Diary). all_diaries seats ++ l) (both_rest harts)) ∙ inv.harts));
+      count = c.push.ensures.len ∙ ap (λ n. n + 1) inv.count;
+      left = rw others (let n = length_rest harts some_left in omega arith);
+    }

@@ -1,0 +1,136 @@
+-- The rule of the pending table. Word t has a bit for each sender of the hart t.
+use Rattle.std.specs.Prelude.{◌≡◌, ℕ, ◌+◌, ◌-◌, ◌<◌, ◌≤◌, zero, suc, Bool, true, false, List, [], ◌∷◌, ◌++◌, ◌==◌, length, slice_index, if◌then◌else◌, take, drop}
+use Rattle.std.specs.Int.{bit_at}
+use mathlib.Core.Option.{some}
+use lib.ListN.{get_elem?}
+use Rattle.atomic_table.specs.Table.{State, Me, Step}
+use Rattle.tallies.specs.Sums.{total}
+use Rattle.ipi.specs.declared.view.Deed.{Deed}
+use Rattle.ipi.specs.declared.view.Deed.TheVariants.{Raised, Took, Looked}
+use Rattle.ipi.specs.declared.view.Diary.{Diary}
+use Rattle.ipi.specs.declared.view.Crew.{Crew}
+
+abbrev pub Each : {A : Type 0} → (A → Type 0) → List A → Type 0
+Each P [] = Unit {0}
+Each P (x ∷ xs) = P x × Each P xs
+
+abbrev pub diary : ℕ → List Deed → Diary
+diary h ds = record { hart = h; deeds = ds }
+
+abbrev pub crew : List Diary → Crew
+crew ds = record { diaries = ds }
+
+-- a raise of the target that found the sender's bit clear
+abbrev pub raise_of : ℕ → ℕ → Deed → ℕ
+raise_of sender target (Raised t found) = if t == target then 1 - bit_at found sender else 0
+raise_of sender target (Took found) = 0
+raise_of sender target (Looked found) = 0
+
+-- a take whose answer holds the sender
+abbrev pub take_of : ℕ → Deed → ℕ
+take_of sender (Raised t found) = 0
+take_of sender (Took found) = bit_at found sender
+take_of sender (Looked found) = 0
+
+abbrev pub raised_by : ℕ → ℕ → Diary → ℕ
+raised_by sender target d = if d.hart == sender then total (raise_of sender target) d.deeds else 0
+
+abbrev pub taken_by : ℕ → ℕ → Diary → ℕ
+taken_by sender target d = if d.hart == target then total (take_of sender) d.deeds else 0
+
+abbrev pub raised : ℕ → ℕ → Crew → ℕ
+raised sender target c = total (raised_by sender target) c.diaries
+
+abbrev pub taken : ℕ → ℕ → Crew → ℕ
+taken sender target c = total (taken_by sender target) c.diaries
+
+abbrev pub is_of : ℕ → Diary → ℕ
+is_of h d = if d.hart == h then 1 else 0
+
+-- how often the hart is in the seat
+abbrev pub seats : ℕ → Crew → ℕ
+seats h c = total (is_of h) c.diaries
+
+-- the hart raised for itself and has not taken since
+abbrev pub owes : ℕ → List Deed → Bool
+owes h [] = false
+owes h (Raised t found ∷ ds) = if t == h then true else owes h ds
+owes h (Took found ∷ ds) = false
+owes h (Looked found ∷ ds) = owes h ds
+
+abbrev pub IsOwed : List ℕ → Diary → Type 0
+IsOwed words d = owes d.hart d.deeds ≡ true → bit_at (slice_index words d.hart) d.hart ≡ 1
+
+-- The rule. The ledger: the raises that found a pair clear are the takes that answered it, and one more if it is pending
+pub record Kept (harts : ℕ) (s : State (Unit {0}) Crew) : Type 0 where
+  pub wide : length s.words ≡ harts
+  pub ledger : (sender target : ℕ) → target < harts
+      → total (raised sender target) s.views ≡ total (taken sender target) s.views + bit_at (slice_index s.words target) sender
+  pub once : (h : ℕ) → h < harts → total (seats h) s.views ≡ 1
+  pub none_else : (h : ℕ) → harts ≤ h → total (seats h) s.views ≡ 0
+  pub owed : (id : ℕ) (c : Crew) → get_elem? s.views id ≡ some c → Each (IsOwed s.words) c.diaries
+
+-- one more deed of the hart
+abbrev pub noted : ℕ → Deed → List Diary → List Diary
+noted h x [] = []
+noted h x (d ∷ ds) = if d.hart == h then diary d.hart (x ∷ d.deeds) ∷ ds else d ∷ noted h x ds
+
+abbrev pub Deeds : Type 0
+Deeds = Me (Unit {0}) Crew
+
+-- no step yet
+abbrev pub fresh_from : ℕ → ℕ → List Diary
+fresh_from first zero = []
+fresh_from first (suc n) = diary first [] ∷ fresh_from (suc first) n
+
+abbrev pub opening_crew : ℕ → Crew
+opening_crew harts = crew (fresh_from 0 harts)
+
+-- the seat has every hart
+abbrev pub IsWhole : ℕ → Crew → Type 0
+IsWhole harts c = (h : ℕ) → h < harts → seats h c ≡ 1
+
+-- The pairs of a seat of all harts are those of the word found
+abbrev pub Tells : ℕ → Crew → ℕ → ℕ → Type 0
+Tells harts c target found = IsWhole harts c → (sender : ℕ) → raised sender target c ≡ taken sender target c + bit_at found sender
+
+-- what the hart did
+abbrev pub deeds_of : ℕ → List Diary → List Deed
+deeds_of h [] = []
+deeds_of h (d ∷ ds) = if d.hart == h then d.deeds else deeds_of h ds
+
+-- the hart of the seat raised for itself and has not taken since
+abbrev pub IsOwing : ℕ → Crew → Type 0
+IsOwing h c = owes h (deeds_of h c.diaries) ≡ true
+
+-- Freshness: then the word of the hart has its own bit
+abbrev pub OwnsUp : Crew → ℕ → ℕ → Type 0
+OwnsUp c h found = IsOwing h c → bit_at found h ≡ 1
+
+-- only harts of the board are senders
+abbrev pub InRange : ℕ → ℕ → Type 0
+InRange harts found = (sender : ℕ) → harts ≤ sender → bit_at found sender ≡ 0
+
+-- what a step tells
+abbrev pub Raises : ℕ → ℕ → Step (Unit {0}) → Deeds → ℕ → Deeds → Type 0
+Raises harts by st m found m' = (m'.0 ≡ crew (noted by (Raised st.word found) m.0.diaries)) × (m'.1 ≡ m.1) × Tells harts m.0 st.word found
+
+abbrev pub Takes : ℕ → Step (Unit {0}) → Deeds → ℕ → Deeds → Type 0
+Takes harts st m found m' = (m'.0 ≡ crew (noted st.word (Took found) m.0.diaries)) × (m'.1 ≡ m.1) × Tells harts m.0 st.word found × OwnsUp m.0 st.word found × InRange harts found
+
+abbrev pub Looks : ℕ → Step (Unit {0}) → Deeds → ℕ → Deeds → Type 0
+Looks harts st m found m' = (m'.0 ≡ crew (noted st.word (Looked found) m.0.diaries)) × (m'.1 ≡ m.1) × Tells harts m.0 st.word found × OwnsUp m.0 st.word found × InRange harts found
+
+-- ---- seats
+-- the first hart of a seat, and the others
+abbrev pub first_hart : Crew → Crew
+first_hart c = crew (take 1 c.diaries)
+
+abbrev pub other_harts : Crew → Crew
+other_harts c = crew (drop 1 c.diaries)
+
+abbrev pub together : Crew → Crew → Crew
+together c d = crew (c.diaries ++ d.diaries)
+
+abbrev pub nobody : Crew
+nobody = crew []

@@ -1,0 +1,51 @@
+-- Seats of a pending table.
+use Rattle.std.specs.Prelude.{◌≡◌, ℕ, List, [], ◌∷◌, ◌++◌, Option, Some, None}
+use Rattle.atomic_table.specs.declared.shared.Seat.{Seat}
+use Rattle.ipi.specs.declared.view.Diary.{Diary}
+use Rattle.ipi.specs.declared.view.Crew.{Crew}
+use Rattle.ipi.specs.declared.table.PendingTable.{PendingTable}
+
+-- The seat is one of this table, and holds nothing else.
+abbrev pub IsSeatOf : PendingTable → Seat (Unit {0}) Crew → Type 0
+IsSeatOf t s = (s.table_id ≡ t.table.shared.table_id) × (s.me.1 ≡ [])
+
+-- how many harts the table has
+abbrev pub harts_of : PendingTable → ℕ
+harts_of t = t.table.shared.key
+
+-- what the seat knows
+abbrev pub crew_of : Seat (Unit {0}) Crew → Crew
+crew_of s = s.me.0
+
+-- the harts of the seat, each with its steps
+abbrev pub diaries_in : Seat (Unit {0}) Crew → List Diary
+diaries_in s = s.me.0.diaries
+
+-- ---- lists of seats, of which a taken one leaves None
+abbrev pub IsSomeSeatOf : PendingTable → Option (Seat (Unit {0}) Crew) → Type 0
+IsSomeSeatOf t None = ⊥
+IsSomeSeatOf t (Some s) = IsSeatOf t s
+
+-- every place has a seat of the table
+abbrev pub AreSeatsOf : PendingTable → List (Option (Seat (Unit {0}) Crew)) → Type 0
+AreSeatsOf t [] = Unit {0}
+AreSeatsOf t (s ∷ ss) = IsSomeSeatOf t s × AreSeatsOf t ss
+
+abbrev pub diaries_at : Option (Seat (Unit {0}) Crew) → List Diary
+diaries_at None = []
+diaries_at (Some s) = diaries_in s
+
+-- the harts of each seat of a list
+abbrev pub diaries_by_seat : List (Option (Seat (Unit {0}) Crew)) → List (List Diary)
+diaries_by_seat [] = []
+diaries_by_seat (s ∷ ss) = diaries_at s ∷ diaries_by_seat ss
+
+-- the harts of all seats of a list
+abbrev pub all_diaries : List (Option (Seat (Unit {0}) Crew)) → List Diary
+all_diaries [] = []
+all_diaries (s ∷ ss) = diaries_at s ++ all_diaries ss
+
+-- each hart by itself
+abbrev pub one_by_one : List Diary → List (List Diary)
+one_by_one [] = []
+one_by_one (v ∷ vs) = (v ∷ []) ∷ one_by_one vs

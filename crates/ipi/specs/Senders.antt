@@ -1,0 +1,7 @@
+-- Sets of senders, as the bits of a number.
+use Rattle.std.specs.Prelude.{◌≡◌, ℕ}
+use Rattle.std.specs.Int.{bit_at}
+
+-- the sender is in the set
+abbrev pub Has : ℕ → ℕ → Type 0
+Has sender set = bit_at set sender ≡ 1

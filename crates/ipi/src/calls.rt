@@ -1,0 +1,140 @@
+//! The calls, each of which is one step.
+
+ghost use Rattle.std.specs.Prelude.{◌≡◌, ◌≢◌, ◌↔◌, ℕ, ◌<◌, ◌≤◌, true, not, IsTrue};
+ghost use Rattle.std.specs.Int.{bit_at};
+ghost use Rattle.ipi.specs.Ledger.{crew, Raises, Takes, Looks, noted, seats, Tells, OwnsUp, InRange, IsOwing};
+ghost use Rattle.ipi.specs.Pairs.{Sits, SameHarts, ActsAlone, with_pair, without_target};
+ghost use Rattle.ipi.specs.Senders.{Has};
+ghost use Rattle.ipi.specs.Seating.{IsSeatOf, harts_of, crew_of, diaries_in};
+ghost use Rattle.ipi.specs.declared.view.Deed.TheVariants.{Raised, Took, Looked};
+
+use crate::senders::SenderSet;
+use crate::table::{Acting, IpiSeat, PendingTable};
+use crate::view::Crew;
+use atomic_table::Play;
+use board_model::HartId;
+use std::marker::{Brand, PhantomData};
+
+struct RaiseStep<J> {
+    of: PhantomData<J>,
+}
+
+impl<J: Acting> Play<(), Crew> for RaiseStep<J> {
+    ghost then = { Raises J.harts J.by };
+}
+
+struct TakeStep<J> {
+    of: PhantomData<J>,
+}
+
+impl<J: Acting> Play<(), Crew> for TakeStep<J> {
+    ghost then = { Takes J.harts };
+}
+
+struct LookStep<J> {
+    of: PhantomData<J>,
+}
+
+impl<J: Acting> Play<(), Crew> for LookStep<J> {
+    ghost then = { Looks J.harts };
+}
+
+fn raise_by<J: Acting>(table: &PendingTable, seat: &mut IpiSeat, by: HartId, target: HartId) -> u64
+    requires named { (J.harts ≡ harts_of table.now) × (J.by ≡ by) }
+    requires seat { IsSeatOf table.now seat.old }
+    requires acts { Sits by (crew_of seat.old) }
+    requires by { by < harts_of table.now }
+    requires target { target < harts_of table.now }
+    ensures seat { IsSeatOf table.now seat.new }
+    ensures told { crew_of seat.new ≡ crew (noted by (Raised target result) (diaries_in seat.old)) }
+    ensures tells { Tells (harts_of table.now) (crew_of seat.old) target result }
+{
+    let bit = by.number();
+    let word = target.index();
+    table
+        .table
+        .shared
+        .fetch_or::<RaiseStep<J>>(seat, word, 1 << bit)
+}
+
+fn take_by<J: Acting>(table: &PendingTable, seat: &mut IpiSeat, by: HartId) -> u64
+    requires named { J.harts ≡ harts_of table.now }
+    requires seat { IsSeatOf table.now seat.old }
+    requires acts { Sits by (crew_of seat.old) }
+    requires by { by < harts_of table.now }
+    ensures seat { IsSeatOf table.now seat.new }
+    ensures told { crew_of seat.new ≡ crew (noted by (Took result) (diaries_in seat.old)) }
+    ensures tells { Tells (harts_of table.now) (crew_of seat.old) by result }
+    ensures own { OwnsUp (crew_of seat.old) by result }
+    ensures range { InRange (harts_of table.now) result }
+{
+    let word = by.index();
+    table.table.shared.swap::<TakeStep<J>>(seat, word, 0)
+}
+
+fn look_by<J: Acting>(table: &PendingTable, seat: &mut IpiSeat, by: HartId) -> u64
+    requires named { J.harts ≡ harts_of table.now }
+    requires seat { IsSeatOf table.now seat.old }
+    requires acts { Sits by (crew_of seat.old) }
+    requires by { by < harts_of table.now }
+    ensures seat { IsSeatOf table.now seat.new }
+    ensures told { crew_of seat.new ≡ crew (noted by (Looked result) (diaries_in seat.old)) }
+    ensures tells { Tells (harts_of table.now) (crew_of seat.old) by result }
+    ensures own { OwnsUp (crew_of seat.old) by result }
+    ensures range { InRange (harts_of table.now) result }
+{
+    let word = by.index();
+    table.table.shared.load::<LookStep<J>>(seat, word)
+}
+
+impl PendingTable {
+    /// Raises an interrupt of the acting hart for the target, and says whether the pair was newly set.
+    pub fn raise(&self, seat: IpiSeat, by: HartId, target: HartId) -> (IpiSeat, bool)
+        requires seat { IsSeatOf self.now seat }
+        requires acts { Sits by (crew_of seat) }
+        requires by { by < harts_of self.now }
+        requires target { target < harts_of self.now }
+        ensures seat { IsSeatOf self.entry.now result.0 }
+        ensures harts { SameHarts (crew_of seat) (crew_of result.0) }
+        ensures steps { (found : ℕ) × (crew_of result.0 ≡ crew (noted by (Raised target found) (diaries_in seat))) × (IsTrue result.1 ↔ (bit_at found by ≡ 0)) }
+        ensures alone { ActsAlone (harts_of self.entry.now) (crew_of seat) (crew_of result.0) (λ pairs. result.1 ≡ not (pairs by target)) (with_pair by target) }
+    {
+        let mut seat = seat;
+        let found = raise_by::<Brand>(self, &mut seat, by, target);
+        let bit = by.number();
+        (seat, found >> bit & 1 == 0)
+    }
+
+    /// Takes all that is pending for the acting hart, and answers the senders.
+    pub fn take(&self, seat: IpiSeat, by: HartId) -> (IpiSeat, SenderSet)
+        requires seat { IsSeatOf self.now seat }
+        requires acts { Sits by (crew_of seat) }
+        requires by { by < harts_of self.now }
+        ensures seat { IsSeatOf self.entry.now result.0 }
+        ensures harts { SameHarts (crew_of seat) (crew_of result.0) }
+        ensures steps { crew_of result.0 ≡ crew (noted by (Took result.1) (diaries_in seat)) }
+        ensures own { IsOwing by (crew_of seat) → Has by result.1 }
+        ensures range { (sender : ℕ) → Has sender result.1 → sender < harts_of self.entry.now }
+        ensures alone { ActsAlone (harts_of self.entry.now) (crew_of seat) (crew_of result.0) (λ pairs. (sender : ℕ) → Has sender result.1 ↔ IsTrue (pairs sender by)) (without_target by) }
+    {
+        let mut seat = seat;
+        let found = take_by::<Brand>(self, &mut seat, by);
+        (seat, SenderSet::of(found))
+    }
+
+    /// Whether anything is pending for the acting hart, by one look.
+    pub fn pending(&self, seat: IpiSeat, by: HartId) -> (IpiSeat, bool)
+        requires seat { IsSeatOf self.now seat }
+        requires acts { Sits by (crew_of seat) }
+        requires by { by < harts_of self.now }
+        ensures seat { IsSeatOf self.entry.now result.0 }
+        ensures harts { SameHarts (crew_of seat) (crew_of result.0) }
+        ensures steps { (found : ℕ) × (crew_of result.0 ≡ crew (noted by (Looked found) (diaries_in seat))) × (IsTrue result.1 ↔ ((sender : ℕ) × (bit_at found sender ≡ 1))) }
+        ensures own { IsOwing by (crew_of seat) → result.1 ≡ true }
+        ensures alone { ActsAlone (harts_of self.entry.now) (crew_of seat) (crew_of result.0) (λ pairs. IsTrue result.1 ↔ ((sender : ℕ) × IsTrue (pairs sender by))) (λ pairs. pairs) }
+    {
+        let mut seat = seat;
+        let found = look_by::<Brand>(self, &mut seat, by);
+        (seat, found != 0)
+    }
+}

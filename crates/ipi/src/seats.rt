@@ -1,0 +1,94 @@
+//! A table is made with one seat of all harts, which is parted and joined again.
+
+ghost use Rattle.std.specs.Prelude.{◌≡◌, ◌<◌, ◌≤◌, [], length, IfOk, IfErr};
+ghost use Rattle.arrayvec.specs.ArrayVec.{array_vec_len};
+ghost use Rattle.ipi.specs.Ledger.{opening_crew, first_hart, other_harts, together};
+ghost use Rattle.ipi.specs.Seating.{IsSeatOf, harts_of, crew_of, diaries_in, AreSeatsOf, diaries_by_seat, all_diaries, one_by_one};
+ghost use Rattle.board_model.specs.declared.refusal.Refusal.TheVariants.{Memory};
+
+use crate::table::{ByHart, IpiSeat, PendingTable, Seats};
+use atomic_table::Table;
+use board_model::{Refusal, Shape};
+use std::alloc::Global;
+
+impl PendingTable {
+    /// The table of a board of that shape, with nothing pending, and one seat of all harts. Refused `Memory` where the
+    /// words could not be had, and then nothing was made.
+    pub fn new(alloc: Global, shape: Shape) -> Result<(PendingTable, IpiSeat), Refusal>
+        ensures seat { IfOk result (λ t. IsSeatOf t.0 t.1) }
+        ensures harts { IfOk result (λ t. harts_of t.0 ≡ shape.harts) }
+        ensures opening { IfOk result (λ t. crew_of t.1 ≡ opening_crew shape.harts) }
+        ensures memory { IfErr result (λ e. e ≡ Memory) }
+    {
+        let harts = shape.harts();
+        let words = [0; 8];
+        let (table, seat) = Table::of_words(alloc, &words[..harts as usize], &harts)?;
+        Ok((PendingTable { table }, seat))
+    }
+
+    /// The number of harts, 1 to 8.
+    pub fn harts(&self) -> u32
+        ensures value { result ≡ harts_of self.now }
+        ensures range { (1 ≤ result) × (result ≤ 8) }
+    {
+        self.table.word_count() as u32
+    }
+
+    /// The first hart of a seat by itself, and the others.
+    pub fn split_first(&self, seat: IpiSeat) -> (IpiSeat, IpiSeat)
+        requires { IsSeatOf self.now seat }
+        ensures first { IsSeatOf self.now result.0 × (crew_of result.0 ≡ first_hart (crew_of seat)) }
+        ensures others { IsSeatOf self.now result.1 × (crew_of result.1 ≡ other_harts (crew_of seat)) }
+    {
+        let mut seat = seat;
+        let others = self.table.shared.split_seat::<ByHart>(&mut seat);
+        (seat, others)
+    }
+
+    /// Two seats in one, which has the harts of the first before those of the other.
+    pub fn join_two(&self, seat: IpiSeat, others: IpiSeat) -> IpiSeat
+        requires seat { IsSeatOf self.now seat }
+        requires others { IsSeatOf self.now others }
+        ensures seat { IsSeatOf self.now result }
+        ensures both { crew_of result ≡ together (crew_of seat) (crew_of others) }
+    {
+        let mut seat = seat;
+        self.table.shared.join_seat::<ByHart>(&mut seat, others);
+        seat
+    }
+
+    /// A seat for each hart of a seat of all harts, in the order of their numbers.
+    pub fn split(&self, seat: IpiSeat) -> Seats
+        requires seat { IsSeatOf self.now seat }
+        requires all { length (diaries_in seat) ≡ harts_of self.now }
+        ensures seats { AreSeatsOf self.now result.items }
+        ensures apart { diaries_by_seat result.items ≡ one_by_one (diaries_in seat) }
+        ensures harts { all_diaries result.items ≡ diaries_in seat }
+    {
+        let mut seats = Seats::new();
+        let mut rest = seat;
+        for place in 0..self.harts() as usize {
+            prove!(seats.len() == place);
+            let (one, others) = self.split_first(rest);
+            seats.push(Some(one));
+            rest = others;
+        }
+        seats
+    }
+
+    /// The seats of a list in one, which has their harts in the order of the list. It undoes `split`.
+    pub fn join(&self, seats: Seats) -> IpiSeat
+        requires seats { AreSeatsOf self.now seats.items }
+        requires some { 0 < array_vec_len seats }
+        ensures seat { IsSeatOf self.now result }
+        ensures harts { diaries_in result ≡ all_diaries seats.items }
+    {
+        let mut seats = seats;
+        let last = seats.pop().unwrap();
+        let mut whole = last.unwrap();
+        while let Some(before) = seats.pop() {
+            whole = self.join_two(before.unwrap(), whole);
+        }
+        whole
+    }
+}

@@ -1,0 +1,62 @@
+//! The table, one word a hart with a bit for each sender, its rule, and the types of its seats.
+
+ghost use Rattle.std.specs.Prelude.{◌≡◌, ℕ, ◌<◌, ◌≤◌};
+ghost use Rattle.ipi.specs.Ledger.{Kept, opening_crew, first_hart, other_harts, together, nobody};
+
+use crate::view::Crew;
+use arrayvec::ArrayVec;
+use atomic_table::{Join, Seat, Split, Table, TableRule};
+use std::alloc::Global;
+use std::marker::Brand;
+
+/// The ledger of interrupts, which is the rule of the table.
+pub struct Ledger;
+
+impl TableRule<(), Crew, u32> for Ledger {
+    ghost holds = { Kept };
+
+    ghost first = { opening_crew };
+}
+
+/// What the contract of a step names beside the step's own operands. A caller names itself `Brand` and picks the values
+/// in its proof.
+pub(crate) trait Acting {
+    ghost harts: { ℕ };
+
+    ghost by: { ℕ };
+}
+
+impl Acting for Brand {
+    ghost harts = { 0 };
+
+    ghost by = { 0 };
+}
+
+pub(crate) struct ByHart;
+
+impl Split<Crew> for ByHart {
+    ghost left = { first_hart };
+
+    ghost right = { other_harts };
+}
+
+impl Join<Crew> for ByHart {
+    ghost both = { together };
+
+    ghost spent = { nobody };
+}
+
+/// A seat of some of the harts: the right to act as them. It takes no bytes, and may go to another thread.
+pub type IpiSeat = Seat<(), Crew>;
+
+/// A seat for each hart of a board, in a list. A seat that is out with its hart leaves `None`.
+pub type Seats = ArrayVec<Option<IpiSeat>, 8>;
+
+/// The pending interrupts of one board. Threads share it by reference, each with seats of its own.
+#[derive(Drop)]
+pub struct PendingTable {
+    pub(crate) table: Table<(), Crew, u32, Ledger, Global>,
+    ghost wide: { table.shared.table_id.words ≡ table.shared.key },
+    ghost few: { table.shared.key ≤ 8 },
+    ghost one: { 0 < table.shared.key },
+}
