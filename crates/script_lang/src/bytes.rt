@@ -2,6 +2,10 @@
 
 ghost use Rattle.std.specs.Prelude.{◌≡◌, ◌↔◌, ℕ, List, length, IsTrue};
 
+ghost use Rattle.std.specs.Str.{bytes_eq};
+ghost use Rattle.std.specs.Cmp.{on_equiv, on_per, partial_equiv_from_equiv};
+ghost use Rattle.std.specs.Cmp.Lexicographic.{nat_list_eq_equiv};
+
 use std::marker::Model;
 
 /// Bytes that a line carries, written there as hexadecimal digits; contracts see the list of them.
@@ -44,4 +48,18 @@ impl Bytes {
     {
         &self.items
     }
+}
+
+impl PartialEq for Bytes {
+    ghost eq = { λ a b. bytes_eq a b };
+
+    ghost laws = { partial_equiv_from_equiv nat_list_eq_equiv };
+
+    fn eq(&self, other: &Bytes) -> bool {
+        self.as_slice() == other.as_slice()
+    }
+}
+
+impl Eq for Bytes {
+    ghost laws = { nat_list_eq_equiv };
 }

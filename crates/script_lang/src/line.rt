@@ -4,7 +4,7 @@ use crate::bytes::Bytes;
 use board_model::{HartId, Slot};
 
 /// The four ways to power on.
-#[derive(Clone, Copy, Debug, PartialEq, Eq)]
+#[derive(Clone, Copy, Debug, PartialEq, Eq, Drop)]
 pub enum BootMode {
     /// Boot the slot; refused where an image stands.
     Fresh,
@@ -17,7 +17,7 @@ pub enum BootMode {
 }
 
 /// What a range that was written since the last sync holds after a power cut.
-#[derive(Clone, Copy, Debug, PartialEq, Eq)]
+#[derive(Clone, Copy, Debug, PartialEq, Eq, Drop)]
 pub enum Fill {
     /// Its bytes at that sync.
     Old,
@@ -28,7 +28,7 @@ pub enum Fill {
 }
 
 /// The first word of a line.
-#[derive(Clone, Copy, Debug, PartialEq, Eq)]
+#[derive(Clone, Copy, Debug, PartialEq, Eq, Drop)]
 pub enum Keyword {
     Payload,
     Format,
@@ -51,7 +51,7 @@ pub enum Keyword {
 }
 
 /// A line after the board line. Harts, lanes, addresses and sectors are in the ranges of that board.
-#[derive(Debug, Drop)]
+#[derive(Debug, PartialEq, Eq, Drop)]
 pub enum Line {
     /// `payload S HEX`: what the slot boots, 1 to 1,024 bytes.
     Payload(Slot, Bytes),

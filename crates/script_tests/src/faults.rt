@@ -1,0 +1,242 @@
+//! Lines and scripts that are refused, and where.
+
+use crate::read::{holds, malformed, refused};
+use board_model::{Refusal, Shape};
+use std::alloc::Global;
+use std::process::Abort;
+use std::test::*;
+
+const BOARD: &[u8] = b"board 2 4 3";
+
+const PAST_A_RANGE: &[u8] = b"\
+payload 4 00\n\
+slot 4294967296\n\
+turn 2 1\n\
+turn 0 0\n\
+turn 0 1000001\n\
+call 2 base 0\n\
+reg 2 0\n\
+reg 0 32\n\
+pc 2\n\
+csr 2 0x100\n\
+csr 0 0x0ff\n\
+csr 0 0x101\n\
+csr 0 0x103\n\
+csr 0 0x106\n\
+csr 0 0x13f\n\
+csr 0 0x145\n\
+csr 0 0x17f\n\
+csr 0 0x181\n\
+csr 0 sie\n\
+mem 0x7fffffff 1\n\
+mem 0x7fffffff 2\n\
+mem 0x80000000 0\n\
+mem 0x80000000 65\n\
+mem 0x80003fff 2\n\
+mem 0x80004000 1\n\
+mem 0x80003fc1 64\n\
+mem 0xffffffffffffffff 1\n\
+cutat 0 00\n\
+cutat 1000001 00\n\
+cutlane 3 1 00\n\
+cutlane 0 0 00\n\
+failat 0\n\
+failat 1000001\n\
+faillane 3 1\n\
+faillane 0 1000001\n\
+poke 116 0 00\n\
+poke 0 512 00\n\
+poke 0 511 0000";
+
+const WORD_COUNTS: &[u8] = b"\
+payload 0\n\
+payload 0 00 00\n\
+format 1\n\
+on\n\
+on fresh fresh\n\
+slot\n\
+slot 1 2\n\
+discard 1\n\
+turn 0\n\
+turn 0 1 2\n\
+call 0 base\n\
+call 0\n\
+call 0 base 0 1 2 3 4\n\
+reg 0\n\
+reg 0 1 2\n\
+pc\n\
+pc 0 0\n\
+csr 0\n\
+csr 0 0x100 0\n\
+pending 0\n\
+mem 0x80000000\n\
+mem 0x80000000 1 1\n\
+cutat 1\n\
+cutat 1 00 00\n\
+cutlane 0 1\n\
+cutlane 0 1 00 00\n\
+failat\n\
+failat 1 1\n\
+faillane 0\n\
+faillane 0 1 1\n\
+cut\n\
+cut 00 00\n\
+poke 0 0\n\
+poke 0 0 00 00\n\
+board 2 4 3\n\
+board 9 9 9\n\
+format#\n\
+slot 1 # one";
+
+const SPELLINGS: &[u8] = b"\
+\x20slot 1\n\
+slot 1 \n\
+slot  1\n\
+slot\t1\n\
+slot 1\r\n\
+\r\n\
+\x20\n\
+\x20# no comment\n\
+Slot 1\n\
+SLOT 1\n\
+slots 1\n\
+slo 1\n\
+on Fresh\n\
+slot -1\n\
+slot +1\n\
+slot 1.0\n\
+slot 1_0\n\
+slot a\n\
+slot 0x\n\
+slot 0X1\n\
+slot x1\n\
+slot 0x1g\n\
+slot 000000000000000000001\n\
+slot 0x00000000000000001\n\
+call 0 base 18446744073709551616\n\
+call 0 base 99999999999999999999\n\
+call 0 BASE 0\n\
+call 0 time 0\n\
+cut 0\n\
+cut 000\n\
+cut 0g\n\
+cut OLD\n\
+cut alt\n\
+payload 0 0\n\
+payload 0 000\n\
+payload 0 0x00\n\
+payload 0 zz\n\
+slot \xb1";
+
+const LATER_RULES: &[u8] = b"\
+inspect\n\
+wake\n\
+tries 1\n\
+good\n\
+cutat 1 alt";
+
+/// Each line of the table is a fault where it stands alone after the board line.
+fn each_malformed(rt: &impl Abort, alloc: Global, table: &[u8]) -> Result<(), Fail> {
+    for text in table.split(|b| *b == b'\n') {
+        malformed(rt, alloc, BOARD, text)?;
+    }
+    Ok(())
+}
+
+#[test]
+fn one_past_each_range(rt: HostRuntime) -> Result<(), Fail> {
+    each_malformed(&rt, rt.alloc(), PAST_A_RANGE)
+}
+
+#[test]
+fn words_too_many_or_too_few(rt: HostRuntime) -> Result<(), Fail> {
+    each_malformed(&rt, rt.alloc(), WORD_COUNTS)
+}
+
+#[test]
+fn spelling(rt: HostRuntime) -> Result<(), Fail> {
+    each_malformed(&rt, rt.alloc(), SPELLINGS)
+}
+
+#[test]
+fn lines_of_later_rules_are_malformed(rt: HostRuntime) -> Result<(), Fail> {
+    each_malformed(&rt, rt.alloc(), LATER_RULES)
+}
+
+#[test]
+fn board_lines(rt: HostRuntime) -> Result<(), Fail> {
+    let cases: [(&[u8], Refusal); 20] = [
+        (b"board 0 1 1", Refusal::BadShape),
+        (b"board 9 1 1", Refusal::BadShape),
+        (b"board 1 0 1", Refusal::BadShape),
+        (b"board 1 257 1", Refusal::BadShape),
+        (b"board 1 1 0", Refusal::BadShape),
+        (b"board 1 1 5", Refusal::BadShape),
+        (b"board 18446744073709551615 1 1", Refusal::BadShape),
+        (b"board 4294967297 1 1", Refusal::BadShape),
+        (b"board 1 0xffffffffffffffff 1", Refusal::BadShape),
+        (b"board 9 1 1\nslot", Refusal::BadShape),
+        (b"board 9 x 1", Refusal::BadScript(1)),
+        (b"board 18446744073709551616 1 1", Refusal::BadScript(1)),
+        (b"board 1 1", Refusal::BadScript(1)),
+        (b"board 1 1 1 1", Refusal::BadScript(1)),
+        (b"board", Refusal::BadScript(1)),
+        (b"board  1 1 1", Refusal::BadScript(1)),
+        (b"boards 1 1 1", Refusal::BadScript(1)),
+        (b"board 1 1 1\r\nformat\r\n", Refusal::BadScript(1)),
+        (b"\n#\nboard 9 1 1", Refusal::BadShape),
+        (b"\n#\nboard 9 1", Refusal::BadScript(3)),
+    ];
+    for (script, refusal) in cases {
+        refused(&rt, rt.alloc(), script, refusal)?;
+    }
+    Ok(())
+}
+
+#[test]
+fn the_first_fault_answers(rt: HostRuntime) -> Result<(), Fail> {
+    let cases: [(&[u8], Refusal); 15] = [
+        (b"", Refusal::BadScript(1)),
+        (b"\n", Refusal::BadScript(1)),
+        (b"\n\n\n", Refusal::BadScript(1)),
+        (b"# a comment\n# another", Refusal::BadScript(1)),
+        (b"format", Refusal::BadScript(1)),
+        (
+            b"\n# a comment\nformat\nboard 1 1 1\n",
+            Refusal::BadScript(3),
+        ),
+        (b"board 1 1 1\nslot", Refusal::BadScript(2)),
+        (b"board 1 1 1\nslot\nformat x\n", Refusal::BadScript(2)),
+        (
+            b"board 1 1 1\nformat\n\nslot x\nslot\n",
+            Refusal::BadScript(4),
+        ),
+        (b"board 1 1 1\nboard 1 1 1\n", Refusal::BadScript(2)),
+        (b"board 1 1 1\nboard 9 1 1\n", Refusal::BadScript(2)),
+        (b"board 1 1 1\n\n\nboard x\n", Refusal::BadScript(4)),
+        (b"board 1 1 1\nturn 1 1\n", Refusal::BadScript(2)),
+        (b"\xef\xbb\xbfboard 1 1 1\n", Refusal::BadScript(1)),
+        (b"\0", Refusal::BadScript(1)),
+    ];
+    for (script, refusal) in cases {
+        refused(&rt, rt.alloc(), script, refusal)?;
+    }
+    Ok(())
+}
+
+#[test]
+fn what_is_passed_over(rt: HostRuntime) -> Result<(), Fail> {
+    let shape = Shape::new(2, 4, 3)?;
+    let scripts: [&[u8]; 6] = [
+        b"board 2 4 3\nformat\npc 1",
+        b"board 2 4 3\nformat\npc 1\n",
+        b"board 2 4 3\nformat\npc 1\n\n\n",
+        b"# first\n\nboard 0x2 04 3\n#\n#board\nformat\n# \xff\xfe \r\t\0\npc 1\n#",
+        b"\n\nboard 2 4 3\n# caf\xc3\xa9\nformat\n\npc 1\n",
+        b"#\r\nboard 2 4 3\nformat\npc 0x0001\n#\r\n",
+    ];
+    for script in scripts {
+        holds(&rt, rt.alloc(), script, shape, 2)?;
+    }
+    Ok(())
+}
