@@ -1,5 +1,6 @@
 pub mod Words
 pub mod Rows
+pub mod Ranges
 pub mod Lines
 pub mod Scripts
 pub mod Seen

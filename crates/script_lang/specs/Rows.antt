@@ -1,17 +1,13 @@
 -- The rows of the script language: what the words after a keyword say, on a board of a size.
-use Rattle.std.specs.Prelude.{ℕ, ◌+◌, ◌-◌, ◌*◌, ◌/◌, ◌^◌, Bool, List, [], ◌∷◌, length, Option, Some, None, nat_le, ◌&&◌, ◌||◌, ◌==◌, if◌then◌else◌}
+use Rattle.std.specs.Prelude.{ℕ, ◌+◌, ◌^◌, Bool, List, [], ◌∷◌, length, Option, Some, None, nat_le, ◌&&◌, ◌||◌, ◌==◌, if◌then◌else◌}
 use Rattle.std.specs.Str.{bytes_eq}
-use Rattle.board_model.specs.Shapes.{Size}
+use Rattle.board_model.specs.Shapes.{Size, ram_bytes_of, sectors_of}
 use Rattle.script_lang.specs.Words.{◌>>=◌, number_of, ranged, fill_of, hex_of, none_of, one_of, two_of, three_of}
 use Rattle.script_lang.specs.declared.line.BootMode.{BootMode}
 use Rattle.script_lang.specs.declared.line.BootMode.TheVariants as modes
 use Rattle.script_lang.specs.declared.line.Line.{Line}
 use Rattle.script_lang.specs.declared.line.Line.TheVariants.{Payload, On, Slot, Turn, Call, Reg, Pc, Csr, Mem, CutAt, CutLane, FailAt, FailLane, Cut, Poke}
 use lib.Chars.{codes}
-
--- how many sectors the smallest disk for a board has: 8, and two areas of 9 sectors for each place of each lane
-abbrev pub sectors_of : Size → ℕ
-sectors_of size = 8 + 2 * (9 * size.lanes * ((size.pages + size.lanes - 1) / size.lanes))
 
 -- `payload S HEX`
 abbrev pub payload_of : List (List ℕ) → Option Line
@@ -124,7 +120,7 @@ mem_of size words = do
   pair ← two_of words
   address ← number_of pair.0
   count ← ranged 1 65 pair.1
-  if nat_le 0x80000000 address && nat_le (address + count) (0x80000000 + 4096 * size.pages) then Some (Mem address count) else None
+  if nat_le 0x80000000 address && nat_le (address + count) (0x80000000 + ram_bytes_of size) then Some (Mem address count) else None
 
 -- `cutat N FILL`
 abbrev pub cutat_of : List (List ℕ) → Option Line

@@ -51,14 +51,17 @@ abbrev pub or_fault : ℕ → Option Line → Result Line Refusal
 or_fault n None = Err (BadScript n)
 or_fault n (Some line) = Ok line
 
+-- what line number n says after the board line: nothing where it is passed over
+abbrev pub said_of : Size → ℕ → List ℕ → Result (List Line) Refusal
+said_of size n line =
+    if is_sound n line
+    then (if is_passed line then Ok [] else (or_fault n (line_of size (words_of line)) >>> λ said. Ok (said ∷ [])))
+    else Err (BadScript n)
+
 -- the lines from number n on, after the board line
 unfoldable pub rest_of : Size → ℕ → List (List ℕ) → Result (List Line) Refusal
 rest_of size n [] = Ok []
-rest_of size n (line ∷ more) =
-    if is_sound n line
-    then (if is_passed line then rest_of size (n + 1) more else
-    (or_fault n (line_of size (words_of line)) >>> λ first. rest_of size (n + 1) more >>> λ others. Ok (first ∷ others)))
-    else Err (BadScript n)
+rest_of size n (line ∷ more) = said_of size n line >>> λ said. rest_of size (n + 1) more >>> λ others. Ok (said ++ others)
 
 -- the lines read before those that are left
 abbrev pub with_front : List Line → Result (List Line) Refusal → Result (List Line) Refusal

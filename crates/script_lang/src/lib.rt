@@ -10,5 +10,4 @@ mod words;
 
 pub use bytes::Bytes;
 pub use line::{BootMode, Fill, Line};
-pub use rows::disk_sectors;
 pub use scripts::{Script, parse_script};

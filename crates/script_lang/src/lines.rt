@@ -1,6 +1,7 @@
 //! One line.
 
-ghost use Rattle.std.specs.Prelude.{◌≡◌, map, IfOk};
+ghost use Rattle.std.specs.Prelude.{◌≡◌, map, IfOk, IfSome};
+ghost use Rattle.script_lang.specs.Ranges.{IsInRange};
 ghost use Rattle.script_lang.specs.Lines.{keyword_of, alone, body_of, line_of};
 
 use crate::line::{Keyword, Line};
@@ -58,33 +59,35 @@ fn body(
     keyword: Keyword,
     words: &[&[u8]],
 ) -> Result<Option<Line>, AllocError>
-    ensures { IfOk result (λ line. line ≡ body_of shape.now keyword (map (λ w. w.now) words.now)) }
+    ensures value { IfOk result (λ line. line ≡ body_of shape.now keyword (map (λ w. w.now) words.now)) }
+    ensures range { IfOk result (λ line. IfSome line (IsInRange shape.now)) }
 {
-    Ok(match keyword {
-        Keyword::Payload => rows::payload(alloc, words)?,
-        Keyword::Format => alone(Line::Format, words),
-        Keyword::On => rows::on(words),
-        Keyword::Slot => rows::slot(words),
-        Keyword::Discard => alone(Line::Discard, words),
-        Keyword::Turn => rows::turn(shape, words),
-        Keyword::Call => rows::call(shape, words),
-        Keyword::Reg => rows::reg(shape, words),
-        Keyword::Pc => rows::pc(shape, words),
-        Keyword::Csr => rows::csr(shape, words),
-        Keyword::Pending => alone(Line::Pending, words),
-        Keyword::Mem => rows::mem(shape, words),
-        Keyword::CutAt => rows::cutat(words),
-        Keyword::CutLane => rows::cutlane(shape, words),
-        Keyword::FailAt => rows::failat(words),
-        Keyword::FailLane => rows::faillane(shape, words),
-        Keyword::Cut => rows::cut(words),
-        Keyword::Poke => rows::poke(alloc, shape, words)?,
-    })
+    match keyword {
+        Keyword::Payload => rows::payload(alloc, words),
+        Keyword::Format => Ok(alone(Line::Format, words)),
+        Keyword::On => Ok(rows::on(words)),
+        Keyword::Slot => Ok(rows::slot(words)),
+        Keyword::Discard => Ok(alone(Line::Discard, words)),
+        Keyword::Turn => Ok(rows::turn(shape, words)),
+        Keyword::Call => Ok(rows::call(shape, words)),
+        Keyword::Reg => Ok(rows::reg(shape, words)),
+        Keyword::Pc => Ok(rows::pc(shape, words)),
+        Keyword::Csr => Ok(rows::csr(shape, words)),
+        Keyword::Pending => Ok(alone(Line::Pending, words)),
+        Keyword::Mem => Ok(rows::mem(shape, words)),
+        Keyword::CutAt => Ok(rows::cutat(words)),
+        Keyword::CutLane => Ok(rows::cutlane(shape, words)),
+        Keyword::FailAt => Ok(rows::failat(words)),
+        Keyword::FailLane => Ok(rows::faillane(shape, words)),
+        Keyword::Cut => Ok(rows::cut(words)),
+        Keyword::Poke => rows::poke(alloc, shape, words),
+    }
 }
 
 /// The line that its words say on a board of this shape; None where they are no line.
 pub fn line(alloc: Global, shape: &Shape, words: &[&[u8]]) -> Result<Option<Line>, AllocError>
-    ensures { IfOk result (λ line. line ≡ line_of shape.now (map (λ w. w.now) words.now)) }
+    ensures value { IfOk result (λ line. line ≡ line_of shape.now (map (λ w. w.now) words.now)) }
+    ensures range { IfOk result (λ line. IfSome line (IsInRange shape.now)) }
 {
     let [first, others @ ..] = words else {
         return Ok(None);

@@ -3,37 +3,33 @@
 ghost use Rattle.std.specs.Prelude.{◌≡◌, ◌≤◌, ◌<◌, map, length, IfOk, IfSome};
 ghost use Rattle.std.specs.Option.{option_map};
 ghost use Rattle.script_lang.specs.Words.{ranged};
-ghost use Rattle.script_lang.specs.Rows.{sectors_of, payload_of, mode_of, on_of, slot_of, turn_of, extension_of, argument_of, head_of, call_of, reg_of, pc_of, csr_number_of, csr_of, mem_of, cutat_of, cutlane_of, failat_of, faillane_of, cut_of, place_of, poke_of};
+ghost use Rattle.board_model.specs.Shapes.{Size, sectors_of};
+ghost use Rattle.script_lang.specs.Ranges.{IsCount, IsCsr, IsInRange};
+ghost use Rattle.script_lang.specs.Rows.{payload_of, mode_of, on_of, slot_of, turn_of, extension_of, argument_of, head_of, call_of, reg_of, pc_of, csr_number_of, csr_of, mem_of, cutat_of, cutlane_of, failat_of, faillane_of, cut_of, place_of, poke_of};
 
 use crate::line::{BootMode, Line};
 use crate::words::{bytes, fill, in_range, none, number, one, three, two};
 use board_model::{HartId, RAM_BASE, SECTOR_BYTES, Shape, Slot};
 use std::alloc::{AllocError, Global};
 
-/// How many sectors the smallest disk for a board of this shape has (docs/DISK.md).
-pub fn disk_sectors(shape: &Shape) -> u32
-    ensures value { result ≡ sectors_of shape.now }
-    ensures range { result ≤ 18440 }
-{
-    let places = (shape.pages() + shape.lanes() - 1) / shape.lanes();
-    8 + 2 * (9 * shape.lanes() * places)
-}
-
 fn hart(shape: &Shape, word: &[u8]) -> Option<HartId>
-    ensures { result ≡ ranged 0 shape.now.harts word.now }
+    ensures value { result ≡ ranged 0 shape.now.harts word.now }
+    ensures range { IfSome result (λ h. h < shape.now.harts) }
 {
     shape.hart(number(word)?)
 }
 
 /// A number of disk calls, 1 to 1,000,000.
 fn calls(word: &[u8]) -> Option<u32>
-    ensures { result ≡ ranged 1 1000001 word.now }
+    ensures value { result ≡ ranged 1 1000001 word.now }
+    ensures range { IfSome result IsCount }
 {
     in_range(1, 1_000_001, word)
 }
 
 fn lane(shape: &Shape, word: &[u8]) -> Option<u32>
-    ensures { result ≡ ranged 0 shape.now.lanes word.now }
+    ensures value { result ≡ ranged 0 shape.now.lanes word.now }
+    ensures range { IfSome result (λ i. i < shape.now.lanes) }
 {
     in_range(0, u64::from(shape.lanes()), word)
 }
@@ -45,7 +41,8 @@ fn boot_slot(word: &[u8]) -> Option<Slot>
 }
 
 pub fn payload(alloc: Global, words: &[&[u8]]) -> Result<Option<Line>, AllocError>
-    ensures { IfOk result (λ line. line ≡ payload_of (map (λ w. w.now) words.now)) }
+    ensures value { IfOk result (λ line. line ≡ payload_of (map (λ w. w.now) words.now)) }
+    ensures range { (size : Size) → IfOk result (λ line. IfSome line (IsInRange size)) }
 {
     let Some((s, h)) = two(words) else {
         return Ok(None);
@@ -81,19 +78,22 @@ fn mode(word: &[u8]) -> Option<BootMode>
 }
 
 pub fn on(words: &[&[u8]]) -> Option<Line>
-    ensures { result ≡ on_of (map (λ w. w.now) words.now) }
+    ensures value { result ≡ on_of (map (λ w. w.now) words.now) }
+    ensures range { (size : Size) → IfSome result (IsInRange size) }
 {
     Some(Line::On(mode(one(words)?)?))
 }
 
 pub fn slot(words: &[&[u8]]) -> Option<Line>
-    ensures { result ≡ slot_of (map (λ w. w.now) words.now) }
+    ensures value { result ≡ slot_of (map (λ w. w.now) words.now) }
+    ensures range { (size : Size) → IfSome result (IsInRange size) }
 {
     Some(Line::Slot(in_range(0, 1 << 32, one(words)?)?))
 }
 
 pub fn turn(shape: &Shape, words: &[&[u8]]) -> Option<Line>
-    ensures { result ≡ turn_of shape.now (map (λ w. w.now) words.now) }
+    ensures value { result ≡ turn_of shape.now (map (λ w. w.now) words.now) }
+    ensures range { IfSome result (IsInRange shape.now) }
 {
     let (h, n) = two(words)?;
     let hart = hart(shape, h)?;
@@ -141,7 +141,8 @@ fn head<'a, 'b>(words: &'b [&'a [u8]]) -> Option<(&'a [u8], &'a [u8], &'a [u8], 
 }
 
 pub fn call(shape: &Shape, words: &[&[u8]]) -> Option<Line>
-    ensures { result ≡ call_of shape.now (map (λ w. w.now) words.now) }
+    ensures value { result ≡ call_of shape.now (map (λ w. w.now) words.now) }
+    ensures range { IfSome result (IsInRange shape.now) }
 {
     let (h, e, f, others) = head(words)?;
     let hart = hart(shape, h)?;
@@ -155,7 +156,8 @@ pub fn call(shape: &Shape, words: &[&[u8]]) -> Option<Line>
 }
 
 pub fn reg(shape: &Shape, words: &[&[u8]]) -> Option<Line>
-    ensures { result ≡ reg_of shape.now (map (λ w. w.now) words.now) }
+    ensures value { result ≡ reg_of shape.now (map (λ w. w.now) words.now) }
+    ensures range { IfSome result (IsInRange shape.now) }
 {
     let (h, r) = two(words)?;
     let hart = hart(shape, h)?;
@@ -163,13 +165,15 @@ pub fn reg(shape: &Shape, words: &[&[u8]]) -> Option<Line>
 }
 
 pub fn pc(shape: &Shape, words: &[&[u8]]) -> Option<Line>
-    ensures { result ≡ pc_of shape.now (map (λ w. w.now) words.now) }
+    ensures value { result ≡ pc_of shape.now (map (λ w. w.now) words.now) }
+    ensures range { IfSome result (IsInRange shape.now) }
 {
     Some(Line::Pc(hart(shape, one(words)?)?))
 }
 
 fn csr_number(word: &[u8]) -> Option<u32>
-    ensures { result ≡ csr_number_of word.now }
+    ensures value { result ≡ csr_number_of word.now }
+    ensures range { IfSome result IsCsr }
 {
     let number = number(word)?;
     match number {
@@ -179,7 +183,8 @@ fn csr_number(word: &[u8]) -> Option<u32>
 }
 
 pub fn csr(shape: &Shape, words: &[&[u8]]) -> Option<Line>
-    ensures { result ≡ csr_of shape.now (map (λ w. w.now) words.now) }
+    ensures value { result ≡ csr_of shape.now (map (λ w. w.now) words.now) }
+    ensures range { IfSome result (IsInRange shape.now) }
 {
     let (h, c) = two(words)?;
     let hart = hart(shape, h)?;
@@ -187,7 +192,8 @@ pub fn csr(shape: &Shape, words: &[&[u8]]) -> Option<Line>
 }
 
 pub fn mem(shape: &Shape, words: &[&[u8]]) -> Option<Line>
-    ensures { result ≡ mem_of shape.now (map (λ w. w.now) words.now) }
+    ensures value { result ≡ mem_of shape.now (map (λ w. w.now) words.now) }
+    ensures range { IfSome result (IsInRange shape.now) }
 {
     let (a, n) = two(words)?;
     let address = number(a)?;
@@ -199,7 +205,8 @@ pub fn mem(shape: &Shape, words: &[&[u8]]) -> Option<Line>
 }
 
 pub fn cutat(words: &[&[u8]]) -> Option<Line>
-    ensures { result ≡ cutat_of (map (λ w. w.now) words.now) }
+    ensures value { result ≡ cutat_of (map (λ w. w.now) words.now) }
+    ensures range { (size : Size) → IfSome result (IsInRange size) }
 {
     let (n, f) = two(words)?;
     let calls = calls(n)?;
@@ -207,7 +214,8 @@ pub fn cutat(words: &[&[u8]]) -> Option<Line>
 }
 
 pub fn cutlane(shape: &Shape, words: &[&[u8]]) -> Option<Line>
-    ensures { result ≡ cutlane_of shape.now (map (λ w. w.now) words.now) }
+    ensures value { result ≡ cutlane_of shape.now (map (λ w. w.now) words.now) }
+    ensures range { IfSome result (IsInRange shape.now) }
 {
     let (i, n, f) = three(words)?;
     let lane = lane(shape, i)?;
@@ -216,13 +224,15 @@ pub fn cutlane(shape: &Shape, words: &[&[u8]]) -> Option<Line>
 }
 
 pub fn failat(words: &[&[u8]]) -> Option<Line>
-    ensures { result ≡ failat_of (map (λ w. w.now) words.now) }
+    ensures value { result ≡ failat_of (map (λ w. w.now) words.now) }
+    ensures range { (size : Size) → IfSome result (IsInRange size) }
 {
     Some(Line::FailAt(calls(one(words)?)?))
 }
 
 pub fn faillane(shape: &Shape, words: &[&[u8]]) -> Option<Line>
-    ensures { result ≡ faillane_of shape.now (map (λ w. w.now) words.now) }
+    ensures value { result ≡ faillane_of shape.now (map (λ w. w.now) words.now) }
+    ensures range { IfSome result (IsInRange shape.now) }
 {
     let (i, n) = two(words)?;
     let lane = lane(shape, i)?;
@@ -230,13 +240,15 @@ pub fn faillane(shape: &Shape, words: &[&[u8]]) -> Option<Line>
 }
 
 pub fn cut(words: &[&[u8]]) -> Option<Line>
-    ensures { result ≡ cut_of (map (λ w. w.now) words.now) }
+    ensures value { result ≡ cut_of (map (λ w. w.now) words.now) }
+    ensures range { (size : Size) → IfSome result (IsInRange size) }
 {
     Some(Line::Cut(fill(one(words)?)?))
 }
 
 pub fn poke(alloc: Global, shape: &Shape, words: &[&[u8]]) -> Result<Option<Line>, AllocError>
-    ensures { IfOk result (λ line. line ≡ poke_of shape.now (map (λ w. w.now) words.now)) }
+    ensures value { IfOk result (λ line. line ≡ poke_of shape.now (map (λ w. w.now) words.now)) }
+    ensures range { IfOk result (λ line. IfSome line (IsInRange shape.now)) }
 {
     let Some((sector, offset, h)) = place(shape, words) else {
         return Ok(None);
@@ -253,10 +265,10 @@ pub fn poke(alloc: Global, shape: &Shape, words: &[&[u8]]) -> Result<Option<Line
 /// The sector and the offset of a `poke`, and the word of its bytes.
 fn place<'a>(shape: &Shape, words: &[&'a [u8]]) -> Option<(u32, u32, &'a [u8])>
     ensures value { option_map (λ p. (p.0, p.1, p.2.now)) result ≡ place_of shape.now (map (λ w. w.now) words.now) }
-    ensures range { IfSome result (λ p. p.1 < 512) }
+    ensures range { IfSome result (λ p. (p.0 < sectors_of shape.now) × (p.1 < 512)) }
 {
     let (s, o, h) = three(words)?;
-    let sector = in_range(0, u64::from(disk_sectors(shape)), s)?;
+    let sector = in_range(0, shape.sectors() as u64, s)?;
     let offset = in_range(0, SECTOR_BYTES as u64, o)?;
     Some((sector, offset, h))
 }

@@ -1,10 +1,11 @@
 //! A whole script.
 
-ghost use Rattle.std.specs.Prelude.{◌≡◌, ◌+◌, ◌≤◌, ◌==◌, map, length, IfOk, ℕ};
+ghost use Rattle.std.specs.Prelude.{◌≡◌, ◌+◌, ◌≤◌, ◌==◌, map, length, All, IfOk, OnOk, Ok, ◌++◌, ℕ};
 ghost use Rattle.std.specs.List.{slice_split};
 ghost use Rattle.script_lang.specs.Words.{words_of, three_of};
+ghost use Rattle.script_lang.specs.Ranges.{IsInRange};
 ghost use Rattle.script_lang.specs.Lines.{line_of};
-ghost use Rattle.script_lang.specs.Scripts.{Gives, is_sound, is_passed, lines_of, size_of_words, board_of, or_fault, rest_of, from_board, lines_from, script_of};
+ghost use Rattle.script_lang.specs.Scripts.{Gives, is_sound, is_passed, lines_of, size_of_words, board_of, or_fault, ◌>>>◌, said_of, rest_of, from_board, lines_from, script_of};
 ghost use Rattle.script_lang.specs.Seen.{view};
 
 use crate::line::Line;
@@ -56,7 +57,8 @@ fn whole_lines(alloc: Global, script: &[u8]) -> Result<Vec<&[u8]>, AllocError>
 }
 
 fn line_at(alloc: Global, shape: &Shape, n: u64, bytes: &[u8]) -> Result<Line, Refusal>
-    ensures { Gives (λ x. x) result (or_fault n (line_of shape.now (words_of bytes.now))) }
+    ensures value { Gives (λ x. x) result (or_fault n (line_of shape.now (words_of bytes.now))) }
+    ensures range { IfOk result (IsInRange shape.now) }
 {
     let words = words(alloc, bytes)?;
     match line(alloc, shape, &words)? {
@@ -99,22 +101,41 @@ fn board_at(alloc: Global, n: u64, bytes: &[u8]) -> Result<Shape, Refusal>
     board_line(n, &words)
 }
 
+/// Reads line number `n`, and adds it to those found where it is not passed over.
+fn keep(
+    alloc: Global,
+    shape: &Shape,
+    n: u64,
+    bytes: &[u8],
+    found: &mut Vec<Line>,
+) -> Result<(), Refusal>
+    ensures value { Gives (λ _. found.new.items) result (said_of shape.now n bytes.now >>> λ said. Ok (found.old.items ++ said)) }
+    ensures few { length found.new.items ≤ length found.old.items + 1 }
+    ensures sound { OnOk result (n ≤ 65536) }
+    ensures ranges { All (IsInRange shape.now) found.old.items → OnOk result (All (IsInRange shape.now) found.new.items) }
+{
+    if !is_sound(n, bytes) {
+        return Err(Refusal::BadScript(n));
+    }
+    if is_passed(bytes) {
+        return Ok(());
+    }
+    let line = line_at(alloc, shape, n, bytes)?;
+    found.push(line)?;
+    Ok(())
+}
+
 #[tactic(auto, unfolding(crate::specs::Scripts::rest_of))]
 fn rest(alloc: Global, shape: &Shape, start: u64, lines: &[&[u8]]) -> Result<Vec<Line>, Refusal>
     requires { start ≤ 65537 }
     ensures value { Gives (λ v. v.items) result (rest_of shape.now start (map (λ w. w.now) lines.now)) }
     ensures few { IfOk result (λ v. length v.items + start ≤ 65537) }
+    ensures ranges { IfOk result (λ v. All (IsInRange shape.now) v.items) }
 {
     let mut found = Vec::new(alloc);
     let mut n = start;
     for bytes in lines {
-        if !is_sound(n, bytes) {
-            return Err(Refusal::BadScript(n));
-        }
-        if !is_passed(bytes) {
-            let line = line_at(alloc, shape, n, bytes)?;
-            found.push(line)?;
-        }
+        keep(alloc, shape, n, bytes, &mut found)?;
         n += 1;
     }
     Ok(found)
@@ -125,6 +146,7 @@ fn after_board(alloc: Global, n: u64, bytes: &[u8], others: &[&[u8]]) -> Result<
     requires high { n ≤ 65536 }
     ensures value { Gives view result (from_board n bytes.now (map (λ w. w.now) others.now)) }
     ensures few { IfOk result (λ script. length script.lines.items ≤ 65535) }
+    ensures ranges { IfOk result (λ script. All (IsInRange script.shape) script.lines.items) }
 {
     let shape = board_at(alloc, n, bytes)?;
     let lines = rest(alloc, &shape, n + 1, others)?;
@@ -135,6 +157,7 @@ fn after_board(alloc: Global, n: u64, bytes: &[u8], others: &[&[u8]]) -> Result<
 fn checked(alloc: Global, lines: &[&[u8]]) -> Result<Script, Refusal>
     ensures value { Gives view result (lines_from 1 (map (λ w. w.now) lines.now)) }
     ensures few { IfOk result (λ script. length script.lines.items ≤ 65535) }
+    ensures ranges { IfOk result (λ script. All (IsInRange script.shape) script.lines.items) }
 {
     let mut n = 1;
     for (i, bytes) in lines.iter().enumerate() {
@@ -156,6 +179,7 @@ fn checked(alloc: Global, lines: &[&[u8]]) -> Result<Script, Refusal>
 pub fn parse_script(alloc: Global, script: &[u8]) -> Result<Script, Refusal>
     ensures value { Gives view result (script_of script.now) }
     ensures few { IfOk result (λ script. length script.lines.items ≤ 65535) }
+    ensures ranges { IfOk result (λ script. All (IsInRange script.shape) script.lines.items) }
 {
     let lines = whole_lines(alloc, script)?;
     checked(alloc, &lines)

@@ -85,7 +85,8 @@ pub fn fill(word: &[u8]) -> Option<Fill>
 
 /// The bytes that an even number of hexadecimal digits write, two digits at least.
 pub fn bytes(alloc: Global, word: &[u8]) -> Result<Option<Bytes>, AllocError>
-    ensures { IfOk result (λ found. found ≡ hex_of word.now) }
+    ensures value { IfOk result (λ found. found ≡ hex_of word.now) }
+    ensures some { IfOk result (λ found. IfSome found (λ bytes. 1 ≤ length bytes)) }
 {
     if word.is_empty() {
         return Ok(None);

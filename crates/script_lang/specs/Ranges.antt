@@ -1,0 +1,32 @@
+-- The ranges of a line, on a board of a size: the last column of the table of lines in docs/SCRIPT.md.
+use Rattle.std.specs.Prelude.{ℕ, ◌+◌, ◌^◌, ◌<◌, ◌≤◌, ◌≡◌, ◌⊎◌, length}
+use Rattle.board_model.specs.Shapes.{Size, ram_bytes_of, sectors_of}
+use Rattle.script_lang.specs.declared.line.Line.{Line}
+use Rattle.script_lang.specs.declared.line.Line.TheVariants.{Payload, Format, On, Slot, Discard, Turn, Call, Reg, Pc, Csr, Pending, Mem, CutAt, CutLane, FailAt, FailLane, Cut, Poke}
+
+-- how many disk calls or turns a line may name
+abbrev pub IsCount : ℕ → Type 0
+IsCount n = (1 ≤ n) × (n ≤ 1000000)
+
+abbrev pub IsCsr : ℕ → Type 0
+IsCsr n = (n ≡ 0x100) ⊎ (n ≡ 0x104) ⊎ (n ≡ 0x105) ⊎ ((0x140 ≤ n) × (n ≤ 0x144)) ⊎ (n ≡ 0x180)
+
+abbrev pub IsInRange : Size → Line → Type 0
+IsInRange size (Payload slot bytes) = (slot ≤ 3) × (1 ≤ length bytes) × (length bytes ≤ 1024)
+IsInRange size Format = Unit {0}
+IsInRange size (On mode) = Unit {0}
+IsInRange size (Slot slot) = slot < 2 ^ 32
+IsInRange size Discard = Unit {0}
+IsInRange size (Turn hart turns) = (hart < size.harts) × IsCount turns
+IsInRange size (Call hart extension function a0 a1 a2) = hart < size.harts
+IsInRange size (Reg hart register) = (hart < size.harts) × (register ≤ 31)
+IsInRange size (Pc hart) = hart < size.harts
+IsInRange size (Csr hart csr) = (hart < size.harts) × IsCsr csr
+IsInRange size Pending = Unit {0}
+IsInRange size (Mem address count) = (1 ≤ count) × (count ≤ 64) × (0x80000000 ≤ address) × (address + count ≤ 0x80000000 + ram_bytes_of size)
+IsInRange size (CutAt calls fill) = IsCount calls
+IsInRange size (CutLane lane calls fill) = (lane < size.lanes) × IsCount calls
+IsInRange size (FailAt calls) = IsCount calls
+IsInRange size (FailLane lane calls) = (lane < size.lanes) × IsCount calls
+IsInRange size (Cut fill) = Unit {0}
+IsInRange size (Poke sector offset bytes) = (sector < sectors_of size) × (1 ≤ length bytes) × (offset + length bytes ≤ 512)
