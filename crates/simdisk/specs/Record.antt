@@ -1,6 +1,6 @@
 -- The record of a disk's writes and syncs, and what a crash may leave by it.
 use Rattle.std.specs.Prelude.{◌≡◌, ◌⊎◌, ℕ, ◌+◌, ◌*◌, ◌≤◌, ◌<◌, List, [], ◌∷◌, ◌++◌, length, take, drop, map, replicate, get_or}
-use Rattle.disk.specs.Facts.{Content, Facts, Lent, sector}
+use Rattle.disk.specs.Facts.{Content, Facts, Lent, counted, sector}
 
 -- sectors in a row, from the first that it names on
 abbrev pub Piece : Type 0
@@ -63,6 +63,20 @@ ranges pieces = map range pieces
 -- the sectors that are lent, which count as written
 abbrev pub lent_piece : Lent → Content → Piece
 lent_piece l c = (l.first, take (l.lanes * l.each) (drop l.first c))
+
+-- what would stand now, had each failed write gone through
+abbrev pub newest : Record → Content
+newest r = replay r.written (synced r)
+
+-- a failed write is noted too, but where memory was refused for it
+abbrev pub Noted_or_refused : Piece → Record → Record → ℕ → ℕ → Type 0
+Noted_or_refused piece old new own own' = (new ≡ more_written piece old) ⊎ ((new ≡ old) × (own' ≡ counted own 1))
+
+-- the ranges that were written stay, and the syncs
+pub record Same_ranges (old new : Record) : Type 0 where
+  pub began : new.began ≡ old.began
+  pub past : new.past ≡ old.past
+  pub written : ranges new.written ≡ ranges old.written
 
 -- the sector is in none of these ranges
 abbrev pub Untouched : List (ℕ × ℕ) → ℕ → Type 0

@@ -1,12 +1,14 @@
 // The disk in memory as a disk.
-ghost use Rattle.std.specs.Prelude.{◌≡◌, map};
-ghost use Rattle.disk.specs.Facts.{Passes, Stays, In_row, Joined, counted, nothing, lane_failures};
-ghost use Rattle.disk.specs.Mishaps.{Caused_in_lanes};
+ghost use Rattle.std.specs.Prelude.{◌≡◌, ◌≤◌, ◌+◌, ◌*◌, [], ◌∷◌, length, map, OnOk, OnErr, IfOk};
+ghost use Rattle.disk.specs.Facts.{Content, Torn, Written, Passes, Stays, Only, Apart, Found, Counts, Handed, In_row, Joined, Unchanged, counted, nothing, lent_sectors, lane_failures};
+ghost use Rattle.disk.specs.Mishaps.{Caused, Caused_in_lanes, armed_by};
+ghost use Rattle.simdisk.specs.Record.{more_written, more_synced, lent_piece, newest, Noted_or_refused, Same_ranges};
 
 use crate::laid::overwrite;
 use crate::lane::SimLane;
 use crate::lending::{lend, take_back};
 use crate::loan::Loan;
+use crate::recorded::Recorded;
 use crate::sim::SimDisk;
 use crate::striking::failed;
 use disk::{ArmedFault, Disk, Fault, Lane, Sector};
@@ -34,7 +36,17 @@ impl Disk for SimDisk {
         self.content.len()
     }
 
-    fn read(&mut self, first: usize, sectors: &mut [Sector]) -> Result<(), Fault> {
+    fn read(&mut self, first: usize, sectors: &mut [Sector]) -> Result<(), Fault>
+        requires within { first + length sectors.old ≤ length (⟦<SimDisk as Disk>⟧.facts self.old).content }
+        requires apart { Apart first (length sectors.old) (⟦<SimDisk as Disk>⟧.facts self.old).lent }
+        ensures found { OnOk result (Found first (⟦<SimDisk as Disk>⟧.facts self.old).content sectors.new) }
+        ensures content { (⟦<SimDisk as Disk>⟧.facts self.new).content ≡ (⟦<SimDisk as Disk>⟧.facts self.old).content }
+        ensures crash { Passes (⟦<SimDisk as Disk>⟧.facts self.old) (⟦<SimDisk as Disk>⟧.facts self.new) Stays }
+        ensures failures { Counts (⟦<SimDisk as Disk>⟧.facts self.old).failures (⟦<SimDisk as Disk>⟧.facts self.new).failures result }
+        ensures cause { Caused (⟦<SimDisk as Disk>⟧.mishaps self.old) (⟦<SimDisk as Disk>⟧.mishaps self.new) result }
+        ensures lent { (⟦<SimDisk as Disk>⟧.facts self.new).lent ≡ (⟦<SimDisk as Disk>⟧.facts self.old).lent }
+        ensures record { ⟦<SimDisk as Recorded>⟧.record self.new ≡ ⟦<SimDisk as Recorded>⟧.record self.old }
+    {
         if self.faults.strikes() {
             return Err(failed(&mut self.failures));
         }
@@ -42,22 +54,42 @@ impl Disk for SimDisk {
         Ok(())
     }
 
-    fn write(&mut self, first: usize, sectors: &[Sector]) -> Result<(), Fault> {
-        let strikes = self.faults.strikes();
+    fn write(&mut self, first: usize, sectors: &[Sector]) -> Result<(), Fault>
+        requires within { first + length sectors.now ≤ length (⟦<SimDisk as Disk>⟧.facts self.old).content }
+        requires apart { Apart first (length sectors.now) (⟦<SimDisk as Disk>⟧.facts self.old).lent }
+        ensures written { OnOk result (Written first sectors.now (⟦<SimDisk as Disk>⟧.facts self.old).content (⟦<SimDisk as Disk>⟧.facts self.new).content) }
+        ensures content { Torn first (length sectors.now) (⟦<SimDisk as Disk>⟧.facts self.old).content (⟦<SimDisk as Disk>⟧.facts self.new).content }
+        ensures crash { Passes (⟦<SimDisk as Disk>⟧.facts self.old) (⟦<SimDisk as Disk>⟧.facts self.new) (Torn first (length sectors.now)) }
+        ensures failures { Counts (⟦<SimDisk as Disk>⟧.facts self.old).failures (⟦<SimDisk as Disk>⟧.facts self.new).failures result }
+        ensures cause { Caused (⟦<SimDisk as Disk>⟧.mishaps self.old) (⟦<SimDisk as Disk>⟧.mishaps self.new) result }
+        ensures lent { (⟦<SimDisk as Disk>⟧.facts self.new).lent ≡ (⟦<SimDisk as Disk>⟧.facts self.old).lent }
+        ensures stays { OnErr result ((⟦<SimDisk as Disk>⟧.facts self.new).content ≡ (⟦<SimDisk as Disk>⟧.facts self.old).content) }
+        ensures record { OnOk result (⟦<SimDisk as Recorded>⟧.record self.new ≡ more_written (first, sectors.now) (⟦<SimDisk as Recorded>⟧.record self.old)) }
+        ensures record_failed { OnErr result (Noted_or_refused (first, sectors.now) (⟦<SimDisk as Recorded>⟧.record self.old) (⟦<SimDisk as Recorded>⟧.record self.new) (⟦<SimDisk as Disk>⟧.mishaps self.old).own (⟦<SimDisk as Disk>⟧.mishaps self.new).own) }
+    {
         let Ok(()) = self.history.note(self.alloc, first, sectors) else {
-            if !strikes {
-                self.refused = self.refused.saturating_add(1);
-            }
+            self.faults.pass();
+            self.refused = self.refused.saturating_add(1);
             return Err(failed(&mut self.failures));
         };
-        if strikes {
+        if self.faults.strikes() {
             return Err(failed(&mut self.failures));
         }
         overwrite(&mut self.content, first, sectors);
         Ok(())
     }
 
-    fn sync(&mut self) -> Result<(), Fault> {
+    fn sync(&mut self) -> Result<(), Fault>
+        ensures durable { OnOk result ((⟦<SimDisk as Disk>⟧.facts self.old).lent.lanes ≡ 0 → Only (⟦<SimDisk as Disk>⟧.facts self.new).content (⟦<SimDisk as Disk>⟧.facts self.new).may_leave) }
+        ensures but_lent { OnOk result ((c : Content) → (⟦<SimDisk as Disk>⟧.facts self.new).may_leave c → Torn (⟦<SimDisk as Disk>⟧.facts self.old).lent.first (lent_sectors (⟦<SimDisk as Disk>⟧.facts self.old).lent) (⟦<SimDisk as Disk>⟧.facts self.new).content c) }
+        ensures content { (⟦<SimDisk as Disk>⟧.facts self.new).content ≡ (⟦<SimDisk as Disk>⟧.facts self.old).content }
+        ensures crash { Passes (⟦<SimDisk as Disk>⟧.facts self.old) (⟦<SimDisk as Disk>⟧.facts self.new) Stays }
+        ensures failures { Counts (⟦<SimDisk as Disk>⟧.facts self.old).failures (⟦<SimDisk as Disk>⟧.facts self.new).failures result }
+        ensures cause { Caused (⟦<SimDisk as Disk>⟧.mishaps self.old) (⟦<SimDisk as Disk>⟧.mishaps self.new) result }
+        ensures lent { (⟦<SimDisk as Disk>⟧.facts self.new).lent ≡ (⟦<SimDisk as Disk>⟧.facts self.old).lent }
+        ensures record { OnOk result (⟦<SimDisk as Recorded>⟧.record self.new ≡ more_synced (⟦<SimDisk as Disk>⟧.facts self.old).content (lent_piece (⟦<SimDisk as Disk>⟧.facts self.old).lent (⟦<SimDisk as Disk>⟧.facts self.old).content ∷ []) (⟦<SimDisk as Recorded>⟧.record self.old)) }
+        ensures record_failed { OnErr result (⟦<SimDisk as Recorded>⟧.record self.new ≡ ⟦<SimDisk as Recorded>⟧.record self.old) }
+    {
         if self.faults.strikes() {
             return Err(failed(&mut self.failures));
         }
@@ -74,7 +106,21 @@ impl Disk for SimDisk {
         first: usize,
         lanes: usize,
         each: usize,
-    ) -> Result<Vec<SimLane>, AllocError> {
+    ) -> Result<Vec<SimLane>, AllocError>
+        requires none_out { (⟦<SimDisk as Disk>⟧.facts self.old).lent.lanes ≡ 0 }
+        requires few { lanes ≤ 4 }
+        requires within { first + lanes * each ≤ length (⟦<SimDisk as Disk>⟧.facts self.old).content }
+        ensures handed { IfOk result (λ out. Handed (record { first = first; lanes = lanes; each = each }) (⟦<SimDisk as Disk>⟧.facts self.old).content (map ⟦<SimLane as Lane>⟧.lane_facts out.items)) }
+        ensures out { OnOk result ((⟦<SimDisk as Disk>⟧.facts self.new).lent ≡ record { first = first; lanes = lanes; each = each }) }
+        ensures refused { OnErr result ((⟦<SimDisk as Disk>⟧.facts self.new).lent ≡ (⟦<SimDisk as Disk>⟧.facts self.old).lent) }
+        ensures content { (⟦<SimDisk as Disk>⟧.facts self.new).content ≡ (⟦<SimDisk as Disk>⟧.facts self.old).content }
+        ensures crash { Passes (⟦<SimDisk as Disk>⟧.facts self.old) (⟦<SimDisk as Disk>⟧.facts self.new) (Torn first (lanes * each)) }
+        ensures crash_refused { OnErr result (Passes (⟦<SimDisk as Disk>⟧.facts self.old) (⟦<SimDisk as Disk>⟧.facts self.new) Stays) }
+        ensures failures { (⟦<SimDisk as Disk>⟧.facts self.new).failures ≡ (⟦<SimDisk as Disk>⟧.facts self.old).failures }
+        ensures cause { ⟦<SimDisk as Disk>⟧.mishaps self.new ≡ ⟦<SimDisk as Disk>⟧.mishaps self.old }
+        ensures record { OnOk result (⟦<SimDisk as Recorded>⟧.record self.new ≡ more_written (lent_piece (record { first = first; lanes = lanes; each = each }) (newest (⟦<SimDisk as Recorded>⟧.record self.old))) (⟦<SimDisk as Recorded>⟧.record self.old)) }
+        ensures record_refused { OnErr result (⟦<SimDisk as Recorded>⟧.record self.new ≡ ⟦<SimDisk as Recorded>⟧.record self.old) }
+    {
         let newest = self.history.newest(self.alloc)?;
         let out = lend(
             self.alloc,
@@ -103,6 +149,7 @@ impl Disk for SimDisk {
         ensures crash { Passes (⟦<SimDisk as Disk>⟧.facts self.old) (⟦<SimDisk as Disk>⟧.facts self.new) Stays }
         ensures failures { (⟦<SimDisk as Disk>⟧.facts self.new).failures ≡ counted (⟦<SimDisk as Disk>⟧.facts self.old).failures (lane_failures (map ⟦<SimLane as Lane>⟧.lane_facts lanes.items)) }
         ensures cause { Caused_in_lanes (⟦<SimDisk as Disk>⟧.mishaps self.old) (⟦<SimDisk as Disk>⟧.mishaps self.new) (lane_failures (map ⟦<SimLane as Lane>⟧.lane_facts lanes.items)) }
+        ensures record { Same_ranges (⟦<SimDisk as Recorded>⟧.record self.old) (⟦<SimDisk as Recorded>⟧.record self.new) }
     {
         let loan = self.loan;
         let failures = take_back(&mut self.content, loan.first, loan.lanes, loan.each, &lanes);
@@ -117,7 +164,11 @@ impl Disk for SimDisk {
         self.failures
     }
 
-    fn arm(&mut self, fault: ArmedFault) {
+    fn arm(&mut self, fault: ArmedFault)
+        ensures facts { Unchanged (⟦<SimDisk as Disk>⟧.facts self.old) (⟦<SimDisk as Disk>⟧.facts self.new) }
+        ensures armed { ⟦<SimDisk as Disk>⟧.mishaps self.new ≡ record (⟦<SimDisk as Disk>⟧.mishaps self.old) { armed = armed_by fault } }
+        ensures record { ⟦<SimDisk as Recorded>⟧.record self.new ≡ ⟦<SimDisk as Recorded>⟧.record self.old }
+    {
         self.faults.armed = Some(fault);
     }
 

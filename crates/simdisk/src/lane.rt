@@ -1,5 +1,6 @@
 // A lane, which owns its sectors.
-ghost use Rattle.std.specs.Prelude.{◌≡◌, length};
+ghost use Rattle.std.specs.Prelude.{◌≡◌, ◌≤◌, ◌+◌, length, OnOk, OnErr};
+ghost use Rattle.disk.specs.Facts.{Torn, Written, Counts};
 
 use crate::faults::Faults;
 use crate::laid::overwrite;
@@ -31,7 +32,14 @@ impl Lane for SimLane {
         Ok(())
     }
 
-    fn write(&mut self, first: usize, sectors: &[Sector]) -> Result<(), Fault> {
+    fn write(&mut self, first: usize, sectors: &[Sector]) -> Result<(), Fault>
+        requires { first + length sectors.now ≤ length (⟦<SimLane as Lane>⟧.lane_facts self.old).content }
+        ensures written { OnOk result (Written first sectors.now (⟦<SimLane as Lane>⟧.lane_facts self.old).content (⟦<SimLane as Lane>⟧.lane_facts self.new).content) }
+        ensures content { Torn first (length sectors.now) (⟦<SimLane as Lane>⟧.lane_facts self.old).content (⟦<SimLane as Lane>⟧.lane_facts self.new).content }
+        ensures place { (⟦<SimLane as Lane>⟧.lane_facts self.new).first ≡ (⟦<SimLane as Lane>⟧.lane_facts self.old).first }
+        ensures failures { Counts (⟦<SimLane as Lane>⟧.lane_facts self.old).failures (⟦<SimLane as Lane>⟧.lane_facts self.new).failures result }
+        ensures stays { OnErr result ((⟦<SimLane as Lane>⟧.lane_facts self.new).content ≡ (⟦<SimLane as Lane>⟧.lane_facts self.old).content) }
+    {
         overwrite(&mut self.newest, first, sectors);
         if self.faults.strikes() {
             return Err(failed(&mut self.failures));

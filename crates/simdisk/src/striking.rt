@@ -59,6 +59,16 @@ impl Faults {
         }
     }
 
+    /// Counts a call that failed by itself. What would have struck there strikes at the next call.
+    pub(crate) fn pass(&mut self)
+        ensures { Waits self.old self.new }
+    {
+        let before = *self;
+        if self.strikes() {
+            *self = before;
+        }
+    }
+
     /// The faults of a lane, which counts its own calls.
     pub(crate) fn of_lane(self, lane: usize) -> Faults {
         let armed = match self.armed {
