@@ -1,0 +1,165 @@
+//! What each choice leaves, where armed faults strike, and what refused memory leaves.
+ghost use Rattle.std.specs.Prelude.{◌≡◌, ◌≤◌, ◌+◌, ◌*◌, length, IfOk};
+
+use super::*;
+use board_model::Refusal;
+use disk::{Disk, Fault, Lane, Sector};
+use std::alloc::Global;
+use std::process::Abort;
+use std::test::Fail;
+
+// Writes one sector full of a byte.
+fn write_byte(rt: &impl Abort, disk: &mut SimDisk, at: usize, byte: u8) -> Result<(), Fault>
+    requires { (⟦<SimDisk as Disk>⟧.facts disk.old).lent.lanes ≡ 0 }
+    ensures { (⟦<SimDisk as Disk>⟧.facts disk.new).lent ≡ (⟦<SimDisk as Disk>⟧.facts disk.old).lent }
+{
+    assert!(rt; at < disk.sectors());
+    disk.write(at, &[[byte; 512]])
+}
+
+// The byte that one sector is full of.
+fn read_byte(rt: &impl Abort, disk: &mut SimDisk, at: usize) -> Result<u8, Fault>
+    requires { (⟦<SimDisk as Disk>⟧.facts disk.old).lent.lanes ≡ 0 }
+    ensures { (⟦<SimDisk as Disk>⟧.facts disk.new).lent ≡ (⟦<SimDisk as Disk>⟧.facts disk.old).lent }
+{
+    assert!(rt; at < disk.sectors());
+    let mut sectors = [[0; 512]];
+    disk.read(at, &mut sectors)?;
+    let byte = sectors[0][0];
+    assert!(rt; sectors[0].iter().all(|other| *other == byte));
+    Ok(byte)
+}
+
+// A disk of 4 sectors: sector 1 was synced as 1s, and sectors 1 and 2 were written since.
+fn written_disk(rt: &impl Abort, alloc: Global) -> Result<SimDisk, Fail>
+    ensures { IfOk result (λ disk. (⟦<SimDisk as Disk>⟧.facts disk).lent.lanes ≡ 0) }
+{
+    let mut disk = SimDisk::blank(alloc, 4)?;
+    assert_eq!(rt; write_byte(rt, &mut disk, 1, 1), Ok(()));
+    assert_eq!(rt; disk.sync(), Ok(()));
+    assert_eq!(rt; write_byte(rt, &mut disk, 1, 2), Ok(()));
+    assert_eq!(rt; write_byte(rt, &mut disk, 2, 3), Ok(()));
+    Ok(disk)
+}
+
+fn contents(rt: &impl Abort, disk: &SimDisk) -> [u8; 4] {
+    let content = disk.content();
+    assert_eq!(rt; content.len(), 4);
+    [content[0][511], content[1][511], content[2][511], content[3][511]]
+}
+
+#[test]
+fn bytes_become_sectors(rt: HostRuntime) -> Result<(), Fail> {
+    let mut bytes = [0; 1024];
+    bytes[512] = 7;
+    let disk = SimDisk::new(rt.alloc(), &bytes)?;
+    assert_eq!(rt; disk.sectors(), 2);
+    assert_eq!(rt; disk.content()[1][0], 7);
+    assert_eq!(rt; disk.failures(), 0);
+    for short in [1, 511, 513, 1023] {
+        match SimDisk::new(rt.alloc(), &bytes[..short]) {
+            Ok(_) => return Err("a part of a sector")?,
+            Err(refusal) => assert_eq!(rt; refusal, Refusal::BadShape),
+        }
+    }
+    assert_eq!(rt; SimDisk::new(rt.alloc(), &[])?.sectors(), 0);
+    Ok(())
+}
+
+#[test]
+fn each_choice_leaves_its_bytes(rt: HostRuntime) -> Result<(), Fail> {
+    for (choice, left) in [
+        (Choice::Byte(0), [0, 0, 0, 0]),
+        (Choice::Byte(255), [0, 255, 255, 0]),
+        (Choice::Old, [0, 1, 0, 0]),
+        (Choice::New, [0, 2, 3, 0]),
+    ] {
+        let mut disk = written_disk(&rt, rt.alloc())?.after_cut(choice);
+        assert_eq!(rt; contents(&rt, &disk), left, "{choice:?}");
+        assert_eq!(rt; read_byte(&rt, &mut disk, 1), Ok(left[1]));
+        let disk = disk.after_cut(Choice::Byte(9));
+        assert_eq!(rt; contents(&rt, &disk), left, "what is left is durable");
+    }
+    Ok(())
+}
+
+#[test]
+fn a_failed_write_stays_and_counts_as_written(rt: HostRuntime) -> Result<(), Fail> {
+    for (choice, left) in [
+        (Choice::Byte(8), [0, 8, 0, 0]),
+        (Choice::Old, [0, 0, 0, 0]),
+        (Choice::New, [0, 5, 0, 0]),
+    ] {
+        let mut disk = SimDisk::blank(rt.alloc(), 4)?;
+        disk.fail_at(2);
+        assert_eq!(rt; disk.sync(), Ok(()));
+        assert_eq!(rt; write_byte(&rt, &mut disk, 1, 5), Err(Fault));
+        assert_eq!(rt; disk.failures(), 1);
+        assert_eq!(rt; read_byte(&rt, &mut disk, 1), Ok(0), "a struck fault is gone");
+        assert!(rt; !disk.struck());
+        let disk = disk.after_cut(choice);
+        assert_eq!(rt; contents(&rt, &disk), left, "{choice:?}");
+        assert_eq!(rt; disk.failures(), 1, "the count goes on");
+    }
+    Ok(())
+}
+
+#[test]
+fn a_failed_sync_makes_nothing_durable(rt: HostRuntime) -> Result<(), Fail> {
+    let mut disk = SimDisk::blank(rt.alloc(), 4)?;
+    assert_eq!(rt; write_byte(&rt, &mut disk, 3, 5), Ok(()));
+    disk.fail_at(1);
+    assert_eq!(rt; disk.sync(), Err(Fault));
+    let disk = disk.after_cut(Choice::Old);
+    assert_eq!(rt; contents(&rt, &disk), [0, 0, 0, 0]);
+    Ok(())
+}
+
+#[test]
+fn after_a_cut_every_call_fails(rt: HostRuntime) -> Result<(), Fail> {
+    let mut disk = written_disk(&rt, rt.alloc())?;
+    disk.fail_at(1);
+    disk.cut_at(2);
+    assert_eq!(rt; read_byte(&rt, &mut disk, 2), Ok(3), "the older fault is gone");
+    assert!(rt; !disk.struck());
+    assert_eq!(rt; write_byte(&rt, &mut disk, 3, 7), Err(Fault));
+    assert!(rt; disk.struck());
+    assert_eq!(rt; read_byte(&rt, &mut disk, 2), Err(Fault));
+    assert_eq!(rt; disk.sync(), Err(Fault));
+    assert_eq!(rt; disk.failures(), 3);
+    let mut disk = disk.after_cut(Choice::New);
+    assert_eq!(rt; contents(&rt, &disk), [0, 2, 3, 7]);
+    assert!(rt; !disk.struck());
+    assert_eq!(rt; disk.sync(), Ok(()), "power is back");
+    assert_eq!(rt; disk.failures(), 3);
+    assert_eq!(rt; disk.refused(), 0);
+    Ok(())
+}
+
+// The disk, whose count of failures is one below its end.
+fn nearly_spent(mut disk: SimDisk) -> SimDisk {
+    disk.failures = u64::MAX - 1;
+    disk
+}
+
+#[test]
+fn the_count_of_failures_stays_at_its_end(rt: HostRuntime) -> Result<(), Fail> {
+    let mut disk = nearly_spent(SimDisk::blank(rt.alloc(), 4)?);
+    disk.fail_at(1);
+    assert_eq!(rt; disk.sync(), Err(Fault));
+    assert_eq!(rt; disk.failures(), u64::MAX);
+    disk.fail_at(1);
+    assert_eq!(rt; disk.sync(), Err(Fault));
+    assert_eq!(rt; disk.failures(), u64::MAX);
+    assert_eq!(rt; disk.after_cut(Choice::Old).failures(), u64::MAX);
+    Ok(())
+}
+
+// Writes one sector full of a byte at a place of a lane.
+fn lane_write(rt: &impl Abort, lane: &mut SimLane, at: usize, byte: u8) -> Result<(), Fault>
+    ensures first { (⟦<SimLane as Lane>⟧.lane_facts lane.new).first ≡ (⟦<SimLane as Lane>⟧.lane_facts lane.old).first }
+    ensures long { length (⟦<SimLane as Lane>⟧.lane_facts lane.new).content ≡ length (⟦<SimLane as Lane>⟧.lane_facts lane.old).content }
+{
+    assert!(rt; at < lane.sectors.len());
+    lane.write(at, &[[byte; 512]])
+}
