@@ -2,6 +2,7 @@
 //! state with its commands, and the refusals. docs/DURABLE.md tells the rules in plain words.
 #![tactic(auto)]
 
+mod boot_mode;
 mod durable;
 mod laws;
 mod limits;
@@ -11,6 +12,7 @@ mod shape;
 #[cfg(test)]
 mod tests;
 
+pub use boot_mode::BootMode;
 pub use durable::{Command, Durable, ImageHead, Reason};
 pub use laws::{image_never_again, longer_list, serials_rise, slot_and_reset_leave_the_image};
 pub use limits::{
