@@ -2,6 +2,7 @@
 #![tactic(auto)]
 
 mod bytes;
+mod laws;
 mod line;
 mod lines;
 mod rows;
@@ -9,5 +10,6 @@ mod scripts;
 mod words;
 
 pub use bytes::Bytes;
+pub use laws::lines_read_as_spelled;
 pub use line::{BootMode, Fill, Line};
 pub use scripts::{Script, parse_script};

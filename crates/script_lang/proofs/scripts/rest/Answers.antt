@@ -15,5 +15,9 @@ loop-bytes-preserved c =
 
 pub returns-in_err-keep-clause-value : goal.returns-in_err-keep-clause-value
 returns-in_err-keep-clause-value c =
-    let fault = rest_of-fault c.args.shape.now c.loop-bytes.n _ (map (λ w. w.now) (drop (c.loop-bytes.bytes-index + 1) c.args.lines.now)) c.loop-bytes.found.items c.in_err-keep.field-0.0 in
-    elim c.in_err-keep.ensures.value [ inl m ↦ search (rules, m) | inr f ↦ grind (arith, common_steps, fault f, c.loop-bytes.invariant.same) ]
+    elim c.in_err-keep.ensures.value [
+      | inl m ↦ search (rules, m)
+      | inr f ↦
+          let back = rest_of-fault c.args.shape.now c.loop-bytes.n _ (map (λ w. w.now) (drop (c.loop-bytes.bytes-index + 1) c.args.lines.now)) c.loop-bytes.found.items c.in_err-keep.field-0.0 f in
+          grind (arith, common_steps, back, c.loop-bytes.invariant.same)
+    ]
