@@ -138,6 +138,9 @@ impl Hart {
         self.pc = self.pc.wrapping_add(4);
     }
 
+    /// Traps: the interrupt enable goes to SPIE, and the pc to the handler. Out of the way of the common path.
+    #[cold]
+    #[inline(never)]
     pub(crate) fn trap(&mut self, code: u64, tval: u64)
         ensures { self.new ≡ trap self.old code tval }
     {
