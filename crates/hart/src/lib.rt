@@ -4,6 +4,7 @@
 
 mod access;
 mod alu;
+mod cause;
 mod csr;
 mod laws;
 mod state;

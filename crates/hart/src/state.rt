@@ -108,8 +108,9 @@ impl Hart {
     pub fn put(&mut self, register: Reg, value: u64)
         ensures { self.new ≡ put self.old register value }
     {
-        if register.number() != 0 {
-            self.regs[register.number() as usize] = value;
+        let register = register.number() as usize;
+        if register != 0 {
+            self.regs[register] = value;
         }
     }
 

@@ -4,23 +4,34 @@ use ram::{Ram, Width};
 use rv_decode::{CsrNumber, Reg};
 use std::test::Fail;
 
+mod edges;
+mod traps;
+
 const BASE: u64 = 0x8000_0000;
 
-/// A page with these words at its start.
-fn page(rt: &HostRuntime, words: &[u32]) -> Result<Ram, Fail> {
-    let mut ram = Ram::new(rt.alloc(), Shape::new(1, 1, 1)?)?;
+const END: u64 = BASE + 0x2000;
+
+/// Two pages with these numbers at their start.
+fn memory(rt: &HostRuntime, image: &[u64]) -> Result<Ram, Fail> {
+    let mut ram = Ram::new(rt.alloc(), Shape::new(1, 2, 1)?)?;
+    for (i, part) in image.iter().take(1024).enumerate() {
+        let _ = ram.store(BASE + 8 * i as u64, Width::Double, *part);
+    }
+    Ok(ram)
+}
+
+/// Two pages with these words at their start.
+fn words(rt: &HostRuntime, words: &[u32]) -> Result<Ram, Fail> {
+    let mut ram = memory(rt, &[])?;
     for (i, word) in words.iter().take(1024).enumerate() {
         let _ = ram.store(BASE + 4 * i as u64, Width::Word, u64::from(*word));
     }
     Ok(ram)
 }
 
-/// Hart 0, at the first word.
-fn first_hart() -> Result<Hart, Fail> {
-    let Some(id) = HartId::new(0) else {
-        return Err(Fail::new(format_args!("no hart 0")));
-    };
-    Ok(Hart::fresh(id, BASE, 0))
+/// Hart 3, at the first word.
+fn fresh() -> Result<Hart, Fail> {
+    Ok(Hart::fresh(HartId::new(3).ok_or("no hart 3")?, BASE, 0))
 }
 
 fn run(hart: &mut Hart, ram: &mut Ram, steps: usize) -> Outcome {
@@ -31,37 +42,276 @@ fn run(hart: &mut Hart, ram: &mut Ram, steps: usize) -> Outcome {
     outcome
 }
 
+/// Runs a program up to its first ECALL.
+fn run_to_call(rt: &HostRuntime, image: &[u64]) -> Result<Ram, Fail> {
+    let mut ram = memory(rt, image)?;
+    let mut hart = fresh()?;
+    for _ in 0..1_000_000 {
+        if hart.step(&mut ram, false) == Outcome::Ecall {
+            return Ok(ram);
+        }
+    }
+    Err(Fail::from("no ECALL"))
+}
+
+/// The program's result of that number.
+fn result(ram: &Ram, results: u64, number: usize) -> u64 {
+    ram.load(
+        results.wrapping_add(8 * (number % 1024) as u64),
+        Width::Double,
+    )
+    .unwrap_or(0)
+}
+
+/// Every instruction of a user's program, on edge values, gives what it gives under qemu-riscv64.
+#[test]
+fn edge_values_as_under_qemu(rt: HostRuntime) -> Result<(), Fail> {
+    let ram = run_to_call(&rt, &edges::PROGRAM)?;
+    for (number, want) in edges::EXPECTED.iter().enumerate() {
+        assert_eq!(rt;
+            result(&ram, edges::RESULTS, number),
+            *want,
+            "result {number}"
+        );
+    }
+    Ok(())
+}
+
+/// The cause and stval of each trap of data/traps.s in order; the saved pc is always as expected there, and in the
+/// handler interrupts are off and SPIE is set.
+const TRAPS: [(u64, u64); 22] = [
+    (4, BASE + 1),
+    (4, BASE + 1),
+    (4, BASE + 2),
+    (4, BASE + 3),
+    (4, BASE + 4),
+    (5, BASE - 1),
+    (5, END),
+    (5, END),
+    (4, END + 2),
+    (5, 0),
+    (5, 0xffff_ffff_ffff_fff8),
+    (6, BASE + 1),
+    (6, BASE + 2),
+    (6, BASE + 4),
+    (7, BASE - 1),
+    (7, END),
+    (6, END + 2),
+    (7, 0xffff_ffff_ffff_fff8),
+    (2, 0),
+    (2, 0xffff_ffff),
+    (2, 0x1060_23f3),
+    (3, 0),
+];
+
+/// What it keeps after those: its jumps, and then the control and status registers.
+const REST: [u64; 47] = [
+    0,
+    2,
+    0,
+    0x120,
+    77,
+    0,
+    6,
+    0,
+    0x120,
+    0,
+    0xffff_ffff_ffff_fff6,
+    0,
+    0x120,
+    77,
+    0,
+    6,
+    0,
+    0x120,
+    1,
+    0,
+    0,
+    0x120,
+    1,
+    END,
+    0,
+    0x120,
+    0x122,
+    0x122,
+    2,
+    0xffff_ffff_ffff_fffc,
+    0xffff_ffff_ffff_ffff,
+    0xffff_ffff_ffff_fffc,
+    0xffff_ffff_ffff_ffff,
+    0xffff_ffff_ffff_ffff,
+    0,
+    0,
+    0x100,
+    0,
+    0,
+    0xf,
+    0x3f,
+    0x1e,
+    0x18,
+    0x19,
+    31,
+    5,
+    0,
+];
+
+#[test]
+fn traps_and_registers_of_the_supervisor(rt: HostRuntime) -> Result<(), Fail> {
+    let ram = run_to_call(&rt, &traps::PROGRAM)?;
+    for (number, (cause, tval)) in TRAPS.iter().enumerate() {
+        let kept = [*cause, *tval, 0, 0x120];
+        for (i, want) in kept.iter().enumerate() {
+            let got = result(&ram, traps::RESULTS, 4 * (number % 32) + i);
+            assert_eq!(rt; got, *want, "number {i} of trap {number}");
+        }
+    }
+    for (number, want) in REST.iter().enumerate() {
+        let got = result(&ram, traps::RESULTS, 4 * TRAPS.len() + number);
+        assert_eq!(rt; got, *want, "number {number} behind the traps");
+    }
+    Ok(())
+}
+
+/// A write to sip takes the pending interrupt where it clears bit 1, and a write that is none does not.
+#[test]
+fn writes_to_sip(rt: HostRuntime) -> Result<(), Fail> {
+    for (word, operand, want) in [
+        (0x1442_93f3, 0, Outcome::TakePending),
+        (0x1442_93f3, 2, Outcome::Next),
+        (0x1442_93f3, 1, Outcome::TakePending),
+        (0x1442_a3f3, 2, Outcome::Next),
+        (0x1442_b3f3, 2, Outcome::TakePending),
+        (0x1442_b3f3, 1, Outcome::Next),
+        (0x1440_33f3, 2, Outcome::Next),
+        (0x1440_53f3, 0, Outcome::TakePending),
+        (0x1441_53f3, 0, Outcome::Next),
+        (0x1441_63f3, 0, Outcome::Next),
+        (0x1441_73f3, 0, Outcome::TakePending),
+        (0x1440_73f3, 0, Outcome::Next),
+        (0x1402_93f3, 0, Outcome::Next),
+    ] {
+        let mut ram = words(&rt, &[word])?;
+        let mut hart = fresh()?;
+        hart.put(Reg::new(5), operand);
+        assert_eq!(rt; hart.step(&mut ram, true), want, "{word:#x} with {operand}");
+        let old = if word / 0x10_0000 == 0x144 { 2 } else { 0 };
+        assert_eq!(rt; hart.reg(Reg::new(7)), old, "{word:#x} with {operand}");
+        assert_eq!(rt; hart.pc(), BASE + 4);
+    }
+    Ok(())
+}
+
+fn csr(hart: &Hart, number: u16) -> Option<u64> {
+    hart.csr(CsrNumber::new(number % 4096), true)
+}
+
+/// A pending interrupt is taken where sstatus and sie let it, before the fetch, and not before.
+#[test]
+fn a_pending_interrupt(rt: HostRuntime) -> Result<(), Fail> {
+    // csrwi sie, 2; csrwi stvec, 0; addi x5, x0, 64; csrw stvec, x5; csrsi sstatus, 2; addi x6, x6, 1; at 64: sret
+    let mut ram = words(
+        &rt,
+        &[
+            0x1041_5073,
+            0x1050_5073,
+            0x0400_0293,
+            0x1052_9073,
+            0x1001_6073,
+            0x0013_0313,
+        ],
+    )?;
+    let mut hart = fresh()?;
+    for steps in 1..6u64 {
+        assert_eq!(rt; hart.step(&mut ram, true), Outcome::Next);
+        assert_eq!(rt; hart.pc(), BASE + 4 * steps);
+    }
+    assert_eq!(rt; csr(&hart, 0x100), Some(0x102));
+    assert_eq!(rt; csr(&hart, 0x144), Some(2));
+    assert_eq!(rt; hart.step(&mut ram, true), Outcome::Next);
+    assert_eq!(rt; hart.reg(Reg::new(6)), 0);
+    assert_eq!(rt; hart.pc(), 64);
+    assert_eq!(rt; csr(&hart, 0x100), Some(0x120));
+    assert_eq!(rt; csr(&hart, 0x141), Some(BASE + 20));
+    assert_eq!(rt; csr(&hart, 0x142), Some(0x8000_0000_0000_0001));
+    assert_eq!(rt; csr(&hart, 0x143), Some(0));
+    assert_eq!(rt; csr(&hart, 0x106), None);
+    Ok(())
+}
+
+#[test]
+fn a_hart_that_never_ran_and_one_that_starts(rt: HostRuntime) -> Result<(), Fail> {
+    let id = HartId::new(3).ok_or("no hart 3")?;
+    let stopped = Hart::stopped(id);
+    let mut started = Hart::fresh(id, BASE + 2, 7);
+    assert_eq!(rt; stopped.id(), id);
+    assert_eq!(rt; csr(&stopped, 0x100), Some(0x100));
+    assert_eq!(rt; csr(&started, 0x180), Some(0));
+    for (hart, number, want) in [
+        (&stopped, 10, 0),
+        (&stopped, 11, 0),
+        (&started, 0, 0),
+        (&started, 10, 3),
+        (&started, 11, 7),
+    ] {
+        assert_eq!(rt; hart.reg(Reg::new(number)), want);
+    }
+    // the pc that only the caller can give: cause 0 with the pc in stval
+    let mut ram = words(&rt, &[])?;
+    assert_eq!(rt; run(&mut started, &mut ram, 1), Outcome::Next);
+    assert_eq!(rt; csr(&started, 0x142), Some(0));
+    assert_eq!(rt; csr(&started, 0x143), Some(BASE + 2));
+    assert_eq!(rt; csr(&started, 0x141), Some(BASE));
+    Ok(())
+}
+
+/// An answered call has its error in a0 and its value in a1, and the hart goes on behind the ECALL.
+#[test]
+fn a_call_is_answered(rt: HostRuntime) -> Result<(), Fail> {
+    let mut ram = words(&rt, &[0x0000_0073, 0x0005_8613])?;
+    let mut hart = fresh()?;
+    assert_eq!(rt; run(&mut hart, &mut ram, 2), Outcome::Ecall);
+    assert_eq!(rt; hart.pc(), BASE);
+    hart.answer(0xffff_ffff_ffff_fffe, 9);
+    assert_eq!(rt; hart.pc(), BASE + 4);
+    assert_eq!(rt; run(&mut hart, &mut ram, 1), Outcome::Next);
+    assert_eq!(rt; hart.reg(Reg::new(10)), 0xffff_ffff_ffff_fffe);
+    assert_eq!(rt; hart.reg(Reg::new(12)), 9);
+    Ok(())
+}
+
 #[test]
 fn adds_an_immediate(rt: HostRuntime) -> Result<(), Fail> {
-    let mut ram = page(&rt, &[0x00100513])?;
-    let mut hart = first_hart()?;
+    let mut ram = words(&rt, &[0x00100513])?;
+    let mut hart = fresh()?;
     assert_eq!(rt; run(&mut hart, &mut ram, 1), Outcome::Next);
     assert_eq!(rt; hart.reg(Reg::new(10)), 1);
     assert_eq!(rt; hart.pc(), BASE + 4);
     Ok(())
 }
 
+/// On zero words: cause 2, then cause 1 at the handler at 0.
 #[test]
 fn traps_on_no_instruction(rt: HostRuntime) -> Result<(), Fail> {
-    let mut ram = page(&rt, &[])?;
-    let mut hart = first_hart()?;
+    let mut ram = words(&rt, &[])?;
+    let mut hart = fresh()?;
     run(&mut hart, &mut ram, 1);
-    assert_eq!(rt; hart.csr(CsrNumber::new(0x142), false), Some(2));
+    assert_eq!(rt; csr(&hart, 0x142), Some(2));
     assert_eq!(rt; hart.pc(), 0);
     run(&mut hart, &mut ram, 1);
-    assert_eq!(rt; hart.csr(CsrNumber::new(0x142), false), Some(1));
-    assert_eq!(rt; hart.csr(CsrNumber::new(0x141), false), Some(0));
+    assert_eq!(rt; csr(&hart, 0x142), Some(1));
+    assert_eq!(rt; csr(&hart, 0x141), Some(0));
     Ok(())
 }
 
+/// A program that asks for a suspension to disk.
 #[test]
 fn calls_the_firmware(rt: HostRuntime) -> Result<(), Fail> {
-    let words = [
+    let program = [
         0x00001597, 0x80000537, 0x00150513, 0xfff00613, 0x00000813, 0x535558b7, 0x35088893,
         0x00000073,
     ];
-    let mut ram = page(&rt, &words)?;
-    let mut hart = first_hart()?;
+    let mut ram = words(&rt, &program)?;
+    let mut hart = fresh()?;
     assert_eq!(rt; run(&mut hart, &mut ram, 8), Outcome::Ecall);
     assert_eq!(rt; hart.reg(Reg::new(10)), 0xffff_ffff_8000_0001);
     assert_eq!(rt; hart.reg(Reg::new(11)), 0x8000_1000);
@@ -71,13 +321,14 @@ fn calls_the_firmware(rt: HostRuntime) -> Result<(), Fail> {
     Ok(())
 }
 
+/// A store to the next instruction is seen by its fetch.
 #[test]
 fn runs_what_it_wrote(rt: HostRuntime) -> Result<(), Fail> {
-    let words = [
+    let program = [
         0x00000297, 0x00150513, 0x0142a303, 0x0062a223, 0xff5ff06f, 0x01050513,
     ];
-    let mut ram = page(&rt, &words)?;
-    let mut hart = first_hart()?;
+    let mut ram = words(&rt, &program)?;
+    let mut hart = Hart::fresh(HartId::new(0).ok_or("no hart 0")?, BASE, 0);
     run(&mut hart, &mut ram, 6);
     assert_eq!(rt; hart.reg(Reg::new(10)), 0x11);
     assert_eq!(rt; hart.pc(), BASE + 8);
