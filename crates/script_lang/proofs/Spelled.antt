@@ -13,7 +13,7 @@ use Rattle.script_lang.specs.Rows.{extension_of, is_csr}
 use Rattle.script_lang.specs.Ranges.{IsInRange, IsCsr}
 use Rattle.script_lang.specs.Lines.{line_of}
 use Rattle.script_lang.specs.Spellings.{spelling_of, text_of, FitsLine}
-use Rattle.script_lang.specs.declared.line.BootMode.TheVariants as modes
+use Rattle.board_model.specs.declared.boot_mode.BootMode.TheVariants as modes
 use Rattle.script_lang.specs.declared.line.Line.{Line}
 use Rattle.script_lang.specs.declared.line.Line.TheVariants.{Payload, Format, On, Slot, Discard, Turn, Call, Reg, Pc, Csr, Pending, Mem, CutAt, CutLane, FailAt, FailLane, Cut, Poke}
 use Rattle.script_lang.proofs.Numerals.{AreWords, words_of-join, IsWord-decimal, IsWord-encode, IsWord-fill, number_of-decimal, ranged-decimal, hex_of-encode, fill_of-text}

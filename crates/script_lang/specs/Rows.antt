@@ -3,8 +3,8 @@ use Rattle.std.specs.Prelude.{ℕ, ◌+◌, ◌^◌, Bool, List, [], ◌∷◌, 
 use Rattle.std.specs.Str.{bytes_eq}
 use Rattle.board_model.specs.Shapes.{Size, ram_bytes_of, sectors_of}
 use Rattle.script_lang.specs.Words.{◌>>=◌, number_of, ranged, fill_of, hex_of, none_of, one_of, two_of, three_of}
-use Rattle.script_lang.specs.declared.line.BootMode.{BootMode}
-use Rattle.script_lang.specs.declared.line.BootMode.TheVariants as modes
+use Rattle.board_model.specs.declared.boot_mode.BootMode.{BootMode}
+use Rattle.board_model.specs.declared.boot_mode.BootMode.TheVariants as modes
 use Rattle.script_lang.specs.declared.line.Line.{Line}
 use Rattle.script_lang.specs.declared.line.Line.TheVariants.{Payload, On, Slot, Turn, Call, Reg, Pc, Csr, Mem, CutAt, CutLane, FailAt, FailLane, Cut, Poke}
 use lib.Chars.{codes}

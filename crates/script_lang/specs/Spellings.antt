@@ -3,8 +3,8 @@ use Rattle.std.specs.Prelude.{ℕ, ◌<◌, ◌^◌, List, [], ◌∷◌}
 use Rattle.std.specs.Fmt.{decimal}
 use Rattle.std.specs.List.{join_with_byte}
 use Rattle.hex.specs.Hex.{encode_lower, IsBytes}
-use Rattle.script_lang.specs.declared.line.BootMode.{BootMode}
-use Rattle.script_lang.specs.declared.line.BootMode.TheVariants as modes
+use Rattle.board_model.specs.declared.boot_mode.BootMode.{BootMode}
+use Rattle.board_model.specs.declared.boot_mode.BootMode.TheVariants as modes
 use Rattle.script_lang.specs.declared.line.Fill.{Fill}
 use Rattle.script_lang.specs.declared.line.Fill.TheVariants.{Old, New, Byte}
 use Rattle.script_lang.specs.declared.line.Line.{Line}

@@ -11,5 +11,5 @@ mod words;
 
 pub use bytes::Bytes;
 pub use laws::lines_read_as_spelled;
-pub use line::{BootMode, Fill, Line};
+pub use line::{Fill, Line};
 pub use scripts::{Script, parse_script};

@@ -1,20 +1,7 @@
 //! What a line of a script says.
 
 use crate::bytes::Bytes;
-use board_model::{HartId, Slot};
-
-/// The four ways to power on.
-#[derive(Clone, Copy, Debug, PartialEq, Eq, Drop)]
-pub enum BootMode {
-    /// Boot the slot; refused where an image stands.
-    Fresh,
-    /// Boot the slot and leave an image where it is.
-    Keep,
-    /// Drop the image, then boot the slot; refused without an image.
-    Discard,
-    /// Go on with the image; refused without one.
-    Resume,
-}
+use board_model::{BootMode, HartId, Slot};
 
 /// What a range that was written since the last sync holds after a power cut.
 #[derive(Clone, Copy, Debug, PartialEq, Eq, Drop)]

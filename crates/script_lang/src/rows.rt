@@ -7,9 +7,9 @@ ghost use Rattle.board_model.specs.Shapes.{Size, sectors_of};
 ghost use Rattle.script_lang.specs.Ranges.{IsCount, IsCsr, IsInRange};
 ghost use Rattle.script_lang.specs.Rows.{payload_of, mode_of, on_of, slot_of, turn_of, extension_of, argument_of, head_of, call_of, reg_of, pc_of, csr_number_of, csr_of, mem_of, cutat_of, cutlane_of, failat_of, faillane_of, cut_of, place_of, poke_of};
 
-use crate::line::{BootMode, Line};
+use crate::line::Line;
 use crate::words::{bytes, fill, in_range, none, number, one, three, two};
-use board_model::{HartId, RAM_BASE, SECTOR_BYTES, Shape, Slot};
+use board_model::{BootMode, HartId, RAM_BASE, SECTOR_BYTES, Shape, Slot};
 use std::alloc::{AllocError, Global};
 
 fn hart(shape: &Shape, word: &[u8]) -> Option<HartId>

@@ -1,8 +1,8 @@
 //! Each kind of line, and both ends of each range.
 
 use crate::read::{malformed, says};
-use board_model::{HartId, Slot};
-use script_lang::{BootMode, Bytes, Fill, Line};
+use board_model::{BootMode, HartId, Slot};
+use script_lang::{Bytes, Fill, Line};
 use std::alloc::{AllocError, Global};
 use std::test::*;
 
