@@ -101,12 +101,7 @@ impl Disk for SimDisk {
         Ok(())
     }
 
-    fn split(
-        &mut self,
-        first: usize,
-        lanes: usize,
-        each: usize,
-    ) -> Result<Vec<SimLane>, AllocError>
+    fn split(&mut self, first: usize, lanes: usize, each: usize) -> Result<Vec<SimLane>, AllocError>
         requires none_out { (⟦<SimDisk as Disk>⟧.facts self.old).lent.lanes ≡ 0 }
         requires few { lanes ≤ 4 }
         requires within { first + lanes * each ≤ length (⟦<SimDisk as Disk>⟧.facts self.old).content }

@@ -79,12 +79,11 @@ impl History {
     {
         let end = loan.first + loan.lanes * loan.each;
         let sectors = copy_of(alloc, &content[loan.first..end])?;
-        let next = vec![in alloc;
-            Patch {
-                first: loan.first,
-                sectors
-            },
-        ]?;
+        let lent = Patch {
+            first: loan.first,
+            sectors,
+        };
+        let next = vec![in alloc; lent]?;
         self.sync(content, next)
     }
 

@@ -45,7 +45,12 @@ fn written_disk(rt: &impl Abort, alloc: Global) -> Result<SimDisk, Fail>
 fn contents(rt: &impl Abort, disk: &SimDisk) -> [u8; 4] {
     let content = disk.content();
     assert_eq!(rt; content.len(), 4);
-    [content[0][511], content[1][511], content[2][511], content[3][511]]
+    [
+        content[0][511],
+        content[1][511],
+        content[2][511],
+        content[3][511],
+    ]
 }
 
 #[test]
@@ -95,7 +100,11 @@ fn a_failed_write_stays_and_counts_as_written(rt: HostRuntime) -> Result<(), Fai
         assert_eq!(rt; disk.sync(), Ok(()));
         assert_eq!(rt; write_byte(&rt, &mut disk, 1, 5), Err(Fault));
         assert_eq!(rt; disk.failures(), 1);
-        assert_eq!(rt; read_byte(&rt, &mut disk, 1), Ok(0), "a struck fault is gone");
+        assert_eq!(rt;
+            read_byte(&rt, &mut disk, 1),
+            Ok(0),
+            "a struck fault is gone"
+        );
         assert!(rt; !disk.struck());
         let disk = disk.after_cut(choice);
         assert_eq!(rt; contents(&rt, &disk), left, "{choice:?}");
@@ -120,7 +129,11 @@ fn after_a_cut_every_call_fails(rt: HostRuntime) -> Result<(), Fail> {
     let mut disk = written_disk(&rt, rt.alloc())?;
     disk.fail_at(1);
     disk.cut_at(2);
-    assert_eq!(rt; read_byte(&rt, &mut disk, 2), Ok(3), "the older fault is gone");
+    assert_eq!(rt;
+        read_byte(&rt, &mut disk, 2),
+        Ok(3),
+        "the older fault is gone"
+    );
     assert!(rt; !disk.struck());
     assert_eq!(rt; write_byte(&rt, &mut disk, 3, 7), Err(Fault));
     assert!(rt; disk.struck());
