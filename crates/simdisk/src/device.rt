@@ -162,6 +162,7 @@ impl Disk for SimDisk {
     fn arm(&mut self, fault: ArmedFault)
         ensures facts { Unchanged (⟦<SimDisk as Disk>⟧.facts self.old) (⟦<SimDisk as Disk>⟧.facts self.new) }
         ensures armed { ⟦<SimDisk as Disk>⟧.mishaps self.new ≡ record (⟦<SimDisk as Disk>⟧.mishaps self.old) { armed = armed_by fault } }
+        ensures call { ⟦<SimDisk as Recorded>⟧.armed self.new ≡ Some fault }
         ensures record { ⟦<SimDisk as Recorded>⟧.record self.new ≡ ⟦<SimDisk as Recorded>⟧.record self.old }
     {
         self.faults.armed = Some(fault);

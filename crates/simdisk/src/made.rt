@@ -88,6 +88,7 @@ impl SimDisk {
     pub fn fail_at(&mut self, call: u64)
         ensures facts { Unchanged (⟦<SimDisk as Disk>⟧.facts self.old) (⟦<SimDisk as Disk>⟧.facts self.new) }
         ensures armed { ⟦<SimDisk as Disk>⟧.mishaps self.new ≡ record (⟦<SimDisk as Disk>⟧.mishaps self.old) { armed = FaultArmed } }
+        ensures call { ⟦<SimDisk as Recorded>⟧.armed self.new ≡ Some (ArmedFault.FailAt call) }
     {
         self.arm(ArmedFault::FailAt(call));
     }
@@ -96,6 +97,7 @@ impl SimDisk {
     pub fn cut_at(&mut self, call: u64)
         ensures facts { Unchanged (⟦<SimDisk as Disk>⟧.facts self.old) (⟦<SimDisk as Disk>⟧.facts self.new) }
         ensures armed { ⟦<SimDisk as Disk>⟧.mishaps self.new ≡ record (⟦<SimDisk as Disk>⟧.mishaps self.old) { armed = CutArmed } }
+        ensures call { ⟦<SimDisk as Recorded>⟧.armed self.new ≡ Some (ArmedFault.CutAt call) }
     {
         self.arm(ArmedFault::CutAt(call));
     }
@@ -104,6 +106,7 @@ impl SimDisk {
     pub fn fail_lane(&mut self, lane: usize, call: u64)
         ensures facts { Unchanged (⟦<SimDisk as Disk>⟧.facts self.old) (⟦<SimDisk as Disk>⟧.facts self.new) }
         ensures armed { ⟦<SimDisk as Disk>⟧.mishaps self.new ≡ record (⟦<SimDisk as Disk>⟧.mishaps self.old) { armed = FaultArmed } }
+        ensures call { ⟦<SimDisk as Recorded>⟧.armed self.new ≡ Some (ArmedFault.FailLane lane call) }
     {
         self.arm(ArmedFault::FailLane(lane, call));
     }
@@ -113,6 +116,7 @@ impl SimDisk {
     pub fn cut_lane(&mut self, lane: usize, call: u64)
         ensures facts { Unchanged (⟦<SimDisk as Disk>⟧.facts self.old) (⟦<SimDisk as Disk>⟧.facts self.new) }
         ensures armed { ⟦<SimDisk as Disk>⟧.mishaps self.new ≡ record (⟦<SimDisk as Disk>⟧.mishaps self.old) { armed = CutArmed } }
+        ensures call { ⟦<SimDisk as Recorded>⟧.armed self.new ≡ Some (ArmedFault.CutLane lane call) }
     {
         self.arm(ArmedFault::CutLane(lane, call));
     }

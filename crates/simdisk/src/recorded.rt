@@ -1,15 +1,22 @@
 // The record of a disk in memory, for contracts.
+ghost use Rattle.std.specs.Prelude.{Option};
+ghost use Rattle.disk.specs.declared.device.ArmedFault.{ArmedFault};
 ghost use Rattle.simdisk.specs.Record.{Record};
 
 use crate::sim::SimDisk;
 
-/// A disk that keeps a record of its writes and syncs.
+/// A disk that keeps a record of its writes and syncs, and the fault that is armed, with the calls
+/// that are left to it.
 pub trait Recorded {
     ghost record: { Self → Record };
+
+    ghost armed: { Self → Option ArmedFault };
 }
 
 impl Recorded for SimDisk {
     ghost use Rattle.simdisk.specs.History.{record_of};
 
     ghost record = { λ d. record_of d.history };
+
+    ghost armed = { λ d. d.faults.armed };
 }

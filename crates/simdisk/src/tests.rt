@@ -176,3 +176,32 @@ fn lane_write(rt: &impl Abort, lane: &mut SimLane, at: usize, byte: u8) -> Resul
     assert!(rt; at < lane.sectors.len());
     lane.write(at, &[[byte; 512]])
 }
+
+// `rt try --test --fail-alloc N` makes each growth of the record and of a split fail in turn.
+#[test]
+fn a_refused_growth_is_counted_and_changes_nothing(rt: HostRuntime) -> Result<(), Fail> {
+    let Ok(mut disk) = SimDisk::blank(rt.alloc(), 4) else {
+        return Ok(());
+    };
+    let wrote = write_byte(&rt, &mut disk, 1, 5).is_ok();
+    assert_eq!(rt; contents(&rt, &disk), [0, if wrote { 5 } else { 0 }, 0, 0]);
+    let synced = disk.sync().is_ok();
+    let failures = u64::from(!wrote) + u64::from(!synced);
+    assert_eq!(rt; (disk.failures(), disk.refused()), (failures, failures));
+    let lent = match disk.split(0, 2, 2) {
+        Ok(lanes) => {
+            disk.join(lanes);
+            true
+        }
+        Err(_) => false,
+    };
+    assert_eq!(rt; (disk.failures(), disk.refused()), (failures, failures));
+    let left = match (lent, wrote, synced) {
+        (true, _, _) => [9, 9, 9, 9],
+        (false, true, true) => [0, 5, 0, 0],
+        (false, true, false) => [0, 9, 0, 0],
+        (false, false, _) => [0, 0, 0, 0],
+    };
+    assert_eq!(rt; contents(&rt, &disk.after_cut(Choice::Byte(9))), left);
+    Ok(())
+}
