@@ -1,10 +1,10 @@
 -- What stands in a record is what was put there.
-use Rattle.std.proofs.Common.{◌≡◌, ◌∙◌, ℕ, ◌<◌, List, [], ◌∷◌, ◌++◌, Option, Some, None, slice_index, refl, ap, subst, append_assoc, arith}
+use Rattle.std.proofs.Common.{◌≡◌, ◌∙◌, ℕ, ◌<◌, List, [], ◌∷◌, ◌++◌, Option, Some, None, slice_index, refl, ap, append_assoc, arith}
 use Rattle.board_model.specs.Shapes.{Size}
 use Rattle.board_model.specs.Shown.{reason_number}
 use Rattle.board_model.specs.declared.durable.Reason.{Reason}
 use Rattle.layout.specs.Fields.{Field, FitAll, number_bytes, fields_bytes, sector_of, number_at}
-use Rattle.layout.specs.Records.{selected_by, gate_of, head_fields, saved_fields, image_fields, presence_of, IsSaved, AreSaved, IsRecord}
+use Rattle.layout.specs.Records.{selected_by, gate_of, head_fields, saved_fields, image_fields, presence_of, IsSaved, IsRecord}
 use Rattle.layout.specs.Read.{StandsIn}
 use Rattle.layout.specs.declared.records.Saved.{Saved}
 use Rattle.layout.specs.declared.records.Record.{Record}
@@ -90,7 +90,7 @@ presence_few (Some s) = omega arith
 -- what the record keeps of an image, and where it stands
 pub image_in : (size : Size) (r : Record) (sector : List ℕ) (s : Saved) → IsRecord size r sector → r.image ≡ Some s → IsSaved size r.next s × StandsIn sector s
 image_in size r sector s is some =
-    let saved : IsSaved size r.next s = subst (AreSaved size r.next) some is.0.image in
+    let saved : IsSaved size r.next s = is.0.image s some in
     let spelled : sector ≡ sector_of (fields_bytes (head_fields r ++ saved_fields s)) =
     is.1 ∙ ap (λ (i : Option Saved). sector_of (fields_bytes (head_fields r ++ image_fields i))) some in
     (saved, saved_stands r s sector spelled saved.fit)

@@ -1,6 +1,7 @@
 -- The gate, which selects one of two records, and the record, version 1: the durable state, and where its image stands.
 -- Source: docs/STORE.md, "Gate" and "Record".
-use Rattle.std.specs.Prelude.{◌≡◌, ℕ, ◌%◌, ◌<◌, ◌≤◌, List, [], ◌∷◌, ◌++◌, Option, Some, None, length, sum, slice_index, nat_lt, if◌then◌else◌, ⊤}
+use Rattle.std.specs.Prelude.{◌≡◌, ℕ, ◌%◌, ◌<◌, ◌≤◌, List, [], ◌∷◌, ◌++◌, Option, Some, None, length, sum, slice_index, nat_lt, if◌then◌else◌}
+use Rattle.std.specs.Option.{ForSome}
 use Rattle.board_model.specs.Shapes.{Size, IsValidAddress, places_of}
 use Rattle.board_model.specs.Shown.{reason_number}
 use Rattle.board_model.specs.declared.durable.ImageHead.{ImageHead}
@@ -59,8 +60,7 @@ pub record IsSaved (size : Size) (next : ℕ) (saved : Saved) : Type 0 where
   pub fit : FitAll (saved_fields saved)
 
 abbrev pub AreSaved : Size → ℕ → Option Saved → Type 0
-AreSaved size next None = ⊤
-AreSaved size next (Some saved) = IsSaved size next saved
+AreSaved size next image = ForSome image (λ saved. IsSaved size next saved)
 
 -- each field of the record is in its range
 pub record IsInRange (size : Size) (r : Record) : Type 0 where

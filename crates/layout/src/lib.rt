@@ -19,4 +19,4 @@ pub use places::{PlaceHead, parse_place_head, place_head_bytes};
 pub use records::{Record, Saved, gate_bytes, parse_record, record_bytes, selected};
 pub use side::Side;
 pub use sizes::{area_start, lane_start, place_start};
-pub use superblocks::{parse_superblock, superblock_bytes};
+pub use superblocks::{has_magic, parse_superblock, superblock_bytes};

@@ -1,5 +1,5 @@
 //! Sector 0.
-ghost use Rattle.std.specs.Prelude.{◌≡◌, ℕ, ◌⊎◌, ◌≤◌, Ok, IfOk, IfErr};
+ghost use Rattle.std.specs.Prelude.{◌≡◌, ℕ, ◌⊎◌, ◌≤◌, ◌↔◌, Ok, IsTrue, IfOk, IfErr};
 ghost use Rattle.board_model.specs.Shapes.{Size, sectors_of};
 ghost use Rattle.layout.specs.Superblocks.{HasMagic, IsSuperblock};
 
@@ -20,6 +20,13 @@ pub fn superblock_bytes(shape: &Shape) -> [u8; 512]
     sector.finish()
 }
 
+/// Whether sector 0 begins with the mark of a formatted disk.
+pub fn has_magic(sector: &[u8; 512]) -> bool
+    ensures { IsTrue result ↔ HasMagic sector.now }
+{
+    sector.starts_with(&MAGIC)
+}
+
 /// The shape that sector 0 of a disk of so many sectors has. Refused `NotFormatted` where the sector does not begin with
 /// the mark; `BadShape` where a number is out of range, a byte of the rest is not 0, or the disk is too small.
 pub fn parse_superblock(sector: &[u8; 512], sectors: usize) -> Result<Shape, Refusal>
@@ -28,7 +35,7 @@ pub fn parse_superblock(sector: &[u8; 512], sectors: usize) -> Result<Shape, Ref
     ensures marked { IfOk result (λ shape. HasMagic sector.now) }
     ensures refused { IfErr result (λ e. ((e ≡ Refusal.NotFormatted) × (HasMagic sector.now → ⊥)) ⊎ ((e ≡ Refusal.BadShape) × HasMagic sector.now)) }
 {
-    if !sector.starts_with(&MAGIC) {
+    if !has_magic(sector) {
         return Err(Refusal::NotFormatted);
     }
     let shape = shape_in(sector)?;

@@ -1,0 +1,82 @@
+-- The record that a command makes stands for the state after the command.
+use Rattle.std.proofs.Common.{◌≡◌, ℕ, ◌≤◌, ◌<◌, ◌^◌, Option, Some, None, is_some, nat_lt, if◌then◌else◌, true, false, Bool, refl, sym, ap, subst, arith}
+use Rattle.board_model.specs.Durable.{State, Change, Image, refusal_of, after}
+use Rattle.board_model.specs.Durable as changes
+use Rattle.std.proofs.lemmas.Bool.Decides.{nat_tests}
+use Rattle.board_model.specs.declared.durable.ImageHead.{ImageHead}
+use Rattle.board_model.specs.Shapes.{Size}
+use Rattle.board_model.specs.Shown.{change_of, durable_of, head_of, reason_number}
+use Rattle.board_model.specs.declared.durable.Command.{Command}
+use Rattle.board_model.specs.declared.durable.Command.TheVariants.{Slot, Reset, Consume, Discard}
+use Rattle.board_model.specs.declared.durable.Durable.{Durable}
+use Rattle.board_model.specs.declared.durable.Reason.{Reason}
+use Rattle.board_model.specs.declared.durable.Reason.TheVariants.{NoReason, SystemFailure}
+use Rattle.disk.specs.Facts.{Content}
+use Rattle.layout.specs.Records.{durable_in, head_in, IsInRange}
+use Rattle.layout.specs.declared.records.Saved.{Saved}
+use Rattle.layout.specs.declared.records.Record.{Record}
+use Rattle.store.specs.Standing.{image_of, state_of}
+use Rattle.store.specs.Follows.{next_of, Follows}
+
+-- the record's durable state is that of its state
+head_same : (size : Size) (image : Option Saved) (content : Content) → head_of (image_of size image content) ≡ head_in image
+head_same size None content = refl
+head_same size (Some saved) content = refl
+
+pub durable_same : (size : Size) (r : Record) (content : Content) → durable_of (state_of size r content) ≡ durable_in r
+durable_same size r content = ap (λ (h : Option ImageHead). from_head h) (head_same size r.image content)
+  where
+    from_head : Option ImageHead → Durable
+    from_head h = record { image = h; slot = r.slot; reason = r.reason; next = r.next }
+
+-- an image that stays is the same
+kept_image : (size : Size) (image : Option Saved) (content : Content) → (if is_some (head_of (image_of size image content)) then image else None) ≡ image
+kept_image size None content = refl
+kept_image size (Some saved) content = refl
+
+abbrev made : ℕ → Reason → ℕ → Option Saved → Record
+made slot reason next image = record { slot = slot; reason = reason; next = next; image = image }
+
+small_reason : (reason : Reason) → reason_number reason < 256 ^ 4
+small_reason NoReason = omega arith
+small_reason SystemFailure = omega arith
+
+-- without a refusal the slot is at most 3
+slot_fits : (n : ℕ) → ◌≡◌ {A = Option ℕ} (if nat_lt 3 n then Some 9 else None) None → n ≤ 3
+slot_fits n is = by_test (nat_lt 3 n) refl is
+  where
+    by_test : (b : Bool) → nat_lt 3 n ≡ b → ◌≡◌ {A = Option ℕ} (if b then Some 9 else None) None → n ≤ 3
+    by_test true test is = cc
+    by_test false test is = grind (arith, nat_tests)
+
+module _ (size : Size) (r : Record) where
+  slot_follows : (n : ℕ) → n ≤ 3 → Follows size r (changes.Slot n) (made n r.reason r.next r.image)
+  slot_follows n fits = record {
+    state = λ content. refl;
+    in_range = λ range. record { slot = fits; image = range.image; fit = (range.fit.0, (omega (arith, fits), range.fit.1.1)) };
+  }
+
+  reset_follows : (reason : Reason) → Follows size r (changes.Reset reason) (made r.slot reason r.next r.image)
+  reset_follows reason = record {
+    state = λ content. refl;
+    in_range = λ range. record { slot = range.slot; image = range.image; fit = (range.fit.0, (range.fit.1.0, (small_reason reason, range.fit.1.1.1))) };
+  }
+
+  no_image : IsInRange size r → IsInRange size (made r.slot r.reason r.next None)
+  no_image range = record {
+    slot = range.slot;
+    image = λ x is. cc;
+    fit = (range.fit.0, (range.fit.1.0, (range.fit.1.1.0, (omega arith, range.fit.1.1.1.1))));
+  }
+
+  module _ (content : Content) where
+    follows_so : (command : Command) → refusal_of (state_of size r content) (change_of command) ≡ None
+        → Follows size r (change_of command) (next_of r (durable_of (after (state_of size r content) (change_of command))))
+    follows_so (Slot n) goes = subst (λ (i : Option Saved). Follows size r (changes.Slot n) (made n r.reason r.next i)) (sym (kept_image size r.image content)) (slot_follows n (slot_fits n goes))
+    follows_so (Reset reason) goes = subst (λ (i : Option Saved). Follows size r (changes.Reset reason) (made r.slot reason r.next i)) (sym (kept_image size r.image content)) (reset_follows reason)
+    follows_so Consume goes = record { state = λ content. refl; in_range = no_image }
+    follows_so Discard goes = record { state = λ content. refl; in_range = no_image }
+
+    pub follows : (command : Command) (d : Durable) → refusal_of (state_of size r content) (change_of command) ≡ None
+        → d ≡ durable_of (after (state_of size r content) (change_of command)) → Follows size r (change_of command) (next_of r d)
+    follows command d goes is = subst (λ (e : Durable). Follows size r (change_of command) (next_of r e)) (sym is) (follows_so command goes)

@@ -1,0 +1,58 @@
+-- What a contract sees of a store.
+use Rattle.std.specs.Prelude.{◌≡◌, ℕ, List, Option, None, Some, length, map, option_map}
+use Rattle.board_model.specs.Durable.{State, Change, after}
+use Rattle.board_model.specs.Shapes.{Size}
+use Rattle.board_model.specs.Shown.{change_of}
+use Rattle.disk.specs.declared.device.Disk.{Ghosts}
+use Rattle.disk.specs.declared.device.Lane.{Ghosts as Lanes}
+use Rattle.disk.specs.Facts.{Facts}
+use Rattle.disk.specs.Mishaps.{Mishaps}
+use Rattle.store.specs.Standing.{state_of}
+use Rattle.store.specs.Lives.{Life, now_of}
+use Rattle.store.specs.declared.stores.Store.{Store}
+
+module _ {D L : Type 0} {g : Ghosts D L} {l : Lanes L} where
+  -- the facts of its disk, and why that failed
+  abbrev pub disk_of : Store D L g l → Facts
+  disk_of store = g.facts store.disk
+
+  abbrev pub mishaps_of : Store D L g l → Mishaps
+  mishaps_of store = g.mishaps store.disk
+
+  abbrev pub size_of_store : Store D L g l → Size
+  size_of_store store = store.shape
+
+  abbrev pub life_of : Store D L g l → Life
+  life_of store = record {
+    found = state_of store.shape store.opened (g.facts store.disk).content;
+    journal = map change_of store.journal.items;
+    doubt = option_map (λ x. change_of x.command) store.doubt;
+    over = store.over;
+  }
+
+  abbrev pub found_state : Store D L g l → State
+  found_state store = (life_of store).found
+
+  abbrev pub journal_of : Store D L g l → List Change
+  journal_of store = (life_of store).journal
+
+  abbrev pub now_state : Store D L g l → State
+  now_state store = now_of (life_of store)
+
+  abbrev pub receipts : Store D L g l → ℕ
+  receipts store = length (life_of store).journal
+
+  abbrev pub doubt_of : Store D L g l → Option Change
+  doubt_of store = (life_of store).doubt
+
+  -- how often its disk had failed when it was opened
+  abbrev pub failures_at_open : Store D L g l → ℕ
+  failures_at_open store = store.failures_at_open
+
+  -- it is up, at that state
+  abbrev pub Stands : Store D L g l → State → Type 0
+  Stands store s = (doubt_of store ≡ None) × (s ≡ now_state store)
+
+  -- it is down: a command is in doubt, which makes t of s
+  abbrev pub Doubts : Store D L g l → State → State → Type 0
+  Doubts store s t = (c : Change) × (doubt_of store ≡ Some c) × (s ≡ now_state store) × (t ≡ after s c)

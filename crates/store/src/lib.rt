@@ -1,0 +1,13 @@
+//! The durable state on a disk (docs/STORE.md).
+#![tactic(auto)]
+
+mod commits;
+mod doubts;
+mod formats;
+mod opens;
+mod receipts;
+mod stores;
+
+pub use formats::format;
+pub use receipts::Receipt;
+pub use stores::Store;

@@ -1,0 +1,80 @@
+//! What an open reads.
+ghost use Rattle.std.specs.Prelude.{◌≡◌, ◌⊎◌, ◌≤◌, ◌<◌, ℕ, length, IfOk, IfErr, OnOk, OnErr, IsErrOf};
+ghost use Rattle.board_model.specs.Shapes.{Size, sectors_of};
+ghost use Rattle.disk.specs.Facts.{Facts, sector, Passes, Stays, Failed, Only};
+ghost use Rattle.layout.specs.Superblocks.{HasMagic, IsSuperblock};
+ghost use Rattle.layout.specs.Records.{IsRecord};
+ghost use Rattle.layout.specs.declared.records.Record.{Record};
+ghost use Rattle.store.specs.Leaves.{IsIdle};
+ghost use Rattle.store.specs.Standing.{selected, Selects};
+ghost use Rattle.store.specs.Commits.{IsUp};
+ghost use Rattle.store.specs.Opens.{IsBoard, OpenRefused, CausedRefusal};
+
+use crate::commits::{GATE, RECORDS};
+use board_model::{Refusal, Shape};
+use disk::{Disk, read_sector};
+use layout::{Record, Side, parse_record, parse_superblock, selected};
+
+/// What an open reads of a disk: its board, and the record that the gate selects.
+#[derive(Clone, Copy, Debug, PartialEq, Eq, Drop)]
+pub struct Found {
+    pub shape: Shape,
+    pub side: Side,
+    pub record: Record,
+}
+
+/// Settles what a crash may leave by a sync, and reads what stands. Refused `NotFormatted`, `BadShape` and `BadRecord` by
+/// what stands, and `Device` where the disk failed; the content stays, and what a crash may leave does not grow.
+pub fn find<D: Disk>(disk: &mut D) -> Result<Found, Refusal>
+    requires none_out { IsIdle (D.facts disk.old) }
+    ensures up { IfOk result (λ found. IsUp (D.facts disk.new) found.shape found.side found.record) }
+    ensures known { IfOk result (λ found. found.side < 2) }
+    ensures refused { IfErr result (λ e. OpenRefused (D.facts disk.old) e (D.facts disk.new)) }
+    ensures not_memory { IfErr result (λ e. e ≡ Refusal.Memory → ⊥) }
+    ensures content { (D.facts disk.new).content ≡ (D.facts disk.old).content }
+    ensures crash { Passes (D.facts disk.old) (D.facts disk.new) Stays }
+    ensures unmoved { OnOk result (D.mishaps disk.new ≡ D.mishaps disk.old) }
+    ensures cause { IfErr result (λ e. CausedRefusal (D.mishaps disk.old) e (D.mishaps disk.new)) }
+    ensures no_failure { OnOk result ((D.facts disk.new).failures ≡ (D.facts disk.old).failures) }
+    ensures no_fewer { (D.facts disk.old).failures ≤ (D.facts disk.new).failures }
+    ensures none_out { IsIdle (D.facts disk.new) }
+{
+    let sectors = disk.sectors();
+    if sectors == 0 {
+        return Err(Refusal::BadShape);
+    }
+    disk.sync().map_err(|_| Refusal::Device)?;
+    let superblock = read_sector(disk, 0).map_err(|_| Refusal::Device)?;
+    let shape = parse_superblock(&superblock, sectors)?;
+    let found = find_record(disk, shape)?;
+    Ok(found)
+}
+
+// Reads the gate, and the record that it selects.
+fn find_record<D: Disk>(disk: &mut D, shape: Shape) -> Result<Found, Refusal>
+    requires none_out { IsIdle (D.facts disk.old) }
+    requires board { IsBoard shape (D.facts disk.old).content }
+    ensures found { IfOk result (λ found. Selects found.shape found.side found.record (D.facts disk.old).content) }
+    ensures known { IfOk result (λ found. found.side < 2) }
+    ensures refused { IfErr result (λ e. ((e ≡ Refusal.BadRecord) × ((size : Size) (side : ℕ) (r : Record) → Selects size side r (D.facts disk.old).content → ⊥))
+        ⊎ ((e ≡ Refusal.Device) × Failed (D.facts disk.old).failures (D.facts disk.new).failures)) }
+    ensures content { (D.facts disk.new).content ≡ (D.facts disk.old).content }
+    ensures crash { Passes (D.facts disk.old) (D.facts disk.new) Stays }
+    ensures unmoved { OnOk result (D.mishaps disk.new ≡ D.mishaps disk.old) }
+    ensures cause { IfErr result (λ e. CausedRefusal (D.mishaps disk.old) e (D.mishaps disk.new)) }
+    ensures no_failure { OnOk result ((D.facts disk.new).failures ≡ (D.facts disk.old).failures) }
+    ensures no_fewer { (D.facts disk.old).failures ≤ (D.facts disk.new).failures }
+    ensures none_out { IsIdle (D.facts disk.new) }
+{
+    let gate = read_sector(disk, GATE).map_err(|_| Refusal::Device)?;
+    let side = selected(&gate);
+    let bytes = read_sector(disk, RECORDS + side.index()).map_err(|_| Refusal::Device)?;
+    let Ok(record) = parse_record(&bytes, &shape) else {
+        return Err(Refusal::BadRecord);
+    };
+    Ok(Found {
+        shape,
+        side,
+        record,
+    })
+}
