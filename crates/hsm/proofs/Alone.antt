@@ -4,7 +4,7 @@ use Rattle.std.specs.Int.{bit_at}
 use mathlib.Core.Logic.{dite}
 use native.Mathlib.Decide.{ℕ_discrete}
 use Rattle.tallies.specs.Sums.{total}
-use Rattle.hsm_words.specs.Words.{crew}
+use Rattle.hsm_words.specs.Words.{crew, numbers}
 use Rattle.hsm_words.specs.declared.view.Stage.{Stage}
 use Rattle.hsm_words.specs.declared.view.Stage.TheVariants.{Out, Ready, Addressed, Loaded, Running, Claiming, Half, Stored, Asleep, Quiet}
 use Rattle.hsm_words.specs.declared.view.Deed.{Deed}
@@ -14,10 +14,20 @@ use Rattle.hsm_words.specs.declared.view.Crew.{Crew}
 use Rattle.hsm_rule.specs.Rule.{claim_of, entry_of, did, noted, stands}
 use Rattle.hsm_rule.specs.States.{HartState, stopped, start_pending, started, suspended, awaits, Says, is_outside, is_running, is_asleep, IsAt, IsIn, IsStarted, Shows, Tells, change_at, is_stopped, grant, entry, begin}
 use Rattle.hsm_steps.specs.Told.{after_claim, after_look, after_quiet, is_alone, IsOpenStart}
-use Rattle.hsm.specs.Calls.{state_of, named, is_ready}
+use Rattle.hsm.specs.Calls.{state_of, named, is_ready, KeepsOthers}
 use Rattle.hsm.proofs.Stand.{stands_after, stands_other}
 
 -- ---- one more deed
+numbers_noted : (h : ℕ) (st : Stage) (x : Deed) (vs : List HartView) → numbers (noted h st x vs) ≡ numbers vs
+numbers_noted h st x [] = refl
+numbers_noted h st x (v ∷ vs) =
+    dite (ℕ_discrete v.hart h)
+    (λ hit. rw (eq-eqb v.hart h hit) refl)
+    (λ miss. rw (ne_eqb v.hart h miss) (ap (λ (l : List ℕ). v.hart ∷ l) (numbers_noted h st x vs)))
+
+pub numbered : (h : ℕ) (st : Stage) (x : Deed) (c c' : Crew) → c' ≡ crew (noted h st x c.harts) → numbers c'.harts ≡ numbers c.harts
+numbered h st x c c' is = ap (λ (d : Crew). numbers d.harts) is ∙ numbers_noted h st x c.harts
+
 did_noted : (g : Deed → ℕ) (h : ℕ) (st st' : Stage) (x : Deed) (vs : List HartView) → stands h st vs
     → total (λ (v : HartView). total g v.deeds) (noted h st' x vs) ≡ g x + total (λ (v : HartView). total g v.deeds) vs
 did_noted g h st st' x [] s = absurd s
@@ -50,6 +60,9 @@ module _ (harts h : ℕ) (st st' : Stage) (x : Deed) (c c' : Crew) (is : c' ≡ 
 
   pub others : (k : ℕ) (sk : Stage) → k ≢ h → stands k sk c.harts → stands k sk c'.harts
   others k sk ne s = subst (λ (d : Crew). stands k sk d.harts) (sym is) (stands_other h k st' sk x c.harts ne s)
+
+  pub keeps : KeepsOthers h c.harts c'.harts
+  keeps = record { harts = numbered h st' x c c' is; stages = others }
 
   pub shows_next : (states states' : ℕ → HartState) → Shows harts c states → ((k : ℕ) → k ≢ h → states' k ≡ states k)
       → (IsAt (states h) st → IsAt (states' h) st' × ((a o : ℕ) → claim_of h a o x + awaits (states h) a o ≡ entry_of h a o x + awaits (states' h) a o))
@@ -95,6 +108,10 @@ module _ (harts h : ℕ) (st st' : Stage) (x : Deed) (c c' : Crew) (is : c' ≡ 
         (λ a o. let p = no_claim h a o in let q = no_entry h a o in let r = settled (states h) at a o in let w = ap (λ (z : HartState). awaits z a o) now in let n = none a o in omega arith),
       ))
       (λ k a o ne. no_claim k a o ∙ sym (no_entry k a o))
+
+-- one step after another
+pub keeps_then : (h : ℕ) (a b c : List HartView) → KeepsOthers h a b → KeepsOthers h b c → KeepsOthers h a c
+keeps_then h a b c p q = record { harts = q.harts ∙ p.harts; stages = λ k st ne s. q.stages k st ne (p.stages k st ne s) }
 
 -- ---- states and stages
 pub runs_settled : (z : HartState) → IsAt z Running → (a o : ℕ) → awaits z a o ≡ 0
@@ -375,8 +392,8 @@ module _ (harts h found : ℕ) (c c' : Crew) (is : c' ≡ crew (noted h (after_q
       settle true s = s
       settle false s = s
 
-  pub quiet_others : (k : ℕ) (sk : Stage) → k ≢ h → stands k sk c.harts → stands k sk c'.harts
-  quiet_others k sk ne s = ⊎_elim
-      (λ (r : stands h Running c.harts). others harts h Running (after_quiet harts h found) (Quieted found) c c' is r k sk ne s)
-      (λ (r : stands h Quiet c.harts). others harts h Quiet (after_quiet harts h found) (Quieted found) c c' is r k sk ne s)
+  pub quiet_keeps : KeepsOthers h c.harts c'.harts
+  quiet_keeps = ⊎_elim
+      (λ (r : stands h Running c.harts). keeps harts h Running (after_quiet harts h found) (Quieted found) c c' is r)
+      (λ (r : stands h Quiet c.harts). keeps harts h Quiet (after_quiet harts h found) (Quieted found) c c' is r)
       stood

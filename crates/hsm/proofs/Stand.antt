@@ -12,6 +12,7 @@ use Rattle.hsm_words.specs.declared.view.Crew.{Crew}
 use Rattle.hsm_words.specs.Words.{crew}
 use Rattle.hsm_rule.specs.Rule.{noted, stands}
 use Rattle.hsm_steps.specs.Told.{after_claim, after_look}
+use Rattle.hsm.specs.Calls.{stage_of}
 
 pub stands_noted : (h : ℕ) (st st' : Stage) (x : Deed) (vs : List HartView) → stands h st vs → stands h st' (noted h st' x vs)
 stands_noted h st st' x [] s = s
@@ -67,3 +68,15 @@ stands_other h k st' st x (v ∷ vs) ne s =
     (λ (mine : (v.hart ≡ k) × (v.stage ≡ st)). inl mine)
     (λ (other : (v.hart ≢ k) × stands k st vs). inr (other.0, stands_other h k st' st x vs ne other.1))
     s))
+
+-- the stage at which a hart stands
+pub stands_stage : (h : ℕ) (st : Stage) (vs : List HartView) → stands h st vs → stage_of h vs ≡ st
+stands_stage h st [] s = absurd s
+stands_stage h st (v ∷ vs) s =
+    ⊎_elim
+    (λ (hit : (v.hart ≡ h) × (v.stage ≡ st)). rw (eq-eqb v.hart h hit.0) hit.1)
+    (λ (miss : (v.hart ≢ h) × stands h st vs). rw (ne_eqb v.hart h miss.0) (stands_stage h st vs miss.1))
+    s
+
+pub stands_own : (h : ℕ) (st : Stage) (vs : List HartView) → stands h st vs → stands h (stage_of h vs) vs
+stands_own h st vs s = subst (λ (x : Stage). stands h x vs) (sym (stands_stage h st vs s)) s

@@ -1,6 +1,7 @@
 -- What a call adds to the view of its seat, what it answers, and what it is with the one seat of all harts.
 use Rattle.std.specs.Prelude.{◌≡◌, ◌≢◌, ◌⊎◌, ℕ, ◌+◌, ◌*◌, Bool, true, false, List, [], ◌∷◌, ◌==◌, if◌then◌else◌}
 use Rattle.std.specs.Int.{bit_at}
+use Rattle.hsm_words.specs.Words.{numbers}
 use Rattle.hsm_words.specs.declared.view.Stage.{Stage}
 use Rattle.hsm_words.specs.declared.view.Stage.TheVariants.{Out, Ready, Addressed, Loaded, Running, Claiming, Half, Stored, Asleep}
 use Rattle.hsm_words.specs.declared.view.Deed.TheVariants.{Claimed, Wrote, Armed, Looked, Read, Entered}
@@ -37,11 +38,17 @@ stage_of h (v ∷ vs) = if v.hart == h then v.stage else stage_of h vs
 
 -- the seat has the hart, at whatever stage
 abbrev pub Sits : ℕ → List HartView → Type 0
-Sits h vs = stands h (stage_of h vs) vs
+Sits h vs = (st : Stage) × stands h st vs
 
--- the other harts of the seat stand where they stood
-abbrev pub KeepsOthers : ℕ → List HartView → List HartView → Type 0
-KeepsOthers h vs vs' = (k : ℕ) (st : Stage) → k ≢ h → stands k st vs → stands k st vs'
+-- the seat has the same harts, and each stands where it stood
+pub record KeepsAll (vs vs' : List HartView) : Type 0 where
+  pub harts : numbers vs' ≡ numbers vs
+  pub stages : (k : ℕ) (st : Stage) → stands k st vs → stands k st vs'
+
+-- the seat has the same harts, and all but one stand where they stood
+pub record KeepsOthers (h : ℕ) (vs vs' : List HartView) : Type 0 where
+  pub harts : numbers vs' ≡ numbers vs
+  pub stages : (k : ℕ) (st : Stage) → k ≢ h → stands k st vs → stands k st vs'
 
 -- Freshness: the status of a hart of the seat itself
 pub record IsOwnStatus (h : ℕ) (vs : List HartView) (x : State) : Type 0 where

@@ -1,6 +1,7 @@
 -- Lists of seats: one that grows by the first hart of the rest, and one that shrinks from its end.
-use Rattle.std.proofs.Common.{◌≡◌, ◌+◌, ◌<◌, List, [], ◌∷◌, ◌++◌, length, Option, Some, None, IsSome, refl, sym, ap, ◌∙◌, arith, take, drop, append_assoc, append-nil, rules, subst}
+use Rattle.std.proofs.Common.{IsSome, List, None, Option, Some, [], ap, append-nil, append_assoc, arith, drop, length, refl, rules, slice_get, subst, suc, sym, take, zero, ℕ, ◌++◌, ◌+◌, ◌<◌, ◌∙◌, ◌∷◌, ◌≡◌}
 use Rattle.atomic_table.specs.declared.shared.Seat.{Seat}
+use Rattle.hsm_words.specs.Words.{numbers, numbers_from}
 use Rattle.hsm_words.specs.declared.view.HartView.{HartView}
 use Rattle.hsm_words.specs.declared.view.Crew.{Crew}
 use Rattle.hsm_steps.specs.declared.table.HartTable.{HartTable}
@@ -8,6 +9,18 @@ use Rattle.hsm_steps.specs.Seating.{IsSeatOf, IsSomeSeatOf, AreSeatsOf, harts_in
 
 abbrev S : Type 0
 S = Option (Seat (Unit {0}) Crew)
+
+abbrev head_or : {A : Type 0} → A → List A → A
+head_or d [] = d
+head_or d (x ∷ xs) = x
+
+abbrev tail_of : {A : Type 0} → List A → List A
+tail_of [] = []
+tail_of (x ∷ xs) = xs
+
+abbrev some_or : {A : Type 0} → A → Option A → A
+some_or d None = d
+some_or d (Some x) = x
 
 pub by_seat_push : (ss : List S) (s : S) (rest : List (List HartView)) → harts_by_seat (ss ++ s ∷ []) ++ rest ≡ harts_by_seat ss ++ harts_at s ∷ rest
 by_seat_push [] s rest = refl
@@ -45,6 +58,33 @@ last_seat t items new s w is some_w are =
 pub one_rest : (vs : List HartView) → 0 < length vs → take 1 vs ∷ one_by_one (drop 1 vs) ≡ one_by_one vs
 one_rest [] pos = absurd (omega arith)
 one_rest (v ∷ vs) pos = refl
+
+pub length_numbers : (vs : List HartView) → length (numbers vs) ≡ length vs
+length_numbers [] = refl
+length_numbers (v ∷ vs) = ap suc (length_numbers vs)
+
+pub length_from : (first n : ℕ) → length (numbers_from first n) ≡ n
+length_from first zero = refl
+length_from first (suc n) = ap suc (length_from (suc first) n)
+
+-- where none is left
+pub by_seat_done : (ss : List S) (vs : List HartView) (all : List (List HartView)) → length vs ≡ 0 → harts_by_seat ss ++ one_by_one vs ≡ all → harts_by_seat ss ≡ all
+by_seat_done ss [] all z e = sym (append-nil (harts_by_seat ss)) ∙ e
+by_seat_done ss (v ∷ vs) all z e = absurd (omega arith)
+
+-- a list of single harts is in the order of their numbers
+pub in_order : (ss : List S) (vs : List HartView) (first n : ℕ) → harts_by_seat ss ≡ one_by_one vs → numbers vs ≡ numbers_from first n
+    → (i : ℕ) (s : Seat (Unit {0}) Crew) → slice_get ss i ≡ Some (Some s) → numbers (harts_in s) ≡ (first + i) ∷ []
+in_order [] vs first n same own i s at = absurd (cc)
+in_order (x ∷ ss) [] first n same own i s at = absurd (cc)
+in_order (x ∷ ss) (v ∷ vs) first zero same own i s at = absurd (cc)
+in_order (x ∷ ss) (v ∷ vs) first (suc n) same own zero s at =
+    let here : harts_at x ≡ v ∷ [] = ap (head_or (harts_at x)) same in
+    let is : x ≡ Some s = ap (some_or x) at in
+    let mine : harts_in s ≡ v ∷ [] = ap harts_at (sym is) ∙ here in
+    ap numbers mine ∙ ap (λ (k : ℕ). k ∷ []) (let e : v.hart ≡ first = ap (head_or first) own in omega arith)
+in_order (x ∷ ss) (v ∷ vs) first (suc n) same own (suc i) s at =
+    in_order ss vs (suc first) n (ap tail_of same) (ap tail_of own) i s at ∙ ap (λ (k : ℕ). k ∷ []) (let e : suc first + i ≡ first + suc i = omega arith in e)
 
 pub both_rest : (vs : List HartView) → take 1 vs ++ drop 1 vs ≡ vs
 both_rest [] = refl

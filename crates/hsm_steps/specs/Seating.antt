@@ -1,6 +1,7 @@
 -- Seats of a hart table.
-use Rattle.std.specs.Prelude.{◌≡◌, ℕ, List, [], ◌∷◌, ◌++◌, Option, Some, None}
+use Rattle.std.specs.Prelude.{◌≡◌, ℕ, List, [], ◌∷◌, ◌++◌, Option, Some, None, slice_get}
 use Rattle.atomic_table.specs.declared.shared.Seat.{Seat}
+use Rattle.hsm_words.specs.Words.{numbers, numbers_from}
 use Rattle.hsm_words.specs.declared.view.HartView.{HartView}
 use Rattle.hsm_words.specs.declared.view.Crew.{Crew}
 use Rattle.hsm_steps.specs.declared.table.HartTable.{HartTable}
@@ -20,6 +21,14 @@ crew_of s = s.me.0
 -- the harts of the seat, each with its stage and its steps
 abbrev pub harts_in : Seat (Unit {0}) Crew → List HartView
 harts_in s = s.me.0.harts
+
+-- the seat has every hart of the table, in the order of their numbers
+abbrev pub IsOfAll : HartTable → Seat (Unit {0}) Crew → Type 0
+IsOfAll t s = numbers (harts_in s) ≡ numbers_from 0 (harts_of t)
+
+-- each seat of a list has just the hart of its place
+abbrev pub AreInOrder : List (Option (Seat (Unit {0}) Crew)) → Type 0
+AreInOrder ss = (i : ℕ) (s : Seat (Unit {0}) Crew) → slice_get ss i ≡ Some (Some s) → numbers (harts_in s) ≡ i ∷ []
 
 -- ---- lists of seats, of which a taken one leaves None
 abbrev pub IsSomeSeatOf : HartTable → Option (Seat (Unit {0}) Crew) → Type 0

@@ -10,7 +10,7 @@ use Rattle.hsm_words.specs.declared.view.Deed.TheVariants.{Claimed, Wrote, Armed
 use Rattle.hsm_words.specs.declared.view.HartView.{HartView}
 use Rattle.hsm_words.specs.declared.view.Crew.{Crew}
 use Rattle.hsm_rule.specs.Rule.{IsSite, noted, stands}
-use Rattle.hsm_rule.specs.States.{HartState, start_pending, IsStarted, Shows, Tells}
+use Rattle.hsm_rule.specs.States.{HartState, stopped, start_pending, started, IsStarted, Shows, Tells}
 
 -- ---- what each step tells
 abbrev pub Sat : Type 0
@@ -92,11 +92,15 @@ Unquiets h st m found m' = Notes h Running (Unquieted found) m m'
 
 -- ---- the table at the start
 abbrev pub opening_from : ℕ → ℕ → ℕ → List HartView
-opening_from started first zero = []
-opening_from started first (suc n) = hart_view first (if first == started then Running else Out) [] ∷ opening_from started (suc first) n
+opening_from lone first zero = []
+opening_from lone first (suc n) = hart_view first (if first == lone then Running else Out) [] ∷ opening_from lone (suc first) n
 
 abbrev pub opening_crew : ℕ → ℕ → Crew
-opening_crew harts started = crew (opening_from started 0 harts)
+opening_crew harts lone = crew (opening_from lone 0 harts)
+
+-- the states at the start
+abbrev pub opening_states : ℕ → ℕ → HartState
+opening_states first k = if k == first then started else stopped
 
 -- ---- seats
 abbrev pub first_hart : Crew → Crew

@@ -1,8 +1,11 @@
 //! A table is made with one seat of all harts, which is parted and joined again.
 
-ghost use Rattle.std.specs.Prelude.{◌≡◌, ◌≢◌, ◌<◌, ◌≤◌, [], length, IfOk, IfErr};
-ghost use Rattle.hsm_steps.specs.Told.{opening_crew, first_hart, other_harts, together};
-ghost use Rattle.hsm_steps.specs.Seating.{IsSeatOf, harts_of, crew_of, harts_in, AreSeatsOf, harts_by_seat, all_harts, one_by_one};
+ghost use Rattle.std.specs.Prelude.{◌≡◌, ◌≢◌, ℕ, ◌<◌, ◌≤◌, ◌==◌, if◌then◌else◌, [], length, IfOk, IfErr};
+ghost use Rattle.hsm_rule.specs.Rule.{stands};
+ghost use Rattle.hsm_rule.specs.States.{Shows};
+ghost use Rattle.hsm_words.specs.declared.view.Stage.TheVariants.{Out, Running};
+ghost use Rattle.hsm_steps.specs.Told.{opening_states, opening_crew, first_hart, other_harts, together};
+ghost use Rattle.hsm_steps.specs.Seating.{IsSeatOf, harts_of, crew_of, harts_in, IsOfAll, AreInOrder, AreSeatsOf, harts_by_seat, all_harts, one_by_one};
 ghost use Rattle.arrayvec.specs.ArrayVec.{array_vec_len};
 ghost use Rattle.board_model.specs.declared.refusal.Refusal.TheVariants.{Memory};
 
@@ -23,6 +26,9 @@ impl HartTable {
         ensures seat { IfOk result (λ t. IsSeatOf t.0 t.1) }
         ensures harts { IfOk result (λ t. harts_of t.0 ≡ shape.harts) }
         ensures opening { IfOk result (λ t. crew_of t.1 ≡ opening_crew shape.harts started) }
+        ensures stands { IfOk result (λ t. (h : ℕ) → h < shape.harts → stands h (if h == started then Running else Out) (harts_in t.1)) }
+        ensures all { IfOk result (λ t. IsOfAll t.0 t.1) }
+        ensures shows { IfOk result (λ t. Shows shape.harts (crew_of t.1) (opening_states started)) }
         ensures memory { IfErr result (λ e. e ≡ Memory) }
     {
         let hart = started.number();
@@ -71,8 +77,9 @@ impl HartTable {
     /// A seat for each hart of a seat of all harts, in the order of their numbers.
     pub fn split(&self, seat: HartSeat) -> Seats
         requires seat { IsSeatOf self.now seat }
-        requires all { length (harts_in seat) ≡ harts_of self.now }
+        requires all { IsOfAll self.now seat }
         ensures seats { AreSeatsOf self.now result.items }
+        ensures order { AreInOrder result.items }
         ensures apart { harts_by_seat result.items ≡ one_by_one (harts_in seat) }
         ensures harts { all_harts result.items ≡ harts_in seat }
     {

@@ -1,5 +1,5 @@
 -- What the calls are with the one seat of all harts.
-use Rattle.std.proofs.Common.{◌≡◌, ◌≢◌, ◌⊎◌, ◌↔◌, ℕ, ◌+◌, ◌-◌, ◌%◌, ◌^◌, ◌<◌, ◌≤◌, Bool, true, false, not, true≢false, IsTrue, if◌then◌else◌, ◌==◌, eqb, refl, sym, ap, ◌∙◌, subst, ⊎_elim, inl, inr, arith, eq-eqb, ne_eqb, w64}
+use Rattle.std.proofs.Common.{List, [], ◌∷◌, ◌≡◌, ◌≢◌, ◌⊎◌, ◌↔◌, ℕ, ◌+◌, ◌-◌, ◌%◌, ◌^◌, ◌<◌, ◌≤◌, Bool, true, false, not, true≢false, IsTrue, if◌then◌else◌, ◌==◌, eqb, refl, sym, ap, ◌∙◌, subst, ⊎_elim, inl, inr, arith, eq-eqb, ne_eqb, w64}
 use Rattle.std.specs.Int.{bit_at}
 use Rattle.std.proofs.lemmas.Nat.Bits.{bit_at-lt, bit_at-zero, bit_at-trailing_zeros, bit_at_cat_low, bit_at_above, same_from_bits}
 use Rattle.std.proofs.Common.{◌/◌, div-add-mod'}
@@ -9,8 +9,9 @@ use mathlib.Core.Logic.{dite}
 use native.Mathlib.Decide.{ℕ_discrete, dec_le}
 use Rattle.ipi.specs.declared.view.Deed.{Deed}
 use Rattle.ipi.specs.declared.view.Deed.TheVariants.{Raised, Took, Looked}
+use Rattle.ipi.specs.declared.view.Diary.{Diary}
 use Rattle.ipi.specs.declared.view.Crew.{Crew}
-use Rattle.ipi.specs.Ledger.{crew, raise_of, take_of, raised, taken, seats, noted, IsWhole, InRange}
+use Rattle.ipi.specs.Ledger.{numbers, crew, raise_of, take_of, raised, taken, seats, noted, IsWhole, InRange}
 use Rattle.ipi.specs.Pairs.{IsPending, SameHarts, Shows, with_pair, without_target}
 use Rattle.ipi.specs.Senders.{Has}
 use Rattle.ipi.proofs.Keeps.{weigh_noted, seats_noted}
@@ -30,11 +31,21 @@ nothing true = refl
 nothing false = refl
 
 -- ---- the harts of the seat stay
+numbers_noted : (by : ℕ) (x : Deed) (ds : List Diary) → numbers (noted by x ds) ≡ numbers ds
+numbers_noted by x [] = refl
+numbers_noted by x (d ∷ ds) =
+    dite (ℕ_discrete d.hart by)
+    (λ hit. rw (eq-eqb d.hart by hit) refl)
+    (λ miss. rw (ne_eqb d.hart by miss) (ap (λ (l : List ℕ). d.hart ∷ l) (numbers_noted by x ds)))
+
 pub same_harts : (by : ℕ) (x : Deed) (c c' : Crew) → c' ≡ crew (noted by x c.diaries) → SameHarts c c'
-same_harts by x c c' is h = ap (seats h) is ∙ seats_noted h by x c.diaries
+same_harts by x c c' is = record {
+  harts = ap (λ (d : Crew). numbers d.diaries) is ∙ numbers_noted by x c.diaries;
+  each = λ h. ap (seats h) is ∙ seats_noted h by x c.diaries;
+}
 
 whole_still : (harts : ℕ) (c c' : Crew) → SameHarts c c' → IsWhole harts c → IsWhole harts c'
-whole_still harts c c' same whole h lt = same h ∙ whole h lt
+whole_still harts c c' same whole h lt = same.each h ∙ whole h lt
 
 -- ---- tests
 pub not_zero_of : (n : ℕ) → IsTrue (not (eqb n 0)) → n ≢ 0

@@ -15,7 +15,8 @@ use Rattle.ipi.specs.declared.view.Deed.TheVariants.{Raised, Took, Looked}
 use Rattle.ipi.specs.declared.view.Diary.{Diary}
 use Rattle.ipi.specs.declared.view.Crew.{Crew}
 use Rattle.tallies.specs.Sums.{total}
-use Rattle.ipi.specs.Ledger.{Each, diary, crew, raise_of, take_of, raised_by, taken_by, raised, taken, is_of, seats, owes, IsOwed, Kept, noted, Deeds, fresh_from, opening_crew, IsWhole, Tells, deeds_of, InRange, Raises, Takes, Looks, first_hart, other_harts, together, nobody}
+use Rattle.ipi.specs.Ledger.{Each, diary, crew, raise_of, take_of, raised_by, taken_by, raised, taken, is_of, seats, owes, IsOwed, Kept, noted, Deeds, fresh_from, opening_crew, numbers, numbers_from, IsWhole, Tells, deeds_of, InRange, Raises, Takes, Looks, first_hart, other_harts, together, nobody}
+use Rattle.ipi.specs.Pairs.{Shows}
 use Rattle.tallies.proofs.Totals.{total-set, two_at_most_total, at_most_total, total_none, total_alone, total_split, total_join, total-append}
 
 -- ---- facts of each diary
@@ -360,6 +361,22 @@ opens harts words long zeros = record {
     at_first : (id : ℕ) (c : Crew) → get_elem? (opening_crew harts ∷ []) id ≡ some c → Each (IsOwed words) c.diaries
     at_first zero c e = subst (λ (v : Crew). Each (IsOwed words) v.diaries) (some-injective (opening_crew harts) c e) (fresh_owed words 0 harts)
     at_first (suc id) c e = absurd (some-ne-none c (sym e))
+
+pub opens_numbered : (first n : ℕ) → numbers (fresh_from first n) ≡ numbers_from first n
+opens_numbered first zero = refl
+opens_numbered first (suc n) = ap (λ (l : List ℕ). first ∷ l) (opens_numbered (suc first) n)
+
+pub opens_seated : (harts h : ℕ) → h < harts → seats h (opening_crew harts) ≡ 1
+opens_seated harts h lt = fresh_seat h 0 harts (omega arith) (omega arith)
+
+pub opens_shown : (harts : ℕ) → Shows harts (opening_crew harts) (λ _ _. false)
+opens_shown harts = (
+  opens_seated harts,
+  (λ s t. (
+    (λ yes. absurd (true≢false (sym yes))),
+    (λ p. let a = fresh_weight s (raise_of s t) 0 harts in let b = fresh_weight t (take_of s) 0 harts in absurd (omega arith)),
+  )),
+)
 
 -- ---- seats are parted and joined
 parted : {A : Type 0} (f : A → ℕ) (xs : List A) → total f (take 1 xs) + total f (drop 1 xs) ≡ total f xs

@@ -78,6 +78,16 @@ noted h x (d ∷ ds) = if d.hart == h then diary d.hart (x ∷ d.deeds) ∷ ds e
 abbrev pub Deeds : Type 0
 Deeds = Me (Unit {0}) Crew
 
+-- the numbers of the harts, in the order of the list
+abbrev pub numbers : List Diary → List ℕ
+numbers [] = []
+numbers (d ∷ ds) = d.hart ∷ numbers ds
+
+-- the n numbers from first on
+abbrev pub numbers_from : ℕ → ℕ → List ℕ
+numbers_from first zero = []
+numbers_from first (suc n) = first ∷ numbers_from (suc first) n
+
 -- no step yet
 abbrev pub fresh_from : ℕ → ℕ → List Diary
 fresh_from first zero = []

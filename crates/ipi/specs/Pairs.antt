@@ -4,7 +4,7 @@ use Rattle.std.specs.Int.{bit_at}
 use Rattle.atomic_table.specs.Table.{State}
 use Rattle.tallies.specs.Sums.{total}
 use Rattle.ipi.specs.declared.view.Crew.{Crew}
-use Rattle.ipi.specs.Ledger.{raised, taken, seats, IsWhole, Kept}
+use Rattle.ipi.specs.Ledger.{numbers, raised, taken, seats, IsWhole, Kept}
 
 -- The ledger of interrupts, between any two steps: for each pair the raises that found it clear, over all seats, are the takes whose answer has the sender,
 -- and one more where its bit is set.
@@ -18,8 +18,9 @@ abbrev pub Sits : ℕ → Crew → Type 0
 Sits h c = seats h c ≡ 1
 
 -- two views of a seat have the same harts
-abbrev pub SameHarts : Crew → Crew → Type 0
-SameHarts c c' = (h : ℕ) → seats h c' ≡ seats h c
+pub record SameHarts (c c' : Crew) : Type 0 where
+  pub harts : numbers c'.diaries ≡ numbers c.diaries
+  pub each : (h : ℕ) → seats h c' ≡ seats h c
 
 -- the pair is pending, as the view of a seat of all harts tells
 abbrev pub IsPending : Crew → ℕ → ℕ → Type 0

@@ -1,9 +1,10 @@
 //! A table is made with one seat of all harts, which is parted and joined again.
 
-ghost use Rattle.std.specs.Prelude.{◌≡◌, ◌<◌, ◌≤◌, [], length, IfOk, IfErr};
+ghost use Rattle.std.specs.Prelude.{◌≡◌, ℕ, ◌<◌, ◌≤◌, false, IfOk, IfErr};
 ghost use Rattle.arrayvec.specs.ArrayVec.{array_vec_len};
 ghost use Rattle.ipi.specs.Ledger.{opening_crew, first_hart, other_harts, together};
-ghost use Rattle.ipi.specs.Seating.{IsSeatOf, harts_of, crew_of, diaries_in, AreSeatsOf, diaries_by_seat, all_diaries, one_by_one};
+ghost use Rattle.ipi.specs.Pairs.{Sits, Shows};
+ghost use Rattle.ipi.specs.Seating.{IsSeatOf, harts_of, crew_of, diaries_in, IsOfAll, AreInOrder, AreSeatsOf, diaries_by_seat, all_diaries, one_by_one};
 ghost use Rattle.board_model.specs.declared.refusal.Refusal.TheVariants.{Memory};
 
 use crate::table::{ByHart, IpiSeat, PendingTable, Seats};
@@ -18,6 +19,9 @@ impl PendingTable {
         ensures seat { IfOk result (λ t. IsSeatOf t.0 t.1) }
         ensures harts { IfOk result (λ t. harts_of t.0 ≡ shape.harts) }
         ensures opening { IfOk result (λ t. crew_of t.1 ≡ opening_crew shape.harts) }
+        ensures all { IfOk result (λ t. IsOfAll t.0 t.1) }
+        ensures sits { IfOk result (λ t. (h : ℕ) → h < shape.harts → Sits h (crew_of t.1)) }
+        ensures shows { IfOk result (λ t. Shows shape.harts (crew_of t.1) (λ _ _. false)) }
         ensures memory { IfErr result (λ e. e ≡ Memory) }
     {
         let harts = shape.harts();
@@ -60,8 +64,9 @@ impl PendingTable {
     /// A seat for each hart of a seat of all harts, in the order of their numbers.
     pub fn split(&self, seat: IpiSeat) -> Seats
         requires seat { IsSeatOf self.now seat }
-        requires all { length (diaries_in seat) ≡ harts_of self.now }
+        requires all { IsOfAll self.now seat }
         ensures seats { AreSeatsOf self.now result.items }
+        ensures order { AreInOrder result.items }
         ensures apart { diaries_by_seat result.items ≡ one_by_one (diaries_in seat) }
         ensures harts { all_diaries result.items ≡ diaries_in seat }
     {

@@ -1,6 +1,6 @@
 use Rattle.std.proofs.Common.{arith}
 use Rattle.std.proofs.lemmas.Nat.{one_shl}
-use Rattle.hsm.proofs.Alone.{quiet_alone, quiet_stands, quiet_others}
+use Rattle.hsm.proofs.Alone.{quiet_alone, quiet_stands, quiet_keeps}
 use Rattle.hsm.proofs.calls.quiet.Goals as goal
 
 pub returns-clause-stands : goal.returns-clause-stands
@@ -23,7 +23,7 @@ returns-clause-still c =
 
 pub returns-clause-others : goal.returns-clause-others
 returns-clause-others c =
-    quiet_others c.args.table.now.table.shared.key.harts c.args.by c.quiet-found.result c.args.seat.me.0 c.quiet-found.new.seat.me.0 c.quiet-found.ensures.told c.requires.acts
+    quiet_keeps c.args.table.now.table.shared.key.harts c.args.by c.quiet-found.result c.args.seat.me.0 c.quiet-found.new.seat.me.0 c.quiet-found.ensures.told c.requires.acts
 
 pub returns-clause-alone : goal.returns-clause-alone
 returns-clause-alone c =

@@ -4,7 +4,7 @@ use Rattle.std.proofs.lemmas.Nat.Bits.{shr_and_one}
 use Rattle.hsm_words.specs.declared.view.Stage.TheVariants.{Claiming, Half, Stored, Running}
 use Rattle.hsm_words.specs.declared.view.Deed.TheVariants.{Claimed, Wrote, Armed}
 use Rattle.hsm.proofs.Stand.{stands_after}
-use Rattle.hsm.proofs.Alone.{others, stays_running, claims_it, start_refused, start_granted}
+use Rattle.hsm.proofs.Alone.{keeps, keeps_then, stays_running, claims_it, start_refused, start_granted}
 use Rattle.hsm.proofs.calls.start.Goals as goal
 
 pub returns-then-found-bit-ne0-clause-stands : goal.returns-then-found-bit-ne0-clause-stands
@@ -31,7 +31,7 @@ returns-then-found-bit-ne0-clause-others c =
     let c1 = c.claim-found.new.seat.me.0 in
     let taken : bit_at found t ≢ 0 = λ z. c.if-found-bit-ne0.true (shr_and_one found c.number-bit.result ∙ (ap (bit_at found) c.number-bit.ensures.value ∙ z)) in
     let is = stays_running h t a o found c0 c1 c.claim-found.ensures.told taken in
-    others c.args.table.now.table.shared.key.harts h Running Running (Claimed t a o found) c0 c1 is c.requires.acts
+    keeps c.args.table.now.table.shared.key.harts h Running Running (Claimed t a o found) c0 c1 is c.requires.acts
 
 pub returns-then-found-bit-ne0-clause-alone : goal.returns-then-found-bit-ne0-clause-alone
 returns-then-found-bit-ne0-clause-alone c = λ states shown.
@@ -115,7 +115,7 @@ returns-clause-stands c =
     stands_after h (Stored t a o) Running (Armed t) c3 c4 c.arm.ensures.told s3
 
 pub returns-clause-others : goal.returns-clause-others
-returns-clause-others c = λ k sk ne s.
+returns-clause-others c =
     let h = c.args.by in
     let t = c.args.target in
     let a = c.value-site.result in
@@ -132,10 +132,13 @@ returns-clause-others c = λ k sk ne s.
     let s3 = stands_after h (Half t a o) (Stored t a o) (Wrote (2 + 2 * t) o) c2 c3 c.put_opaque.ensures.told s2 in
     let c4 = c.arm.new.seat.me.0 in
     let n = c.args.table.now.table.shared.key.harts in
-    others n h (Stored t a o) Running (Armed t) c3 c4 c.arm.ensures.told s3 k sk ne
-    (others n h (Half t a o) (Stored t a o) (Wrote (2 + 2 * t) o) c2 c3 c.put_opaque.ensures.told s2 k sk ne
-    (others n h (Claiming t a o) (Half t a o) (Wrote (1 + 2 * t) a) c1 c2 c.put_address.ensures.told s1 k sk ne
-    (others n h Running (Claiming t a o) (Claimed t a o found) c0 c1 is1 c.requires.acts k sk ne s)))
+    keeps_then h c0.harts c3.harts c4.harts
+    (keeps_then h c0.harts c2.harts c3.harts
+    (keeps_then h c0.harts c1.harts c2.harts
+    (keeps n h Running (Claiming t a o) (Claimed t a o found) c0 c1 is1 c.requires.acts)
+    (keeps n h (Claiming t a o) (Half t a o) (Wrote (1 + 2 * t) a) c1 c2 c.put_address.ensures.told s1))
+    (keeps n h (Half t a o) (Stored t a o) (Wrote (2 + 2 * t) o) c2 c3 c.put_opaque.ensures.told s2))
+    (keeps n h (Stored t a o) Running (Armed t) c3 c4 c.arm.ensures.told s3)
 
 pub returns-clause-alone : goal.returns-clause-alone
 returns-clause-alone c = λ states shown.

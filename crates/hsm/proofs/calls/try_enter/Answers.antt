@@ -4,7 +4,7 @@ use Rattle.std.proofs.lemmas.Nat.Bits.{shr_and_one}
 use Rattle.hsm_words.specs.declared.view.Stage.TheVariants.{Out, Ready, Addressed, Loaded, Running}
 use Rattle.hsm_words.specs.declared.view.Deed.TheVariants.{Looked, Read, Entered}
 use Rattle.hsm.proofs.Stand.{stands_after}
-use Rattle.hsm.proofs.Alone.{others, unarmed, gone_in, stays_out, gets_ready, enters_none, enters_some}
+use Rattle.hsm.proofs.Alone.{keeps, keeps_then, unarmed, gone_in, stays_out, gets_ready, enters_none, enters_some}
 use Rattle.hsm.proofs.calls.try_enter.Goals as goal
 
 pub returns-then-found-hart-ne1-clause-stands : goal.returns-then-found-hart-ne1-clause-stands
@@ -25,7 +25,7 @@ returns-then-found-hart-ne1-clause-others c =
     let c1 = c.look_out-found.new.seat.me.0 in
     let z = unarmed h found (λ e. c.if-found-hart-ne1.true (shr_and_one found (8 + c.number-hart.result) ∙ (ap (λ n. bit_at found (8 + n)) c.number-hart.ensures.value ∙ e))) in
     let is = stays_out h found c0 c1 c.look_out-found.ensures.told z in
-    others c.args.table.now.table.shared.key.harts h Out Out (Looked found) c0 c1 is c.requires.acts
+    keeps c.args.table.now.table.shared.key.harts h Out Out (Looked found) c0 c1 is c.requires.acts
 
 pub returns-then-found-hart-ne1-clause-alone : goal.returns-then-found-hart-ne1-clause-alone
 returns-then-found-hart-ne1-clause-alone c = λ states shown.
@@ -55,7 +55,7 @@ returns-then-found-hart-ne0-clause-others c =
     let c1 = c.look_out-found.new.seat.me.0 in
     let z = gone_in h found (λ e. c.if-found-hart-ne0.true (shr_and_one found (16 + c.number-hart.result) ∙ (ap (λ n. bit_at found (16 + n)) c.number-hart.ensures.value ∙ e))) in
     let is = stays_out h found c0 c1 c.look_out-found.ensures.told z in
-    others c.args.table.now.table.shared.key.harts h Out Out (Looked found) c0 c1 is c.requires.acts
+    keeps c.args.table.now.table.shared.key.harts h Out Out (Looked found) c0 c1 is c.requires.acts
 
 pub returns-then-found-hart-ne0-clause-alone : goal.returns-then-found-hart-ne0-clause-alone
 returns-then-found-hart-ne0-clause-alone c = λ states shown.
@@ -132,7 +132,7 @@ returns-clause-stands c =
     stands_after h (Loaded a o) Running (Entered h a o) c3 c4 c.enter.ensures.told s3
 
 pub returns-clause-others : goal.returns-clause-others
-returns-clause-others c = λ k sk ne s.
+returns-clause-others c =
     let h = c.args.by in
     let found = c.look_out-found.result in
     let c0 = c.args.seat.me.0 in
@@ -149,10 +149,13 @@ returns-clause-others c = λ k sk ne s.
     let s3 = stands_after h (Addressed a) (Loaded a o) (Read (2 + 2 * h) o) c2 c3 c.read_opaque-opaque.ensures.told s2 in
     let c4 = c.enter.new.seat.me.0 in
     let n = c.args.table.now.table.shared.key.harts in
-    others n h (Loaded a o) Running (Entered h a o) c3 c4 c.enter.ensures.told s3 k sk ne
-    (others n h (Addressed a) (Loaded a o) (Read (2 + 2 * h) o) c2 c3 c.read_opaque-opaque.ensures.told s2 k sk ne
-    (others n h Ready (Addressed a) (Read (1 + 2 * h) a) c1 c2 c.read_address-site.ensures.told s1 k sk ne
-    (others n h Out Ready (Looked found) c0 c1 is1 c.requires.acts k sk ne s)))
+    keeps_then h c0.harts c3.harts c4.harts
+    (keeps_then h c0.harts c2.harts c3.harts
+    (keeps_then h c0.harts c1.harts c2.harts
+    (keeps n h Out Ready (Looked found) c0 c1 is1 c.requires.acts)
+    (keeps n h Ready (Addressed a) (Read (1 + 2 * h) a) c1 c2 c.read_address-site.ensures.told s1))
+    (keeps n h (Addressed a) (Loaded a o) (Read (2 + 2 * h) o) c2 c3 c.read_opaque-opaque.ensures.told s2))
+    (keeps n h (Loaded a o) Running (Entered h a o) c3 c4 c.enter.ensures.told s3)
 
 pub returns-clause-alone : goal.returns-clause-alone
 returns-clause-alone c = λ states shown.

@@ -1,6 +1,14 @@
-use Rattle.std.proofs.Common.{◌≡◌, ℕ, ◌+◌, ◌*◌, ◌<◌, List, [], ◌∷◌, arith, take, zero, suc, refl, length-take}
+use Rattle.std.proofs.Common.{◌==◌, if◌then◌else◌, sym, ap, ◌∙◌, subst, ◌≡◌, ℕ, ◌+◌, ◌*◌, ◌<◌, List, [], ◌∷◌, arith, take, zero, suc, refl, length-take}
 use Rattle.std.specs.Prelude.{slice_index}
-use Rattle.hsm_steps.proofs.Parting.{opens, first_word}
+use Rattle.hsm_words.specs.Words.{numbers, numbers_from}
+use Rattle.hsm_words.specs.declared.view.Stage.TheVariants.{Out, Running}
+use Rattle.hsm_words.specs.declared.view.HartView.{HartView}
+use Rattle.hsm_words.specs.declared.view.Crew.{Crew}
+use Rattle.hsm_rule.specs.Rule.{stands}
+use Rattle.hsm_rule.specs.States.{Shows}
+use Rattle.hsm_steps.specs.Told.{Sat, opening_states, opening_crew}
+use Rattle.hsm_steps.specs.declared.table.Setup.{Setup}
+use Rattle.hsm_steps.proofs.Parting.{opens, first_word, opens_standing, opens_numbered, opens_shown}
 use Rattle.hsm_steps.proofs.table.HartTable.new.Goals as goal
 
 first_kept : (n x : ℕ) (xs : List ℕ) → 0 < n → slice_index (take n (x ∷ xs)) 0 ≡ x
@@ -16,3 +24,20 @@ of_words-requires c =
     (opens c.harts.result c.args.started (take (1 + 2 * c.harts.result) (first_word c.args.started ∷ zeros)) (let lt = c.requires in omega arith) few
     (simp length-take (omega arith))
     (first_kept (1 + 2 * c.harts.result) (first_word c.args.started) zeros (omega arith)))
+
+pub returns-clause-stands : goal.returns-clause-stands
+returns-clause-stands c = λ h lt.
+    let size = c.harts.ensures.value in
+    let harts = ap (λ (m : Sat). m.0.harts) c.in_ok-table.ensures.4 in
+    subst (λ (vs : List HartView). stands h (if h == c.args.started then Running else Out) vs) (sym harts) (opens_standing c.harts.result c.args.started h (rw size lt))
+
+pub returns-clause-all : goal.returns-clause-all
+returns-clause-all c =
+    let size = c.harts.ensures.value in
+    ap (λ (m : Sat). numbers m.0.harts) c.in_ok-table.ensures.4 ∙ (opens_numbered c.args.started 0 c.harts.result ∙ ap (λ (n : ℕ). numbers_from 0 n) (sym (ap (λ (s : Setup). s.harts) c.in_ok-table.ensures.5)))
+
+pub returns-clause-shows : goal.returns-clause-shows
+returns-clause-shows c =
+    let size = c.harts.ensures.value in
+    let crew = ap (λ (m : Sat). m.0) c.in_ok-table.ensures.4 in
+    subst (λ (d : Crew). Shows c.args.shape.harts d (opening_states c.args.started)) (sym crew) (subst (λ (n : ℕ). Shows n (opening_crew c.harts.result c.args.started) (opening_states c.args.started)) size (opens_shown c.harts.result c.args.started))

@@ -1,8 +1,8 @@
-use Rattle.std.proofs.Common.{◌≡◌, ◌+◌, ◌<◌, ◌++◌, List, length, Some, ap, ◌∙◌, arith, drop, take}
+use Rattle.std.proofs.Common.{◌∷◌, [], List, Some, ap, arith, drop, length, refl, sym, take, ℕ, ◌++◌, ◌+◌, ◌<◌, ◌∙◌, ◌≡◌}
 use Rattle.ipi.specs.declared.view.Diary.{Diary}
 use Rattle.ipi.specs.declared.view.Crew.{Crew}
-use Rattle.ipi.specs.Seating.{diaries_in, diaries_by_seat, all_diaries}
-use Rattle.ipi.proofs.Lists.{by_seat_push, all_push, are_push, one_rest, both_rest, length_rest}
+use Rattle.ipi.specs.Seating.{diaries_in, harts_of, one_by_one, diaries_by_seat, all_diaries}
+use Rattle.ipi.proofs.Lists.{by_seat_push, all_push, are_push, one_rest, both_rest, length_rest, length_numbers, length_from, by_seat_done, in_order}
 use Rattle.ipi.proofs.table.PendingTable.split.Goals as goal
 
 pub loop-place-preserved : goal.loop-place-preserved
@@ -25,3 +25,19 @@ loop-place-preserved c =
       count = c.push.ensures.len ∙ ap (λ n. n + 1) inv.count;
       left = rw others (let n = length_rest harts some_left in omega arith);
     }
+
+pub loop-place-init : goal.loop-place-init
+loop-place-init c =
+    let size = sym (length_numbers (diaries_in c.args.seat)) ∙ (ap length c.requires.all ∙ length_from 0 (harts_of c.args.self.now)) in
+    record { seat = c.requires.seat; are = rw c.new-seats.ensures tt; apart = rw c.new-seats.ensures refl; harts = rw c.new-seats.ensures refl; count = rw c.new-seats.ensures refl; left = omega arith }
+
+pub returns-clause-order : goal.returns-clause-order
+returns-clause-order c = λ i s at.
+    let inv = c.loop-place.invariant in
+    let left = inv.left in
+    let size = c.harts-place-end.ensures.value in
+    let end = c.loop-place-test.false in
+    let none : length (diaries_in c.loop-place.rest) ≡ 0 = omega arith in
+    in_order c.loop-place.seats.items (diaries_in c.args.seat) 0 (harts_of c.args.self.now)
+    (by_seat_done c.loop-place.seats.items (diaries_in c.loop-place.rest) (one_by_one (diaries_in c.args.seat)) none inv.apart) c.requires.all i s at
+    ∙ ap (λ (k : ℕ). k ∷ []) (let e : 0 + i ≡ i = omega arith in e)

@@ -1,0 +1,53 @@
+-- The harts of a seat that is parted and joined.
+use Rattle.std.proofs.Common.{◌≡◌, ℕ, ◌+◌, ◌<◌, List, [], ◌∷◌, ◌++◌, length, refl, sym, ap, ◌∙◌, take, drop, arith, eq-eqb}
+use Rattle.tallies.specs.Sums.{total}
+use Rattle.tallies.proofs.Totals.{total-append}
+use Rattle.ipi.specs.declared.view.Diary.{Diary}
+use Rattle.ipi.specs.declared.view.Crew.{Crew}
+use Rattle.ipi.specs.Ledger.{numbers, is_of, seats, first_hart, other_harts, together}
+use Rattle.ipi.specs.Pairs.{SameHarts}
+use Rattle.table_tests.specs.Crowd.{AreFrom}
+
+-- a seat of the first hart alone has it
+pub sits_alone : (first : ℕ) (ds : List Diary) → AreFrom first ds → length ds ≡ 1 → total (is_of first) ds ≡ 1
+sits_alone first [] row one = absurd (omega arith)
+sits_alone first (d ∷ []) row one = let e : is_of first d ≡ 1 = rw (eq-eqb d.hart first row.0) refl in omega arith
+sits_alone first (d ∷ e ∷ ds) row one = absurd (omega arith)
+
+pub sits_first : (first : ℕ) (ds : List Diary) → AreFrom first ds → 0 < length ds → total (is_of first) (take 1 ds) ≡ 1
+sits_first first [] row pos = absurd (omega arith)
+sits_first first (d ∷ ds) row pos = let e : is_of first d ≡ 1 = rw (eq-eqb d.hart first row.0) refl in omega arith
+
+both : (ds : List Diary) → take 1 ds ++ drop 1 ds ≡ ds
+both [] = refl
+both (d ∷ ds) = refl
+
+numbers-append : (xs ys : List Diary) → numbers (xs ++ ys) ≡ numbers xs ++ numbers ys
+numbers-append [] ys = refl
+numbers-append (x ∷ xs) ys = ap (λ (l : List ℕ). x.hart ∷ l) (numbers-append xs ys)
+
+-- both parts kept their harts, so the whole keeps them
+pub same_whole : (c one others one' others' c' : Crew) → one ≡ first_hart c → others ≡ other_harts c → SameHarts one one' → SameHarts others others' → c' ≡ together one' others' → SameHarts c c'
+same_whole c one others one' others' c' is_one is_others same more is = record {
+  harts =
+      ap (λ (d : Crew). numbers d.diaries) is
+      ∙ (numbers-append one'.diaries others'.diaries
+      ∙ (ap (λ (l : List ℕ). l ++ numbers others'.diaries) (same.harts ∙ ap (λ (d : Crew). numbers d.diaries) is_one)
+      ∙ (ap (λ (l : List ℕ). numbers (take 1 c.diaries) ++ l) (more.harts ∙ ap (λ (d : Crew). numbers d.diaries) is_others)
+      ∙ (sym (numbers-append (take 1 c.diaries) (drop 1 c.diaries)) ∙ ap numbers (both c.diaries)))));
+  each = λ h.
+      ap (seats h) is
+      ∙ (total-append (is_of h) one'.diaries others'.diaries
+      ∙ (let p = same.each h in let q = more.each h in
+      let r : total (is_of h) one.diaries + total (is_of h) others.diaries ≡ total (is_of h) c.diaries =
+      ap (λ (d : Crew). total (is_of h) d.diaries + total (is_of h) others.diaries) is_one
+      ∙ (ap (λ (d : Crew). total (is_of h) (take 1 c.diaries) + total (is_of h) d.diaries) is_others
+      ∙ (sym (total-append (is_of h) (take 1 c.diaries) (drop 1 c.diaries)) ∙ ap (λ (ds : List Diary). total (is_of h) ds) (both c.diaries))) in
+      omega arith));
+}
+
+pub same_then : (a b c : Crew) → SameHarts a b → SameHarts b c → SameHarts a c
+same_then a b c p q = record { harts = q.harts ∙ p.harts; each = λ h. q.each h ∙ p.each h }
+
+pub same_self : (a : Crew) → SameHarts a a
+same_self a = record { harts = refl; each = λ h. refl }
