@@ -1,15 +1,23 @@
 //! Laws of the script language, each the contract of a function that does nothing.
 
-ghost use Rattle.std.specs.Prelude.{◌≡◌, Some};
+ghost use Rattle.std.specs.Prelude.{◌≡◌, ℕ, ◌+◌, List, ◌++◌, length, Ok, Some};
 ghost use Rattle.board_model.specs.Shapes.{Size, IsSize};
 ghost use Rattle.script_lang.specs.declared.line.Line.{Line};
 ghost use Rattle.script_lang.specs.Words.{words_of};
 ghost use Rattle.script_lang.specs.Lines.{line_of};
 ghost use Rattle.script_lang.specs.Ranges.{IsInRange};
+ghost use Rattle.script_lang.specs.Scripts.{◌>>>◌, rest_of};
 ghost use Rattle.script_lang.specs.Spellings.{text_of, FitsLine};
 
 /// Every line in its ranges is read from its spelling.
 pub fn lines_read_as_spelled()
     ensures { (size : Size) (line : Line) → IsSize size → IsInRange size line → FitsLine line
         → line_of size (words_of (text_of line)) ≡ Some line }
+{}
+
+/// Lines after the board line are read in their order: what lines say is what the first of them say and then what the
+/// others say, and a fault among the first of them answers whatever the others are.
+pub fn lines_read_in_order()
+    ensures { (size : Size) (n : ℕ) (front back : List (List ℕ)) → rest_of size n (front ++ back)
+        ≡ (rest_of size n front >>> λ said. rest_of size (n + length front) back >>> λ others. Ok (said ++ others)) }
 {}
