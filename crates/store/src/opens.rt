@@ -1,7 +1,8 @@
 //! What an open reads.
 ghost use Rattle.std.specs.Prelude.{◌≡◌, ◌⊎◌, ◌≤◌, ◌<◌, ℕ, length, IfOk, IfErr, OnOk, OnErr, IsErrOf};
 ghost use Rattle.board_model.specs.Shapes.{Size, sectors_of};
-ghost use Rattle.disk.specs.Facts.{Facts, sector, Passes, Stays, Failed, Only};
+ghost use Rattle.disk.specs.Facts.{Facts, sector, Passes, Stays, Failed, Only, Counts};
+ghost use Rattle.disk.specs.Mishaps.{Caused};
 ghost use Rattle.layout.specs.Superblocks.{HasMagic, IsSuperblock};
 ghost use Rattle.layout.specs.Records.{IsRecord};
 ghost use Rattle.layout.specs.declared.records.Record.{Record};
@@ -12,7 +13,7 @@ ghost use Rattle.store.specs.Opens.{IsBoard, OpenRefused, CausedRefusal};
 
 use crate::commits::{GATE, RECORDS};
 use board_model::{Refusal, Shape};
-use disk::{Disk, read_sector};
+use disk::{Disk, Fault, read_sector};
 use layout::{Record, Side, parse_record, parse_superblock, selected};
 
 /// What an open reads of a disk: its board, and the record that the gate selects.
@@ -43,11 +44,24 @@ pub fn find<D: Disk>(disk: &mut D) -> Result<Found, Refusal>
     if sectors == 0 {
         return Err(Refusal::BadShape);
     }
-    disk.sync().map_err(|_| Refusal::Device)?;
+    settle(disk).map_err(|_| Refusal::Device)?;
     let superblock = read_sector(disk, 0).map_err(|_| Refusal::Device)?;
     let shape = parse_superblock(&superblock, sectors)?;
     let found = find_record(disk, shape)?;
     Ok(found)
+}
+
+// Settles what a crash may leave: what a read gives.
+fn settle<D: Disk>(disk: &mut D) -> Result<(), Fault>
+    requires none_out { IsIdle (D.facts disk.old) }
+    ensures durable { OnOk result (Only (D.facts disk.new).content (D.facts disk.new).may_leave) }
+    ensures content { (D.facts disk.new).content ≡ (D.facts disk.old).content }
+    ensures crash { Passes (D.facts disk.old) (D.facts disk.new) Stays }
+    ensures failures { Counts (D.facts disk.old).failures (D.facts disk.new).failures result }
+    ensures cause { Caused (D.mishaps disk.old) (D.mishaps disk.new) result }
+    ensures lent { (D.facts disk.new).lent ≡ (D.facts disk.old).lent }
+{
+    disk.sync()
 }
 
 // Reads the gate, and the record that it selects.

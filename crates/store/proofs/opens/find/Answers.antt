@@ -6,7 +6,7 @@ use Rattle.store.proofs.opens.find.Goals as goal
 
 pub returns-clause-up : goal.returns-clause-up
 returns-clause-up g c =
-    let a = g.D.Disk.facts c.sync.new.self in
+    let a = g.D.Disk.facts c.settle.new.disk in
     let b = g.D.Disk.facts c.read_sector.new.disk in
     let d = g.D.Disk.facts c.find_record.new.disk in
     let synced : Only a.content a.may_leave = search rules in
