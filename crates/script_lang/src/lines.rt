@@ -10,6 +10,7 @@ use crate::words::none;
 use board_model::Shape;
 use std::alloc::{AllocError, Global};
 
+/// The keyword that a word is.
 fn keyword(word: &[u8]) -> Option<Keyword>
     ensures { result ≡ keyword_of word.now }
 {
@@ -53,6 +54,7 @@ fn alone(line: Line, words: &[&[u8]]) -> Option<Line>
     Some(line)
 }
 
+/// The line that a keyword and the words after it say.
 fn body(
     alloc: Global,
     shape: &Shape,

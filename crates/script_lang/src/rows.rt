@@ -12,6 +12,7 @@ use crate::words::{bytes, fill, in_range, none, number, one, three, two};
 use board_model::{BootMode, HartId, RAM_BASE, SECTOR_BYTES, Shape, Slot};
 use std::alloc::{AllocError, Global};
 
+/// A hart of the board.
 fn hart(shape: &Shape, word: &[u8]) -> Option<HartId>
     ensures value { result ≡ ranged 0 shape.now.harts word.now }
     ensures range { IfSome result (λ h. h < shape.now.harts) }
@@ -27,6 +28,7 @@ fn calls(word: &[u8]) -> Option<u32>
     in_range(1, 1_000_001, word)
 }
 
+/// A saver lane of the board.
 fn lane(shape: &Shape, word: &[u8]) -> Option<u32>
     ensures value { result ≡ ranged 0 shape.now.lanes word.now }
     ensures range { IfSome result (λ i. i < shape.now.lanes) }
@@ -34,12 +36,14 @@ fn lane(shape: &Shape, word: &[u8]) -> Option<u32>
     in_range(0, u64::from(shape.lanes()), word)
 }
 
+/// A boot slot, 0 to 3.
 fn boot_slot(word: &[u8]) -> Option<Slot>
     ensures { result ≡ ranged 0 4 word.now }
 {
     Slot::new(in_range(0, 4, word)?)
 }
 
+/// `payload S HEX`: the slot below 4, and 1 to 1,024 bytes.
 pub fn payload(alloc: Global, words: &[&[u8]]) -> Result<Option<Line>, AllocError>
     ensures value { IfOk result (λ line. line ≡ payload_of (map (λ w. w.now) words.now)) }
     ensures range { (size : Size) → IfOk result (λ line. IfSome line (IsInRange size)) }
@@ -59,6 +63,7 @@ pub fn payload(alloc: Global, words: &[&[u8]]) -> Result<Option<Line>, AllocErro
     Ok(Some(Line::Payload(slot, bytes)))
 }
 
+/// A way to power on, by its name.
 fn mode(word: &[u8]) -> Option<BootMode>
     ensures { result ≡ mode_of word.now }
 {
@@ -77,6 +82,7 @@ fn mode(word: &[u8]) -> Option<BootMode>
     None
 }
 
+/// `on MODE`.
 pub fn on(words: &[&[u8]]) -> Option<Line>
     ensures value { result ≡ on_of (map (λ w. w.now) words.now) }
     ensures range { (size : Size) → IfSome result (IsInRange size) }
@@ -84,6 +90,7 @@ pub fn on(words: &[&[u8]]) -> Option<Line>
     Some(Line::On(mode(one(words)?)?))
 }
 
+/// `slot S`: any number below 2^32.
 pub fn slot(words: &[&[u8]]) -> Option<Line>
     ensures value { result ≡ slot_of (map (λ w. w.now) words.now) }
     ensures range { (size : Size) → IfSome result (IsInRange size) }
@@ -91,6 +98,7 @@ pub fn slot(words: &[&[u8]]) -> Option<Line>
     Some(Line::Slot(in_range(0, 1 << 32, one(words)?)?))
 }
 
+/// `turn H N`.
 pub fn turn(shape: &Shape, words: &[&[u8]]) -> Option<Line>
     ensures value { result ≡ turn_of shape.now (map (λ w. w.now) words.now) }
     ensures range { IfSome result (IsInRange shape.now) }
@@ -100,6 +108,7 @@ pub fn turn(shape: &Shape, words: &[&[u8]]) -> Option<Line>
     Some(Line::Turn(hart, calls(n)?))
 }
 
+/// An SBI extension, by its name or its number.
 fn extension(word: &[u8]) -> Option<u64>
     ensures { result ≡ extension_of word.now }
 {
@@ -121,6 +130,7 @@ fn extension(word: &[u8]) -> Option<u64>
     number(word)
 }
 
+/// The number of the next word, 0 where no word is left, and the words after it.
 fn argument<'a, 'b>(words: &'b [&'a [u8]]) -> Option<(u64, &'b [&'a [u8]])>
     ensures { option_map (λ found. (found.0, map (λ w. w.now) found.1.now)) result ≡ argument_of (map (λ w. w.now) words.now) }
 {
@@ -140,6 +150,8 @@ fn head<'a, 'b>(words: &'b [&'a [u8]]) -> Option<(&'a [u8], &'a [u8], &'a [u8], 
     }
 }
 
+/// `call H EID FID [A0 [A1 [A2]]]`: the extension by its number or its name (SBI specification 2.0, chapters Base, HSM,
+/// IPI, SRST and SUSP); missing arguments are 0.
 pub fn call(shape: &Shape, words: &[&[u8]]) -> Option<Line>
     ensures value { result ≡ call_of shape.now (map (λ w. w.now) words.now) }
     ensures range { IfSome result (IsInRange shape.now) }
@@ -155,6 +167,7 @@ pub fn call(shape: &Shape, words: &[&[u8]]) -> Option<Line>
     Some(Line::Call(hart, extension, function, a0, a1, a2))
 }
 
+/// `reg H R`: a register below 32.
 pub fn reg(shape: &Shape, words: &[&[u8]]) -> Option<Line>
     ensures value { result ≡ reg_of shape.now (map (λ w. w.now) words.now) }
     ensures range { IfSome result (IsInRange shape.now) }
@@ -164,6 +177,7 @@ pub fn reg(shape: &Shape, words: &[&[u8]]) -> Option<Line>
     Some(Line::Reg(hart, in_range(0, 32, r)?))
 }
 
+/// `pc H`.
 pub fn pc(shape: &Shape, words: &[&[u8]]) -> Option<Line>
     ensures value { result ≡ pc_of shape.now (map (λ w. w.now) words.now) }
     ensures range { IfSome result (IsInRange shape.now) }
@@ -171,6 +185,7 @@ pub fn pc(shape: &Shape, words: &[&[u8]]) -> Option<Line>
     Some(Line::Pc(hart(shape, one(words)?)?))
 }
 
+/// The number of one of the nine CSRs (RISC-V privileged ISA, supervisor CSRs).
 fn csr_number(word: &[u8]) -> Option<u32>
     ensures value { result ≡ csr_number_of word.now }
     ensures range { IfSome result IsCsr }
@@ -182,6 +197,7 @@ fn csr_number(word: &[u8]) -> Option<u32>
     }
 }
 
+/// `csr H C`: the hart and the number of a CSR.
 pub fn csr(shape: &Shape, words: &[&[u8]]) -> Option<Line>
     ensures value { result ≡ csr_of shape.now (map (λ w. w.now) words.now) }
     ensures range { IfSome result (IsInRange shape.now) }
@@ -191,6 +207,7 @@ pub fn csr(shape: &Shape, words: &[&[u8]]) -> Option<Line>
     Some(Line::Csr(hart, csr_number(c)?))
 }
 
+/// `mem A N`: 1 to 64 bytes, all of them in RAM.
 pub fn mem(shape: &Shape, words: &[&[u8]]) -> Option<Line>
     ensures value { result ≡ mem_of shape.now (map (λ w. w.now) words.now) }
     ensures range { IfSome result (IsInRange shape.now) }
@@ -204,6 +221,7 @@ pub fn mem(shape: &Shape, words: &[&[u8]]) -> Option<Line>
     Some(Line::Mem(address, count))
 }
 
+/// `cutat N FILL`.
 pub fn cutat(words: &[&[u8]]) -> Option<Line>
     ensures value { result ≡ cutat_of (map (λ w. w.now) words.now) }
     ensures range { (size : Size) → IfSome result (IsInRange size) }
@@ -213,6 +231,7 @@ pub fn cutat(words: &[&[u8]]) -> Option<Line>
     Some(Line::CutAt(calls, fill(f)?))
 }
 
+/// `cutlane I N FILL`.
 pub fn cutlane(shape: &Shape, words: &[&[u8]]) -> Option<Line>
     ensures value { result ≡ cutlane_of shape.now (map (λ w. w.now) words.now) }
     ensures range { IfSome result (IsInRange shape.now) }
@@ -223,6 +242,7 @@ pub fn cutlane(shape: &Shape, words: &[&[u8]]) -> Option<Line>
     Some(Line::CutLane(lane, calls, fill(f)?))
 }
 
+/// `failat N`.
 pub fn failat(words: &[&[u8]]) -> Option<Line>
     ensures value { result ≡ failat_of (map (λ w. w.now) words.now) }
     ensures range { (size : Size) → IfSome result (IsInRange size) }
@@ -230,6 +250,7 @@ pub fn failat(words: &[&[u8]]) -> Option<Line>
     Some(Line::FailAt(calls(one(words)?)?))
 }
 
+/// `faillane I N`.
 pub fn faillane(shape: &Shape, words: &[&[u8]]) -> Option<Line>
     ensures value { result ≡ faillane_of shape.now (map (λ w. w.now) words.now) }
     ensures range { IfSome result (IsInRange shape.now) }
@@ -239,6 +260,7 @@ pub fn faillane(shape: &Shape, words: &[&[u8]]) -> Option<Line>
     Some(Line::FailLane(lane, calls(n)?))
 }
 
+/// `cut FILL`.
 pub fn cut(words: &[&[u8]]) -> Option<Line>
     ensures value { result ≡ cut_of (map (λ w. w.now) words.now) }
     ensures range { (size : Size) → IfSome result (IsInRange size) }
@@ -246,6 +268,7 @@ pub fn cut(words: &[&[u8]]) -> Option<Line>
     Some(Line::Cut(fill(one(words)?)?))
 }
 
+/// `poke SECTOR OFFSET HEX`: bytes within one sector of the disk.
 pub fn poke(alloc: Global, shape: &Shape, words: &[&[u8]]) -> Result<Option<Line>, AllocError>
     ensures value { IfOk result (λ line. line ≡ poke_of shape.now (map (λ w. w.now) words.now)) }
     ensures range { IfOk result (λ line. IfSome line (IsInRange shape.now)) }

@@ -21,30 +21,35 @@ pub struct Script {
     pub lines: Vec<Line>,
 }
 
+/// Whether line number `n` may stand in a script at all.
 fn is_sound(n: u64, line: &[u8]) -> bool
     ensures { result ≡ is_sound n line.now }
 {
     n <= MAX_SCRIPT_LINES as u64 && line.len() <= MAX_LINE_BYTES
 }
 
+/// Whether the line is empty or a comment.
 fn is_passed(line: &[u8]) -> bool
     ensures { result ≡ is_passed line.now }
 {
     line.is_empty() || line[0] == b'#'
 }
 
+/// The parts of a line between its spaces.
 fn words(alloc: Global, line: &[u8]) -> Result<Vec<&[u8]>, AllocError>
     ensures { IfOk result (λ v. map (λ w. w.now) v.items ≡ words_of line.now) }
 {
     line.split(|b| *b == b' ').collect(alloc)
 }
 
+/// The parts of a script between its line feeds.
 fn all_parts(alloc: Global, script: &[u8]) -> Result<Vec<&[u8]>, AllocError>
     ensures { IfOk result (λ v. map (λ w. w.now) v.items ≡ slice_split (λ b. b == 10) script.now) }
 {
     script.split(|b| *b == b'\n').collect(alloc)
 }
 
+/// The lines of a script: a last line feed opens no further one.
 fn whole_lines(alloc: Global, script: &[u8]) -> Result<Vec<&[u8]>, AllocError>
     ensures { IfOk result (λ v. map (λ w. w.now) v.items ≡ lines_of script.now) }
 {
@@ -56,6 +61,7 @@ fn whole_lines(alloc: Global, script: &[u8]) -> Result<Vec<&[u8]>, AllocError>
     Ok(lines)
 }
 
+/// What line number `n` says on a board of this shape.
 fn line_at(alloc: Global, shape: &Shape, n: u64, bytes: &[u8]) -> Result<Line, Refusal>
     ensures value { Gives (λ x. x) result (or_fault n (line_of shape.now (words_of bytes.now))) }
     ensures range { IfOk result (IsInRange shape.now) }
@@ -67,6 +73,7 @@ fn line_at(alloc: Global, shape: &Shape, n: u64, bytes: &[u8]) -> Result<Line, R
     }
 }
 
+/// The shape that the three words of the board line name.
 fn shape(n: u64, words: &[&[u8]]) -> Result<Shape, Refusal>
     ensures { Gives (λ shape. shape) result (size_of_words n (three_of (map (λ w. w.now) words.now))) }
 {
@@ -79,6 +86,7 @@ fn shape(n: u64, words: &[&[u8]]) -> Result<Shape, Refusal>
     }
 }
 
+/// The shape that the words of the board line name.
 fn board_line(n: u64, words: &[&[u8]]) -> Result<Shape, Refusal>
     ensures { Gives (λ shape. shape) result (board_of n (map (λ w. w.now) words.now)) }
 {
@@ -94,6 +102,7 @@ fn board_line(n: u64, words: &[&[u8]]) -> Result<Shape, Refusal>
     }
 }
 
+/// The shape that the board line names, which is line number `n`.
 fn board_at(alloc: Global, n: u64, bytes: &[u8]) -> Result<Shape, Refusal>
     ensures { Gives (λ shape. shape) result (board_of n (words_of bytes.now)) }
 {
@@ -125,6 +134,7 @@ fn keep(
     Ok(())
 }
 
+/// The lines after the board line, of which the first is line number `start`.
 #[tactic(auto, unfolding(crate::specs::Scripts::rest_of))]
 fn rest(alloc: Global, shape: &Shape, start: u64, lines: &[&[u8]]) -> Result<Vec<Line>, Refusal>
     requires { start ≤ 65537 }
@@ -141,6 +151,7 @@ fn rest(alloc: Global, shape: &Shape, start: u64, lines: &[&[u8]]) -> Result<Vec
     Ok(found)
 }
 
+/// The script whose board line is line number `n`, with the lines after it.
 fn after_board(alloc: Global, n: u64, bytes: &[u8], others: &[&[u8]]) -> Result<Script, Refusal>
     requires low { 1 ≤ n }
     requires high { n ≤ 65536 }
@@ -153,6 +164,7 @@ fn after_board(alloc: Global, n: u64, bytes: &[u8], others: &[&[u8]]) -> Result<
     Ok(Script { shape, lines })
 }
 
+/// The script that all its lines say.
 #[tactic(auto, unfolding(crate::specs::Scripts::lines_from))]
 fn checked(alloc: Global, lines: &[&[u8]]) -> Result<Script, Refusal>
     ensures value { Gives view result (lines_from 1 (map (λ w. w.now) lines.now)) }

@@ -25,6 +25,7 @@ fn digits(radix: u8, word: &[u8]) -> Option<u128>
     Some(value)
 }
 
+/// A number of 1 to `most` digits, below 2^64.
 fn numeral(radix: u8, most: usize, word: &[u8]) -> Option<u64>
     requires low { 2 ≤ radix }
     requires radix { radix ≤ 16 }
