@@ -1,10 +1,11 @@
 //! What each choice leaves, where armed faults strike, and what refused memory leaves.
-ghost use Rattle.std.specs.Prelude.{◌≡◌, ◌≤◌, ◌+◌, ◌*◌, length, IfOk};
+ghost use Rattle.std.specs.Prelude.{◌≡◌, ◌≤◌, ◌+◌, ◌*◌, length, map, OnOk, IfOk};
+ghost use Rattle.disk.specs.Facts.{In_row};
 
 use super::*;
 use board_model::Refusal;
 use disk::{Disk, Fault, Lane, Sector};
-use std::alloc::Global;
+use std::alloc::{AllocError, Global};
 use std::process::Abort;
 use std::test::Fail;
 
@@ -177,6 +178,109 @@ fn lane_write(rt: &impl Abort, lane: &mut SimLane, at: usize, byte: u8) -> Resul
     lane.write(at, &[[byte; 512]])
 }
 
+// Lends these sectors of a disk of at least so many.
+fn lend_some(
+    rt: &impl Abort,
+    disk: &mut SimDisk,
+    first: usize,
+    lanes: usize,
+    each: usize,
+) -> Result<Vec<SimLane>, AllocError>
+    ensures { IfOk result (λ out. In_row (⟦<SimDisk as Disk>⟧.facts disk.new).lent (map ⟦<SimLane as Lane>⟧.lane_facts out.items)) }
+{
+    assert!(rt; disk.loan.lanes == 0);
+    assert!(rt; first <= 4 && lanes <= 4 && each <= 4);
+    assert!(rt; first + lanes * each <= disk.sectors());
+    disk.split(first, lanes, each)
+}
+
+// Gives back the one lane that is lent.
+#[tactic(auto, using(crate::proofs::Rows::row_of_one))]
+fn join_one(
+    rt: &impl Abort,
+    disk: &mut SimDisk,
+    alloc: Global,
+    lane: SimLane,
+) -> Result<(), AllocError>
+    ensures { OnOk result ((⟦<SimDisk as Disk>⟧.facts disk.new).lent.lanes ≡ 0) }
+{
+    assert!(rt; disk.loan.lanes == 1);
+    assert!(rt; lane.first == disk.loan.first);
+    assert!(rt; lane.sectors.len() == disk.loan.each);
+    let lanes = vec![in alloc; lane]?;
+    disk.join(lanes);
+    Ok(())
+}
+
+#[test]
+fn a_cut_lane_takes_the_disk_along_at_the_join(rt: HostRuntime) -> Result<(), Fail> {
+    for (choice, left) in [
+        (Choice::Byte(9), [9, 9, 9, 9]),
+        (Choice::Old, [0, 0, 0, 0]),
+        (Choice::New, [0, 5, 6, 7]),
+    ] {
+        let mut disk = SimDisk::blank(rt.alloc(), 4)?;
+        disk.cut_lane(0, 2);
+        let mut lanes = lend_some(&rt, &mut disk, 0, 1, 4)?;
+        let Some(mut lane) = lanes.pop() else {
+            return Err("no lane")?;
+        };
+        assert_eq!(rt; lane_write(&rt, &mut lane, 1, 5), Ok(()));
+        assert_eq!(rt; lane_write(&rt, &mut lane, 2, 6), Err(Fault));
+        assert_eq!(rt; lane_write(&rt, &mut lane, 3, 7), Err(Fault));
+        assert!(rt; !disk.struck());
+        join_one(&rt, &mut disk, rt.alloc(), lane)?;
+        assert!(rt; disk.struck());
+        assert_eq!(rt; (disk.failures(), disk.refused()), (2, 0));
+        assert_eq!(rt; disk.sync(), Err(Fault));
+        assert_eq!(rt; contents(&rt, &disk), [0, 5, 0, 0]);
+        assert_eq!(rt; contents(&rt, &disk.after_cut(choice)), left, "{choice:?}");
+    }
+    Ok(())
+}
+
+#[test]
+fn a_lane_counts_its_calls_from_split_to_split(rt: HostRuntime) -> Result<(), Fail> {
+    let mut disk = SimDisk::blank(rt.alloc(), 4)?;
+    disk.fail_lane(0, 3);
+    for (writes, failures) in [(2, 0), (1, 1), (1, 1)] {
+        let mut lanes = lend_some(&rt, &mut disk, 1, 1, 2)?;
+        let Some(mut lane) = lanes.pop() else {
+            return Err("no lane")?;
+        };
+        for _ in 0..writes {
+            let _ = lane_write(&rt, &mut lane, 0, 5);
+        }
+        join_one(&rt, &mut disk, rt.alloc(), lane)?;
+        assert_eq!(rt; (disk.failures(), disk.refused()), (failures, 0));
+        assert!(rt; !disk.struck());
+    }
+    assert_eq!(rt; disk.sync(), Ok(()));
+    assert_eq!(rt;
+        contents(&rt, &disk.after_cut(Choice::Byte(9))),
+        [0, 5, 0, 0]
+    );
+    Ok(())
+}
+
+#[test]
+fn other_lanes_go_on_after_a_cut(rt: HostRuntime) -> Result<(), Fail> {
+    let mut disk = SimDisk::blank(rt.alloc(), 4)?;
+    disk.cut_lane(1, 1);
+    let mut lanes = lend_some(&rt, &mut disk, 0, 2, 2)?;
+    let Some(mut second) = lanes.pop() else {
+        return Err("no second lane")?;
+    };
+    let Some(mut first) = lanes.pop() else {
+        return Err("no first lane")?;
+    };
+    assert_eq!(rt; lane_write(&rt, &mut second, 0, 5), Err(Fault));
+    assert_eq!(rt; lane_write(&rt, &mut first, 0, 5), Ok(()));
+    assert_eq!(rt; lane_write(&rt, &mut second, 1, 5), Err(Fault));
+    assert_eq!(rt; (first.failures(), second.failures()), (0, 2));
+    Ok(())
+}
+
 // `rt try --test --fail-alloc N` makes each growth of the record and of a split fail in turn.
 #[test]
 fn a_refused_growth_is_counted_and_changes_nothing(rt: HostRuntime) -> Result<(), Fail> {
@@ -188,7 +292,7 @@ fn a_refused_growth_is_counted_and_changes_nothing(rt: HostRuntime) -> Result<()
     let synced = disk.sync().is_ok();
     let failures = u64::from(!wrote) + u64::from(!synced);
     assert_eq!(rt; (disk.failures(), disk.refused()), (failures, failures));
-    let lent = match disk.split(0, 2, 2) {
+    let lent = match lend_some(&rt, &mut disk, 0, 2, 2) {
         Ok(lanes) => {
             disk.join(lanes);
             true
