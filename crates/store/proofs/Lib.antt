@@ -6,3 +6,4 @@ pub mod Following
 pub mod Refusing
 pub mod Applies
 pub mod Formatting
+pub mod Bridges

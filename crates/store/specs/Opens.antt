@@ -16,9 +16,9 @@ IsBoard size c = IsSuperblock size (sector c 0) × (sectors_of size ≤ length c
 
 -- 1, 3 and 4 by what the disk reads as, 5 where it failed in this call, and 11; nothing else
 abbrev pub OpenRefused : Facts → Refusal → Facts → Type 0
-OpenRefused disk NotFormatted new = HasMagic (sector disk.content 0) → ⊥
-OpenRefused disk BadShape new = (length disk.content ≡ 0) ⊎ ((size : Size) → IsBoard size disk.content → ⊥)
-OpenRefused disk BadRecord new = (size : Size) (side : ℕ) (r : Record) → Selects size side r disk.content → ⊥
+OpenRefused disk NotFormatted new = (0 < length disk.content) × (HasMagic (sector disk.content 0) → ⊥)
+OpenRefused disk BadShape new = (length disk.content ≡ 0) ⊎ (HasMagic (sector disk.content 0) × ((size : Size) → IsBoard size disk.content → ⊥))
+OpenRefused disk BadRecord new = HasMagic (sector disk.content 0) × ((size : Size) (side : ℕ) (r : Record) → Selects size side r disk.content → ⊥)
 OpenRefused disk Device new = Failed disk.failures new.failures
 OpenRefused disk Memory new = ⊤
 OpenRefused disk e new = ⊥
