@@ -1,0 +1,25 @@
+use Rattle.std.proofs.Common.{rules, ◌≡◌, sym, ◌∙◌, ap, refl, subst}
+use Rattle.board_model.specs.Shown.{durable_of}
+use Rattle.store.specs.Leaves.{Leaves}
+use Rattle.store.specs.Lives.{Life, now_of}
+use Rattle.store.specs.Stores.{size_of_store, found_state, life_of}
+use Rattle.board.specs.Boots.{boot_refusal}
+use Rattle.board.specs.Unbooted.{IsBootRefusal, doubt_after, life_refused, LeavesLife}
+use Rattle.board.proofs.Doubted.{leaves_life}
+use Rattle.board.proofs.powered.Board.power_on.Goals as goal
+
+-- The life that is left is the one that the open began, but for a command in doubt.
+pub returns-in-Err-ready-clause-refused : goal.returns-in-Err-ready-clause-refused
+returns-in-Err-ready-clause-refused g c =
+    let disk = g.D.Disk.facts c.into_disk.result in
+    let size = size_of_store c.in-Ok.store in
+    let s = found_state c.in-Ok.store in
+    let as_was : size_of_store c.ready.new.store ≡ size = search rules in
+    let life : life_of c.ready.new.store ≡ life_refused c.in-Err-ready.refusal s = search rules in
+    let now : s ≡ now_of (life_of c.ready.new.store) = sym (ap now_of life) in
+    let doubt = ap (λ (x : Life). x.doubt) life in
+    let left : LeavesLife (doubt_after c.in-Err-ready.refusal) disk (size_of_store c.ready.new.store) s =
+    leaves_life _ disk _ s (λ up. c.into_disk.ensures.up s (doubt ∙ up, now)) (λ d down. c.into_disk.ensures.down s _ (d, doubt ∙ down, now, refl)) in
+    let found : Leaves (g.D.Disk.facts c.args.disk) size s = search rules in
+    let why : IsBootRefusal (boot_refusal s c.args.mode) size c.args.mode c.args.payloads.now c.in-Err-ready.refusal = search rules in
+    (size, s, c.found.ensures ∙ ap (λ (x : Life). durable_of x.found) life, found, why, subst (λ z. LeavesLife (doubt_after c.in-Err-ready.refusal) disk z s) as_was left)

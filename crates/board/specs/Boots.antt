@@ -1,0 +1,44 @@
+-- Power on by mode: which modes are refused, what is issued, and what is booted.
+-- Source: docs/BOARD.md.
+use Rattle.std.specs.Prelude.{ℕ, List, [], ◌∷◌, ◌≤◌, length, Option, None, Some, is_some, if◌then◌else◌, All, get_or}
+use Rattle.board_model.specs.Durable.{State, Discard}
+use Rattle.board_model.specs.Shapes.{Size, ram_bytes_of}
+use Rattle.board_model.specs.declared.boot_mode.BootMode.{BootMode}
+use Rattle.board_model.specs.declared.boot_mode.BootMode.TheVariants as modes
+use Rattle.board_model.specs.declared.durable.Command.{Command}
+use Rattle.board_model.specs.declared.durable.Command.TheVariants as commands
+use Rattle.machine.specs.Machine.{Machine, begun as begun_machine}
+use Rattle.store.specs.Lives.{Life, begun}
+
+-- the number with which a mode is refused in a state
+abbrev pub boot_refusal : State → BootMode → Option ℕ
+boot_refusal s modes.Fresh = if is_some s.image then Some 15 else None
+boot_refusal s modes.Keep = None
+boot_refusal s modes.Discard = if is_some s.image then None else Some 8
+boot_refusal s modes.Resume = if is_some s.image then None else Some 8
+
+-- the life that a boot begins in a state: with the command that the mode issues
+abbrev pub life_after : BootMode → State → Life
+life_after modes.Fresh s = begun s
+life_after modes.Keep s = begun s
+life_after modes.Discard s = record (begun s) { journal = Discard ∷ [] }
+life_after modes.Resume s = begun s
+
+-- the commands that the console may issue: the others are the guest's and the boot's
+abbrev pub IsConsoleCommand : Command → Type 0
+IsConsoleCommand (commands.Slot _) = Unit {0}
+IsConsoleCommand (commands.Reset _) = ⊥
+IsConsoleCommand commands.Consume = ⊥
+IsConsoleCommand commands.Discard = Unit {0}
+
+-- each of the payloads fits into RAM
+abbrev pub Fits : Size → List (List ℕ) → Type 0
+Fits size payloads = All (λ payload. length payload ≤ ram_bytes_of size) payloads
+
+-- the payload of a slot
+abbrev pub payload_at : List (List ℕ) → ℕ → List ℕ
+payload_at payloads slot = get_or payloads slot []
+
+-- the board that boots the slot of a state
+abbrev pub booted : List (List ℕ) → State → Size → Machine
+booted payloads s size = begun_machine (payload_at payloads s.slot) s.reason size

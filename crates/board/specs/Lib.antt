@@ -1,0 +1,3 @@
+pub mod Boots
+pub mod Boards
+pub mod Unbooted

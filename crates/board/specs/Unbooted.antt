@@ -1,0 +1,62 @@
+-- Why a board whose disk was opened is not powered on, and what is then left on the disk.
+-- Source: docs/BOARD.md.
+use Rattle.std.specs.Prelude.{◌≡◌, ◌⊎◌, ◌≤◌, ℕ, List, Option, None, Some}
+use Rattle.disk.specs.Facts.{Facts, Failed}
+use Rattle.board_model.specs.Durable.{State, Change, Discard, after}
+use Rattle.board_model.specs.Shapes.{Size}
+use Rattle.board_model.specs.Shown.{number_of}
+use Rattle.board_model.specs.declared.boot_mode.BootMode.{BootMode}
+use Rattle.board_model.specs.declared.boot_mode.BootMode.TheVariants as modes
+use Rattle.board_model.specs.declared.refusal.Refusal.{Refusal}
+use Rattle.board_model.specs.declared.refusal.Refusal.TheVariants.{BadShape, Memory, Device, Down, NoImage, BadImage, ImageThere}
+use Rattle.store.specs.Leaves.{LeavesOnly, LeavesEither}
+use Rattle.store.specs.Lives.{Life, begun}
+use Rattle.board.specs.Boots.{Fits}
+
+-- of a mode that the state allows, in this order: a payload that does not fit, memory, the command that the mode issues, or
+-- an image, which cannot be loaded yet
+abbrev pub IsLateRefusal : Size → BootMode → List (List ℕ) → Refusal → Type 0
+IsLateRefusal size mode payloads BadShape = Fits size payloads → ⊥
+IsLateRefusal size mode payloads Memory = Fits size payloads
+IsLateRefusal size mode payloads Device = Fits size payloads × (mode ≡ modes.Discard)
+IsLateRefusal size mode payloads Down = Fits size payloads × (mode ≡ modes.Discard)
+IsLateRefusal size mode payloads BadImage = Fits size payloads × (mode ≡ modes.Resume)
+IsLateRefusal size mode payloads e = ⊥
+
+-- by the number with which the state refuses the mode, where it does
+abbrev pub IsBootRefusal : Option ℕ → Size → BootMode → List (List ℕ) → Refusal → Type 0
+IsBootRefusal (Some n) size mode payloads e = number_of e ≡ n
+IsBootRefusal None size mode payloads e = IsLateRefusal size mode payloads e
+
+-- the life after a refusal: the command that the mode issues may be in doubt
+abbrev pub doubt_after : Refusal → Option Change
+doubt_after Down = Some Discard
+doubt_after e = None
+
+abbrev pub life_refused : Refusal → State → Life
+life_refused e s = record (begun s) { doubt = doubt_after e }
+
+-- the refusals of what a mode issues
+abbrev pub IsIssueRefusal : BootMode → Refusal → Type 0
+IsIssueRefusal mode Device = mode ≡ modes.Discard
+IsIssueRefusal mode Down = mode ≡ modes.Discard
+IsIssueRefusal mode BadImage = mode ≡ modes.Resume
+IsIssueRefusal mode e = ⊥
+
+-- the refusal of that number, or none
+abbrev pub RefusesMode : Option ℕ → Option Refusal → Type 0
+RefusesMode None None = Unit {0}
+RefusesMode (Some n) (Some e) = (number_of e ≡ n) × ((e ≡ ImageThere) ⊎ (e ≡ NoImage))
+RefusesMode None (Some e) = ⊥
+RefusesMode (Some n) None = ⊥
+
+-- what a crash leaves of a life that ends
+abbrev pub LeavesLife : Option Change → Facts → Size → State → Type 0
+LeavesLife None disk size s = LeavesOnly disk size s
+LeavesLife (Some c) disk size s = LeavesEither disk size s (after s c)
+
+-- how often the disk has failed: a refusal by its failure counted one in this call
+abbrev pub CountsRefusal : ℕ → Refusal → ℕ → Type 0
+CountsRefusal old Device new = Failed old new
+CountsRefusal old Down new = Failed old new
+CountsRefusal old e new = old ≤ new

@@ -1,0 +1,9 @@
+//! A board that runs instructions: a store of its durable state, and the memory and harts that a boot makes.
+#![tactic(auto)]
+
+mod payloads;
+mod powered;
+mod ready;
+
+pub use payloads::Payloads;
+pub use powered::{Board, Parts, Unpowered};

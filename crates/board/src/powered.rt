@@ -1,0 +1,224 @@
+//! The board.
+
+use crate::payloads::Payloads;
+use crate::ready::ready;
+use board_model::{BootMode, Command, Durable, HartId, Refusal, Shape};
+use disk::Disk;
+use hart::Hart;
+use machine::{Machine, Turned};
+use ram::Ram;
+use std::alloc::Global;
+use store::{Receipt, Store};
+
+/// A board that is on.
+#[derive(Drop)]
+pub struct Board<D: Disk + Drop> {
+    store: Store<D>,
+    machine: Machine,
+}
+
+/// A board that could not be powered on.
+#[derive(Drop)]
+pub struct Unpowered<D: Disk + Drop> {
+    /// The disk, given back.
+    pub disk: D,
+    /// The durable state that the open found, where it succeeded.
+    pub found: Option<Durable>,
+    /// The durable state now, without a command in doubt, where the open succeeded.
+    pub now: Option<Durable>,
+    /// Why the board is off.
+    pub refusal: Refusal,
+}
+
+/// What a board consists of.
+#[derive(Drop)]
+pub struct Parts<D: Disk + Drop> {
+    /// The harts, by number.
+    pub harts: Vec<Hart>,
+    /// The memory.
+    pub ram: Ram,
+    /// The durable state, with its disk.
+    pub store: Store<D>,
+}
+
+impl<D: Disk + Drop> Board<D> {
+    ghost use Rattle.std.specs.Prelude.{◌≡◌, ◌<◌, ◌≤◌, length, Some, None, Err, IfSome, OnOk, IfOk, IfErr, IsErrOf, MatchResult};
+    ghost use Rattle.board_model.specs.Durable.{State, Change, after};
+    ghost use Rattle.board_model.specs.Shapes.{Size};
+    ghost use Rattle.board_model.specs.Shown.{durable_of, change_of};
+    ghost use Rattle.disk.specs.Facts.{Leaves_only, Failed};
+    ghost use Rattle.store.specs.Leaves.{IsIdle, SameLength, Leaves, LeavesOnly, LeavesEither};
+    ghost use Rattle.store.specs.Opens.{OpenRefused, CausedRefusal};
+    ghost use Rattle.store.specs.Lives.{Applied};
+    ghost use Rattle.store.specs.Stores.{disk_of, mishaps_of, size_of_store, life_of, found_state, now_state, doubt_of, failures_at_open, Stands, Doubts};
+    ghost use Rattle.machine.specs.Machine.{hart_at};
+    ghost use Rattle.machine.specs.Turns.{Turns, TurnsMany};
+    ghost use Rattle.board.specs.Boots.{IsConsoleCommand, life_after, boot_refusal, Fits, booted};
+    ghost use Rattle.board.specs.Boards.{store_of, machine_of};
+    ghost use Rattle.board.specs.Unbooted.{IsBootRefusal, doubt_after, LeavesLife, CountsRefusal};
+
+    /// Powers a board on: opens the disk, and boots by the mode.
+    pub fn power_on(
+        alloc: Global,
+        disk: D,
+        mode: BootMode,
+        payloads: &Payloads,
+    ) -> Result<Board<D>, Unpowered<D>>
+        requires { IsIdle (D.facts disk) }
+        // Where the board is on, the life begins in the state found, with the command that the mode issues.
+        ensures found { IfOk result (λ board. Leaves (D.facts disk) (size_of_store (store_of board)) (found_state (store_of board))) }
+        ensures life { IfOk result (λ board. life_of (store_of board) ≡ life_after mode (found_state (store_of board))) }
+        ensures only { IfOk result (λ board. LeavesOnly (disk_of (store_of board)) (size_of_store (store_of board)) (now_state (store_of board))) }
+
+        // It boots the slot, where the mode is allowed and the payloads fit.
+        ensures allowed { IfOk result (λ board. (boot_refusal (found_state (store_of board)) mode ≡ None) × Fits (size_of_store (store_of board)) payloads.now) }
+        ensures boots { IfOk result (λ board. machine_of board ≡ booted payloads.now (now_state (store_of board)) (size_of_store (store_of board))) }
+
+        // A refusal after the open leaves the state found, but for a command in doubt.
+        ensures refused { IfErr result (λ e. IfSome e.found (λ d. (size : Size) × (s : State) × (d ≡ durable_of s) × Leaves (D.facts disk) size s
+            × IsBootRefusal (boot_refusal s mode) size mode payloads.now e.refusal × LeavesLife (doubt_after e.refusal) (D.facts e.disk) size s)) }
+        ensures now { IfErr result (λ e. e.now ≡ e.found) }
+
+        // A refused open, since whose start a crash leaves what it could have left just before.
+        ensures unopened { IfErr result (λ e. e.found ≡ None → OpenRefused (D.facts disk) e.refusal (D.facts e.disk)) }
+        ensures any_moment { IfErr result (λ e. e.found ≡ None → Leaves_only (D.facts disk) (D.facts e.disk) (D.facts disk).may_leave) }
+
+        // The disk stays as long, nothing of it is lent, and each refusal by its failure has a cause and is counted.
+        ensures length { MatchResult result (λ board. SameLength (D.facts disk) (disk_of (store_of board))) (λ e. SameLength (D.facts disk) (D.facts e.disk)) }
+        ensures none_out { MatchResult result (λ board. IsIdle (disk_of (store_of board))) (λ e. IsIdle (D.facts e.disk)) }
+        ensures cause { MatchResult result (λ board. mishaps_of (store_of board) ≡ D.mishaps disk) (λ e. CausedRefusal (D.mishaps disk) e.refusal (D.mishaps e.disk)) }
+        ensures counts { MatchResult result (λ board. (D.facts disk).failures ≤ (disk_of (store_of board)).failures) (λ e. CountsRefusal (D.facts disk).failures e.refusal (D.facts e.disk).failures) }
+        ensures no_fewer { IfErr result (λ e. (D.facts disk).failures ≤ (D.facts e.disk).failures) }
+    {
+        let mut store = match Store::open(alloc, disk) {
+            Ok(store) => store,
+            Err((disk, refusal)) => {
+                return Err(Unpowered {
+                    disk,
+                    found: None,
+                    now: None,
+                    refusal,
+                });
+            }
+        };
+        match ready(alloc, &mut store, mode, payloads) {
+            Ok(machine) => Ok(Board { store, machine }),
+            Err(refusal) => Err(Unpowered {
+                found: Some(store.found()),
+                now: Some(store.now()),
+                disk: store.into_disk(),
+                refusal,
+            }),
+        }
+    }
+
+    /// One turn of a hart of this board.
+    #[inline(always)]
+    pub fn turn(&mut self, hart: HartId) -> Turned
+        requires { hart < length (machine_of self.old).harts }
+        ensures turns { Turns hart (machine_of self.old) (machine_of self.new) result }
+        ensures store { store_of self.new ≡ store_of self.old }
+    {
+        self.machine.turn(hart)
+    }
+
+    /// The durable state that the open found.
+    pub fn found(&self) -> Durable
+        ensures { result ≡ durable_of (found_state (store_of self.now)) }
+    {
+        self.store.found()
+    }
+
+    /// The durable state now, without a command in doubt.
+    pub fn now(&self) -> Durable
+        ensures { result ≡ durable_of (now_state (store_of self.now)) }
+    {
+        self.store.now()
+    }
+
+    /// The shape of the board, by its disk.
+    pub fn shape(&self) -> Shape
+        ensures { result ≡ size_of_store (store_of self.now) }
+    {
+        self.store.shape()
+    }
+
+    /// The memory.
+    pub fn ram(&self) -> &Ram
+        ensures { result.now ≡ (machine_of self.now).memory }
+    {
+        self.machine.ram()
+    }
+
+    /// A hart of this board.
+    pub fn hart(&self, hart: HartId) -> &Hart
+        requires { hart < length (machine_of self.now).harts }
+        ensures { result.now ≡ hart_at (machine_of self.now) hart }
+    {
+        self.machine.hart(hart)
+    }
+
+    /// So many turns of a hart of this board, one after another, and what the last one did.
+    pub fn turns(&mut self, hart: HartId, count: u32) -> Turned
+        requires hart { hart < length (machine_of self.old).harts }
+        requires some { 1 ≤ count }
+        ensures turns { TurnsMany hart count (machine_of self.old) (machine_of self.new) result }
+        ensures store { store_of self.new ≡ store_of self.old }
+    {
+        self.machine.turns(hart, count)
+    }
+
+    /// Issues a durable command of the console, Slot or Discard, and answers its place in the journal of this life.
+    ///
+    /// Refused as `Store::apply` says; memory and harts stay as they are.
+    pub fn console(&mut self, command: Command) -> Result<Receipt, Refusal>
+        requires { IsConsoleCommand command }
+        ensures machine { machine_of self.new ≡ machine_of self.old }
+        ensures board { size_of_store (store_of self.new) ≡ size_of_store (store_of self.old) }
+        ensures up { doubt_of (store_of self.old) ≡ None → Applied (life_of (store_of self.old)) (change_of command) result (life_of (store_of self.new)) }
+        ensures down { (c : Change) → doubt_of (store_of self.old) ≡ Some c → (result ≡ Err Refusal.Down) × (store_of self.new ≡ store_of self.old) }
+
+        // What a crash leaves.
+        ensures acknowledged { OnOk result (LeavesOnly (disk_of (store_of self.new)) (size_of_store (store_of self.old)) (after (now_state (store_of self.old)) (change_of command))) }
+        ensures unchanged { IfErr result (λ e. (e ≡ Refusal.Down → ⊥) → LeavesOnly (disk_of (store_of self.new)) (size_of_store (store_of self.old)) (now_state (store_of self.old))) }
+        ensures in_doubt { doubt_of (store_of self.old) ≡ None → IsErrOf result Refusal.Down
+            → LeavesEither (disk_of (store_of self.new)) (size_of_store (store_of self.old)) (now_state (store_of self.old)) (after (now_state (store_of self.old)) (change_of command)) }
+
+        // What its disk counts.
+        ensures device { IsErrOf result Refusal.Device → Failed (disk_of (store_of self.old)).failures (disk_of (store_of self.new)).failures }
+        ensures gate { doubt_of (store_of self.old) ≡ None → IsErrOf result Refusal.Down → Failed (disk_of (store_of self.old)).failures (disk_of (store_of self.new)).failures }
+        ensures life { IsErrOf result Refusal.Down → Failed (failures_at_open (store_of self.new)) (disk_of (store_of self.new)).failures }
+        ensures no_fewer { (disk_of (store_of self.old)).failures ≤ (disk_of (store_of self.new)).failures }
+        ensures unmoved { OnOk result (mishaps_of (store_of self.new) ≡ mishaps_of (store_of self.old)) }
+        ensures cause { doubt_of (store_of self.old) ≡ None → IfErr result (λ e. CausedRefusal (mishaps_of (store_of self.old)) e (mishaps_of (store_of self.new))) }
+        ensures opened { failures_at_open (store_of self.new) ≡ failures_at_open (store_of self.old) }
+        ensures length { SameLength (disk_of (store_of self.old)) (disk_of (store_of self.new)) }
+        ensures none_out { IsIdle (disk_of (store_of self.new)) }
+    {
+        self.store.apply(command)
+    }
+
+    /// Turns the board off, and gives the disk back: a crash leaves the state now, or with a command in doubt one of two.
+    pub fn into_disk(self) -> D
+        ensures up { (s : State) → Stands (store_of self) s → LeavesOnly (D.facts result) (size_of_store (store_of self)) s }
+        ensures down { (s t : State) → Doubts (store_of self) s t → LeavesEither (D.facts result) (size_of_store (store_of self)) s t }
+        ensures none_out { IsIdle (D.facts result) }
+        ensures content { (D.facts result).content ≡ (disk_of (store_of self)).content }
+        ensures failures { (D.facts result).failures ≡ (disk_of (store_of self)).failures }
+        ensures mishaps { D.mishaps result ≡ mishaps_of (store_of self) }
+    {
+        let Board { store, machine: _ } = self;
+        store.into_disk()
+    }
+
+    /// Takes the board apart.
+    pub fn into_parts(self) -> Parts<D>
+        ensures harts { result.harts.items ≡ (machine_of self).harts }
+        ensures ram { result.ram ≡ (machine_of self).memory }
+        ensures store { result.store ≡ store_of self }
+    {
+        let Board { store, machine } = self;
+        let (harts, ram) = machine.into_parts();
+        Parts { harts, ram, store }
+    }
+}

@@ -1,0 +1,98 @@
+//! From an opened store to a board that stands at its first instruction.
+
+ghost use Rattle.std.specs.Prelude.{◌≡◌, ◌≤◌, ℕ, OnOk, OnErr, IfOk, IfErr, MatchResult, None, Some, [], false};
+ghost use Rattle.board_model.specs.Durable.{State};
+ghost use Rattle.board_model.specs.Shown.{durable_of};
+ghost use Rattle.disk.specs.Facts.{Leaves_only};
+ghost use Rattle.store.specs.Leaves.{LeavesOnly, LeavesEither, SameLength, IsIdle};
+ghost use Rattle.store.specs.Opens.{CausedRefusal};
+ghost use Rattle.store.specs.Lives.{begun};
+ghost use Rattle.store.specs.Stores.{disk_of, mishaps_of, size_of_store, life_of, found_state, now_state, doubt_of};
+ghost use Rattle.board.specs.Boots.{life_after, boot_refusal, Fits, booted};
+ghost use Rattle.board.specs.Unbooted.{IsBootRefusal, IsIssueRefusal, RefusesMode, life_refused, CountsRefusal};
+ghost use Rattle.board_model.specs.declared.boot_mode.BootMode.TheVariants as modes;
+
+use crate::payloads::Payloads;
+use board_model::{BootMode, Command, Durable, Refusal};
+use disk::Disk;
+use machine::Machine;
+use std::alloc::Global;
+use store::Store;
+
+/// The refusal of a mode that the state does not allow.
+fn mode_refusal(mode: BootMode, found: &Durable) -> Option<Refusal>
+    ensures { (s : State) → found.now ≡ durable_of s → RefusesMode (boot_refusal s mode) result }
+{
+    let stands = found.image.is_some();
+    match mode {
+        BootMode::Keep => None,
+        BootMode::Fresh => if stands {
+            Some(Refusal::ImageThere)
+        } else {
+            None
+        },
+        BootMode::Discard => if stands { None } else { Some(Refusal::NoImage) },
+        BootMode::Resume => if stands { None } else { Some(Refusal::NoImage) },
+    }
+}
+
+/// Issues what the mode asks for. An image cannot be loaded yet.
+fn issue<D: Disk + Drop>(store: &mut Store<D>, mode: BootMode) -> Result<(), Refusal>
+    requires begins { life_of store.old ≡ begun (found_state store.old) }
+    requires allowed { boot_refusal (found_state store.old) mode ≡ None }
+    requires only { LeavesOnly (disk_of store.old) (size_of_store store.old) (found_state store.old) }
+    ensures size { size_of_store store.new ≡ size_of_store store.old }
+    ensures life { OnOk result (life_of store.new ≡ life_after mode (found_state store.old)) }
+    ensures only { OnOk result (LeavesOnly (disk_of store.new) (size_of_store store.new) (now_state store.new)) }
+    ensures refused { IfErr result (λ e. IsIssueRefusal mode e) }
+    ensures left { IfErr result (λ e. life_of store.new ≡ life_refused e (found_state store.old)) }
+    ensures length { SameLength (disk_of store.old) (disk_of store.new) }
+    ensures no_fewer { (disk_of store.old).failures ≤ (disk_of store.new).failures }
+    ensures cause { MatchResult result (λ _. mishaps_of store.new ≡ mishaps_of store.old) (λ e. CausedRefusal (mishaps_of store.old) e (mishaps_of store.new)) }
+    ensures counts { IfErr result (λ e. CountsRefusal (disk_of store.old).failures e (disk_of store.new).failures) }
+{
+    match mode {
+        BootMode::Fresh => Ok(()),
+        BootMode::Keep => Ok(()),
+        BootMode::Discard => match store.apply(Command::Discard) {
+            Ok(_) => Ok(()),
+            Err(refusal) => Err(refusal),
+        },
+        BootMode::Resume => Err(Refusal::BadImage),
+    }
+}
+
+/// Makes the board of a store that was just opened, and boots it. The checks come in the order of docs/BOARD.md.
+pub fn ready<D: Disk + Drop>(
+    alloc: Global,
+    store: &mut Store<D>,
+    mode: BootMode,
+    payloads: &Payloads,
+) -> Result<Machine, Refusal>
+    requires begins { life_of store.old ≡ begun (found_state store.old) }
+    requires only { LeavesOnly (disk_of store.old) (size_of_store store.old) (found_state store.old) }
+    ensures size { size_of_store store.new ≡ size_of_store store.old }
+    ensures life { OnOk result (life_of store.new ≡ life_after mode (found_state store.old)) }
+    ensures only { OnOk result (LeavesOnly (disk_of store.new) (size_of_store store.new) (now_state store.new)) }
+    ensures allowed { OnOk result ((boot_refusal (found_state store.old) mode ≡ None) × Fits (size_of_store store.old) payloads.now) }
+    ensures machine { IfOk result (λ m. m ≡ booted payloads.now (now_state store.new) (size_of_store store.new)) }
+    ensures refused { IfErr result (λ e. IsBootRefusal (boot_refusal (found_state store.old) mode) (size_of_store store.old) mode payloads.now e) }
+    ensures left { IfErr result (λ e. life_of store.new ≡ life_refused e (found_state store.old)) }
+    ensures length { SameLength (disk_of store.old) (disk_of store.new) }
+    ensures no_fewer { (disk_of store.old).failures ≤ (disk_of store.new).failures }
+    ensures cause { MatchResult result (λ _. mishaps_of store.new ≡ mishaps_of store.old) (λ e. CausedRefusal (mishaps_of store.old) e (mishaps_of store.new)) }
+    ensures counts { IfErr result (λ e. CountsRefusal (disk_of store.old).failures e (disk_of store.new).failures) }
+{
+    if let Some(refusal) = mode_refusal(mode, &store.found()) {
+        return Err(refusal);
+    }
+    let shape = store.shape();
+    if !payloads.fit(&shape) {
+        return Err(Refusal::BadShape);
+    }
+    let mut machine = Machine::new(alloc, &shape)?;
+    issue(store, mode)?;
+    let now = store.now();
+    machine.boot(&shape, payloads.get(now.slot), now.reason);
+    Ok(machine)
+}

@@ -1,0 +1,28 @@
+-- The exact text of the report lines that show a board's memory and harts. Source: docs/SCRIPT.md.
+use Rattle.std.specs.Prelude.{ℕ, List, ◌++◌, ◌-◌, length, replicate, take, false}
+use Rattle.std.specs.Fmt.{decimal, digits}
+use Rattle.std.specs.List.{flat_map}
+use Rattle.machine.specs.declared.status.Turned.{Turned}
+use Rattle.machine.specs.declared.status.Turned.TheVariants.{Idle, Next}
+use Rattle.machine_lines.specs.declared.line.MachineLine.{MachineLine}
+use Rattle.machine_lines.specs.declared.line.MachineLine.TheVariants as lines
+use lib.Chars.{codes}
+
+-- a number in so many hexadecimal digits, in lower case
+abbrev pub hex_text : ℕ → ℕ → List ℕ
+hex_text width n = replicate (width - length (digits 16 false n)) 48 ++ digits 16 false n
+
+abbrev pub bytes_text : List ℕ → List ℕ
+bytes_text bytes = flat_map (hex_text 2) bytes
+
+abbrev pub word_text : Turned → List ℕ
+word_text Idle = codes "idle"
+word_text Next = codes "next"
+
+abbrev pub machine_line_text : MachineLine → List ℕ
+machine_line_text (lines.Turn h k word) = codes "turn " ++ decimal h ++ codes " " ++ decimal k ++ codes " " ++ word_text word
+machine_line_text (lines.Reg h r v) = codes "reg " ++ decimal h ++ codes " " ++ decimal r ++ codes " 0x" ++ hex_text 16 v
+machine_line_text (lines.Pc h v) = codes "pc " ++ decimal h ++ codes " 0x" ++ hex_text 16 v
+machine_line_text (lines.Csr h c v) = codes "csr " ++ decimal h ++ codes " 0x" ++ hex_text 3 c ++ codes " 0x" ++ hex_text 16 v
+machine_line_text (lines.Mem bytes) = codes "mem " ++ bytes_text (take bytes.count bytes.bytes)
+machine_line_text lines.Off = codes "off"

@@ -1,0 +1,150 @@
+//! The lines, and their texts.
+
+ghost use Rattle.std.specs.Prelude.{◌≡◌, ◌++◌, ◌≤◌, Some, take};
+ghost use Rattle.machine_lines.specs.Texts.{word_text, hex_text, bytes_text, machine_line_text};
+
+use board_model::HartId;
+use machine::Turned;
+use std::fmt;
+
+/// Up to 64 bytes of memory.
+#[derive(Clone, Copy, Debug, PartialEq, Eq)]
+pub struct MemBytes {
+    /// The bytes, with zeros behind them.
+    pub bytes: [u8; 64],
+    /// How many they are.
+    pub count: usize,
+}
+
+/// What a line that shows memory or harts says.
+#[derive(Clone, Copy, Debug, PartialEq, Eq)]
+pub enum MachineLine {
+    /// `turn H K WORD`: K turns were made, and what the last one did.
+    Turn(HartId, u32, Turned),
+    /// `reg H R V`
+    Reg(HartId, u32, u64),
+    /// `pc H V`
+    Pc(HartId, u64),
+    /// `csr H C V`
+    Csr(HartId, u32, u64),
+    /// `mem HEX`
+    Mem(MemBytes),
+    /// `off`: the board has no such hart, or not all of these bytes.
+    Off,
+}
+
+#[derive(Drop)]
+struct Word(Turned);
+
+impl fmt::Display for Word {
+    ghost output = { λ w. Some (word_text w.0) };
+
+    fn fmt<W: fmt::Write>(&self, f: &mut fmt::Formatter<W>) -> fmt::Result {
+        match self.0 {
+            Turned::Idle => write!(f, "idle"),
+            Turned::Next => write!(f, "next"),
+        }
+    }
+}
+
+/// A register in 16 hexadecimal digits.
+#[derive(Drop)]
+struct Value(u64);
+
+impl fmt::Display for Value {
+    ghost output = { λ v. Some (hex_text 16 v.0) };
+
+    fn fmt<W: fmt::Write>(&self, f: &mut fmt::Formatter<W>) -> fmt::Result {
+        let value = self.0;
+        write!(f, "{value:016x}")
+    }
+}
+
+/// The number of a control and status register in 3 hexadecimal digits.
+#[derive(Drop)]
+struct CsrName(u32);
+
+impl fmt::Display for CsrName {
+    ghost output = { λ n. Some (hex_text 3 n.0) };
+
+    fn fmt<W: fmt::Write>(&self, f: &mut fmt::Formatter<W>) -> fmt::Result {
+        let number = self.0;
+        write!(f, "{number:03x}")
+    }
+}
+
+/// A byte in 2 hexadecimal digits.
+#[derive(Drop)]
+struct Byte(u8);
+
+impl fmt::Display for Byte {
+    ghost output = { λ b. Some (hex_text 2 b.0) };
+
+    fn fmt<W: fmt::Write>(&self, f: &mut fmt::Formatter<W>) -> fmt::Result {
+        let byte = self.0;
+        write!(f, "{byte:02x}")
+    }
+}
+
+/// Bytes, each in 2 hexadecimal digits.
+#[derive(Drop)]
+struct Hex<'a>(&'a [u8]);
+
+impl<'a> fmt::Display for Hex<'a> {
+    ghost output = { λ h. Some (bytes_text h.0.now) };
+
+    fn fmt<W: fmt::Write>(&self, f: &mut fmt::Formatter<W>) -> fmt::Result {
+        for byte in self.0 {
+            let text = Byte(*byte);
+            write!(f, "{text}")?;
+        }
+        Ok(())
+    }
+}
+
+impl MemBytes {
+    /// The bytes without the zeros behind them.
+    fn shown(&self) -> &[u8]
+        ensures { result.now ≡ take self.now.count self.now.bytes }
+    {
+        match self.bytes.get(..self.count) {
+            Some(shown) => shown,
+            None => &self.bytes,
+        }
+    }
+}
+
+impl fmt::Display for MachineLine {
+    ghost output = { λ line. Some (machine_line_text line) };
+
+    fn fmt<W: fmt::Write>(&self, f: &mut fmt::Formatter<W>) -> fmt::Result {
+        match *self {
+            MachineLine::Turn(hart, count, turned) => {
+                let number = hart.number();
+                let word = Word(turned);
+                write!(f, "turn {number} {count} {word}")
+            }
+            MachineLine::Reg(hart, register, value) => {
+                let number = hart.number();
+                let text = Value(value);
+                write!(f, "reg {number} {register} 0x{text}")
+            }
+            MachineLine::Pc(hart, value) => {
+                let number = hart.number();
+                let text = Value(value);
+                write!(f, "pc {number} 0x{text}")
+            }
+            MachineLine::Csr(hart, csr, value) => {
+                let number = hart.number();
+                let name = CsrName(csr);
+                let text = Value(value);
+                write!(f, "csr {number} 0x{name} 0x{text}")
+            }
+            MachineLine::Mem(bytes) => {
+                let hex = Hex(bytes.shown());
+                write!(f, "mem {hex}")
+            }
+            MachineLine::Off => write!(f, "off"),
+        }
+    }
+}
