@@ -1,5 +1,5 @@
 -- The words of a spelling: none holds a space, and each reads as what it was written for.
-use Rattle.std.proofs.Common.{◌≡◌, ℕ, zero, suc, ◌+◌, ◌*◌, ◌/◌, ◌%◌, ◌^◌, ◌<◌, ◌≤◌, ◌&&◌, ◌==◌, Bool, true, false, List, [], ◌∷◌, length, take, Option, Some, None, All, ap, ◌∙◌, refl, arith, slice_index, inl, inr, if◌then◌else◌, lit<}
+use Rattle.std.proofs.Common.{nat_lt, ◌≡◌, ℕ, zero, suc, ◌+◌, ◌*◌, ◌/◌, ◌%◌, ◌^◌, ◌<◌, ◌≤◌, ◌&&◌, ◌==◌, Bool, true, false, List, [], ◌∷◌, length, take, Option, Some, None, All, ap, ◌∙◌, refl, arith, slice_index, inl, inr, if◌then◌else◌, lit<}
 use Rattle.std.proofs.lemmas.Fmt.{decimal_is_IsNumeral, length-decimal-le}
 use Rattle.std.proofs.lemmas.Str.Parse.{digit_from_value}
 use Rattle.std.proofs.lemmas.Bool.Decides.{nat_tests}
@@ -8,7 +8,7 @@ use Rattle.std.proofs.lemmas.List.Elements.{All-cons, All-nil}
 use Rattle.std.proofs.lemmas.List.Splits.{slice_split_none, slice_split_at}
 use Rattle.std.specs.Fmt.{decimal}
 use Rattle.std.specs.Char.{digit_value}
-use Rattle.std.specs.List.{join_with_byte}
+use Rattle.std.specs.List.{join_with_byte, slice_split}
 use Rattle.std.specs.Str.{bytes_eq}
 use Rattle.std.specs.Str.Parse.{AllDigits, digits_value_after}
 use Rattle.hex.specs.Hex.{encode_lower, encode_with, lower_digits, IsBytes}
@@ -19,10 +19,11 @@ use Rattle.script_lang.specs.declared.line.Fill.{Fill}
 use Rattle.script_lang.specs.declared.line.Fill.TheVariants.{Old, New, Byte}
 use lib.Chars.{codes}
 
--- no byte of the word is a space; a test that computes on a text
+-- each byte of the word is a digit's code or a later one, so it is no space, no line feed and no `#`; a test that
+-- computes on a text
 abbrev pub is_word : List ℕ → Bool
 is_word [] = true
-is_word (b ∷ bs) = if b == 32 then false else is_word bs
+is_word (b ∷ bs) = if nat_lt 47 b then is_word bs else false
 
 abbrev pub IsWord : List ℕ → Type 0
 IsWord word = is_word word ≡ true
@@ -31,27 +32,46 @@ abbrev pub AreWords : List (List ℕ) → Type 0
 AreWords [] = Unit {0}
 AreWords (w ∷ ws) = IsWord w × AreWords ws
 
-by_test : (t rest : Bool) → (if t then false else rest) ≡ true → (t ≡ false) × (rest ≡ true)
-by_test true rest h = cc
-by_test false rest h = (refl, h)
+by_test : (t rest : Bool) → (if t then rest else false) ≡ true → (t ≡ true) × (rest ≡ true)
+by_test true rest h = (refl, h)
+by_test false rest h = cc
 
-no_space : (b : ℕ) (bs : List ℕ) → IsWord (b ∷ bs) → ((b == 32) ≡ false) × IsWord bs
-no_space b bs h = by_test (b == 32) (is_word bs) h
+word_parts : (b : ℕ) (bs : List ℕ) → IsWord (b ∷ bs) → (nat_lt 47 b ≡ true) × IsWord bs
+word_parts b bs h = by_test (nat_lt 47 b) (is_word bs) h
 
-no_spaces : (word : List ℕ) → IsWord word → All (λ b. (b == 32) ≡ false) word
-no_spaces [] h = All-nil (λ b. (b == 32) ≡ false)
-no_spaces (b ∷ bs) h = let parts = no_space b bs h in All-cons (λ b. (b == 32) ≡ false) b bs parts.0 (no_spaces bs parts.1)
+-- the word does not hold an earlier code
+pub IsWord-free : (c : ℕ) (word : List ℕ) → c < 48 → IsWord word → All (λ b. (b == c) ≡ false) word
+IsWord-free c [] s h = All-nil (λ b. (b == c) ≡ false)
+IsWord-free c (b ∷ bs) s h =
+    let parts = word_parts b bs h in
+    let later : nat_lt 47 b ≡ true = parts.0 in
+    let e : (b == c) ≡ false = grind (arith, nat_tests, later, s) in
+    All-cons (λ b. (b == c) ≡ false) b bs e (IsWord-free c bs s parts.1)
+
+eqb_same : (c : ℕ) → (c == c) ≡ true
+eqb_same c = grind (arith, nat_tests)
+
+-- parts that are joined by a byte that none of them holds are parted again
+abbrev pub AreFree : ℕ → List (List ℕ) → Type 0
+AreFree c [] = Unit {0}
+AreFree c (w ∷ ws) = All (λ b. (b == c) ≡ false) w × AreFree c ws
+
+pub slice_split-join : (c : ℕ) (w : List ℕ) (ws : List (List ℕ)) → AreFree c (w ∷ ws) → slice_split (λ b. b == c) (join_with_byte c (w ∷ ws)) ≡ w ∷ ws
+slice_split-join c w [] h = slice_split_none (λ b. b == c) w h.0
+slice_split-join c w (v ∷ ws) h = slice_split_at (λ b. b == c) w c (join_with_byte c (v ∷ ws)) h.0 (eqb_same c) ∙ ap (λ rest. w ∷ rest) (slice_split-join c v ws h.1)
+
+AreWords-free : (ws : List (List ℕ)) → AreWords ws → AreFree 32 ws
+AreWords-free [] h = tt
+AreWords-free (w ∷ ws) h = (IsWord-free 32 w (lit< tt) h.0, AreWords-free ws h.1)
 
 -- words that are joined by spaces are parted again
 pub words_of-join : (w : List ℕ) (ws : List (List ℕ)) → AreWords (w ∷ ws) → words_of (join_with_byte 32 (w ∷ ws)) ≡ w ∷ ws
-words_of-join w [] h = slice_split_none (λ b. b == 32) w (no_spaces w h.0)
-words_of-join w (v ∷ ws) h = slice_split_at (λ b. b == 32) w 32 (join_with_byte 32 (v ∷ ws)) (no_spaces w h.0) refl ∙ ap (λ rest. w ∷ rest) (words_of-join v ws h.1)
+words_of-join w ws h = slice_split-join 32 w ws (AreWords-free (w ∷ ws) h)
 
--- a byte that is no space, before a word
-longer_word : (b : ℕ) (bs : List ℕ) → (b == 32) ≡ false → IsWord bs → IsWord (b ∷ bs)
+longer_word : (b : ℕ) (bs : List ℕ) → nat_lt 47 b ≡ true → IsWord bs → IsWord (b ∷ bs)
 longer_word b bs e h = rw e h
 
--- digits are no spaces
+-- the text of digits is a word
 pub IsWord-digits : (ds : List ℕ) → AllDigits 10 ds → IsWord ds
 IsWord-digits [] h = refl
 IsWord-digits (c ∷ cs) h = let d = digit_from_value c h.0 in longer_word c cs (grind (arith, nat_tests, d)) (IsWord-digits cs h.1)
@@ -107,9 +127,9 @@ all_pass-at p (suc n) k h lt =
           rw e parts.0
     ]
 
--- a hexadecimal digit of the table is no space
-digit_word : (d : ℕ) → d < 16 → (slice_index lower_digits d == 32) ≡ false
-digit_word d h = let t = all_pass-at (λ d. is_word (slice_index lower_digits d ∷ [])) 16 d refl h in (no_space (slice_index lower_digits d) [] t).0
+-- a hexadecimal digit of the table is a word
+digit_word : (d : ℕ) → d < 16 → nat_lt 47 (slice_index lower_digits d) ≡ true
+digit_word d h = all_pass-at (λ d. nat_lt 47 (slice_index lower_digits d)) 16 d refl h
 
 -- the text of bytes is a word
 pub IsWord-encode : (bytes : List ℕ) → IsBytes bytes → IsWord (encode_lower bytes)

@@ -72,7 +72,7 @@ line_of-spelling size (Poke sector offset bytes) z r f =
     rw (ranged-decimal 0 (sectors_of size) sector (omega arith) r.0 (omega arith), ranged-decimal 0 512 offset (omega arith) (omega arith) (omega arith), hex_of-encode bytes f.1 r.1, t)
 
 -- no word of a spelling holds a space
-AreWords-spelling : (size : Size) (line : Line) → IsSize size → IsInRange size line → FitsLine line → AreWords (spelling_of line)
+pub AreWords-spelling : (size : Size) (line : Line) → IsSize size → IsInRange size line → FitsLine line → AreWords (spelling_of line)
 AreWords-spelling size (Payload slot bytes) z r f = (refl, (IsWord-decimal slot (omega arith), (IsWord-encode bytes f, tt)))
 AreWords-spelling size Format z r f = (refl, tt)
 AreWords-spelling size (On modes.Fresh) z r f = (refl, (refl, tt))

@@ -2,6 +2,6 @@ pub mod Words
 pub mod Rows
 pub mod Ranges
 pub mod Lines
-pub mod Spellings
 pub mod Scripts
+pub mod Spellings
 pub mod Seen

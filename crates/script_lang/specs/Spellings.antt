@@ -1,7 +1,8 @@
 -- One spelling of each line: decimal numbers and hexadecimal digits in lower case.
-use Rattle.std.specs.Prelude.{ℕ, ◌<◌, ◌^◌, List, [], ◌∷◌}
+use Rattle.std.specs.Prelude.{map, All, length, ◌≤◌, ℕ, ◌<◌, ◌^◌, List, [], ◌∷◌}
 use Rattle.std.specs.Fmt.{decimal}
 use Rattle.std.specs.List.{join_with_byte}
+use Rattle.board_model.specs.Shapes.{Size, IsSize}
 use Rattle.hex.specs.Hex.{encode_lower, IsBytes}
 use Rattle.board_model.specs.declared.boot_mode.BootMode.{BootMode}
 use Rattle.board_model.specs.declared.boot_mode.BootMode.TheVariants as modes
@@ -9,6 +10,8 @@ use Rattle.script_lang.specs.declared.line.Fill.{Fill}
 use Rattle.script_lang.specs.declared.line.Fill.TheVariants.{Old, New, Byte}
 use Rattle.script_lang.specs.declared.line.Line.{Line}
 use Rattle.script_lang.specs.declared.line.Line.TheVariants.{Payload, Format, On, Slot, Discard, Turn, Call, Reg, Pc, Csr, Pending, Mem, CutAt, CutLane, FailAt, FailLane, Cut, Poke}
+use Rattle.script_lang.specs.Ranges.{IsInRange}
+use Rattle.script_lang.specs.Scripts.{Script}
 use lib.Chars.{codes}
 
 abbrev pub mode_text : BootMode → List ℕ
@@ -72,3 +75,17 @@ FitsLine (FailAt calls) = Unit {0}
 FitsLine (FailLane lane calls) = Unit {0}
 FitsLine (Cut fill) = FitsFill fill
 FitsLine (Poke sector offset bytes) = (sector < 2 ^ 32) × IsBytes bytes
+
+-- the text of a script: the board line and the lines after it, parted by line feeds
+abbrev pub board_text : Size → List ℕ
+board_text size = join_with_byte 32 (codes "board" ∷ decimal size.harts ∷ decimal size.pages ∷ decimal size.lanes ∷ [])
+
+abbrev pub script_text : Script → List ℕ
+script_text script = join_with_byte 10 (board_text script.size ∷ map text_of script.lines)
+
+-- a script that the limits and the board allow
+pub record IsWritable (script : Script) : Type 0 where
+  pub size : IsSize script.size
+  pub few : length script.lines ≤ 65535
+  pub ranges : All (IsInRange script.size) script.lines
+  pub fits : All FitsLine script.lines

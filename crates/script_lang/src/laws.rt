@@ -6,8 +6,8 @@ ghost use Rattle.script_lang.specs.declared.line.Line.{Line};
 ghost use Rattle.script_lang.specs.Words.{words_of};
 ghost use Rattle.script_lang.specs.Lines.{line_of};
 ghost use Rattle.script_lang.specs.Ranges.{IsInRange};
-ghost use Rattle.script_lang.specs.Scripts.{◌>>>◌, rest_of};
-ghost use Rattle.script_lang.specs.Spellings.{text_of, FitsLine};
+ghost use Rattle.script_lang.specs.Scripts.{◌>>>◌, rest_of, Script, script_of};
+ghost use Rattle.script_lang.specs.Spellings.{text_of, FitsLine, script_text, IsWritable};
 
 /// Every line in its ranges is read from its spelling.
 pub fn lines_read_as_spelled()
@@ -20,4 +20,9 @@ pub fn lines_read_as_spelled()
 pub fn lines_read_in_order()
     ensures { (size : Size) (n : ℕ) (front back : List (List ℕ)) → rest_of size n (front ++ back)
         ≡ (rest_of size n front >>> λ said. rest_of size (n + length front) back >>> λ others. Ok (said ++ others)) }
+{}
+
+/// Every script that the limits and the board allow is read from its text.
+pub fn scripts_read_as_written()
+    ensures { (script : Script) → IsWritable script → script_of (script_text script) ≡ Ok script }
 {}

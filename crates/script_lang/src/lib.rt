@@ -10,6 +10,6 @@ mod scripts;
 mod words;
 
 pub use bytes::Bytes;
-pub use laws::{lines_read_as_spelled, lines_read_in_order};
+pub use laws::{lines_read_as_spelled, lines_read_in_order, scripts_read_as_written};
 pub use line::{Fill, Line};
 pub use scripts::{Script, parse_script};
