@@ -45,6 +45,7 @@ impl Disk for SimDisk {
         ensures failures { Counts (⟦<SimDisk as Disk>⟧.facts self.old).failures (⟦<SimDisk as Disk>⟧.facts self.new).failures result }
         ensures cause { Caused (⟦<SimDisk as Disk>⟧.mishaps self.old) (⟦<SimDisk as Disk>⟧.mishaps self.new) result }
         ensures lent { (⟦<SimDisk as Disk>⟧.facts self.new).lent ≡ (⟦<SimDisk as Disk>⟧.facts self.old).lent }
+        ensures not_its_own { (⟦<SimDisk as Disk>⟧.mishaps self.new).own ≡ (⟦<SimDisk as Disk>⟧.mishaps self.old).own }
         ensures record { ⟦<SimDisk as Recorded>⟧.record self.new ≡ ⟦<SimDisk as Recorded>⟧.record self.old }
     {
         if self.faults.strikes() {

@@ -1,4 +1,6 @@
-//! A disk in memory.
+//! A disk in memory, which meets the whole contract of [`disk::Disk`] with nothing assumed. It
+//! keeps a record of all its writes and syncs, from which what a crash may leave is read to the
+//! letter, and it can be cut, by a choice of what the crash leaves. docs/DISK.md has the model.
 #![tactic(auto)]
 
 mod choice;
