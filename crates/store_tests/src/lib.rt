@@ -1,0 +1,5 @@
+//! The store over the disk in memory: what the contracts of both say together, run once.
+#![tactic(auto)]
+
+#[cfg(test)]
+mod tests;
