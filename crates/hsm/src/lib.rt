@@ -7,5 +7,6 @@ mod calls;
 mod state;
 
 pub use calls::{quiet, start, status, stop, suspend, try_enter, unquiet, wake};
+pub use hsm_rule::laws;
 pub use hsm_steps::{HartSeat, HartTable, Seats};
 pub use state::State;
