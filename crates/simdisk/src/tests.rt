@@ -4,7 +4,7 @@ ghost use Rattle.disk.specs.Facts.{In_row};
 
 use super::*;
 use board_model::Refusal;
-use disk::{Disk, Fault, Lane, Sector};
+use disk::{Disk, Fault, Lane, read_sector, write_synced};
 use std::alloc::{AllocError, Global};
 use std::process::Abort;
 use std::test::Fail;
@@ -166,6 +166,19 @@ fn the_count_of_failures_stays_at_its_end(rt: HostRuntime) -> Result<(), Fail> {
     assert_eq!(rt; disk.sync(), Err(Fault));
     assert_eq!(rt; disk.failures(), u64::MAX);
     assert_eq!(rt; disk.after_cut(Choice::Old).failures(), u64::MAX);
+    Ok(())
+}
+
+#[test]
+fn one_sector_is_written_synced_and_read(rt: HostRuntime) -> Result<(), Fail> {
+    let mut disk = SimDisk::blank(rt.alloc(), 4)?;
+    assert_eq!(rt; write_synced(&mut disk, 2, &[6; 512]), Ok(()));
+    assert!(rt; disk.sectors() == 4);
+    assert_eq!(rt; read_sector(&mut disk, 2), Ok([6; 512]));
+    assert_eq!(rt;
+        contents(&rt, &disk.after_cut(Choice::Byte(9))),
+        [0, 0, 6, 0]
+    );
     Ok(())
 }
 
