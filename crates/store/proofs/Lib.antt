@@ -7,3 +7,4 @@ pub mod Refusing
 pub mod Applies
 pub mod Formatting
 pub mod Bridges
+pub mod Armed

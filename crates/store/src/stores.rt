@@ -14,7 +14,7 @@ use crate::doubts::Doubt;
 use crate::opens::find;
 use crate::receipts::Receipt;
 use board_model::{Command, Durable, MAX_COMMANDS, Refusal, Shape};
-use disk::Disk;
+use disk::{ArmedFault, Disk};
 use layout::{Record, Side};
 use std::alloc::Global;
 
@@ -44,7 +44,8 @@ impl<D: Disk + Drop> Store<D> {
     ghost use Rattle.store.specs.Leaves.{IsIdle, SameLength, Leaves, LeavesOnly, LeavesEither, StandsForEither};
     ghost use Rattle.store.specs.Opens.{OpenRefused, CausedRefusal};
     ghost use Rattle.store.specs.Lives.{begun, Reaches, Refused, Applied};
-    ghost use Rattle.disk.specs.Facts.{Leaves_only};
+    ghost use Rattle.disk.specs.Facts.{Leaves_only, Unchanged};
+    ghost use Rattle.disk.specs.Mishaps.{armed_by};
     ghost use Rattle.store.specs.Standing.{StandsFor};
     ghost use Rattle.store.specs.Stores.{disk_of, mishaps_of, size_of_store, life_of, found_state, journal_of, now_state, receipts, doubt_of, failures_at_open, Stands, Doubts};
 
@@ -180,6 +181,24 @@ impl<D: Disk + Drop> Store<D> {
             return Err(Refusal::JournalFull);
         }
         record_after(&self.current, command)
+    }
+
+    /// Arms a fault of the disk, which changes nothing of the store.
+    pub fn arm(&mut self, fault: ArmedFault)
+        ensures life { life_of self.new ≡ life_of self.old }
+        ensures facts { Unchanged (disk_of self.old) (disk_of self.new) }
+        ensures armed { mishaps_of self.new ≡ record (mishaps_of self.old) { armed = armed_by fault } }
+        ensures board { size_of_store self.new ≡ size_of_store self.old }
+        ensures opened { failures_at_open self.new ≡ failures_at_open self.old }
+    {
+        self.disk.arm(fault);
+    }
+
+    /// Whether an armed cut has struck the disk.
+    pub fn struck(&self) -> bool
+        ensures { result ≡ (mishaps_of self.now).struck }
+    {
+        self.disk.struck()
     }
 
     /// Ends the life, and gives the disk back: a crash leaves the state now, or with a command in doubt one of two.

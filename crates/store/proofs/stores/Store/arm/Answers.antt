@@ -1,0 +1,23 @@
+use Rattle.std.proofs.Common.{◌≡◌, ◌≤◌, ℕ, map, sym, subst}
+use Rattle.board_model.specs.Durable.{after, fold}
+use Rattle.board_model.specs.Shown.{change_of}
+use Rattle.disk.specs.Facts.{Content}
+use Rattle.store.specs.Standing.{state_of}
+use Rattle.store.proofs.Armed.{still_keeps, still_failed}
+use Rattle.store.proofs.stores.Store.arm.Goals as goal
+
+pub invariant_of-self : goal.invariant_of-self
+invariant_of-self g c =
+    let s = c.args.self.now in
+    let a = g.D.Disk.facts s.disk in
+    let b = g.D.Disk.facts c.arm.new.self in
+    let same = c.arm.ensures.facts in
+    record {
+      kept = still_keeps a b same s.shape s.side s.current s.doubt s.kept;
+      folded = subst (λ (d : Content). fold (state_of s.shape s.opened d) (map change_of s.journal.items) ≡ state_of s.shape s.current d) (sym same.content) s.folded;
+      doubted = λ x is. subst (λ (d : Content). state_of s.shape x.next d ≡ after (state_of s.shape s.current d) (change_of x.command)) (sym same.content) (s.doubted x is);
+      room = s.room;
+      few = s.few;
+      failed = λ x is. still_failed s.failures_at_open a.failures b.failures same.failures (s.failed x is);
+      counted = subst (λ (n : ℕ). s.failures_at_open ≤ n) (sym same.failures) s.counted;
+    }
