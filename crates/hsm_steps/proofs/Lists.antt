@@ -2,6 +2,9 @@
 use Rattle.std.proofs.Common.{IsSome, List, None, Option, Some, [], ap, append-nil, append_assoc, arith, drop, length, refl, rules, slice_get, subst, suc, sym, take, zero, ℕ, ◌++◌, ◌+◌, ◌<◌, ◌∙◌, ◌∷◌, ◌≡◌}
 use Rattle.atomic_table.specs.declared.shared.Seat.{Seat}
 use Rattle.hsm_words.specs.Words.{numbers, numbers_from}
+use Rattle.std.proofs.Common.{◌≢◌, ⊎_elim, inl}
+use Rattle.hsm_rule.specs.Rule.{stands}
+use Rattle.hsm_words.specs.declared.view.Stage.{Stage}
 use Rattle.hsm_words.specs.declared.view.HartView.{HartView}
 use Rattle.hsm_words.specs.declared.view.Crew.{Crew}
 use Rattle.hsm_steps.specs.declared.table.HartTable.{HartTable}
@@ -85,6 +88,31 @@ in_order (x ∷ ss) (v ∷ vs) first (suc n) same own zero s at =
     ap numbers mine ∙ ap (λ (k : ℕ). k ∷ []) (let e : v.hart ≡ first = ap (head_or first) own in omega arith)
 in_order (x ∷ ss) (v ∷ vs) first (suc n) same own (suc i) s at =
     in_order ss vs (suc first) n (ap tail_of same) (ap tail_of own) i s at ∙ ap (λ (k : ℕ). k ∷ []) (let e : suc first + i ≡ first + suc i = omega arith in e)
+
+-- and each of them stands where it stood
+pub in_order_stands : (ss : List S) (vs : List HartView) (first n : ℕ) → harts_by_seat ss ≡ one_by_one vs → numbers vs ≡ numbers_from first n
+    → (i : ℕ) (s : Seat (Unit {0}) Crew) → slice_get ss i ≡ Some (Some s) → (st : Stage) → stands (first + i) st vs → stands (first + i) st (harts_in s)
+in_order_stands [] vs first n same own i s at st stood = absurd (cc)
+in_order_stands (x ∷ ss) [] first n same own i s at st stood = absurd stood
+in_order_stands (x ∷ ss) (v ∷ vs) first zero same own i s at st stood = absurd (cc)
+in_order_stands (x ∷ ss) (v ∷ vs) first (suc n) same own zero s at st stood =
+    let here : harts_at x ≡ v ∷ [] = ap (head_or (harts_at x)) same in
+    let is : x ≡ Some s = ap (some_or x) at in
+    let mine : harts_in s ≡ v ∷ [] = ap harts_at (sym is) ∙ here in
+    let e : v.hart ≡ first = ap (head_or first) own in
+    subst (λ (l : List HartView). stands (first + 0) st l) (sym mine) (⊎_elim
+    (λ (hit : (v.hart ≡ first + 0) × (v.stage ≡ st)). inl hit)
+    (λ (miss : (v.hart ≢ first + 0) × stands (first + 0) st vs). absurd (miss.0 (omega arith)))
+    stood)
+in_order_stands (x ∷ ss) (v ∷ vs) first (suc n) same own (suc i) s at st stood =
+    let e : v.hart ≡ first = ap (head_or first) own in
+    let k : suc first + i ≡ first + suc i = omega arith in
+    subst (λ (j : ℕ). stands j st (harts_in s)) k
+    (in_order_stands ss vs (suc first) n (ap tail_of same) (ap tail_of own) i s at st
+    (subst (λ (j : ℕ). stands j st vs) (sym k) (⊎_elim
+    (λ (hit : (v.hart ≡ first + suc i) × (v.stage ≡ st)). let h = hit.0 in absurd (omega arith))
+    (λ (miss : (v.hart ≢ first + suc i) × stands (first + suc i) st vs). miss.1)
+    stood)))
 
 pub both_rest : (vs : List HartView) → take 1 vs ++ drop 1 vs ≡ vs
 both_rest [] = refl

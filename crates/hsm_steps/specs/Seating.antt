@@ -2,8 +2,10 @@
 use Rattle.std.specs.Prelude.{◌≡◌, ℕ, List, [], ◌∷◌, ◌++◌, Option, Some, None, slice_get}
 use Rattle.atomic_table.specs.declared.shared.Seat.{Seat}
 use Rattle.hsm_words.specs.Words.{numbers, numbers_from}
+use Rattle.hsm_words.specs.declared.view.Stage.{Stage}
 use Rattle.hsm_words.specs.declared.view.HartView.{HartView}
 use Rattle.hsm_words.specs.declared.view.Crew.{Crew}
+use Rattle.hsm_rule.specs.Rule.{stands}
 use Rattle.hsm_steps.specs.declared.table.HartTable.{HartTable}
 
 -- The seat is one of this table, and holds nothing else.
@@ -29,6 +31,10 @@ IsOfAll t s = numbers (harts_in s) ≡ numbers_from 0 (harts_of t)
 -- each seat of a list has just the hart of its place
 abbrev pub AreInOrder : List (Option (Seat (Unit {0}) Crew)) → Type 0
 AreInOrder ss = (i : ℕ) (s : Seat (Unit {0}) Crew) → slice_get ss i ≡ Some (Some s) → numbers (harts_in s) ≡ i ∷ []
+
+-- and it stands where it stood in a list of all harts
+abbrev pub StandAsIn : List HartView → List (Option (Seat (Unit {0}) Crew)) → Type 0
+StandAsIn vs ss = (i : ℕ) (s : Seat (Unit {0}) Crew) (st : Stage) → slice_get ss i ≡ Some (Some s) → stands i st vs → stands i st (harts_in s)
 
 -- ---- lists of seats, of which a taken one leaves None
 abbrev pub IsSomeSeatOf : HartTable → Option (Seat (Unit {0}) Crew) → Type 0

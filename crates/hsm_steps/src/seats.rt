@@ -5,7 +5,7 @@ ghost use Rattle.hsm_rule.specs.Rule.{stands};
 ghost use Rattle.hsm_rule.specs.States.{Shows};
 ghost use Rattle.hsm_words.specs.declared.view.Stage.TheVariants.{Out, Running};
 ghost use Rattle.hsm_steps.specs.Told.{opening_states, opening_crew, first_hart, other_harts, together};
-ghost use Rattle.hsm_steps.specs.Seating.{IsSeatOf, harts_of, crew_of, harts_in, IsOfAll, AreInOrder, AreSeatsOf, harts_by_seat, all_harts, one_by_one};
+ghost use Rattle.hsm_steps.specs.Seating.{IsSeatOf, harts_of, crew_of, harts_in, IsOfAll, AreInOrder, StandAsIn, AreSeatsOf, harts_by_seat, all_harts, one_by_one};
 ghost use Rattle.arrayvec.specs.ArrayVec.{array_vec_len};
 ghost use Rattle.board_model.specs.declared.refusal.Refusal.TheVariants.{Memory};
 
@@ -80,6 +80,7 @@ impl HartTable {
         requires all { IsOfAll self.now seat }
         ensures seats { AreSeatsOf self.now result.items }
         ensures order { AreInOrder result.items }
+        ensures stages { StandAsIn (harts_in seat) result.items }
         ensures apart { harts_by_seat result.items ≡ one_by_one (harts_in seat) }
         ensures harts { all_harts result.items ≡ harts_in seat }
     {

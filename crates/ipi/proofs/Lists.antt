@@ -1,7 +1,9 @@
 -- Lists of seats: one that grows by the first hart of the rest, and one that shrinks from its end.
 use Rattle.std.proofs.Common.{IsSome, List, None, Option, Some, [], ap, append-nil, append_assoc, arith, drop, length, refl, rules, slice_get, subst, suc, sym, take, zero, ℕ, ◌++◌, ◌+◌, ◌<◌, ◌∙◌, ◌∷◌, ◌≡◌}
 use Rattle.atomic_table.specs.declared.shared.Seat.{Seat}
-use Rattle.ipi.specs.Ledger.{numbers, numbers_from}
+use Rattle.std.proofs.Common.{eq-eqb}
+use Rattle.tallies.specs.Sums.{total}
+use Rattle.ipi.specs.Ledger.{numbers, numbers_from, is_of}
 use Rattle.ipi.specs.declared.view.Diary.{Diary}
 use Rattle.ipi.specs.declared.view.Crew.{Crew}
 use Rattle.ipi.specs.declared.table.PendingTable.{PendingTable}
@@ -85,6 +87,12 @@ in_order (x ∷ ss) (v ∷ vs) first (suc n) same own zero s at =
     ap numbers mine ∙ ap (λ (k : ℕ). k ∷ []) (let e : v.hart ≡ first = ap (head_or first) own in omega arith)
 in_order (x ∷ ss) (v ∷ vs) first (suc n) same own (suc i) s at =
     in_order ss vs (suc first) n (ap tail_of same) (ap tail_of own) i s at ∙ ap (λ (k : ℕ). k ∷ []) (let e : suc first + i ≡ first + suc i = omega arith in e)
+
+-- a seat of one hart has it
+pub seated_alone : (i : ℕ) (ds : List Diary) → numbers ds ≡ i ∷ [] → total (is_of i) ds ≡ 1
+seated_alone i [] own = absurd (cc)
+seated_alone i (d ∷ e ∷ ds) own = absurd (cc)
+seated_alone i (d ∷ []) own = let e : is_of i d ≡ 1 = rw (eq-eqb d.hart i (ap (head_or i) own)) refl in omega arith
 
 pub both_rest : (vs : List Diary) → take 1 vs ++ drop 1 vs ≡ vs
 both_rest [] = refl

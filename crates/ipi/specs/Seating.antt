@@ -1,7 +1,7 @@
 -- Seats of a pending table.
 use Rattle.std.specs.Prelude.{◌≡◌, ℕ, List, [], ◌∷◌, ◌++◌, Option, Some, None, slice_get}
 use Rattle.atomic_table.specs.declared.shared.Seat.{Seat}
-use Rattle.ipi.specs.Ledger.{numbers, numbers_from}
+use Rattle.ipi.specs.Ledger.{numbers, numbers_from, seats}
 use Rattle.ipi.specs.declared.view.Diary.{Diary}
 use Rattle.ipi.specs.declared.view.Crew.{Crew}
 use Rattle.ipi.specs.declared.table.PendingTable.{PendingTable}
@@ -29,6 +29,10 @@ IsOfAll t s = numbers (diaries_in s) ≡ numbers_from 0 (harts_of t)
 -- each seat of a list has just the hart of its place
 abbrev pub AreInOrder : List (Option (Seat (Unit {0}) Crew)) → Type 0
 AreInOrder ss = (i : ℕ) (s : Seat (Unit {0}) Crew) → slice_get ss i ≡ Some (Some s) → numbers (diaries_in s) ≡ i ∷ []
+
+-- and has it once
+abbrev pub AreSeated : List (Option (Seat (Unit {0}) Crew)) → Type 0
+AreSeated ss = (i : ℕ) (s : Seat (Unit {0}) Crew) → slice_get ss i ≡ Some (Some s) → seats i (crew_of s) ≡ 1
 
 -- ---- lists of seats, of which a taken one leaves None
 abbrev pub IsSomeSeatOf : PendingTable → Option (Seat (Unit {0}) Crew) → Type 0

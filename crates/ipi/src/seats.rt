@@ -4,7 +4,7 @@ ghost use Rattle.std.specs.Prelude.{◌≡◌, ℕ, ◌<◌, ◌≤◌, false, I
 ghost use Rattle.arrayvec.specs.ArrayVec.{array_vec_len};
 ghost use Rattle.ipi.specs.Ledger.{opening_crew, first_hart, other_harts, together};
 ghost use Rattle.ipi.specs.Pairs.{Sits, Shows};
-ghost use Rattle.ipi.specs.Seating.{IsSeatOf, harts_of, crew_of, diaries_in, IsOfAll, AreInOrder, AreSeatsOf, diaries_by_seat, all_diaries, one_by_one};
+ghost use Rattle.ipi.specs.Seating.{IsSeatOf, harts_of, crew_of, diaries_in, IsOfAll, AreInOrder, AreSeated, AreSeatsOf, diaries_by_seat, all_diaries, one_by_one};
 ghost use Rattle.board_model.specs.declared.refusal.Refusal.TheVariants.{Memory};
 
 use crate::table::{ByHart, IpiSeat, PendingTable, Seats};
@@ -67,6 +67,7 @@ impl PendingTable {
         requires all { IsOfAll self.now seat }
         ensures seats { AreSeatsOf self.now result.items }
         ensures order { AreInOrder result.items }
+        ensures sits { AreSeated result.items }
         ensures apart { diaries_by_seat result.items ≡ one_by_one (diaries_in seat) }
         ensures harts { all_diaries result.items ≡ diaries_in seat }
     {

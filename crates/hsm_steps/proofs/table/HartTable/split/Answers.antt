@@ -1,8 +1,9 @@
-use Rattle.std.proofs.Common.{◌∷◌, [], List, Some, ap, arith, drop, length, refl, sym, take, ℕ, ◌++◌, ◌+◌, ◌<◌, ◌∙◌, ◌≡◌}
+use Rattle.std.proofs.Common.{subst, ◌∷◌, [], List, Some, ap, arith, drop, length, refl, sym, take, ℕ, ◌++◌, ◌+◌, ◌<◌, ◌∙◌, ◌≡◌}
 use Rattle.hsm_words.specs.declared.view.HartView.{HartView}
 use Rattle.hsm_words.specs.declared.view.Crew.{Crew}
+use Rattle.hsm_rule.specs.Rule.{stands}
 use Rattle.hsm_steps.specs.Seating.{harts_in, harts_of, one_by_one, harts_by_seat, all_harts}
-use Rattle.hsm_steps.proofs.Lists.{by_seat_push, all_push, are_push, one_rest, both_rest, length_rest, length_numbers, length_from, by_seat_done, in_order}
+use Rattle.hsm_steps.proofs.Lists.{by_seat_push, all_push, are_push, one_rest, both_rest, length_rest, length_numbers, length_from, by_seat_done, in_order, in_order_stands}
 use Rattle.hsm_steps.proofs.table.HartTable.split.Goals as goal
 
 pub loop-place-preserved : goal.loop-place-preserved
@@ -41,3 +42,16 @@ returns-clause-order c = λ i s at.
     in_order c.loop-place.seats.items (harts_in c.args.seat) 0 (harts_of c.args.self.now)
     (by_seat_done c.loop-place.seats.items (harts_in c.loop-place.rest) (one_by_one (harts_in c.args.seat)) none inv.apart) c.requires.all i s at
     ∙ ap (λ (k : ℕ). k ∷ []) (let e : 0 + i ≡ i = omega arith in e)
+
+pub returns-clause-stages : goal.returns-clause-stages
+returns-clause-stages c = λ i s st at stood.
+    let inv = c.loop-place.invariant in
+    let left = inv.left in
+    let size = c.harts-place-end.ensures.value in
+    let end = c.loop-place-test.false in
+    let none : length (harts_in c.loop-place.rest) ≡ 0 = omega arith in
+    let same : 0 + i ≡ i = omega arith in
+    subst (λ (k : ℕ). stands k st (harts_in s)) same
+    (in_order_stands c.loop-place.seats.items (harts_in c.args.seat) 0 (harts_of c.args.self.now)
+    (by_seat_done c.loop-place.seats.items (harts_in c.loop-place.rest) (one_by_one (harts_in c.args.seat)) none inv.apart) c.requires.all i s at st
+    (subst (λ (k : ℕ). stands k st (harts_in c.args.seat)) (sym same) stood))

@@ -2,7 +2,7 @@ use Rattle.std.proofs.Common.{◌∷◌, [], List, Some, ap, arith, drop, length
 use Rattle.ipi.specs.declared.view.Diary.{Diary}
 use Rattle.ipi.specs.declared.view.Crew.{Crew}
 use Rattle.ipi.specs.Seating.{diaries_in, harts_of, one_by_one, diaries_by_seat, all_diaries}
-use Rattle.ipi.proofs.Lists.{by_seat_push, all_push, are_push, one_rest, both_rest, length_rest, length_numbers, length_from, by_seat_done, in_order}
+use Rattle.ipi.proofs.Lists.{by_seat_push, all_push, are_push, one_rest, both_rest, length_rest, length_numbers, length_from, by_seat_done, in_order, seated_alone}
 use Rattle.ipi.proofs.table.PendingTable.split.Goals as goal
 
 pub loop-place-preserved : goal.loop-place-preserved
@@ -41,3 +41,16 @@ returns-clause-order c = λ i s at.
     in_order c.loop-place.seats.items (diaries_in c.args.seat) 0 (harts_of c.args.self.now)
     (by_seat_done c.loop-place.seats.items (diaries_in c.loop-place.rest) (one_by_one (diaries_in c.args.seat)) none inv.apart) c.requires.all i s at
     ∙ ap (λ (k : ℕ). k ∷ []) (let e : 0 + i ≡ i = omega arith in e)
+
+pub returns-clause-sits : goal.returns-clause-sits
+returns-clause-sits c = λ i s at.
+    let inv = c.loop-place.invariant in
+    let left = inv.left in
+    let size = c.harts-place-end.ensures.value in
+    let end = c.loop-place-test.false in
+    let none : length (diaries_in c.loop-place.rest) ≡ 0 = omega arith in
+    let same : 0 + i ≡ i = omega arith in
+    seated_alone i (diaries_in s)
+    (in_order c.loop-place.seats.items (diaries_in c.args.seat) 0 (harts_of c.args.self.now)
+    (by_seat_done c.loop-place.seats.items (diaries_in c.loop-place.rest) (one_by_one (diaries_in c.args.seat)) none inv.apart) c.requires.all i s at
+    ∙ ap (λ (k : ℕ). k ∷ []) same)
