@@ -16,7 +16,7 @@ use Rattle.hsm_words.specs.declared.view.HartView.{HartView}
 use Rattle.hsm_words.specs.declared.view.Crew.{Crew}
 use Rattle.hsm_words.specs.Words.{hart_view, crew, board_of}
 use Rattle.hsm_rule.specs.Rule.{IsSite, Grants, granted, claim_of, entry_of, is_pending, fly, Fits, Sound, Kept, noted, stands}
-use Rattle.hsm_steps.specs.Told.{Sat, after_claim, after_look, Claims, PutsAddress, PutsOpaque, Arms, IsFresh, Looks, LooksOut, ReadsAddress, ReadsOpaque, Enters, Stops}
+use Rattle.hsm_steps.specs.Told.{SeatState, after_claim, after_look, Claims, PutsAddress, PutsOpaque, Arms, IsFresh, Looks, LooksOut, ReadsAddress, ReadsOpaque, Enters, Stops}
 use Rattle.hsm_rule.proofs.Next.{Place, place, mine, under}
 use Rattle.hsm_rule.proofs.Whole.{tells, open_start}
 use Rattle.hsm_rule.proofs.Steps.{idle, claims, puts_address, puts_opaque, arms, enters, stops}
@@ -42,7 +42,7 @@ granted_sites g t a o site all k = dite (ℕ_discrete k t)
 zero_bit : (found i : ℕ) → bit_at found i ≢ 0 → bit_at found i ≡ 1
 zero_bit found i ne = let l = bit_at-lt found i in omega arith
 
-module _ (harts slots id : ℕ) (me : Sat) (h : ℕ) (small : harts ≤ 8) where
+module _ (harts slots id : ℕ) (me : SeatState) (h : ℕ) (small : harts ≤ 8) where
   pub claims_as : (t a o : ℕ) → t < harts → IsSite a → stands h Running me.0.harts → Allows (Kept harts) slots id me 0 (λ n. bit_or n (mask t)) (Claims harts h t a o (step slots 0 (mask t) 0 none) me)
   claims_as t a o tl site stood s kept _ at _ =
       let ws = s.words in

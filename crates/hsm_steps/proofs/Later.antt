@@ -15,7 +15,7 @@ use Rattle.hsm_words.specs.declared.view.Crew.{Crew}
 use Rattle.hsm_words.specs.Words.{crew, Board, board_of}
 use Rattle.hsm_rule.specs.Rule.{Grants, fly, Fits, Kept, noted, stands}
 use Rattle.hsm_rule.specs.States.{IsStarted}
-use Rattle.hsm_steps.specs.Told.{Sat, Suspends, Wakes, is_alone, after_quiet, Quiets, Unquiets}
+use Rattle.hsm_steps.specs.Told.{SeatState, Suspends, Wakes, is_alone, after_quiet, Quiets, Unquiets}
 use Rattle.hsm_rule.proofs.Next.{place, mine, under}
 use Rattle.hsm_rule.proofs.Steps.{turns}
 use Rattle.hsm_rule.proofs.Whole.{tells}
@@ -34,7 +34,7 @@ low_bit harts found t lt =
 pub alone_bits : (harts h found : ℕ) → found % 2 ^ harts ≡ 2 ^ h → (t : ℕ) → t < harts → t ≢ h → bit_at found t ≡ 0
 alone_bits harts h found is t lt ne = low_bit harts found t lt ∙ (ap (λ (n : ℕ). bit_at n t) is ∙ bit_at-pow_other h t ne)
 
-module _ (harts slots id : ℕ) (me : Sat) (h : ℕ) (small : harts ≤ 8) where
+module _ (harts slots id : ℕ) (me : SeatState) (h : ℕ) (small : harts ≤ 8) where
   pub suspends_as : h < harts → stands h Running me.0.harts → Allows (Kept harts) slots id me 0 (λ n. bit_or n (mask (24 + h))) (Suspends h (step slots 0 (mask (24 + h)) 0 none) me)
   suspends_as hl stood s kept _ at _ =
       let ws = s.words in

@@ -13,13 +13,15 @@ use Rattle.hsm_rule.specs.Rule.{IsSite, noted, stands}
 use Rattle.hsm_rule.specs.States.{HartState, stopped, start_pending, started, IsStarted, Shows, Tells}
 
 -- ---- what each step tells
-abbrev pub Sat : Type 0
-Sat = Me (Unit {0}) Crew
+-- what the table keeps of a seat: its view, and the slots that it has taken, of which there are none
+abbrev pub SeatState : Type 0
+SeatState = Me (Unit {0}) Crew
 
 -- the view has one more deed of the hart, and the hart then stands at this stage
-abbrev pub Notes : ℕ → Stage → Deed → Sat → Sat → Type 0
+abbrev pub Notes : ℕ → Stage → Deed → SeatState → SeatState → Type 0
 Notes h st x m m' = (m'.0 ≡ crew (noted h st x m.0.harts)) × (m'.1 ≡ m.1)
 
+-- where a hart stands after a claim
 abbrev pub after_claim : ℕ → ℕ → ℕ → ℕ → Stage
 after_claim t a o found = if bit_at found t == 0 then Claiming t a o else Running
 
@@ -27,16 +29,16 @@ after_claim t a o found = if bit_at found t == 0 then Claiming t a o else Runnin
 abbrev pub after_look : ℕ → ℕ → Stage
 after_look h found = if bit_at found (8 + h) == 1 then (if bit_at found (16 + h) == 0 then Ready else Out) else Out
 
-abbrev pub Claims : ℕ → ℕ → ℕ → ℕ → ℕ → Step (Unit {0}) → Sat → ℕ → Sat → Type 0
+abbrev pub Claims : ℕ → ℕ → ℕ → ℕ → ℕ → Step (Unit {0}) → SeatState → ℕ → SeatState → Type 0
 Claims harts h t a o st m found m' = Notes h (after_claim t a o found) (Claimed t a o found) m m' × Tells harts m.0 found
 
-abbrev pub PutsAddress : ℕ → ℕ → ℕ → ℕ → Step (Unit {0}) → Sat → ℕ → Sat → Type 0
+abbrev pub PutsAddress : ℕ → ℕ → ℕ → ℕ → Step (Unit {0}) → SeatState → ℕ → SeatState → Type 0
 PutsAddress h t a o st m found m' = Notes h (Half t a o) (Wrote (1 + 2 * t) a) m m'
 
-abbrev pub PutsOpaque : ℕ → ℕ → ℕ → ℕ → Step (Unit {0}) → Sat → ℕ → Sat → Type 0
+abbrev pub PutsOpaque : ℕ → ℕ → ℕ → ℕ → Step (Unit {0}) → SeatState → ℕ → SeatState → Type 0
 PutsOpaque h t a o st m found m' = Notes h (Stored t a o) (Wrote (2 + 2 * t) o) m m'
 
-abbrev pub Arms : ℕ → ℕ → Step (Unit {0}) → Sat → ℕ → Sat → Type 0
+abbrev pub Arms : ℕ → ℕ → Step (Unit {0}) → SeatState → ℕ → SeatState → Type 0
 Arms h t st m found m' = Notes h Running (Armed t) m m'
 
 -- Freshness: what the first word says of the harts of the seat itself.
@@ -46,32 +48,32 @@ pub record IsFresh (found : ℕ) (vs : List HartView) : Type 0 where
   pub outside : (k : ℕ) → stands k Out vs → bit_at found (16 + k) ≡ 0
 
 -- a look by a hart that stands at this stage, which it keeps
-abbrev pub Looks : ℕ → ℕ → Stage → Step (Unit {0}) → Sat → ℕ → Sat → Type 0
+abbrev pub Looks : ℕ → ℕ → Stage → Step (Unit {0}) → SeatState → ℕ → SeatState → Type 0
 Looks harts h st s m found m' = Notes h st (Looked found) m m' × IsFresh found m.0.harts × Tells harts m.0 found
 
-abbrev pub LooksOut : ℕ → ℕ → Step (Unit {0}) → Sat → ℕ → Sat → Type 0
+abbrev pub LooksOut : ℕ → ℕ → Step (Unit {0}) → SeatState → ℕ → SeatState → Type 0
 LooksOut harts h st m found m' = Notes h (after_look h found) (Looked found) m m' × Tells harts m.0 found
 
-abbrev pub ReadsAddress : ℕ → Step (Unit {0}) → Sat → ℕ → Sat → Type 0
+abbrev pub ReadsAddress : ℕ → Step (Unit {0}) → SeatState → ℕ → SeatState → Type 0
 ReadsAddress h st m found m' = Notes h (Addressed found) (Read (1 + 2 * h) found) m m' × IsSite found
 
-abbrev pub ReadsOpaque : ℕ → ℕ → Step (Unit {0}) → Sat → ℕ → Sat → Type 0
+abbrev pub ReadsOpaque : ℕ → ℕ → Step (Unit {0}) → SeatState → ℕ → SeatState → Type 0
 ReadsOpaque h a st m found m' = Notes h (Loaded a found) (Read (2 + 2 * h) found) m m'
 
 -- the triple entered is the open one
 abbrev pub IsOpenStart : ℕ → Crew → ℕ → ℕ → ℕ → Type 0
 IsOpenStart harts c h a o = (table : ℕ → HartState) → Shows harts c table → table h ≡ start_pending a o
 
-abbrev pub Enters : ℕ → ℕ → ℕ → ℕ → Step (Unit {0}) → Sat → ℕ → Sat → Type 0
+abbrev pub Enters : ℕ → ℕ → ℕ → ℕ → Step (Unit {0}) → SeatState → ℕ → SeatState → Type 0
 Enters harts h a o st m found m' = Notes h Running (Entered h a o) m m' × IsOpenStart harts m.0 h a o
 
-abbrev pub Stops : ℕ → Step (Unit {0}) → Sat → ℕ → Sat → Type 0
+abbrev pub Stops : ℕ → Step (Unit {0}) → SeatState → ℕ → SeatState → Type 0
 Stops h st m found m' = Notes h Out (Stopped found) m m'
 
-abbrev pub Suspends : ℕ → Step (Unit {0}) → Sat → ℕ → Sat → Type 0
+abbrev pub Suspends : ℕ → Step (Unit {0}) → SeatState → ℕ → SeatState → Type 0
 Suspends h st m found m' = Notes h Asleep (Suspended found) m m'
 
-abbrev pub Wakes : ℕ → Step (Unit {0}) → Sat → ℕ → Sat → Type 0
+abbrev pub Wakes : ℕ → Step (Unit {0}) → SeatState → ℕ → SeatState → Type 0
 Wakes h st m found m' = Notes h Running (Woke found) m m'
 
 -- the hart alone is claimed
@@ -81,13 +83,13 @@ is_alone harts h found = found % 2 ^ harts == 2 ^ h
 abbrev pub after_quiet : ℕ → ℕ → ℕ → Stage
 after_quiet harts h found = if is_alone harts h found then Quiet else Running
 
-abbrev pub Quiets : ℕ → ℕ → Step (Unit {0}) → Sat → ℕ → Sat → Type 0
+abbrev pub Quiets : ℕ → ℕ → Step (Unit {0}) → SeatState → ℕ → SeatState → Type 0
 Quiets harts h st m found m' = Notes h (after_quiet harts h found) (Quieted found) m m'
     × (IsTrue (is_alone harts h found) ↔ ((t : ℕ) → t < harts → t ≢ h → bit_at found t ≡ 0))
     × (stands h Quiet m.0.harts → is_alone harts h found ≡ true)
     × Tells harts m.0 found
 
-abbrev pub Unquiets : ℕ → Step (Unit {0}) → Sat → ℕ → Sat → Type 0
+abbrev pub Unquiets : ℕ → Step (Unit {0}) → SeatState → ℕ → SeatState → Type 0
 Unquiets h st m found m' = Notes h Running (Unquieted found) m m'
 
 -- ---- the table at the start

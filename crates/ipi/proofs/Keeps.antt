@@ -15,7 +15,7 @@ use Rattle.ipi.specs.declared.view.Deed.TheVariants.{Raised, Took, Looked}
 use Rattle.ipi.specs.declared.view.Diary.{Diary}
 use Rattle.ipi.specs.declared.view.Crew.{Crew}
 use Rattle.tallies.specs.Sums.{total}
-use Rattle.ipi.specs.Ledger.{Each, diary, crew, raise_of, take_of, raised_by, taken_by, raised, taken, is_of, seats, owes, IsOwed, Kept, noted, Deeds, fresh_from, opening_crew, numbers, numbers_from, IsWhole, Tells, deeds_of, InRange, Raises, Takes, Looks, first_hart, other_harts, together, nobody}
+use Rattle.ipi.specs.Ledger.{Each, diary, crew, raise_of, take_of, raised_by, taken_by, raised, taken, is_of, seats, owes, IsOwed, Kept, noted, SeatState, fresh_from, opening_crew, numbers, numbers_from, IsWhole, Tells, deeds_of, InRange, Raises, Takes, Looks, first_hart, other_harts, together, nobody}
 use Rattle.ipi.specs.Pairs.{Shows}
 use Rattle.tallies.proofs.Totals.{total-set, two_at_most_total, at_most_total, total_none, total_alone, total_split, total_join, total-append}
 
@@ -267,7 +267,7 @@ module _ (ws : List ℕ) (t : ℕ) (short : t < length ws) where
   take_owed d ne owed o = bit_else 0 d.hart d.hart ne ∙ owed o
 
 -- ---- the steps
-module _ (harts slots id : ℕ) (me : Deeds) (by : ℕ) (small : harts ≤ 8) (acts : seats by me.0 ≡ 1) where
+module _ (harts slots id : ℕ) (me : SeatState) (by : ℕ) (small : harts ≤ 8) (acts : seats by me.0 ≡ 1) where
   pub raises : (t : ℕ) → t < harts → Allows (Kept harts) slots id me t (λ n. bit_or n (mask by)) (Raises harts by (step slots t (mask by) 0 none) me)
   raises t lt s kept _ at _ =
       let u = under harts s kept id me.0 at by acts in

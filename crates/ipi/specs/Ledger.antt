@@ -75,8 +75,9 @@ abbrev pub noted : ℕ → Deed → List Diary → List Diary
 noted h x [] = []
 noted h x (d ∷ ds) = if d.hart == h then diary d.hart (x ∷ d.deeds) ∷ ds else d ∷ noted h x ds
 
-abbrev pub Deeds : Type 0
-Deeds = Me (Unit {0}) Crew
+-- what the table keeps of a seat: its view, and the slots that it has taken, of which there are none
+abbrev pub SeatState : Type 0
+SeatState = Me (Unit {0}) Crew
 
 -- the numbers of the harts, in the order of the list
 abbrev pub numbers : List Diary → List ℕ
@@ -122,13 +123,13 @@ abbrev pub InRange : ℕ → ℕ → Type 0
 InRange harts found = (sender : ℕ) → harts ≤ sender → bit_at found sender ≡ 0
 
 -- what a step tells
-abbrev pub Raises : ℕ → ℕ → Step (Unit {0}) → Deeds → ℕ → Deeds → Type 0
+abbrev pub Raises : ℕ → ℕ → Step (Unit {0}) → SeatState → ℕ → SeatState → Type 0
 Raises harts by st m found m' = (m'.0 ≡ crew (noted by (Raised st.word found) m.0.diaries)) × (m'.1 ≡ m.1) × Tells harts m.0 st.word found
 
-abbrev pub Takes : ℕ → Step (Unit {0}) → Deeds → ℕ → Deeds → Type 0
+abbrev pub Takes : ℕ → Step (Unit {0}) → SeatState → ℕ → SeatState → Type 0
 Takes harts st m found m' = (m'.0 ≡ crew (noted st.word (Took found) m.0.diaries)) × (m'.1 ≡ m.1) × Tells harts m.0 st.word found × OwnsUp m.0 st.word found × InRange harts found
 
-abbrev pub Looks : ℕ → Step (Unit {0}) → Deeds → ℕ → Deeds → Type 0
+abbrev pub Looks : ℕ → Step (Unit {0}) → SeatState → ℕ → SeatState → Type 0
 Looks harts st m found m' = (m'.0 ≡ crew (noted st.word (Looked found) m.0.diaries)) × (m'.1 ≡ m.1) × Tells harts m.0 st.word found × OwnsUp m.0 st.word found × InRange harts found
 
 -- ---- seats

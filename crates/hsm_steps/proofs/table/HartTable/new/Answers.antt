@@ -6,7 +6,7 @@ use Rattle.hsm_words.specs.declared.view.HartView.{HartView}
 use Rattle.hsm_words.specs.declared.view.Crew.{Crew}
 use Rattle.hsm_rule.specs.Rule.{stands}
 use Rattle.hsm_rule.specs.States.{Shows}
-use Rattle.hsm_steps.specs.Told.{Sat, opening_states, opening_crew}
+use Rattle.hsm_steps.specs.Told.{SeatState, opening_states, opening_crew}
 use Rattle.hsm_steps.specs.declared.table.Setup.{Setup}
 use Rattle.hsm_steps.proofs.Parting.{opens, first_word, opens_standing, opens_numbered, opens_shown}
 use Rattle.hsm_steps.proofs.table.HartTable.new.Goals as goal
@@ -28,16 +28,16 @@ of_words-requires c =
 pub returns-clause-stands : goal.returns-clause-stands
 returns-clause-stands c = λ h lt.
     let size = c.harts.ensures.value in
-    let harts = ap (λ (m : Sat). m.0.harts) c.in_ok-table.ensures.4 in
+    let harts = ap (λ (m : SeatState). m.0.harts) c.in_ok-table.ensures.4 in
     subst (λ (vs : List HartView). stands h (if h == c.args.started then Running else Out) vs) (sym harts) (opens_standing c.harts.result c.args.started h (rw size lt))
 
 pub returns-clause-all : goal.returns-clause-all
 returns-clause-all c =
     let size = c.harts.ensures.value in
-    ap (λ (m : Sat). numbers m.0.harts) c.in_ok-table.ensures.4 ∙ (opens_numbered c.args.started 0 c.harts.result ∙ ap (λ (n : ℕ). numbers_from 0 n) (sym (ap (λ (s : Setup). s.harts) c.in_ok-table.ensures.5)))
+    ap (λ (m : SeatState). numbers m.0.harts) c.in_ok-table.ensures.4 ∙ (opens_numbered c.args.started 0 c.harts.result ∙ ap (λ (n : ℕ). numbers_from 0 n) (sym (ap (λ (s : Setup). s.harts) c.in_ok-table.ensures.5)))
 
 pub returns-clause-shows : goal.returns-clause-shows
 returns-clause-shows c =
     let size = c.harts.ensures.value in
-    let crew = ap (λ (m : Sat). m.0) c.in_ok-table.ensures.4 in
+    let crew = ap (λ (m : SeatState). m.0) c.in_ok-table.ensures.4 in
     subst (λ (d : Crew). Shows c.args.shape.harts d (opening_states c.args.started)) (sym crew) (subst (λ (n : ℕ). Shows n (opening_crew c.harts.result c.args.started) (opening_states c.args.started)) size (opens_shown c.harts.result c.args.started))

@@ -2,7 +2,7 @@ use Rattle.std.proofs.Common.{◌≡◌, ℕ, [], ◌∷◌, arith, take, zero, 
 use Rattle.std.specs.Prelude.{slice_index}
 use Rattle.std.proofs.Common.{false, sym, ap, ◌∙◌, subst}
 use Rattle.ipi.specs.declared.view.Crew.{Crew}
-use Rattle.ipi.specs.Ledger.{Deeds, seats, numbers, numbers_from, opening_crew}
+use Rattle.ipi.specs.Ledger.{SeatState, seats, numbers, numbers_from, opening_crew}
 use Rattle.ipi.specs.Pairs.{Shows}
 use Rattle.ipi.proofs.Keeps.{opens, opens_numbered, opens_seated, opens_shown}
 use Rattle.ipi.proofs.table.PendingTable.new.Goals as goal
@@ -20,15 +20,15 @@ of_words-requires c =
 
 pub returns-clause-all : goal.returns-clause-all
 returns-clause-all c =
-    ap (λ (m : Deeds). numbers m.0.diaries) c.in_ok-table.ensures.4 ∙ (opens_numbered 0 c.harts-harts.result ∙ ap (λ (n : ℕ). numbers_from 0 n) (sym c.in_ok-table.ensures.5))
+    ap (λ (m : SeatState). numbers m.0.diaries) c.in_ok-table.ensures.4 ∙ (opens_numbered 0 c.harts-harts.result ∙ ap (λ (n : ℕ). numbers_from 0 n) (sym c.in_ok-table.ensures.5))
 
 pub returns-clause-sits : goal.returns-clause-sits
 returns-clause-sits c = λ h lt.
     let size = c.harts-harts.ensures.value in
-    ap (λ (m : Deeds). seats h m.0) c.in_ok-table.ensures.4 ∙ opens_seated c.harts-harts.result h (rw size lt)
+    ap (λ (m : SeatState). seats h m.0) c.in_ok-table.ensures.4 ∙ opens_seated c.harts-harts.result h (rw size lt)
 
 pub returns-clause-shows : goal.returns-clause-shows
 returns-clause-shows c =
     let size = c.harts-harts.ensures.value in
-    let crew = ap (λ (m : Deeds). m.0) c.in_ok-table.ensures.4 in
+    let crew = ap (λ (m : SeatState). m.0) c.in_ok-table.ensures.4 in
     subst (λ (d : Crew). Shows c.args.shape.harts d (λ _ _. false)) (sym crew) (subst (λ (n : ℕ). Shows n (opening_crew c.harts-harts.result) (λ _ _. false)) size (opens_shown c.harts-harts.result))
