@@ -1,0 +1,57 @@
+-- What a life that ends leaves on its disk.
+use Rattle.std.proofs.Common.{◌≡◌, ◌⊎◌, ℕ, inl, inr, List, [], ◌∷◌, ◌++◌, Option, None, Some, refl, sym, ◌∙◌, ap, subst}
+use Rattle.board_model.specs.Durable.{State, Change, formatted, fold, after}
+use Rattle.board_model.specs.Kept.{Kept, MayFind, TakesIn, found_of}
+use Rattle.board_model.specs.Shapes.{Size}
+use Rattle.disk.specs.Facts.{Facts, Content, Is_left}
+use Rattle.store.specs.Leaves.{Leaves, IsBlank, IsKept, LeavesOnly, LeavesEither}
+use Rattle.store.specs.Stores.{Stands, Doubts}
+use Rattle.bench_report.specs.Below.{Store, IsAs, store_size}
+use Rattle.bench_report.specs.Bench.{Medium, Blank, Unknown, Formatted, Life}
+use Rattle.bench_report.specs.Agree.{StoreIs, DiskIs}
+use Rattle.bench_report.proofs.Adapted.{grows}
+
+pub found_more : (cs : List Change) (c : Change) (now : State) → now ≡ found_of cs → after now c ≡ found_of (cs ++ c ∷ [])
+found_more cs c now e = ap (λ s. after s c) e ∙ sym (grows formatted cs c)
+
+-- what a crash leaves of the disk of a store that was up, and of one that was down
+abbrev pub LeftUp : Store → Facts → Type 0
+LeftUp store disk = (s : State) → Stands store s → LeavesOnly disk (store_size store) s
+
+abbrev pub LeftDown : Store → Facts → Type 0
+LeftDown store disk = (s t : State) → Doubts store s t → LeavesEither disk (store_size store) s t
+
+with_doubt : (k : Kept) (c : Change) (now u : State) → k.doubt ≡ Some c → now ≡ found_of k.changes → (u ≡ now) ⊎ (u ≡ after now c) → MayFind k u
+with_doubt k c now u doubt same (inl e) = (k.changes, inl refl, e ∙ same)
+with_doubt k c now u doubt same (inr e) =
+    let P : Option Change → Type 0 = λ d. TakesIn d k.changes (k.changes ++ c ∷ []) in
+    (k.changes ++ c ∷ [], inr (subst P (sym doubt) refl), e ∙ found_more k.changes c now same)
+
+left : (size : Size) (k : Kept) (now : State) (count : ℕ) (doubt : Option Change) (store : Store) (disk : Facts) → k.doubt ≡ doubt → now ≡ found_of k.changes → store_size store ≡ size
+    → IsAs store now count doubt → LeftUp store disk → LeftDown store disk → DiskIs size (Formatted k) disk
+left size k now count None store disk doubt same sized is up down =
+    let l = up now (is.2, sym is.0) in
+    let P : Size → Type 0 = λ z. IsKept disk z × ((s : State) → Leaves disk z s → MayFind k s) in
+    subst P sized (l.kept, λ s h. (k.changes, inl refl, (l.only (store_size store) s h).1 ∙ same))
+left size k now count (Some c) store disk doubt same sized is up down =
+    let l = down now (after now c) (c, is.2, sym is.0, refl) in
+    let P : Size → Type 0 = λ z. IsKept disk z × ((s : State) → Leaves disk z s → MayFind k s) in
+    subst P sized (l.kept, λ s h. with_doubt k c now s doubt same (l.only (store_size store) s h).1)
+
+pub ended : (size : Size) (m : Medium) (p : Option Life) (store : Store) (disk : Facts) → StoreIs size m p store → LeftUp store disk → LeftDown store disk → DiskIs size m disk
+ended size m None store disk was up down = absurd was
+ended size Blank (Some life) store disk was up down = absurd was.0
+ended size Unknown (Some life) store disk was up down = tt
+ended size (Formatted k) (Some life) store disk was up down =
+    left size k life.now life.receipts life.doubt store disk was.0.0 was.0.1 was.0.2 was.1 up down
+
+-- where no other content may be left than before, the medium is the same
+pub left_on : (size : Size) (m : Medium) (old new : Facts) → DiskIs size m old → ((c : Content) → new.may_leave c → old.may_leave c) → DiskIs size m new
+unfolding Leaves IsKept IsBlank
+left_on size Blank old new was less = λ c l. was c (less c l)
+left_on size Unknown old new was less = tt
+left_on size (Formatted k) old new was less = (λ c l. was.0 c (less c l), λ s found. was.1 s (found.0, less found.0 found.1, found.2))
+
+-- a power cut leaves one of the contents that it may leave, and that alone from then on
+pub cut_leaves : (old new : Facts) → Is_left old new → (c : Content) → new.may_leave c → old.may_leave c
+cut_leaves old new h c l = let P : Content → Type 0 = λ x. old.may_leave x in subst P (sym (h.fresh.durable c l ∙ h.fresh.reads)) (let Q : Content → Type 0 = λ x. old.may_leave x in h.left)

@@ -1,0 +1,84 @@
+-- What a format answers, by what the disk was.
+use Rattle.std.proofs.Common.{◌≡◌, ◌≢◌, ◌⊎◌, ◌≤◌, ℕ, inl, inr, [], Option, None, Some, Result, Ok, Err, refl, sym, ◌∙◌, ap, subst, length, arith}
+use Rattle.board_model.specs.Durable.{State, formatted}
+use Rattle.board_model.specs.Kept.{Kept, nothing_kept}
+use Rattle.board_model.specs.Shapes.{Size, sectors_of}
+use Rattle.board_model.specs.Shown.{number_of}
+use Rattle.board_model.specs.declared.refusal.Refusal.{Refusal}
+use Rattle.board_model.specs.declared.refusal.Refusal.TheVariants.{AlreadyFormatted, BadShape, Device}
+use Rattle.disk.specs.Facts.{Facts, sector, Passes, Stays}
+use Rattle.disk.specs.Mishaps.{Mishaps, Cause}
+use Rattle.layout.specs.Superblocks.{HasMagic}
+use Rattle.simdisk.specs.declared.SimDisk.{SimDisk}
+use Rattle.store.specs.Leaves.{Leaves, IsBlank, IsKept, LeavesOnly, SameLength}
+use Rattle.store.specs.Opens.{CausedRefusal, FormatRefused}
+use Rattle.bench_report.specs.declared.printed.Answer.{Answer}
+use Rattle.bench_report.specs.declared.printed.Printed.TheVariants as printed
+use Rattle.bench_report.specs.Below.{facts, mishaps}
+use Rattle.bench_report.specs.Bench.{Medium, Blank, Unknown, Formatted, Bench}
+use Rattle.bench_report.specs.Steps.{says, failed, off_with, FormatsOn}
+use Rattle.bench_report.specs.Agree.{DiskIs, DeviceIs, OffIs}
+use Rattle.bench_report.proofs.Devices.{is_device, five, hindered, stays}
+use Rattle.store.proofs.Bridges.{kept_format}
+use Rattle.bench_report.proofs.Adapted.{struck, calm, failed_format, no_down}
+use Rattle.bench_report.proofs.Ended.{left_on}
+use Rattle.bench_report.proofs.Marks.{kept_magic, blank_magic, passed}
+
+-- what a format leaves of a disk that begins with the mark
+abbrev pub MarkedClause : SimDisk → SimDisk → Type 0
+MarkedClause old new = HasMagic (sector (facts old).content 0) → Passes (facts old) (facts new) Stays
+
+pub same_error : {T : Type 0} {e f : Refusal} → ◌≡◌ {A = Result T Refusal} (Err e) (Err f) → e ≡ f
+same_error h = cc
+
+fresh : (size : Size) (new : Facts) → LeavesOnly new size formatted → DiskIs size (Formatted nothing_kept) new
+fresh size new h = (h.kept, λ s l. ([], inl refl, (h.only size s l).1))
+
+pub formats_ok : (size : Size) (m : Medium) (b : Bench) (old new : SimDisk) (a : Answer) → DiskIs size m (facts old) → DeviceIs size b (mishaps new) (facts new) → a ≡ says printed.Formatted
+    → LeavesOnly (facts new) size formatted → (HasMagic (sector (facts old).content 0) → ⊥)
+    → (x : Bench) × FormatsOn m b a x × OffIs size x new
+formats_ok size Blank b old new a was device e ok unmarked = (off_with (Formatted nothing_kept) b, inl (e, refl), (refl, fresh size (facts new) ok, device))
+formats_ok size Unknown b old new a was device e ok unmarked = (off_with (Formatted nothing_kept) b, inl (e, refl), (refl, fresh size (facts new) ok, device))
+formats_ok size (Formatted k) b old new a was device e ok unmarked = absurd (unmarked (kept_magic size old was.0))
+
+refused : (a : Answer) (e f : Refusal) → a ≡ says (printed.FormatRefused (number_of e)) → e ≡ f → a ≡ says (printed.FormatRefused (number_of f))
+refused a e f h g = h ∙ ap (λ x. says (printed.FormatRefused (number_of x))) g
+
+-- by what a format is refused on a disk that is large enough
+on_blank : (disk : SimDisk) (size : Size) (e : Refusal) (new : Facts) → IsBlank (facts disk) → sectors_of size ≤ length (facts disk).content → FormatRefused (facts disk) size e new → e ≡ Device
+on_blank disk size Device new blank fits h = refl
+on_blank disk size AlreadyFormatted new blank fits h = absurd (blank_magic disk blank h.0)
+on_blank disk size BadShape new blank fits h = absurd (omega (arith, fits, h.0))
+on_blank disk size e new blank fits h = absurd h
+
+-- a refused format of a board that is off
+module _ (size : Size) (b : Bench) (old new : SimDisk) (a : Answer) (e : Refusal) (off : b.power ≡ None) (device : DeviceIs size b (mishaps old) (facts old))
+    (refusal : FormatRefused (facts old) size e (facts new)) (marked : MarkedClause old new) (cause : CausedRefusal (mishaps old) e (mishaps new)) (no_fewer : (facts old).failures ≤ (facts new).failures)
+    (fits : SameLength (facts old) (facts new)) (h : a ≡ says (printed.FormatRefused (number_of e))) where
+  hinders : (c : Bench) → c.mishaps ≡ b.mishaps → c.failures ≡ b.failures → c.power ≡ None → DiskIs size c.medium (facts new) → e ≡ Device
+      → (x : Bench) × ((a ≡ says (printed.FormatRefused 5)) × ((n : Mishaps) × Cause c.mishaps n × (x ≡ failed n c))) × OffIs size x new
+  hinders c same count off disk is =
+      let its : DeviceIs size c (mishaps old) (facts old) = (same ∙ device.0, rw count device.1, device.2) in
+      let x = hindered size c (mishaps old) (mishaps new) (facts old) (facts new) its (struck e (mishaps old) (mishaps new) cause is) (failed_format (facts old) size e (facts new) refusal is) fits in
+      (failed (mishaps new) c, (refused a e Device h is, x.0), (off, disk, x.1))
+
+  keeps : e ≢ Device → DeviceIs size b (mishaps new) (facts new)
+  keeps is = stays size b (mishaps old) (mishaps new) (facts old) (facts new) device (calm e (mishaps old) (mishaps new) cause (no_down (facts old) size e (facts new) refusal) is) no_fewer fits
+
+  pub formats_err : (m : Medium) → b.medium ≡ m → DiskIs size m (facts old) → (x : Bench) × FormatsOn m b a x × OffIs size x new
+  formats_err Blank at was =
+      let x = hinders (off_with Unknown b) refl refl refl tt (on_blank old size e (facts new) was device.2 refusal) in (x.0, inr x.1, x.2)
+  formats_err Unknown at was =
+      let P : Medium → Type 0 = λ m. DiskIs size m (facts new) in
+      elim (is_device e) [
+        | inl is ↦ (let x = hinders b refl refl off (subst P (sym at) tt) is in (x.0, inr (inl x.1), x.2))
+        | inr is ↦ (b, inr (inr (number_of e, (λ n. is (five e n)), h, refl)), (off, subst P (sym at) tt, keeps is))
+      ]
+  formats_err (Formatted k) at was =
+      let P : Medium → Type 0 = λ m. DiskIs size m (facts new) in
+      let passes : Passes (facts old) (facts new) Stays = marked (kept_magic size old was.0) in
+      let now : DiskIs size (Formatted k) (facts new) = left_on size (Formatted k) (facts old) (facts new) was (passed (facts old) (facts new) passes) in
+      elim (kept_format (facts old) (facts new) size e device.2 refusal) [
+        | inl f ↦ (b, inl (refused a e AlreadyFormatted h f, refl), (off, subst P (sym at) now, keeps (λ d. (let no : ⊥ = cc in no))))
+        | inr f ↦ (let x = hinders b refl refl off (subst P (sym at) now) f in (x.0, inr x.1, x.2))
+      ]

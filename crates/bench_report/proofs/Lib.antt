@@ -1,0 +1,12 @@
+pub mod Table
+pub mod Marks
+pub mod Devices
+pub mod Adapted
+pub mod Formats
+pub mod Opening
+pub mod Commanded
+pub mod Ended
+pub mod Written
+pub mod Told
+pub mod Determined
+pub mod Prefixed

@@ -1,0 +1,45 @@
+-- The mark of a formatted disk, by what a crash may leave.
+use Rattle.std.proofs.Common.{◌≡◌, ◌⊎◌, ◌≤◌, ℕ, zero, suc, List, [], ◌∷◌, length, replicate, refl, sym, ◌∙◌, ap, subst, arith}
+use Rattle.board_model.specs.Durable.{State}
+use Rattle.board_model.specs.Shapes.{Size, sectors_of}
+use Rattle.disk.specs.Facts.{Facts, Content, sector, Passes, Stays, Is_fresh}
+use Rattle.layout.specs.Superblocks.{HasMagic}
+use Rattle.layout.proofs.Spellings.{zeros_have_no_magic}
+use Rattle.simdisk.specs.declared.SimDisk.{SimDisk}
+use Rattle.store.specs.Leaves.{Leaves, IsBlank, IsKept}
+use Rattle.store.specs.Standing.{StandsFor, Selects}
+use Rattle.store.proofs.Bridges.{kept_marked, fresh_blank}
+use Rattle.store.proofs.States.{one_selected}
+use Rattle.bench_report.specs.Below.{facts}
+
+-- a crash may leave what a read gives
+pub reads : (disk : SimDisk) → (facts disk).may_leave (facts disk).content
+reads disk = disk.agrees
+
+pub one_size : (c : Content) (y z : Size) (s t : State) → StandsFor c y s → StandsFor c z t → y ≡ z
+unfolding StandsFor
+one_size c y z s t h g = (one_selected y z h.0 g.0 h.1 g.1 c h.2 g.2).0
+
+pub kept_magic : (size : Size) (disk : SimDisk) → IsKept (facts disk) size → HasMagic (sector (facts disk).content 0)
+kept_magic size disk kept = kept_marked (facts disk) size kept (reads disk)
+
+pub blank_magic : (disk : SimDisk) → IsBlank (facts disk) → HasMagic (sector (facts disk).content 0) → ⊥
+unfolding IsBlank
+blank_magic disk blank = blank (facts disk).content (reads disk)
+
+-- where an open found a state on a board of size z, the disk was kept for that size
+pub kept_size : (disk : SimDisk) (y z : Size) (s : State) → IsKept (facts disk) y → StandsFor (facts disk).content z s → y ≡ z
+unfolding IsKept
+kept_size disk y z s kept found = let here = kept (facts disk).content (reads disk) in one_size (facts disk).content y z here.0 s here.1 found
+
+-- what a call passes that changes nothing was there before
+pub passed : (old new : Facts) → Passes old new Stays → (c : Content) → new.may_leave c → old.may_leave c
+passed old new passes c l = let was = passes.now c l in let P : Content → Type 0 = λ x. old.may_leave x in subst P (sym was.2) was.1
+
+no_mark : (n : ℕ) → HasMagic (sector (replicate n (replicate 512 0)) 0) → ⊥
+no_mark zero h = zeros_have_no_magic 0 h
+no_mark (suc n) h = zeros_have_no_magic 512 h
+
+-- a disk of zeros was never formatted
+pub zeros_blank : (n : ℕ) (disk : Facts) → Is_fresh (replicate n (replicate 512 0)) disk → IsBlank disk
+zeros_blank n disk fresh = fresh_blank (replicate n (replicate 512 0)) disk fresh (no_mark n)

@@ -1,0 +1,89 @@
+-- What an open answers, and the boot after it.
+use Rattle.std.proofs.Common.{◌≡◌, ◌≢◌, ◌⊎◌, ◌≤◌, ◌<◌, ℕ, arith, inl, inr, [], Option, None, Some, refl, sym, ◌∙◌, ap, subst, length}
+use Rattle.board_model.specs.Durable.{State, Change}
+use Rattle.board_model.specs.Kept.{Kept, MayFind}
+use Rattle.board_model.specs.Shapes.{Size}
+use Rattle.board_model.specs.Shown.{number_of}
+use Rattle.board_model.specs.declared.refusal.Refusal.{Refusal}
+use Rattle.board_model.specs.declared.refusal.Refusal.TheVariants.{NotFormatted, BadShape, BadRecord, Device, Memory}
+use Rattle.disk.specs.Facts.{Facts, Content, Failed}
+use Rattle.disk.specs.Mishaps.{Mishaps, Cause}
+use Rattle.simdisk.specs.declared.SimDisk.{SimDisk}
+use Rattle.store.specs.Leaves.{Leaves, IsBlank, IsKept, SameLength}
+use Rattle.store.specs.Opens.{CausedRefusal, OpenRefused}
+use Rattle.store.specs.Lives.{Life, begun as started}
+use Rattle.store.specs.Stores.{life_of}
+use Rattle.board_model.specs.declared.boot_mode.BootMode.{BootMode}
+use Rattle.bench_report.specs.declared.printed.Answer.{Answer}
+use Rattle.bench_report.specs.declared.printed.Printed.TheVariants as printed
+use Rattle.bench_report.specs.Below.{Store, facts, mishaps, IsLife, IsAs}
+use Rattle.bench_report.specs.Bench.{Medium, Blank, Unknown, Formatted, Bench}
+use Rattle.bench_report.specs.Steps.{says, starved, failed, begun, Opens, PowersOn}
+use Rattle.bench_report.specs.Agree.{DiskIs, DeviceIs, Follows, OffIs}
+use Rattle.bench_report.proofs.Devices.{is_device, is_memory, five, eleven, hindered, stays}
+use Rattle.bench_report.proofs.Adapted.{struck, calm, failed_open, never_down}
+use Rattle.bench_report.proofs.Marks.{reads, blank_magic}
+use Rattle.store.proofs.Bridges.{kept_open}
+use Rattle.bench_report.proofs.Ended.{left_on}
+
+-- what an open finds is one of the states that the medium lets it find
+pub opens : (size : Size) (m : Medium) (disk : Facts) (z : Size) (s : State) → DiskIs size m disk → Leaves disk z s → (IsBlank disk → ⊥) → ((y : Size) → IsKept disk y → y ≡ z)
+    → (new : Medium) × Opens m s new × Follows size new (begun s) z
+opens size Blank disk z s was leaves formatted one = absurd (formatted was)
+opens size Unknown disk z s was leaves formatted one = (Unknown, refl, tt)
+opens size (Formatted k) disk z s was leaves formatted one =
+    let P : Size → Type 0 = λ y. Leaves disk y s in
+    let found : MayFind k s = was.1 s (subst P (sym (one size was.0)) leaves) in
+    (Formatted (record { changes = found.0; doubt = None }), (found.0, found.1, found.2, refl), (refl, found.2, sym (one size was.0)))
+
+-- by what an open is refused on a disk that has sectors
+on_blank : (disk : SimDisk) (e : Refusal) (new : Facts) → IsBlank (facts disk) → 0 < length (facts disk).content → OpenRefused (facts disk) e new → (e ≡ NotFormatted) ⊎ (e ≡ Device) ⊎ (e ≡ Memory)
+on_blank disk NotFormatted new blank some h = inl refl
+on_blank disk BadShape new blank some (inl h) = absurd (omega (arith, some, h))
+on_blank disk BadShape new blank some (inr h) = absurd (blank_magic disk blank h.0)
+on_blank disk BadRecord new blank some h = absurd (blank_magic disk blank h.0)
+on_blank disk Device new blank some h = inr (inl refl)
+on_blank disk Memory new blank some h = inr (inr refl)
+on_blank disk e new blank some h = absurd h
+
+-- an open that was refused, of a board that is off
+module _ (size : Size) (mode : BootMode) (b : Bench) (old new : SimDisk) (a : Answer) (e : Refusal) (off : b.power ≡ None) (device : DeviceIs size b (mishaps old) (facts old))
+    (refusal : OpenRefused (facts old) e (facts new)) (cause : CausedRefusal (mishaps old) e (mishaps new)) (no_fewer : (facts old).failures ≤ (facts new).failures)
+    (fits : SameLength (facts old) (facts new)) (left : (c : Content) → (facts new).may_leave c → (facts old).may_leave c) (h : a ≡ says (printed.OnRefused (number_of e))) where
+  refused : (f : Refusal) → e ≡ f → a ≡ says (printed.OnRefused (number_of f))
+  refused f g = h ∙ ap (λ x. says (printed.OnRefused (number_of x))) g
+
+  hinders : DiskIs size b.medium (facts new) → e ≡ Device → (x : Bench) × PowersOn mode b a x × OffIs size x new
+  hinders disk is =
+      let x = hindered size b (mishaps old) (mishaps new) (facts old) (facts new) device (struck e (mishaps old) (mishaps new) cause is) (failed_open (facts old) e (facts new) refusal is) fits in
+      (failed (mishaps new) b, inr (inr (inr (refused Device is, x.0))), (off, disk, x.1))
+
+  keeps : e ≢ Device → DeviceIs size b (mishaps new) (facts new)
+  keeps is = stays size b (mishaps old) (mishaps new) (facts old) (facts new) device (calm e (mishaps old) (mishaps new) cause (never_down (facts old) e (facts new) refusal) is) no_fewer fits
+
+  starves : DiskIs size b.medium (facts new) → e ≡ Memory → (x : Bench) × PowersOn mode b a x × OffIs size x new
+  starves disk is = (starved b, inr (inr (inl (refused Memory is, refl))), (off, disk, keeps (λ d. (let no : ⊥ = cc in no))))
+
+  by_medium : (m : Medium) → b.medium ≡ m → DiskIs size m (facts old) → DiskIs size b.medium (facts new) → (x : Bench) × PowersOn mode b a x × OffIs size x new
+  by_medium Blank at was disk =
+      elim (on_blank old e (facts new) was (omega (arith, device.2)) refusal) [
+        | inl f ↦ (b, inr (inl (1, rw at refl, refused NotFormatted f, refl)), (off, disk, keeps (λ d. (let no : ⊥ = cc in no))))
+        | inr g ↦ elim g [ inl f ↦ hinders disk f | inr f ↦ starves disk f ]
+      ]
+  by_medium Unknown at was disk =
+      elim (is_device e) [
+        | inl f ↦ hinders disk f
+        | inr f ↦ elim (is_memory e) [
+          | inl g ↦ starves disk g
+          | inr g ↦ (b, inr (inl (number_of e, rw at (λ n. f (five e n), λ n. g (eleven e n)), h, refl)), (off, disk, keeps f))
+        ]
+      ]
+  by_medium (Formatted k) at was disk =
+      elim (kept_open (facts old) (facts new) size e was.0 (reads old) refusal) [ inl f ↦ hinders disk f | inr f ↦ starves disk f ]
+
+  pub open_err : DiskIs size b.medium (facts old) → (x : Bench) × PowersOn mode b a x × OffIs size x new
+  open_err was = by_medium b.medium refl was (left_on size b.medium (facts old) (facts new) was left)
+
+-- a store that was just opened
+pub as_begun : (store : Store) (s : State) → life_of store ≡ started s → IsAs store s 0 None
+as_begun store s e = let P : Life → Type 0 = λ life. IsLife life s 0 None in subst P (sym e) (refl, refl, refl, refl)

@@ -1,0 +1,51 @@
+-- The numbers of the table of commands.
+use Rattle.std.proofs.Common.{◌≡◌, ◌≢◌, ◌⊎◌, ℕ, inl, inr, Option, None, Some, refl, ◌∙◌, ap, subst, arith, Bool, true, false, nat_lt, ◌==◌, is_some, if◌then◌else◌}
+use Rattle.board_model.specs.Durable.{State, Change, Slot, Reset, Suspend, Consume, Discard, refusal_of}
+use Rattle.board_model.specs.Shown.{number_of}
+use Rattle.board_model.specs.declared.refusal.Refusal.{Refusal}
+use Rattle.board_model.specs.declared.refusal.Refusal.TheVariants.{Device, Down}
+
+one_of : (t : Bool) (x y : Option ℕ) (n : ℕ) → (if t then x else y) ≡ Some n → (x ≡ Some n) ⊎ (y ≡ Some n)
+one_of true x y n h = inl h
+one_of false x y n h = inr h
+
+abbrev pub IsOfTable : ℕ → Type 0
+IsOfTable n = (9 ≡ n) ⊎ (12 ≡ n) ⊎ (8 ≡ n)
+
+never : (n : ℕ) → None ≡ Some n → IsOfTable n
+never n h = absurd (let no : ⊥ = cc in no)
+
+nine : (n : ℕ) → Some 9 ≡ Some n → IsOfTable n
+nine n h = inl (let e : 9 ≡ n = cc in e)
+
+twelve : (n : ℕ) → Some 12 ≡ Some n → IsOfTable n
+twelve n h = inr (inl (let e : 12 ≡ n = cc in e))
+
+eight : (n : ℕ) → Some 8 ≡ Some n → IsOfTable n
+eight n h = inr (inr (let e : 8 ≡ n = cc in e))
+
+pub of_table : (s : State) (c : Change) (n : ℕ) → refusal_of s c ≡ Some n → IsOfTable n
+of_table s (Slot k) n h = elim (one_of (nat_lt 3 k) (Some 9) None n h) [ inl e ↦ nine n e | inr e ↦ never n e ]
+of_table s (Reset r) n h = never n h
+of_table s (Suspend x y z m) n h = elim (one_of _ (Some 12) None n h) [ inl e ↦ twelve n e | inr e ↦ never n e ]
+of_table s Consume n h = elim (one_of (is_some s.image) None (Some 8) n h) [ inl e ↦ never n e | inr e ↦ eight n e ]
+of_table s Discard n h = elim (one_of (is_some s.image) None (Some 8) n h) [ inl e ↦ never n e | inr e ↦ eight n e ]
+
+differs : (k n : ℕ) → (9 ≡ k → ⊥) → (12 ≡ k → ⊥) → (8 ≡ k → ⊥) → IsOfTable n → n ≢ k
+differs k n a b c (inl e) f = a (e ∙ f)
+differs k n a b c (inr (inl e)) f = b (e ∙ f)
+differs k n a b c (inr (inr e)) f = c (e ∙ f)
+
+pub not_device : (s : State) (c : Change) (e : Refusal) → refusal_of s c ≡ Some (number_of e) → e ≢ Device
+not_device s c e h is = differs 5 (number_of e) (λ f. omega (arith, f)) (λ f. omega (arith, f)) (λ f. omega (arith, f)) (of_table s c (number_of e) h) (ap number_of is)
+
+pub not_down : (s : State) (c : Change) (e : Refusal) → refusal_of s c ≡ Some (number_of e) → e ≢ Down
+not_down s c e h is = differs 6 (number_of e) (λ f. omega (arith, f)) (λ f. omega (arith, f)) (λ f. omega (arith, f)) (of_table s c (number_of e) h) (ap number_of is)
+
+pub not_six : (s : State) (c : Change) (n : ℕ) → refusal_of s c ≡ Some n → (n == 6) ≡ false
+not_six s c n h = test n (of_table s c n h)
+  where
+    test : (n : ℕ) → IsOfTable n → (n == 6) ≡ false
+    test n (inl e) = let P : ℕ → Type 0 = λ i. (i == 6) ≡ false in subst P e refl
+    test n (inr (inl e)) = let P : ℕ → Type 0 = λ i. (i == 6) ≡ false in subst P e refl
+    test n (inr (inr e)) = let P : ℕ → Type 0 = λ i. (i == 6) ≡ false in subst P e refl

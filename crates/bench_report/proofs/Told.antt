@@ -1,0 +1,46 @@
+-- A report that goes on by one answer.
+use Rattle.std.proofs.Common.{◌≡◌, ℕ, ◌+◌, ◌<◌, suc, List, [], ◌∷◌, ◌++◌, Option, None, Some, length, get_or, drop, refl, sym, ◌∙◌, ap, subst, append_assoc, arith, add-one, drop-cons}
+use Rattle.std.specs.Option.{option_to_list}
+use Rattle.board_model.specs.declared.durable.Durable.{Durable}
+use Rattle.bench_report.specs.declared.printed.Printed.{Printed}
+use Rattle.std.specs.Io.KnownBytes.{Appends}
+use Rattle.std.proofs.lemmas.List.Sums.{sum_by-append}
+use Rattle.std.proofs.lemmas.List.Elements.{filter_map-append}
+use Rattle.std.proofs.lemmas.List.{append-nil}
+use Rattle.std.proofs.lemmas.Grind.{flat_map-append}
+use Rattle.script_lang.specs.declared.line.Line.{Line}
+use Rattle.bench_report.specs.declared.printed.Answer.{Answer}
+use Rattle.bench_report.specs.declared.runs.Report.{Report}
+use Rattle.bench_report.specs.Bench.{Bench}
+use Rattle.bench_report.specs.Steps.{Moves, Run}
+use Rattle.bench_report.specs.Texts.{found_count}
+use Rattle.bench_report.specs.Reports.{answer_text, report_text, line_count, found_states}
+use Rattle.bench_report.specs.Counts.{Adds, Reported}
+use Rattle.bench_report.proofs.Written.{appended}
+
+text_more : (answers : List Answer) (a : Answer) → report_text (answers ++ a ∷ []) ≡ report_text answers ++ answer_text a
+text_more answers a = flat_map-append answer_text answers (a ∷ []) ∙ ap (λ z. report_text answers ++ z) (append-nil (answer_text a))
+
+count_more : (answers : List Answer) (a : Answer) → line_count (answers ++ a ∷ []) ≡ line_count answers + found_count a.found + 1
+count_more answers a = omega (arith, sum_by-append (λ (x : Answer). found_count x.found + 1) answers (a ∷ []))
+
+states_more : (answers : List Answer) (a : Answer) → found_states (answers ++ a ∷ []) ≡ found_states answers ++ found_states (a ∷ [])
+states_more answers a = filter_map-append (λ (x : Answer). x.found) answers (a ∷ [])
+
+one_state : (o : Option Durable) (line : Printed) → found_states (record { found = o; line = line } ∷ []) ≡ option_to_list o
+one_state None line = refl
+one_state (Some d) line = refl
+
+pub reported_more : (start mid now : Option (List ℕ)) (before after : Report) (answers : List Answer) (a : Answer)
+    → Reported start mid before answers → Adds mid now before after a → Reported start now after (answers ++ a ∷ [])
+reported_more start mid now before after answers a was adds = record {
+  text = rw (text_more answers a) (appended start mid now (report_text answers) (answer_text a) was.text adds.text);
+  lines = adds.lines ∙ ap (λ n. n + found_count a.found + 1) was.lines ∙ sym (count_more answers a);
+  found = adds.found ∙ ap (λ xs. xs ++ option_to_list a.found) was.found ∙ ap (λ xs. found_states answers ++ xs) (sym (one_state a.found a.line)) ∙ sym (states_more answers a);
+}
+
+pub goes_on : (lines : List Line) (i : ℕ) (line : Line) (now mid new : Bench) (a : Answer) (more : List Answer) → i < length lines
+    → Moves (get_or lines i line) now a mid → Run mid (drop (i + 1) lines) more new → Run now (drop i lines) (a ∷ more) new
+goes_on lines i line now mid new a more lt step run =
+    let rest : Run mid (drop (suc i) lines) more new = rw add-one at run in
+    rw (drop-cons lines i line lt) (mid, step, rest)

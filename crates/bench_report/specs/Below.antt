@@ -1,0 +1,43 @@
+-- What the layers below say of the disk in memory and of a store over it, as the bench reads it.
+use Rattle.std.specs.Prelude.{◌≡◌, ℕ, Option, false, length}
+use Rattle.board_model.specs.Durable.{State, Change}
+use Rattle.board_model.specs.Shapes.{Size}
+use Rattle.disk.specs.Facts.{Facts}
+use Rattle.disk.specs.Mishaps.{Mishaps}
+use Rattle.simdisk.specs.declared.SimDisk.{SimDisk}
+use Rattle.simdisk.specs.declared.SimLane.{SimLane}
+use Rattle.simdisk.specs.contracts.device.SimDiskDisk.TheImpl as sim_disk
+use Rattle.simdisk.specs.contracts.lane.SimLaneLane.TheImpl as sim_lane
+use Rattle.store.specs.declared.Store as any
+use Rattle.store.specs.Leaves as below
+use Rattle.store.specs.Lives.{Life, now_of}
+use Rattle.store.specs.Stores as stores
+
+-- a store over a disk in memory
+abbrev pub Store : Type 0
+Store = any.Store SimDisk SimLane sim_disk.ghosts sim_lane.ghosts
+
+-- the facts of the disk, and why it failed
+abbrev pub facts : SimDisk → Facts
+facts disk = sim_disk.ghosts.facts disk
+
+abbrev pub mishaps : SimDisk → Mishaps
+mishaps disk = sim_disk.ghosts.mishaps disk
+
+-- the same of the disk that a store holds
+abbrev pub store_facts : Store → Facts
+store_facts store = stores.disk_of store
+
+abbrev pub store_mishaps : Store → Mishaps
+store_mishaps store = stores.mishaps_of store
+
+-- the size of the board that a store's disk was formatted for
+abbrev pub store_size : Store → Size
+store_size store = stores.size_of_store store
+
+-- a life that goes on: the durable state with what was acknowledged, how many commands that were, and the one in doubt
+abbrev pub IsLife : Life → State → ℕ → Option Change → Type 0
+IsLife life s count doubt = (now_of life ≡ s) × (length life.journal ≡ count) × (life.doubt ≡ doubt) × (life.over ≡ false)
+
+abbrev pub IsAs : Store → State → ℕ → Option Change → Type 0
+IsAs store s count doubt = IsLife (stores.life_of store) s count doubt

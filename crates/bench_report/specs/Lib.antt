@@ -1,0 +1,9 @@
+pub mod Texts
+pub mod Below
+pub mod Bench
+pub mod Steps
+pub mod Agree
+pub mod Reports
+pub mod Counts
+pub mod Plain
+pub mod Prefix

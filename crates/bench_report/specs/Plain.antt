@@ -1,0 +1,77 @@
+-- The one report of a script where memory was never refused and the disk never failed.
+use Rattle.std.specs.Prelude.{◌≡◌, ℕ, ◌+◌, ◌==◌, List, [], ◌∷◌, Option, Some, None, Result, Ok, if◌then◌else◌}
+use Rattle.board_model.specs.Durable.{State, Change, Slot, refusal_of, after}
+use Rattle.board_model.specs.Kept.{nothing_kept, found_of}
+use Rattle.board_model.specs.Shown.{durable_of}
+use Rattle.board_model.specs.declared.refusal.Refusal.{Refusal}
+use Rattle.script_lang.specs.Scripts.{Script, script_of, ◌>>>◌}
+use Rattle.board_model.specs.declared.boot_mode.BootMode.{BootMode}
+use Rattle.script_lang.specs.declared.line.Line.{Line}
+use Rattle.script_lang.specs.declared.line.Line.TheVariants as lines
+use Rattle.bench_report.specs.declared.printed.Answer.{Answer}
+use Rattle.bench_report.specs.declared.printed.Printed.{Printed}
+use Rattle.bench_report.specs.declared.printed.Printed.TheVariants as printed
+use Rattle.bench_report.specs.Bench.{Medium, Blank, Unknown, Formatted, Life, Bench, blank_bench}
+use Rattle.bench_report.specs.Steps.{says, off_with, on_with, unpowered, begun, boot_refusal, keeps, went_on}
+use Rattle.bench_report.specs.Reports.{board_answer, report_text}
+
+abbrev pub plain_format : Medium → Bench → Answer × Bench
+plain_format Blank b = (says printed.Formatted, off_with (Formatted nothing_kept) b)
+plain_format Unknown b = (says printed.Formatted, off_with (Formatted nothing_kept) b)
+plain_format (Formatted kept) b = (says (printed.FormatRefused 2), b)
+
+abbrev pub plain_boot : Option ℕ → BootMode → State → Bench → Answer × Bench
+plain_boot None mode s b = (record { found = Some (durable_of s); line = printed.On mode }, on_with b.medium (begun s) b)
+plain_boot (Some n) mode s b = (record { found = Some (durable_of s); line = printed.OnRefused n }, off_with b.medium b)
+
+-- a power-on finds the fold of the acknowledged commands
+abbrev pub plain_on : Medium → BootMode → Bench → Answer × Bench
+plain_on Blank mode b = (says (printed.OnRefused 1), b)
+plain_on Unknown mode b = (says (printed.OnRefused 1), b)
+plain_on (Formatted kept) mode b = plain_boot (boot_refusal (found_of kept.changes) mode) mode (found_of kept.changes) b
+
+-- a command on a board that is on, by the number with which the table refuses it
+abbrev pub plain_command : Option ℕ → Change → Life → (ℕ → Printed) → (ℕ → Printed) → Bench → Answer × Bench
+plain_command (Some n) c life ok refuses b = (says (refuses n), b)
+plain_command None c life ok refuses b = (says (ok (life.receipts + 1)), on_with (keeps c b.medium) (went_on c life) b)
+
+abbrev pub plain_issued : Change → Life → (ℕ → Printed) → (ℕ → Printed) → Bench → Answer × Bench
+plain_issued c life ok refuses b = if life.receipts == 4096 then (says (refuses 10), b) else plain_command (refusal_of life.now c) c life ok refuses b
+
+abbrev pub plain_at : Option Life → Line → Bench → Answer × Bench
+plain_at None lines.Format b = plain_format b.medium b
+plain_at (Some life) lines.Format b = (says printed.Busy, b)
+plain_at None (lines.On mode) b = plain_on b.medium mode b
+plain_at (Some life) (lines.On mode) b = (says printed.Busy, b)
+plain_at None (lines.Slot n) b = (says printed.Off, b)
+plain_at (Some life) (lines.Slot n) b = plain_issued (Slot n) life printed.Slot printed.SlotRefused b
+plain_at p (lines.Cut fill) b = (says printed.Cut, unpowered b)
+plain_at p (lines.Payload s bytes) b = (says printed.NotBuilt, b)
+plain_at p lines.Discard b = (says printed.NotBuilt, b)
+plain_at p (lines.Turn h n) b = (says printed.NotBuilt, b)
+plain_at p (lines.Call h e f x y z) b = (says printed.NotBuilt, b)
+plain_at p (lines.Reg h r) b = (says printed.NotBuilt, b)
+plain_at p (lines.Pc h) b = (says printed.NotBuilt, b)
+plain_at p (lines.Csr h c) b = (says printed.NotBuilt, b)
+plain_at p lines.Pending b = (says printed.NotBuilt, b)
+plain_at p (lines.Mem a n) b = (says printed.NotBuilt, b)
+plain_at p (lines.CutAt n fill) b = (says printed.NotBuilt, b)
+plain_at p (lines.CutLane i n fill) b = (says printed.NotBuilt, b)
+plain_at p (lines.FailAt n) b = (says printed.NotBuilt, b)
+plain_at p (lines.FailLane i n) b = (says printed.NotBuilt, b)
+plain_at p (lines.Poke k n bytes) b = (says printed.NotBuilt, b)
+
+-- what a line answers, and the bench after it
+abbrev pub plain : Line → Bench → Answer × Bench
+plain line b = plain_at b.power line b
+
+abbrev pub plain_answers : List Line → Bench → List Answer
+plain_answers [] b = []
+plain_answers (line ∷ more) b = (plain line b).0 ∷ plain_answers more (plain line b).1
+
+abbrev pub plain_report : Script → List Answer
+plain_report script = board_answer script.size ∷ plain_answers script.lines blank_bench
+
+-- what is written for the bytes of a script, or why nothing runs
+abbrev pub plain_text : List ℕ → Result (List ℕ) Refusal
+plain_text bytes = script_of bytes >>> λ script. Ok (report_text (plain_report script))

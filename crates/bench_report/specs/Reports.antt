@@ -1,0 +1,34 @@
+-- The reports of a script.
+use Rattle.std.specs.Prelude.{◌≡◌, ℕ, ◌+◌, List, [], ◌∷◌, ◌++◌, Option, None, Some, length}
+use Rattle.std.specs.List.{flat_map, sum_by, filter_map}
+use Rattle.board_model.specs.Shapes.{Size, sectors_of}
+use Rattle.board_model.specs.declared.durable.Durable.{Durable}
+use Rattle.script_lang.specs.Scripts.{Script}
+use Rattle.bench_report.specs.declared.printed.Printed.TheVariants as printed
+use Rattle.bench_report.specs.declared.printed.Answer.{Answer}
+use Rattle.bench_report.specs.Texts.{found_line, line_text, found_count}
+use Rattle.bench_report.specs.Bench.{Bench, blank_bench}
+use Rattle.bench_report.specs.Steps.{says, Run}
+
+-- the lines that one line of a script makes
+abbrev pub answer_text : Answer → List ℕ
+answer_text a = found_line a.found ++ (line_text a.line ++ 10 ∷ [])
+
+abbrev pub report_text : List Answer → List ℕ
+report_text answers = flat_map answer_text answers
+
+-- how many lines, and the states of the found lines
+abbrev pub line_count : List Answer → ℕ
+line_count answers = sum_by (λ (a : Answer). found_count a.found + 1) answers
+
+abbrev pub found_states : List Answer → List Durable
+found_states answers = filter_map (λ (a : Answer). a.found) answers
+
+-- what the board line answers
+abbrev pub board_answer : Size → Answer
+board_answer size = says (printed.Board size.harts size.pages size.lanes (sectors_of size))
+
+-- these answers are a report of the script, and leave this bench
+abbrev pub IsReport : Script → List Answer → Bench → Type 0
+IsReport script [] end = ⊥
+IsReport script (board ∷ answers) end = (board ≡ board_answer script.size) × Run blank_bench script.lines answers end

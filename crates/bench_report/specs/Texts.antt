@@ -1,0 +1,48 @@
+-- The exact text of the lines of a report.
+use Rattle.std.specs.Prelude.{ℕ, List, [], ◌∷◌, ◌++◌, Option, Some, None}
+use Rattle.std.specs.Fmt.{decimal}
+use Rattle.std.specs.List.{flat_map}
+use Rattle.board_model.specs.Shown.{reason_number}
+use Rattle.board_model.specs.declared.durable.Durable.{Durable}
+use Rattle.board_model.specs.declared.durable.ImageHead.{ImageHead}
+use Rattle.board_model.specs.declared.boot_mode.BootMode.{BootMode}
+use Rattle.board_model.specs.declared.boot_mode.BootMode.TheVariants.{Fresh, Keep, Discard, Resume}
+use Rattle.bench_report.specs.declared.printed.Printed.{Printed}
+use Rattle.bench_report.specs.declared.printed.Printed.TheVariants as printed
+use Rattle.bench_report.specs.declared.printed.Answer.{Answer}
+use lib.Chars.{codes}
+
+abbrev pub mode_text : BootMode → List ℕ
+mode_text Fresh = codes "fresh"
+mode_text Keep = codes "keep"
+mode_text Discard = codes "discard"
+mode_text Resume = codes "resume"
+
+abbrev pub line_text : Printed → List ℕ
+line_text (printed.Board harts pages lanes sectors) = codes "board " ++ decimal harts ++ codes "/" ++ decimal pages ++ codes "/" ++ decimal lanes ++ codes " sectors " ++ decimal sectors
+line_text printed.Formatted = codes "format ok"
+line_text (printed.FormatRefused n) = codes "format refused " ++ decimal n
+line_text (printed.On mode) = codes "on " ++ mode_text mode
+line_text (printed.OnRefused n) = codes "on refused " ++ decimal n
+line_text (printed.Slot n) = codes "slot ok " ++ decimal n
+line_text (printed.SlotRefused n) = codes "slot refused " ++ decimal n
+line_text printed.Cut = codes "cut"
+line_text printed.PowerLost = codes "power lost"
+line_text printed.Busy = codes "busy"
+line_text printed.Off = codes "off"
+line_text printed.NotBuilt = codes "not built"
+
+abbrev pub image_text : Option ImageHead → List ℕ
+image_text None = codes "none"
+image_text (Some head) = decimal head.serial
+
+abbrev pub found_text : Durable → List ℕ
+found_text d = codes "found slot " ++ decimal d.slot ++ codes " reason " ++ decimal (reason_number d.reason) ++ codes " image " ++ image_text d.image ++ codes " next " ++ decimal d.next
+
+abbrev pub found_line : Option Durable → List ℕ
+found_line None = []
+found_line (Some d) = found_text d ++ 10 ∷ []
+
+abbrev pub found_count : Option Durable → ℕ
+found_count None = 0
+found_count (Some d) = 1

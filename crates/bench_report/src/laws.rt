@@ -1,0 +1,34 @@
+//! Laws of the reports, each the contract of a function that does nothing.
+
+ghost use Rattle.std.specs.Prelude.{◌≡◌, List, Ok, Err, codes};
+ghost use Rattle.board_model.specs.declared.refusal.Refusal.TheVariants.{BadScript};
+ghost use Rattle.script_lang.specs.Scripts.{Script};
+ghost use Rattle.bench_report.specs.Bench.{Bench};
+ghost use Rattle.bench_report.specs.Plain.{plain_report, plain_text};
+ghost use Rattle.bench_report.specs.Prefix.{KeepsPrefixLaw};
+ghost use Rattle.bench_report.specs.Reports.{IsReport};
+ghost use Rattle.bench_report.specs.declared.printed.Answer.{Answer};
+
+/// Where no power-on was refused memory and no failure of the disk was answered, a script has one report.
+pub fn one_report()
+    ensures { (script : Script) (answers : List Answer) (end : Bench) → IsReport script answers end → end.growths ≡ 0 → end.failures ≡ 0
+        → answers ≡ plain_report script }
+{}
+
+/// The prefix law, over each whole run: whatever memory was refused, whatever failed and wherever power was cut, from
+/// the first `format ok` on each power-on finds what the one before it found, with each command that was acknowledged
+/// since, in order, and after them at most the one command in doubt.
+pub fn prefix_law()
+    ensures { (script : Script) (answers : List Answer) (end : Bench) → IsReport script answers end → KeepsPrefixLaw script.lines answers }
+{}
+
+/// Worked rows of docs/SCRIPT.md: what is written for a script where memory is ample and nothing fails.
+pub fn worked_rows()
+    ensures a_slot_outlives_power { plain_text (codes "board 1 1 1\nformat\non fresh\nslot 1\ncut 00\non fresh\n")
+        ≡ Ok (codes "board 1/1/1 sectors 26\nformat ok\nfound slot 0 reason 0 image none next 0\non fresh\nslot ok 1\ncut\nfound slot 1 reason 0 image none next 0\non fresh\n") }
+    ensures a_slot_above_three_is_refused { plain_text (codes "board 1 1 1\nformat\non fresh\nslot 4\nslot 3\n")
+        ≡ Ok (codes "board 1/1/1 sectors 26\nformat ok\nfound slot 0 reason 0 image none next 0\non fresh\nslot refused 9\nslot ok 1\n") }
+    ensures formats_once { plain_text (codes "board 1 1 1\non fresh\nformat\nformat\n") ≡ Ok (codes "board 1/1/1 sectors 26\non refused 1\nformat ok\nformat refused 2\n") }
+    ensures an_empty_script { plain_text (codes "") ≡ Err (BadScript 1) }
+    ensures a_line_in_no_form { plain_text (codes "board 1 1 1\nslot\n") ≡ Err (BadScript 2) }
+{}

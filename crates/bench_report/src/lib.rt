@@ -1,0 +1,13 @@
+//! The bench: runs a script over a board with a disk in memory, and writes its report. docs/SCRIPT.md tells the script
+//! language and the report; specs/Steps.antt says for each line what it may answer.
+#![tactic(auto)]
+
+mod laws;
+mod power;
+mod printed;
+mod runs;
+mod steps;
+
+pub use laws::{one_report, prefix_law, worked_rows};
+pub use printed::{Answer, Printed};
+pub use runs::{Report, run, run_left};

@@ -1,0 +1,122 @@
+//! The lines of a report.
+
+ghost use Rattle.std.specs.Prelude.{◌≡◌, ◌++◌, Some, IfOk};
+ghost use Rattle.bench_report.specs.Texts.{line_text, found_text, mode_text, image_text};
+
+use board_model::{BootMode, Durable, ImageHead};
+use std::fmt;
+
+/// The last line that a line of a script makes, or the line of its board.
+#[derive(Clone, Copy, Debug, PartialEq, Eq)]
+pub enum Printed {
+    /// `board H/P/L sectors N`
+    Board(u32, u32, u32, usize),
+    /// `format ok`
+    Formatted,
+    /// `format refused N`
+    FormatRefused(u32),
+    /// `on MODE`
+    On(BootMode),
+    /// `on refused N`
+    OnRefused(u32),
+    /// `slot ok N`: the command's place among those of this life.
+    Slot(u32),
+    /// `slot refused N`
+    SlotRefused(u32),
+    /// `cut`
+    Cut,
+    /// `power lost`: an armed cut struck within the line.
+    PowerLost,
+    /// `busy`: not while the board is on.
+    Busy,
+    /// `off`: not while the board is off.
+    Off,
+    /// `not built`: a well-formed line that this program does not run yet.
+    NotBuilt,
+}
+
+/// All lines that a line of a script makes.
+#[derive(Clone, Copy, Debug, PartialEq, Eq)]
+pub struct Answer {
+    /// What an open found, which is a line of its own before the other.
+    pub found: Option<Durable>,
+    pub line: Printed,
+}
+
+#[derive(Drop)]
+struct ModeName(BootMode);
+
+impl fmt::Display for ModeName {
+    ghost output = { λ m. Some (mode_text m.0) };
+
+    fn fmt<W: fmt::Write>(&self, f: &mut fmt::Formatter<W>) -> fmt::Result {
+        match self.0 {
+            BootMode::Fresh => write!(f, "fresh"),
+            BootMode::Keep => write!(f, "keep"),
+            BootMode::Discard => write!(f, "discard"),
+            BootMode::Resume => write!(f, "resume"),
+        }
+    }
+}
+
+impl fmt::Display for Printed {
+    ghost output = { λ p. Some (line_text p) };
+
+    fn fmt<W: fmt::Write>(&self, f: &mut fmt::Formatter<W>) -> fmt::Result {
+        match *self {
+            Printed::Board(harts, pages, lanes, sectors) => {
+                write!(f, "board {harts}/{pages}/{lanes} sectors {sectors}")
+            }
+            Printed::Formatted => write!(f, "format ok"),
+            Printed::FormatRefused(n) => write!(f, "format refused {n}"),
+            Printed::On(mode) => {
+                let name = ModeName(mode);
+                write!(f, "on {name}")
+            }
+            Printed::OnRefused(n) => write!(f, "on refused {n}"),
+            Printed::Slot(n) => write!(f, "slot ok {n}"),
+            Printed::SlotRefused(n) => write!(f, "slot refused {n}"),
+            Printed::Cut => write!(f, "cut"),
+            Printed::PowerLost => write!(f, "power lost"),
+            Printed::Busy => write!(f, "busy"),
+            Printed::Off => write!(f, "off"),
+            Printed::NotBuilt => write!(f, "not built"),
+        }
+    }
+}
+
+#[derive(Drop)]
+struct ImageName(Option<ImageHead>);
+
+impl fmt::Display for ImageName {
+    ghost output = { λ i. Some (image_text i.0) };
+
+    fn fmt<W: fmt::Write>(&self, f: &mut fmt::Formatter<W>) -> fmt::Result {
+        match self.0 {
+            None => write!(f, "none"),
+            Some(head) => {
+                let serial = head.serial;
+                write!(f, "{serial}")
+            }
+        }
+    }
+}
+
+/// The line that says what an open found: `found slot S reason R image X next N`.
+#[derive(Drop)]
+pub struct FoundLine(pub Durable);
+
+impl fmt::Display for FoundLine {
+    ghost output = { λ d. Some (found_text d.0) };
+
+    fn fmt<W: fmt::Write>(&self, f: &mut fmt::Formatter<W>) -> fmt::Result {
+        let slot = self.0.slot.number();
+        let reason = self.0.reason.number();
+        let image = ImageName(self.0.image);
+        let next = self.0.next;
+        write!(
+            f,
+            "found slot {slot} reason {reason} image {image} next {next}"
+        )
+    }
+}

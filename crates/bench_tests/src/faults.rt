@@ -1,0 +1,97 @@
+//! What a new user types, and a writer that fails.
+
+use crate::told::{START, refused, reports};
+use bench_report::run;
+use board_model::Refusal;
+use std::io::{self, ErrorKind, Write};
+use std::test::*;
+
+#[test]
+fn a_script_may_lack_its_last_line_feed(rt: HostRuntime) -> Result<(), Fail> {
+    reports(
+        &rt,
+        rt.alloc(),
+        b"# a comment\n\nboard 8 256 4\nformat",
+        b"board 8/256/4 sectors 4616\nformat ok\n",
+    )
+}
+
+#[test]
+fn faults_answer_their_line(rt: HostRuntime) {
+    refused(&rt, rt.alloc(), b"\n\n", Refusal::BadScript(1));
+    refused(
+        &rt,
+        rt.alloc(),
+        b"# hello\n\nslot 1\n",
+        Refusal::BadScript(3),
+    );
+    refused(
+        &rt,
+        rt.alloc(),
+        b"board 1 1 1\r\nformat\r\n",
+        Refusal::BadScript(1),
+    );
+    refused(&rt, rt.alloc(), b"board 9 1 1\nslot\n", Refusal::BadShape);
+    refused(
+        &rt,
+        rt.alloc(),
+        b"board 1 1 1\nboard 1 1 1\n",
+        Refusal::BadScript(2),
+    );
+    refused(
+        &rt,
+        rt.alloc(),
+        b"board 1 1 1\nslot  1\n",
+        Refusal::BadScript(2),
+    );
+    refused(
+        &rt,
+        rt.alloc(),
+        b"\x7fELF\x02\x01\x01\0\0\0",
+        Refusal::BadScript(1),
+    );
+}
+
+#[test]
+fn a_line_of_any_length_is_answered(rt: HostRuntime) -> Result<(), Fail> {
+    let alloc = rt.alloc();
+    let mut script = Vec::new(alloc);
+    script.extend_from_slice(b"board 1 1 1\n#")?;
+    for _ in 0..4096 {
+        script.push(b'a')?;
+    }
+    refused(&rt, alloc, &script, Refusal::BadScript(2));
+    Ok(())
+}
+
+/// A writer that takes so many bytes, and then fails.
+#[derive(Drop)]
+struct Short {
+    room: usize,
+}
+
+impl Write for Short {
+    fn write(&mut self, buf: &[u8]) -> io::Result<usize> {
+        if self.room == 0 {
+            return Err(io::Error::from(ErrorKind::StorageFull));
+        }
+        let taken = buf.len().min(self.room);
+        self.room -= taken;
+        Ok(taken)
+    }
+
+    fn flush(&mut self) -> io::Result<()> {
+        Ok(())
+    }
+}
+
+#[test]
+fn a_writer_that_fails_is_answered(rt: HostRuntime) {
+    for room in 0..80 {
+        let mut out = Short { room };
+        match run(rt.alloc(), START, &mut out) {
+            Ok(_) => assert!(rt; false, "the report has more bytes"),
+            Err(e) => assert_eq!(rt; e, Refusal::Output),
+        }
+    }
+}

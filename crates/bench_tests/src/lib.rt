@@ -1,0 +1,11 @@
+//! Scripts, and the reports that docs/SCRIPT.md says they have.
+#![tactic(auto)]
+
+#[cfg(test)]
+mod faults;
+#[cfg(test)]
+mod lines;
+#[cfg(test)]
+mod rows;
+#[cfg(test)]
+mod told;

@@ -1,0 +1,102 @@
+//! Each kind of line, with the board on and off.
+
+use crate::told::{goes_on, reports};
+use std::test::*;
+
+#[test]
+fn boot_modes_without_an_image(rt: HostRuntime) -> Result<(), Fail> {
+    reports(
+        &rt,
+        rt.alloc(),
+        b"board 1 1 1\nformat\non resume\non discard\non keep\ncut new\non fresh\n",
+        b"board 1/1/1 sectors 26\nformat ok\nfound slot 0 reason 0 image none next 0\non refused 8\nfound slot 0 reason 0 image none next 0\non refused 8\nfound slot 0 reason 0 image none next 0\non keep\ncut\nfound slot 0 reason 0 image none next 0\non fresh\n",
+    )
+}
+
+#[test]
+fn a_board_that_is_on_is_busy(rt: HostRuntime) -> Result<(), Fail> {
+    goes_on(
+        &rt,
+        rt.alloc(),
+        b"format\non keep\non resume\nslot 1\n",
+        b"busy\nbusy\nbusy\nslot ok 1\n",
+    )
+}
+
+#[test]
+fn a_board_that_is_off_takes_no_command(rt: HostRuntime) -> Result<(), Fail> {
+    goes_on(
+        &rt,
+        rt.alloc(),
+        b"cut old\nslot 1\nslot 9\ncut new\non fresh\n",
+        b"cut\noff\noff\ncut\nfound slot 0 reason 0 image none next 0\non fresh\n",
+    )
+}
+
+#[test]
+fn each_life_counts_from_one(rt: HostRuntime) -> Result<(), Fail> {
+    goes_on(
+        &rt,
+        rt.alloc(),
+        b"slot 1\nslot 1\ncut 00\non fresh\nslot 3\ncut ff\non fresh\n",
+        b"slot ok 1\nslot ok 2\ncut\nfound slot 1 reason 0 image none next 0\non fresh\nslot ok 1\ncut\nfound slot 3 reason 0 image none next 0\non fresh\n",
+    )
+}
+
+#[test]
+fn a_cut_before_the_format_leaves_a_blank_disk(rt: HostRuntime) -> Result<(), Fail> {
+    reports(
+        &rt,
+        rt.alloc(),
+        b"board 1 1 1\ncut ff\non keep\nformat\non keep\n",
+        b"board 1/1/1 sectors 26\ncut\non refused 1\nformat ok\nfound slot 0 reason 0 image none next 0\non keep\n",
+    )
+}
+
+const OTHERS: &[u8] = b"\
+payload 0 00\n\
+discard\n\
+turn 0 1\n\
+call 0 base 0\n\
+reg 0 0\n\
+pc 0\n\
+csr 0 0x100\n\
+pending\n\
+mem 0x80000000 1\n\
+cutat 1 00\n\
+cutlane 0 1 00\n\
+failat 1\n\
+faillane 0 1\n\
+poke 0 0 00\n";
+
+const NOT_BUILT: &[u8] = b"\
+not built\n\
+not built\n\
+not built\n\
+not built\n\
+not built\n\
+not built\n\
+not built\n\
+not built\n\
+not built\n\
+not built\n\
+not built\n\
+not built\n\
+not built\n\
+not built\n";
+
+#[test]
+fn the_other_lines_are_not_built_and_do_nothing(rt: HostRuntime) -> Result<(), Fail> {
+    let alloc = rt.alloc();
+    let mut lines = Vec::new(alloc);
+    lines.extend_from_slice(OTHERS)?;
+    lines.extend_from_slice(b"slot 1\ncut 00\n")?;
+    lines.extend_from_slice(OTHERS)?;
+    lines.extend_from_slice(b"on fresh\n")?;
+    let mut text = Vec::new(alloc);
+    text.extend_from_slice(NOT_BUILT)?;
+    text.extend_from_slice(b"slot ok 1\ncut\n")?;
+    text.extend_from_slice(NOT_BUILT)?;
+    text.extend_from_slice(b"found slot 1 reason 0 image none next 0\non fresh\n")?;
+    goes_on(&rt, alloc, &lines, &text)
+}

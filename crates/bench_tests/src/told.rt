@@ -1,0 +1,58 @@
+//! What the tests share.
+
+use bench_report::{run, run_left};
+use board_model::{Durable, Reason, Refusal, Slot};
+use std::alloc::Global;
+use std::process::Abort;
+use std::test::*;
+
+/// The lines that lead to a board that is on, and their report.
+pub const START: &[u8] = b"board 1 1 1\nformat\non fresh\n";
+
+pub const STARTED: &[u8] =
+    b"board 1/1/1 sectors 26\nformat ok\nfound slot 0 reason 0 image none next 0\non fresh\n";
+
+/// The report of a script is this text, its count that of the text's lines, and the disk that is left never failed.
+pub fn reports(rt: &impl Abort, alloc: Global, script: &[u8], text: &[u8]) -> Result<(), Fail> {
+    let mut out = Vec::new(alloc);
+    let (report, disk) = run_left(alloc, script, &mut out)
+        .ok()
+        .ok_or("the script runs")?;
+    assert_eq!(rt; out.as_slice(), text);
+    let count = text.iter().filter(|b| **b == b'\n').count();
+    assert_eq!(rt; report.lines, count as u64);
+    assert_eq!(rt; disk.refused(), 0);
+    Ok(())
+}
+
+/// The report of these lines after those that start a board.
+pub fn goes_on(rt: &impl Abort, alloc: Global, lines: &[u8], text: &[u8]) -> Result<(), Fail> {
+    let mut script = Vec::new(alloc);
+    script.extend_from_slice(START)?;
+    script.extend_from_slice(lines)?;
+    let mut whole = Vec::new(alloc);
+    whole.extend_from_slice(STARTED)?;
+    whole.extend_from_slice(text)?;
+    reports(rt, alloc, &script, &whole)
+}
+
+/// The script is refused so, and nothing is written.
+pub fn refused(rt: &impl Abort, alloc: Global, script: &[u8], want: Refusal) {
+    let mut out = Vec::new(alloc);
+    match run(alloc, script, &mut out) {
+        Ok(_) => assert!(rt; false, "the script has a fault"),
+        Err(e) => assert_eq!(rt; e, want),
+    }
+    assert!(rt; out.is_empty());
+}
+
+/// The durable state with this slot and nothing else.
+pub fn with_slot(slot: u32) -> Result<Durable, Fail> {
+    let slot = Slot::new(slot).ok_or("a slot from 0 to 3")?;
+    Ok(Durable {
+        image: None,
+        slot,
+        reason: Reason::NoReason,
+        next: 0,
+    })
+}

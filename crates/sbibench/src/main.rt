@@ -1,0 +1,91 @@
+//! `sbibench`: reads a script from standard input to its end, and writes its report to standard output
+//! (docs/SCRIPT.md). Status 0; 1 where the input failed or the script was refused; 2 for a fault of the command line.
+#![tactic(auto)]
+
+mod pipe;
+
+use crate::pipe::Pipe;
+use bench_report::run;
+use board_model::Refusal;
+use clap::Command;
+use std::alloc::Global;
+use std::env;
+use std::io::{self, BufWriter, ErrorKind, Read, Write};
+use std::process::ExitCode;
+
+/// How many bytes of the report are written at once.
+const WRITTEN_AT_ONCE: usize = 65_536;
+
+/// Why the program ends with status 1.
+#[derive(Debug, Drop)]
+enum Fault {
+    /// The standard input failed.
+    Input,
+    /// The script was refused, or its report could not be written.
+    Refused(Refusal),
+    /// Nobody reads the standard output any more.
+    Closed,
+}
+
+/// The script: the standard input to its end.
+fn read_script(rt: &(impl Input + Drop), alloc: Global) -> Result<Vec<u8>, Fault> {
+    let mut script = Vec::new(alloc);
+    match rt.reader().read_to_end(&mut script) {
+        Ok(_) => Ok(script),
+        Err(e) if e.kind() == ErrorKind::OutOfMemory => Err(Fault::Refused(Refusal::Memory)),
+        Err(_) => Err(Fault::Input),
+    }
+}
+
+/// Runs the script, and writes its report to the standard output.
+fn write_report(rt: &impl Print, alloc: Global, script: &[u8]) -> Result<(), Fault> {
+    let pipe = Pipe::new(io::writer(rt));
+    let Ok(mut out) = BufWriter::with_capacity(alloc, WRITTEN_AT_ONCE, pipe) else {
+        return Err(Fault::Refused(Refusal::Memory));
+    };
+    let ran = match run(alloc, script, &mut out) {
+        Ok(_) => out.flush().map_err(|_| Refusal::Output),
+        Err(e) => Err(e),
+    };
+    match ran {
+        Ok(()) => Ok(()),
+        Err(_) if out.get_ref().is_closed() => Err(Fault::Closed),
+        Err(e) => Err(Fault::Refused(e)),
+    }
+}
+
+/// Says on the standard error why the program ends.
+fn tell(rt: &impl Eprint, fault: Fault) {
+    let _told = match fault {
+        Fault::Input => eprintln!(rt; "sbibench: input"),
+        Fault::Refused(Refusal::BadScript(line)) => {
+            eprintln!(rt; "sbibench: refusal 14 line {line}")
+        }
+        Fault::Refused(refusal) => {
+            let code = refusal.code();
+            eprintln!(rt; "sbibench: refusal {code}")
+        }
+        Fault::Closed => Ok(()),
+    };
+}
+
+fn main(rt: HostRuntime) -> io::Result<ExitCode> {
+    let alloc = rt.alloc();
+    let words: Vec<String> = env::args(&rt)?.collect(alloc)?;
+    let command = Command::new(alloc, "sbibench");
+    if let Err(error) = command.try_get_matches_from(words.as_slice()) {
+        error.print(&rt)?;
+        return Ok(ExitCode::from(error.exit_code() as u8));
+    }
+    let done = match read_script(&rt, alloc) {
+        Ok(script) => write_report(&rt, alloc, &script),
+        Err(fault) => Err(fault),
+    };
+    match done {
+        Ok(()) => Ok(ExitCode::SUCCESS),
+        Err(fault) => {
+            tell(&rt, fault);
+            Ok(ExitCode::FAILURE)
+        }
+    }
+}
