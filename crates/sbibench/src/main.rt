@@ -8,6 +8,7 @@ use crate::pipe::Pipe;
 use bench_report::run;
 use board_model::Refusal;
 use clap::Command;
+use clap::error::ErrorKind as UsageFault;
 use std::alloc::Global;
 use std::env;
 use std::io::{self, BufWriter, ErrorKind, Read, Write};
@@ -69,18 +70,33 @@ fn tell(rt: &impl Eprint, fault: Fault) {
     };
 }
 
+/// The words of the command line, the program's name first.
+fn words_of(rt: &HostRuntime) -> io::Result<Vec<String>> {
+    let words = env::args(rt)?.collect(rt.alloc())?;
+    Ok(words)
+}
+
+/// Reads the script and writes its report.
+fn bench(rt: &HostRuntime) -> Result<(), Fault> {
+    let script = read_script(rt, rt.alloc())?;
+    write_report(rt, rt.alloc(), &script)
+}
+
 fn main(rt: HostRuntime) -> io::Result<ExitCode> {
-    let alloc = rt.alloc();
-    let words: Vec<String> = env::args(&rt)?.collect(alloc)?;
-    let command = Command::new(alloc, "sbibench");
+    let Ok(words) = words_of(&rt) else {
+        tell(&rt, Fault::Refused(Refusal::Memory));
+        return Ok(ExitCode::FAILURE);
+    };
+    let command = Command::new(rt.alloc(), "sbibench");
     if let Err(error) = command.try_get_matches_from(words.as_slice()) {
+        if error.kind() == UsageFault::OutOfMemory {
+            tell(&rt, Fault::Refused(Refusal::Memory));
+            return Ok(ExitCode::FAILURE);
+        }
         error.print(&rt)?;
         return Ok(ExitCode::from(error.exit_code() as u8));
     }
-    let done = match read_script(&rt, alloc) {
-        Ok(script) => write_report(&rt, alloc, &script),
-        Err(fault) => Err(fault),
-    };
+    let done = bench(&rt);
     match done {
         Ok(()) => Ok(ExitCode::SUCCESS),
         Err(fault) => {
