@@ -13,9 +13,10 @@ use Rattle.bench_report.specs.declared.printed.Printed.{Printed}
 use Rattle.bench_report.specs.declared.printed.Printed.TheVariants as printed
 use Rattle.bench_report.specs.declared.printed.Answer.{Answer}
 use Rattle.bench_report.specs.Bench.{Medium, Blank, Unknown, Formatted, Life, Bench, blank_bench}
-use Rattle.bench_report.specs.Steps.{says, starved, failed, IsHindered, off_with, on_with, unpowered, begun, boot_refusal, keeps, went_on, FormatsOn, FormatStep, OnStep, SlotStep, IsOpenRefusal, Opens, ShowsFound, BootsAs, PowersOn, Commands, Step, Moves, Run}
-use Rattle.bench_report.specs.Reports.{IsReport, board_answer}
-use Rattle.bench_report.specs.Plain.{plain_format, plain_boot, plain_on, plain_command, plain_issued, plain_at, plain, plain_answers, plain_report}
+use Rattle.bench_report.specs.Steps.{says, starved, failed, IsHindered, off_with, on_with, unpowered, begun, boot_refusal, keeps, went_on, FormatsOn, FormatStep, OnStep, SlotStep, IsOpenRefusal, Opens, ShowsFound, BootsAs, PowersOn, Commands, Shows, Step, Moves, Run}
+use Rattle.bench_report.specs.Reports.{IsReport}
+use Rattle.bench_report.proofs.Wholes.{report_alone}
+use Rattle.bench_report.specs.Plain.{hidden, IsShown, IsAlike, AreAlike, plain_format, plain_boot, plain_on, plain_command, plain_issued, plain_at, plain, plain_answers, plain_report}
 
 -- nothing is in doubt, and no cut has struck
 abbrev pub CalmMedium : Medium → Type 0
@@ -36,7 +37,7 @@ IsSpoilt b = (0 < b.growths) ⊎ (0 < b.failures)
 
 -- the bench went on by this answer, or is spoilt
 abbrev pub Determined : Answer × Bench → Answer → Bench → Type 0
-Determined told a new = ((a ≡ told.0) × (new ≡ told.1) × IsCalm new) ⊎ IsSpoilt new
+Determined told a new = (IsAlike a told.0 × (new ≡ told.1) × IsCalm new) ⊎ IsSpoilt new
 
 starves : (c new : Bench) → new ≡ starved c → IsSpoilt new
 starves c new e = let g : new.growths ≡ c.growths + 1 = ap (λ x. x.growths) e in inl (omega arith)
@@ -45,7 +46,7 @@ hinders : (c new : Bench) → IsHindered c new → IsSpoilt new
 hinders c new h = let g : new.failures ≡ counted c.failures 1 = ap (λ x. x.failures) h.2 in inr (omega (arith, g))
 
 settles : (told : Answer × Bench) (a : Answer) (new : Bench) → a ≡ told.0 → new ≡ told.1 → IsCalm told.1 → Determined told a new
-settles told a new e f calm = let P : Bench → Type 0 = IsCalm in inl (e, f, subst P (sym f) calm)
+settles told a new e f calm = let P : Bench → Type 0 = IsCalm in inl (inl e, f, subst P (sym f) calm)
 
 format_on : (m : Medium) (b : Bench) (a : Answer) (new : Bench) → b.medium ≡ m → IsCalm b → CalmMedium m → FormatsOn m b a new → Determined (plain_format m b) a new
 format_on Blank b a new at calm m (inl h) = settles (plain_format Blank b) a new h.0 h.1 (refl, tt, calm.2)
@@ -70,7 +71,8 @@ answers_as a o line e f = ap (λ (x : Option Durable). let r : Answer = record {
 
 boots : (o : Option ℕ) (mode : BootMode) (s : State) (b : Bench) (a : Answer) (new : Bench) → IsCalm b → a.found ≡ Some (durable_of s) → BootsAs o mode s b.medium b a.line new
     → Determined (plain_boot o mode s b) a new
-boots None mode s b a new calm found h = settles (plain_boot None mode s b) a new (answers_as a _ _ found h.0) h.1 (calm.0, refl, calm.2)
+boots None mode s b a new calm found (inl h) = settles (plain_boot None mode s b) a new (answers_as a _ _ found h.0) h.1 (calm.0, refl, calm.2)
+boots None mode s b a new calm found (inr h) = inr (starves (off_with b.medium b) new h.1)
 boots (Some n) mode s b a new calm found h = settles (plain_boot (Some n) mode s b) a new (answers_as a _ _ found h.0) h.1 (calm.0, tt, calm.2)
 
 on_on : (m : Medium) (mode : BootMode) (b : Bench) (a : Answer) (new : Bench) → b.medium ≡ m → IsCalm b → CalmMedium m → PowersOn mode b a new → Determined (plain_on m mode b) a new
@@ -149,21 +151,28 @@ slot_at (Some life) n b a new at calm h =
 not_built : (b : Bench) (a : Answer) (new : Bench) → IsCalm b → a ≡ says printed.NotBuilt → new ≡ b → Determined (says printed.NotBuilt, b) a new
 not_built b a new calm e f = settles (says printed.NotBuilt, b) a new e f calm
 
+-- what a line shows of memory and harts is hidden
+shows_on : (b : Bench) (a : Answer) (new : Bench) → IsCalm b → Shows b a new → Determined (says hidden, b) a new
+shows_on b a new calm h =
+    let P : Answer → Type 0 = λ x. IsShown x.line in
+    let Q : Bench → Type 0 = IsCalm in
+    inl (inr (subst P (sym h.1) tt, tt, ap (λ (x : Answer). x.found) h.1), h.2, subst Q (sym h.2) calm)
+
 -- one line, as far as no cut strikes
 step_on : (line : Line) (b : Bench) (a : Answer) (new : Bench) → IsCalm b → Step line b a new → Determined (plain line b) a new
 step_on lines.Format b a new calm h = format_at b.power b a new calm h
 step_on (lines.On mode) b a new calm h = on_at b.power mode b a new calm h
 step_on (lines.Slot n) b a new calm h = slot_at b.power n b a new refl calm h
 step_on (lines.Cut fill) b a new calm h = settles (says printed.Cut, unpowered b) a new h.0 h.1 (calm.0, tt, refl)
-step_on (lines.Payload x y) b a new calm h = not_built b a new calm h.0 h.1
+step_on (lines.Payload x y) b a new calm h = shows_on b a new calm h
 step_on lines.Discard b a new calm h = not_built b a new calm h.0 h.1
-step_on (lines.Turn x y) b a new calm h = not_built b a new calm h.0 h.1
+step_on (lines.Turn x y) b a new calm h = shows_on b a new calm h
 step_on (lines.Call x y z u v w) b a new calm h = not_built b a new calm h.0 h.1
-step_on (lines.Reg x y) b a new calm h = not_built b a new calm h.0 h.1
-step_on (lines.Pc x) b a new calm h = not_built b a new calm h.0 h.1
-step_on (lines.Csr x y) b a new calm h = not_built b a new calm h.0 h.1
+step_on (lines.Reg x y) b a new calm h = shows_on b a new calm h
+step_on (lines.Pc x) b a new calm h = shows_on b a new calm h
+step_on (lines.Csr x y) b a new calm h = shows_on b a new calm h
 step_on lines.Pending b a new calm h = not_built b a new calm h.0 h.1
-step_on (lines.Mem x y) b a new calm h = not_built b a new calm h.0 h.1
+step_on (lines.Mem x y) b a new calm h = shows_on b a new calm h
 step_on (lines.CutAt x y) b a new calm h = not_built b a new calm h.0 h.1
 step_on (lines.CutLane x y z) b a new calm h = not_built b a new calm h.0 h.1
 step_on (lines.FailAt x) b a new calm h = not_built b a new calm h.0 h.1
@@ -212,7 +221,8 @@ format_more (Formatted k) b a new (inl h) = same b b new refl refl h.1
 format_more (Formatted k) b a new (inr h) = hinder b b new refl h.1
 
 boot_more : (o : Option ℕ) (mode : BootMode) (s : State) (m : Medium) (b : Bench) (line : Printed) (new : Bench) → BootsAs o mode s m b line new → Grows b new
-boot_more None mode s m b line new h = same b (on_with m (begun s) b) new refl refl h.1
+boot_more None mode s m b line new (inl h) = same b (on_with m (begun s) b) new refl refl h.1
+boot_more None mode s m b line new (inr h) = let P : Bench → Bench → Type 0 = Grows in (omega (arith, ap (λ (x : Bench). x.growths) h.1), λ p. omega (arith, ap (λ (x : Bench). x.failures) h.1))
 boot_more (Some n) mode s m b line new h = same b (off_with m b) new refl refl h.1
 
 on_more : (mode : BootMode) (b : Bench) (a : Answer) (new : Bench) → PowersOn mode b a new → Grows b new
@@ -246,15 +256,15 @@ step_more lines.Format b a new h = format_power b.power b a new h
 step_more (lines.On mode) b a new h = on_power b.power mode b a new h
 step_more (lines.Slot n) b a new h = slot_power b.power n b a new h
 step_more (lines.Cut fill) b a new h = same b (unpowered b) new refl refl h.1
-step_more (lines.Payload x y) b a new h = same b b new refl refl h.1
+step_more (lines.Payload x y) b a new h = same b b new refl refl h.2
 step_more lines.Discard b a new h = same b b new refl refl h.1
-step_more (lines.Turn x y) b a new h = same b b new refl refl h.1
+step_more (lines.Turn x y) b a new h = same b b new refl refl h.2
 step_more (lines.Call x y z u v w) b a new h = same b b new refl refl h.1
-step_more (lines.Reg x y) b a new h = same b b new refl refl h.1
-step_more (lines.Pc x) b a new h = same b b new refl refl h.1
-step_more (lines.Csr x y) b a new h = same b b new refl refl h.1
+step_more (lines.Reg x y) b a new h = same b b new refl refl h.2
+step_more (lines.Pc x) b a new h = same b b new refl refl h.2
+step_more (lines.Csr x y) b a new h = same b b new refl refl h.2
 step_more lines.Pending b a new h = same b b new refl refl h.1
-step_more (lines.Mem x y) b a new h = same b b new refl refl h.1
+step_more (lines.Mem x y) b a new h = same b b new refl refl h.2
 step_more (lines.CutAt x y) b a new h = same b b new refl refl h.1
 step_more (lines.CutLane x y z) b a new h = same b b new refl refl h.1
 step_more (lines.FailAt x) b a new h = same b b new refl refl h.1
@@ -278,20 +288,21 @@ run_more (l ∷ ls) b (a ∷ answers) end h =
     (omega (arith, one.0, others.0), λ p. others.1 (one.1 p))
 
 -- a run in which nothing was refused memory and no failure was answered
-run_plain : (ls : List Line) (b : Bench) (answers : List Answer) (end : Bench) → IsCalm b → Run b ls answers end → end.growths ≡ 0 → end.failures ≡ 0 → answers ≡ plain_answers ls b
-run_plain [] b [] end calm h none nothing = refl
+run_plain : (ls : List Line) (b : Bench) (answers : List Answer) (end : Bench) → IsCalm b → Run b ls answers end → end.growths ≡ 0 → end.failures ≡ 0 → AreAlike answers (plain_answers ls b)
+run_plain [] b [] end calm h none nothing = tt
 run_plain [] b (a ∷ answers) end calm h none nothing = absurd h
 run_plain (l ∷ ls) b [] end calm h none nothing = absurd h
 run_plain (l ∷ ls) b (a ∷ answers) end calm h none nothing =
     let others = run_more ls h.0 answers end h.2 in
     elim (moves_on l b a h.0 calm h.1) [
       | inl d ↦ (
-          let rest : answers ≡ plain_answers ls h.0 = run_plain ls h.0 answers end d.2 h.2 none nothing in
-          ap (λ x. x ∷ answers) d.0 ∙ ap (λ xs. (plain l b).0 ∷ xs) (rest ∙ ap (plain_answers ls) d.1))
+          let rest : AreAlike answers (plain_answers ls h.0) = run_plain ls h.0 answers end d.2 h.2 none nothing in
+          let P : Bench → Type 0 = λ x. AreAlike answers (plain_answers ls x) in
+          (d.0, subst P d.1 rest))
       | inr spoilt ↦ absurd (elim spoilt [ inl g ↦ omega (arith, g, others.0, none) | inr f ↦ omega (arith, others.1 f, nothing) ])
     ]
 
-pub one_report : (script : Script) (answers : List Answer) (end : Bench) → IsReport script answers end → end.growths ≡ 0 → end.failures ≡ 0 → answers ≡ plain_report script
+pub one_report : (script : Script) (answers : List Answer) (end : Bench) → IsReport script answers end → end.growths ≡ 0 → end.failures ≡ 0 → AreAlike answers (plain_report script)
 one_report script [] end h none nothing = absurd h
 one_report script (board ∷ answers) end h none nothing =
-    ap (λ x. x ∷ answers) h.0 ∙ ap (λ xs. board_answer script.size ∷ xs) (run_plain script.lines blank_bench answers end (tt, tt, refl) h.1 none nothing)
+    (inl h.0, run_plain script.lines blank_bench answers end (tt, tt, refl) (report_alone script board answers end h) none nothing)

@@ -10,3 +10,5 @@ pub mod Written
 pub mod Told
 pub mod Determined
 pub mod Prefixed
+pub mod Wholes
+pub mod Started

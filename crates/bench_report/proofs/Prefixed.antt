@@ -16,6 +16,7 @@ use Rattle.bench_report.specs.Steps.{says, starved, failed, IsHindered, off_with
 use Rattle.bench_report.specs.Reports.{IsReport}
 use Rattle.bench_report.specs.Prefix.{command_of, Fate, Acknowledged, Doubtful, Refused, fate_of, first_of, MayFollow, Issues, Tells, IsPrefixed, is_format_ok, IsFoundByPrefix, KeepsPrefixLaw}
 use Rattle.bench_report.proofs.Ended.{found_more}
+use Rattle.bench_report.proofs.Wholes.{report_alone}
 use Rattle.bench_report.proofs.Table.{not_six}
 
 -- the bench holds the state that the acknowledged commands make, and the command in doubt
@@ -97,7 +98,9 @@ shown None line x s t d rest shows follow r = absurd shows
 shown (Some found) line x s t d rest shows follow r = (t, follow, shows, r)
 
 booted : (o : Option ℕ) (mode : BootMode) (s : State) (k : Kept) (b : Bench) (x : Printed) (new : Bench) → k.doubt ≡ None → s ≡ found_of k.changes → BootsAs o mode s (Formatted k) b x new → Holds new.medium new.power s None
-booted None mode s k b x new calm same h = held new (on_with (Formatted k) (begun s) b) s None h.1 (refl, refl, calm, same)
+booted None mode s k b x new calm same (inl h) = held new (on_with (Formatted k) (begun s) b) s None h.1 (refl, refl, calm, same)
+booted None mode s k b x new calm same (inr h) =
+    held new (starved (off_with (Formatted k) b)) s None h.1 (off_holds (Formatted k) (Some (begun s)) s None (refl, refl, calm, same))
 booted (Some n) mode s k b x new calm same h =
     held new (off_with (Formatted k) b) s None h.1 (off_holds (Formatted k) (Some (begun s)) s None (refl, refl, calm, same))
 
@@ -201,15 +204,15 @@ step_tells lines.Format b a new s d h step = format_at b.power b a new s d refl 
 step_tells (lines.On mode) b a new s d h step = on_at b.power mode b a new s d refl h step
 step_tells (lines.Slot n) b a new s d h step = slots b.medium b.power n b a new s d refl refl h step
 step_tells (lines.Cut fill) b a new s d h step = nothing (lines.Cut fill) a _ s d new (unpowered b) refl step.0 step.1 (off_holds b.medium b.power s d h)
-step_tells (lines.Payload x y) b a new s d h step = nothing (lines.Payload x y) a _ s d new b refl step.0 step.1 h
+step_tells (lines.Payload x y) b a new s d h step = nothing (lines.Payload x y) a _ s d new b refl step.1 step.2 h
 step_tells lines.Discard b a new s d h step = nothing lines.Discard a _ s d new b refl step.0 step.1 h
-step_tells (lines.Turn x y) b a new s d h step = nothing (lines.Turn x y) a _ s d new b refl step.0 step.1 h
+step_tells (lines.Turn x y) b a new s d h step = nothing (lines.Turn x y) a _ s d new b refl step.1 step.2 h
 step_tells (lines.Call x y z u v w) b a new s d h step = nothing (lines.Call x y z u v w) a _ s d new b refl step.0 step.1 h
-step_tells (lines.Reg x y) b a new s d h step = nothing (lines.Reg x y) a _ s d new b refl step.0 step.1 h
-step_tells (lines.Pc x) b a new s d h step = nothing (lines.Pc x) a _ s d new b refl step.0 step.1 h
-step_tells (lines.Csr x y) b a new s d h step = nothing (lines.Csr x y) a _ s d new b refl step.0 step.1 h
+step_tells (lines.Reg x y) b a new s d h step = nothing (lines.Reg x y) a _ s d new b refl step.1 step.2 h
+step_tells (lines.Pc x) b a new s d h step = nothing (lines.Pc x) a _ s d new b refl step.1 step.2 h
+step_tells (lines.Csr x y) b a new s d h step = nothing (lines.Csr x y) a _ s d new b refl step.1 step.2 h
 step_tells lines.Pending b a new s d h step = nothing lines.Pending a _ s d new b refl step.0 step.1 h
-step_tells (lines.Mem x y) b a new s d h step = nothing (lines.Mem x y) a _ s d new b refl step.0 step.1 h
+step_tells (lines.Mem x y) b a new s d h step = nothing (lines.Mem x y) a _ s d new b refl step.1 step.2 h
 step_tells (lines.CutAt x y) b a new s d h step = nothing (lines.CutAt x y) a _ s d new b refl step.0 step.1 h
 step_tells (lines.CutLane x y z) b a new s d h step = nothing (lines.CutLane x y z) a _ s d new b refl step.0 step.1 h
 step_tells (lines.FailAt x) b a new s d h step = nothing (lines.FailAt x) a _ s d new b refl step.0 step.1 h
@@ -264,7 +267,8 @@ by_line : {T : Type 0} (x y : Printed) → x ≡ y → is_format_ok y ≡ false 
 by_line x y e differs formats_ok = let P : Printed → Type 0 = λ z. is_format_ok z ≡ true in absurd (let never : true ≡ false = sym (subst P e formats_ok) ∙ differs in let bad : ⊥ = cc in bad)
 
 boots_no : {T : Type 0} (o : Option ℕ) (mode : BootMode) (s : State) (m : Medium) (b : Bench) (x : Printed) (new : Bench) → BootsAs o mode s m b x new → is_format_ok x ≡ true → T
-boots_no None mode s m b x new h formats_ok = by_line x _ h.0 refl formats_ok
+boots_no None mode s m b x new (inl h) formats_ok = by_line x _ h.0 refl formats_ok
+boots_no None mode s m b x new (inr h) formats_ok = by_line x _ h.0 refl formats_ok
 boots_no (Some n) mode s m b x new h formats_ok = by_line x _ h.0 refl formats_ok
 
 powers_no : {T : Type 0} (p : Option Life) (mode : BootMode) (b : Bench) (a : Answer) (new : Bench) → OnStep p mode b a new → is_format_ok a.line ≡ true → T
@@ -291,15 +295,15 @@ step_formats lines.Format b a new h formats_ok = formatted_at b.power b a new h 
 step_formats (lines.On mode) b a new h formats_ok = powers_no b.power mode b a new h formats_ok
 step_formats (lines.Slot n) b a new h formats_ok = slots_no b.power n b a new h formats_ok
 step_formats (lines.Cut fill) b a new h formats_ok = other a _ h.0 refl formats_ok
-step_formats (lines.Payload x y) b a new h formats_ok = other a _ h.0 refl formats_ok
+step_formats (lines.Payload x y) b a new h formats_ok = other a _ h.1 refl formats_ok
 step_formats lines.Discard b a new h formats_ok = other a _ h.0 refl formats_ok
-step_formats (lines.Turn x y) b a new h formats_ok = other a _ h.0 refl formats_ok
+step_formats (lines.Turn x y) b a new h formats_ok = other a _ h.1 refl formats_ok
 step_formats (lines.Call x y z u v w) b a new h formats_ok = other a _ h.0 refl formats_ok
-step_formats (lines.Reg x y) b a new h formats_ok = other a _ h.0 refl formats_ok
-step_formats (lines.Pc x) b a new h formats_ok = other a _ h.0 refl formats_ok
-step_formats (lines.Csr x y) b a new h formats_ok = other a _ h.0 refl formats_ok
+step_formats (lines.Reg x y) b a new h formats_ok = other a _ h.1 refl formats_ok
+step_formats (lines.Pc x) b a new h formats_ok = other a _ h.1 refl formats_ok
+step_formats (lines.Csr x y) b a new h formats_ok = other a _ h.1 refl formats_ok
 step_formats lines.Pending b a new h formats_ok = other a _ h.0 refl formats_ok
-step_formats (lines.Mem x y) b a new h formats_ok = other a _ h.0 refl formats_ok
+step_formats (lines.Mem x y) b a new h formats_ok = other a _ h.1 refl formats_ok
 step_formats (lines.CutAt x y) b a new h formats_ok = other a _ h.0 refl formats_ok
 step_formats (lines.CutLane x y z) b a new h formats_ok = other a _ h.0 refl formats_ok
 step_formats (lines.FailAt x) b a new h formats_ok = other a _ h.0 refl formats_ok
@@ -323,4 +327,4 @@ by_prefix (l ∷ ls) b (a ∷ answers) end run =
 
 pub prefix_law : (script : Script) (answers : List Answer) (end : Bench) → IsReport script answers end → KeepsPrefixLaw script.lines answers
 prefix_law script [] end h = absurd h
-prefix_law script (board ∷ answers) end h = by_prefix script.lines blank_bench answers end h.1
+prefix_law script (board ∷ answers) end h = by_prefix script.lines blank_bench answers end (report_alone script board answers end h)

@@ -8,11 +8,8 @@ use Rattle.std.proofs.lemmas.List.Sums.{sum_by-append}
 use Rattle.std.proofs.lemmas.List.Elements.{filter_map-append}
 use Rattle.std.proofs.lemmas.List.{append-nil}
 use Rattle.std.proofs.lemmas.Grind.{flat_map-append}
-use Rattle.script_lang.specs.declared.line.Line.{Line}
 use Rattle.bench_report.specs.declared.printed.Answer.{Answer}
 use Rattle.bench_report.specs.declared.runs.Report.{Report}
-use Rattle.bench_report.specs.Bench.{Bench}
-use Rattle.bench_report.specs.Steps.{Moves, Run}
 use Rattle.bench_report.specs.Texts.{found_count}
 use Rattle.bench_report.specs.Reports.{answer_text, report_text, line_count, found_states}
 use Rattle.bench_report.specs.Counts.{Adds, Reported}
@@ -38,9 +35,3 @@ reported_more start mid now before after answers a was adds = record {
   lines = adds.lines ∙ ap (λ n. n + found_count a.found + 1) was.lines ∙ sym (count_more answers a);
   found = adds.found ∙ ap (λ xs. xs ++ option_to_list a.found) was.found ∙ ap (λ xs. found_states answers ++ xs) (sym (one_state a.found a.line)) ∙ sym (states_more answers a);
 }
-
-pub goes_on : (lines : List Line) (i : ℕ) (line : Line) (now mid new : Bench) (a : Answer) (more : List Answer) → i < length lines
-    → Moves (get_or lines i line) now a mid → Run mid (drop (i + 1) lines) more new → Run now (drop i lines) (a ∷ more) new
-goes_on lines i line now mid new a more lt step run =
-    let rest : Run mid (drop (suc i) lines) more new = rw add-one at run in
-    rw (drop-cons lines i line lt) (mid, step, rest)

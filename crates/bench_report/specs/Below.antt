@@ -8,6 +8,9 @@ use Rattle.simdisk.specs.declared.SimDisk.{SimDisk}
 use Rattle.simdisk.specs.declared.SimLane.{SimLane}
 use Rattle.simdisk.specs.contracts.device.SimDiskDisk.TheImpl as sim_disk
 use Rattle.simdisk.specs.contracts.lane.SimLaneLane.TheImpl as sim_lane
+use Rattle.board.specs.Boards as words
+use Rattle.board.specs.declared.Board as boards
+use Rattle.machine.specs.Machine.{Machine}
 use Rattle.store.specs.declared.Store as any
 use Rattle.store.specs.Leaves as below
 use Rattle.store.specs.Lives.{Life, now_of}
@@ -16,6 +19,17 @@ use Rattle.store.specs.Stores as stores
 -- a store over a disk in memory
 abbrev pub Store : Type 0
 Store = any.Store SimDisk SimLane sim_disk.ghosts sim_lane.ghosts
+
+-- a board over a disk in memory
+abbrev pub Board : Type 0
+Board = boards.Board SimDisk SimLane sim_disk.ghosts sim_lane.ghosts
+
+-- its store, and its memory and harts
+abbrev pub store_in : Board → Store
+store_in board = words.store_of board
+
+abbrev pub machine_in : Board → Machine
+machine_in board = words.machine_of board
 
 -- the facts of the disk, and why it failed
 abbrev pub facts : SimDisk → Facts

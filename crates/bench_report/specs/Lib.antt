@@ -7,3 +7,4 @@ pub mod Reports
 pub mod Counts
 pub mod Plain
 pub mod Prefix
+pub mod Whole

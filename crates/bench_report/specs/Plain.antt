@@ -1,5 +1,5 @@
 -- The one report of a script where memory was never refused and the disk never failed.
-use Rattle.std.specs.Prelude.{◌≡◌, ℕ, ◌+◌, ◌==◌, List, [], ◌∷◌, Option, Some, None, Result, Ok, if◌then◌else◌}
+use Rattle.std.specs.Prelude.{◌≡◌, ◌⊎◌, ℕ, ◌+◌, ◌==◌, List, [], ◌∷◌, Option, Some, None, Result, Ok, if◌then◌else◌}
 use Rattle.board_model.specs.Durable.{State, Change, Slot, refusal_of, after}
 use Rattle.board_model.specs.Kept.{nothing_kept, found_of}
 use Rattle.board_model.specs.Shown.{durable_of}
@@ -8,6 +8,7 @@ use Rattle.script_lang.specs.Scripts.{Script, script_of, ◌>>>◌}
 use Rattle.board_model.specs.declared.boot_mode.BootMode.{BootMode}
 use Rattle.script_lang.specs.declared.line.Line.{Line}
 use Rattle.script_lang.specs.declared.line.Line.TheVariants as lines
+use Rattle.machine_lines.specs.declared.line.MachineLine.TheVariants as shown
 use Rattle.bench_report.specs.declared.printed.Answer.{Answer}
 use Rattle.bench_report.specs.declared.printed.Printed.{Printed}
 use Rattle.bench_report.specs.declared.printed.Printed.TheVariants as printed
@@ -38,6 +39,10 @@ plain_command None c life ok refuses b = (says (ok (life.receipts + 1)), on_with
 abbrev pub plain_issued : Change → Life → (ℕ → Printed) → (ℕ → Printed) → Bench → Answer × Bench
 plain_issued c life ok refuses b = if life.receipts == 4096 then (says (refuses 10), b) else plain_command (refusal_of life.now c) c life ok refuses b
 
+-- what stands in a plain report for a line that shows memory or harts
+abbrev pub hidden : Printed
+hidden = printed.Shown shown.Off
+
 abbrev pub plain_at : Option Life → Line → Bench → Answer × Bench
 plain_at None lines.Format b = plain_format b.medium b
 plain_at (Some life) lines.Format b = (says printed.Busy, b)
@@ -46,15 +51,15 @@ plain_at (Some life) (lines.On mode) b = (says printed.Busy, b)
 plain_at None (lines.Slot n) b = (says printed.Off, b)
 plain_at (Some life) (lines.Slot n) b = plain_issued (Slot n) life printed.Slot printed.SlotRefused b
 plain_at p (lines.Cut fill) b = (says printed.Cut, unpowered b)
-plain_at p (lines.Payload s bytes) b = (says printed.NotBuilt, b)
+plain_at p (lines.Payload s bytes) b = (says hidden, b)
 plain_at p lines.Discard b = (says printed.NotBuilt, b)
-plain_at p (lines.Turn h n) b = (says printed.NotBuilt, b)
+plain_at p (lines.Turn h n) b = (says hidden, b)
 plain_at p (lines.Call h e f x y z) b = (says printed.NotBuilt, b)
-plain_at p (lines.Reg h r) b = (says printed.NotBuilt, b)
-plain_at p (lines.Pc h) b = (says printed.NotBuilt, b)
-plain_at p (lines.Csr h c) b = (says printed.NotBuilt, b)
+plain_at p (lines.Reg h r) b = (says hidden, b)
+plain_at p (lines.Pc h) b = (says hidden, b)
+plain_at p (lines.Csr h c) b = (says hidden, b)
 plain_at p lines.Pending b = (says printed.NotBuilt, b)
-plain_at p (lines.Mem a n) b = (says printed.NotBuilt, b)
+plain_at p (lines.Mem a n) b = (says hidden, b)
 plain_at p (lines.CutAt n fill) b = (says printed.NotBuilt, b)
 plain_at p (lines.CutLane i n fill) b = (says printed.NotBuilt, b)
 plain_at p (lines.FailAt n) b = (says printed.NotBuilt, b)
@@ -71,6 +76,22 @@ plain_answers (line ∷ more) b = (plain line b).0 ∷ plain_answers more (plain
 
 abbrev pub plain_report : Script → List Answer
 plain_report script = board_answer script.size ∷ plain_answers script.lines blank_bench
+
+-- a line that shows memory or harts
+abbrev pub IsShown : Printed → Type 0
+IsShown (printed.Shown m) = Unit {0}
+IsShown line = ⊥
+
+-- the same answer, or both show memory or harts
+abbrev pub IsAlike : Answer → Answer → Type 0
+IsAlike a plain = (a ≡ plain) ⊎ (IsShown a.line × IsShown plain.line × (a.found ≡ None))
+
+-- each answer is the plain one, but for what lines show of memory and harts
+abbrev pub AreAlike : List Answer → List Answer → Type 0
+AreAlike [] [] = Unit {0}
+AreAlike (a ∷ answers) (b ∷ plain) = IsAlike a b × AreAlike answers plain
+AreAlike [] (b ∷ plain) = ⊥
+AreAlike (a ∷ answers) [] = ⊥
 
 -- what is written for the bytes of a script, or why nothing runs
 abbrev pub plain_text : List ℕ → Result (List ℕ) Refusal

@@ -7,8 +7,9 @@ use Rattle.script_lang.specs.Scripts.{Script}
 use Rattle.bench_report.specs.declared.printed.Printed.TheVariants as printed
 use Rattle.bench_report.specs.declared.printed.Answer.{Answer}
 use Rattle.bench_report.specs.Texts.{found_line, line_text, found_count}
-use Rattle.bench_report.specs.Bench.{Bench, blank_bench}
-use Rattle.bench_report.specs.Steps.{says, Run}
+use Rattle.bench_report.specs.Bench.{Bench}
+use Rattle.bench_report.specs.Steps.{says}
+use Rattle.bench_report.specs.Whole.{Whole, IsBlankWhole, WholeRun}
 
 -- the lines that one line of a script makes
 abbrev pub answer_text : Answer → List ℕ
@@ -31,4 +32,5 @@ board_answer size = says (printed.Board size.harts size.pages size.lanes (sector
 -- these answers are a report of the script, and leave this bench
 abbrev pub IsReport : Script → List Answer → Bench → Type 0
 IsReport script [] end = ⊥
-IsReport script (board ∷ answers) end = (board ≡ board_answer script.size) × Run blank_bench script.lines answers end
+IsReport script (board ∷ answers) end =
+    (board ≡ board_answer script.size) × (start : Whole) × (last : Whole) × IsBlankWhole start × WholeRun script.size start script.lines answers last × (last.bench ≡ end)

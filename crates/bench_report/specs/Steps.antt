@@ -10,6 +10,7 @@ use Rattle.board_model.specs.declared.boot_mode.BootMode.{BootMode}
 use Rattle.board_model.specs.declared.boot_mode.BootMode.TheVariants as modes
 use Rattle.script_lang.specs.declared.line.Line.{Line}
 use Rattle.script_lang.specs.declared.line.Line.TheVariants as lines
+use Rattle.machine_lines.specs.declared.line.MachineLine.{MachineLine}
 use Rattle.bench_report.specs.declared.printed.Printed.{Printed}
 use Rattle.bench_report.specs.declared.printed.Printed.TheVariants as printed
 use Rattle.bench_report.specs.declared.printed.Answer.{Answer}
@@ -64,9 +65,11 @@ boot_refusal s modes.Resume = if is_some s.image then None else Some 8
 abbrev pub begun : State → Life
 begun s = record { now = s; receipts = 0; doubt = None }
 
--- the boot, after an open that left this medium
+-- the boot, after an open that left this medium; there may be no memory for the board
 abbrev pub BootsAs : Option ℕ → BootMode → State → Medium → Bench → Printed → Bench → Type 0
-BootsAs None mode s medium b line new = (line ≡ printed.On mode) × (new ≡ on_with medium (begun s) b)
+BootsAs None mode s medium b line new =
+    ((line ≡ printed.On mode) × (new ≡ on_with medium (begun s) b))
+    ⊎ ((line ≡ printed.OnRefused 11) × (new ≡ starved (off_with medium b)))
 BootsAs (Some n) mode s medium b line new = (line ≡ printed.OnRefused n) × (new ≡ off_with medium b)
 
 -- an open that succeeds finds this state and leaves this medium: a command in doubt is settled
@@ -138,21 +141,26 @@ SlotStep (Some life) n b answer new = Commands life.doubt (refusal_of life.now (
 abbrev pub NotBuilt : Bench → Answer → Bench → Type 0
 NotBuilt b answer new = (answer ≡ says printed.NotBuilt) × (new ≡ b)
 
+-- a line that shows the board's memory or harts, or makes turns of a hart, or keeps a payload for a boot: what it says is
+-- told by WholeStep of specs/Whole.antt
+abbrev pub Shows : Bench → Answer → Bench → Type 0
+Shows b answer new = (shown : MachineLine) × (answer ≡ says (printed.Shown shown)) × (new ≡ b)
+
 -- what a line may answer on a bench, and what the bench then is, as far as no armed cut strikes
 abbrev pub Step : Line → Bench → Answer → Bench → Type 0
 Step lines.Format b answer new = FormatStep b.power b answer new
 Step (lines.On mode) b answer new = OnStep b.power mode b answer new
 Step (lines.Slot n) b answer new = SlotStep b.power n b answer new
 Step (lines.Cut fill) b answer new = (answer ≡ says printed.Cut) × (new ≡ unpowered b)
-Step (lines.Payload s bytes) b answer new = NotBuilt b answer new
+Step (lines.Payload s bytes) b answer new = Shows b answer new
 Step lines.Discard b answer new = NotBuilt b answer new
-Step (lines.Turn h n) b answer new = NotBuilt b answer new
+Step (lines.Turn h n) b answer new = Shows b answer new
 Step (lines.Call h e f x y z) b answer new = NotBuilt b answer new
-Step (lines.Reg h r) b answer new = NotBuilt b answer new
-Step (lines.Pc h) b answer new = NotBuilt b answer new
-Step (lines.Csr h c) b answer new = NotBuilt b answer new
+Step (lines.Reg h r) b answer new = Shows b answer new
+Step (lines.Pc h) b answer new = Shows b answer new
+Step (lines.Csr h c) b answer new = Shows b answer new
 Step lines.Pending b answer new = NotBuilt b answer new
-Step (lines.Mem a n) b answer new = NotBuilt b answer new
+Step (lines.Mem a n) b answer new = Shows b answer new
 Step (lines.CutAt n fill) b answer new = NotBuilt b answer new
 Step (lines.CutLane i n fill) b answer new = NotBuilt b answer new
 Step (lines.FailAt n) b answer new = NotBuilt b answer new

@@ -7,6 +7,7 @@ use Rattle.board_model.specs.declared.durable.Durable.{Durable}
 use Rattle.board_model.specs.declared.durable.ImageHead.{ImageHead}
 use Rattle.board_model.specs.declared.boot_mode.BootMode.{BootMode}
 use Rattle.board_model.specs.declared.boot_mode.BootMode.TheVariants.{Fresh, Keep, Discard, Resume}
+use Rattle.machine_lines.specs.Texts.{machine_line_text}
 use Rattle.bench_report.specs.declared.printed.Printed.{Printed}
 use Rattle.bench_report.specs.declared.printed.Printed.TheVariants as printed
 use Rattle.bench_report.specs.declared.printed.Answer.{Answer}
@@ -30,6 +31,7 @@ line_text printed.Cut = codes "cut"
 line_text printed.PowerLost = codes "power lost"
 line_text printed.Busy = codes "busy"
 line_text printed.Off = codes "off"
+line_text (printed.Shown shown) = machine_line_text shown
 line_text printed.NotBuilt = codes "not built"
 
 abbrev pub image_text : Option ImageHead → List ℕ

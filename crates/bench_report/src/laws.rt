@@ -4,15 +4,16 @@ ghost use Rattle.std.specs.Prelude.{◌≡◌, List, Ok, Err, codes};
 ghost use Rattle.board_model.specs.declared.refusal.Refusal.TheVariants.{BadScript};
 ghost use Rattle.script_lang.specs.Scripts.{Script};
 ghost use Rattle.bench_report.specs.Bench.{Bench};
-ghost use Rattle.bench_report.specs.Plain.{plain_report, plain_text};
+ghost use Rattle.bench_report.specs.Plain.{AreAlike, plain_report, plain_text};
 ghost use Rattle.bench_report.specs.Prefix.{KeepsPrefixLaw};
 ghost use Rattle.bench_report.specs.Reports.{IsReport};
 ghost use Rattle.bench_report.specs.declared.printed.Answer.{Answer};
 
-/// Where no power-on was refused memory and no failure of the disk was answered, a script has one report.
+/// Where no power-on was refused memory and no failure of the disk was answered, a script has one report, as far as it
+/// does not show memory or harts; that is what the steps of the harts leave.
 pub fn one_report()
     ensures { (script : Script) (answers : List Answer) (end : Bench) → IsReport script answers end → end.growths ≡ 0 → end.failures ≡ 0
-        → answers ≡ plain_report script }
+        → AreAlike answers (plain_report script) }
 {}
 
 /// The prefix law, over each whole run: whatever memory was refused, whatever failed and wherever power was cut, from

@@ -4,6 +4,7 @@ ghost use Rattle.std.specs.Prelude.{◌≡◌, ◌++◌, Some, IfOk};
 ghost use Rattle.bench_report.specs.Texts.{line_text, found_text, mode_text, image_text};
 
 use board_model::{BootMode, Durable, ImageHead};
+use machine_lines::MachineLine;
 use std::fmt;
 
 /// The last line that a line of a script makes, or the line of its board.
@@ -31,6 +32,8 @@ pub enum Printed {
     Busy,
     /// `off`: not while the board is off.
     Off,
+    /// What a line shows of memory and harts, or of the payloads.
+    Shown(MachineLine),
     /// `not built`: a well-formed line that this program does not run yet.
     NotBuilt,
 }
@@ -80,6 +83,7 @@ impl fmt::Display for Printed {
             Printed::PowerLost => write!(f, "power lost"),
             Printed::Busy => write!(f, "busy"),
             Printed::Off => write!(f, "off"),
+            Printed::Shown(shown) => write!(f, "{shown}"),
             Printed::NotBuilt => write!(f, "not built"),
         }
     }

@@ -7,14 +7,16 @@ ghost use Rattle.bench_report.specs.Texts.{found_line, line_text};
 ghost use Rattle.bench_report.specs.Reports.{answer_text, IsReport};
 ghost use Rattle.bench_report.specs.Counts.{Adds, Reported};
 ghost use Rattle.bench_report.specs.Bench.{Bench};
-ghost use Rattle.bench_report.specs.Agree.{Agrees, IsResting, OffIs};
+ghost use Rattle.bench_report.specs.Agree.{Agrees, IsResting, OffIs, AreShort, WholeIs};
+ghost use Rattle.bench_report.specs.Whole.{Whole, WholeMoves, WholeRun};
 ghost use Rattle.bench_report.specs.declared.printed.Answer.{Answer};
 ghost use Rattle.board_model.specs.declared.refusal.Refusal.{Refusal};
-ghost use Rattle.bench_report.specs.Steps.{Moves, Run, off_with};
+ghost use Rattle.bench_report.specs.Steps.{off_with};
 
 use crate::power::Power;
 use crate::printed::{Answer, FoundLine, Printed};
 use crate::steps::{disk_left, moves};
+use board::Payloads;
 use board_model::{Durable, Refusal, Shape};
 use script_lang::{Line, parse_script};
 use simdisk::SimDisk;
@@ -87,18 +89,21 @@ fn run_line<W: Write>(
     shape: &Shape,
     line: &Line,
     power: Power,
+    payloads: &mut Payloads,
     out: &mut W,
     report: &mut Report,
 ) -> Result<Power, Refusal>
     requires few { report.old.lines < 2 ^ 40 }
     requires resting { IsResting power }
+    requires short { AreShort payloads.old }
     ensures resting { IfOk result IsResting }
-    ensures ok { IfOk result (λ after. (b : Bench) → Agrees shape.now b power → (answer : Answer) × (new : Bench) × Moves line.now b answer new
-        × Agrees shape.now new after × Adds (W.contents out.old) (W.contents out.new) report.old report.new answer) }
+    ensures short { OnOk result (AreShort payloads.new) }
+    ensures ok { IfOk result (λ after. (w : Whole) → WholeIs shape.now w power payloads.old → (answer : Answer) × (new : Whole) × WholeMoves shape.now line.now w answer new
+        × WholeIs shape.now new after payloads.new × Adds (W.contents out.old) (W.contents out.new) report.old report.new answer) }
     ensures few { OnOk result (report.new.lines ≤ report.old.lines + 2) }
     ensures err { IfErr result (λ e. (e ≡ Refusal.Output) ⊎ (e ≡ Refusal.Memory)) }
 {
-    let (after, answer) = moves(alloc, shape, line, power);
+    let (after, answer) = moves(alloc, shape, line, power, payloads)?;
     add(out, report, &answer)?;
     Ok(after)
 }
@@ -109,20 +114,22 @@ fn run_lines<W: Write>(
     shape: &Shape,
     lines: &[Line],
     power: Power,
+    payloads: &mut Payloads,
     out: &mut W,
     report: &mut Report,
 ) -> Result<Power, Refusal>
     requires few { length lines.now ≤ 65535 }
     requires first { report.old.lines ≤ 1 }
     requires resting { IsResting power }
+    requires short { AreShort payloads.old }
     ensures resting { IfOk result IsResting }
-    ensures ok { IfOk result (λ after. (b : Bench) (before : List Answer) (start : Option (List ℕ)) → Agrees shape.now b power → Reported start (W.contents out.old) report.old before
-        → (answers : List Answer) × (new : Bench) × Run b lines.now answers new × Reported start (W.contents out.new) report.new (before ++ answers) × Agrees shape.now new after) }
+    ensures ok { IfOk result (λ after. (w : Whole) (before : List Answer) (start : Option (List ℕ)) → WholeIs shape.now w power payloads.old → Reported start (W.contents out.old) report.old before
+        → (answers : List Answer) × (new : Whole) × WholeRun shape.now w lines.now answers new × Reported start (W.contents out.new) report.new (before ++ answers) × Agrees shape.now new.bench after) }
     ensures err { IfErr result (λ e. (e ≡ Refusal.Output) ⊎ (e ≡ Refusal.Memory)) }
 {
     let mut power = power;
     for line in lines {
-        power = run_line(alloc, shape, line, power, out, report)?;
+        power = run_line(alloc, shape, line, power, payloads, out, report)?;
     }
     Ok(power)
 }
@@ -156,11 +163,13 @@ pub fn run_left<W: Write>(
         line: Printed::Board(shape.harts(), shape.pages(), shape.lanes(), sectors),
     };
     add(out, &mut report, &board)?;
+    let mut payloads = Payloads::new(alloc);
     let power = run_lines(
         alloc,
         &shape,
         &script.lines,
         Power::Off(disk),
+        &mut payloads,
         out,
         &mut report,
     )?;

@@ -1,20 +1,26 @@
 //! One line of a script.
 
-ghost use Rattle.std.specs.Prelude.{◌≡◌, Some, None, true, IsTrue, ◌↔◌};
+ghost use Rattle.std.specs.Prelude.{◌≡◌, ℕ, List, Some, None, Err, IfOk, OnOk, OnErr, true, IsTrue, ◌↔◌};
 ghost use Rattle.board_model.specs.Durable.{State, Slot, refusal_of};
 ghost use Rattle.board_model.specs.Shapes.{Size};
 ghost use Rattle.board_model.specs.Shown.{durable_of};
 ghost use Rattle.store.specs.Leaves.{IsIdle};
-ghost use Rattle.bench_report.specs.Below.{IsAs, facts, store_size, store_mishaps, store_facts};
+ghost use Rattle.bench_report.specs.Below.{IsAs, store_in, machine_in, facts, store_size, store_mishaps, store_facts};
 ghost use Rattle.bench_report.specs.Bench.{Bench, Life, Medium};
-ghost use Rattle.bench_report.specs.Steps.{FormatsOn, PowersOn, FormatStep, OnStep, SlotStep, Step, Commands, BootsAs, ShowsFound, boot_refusal, begun, off_with, unpowered, Moves, says};
-ghost use Rattle.bench_report.specs.Agree.{Agrees, DeviceIs, Follows, IsResting, OffIs, OnIs};
+ghost use Rattle.bench_report.specs.Steps.{FormatsOn, PowersOn, FormatStep, OnStep, SlotStep, Step, Commands, BootsAs, ShowsFound, boot_refusal, begun, off_with, unpowered, says};
+ghost use Rattle.bench_report.specs.Whole.{Whole, WholeStep, WholeMoves};
+ghost use Rattle.bench_report.specs.Agree.{MachineIs, KeepsPayload, MakesTurns, Agrees, DeviceIs, Follows, IsResting, OffIs, OnIs, AreShort, WholeIs, Carried, Reads};
+ghost use Rattle.machine_lines.specs.Shows.{TurnsLine, reg_line, pc_line, CsrLine, mem_line};
+ghost use Rattle.machine.specs.Machine.{Machine};
+ghost use Rattle.board_model.specs.declared.refusal.Refusal.TheVariants.{Memory};
 
 use crate::power::Power;
 use crate::printed::{Answer, Printed};
-use board_model::{BootMode, Command, Durable, Shape};
+use board::{Board, Payloads};
+use board_model::{BootMode, Command, Durable, HartId, Refusal, Shape};
 use disk::Disk;
-use script_lang::{Fill, Line};
+use machine_lines::MachineLine;
+use script_lang::{Bytes, Fill, Line};
 use simdisk::{Choice, SimDisk};
 use std::alloc::Global;
 use store::{Store, format};
@@ -29,6 +35,7 @@ fn says(line: Printed) -> Answer
 fn format_disk(shape: &Shape, mut disk: SimDisk) -> (Power, Answer)
     requires { IsIdle (facts disk) }
     ensures told { (b : Bench) → OffIs shape.now b disk → (new : Bench) × FormatsOn b.medium b result.1 new × Agrees shape.now new result.0 }
+    ensures carried { (payloads : List (List ℕ)) (power : Power) → Carried payloads result.0 power }
     ensures resting { IsResting result.0 }
 {
     match format(&mut disk, shape) {
@@ -38,13 +45,15 @@ fn format_disk(shape: &Shape, mut disk: SimDisk) -> (Power, Answer)
 }
 
 /// Opens the disk of a board that is off, and boots.
-fn power_on(alloc: Global, mode: BootMode, disk: SimDisk) -> (Power, Answer)
-    requires { IsIdle (facts disk) }
+fn power_on(alloc: Global, mode: BootMode, disk: SimDisk, payloads: &Payloads) -> (Power, Answer)
+    requires idle { IsIdle (facts disk) }
+    requires short { AreShort payloads.now }
     ensures told { (size : Size) (b : Bench) → OffIs size b disk → (new : Bench) × PowersOn mode b result.1 new × Agrees size new result.0 }
+    ensures carried { Carried payloads.now result.0 (Power.Off disk) }
     ensures resting { IsResting result.0 }
 {
     match Store::open(alloc, disk) {
-        Ok(store) => boot(mode, store),
+        Ok(store) => boot(alloc, mode, store, payloads),
         Err((disk, e)) => (Power::Off(disk), says(Printed::OnRefused(e.code()))),
     }
 }
@@ -63,21 +72,22 @@ fn boot_refusal(mode: BootMode, found: &Durable) -> Option<u32>
 }
 
 /// Boots a store that was just opened.
-fn boot(mode: BootMode, store: Store<SimDisk>) -> (Power, Answer)
+fn boot(
+    alloc: Global,
+    mode: BootMode,
+    store: Store<SimDisk>,
+    payloads: &Payloads,
+) -> (Power, Answer)
+    requires short { AreShort payloads.now }
     ensures told { (size : Size) (b : Bench) (s : State) (m : Medium) → IsAs store s 0 None → Follows size m (begun s) (store_size store)
         → DeviceIs size b (store_mishaps store) (store_facts store)
         → (new : Bench) × ShowsFound result.1.found s × BootsAs (boot_refusal s mode) mode s m b result.1.line new × Agrees size new result.0 }
+    ensures carried { (disk : SimDisk) → Carried payloads.now result.0 (Power.Off disk) }
     ensures resting { IsResting result.0 }
 {
     let found = store.now();
     match boot_refusal(mode, &found) {
-        None => (
-            Power::On(store),
-            Answer {
-                found: Some(found),
-                line: Printed::On(mode),
-            },
-        ),
+        None => start(alloc, mode, store, payloads, found),
         Some(n) => (
             Power::Off(store.into_disk()),
             Answer {
@@ -88,12 +98,47 @@ fn boot(mode: BootMode, store: Store<SimDisk>) -> (Power, Answer)
     }
 }
 
-/// Issues the command Slot on a board that is on.
-fn slot(store: &mut Store<SimDisk>, n: u32) -> Answer
-    ensures { (size : Size) (b : Bench) (life : Life) → b.power ≡ Some life → OnIs size b store.old
-        → (new : Bench) × Commands life.doubt (refusal_of life.now (Slot n)) (Slot n) life Printed.Slot Printed.SlotRefused b result new × OnIs size new store.new }
+/// Boots the slot.
+fn start(
+    alloc: Global,
+    mode: BootMode,
+    store: Store<SimDisk>,
+    payloads: &Payloads,
+    found: Durable,
+) -> (Power, Answer)
+    requires short { AreShort payloads.now }
+    ensures told { (size : Size) (b : Bench) (s : State) (m : Medium) → IsAs store s 0 None → Follows size m (begun s) (store_size store)
+        → DeviceIs size b (store_mishaps store) (store_facts store)
+        → (new : Bench) × BootsAs None mode s m b result.1.line new × Agrees size new result.0 }
+    ensures found { result.1.found ≡ Some found }
+    ensures carried { (disk : SimDisk) → Carried payloads.now result.0 (Power.Off disk) }
+    ensures resting { IsResting result.0 }
 {
-    match store.apply(Command::Slot(n)) {
+    match Board::start(alloc, store, payloads) {
+        Ok(board) => (
+            Power::On(board),
+            Answer {
+                found: Some(found),
+                line: Printed::On(mode),
+            },
+        ),
+        Err((store, refusal)) => (
+            Power::Off(store.into_disk()),
+            Answer {
+                found: Some(found),
+                line: Printed::OnRefused(refusal.code()),
+            },
+        ),
+    }
+}
+
+/// Issues the command Slot on a board that is on.
+fn slot(board: &mut Board<SimDisk>, n: u32) -> Answer
+    ensures told { (size : Size) (b : Bench) (life : Life) → b.power ≡ Some life → OnIs size b (store_in board.old)
+        → (new : Bench) × Commands life.doubt (refusal_of life.now (Slot n)) (Slot n) life Printed.Slot Printed.SlotRefused b result new × OnIs size new (store_in board.new) }
+    ensures machine { machine_in board.new ≡ machine_in board.old }
+{
+    match board.console(Command::Slot(n)) {
         Ok(receipt) => says(Printed::Slot(receipt.number())),
         Err(e) => says(Printed::SlotRefused(e.code())),
     }
@@ -107,7 +152,7 @@ pub fn disk_left(power: Power) -> SimDisk
 {
     match power {
         Power::Off(disk) => disk,
-        Power::On(store) => store.into_disk(),
+        Power::On(board) => board.into_disk(),
     }
 }
 
@@ -124,6 +169,8 @@ fn choice(fill: Fill) -> Choice {
 fn cut(power: Power, fill: Fill) -> Power
     requires { IsResting power }
     ensures told { (size : Size) (b : Bench) → Agrees size b power → Agrees size (unpowered b) result }
+    ensures carried { (payloads : List (List ℕ)) (was : Power) → Carried payloads result was }
+    ensures machine { (m : Machine) → MachineIs m result }
     ensures resting { IsResting result }
 {
     Power::Off(disk_left(power).after_cut(choice(fill)))
@@ -135,84 +182,214 @@ fn struck(power: &Power) -> bool
 {
     match power {
         Power::Off(disk) => disk.struck(),
-        Power::On(store) => store.struck(),
+        Power::On(board) => board.struck(),
     }
 }
 
 fn format_line(shape: &Shape, power: Power) -> (Power, Answer)
     requires { IsResting power }
     ensures told { (b : Bench) → Agrees shape.now b power → (new : Bench) × FormatStep b.power b result.1 new × Agrees shape.now new result.0 }
+    ensures carried { (payloads : List (List ℕ)) → Carried payloads result.0 power }
     ensures resting { IsResting result.0 }
 {
     match power {
         Power::Off(disk) => format_disk(shape, disk),
-        Power::On(store) => (Power::On(store), says(Printed::Busy)),
+        Power::On(board) => (Power::On(board), says(Printed::Busy)),
     }
 }
 
-fn on_line(alloc: Global, mode: BootMode, power: Power) -> (Power, Answer)
-    requires { IsResting power }
+fn on_line(alloc: Global, mode: BootMode, power: Power, payloads: &Payloads) -> (Power, Answer)
+    requires resting { IsResting power }
+    requires short { AreShort payloads.now }
     ensures told { (size : Size) (b : Bench) → Agrees size b power → (new : Bench) × OnStep b.power mode b result.1 new × Agrees size new result.0 }
+    ensures carried { Carried payloads.now result.0 power }
     ensures resting { IsResting result.0 }
 {
     match power {
-        Power::Off(disk) => power_on(alloc, mode, disk),
-        Power::On(store) => (Power::On(store), says(Printed::Busy)),
+        Power::Off(disk) => power_on(alloc, mode, disk, payloads),
+        Power::On(board) => (Power::On(board), says(Printed::Busy)),
     }
 }
 
 fn slot_line(n: u32, power: Power) -> (Power, Answer)
     requires { IsResting power }
     ensures told { (size : Size) (b : Bench) → Agrees size b power → (new : Bench) × SlotStep b.power n b result.1 new × Agrees size new result.0 }
+    ensures carried { (payloads : List (List ℕ)) → Carried payloads result.0 power }
     ensures resting { IsResting result.0 }
 {
     match power {
         Power::Off(disk) => (Power::Off(disk), says(Printed::Off)),
-        Power::On(mut store) => {
-            let answer = slot(&mut store, n);
-            (Power::On(store), answer)
+        Power::On(mut board) => {
+            let answer = slot(&mut board, n);
+            (Power::On(board), answer)
         }
     }
 }
 
-/// One line of a script, as far as no armed cut strikes.
-fn step(alloc: Global, shape: &Shape, line: &Line, power: Power) -> (Power, Answer)
+/// Keeps a payload for the next boots.
+fn payload_line(
+    alloc: Global,
+    slot: board_model::Slot,
+    bytes: &Bytes,
+    power: &Power,
+    payloads: &mut Payloads,
+) -> Result<MachineLine, Refusal>
+    requires short { AreShort payloads.old }
+    ensures told { IfOk result (λ line. KeepsPayload power.now slot bytes.now payloads.old line payloads.new) }
+    ensures short { OnOk result (AreShort payloads.new) }
+    ensures refused { OnErr result (result ≡ Err Memory) }
+{
+    if let Power::On(_) = power {
+        return Ok(MachineLine::Busy);
+    }
+    let count = bytes.len();
+    if 1024 < count {
+        return Ok(MachineLine::Busy);
+    }
+    let mut copy = Vec::with_capacity(alloc, count)?;
+    copy.extend_from_slice(bytes.as_slice())?;
+    payloads.set(slot, copy);
+    Ok(MachineLine::Payload(slot, count))
+}
+
+/// Turns of a hart of a board that is on.
+fn turn(board: &mut Board<SimDisk>, hart: HartId, count: u32) -> MachineLine
+    ensures told { TurnsLine hart count (machine_in board.old) (machine_in board.new) result }
+    ensures store { store_in board.new ≡ store_in board.old }
+{
+    if count == 0 || !board.machine().has(hart) {
+        return MachineLine::Off;
+    }
+    let turned = board.turns(hart, count);
+    MachineLine::Turn(hart, count, turned)
+}
+
+fn turn_line(hart: HartId, count: u32, power: Power) -> (Power, MachineLine)
     requires { IsResting power }
-    ensures told { (b : Bench) → Agrees shape.now b power → (new : Bench) × Step line.now b result.1 new × Agrees shape.now new result.0 }
+    ensures told { MakesTurns power hart count result.1 result.0 }
     ensures resting { IsResting result.0 }
 {
+    match power {
+        Power::Off(disk) => (Power::Off(disk), MachineLine::Off),
+        Power::On(mut board) => {
+            let line = turn(&mut board, hart, count);
+            (Power::On(board), line)
+        }
+    }
+}
+
+fn reg_line(hart: HartId, register: u32, power: &Power) -> MachineLine
+    ensures { Reads power.now (λ m line. line ≡ reg_line hart register m) result }
+{
+    match power {
+        Power::Off(_) => MachineLine::Off,
+        Power::On(board) => machine_lines::reg(board.machine(), hart, register),
+    }
+}
+
+fn pc_line(hart: HartId, power: &Power) -> MachineLine
+    ensures { Reads power.now (λ m line. line ≡ pc_line hart m) result }
+{
+    match power {
+        Power::Off(_) => MachineLine::Off,
+        Power::On(board) => machine_lines::pc(board.machine(), hart),
+    }
+}
+
+fn csr_line(hart: HartId, number: u32, power: &Power) -> MachineLine
+    ensures { Reads power.now (λ m line. CsrLine hart number m line) result }
+{
+    match power {
+        Power::Off(_) => MachineLine::Off,
+        Power::On(board) => machine_lines::csr(board.machine(), hart, number),
+    }
+}
+
+fn mem_line(address: u64, count: u32, power: &Power) -> MachineLine
+    ensures { Reads power.now (λ m line. line ≡ mem_line address count m) result }
+{
+    match power {
+        Power::Off(_) => MachineLine::Off,
+        Power::On(board) => machine_lines::mem(board.machine(), address, count),
+    }
+}
+
+/// One line of a script, as far as no armed cut strikes. Refused only where there is no memory for a payload.
+fn step(
+    alloc: Global,
+    shape: &Shape,
+    line: &Line,
+    power: Power,
+    payloads: &mut Payloads,
+) -> Result<(Power, Answer), Refusal>
+    requires resting { IsResting power }
+    requires short { AreShort payloads.old }
+    ensures told { IfOk result (λ r. (w : Whole) → WholeIs shape.now w power payloads.old
+        → (new : Whole) × Step line.now w.bench r.1 new.bench × WholeStep shape.now line.now w r.1 new × WholeIs shape.now new r.0 payloads.new) }
+    ensures resting { IfOk result (λ r. IsResting r.0) }
+    ensures short { OnOk result (AreShort payloads.new) }
+    ensures refused { OnErr result (result ≡ Err Memory) }
+{
     match line {
-        Line::Format => format_line(shape, power),
-        Line::On(mode) => on_line(alloc, *mode, power),
-        Line::Slot(n) => slot_line(*n, power),
-        Line::Cut(fill) => (cut(power, *fill), says(Printed::Cut)),
-        Line::Payload(_, _) => (power, says(Printed::NotBuilt)),
-        Line::Discard => (power, says(Printed::NotBuilt)),
-        Line::Turn(_, _) => (power, says(Printed::NotBuilt)),
-        Line::Call(_, _, _, _, _, _) => (power, says(Printed::NotBuilt)),
-        Line::Reg(_, _) => (power, says(Printed::NotBuilt)),
-        Line::Pc(_) => (power, says(Printed::NotBuilt)),
-        Line::Csr(_, _) => (power, says(Printed::NotBuilt)),
-        Line::Pending => (power, says(Printed::NotBuilt)),
-        Line::Mem(_, _) => (power, says(Printed::NotBuilt)),
-        Line::CutAt(_, _) => (power, says(Printed::NotBuilt)),
-        Line::CutLane(_, _, _) => (power, says(Printed::NotBuilt)),
-        Line::FailAt(_) => (power, says(Printed::NotBuilt)),
-        Line::FailLane(_, _) => (power, says(Printed::NotBuilt)),
-        Line::Poke(_, _, _) => (power, says(Printed::NotBuilt)),
+        Line::Format => Ok(format_line(shape, power)),
+        Line::On(mode) => Ok(on_line(alloc, *mode, power, payloads)),
+        Line::Slot(n) => Ok(slot_line(*n, power)),
+        Line::Cut(fill) => Ok((cut(power, *fill), says(Printed::Cut))),
+        Line::Payload(slot, bytes) => {
+            let shown = payload_line(alloc, *slot, bytes, &power, payloads)?;
+            Ok((power, says(Printed::Shown(shown))))
+        }
+        Line::Turn(hart, count) => {
+            let (after, shown) = turn_line(*hart, *count, power);
+            Ok((after, says(Printed::Shown(shown))))
+        }
+        Line::Reg(hart, register) => {
+            let shown = reg_line(*hart, *register, &power);
+            Ok((power, says(Printed::Shown(shown))))
+        }
+        Line::Pc(hart) => {
+            let shown = pc_line(*hart, &power);
+            Ok((power, says(Printed::Shown(shown))))
+        }
+        Line::Csr(hart, number) => {
+            let shown = csr_line(*hart, *number, &power);
+            Ok((power, says(Printed::Shown(shown))))
+        }
+        Line::Mem(address, count) => {
+            let shown = mem_line(*address, *count, &power);
+            Ok((power, says(Printed::Shown(shown))))
+        }
+        Line::Discard => Ok((power, says(Printed::NotBuilt))),
+        Line::Call(_, _, _, _, _, _) => Ok((power, says(Printed::NotBuilt))),
+        Line::Pending => Ok((power, says(Printed::NotBuilt))),
+        Line::CutAt(_, _) => Ok((power, says(Printed::NotBuilt))),
+        Line::CutLane(_, _, _) => Ok((power, says(Printed::NotBuilt))),
+        Line::FailAt(_) => Ok((power, says(Printed::NotBuilt))),
+        Line::FailLane(_, _) => Ok((power, says(Printed::NotBuilt))),
+        Line::Poke(_, _, _) => Ok((power, says(Printed::NotBuilt))),
     }
 }
 
 /// One line of a script; its report is `power lost` where an armed cut struck within it.
-pub fn moves(alloc: Global, shape: &Shape, line: &Line, power: Power) -> (Power, Answer)
-    requires { IsResting power }
-    ensures told { (b : Bench) → Agrees shape.now b power → (new : Bench) × Moves line.now b result.1 new × Agrees shape.now new result.0 }
-    ensures resting { IsResting result.0 }
+pub fn moves(
+    alloc: Global,
+    shape: &Shape,
+    line: &Line,
+    power: Power,
+    payloads: &mut Payloads,
+) -> Result<(Power, Answer), Refusal>
+    requires resting { IsResting power }
+    requires short { AreShort payloads.old }
+    ensures told { IfOk result (λ r. (w : Whole) → WholeIs shape.now w power payloads.old
+        → (new : Whole) × WholeMoves shape.now line.now w r.1 new × WholeIs shape.now new r.0 payloads.new) }
+    ensures resting { IfOk result (λ r. IsResting r.0) }
+    ensures short { OnOk result (AreShort payloads.new) }
+    ensures refused { OnErr result (result ≡ Err Memory) }
 {
-    let (after, answer) = step(alloc, shape, line, power);
+    let (after, answer) = step(alloc, shape, line, power, payloads)?;
     if struck(&after) {
-        (cut(after, Fill::Old), says(Printed::PowerLost))
+        Ok((cut(after, Fill::Old), says(Printed::PowerLost)))
     } else {
-        (after, answer)
+        Ok((after, answer))
     }
 }

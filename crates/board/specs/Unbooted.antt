@@ -13,6 +13,12 @@ use Rattle.store.specs.Leaves.{LeavesOnly, LeavesEither}
 use Rattle.store.specs.Lives.{Life, begun}
 use Rattle.board.specs.Boots.{Fits}
 
+-- of a store that is open: a payload that does not fit, or memory
+abbrev pub IsStartRefusal : Size → List (List ℕ) → Refusal → Type 0
+IsStartRefusal size payloads BadShape = Fits size payloads → ⊥
+IsStartRefusal size payloads Memory = Fits size payloads
+IsStartRefusal size payloads e = ⊥
+
 -- of a mode that the state allows, in this order: a payload that does not fit, memory, the command that the mode issues, or
 -- an image, which cannot be loaded yet
 abbrev pub IsLateRefusal : Size → BootMode → List (List ℕ) → Refusal → Type 0

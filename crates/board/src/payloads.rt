@@ -24,7 +24,8 @@ impl Model for Payloads {
 
 /// Whether each of the lists fits into the RAM of a board.
 fn all_fit(lists: &[Vec<u8>], shape: &Shape) -> bool
-    ensures { IsTrue result ↔ All (λ v. length v.items ≤ ram_bytes_of shape.now) lists.now }
+    ensures told { IsTrue result ↔ All (λ v. length v.items ≤ ram_bytes_of shape.now) lists.now }
+    ensures least { 4096 ≤ ram_bytes_of shape.now }
 {
     let bytes = shape.ram_bytes();
     lists.iter().all(|list| list.len() <= bytes)
@@ -61,7 +62,8 @@ impl Payloads {
 
     /// Whether each of them fits into the RAM of a board.
     pub fn fit(&self, shape: &Shape) -> bool
-        ensures { IsTrue result ↔ Fits shape.now self.now }
+        ensures told { IsTrue result ↔ Fits shape.now self.now }
+        ensures least { 4096 ≤ ram_bytes_of shape.now }
     {
         all_fit(&self.slots, shape)
     }

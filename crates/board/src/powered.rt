@@ -1,7 +1,7 @@
 //! The board.
 
 use crate::payloads::Payloads;
-use crate::ready::ready;
+use crate::ready::{ready, started};
 use board_model::{BootMode, Command, Durable, HartId, Refusal, Shape};
 use disk::Disk;
 use hart::Hart;
@@ -44,7 +44,7 @@ pub struct Parts<D: Disk + Drop> {
 impl<D: Disk + Drop> Board<D> {
     ghost use Rattle.std.specs.Prelude.{◌≡◌, ◌<◌, ◌≤◌, length, Some, None, Err, IfSome, OnOk, IfOk, IfErr, IsErrOf, MatchResult};
     ghost use Rattle.board_model.specs.Durable.{State, Change, after};
-    ghost use Rattle.board_model.specs.Shapes.{Size};
+    ghost use Rattle.board_model.specs.Shapes.{Size, ram_bytes_of};
     ghost use Rattle.board_model.specs.Shown.{durable_of, change_of};
     ghost use Rattle.disk.specs.Facts.{Leaves_only, Failed};
     ghost use Rattle.store.specs.Leaves.{IsIdle, SameLength, Leaves, LeavesOnly, LeavesEither};
@@ -55,7 +55,7 @@ impl<D: Disk + Drop> Board<D> {
     ghost use Rattle.machine.specs.Turns.{Turns, TurnsMany};
     ghost use Rattle.board.specs.Boots.{IsConsoleCommand, life_after, boot_refusal, Fits, booted};
     ghost use Rattle.board.specs.Boards.{store_of, machine_of};
-    ghost use Rattle.board.specs.Unbooted.{IsBootRefusal, doubt_after, LeavesLife, CountsRefusal};
+    ghost use Rattle.board.specs.Unbooted.{IsStartRefusal, IsBootRefusal, doubt_after, LeavesLife, CountsRefusal};
 
     /// Powers a board on: opens the disk, and boots by the mode.
     pub fn power_on(
@@ -110,6 +110,40 @@ impl<D: Disk + Drop> Board<D> {
                 refusal,
             }),
         }
+    }
+
+    /// Boots the slot of a store that is open, on a board of its shape: what `power_on` does once a mode is settled.
+    /// Refused 3 where a payload is longer than RAM, else 11 for want of memory; the store is given back.
+    pub fn start(
+        alloc: Global,
+        store: Store<D>,
+        payloads: &Payloads,
+    ) -> Result<Board<D>, (Store<D>, Refusal)>
+        ensures store { IfOk result (λ board. store_of board ≡ store) }
+        ensures boots { IfOk result (λ board. machine_of board ≡ booted payloads.now (now_state store) (size_of_store store)) }
+        ensures fits { OnOk result (Fits (size_of_store store) payloads.now) }
+        ensures least { 4096 ≤ ram_bytes_of (size_of_store store) }
+        ensures back { IfErr result (λ e. e.0 ≡ store) }
+        ensures refused { IfErr result (λ e. IsStartRefusal (size_of_store store) payloads.now e.1) }
+    {
+        match started(alloc, &store, payloads) {
+            Ok(machine) => Ok(Board { store, machine }),
+            Err(refusal) => Err((store, refusal)),
+        }
+    }
+
+    /// The memory and the harts.
+    pub fn machine(&self) -> &Machine
+        ensures { result.now ≡ machine_of self.now }
+    {
+        &self.machine
+    }
+
+    /// Whether an armed cut has struck the disk.
+    pub fn struck(&self) -> bool
+        ensures { result ≡ (mishaps_of (store_of self.now)).struck }
+    {
+        self.store.struck()
     }
 
     /// One turn of a hart of this board.

@@ -2,6 +2,7 @@
 
 ghost use Rattle.std.specs.Prelude.{◌≡◌, ◌≤◌, ℕ, OnOk, OnErr, IfOk, IfErr, MatchResult, None, Some, [], false};
 ghost use Rattle.board_model.specs.Durable.{State};
+ghost use Rattle.board_model.specs.Shapes.{ram_bytes_of};
 ghost use Rattle.board_model.specs.Shown.{durable_of};
 ghost use Rattle.disk.specs.Facts.{Leaves_only};
 ghost use Rattle.store.specs.Leaves.{LeavesOnly, LeavesEither, SameLength, IsIdle};
@@ -9,7 +10,7 @@ ghost use Rattle.store.specs.Opens.{CausedRefusal};
 ghost use Rattle.store.specs.Lives.{begun};
 ghost use Rattle.store.specs.Stores.{disk_of, mishaps_of, size_of_store, life_of, found_state, now_state, doubt_of};
 ghost use Rattle.board.specs.Boots.{life_after, boot_refusal, Fits, booted};
-ghost use Rattle.board.specs.Unbooted.{IsBootRefusal, IsIssueRefusal, RefusesMode, life_refused, CountsRefusal};
+ghost use Rattle.board.specs.Unbooted.{IsStartRefusal, IsBootRefusal, IsIssueRefusal, RefusesMode, life_refused, CountsRefusal};
 ghost use Rattle.board_model.specs.declared.boot_mode.BootMode.TheVariants as modes;
 
 use crate::payloads::Payloads;
@@ -92,6 +93,27 @@ pub fn ready<D: Disk + Drop>(
     }
     let mut machine = Machine::new(alloc, &shape)?;
     issue(store, mode)?;
+    let now = store.now();
+    machine.boot(&shape, payloads.get(now.slot), now.reason);
+    Ok(machine)
+}
+
+/// The machine that boots the slot of the state now. Refused 3 where a payload does not fit, else 11 for want of memory.
+pub fn started<D: Disk + Drop>(
+    alloc: Global,
+    store: &Store<D>,
+    payloads: &Payloads,
+) -> Result<Machine, Refusal>
+    ensures fits { OnOk result (Fits (size_of_store store.now) payloads.now) }
+    ensures least { 4096 ≤ ram_bytes_of (size_of_store store.now) }
+    ensures machine { IfOk result (λ m. m ≡ booted payloads.now (now_state store.now) (size_of_store store.now)) }
+    ensures refused { IfErr result (λ e. IsStartRefusal (size_of_store store.now) payloads.now e) }
+{
+    let shape = store.shape();
+    if !payloads.fit(&shape) {
+        return Err(Refusal::BadShape);
+    }
+    let mut machine = Machine::new(alloc, &shape)?;
     let now = store.now();
     machine.boot(&shape, payloads.get(now.slot), now.reason);
     Ok(machine)

@@ -25,4 +25,6 @@ machine_line_text (lines.Reg h r v) = codes "reg " ++ decimal h ++ codes " " ++ 
 machine_line_text (lines.Pc h v) = codes "pc " ++ decimal h ++ codes " 0x" ++ hex_text 16 v
 machine_line_text (lines.Csr h c v) = codes "csr " ++ decimal h ++ codes " 0x" ++ hex_text 3 c ++ codes " 0x" ++ hex_text 16 v
 machine_line_text (lines.Mem bytes) = codes "mem " ++ bytes_text (take bytes.count bytes.bytes)
+machine_line_text (lines.Payload slot count) = codes "payload " ++ decimal slot ++ codes " " ++ decimal count
+machine_line_text lines.Busy = codes "busy"
 machine_line_text lines.Off = codes "off"

@@ -3,7 +3,7 @@
 ghost use Rattle.std.specs.Prelude.{◌≡◌, ◌++◌, ◌≤◌, Some, take};
 ghost use Rattle.machine_lines.specs.Texts.{word_text, hex_text, bytes_text, machine_line_text};
 
-use board_model::HartId;
+use board_model::{HartId, Slot};
 use machine::Turned;
 use std::fmt;
 
@@ -29,7 +29,11 @@ pub enum MachineLine {
     Csr(HartId, u32, u64),
     /// `mem HEX`
     Mem(MemBytes),
-    /// `off`: the board has no such hart, or not all of these bytes.
+    /// `payload S N`: the slot, and how many bytes it boots.
+    Payload(Slot, usize),
+    /// `busy`: not while the board is on.
+    Busy,
+    /// `off`: the board is off, has no such hart, or not all of these bytes.
     Off,
 }
 
@@ -144,6 +148,11 @@ impl fmt::Display for MachineLine {
                 let hex = Hex(bytes.shown());
                 write!(f, "mem {hex}")
             }
+            MachineLine::Payload(slot, count) => {
+                let number = slot.number();
+                write!(f, "payload {number} {count}")
+            }
+            MachineLine::Busy => write!(f, "busy"),
             MachineLine::Off => write!(f, "off"),
         }
     }

@@ -3,6 +3,8 @@ use Rattle.std.proofs.lemmas.List.{length-replicate}
 use Rattle.script_lang.specs.Seen.{view}
 use Rattle.bench_report.specs.declared.printed.Answer.{Answer}
 use Rattle.bench_report.specs.declared.printed.Printed.TheVariants as printed
+use Rattle.machine.specs.Machine.{resting}
+use Rattle.bench_report.specs.Whole.{Whole, no_payloads}
 use Rattle.bench_report.specs.Bench.{blank_bench}
 use Rattle.bench_report.specs.Reports.{board_answer}
 use Rattle.bench_report.specs.Below.{facts}
@@ -21,5 +23,6 @@ returns-clause-report g c =
     let made = c.in_ok-disk.ensures in
     let long = ap length made.fresh.reads ∙ length-replicate c.sectors-sectors.result (replicate 512 0) in
     let blank = zeros_blank c.sectors-sectors.result (facts c.in_ok-disk.disk) made.fresh in
-    let ran = c.in_ok-power.ensures.ok blank_bench (board ∷ []) start (refl, blank, (sym made.no_mishap, omega arith, omega (arith, long, c.sectors-sectors.ensures.value))) first in
-    (view c.in_ok-script.script, board ∷ ran.0, ran.1, c.in_ok-script.ensures.value, (is_board, rw c.deref.ensures.value at ran.2), ran.3, c.disk_left.ensures.told size ran.1 ran.4)
+    let whole : Whole = record { bench = blank_bench; payloads = no_payloads; machine = resting size } in
+    let ran = c.in_ok-power.ensures.ok whole (board ∷ []) start ((refl, blank, (sym made.no_mishap, omega arith, omega (arith, long, c.sectors-sectors.ensures.value))), tt, c.new-payloads.ensures) first in
+    (view c.in_ok-script.script, board ∷ ran.0, ran.1.bench, c.in_ok-script.ensures.value, (is_board, whole, ran.1, (refl, refl), rw c.deref.ensures.value at ran.2, refl), ran.3, c.disk_left.ensures.told size ran.1.bench ran.4)

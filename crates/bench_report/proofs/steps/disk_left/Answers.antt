@@ -1,6 +1,6 @@
 use Rattle.std.proofs.Common.{refl, sym, subst, ap, arith, length}
 use Rattle.bench_report.specs.declared.power.Power.{Power}
-use Rattle.bench_report.specs.Below.{facts, mishaps, store_facts, store_mishaps}
+use Rattle.bench_report.specs.Below.{store_in, facts, mishaps, store_facts, store_mishaps}
 use Rattle.bench_report.specs.Agree.{Agrees}
 use Rattle.bench_report.proofs.Devices.{stays}
 use Rattle.bench_report.proofs.Ended.{ended}
@@ -13,4 +13,4 @@ pub returns-in-On-clause-told : goal.returns-in-On-clause-told
 returns-in-On-clause-told c = λ size b h.
     let P : Power → Type 0 = λ p. Agrees size b p in
     let was = subst P c.in-On.is h in
-    (refl, ended size b.medium b.power c.in-On.store (facts c.into_disk.result) was.0 c.into_disk.ensures.up c.into_disk.ensures.down, stays size b (store_mishaps c.in-On.store) (mishaps c.into_disk.result) (store_facts c.in-On.store) (facts c.into_disk.result) was.1 c.into_disk.ensures.mishaps (omega (arith, c.into_disk.ensures.failures)) (ap length c.into_disk.ensures.content))
+    (refl, ended size b.medium b.power (store_in c.in-On.board) (facts c.into_disk.result) was.0 c.into_disk.ensures.up c.into_disk.ensures.down, stays size b (store_mishaps (store_in c.in-On.board)) (mishaps c.into_disk.result) (store_facts (store_in c.in-On.board)) (facts c.into_disk.result) was.1 c.into_disk.ensures.mishaps (omega (arith, c.into_disk.ensures.failures)) (ap length c.into_disk.ensures.content))

@@ -1,7 +1,7 @@
 use Rattle.std.proofs.Common.{◌≡◌, ℕ, Option, None, Some, refl, subst}
 use Rattle.board_model.specs.Durable.{Slot, refusal_of}
 use Rattle.board_model.specs.Shapes.{Size}
-use Rattle.bench_report.specs.Below.{Store}
+use Rattle.bench_report.specs.Below.{Store, store_in}
 use Rattle.bench_report.specs.declared.power.Power.{Power}
 use Rattle.bench_report.specs.declared.printed.Answer.{Answer}
 use Rattle.bench_report.specs.declared.printed.Printed.TheVariants as printed
@@ -20,4 +20,4 @@ pub returns-in-On-clause-told : goal.returns-in-On-clause-told
 returns-in-On-clause-told c = λ size b h.
     let P : Power → Type 0 = λ p. Agrees size b p in
     let was = subst P c.in-On.is h in
-    on_board size b.power c.args.n b c.slot-answer.result c.in-On.store c.slot-answer.new.store refl was.0 (λ life on. c.slot-answer.ensures size b life on was)
+    on_board size b.power c.args.n b c.slot-answer.result (store_in c.in-On.board) (store_in c.slot-answer.new.board) refl was.0 (λ life on. c.slot-answer.ensures.told size b life on was)

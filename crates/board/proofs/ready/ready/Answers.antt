@@ -17,7 +17,7 @@ returns-then-not-fit-clause-refused g c =
     let s = found_state c.args.store.now in
     let allows : RefusesMode (boot_refusal s c.args.mode) None = search rules in
     rw (allowed_none _ allows) (λ fits.
-    let fit : c.fit.result ≡ true = c.fit.ensures.1 (rw c.shape-shape.ensures fits) in
+    let fit : c.fit.result ≡ true = c.fit.ensures.told.1 (rw c.shape-shape.ensures fits) in
     let not_fit = c.if-not-fit.true in
     let no : ⊥ = cc in
     no)
