@@ -6,6 +6,8 @@ mod faults;
 #[cfg(test)]
 mod lines;
 #[cfg(test)]
+mod programs;
+#[cfg(test)]
 mod rows;
 #[cfg(test)]
 mod told;

@@ -54,15 +54,9 @@ fn a_cut_before_the_format_leaves_a_blank_disk(rt: HostRuntime) -> Result<(), Fa
 }
 
 const OTHERS: &[u8] = b"\
-payload 0 00\n\
 discard\n\
-turn 0 1\n\
 call 0 base 0\n\
-reg 0 0\n\
-pc 0\n\
-csr 0 0x100\n\
 pending\n\
-mem 0x80000000 1\n\
 cutat 1 00\n\
 cutlane 0 1 00\n\
 failat 1\n\
@@ -70,12 +64,6 @@ faillane 0 1\n\
 poke 0 0 00\n";
 
 const NOT_BUILT: &[u8] = b"\
-not built\n\
-not built\n\
-not built\n\
-not built\n\
-not built\n\
-not built\n\
 not built\n\
 not built\n\
 not built\n\
