@@ -9,6 +9,7 @@ ghost use Rattle.store.specs.Leaves.{LeavesOnly, LeavesEither, SameLength, IsIdl
 ghost use Rattle.store.specs.Opens.{CausedRefusal};
 ghost use Rattle.store.specs.Lives.{begun};
 ghost use Rattle.store.specs.Stores.{disk_of, mishaps_of, size_of_store, life_of, found_state, now_state, doubt_of};
+ghost use Rattle.machine.specs.Machine.{resting};
 ghost use Rattle.board.specs.Boots.{life_after, boot_refusal, Fits, booted};
 ghost use Rattle.board.specs.Unbooted.{IsStartRefusal, IsBootRefusal, IsIssueRefusal, RefusesMode, life_refused, CountsRefusal};
 ghost use Rattle.board_model.specs.declared.boot_mode.BootMode.TheVariants as modes;
@@ -63,6 +64,35 @@ fn issue<D: Disk + Drop>(store: &mut Store<D>, mode: BootMode) -> Result<(), Ref
     }
 }
 
+/// The board of an open store before a boot. Refused 3 where a payload does not fit, else 11 for want of memory.
+fn resting<D: Disk + Drop>(
+    alloc: Global,
+    store: &Store<D>,
+    payloads: &Payloads,
+) -> Result<Machine, Refusal>
+    ensures fits { OnOk result (Fits (size_of_store store.now) payloads.now) }
+    ensures least { 4096 ≤ ram_bytes_of (size_of_store store.now) }
+    ensures machine { IfOk result (λ m. m ≡ resting (size_of_store store.now)) }
+    ensures refused { IfErr result (λ e. IsStartRefusal (size_of_store store.now) payloads.now e) }
+{
+    let shape = store.shape();
+    if !payloads.fit(&shape) {
+        return Err(Refusal::BadShape);
+    }
+    let machine = Machine::new(alloc, &shape)?;
+    Ok(machine)
+}
+
+/// Boots the slot of the state now, on a board that was just made.
+fn boot_slot<D: Disk + Drop>(machine: &mut Machine, store: &Store<D>, payloads: &Payloads)
+    requires resting { machine.old ≡ resting (size_of_store store.now) }
+    requires fits { Fits (size_of_store store.now) payloads.now }
+    ensures { machine.new ≡ booted payloads.now (now_state store.now) (size_of_store store.now) }
+{
+    let now = store.now();
+    machine.boot(&store.shape(), payloads.get(now.slot), now.reason);
+}
+
 /// Makes the board of a store that was just opened, and boots it. The checks come in the order of docs/BOARD.md.
 pub fn ready<D: Disk + Drop>(
     alloc: Global,
@@ -87,14 +117,9 @@ pub fn ready<D: Disk + Drop>(
     if let Some(refusal) = mode_refusal(mode, &store.found()) {
         return Err(refusal);
     }
-    let shape = store.shape();
-    if !payloads.fit(&shape) {
-        return Err(Refusal::BadShape);
-    }
-    let mut machine = Machine::new(alloc, &shape)?;
+    let mut machine = resting(alloc, store, payloads)?;
     issue(store, mode)?;
-    let now = store.now();
-    machine.boot(&shape, payloads.get(now.slot), now.reason);
+    boot_slot(&mut machine, store, payloads);
     Ok(machine)
 }
 
@@ -109,12 +134,7 @@ pub fn started<D: Disk + Drop>(
     ensures machine { IfOk result (λ m. m ≡ booted payloads.now (now_state store.now) (size_of_store store.now)) }
     ensures refused { IfErr result (λ e. IsStartRefusal (size_of_store store.now) payloads.now e) }
 {
-    let shape = store.shape();
-    if !payloads.fit(&shape) {
-        return Err(Refusal::BadShape);
-    }
-    let mut machine = Machine::new(alloc, &shape)?;
-    let now = store.now();
-    machine.boot(&shape, payloads.get(now.slot), now.reason);
+    let mut machine = resting(alloc, store, payloads)?;
+    boot_slot(&mut machine, store, payloads);
     Ok(machine)
 }

@@ -12,16 +12,6 @@ returns-in-Some-clause-left g c =
     let refuses : RefusesMode (boot_refusal s c.args.mode) (Some c.in-Some.refusal) = search rules in
     c.requires.begins ∙ ap (λ d. record (begun s) { doubt = d }) (sym (refusal_is_quiet _ _ refuses).no_doubt)
 
-pub returns-then-not-fit-clause-refused : goal.returns-then-not-fit-clause-refused
-returns-then-not-fit-clause-refused g c =
-    let s = found_state c.args.store.now in
-    let allows : RefusesMode (boot_refusal s c.args.mode) None = search rules in
-    rw (allowed_none _ allows) (λ fits.
-    let fit : c.fit.result ≡ true = c.fit.ensures.told.1 (rw c.shape-shape.ensures fits) in
-    let not_fit = c.if-not-fit.true in
-    let no : ⊥ = cc in
-    no)
-
 pub returns-in-Some-clause-cause : goal.returns-in-Some-clause-cause
 returns-in-Some-clause-cause g c =
     let refuses : RefusesMode (boot_refusal (found_state c.args.store.now) c.args.mode) (Some c.in-Some.refusal) = search rules in
