@@ -3,8 +3,6 @@
 
 mod machine;
 mod status;
-#[cfg(test)]
-mod tests;
 
 pub use machine::Machine;
 pub use status::{Status, Turned};

@@ -1,3 +1,5 @@
+ghost use Rattle.std.specs.Prelude.{◌≤◌, length};
+
 use super::{MachineLine, csr, mem, pc, reg, turn};
 use board_model::{HartId, Reason, Shape};
 use machine::Machine;
@@ -13,7 +15,9 @@ fn first_hart() -> Result<HartId, Fail> {
 }
 
 /// A board of one hart and one page that boots this payload.
-fn booted(rt: &HostRuntime, payload: &[u8]) -> Result<Machine, Fail> {
+fn booted(rt: &HostRuntime, payload: &[u8]) -> Result<Machine, Fail>
+    requires { length payload.now ≤ 4096 }
+{
     let shape = Shape::new(1, 1, 1)?;
     let mut machine = Machine::new(rt.alloc(), &shape)?;
     machine.boot(&shape, payload, Reason::NoReason);
