@@ -1,12 +1,11 @@
 //! Laws of the definitions, each the contract of a function that does nothing: the meaning of an instruction leaves
 //! nothing open.
 
-ghost use Rattle.std.specs.Prelude.{◌≡◌, ℕ, List, Bool, Option};
+ghost use Rattle.std.specs.Prelude.{◌≡◌, ℕ, List, Bool};
 ghost use Rattle.hart.specs.Values.{Computes};
 ghost use Rattle.hart.specs.State.{State};
-ghost use Rattle.hart.specs.Means.{means, IsSame, IsDecoding, Steps, word_at};
+ghost use Rattle.hart.specs.Means.{means, IsSame, Steps};
 ghost use Rattle.hart.specs.declared.Outcome.{Outcome};
-ghost use Rattle.ram.specs.Memory.{IsBytes};
 ghost use Rattle.rv_decode.specs.declared.instr.ArithOp.{ArithOp};
 ghost use Rattle.rv_decode.specs.declared.instr.Instr.{Instr};
 
@@ -18,16 +17,14 @@ pub fn one_result()
 /// What an instruction does is one outcome, for all sixty: from a state, a memory and the pending interrupt follow the
 /// state and the memory after it, and the answer.
 pub fn one_outcome()
-    ensures { (i : Instr) (w : ℕ) (p : Bool) (s t u : State) (m n l : List ℕ) (o q : Outcome) → IsBytes n → IsBytes l
-        → means i w p s m t n o → means i w p s m u l q → IsSame t u n l o q }
+    ensures { (i : Instr) (w : ℕ) (p : Bool) (s t u : State) (m n l : List ℕ) (o q : Outcome) → means i w p s m t n o → means i w p s m u l q → IsSame t u n l o q }
 {
     ram::one_store();
 }
 
-/// A step is one outcome, where `d` is what the word at the pc decodes to.
+/// A step is one outcome: a hart's state, a memory and the pending interrupt leave it no other.
 pub fn one_step()
-    ensures { (d : Option Instr) (p : Bool) (s t u : State) (m n l : List ℕ) (o q : Outcome) → IsBytes n → IsBytes l
-        → IsDecoding d (word_at m s.pc) → Steps p s m t n o → Steps p s m u l q → IsSame t u n l o q }
+    ensures { (p : Bool) (s t u : State) (m n l : List ℕ) (o q : Outcome) → Steps p s m t n o → Steps p s m u l q → IsSame t u n l o q }
 {
     ram::one_store();
 }

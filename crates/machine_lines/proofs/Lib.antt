@@ -1,1 +1,2 @@
 mod Padded
+mod Determined

@@ -1,7 +1,7 @@
 -- What the lines that show a board's memory and harts say, and what a line of turns makes of them. A line whose hart or whose
 -- bytes the board lacks says `off`, and does nothing. Source: docs/SCRIPT.md.
-use Rattle.std.specs.Prelude.{◌≡◌, ◌≢◌, ◌⊎◌, ℕ, List, ◌+◌, ◌-◌, ◌<◌, ◌≤◌, ◌++◌, length, replicate, slice_range, nat_lt, nat_le, ◌&&◌, false, if◌then◌else◌}
-use Rattle.hart.specs.State.{State, reg}
+use Rattle.std.specs.Prelude.{◌≡◌, ◌≢◌, ℕ, ◌+◌, ◌-◌, ◌<◌, ◌≤◌, ◌++◌, length, replicate, slice_range, nat_lt, nat_le, ◌&&◌, false, if◌then◌else◌}
+use Rattle.hart.specs.State.{reg}
 use Rattle.hart.specs.Csrs.{csr_number, csr_read}
 use Rattle.hart.specs.declared.csr.Csr.{Csr}
 use Rattle.machine.specs.Machine.{Machine, hart_at}

@@ -1,10 +1,12 @@
 //! The report lines of a script that show a board's memory and harts, or have a hart make turns (docs/SCRIPT.md).
 #![tactic(auto)]
 
+mod laws;
 mod line;
 mod shows;
 #[cfg(test)]
 mod tests;
 
+pub use laws::one_line;
 pub use line::{MachineLine, MemBytes};
 pub use shows::{csr, mem, pc, reg, turn};

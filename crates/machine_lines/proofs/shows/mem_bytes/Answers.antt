@@ -1,4 +1,4 @@
-use Rattle.std.proofs.Common.{rules, ◌≡◌, ◌∙◌, ◌-◌, drop, length, replicate, refl}
+use Rattle.std.proofs.Common.{rules, ◌≡◌, ◌∙◌, drop, length, replicate, refl}
 use Rattle.std.proofs.lemmas.List.{drop-replicate}
 use Rattle.machine_lines.proofs.shows.mem_bytes.Goals as goal
 

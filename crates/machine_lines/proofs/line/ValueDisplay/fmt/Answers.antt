@@ -1,4 +1,4 @@
-use Rattle.std.proofs.Common.{rules, ◌≡◌, Some, ap, refl}
+use Rattle.std.proofs.Common.{◌≡◌, Some, ap}
 use Rattle.std.specs.Fmt.{styled_digits_output}
 use Rattle.machine_lines.specs.Texts.{hex_text}
 use Rattle.machine_lines.proofs.Padded.{padded_zeros}

@@ -1,0 +1,8 @@
+use Rattle.machine.proofs.Determined as determined
+use Rattle.machine.proofs.laws.one_turn.Goals as goal
+
+pub returns-clause-turn : goal.returns-clause-turn
+returns-clause-turn c = determined.one_turn c.one_step.ensures
+
+pub returns-clause-turns : goal.returns-clause-turns
+returns-clause-turns c = determined.one_row c.one_step.ensures
