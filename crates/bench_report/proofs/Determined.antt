@@ -1,4 +1,4 @@
--- Where memory was never refused and no failure was answered, a script has one report.
+-- Where memory was never refused and no failure was answered, a report is the plain one but for what shows memory or harts.
 use Rattle.std.proofs.Common.{◌≡◌, ◌⊎◌, ℕ, ◌+◌, ◌<◌, ◌≤◌, inl, inr, List, [], ◌∷◌, Option, None, Some, refl, sym, ◌∙◌, ap, subst, arith, Bool, true, false, cond, eq-eqb, rules, tests, ◌==◌}
 use Rattle.board_model.specs.Durable.{State, Change, Slot, refusal_of, after}
 use Rattle.board_model.specs.Kept.{Kept, nothing_kept, found_of, MayKeep, TakesIn}
@@ -12,7 +12,7 @@ use Rattle.script_lang.specs.declared.line.Line.TheVariants as lines
 use Rattle.bench_report.specs.declared.printed.Printed.{Printed}
 use Rattle.bench_report.specs.declared.printed.Printed.TheVariants as printed
 use Rattle.bench_report.specs.declared.printed.Answer.{Answer}
-use Rattle.bench_report.specs.Bench.{Medium, Blank, Unknown, Formatted, Life, Bench, blank_bench}
+use Rattle.bench_report.specs.Bench.{Medium, Blank, Unknown, Formatted, Life, Bench, IsUnspoilt, blank_bench}
 use Rattle.bench_report.specs.Steps.{says, starved, failed, IsHindered, off_with, on_with, unpowered, begun, boot_refusal, keeps, went_on, FormatsOn, FormatStep, OnStep, SlotStep, IsOpenRefusal, Opens, ShowsFound, BootsAs, PowersOn, Commands, Shows, Step, Moves, Run}
 use Rattle.bench_report.specs.Reports.{IsReport}
 use Rattle.bench_report.proofs.Wholes.{report_alone}
@@ -180,7 +180,7 @@ step_on (lines.FailLane x y) b a new calm h = not_built b a new calm h.0 h.1
 step_on (lines.Poke x y z) b a new calm h = not_built b a new calm h.0 h.1
 
 -- a cut strikes only where a failure was answered
-moves_on : (line : Line) (b : Bench) (a : Answer) (new : Bench) → IsCalm b → Moves line b a new → Determined (plain line b) a new
+pub moves_on : (line : Line) (b : Bench) (a : Answer) (new : Bench) → IsCalm b → Moves line b a new → Determined (plain line b) a new
 moves_on line b a new calm (inl h) = step_on line b a new calm h.0
 moves_on line b a new calm (inr h) =
     let spoils : IsSpoilt h.1 → IsSpoilt new = λ s. (let P : Bench → Type 0 = IsSpoilt in subst P (sym h.5) s) in
@@ -278,7 +278,7 @@ moves_more line b a new (inr h) =
     let then = same h.1 (unpowered h.1) new refl refl h.5 in
     (omega (arith, first.0, then.0), λ p. then.1 (first.1 p))
 
-run_more : (ls : List Line) (b : Bench) (answers : List Answer) (end : Bench) → Run b ls answers end → Grows b end
+pub run_more : (ls : List Line) (b : Bench) (answers : List Answer) (end : Bench) → Run b ls answers end → Grows b end
 run_more [] b [] end h = same b b end refl refl h
 run_more [] b (a ∷ answers) end h = absurd h
 run_more (l ∷ ls) b [] end h = absurd h
@@ -302,7 +302,7 @@ run_plain (l ∷ ls) b (a ∷ answers) end calm h none nothing =
       | inr spoilt ↦ absurd (elim spoilt [ inl g ↦ omega (arith, g, others.0, none) | inr f ↦ omega (arith, others.1 f, nothing) ])
     ]
 
-pub one_report : (script : Script) (answers : List Answer) (end : Bench) → IsReport script answers end → end.growths ≡ 0 → end.failures ≡ 0 → AreAlike answers (plain_report script)
-one_report script [] end h none nothing = absurd h
-one_report script (board ∷ answers) end h none nothing =
-    (inl h.0, run_plain script.lines blank_bench answers end (tt, tt, refl) (report_alone script board answers end h) none nothing)
+pub plain_alone : (script : Script) (answers : List Answer) (end : Bench) → IsReport script answers end → IsUnspoilt end → AreAlike answers (plain_report script)
+plain_alone script [] end h clean = absurd h
+plain_alone script (board ∷ answers) end h clean =
+    (inl h.0, run_plain script.lines blank_bench answers end (tt, tt, refl) (report_alone script board answers end h) clean.0 clean.1)

@@ -22,7 +22,7 @@ use Rattle.bench_report.specs.Whole.{Whole, IsBoardOn, Powered, ReadStep, TurnSt
 use Rattle.bench_report.specs.Agree.{OnIs, StoreIs, Follows, Agrees, MachineIs, Carried, Reads, MakesTurns, KeepsPayload}
 
 board_on : (size : Size) (m : Medium) (life : Life) (z : Size) → Follows size m life z → IsBoardOn m size z
-board_on size Blank life z h = tt
+board_on size Blank life z h = absurd h
 board_on size Unknown life z h = tt
 board_on size (Formatted k) life z h = h.2
 

@@ -1,5 +1,5 @@
 -- The bench as a model: what its disk keeps, its board, and why the disk failed.
-use Rattle.std.specs.Prelude.{ℕ, List, Option, Some, None}
+use Rattle.std.specs.Prelude.{◌≡◌, ℕ, List, Option, Some, None}
 use Rattle.board_model.specs.Durable.{State, Change}
 use Rattle.board_model.specs.Kept.{Kept}
 use Rattle.disk.specs.Mishaps.{Mishaps, no_mishap}
@@ -27,6 +27,10 @@ pub record Bench : Type 0 where
   pub growths : ℕ
   pub failures : ℕ
   pub mishaps : Mishaps
+
+-- memory was never refused, and no failure of the disk was answered
+abbrev pub IsUnspoilt : Bench → Type 0
+IsUnspoilt b = (b.growths ≡ 0) × (b.failures ≡ 0)
 
 -- the bench after the board line
 abbrev pub blank_bench : Bench

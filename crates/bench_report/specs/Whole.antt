@@ -25,9 +25,9 @@ no_payloads = [] ∷ [] ∷ [] ∷ [] ∷ []
 abbrev pub shows : MachineLine → Answer
 shows line = says (printed.Shown line)
 
--- a formatted disk is one of a board of the script's size
+-- a board is on over a disk that was written; a formatted one is of a board of the script's size
 abbrev pub IsBoardOn : Medium → Size → Size → Type 0
-IsBoardOn Blank size z = ⊤
+IsBoardOn Blank size z = ⊥
 IsBoardOn Unknown size z = ⊤
 IsBoardOn (Formatted kept) size z = z ≡ size
 

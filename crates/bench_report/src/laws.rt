@@ -3,18 +3,21 @@
 ghost use Rattle.std.specs.Prelude.{◌≡◌, List, Ok, Err, codes};
 ghost use Rattle.board_model.specs.declared.refusal.Refusal.TheVariants.{BadScript};
 ghost use Rattle.script_lang.specs.Scripts.{Script};
-ghost use Rattle.bench_report.specs.Bench.{Bench};
+ghost use Rattle.bench_report.specs.Bench.{Bench, IsUnspoilt};
 ghost use Rattle.bench_report.specs.Plain.{AreAlike, plain_report, plain_text};
 ghost use Rattle.bench_report.specs.Prefix.{KeepsPrefixLaw};
 ghost use Rattle.bench_report.specs.Reports.{IsReport};
 ghost use Rattle.bench_report.specs.declared.printed.Answer.{Answer};
 
-/// Where no power-on was refused memory and no failure of the disk was answered, a script has one report, as far as it
-/// does not show memory or harts; that is what the steps of the harts leave.
+/// Where no power-on was refused memory and no failure of the disk was answered, a script has one report. What its lines
+/// say, but for those that show memory or harts, is computed by the plain report.
 pub fn one_report()
-    ensures { (script : Script) (answers : List Answer) (end : Bench) → IsReport script answers end → end.growths ≡ 0 → end.failures ≡ 0
-        → AreAlike answers (plain_report script) }
-{}
+    ensures one { (script : Script) (answers others : List Answer) (end last : Bench) → IsReport script answers end → IsReport script others last → IsUnspoilt end → IsUnspoilt last
+        → answers ≡ others }
+    ensures plain { (script : Script) (answers : List Answer) (end : Bench) → IsReport script answers end → IsUnspoilt end → AreAlike answers (plain_report script) }
+{
+    machine_lines::one_line();
+}
 
 /// The prefix law, over each whole run: whatever memory was refused, whatever failed and wherever power was cut, from
 /// the first `format ok` on each power-on finds what the one before it found, with each command that was acknowledged
