@@ -3,6 +3,8 @@
 
 mod machine;
 mod status;
+#[cfg(test)]
+mod tests;
 
 pub use machine::Machine;
 pub use status::{Status, Turned};

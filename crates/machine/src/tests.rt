@@ -1,3 +1,6 @@
+ghost use Rattle.std.specs.Prelude.{◌≡◌, ◌≤◌, length, IfOk};
+ghost use Rattle.rv_decode.specs.Ranges.{IsReg};
+
 use super::{Machine, Turned};
 use board_model::{HartId, Reason, Shape};
 use hart::Hart;
@@ -7,7 +10,9 @@ use std::test::Fail;
 
 const BASE: u64 = 0x8000_0000;
 
-fn hart_id(number: u64) -> Result<HartId, Fail> {
+fn hart_id(number: u64) -> Result<HartId, Fail>
+    ensures { IfOk result (λ h. h ≡ number) }
+{
     match HartId::new(number) {
         Some(id) => Ok(id),
         None => Err(Fail::new(format_args!("no such hart"))),
@@ -15,14 +20,19 @@ fn hart_id(number: u64) -> Result<HartId, Fail> {
 }
 
 /// A board of two harts and one page that boots these words for that reason.
-fn booted(rt: &HostRuntime, payload: &[u8], reason: Reason) -> Result<Machine, Fail> {
+fn booted(rt: &HostRuntime, payload: &[u8], reason: Reason) -> Result<Machine, Fail>
+    requires { length payload.now ≤ 4096 }
+    ensures { IfOk result (λ m. length m.harts ≡ 2) }
+{
     let shape = Shape::new(2, 1, 1)?;
     let mut machine = Machine::new(rt.alloc(), &shape)?;
     machine.boot(&shape, payload, reason);
     Ok(machine)
 }
 
-fn reg(hart: &Hart, number: u8) -> u64 {
+fn reg(hart: &Hart, number: u8) -> u64
+    requires { IsReg number }
+{
     hart.reg(Reg::new(number))
 }
 
