@@ -13,6 +13,7 @@ use Rattle.disk.specs.Facts.{Facts, Leaves_only}
 use Rattle.disk.specs.Mishaps.{Mishaps}
 use Rattle.simdisk.specs.declared.SimDisk.{SimDisk}
 use Rattle.store.specs.Leaves.{Leaves, LeavesOnly, LeavesEither, SameLength}
+use Rattle.store.specs.Standing.{StandsFor}
 use Rattle.store.specs.Lives.{Life as Told, begun as started}
 use Rattle.store.specs.Opens.{OpenRefused, CausedRefusal}
 use Rattle.store.specs.Stores.{life_of}
@@ -124,11 +125,11 @@ power_err size mode b old new z s payloads e a off leaves shows h short why left
 
 -- the board stays off, whether the open found a state or not
 pub unpowered : (size : Size) (mode : BootMode) (b : Bench) (old new : SimDisk) (payloads : List (List ℕ)) (e : Refusal) (n : ℕ) (o : Option Durable) → OffIs size b old → AreShort payloads → n ≡ number_of e
-    → IfSome o (λ d. (z : Size) × (s : State) × (d ≡ durable_of s) × Leaves (facts old) z s × IsBootRefusal (boot_refusal s mode) z mode payloads e × LeavesLife (doubt_after e) (facts new) z s)
+    → IfSome o (λ d. (z : Size) × (s : State) × (d ≡ durable_of s) × StandsFor (facts old).content z s × Leaves (facts old) z s × IsBootRefusal (boot_refusal s mode) z mode payloads e × LeavesLife (doubt_after e) (facts new) z s)
     → (o ≡ None → OpenRefused (facts old) e (facts new)) → (o ≡ None → Leaves_only (facts old) (facts new) (facts old).may_leave) → CausedRefusal (mishaps old) e (mishaps new)
     → CountsRefusal (facts old).failures e (facts new).failures → (facts old).failures ≤ (facts new).failures → SameLength (facts old) (facts new)
     → (x : Bench) × PowersOn mode b (record { found = o; line = printed.OnRefused n }) x × OffIs size x new
 unpowered size mode b old new payloads e n None off short code found why left cause counts no_fewer long =
     open_err size mode b old new (says (printed.OnRefused n)) e off.0 off.2 (why refl) cause no_fewer long (left refl).now (ap (λ k. says (printed.OnRefused k)) code) off.1
 unpowered size mode b old new payloads e n (Some d) off short code found why left cause counts no_fewer long =
-    power_err size mode b old new found.0 found.1 payloads e (record { found = Some d; line = printed.OnRefused n }) off found.3 found.2 (ap (λ k. printed.OnRefused k) code) short found.4 found.5 cause counts no_fewer long
+    power_err size mode b old new found.0 found.1 payloads e (record { found = Some d; line = printed.OnRefused n }) off found.4 found.2 (ap (λ k. printed.OnRefused k) code) short found.5 found.6 cause counts no_fewer long

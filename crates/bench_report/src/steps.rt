@@ -53,18 +53,18 @@ fn power_on(alloc: Global, mode: BootMode, disk: SimDisk, payloads: &Payloads) -
 {
     match Board::power_on(alloc, disk, mode, payloads) {
         Ok(board) => {
-            let answer = Answer {
+            let booted = Answer {
                 found: Some(board.found()),
                 line: Printed::On(mode),
             };
-            (Power::On(board), answer)
+            (Power::On(board), booted)
         }
         Err(unpowered) => {
-            let answer = Answer {
+            let refused = Answer {
                 found: unpowered.found,
                 line: Printed::OnRefused(unpowered.refusal.code()),
             };
-            (Power::Off(unpowered.disk), answer)
+            (Power::Off(unpowered.disk), refused)
         }
     }
 }

@@ -15,4 +15,4 @@ pub returns-in-Err-clause-told : goal.returns-in-Err-clause-told
 returns-in-Err-clause-told c = λ size b h.
     let did = c.in-Err.ensures in
     let e = c.in-Err.unpowered in
-    unpowered size c.args.mode b c.args.disk e.disk c.args.payloads.now e.refusal c.code.result e.found h c.requires.short c.code.ensures did.refused did.unopened did.any_moment did.cause did.counts did.no_fewer did.length
+    unpowered size c.args.mode b c.args.disk e.disk c.args.payloads.now e.refusal c.code.result e.found h c.requires.short c.code.ensures did.refused did.unopened did.unopened_moments did.cause did.counts did.no_fewer did.length
