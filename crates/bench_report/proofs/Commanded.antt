@@ -24,7 +24,7 @@ use Rattle.bench_report.proofs.Ended.{found_more}
 use Rattle.bench_report.proofs.Formats.{same_error}
 use Rattle.bench_report.proofs.Table.{not_device, not_down}
 
-follows_more : (size : Size) (m : Medium) (c : Change) (life : Life) (z : Size) → Follows size m life z → Follows size (keeps c m) (went_on c life) z
+pub follows_more : (size : Size) (m : Medium) (c : Change) (life : Life) (z : Size) → Follows size m life z → Follows size (keeps c m) (went_on c life) z
 follows_more size Blank c life z h = h
 follows_more size Unknown c life z h = tt
 follows_more size (Formatted k) c life z h = (h.0, found_more k.changes c life.now h.1, h.2)

@@ -1,22 +1,24 @@
 -- Where memory was never refused and no failure was answered, a report is the plain one but for what shows memory or harts.
 use Rattle.std.proofs.Common.{◌≡◌, ◌⊎◌, ℕ, ◌+◌, ◌<◌, ◌≤◌, inl, inr, List, [], ◌∷◌, Option, None, Some, refl, sym, ◌∙◌, ap, subst, arith, Bool, true, false, cond, eq-eqb, rules, tests, ◌==◌}
-use Rattle.board_model.specs.Durable.{State, Change, Slot, refusal_of, after}
+use Rattle.board_model.specs.Durable.{State, Change, Slot, Discard, refusal_of, after}
 use Rattle.board_model.specs.Kept.{Kept, nothing_kept, found_of, MayKeep, TakesIn}
 use Rattle.board_model.specs.declared.durable.Durable.{Durable}
 use Rattle.board_model.specs.Shown.{durable_of}
 use Rattle.disk.specs.Facts.{counted}
 use Rattle.script_lang.specs.Scripts.{Script}
+use Rattle.board.specs.Boots.{boot_refusal}
 use Rattle.board_model.specs.declared.boot_mode.BootMode.{BootMode}
+use Rattle.board_model.specs.declared.boot_mode.BootMode.TheVariants as modes
 use Rattle.script_lang.specs.declared.line.Line.{Line}
 use Rattle.script_lang.specs.declared.line.Line.TheVariants as lines
 use Rattle.bench_report.specs.declared.printed.Printed.{Printed}
 use Rattle.bench_report.specs.declared.printed.Printed.TheVariants as printed
 use Rattle.bench_report.specs.declared.printed.Answer.{Answer}
 use Rattle.bench_report.specs.Bench.{Medium, Blank, Unknown, Formatted, Life, Bench, IsUnspoilt, blank_bench}
-use Rattle.bench_report.specs.Steps.{says, starved, failed, IsHindered, off_with, on_with, unpowered, begun, boot_refusal, keeps, went_on, FormatsOn, FormatStep, OnStep, SlotStep, IsOpenRefusal, Opens, ShowsFound, BootsAs, PowersOn, Commands, Shows, Step, Moves, Run}
+use Rattle.bench_report.specs.Steps.{says, starved, failed, IsHindered, off_with, on_with, unpowered, begun, keeps, doubts, went_on, FormatsOn, FormatStep, OnStep, SlotStep, IsOpenRefusal, Opens, ShowsFound, Begins, BootsAs, PowersOn, Commands, Shows, Step, Moves, Run}
 use Rattle.bench_report.specs.Reports.{IsReport}
 use Rattle.bench_report.proofs.Wholes.{report_alone}
-use Rattle.bench_report.specs.Plain.{hidden, IsShown, IsAlike, AreAlike, plain_format, plain_boot, plain_on, plain_command, plain_issued, plain_at, plain, plain_answers, plain_report}
+use Rattle.bench_report.specs.Plain.{hidden, IsShown, IsAlike, AreAlike, plain_format, plain_mode, plain_boot, plain_on, plain_command, plain_issued, plain_at, plain, plain_answers, plain_report}
 
 -- nothing is in doubt, and no cut has struck
 abbrev pub CalmMedium : Medium → Type 0
@@ -69,9 +71,23 @@ same_medium k changes calm e = ap (λ cs. Formatted (record { changes = cs; doub
 answers_as : (a : Answer) (o : Option Durable) (line : Printed) → a.found ≡ o → a.line ≡ line → a ≡ record { found = o; line = line }
 answers_as a o line e f = ap (λ (x : Option Durable). let r : Answer = record { found = x; line = a.line } in r) e ∙ ap (λ (l : Printed). let r : Answer = record { found = o; line = l } in r) f
 
+keeps_calm : (c : Change) (m : Medium) → CalmMedium m → CalmMedium (keeps c m)
+keeps_calm c Blank h = tt
+keeps_calm c Unknown h = h
+keeps_calm c (Formatted k) h = h
+
+begins : (mode : BootMode) (s : State) (b : Bench) (a : Answer) (new : Bench) → IsCalm b → a.found ≡ Some (durable_of s) → Begins mode s b.medium b a.line new → Determined (plain_mode mode s b) a new
+begins modes.Fresh s b a new calm found h = settles (plain_mode modes.Fresh s b) a new (answers_as a _ _ found h.0) h.1 (calm.0, refl, calm.2)
+begins modes.Keep s b a new calm found h = settles (plain_mode modes.Keep s b) a new (answers_as a _ _ found h.0) h.1 (calm.0, refl, calm.2)
+begins modes.Discard s b a new calm found (inl h) =
+    settles (plain_mode modes.Discard s b) a new (answers_as a _ _ found h.0) h.1 (keeps_calm Discard b.medium calm.0, refl, calm.2)
+begins modes.Discard s b a new calm found (inr (inl h)) = inr (hinders (off_with b.medium b) new h.1)
+begins modes.Discard s b a new calm found (inr (inr h)) = inr (hinders (off_with (doubts Discard b.medium) b) new h.1)
+begins modes.Resume s b a new calm found h = settles (plain_mode modes.Resume s b) a new (answers_as a _ _ found h.0) h.1 (calm.0, tt, calm.2)
+
 boots : (o : Option ℕ) (mode : BootMode) (s : State) (b : Bench) (a : Answer) (new : Bench) → IsCalm b → a.found ≡ Some (durable_of s) → BootsAs o mode s b.medium b a.line new
     → Determined (plain_boot o mode s b) a new
-boots None mode s b a new calm found (inl h) = settles (plain_boot None mode s b) a new (answers_as a _ _ found h.0) h.1 (calm.0, refl, calm.2)
+boots None mode s b a new calm found (inl h) = begins mode s b a new calm found h
 boots None mode s b a new calm found (inr h) = inr (starves (off_with b.medium b) new h.1)
 boots (Some n) mode s b a new calm found h = settles (plain_boot (Some n) mode s b) a new (answers_as a _ _ found h.0) h.1 (calm.0, tt, calm.2)
 
@@ -95,11 +111,6 @@ on_on (Formatted k) mode b a new at calm cm (inl h) =
     let booted = subst Q state (h.3, h.4) in
     let R : Medium → Type 0 = λ m. BootsAs (boot_refusal (found_of k.changes) mode) mode (found_of k.changes) m b a.line new in
     boots (boot_refusal (found_of k.changes) mode) mode (found_of k.changes) b a new calm (shown a.found (found_of k.changes) booted.0) (subst R medium booted.1)
-
-keeps_calm : (c : Change) (m : Medium) → CalmMedium m → CalmMedium (keeps c m)
-keeps_calm c Blank h = tt
-keeps_calm c Unknown h = h
-keeps_calm c (Formatted k) h = h
 
 not_full : (n : ℕ) → n < 4096 → (n == 4096) ≡ false
 not_full n h = search (rules, tests)
@@ -220,8 +231,16 @@ format_more Unknown b a new (inr (inr h)) = same b b new refl refl h.3
 format_more (Formatted k) b a new (inl h) = same b b new refl refl h.1
 format_more (Formatted k) b a new (inr h) = hinder b b new refl h.1
 
+begin_more : (mode : BootMode) (s : State) (m : Medium) (b : Bench) (line : Printed) (new : Bench) → Begins mode s m b line new → Grows b new
+begin_more modes.Fresh s m b line new h = same b (on_with m (begun s) b) new refl refl h.1
+begin_more modes.Keep s m b line new h = same b (on_with m (begun s) b) new refl refl h.1
+begin_more modes.Discard s m b line new (inl h) = same b (on_with (keeps Discard m) (went_on Discard (begun s)) b) new refl refl h.1
+begin_more modes.Discard s m b line new (inr (inl h)) = hinder b (off_with m b) new refl h.1
+begin_more modes.Discard s m b line new (inr (inr h)) = hinder b (off_with (doubts Discard m) b) new refl h.1
+begin_more modes.Resume s m b line new h = same b (off_with m b) new refl refl h.1
+
 boot_more : (o : Option ℕ) (mode : BootMode) (s : State) (m : Medium) (b : Bench) (line : Printed) (new : Bench) → BootsAs o mode s m b line new → Grows b new
-boot_more None mode s m b line new (inl h) = same b (on_with m (begun s) b) new refl refl h.1
+boot_more None mode s m b line new (inl h) = begin_more mode s m b line new h
 boot_more None mode s m b line new (inr h) = let P : Bench → Bench → Type 0 = Grows in (omega (arith, ap (λ (x : Bench). x.growths) h.1), λ p. omega (arith, ap (λ (x : Bench). x.failures) h.1))
 boot_more (Some n) mode s m b line new h = same b (off_with m b) new refl refl h.1
 

@@ -27,16 +27,21 @@ with_doubt k c now u doubt same (inr e) =
     let P : Option Change → Type 0 = λ d. TakesIn d k.changes (k.changes ++ c ∷ []) in
     (k.changes ++ c ∷ [], inr (subst P (sym doubt) refl), e ∙ found_more k.changes c now same)
 
+-- a crash leaves the state that the commands kept make, or that with the one in doubt
+pub left_only : (size z : Size) (k : Kept) (now : State) (disk : Facts) → now ≡ found_of k.changes → z ≡ size → LeavesOnly disk z now → DiskIs size (Formatted k) disk
+left_only size z k now disk same sized l =
+    let P : Size → Type 0 = λ y. IsKept disk y × ((s : State) → Leaves disk y s → MayFind k s) in
+    subst P sized (l.kept, λ s h. (k.changes, inl refl, (l.only z s h).1 ∙ same))
+
+pub left_either : (size z : Size) (k : Kept) (c : Change) (now : State) (disk : Facts) → k.doubt ≡ Some c → now ≡ found_of k.changes → z ≡ size → LeavesEither disk z now (after now c) → DiskIs size (Formatted k) disk
+left_either size z k c now disk doubt same sized l =
+    let P : Size → Type 0 = λ y. IsKept disk y × ((s : State) → Leaves disk y s → MayFind k s) in
+    subst P sized (l.kept, λ s h. with_doubt k c now s doubt same (l.only z s h).1)
+
 left : (size : Size) (k : Kept) (now : State) (count : ℕ) (doubt : Option Change) (store : Store) (disk : Facts) → k.doubt ≡ doubt → now ≡ found_of k.changes → store_size store ≡ size
     → IsAs store now count doubt → LeftUp store disk → LeftDown store disk → DiskIs size (Formatted k) disk
-left size k now count None store disk doubt same sized is up down =
-    let l = up now (is.2, sym is.0) in
-    let P : Size → Type 0 = λ z. IsKept disk z × ((s : State) → Leaves disk z s → MayFind k s) in
-    subst P sized (l.kept, λ s h. (k.changes, inl refl, (l.only (store_size store) s h).1 ∙ same))
-left size k now count (Some c) store disk doubt same sized is up down =
-    let l = down now (after now c) (c, is.2, sym is.0, refl) in
-    let P : Size → Type 0 = λ z. IsKept disk z × ((s : State) → Leaves disk z s → MayFind k s) in
-    subst P sized (l.kept, λ s h. with_doubt k c now s doubt same (l.only (store_size store) s h).1)
+left size k now count None store disk doubt same sized is up down = left_only size (store_size store) k now disk same sized (up now (is.2, sym is.0))
+left size k now count (Some c) store disk doubt same sized is up down = left_either size (store_size store) k c now disk doubt same sized (down now (after now c) (c, is.2, sym is.0, refl))
 
 pub ended : (size : Size) (m : Medium) (p : Option Life) (store : Store) (disk : Facts) → StoreIs size m p store → LeftUp store disk → LeftDown store disk → DiskIs size m disk
 ended size m None store disk was up down = absurd was

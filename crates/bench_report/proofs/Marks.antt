@@ -1,14 +1,14 @@
 -- The mark of a formatted disk, by what a crash may leave.
 use Rattle.std.proofs.Common.{◌≡◌, ◌⊎◌, ◌≤◌, ℕ, zero, suc, List, [], ◌∷◌, length, replicate, refl, sym, ◌∙◌, ap, subst, arith}
 use Rattle.board_model.specs.Durable.{State}
-use Rattle.board_model.specs.Shapes.{Size, sectors_of}
+use Rattle.board_model.specs.Shapes.{Size, sectors_of, ram_bytes_of}
 use Rattle.disk.specs.Facts.{Facts, Content, sector, Passes, Stays, Is_fresh}
 use Rattle.layout.specs.Superblocks.{HasMagic}
 use Rattle.layout.proofs.Spellings.{zeros_have_no_magic}
 use Rattle.simdisk.specs.declared.SimDisk.{SimDisk}
 use Rattle.store.specs.Leaves.{Leaves, IsBlank, IsKept}
 use Rattle.store.specs.Standing.{StandsFor, Selects}
-use Rattle.store.proofs.Bridges.{kept_marked, fresh_blank}
+use Rattle.store.proofs.Bridges.{kept_marked, fresh_blank, stands_marked}
 use Rattle.store.proofs.States.{one_selected}
 use Rattle.bench_report.specs.Below.{facts}
 
@@ -27,10 +27,22 @@ pub blank_magic : (disk : SimDisk) → IsBlank (facts disk) → HasMagic (sector
 unfolding IsBlank
 blank_magic disk blank = blank (facts disk).content (reads disk)
 
--- where an open found a state on a board of size z, the disk was kept for that size
-pub kept_size : (disk : SimDisk) (y z : Size) (s : State) → IsKept (facts disk) y → StandsFor (facts disk).content z s → y ≡ z
-unfolding IsKept
-kept_size disk y z s kept found = let here = kept (facts disk).content (reads disk) in one_size (facts disk).content y z here.0 s here.1 found
+-- a disk of which a crash may leave a state begins with the mark, was kept for that size alone, and has a page at least
+pub leaves_marked : (disk : Facts) (z : Size) (s : State) → Leaves disk z s → IsBlank disk → ⊥
+unfolding Leaves IsBlank
+leaves_marked disk z s leaves blank = blank leaves.0 leaves.1 (stands_marked leaves.0 z s leaves.2)
+
+pub leaves_size : (disk : Facts) (y z : Size) (s : State) → Leaves disk z s → IsKept disk y → y ≡ z
+unfolding Leaves IsKept
+leaves_size disk y z s leaves kept = let here = kept leaves.0 leaves.1 in one_size leaves.0 y z here.0 s here.1 leaves.2
+
+stands_least : (c : Content) (z : Size) (s : State) → StandsFor c z s → 4096 ≤ ram_bytes_of z
+unfolding StandsFor
+stands_least c z s stands = omega (arith, stands.2.board.0.2)
+
+pub leaves_least : (disk : Facts) (z : Size) (s : State) → Leaves disk z s → 4096 ≤ ram_bytes_of z
+unfolding Leaves
+leaves_least disk z s leaves = stands_least leaves.0 z s leaves.2
 
 -- what a call passes that changes nothing was there before
 pub passed : (old new : Facts) → Passes old new Stays → (c : Content) → new.may_leave c → old.may_leave c

@@ -11,12 +11,10 @@ use Rattle.disk.specs.Mishaps.{Mishaps, Cause}
 use Rattle.simdisk.specs.declared.SimDisk.{SimDisk}
 use Rattle.store.specs.Leaves.{Leaves, IsBlank, IsKept, SameLength}
 use Rattle.store.specs.Opens.{CausedRefusal, OpenRefused}
-use Rattle.store.specs.Lives.{Life, begun as started}
-use Rattle.store.specs.Stores.{life_of}
 use Rattle.board_model.specs.declared.boot_mode.BootMode.{BootMode}
 use Rattle.bench_report.specs.declared.printed.Answer.{Answer}
 use Rattle.bench_report.specs.declared.printed.Printed.TheVariants as printed
-use Rattle.bench_report.specs.Below.{Store, facts, mishaps, IsLife, IsAs}
+use Rattle.bench_report.specs.Below.{facts, mishaps}
 use Rattle.bench_report.specs.Bench.{Medium, Blank, Unknown, Formatted, Bench}
 use Rattle.bench_report.specs.Steps.{says, starved, failed, begun, Opens, PowersOn}
 use Rattle.bench_report.specs.Agree.{DiskIs, DeviceIs, Follows, OffIs}
@@ -83,7 +81,3 @@ module _ (size : Size) (mode : BootMode) (b : Bench) (old new : SimDisk) (a : An
 
   pub open_err : DiskIs size b.medium (facts old) → (x : Bench) × PowersOn mode b a x × OffIs size x new
   open_err was = by_medium b.medium refl was (left_on size b.medium (facts old) (facts new) was left)
-
--- a store that was just opened
-pub as_begun : (store : Store) (s : State) → life_of store ≡ started s → IsAs store s 0 None
-as_begun store s e = let P : Life → Type 0 = λ life. IsLife life s 0 None in subst P (sym e) (refl, refl, refl, refl)

@@ -10,13 +10,14 @@ use Rattle.script_lang.specs.declared.line.Line.TheVariants as lines
 use Rattle.machine.specs.Machine.{Machine}
 use Rattle.machine_lines.specs.declared.line.MachineLine.{MachineLine}
 use Rattle.machine_lines.specs.Shows.{TurnsLine, reg_line, pc_line, CsrLine, mem_line}
-use Rattle.board.specs.Boots.{booted}
+use Rattle.board.specs.Boots.{booted, boot_refusal}
+use Rattle.board_model.specs.declared.boot_mode.BootMode.TheVariants as modes
 use Rattle.bench_report.specs.declared.printed.Printed.{Printed}
 use Rattle.bench_report.specs.declared.printed.Printed.TheVariants as printed
 use Rattle.bench_report.specs.declared.printed.Answer.{Answer}
 use Rattle.bench_report.specs.Bench.{Medium, Blank, Unknown, Formatted, Life, Bench, IsUnspoilt, blank_bench}
-use Rattle.bench_report.specs.Steps.{says, boot_refusal, Moves, Run}
-use Rattle.bench_report.specs.Plain.{hidden, IsShown, IsAlike, plain_format, plain_boot, plain_on, plain_command, plain_at, plain}
+use Rattle.bench_report.specs.Steps.{says, Moves, Run}
+use Rattle.bench_report.specs.Plain.{hidden, IsShown, IsAlike, plain_format, plain_mode, plain_boot, plain_on, plain_command, plain_at, plain}
 use Rattle.bench_report.specs.Reports.{IsReport}
 use Rattle.bench_report.specs.Whole.{Whole, IsBlankWhole, Powered, Carries, PayloadStep, TurnStep, ReadStep, WholeStep, WholeMoves, WholeRun, shows}
 use Rattle.bench_report.proofs.Determined.{CalmMedium, IsCalm, IsSpoilt, Determined, moves_on, run_more}
@@ -98,8 +99,14 @@ told_format Blank b = (λ x. x, λ e. cc)
 told_format Unknown b = (λ x. x, λ e. cc)
 told_format (Formatted k) b = (λ x. x, λ e. cc)
 
+told_mode : (mode : BootMode) (s : State) (b : Bench) → IsTold (plain_mode mode s b).0.line
+told_mode modes.Fresh s b = (λ x. x, λ e. cc)
+told_mode modes.Keep s b = (λ x. x, λ e. cc)
+told_mode modes.Discard s b = (λ x. x, λ e. cc)
+told_mode modes.Resume s b = (λ x. x, λ e. cc)
+
 told_boot : (o : Option ℕ) (mode : BootMode) (s : State) (b : Bench) → IsTold (plain_boot o mode s b).0.line
-told_boot None mode s b = (λ x. x, λ e. cc)
+told_boot None mode s b = told_mode mode s b
 told_boot (Some n) mode s b = (λ x. x, λ e. cc)
 
 told_on : (m : Medium) (mode : BootMode) (b : Bench) → IsTold (plain_on m mode b).0.line

@@ -1,9 +1,12 @@
--- The numbers of the table of commands.
+-- The numbers of the table of commands, and of the modes of a boot.
 use Rattle.std.proofs.Common.{◌≡◌, ◌≢◌, ◌⊎◌, ℕ, inl, inr, Option, None, Some, refl, ◌∙◌, ap, subst, arith, Bool, true, false, nat_lt, ◌==◌, is_some, if◌then◌else◌}
 use Rattle.board_model.specs.Durable.{State, Change, Slot, Reset, Suspend, Consume, Discard, refusal_of}
 use Rattle.board_model.specs.Shown.{number_of}
+use Rattle.board_model.specs.declared.boot_mode.BootMode.{BootMode}
+use Rattle.board_model.specs.declared.boot_mode.BootMode.TheVariants as modes
 use Rattle.board_model.specs.declared.refusal.Refusal.{Refusal}
 use Rattle.board_model.specs.declared.refusal.Refusal.TheVariants.{Device, Down}
+use Rattle.board.specs.Boots.{boot_refusal}
 
 one_of : (t : Bool) (x y : Option ℕ) (n : ℕ) → (if t then x else y) ≡ Some n → (x ≡ Some n) ⊎ (y ≡ Some n)
 one_of true x y n h = inl h
@@ -49,3 +52,27 @@ not_six s c n h = test n (of_table s c n h)
     test n (inl e) = let P : ℕ → Type 0 = λ i. (i == 6) ≡ false in subst P e refl
     test n (inr (inl e)) = let P : ℕ → Type 0 = λ i. (i == 6) ≡ false in subst P e refl
     test n (inr (inr e)) = let P : ℕ → Type 0 = λ i. (i == 6) ≡ false in subst P e refl
+
+abbrev pub IsOfModes : ℕ → Type 0
+IsOfModes n = (15 ≡ n) ⊎ (8 ≡ n)
+
+-- the numbers with which a mode is refused
+pub of_modes : (s : State) (mode : BootMode) (n : ℕ) → boot_refusal s mode ≡ Some n → IsOfModes n
+of_modes s modes.Fresh n h = elim (one_of (is_some s.image) (Some 15) None n h) [ inl e ↦ inl (let f : 15 ≡ n = cc in f) | inr e ↦ absurd (let no : ⊥ = cc in no) ]
+of_modes s modes.Keep n h = absurd (let no : ⊥ = cc in no)
+of_modes s modes.Discard n h = elim (one_of (is_some s.image) None (Some 8) n h) [ inl e ↦ absurd (let no : ⊥ = cc in no) | inr e ↦ inr (let f : 8 ≡ n = cc in f) ]
+of_modes s modes.Resume n h = elim (one_of (is_some s.image) None (Some 8) n h) [ inl e ↦ absurd (let no : ⊥ = cc in no) | inr e ↦ inr (let f : 8 ≡ n = cc in f) ]
+
+pub mode_not_six : (s : State) (mode : BootMode) (n : ℕ) → boot_refusal s mode ≡ Some n → (n == 6) ≡ false
+mode_not_six s mode n h = test n (of_modes s mode n h)
+  where
+    test : (n : ℕ) → IsOfModes n → (n == 6) ≡ false
+    test n (inl e) = let P : ℕ → Type 0 = λ i. (i == 6) ≡ false in subst P e refl
+    test n (inr e) = let P : ℕ → Type 0 = λ i. (i == 6) ≡ false in subst P e refl
+
+-- a refusal of a mode is none of the disk
+pub mode_not_device : (s : State) (mode : BootMode) (n : ℕ) (e : Refusal) → boot_refusal s mode ≡ Some n → number_of e ≡ n → e ≢ Device
+mode_not_device s mode n e h at is = elim (of_modes s mode n h) [ inl f ↦ omega (arith, f, at, ap number_of is) | inr f ↦ omega (arith, f, at, ap number_of is) ]
+
+pub mode_not_down : (s : State) (mode : BootMode) (n : ℕ) (e : Refusal) → boot_refusal s mode ≡ Some n → number_of e ≡ n → e ≢ Down
+mode_not_down s mode n e h at is = elim (of_modes s mode n h) [ inl f ↦ omega (arith, f, at, ap number_of is) | inr f ↦ omega (arith, f, at, ap number_of is) ]

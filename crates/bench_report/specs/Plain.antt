@@ -1,11 +1,13 @@
 -- The one report of a script where memory was never refused and the disk never failed.
 use Rattle.std.specs.Prelude.{◌≡◌, ◌⊎◌, ℕ, ◌+◌, ◌==◌, List, [], ◌∷◌, Option, Some, None, Result, Ok, if◌then◌else◌}
-use Rattle.board_model.specs.Durable.{State, Change, Slot, refusal_of, after}
+use Rattle.board_model.specs.Durable.{State, Change, Slot, Discard, refusal_of, after}
 use Rattle.board_model.specs.Kept.{nothing_kept, found_of}
 use Rattle.board_model.specs.Shown.{durable_of}
 use Rattle.board_model.specs.declared.refusal.Refusal.{Refusal}
 use Rattle.script_lang.specs.Scripts.{Script, script_of, ◌>>>◌}
+use Rattle.board.specs.Boots.{boot_refusal}
 use Rattle.board_model.specs.declared.boot_mode.BootMode.{BootMode}
+use Rattle.board_model.specs.declared.boot_mode.BootMode.TheVariants as modes
 use Rattle.script_lang.specs.declared.line.Line.{Line}
 use Rattle.script_lang.specs.declared.line.Line.TheVariants as lines
 use Rattle.machine_lines.specs.declared.line.MachineLine.TheVariants as shown
@@ -13,7 +15,7 @@ use Rattle.bench_report.specs.declared.printed.Answer.{Answer}
 use Rattle.bench_report.specs.declared.printed.Printed.{Printed}
 use Rattle.bench_report.specs.declared.printed.Printed.TheVariants as printed
 use Rattle.bench_report.specs.Bench.{Medium, Blank, Unknown, Formatted, Life, Bench, blank_bench}
-use Rattle.bench_report.specs.Steps.{says, off_with, on_with, unpowered, begun, boot_refusal, keeps, went_on}
+use Rattle.bench_report.specs.Steps.{says, off_with, on_with, unpowered, begun, keeps, went_on}
 use Rattle.bench_report.specs.Reports.{board_answer, report_text}
 
 abbrev pub plain_format : Medium → Bench → Answer × Bench
@@ -21,9 +23,20 @@ plain_format Blank b = (says printed.Formatted, off_with (Formatted nothing_kept
 plain_format Unknown b = (says printed.Formatted, off_with (Formatted nothing_kept) b)
 plain_format (Formatted kept) b = (says (printed.FormatRefused 2), b)
 
+abbrev pub found_then : State → Printed → Answer
+found_then s line = record { found = Some (durable_of s); line = line }
+
+-- a boot by `discard` begins its life with that command; an image cannot be loaded yet
+abbrev pub plain_mode : BootMode → State → Bench → Answer × Bench
+plain_mode modes.Fresh s b = (found_then s (printed.On modes.Fresh), on_with b.medium (begun s) b)
+plain_mode modes.Keep s b = (found_then s (printed.On modes.Keep), on_with b.medium (begun s) b)
+plain_mode modes.Discard s b = (found_then s (printed.On modes.Discard), on_with (keeps Discard b.medium) (went_on Discard (begun s)) b)
+plain_mode modes.Resume s b = (found_then s (printed.OnRefused 13), off_with b.medium b)
+
+-- a boot, by the number with which the state refuses the mode
 abbrev pub plain_boot : Option ℕ → BootMode → State → Bench → Answer × Bench
-plain_boot None mode s b = (record { found = Some (durable_of s); line = printed.On mode }, on_with b.medium (begun s) b)
-plain_boot (Some n) mode s b = (record { found = Some (durable_of s); line = printed.OnRefused n }, off_with b.medium b)
+plain_boot None mode s b = plain_mode mode s b
+plain_boot (Some n) mode s b = (found_then s (printed.OnRefused n), off_with b.medium b)
 
 -- a power-on finds the fold of the acknowledged commands
 abbrev pub plain_on : Medium → BootMode → Bench → Answer × Bench

@@ -1,18 +1,27 @@
 -- The prefix law over whole runs, in the words of the report alone: each power-on finds what the one before it found,
--- with each command that was acknowledged since, in order, and after them at most the one command in doubt.
-use Rattle.std.specs.Prelude.{◌≡◌, ◌⊎◌, ℕ, ◌==◌, Bool, true, false, List, [], ◌∷◌, Option, Some, None, MatchBool, if◌then◌else◌, ⊤}
-use Rattle.board_model.specs.Durable.{State, Change, Slot, formatted, after}
+-- with each command that was acknowledged since, in order, and after them at most the one in doubt of each life since.
+use Rattle.std.specs.Prelude.{◌≡◌, ◌⊎◌, ℕ, ◌==◌, Bool, true, false, List, [], ◌∷◌, ◌++◌, Option, Some, None, MatchBool, if◌then◌else◌, ⊤}
+use Rattle.board_model.specs.Durable.{State, Change, Slot, Discard, formatted, refusal_of, after}
 use Rattle.board_model.specs.Shown.{durable_of}
 use Rattle.board_model.specs.declared.durable.Durable.{Durable}
+use Rattle.board_model.specs.declared.boot_mode.BootMode.{BootMode}
+use Rattle.board_model.specs.declared.boot_mode.BootMode.TheVariants as modes
 use Rattle.script_lang.specs.declared.line.Line.{Line}
 use Rattle.script_lang.specs.declared.line.Line.TheVariants as lines
 use Rattle.bench_report.specs.declared.printed.Answer.{Answer}
 use Rattle.bench_report.specs.declared.printed.Printed.{Printed}
 use Rattle.bench_report.specs.declared.printed.Printed.TheVariants as printed
 
--- the durable command that a line issues
+-- the durable command that a line issues: a boot by `discard` issues one too
+abbrev pub boot_command : BootMode → Option Change
+boot_command modes.Fresh = None
+boot_command modes.Keep = None
+boot_command modes.Discard = Some Discard
+boot_command modes.Resume = None
+
 abbrev pub command_of : Line → Option Change
 command_of (lines.Slot n) = Some (Slot n)
+command_of (lines.On mode) = boot_command mode
 command_of line = None
 
 -- how a command was answered: it was acknowledged; its fate is in doubt, by a refusal 6 or since power was lost; or it
@@ -22,39 +31,51 @@ pub data Fate : Type 0 where
   Doubtful : Fate
   Refused : Fate
 
+abbrev pub refused_by : ℕ → Fate
+refused_by n = if n == 6 then Doubtful else Refused
+
 abbrev pub fate_of : Printed → Fate
 fate_of (printed.Slot n) = Acknowledged
-fate_of (printed.SlotRefused n) = if n == 6 then Doubtful else Refused
+fate_of (printed.SlotRefused n) = refused_by n
+fate_of (printed.On mode) = Acknowledged
+fate_of (printed.OnRefused n) = refused_by n
 fate_of printed.PowerLost = Doubtful
 fate_of line = Refused
 
 -- of the commands in doubt in a life, the first alone reached the disk
-abbrev pub first_of : Option Change → Change → Option Change
-first_of None c = Some c
-first_of (Some d) c = Some d
+abbrev pub first_of : List Change → Change → List Change
+first_of [] c = c ∷ []
+first_of (d ∷ doubts) c = d ∷ doubts
 
--- the states that an open may find where the acknowledged commands make s
-abbrev pub MayFollow : State → Option Change → State → Type 0
-MayFollow s None t = t ≡ s
-MayFollow s (Some c) t = (t ≡ s) ⊎ (t ≡ after s c)
+-- The commands in doubt once that of a line is. A power-on settles those of earlier lives as it opens the disk, also where its
+-- report does not tell what it found; so its own command comes after them.
+abbrev pub joined : Line → List Change → Change → List Change
+joined (lines.On mode) doubts c = doubts ++ c ∷ []
+joined line doubts c = first_of doubts c
 
--- what a line's command does to the state that the acknowledged commands make, and to the command in doubt
-abbrev pub Issues : Option Change → Fate → State → Option Change → (State → Option Change → Type 0) → Type 0
-Issues (Some c) Acknowledged s doubt rest = (doubt ≡ None) × rest (after s c) None
-Issues (Some c) Doubtful s doubt rest = rest s (first_of doubt c)
-Issues (Some c) Refused s doubt rest = rest s doubt
-Issues None fate s doubt rest = rest s doubt
+-- the states that an open may find where the acknowledged commands make s: each command in doubt took effect, or did not
+abbrev pub MayFollow : State → List Change → State → Type 0
+MayFollow s [] t = t ≡ s
+MayFollow s (c ∷ doubts) t = MayFollow s doubts t ⊎ MayFollow (after s c) doubts t
 
--- one line: a found state settles the doubt
-abbrev pub Tells : Option Durable → Line → Printed → State → Option Change → (State → Option Change → Type 0) → Type 0
-Tells (Some found) line said s doubt rest = (t : State) × MayFollow s doubt t × (found ≡ durable_of t) × rest t None
-Tells None line said s doubt rest = Issues (command_of line) (fate_of said) s doubt rest
+-- What a line's command does to the state that the acknowledged commands make, and to the commands in doubt. One that was
+-- acknowledged is none that the table of commands refuses.
+abbrev pub Issues : Line → Option Change → Fate → State → List Change → (State → List Change → Type 0) → Type 0
+Issues line (Some c) Acknowledged s doubts rest = (doubts ≡ []) × (refusal_of s c ≡ None) × rest (after s c) []
+Issues line (Some c) Doubtful s doubts rest = rest s (joined line doubts c)
+Issues line (Some c) Refused s doubts rest = rest s doubts
+Issues line None fate s doubts rest = rest s doubts
+
+-- one line: a found state settles the doubts, and then comes the command of the boot
+abbrev pub Tells : Option Durable → Line → Printed → State → List Change → (State → List Change → Type 0) → Type 0
+Tells (Some found) line said s doubts rest = (t : State) × MayFollow s doubts t × (found ≡ durable_of t) × Issues line (command_of line) (fate_of said) t [] rest
+Tells None line said s doubts rest = Issues line (command_of line) (fate_of said) s doubts rest
 
 -- the lines that are left, where the acknowledged commands make s
-abbrev pub IsPrefixed : State → Option Change → List Line → List Answer → Type 0
-IsPrefixed s doubt [] answers = ⊤
-IsPrefixed s doubt (line ∷ more) [] = ⊥
-IsPrefixed s doubt (line ∷ more) (answer ∷ answers) = Tells answer.found line answer.line s doubt (λ t d. IsPrefixed t d more answers)
+abbrev pub IsPrefixed : State → List Change → List Line → List Answer → Type 0
+IsPrefixed s doubts [] answers = ⊤
+IsPrefixed s doubts (line ∷ more) [] = ⊥
+IsPrefixed s doubts (line ∷ more) (answer ∷ answers) = Tells answer.found line answer.line s doubts (λ t d. IsPrefixed t d more answers)
 
 abbrev pub is_format_ok : Printed → Bool
 is_format_ok printed.Formatted = true
@@ -64,7 +85,7 @@ is_format_ok line = false
 abbrev pub IsFoundByPrefix : List Line → List Answer → Type 0
 IsFoundByPrefix [] answers = ⊤
 IsFoundByPrefix (line ∷ more) [] = ⊥
-IsFoundByPrefix (line ∷ more) (answer ∷ answers) = MatchBool (is_format_ok answer.line) (IsPrefixed formatted None more answers) (IsFoundByPrefix more answers)
+IsFoundByPrefix (line ∷ more) (answer ∷ answers) = MatchBool (is_format_ok answer.line) (IsPrefixed formatted [] more answers) (IsFoundByPrefix more answers)
 
 -- a report: the first answer is the board line's
 abbrev pub KeepsPrefixLaw : List Line → List Answer → Type 0

@@ -1,6 +1,6 @@
 -- What a line of a script may answer, and what the bench then is. Source: docs/SCRIPT.md.
-use Rattle.std.specs.Prelude.{◌≡◌, ◌≢◌, ℕ, ◌+◌, ◌<◌, ◌⊎◌, true, false, List, [], ◌∷◌, ◌++◌, Option, Some, None, is_some, if◌then◌else◌, ⊤}
-use Rattle.board_model.specs.Durable.{State, Change, Slot, refusal_of, after}
+use Rattle.std.specs.Prelude.{◌≡◌, ◌≢◌, ℕ, ◌+◌, ◌<◌, ◌⊎◌, true, false, List, [], ◌∷◌, ◌++◌, Option, Some, None, ⊤}
+use Rattle.board_model.specs.Durable.{State, Change, Slot, Discard, refusal_of, after}
 use Rattle.board_model.specs.Kept.{Kept, nothing_kept, MayKeep, found_of}
 use Rattle.board_model.specs.Shown.{durable_of}
 use Rattle.board_model.specs.declared.durable.Durable.{Durable}
@@ -8,6 +8,7 @@ use Rattle.disk.specs.Facts.{counted}
 use Rattle.disk.specs.Mishaps.{Mishaps, Cause, mishaps_left}
 use Rattle.board_model.specs.declared.boot_mode.BootMode.{BootMode}
 use Rattle.board_model.specs.declared.boot_mode.BootMode.TheVariants as modes
+use Rattle.board.specs.Boots.{boot_refusal}
 use Rattle.script_lang.specs.declared.line.Line.{Line}
 use Rattle.script_lang.specs.declared.line.Line.TheVariants as lines
 use Rattle.machine_lines.specs.declared.line.MachineLine.{MachineLine}
@@ -55,20 +56,43 @@ FormatsOn (Formatted kept) b answer new =
     ((answer ≡ says (printed.FormatRefused 2)) × (new ≡ b))
     ⊎ ((answer ≡ says (printed.FormatRefused 5)) × IsHindered b new)
 
--- the number with which a boot is refused, by whether an image stands
-abbrev pub boot_refusal : State → BootMode → Option ℕ
-boot_refusal s modes.Fresh = if is_some s.image then Some 15 else None
-boot_refusal s modes.Keep = None
-boot_refusal s modes.Discard = if is_some s.image then None else Some 8
-boot_refusal s modes.Resume = if is_some s.image then None else Some 8
-
+-- a life that an open begins
 abbrev pub begun : State → Life
 begun s = record { now = s; receipts = 0; doubt = None }
 
--- the boot, after an open that left this medium; there may be no memory for the board
+-- the medium after an acknowledged command, and with one in doubt
+abbrev pub keeps : Change → Medium → Medium
+keeps c Blank = Blank
+keeps c Unknown = Unknown
+keeps c (Formatted kept) = Formatted (record kept { changes = kept.changes ++ c ∷ [] })
+
+abbrev pub doubts : Change → Medium → Medium
+doubts c Blank = Blank
+doubts c Unknown = Unknown
+doubts c (Formatted kept) = Formatted (record kept { doubt = Some c })
+
+-- a life after an acknowledged command, and with one in doubt
+abbrev pub went_on : Change → Life → Life
+went_on c life = record life { now = after life.now c; receipts = life.receipts + 1 }
+
+abbrev pub doubtful : Change → Life → Life
+doubtful c life = record life { doubt = Some c }
+
+-- The boot of a mode that is allowed, once there is memory for the board, after an open that left this medium. By `discard` the
+-- life begins with its command acknowledged, which may be refused, or be left in doubt; an image cannot be loaded yet.
+abbrev pub Begins : BootMode → State → Medium → Bench → Printed → Bench → Type 0
+Begins modes.Fresh s medium b line new = (line ≡ printed.On modes.Fresh) × (new ≡ on_with medium (begun s) b)
+Begins modes.Keep s medium b line new = (line ≡ printed.On modes.Keep) × (new ≡ on_with medium (begun s) b)
+Begins modes.Discard s medium b line new =
+    ((line ≡ printed.On modes.Discard) × (new ≡ on_with (keeps Discard medium) (went_on Discard (begun s)) b))
+    ⊎ ((line ≡ printed.OnRefused 5) × IsHindered (off_with medium b) new)
+    ⊎ ((line ≡ printed.OnRefused 6) × IsHindered (off_with (doubts Discard medium) b) new)
+Begins modes.Resume s medium b line new = (line ≡ printed.OnRefused 13) × (new ≡ off_with medium b)
+
+-- the boot, by the number with which the state refuses the mode; there may be no memory for the board
 abbrev pub BootsAs : Option ℕ → BootMode → State → Medium → Bench → Printed → Bench → Type 0
 BootsAs None mode s medium b line new =
-    ((line ≡ printed.On mode) × (new ≡ on_with medium (begun s) b))
+    Begins mode s medium b line new
     ⊎ ((line ≡ printed.OnRefused 11) × (new ≡ starved (off_with medium b)))
 BootsAs (Some n) mode s medium b line new = (line ≡ printed.OnRefused n) × (new ≡ off_with medium b)
 
@@ -96,24 +120,6 @@ PowersOn mode b answer new =
     ⊎ ((n : ℕ) × IsOpenRefusal b.medium n × (answer ≡ says (printed.OnRefused n)) × (new ≡ b))
     ⊎ ((answer ≡ says (printed.OnRefused 11)) × (new ≡ starved b))
     ⊎ ((answer ≡ says (printed.OnRefused 5)) × IsHindered b new)
-
--- the medium after an acknowledged command, and with one in doubt
-abbrev pub keeps : Change → Medium → Medium
-keeps c Blank = Blank
-keeps c Unknown = Unknown
-keeps c (Formatted kept) = Formatted (record kept { changes = kept.changes ++ c ∷ [] })
-
-abbrev pub doubts : Change → Medium → Medium
-doubts c Blank = Blank
-doubts c Unknown = Unknown
-doubts c (Formatted kept) = Formatted (record kept { doubt = Some c })
-
--- a life after an acknowledged command, and with one in doubt
-abbrev pub went_on : Change → Life → Life
-went_on c life = record life { now = after life.now c; receipts = life.receipts + 1 }
-
-abbrev pub doubtful : Change → Life → Life
-doubtful c life = record life { doubt = Some c }
 
 -- a command's place in the life or its refusal, as a line: with a command in doubt, and without
 abbrev pub Commands : Option Change → Option ℕ → Change → Life → (ℕ → Printed) → (ℕ → Printed) → Bench → Answer → Bench → Type 0

@@ -21,7 +21,8 @@ pub fn one_report()
 
 /// The prefix law, over each whole run: whatever memory was refused, whatever failed and wherever power was cut, from
 /// the first `format ok` on each power-on finds what the one before it found, with each command that was acknowledged
-/// since, in order, and after them at most the one command in doubt.
+/// since, in order, and after them at most the one in doubt of each life since. A power-on by `discard` issues its command
+/// after what it found.
 pub fn prefix_law()
     ensures { (script : Script) (answers : List Answer) (end : Bench) → IsReport script answers end → KeepsPrefixLaw script.lines answers }
 {}

@@ -1,15 +1,14 @@
 //! One line of a script.
 
 ghost use Rattle.std.specs.Prelude.{◌≡◌, ℕ, List, Some, None, Err, IfOk, OnOk, OnErr, true, IsTrue, ◌↔◌};
-ghost use Rattle.board_model.specs.Durable.{State, Slot, refusal_of};
+ghost use Rattle.board_model.specs.Durable.{Slot, refusal_of};
 ghost use Rattle.board_model.specs.Shapes.{Size};
-ghost use Rattle.board_model.specs.Shown.{durable_of};
 ghost use Rattle.store.specs.Leaves.{IsIdle};
-ghost use Rattle.bench_report.specs.Below.{IsAs, store_in, machine_in, facts, store_size, store_mishaps, store_facts};
-ghost use Rattle.bench_report.specs.Bench.{Bench, Life, Medium};
-ghost use Rattle.bench_report.specs.Steps.{FormatsOn, PowersOn, FormatStep, OnStep, SlotStep, Step, Commands, BootsAs, ShowsFound, boot_refusal, begun, off_with, unpowered, says};
+ghost use Rattle.bench_report.specs.Below.{store_in, machine_in, facts};
+ghost use Rattle.bench_report.specs.Bench.{Bench, Life};
+ghost use Rattle.bench_report.specs.Steps.{FormatsOn, PowersOn, FormatStep, OnStep, SlotStep, Step, Commands, off_with, unpowered, says};
 ghost use Rattle.bench_report.specs.Whole.{Whole, WholeStep, WholeMoves};
-ghost use Rattle.bench_report.specs.Agree.{MachineIs, KeepsPayload, MakesTurns, Agrees, DeviceIs, Follows, IsResting, OffIs, OnIs, AreShort, WholeIs, Carried, Reads};
+ghost use Rattle.bench_report.specs.Agree.{MachineIs, KeepsPayload, MakesTurns, Agrees, IsResting, OffIs, OnIs, AreShort, WholeIs, Carried, Reads};
 ghost use Rattle.machine_lines.specs.Shows.{TurnsLine, reg_line, pc_line, CsrLine, mem_line};
 ghost use Rattle.machine.specs.Machine.{Machine};
 ghost use Rattle.board_model.specs.declared.refusal.Refusal.TheVariants.{Memory};
@@ -17,13 +16,13 @@ ghost use Rattle.board_model.specs.declared.refusal.Refusal.TheVariants.{Memory}
 use crate::power::Power;
 use crate::printed::{Answer, Printed};
 use board::{Board, Payloads};
-use board_model::{BootMode, Command, Durable, HartId, Refusal, Shape};
+use board_model::{BootMode, Command, HartId, Refusal, Shape};
 use disk::Disk;
 use machine_lines::MachineLine;
 use script_lang::{Bytes, Fill, Line};
 use simdisk::{Choice, SimDisk};
 use std::alloc::Global;
-use store::{Store, format};
+use store::format;
 
 fn says(line: Printed) -> Answer
     ensures { result ≡ says line }
@@ -44,7 +43,7 @@ fn format_disk(shape: &Shape, mut disk: SimDisk) -> (Power, Answer)
     }
 }
 
-/// Opens the disk of a board that is off, and boots.
+/// Powers a board on that is off.
 fn power_on(alloc: Global, mode: BootMode, disk: SimDisk, payloads: &Payloads) -> (Power, Answer)
     requires idle { IsIdle (facts disk) }
     requires short { AreShort payloads.now }
@@ -52,83 +51,21 @@ fn power_on(alloc: Global, mode: BootMode, disk: SimDisk, payloads: &Payloads) -
     ensures carried { Carried payloads.now result.0 (Power.Off disk) }
     ensures resting { IsResting result.0 }
 {
-    match Store::open(alloc, disk) {
-        Ok(store) => boot(alloc, mode, store, payloads),
-        Err((disk, e)) => (Power::Off(disk), says(Printed::OnRefused(e.code()))),
-    }
-}
-
-/// The number with which a boot is refused.
-fn boot_refusal(mode: BootMode, found: &Durable) -> Option<u32>
-    ensures { (s : State) → found.now ≡ durable_of s → result ≡ boot_refusal s mode }
-{
-    let stands = found.image.is_some();
-    match mode {
-        BootMode::Keep => None,
-        BootMode::Fresh => { if stands { Some(15) } else { None } }
-        BootMode::Discard => { if stands { None } else { Some(8) } }
-        BootMode::Resume => { if stands { None } else { Some(8) } }
-    }
-}
-
-/// Boots a store that was just opened.
-fn boot(
-    alloc: Global,
-    mode: BootMode,
-    store: Store<SimDisk>,
-    payloads: &Payloads,
-) -> (Power, Answer)
-    requires short { AreShort payloads.now }
-    ensures told { (size : Size) (b : Bench) (s : State) (m : Medium) → IsAs store s 0 None → Follows size m (begun s) (store_size store)
-        → DeviceIs size b (store_mishaps store) (store_facts store)
-        → (new : Bench) × ShowsFound result.1.found s × BootsAs (boot_refusal s mode) mode s m b result.1.line new × Agrees size new result.0 }
-    ensures carried { (disk : SimDisk) → Carried payloads.now result.0 (Power.Off disk) }
-    ensures resting { IsResting result.0 }
-{
-    let found = store.now();
-    match boot_refusal(mode, &found) {
-        None => start(alloc, mode, store, payloads, found),
-        Some(n) => (
-            Power::Off(store.into_disk()),
-            Answer {
-                found: Some(found),
-                line: Printed::OnRefused(n),
-            },
-        ),
-    }
-}
-
-/// Boots the slot.
-fn start(
-    alloc: Global,
-    mode: BootMode,
-    store: Store<SimDisk>,
-    payloads: &Payloads,
-    found: Durable,
-) -> (Power, Answer)
-    requires short { AreShort payloads.now }
-    ensures told { (size : Size) (b : Bench) (s : State) (m : Medium) → IsAs store s 0 None → Follows size m (begun s) (store_size store)
-        → DeviceIs size b (store_mishaps store) (store_facts store)
-        → (new : Bench) × BootsAs None mode s m b result.1.line new × Agrees size new result.0 }
-    ensures found { result.1.found ≡ Some found }
-    ensures carried { (disk : SimDisk) → Carried payloads.now result.0 (Power.Off disk) }
-    ensures resting { IsResting result.0 }
-{
-    match Board::start(alloc, store, payloads) {
-        Ok(board) => (
-            Power::On(board),
-            Answer {
-                found: Some(found),
+    match Board::power_on(alloc, disk, mode, payloads) {
+        Ok(board) => {
+            let booted = Answer {
+                found: Some(board.found()),
                 line: Printed::On(mode),
-            },
-        ),
-        Err((store, refusal)) => (
-            Power::Off(store.into_disk()),
-            Answer {
-                found: Some(found),
-                line: Printed::OnRefused(refusal.code()),
-            },
-        ),
+            };
+            (Power::On(board), booted)
+        }
+        Err(unpowered) => {
+            let refused = Answer {
+                found: unpowered.found,
+                line: Printed::OnRefused(unpowered.refusal.code()),
+            };
+            (Power::Off(unpowered.disk), refused)
+        }
     }
 }
 

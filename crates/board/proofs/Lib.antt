@@ -1,3 +1,4 @@
 mod Mapped
 mod Doubted
 mod Refused
+mod Moments

@@ -1,3 +1,4 @@
 pub mod Boots
 pub mod Boards
 pub mod Unbooted
+pub mod Moments

@@ -3,7 +3,7 @@
 use crate::payloads::Payloads;
 use crate::ready::{ready, started};
 use board_model::{BootMode, Command, Durable, HartId, Refusal, Shape};
-use disk::Disk;
+use disk::{ArmedFault, Disk};
 use hart::Hart;
 use machine::{Machine, Turned};
 use ram::Ram;
@@ -46,8 +46,10 @@ impl<D: Disk + Drop> Board<D> {
     ghost use Rattle.board_model.specs.Durable.{State, Change, after};
     ghost use Rattle.board_model.specs.Shapes.{Size, ram_bytes_of};
     ghost use Rattle.board_model.specs.Shown.{durable_of, change_of};
-    ghost use Rattle.disk.specs.Facts.{Leaves_only, Failed};
-    ghost use Rattle.store.specs.Leaves.{IsIdle, SameLength, Leaves, LeavesOnly, LeavesEither};
+    ghost use Rattle.disk.specs.Facts.{Leaves_only, Failed, Unchanged};
+    ghost use Rattle.disk.specs.Mishaps.{armed_by};
+    ghost use Rattle.store.specs.Standing.{StandsFor};
+    ghost use Rattle.store.specs.Leaves.{IsIdle, SameLength, Leaves, LeavesOnly, LeavesEither, StandsForEither};
     ghost use Rattle.store.specs.Opens.{OpenRefused, CausedRefusal};
     ghost use Rattle.store.specs.Lives.{Applied};
     ghost use Rattle.store.specs.Stores.{disk_of, mishaps_of, size_of_store, life_of, found_state, now_state, doubt_of, failures_at_open, Stands, Doubts};
@@ -55,9 +57,15 @@ impl<D: Disk + Drop> Board<D> {
     ghost use Rattle.machine.specs.Turns.{Turns, TurnsMany};
     ghost use Rattle.board.specs.Boots.{IsConsoleCommand, life_after, boot_refusal, Fits, booted};
     ghost use Rattle.board.specs.Boards.{store_of, machine_of};
+    ghost use Rattle.board.specs.Moments.{issued_by, MayLeave};
     ghost use Rattle.board.specs.Unbooted.{IsStartRefusal, IsBootRefusal, doubt_after, LeavesLife, CountsRefusal};
 
-    /// Powers a board on: opens the disk, and boots by the mode.
+    /// Powers a board on: opens the disk, and boots by the mode (docs/BOARD.md, "Power on").
+    ///
+    /// Refused as `Store::open` says; then `ImageThere` for fresh where an image stands, `NoImage` for discard and resume
+    /// where none does; then `BadShape` where any of the four payloads is longer than RAM, in every mode; then `Memory`;
+    /// then for discard `Device` and `Down`, and for resume `BadImage`, until images can be loaded. A refusal gives the
+    /// disk back. After each the durable state is the one found, but after `Down` it may be the one without the image.
     pub fn power_on(
         alloc: Global,
         disk: D,
@@ -66,22 +74,28 @@ impl<D: Disk + Drop> Board<D> {
     ) -> Result<Board<D>, Unpowered<D>>
         requires { IsIdle (D.facts disk) }
         // Where the board is on, the life begins in the state found, with the command that the mode issues.
+        ensures reads { IfOk result (λ board. StandsFor (D.facts disk).content (size_of_store (store_of board)) (found_state (store_of board))) }
         ensures found { IfOk result (λ board. Leaves (D.facts disk) (size_of_store (store_of board)) (found_state (store_of board))) }
         ensures life { IfOk result (λ board. life_of (store_of board) ≡ life_after mode (found_state (store_of board))) }
         ensures only { IfOk result (λ board. LeavesOnly (disk_of (store_of board)) (size_of_store (store_of board)) (now_state (store_of board))) }
+
+        // Each crash since the call's start leaves what a crash just before could have left, or, where the mode issues a
+        // command, the state found before or after it.
+        ensures any_moment { IfOk result (λ board. Leaves_only (D.facts disk) (disk_of (store_of board))
+            (MayLeave (D.facts disk) (size_of_store (store_of board)) (found_state (store_of board)) (issued_by mode))) }
 
         // It boots the slot, where the mode is allowed and the payloads fit.
         ensures allowed { IfOk result (λ board. (boot_refusal (found_state (store_of board)) mode ≡ None) × Fits (size_of_store (store_of board)) payloads.now) }
         ensures boots { IfOk result (λ board. machine_of board ≡ booted payloads.now (now_state (store_of board)) (size_of_store (store_of board))) }
 
         // A refusal after the open leaves the state found, but for a command in doubt.
-        ensures refused { IfErr result (λ e. IfSome e.found (λ d. (size : Size) × (s : State) × (d ≡ durable_of s) × Leaves (D.facts disk) size s
+        ensures refused { IfErr result (λ e. IfSome e.found (λ d. (size : Size) × (s : State) × (d ≡ durable_of s) × StandsFor (D.facts disk).content size s × Leaves (D.facts disk) size s
             × IsBootRefusal (boot_refusal s mode) size mode payloads.now e.refusal × LeavesLife (doubt_after e.refusal) (D.facts e.disk) size s)) }
         ensures now { IfErr result (λ e. e.now ≡ e.found) }
 
         // A refused open, since whose start a crash leaves what it could have left just before.
         ensures unopened { IfErr result (λ e. e.found ≡ None → OpenRefused (D.facts disk) e.refusal (D.facts e.disk)) }
-        ensures any_moment { IfErr result (λ e. e.found ≡ None → Leaves_only (D.facts disk) (D.facts e.disk) (D.facts disk).may_leave) }
+        ensures unopened_moments { IfErr result (λ e. e.found ≡ None → Leaves_only (D.facts disk) (D.facts e.disk) (D.facts disk).may_leave) }
 
         // The disk stays as long, nothing of it is lent, and each refusal by its failure has a cause and is counted.
         ensures length { MatchResult result (λ board. SameLength (D.facts disk) (disk_of (store_of board))) (λ e. SameLength (D.facts disk) (D.facts e.disk)) }
@@ -89,6 +103,7 @@ impl<D: Disk + Drop> Board<D> {
         ensures cause { MatchResult result (λ board. mishaps_of (store_of board) ≡ D.mishaps disk) (λ e. CausedRefusal (D.mishaps disk) e.refusal (D.mishaps e.disk)) }
         ensures counts { MatchResult result (λ board. (D.facts disk).failures ≤ (disk_of (store_of board)).failures) (λ e. CountsRefusal (D.facts disk).failures e.refusal (D.facts e.disk).failures) }
         ensures no_fewer { IfErr result (λ e. (D.facts disk).failures ≤ (D.facts e.disk).failures) }
+        ensures opened { IfOk result (λ board. failures_at_open (store_of board) ≡ (D.facts disk).failures) }
     {
         let mut store = match Store::open(alloc, disk) {
             Ok(store) => store,
@@ -139,6 +154,19 @@ impl<D: Disk + Drop> Board<D> {
         &self.machine
     }
 
+    /// Arms a fault of the disk in place of an older one. That is no call of the disk, and the board stays as it is; a
+    /// disk may ignore what is armed.
+    pub fn arm(&mut self, fault: ArmedFault)
+        ensures machine { machine_of self.new ≡ machine_of self.old }
+        ensures life { life_of (store_of self.new) ≡ life_of (store_of self.old) }
+        ensures board { size_of_store (store_of self.new) ≡ size_of_store (store_of self.old) }
+        ensures facts { Unchanged (disk_of (store_of self.old)) (disk_of (store_of self.new)) }
+        ensures armed { mishaps_of (store_of self.new) ≡ record (mishaps_of (store_of self.old)) { armed = armed_by fault } }
+        ensures opened { failures_at_open (store_of self.new) ≡ failures_at_open (store_of self.old) }
+    {
+        self.store.arm(fault);
+    }
+
     /// Whether an armed cut has struck the disk.
     pub fn struck(&self) -> bool
         ensures { result ≡ (mishaps_of (store_of self.now)).struck }
@@ -151,6 +179,7 @@ impl<D: Disk + Drop> Board<D> {
     pub fn turn(&mut self, hart: HartId) -> Turned
         requires { hart < length (machine_of self.old).harts }
         ensures turns { Turns hart (machine_of self.old) (machine_of self.new) result }
+        ensures harts { length (machine_of self.new).harts ≡ length (machine_of self.old).harts }
         ensures store { store_of self.new ≡ store_of self.old }
     {
         self.machine.turn(hart)
@@ -197,6 +226,7 @@ impl<D: Disk + Drop> Board<D> {
         requires hart { hart < length (machine_of self.old).harts }
         requires some { 1 ≤ count }
         ensures turns { TurnsMany hart count (machine_of self.old) (machine_of self.new) result }
+        ensures harts { length (machine_of self.new).harts ≡ length (machine_of self.old).harts }
         ensures store { store_of self.new ≡ store_of self.old }
     {
         self.machine.turns(hart, count)
@@ -212,7 +242,9 @@ impl<D: Disk + Drop> Board<D> {
         ensures up { doubt_of (store_of self.old) ≡ None → Applied (life_of (store_of self.old)) (change_of command) result (life_of (store_of self.new)) }
         ensures down { (c : Change) → doubt_of (store_of self.old) ≡ Some c → (result ≡ Err Refusal.Down) × (store_of self.new ≡ store_of self.old) }
 
-        // What a crash leaves.
+        // What a crash leaves at any moment of the call, and after it.
+        ensures any_moment { doubt_of (store_of self.old) ≡ None → Leaves_only (disk_of (store_of self.old)) (disk_of (store_of self.new))
+            (StandsForEither (size_of_store (store_of self.old)) (now_state (store_of self.old)) (after (now_state (store_of self.old)) (change_of command))) }
         ensures acknowledged { OnOk result (LeavesOnly (disk_of (store_of self.new)) (size_of_store (store_of self.old)) (after (now_state (store_of self.old)) (change_of command))) }
         ensures unchanged { IfErr result (λ e. (e ≡ Refusal.Down → ⊥) → LeavesOnly (disk_of (store_of self.new)) (size_of_store (store_of self.old)) (now_state (store_of self.old))) }
         ensures in_doubt { doubt_of (store_of self.old) ≡ None → IsErrOf result Refusal.Down

@@ -8,9 +8,10 @@ ghost use Rattle.disk.specs.Facts.{Leaves_only};
 ghost use Rattle.store.specs.Leaves.{LeavesOnly, LeavesEither, SameLength, IsIdle};
 ghost use Rattle.store.specs.Opens.{CausedRefusal};
 ghost use Rattle.store.specs.Lives.{begun};
-ghost use Rattle.store.specs.Stores.{disk_of, mishaps_of, size_of_store, life_of, found_state, now_state, doubt_of};
+ghost use Rattle.store.specs.Stores.{disk_of, mishaps_of, size_of_store, life_of, found_state, now_state, doubt_of, failures_at_open};
 ghost use Rattle.machine.specs.Machine.{resting};
 ghost use Rattle.board.specs.Boots.{life_after, boot_refusal, Fits, booted};
+ghost use Rattle.board.specs.Moments.{issued_by, gone_before, GoesOn};
 ghost use Rattle.board.specs.Unbooted.{IsStartRefusal, IsBootRefusal, IsIssueRefusal, RefusesMode, life_refused, CountsRefusal};
 ghost use Rattle.board_model.specs.declared.boot_mode.BootMode.TheVariants as modes;
 
@@ -48,6 +49,10 @@ fn issue<D: Disk + Drop>(store: &mut Store<D>, mode: BootMode) -> Result<(), Ref
     ensures only { OnOk result (LeavesOnly (disk_of store.new) (size_of_store store.new) (now_state store.new)) }
     ensures refused { IfErr result (λ e. IsIssueRefusal mode e) }
     ensures left { IfErr result (λ e. life_of store.new ≡ life_refused e (found_state store.old)) }
+    ensures any_moment { MatchResult result
+        (λ _. GoesOn (disk_of store.old) (disk_of store.new) (size_of_store store.old) (found_state store.old) (issued_by mode))
+        (λ e. GoesOn (disk_of store.old) (disk_of store.new) (size_of_store store.old) (found_state store.old) (gone_before e)) }
+    ensures opened { failures_at_open store.new ≡ failures_at_open store.old }
     ensures length { SameLength (disk_of store.old) (disk_of store.new) }
     ensures no_fewer { (disk_of store.old).failures ≤ (disk_of store.new).failures }
     ensures cause { MatchResult result (λ _. mishaps_of store.new ≡ mishaps_of store.old) (λ e. CausedRefusal (mishaps_of store.old) e (mishaps_of store.new)) }
@@ -109,6 +114,10 @@ pub fn ready<D: Disk + Drop>(
     ensures machine { IfOk result (λ m. m ≡ booted payloads.now (now_state store.new) (size_of_store store.new)) }
     ensures refused { IfErr result (λ e. IsBootRefusal (boot_refusal (found_state store.old) mode) (size_of_store store.old) mode payloads.now e) }
     ensures left { IfErr result (λ e. life_of store.new ≡ life_refused e (found_state store.old)) }
+    ensures any_moment { MatchResult result
+        (λ _. GoesOn (disk_of store.old) (disk_of store.new) (size_of_store store.old) (found_state store.old) (issued_by mode))
+        (λ e. GoesOn (disk_of store.old) (disk_of store.new) (size_of_store store.old) (found_state store.old) (gone_before e)) }
+    ensures opened { failures_at_open store.new ≡ failures_at_open store.old }
     ensures length { SameLength (disk_of store.old) (disk_of store.new) }
     ensures no_fewer { (disk_of store.old).failures ≤ (disk_of store.new).failures }
     ensures cause { MatchResult result (λ _. mishaps_of store.new ≡ mishaps_of store.old) (λ e. CausedRefusal (mishaps_of store.old) e (mishaps_of store.new)) }

@@ -4,6 +4,8 @@
 mod laws;
 mod machine;
 mod status;
+#[cfg(test)]
+mod tests;
 
 pub use laws::one_turn;
 pub use machine::Machine;

@@ -3,6 +3,7 @@ use Rattle.store.specs.Lives.{begun}
 use Rattle.store.specs.Stores.{found_state}
 use Rattle.board.specs.Boots.{boot_refusal}
 use Rattle.board.specs.Unbooted.{RefusesMode}
+use Rattle.board.proofs.Moments.{stays_here}
 use Rattle.board.proofs.Refused.{refusal_is_quiet, allowed_none}
 use Rattle.board.proofs.ready.ready.Goals as goal
 
@@ -21,3 +22,8 @@ pub returns-in-Some-clause-counts : goal.returns-in-Some-clause-counts
 returns-in-Some-clause-counts g c =
     let refuses : RefusesMode (boot_refusal (found_state c.args.store.now) c.args.mode) (Some c.in-Some.refusal) = search rules in
     (refusal_is_quiet _ _ refuses).no_failure _
+
+pub returns-in-Some-clause-any_moment : goal.returns-in-Some-clause-any_moment
+returns-in-Some-clause-any_moment g c =
+    let refuses : RefusesMode (boot_refusal (found_state c.args.store.now) c.args.mode) (Some c.in-Some.refusal) = search rules in
+    stays_here _ _ _ _ (refusal_is_quiet _ _ refuses).not_gone

@@ -1,6 +1,7 @@
 use Rattle.std.proofs.Common.{rules, ◌≡◌, sym, ◌∙◌, ap, refl, subst}
 use Rattle.board_model.specs.Shown.{durable_of}
 use Rattle.store.specs.Leaves.{Leaves}
+use Rattle.store.specs.Standing.{StandsFor}
 use Rattle.store.specs.Lives.{Life, now_of}
 use Rattle.store.specs.Stores.{size_of_store, found_state, life_of}
 use Rattle.board.specs.Boots.{boot_refusal}
@@ -20,6 +21,7 @@ returns-in-Err-ready-clause-refused g c =
     let doubt = ap (λ (x : Life). x.doubt) life in
     let left : LeavesLife (doubt_after c.in-Err-ready.refusal) disk (size_of_store c.ready.new.store) s =
     leaves_life _ disk _ s (λ up. c.into_disk.ensures.up s (doubt ∙ up, now)) (λ d down. c.into_disk.ensures.down s _ (d, doubt ∙ down, now, refl)) in
+    let reads : StandsFor (g.D.Disk.facts c.args.disk).content size s = search rules in
     let found : Leaves (g.D.Disk.facts c.args.disk) size s = search rules in
     let why : IsBootRefusal (boot_refusal s c.args.mode) size c.args.mode c.args.payloads.now c.in-Err-ready.refusal = search rules in
-    (size, s, c.found.ensures ∙ ap (λ (x : Life). durable_of x.found) life, found, why, subst (λ z. LeavesLife (doubt_after c.in-Err-ready.refusal) disk z s) as_was left)
+    (size, s, c.found.ensures ∙ ap (λ (x : Life). durable_of x.found) life, reads, found, why, subst (λ z. LeavesLife (doubt_after c.in-Err-ready.refusal) disk z s) as_was left)
