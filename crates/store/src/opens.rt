@@ -9,7 +9,7 @@ ghost use Rattle.layout.specs.declared.records.Record.{Record};
 ghost use Rattle.store.specs.Leaves.{IsIdle};
 ghost use Rattle.store.specs.Standing.{selected, Selects};
 ghost use Rattle.store.specs.Commits.{IsUp};
-ghost use Rattle.store.specs.Opens.{IsBoard, OpenRefused, CausedRefusal};
+ghost use Rattle.store.specs.Opens.{IsBoard, IsUnrecorded, OpenRefused, CausedRefusal};
 
 use crate::commits::{GATE, RECORDS};
 use board_model::{Refusal, Shape};
@@ -70,7 +70,7 @@ fn find_record<D: Disk>(disk: &mut D, shape: Shape) -> Result<Found, Refusal>
     requires board { IsBoard shape (D.facts disk.old).content }
     ensures found { IfOk result (λ found. Selects found.shape found.side found.record (D.facts disk.old).content) }
     ensures known { IfOk result (λ found. found.side < 2) }
-    ensures refused { IfErr result (λ e. ((e ≡ Refusal.BadRecord) × ((size : Size) (side : ℕ) (r : Record) → Selects size side r (D.facts disk.old).content → ⊥))
+    ensures refused { IfErr result (λ e. ((e ≡ Refusal.BadRecord) × IsUnrecorded shape (D.facts disk.old).content)
         ⊎ ((e ≡ Refusal.Device) × Failed (D.facts disk.old).failures (D.facts disk.new).failures)) }
     ensures content { (D.facts disk.new).content ≡ (D.facts disk.old).content }
     ensures crash { Passes (D.facts disk.old) (D.facts disk.new) Stays }
