@@ -1,5 +1,5 @@
 -- What the clauses of format, open and into_disk say of disks of which a crash leaves a state, or no mark.
-use Rattle.std.proofs.Common.{◌≡◌, ◌⊎◌, inl, inr, ⊎_elim, ℕ, ◌<◌, ◌≤◌, length, refl, sym, subst, arith}
+use Rattle.std.proofs.Common.{◌≡◌, ◌⊎◌, inl, inr, ⊎_elim, ◌<◌, ◌≤◌, length, refl, sym, subst, arith}
 use Rattle.board_model.specs.Durable.{State}
 use Rattle.board_model.specs.Shapes.{Size, sectors_of}
 use Rattle.board_model.specs.declared.refusal.Refusal.{Refusal}
@@ -10,6 +10,7 @@ use Rattle.layout.proofs.Spellings.{superblock_has_magic}
 use Rattle.store.specs.Standing.{StandsFor}
 use Rattle.store.specs.Leaves.{Leaves, IsKept, IsBlank, NoMore}
 use Rattle.store.specs.Opens.{OpenRefused, FormatRefused}
+use Rattle.store.proofs.Reading.{one_refusal, of_standing}
 
 -- a crash now leaves only what a crash could leave before: after a cut, after an open and after a format that finds the mark
 abbrev pub LeavesNoMore : Facts → Facts → Type 0
@@ -49,33 +50,10 @@ pub kept_marked : (disk : Facts) (size : Size) → IsKept disk size → disk.may
 unfolding IsKept
 kept_marked disk size kept may_keep = let found = kept disk.content may_keep in stands_marked disk.content size found.0 found.1
 
--- an open of what stands for a state is refused 5 or 11 alone
-pub stands_open : (disk new : Facts) (size : Size) (s : State) (e : Refusal) → StandsFor disk.content size s → OpenRefused disk e new → (e ≡ Device) ⊎ (e ≡ Memory)
-unfolding StandsFor
-stands_open disk new size s NotFormatted stands why = absurd (why.1 (superblock_has_magic size (sector disk.content 0) stands.2.board))
-stands_open disk new size s AlreadyFormatted stands why = absurd why
-stands_open disk new size s BadShape stands why =
-    absurd (⊎_elim (λ none. long (length disk.content) (sectors_of size) stands.2.enough none (omega arith)) (λ bad. bad.1 size (stands.2.board, stands.2.enough)) why)
-  where
-    long : (n m : ℕ) → m ≤ n → n ≡ 0 → 0 < m → ⊥
-    long n m le none some = omega arith
-stands_open disk new size s BadRecord stands why = absurd (why.1 size stands.0 stands.1 stands.2)
-stands_open disk new size s Device stands why = inl refl
-stands_open disk new size s Down stands why = absurd why
-stands_open disk new size s Over stands why = absurd why
-stands_open disk new size s NoImage stands why = absurd why
-stands_open disk new size s BadSlot stands why = absurd why
-stands_open disk new size s JournalFull stands why = absurd why
-stands_open disk new size s Memory stands why = inr refl
-stands_open disk new size s SerialsSpent stands why = absurd why
-stands_open disk new size s BadImage stands why = absurd why
-stands_open disk new size s (BadScript line) stands why = absurd why
-stands_open disk new size s ImageThere stands why = absurd why
-stands_open disk new size s Output stands why = absurd why
-
+-- an open of what each crash leaves standing for a state is refused 5 or 11 alone
 pub kept_open : (disk new : Facts) (size : Size) (e : Refusal) → IsKept disk size → disk.may_leave disk.content → OpenRefused disk e new → (e ≡ Device) ⊎ (e ≡ Memory)
 unfolding IsKept
-kept_open disk new size e kept may_keep why = let found = kept disk.content may_keep in stands_open disk new size found.0 e found.1 why
+kept_open disk new size e kept may_keep why = let found = kept disk.content may_keep in of_standing disk new size found.0 e found.1 why
 
 -- and a format of it 2 or 5 alone
 pub kept_format : (disk new : Facts) (size : Size) (e : Refusal) → sectors_of size ≤ length disk.content → FormatRefused disk size e new → (e ≡ AlreadyFormatted) ⊎ (e ≡ Device)
@@ -112,21 +90,6 @@ module _ (disk new : Facts) (blank : IsBlank disk) (may_keep : disk.may_leave di
       marked : (f : Refusal) → f ≡ AlreadyFormatted → FormatRefused disk size f new → ⊥
       marked f is why = blank_unmarked (subst (λ (d : Refusal). FormatRefused disk size d new) is why).0
 
-  -- an open of it is refused 1, 5 or 11 alone, where it has a sector
-  pub blank_open : (e : Refusal) → 0 < length disk.content → OpenRefused disk e new → (e ≡ NotFormatted) ⊎ (e ≡ Device) ⊎ (e ≡ Memory)
-  blank_open NotFormatted some why = inl refl
-  blank_open AlreadyFormatted some why = absurd why
-  blank_open BadShape some why = absurd (⊎_elim (λ none. omega (arith, none, some)) (λ bad. blank_unmarked bad.0) why)
-  blank_open BadRecord some why = absurd (blank_unmarked why.0)
-  blank_open Device some why = inr (inl refl)
-  blank_open Down some why = absurd why
-  blank_open Over some why = absurd why
-  blank_open NoImage some why = absurd why
-  blank_open BadSlot some why = absurd why
-  blank_open JournalFull some why = absurd why
-  blank_open Memory some why = inr (inr refl)
-  blank_open SerialsSpent some why = absurd why
-  blank_open BadImage some why = absurd why
-  blank_open (BadScript line) some why = absurd why
-  blank_open ImageThere some why = absurd why
-  blank_open Output some why = absurd why
+  -- an open of it is refused 1 or 5 alone, where it has a sector
+  pub blank_open : (e : Refusal) → 0 < length disk.content → OpenRefused disk e new → (e ≡ NotFormatted) ⊎ (e ≡ Device)
+  blank_open e some why = one_refusal disk new NotFormatted e (some, blank_unmarked) why

@@ -4,10 +4,9 @@ use Rattle.board_model.specs.Shapes.{Size}
 use Rattle.disk.specs.Facts.{Content, Facts, sector, Passes, Stays, Only}
 use Rattle.layout.specs.Records.{IsRecord}
 use Rattle.layout.specs.declared.records.Record.{Record}
-use Rattle.layout.proofs.Spellings.{one_size}
 use Rattle.store.specs.Standing.{selected, state_of, Selects, StandsFor}
 use Rattle.store.specs.Commits.{IsUp}
-use Rattle.store.specs.Opens.{IsBoard}
+use Rattle.store.specs.Opens.{IsUnrecorded}
 use Rattle.store.specs.Leaves.{Leaves}
 use Rattle.store.specs.declared.doubts.Doubt.{Doubt}
 use Rattle.board_model.specs.Durable.{Change}
@@ -24,18 +23,18 @@ settled disk size side r only selects = record {
   areas = λ x left. record { as_long = ap length (only x left); same = λ k le. ap (λ (d : Content). sector d k) (only x left) };
 }
 
--- a selected record is read
-pub none_selected : {E : Type 0} (shape : Size) (c : Content) (result : Result Record E) (bytes : List ℕ) → IsBoard shape c → bytes ≡ sector c (2 + selected c)
-    → ((r : Record) → IsRecord shape r bytes → result ≡ Ok r) → (e : E) → result ≡ Err e → (size : Size) (side : ℕ) (r : Record) → Selects size side r c → ⊥
-none_selected shape c result bytes board there exact e was size side r s =
-    let same : size ≡ shape = one_size size shape (sector c 0) s.board board.0 in
-    let read : bytes ≡ sector c (2 + side) = there ∙ ap (λ (k : ℕ). sector c (2 + k)) s.gate in
-    let is : IsRecord shape r bytes = subst (IsRecord shape r) (sym read) (subst (λ (z : Size). IsRecord z r (sector c (2 + side))) same s.is) in
-    let found = exact r is in
-    cc
+-- where the parser refuses the selected sector, that is no record
+pub unrecorded : {E : Type 0} (size : Size) (c : Content) (result : Result Record E) (bytes : List ℕ) → bytes ≡ sector c (2 + selected c)
+    → ((r : Record) → IsRecord size r bytes → result ≡ Ok r) → (e : E) → result ≡ Err e → IsUnrecorded size c
+unrecorded size c result bytes there exact e was r is = let found = exact r (subst (IsRecord size r) (sym there) is) in cc
 
 pub stands_here : (disk : Facts) (size : Size) (side : ℕ) (r : Record) → IsUp disk size side r → disk.may_leave disk.content → StandsFor disk.content size (state_of size r disk.content)
 stands_here disk size side r up may_keep = stands_for size side r disk.content disk.content (up.selects disk.content may_keep) (up.areas disk.content may_keep)
+
+-- and so did the content that was read
+pub stands_read : (content : Content) (disk : Facts) (size : Size) (side : ℕ) (r : Record) → IsUp disk size side r → disk.may_leave disk.content → disk.content ≡ content
+    → StandsFor content size (state_of size r disk.content)
+stands_read content disk size side r up may_keep same = subst (λ (c : Content). StandsFor c size (state_of size r disk.content)) same (stands_here disk size side r up may_keep)
 
 -- a crash just before could have left what is found
 pub left_earlier : (a b : Facts) (size : Size) (side : ℕ) (r : Record) → Passes a b Stays → b.may_leave b.content → IsUp b size side r → Leaves a size (state_of size r b.content)

@@ -6,5 +6,6 @@ pub mod Following
 pub mod Refusing
 pub mod Applies
 pub mod Formatting
+pub mod Reading
 pub mod Bridges
 pub mod Armed

@@ -1,10 +1,10 @@
 //! A new durable state on a disk.
-ghost use Rattle.std.specs.Prelude.{◌≡◌, ◌⊎◌, ◌≤◌, ◌<◌, ℕ, length, Err, OnOk, IfErr, OnErr};
+ghost use Rattle.std.specs.Prelude.{◌≡◌, ◌⊎◌, ◌≤◌, ◌<◌, [], ◌∷◌, ℕ, length, Err, OnOk, IfErr, OnErr};
 ghost use Rattle.board_model.specs.Durable.{formatted};
 ghost use Rattle.board_model.specs.Shapes.{Size, sectors_of};
-ghost use Rattle.disk.specs.Facts.{Facts, sector, Passes, Stays, Failed, Only};
+ghost use Rattle.disk.specs.Facts.{Facts, sector, Passes, Stays, Failed, Only, Written, Counts};
 ghost use Rattle.disk.specs.Mishaps.{Caused};
-ghost use Rattle.layout.specs.Superblocks.{HasMagic};
+ghost use Rattle.layout.specs.Superblocks.{HasMagic, IsSuperblock, superblock_of};
 ghost use Rattle.layout.specs.Records.{IsInRange};
 ghost use Rattle.layout.specs.declared.records.Record.{Record};
 ghost use Rattle.store.specs.Leaves.{IsIdle, SameLength, LeavesOnly, IsBlank, IsKept, NoMore};
@@ -12,10 +12,10 @@ ghost use Rattle.store.specs.Opens.{FormatRefused, CausedRefusal};
 ghost use Rattle.store.specs.Formats.{formatted_record};
 ghost use Rattle.store.specs.Commits.{IsUp};
 
-use crate::commits::{GATE, RECORDS};
+use crate::commits::{RECORDS, write_gate};
 use board_model::{Reason, Refusal, Shape, Slot};
 use disk::{Disk, Fault, read_sector, write_synced};
-use layout::{Record, Side, gate_bytes, has_magic, record_bytes, superblock_bytes};
+use layout::{Record, Side, has_magic, record_bytes, superblock_bytes};
 
 /// Formats a disk for a board of that shape: slot 0, no reason, next serial 0, no image. After `Ok` each crash leaves
 /// that. Refused `BadShape` where the disk is too small, `AlreadyFormatted` where it begins with the mark of a formatted
@@ -56,9 +56,24 @@ fn write_formatted<D: Disk>(disk: &mut D, shape: &Shape) -> Result<(), Fault>
     ensures none_out { IsIdle (D.facts disk.new) }
 {
     disk.write(RECORDS, &[record_bytes(&new_record())])?;
-    write_synced(disk, GATE, &gate_bytes(Side::first()))?;
-    write_synced(disk, 0, &superblock_bytes(shape))?;
+    write_gate(disk, Side::first())?;
+    write_superblock(disk, shape)?;
     Ok(())
+}
+
+// Writes the superblock, and makes it durable.
+fn write_superblock<D: Disk>(disk: &mut D, shape: &Shape) -> Result<(), Fault>
+    requires none_out { IsIdle (D.facts disk.old) }
+    requires enough { 0 < length (D.facts disk.old).content }
+    ensures written { OnOk result (Written 0 (superblock_of shape.now ∷ []) (D.facts disk.old).content (D.facts disk.new).content) }
+    ensures is { IsSuperblock shape.now (superblock_of shape.now) }
+    ensures durable { OnOk result (Only (D.facts disk.new).content (D.facts disk.new).may_leave) }
+    ensures length { SameLength (D.facts disk.old) (D.facts disk.new) }
+    ensures failures { Counts (D.facts disk.old).failures (D.facts disk.new).failures result }
+    ensures cause { Caused (D.mishaps disk.old) (D.mishaps disk.new) result }
+    ensures lent { (D.facts disk.new).lent ≡ (D.facts disk.old).lent }
+{
+    write_synced(disk, 0, &superblock_bytes(shape))
 }
 
 // The record of a disk that was just formatted.

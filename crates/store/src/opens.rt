@@ -9,7 +9,7 @@ ghost use Rattle.layout.specs.declared.records.Record.{Record};
 ghost use Rattle.store.specs.Leaves.{IsIdle};
 ghost use Rattle.store.specs.Standing.{selected, Selects};
 ghost use Rattle.store.specs.Commits.{IsUp};
-ghost use Rattle.store.specs.Opens.{IsBoard, OpenRefused, CausedRefusal};
+ghost use Rattle.store.specs.Opens.{IsBoard, IsUnrecorded, OpenRefused, CausedRefusal};
 
 use crate::commits::{GATE, RECORDS};
 use board_model::{Refusal, Shape};
@@ -70,7 +70,7 @@ fn find_record<D: Disk>(disk: &mut D, shape: Shape) -> Result<Found, Refusal>
     requires board { IsBoard shape (D.facts disk.old).content }
     ensures found { IfOk result (λ found. Selects found.shape found.side found.record (D.facts disk.old).content) }
     ensures known { IfOk result (λ found. found.side < 2) }
-    ensures refused { IfErr result (λ e. ((e ≡ Refusal.BadRecord) × ((size : Size) (side : ℕ) (r : Record) → Selects size side r (D.facts disk.old).content → ⊥))
+    ensures refused { IfErr result (λ e. ((e ≡ Refusal.BadRecord) × IsUnrecorded shape (D.facts disk.old).content)
         ⊎ ((e ≡ Refusal.Device) × Failed (D.facts disk.old).failures (D.facts disk.new).failures)) }
     ensures content { (D.facts disk.new).content ≡ (D.facts disk.old).content }
     ensures crash { Passes (D.facts disk.old) (D.facts disk.new) Stays }
@@ -80,8 +80,7 @@ fn find_record<D: Disk>(disk: &mut D, shape: Shape) -> Result<Found, Refusal>
     ensures no_fewer { (D.facts disk.old).failures ≤ (D.facts disk.new).failures }
     ensures none_out { IsIdle (D.facts disk.new) }
 {
-    let gate = read_sector(disk, GATE).map_err(|_| Refusal::Device)?;
-    let side = selected(&gate);
+    let side = read_gate(disk).map_err(|_| Refusal::Device)?;
     let bytes = read_sector(disk, RECORDS + side.index()).map_err(|_| Refusal::Device)?;
     let Ok(record) = parse_record(&bytes, &shape) else {
         return Err(Refusal::BadRecord);
@@ -91,4 +90,20 @@ fn find_record<D: Disk>(disk: &mut D, shape: Shape) -> Result<Found, Refusal>
         side,
         record,
     })
+}
+
+// Which record the gate selects.
+fn read_gate<D: Disk>(disk: &mut D) -> Result<Side, Fault>
+    requires none_out { IsIdle (D.facts disk.old) }
+    requires enough { 4 ≤ length (D.facts disk.old).content }
+    ensures selects { IfOk result (λ side. side ≡ selected (D.facts disk.old).content) }
+    ensures known { IfOk result (λ side. side < 2) }
+    ensures content { (D.facts disk.new).content ≡ (D.facts disk.old).content }
+    ensures crash { Passes (D.facts disk.old) (D.facts disk.new) Stays }
+    ensures failures { Counts (D.facts disk.old).failures (D.facts disk.new).failures result }
+    ensures cause { Caused (D.mishaps disk.old) (D.mishaps disk.new) result }
+    ensures lent { (D.facts disk.new).lent ≡ (D.facts disk.old).lent }
+{
+    let gate = read_sector(disk, GATE)?;
+    Ok(selected(&gate))
 }

@@ -42,7 +42,7 @@ pub struct Store<D: Disk + Drop> {
 impl<D: Disk + Drop> Store<D> {
     ghost use Rattle.board_model.specs.Shown.{durable_of};
     ghost use Rattle.store.specs.Leaves.{IsIdle, SameLength, Leaves, LeavesOnly, LeavesEither, StandsForEither};
-    ghost use Rattle.store.specs.Opens.{OpenRefused, CausedRefusal};
+    ghost use Rattle.store.specs.Opens.{ReadsAs, OpenRefused, CausedRefusal};
     ghost use Rattle.store.specs.Lives.{begun, Reaches, Refused, Applied};
     ghost use Rattle.disk.specs.Facts.{Leaves_only, Unchanged};
     ghost use Rattle.disk.specs.Mishaps.{armed_by};
@@ -56,6 +56,7 @@ impl<D: Disk + Drop> Store<D> {
     /// refusal gives the disk back.
     pub fn open(alloc: Global, mut disk: D) -> Result<Store<D>, (D, Refusal)>
         requires none_out { IsIdle (D.facts disk) }
+        // What it finds, and what a crash leaves from then on.
         ensures reads { IfOk result (λ store. StandsFor (D.facts disk).content (size_of_store store) (found_state store)) }
         ensures only { IfOk result (λ store. LeavesOnly (disk_of store) (size_of_store store) (found_state store)) }
         ensures begins { IfOk result (λ store. life_of store ≡ begun (found_state store)) }
@@ -63,7 +64,14 @@ impl<D: Disk + Drop> Store<D> {
         ensures any_moment { MatchResult result
             (λ store. Leaves_only (D.facts disk) (disk_of store) (D.facts disk).may_leave)
             (λ e. Leaves_only (D.facts disk) (D.facts e.0) (D.facts disk).may_leave) }
+
+        // Why it is refused.
         ensures refused { IfErr result (λ e. OpenRefused (D.facts disk) e.1 (D.facts e.0)) }
+
+        // And the other way: a disk that reads as a refusal is refused so, or by 5; one that stands for a state is opened, but for 5 and 11.
+        ensures refuses { (e : Refusal) → ReadsAs (D.facts disk).content e → MatchResult result (λ store. ⊥) (λ f. (f.1 ≡ e) ⊎ (f.1 ≡ Refusal.Device)) }
+        ensures opens { (size : Size) (s : State) → StandsFor (D.facts disk).content size s → IfErr result (λ f. (f.1 ≡ Refusal.Device) ⊎ (f.1 ≡ Refusal.Memory)) }
+
         ensures content { MatchResult result (λ store. (disk_of store).content ≡ (D.facts disk).content) (λ e. (D.facts e.0).content ≡ (D.facts disk).content) }
         ensures no_failure { IfOk result (λ store. ((disk_of store).failures ≡ (D.facts disk).failures) × (failures_at_open store ≡ (D.facts disk).failures)) }
         ensures no_fewer { IfErr result (λ e. (D.facts disk).failures ≤ (D.facts e.0).failures) }
