@@ -1,6 +1,6 @@
 -- Where memory was never refused and no failure was answered, a script has one report: two runs of it, line by line.
-use Rattle.std.proofs.Common.{◌≡◌, ◌⊎◌, ℕ, ◌<◌, ◌≤◌, ◌==◌, inl, inr, List, [], ◌∷◌, Option, None, Some, refl, sym, ◌∙◌, ap, subst, arith, Bool, true, false, cond, slice_set, length}
-use Rattle.board_model.specs.Durable.{State, Change, Slot, refusal_of}
+use Rattle.std.proofs.Common.{◌≡◌, ◌⊎◌, ℕ, ◌==◌, inl, inr, List, [], ◌∷◌, Option, None, Some, refl, sym, ◌∙◌, ap, subst, arith, Bool, true, false, cond, slice_set}
+use Rattle.board_model.specs.Durable.{State, Slot, refusal_of}
 use Rattle.board_model.specs.Kept.{found_of}
 use Rattle.board_model.specs.Shapes.{Size}
 use Rattle.board_model.specs.declared.boot_mode.BootMode.{BootMode}
@@ -17,10 +17,10 @@ use Rattle.bench_report.specs.declared.printed.Printed.TheVariants as printed
 use Rattle.bench_report.specs.declared.printed.Answer.{Answer}
 use Rattle.bench_report.specs.Bench.{Medium, Blank, Unknown, Formatted, Life, Bench, IsUnspoilt, blank_bench}
 use Rattle.bench_report.specs.Steps.{says, Moves, Run}
-use Rattle.bench_report.specs.Plain.{hidden, IsShown, IsAlike, plain_format, plain_mode, plain_boot, plain_on, plain_command, plain_at, plain}
+use Rattle.bench_report.specs.Plain.{IsShown, IsAlike, plain_format, plain_mode, plain_boot, plain_on, plain_command, plain_at, plain}
 use Rattle.bench_report.specs.Reports.{IsReport}
-use Rattle.bench_report.specs.Whole.{Whole, IsBlankWhole, Powered, Carries, PayloadStep, TurnStep, ReadStep, WholeStep, WholeMoves, WholeRun, shows}
-use Rattle.bench_report.proofs.Determined.{CalmMedium, IsCalm, IsSpoilt, Determined, moves_on, run_more}
+use Rattle.bench_report.specs.Whole.{Whole, Powered, Carries, PayloadStep, TurnStep, ReadStep, WholeStep, WholeRun, shows}
+use Rattle.bench_report.proofs.Determined.{CalmMedium, IsCalm, moves_on, run_more}
 use Rattle.bench_report.proofs.Wholes.{alone}
 
 -- a line of turns has one outcome, and a line of a register says one thing

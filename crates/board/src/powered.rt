@@ -44,6 +44,7 @@ pub struct Parts<D: Disk + Drop> {
 impl<D: Disk + Drop> Board<D> {
     ghost use Rattle.std.specs.Prelude.{◌≡◌, ◌<◌, ◌≤◌, length, Some, None, Err, IfSome, OnOk, IfOk, IfErr, IsErrOf, MatchResult};
     ghost use Rattle.board_model.specs.Durable.{State, Change, after};
+    ghost use Rattle.board_model.specs.declared.boot_mode.BootMode.TheVariants as modes;
     ghost use Rattle.board_model.specs.Shapes.{Size, ram_bytes_of};
     ghost use Rattle.board_model.specs.Shown.{durable_of, change_of};
     ghost use Rattle.disk.specs.Facts.{Leaves_only, Failed, Unchanged};
@@ -84,7 +85,8 @@ impl<D: Disk + Drop> Board<D> {
         ensures any_moment { IfOk result (λ board. Leaves_only (D.facts disk) (disk_of (store_of board))
             (MayLeave (D.facts disk) (size_of_store (store_of board)) (found_state (store_of board)) (issued_by mode))) }
 
-        // It boots the slot, where the mode is allowed and the payloads fit.
+        // It boots the slot, where the mode is allowed and the payloads fit; no image can be loaded yet.
+        ensures not_resumed { OnOk result (mode ≡ modes.Resume → ⊥) }
         ensures allowed { IfOk result (λ board. (boot_refusal (found_state (store_of board)) mode ≡ None) × Fits (size_of_store (store_of board)) payloads.now) }
         ensures boots { IfOk result (λ board. machine_of board ≡ booted payloads.now (now_state (store_of board)) (size_of_store (store_of board))) }
 

@@ -46,6 +46,7 @@ fn issue<D: Disk + Drop>(store: &mut Store<D>, mode: BootMode) -> Result<(), Ref
     requires only { LeavesOnly (disk_of store.old) (size_of_store store.old) (found_state store.old) }
     ensures size { size_of_store store.new ≡ size_of_store store.old }
     ensures life { OnOk result (life_of store.new ≡ life_after mode (found_state store.old)) }
+    ensures not_resumed { OnOk result (mode ≡ modes.Resume → ⊥) }
     ensures only { OnOk result (LeavesOnly (disk_of store.new) (size_of_store store.new) (now_state store.new)) }
     ensures refused { IfErr result (λ e. IsIssueRefusal mode e) }
     ensures left { IfErr result (λ e. life_of store.new ≡ life_refused e (found_state store.old)) }
@@ -109,6 +110,7 @@ pub fn ready<D: Disk + Drop>(
     requires only { LeavesOnly (disk_of store.old) (size_of_store store.old) (found_state store.old) }
     ensures size { size_of_store store.new ≡ size_of_store store.old }
     ensures life { OnOk result (life_of store.new ≡ life_after mode (found_state store.old)) }
+    ensures not_resumed { OnOk result (mode ≡ modes.Resume → ⊥) }
     ensures only { OnOk result (LeavesOnly (disk_of store.new) (size_of_store store.new) (now_state store.new)) }
     ensures allowed { OnOk result ((boot_refusal (found_state store.old) mode ≡ None) × Fits (size_of_store store.old) payloads.now) }
     ensures machine { IfOk result (λ m. m ≡ booted payloads.now (now_state store.new) (size_of_store store.new)) }
