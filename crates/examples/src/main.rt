@@ -1,0 +1,69 @@
+//! `examples`: runs each script of a folder, and compares what it writes with the report beside it (README.md).
+//! Status 0 where each is as reported; else 1, and standard error names the first that is not. The folder is the word on
+//! the command line, or the one that the program runs in.
+#![tactic(auto)]
+
+mod reported;
+
+use crate::reported::{Fault, compare_report};
+use std::path::Path;
+use std::process::ExitCode;
+use std::{env, fs, io};
+
+/// How a script's name ends.
+const SCRIPT: &str = ".sbi";
+
+/// How the name of its report ends.
+const REPORT: &str = ".report";
+
+/// The names of the folder's scripts without their endings, in order.
+fn names_in(rt: &HostRuntime, folder: &str) -> io::Result<Vec<String>> {
+    let mut names = Vec::new(rt.alloc());
+    for entry in fs::read_dir(rt, folder)? {
+        let entry = entry?;
+        if let Some(name) = entry.file_name().strip_suffix(SCRIPT) {
+            names.push(String::from_str(rt.alloc(), name)?)?;
+        }
+    }
+    names.sort()?;
+    Ok(names)
+}
+
+/// The bytes of the folder's file of that name and ending.
+fn file_of(rt: &HostRuntime, folder: &str, name: &str, ending: &str) -> io::Result<Vec<u8>> {
+    let file = format!(in rt.alloc(); "{name}{ending}")?;
+    let path = Path::new(folder).join(rt.alloc(), file.as_str())?;
+    fs::read(rt, path)
+}
+
+/// Whether the script writes what the report beside it has.
+fn compare(rt: &HostRuntime, folder: &str, name: &str) -> Result<(), Fault> {
+    let script = file_of(rt, folder, name, SCRIPT).map_err(Fault::Unread)?;
+    let report = file_of(rt, folder, name, REPORT).map_err(Fault::Unread)?;
+    compare_report(rt.alloc(), &script, &report)
+}
+
+/// Compares all scripts of the folder, up to the first that is not as reported.
+fn compare_all(rt: &HostRuntime, folder: &str) -> io::Result<ExitCode> {
+    let names = names_in(rt, folder)?;
+    if names.is_empty() {
+        eprintln!(rt; "examples: no script in {folder}")?;
+        return Ok(ExitCode::FAILURE);
+    }
+    for name in &names {
+        if let Err(fault) = compare(rt, folder, name.as_str()) {
+            eprintln!(rt; "examples: {name}{SCRIPT}: {fault}")?;
+            return Ok(ExitCode::FAILURE);
+        }
+        println!(rt; "{name}{SCRIPT} as reported")?;
+    }
+    Ok(ExitCode::SUCCESS)
+}
+
+fn main(rt: HostRuntime) -> io::Result<ExitCode> {
+    let words: Vec<String> = env::args(&rt)?.collect(rt.alloc())?;
+    match words.get(1) {
+        Some(folder) => compare_all(&rt, folder.as_str()),
+        None => compare_all(&rt, "."),
+    }
+}

@@ -1,0 +1,43 @@
+//! Whether a script writes a report.
+ghost use Rattle.std.specs.Prelude.{◌≡◌, ◌++◌, List, Ok, OnOk};
+ghost use Rattle.script_lang.specs.Scripts.{script_of, Script as Said};
+ghost use Rattle.bench_report.specs.Bench.{Bench};
+ghost use Rattle.bench_report.specs.Reports.{IsReport, report_text};
+ghost use Rattle.bench_report.specs.declared.printed.Answer.{Answer};
+
+use bench_report::run;
+use board_model::Refusal;
+use std::alloc::Global;
+use std::io;
+use thiserror::Error;
+
+/// Why a script is not as reported.
+#[derive(Debug, Drop, Error)]
+pub enum Fault {
+    #[error("a file was not read: {0}")]
+    Unread(io::Error),
+    #[error("refused: {0}")]
+    Refused(Refusal),
+    #[error("its report differs from line {0} on")]
+    Differs(usize),
+}
+
+/// Runs the script. `Ok` where it writes just this report, which is then one that the script may have.
+pub fn compare_report(alloc: Global, script: &[u8], report: &[u8]) -> Result<(), Fault>
+    ensures { OnOk result ((said : Said) × (answers : List Answer) × (end : Bench) × (script_of script.now ≡ Ok said)
+        × IsReport said answers end × (report.now ≡ report_text answers)) }
+{
+    let mut out = Vec::new(alloc);
+    run(alloc, script, &mut out).map_err(Fault::Refused)?;
+    if out.as_slice() != report {
+        return Err(Fault::Differs(first_line_apart(out.as_slice(), report)));
+    }
+    Ok(())
+}
+
+// The first line, from 1, in which the one differs from the other.
+fn first_line_apart(one: &[u8], other: &[u8]) -> usize {
+    let same = one.iter().zip(other).take_while(|(a, b)| *a == *b);
+    let ends = same.filter(|(a, _)| **a == b'\n').count();
+    ends.saturating_add(1)
+}
