@@ -170,7 +170,7 @@ shows_on b a new calm h =
     inl (inr (subst P (sym h.1) tt, tt, ap (λ (x : Answer). x.found) h.1), h.2, subst Q (sym h.2) calm)
 
 -- one line, as far as no cut strikes
-step_on : (line : Line) (b : Bench) (a : Answer) (new : Bench) → IsCalm b → Step line b a new → Determined (plain line b) a new
+pub step_on : (line : Line) (b : Bench) (a : Answer) (new : Bench) → IsCalm b → Step line b a new → Determined (plain line b) a new
 step_on lines.Format b a new calm h = format_at b.power b a new calm h
 step_on (lines.On mode) b a new calm h = on_at b.power mode b a new calm h
 step_on (lines.Slot n) b a new calm h = slot_at b.power n b a new refl calm h

@@ -1,5 +1,5 @@
 -- Where memory was never refused and no failure was answered, a script has one report: two runs of it, line by line.
-use Rattle.std.proofs.Common.{◌≡◌, ◌⊎◌, ℕ, ◌==◌, inl, inr, List, [], ◌∷◌, Option, None, Some, refl, sym, ◌∙◌, ap, subst, arith, Bool, true, false, cond, slice_set}
+use Rattle.std.proofs.Common.{◌≡◌, ℕ, ◌==◌, inl, inr, List, [], ◌∷◌, Option, None, Some, refl, sym, ◌∙◌, ap, subst, arith, Bool, true, false, cond, slice_set}
 use Rattle.board_model.specs.Durable.{State, Slot, refusal_of}
 use Rattle.board_model.specs.Kept.{found_of}
 use Rattle.board_model.specs.Shapes.{Size}
@@ -19,9 +19,9 @@ use Rattle.bench_report.specs.Bench.{Medium, Blank, Unknown, Formatted, Life, Be
 use Rattle.bench_report.specs.Steps.{says, Moves, Run}
 use Rattle.bench_report.specs.Plain.{IsShown, IsAlike, plain_format, plain_mode, plain_boot, plain_on, plain_command, plain_at, plain}
 use Rattle.bench_report.specs.Reports.{IsReport}
-use Rattle.bench_report.specs.Whole.{Whole, Powered, Carries, PayloadStep, TurnStep, ReadStep, WholeStep, WholeRun, shows}
-use Rattle.bench_report.proofs.Determined.{CalmMedium, IsCalm, moves_on, run_more}
-use Rattle.bench_report.proofs.Wholes.{alone}
+use Rattle.bench_report.specs.Whole.{Whole, Powered, Carries, PayloadStep, TurnStep, ReadStep, WholeStep, WholeMoves, WholeRun, shows}
+use Rattle.bench_report.proofs.Determined.{CalmMedium, IsCalm, IsSpoilt, step_on, moves_on, run_more}
+use Rattle.bench_report.proofs.Wholes.{moves_alone, alone}
 
 -- a line of turns has one outcome, and a line of a register says one thing
 abbrev pub IsOneTurns : Type 0
@@ -83,44 +83,40 @@ one_board size (Some life) (Some l) m payloads others old was new fin calm e f x
 
 -- a line that the plain report has as it stands
 abbrev pub IsTold : Printed → Type 0
-IsTold line = (IsShown line → ⊥) × (line ≡ printed.PowerLost → ⊥)
+IsTold line = IsShown line → ⊥
 
 same_told : (told a c : Answer) → IsTold told.line → IsAlike a told → IsAlike c told → a ≡ c
 same_told told a c t (inl e) (inl f) = e ∙ sym f
-same_told told a c t (inr x) f = absurd (t.0 x.1)
-same_told told a c t (inl e) (inr y) = absurd (t.0 y.1)
-
-not_lost : (told a : Answer) → (told.line ≡ printed.PowerLost → ⊥) → IsAlike a told → a ≡ says printed.PowerLost → ⊥
-not_lost told a t (inl e) lost = t (ap (λ (x : Answer). x.line) (sym e ∙ lost))
-not_lost told a t (inr x) lost = let P : Answer → Type 0 = λ y. IsShown y.line in subst P lost x.0
+same_told told a c t (inr x) f = absurd (t x.1)
+same_told told a c t (inl e) (inr y) = absurd (t y.1)
 
 told_format : (m : Medium) (b : Bench) → IsTold (plain_format m b).0.line
-told_format Blank b = (λ x. x, λ e. cc)
-told_format Unknown b = (λ x. x, λ e. cc)
-told_format (Formatted k) b = (λ x. x, λ e. cc)
+told_format Blank b = λ x. x
+told_format Unknown b = λ x. x
+told_format (Formatted k) b = λ x. x
 
 told_mode : (mode : BootMode) (s : State) (b : Bench) → IsTold (plain_mode mode s b).0.line
-told_mode modes.Fresh s b = (λ x. x, λ e. cc)
-told_mode modes.Keep s b = (λ x. x, λ e. cc)
-told_mode modes.Discard s b = (λ x. x, λ e. cc)
-told_mode modes.Resume s b = (λ x. x, λ e. cc)
+told_mode modes.Fresh s b = λ x. x
+told_mode modes.Keep s b = λ x. x
+told_mode modes.Discard s b = λ x. x
+told_mode modes.Resume s b = λ x. x
 
 told_boot : (o : Option ℕ) (mode : BootMode) (s : State) (b : Bench) → IsTold (plain_boot o mode s b).0.line
 told_boot None mode s b = told_mode mode s b
-told_boot (Some n) mode s b = (λ x. x, λ e. cc)
+told_boot (Some n) mode s b = λ x. x
 
 told_on : (m : Medium) (mode : BootMode) (b : Bench) → IsTold (plain_on m mode b).0.line
-told_on Blank mode b = (λ x. x, λ e. cc)
-told_on Unknown mode b = (λ x. x, λ e. cc)
+told_on Blank mode b = λ x. x
+told_on Unknown mode b = λ x. x
 told_on (Formatted k) mode b = told_boot (boot_refusal (found_of k.changes) mode) mode (found_of k.changes) b
 
 told_command : (o : Option ℕ) (n : ℕ) (life : Life) (b : Bench) → IsTold (plain_command o (Slot n) life (λ k. printed.Slot k) (λ k. printed.SlotRefused k) b).0.line
-told_command (Some k) n life b = (λ x. x, λ e. cc)
-told_command None n life b = (λ x. x, λ e. cc)
+told_command (Some k) n life b = λ x. x
+told_command None n life b = λ x. x
 
 told_room : (t : Bool) (n : ℕ) (life : Life) (b : Bench)
     → IsTold (cond t (says (printed.SlotRefused 10), b) (plain_command (refusal_of life.now (Slot n)) (Slot n) life (λ k. printed.Slot k) (λ k. printed.SlotRefused k) b)).0.line
-told_room true n life b = (λ x. x, λ e. cc)
+told_room true n life b = λ x. x
 told_room false n life b = told_command (refusal_of life.now (Slot n)) n life b
 
 -- a line that neither keeps a payload nor speaks of memory or harts
@@ -133,14 +129,14 @@ one_carried size w v told a c new fin same bench calm t alike also x y =
 
 told_at_format : (p : Option Life) (b : Bench) → IsTold (plain_at p lines.Format b).0.line
 told_at_format None b = told_format b.medium b
-told_at_format (Some life) b = (λ x. x, λ e. cc)
+told_at_format (Some life) b = λ x. x
 
 told_at_on : (p : Option Life) (mode : BootMode) (b : Bench) → IsTold (plain_at p (lines.On mode) b).0.line
 told_at_on None mode b = told_on b.medium mode b
-told_at_on (Some life) mode b = (λ x. x, λ e. cc)
+told_at_on (Some life) mode b = λ x. x
 
 told_at_slot : (p : Option Life) (n : ℕ) (b : Bench) → IsTold (plain_at p (lines.Slot n) b).0.line
-told_at_slot None n b = (λ x. x, λ e. cc)
+told_at_slot None n b = λ x. x
 told_at_slot (Some life) n b = told_room (life.receipts == 4096) n life b
 
 -- what a line leaves of two benches that were the same
@@ -173,7 +169,7 @@ IsOneLine size line = (w v : Whole) (a c : Answer) (new fin : Whole) → SameWho
 not_built : (size : Size) (w v : Whole) (a c : Answer) (new fin : Whole) → SameWhole w v → IsCalm new.bench → IsAlike a (says printed.NotBuilt) → IsAlike c (says printed.NotBuilt) → new.bench ≡ w.bench → fin.bench ≡ w.bench
     → Carries size w new → Carries size v fin → SameAfter a c new fin
 not_built size w v a c new fin same calm alike also e f x y =
-    carried_line size w v (says printed.NotBuilt, w.bench) a c new fin same calm (λ x. x, λ e. cc) alike also e f x y
+    carried_line size w v (says printed.NotBuilt, w.bench) a c new fin same calm (λ x. x) alike also e f x y
 
 one_line : IsOneTurns → IsOneCsr → (size : Size) (line : Line) → IsOneLine size line
 one_line turns csr size lines.Format w v a c new fin same calm alike also e f x y =
@@ -183,7 +179,7 @@ one_line turns csr size (lines.On mode) w v a c new fin same calm alike also e f
 one_line turns csr size (lines.Slot n) w v a c new fin same calm alike also e f x y =
     carried_line size w v (plain (lines.Slot n) w.bench) a c new fin same calm (told_at_slot w.bench.power n w.bench) alike also e f x y
 one_line turns csr size (lines.Cut fill) w v a c new fin same calm alike also e f x y =
-    carried_line size w v (plain (lines.Cut fill) w.bench) a c new fin same calm (λ x. x, λ e. cc) alike also e f x y
+    carried_line size w v (plain (lines.Cut fill) w.bench) a c new fin same calm (λ x. x) alike also e f x y
 one_line turns csr size (lines.Payload slot bytes) w v a c new fin same calm alike also e f x y =
     let P : Bench → Type 0 = λ b. PayloadStep b.power slot bytes v c fin in
     shown_line w v a c new fin e f (one_payload w.bench.power slot bytes w v a c new fin same.1 same.2 x (subst P (sym same.0) y))
@@ -207,41 +203,24 @@ one_line turns csr size (lines.FailAt n) w v a c new fin same calm alike also e 
 one_line turns csr size (lines.FailLane i n) w v a c new fin same calm alike also e f x y = not_built size w v a c new fin same calm alike also e f x y
 one_line turns csr size (lines.Poke k n bytes) w v a c new fin same calm alike also e f x y = not_built size w v a c new fin same calm alike also e f x y
 
--- no line of a plain report is one of a lost power
-never_lost : (p : Option Life) (line : Line) (b : Bench) → (plain_at p line b).0.line ≡ printed.PowerLost → ⊥
-never_lost p lines.Format b = (told_at_format p b).1
-never_lost p (lines.On mode) b = (told_at_on p mode b).1
-never_lost p (lines.Slot n) b = (told_at_slot p n b).1
-never_lost p (lines.Cut fill) b = λ e. cc
-never_lost p (lines.Payload slot bytes) b = λ e. cc
-never_lost p lines.Discard b = λ e. cc
-never_lost p (lines.Turn h n) b = λ e. cc
-never_lost p (lines.Call h i j k l m) b = λ e. cc
-never_lost p (lines.Reg h r) b = λ e. cc
-never_lost p (lines.Pc h) b = λ e. cc
-never_lost p (lines.Csr h n) b = λ e. cc
-never_lost p lines.Pending b = λ e. cc
-never_lost p (lines.Mem i n) b = λ e. cc
-never_lost p (lines.CutAt n fill) b = λ e. cc
-never_lost p (lines.CutLane i n fill) b = λ e. cc
-never_lost p (lines.FailAt n) b = λ e. cc
-never_lost p (lines.FailLane i n) b = λ e. cc
-never_lost p (lines.Poke k n bytes) b = λ e. cc
-
--- the line's own answer, where power was not lost
-stood : (size : Size) (line : Line) (b : Bench) (w : Whole) (a : Answer) (new : Whole) → IsAlike a (plain line b).0 → (a ≡ says printed.PowerLost) ⊎ WholeStep size line w a new → WholeStep size line w a new
-stood size line b w a new alike (inl lost) = absurd (not_lost (plain line b).0 a (never_lost b.power line b) alike lost)
-stood size line b w a new alike (inr h) = h
-
--- a bench after a line of a run whose end is unspoilt
-clean : (line : Line) (b mid end : Bench) (ls : List Line) (a : Answer) (answers : List Answer) → IsCalm b → IsUnspoilt end → Moves line b a mid → Run mid ls answers end
-    → IsAlike a (plain line b).0 × (mid ≡ (plain line b).1) × IsCalm mid
-clean line b mid end ls a answers calm none h run =
-    let more = run_more ls mid answers end run in
-    elim (moves_on line b a mid calm h) [
-      | inl d ↦ d
-      | inr spoilt ↦ absurd (elim spoilt [ inl g ↦ omega (arith, g, more.0, none.0) | inr f ↦ omega (arith, more.1 f, none.1) ])
+-- within a line that spoils nothing no cut struck
+stood : (size : Size) (line : Line) (w : Whole) (a : Answer) (new : Whole) → IsCalm w.bench → (IsSpoilt new.bench → ⊥) → WholeMoves size line w a new → WholeStep size line w a new
+stood size line w a new calm clean (inl h) = h.2
+stood size line w a new calm clean (inr h) =
+    let spoils : IsSpoilt h.1.bench → IsSpoilt new.bench = λ s. (let P : Bench → Type 0 = IsSpoilt in subst P (sym h.6) s) in
+    elim (step_on line w.bench h.0 h.1.bench calm h.2) [
+      | inl d ↦ absurd (let no : true ≡ false = sym h.3 ∙ d.2.2 in let never : ⊥ = cc in never)
+      | inr s ↦ absurd (clean (spoils s))
     ]
+
+-- a bench in a run whose end is unspoilt
+clean : (mid end : Bench) (ls : List Line) (answers : List Answer) → IsUnspoilt end → Run mid ls answers end → IsSpoilt mid → ⊥
+clean mid end ls answers none run spoilt =
+    let more = run_more ls mid answers end run in
+    elim spoilt [ inl g ↦ omega (arith, g, more.0, none.0) | inr f ↦ omega (arith, more.1 f, none.1) ]
+
+went : (line : Line) (b mid : Bench) (a : Answer) → IsCalm b → (IsSpoilt mid → ⊥) → Moves line b a mid → IsAlike a (plain line b).0 × (mid ≡ (plain line b).1) × IsCalm mid
+went line b mid a calm none h = elim (moves_on line b a mid calm h) [ inl d ↦ d | inr spoilt ↦ absurd (none spoilt) ]
 
 one_run : IsOneTurns → IsOneCsr → (size : Size) (ls : List Line) (w v : Whole) (answers others : List Answer) (end last : Whole) → SameWhole w v → IsCalm w.bench → IsUnspoilt end.bench → IsUnspoilt last.bench
     → WholeRun size w ls answers end → WholeRun size v ls others last → answers ≡ others
@@ -252,11 +231,14 @@ one_run turns csr size (line ∷ ls) w v [] others end last same calm n m x y = 
 one_run turns csr size (line ∷ ls) w v (a ∷ answers) [] end last same calm n m x y = absurd y
 one_run turns csr size (line ∷ ls) w v (a ∷ answers) (c ∷ others) end last same calm n m x y =
     let P : Bench → Type 0 = λ b. Moves line b c y.0.bench in
-    let first = clean line w.bench x.0.bench end.bench ls a answers calm n x.1.0 (alone size ls x.0 answers end x.2) in
-    let second = clean line w.bench y.0.bench last.bench ls c others calm m (subst P (sym same.0) y.1.0) (alone size ls y.0 others last y.2) in
-    let left = stood size line w.bench w a x.0 first.0 x.1.1 in
-    let right = stood size line w.bench v c y.0 second.0 y.1.1 in
-    let after = one_line turns csr size line w v a c x.0 y.0 same first.2 first.0 second.0 first.1 second.1 left right in
+    let Q : Bench → Type 0 = IsCalm in
+    let left = clean x.0.bench end.bench ls answers n (alone size ls x.0 answers end x.2) in
+    let right = clean y.0.bench last.bench ls others m (alone size ls y.0 others last y.2) in
+    let first = went line w.bench x.0.bench a calm left (moves_alone size line w a x.0 x.1) in
+    let second = went line w.bench y.0.bench c calm right (subst P (sym same.0) (moves_alone size line v c y.0 y.1)) in
+    let step = stood size line w a x.0 calm left x.1 in
+    let other = stood size line v c y.0 (subst Q same.0 calm) right y.1 in
+    let after = one_line turns csr size line w v a c x.0 y.0 same first.2 first.0 second.0 first.1 second.1 step other in
     let rest = one_run turns csr size ls x.0 y.0 answers others end last after.1 first.2 n m x.2 y.2 in
     ap (λ q. q ∷ answers) after.0 ∙ ap (λ qs. c ∷ qs) rest
 

@@ -16,7 +16,7 @@ use Rattle.bench_report.specs.declared.power.Power.TheVariants.{Off, On}
 use Rattle.bench_report.specs.declared.printed.Answer.{Answer}
 use Rattle.bench_report.specs.Below.{Store, Board, store_in, machine_in, store_size}
 use Rattle.bench_report.specs.Bench.{Medium, Blank, Unknown, Formatted, Life, Bench, blank_bench}
-use Rattle.bench_report.specs.Steps.{Run}
+use Rattle.bench_report.specs.Steps.{Moves, Run}
 use Rattle.bench_report.specs.Whole.{Whole, IsBoardOn, Powered, ReadStep, TurnStep, PayloadStep, WholeMoves, WholeRun, shows}
 use Rattle.bench_report.specs.Agree.{OnIs, StoreIs, Follows, Agrees, MachineIs, Carried, Reads, MakesTurns, KeepsPayload}
 
@@ -113,12 +113,16 @@ goes_on size lines i line now mid new a more lt step run =
     let rest : WholeRun size mid (drop (suc i) lines) more new = rw add-one at run in
     rw (drop-cons lines i line lt) (mid, step, rest)
 
--- the run of the bench alone
+-- the bench alone
+pub moves_alone : (size : Size) (line : Line) (w : Whole) (a : Answer) (new : Whole) → WholeMoves size line w a new → Moves line w.bench a new.bench
+moves_alone size line w a new (inl h) = inl (h.0, h.1)
+moves_alone size line w a new (inr h) = inr (h.0, h.1.bench, h.2, h.3, h.5, h.6)
+
 pub alone : (size : Size) (ls : List Line) (w : Whole) (answers : List Answer) (new : Whole) → WholeRun size w ls answers new → Run w.bench ls answers new.bench
 alone size [] w [] new h = ap (λ (x : Whole). x.bench) h
 alone size [] w (a ∷ answers) new h = absurd h
 alone size (l ∷ ls) w [] new h = absurd h
-alone size (l ∷ ls) w (a ∷ answers) new h = (h.0.bench, h.1.0, alone size ls h.0 answers new h.2)
+alone size (l ∷ ls) w (a ∷ answers) new h = (h.0.bench, moves_alone size l w a h.0 h.1, alone size ls h.0 answers new h.2)
 
 pub report_alone : (script : Script) (board : Answer) (answers : List Answer) (end : Bench) → IsReport script (board ∷ answers) end → Run blank_bench script.lines answers end
 report_alone script board answers end h =

@@ -1,5 +1,5 @@
 -- The bench with the memory and the harts of its board, and what the lines that show them say. Source: docs/SCRIPT.md.
-use Rattle.std.specs.Prelude.{◌≡◌, ◌⊎◌, ℕ, ◌≤◌, ◌<◌, List, [], ◌∷◌, Option, Some, None, length, slice_set, ⊤}
+use Rattle.std.specs.Prelude.{◌≡◌, ◌⊎◌, ℕ, ◌≤◌, ◌<◌, List, [], ◌∷◌, Option, Some, None, length, slice_set, true, false, ⊤}
 use Rattle.board_model.specs.Shapes.{Size}
 use Rattle.script_lang.specs.declared.line.Line.{Line}
 use Rattle.script_lang.specs.declared.line.Line.TheVariants as lines
@@ -11,7 +11,7 @@ use Rattle.board.specs.Boots.{booted}
 use Rattle.bench_report.specs.declared.printed.Answer.{Answer}
 use Rattle.bench_report.specs.declared.printed.Printed.TheVariants as printed
 use Rattle.bench_report.specs.Bench.{Medium, Blank, Unknown, Formatted, Life, Bench, blank_bench}
-use Rattle.bench_report.specs.Steps.{says, Moves}
+use Rattle.bench_report.specs.Steps.{says, unpowered, Step}
 
 -- The bench, what the slots boot, and the memory and harts of the board; those say nothing while it is off.
 pub record Whole : Type 0 where
@@ -72,10 +72,19 @@ WholeStep size (lines.Csr h c) old answer new = ReadStep old.bench.power (λ m l
 WholeStep size (lines.Mem a n) old answer new = ReadStep old.bench.power (λ m line. line ≡ mem_line a n m) old answer new
 WholeStep size line old answer new = Carries size old new
 
--- a line of a script on the whole bench: its report is `power lost` where an armed cut struck within it
+-- a line of a script on the whole bench, within which no armed cut struck
+abbrev pub Stands : Size → Line → Whole → Answer → Whole → Type 0
+Stands size line old answer new =
+    Step line old.bench answer new.bench × (new.bench.mishaps.struck ≡ false) × WholeStep size line old answer new
+
+-- one within which an armed cut struck: its whole report is `power lost`, the board is off, and the payloads are kept
+abbrev pub Breaks : Size → Line → Whole → Answer → Whole → Type 0
+Breaks size line old answer new =
+    (would : Answer) × (mid : Whole) × Step line old.bench would mid.bench × (mid.bench.mishaps.struck ≡ true) × WholeStep size line old would mid
+    × (answer ≡ says printed.PowerLost) × (new.bench ≡ unpowered mid.bench) × (new.payloads ≡ mid.payloads)
+
 abbrev pub WholeMoves : Size → Line → Whole → Answer → Whole → Type 0
-WholeMoves size line old answer new =
-    Moves line old.bench answer new.bench × ((answer ≡ says printed.PowerLost) ⊎ WholeStep size line old answer new)
+WholeMoves size line old answer new = Stands size line old answer new ⊎ Breaks size line old answer new
 
 -- lines that may answer so, one after another
 abbrev pub WholeRun : Size → Whole → List Line → List Answer → Whole → Type 0
