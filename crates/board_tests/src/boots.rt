@@ -58,7 +58,10 @@ fn a1_is_the_reset_reason(rt: HostRuntime) -> Result<(), Fail> {
     let Ok(mut store) = Store::open(rt.alloc(), disk) else {
         return Err(Fail::new("the open failed"));
     };
-    assert_eq!(rt; store.apply(Command::Reset(Reason::SystemFailure))?.number(), 1);
+    assert_eq!(rt;
+        store.apply(Command::Reset(Reason::SystemFailure))?.number(),
+        1
+    );
     let board = powered(rt.alloc(), store.into_disk(), BootMode::Fresh, &payloads)?;
     assert_eq!(rt; board.found().reason, Reason::SystemFailure);
     assert_eq!(rt; shown(&rt, &board, 0)?, (0, 1, RAM_BASE));

@@ -23,12 +23,7 @@ fn slot_after_cut(alloc: Global, board: Board<SimDisk>, choice: Choice) -> Resul
 
 #[test]
 fn a_cut_within_the_record_leaves_the_old_slot(rt: HostRuntime) -> Result<(), Fail> {
-    for choice in [
-        Choice::Byte(0),
-        Choice::Byte(255),
-        Choice::Old,
-        Choice::New,
-    ] {
+    for choice in [Choice::Byte(0), Choice::Byte(255), Choice::Old, Choice::New] {
         let mut board = fresh(rt.alloc())?;
         board.arm(ArmedFault::CutAt(1));
         assert!(rt; !board.struck());
@@ -47,7 +42,10 @@ fn a_cut_within_the_gate_leaves_either_slot(rt: HostRuntime) -> Result<(), Fail>
         assert_eq!(rt; board.console(Command::Slot(1)), Err(Refusal::Down));
         assert!(rt; board.struck());
         assert_eq!(rt; board.now().slot.number(), 0);
-        assert_eq!(rt; slot_after_cut(rt.alloc(), board, Choice::Byte(fill))?, slot);
+        assert_eq!(rt;
+            slot_after_cut(rt.alloc(), board, Choice::Byte(fill))?,
+            slot
+        );
     }
     Ok(())
 }
@@ -60,7 +58,10 @@ fn a_fault_at_the_gate_stays_for_the_life(rt: HostRuntime) -> Result<(), Fail> {
         assert_eq!(rt; board.console(Command::Slot(1)), Err(Refusal::Down));
         assert_eq!(rt; board.console(Command::Slot(2)), Err(Refusal::Down));
         assert!(rt; !board.struck());
-        assert_eq!(rt; slot_after_cut(rt.alloc(), board, Choice::Byte(fill))?, slot);
+        assert_eq!(rt;
+            slot_after_cut(rt.alloc(), board, Choice::Byte(fill))?,
+            slot
+        );
     }
     Ok(())
 }
@@ -88,7 +89,12 @@ fn a_discard_that_fails_refuses_the_boot(rt: HostRuntime) -> Result<(), Fail> {
     ] {
         let mut disk = with_image(&rt, rt.alloc())?;
         disk.fail_at(call);
-        let left = unpowered(rt.alloc(), disk, BootMode::Discard, &Payloads::new(rt.alloc()))?;
+        let left = unpowered(
+            rt.alloc(),
+            disk,
+            BootMode::Discard,
+            &Payloads::new(rt.alloc()),
+        )?;
         assert_eq!(rt; left.refusal, want);
         assert_eq!(rt; left.now, left.found);
         assert_eq!(rt; left.disk.failures(), 1);

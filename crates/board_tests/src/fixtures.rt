@@ -127,9 +127,5 @@ pub fn shown(
     let id = hart(number)?;
     assert!(rt; board.machine().has(id));
     let state = board.hart(id);
-    Ok((
-        state.reg(Reg::new(10)),
-        state.reg(Reg::new(11)),
-        state.pc(),
-    ))
+    Ok((state.reg(Reg::new(10)), state.reg(Reg::new(11)), state.pc()))
 }
