@@ -15,7 +15,7 @@ use Rattle.store.specs.Standing.{StandsFor}
 use Rattle.store.specs.Lives.{Life as Told, begun as started}
 use Rattle.store.specs.Opens.{OpenRefused, CausedRefusal}
 use Rattle.store.specs.Stores.{life_of}
-use Rattle.board.specs.Boots.{boot_refusal, life_after, Fits}
+use Rattle.board.specs.Boots.{boot_refusal, life_after, BootsSlot, Fits}
 use Rattle.board.specs.Unbooted.{IsLateRefusal, IsBootRefusal, doubt_after, LeavesLife, CountsRefusal}
 use Rattle.bench_report.specs.declared.printed.Answer.{Answer}
 use Rattle.bench_report.specs.declared.printed.Printed.{Printed}
@@ -62,15 +62,15 @@ opened size b old z s off leaves = opens size b.medium (facts old) z s off.1 lea
 
 -- the board is on
 on_begun : (mode : BootMode) (size : Size) (b : Bench) (m : Medium) (s : State) (store : Store) (line : Printed) → Follows size m (begun s) (store_size store) → DeviceIs size b (store_mishaps store) (store_facts store)
-    → life_of store ≡ life_after mode s → (mode ≡ modes.Resume → ⊥) → line ≡ printed.On mode → (x : Bench) × Begins mode s m b line x × OnIs size x store
+    → life_of store ≡ life_after mode s → BootsSlot mode → line ≡ printed.On mode → (x : Bench) × Begins mode s m b line x × OnIs size x store
 on_begun modes.Fresh size b m s store line follows device life goes h = (on_with m (begun s) b, (h, refl), ((follows, as_begun store s life), device))
 on_begun modes.Keep size b m s store line follows device life goes h = (on_with m (begun s) b, (h, refl), ((follows, as_begun store s life), device))
 on_begun modes.Discard size b m s store line follows device life goes h =
     (on_with (keeps Discard m) (went_on Discard (begun s)) b, inl (h, refl), ((follows_more size m Discard (begun s) (store_size store) follows, as_discarded store s life), device))
-on_begun modes.Resume size b m s store line follows device life goes h = absurd (goes refl)
+on_begun modes.Resume size b m s store line follows device life goes h = absurd goes
 
 pub power_ok : (size : Size) (mode : BootMode) (b : Bench) (old : SimDisk) (store : Store) (s : State) (a : Answer) → OffIs size b old → Leaves (facts old) (store_size store) s → ShowsFound a.found s → a.line ≡ printed.On mode
-    → life_of store ≡ life_after mode s → boot_refusal s mode ≡ None → (mode ≡ modes.Resume → ⊥) → store_mishaps store ≡ mishaps old → (facts old).failures ≤ (store_facts store).failures → SameLength (facts old) (store_facts store)
+    → life_of store ≡ life_after mode s → boot_refusal s mode ≡ None → BootsSlot mode → store_mishaps store ≡ mishaps old → (facts old).failures ≤ (store_facts store).failures → SameLength (facts old) (store_facts store)
     → (x : Bench) × PowersOn mode b a x × OnIs size x store
 power_ok size mode b old store s a off leaves shows h life allowed goes cause no_fewer long =
     let m = opened size b old (store_size store) s off leaves in

@@ -17,6 +17,13 @@ boot_refusal s modes.Keep = None
 boot_refusal s modes.Discard = if is_some s.image then None else Some 8
 boot_refusal s modes.Resume = if is_some s.image then None else Some 8
 
+-- the modes that boot the slot: one that goes on with an image is never on, until images can be loaded
+abbrev pub BootsSlot : BootMode → Type 0
+BootsSlot modes.Fresh = Unit {0}
+BootsSlot modes.Keep = Unit {0}
+BootsSlot modes.Discard = Unit {0}
+BootsSlot modes.Resume = ⊥
+
 -- the life that a boot begins in a state: with the command that the mode issues
 abbrev pub life_after : BootMode → State → Life
 life_after modes.Fresh s = begun s

@@ -44,7 +44,6 @@ pub struct Parts<D: Disk + Drop> {
 impl<D: Disk + Drop> Board<D> {
     ghost use Rattle.std.specs.Prelude.{◌≡◌, ◌<◌, ◌≤◌, length, Some, None, Err, IfSome, OnOk, IfOk, IfErr, IsErrOf, MatchResult};
     ghost use Rattle.board_model.specs.Durable.{State, Change, after};
-    ghost use Rattle.board_model.specs.declared.boot_mode.BootMode.TheVariants as modes;
     ghost use Rattle.board_model.specs.Shapes.{Size, ram_bytes_of};
     ghost use Rattle.board_model.specs.Shown.{durable_of, change_of};
     ghost use Rattle.disk.specs.Facts.{Leaves_only, Failed, Unchanged};
@@ -56,7 +55,7 @@ impl<D: Disk + Drop> Board<D> {
     ghost use Rattle.store.specs.Stores.{disk_of, mishaps_of, size_of_store, life_of, found_state, now_state, doubt_of, failures_at_open, Stands, Doubts};
     ghost use Rattle.machine.specs.Machine.{hart_at};
     ghost use Rattle.machine.specs.Turns.{Turns, TurnsMany};
-    ghost use Rattle.board.specs.Boots.{IsConsoleCommand, life_after, boot_refusal, Fits, booted};
+    ghost use Rattle.board.specs.Boots.{IsConsoleCommand, life_after, boot_refusal, BootsSlot, Fits, booted};
     ghost use Rattle.board.specs.Boards.{store_of, machine_of};
     ghost use Rattle.board.specs.Moments.{issued_by, MayLeave};
     ghost use Rattle.board.specs.Unbooted.{IsStartRefusal, IsBootRefusal, doubt_after, LeavesLife, CountsRefusal};
@@ -85,9 +84,8 @@ impl<D: Disk + Drop> Board<D> {
         ensures any_moment { IfOk result (λ board. Leaves_only (D.facts disk) (disk_of (store_of board))
             (MayLeave (D.facts disk) (size_of_store (store_of board)) (found_state (store_of board)) (issued_by mode))) }
 
-        // It boots the slot, where the mode is allowed and the payloads fit; no image can be loaded yet.
-        ensures not_resumed { OnOk result (mode ≡ modes.Resume → ⊥) }
-        ensures allowed { IfOk result (λ board. (boot_refusal (found_state (store_of board)) mode ≡ None) × Fits (size_of_store (store_of board)) payloads.now) }
+        // It boots the slot, where the mode is allowed and the payloads fit.
+        ensures allowed { IfOk result (λ board. (boot_refusal (found_state (store_of board)) mode ≡ None) × BootsSlot mode × Fits (size_of_store (store_of board)) payloads.now) }
         ensures boots { IfOk result (λ board. machine_of board ≡ booted payloads.now (now_state (store_of board)) (size_of_store (store_of board))) }
 
         // A refusal after the open leaves the state found, but for a command in doubt.

@@ -10,7 +10,7 @@ ghost use Rattle.store.specs.Opens.{CausedRefusal};
 ghost use Rattle.store.specs.Lives.{begun};
 ghost use Rattle.store.specs.Stores.{disk_of, mishaps_of, size_of_store, life_of, found_state, now_state, doubt_of, failures_at_open};
 ghost use Rattle.machine.specs.Machine.{resting};
-ghost use Rattle.board.specs.Boots.{life_after, boot_refusal, Fits, booted};
+ghost use Rattle.board.specs.Boots.{life_after, boot_refusal, BootsSlot, Fits, booted};
 ghost use Rattle.board.specs.Moments.{issued_by, gone_before, GoesOn};
 ghost use Rattle.board.specs.Unbooted.{IsStartRefusal, IsBootRefusal, IsIssueRefusal, RefusesMode, life_refused, CountsRefusal};
 ghost use Rattle.board_model.specs.declared.boot_mode.BootMode.TheVariants as modes;
@@ -46,8 +46,8 @@ fn issue<D: Disk + Drop>(store: &mut Store<D>, mode: BootMode) -> Result<(), Ref
     requires only { LeavesOnly (disk_of store.old) (size_of_store store.old) (found_state store.old) }
     ensures size { size_of_store store.new ≡ size_of_store store.old }
     ensures life { OnOk result (life_of store.new ≡ life_after mode (found_state store.old)) }
-    ensures not_resumed { OnOk result (mode ≡ modes.Resume → ⊥) }
     ensures only { OnOk result (LeavesOnly (disk_of store.new) (size_of_store store.new) (now_state store.new)) }
+    ensures boots { OnOk result (BootsSlot mode) }
     ensures refused { IfErr result (λ e. IsIssueRefusal mode e) }
     ensures left { IfErr result (λ e. life_of store.new ≡ life_refused e (found_state store.old)) }
     ensures any_moment { MatchResult result
@@ -110,9 +110,8 @@ pub fn ready<D: Disk + Drop>(
     requires only { LeavesOnly (disk_of store.old) (size_of_store store.old) (found_state store.old) }
     ensures size { size_of_store store.new ≡ size_of_store store.old }
     ensures life { OnOk result (life_of store.new ≡ life_after mode (found_state store.old)) }
-    ensures not_resumed { OnOk result (mode ≡ modes.Resume → ⊥) }
     ensures only { OnOk result (LeavesOnly (disk_of store.new) (size_of_store store.new) (now_state store.new)) }
-    ensures allowed { OnOk result ((boot_refusal (found_state store.old) mode ≡ None) × Fits (size_of_store store.old) payloads.now) }
+    ensures allowed { OnOk result ((boot_refusal (found_state store.old) mode ≡ None) × BootsSlot mode × Fits (size_of_store store.old) payloads.now) }
     ensures machine { IfOk result (λ m. m ≡ booted payloads.now (now_state store.new) (size_of_store store.new)) }
     ensures refused { IfErr result (λ e. IsBootRefusal (boot_refusal (found_state store.old) mode) (size_of_store store.old) mode payloads.now e) }
     ensures left { IfErr result (λ e. life_of store.new ≡ life_refused e (found_state store.old)) }

@@ -9,7 +9,7 @@ pub returns-in-Ok-clause-told : goal.returns-in-Ok-clause-told
 returns-in-Ok-clause-told c = λ size b h.
     let did = c.in-Ok.ensures in
     let store = store_in c.in-Ok.board in
-    power_ok size c.args.mode b c.args.disk store (found_state store) (record { found = Some c.found.result; line = printed.On c.args.mode }) h did.found c.found.ensures refl did.life did.allowed.0 did.not_resumed did.cause did.counts did.length
+    power_ok size c.args.mode b c.args.disk store (found_state store) (record { found = Some c.found.result; line = printed.On c.args.mode }) h did.found c.found.ensures refl did.life did.allowed.0 did.allowed.1 did.cause did.counts did.length
 
 pub returns-in-Err-clause-told : goal.returns-in-Err-clause-told
 returns-in-Err-clause-told c = λ size b h.
