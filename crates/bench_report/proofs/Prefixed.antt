@@ -6,6 +6,7 @@ use Rattle.board_model.specs.Kept.{Kept, nothing_kept, found_of, MayKeep, MayFin
 use Rattle.board_model.specs.declared.durable.Durable.{Durable}
 use Rattle.script_lang.specs.Scripts.{Script}
 use Rattle.board.specs.Boots.{boot_refusal}
+use Rattle.board.specs.Moments.{issued_by}
 use Rattle.board_model.specs.declared.boot_mode.BootMode.{BootMode}
 use Rattle.board_model.specs.declared.boot_mode.BootMode.TheVariants as modes
 use Rattle.script_lang.specs.declared.line.Line.{Line}
@@ -16,7 +17,7 @@ use Rattle.bench_report.specs.declared.printed.Printed.TheVariants as printed
 use Rattle.bench_report.specs.Bench.{Medium, Blank, Unknown, Formatted, Life, Bench, blank_bench}
 use Rattle.bench_report.specs.Steps.{says, starved, failed, off_with, on_with, unpowered, begun, keeps, doubts, went_on, doubtful, FormatsOn, FormatStep, OnStep, SlotStep, IsOpenRefusal, Opens, ShowsFound, Begins, BootsAs, PowersOn, Commands, Step, Moves, Run}
 use Rattle.bench_report.specs.Reports.{IsReport}
-use Rattle.bench_report.specs.Prefix.{command_of, boot_command, Fate, Acknowledged, Doubtful, Refused, refused_by, fate_of, first_of, joined, MayFollow, Issues, Tells, IsPrefixed, is_format_ok, IsFoundByPrefix, KeepsPrefixLaw}
+use Rattle.bench_report.specs.Prefix.{command_of, Fate, Acknowledged, Doubtful, Refused, refused_by, fate_of, first_of, joined, MayFollow, Issues, Tells, IsPrefixed, is_format_ok, IsFoundByPrefix, KeepsPrefixLaw}
 use Rattle.bench_report.proofs.Ended.{found_more}
 use Rattle.bench_report.proofs.Wholes.{report_alone}
 use Rattle.bench_report.proofs.Table.{not_six, mode_not_six}
@@ -105,7 +106,7 @@ nothing line a x s d new c none e f h = (
 )
 
 -- a power-on that opened nothing issues nothing
-unopened : (o : Option Change) (mode : BootMode) (a : Answer) (x : Printed) (s : State) (d : List Change) (new c : Bench) → boot_command mode ≡ o → fate_of x ≡ Refused → a ≡ says x → new ≡ c
+unopened : (o : Option Change) (mode : BootMode) (a : Answer) (x : Printed) (s : State) (d : List Change) (new c : Bench) → issued_by mode ≡ o → fate_of x ≡ Refused → a ≡ says x → new ≡ c
     → Holds c.medium c.power s d → Told (lines.On mode) s d a new
 unopened None mode a x s d new c at fate e f h = nothing (lines.On mode) a x s d new c at e f h
 unopened (Some y) mode a x s d new c at fate e f h =
@@ -136,14 +137,14 @@ module _ (mode : BootMode) (b : Bench) (a : Answer) (new : Bench) (s : State) (d
   settled (Some c) u e = let P : State → Type 0 = MayFollow s (d ++ c ∷ []) in subst P (sym e) (still s d c t follow)
 
   -- no command of the boot was acknowledged, nor is one in doubt
-  found_alone : (x : Printed) (c : Bench) → ((rest : State → List Change → Type 0) → rest t [] → Issues (lines.On mode) (boot_command mode) (fate_of x) t [] rest) → a.line ≡ x → new ≡ c
+  found_alone : (x : Printed) (c : Bench) → ((rest : State → List Change → Type 0) → rest t [] → Issues (lines.On mode) (issued_by mode) (fate_of x) t [] rest) → a.line ≡ x → new ≡ c
       → Holds c.medium c.power t [] → Told (lines.On mode) s d a new
   found_alone x c issues e f h = (
     t,
     [],
     held new c t [] f h,
     (λ rest r. (let P : Printed → Type 0 = λ y. Tells a.found (lines.On mode) y s d rest in subst P (sym e) (shown a.found (lines.On mode) x s t d rest shows follow (issues rest r)))),
-    (λ u m. settled (boot_command mode) u m),
+    (λ u m. settled (issued_by mode) u m),
   )
 
   stands : Holds (Formatted k) None t []
@@ -157,9 +158,9 @@ module _ (mode : BootMode) (b : Bench) (a : Answer) (new : Bench) (s : State) (d
   found_off n c six e f medium off =
       let P : Medium → Type 0 = λ m. Holds m None t [] in
       let Q : Option Life → Type 0 = λ p. Holds c.medium p t [] in
-      found_alone (printed.OnRefused n) c (λ rest r. refused (boot_command mode) n rest six r) e f (subst Q (sym off) (subst P (sym medium) stands))
+      found_alone (printed.OnRefused n) c (λ rest r. refused (issued_by mode) n rest six r) e f (subst Q (sym off) (subst P (sym medium) stands))
 
-  found_on : boot_command mode ≡ None → a.line ≡ printed.On mode → new ≡ on_with (Formatted k) (begun t) b → Told (lines.On mode) s d a new
+  found_on : issued_by mode ≡ None → a.line ≡ printed.On mode → new ≡ on_with (Formatted k) (begun t) b → Told (lines.On mode) s d a new
   found_on none e f =
       found_alone (printed.On mode) (on_with (Formatted k) (begun t) b) (λ rest r. (let P : Option Change → Type 0 = λ o. Issues (lines.On mode) o Acknowledged t [] rest in subst P (sym none) r)) e f (refl, refl, calm, same)
 
@@ -231,10 +232,10 @@ powers mode b a new s d h off (inl p) = opens b.medium mode b a new s d p.0 p.1 
 powers mode b a new s d h off (inr (inl p)) = absurd (no_open b.medium s d p.0 h p.1)
 powers mode b a new s d h off (inr (inr (inl p))) =
     let P : Option Life → Type 0 = λ p. Holds b.medium p s d in
-    unopened (boot_command mode) mode a _ s d new (starved b) refl refl p.0 p.1 (subst P (sym off) h)
+    unopened (issued_by mode) mode a _ s d new (starved b) refl refl p.0 p.1 (subst P (sym off) h)
 powers mode b a new s d h off (inr (inr (inr p))) =
     let P : Option Life → Type 0 = λ p. Holds b.medium p s d in
-    unopened (boot_command mode) mode a _ s d new (failed p.1.0 b) refl refl p.0 p.1.2 (subst P (sym off) h)
+    unopened (issued_by mode) mode a _ s d new (failed p.1.0 b) refl refl p.0 p.1.2 (subst P (sym off) h)
 
 -- the command of a line `slot`, on a board that is on
 module _ (k : Kept) (b : Bench) (life : Life) (n : ℕ) (a : Answer) (new : Bench) (s : State) (d : List Change) (at : b.medium ≡ Formatted k) (on : b.power ≡ Some life) (h : Holds (Formatted k) (Some life) s d) where
@@ -310,7 +311,7 @@ format_at (Some life) b a new s d on h step = nothing lines.Format a _ s d new b
 
 on_at : (p : Option Life) (mode : BootMode) (b : Bench) (a : Answer) (new : Bench) (s : State) (d : List Change) → b.power ≡ p → Holds b.medium b.power s d → OnStep p mode b a new → Told (lines.On mode) s d a new
 on_at None mode b a new s d on h step = powers mode b a new s d (off_holds b.medium b.power s d h) on step
-on_at (Some life) mode b a new s d on h step = unopened (boot_command mode) mode a _ s d new b refl refl step.0 step.1 h
+on_at (Some life) mode b a new s d on h step = unopened (issued_by mode) mode a _ s d new b refl refl step.0 step.1 h
 
 step_tells : (line : Line) (b : Bench) (a : Answer) (new : Bench) (s : State) (d : List Change) → Holds b.medium b.power s d → Step line b a new → Told line s d a new
 step_tells lines.Format b a new s d h step = format_at b.power b a new s d refl h step

@@ -1,11 +1,10 @@
 -- The prefix law over whole runs, in the words of the report alone: each power-on finds what the one before it found,
 -- with each command that was acknowledged since, in order, and after them at most the one in doubt of each life since.
 use Rattle.std.specs.Prelude.{◌≡◌, ◌⊎◌, ℕ, ◌==◌, Bool, true, false, List, [], ◌∷◌, ◌++◌, Option, Some, None, MatchBool, if◌then◌else◌, ⊤}
-use Rattle.board_model.specs.Durable.{State, Change, Slot, Discard, formatted, refusal_of, after}
+use Rattle.board_model.specs.Durable.{State, Change, Slot, formatted, refusal_of, after}
 use Rattle.board_model.specs.Shown.{durable_of}
 use Rattle.board_model.specs.declared.durable.Durable.{Durable}
-use Rattle.board_model.specs.declared.boot_mode.BootMode.{BootMode}
-use Rattle.board_model.specs.declared.boot_mode.BootMode.TheVariants as modes
+use Rattle.board.specs.Moments.{issued_by}
 use Rattle.script_lang.specs.declared.line.Line.{Line}
 use Rattle.script_lang.specs.declared.line.Line.TheVariants as lines
 use Rattle.bench_report.specs.declared.printed.Answer.{Answer}
@@ -13,15 +12,9 @@ use Rattle.bench_report.specs.declared.printed.Printed.{Printed}
 use Rattle.bench_report.specs.declared.printed.Printed.TheVariants as printed
 
 -- the durable command that a line issues: a boot by `discard` issues one too
-abbrev pub boot_command : BootMode → Option Change
-boot_command modes.Fresh = None
-boot_command modes.Keep = None
-boot_command modes.Discard = Some Discard
-boot_command modes.Resume = None
-
 abbrev pub command_of : Line → Option Change
 command_of (lines.Slot n) = Some (Slot n)
-command_of (lines.On mode) = boot_command mode
+command_of (lines.On mode) = issued_by mode
 command_of line = None
 
 -- how a command was answered: it was acknowledged; its fate is in doubt, by a refusal 6 or since power was lost; or it
