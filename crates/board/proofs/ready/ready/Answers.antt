@@ -1,10 +1,10 @@
-use Rattle.std.proofs.Common.{rules, ◌≡◌, None, Some, ◌∙◌, ap, sym, true}
+use Rattle.std.proofs.Common.{rules, Some, ◌∙◌, ap, sym}
 use Rattle.store.specs.Lives.{begun}
 use Rattle.store.specs.Stores.{found_state}
 use Rattle.board.specs.Boots.{boot_refusal}
 use Rattle.board.specs.Unbooted.{RefusesMode}
 use Rattle.board.proofs.Moments.{stays_here}
-use Rattle.board.proofs.Refused.{refusal_is_quiet, allowed_none}
+use Rattle.board.proofs.Refused.{refusal_is_quiet}
 use Rattle.board.proofs.ready.ready.Goals as goal
 
 pub returns-in-Some-clause-left : goal.returns-in-Some-clause-left
