@@ -1,11 +1,11 @@
 -- The clauses of the layers below, in the words that the bench's lemmas use.
-use Rattle.std.proofs.Common.{◌≡◌, ◌≢◌, ◌⊎◌, ◌≤◌, ◌<◌, ℕ, ◌+◌, inl, inr, refl, sym, ◌∙◌, ap, subst, arith, List, [], ◌∷◌, ◌++◌, length, Option, Some, None, Result, Ok, Err, true, false}
+use Rattle.std.proofs.Common.{◌≡◌, ◌≢◌, ◌⊎◌, ◌<◌, ℕ, ◌+◌, inl, inr, refl, sym, ◌∙◌, ap, subst, arith, List, [], ◌∷◌, ◌++◌, length, Some, None, Ok, true, false}
 use Rattle.std.proofs.lemmas.List.{length-append}
 use Rattle.board_model.specs.Durable.{State, Change, refusal_of, after, fold, ends_life}
 use Rattle.board_model.specs.Shapes.{Size}
 use Rattle.board_model.specs.Shown.{number_of}
 use Rattle.board_model.specs.declared.refusal.Refusal.{Refusal}
-use Rattle.board_model.specs.declared.refusal.Refusal.TheVariants.{Device, Down, Over, JournalFull}
+use Rattle.board_model.specs.declared.refusal.Refusal.TheVariants.{Device, Down, JournalFull}
 use Rattle.disk.specs.Facts.{Facts, Failed}
 use Rattle.disk.specs.Mishaps.{Mishaps, Cause}
 use Rattle.store.specs.Lives.{Life, now_of, Refused, Applied}

@@ -1,13 +1,11 @@
 -- What a command answers on a board that is on.
-use Rattle.std.proofs.Common.{◌≡◌, ◌≢◌, ◌⊎◌, ◌≤◌, ℕ, ◌+◌, ◌<◌, inl, inr, List, [], ◌∷◌, ◌++◌, Option, None, Some, Result, Ok, Err, false, refl, sym, ◌∙◌, ap, subst, arith, length}
-use Rattle.board_model.specs.Durable.{State, Change, after, refusal_of, ends_life}
-use Rattle.board_model.specs.Kept.{Kept, found_of}
+use Rattle.std.proofs.Common.{◌≡◌, ◌≤◌, ℕ, ◌+◌, inl, inr, Option, None, Some, Result, Ok, Err, false, refl, sym, ◌∙◌, ap, subst}
+use Rattle.board_model.specs.Durable.{Change, after, refusal_of, ends_life}
 use Rattle.board_model.specs.Shapes.{Size}
 use Rattle.board_model.specs.Shown.{number_of}
 use Rattle.board_model.specs.declared.refusal.Refusal.{Refusal}
 use Rattle.board_model.specs.declared.refusal.Refusal.TheVariants.{Device, Down, JournalFull}
-use Rattle.disk.specs.Facts.{Facts, Failed}
-use Rattle.disk.specs.Mishaps.{Mishaps, Cause}
+use Rattle.disk.specs.Facts.{Failed}
 use Rattle.store.specs.Leaves.{SameLength}
 use Rattle.store.specs.Lives.{Applied}
 use Rattle.store.specs.Opens.{CausedRefusal}

@@ -1,6 +1,6 @@
 -- Where memory was never refused and no failure was answered, a script has one report.
 use Rattle.std.proofs.Common.{◌≡◌, ◌⊎◌, ℕ, ◌+◌, ◌<◌, ◌≤◌, inl, inr, List, [], ◌∷◌, Option, None, Some, refl, sym, ◌∙◌, ap, subst, arith, Bool, true, false, cond, eq-eqb, rules, tests, ◌==◌}
-use Rattle.board_model.specs.Durable.{State, Change, Slot, Discard, refusal_of, after}
+use Rattle.board_model.specs.Durable.{State, Change, Slot, Discard, refusal_of}
 use Rattle.board_model.specs.Kept.{Kept, nothing_kept, found_of, MayKeep, TakesIn}
 use Rattle.board_model.specs.declared.durable.Durable.{Durable}
 use Rattle.board_model.specs.Shown.{durable_of}
@@ -15,7 +15,7 @@ use Rattle.bench_report.specs.declared.printed.Printed.{Printed}
 use Rattle.bench_report.specs.declared.printed.Printed.TheVariants as printed
 use Rattle.bench_report.specs.declared.printed.Answer.{Answer}
 use Rattle.bench_report.specs.Bench.{Medium, Blank, Unknown, Formatted, Life, Bench, blank_bench}
-use Rattle.bench_report.specs.Steps.{says, starved, failed, IsHindered, off_with, on_with, unpowered, begun, keeps, doubts, went_on, FormatsOn, FormatStep, OnStep, SlotStep, IsOpenRefusal, Opens, ShowsFound, Begins, BootsAs, PowersOn, Commands, Shows, Step, Moves, Run}
+use Rattle.bench_report.specs.Steps.{says, starved, IsHindered, off_with, on_with, unpowered, begun, keeps, doubts, went_on, FormatsOn, FormatStep, OnStep, SlotStep, IsOpenRefusal, Opens, ShowsFound, Begins, BootsAs, PowersOn, Commands, Shows, Step, Moves, Run}
 use Rattle.bench_report.specs.Reports.{IsReport}
 use Rattle.bench_report.proofs.Wholes.{report_alone}
 use Rattle.bench_report.specs.Plain.{hidden, IsShown, IsAlike, AreAlike, plain_format, plain_mode, plain_boot, plain_on, plain_command, plain_issued, plain_at, plain, plain_answers, plain_report}

@@ -1,6 +1,6 @@
 -- What a life that ends leaves on its disk.
 use Rattle.std.proofs.Common.{◌≡◌, ◌⊎◌, ℕ, inl, inr, List, [], ◌∷◌, ◌++◌, Option, None, Some, refl, sym, ◌∙◌, ap, subst}
-use Rattle.board_model.specs.Durable.{State, Change, formatted, fold, after}
+use Rattle.board_model.specs.Durable.{State, Change, formatted, after}
 use Rattle.board_model.specs.Kept.{Kept, MayFind, TakesIn, found_of}
 use Rattle.board_model.specs.Shapes.{Size}
 use Rattle.disk.specs.Facts.{Facts, Content, Is_left}

@@ -1,7 +1,7 @@
 -- What a format answers, by what the disk was.
-use Rattle.std.proofs.Common.{◌≡◌, ◌≢◌, ◌⊎◌, ◌≤◌, ℕ, inl, inr, [], Option, None, Some, Result, Ok, Err, refl, sym, ◌∙◌, ap, subst, length, arith}
-use Rattle.board_model.specs.Durable.{State, formatted}
-use Rattle.board_model.specs.Kept.{Kept, nothing_kept}
+use Rattle.std.proofs.Common.{◌≡◌, ◌≢◌, ◌≤◌, inl, inr, [], None, Result, Err, refl, sym, ◌∙◌, ap, subst, length, arith}
+use Rattle.board_model.specs.Durable.{formatted}
+use Rattle.board_model.specs.Kept.{nothing_kept}
 use Rattle.board_model.specs.Shapes.{Size, sectors_of}
 use Rattle.board_model.specs.Shown.{number_of}
 use Rattle.board_model.specs.declared.refusal.Refusal.{Refusal}
@@ -10,7 +10,7 @@ use Rattle.disk.specs.Facts.{Facts, sector, Passes, Stays}
 use Rattle.disk.specs.Mishaps.{Mishaps, Cause}
 use Rattle.layout.specs.Superblocks.{HasMagic}
 use Rattle.simdisk.specs.declared.SimDisk.{SimDisk}
-use Rattle.store.specs.Leaves.{Leaves, IsBlank, IsKept, LeavesOnly, SameLength}
+use Rattle.store.specs.Leaves.{IsBlank, LeavesOnly, SameLength}
 use Rattle.store.specs.Opens.{CausedRefusal, FormatRefused}
 use Rattle.bench_report.specs.declared.printed.Answer.{Answer}
 use Rattle.bench_report.specs.declared.printed.Printed.TheVariants as printed

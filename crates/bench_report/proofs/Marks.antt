@@ -1,13 +1,13 @@
 -- The mark of a formatted disk, by what a crash may leave.
-use Rattle.std.proofs.Common.{◌≡◌, ◌⊎◌, ◌≤◌, ℕ, zero, suc, List, [], ◌∷◌, length, replicate, refl, sym, ◌∙◌, ap, subst, arith}
+use Rattle.std.proofs.Common.{◌≡◌, ◌≤◌, ℕ, zero, suc, replicate, sym, subst, arith}
 use Rattle.board_model.specs.Durable.{State}
-use Rattle.board_model.specs.Shapes.{Size, sectors_of, ram_bytes_of}
+use Rattle.board_model.specs.Shapes.{Size, ram_bytes_of}
 use Rattle.disk.specs.Facts.{Facts, Content, sector, Passes, Stays, Is_fresh}
 use Rattle.layout.specs.Superblocks.{HasMagic}
 use Rattle.layout.proofs.Spellings.{zeros_have_no_magic}
 use Rattle.simdisk.specs.declared.SimDisk.{SimDisk}
 use Rattle.store.specs.Leaves.{Leaves, IsBlank, IsKept}
-use Rattle.store.specs.Standing.{StandsFor, Selects}
+use Rattle.store.specs.Standing.{StandsFor}
 use Rattle.store.proofs.Bridges.{kept_marked, fresh_blank, stands_marked}
 use Rattle.store.proofs.States.{one_selected}
 use Rattle.bench_report.specs.Below.{facts}

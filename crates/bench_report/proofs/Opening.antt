@@ -1,13 +1,12 @@
 -- What an open answers, and the boot after it.
-use Rattle.std.proofs.Common.{◌≡◌, ◌≢◌, ◌⊎◌, ◌≤◌, ◌<◌, ℕ, arith, inl, inr, [], Option, None, Some, refl, sym, ◌∙◌, ap, subst, length}
-use Rattle.board_model.specs.Durable.{State, Change}
-use Rattle.board_model.specs.Kept.{Kept, MayFind}
+use Rattle.std.proofs.Common.{◌≡◌, ◌≢◌, ◌⊎◌, ◌≤◌, ◌<◌, arith, inl, inr, None, refl, sym, ◌∙◌, ap, subst, length}
+use Rattle.board_model.specs.Durable.{State}
+use Rattle.board_model.specs.Kept.{MayFind}
 use Rattle.board_model.specs.Shapes.{Size}
 use Rattle.board_model.specs.Shown.{number_of}
 use Rattle.board_model.specs.declared.refusal.Refusal.{Refusal}
 use Rattle.board_model.specs.declared.refusal.Refusal.TheVariants.{NotFormatted, BadShape, BadRecord, Device, Memory}
-use Rattle.disk.specs.Facts.{Facts, Content, Failed}
-use Rattle.disk.specs.Mishaps.{Mishaps, Cause}
+use Rattle.disk.specs.Facts.{Facts, Content}
 use Rattle.simdisk.specs.declared.SimDisk.{SimDisk}
 use Rattle.store.specs.Leaves.{Leaves, IsBlank, IsKept, SameLength}
 use Rattle.store.specs.Opens.{CausedRefusal, OpenRefused}

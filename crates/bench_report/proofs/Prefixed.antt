@@ -1,9 +1,8 @@
 -- The prefix law, from what each line does to the bench.
-use Rattle.std.proofs.Common.{◌≡◌, ◌⊎◌, ℕ, ◌+◌, ◌<◌, inl, inr, List, [], ◌∷◌, ◌++◌, Option, None, Some, refl, sym, ◌∙◌, ap, subst, Bool, true, false, MatchBool, nat_lt, ◌==◌, is_some, if◌then◌else◌}
+use Rattle.std.proofs.Common.{◌≡◌, ℕ, ◌+◌, inl, inr, List, [], ◌∷◌, ◌++◌, Option, None, Some, refl, sym, ◌∙◌, ap, subst, Bool, true, false, MatchBool, ◌==◌, if◌then◌else◌}
 use Rattle.std.specs.Option.{option_to_list}
 use Rattle.board_model.specs.Durable.{State, Change, Slot, Discard, formatted, refusal_of, after}
 use Rattle.board_model.specs.Kept.{Kept, nothing_kept, found_of, MayKeep, MayFind, TakesIn}
-use Rattle.board_model.specs.Shown.{durable_of}
 use Rattle.board_model.specs.declared.durable.Durable.{Durable}
 use Rattle.script_lang.specs.Scripts.{Script}
 use Rattle.board.specs.Boots.{boot_refusal}
@@ -15,7 +14,7 @@ use Rattle.bench_report.specs.declared.printed.Answer.{Answer}
 use Rattle.bench_report.specs.declared.printed.Printed.{Printed}
 use Rattle.bench_report.specs.declared.printed.Printed.TheVariants as printed
 use Rattle.bench_report.specs.Bench.{Medium, Blank, Unknown, Formatted, Life, Bench, blank_bench}
-use Rattle.bench_report.specs.Steps.{says, starved, failed, IsHindered, off_with, on_with, unpowered, begun, keeps, doubts, went_on, doubtful, FormatsOn, FormatStep, OnStep, SlotStep, IsOpenRefusal, Opens, ShowsFound, Begins, BootsAs, PowersOn, Commands, Step, Moves, Run}
+use Rattle.bench_report.specs.Steps.{says, starved, failed, off_with, on_with, unpowered, begun, keeps, doubts, went_on, doubtful, FormatsOn, FormatStep, OnStep, SlotStep, IsOpenRefusal, Opens, ShowsFound, Begins, BootsAs, PowersOn, Commands, Step, Moves, Run}
 use Rattle.bench_report.specs.Reports.{IsReport}
 use Rattle.bench_report.specs.Prefix.{command_of, boot_command, Fate, Acknowledged, Doubtful, Refused, refused_by, fate_of, first_of, joined, MayFollow, Issues, Tells, IsPrefixed, is_format_ok, IsFoundByPrefix, KeepsPrefixLaw}
 use Rattle.bench_report.proofs.Ended.{found_more}

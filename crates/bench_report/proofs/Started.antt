@@ -1,6 +1,5 @@
 -- A power-on whose open succeeded.
-use Rattle.std.proofs.Common.{◌≡◌, ◌≢◌, ◌⊎◌, ◌≤◌, ℕ, List, [], ◌∷◌, Option, None, Some, IfSome, inl, inr, refl, sym, ◌∙◌, ap, subst, arith, length}
-use Rattle.std.specs.List.{All}
+use Rattle.std.proofs.Common.{◌≡◌, ◌≢◌, ◌≤◌, ℕ, List, [], ◌∷◌, Option, None, Some, IfSome, inl, inr, refl, sym, ◌∙◌, ap, subst, arith}
 use Rattle.board_model.specs.Durable.{State, Change, Discard, after}
 use Rattle.board_model.specs.Shapes.{Size, ram_bytes_of}
 use Rattle.board_model.specs.Shown.{number_of, durable_of}
@@ -10,7 +9,6 @@ use Rattle.board_model.specs.declared.durable.Durable.{Durable}
 use Rattle.board_model.specs.declared.refusal.Refusal.{Refusal}
 use Rattle.board_model.specs.declared.refusal.Refusal.TheVariants.{BadShape, Memory, Device, Down, BadImage}
 use Rattle.disk.specs.Facts.{Facts, Leaves_only}
-use Rattle.disk.specs.Mishaps.{Mishaps}
 use Rattle.simdisk.specs.declared.SimDisk.{SimDisk}
 use Rattle.store.specs.Leaves.{Leaves, LeavesOnly, LeavesEither, SameLength}
 use Rattle.store.specs.Standing.{StandsFor}

@@ -1,7 +1,7 @@
 -- How the code's disk and store stand for the bench of the model.
 use Rattle.std.specs.Prelude.{◌≡◌, ℕ, List, All, slice_set, ◌<◌, ◌≤◌, ◌⊎◌, Option, Some, None, length, ⊤}
-use Rattle.board_model.specs.Durable.{State, Change, after}
-use Rattle.board_model.specs.Kept.{Kept, MayFind, found_of}
+use Rattle.board_model.specs.Durable.{State, after}
+use Rattle.board_model.specs.Kept.{MayFind, found_of}
 use Rattle.board_model.specs.Shapes.{Size, sectors_of}
 use Rattle.disk.specs.Facts.{Facts}
 use Rattle.disk.specs.Mishaps.{Mishaps}

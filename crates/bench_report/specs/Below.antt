@@ -12,7 +12,6 @@ use Rattle.board.specs.Boards as words
 use Rattle.board.specs.declared.Board as boards
 use Rattle.machine.specs.Machine.{Machine}
 use Rattle.store.specs.declared.Store as any
-use Rattle.store.specs.Leaves as below
 use Rattle.store.specs.Lives.{Life, now_of}
 use Rattle.store.specs.Stores as stores
 

@@ -1,5 +1,5 @@
 -- The bench as a model: what its disk keeps, its board, and why the disk failed.
-use Rattle.std.specs.Prelude.{ℕ, List, Option, Some, None}
+use Rattle.std.specs.Prelude.{ℕ, Option, None}
 use Rattle.board_model.specs.Durable.{State, Change}
 use Rattle.board_model.specs.Kept.{Kept}
 use Rattle.disk.specs.Mishaps.{Mishaps, no_mishap}

@@ -1,6 +1,6 @@
 -- The one report of a script where memory was never refused and the disk never failed.
 use Rattle.std.specs.Prelude.{◌≡◌, ◌⊎◌, ℕ, ◌+◌, ◌==◌, List, [], ◌∷◌, Option, Some, None, Result, Ok, if◌then◌else◌}
-use Rattle.board_model.specs.Durable.{State, Change, Slot, Discard, refusal_of, after}
+use Rattle.board_model.specs.Durable.{State, Change, Slot, Discard, refusal_of}
 use Rattle.board_model.specs.Kept.{nothing_kept, found_of}
 use Rattle.board_model.specs.Shown.{durable_of}
 use Rattle.board_model.specs.declared.refusal.Refusal.{Refusal}

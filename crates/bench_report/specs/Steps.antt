@@ -1,7 +1,7 @@
 -- What a line of a script may answer, and what the bench then is. Source: docs/SCRIPT.md.
-use Rattle.std.specs.Prelude.{◌≡◌, ◌≢◌, ℕ, ◌+◌, ◌<◌, ◌⊎◌, true, false, List, [], ◌∷◌, ◌++◌, Option, Some, None, ⊤}
+use Rattle.std.specs.Prelude.{◌≡◌, ◌≢◌, ℕ, ◌+◌, ◌<◌, ◌⊎◌, true, false, List, [], ◌∷◌, ◌++◌, Option, Some, None}
 use Rattle.board_model.specs.Durable.{State, Change, Slot, Discard, refusal_of, after}
-use Rattle.board_model.specs.Kept.{Kept, nothing_kept, MayKeep, found_of}
+use Rattle.board_model.specs.Kept.{nothing_kept, MayKeep, found_of}
 use Rattle.board_model.specs.Shown.{durable_of}
 use Rattle.board_model.specs.declared.durable.Durable.{Durable}
 use Rattle.disk.specs.Facts.{counted}

@@ -1,7 +1,6 @@
 -- The exact text of the lines of a report.
 use Rattle.std.specs.Prelude.{ℕ, List, [], ◌∷◌, ◌++◌, Option, Some, None}
 use Rattle.std.specs.Fmt.{decimal}
-use Rattle.std.specs.List.{flat_map}
 use Rattle.board_model.specs.Shown.{reason_number}
 use Rattle.board_model.specs.declared.durable.Durable.{Durable}
 use Rattle.board_model.specs.declared.durable.ImageHead.{ImageHead}
@@ -10,7 +9,6 @@ use Rattle.board_model.specs.declared.boot_mode.BootMode.TheVariants.{Fresh, Kee
 use Rattle.machine_lines.specs.Texts.{machine_line_text}
 use Rattle.bench_report.specs.declared.printed.Printed.{Printed}
 use Rattle.bench_report.specs.declared.printed.Printed.TheVariants as printed
-use Rattle.bench_report.specs.declared.printed.Answer.{Answer}
 use lib.Chars.{codes}
 
 abbrev pub mode_text : BootMode → List ℕ

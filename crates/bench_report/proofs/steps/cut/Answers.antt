@@ -1,5 +1,4 @@
-use Rattle.std.proofs.Common.{refl, sym, ◌∙◌, ap, subst, arith, length}
-use Rattle.disk.specs.Facts.{Facts, Content, Is_left, Only}
+use Rattle.std.proofs.Common.{refl, sym, ◌∙◌, ap, arith}
 use Rattle.disk.specs.Mishaps.{mishaps_left}
 use Rattle.bench_report.specs.Below.{facts}
 use Rattle.bench_report.proofs.Ended.{left_on, cut_leaves}

@@ -1,7 +1,5 @@
-use Rattle.std.proofs.Common.{◌≡◌, List, ℕ, refl, sym, ◌∙◌, ap, subst}
-use Rattle.bench_report.specs.Steps.{says, unpowered}
-use Rattle.bench_report.specs.declared.printed.Printed.TheVariants as printed
-use Rattle.bench_report.specs.Whole.{Whole}
+use Rattle.std.proofs.Common.{◌≡◌, refl, subst}
+use Rattle.bench_report.specs.Steps.{unpowered}
 use Rattle.bench_report.specs.Agree.{Carried}
 use Rattle.bench_report.proofs.Wholes.{carries, unmoved, reads, turns, keeps_payload}
 use Rattle.machine.specs.Machine.{Machine}
