@@ -16,7 +16,7 @@ use Rattle.bench_report.specs.declared.power.Power.TheVariants.{Off, On}
 use Rattle.bench_report.specs.declared.printed.Answer.{Answer}
 use Rattle.bench_report.specs.Below.{Store, Board, store_in, machine_in, store_size}
 use Rattle.bench_report.specs.Bench.{Medium, Blank, Unknown, Formatted, Life, Bench, blank_bench}
-use Rattle.bench_report.specs.Steps.{Run}
+use Rattle.bench_report.specs.Steps.{Moves, Run}
 use Rattle.bench_report.specs.Whole.{Whole, IsBoardOn, Powered, ReadStep, TurnStep, PayloadStep, WholeMoves, WholeRun, shows}
 use Rattle.bench_report.specs.Agree.{OnIs, StoreIs, Follows, Agrees, MachineIs, Carried, Reads, MakesTurns, KeepsPayload}
 

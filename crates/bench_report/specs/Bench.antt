@@ -1,9 +1,5 @@
 -- The bench as a model: what its disk keeps, its board, and why the disk failed.
-<<<<<<< HEAD
 use Rattle.std.specs.Prelude.{◌≡◌, ℕ, Option, None}
-=======
-use Rattle.std.specs.Prelude.{ℕ, Option, None}
->>>>>>> 40658bb1030eac11fa2cecd1084c71be2997add1
 use Rattle.board_model.specs.Durable.{State, Change}
 use Rattle.board_model.specs.Kept.{Kept}
 use Rattle.disk.specs.Mishaps.{Mishaps, no_mishap}
