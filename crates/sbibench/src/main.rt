@@ -4,6 +4,14 @@
 
 mod pipe;
 
+ghost use Rattle.std.specs.Prelude.{◌≡◌, ◌⊎◌, List, OnOk, IfErr, Ok, Err};
+ghost use Rattle.std.specs.Io.KnownBytes.{Appends};
+ghost use Rattle.board_model.specs.declared.refusal.Refusal.{Refusal};
+ghost use Rattle.script_lang.specs.Scripts.{script_of, Script as Said};
+ghost use Rattle.bench_report.specs.Bench.{Bench};
+ghost use Rattle.bench_report.specs.Reports.{IsReport, report_text};
+ghost use Rattle.bench_report.specs.declared.printed.Answer.{Answer};
+
 use crate::pipe::Pipe;
 use bench_report::run;
 use board_model::Refusal;
@@ -38,17 +46,27 @@ fn read_script(rt: &(impl Input + Drop), alloc: Global) -> Result<Vec<u8>, Fault
     }
 }
 
-/// Runs the script, and writes its report to the standard output.
+/// Runs the script, and writes its report to the end.
+fn report_to<W: Write>(alloc: Global, script: &[u8], out: &mut W) -> Result<(), Refusal>
+    // What was written is a report of the script, and nothing else.
+    ensures report { OnOk result ((said : Said) × (answers : List Answer) × (end : Bench)
+        × (script_of script.now ≡ Ok said) × IsReport said answers end × Appends (W.contents out.old) (W.contents out.new) (report_text answers)) }
+    // A refusal is the script's fault, or want of memory, or the writer's.
+    ensures refused { IfErr result (λ e. (e ≡ Refusal.Memory) ⊎ (e ≡ Refusal.Output) ⊎ (script_of script.now ≡ Err e)) }
+    // A script with a fault writes nothing.
+    ensures nothing { (e : Refusal) → script_of script.now ≡ Err e → (W.contents out.new ≡ W.contents out.old) × ((result ≡ Err e) ⊎ (result ≡ Err Refusal.Memory)) }
+{
+    run(alloc, script, out)?;
+    out.flush().map_err(|_| Refusal::Output)
+}
+
+/// Writes the report of the script to the standard output.
 fn write_report(rt: &impl Print, alloc: Global, script: &[u8]) -> Result<(), Fault> {
     let pipe = Pipe::new(io::writer(rt));
     let Ok(mut out) = BufWriter::with_capacity(alloc, WRITTEN_AT_ONCE, pipe) else {
         return Err(Fault::Refused(Refusal::Memory));
     };
-    let ran = match run(alloc, script, &mut out) {
-        Ok(_) => out.flush().map_err(|_| Refusal::Output),
-        Err(e) => Err(e),
-    };
-    match ran {
+    match report_to(alloc, script, &mut out) {
         Ok(()) => Ok(()),
         Err(_) if out.get_ref().is_closed() => Err(Fault::Closed),
         Err(e) => Err(Fault::Refused(e)),
