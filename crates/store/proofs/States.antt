@@ -49,6 +49,12 @@ one_state size z side r t base c selects areas stands =
     let one = one_selected z size stands.0 side stands.1 r c stands.2 selects in
     (one.0, stands.3 ∙ ap (λ (w : Size). state_of w stands.1 c) one.0 ∙ ap (λ (q : Record). state_of size q c) one.1 ∙ state_same size r base c areas)
 
+pub one_standing : (c : Content) (y z : Size) (s t : State) → StandsFor c y s → StandsFor c z t → (y ≡ z) × (s ≡ t)
+unfolding StandsFor
+one_standing c y z s t stands other =
+    let one = one_state y z stands.0 stands.1 t c c stands.2 (record { as_long = refl; same = λ k far. refl }) other in
+    (sym one.0, stands.3 ∙ sym one.1)
+
 pub stands_for : (size : Size) (side : ℕ) (r : Record) (base c : Content) → Selects size side r c → SameAreas base c → StandsFor c size (state_of size r base)
 unfolding StandsFor
 stands_for size side r base c selects areas = (side, r, selects, sym (state_same size r base c areas))

@@ -4,10 +4,12 @@
 mod commits;
 mod doubts;
 mod formats;
+mod laws;
 mod opens;
 mod receipts;
 mod stores;
 
 pub use formats::format;
+pub use laws::one_standing;
 pub use receipts::Receipt;
 pub use stores::Store;
