@@ -191,7 +191,7 @@ step_on (lines.FailLane x y) b a new calm h = not_built b a new calm h.0 h.1
 step_on (lines.Poke x y z) b a new calm h = not_built b a new calm h.0 h.1
 
 -- a cut strikes only where a failure was answered
-moves_on : (line : Line) (b : Bench) (a : Answer) (new : Bench) → IsCalm b → Moves line b a new → Determined (plain line b) a new
+pub moves_on : (line : Line) (b : Bench) (a : Answer) (new : Bench) → IsCalm b → Moves line b a new → Determined (plain line b) a new
 moves_on line b a new calm (inl h) = step_on line b a new calm h.0
 moves_on line b a new calm (inr h) =
     let spoils : IsSpoilt h.1 → IsSpoilt new = λ s. (let P : Bench → Type 0 = IsSpoilt in subst P (sym h.5) s) in
@@ -297,7 +297,7 @@ moves_more line b a new (inr h) =
     let then = same h.1 (unpowered h.1) new refl refl h.5 in
     (omega (arith, first.0, then.0), λ p. then.1 (first.1 p))
 
-run_more : (ls : List Line) (b : Bench) (answers : List Answer) (end : Bench) → Run b ls answers end → Grows b end
+pub run_more : (ls : List Line) (b : Bench) (answers : List Answer) (end : Bench) → Run b ls answers end → Grows b end
 run_more [] b [] end h = same b b end refl refl h
 run_more [] b (a ∷ answers) end h = absurd h
 run_more (l ∷ ls) b [] end h = absurd h
