@@ -16,6 +16,7 @@ use Rattle.store.specs.Lives.{Life as Told, begun as started}
 use Rattle.store.specs.Opens.{OpenRefused, CausedRefusal}
 use Rattle.store.specs.Stores.{life_of}
 use Rattle.board.specs.Boots.{boot_refusal, life_after, BootsSlot, Fits}
+use Rattle.board.specs.Moments.{gone_before, MayLeave}
 use Rattle.board.specs.Unbooted.{IsLateRefusal, IsBootRefusal, doubt_after, LeavesLife, CountsRefusal}
 use Rattle.bench_report.specs.declared.printed.Answer.{Answer}
 use Rattle.bench_report.specs.declared.printed.Printed.{Printed}
@@ -123,7 +124,8 @@ power_err size mode b old new z s payloads e a off leaves shows h short why left
 
 -- the board stays off, whether the open found a state or not
 pub unpowered : (size : Size) (mode : BootMode) (b : Bench) (old new : SimDisk) (payloads : List (List ℕ)) (e : Refusal) (n : ℕ) (o : Option Durable) → OffIs size b old → AreShort payloads → n ≡ number_of e
-    → IfSome o (λ d. (z : Size) × (s : State) × (d ≡ durable_of s) × StandsFor (facts old).content z s × Leaves (facts old) z s × IsBootRefusal (boot_refusal s mode) z mode payloads e × LeavesLife (doubt_after e) (facts new) z s)
+    → IfSome o (λ d. (z : Size) × (s : State) × (d ≡ durable_of s) × StandsFor (facts old).content z s × Leaves (facts old) z s × IsBootRefusal (boot_refusal s mode) z mode payloads e × LeavesLife (doubt_after e) (facts new) z s
+    × Leaves_only (facts old) (facts new) (MayLeave (facts old) z s (gone_before e)))
     → (o ≡ None → OpenRefused (facts old) e (facts new)) → (o ≡ None → Leaves_only (facts old) (facts new) (facts old).may_leave) → CausedRefusal (mishaps old) e (mishaps new)
     → CountsRefusal (facts old).failures e (facts new).failures → (facts old).failures ≤ (facts new).failures → SameLength (facts old) (facts new)
     → (x : Bench) × PowersOn mode b (record { found = o; line = printed.OnRefused n }) x × OffIs size x new

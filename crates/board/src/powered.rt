@@ -1,7 +1,7 @@
 //! The board.
 
 use crate::payloads::Payloads;
-use crate::ready::{ready, started};
+use crate::ready::ready;
 use board_model::{BootMode, Command, Durable, HartId, Refusal, Shape};
 use disk::{ArmedFault, Disk};
 use hart::Hart;
@@ -42,23 +42,24 @@ pub struct Parts<D: Disk + Drop> {
 }
 
 impl<D: Disk + Drop> Board<D> {
-    ghost use Rattle.std.specs.Prelude.{◌≡◌, ◌<◌, ◌≤◌, length, Some, None, Err, IfSome, OnOk, IfOk, IfErr, IsErrOf, MatchResult};
+    ghost use Rattle.std.specs.Prelude.{◌≡◌, ◌⊎◌, ◌<◌, ◌≤◌, length, Some, None, Err, IfSome, OnOk, IfOk, IfErr, IsErrOf, MatchResult};
     ghost use Rattle.board_model.specs.Durable.{State, Change, after};
-    ghost use Rattle.board_model.specs.Shapes.{Size, ram_bytes_of};
+    ghost use Rattle.board_model.specs.Shapes.{Size};
     ghost use Rattle.board_model.specs.Shown.{durable_of, change_of};
+    ghost use Rattle.board_model.specs.declared.refusal.Refusal.{Refusal};
     ghost use Rattle.disk.specs.Facts.{Leaves_only, Failed, Unchanged};
     ghost use Rattle.disk.specs.Mishaps.{armed_by};
     ghost use Rattle.store.specs.Standing.{StandsFor};
     ghost use Rattle.store.specs.Leaves.{IsIdle, SameLength, Leaves, LeavesOnly, LeavesEither, StandsForEither};
-    ghost use Rattle.store.specs.Opens.{OpenRefused, CausedRefusal};
+    ghost use Rattle.store.specs.Opens.{ReadsAs, OpenRefused, CausedRefusal};
     ghost use Rattle.store.specs.Lives.{Applied};
     ghost use Rattle.store.specs.Stores.{disk_of, mishaps_of, size_of_store, life_of, found_state, now_state, doubt_of, failures_at_open, Stands, Doubts};
     ghost use Rattle.machine.specs.Machine.{hart_at};
     ghost use Rattle.machine.specs.Turns.{Turns, TurnsMany};
     ghost use Rattle.board.specs.Boots.{IsConsoleCommand, life_after, boot_refusal, BootsSlot, Fits, booted};
     ghost use Rattle.board.specs.Boards.{store_of, machine_of};
-    ghost use Rattle.board.specs.Moments.{issued_by, MayLeave};
-    ghost use Rattle.board.specs.Unbooted.{IsStartRefusal, IsBootRefusal, doubt_after, LeavesLife, CountsRefusal};
+    ghost use Rattle.board.specs.Moments.{issued_by, gone_before, MayLeave};
+    ghost use Rattle.board.specs.Unbooted.{IsBootRefusal, doubt_after, LeavesLife, CountsRefusal};
 
     /// Powers a board on: opens the disk, and boots by the mode (docs/BOARD.md, "Power on").
     ///
@@ -88,12 +89,17 @@ impl<D: Disk + Drop> Board<D> {
         ensures allowed { IfOk result (λ board. (boot_refusal (found_state (store_of board)) mode ≡ None) × BootsSlot mode × Fits (size_of_store (store_of board)) payloads.now) }
         ensures boots { IfOk result (λ board. machine_of board ≡ booted payloads.now (now_state (store_of board)) (size_of_store (store_of board))) }
 
-        // A refusal after the open leaves the state found, but for a command in doubt.
+        // A refusal after the open leaves the state found, but for a command in doubt; and at each moment since the call's
+        // start a crash leaves what one just before could have left, or where a command went to the disk the state found
+        // before or after it.
         ensures refused { IfErr result (λ e. IfSome e.found (λ d. (size : Size) × (s : State) × (d ≡ durable_of s) × StandsFor (D.facts disk).content size s × Leaves (D.facts disk) size s
-            × IsBootRefusal (boot_refusal s mode) size mode payloads.now e.refusal × LeavesLife (doubt_after e.refusal) (D.facts e.disk) size s)) }
+            × IsBootRefusal (boot_refusal s mode) size mode payloads.now e.refusal × LeavesLife (doubt_after e.refusal) (D.facts e.disk) size s
+            × Leaves_only (D.facts disk) (D.facts e.disk) (MayLeave (D.facts disk) size s (gone_before e.refusal)))) }
         ensures now { IfErr result (λ e. e.now ≡ e.found) }
 
-        // A refused open, since whose start a crash leaves what it could have left just before.
+        // A disk that reads as no state is refused so, or for its failure; and since the start of a refused open a crash leaves
+        // what it could have left just before.
+        ensures refuses { (e : Refusal) → ReadsAs (D.facts disk).content e → MatchResult result (λ board. ⊥) (λ f. (f.found ≡ None) × ((f.refusal ≡ e) ⊎ (f.refusal ≡ Refusal.Device))) }
         ensures unopened { IfErr result (λ e. e.found ≡ None → OpenRefused (D.facts disk) e.refusal (D.facts e.disk)) }
         ensures unopened_moments { IfErr result (λ e. e.found ≡ None → Leaves_only (D.facts disk) (D.facts e.disk) (D.facts disk).may_leave) }
 
@@ -124,26 +130,6 @@ impl<D: Disk + Drop> Board<D> {
                 disk: store.into_disk(),
                 refusal,
             }),
-        }
-    }
-
-    /// Boots the slot of a store that is open, on a board of its shape: what `power_on` does once a mode is settled.
-    /// Refused 3 where a payload is longer than RAM, else 11 for want of memory; the store is given back.
-    pub fn start(
-        alloc: Global,
-        store: Store<D>,
-        payloads: &Payloads,
-    ) -> Result<Board<D>, (Store<D>, Refusal)>
-        ensures store { IfOk result (λ board. store_of board ≡ store) }
-        ensures boots { IfOk result (λ board. machine_of board ≡ booted payloads.now (now_state store) (size_of_store store)) }
-        ensures fits { OnOk result (Fits (size_of_store store) payloads.now) }
-        ensures least { 4096 ≤ ram_bytes_of (size_of_store store) }
-        ensures back { IfErr result (λ e. e.0 ≡ store) }
-        ensures refused { IfErr result (λ e. IsStartRefusal (size_of_store store) payloads.now e.1) }
-    {
-        match started(alloc, &store, payloads) {
-            Ok(machine) => Ok(Board { store, machine }),
-            Err(refusal) => Err((store, refusal)),
         }
     }
 
@@ -269,6 +255,7 @@ impl<D: Disk + Drop> Board<D> {
         ensures up { (s : State) → Stands (store_of self) s → LeavesOnly (D.facts result) (size_of_store (store_of self)) s }
         ensures down { (s t : State) → Doubts (store_of self) s t → LeavesEither (D.facts result) (size_of_store (store_of self)) s t }
         ensures none_out { IsIdle (D.facts result) }
+        ensures facts { Unchanged (disk_of (store_of self)) (D.facts result) }
         ensures content { (D.facts result).content ≡ (disk_of (store_of self)).content }
         ensures failures { (D.facts result).failures ≡ (disk_of (store_of self)).failures }
         ensures mishaps { D.mishaps result ≡ mishaps_of (store_of self) }

@@ -132,19 +132,3 @@ pub fn ready<D: Disk + Drop>(
     boot_slot(&mut machine, store, payloads);
     Ok(machine)
 }
-
-/// The machine that boots the slot of the state now. Refused 3 where a payload does not fit, else 11 for want of memory.
-pub fn started<D: Disk + Drop>(
-    alloc: Global,
-    store: &Store<D>,
-    payloads: &Payloads,
-) -> Result<Machine, Refusal>
-    ensures fits { OnOk result (Fits (size_of_store store.now) payloads.now) }
-    ensures least { 4096 ≤ ram_bytes_of (size_of_store store.now) }
-    ensures machine { IfOk result (λ m. m ≡ booted payloads.now (now_state store.now) (size_of_store store.now)) }
-    ensures refused { IfErr result (λ e. IsStartRefusal (size_of_store store.now) payloads.now e) }
-{
-    let mut machine = resting(alloc, store, payloads)?;
-    boot_slot(&mut machine, store, payloads);
-    Ok(machine)
-}

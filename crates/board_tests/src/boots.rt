@@ -1,7 +1,7 @@
 //! Boots and turns (docs/BOARD.md). Programs are words of the RISC-V Unprivileged ISA 20191213, chapter 24.
 
 use crate::fixtures::{formatted, hart, one_payload, powered, set, shown, slot, turns, with_image};
-use board::{Board, Payloads};
+use board::Payloads;
 use board_model::{BootMode, Command, RAM_BASE, Reason, Refusal, Shape};
 use machine::Turned;
 use ram::Width;
@@ -89,12 +89,7 @@ fn turns_are_made_one_after_another(rt: HostRuntime) -> Result<(), Fail> {
     let program = [0x13, 0x05, 0x15, 0x00, 0x6f, 0xf0, 0xdf, 0xff];
     let payloads = one_payload(rt.alloc(), 0, &program)?;
     let disk = formatted(rt.alloc(), 1)?;
-    let Ok(store) = Store::open(rt.alloc(), disk) else {
-        return Err(Fail::new("the open failed"));
-    };
-    let Ok(mut board) = Board::start(rt.alloc(), store, &payloads) else {
-        return Err(Fail::new("the boot was refused"));
-    };
+    let mut board = powered(rt.alloc(), disk, BootMode::Fresh, &payloads)?;
     assert_eq!(rt; turns(&rt, &mut board, 0, 5)?, Turned::Next);
     assert_eq!(rt; shown(&rt, &board, 0)?, (3, 0, RAM_BASE + 4));
     Ok(())

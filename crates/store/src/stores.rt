@@ -214,6 +214,7 @@ impl<D: Disk + Drop> Store<D> {
         ensures up { (s : State) → Stands self s → LeavesOnly (D.facts result) (size_of_store self) s }
         ensures down { (s t : State) → Doubts self s t → LeavesEither (D.facts result) (size_of_store self) s t }
         ensures none_out { IsIdle (D.facts result) }
+        ensures facts { Unchanged (disk_of self) (D.facts result) }
         ensures content { (D.facts result).content ≡ (disk_of self).content }
         ensures failures { (D.facts result).failures ≡ (disk_of self).failures }
         ensures mishaps { D.mishaps result ≡ mishaps_of self }

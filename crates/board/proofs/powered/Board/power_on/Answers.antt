@@ -3,7 +3,10 @@ use Rattle.board_model.specs.Shown.{durable_of}
 use Rattle.store.specs.Leaves.{Leaves}
 use Rattle.store.specs.Standing.{StandsFor}
 use Rattle.store.specs.Lives.{Life, now_of}
-use Rattle.store.specs.Stores.{size_of_store, found_state, life_of}
+use Rattle.store.specs.Stores.{disk_of, size_of_store, found_state, life_of}
+use Rattle.disk.specs.Facts.{Leaves_only}
+use Rattle.board.specs.Moments.{gone_before, MayLeave}
+use Rattle.board.proofs.Moments.{kept_meanwhile}
 use Rattle.board.specs.Boots.{boot_refusal}
 use Rattle.board.specs.Unbooted.{IsBootRefusal, doubt_after, life_refused, LeavesLife}
 use Rattle.board.proofs.Doubted.{leaves_life}
@@ -24,4 +27,6 @@ returns-in-Err-ready-clause-refused g c =
     let reads : StandsFor (g.D.Disk.facts c.args.disk).content size s = search rules in
     let found : Leaves (g.D.Disk.facts c.args.disk) size s = search rules in
     let why : IsBootRefusal (boot_refusal s c.args.mode) size c.args.mode c.args.payloads.now c.in-Err-ready.refusal = search rules in
-    (size, s, c.found.ensures ∙ ap (λ (x : Life). durable_of x.found) life, reads, found, why, subst (λ z. LeavesLife (doubt_after c.in-Err-ready.refusal) disk z s) as_was left)
+    let moments : Leaves_only (g.D.Disk.facts c.args.disk) disk (MayLeave (g.D.Disk.facts c.args.disk) size s (gone_before c.in-Err-ready.refusal)) =
+    kept_meanwhile _ (disk_of c.in-Ok.store) (disk_of c.ready.new.store) disk size s _ c.in-Ok.ensures.any_moment c.in-Err-ready.ensures.any_moment c.into_disk.ensures.facts in
+    (size, s, c.found.ensures ∙ ap (λ (x : Life). durable_of x.found) life, reads, found, why, subst (λ z. LeavesLife (doubt_after c.in-Err-ready.refusal) disk z s) as_was left, moments)
