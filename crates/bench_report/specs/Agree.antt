@@ -6,6 +6,10 @@ use Rattle.board_model.specs.Shapes.{Size, sectors_of}
 use Rattle.disk.specs.Facts.{Facts}
 use Rattle.disk.specs.Mishaps.{Mishaps}
 use Rattle.simdisk.specs.declared.SimDisk.{SimDisk}
+use Rattle.simdisk.specs.declared.choice.Choice.{Choice}
+use Rattle.simdisk.specs.declared.choice.Choice.TheVariants as choices
+use Rattle.script_lang.specs.declared.line.Fill.{Fill}
+use Rattle.script_lang.specs.declared.line.Fill.TheVariants as fills
 use Rattle.store.specs.Leaves.{Leaves, IsBlank, IsKept, IsIdle}
 use Rattle.bench_report.specs.declared.power.Power.{Power}
 use Rattle.bench_report.specs.declared.power.Power.TheVariants.{Off, On}
@@ -49,6 +53,12 @@ OnIs size b store = StoreIs size b.medium b.power store × DeviceIs size b (stor
 abbrev pub Agrees : Size → Bench → Power → Type 0
 Agrees size b (Off disk) = OffIs size b disk
 Agrees size b (On board) = OnIs size b (store_in board)
+
+-- what a cut leaves of what was written since the last sync, by a script's fill
+abbrev pub choice_by : Fill → Choice
+choice_by fills.Old = choices.Old
+choice_by fills.New = choices.New
+choice_by (fills.Byte byte) = choices.Byte byte
 
 -- nothing of a disk that no store holds is lent
 abbrev pub IsResting : Power → Type 0

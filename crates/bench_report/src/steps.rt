@@ -8,7 +8,7 @@ ghost use Rattle.bench_report.specs.Below.{store_in, machine_in, facts};
 ghost use Rattle.bench_report.specs.Bench.{Bench, Life};
 ghost use Rattle.bench_report.specs.Steps.{FormatsOn, PowersOn, FormatStep, OnStep, SlotStep, Step, Commands, off_with, unpowered, says};
 ghost use Rattle.bench_report.specs.Whole.{Whole, WholeStep, WholeMoves};
-ghost use Rattle.bench_report.specs.Agree.{MachineIs, KeepsPayload, MakesTurns, Agrees, IsResting, OffIs, OnIs, AreShort, WholeIs, Carried, Reads};
+ghost use Rattle.bench_report.specs.Agree.{choice_by, MachineIs, KeepsPayload, MakesTurns, Agrees, IsResting, OffIs, OnIs, AreShort, WholeIs, Carried, Reads};
 ghost use Rattle.machine_lines.specs.Shows.{TurnsLine, reg_line, pc_line, CsrLine, mem_line};
 ghost use Rattle.machine.specs.Machine.{Machine};
 ghost use Rattle.board_model.specs.declared.refusal.Refusal.TheVariants.{Memory};
@@ -94,7 +94,9 @@ pub fn disk_left(power: Power) -> SimDisk
 }
 
 /// What a crash leaves by a fill.
-fn choice(fill: Fill) -> Choice {
+fn choice(fill: Fill) -> Choice
+    ensures { result ≡ choice_by fill }
+{
     match fill {
         Fill::Old => Choice::Old,
         Fill::New => Choice::New,

@@ -9,4 +9,4 @@ mod tests;
 
 pub use laws::one_line;
 pub use line::{MachineLine, MemBytes};
-pub use shows::{csr, mem, pc, reg, turn};
+pub use shows::{csr, mem, pc, reg};

@@ -1,23 +1,12 @@
 //! What the lines say of a board.
 
 ghost use Rattle.std.specs.Prelude.{◌≡◌, ◌≤◌, ◌++◌, ◌-◌, length, replicate};
-ghost use Rattle.machine_lines.specs.Shows.{TurnsLine, reg_line, pc_line, CsrLine, mem_line};
+ghost use Rattle.machine_lines.specs.Shows.{reg_line, pc_line, CsrLine, mem_line};
 
 use crate::line::{MachineLine, MemBytes};
 use board_model::{HartId, RAM_BASE};
 use machine::Machine;
 use rv_decode::{CsrNumber, Reg};
-
-/// `turn H N`: N turns of a hart, at least one.
-pub fn turn(machine: &mut Machine, hart: HartId, count: u32) -> MachineLine
-    ensures { TurnsLine hart count machine.old machine.new result }
-{
-    if count == 0 || !machine.has(hart) {
-        return MachineLine::Off;
-    }
-    let word = machine.turns(hart, count);
-    MachineLine::Turn(hart, count, word)
-}
 
 /// `reg H R`: a register, 0 to 31.
 pub fn reg(machine: &Machine, hart: HartId, register: u32) -> MachineLine
