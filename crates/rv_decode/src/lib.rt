@@ -17,8 +17,6 @@ mod fields;
 mod instr;
 mod opcode;
 mod tables;
-#[cfg(test)]
-mod tests;
 mod word;
 
 pub use code::{decode, encode, one_reading};
