@@ -9,8 +9,6 @@ mod csr;
 mod laws;
 mod state;
 mod step;
-#[cfg(test)]
-mod tests;
 
 pub use laws::{one_outcome, one_result, one_step};
 pub use state::Hart;

@@ -4,8 +4,6 @@
 mod laws;
 mod machine;
 mod status;
-#[cfg(test)]
-mod tests;
 
 pub use laws::one_turn;
 pub use machine::Machine;

@@ -4,8 +4,6 @@
 mod laws;
 mod line;
 mod shows;
-#[cfg(test)]
-mod tests;
 
 pub use laws::one_line;
 pub use line::{MachineLine, MemBytes};

@@ -1,7 +1,7 @@
 ghost use Rattle.std.specs.Prelude.{◌≡◌, ℕ, ◌*◌, ◌≤◌, length, IfOk};
 
-use super::{Access, Ram, Width};
 use board_model::{PageNo, Shape};
+use ram::{Access, Ram, Width};
 use std::test::Fail;
 
 const BASE: u64 = 0x8000_0000;

@@ -1,9 +1,9 @@
 ghost use Rattle.std.specs.Prelude.{◌≡◌, ◌≤◌, length, IfOk};
 ghost use Rattle.rv_decode.specs.Ranges.{IsReg};
 
-use super::{Machine, Turned};
 use board_model::{HartId, Reason, Shape};
 use hart::Hart;
+use machine::{Machine, Turned};
 use ram::Width;
 use rv_decode::{CsrNumber, Reg};
 use std::test::Fail;

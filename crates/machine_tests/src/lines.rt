@@ -1,8 +1,8 @@
 ghost use Rattle.std.specs.Prelude.{◌≡◌, ◌<◌, ◌≤◌, length, IfOk};
 
-use super::{MachineLine, csr, mem, pc, reg};
 use board_model::{HartId, Reason, Shape};
 use machine::Machine;
+use machine_lines::{MachineLine, csr, mem, pc, reg};
 use std::alloc::Global;
 use std::process::Abort;
 use std::test::Fail;

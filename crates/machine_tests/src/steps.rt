@@ -1,11 +1,9 @@
-use super::{Hart, Outcome};
+use crate::{edges, traps};
 use board_model::{HartId, Shape};
+use hart::{Hart, Outcome};
 use ram::{Ram, Width};
 use rv_decode::{CsrNumber, Reg};
 use std::test::Fail;
-
-mod edges;
-mod traps;
 
 const BASE: u64 = 0x8000_0000;
 

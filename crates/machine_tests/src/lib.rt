@@ -1,0 +1,16 @@
+//! Memory, steps of a hart, boots and turns of a board, and their report lines: programs that an outside assembler made, with
+//! what an outside emulator or the manual says that they do.
+#![tactic(auto)]
+
+#[cfg(test)]
+mod boots;
+#[cfg(test)]
+mod edges;
+#[cfg(test)]
+mod lines;
+#[cfg(test)]
+mod memory;
+#[cfg(test)]
+mod steps;
+#[cfg(test)]
+mod traps;
