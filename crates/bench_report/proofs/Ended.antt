@@ -3,7 +3,7 @@ use Rattle.std.proofs.Common.{◌≡◌, ◌⊎◌, ℕ, inl, inr, List, [], ◌
 use Rattle.board_model.specs.Durable.{State, Change, formatted, after}
 use Rattle.board_model.specs.Kept.{Kept, MayFind, TakesIn, found_of}
 use Rattle.board_model.specs.Shapes.{Size}
-use Rattle.disk.specs.Facts.{Facts, Content, Is_left}
+use Rattle.disk.specs.Facts.{Facts, Content, IsLeft}
 use Rattle.store.specs.Leaves.{Leaves, IsBlank, IsKept, LeavesOnly, LeavesEither}
 use Rattle.store.specs.Stores.{Stands, Doubts}
 use Rattle.bench_report.specs.Below.{Store, IsAs, store_size}
@@ -58,5 +58,5 @@ left_on size Unknown old new was less = tt
 left_on size (Formatted k) old new was less = (λ c l. was.0 c (less c l), λ s found. was.1 s (found.0, less found.0 found.1, found.2))
 
 -- a power cut leaves one of the contents that it may leave, and that alone from then on
-pub cut_leaves : (old new : Facts) → Is_left old new → (c : Content) → new.may_leave c → old.may_leave c
+pub cut_leaves : (old new : Facts) → IsLeft old new → (c : Content) → new.may_leave c → old.may_leave c
 cut_leaves old new h c l = let P : Content → Type 0 = λ x. old.may_leave x in subst P (sym (h.fresh.durable c l ∙ h.fresh.reads)) (let Q : Content → Type 0 = λ x. old.may_leave x in h.left)

@@ -2,7 +2,7 @@
 use Rattle.std.proofs.Common.{◌≡◌, ◌≤◌, ℕ, zero, suc, replicate, sym, subst, arith}
 use Rattle.board_model.specs.Durable.{State}
 use Rattle.board_model.specs.Shapes.{Size, ram_bytes_of}
-use Rattle.disk.specs.Facts.{Facts, Content, sector, Passes, Stays, Is_fresh}
+use Rattle.disk.specs.Facts.{Facts, Content, sector, Passes, Stays, IsFresh}
 use Rattle.layout.specs.Superblocks.{HasMagic}
 use Rattle.layout.proofs.Spellings.{zeros_have_no_magic}
 use Rattle.simdisk.specs.declared.SimDisk.{SimDisk}
@@ -53,5 +53,5 @@ no_mark zero h = zeros_have_no_magic 0 h
 no_mark (suc n) h = zeros_have_no_magic 512 h
 
 -- a disk of zeros was never formatted
-pub zeros_blank : (n : ℕ) (disk : Facts) → Is_fresh (replicate n (replicate 512 0)) disk → IsBlank disk
+pub zeros_blank : (n : ℕ) (disk : Facts) → IsFresh (replicate n (replicate 512 0)) disk → IsBlank disk
 zeros_blank n disk fresh = fresh_blank (replicate n (replicate 512 0)) disk fresh (no_mark n)

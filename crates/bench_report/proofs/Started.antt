@@ -8,7 +8,7 @@ use Rattle.board_model.specs.declared.boot_mode.BootMode.TheVariants as modes
 use Rattle.board_model.specs.declared.durable.Durable.{Durable}
 use Rattle.board_model.specs.declared.refusal.Refusal.{Refusal}
 use Rattle.board_model.specs.declared.refusal.Refusal.TheVariants.{BadShape, Memory, Device, Down, BadImage}
-use Rattle.disk.specs.Facts.{Facts, Leaves_only}
+use Rattle.disk.specs.Facts.{Facts, LeavesSince}
 use Rattle.simdisk.specs.declared.SimDisk.{SimDisk}
 use Rattle.store.specs.Leaves.{Leaves, LeavesOnly, LeavesEither, SameLength}
 use Rattle.store.specs.Standing.{StandsFor}
@@ -125,8 +125,8 @@ power_err size mode b old new z s payloads e a off leaves shows h short why left
 -- the board stays off, whether the open found a state or not
 pub unpowered : (size : Size) (mode : BootMode) (b : Bench) (old new : SimDisk) (payloads : List (List ℕ)) (e : Refusal) (n : ℕ) (o : Option Durable) → OffIs size b old → AreShort payloads → n ≡ number_of e
     → IfSome o (λ d. (z : Size) × (s : State) × (d ≡ durable_of s) × StandsFor (facts old).content z s × Leaves (facts old) z s × IsBootRefusal (boot_refusal s mode) z mode payloads e × LeavesLife (doubt_after e) (facts new) z s
-    × Leaves_only (facts old) (facts new) (MayLeave (facts old) z s (gone_before e)))
-    → (o ≡ None → OpenRefused (facts old) e (facts new)) → (o ≡ None → Leaves_only (facts old) (facts new) (facts old).may_leave) → CausedRefusal (mishaps old) e (mishaps new)
+    × LeavesSince (facts old) (facts new) (MayLeave (facts old) z s (gone_before e)))
+    → (o ≡ None → OpenRefused (facts old) e (facts new)) → (o ≡ None → LeavesSince (facts old) (facts new) (facts old).may_leave) → CausedRefusal (mishaps old) e (mishaps new)
     → CountsRefusal (facts old).failures e (facts new).failures → (facts old).failures ≤ (facts new).failures → SameLength (facts old) (facts new)
     → (x : Bench) × PowersOn mode b (record { found = o; line = printed.OnRefused n }) x × OffIs size x new
 unpowered size mode b old new payloads e n None off short code found why left cause counts no_fewer long =

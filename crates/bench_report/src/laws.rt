@@ -27,8 +27,8 @@ pub fn prefix_law()
     ensures { (script : Script) (answers : List Answer) (end : Bench) → IsReport script answers end → KeepsPrefixLaw script.lines answers }
 {}
 
-/// Worked rows of docs/SCRIPT.md: what is written for a script where memory is ample and nothing fails.
-pub fn worked_rows()
+/// Worked scripts: what is written for a script where memory is ample and nothing fails.
+pub fn worked_scripts()
     ensures a_slot_outlives_power { plain_text (codes "board 1 1 1\nformat\non fresh\nslot 1\ncut 00\non fresh\n")
         ≡ Ok (codes "board 1/1/1 sectors 26\nformat ok\nfound slot 0 reason 0 image none next 0\non fresh\nslot ok 1\ncut\nfound slot 1 reason 0 image none next 0\non fresh\n") }
     ensures a_slot_above_three_is_refused { plain_text (codes "board 1 1 1\nformat\non fresh\nslot 4\nslot 3\n")

@@ -8,6 +8,6 @@ mod printed;
 mod runs;
 mod steps;
 
-pub use laws::{one_report, prefix_law, worked_rows};
+pub use laws::{one_report, prefix_law, worked_scripts};
 pub use printed::{Answer, Printed};
 pub use runs::{Report, run, run_left};

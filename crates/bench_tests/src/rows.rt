@@ -1,4 +1,4 @@
-//! The worked rows.
+//! Worked scripts with their reports.
 
 use crate::told::{goes_on, refused, reports, with_slot};
 use bench_report::run;

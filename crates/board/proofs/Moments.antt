@@ -1,6 +1,6 @@
 -- What a crash may leave from an open to the end of a power-on.
 use Rattle.std.proofs.Common.{◌≡◌, inl, inr, Option, None, Some, refl}
-use Rattle.disk.specs.Facts.{Content, Facts, Leaves_only, Unchanged}
+use Rattle.disk.specs.Facts.{Content, Facts, LeavesSince, Unchanged}
 use Rattle.disk.proofs.Moments.{passes_unchanged, leaves_stays, leaves_then, leaves_weaker}
 use Rattle.board_model.specs.Durable.{State, Change, after}
 use Rattle.board_model.specs.Shapes.{Size}
@@ -23,12 +23,12 @@ stays_here a size s None none = unchanged_here a
 stays_here a size s (Some c) none = cc
 
 -- an open, and then what a boot does
-meanwhile : (a b c : Facts) (size : Size) (s : State) (gone : Option Change) → Leaves_only a b a.may_leave → GoesOn b c size s gone → Leaves_only a c (MayLeave a size s gone)
+meanwhile : (a b c : Facts) (size : Size) (s : State) (gone : Option Change) → LeavesSince a b a.may_leave → GoesOn b c size s gone → LeavesSince a c (MayLeave a size s gone)
 meanwhile a b c size s None opened on = leaves_stays a b c a.may_leave opened (passes_unchanged b c on)
 meanwhile a b c size s (Some change) opened on =
     let P : Content → Type 0 = MayLeave a size s (Some change) in
     leaves_then a b c P (leaves_weaker a b a.may_leave P opened (λ x left. inl left)) (leaves_weaker b c (StandsForEither size s (after s change)) P on (λ x stands. inr stands))
 
 -- and then the disk is given back as it is
-pub kept_meanwhile : (a b c d : Facts) (size : Size) (s : State) (gone : Option Change) → Leaves_only a b a.may_leave → GoesOn b c size s gone → Unchanged c d → Leaves_only a d (MayLeave a size s gone)
+pub kept_meanwhile : (a b c d : Facts) (size : Size) (s : State) (gone : Option Change) → LeavesSince a b a.may_leave → GoesOn b c size s gone → Unchanged c d → LeavesSince a d (MayLeave a size s gone)
 kept_meanwhile a b c d size s gone opened on same = leaves_stays a c d (MayLeave a size s gone) (meanwhile a b c size s gone opened on) (passes_unchanged c d same)

@@ -1,7 +1,7 @@
 -- What a crash may leave at the moments of a power-on.
 -- Source: docs/BOARD.md, "Power on"; docs/STORE.md, "What a crash leaves".
 use Rattle.std.specs.Prelude.{◌⊎◌, Option, None, Some}
-use Rattle.disk.specs.Facts.{Content, Facts, Leaves_only, Unchanged}
+use Rattle.disk.specs.Facts.{Content, Facts, LeavesSince, Unchanged}
 use Rattle.board_model.specs.Durable.{State, Change, Discard, after}
 use Rattle.board_model.specs.Shapes.{Size}
 use Rattle.board_model.specs.declared.boot_mode.BootMode.{BootMode}
@@ -26,7 +26,7 @@ gone_before e = None
 -- how the disk of an open store goes on: as it is, or each crash leaves the state found before or after that command
 abbrev pub GoesOn : Facts → Facts → Size → State → Option Change → Type 0
 GoesOn old new size s None = Unchanged old new
-GoesOn old new size s (Some c) = Leaves_only old new (StandsForEither size s (after s c))
+GoesOn old new size s (Some c) = LeavesSince old new (StandsForEither size s (after s c))
 
 -- what a crash may leave from the start of a power-on: what a crash just before it could have left, or where that command
 -- went to the disk, the state found before or after it

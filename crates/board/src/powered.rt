@@ -47,7 +47,7 @@ impl<D: Disk + Drop> Board<D> {
     ghost use Rattle.board_model.specs.Shapes.{Size};
     ghost use Rattle.board_model.specs.Shown.{durable_of, change_of};
     ghost use Rattle.board_model.specs.declared.refusal.Refusal.{Refusal};
-    ghost use Rattle.disk.specs.Facts.{Leaves_only, Failed, Unchanged};
+    ghost use Rattle.disk.specs.Facts.{LeavesSince, Failed, Unchanged};
     ghost use Rattle.disk.specs.Mishaps.{armed_by};
     ghost use Rattle.store.specs.Standing.{StandsFor};
     ghost use Rattle.store.specs.Leaves.{IsIdle, SameLength, Leaves, LeavesOnly, LeavesEither, StandsForEither};
@@ -82,7 +82,7 @@ impl<D: Disk + Drop> Board<D> {
 
         // Each crash since the call's start leaves what a crash just before could have left, or, where the mode issues a
         // command, the state found before or after it.
-        ensures any_moment { IfOk result (λ board. Leaves_only (D.facts disk) (disk_of (store_of board))
+        ensures any_moment { IfOk result (λ board. LeavesSince (D.facts disk) (disk_of (store_of board))
             (MayLeave (D.facts disk) (size_of_store (store_of board)) (found_state (store_of board)) (issued_by mode))) }
 
         // It boots the slot, where the mode is allowed and the payloads fit.
@@ -94,14 +94,14 @@ impl<D: Disk + Drop> Board<D> {
         // before or after it.
         ensures refused { IfErr result (λ e. IfSome e.found (λ d. (size : Size) × (s : State) × (d ≡ durable_of s) × StandsFor (D.facts disk).content size s × Leaves (D.facts disk) size s
             × IsBootRefusal (boot_refusal s mode) size mode payloads.now e.refusal × LeavesLife (doubt_after e.refusal) (D.facts e.disk) size s
-            × Leaves_only (D.facts disk) (D.facts e.disk) (MayLeave (D.facts disk) size s (gone_before e.refusal)))) }
+            × LeavesSince (D.facts disk) (D.facts e.disk) (MayLeave (D.facts disk) size s (gone_before e.refusal)))) }
         ensures now { IfErr result (λ e. e.now ≡ e.found) }
 
         // A disk that reads as no state is refused so, or for its failure; and since the start of a refused open a crash leaves
         // what it could have left just before.
         ensures refuses { (e : Refusal) → ReadsAs (D.facts disk).content e → MatchResult result (λ board. ⊥) (λ f. (f.found ≡ None) × ((f.refusal ≡ e) ⊎ (f.refusal ≡ Refusal.Device))) }
         ensures unopened { IfErr result (λ e. e.found ≡ None → OpenRefused (D.facts disk) e.refusal (D.facts e.disk)) }
-        ensures unopened_moments { IfErr result (λ e. e.found ≡ None → Leaves_only (D.facts disk) (D.facts e.disk) (D.facts disk).may_leave) }
+        ensures unopened_moments { IfErr result (λ e. e.found ≡ None → LeavesSince (D.facts disk) (D.facts e.disk) (D.facts disk).may_leave) }
 
         // The disk stays as long, nothing of it is lent, and each refusal by its failure has a cause and is counted.
         ensures length { MatchResult result (λ board. SameLength (D.facts disk) (disk_of (store_of board))) (λ e. SameLength (D.facts disk) (D.facts e.disk)) }
@@ -229,7 +229,7 @@ impl<D: Disk + Drop> Board<D> {
         ensures down { (c : Change) → doubt_of (store_of self.old) ≡ Some c → (result ≡ Err Refusal.Down) × (store_of self.new ≡ store_of self.old) }
 
         // What a crash leaves at any moment of the call, and after it.
-        ensures any_moment { doubt_of (store_of self.old) ≡ None → Leaves_only (disk_of (store_of self.old)) (disk_of (store_of self.new))
+        ensures any_moment { doubt_of (store_of self.old) ≡ None → LeavesSince (disk_of (store_of self.old)) (disk_of (store_of self.new))
             (StandsForEither (size_of_store (store_of self.old)) (now_state (store_of self.old)) (after (now_state (store_of self.old)) (change_of command))) }
         ensures acknowledged { OnOk result (LeavesOnly (disk_of (store_of self.new)) (size_of_store (store_of self.old)) (after (now_state (store_of self.old)) (change_of command))) }
         ensures unchanged { IfErr result (λ e. (e ≡ Refusal.Down → ⊥) → LeavesOnly (disk_of (store_of self.new)) (size_of_store (store_of self.old)) (now_state (store_of self.old))) }

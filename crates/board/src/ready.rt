@@ -4,7 +4,7 @@ ghost use Rattle.std.specs.Prelude.{◌≡◌, ◌≤◌, ℕ, OnOk, OnErr, IfOk
 ghost use Rattle.board_model.specs.Durable.{State};
 ghost use Rattle.board_model.specs.Shapes.{ram_bytes_of};
 ghost use Rattle.board_model.specs.Shown.{durable_of};
-ghost use Rattle.disk.specs.Facts.{Leaves_only};
+ghost use Rattle.disk.specs.Facts.{LeavesSince};
 ghost use Rattle.store.specs.Leaves.{LeavesOnly, LeavesEither, SameLength, IsIdle};
 ghost use Rattle.store.specs.Opens.{CausedRefusal};
 ghost use Rattle.store.specs.Lives.{begun};

@@ -4,7 +4,7 @@ use Rattle.std.specs.Prelude.{◌≡◌, List, [], ◌∷◌, ◌++◌, Option, 
 use Rattle.std.specs.Prelude.{◌⊎◌}
 use Rattle.board_model.specs.Durable.{State, Change, formatted, fold}
 
--- The commands acknowledged since the format, in the order of their holds of the store lock, and the one command
+-- The commands acknowledged since the format, in order, and the one command
 -- in doubt: it answered 6 after it reached the disk, or was under way when power failed.
 pub record Kept : Type 0 where
   pub changes : List Change

@@ -1,6 +1,6 @@
 -- How runs of calls go on.
 use Rattle.std.proofs.Common.{inl, inr, ⊎_elim, refl, sym, subst, arith}
-use Rattle.disk.specs.Facts.{Content, Facts, After, Passes, Stays, Unchanged, Leaves_only}
+use Rattle.disk.specs.Facts.{Content, Facts, After, Passes, Stays, Unchanged, LeavesSince}
 
 -- two runs, one after the other
 pub passes_then : (a b c : Facts) (first second : Content → Content → Type 0) → Passes a b first → Passes b c second
@@ -31,12 +31,12 @@ passes_unchanged a b same = record {
 }
 
 -- before the first call
-pub leaves_none : (a : Facts) (P : Content → Type 0) → ((c : Content) → a.since a.moment c → a.may_leave c) → ((c : Content) → a.may_leave c → P c) → Leaves_only a a P
+pub leaves_none : (a : Facts) (P : Content → Type 0) → ((c : Content) → a.since a.moment c → a.may_leave c) → ((c : Content) → a.may_leave c → P c) → LeavesSince a a P
 leaves_none a P only here = record { later = omega arith; now = here; each = λ c left. here c (only c left); before = λ t c le left. inl left }
 
 -- one run more
-pub leaves_more : (a b c : Facts) (P : Content → Type 0) (step : Content → Content → Type 0) → Leaves_only a b P → Passes b c step
-    → ((x y : Content) → b.may_leave x → step x y → P y) → Leaves_only a c P
+pub leaves_more : (a b c : Facts) (P : Content → Type 0) (step : Content → Content → Type 0) → LeavesSince a b P → Passes b c step
+    → ((x y : Content) → b.may_leave x → step x y → P y) → LeavesSince a c P
 leaves_more a b c P step so_far p has = record {
   later = omega (arith, so_far.later, p.later);
   now = λ x left. is x (p.now x left);
@@ -47,11 +47,11 @@ leaves_more a b c P step so_far p has = record {
     is : (x : Content) → After b step x → P x
     is x s = has s.0 x s.1 s.2
 
-pub leaves_stays : (a b c : Facts) (P : Content → Type 0) → Leaves_only a b P → Passes b c Stays → Leaves_only a c P
+pub leaves_stays : (a b c : Facts) (P : Content → Type 0) → LeavesSince a b P → Passes b c Stays → LeavesSince a c P
 leaves_stays a b c P so_far p = leaves_more a b c P Stays so_far p (λ x y left same. subst P (sym same) (so_far.now x left))
 
 -- what holds of two runs, one after the other
-pub leaves_then : (a b c : Facts) (P : Content → Type 0) → Leaves_only a b P → Leaves_only b c P → Leaves_only a c P
+pub leaves_then : (a b c : Facts) (P : Content → Type 0) → LeavesSince a b P → LeavesSince b c P → LeavesSince a c P
 leaves_then a b c P first second = record {
   later = omega (arith, first.later, second.later);
   now = second.now;
@@ -60,7 +60,7 @@ leaves_then a b c P first second = record {
 }
 
 -- what has P has Q
-pub leaves_weaker : (a b : Facts) (P Q : Content → Type 0) → Leaves_only a b P → ((c : Content) → P c → Q c) → Leaves_only a b Q
+pub leaves_weaker : (a b : Facts) (P Q : Content → Type 0) → LeavesSince a b P → ((c : Content) → P c → Q c) → LeavesSince a b Q
 leaves_weaker a b P Q only has = record {
   later = only.later;
   now = λ x left. has x (only.now x left);

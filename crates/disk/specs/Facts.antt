@@ -35,7 +35,7 @@ pub record Facts : Type 1 where
   pub lent : Lent
 
 -- the facts of a lane
-pub record Lane_facts : Type 0 where
+pub record LaneFacts : Type 0 where
   pub content : Content
   pub failures : ℕ
   -- where on the disk it begins
@@ -68,7 +68,7 @@ pub record Passes (old new : Facts) (step : Content → Content → Type 0) : Ty
   pub keeps : (t : ℕ) (c : Content) → t ≤ old.moment → old.since t c → new.since t c
 
 -- A crash at any moment since old leaves what has P.
-pub record Leaves_only (old new : Facts) (P : Content → Type 0) : Type 0 where
+pub record LeavesSince (old new : Facts) (P : Content → Type 0) : Type 0 where
   pub later : old.moment ≤ new.moment
   pub now : (c : Content) → new.may_leave c → P c
   pub each : (c : Content) → new.since old.moment c → P c
@@ -80,7 +80,7 @@ abbrev pub Only : Content → (Content → Type 0) → Type 0
 Only content may_leave = (c : Content) → may_leave c → c ≡ content
 
 -- a disk that was just made, or that a crash has left: what is read is durable
-pub record Is_fresh (content : Content) (disk : Facts) : Type 0 where
+pub record IsFresh (content : Content) (disk : Facts) : Type 0 where
   pub reads : disk.content ≡ content
   pub durable : Only content disk.may_leave
   pub none_out : disk.lent ≡ nothing
@@ -95,9 +95,9 @@ pub record Unchanged (old new : Facts) : Type 0 where
   pub since : (t : ℕ) (c : Content) → (new.since t c → old.since t c) × (old.since t c → new.since t c)
 
 -- a crash has left the one as the other, which goes on counting failures
-pub record Is_left (before after : Facts) : Type 0 where
+pub record IsLeft (before after : Facts) : Type 0 where
   pub left : before.may_leave after.content
-  pub fresh : Is_fresh after.content after
+  pub fresh : IsFresh after.content after
   pub failures : after.failures ≡ before.failures
 
 -- none of these sectors is lent
@@ -125,34 +125,34 @@ abbrev pub Failed : ℕ → ℕ → Type 0
 Failed before now = counted before 1 ≤ now
 
 -- past the end of a list of lanes
-abbrev pub no_lane : Lane_facts
+abbrev pub no_lane : LaneFacts
 no_lane = record { content = []; failures = 0; first = 0 }
 
-abbrev pub lane_at : List Lane_facts → ℕ → Lane_facts
+abbrev pub lane_at : List LaneFacts → ℕ → LaneFacts
 lane_at lanes i = get_or lanes i no_lane
 
 -- the lanes that are lent, in a row
-pub record In_row (l : Lent) (lanes : List Lane_facts) : Type 0 where
+pub record InRow (l : Lent) (lanes : List LaneFacts) : Type 0 where
   pub count : length lanes ≡ l.lanes
   pub first : (i : ℕ) → i < l.lanes → (lane_at lanes i).first ≡ l.first + i * l.each
   pub each : (i : ℕ) → i < l.lanes → length (lane_at lanes i).content ≡ l.each
 
 -- the lanes hold what stands in these sectors
-abbrev pub Hold : Lent → List Lane_facts → Content → Type 0
+abbrev pub Hold : Lent → List LaneFacts → Content → Type 0
 Hold l lanes content = (i j : ℕ) → i < l.lanes → j < l.each → sector (lane_at lanes i).content j ≡ sector content (l.first + i * l.each + j)
 
 -- the lanes that a split hands out
-pub record Handed (l : Lent) (content : Content) (lanes : List Lane_facts) : Type 0 where
-  pub row : In_row l lanes
+pub record Handed (l : Lent) (content : Content) (lanes : List LaneFacts) : Type 0 where
+  pub row : InRow l lanes
   pub same : Hold l lanes content
   pub no_failure : (i : ℕ) → i < l.lanes → (lane_at lanes i).failures ≡ 0
 
 -- the content after a join
-pub record Joined (l : Lent) (lanes : List Lane_facts) (old new : Content) : Type 0 where
+pub record Joined (l : Lent) (lanes : List LaneFacts) (old new : Content) : Type 0 where
   pub elsewhere : Torn l.first (lent_sectors l) old new
   pub there : Hold l lanes new
 
 -- the failures of all of them
-abbrev pub lane_failures : List Lane_facts → ℕ
+abbrev pub lane_failures : List LaneFacts → ℕ
 lane_failures [] = 0
 lane_failures (lane ∷ lanes) = lane.failures + lane_failures lanes

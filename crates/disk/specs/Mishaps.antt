@@ -36,7 +36,7 @@ pub record Caused {T E : Type 0} (old new : Mishaps) (result : Result T E) : Typ
   pub err : OnErr result (Cause old new)
 
 -- the same where lanes come back that failed so often
-pub record Caused_in_lanes (old new : Mishaps) (failures : ℕ) : Type 0 where
+pub record CausedInLanes (old new : Mishaps) (failures : ℕ) : Type 0 where
   pub none : failures ≡ 0 → new ≡ old
   pub some : 0 < failures → Cause old new
 

@@ -1,4 +1,4 @@
-// The disk and the lanes that it lends, as traits.
+//! The disk and the lanes that it lends, as traits.
 ghost use Rattle.std.specs.Prelude.{◌≡◌, ◌⊎◌, ◌≤◌, ◌<◌, ◌+◌, ◌*◌, ℕ, length, map, OnOk, OnErr, IfOk};
 
 use std::alloc::AllocError;
@@ -29,9 +29,9 @@ pub enum ArmedFault {
 /// Some sectors in a row, lent by a disk until a join takes them back. What a crash leaves in them
 /// is a matter of the disk alone.
 pub trait Lane {
-    ghost use Rattle.disk.specs.Facts.{Lane_facts, Torn, Written, Found, Counts};
+    ghost use Rattle.disk.specs.Facts.{LaneFacts, Torn, Written, Found, Counts};
 
-    ghost lane_facts: { Self → Lane_facts };
+    ghost lane_facts: { Self → LaneFacts };
 
     /// Reads what stands from that sector of the lane on. At `Err` the buffer holds any bytes.
     fn read(&mut self, first: usize, sectors: &mut [Sector]) -> Result<(), Fault>
@@ -62,8 +62,8 @@ pub trait Lane {
 /// Each error of a call is one failure more, in a count that stays where it ends. What a call does
 /// to the contents that a crash may leave, before, during and after it, is its clause `crash`.
 pub trait Disk {
-    ghost use Rattle.disk.specs.Facts.{Content, Facts, Torn, Written, Stays, Passes, Only, Apart, Found, Counts, Handed, In_row, Joined, Unchanged, counted, most, nothing, lent_sectors, lane_failures};
-    ghost use Rattle.disk.specs.Mishaps.{Mishaps, Caused, Caused_in_lanes, armed_by};
+    ghost use Rattle.disk.specs.Facts.{Content, Facts, Torn, Written, Stays, Passes, Only, Apart, Found, Counts, Handed, InRow, Joined, Unchanged, counted, most, nothing, lent_sectors, lane_failures};
+    ghost use Rattle.disk.specs.Mishaps.{Mishaps, Caused, CausedInLanes, armed_by};
 
     type Lane: Lane + Send + Drop;
 
@@ -135,12 +135,12 @@ pub trait Disk {
 
     /// Takes back all lanes that are lent, in their order, with what they hold and their failures.
     fn join(&mut self, lanes: Vec<Self::Lane>)
-        requires { In_row (facts self.old).lent (map Self.Lane.lane_facts lanes.items) }
+        requires { InRow (facts self.old).lent (map Self.Lane.lane_facts lanes.items) }
         ensures content { Joined (facts self.old).lent (map Self.Lane.lane_facts lanes.items) (facts self.old).content (facts self.new).content }
         ensures back { (facts self.new).lent ≡ nothing }
         ensures crash { Passes (facts self.old) (facts self.new) Stays }
         ensures failures { (facts self.new).failures ≡ counted (facts self.old).failures (lane_failures (map Self.Lane.lane_facts lanes.items)) }
-        ensures cause { Caused_in_lanes (mishaps self.old) (mishaps self.new) (lane_failures (map Self.Lane.lane_facts lanes.items)) };
+        ensures cause { CausedInLanes (mishaps self.old) (mishaps self.new) (lane_failures (map Self.Lane.lane_facts lanes.items)) };
 
     /// How often a call of the disk has failed, and of the lanes that it took back. At 2^64 - 1 the
     /// count stays, and then each call is held to have counted one.

@@ -1,4 +1,4 @@
-// Calls for one sector.
+//! Calls for one sector.
 ghost use Rattle.std.specs.Prelude.{◌≡◌, ◌<◌, [], ◌∷◌, length, OnOk, IfOk};
 ghost use Rattle.disk.specs.Facts.{sector, Torn, Written, Stays, Passes, Only, Counts};
 ghost use Rattle.disk.specs.Mishaps.{Caused};

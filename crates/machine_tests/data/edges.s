@@ -1,6 +1,6 @@
 # Every instruction of RV64I that a user's program can make, on edge values. For each instruction one result is kept in
 # the list `results`: the rotated sum of what it gave for each pair of values or immediates. tools/hart-programs
-# assembles it, writes the image to src/tests/edges.rt, and the results of qemu-riscv64 to edges.expected, one a line.
+# assembles it, writes the image to src/edges.rt, and the results of qemu-riscv64 to edges.expected, one a line.
 #
 # The first ECALL writes the results, the second ends the program. The hart's test runs it up to the first.
 

@@ -128,7 +128,7 @@ payload 0 0x00\n\
 payload 0 zz\n\
 slot \xb1";
 
-const LATER_RULES: &[u8] = b"\
+const OTHER_KEYWORDS: &[u8] = b"\
 inspect\n\
 wake\n\
 tries 1\n\
@@ -159,8 +159,8 @@ fn spelling(rt: HostRuntime) -> Result<(), Fail> {
 }
 
 #[test]
-fn lines_of_later_rules_are_malformed(rt: HostRuntime) -> Result<(), Fail> {
-    each_malformed(&rt, rt.alloc(), LATER_RULES)
+fn other_keywords_are_malformed(rt: HostRuntime) -> Result<(), Fail> {
+    each_malformed(&rt, rt.alloc(), OTHER_KEYWORDS)
 }
 
 #[test]

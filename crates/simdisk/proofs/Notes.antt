@@ -4,7 +4,7 @@ use Rattle.std.proofs.Math.ListN.{get_or-map}
 use Rattle.std.proofs.Math.Nat.{zero-mul}
 use Rattle.std.proofs.lemmas.List.{map-append, map-set, set-get_or, get_or_append_left, get_or_push, length-take-le}
 use Rattle.std.proofs.lemmas.Bool.{cases_lt}
-use Rattle.disk.specs.Facts.{Content, Lent, Torn, Is_fresh, nothing, sector}
+use Rattle.disk.specs.Facts.{Content, Lent, Torn, IsFresh, nothing, sector}
 use Rattle.simdisk.specs.declared.patch.Patch.{Patch}
 use Rattle.simdisk.specs.Record.{Piece, Record, range, ranges, more_written, more_synced, lent_piece, new_record, replay, filled, sim_facts, Untouched, Agrees, Fits}
 use Rattle.simdisk.specs.Views.{piece, pieces}
@@ -88,7 +88,7 @@ lent_written l rs i noted k le lt u = elim (cases_lt 0 l.lanes) [
     zero_each none = let is : l.lanes ≡ 0 = omega arith in ap (λ (n : ℕ). n * l.each) is ∙ zero-mul l.each
 
 -- a disk that begins with that content
-pub fresh_of : (now stood : Content) (r : Record) (f : ℕ) (l : Lent) → r ≡ new_record now → stood ≡ now → l ≡ nothing → Is_fresh now (sim_facts now stood r f l)
+pub fresh_of : (now stood : Content) (r : Record) (f : ℕ) (l : Lent) → r ≡ new_record now → stood ≡ now → l ≡ nothing → IsFresh now (sim_facts now stood r f l)
 fresh_of now stood r f l begun is none = record {
   reads = refl;
   durable = λ c a. agrees_all now c (subst (λ (s : Content). Agrees s [] c) is (subst (λ (q : Record). Agrees stood (ranges q.written) c) begun a));

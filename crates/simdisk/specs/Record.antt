@@ -69,11 +69,11 @@ abbrev pub newest : Record → Content
 newest r = replay r.written (synced r)
 
 -- a failed write is noted too, but where memory was refused for it
-abbrev pub Noted_or_refused : Piece → Record → Record → ℕ → ℕ → Type 0
-Noted_or_refused piece old new own own' = (new ≡ more_written piece old) ⊎ ((new ≡ old) × (own' ≡ counted own 1))
+abbrev pub NotedOrRefused : Piece → Record → Record → ℕ → ℕ → Type 0
+NotedOrRefused piece old new own own' = (new ≡ more_written piece old) ⊎ ((new ≡ old) × (own' ≡ counted own 1))
 
 -- the ranges that were written stay, and the syncs
-pub record Same_ranges (old new : Record) : Type 0 where
+pub record SameRanges (old new : Record) : Type 0 where
   pub began : new.began ≡ old.began
   pub past : new.past ≡ old.past
   pub written : ranges new.written ≡ ranges old.written

@@ -1,4 +1,4 @@
-// What a crash leaves, where it is to be chosen.
+//! What a crash leaves, where it is to be chosen.
 
 /// What a crash leaves in the ranges that were written since the last sync.
 #[derive(Clone, Copy, Debug, PartialEq, Eq)]

@@ -1,8 +1,8 @@
-// The disk in memory as a disk.
+//! The disk in memory as a disk.
 ghost use Rattle.std.specs.Prelude.{◌≡◌, ◌≤◌, ◌+◌, ◌*◌, [], ◌∷◌, length, map, OnOk, OnErr, IfOk};
-ghost use Rattle.disk.specs.Facts.{Content, Torn, Written, Passes, Stays, Only, Apart, Found, Counts, Handed, In_row, Joined, Unchanged, counted, nothing, lent_sectors, lane_failures};
-ghost use Rattle.disk.specs.Mishaps.{Caused, Caused_in_lanes, armed_by};
-ghost use Rattle.simdisk.specs.Record.{more_written, more_synced, lent_piece, newest, Noted_or_refused, Same_ranges};
+ghost use Rattle.disk.specs.Facts.{Content, Torn, Written, Passes, Stays, Only, Apart, Found, Counts, Handed, InRow, Joined, Unchanged, counted, nothing, lent_sectors, lane_failures};
+ghost use Rattle.disk.specs.Mishaps.{Caused, CausedInLanes, armed_by};
+ghost use Rattle.simdisk.specs.Record.{more_written, more_synced, lent_piece, newest, NotedOrRefused, SameRanges};
 
 use crate::laid::overwrite;
 use crate::lane::SimLane;
@@ -66,7 +66,7 @@ impl Disk for SimDisk {
         ensures lent { (⟦<SimDisk as Disk>⟧.facts self.new).lent ≡ (⟦<SimDisk as Disk>⟧.facts self.old).lent }
         ensures stays { OnErr result ((⟦<SimDisk as Disk>⟧.facts self.new).content ≡ (⟦<SimDisk as Disk>⟧.facts self.old).content) }
         ensures record { OnOk result (⟦<SimDisk as Recorded>⟧.record self.new ≡ more_written (first, sectors.now) (⟦<SimDisk as Recorded>⟧.record self.old)) }
-        ensures record_failed { OnErr result (Noted_or_refused (first, sectors.now) (⟦<SimDisk as Recorded>⟧.record self.old) (⟦<SimDisk as Recorded>⟧.record self.new) (⟦<SimDisk as Disk>⟧.mishaps self.old).own (⟦<SimDisk as Disk>⟧.mishaps self.new).own) }
+        ensures record_failed { OnErr result (NotedOrRefused (first, sectors.now) (⟦<SimDisk as Recorded>⟧.record self.old) (⟦<SimDisk as Recorded>⟧.record self.new) (⟦<SimDisk as Disk>⟧.mishaps self.old).own (⟦<SimDisk as Disk>⟧.mishaps self.new).own) }
     {
         let Ok(()) = self.history.note(self.alloc, first, sectors) else {
             self.faults.pass();
@@ -139,13 +139,13 @@ impl Disk for SimDisk {
     }
 
     fn join(&mut self, lanes: Vec<SimLane>)
-        requires { In_row (⟦<SimDisk as Disk>⟧.facts self.old).lent (map ⟦<SimLane as Lane>⟧.lane_facts lanes.items) }
+        requires { InRow (⟦<SimDisk as Disk>⟧.facts self.old).lent (map ⟦<SimLane as Lane>⟧.lane_facts lanes.items) }
         ensures content { Joined (⟦<SimDisk as Disk>⟧.facts self.old).lent (map ⟦<SimLane as Lane>⟧.lane_facts lanes.items) (⟦<SimDisk as Disk>⟧.facts self.old).content (⟦<SimDisk as Disk>⟧.facts self.new).content }
         ensures back { (⟦<SimDisk as Disk>⟧.facts self.new).lent ≡ nothing }
         ensures crash { Passes (⟦<SimDisk as Disk>⟧.facts self.old) (⟦<SimDisk as Disk>⟧.facts self.new) Stays }
         ensures failures { (⟦<SimDisk as Disk>⟧.facts self.new).failures ≡ counted (⟦<SimDisk as Disk>⟧.facts self.old).failures (lane_failures (map ⟦<SimLane as Lane>⟧.lane_facts lanes.items)) }
-        ensures cause { Caused_in_lanes (⟦<SimDisk as Disk>⟧.mishaps self.old) (⟦<SimDisk as Disk>⟧.mishaps self.new) (lane_failures (map ⟦<SimLane as Lane>⟧.lane_facts lanes.items)) }
-        ensures record { Same_ranges (⟦<SimDisk as Recorded>⟧.record self.old) (⟦<SimDisk as Recorded>⟧.record self.new) }
+        ensures cause { CausedInLanes (⟦<SimDisk as Disk>⟧.mishaps self.old) (⟦<SimDisk as Disk>⟧.mishaps self.new) (lane_failures (map ⟦<SimLane as Lane>⟧.lane_facts lanes.items)) }
+        ensures record { SameRanges (⟦<SimDisk as Recorded>⟧.record self.old) (⟦<SimDisk as Recorded>⟧.record self.new) }
     {
         let loan = self.loan;
         let failures = take_back(&mut self.content, loan.first, loan.lanes, loan.each, &lanes);

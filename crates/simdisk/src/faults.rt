@@ -1,4 +1,4 @@
-// Faults that are armed, and how they come to their calls.
+//! Faults that are armed, and how they come to their calls.
 
 use disk::ArmedFault;
 

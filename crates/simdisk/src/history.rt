@@ -1,4 +1,4 @@
-// The record of a disk's writes and syncs.
+//! The record of a disk's writes and syncs.
 ghost use Rattle.std.specs.Prelude.{◌≡◌, length};
 ghost use Rattle.simdisk.specs.Record.{synced_after, ranges, Fits};
 ghost use Rattle.simdisk.specs.Views.{pieces, epochs};

@@ -1,4 +1,4 @@
-// Patches laid over a content.
+//! Patches laid over a content.
 ghost use Rattle.std.specs.Prelude.{◌≡◌, ◌≤◌, ◌<◌, ◌+◌, length, map};
 ghost use Rattle.disk.specs.Facts.{Written};
 ghost use Rattle.simdisk.specs.Record.{put, replay, settled, filled, ranges, Agrees, Fits};

@@ -1,4 +1,4 @@
-// A lane, which owns its sectors.
+//! A lane, which owns its sectors.
 ghost use Rattle.std.specs.Prelude.{◌≡◌, ◌≤◌, ◌+◌, length, OnOk, OnErr};
 ghost use Rattle.disk.specs.Facts.{Torn, Written, Counts};
 

@@ -1,6 +1,6 @@
-// How sectors are lent and taken back.
+//! How sectors are lent and taken back.
 ghost use Rattle.std.specs.Prelude.{◌≡◌, ◌≤◌, ◌+◌, ◌*◌, length, map, IfOk};
-ghost use Rattle.disk.specs.Facts.{In_row, Handed, Joined, counted, lane_failures};
+ghost use Rattle.disk.specs.Facts.{InRow, Handed, Joined, counted, lane_failures};
 ghost use Rattle.simdisk.specs.Lanes.{lane_view};
 
 use crate::faults::Faults;
@@ -47,7 +47,7 @@ pub(crate) fn take_back(
     each: usize,
     lanes: &[SimLane],
 ) -> u64
-    requires row { In_row (record { first = first; lanes = count; each = each }) (map lane_view lanes.now) }
+    requires row { InRow (record { first = first; lanes = count; each = each }) (map lane_view lanes.now) }
     requires within { first + count * each ≤ length content.old.items }
     ensures content { Joined (record { first = first; lanes = count; each = each }) (map lane_view lanes.now) content.old.items content.new.items }
     ensures failures { result ≡ counted 0 (lane_failures (map lane_view lanes.now)) }

@@ -1,4 +1,4 @@
-// What a crash may leave, to the letter.
+//! What a crash may leave, to the letter.
 ghost use Rattle.std.specs.Prelude.{◌≡◌, ◌⊎◌, ◌≤◌, ◌<◌, ◌+◌, ◌*◌, ◌↔◌, ℕ, length, take, drop};
 ghost use Rattle.disk.specs.Facts.{Content, lent_sectors};
 ghost use Rattle.simdisk.specs.Record.{synced, synced_after, ranges, Agrees, Untouched, Had};

@@ -1,4 +1,4 @@
-// What is lent.
+//! What is lent.
 ghost use Rattle.std.specs.Prelude.{◌≡◌};
 
 /// The sectors that are lent: so many lanes of so many sectors each, in a row from the first.

@@ -1,7 +1,7 @@
-// How a disk in memory is made, and what a crash leaves of it.
+//! How a disk in memory is made, and what a crash leaves of it.
 ghost use Rattle.std.specs.Prelude.{◌≡◌, ◌≢◌, ◌⊎◌, ◌/◌, ◌%◌, ℕ, length, replicate, OnOk, IfOk, IfErr};
 ghost use Rattle.std.specs.Simd.{first_chunks};
-ghost use Rattle.disk.specs.Facts.{Is_fresh, Is_left, Unchanged};
+ghost use Rattle.disk.specs.Facts.{IsFresh, IsLeft, Unchanged};
 ghost use Rattle.disk.specs.Mishaps.{FaultArmed, CutArmed, no_mishap, mishaps_left};
 ghost use Rattle.simdisk.specs.Record.{synced, new_record};
 ghost use Rattle.simdisk.specs.Choices.{left_by};
@@ -21,7 +21,7 @@ impl SimDisk {
     /// A disk that holds these bytes, sector by sector, all of them durable. Refuses `BadShape`
     /// exactly where they are not whole sectors, and `Memory` where memory is refused.
     pub fn new(alloc: Global, bytes: &[u8]) -> Result<SimDisk, Refusal>
-        ensures fresh { IfOk result (λ disk. Is_fresh (first_chunks 512 (length bytes.now / 512) bytes.now) (⟦<SimDisk as Disk>⟧.facts disk)) }
+        ensures fresh { IfOk result (λ disk. IsFresh (first_chunks 512 (length bytes.now / 512) bytes.now) (⟦<SimDisk as Disk>⟧.facts disk)) }
         ensures no_failure { IfOk result (λ disk. (⟦<SimDisk as Disk>⟧.facts disk).failures ≡ 0) }
         ensures no_mishap { IfOk result (λ disk. ⟦<SimDisk as Disk>⟧.mishaps disk ≡ no_mishap) }
         ensures whole { OnOk result (length bytes.now % 512 ≡ 0) }
@@ -37,7 +37,7 @@ impl SimDisk {
 
     /// A disk of so many sectors of zeros, all of them durable.
     pub fn blank(alloc: Global, sectors: usize) -> Result<SimDisk, AllocError>
-        ensures fresh { IfOk result (λ disk. Is_fresh (replicate sectors (replicate 512 0)) (⟦<SimDisk as Disk>⟧.facts disk)) }
+        ensures fresh { IfOk result (λ disk. IsFresh (replicate sectors (replicate 512 0)) (⟦<SimDisk as Disk>⟧.facts disk)) }
         ensures no_failure { IfOk result (λ disk. (⟦<SimDisk as Disk>⟧.facts disk).failures ≡ 0) }
         ensures no_mishap { IfOk result (λ disk. ⟦<SimDisk as Disk>⟧.mishaps disk ≡ no_mishap) }
     {
@@ -47,7 +47,7 @@ impl SimDisk {
 
     // A disk of these sectors, all of them durable.
     fn holding(alloc: Global, content: Vec<Sector>) -> Result<SimDisk, AllocError>
-        ensures fresh { IfOk result (λ disk. Is_fresh content.items (⟦<SimDisk as Disk>⟧.facts disk)) }
+        ensures fresh { IfOk result (λ disk. IsFresh content.items (⟦<SimDisk as Disk>⟧.facts disk)) }
         ensures no_failure { IfOk result (λ disk. (⟦<SimDisk as Disk>⟧.facts disk).failures ≡ 0) }
         ensures no_mishap { IfOk result (λ disk. ⟦<SimDisk as Disk>⟧.mishaps disk ≡ no_mishap) }
     {
@@ -66,7 +66,7 @@ impl SimDisk {
     /// The disk that a crash now leaves by that choice. It goes on counting failures; nothing of it
     /// is lent, nothing is armed, and power is back. No memory is taken.
     pub fn after_cut(self, choice: Choice) -> SimDisk
-        ensures left { Is_left (⟦<SimDisk as Disk>⟧.facts self) (⟦<SimDisk as Disk>⟧.facts result) }
+        ensures left { IsLeft (⟦<SimDisk as Disk>⟧.facts self) (⟦<SimDisk as Disk>⟧.facts result) }
         ensures exact { (⟦<SimDisk as Disk>⟧.facts result).content ≡ left_by choice (synced (⟦<SimDisk as Recorded>⟧.record self)) (⟦<SimDisk as Recorded>⟧.record self).written }
         ensures mishaps { ⟦<SimDisk as Disk>⟧.mishaps result ≡ mishaps_left (⟦<SimDisk as Disk>⟧.mishaps self) }
     {

@@ -1,4 +1,4 @@
-// Sectors in a row, and how they are laid over a content.
+//! Sectors in a row, and how they are laid over a content.
 ghost use Rattle.std.specs.Prelude.{◌≡◌, length, IfOk};
 
 use crate::lane::SimLane;

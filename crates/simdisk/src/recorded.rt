@@ -1,4 +1,4 @@
-// The record of a disk in memory, for contracts.
+//! The record of a disk in memory, for contracts.
 ghost use Rattle.std.specs.Prelude.{Option};
 ghost use Rattle.disk.specs.declared.device.ArmedFault.{ArmedFault};
 ghost use Rattle.simdisk.specs.Record.{Record};

@@ -1,4 +1,4 @@
-// How the record of writes and syncs grows.
+//! How the record of writes and syncs grows.
 ghost use Rattle.std.specs.Prelude.{◌≡◌, ◌≤◌, ◌+◌, ◌*◌, [], ◌∷◌, length, map, OnOk, OnErr, IfOk};
 ghost use Rattle.simdisk.specs.Record.{new_record, more_written, more_synced, lent_piece, replay, ranges, Agrees, Fits};
 ghost use Rattle.simdisk.specs.Choices.{left_by};

@@ -1,4 +1,4 @@
-// The disk in memory.
+//! The disk in memory.
 ghost use Rattle.std.specs.Prelude.{◌≡◌, ◌≤◌, ◌<◌, ◌+◌, ◌*◌, ◌^◌, length};
 ghost use Rattle.simdisk.specs.Record.{ranges, Agrees};
 ghost use Rattle.simdisk.specs.Views.{pieces};

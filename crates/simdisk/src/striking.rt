@@ -1,4 +1,4 @@
-// How armed faults come to their calls.
+//! How armed faults come to their calls.
 ghost use Rattle.std.specs.Prelude.{◌≡◌, ◌⊎◌, ◌<◌, true, false, None, IsTrue, IsFalse};
 ghost use Rattle.disk.specs.Facts.{counted};
 ghost use Rattle.simdisk.specs.Armings.{Strikes, Waits};

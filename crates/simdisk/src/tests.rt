@@ -1,6 +1,6 @@
 //! What each choice leaves, where armed faults strike, and what refused memory leaves.
 ghost use Rattle.std.specs.Prelude.{◌≡◌, ◌≤◌, ◌+◌, ◌*◌, length, map, OnOk, IfOk};
-ghost use Rattle.disk.specs.Facts.{In_row};
+ghost use Rattle.disk.specs.Facts.{InRow};
 
 use super::*;
 use board_model::Refusal;
@@ -199,7 +199,7 @@ fn lend_some(
     lanes: usize,
     each: usize,
 ) -> Result<Vec<SimLane>, AllocError>
-    ensures { IfOk result (λ out. In_row (⟦<SimDisk as Disk>⟧.facts disk.new).lent (map ⟦<SimLane as Lane>⟧.lane_facts out.items)) }
+    ensures { IfOk result (λ out. InRow (⟦<SimDisk as Disk>⟧.facts disk.new).lent (map ⟦<SimLane as Lane>⟧.lane_facts out.items)) }
 {
     assert!(rt; disk.loan.lanes == 0);
     assert!(rt; first <= 4 && lanes <= 4 && each <= 4);

@@ -4,7 +4,7 @@ use Rattle.board_model.specs.Durable.{State, Change, after, fold}
 use Rattle.board_model.specs.Shapes.{Size}
 use Rattle.board_model.specs.Shown.{change_of}
 use Rattle.board_model.specs.declared.durable.Command.{Command}
-use Rattle.disk.specs.Facts.{Content, Facts, Leaves_only}
+use Rattle.disk.specs.Facts.{Content, Facts, LeavesSince}
 use Rattle.disk.proofs.Moments.{leaves_none, leaves_weaker}
 use Rattle.layout.specs.declared.records.Record.{Record}
 use Rattle.store.specs.Standing.{state_of, StandsFor}
@@ -31,7 +31,7 @@ life_is found journal more doubt over ends same is = ap (λ (x : List Change). m
 
 -- a store that is up, before any call
 pub still_stands : (a : Facts) (size : Size) (side : ℕ) (current : Record) (now then : State) → ((x : Content) → a.since a.moment x → a.may_leave x) → IsUp a size side current
-    → now ≡ state_of size current a.content → Leaves_only a a (StandsForEither size now then)
+    → now ≡ state_of size current a.content → LeavesSince a a (StandsForEither size now then)
 still_stands a size side current now then only_now up is =
     leaves_none a (StandsForEither size now then) only_now
     (λ x left. inl (subst (StandsFor x size) (sym is) (stands_for size side current a.content x (up.selects x left) (up.areas x left))))
@@ -75,8 +75,8 @@ module _ (a b : Facts) (size : Size) (side : ℕ) (opened current next : Record)
       subst (λ (s : State). LeavesEither b size s (after (fold (state_of size opened a.content) (map change_of commands)) (change_of c))) now_still
       (subst (λ (s : State). LeavesEither b size (state_of size current b.content) s) next_is (doubt_leaves b size side current next known doubt))
 
-  pub either_moment : Leaves_only a b (SelectsEither size side current next a.content)
-      → Leaves_only a b (StandsForEither size (fold (state_of size opened a.content) (map change_of commands)) (after (fold (state_of size opened a.content) (map change_of commands)) (change_of c)))
+  pub either_moment : LeavesSince a b (SelectsEither size side current next a.content)
+      → LeavesSince a b (StandsForEither size (fold (state_of size opened a.content) (map change_of commands)) (after (fold (state_of size opened a.content) (map change_of commands)) (change_of c)))
   either_moment only =
       leaves_weaker a b (SelectsEither size side current next a.content)
       (StandsForEither size (fold (state_of size opened a.content) (map change_of commands)) (after (fold (state_of size opened a.content) (map change_of commands)) (change_of c)))

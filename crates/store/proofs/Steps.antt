@@ -1,7 +1,7 @@
 -- What the two steps of a commit leave, each a write and a sync.
 use Rattle.std.proofs.Common.{◌≡◌, ◌∙◌, inl, ℕ, ◌+◌, ◌-◌, ◌<◌, List, [], ◌∷◌, length, sym, ap, subst, arith}
 use Rattle.board_model.specs.Shapes.{Size}
-use Rattle.disk.specs.Facts.{Content, sector, Facts, Torn, Written, Passes, Only, Leaves_only}
+use Rattle.disk.specs.Facts.{Content, sector, Facts, Torn, Written, Passes, Only, LeavesSince}
 use Rattle.disk.proofs.Moments.{leaves_none, leaves_more}
 use Rattle.layout.specs.Records.{selected_by, record_of, IsInRange}
 use Rattle.layout.specs.declared.records.Record.{Record}
@@ -11,10 +11,10 @@ use Rattle.store.proofs.Contents.{torn_areas, areas_then, torn_record, written_r
 
 module _ (a b : Facts) (size : Size) (side : ℕ) (r next : Record) (known : side < 2) (up : IsUp a size side r) where
   -- while the record is written
-  pub while_recorded : ((x : Content) → a.since a.moment x → a.may_leave x) → Passes a b (Torn (2 + (1 - side)) 1) → Leaves_only a b (SelectsEither size side r next a.content)
+  pub while_recorded : ((x : Content) → a.since a.moment x → a.may_leave x) → Passes a b (Torn (2 + (1 - side)) 1) → LeavesSince a b (SelectsEither size side r next a.content)
   while_recorded only_now p =
       let P : Content → Type 0 = SelectsEither size side r next a.content in
-      let start : Leaves_only a a P = leaves_none a P only_now (λ x left. record { which = inl (up.selects x left); areas = up.areas x left }) in
+      let start : LeavesSince a a P = leaves_none a P only_now (λ x left. record { which = inl (up.selects x left); areas = up.areas x left }) in
       leaves_more a a b P (Torn (2 + (1 - side)) 1) start p
       (λ x y left torn. record {
         which = inl (torn_record size side r next known x y (up.selects x left) torn);
@@ -36,7 +36,7 @@ module _ (a b : Facts) (size : Size) (side : ℕ) (r next : Record) (known : sid
     all_areas x left = subst (SameAreas a.content) (sym (only x left)) staged_areas
 
     module _ (c : Facts) (q : Passes b c (Torn 1 1)) where
-      pub while_selected : Leaves_only a b (SelectsEither size side r next a.content) → Leaves_only a c (SelectsEither size side r next a.content)
+      pub while_selected : LeavesSince a b (SelectsEither size side r next a.content) → LeavesSince a c (SelectsEither size side r next a.content)
       while_selected so_far =
           leaves_more a b c (SelectsEither size side r next a.content) (Torn 1 1) so_far q
           (λ x y left torn. record {

@@ -1,7 +1,7 @@
 //! A commit: the next record into the sector that is not selected, and then the gate.
 ghost use Rattle.std.specs.Prelude.{◌≡◌, ◌⊎◌, ◌≤◌, ◌<◌, ◌+◌, ◌-◌, [], ◌∷◌, ℕ, length, OnOk, OnErr, IfErr, IsErrOf};
 ghost use Rattle.board_model.specs.Shapes.{Size};
-ghost use Rattle.disk.specs.Facts.{Facts, Leaves_only, Failed, Written, Torn, Passes, Only, Counts};
+ghost use Rattle.disk.specs.Facts.{Facts, LeavesSince, Failed, Written, Torn, Passes, Only, Counts};
 ghost use Rattle.disk.specs.Mishaps.{Caused};
 ghost use Rattle.layout.specs.Records.{record_of, gate_of, selected_by, IsInRange};
 ghost use Rattle.layout.specs.declared.records.Record.{Record};
@@ -36,7 +36,7 @@ pub fn commit<D: Disk>(disk: &mut D, side: Side, next: &Record) -> Result<(), Un
     ensures same { IsErrOf result Uncommitted.Unchanged → (size : Size) (r : Record) → IsUp (D.facts disk.old) size side r → IsUp (D.facts disk.new) size side r }
     ensures doubt { IsErrOf result Uncommitted.InDoubt → (size : Size) (r : Record) → IsUp (D.facts disk.old) size side r → IsInRange size next.now → IsInDoubt (D.facts disk.new) size side r next.now }
     ensures any_moment { (size : Size) (r : Record) → IsUp (D.facts disk.old) size side r → IsInRange size next.now
-        → Leaves_only (D.facts disk.old) (D.facts disk.new) (SelectsEither size side r next.now (D.facts disk.old).content) }
+        → LeavesSince (D.facts disk.old) (D.facts disk.new) (SelectsEither size side r next.now (D.facts disk.old).content) }
     ensures areas { SameAreas (D.facts disk.old).content (D.facts disk.new).content }
     ensures failed { OnErr result (Failed (D.facts disk.old).failures (D.facts disk.new).failures) }
     ensures no_fewer { (D.facts disk.old).failures ≤ (D.facts disk.new).failures }

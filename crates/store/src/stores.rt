@@ -44,7 +44,7 @@ impl<D: Disk + Drop> Store<D> {
     ghost use Rattle.store.specs.Leaves.{IsIdle, SameLength, Leaves, LeavesOnly, LeavesEither, StandsForEither};
     ghost use Rattle.store.specs.Opens.{ReadsAs, OpenRefused, CausedRefusal};
     ghost use Rattle.store.specs.Lives.{begun, Reaches, Refused, Applied};
-    ghost use Rattle.disk.specs.Facts.{Leaves_only, Unchanged};
+    ghost use Rattle.disk.specs.Facts.{LeavesSince, Unchanged};
     ghost use Rattle.disk.specs.Mishaps.{armed_by};
     ghost use Rattle.store.specs.Standing.{StandsFor};
     ghost use Rattle.store.specs.Stores.{disk_of, mishaps_of, size_of_store, life_of, found_state, journal_of, now_state, receipts, doubt_of, failures_at_open, Stands, Doubts};
@@ -62,8 +62,8 @@ impl<D: Disk + Drop> Store<D> {
         ensures begins { IfOk result (λ store. life_of store ≡ begun (found_state store)) }
         ensures earlier { IfOk result (λ store. Leaves (D.facts disk) (size_of_store store) (found_state store)) }
         ensures any_moment { MatchResult result
-            (λ store. Leaves_only (D.facts disk) (disk_of store) (D.facts disk).may_leave)
-            (λ e. Leaves_only (D.facts disk) (D.facts e.0) (D.facts disk).may_leave) }
+            (λ store. LeavesSince (D.facts disk) (disk_of store) (D.facts disk).may_leave)
+            (λ e. LeavesSince (D.facts disk) (D.facts e.0) (D.facts disk).may_leave) }
 
         // Why it is refused.
         ensures refused { IfErr result (λ e. OpenRefused (D.facts disk) e.1 (D.facts e.0)) }
@@ -132,7 +132,7 @@ impl<D: Disk + Drop> Store<D> {
         ensures down { (c : Change) → doubt_of self.old ≡ Some c → (result ≡ Err Refusal.Down) × (self.new ≡ self.old) }
 
         // What a crash leaves at any moment of the call, and after it.
-        ensures any_moment { doubt_of self.old ≡ None → Leaves_only (disk_of self.old) (disk_of self.new)
+        ensures any_moment { doubt_of self.old ≡ None → LeavesSince (disk_of self.old) (disk_of self.new)
             (StandsForEither (size_of_store self.old) (now_state self.old) (after (now_state self.old) (change_of command))) }
         ensures acknowledged { OnOk result (LeavesOnly (disk_of self.new) (size_of_store self.old) (after (now_state self.old) (change_of command))) }
         ensures unchanged { IfErr result (λ e. (e ≡ Refusal.Down → ⊥) → LeavesOnly (disk_of self.new) (size_of_store self.old) (now_state self.old)) }

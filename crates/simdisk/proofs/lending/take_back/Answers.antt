@@ -1,6 +1,6 @@
 use Rattle.std.proofs.Common.{◌≡◌, ◌∙◌, ◌+◌, ◌*◌, ◌<◌, ℕ, length, get_or, map, take, sym, ap, arith, rules}
 use Rattle.std.proofs.lemmas.List.{length-map}
-use Rattle.disk.specs.Facts.{Lane_facts, Written, lane_at, lane_failures, counted}
+use Rattle.disk.specs.Facts.{LaneFacts, Written, lane_at, lane_failures, counted}
 use Rattle.simdisk.specs.Lanes.{lane_view}
 use Rattle.simdisk.proofs.Rows.{joined_more, failures_more, at_map, counted_more}
 use Rattle.simdisk.proofs.lending.take_back.Goals as goal
@@ -20,5 +20,5 @@ loop-i-preserved c =
     record {
       content = joined_more c.args.first i c.args.each (map lane_view lanes) c.args.content.now.items c.loop-i.content.items c.overwrite.new.content.items c.loop-i.invariant.content (c.requires.row.each i here) written;
       failures = c.saturating_add-failures.ensures ∙ ap (λ (n : ℕ). counted n lane.failures) c.loop-i.invariant.failures ∙ counted_more 0 before lane.failures
-          ∙ ap (λ (n : ℕ). counted 0 n) (sym (failures_more (map lane_view lanes) i less_map ∙ ap (λ (l : Lane_facts). before + l.failures) at));
+          ∙ ap (λ (n : ℕ). counted 0 n) (sym (failures_more (map lane_view lanes) i less_map ∙ ap (λ (l : LaneFacts). before + l.failures) at));
     }

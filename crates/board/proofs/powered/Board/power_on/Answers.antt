@@ -4,7 +4,7 @@ use Rattle.store.specs.Leaves.{Leaves}
 use Rattle.store.specs.Standing.{StandsFor}
 use Rattle.store.specs.Lives.{Life, now_of}
 use Rattle.store.specs.Stores.{disk_of, size_of_store, found_state, life_of}
-use Rattle.disk.specs.Facts.{Leaves_only}
+use Rattle.disk.specs.Facts.{LeavesSince}
 use Rattle.board.specs.Moments.{gone_before, MayLeave}
 use Rattle.board.proofs.Moments.{kept_meanwhile}
 use Rattle.board.specs.Boots.{boot_refusal}
@@ -27,6 +27,6 @@ returns-in-Err-ready-clause-refused g c =
     let reads : StandsFor (g.D.Disk.facts c.args.disk).content size s = search rules in
     let found : Leaves (g.D.Disk.facts c.args.disk) size s = search rules in
     let why : IsBootRefusal (boot_refusal s c.args.mode) size c.args.mode c.args.payloads.now c.in-Err-ready.refusal = search rules in
-    let moments : Leaves_only (g.D.Disk.facts c.args.disk) disk (MayLeave (g.D.Disk.facts c.args.disk) size s (gone_before c.in-Err-ready.refusal)) =
+    let moments : LeavesSince (g.D.Disk.facts c.args.disk) disk (MayLeave (g.D.Disk.facts c.args.disk) size s (gone_before c.in-Err-ready.refusal)) =
     kept_meanwhile _ (disk_of c.in-Ok.store) (disk_of c.ready.new.store) disk size s _ c.in-Ok.ensures.any_moment c.in-Err-ready.ensures.any_moment c.into_disk.ensures.facts in
     (size, s, c.found.ensures ∙ ap (λ (x : Life). durable_of x.found) life, reads, found, why, subst (λ z. LeavesLife (doubt_after c.in-Err-ready.refusal) disk z s) as_was left, moments)

@@ -1,7 +1,7 @@
 use Rattle.std.proofs.Common.{refl}
 use Rattle.std.specs.Fmt.{digits}
 use Rattle.script_lang.specs.Scripts.{lines_from, rest_of}
-use Rattle.bench_report.proofs.laws.worked_rows.Goals as goal
+use Rattle.bench_report.proofs.laws.worked_scripts.Goals as goal
 
 pub returns-clause-a_slot_outlives_power : goal.returns-clause-a_slot_outlives_power
 unfolding lines_from rest_of digits
