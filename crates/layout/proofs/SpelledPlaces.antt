@@ -1,5 +1,5 @@
 -- What stands in a place header is what was put there.
-use Rattle.std.proofs.Common.{◌≡◌, ◌∙◌, ℕ, List, [], ◌∷◌, ◌++◌, refl, ap, append_assoc}
+use Rattle.std.proofs.Common.{◌≡◌, ◌∙◌, ℕ, List, [], ◌∷◌, ◌++◌, refl, sym, ap, append_assoc}
 use Rattle.board_model.specs.Shapes.{Size}
 use Rattle.layout.specs.Fields.{number_bytes, fields_bytes, number_at}
 use Rattle.layout.specs.Places.{place_fields, IsPlaceHead}
@@ -23,3 +23,8 @@ module _ (size : Size) (head : PlaceHead) (sector : List ℕ) (is : IsPlaceHead 
     where
       made : ℕ → ℕ → PlaceHead
       made page serial = record { page = page; serial = serial }
+
+-- one header, one place
+pub one_place_head : (size : Size) (head other : PlaceHead) (sector : List ℕ) → IsPlaceHead size head sector → IsPlaceHead size other sector → head ≡ other
+one_place_head size head other sector first second =
+    head_is size other sector second head.page head.serial (sym (page_in size head sector first)) (sym (place_serial_in size head sector first))

@@ -3,6 +3,8 @@ ghost use Rattle.std.specs.Prelude.{◌≡◌, ℕ, List, replicate};
 ghost use Rattle.board_model.specs.Shapes.{Size};
 ghost use Rattle.layout.specs.Superblocks.{HasMagic, IsSuperblock};
 ghost use Rattle.layout.specs.Records.{IsRecord};
+ghost use Rattle.layout.specs.Places.{IsPlaceHead};
+ghost use Rattle.layout.specs.declared.places.PlaceHead.{PlaceHead};
 ghost use Rattle.layout.specs.declared.records.Record.{Record};
 
 /// A superblock is that of one size, and begins with the mark. A sector of zeros does not.
@@ -15,4 +17,9 @@ pub fn one_superblock()
 /// A sector is the spelling of one record, whatever the board.
 pub fn one_record()
     ensures { (size : Size) (r q : Record) (sector : List ℕ) → IsRecord size r sector → IsRecord size q sector → r ≡ q }
+{}
+
+/// A sector is the header of one place, whatever the board.
+pub fn one_place_head()
+    ensures { (size : Size) (head other : PlaceHead) (sector : List ℕ) → IsPlaceHead size head sector → IsPlaceHead size other sector → head ≡ other }
 {}

@@ -14,7 +14,7 @@ mod superblocks;
 #[cfg(test)]
 mod tests;
 
-pub use laws::{one_record, one_superblock};
+pub use laws::{one_place_head, one_record, one_superblock};
 pub use places::{PlaceHead, parse_place_head, place_head_bytes};
 pub use records::{Record, Saved, gate_bytes, parse_record, record_bytes, selected};
 pub use side::Side;

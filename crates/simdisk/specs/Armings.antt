@@ -1,6 +1,7 @@
 -- What faults are to a contract.
-use Rattle.std.specs.Prelude.{◌≡◌, ◌⊎◌, ℕ, Option, Some, None, true}
+use Rattle.std.specs.Prelude.{◌≡◌, ◌⊎◌, ℕ, ◌-◌, Bool, Option, Some, None, true}
 use Rattle.disk.specs.declared.device.ArmedFault.{ArmedFault}
+use Rattle.disk.specs.declared.device.ArmedFault.TheVariants.{FailAt, CutAt, FailLane, CutLane}
 use Rattle.disk.specs.Mishaps.{Armed, Unarmed, FaultArmed, CutArmed, Mishaps, armed_by}
 use Rattle.simdisk.specs.declared.faults.Faults.{Faults}
 
@@ -21,3 +22,23 @@ Strikes old new =
 -- what is armed stays so
 abbrev pub Waits : Faults → Faults → Type 0
 Waits old new = (arming new.armed ≡ arming old.armed) × (new.cut ≡ old.cut)
+
+-- what is armed strikes at the next call of the disk
+abbrev pub IsDue : Option ArmedFault → Type 0
+IsDue None = ⊥
+IsDue (Some (FailAt n)) = n ≡ 1
+IsDue (Some (CutAt n)) = n ≡ 1
+IsDue (Some (FailLane lane n)) = ⊥
+IsDue (Some (CutLane lane n)) = ⊥
+
+-- the next call of the disk fails: power was cut, or what is armed strikes at it
+abbrev pub FailsNext : Bool → Option ArmedFault → Type 0
+FailsNext cut armed = (cut ≡ true) ⊎ IsDue armed
+
+-- what is armed after a call of the disk at which it did not strike
+abbrev pub one_call_on : Option ArmedFault → Option ArmedFault
+one_call_on None = None
+one_call_on (Some (FailAt n)) = Some (FailAt (n - 1))
+one_call_on (Some (CutAt n)) = Some (CutAt (n - 1))
+one_call_on (Some (FailLane lane n)) = Some (FailLane lane n)
+one_call_on (Some (CutLane lane n)) = Some (CutLane lane n)

@@ -1,7 +1,8 @@
 //! The disk in memory as a disk.
-ghost use Rattle.std.specs.Prelude.{◌≡◌, ◌≤◌, ◌+◌, ◌*◌, [], ◌∷◌, length, map, OnOk, OnErr, IfOk};
+ghost use Rattle.std.specs.Prelude.{◌≡◌, ◌⊎◌, ◌≤◌, ◌+◌, ◌*◌, [], ◌∷◌, length, map, OnOk, OnErr, IfOk};
 ghost use Rattle.disk.specs.Facts.{Content, Torn, Written, Passes, Stays, Only, Apart, Found, Counts, Handed, InRow, Joined, Unchanged, counted, nothing, lent_sectors, lane_failures};
 ghost use Rattle.disk.specs.Mishaps.{Caused, CausedInLanes, armed_by};
+ghost use Rattle.simdisk.specs.Armings.{FailsNext, one_call_on};
 ghost use Rattle.simdisk.specs.Record.{more_written, more_synced, lent_piece, newest, NotedOrRefused, SameRanges};
 
 use crate::laid::overwrite;
@@ -47,6 +48,9 @@ impl Disk for SimDisk {
         ensures lent { (⟦<SimDisk as Disk>⟧.facts self.new).lent ≡ (⟦<SimDisk as Disk>⟧.facts self.old).lent }
         ensures not_its_own { (⟦<SimDisk as Disk>⟧.mishaps self.new).own ≡ (⟦<SimDisk as Disk>⟧.mishaps self.old).own }
         ensures record { ⟦<SimDisk as Recorded>⟧.record self.new ≡ ⟦<SimDisk as Recorded>⟧.record self.old }
+        ensures due { OnOk result (FailsNext (⟦<SimDisk as Disk>⟧.mishaps self.old).struck (⟦<SimDisk as Recorded>⟧.armed self.old) → ⊥) }
+        ensures early { OnErr result (FailsNext (⟦<SimDisk as Disk>⟧.mishaps self.old).struck (⟦<SimDisk as Recorded>⟧.armed self.old)) }
+        ensures counts { OnOk result (⟦<SimDisk as Recorded>⟧.armed self.new ≡ one_call_on (⟦<SimDisk as Recorded>⟧.armed self.old)) }
     {
         if self.faults.strikes() {
             return Err(failed(&mut self.failures));
@@ -67,6 +71,9 @@ impl Disk for SimDisk {
         ensures stays { OnErr result ((⟦<SimDisk as Disk>⟧.facts self.new).content ≡ (⟦<SimDisk as Disk>⟧.facts self.old).content) }
         ensures record { OnOk result (⟦<SimDisk as Recorded>⟧.record self.new ≡ more_written (first, sectors.now) (⟦<SimDisk as Recorded>⟧.record self.old)) }
         ensures record_failed { OnErr result (NotedOrRefused (first, sectors.now) (⟦<SimDisk as Recorded>⟧.record self.old) (⟦<SimDisk as Recorded>⟧.record self.new) (⟦<SimDisk as Disk>⟧.mishaps self.old).own (⟦<SimDisk as Disk>⟧.mishaps self.new).own) }
+        ensures due { OnOk result (FailsNext (⟦<SimDisk as Disk>⟧.mishaps self.old).struck (⟦<SimDisk as Recorded>⟧.armed self.old) → ⊥) }
+        ensures early { OnErr result (FailsNext (⟦<SimDisk as Disk>⟧.mishaps self.old).struck (⟦<SimDisk as Recorded>⟧.armed self.old) ⊎ ((⟦<SimDisk as Disk>⟧.mishaps self.new).own ≡ counted (⟦<SimDisk as Disk>⟧.mishaps self.old).own 1)) }
+        ensures counts { OnOk result (⟦<SimDisk as Recorded>⟧.armed self.new ≡ one_call_on (⟦<SimDisk as Recorded>⟧.armed self.old)) }
     {
         let Ok(()) = self.history.note(self.alloc, first, sectors) else {
             self.faults.pass();
@@ -90,6 +97,9 @@ impl Disk for SimDisk {
         ensures lent { (⟦<SimDisk as Disk>⟧.facts self.new).lent ≡ (⟦<SimDisk as Disk>⟧.facts self.old).lent }
         ensures record { OnOk result (⟦<SimDisk as Recorded>⟧.record self.new ≡ more_synced (⟦<SimDisk as Disk>⟧.facts self.old).content (lent_piece (⟦<SimDisk as Disk>⟧.facts self.old).lent (⟦<SimDisk as Disk>⟧.facts self.old).content ∷ []) (⟦<SimDisk as Recorded>⟧.record self.old)) }
         ensures record_failed { OnErr result (⟦<SimDisk as Recorded>⟧.record self.new ≡ ⟦<SimDisk as Recorded>⟧.record self.old) }
+        ensures due { OnOk result (FailsNext (⟦<SimDisk as Disk>⟧.mishaps self.old).struck (⟦<SimDisk as Recorded>⟧.armed self.old) → ⊥) }
+        ensures early { OnErr result (FailsNext (⟦<SimDisk as Disk>⟧.mishaps self.old).struck (⟦<SimDisk as Recorded>⟧.armed self.old) ⊎ ((⟦<SimDisk as Disk>⟧.mishaps self.new).own ≡ counted (⟦<SimDisk as Disk>⟧.mishaps self.old).own 1)) }
+        ensures counts { OnOk result (⟦<SimDisk as Recorded>⟧.armed self.new ≡ one_call_on (⟦<SimDisk as Recorded>⟧.armed self.old)) }
     {
         if self.faults.strikes() {
             return Err(failed(&mut self.failures));

@@ -22,6 +22,7 @@ impl SimDisk {
     /// exactly where they are not whole sectors, and `Memory` where memory is refused.
     pub fn new(alloc: Global, bytes: &[u8]) -> Result<SimDisk, Refusal>
         ensures fresh { IfOk result (λ disk. IsFresh (first_chunks 512 (length bytes.now / 512) bytes.now) (⟦<SimDisk as Disk>⟧.facts disk)) }
+        ensures record { IfOk result (λ disk. ⟦<SimDisk as Recorded>⟧.record disk ≡ new_record (first_chunks 512 (length bytes.now / 512) bytes.now)) }
         ensures no_failure { IfOk result (λ disk. (⟦<SimDisk as Disk>⟧.facts disk).failures ≡ 0) }
         ensures no_mishap { IfOk result (λ disk. ⟦<SimDisk as Disk>⟧.mishaps disk ≡ no_mishap) }
         ensures whole { OnOk result (length bytes.now % 512 ≡ 0) }
@@ -38,6 +39,7 @@ impl SimDisk {
     /// A disk of so many sectors of zeros, all of them durable.
     pub fn blank(alloc: Global, sectors: usize) -> Result<SimDisk, AllocError>
         ensures fresh { IfOk result (λ disk. IsFresh (replicate sectors (replicate 512 0)) (⟦<SimDisk as Disk>⟧.facts disk)) }
+        ensures record { IfOk result (λ disk. ⟦<SimDisk as Recorded>⟧.record disk ≡ new_record (replicate sectors (replicate 512 0))) }
         ensures no_failure { IfOk result (λ disk. (⟦<SimDisk as Disk>⟧.facts disk).failures ≡ 0) }
         ensures no_mishap { IfOk result (λ disk. ⟦<SimDisk as Disk>⟧.mishaps disk ≡ no_mishap) }
     {
@@ -48,6 +50,7 @@ impl SimDisk {
     // A disk of these sectors, all of them durable.
     fn holding(alloc: Global, content: Vec<Sector>) -> Result<SimDisk, AllocError>
         ensures fresh { IfOk result (λ disk. IsFresh content.items (⟦<SimDisk as Disk>⟧.facts disk)) }
+        ensures record { IfOk result (λ disk. ⟦<SimDisk as Recorded>⟧.record disk ≡ new_record content.items) }
         ensures no_failure { IfOk result (λ disk. (⟦<SimDisk as Disk>⟧.facts disk).failures ≡ 0) }
         ensures no_mishap { IfOk result (λ disk. ⟦<SimDisk as Disk>⟧.mishaps disk ≡ no_mishap) }
     {
@@ -68,6 +71,7 @@ impl SimDisk {
     pub fn after_cut(self, choice: Choice) -> SimDisk
         ensures left { IsLeft (⟦<SimDisk as Disk>⟧.facts self) (⟦<SimDisk as Disk>⟧.facts result) }
         ensures exact { (⟦<SimDisk as Disk>⟧.facts result).content ≡ left_by choice (synced (⟦<SimDisk as Recorded>⟧.record self)) (⟦<SimDisk as Recorded>⟧.record self).written }
+        ensures record { ⟦<SimDisk as Recorded>⟧.record result ≡ new_record (⟦<SimDisk as Disk>⟧.facts result).content }
         ensures mishaps { ⟦<SimDisk as Disk>⟧.mishaps result ≡ mishaps_left (⟦<SimDisk as Disk>⟧.mishaps self) }
     {
         let history = self.history.left(self.alloc, choice);

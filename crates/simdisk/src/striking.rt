@@ -1,7 +1,7 @@
 //! How armed faults come to their calls.
-ghost use Rattle.std.specs.Prelude.{◌≡◌, ◌⊎◌, ◌<◌, true, false, None, IsTrue, IsFalse};
+ghost use Rattle.std.specs.Prelude.{◌≡◌, ◌⊎◌, ◌↔◌, ◌<◌, true, false, None, IsTrue, IsFalse};
 ghost use Rattle.disk.specs.Facts.{counted};
-ghost use Rattle.simdisk.specs.Armings.{Strikes, Waits};
+ghost use Rattle.simdisk.specs.Armings.{Strikes, Waits, FailsNext, one_call_on};
 
 use crate::faults::Faults;
 use crate::lane::SimLane;
@@ -29,8 +29,10 @@ impl Faults {
     /// Whether the next call of the disk, or of the lane whose faults these are, fails. It counts
     /// that call.
     pub(crate) fn strikes(&mut self) -> bool
+        ensures due { IsTrue result ↔ FailsNext self.old.cut self.old.armed }
         ensures strikes { IsTrue result → Strikes self.old self.new }
         ensures waits { IsFalse result → Waits self.old self.new }
+        ensures counts { IsFalse result → self.new.armed ≡ one_call_on self.old.armed }
     {
         if self.cut {
             return true;

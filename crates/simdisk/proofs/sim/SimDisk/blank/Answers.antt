@@ -7,3 +7,9 @@ returns-clause-fresh c =
     let zeros : c.in_ok-content.content.items ≡ replicate c.args.sectors (replicate 512 0) =
     c.in_ok-content.ensures.items_if_clones_equal (λ y h. ext_get_or 0 y (replicate 512 0) (h.long ∙ sym (length-replicate {A = ℕ} 512 0)) (λ i lt. h.at i 0 0 (rw (← h.long) lt))) in
     rw (← zeros) c.holding.ensures.fresh
+
+pub returns-clause-record : goal.returns-clause-record
+returns-clause-record c =
+    let zeros : c.in_ok-content.content.items ≡ replicate c.args.sectors (replicate 512 0) =
+    c.in_ok-content.ensures.items_if_clones_equal (λ y h. ext_get_or 0 y (replicate 512 0) (h.long ∙ sym (length-replicate {A = ℕ} 512 0)) (λ i lt. h.at i 0 0 (rw (← h.long) lt))) in
+    rw (← zeros) c.holding.ensures.record
