@@ -134,6 +134,9 @@ impl<D: Disk + Drop> Store<D> {
         ensures up { doubt_of self.old ≡ None → Applied (life_of self.old) (change_of command) result (life_of self.new) }
         ensures down { (c : Change) → doubt_of self.old ≡ Some c → (result ≡ Err Refusal.Down) × (self.new ≡ self.old) }
 
+        // Each acknowledged command is written, also one that changes nothing in value.
+        ensures written { OnOk result (IsRewritten (disk_of self.old) (disk_of self.new)) }
+
         // What a crash leaves at any moment of the call, and after it.
         ensures any_moment { doubt_of self.old ≡ None → LeavesSince (disk_of self.old) (disk_of self.new)
             (StandsForEither (size_of_store self.old) (now_state self.old) (after (now_state self.old) (change_of command))) }
@@ -141,9 +144,6 @@ impl<D: Disk + Drop> Store<D> {
         ensures unchanged { IfErr result (λ e. (e ≡ Refusal.Down → ⊥) → LeavesOnly (disk_of self.new) (size_of_store self.old) (now_state self.old)) }
         ensures in_doubt { doubt_of self.old ≡ None → IsErrOf result Refusal.Down
             → LeavesEither (disk_of self.new) (size_of_store self.old) (now_state self.old) (after (now_state self.old) (change_of command)) }
-
-        // Each acknowledged command is written, also one that changes nothing in value.
-        ensures written { OnOk result (IsRewritten (disk_of self.old) (disk_of self.new)) }
 
         // A refusal but 5 and 6 leaves all as it was.
         ensures untouched { IfErr result (λ e. (e ≡ Refusal.Device → ⊥) → (e ≡ Refusal.Down → ⊥) → self.new ≡ self.old) }
