@@ -50,7 +50,7 @@ impl<D: Disk + Drop> Board<D> {
     ghost use Rattle.disk.specs.Facts.{LeavesSince, Failed, Unchanged};
     ghost use Rattle.disk.specs.Mishaps.{armed_by};
     ghost use Rattle.store.specs.Standing.{StandsFor};
-    ghost use Rattle.store.specs.Leaves.{IsIdle, SameLength, Leaves, LeavesOnly, LeavesEither, StandsForEither};
+    ghost use Rattle.store.specs.Leaves.{IsIdle, SameLength, Leaves, LeavesOnly, LeavesEither, StandsForEither, IsRewritten};
     ghost use Rattle.store.specs.Opens.{ReadsAs, OpenRefused, CausedRefusal};
     ghost use Rattle.store.specs.Lives.{Applied};
     ghost use Rattle.store.specs.Stores.{disk_of, mishaps_of, size_of_store, life_of, found_state, now_state, doubt_of, failures_at_open, Stands, Doubts};
@@ -228,6 +228,9 @@ impl<D: Disk + Drop> Board<D> {
         ensures up { doubt_of (store_of self.old) ≡ None → Applied (life_of (store_of self.old)) (change_of command) result (life_of (store_of self.new)) }
         ensures down { (c : Change) → doubt_of (store_of self.old) ≡ Some c → (result ≡ Err Refusal.Down) × (store_of self.new ≡ store_of self.old) }
 
+        // Each acknowledged command is written, also one that changes nothing in value.
+        ensures written { OnOk result (IsRewritten (disk_of (store_of self.old)) (disk_of (store_of self.new))) }
+
         // What a crash leaves at any moment of the call, and after it.
         ensures any_moment { doubt_of (store_of self.old) ≡ None → LeavesSince (disk_of (store_of self.old)) (disk_of (store_of self.new))
             (StandsForEither (size_of_store (store_of self.old)) (now_state (store_of self.old)) (after (now_state (store_of self.old)) (change_of command))) }
@@ -235,6 +238,9 @@ impl<D: Disk + Drop> Board<D> {
         ensures unchanged { IfErr result (λ e. (e ≡ Refusal.Down → ⊥) → LeavesOnly (disk_of (store_of self.new)) (size_of_store (store_of self.old)) (now_state (store_of self.old))) }
         ensures in_doubt { doubt_of (store_of self.old) ≡ None → IsErrOf result Refusal.Down
             → LeavesEither (disk_of (store_of self.new)) (size_of_store (store_of self.old)) (now_state (store_of self.old)) (after (now_state (store_of self.old)) (change_of command)) }
+
+        // A refusal but 5 and 6 leaves all as it was.
+        ensures untouched { IfErr result (λ e. (e ≡ Refusal.Device → ⊥) → (e ≡ Refusal.Down → ⊥) → store_of self.new ≡ store_of self.old) }
 
         // What its disk counts.
         ensures device { IsErrOf result Refusal.Device → Failed (disk_of (store_of self.old)).failures (disk_of (store_of self.new)).failures }

@@ -9,3 +9,4 @@ pub mod Formatting
 pub mod Reading
 pub mod Bridges
 pub mod Armed
+pub mod Kept

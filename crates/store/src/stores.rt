@@ -1,5 +1,5 @@
 //! The store: one life of the durable state.
-ghost use Rattle.std.specs.Prelude.{◌≡◌, ◌≤◌, ◌≢◌, ◌<◌, ◌⊎◌, map, vec_len, vec_capacity, Some, None, Err, IfOk, IfErr, OnOk, IsErrOf, MatchResult};
+ghost use Rattle.std.specs.Prelude.{◌≡◌, ◌≤◌, ◌≢◌, ◌<◌, ◌⊎◌, length, map, vec_len, vec_capacity, Some, None, Err, IfOk, IfErr, OnOk, IsErrOf, MatchResult};
 ghost use Rattle.board_model.specs.Durable.{State, Change, after, fold, ends_life, refusal_of};
 ghost use Rattle.board_model.specs.Shown.{change_of, number_of};
 ghost use Rattle.board_model.specs.Shapes.{Size};
@@ -41,7 +41,7 @@ pub struct Store<D: Disk + Drop> {
 
 impl<D: Disk + Drop> Store<D> {
     ghost use Rattle.board_model.specs.Shown.{durable_of};
-    ghost use Rattle.store.specs.Leaves.{IsIdle, SameLength, Leaves, LeavesOnly, LeavesEither, StandsForEither};
+    ghost use Rattle.store.specs.Leaves.{IsIdle, SameLength, Leaves, LeavesOnly, LeavesEither, StandsForEither, IsRewritten};
     ghost use Rattle.store.specs.Opens.{ReadsAs, OpenRefused, CausedRefusal};
     ghost use Rattle.store.specs.Lives.{begun, Reaches, Refused, Applied};
     ghost use Rattle.disk.specs.Facts.{LeavesSince, Unchanged};
@@ -71,6 +71,9 @@ impl<D: Disk + Drop> Store<D> {
         // And the other way: a disk that reads as a refusal is refused so, or by 5; one that stands for a state is opened, but for 5 and 11.
         ensures refuses { (e : Refusal) → ReadsAs (D.facts disk).content e → MatchResult result (λ store. ⊥) (λ f. (f.1 ≡ e) ⊎ (f.1 ≡ Refusal.Device)) }
         ensures opens { (size : Size) (s : State) → StandsFor (D.facts disk).content size s → IfErr result (λ f. (f.1 ≡ Refusal.Device) ⊎ (f.1 ≡ Refusal.Memory)) }
+
+        // A disk without sectors is refused before any call.
+        ensures no_sectors { length (D.facts disk).content ≡ 0 → MatchResult result (λ store. ⊥) (λ f. (f.1 ≡ Refusal.BadShape) × (f.0 ≡ disk)) }
 
         ensures content { MatchResult result (λ store. (disk_of store).content ≡ (D.facts disk).content) (λ e. (D.facts e.0).content ≡ (D.facts disk).content) }
         ensures no_failure { IfOk result (λ store. ((disk_of store).failures ≡ (D.facts disk).failures) × (failures_at_open store ≡ (D.facts disk).failures)) }
@@ -131,6 +134,9 @@ impl<D: Disk + Drop> Store<D> {
         ensures up { doubt_of self.old ≡ None → Applied (life_of self.old) (change_of command) result (life_of self.new) }
         ensures down { (c : Change) → doubt_of self.old ≡ Some c → (result ≡ Err Refusal.Down) × (self.new ≡ self.old) }
 
+        // Each acknowledged command is written, also one that changes nothing in value.
+        ensures written { OnOk result (IsRewritten (disk_of self.old) (disk_of self.new)) }
+
         // What a crash leaves at any moment of the call, and after it.
         ensures any_moment { doubt_of self.old ≡ None → LeavesSince (disk_of self.old) (disk_of self.new)
             (StandsForEither (size_of_store self.old) (now_state self.old) (after (now_state self.old) (change_of command))) }
@@ -138,6 +144,9 @@ impl<D: Disk + Drop> Store<D> {
         ensures unchanged { IfErr result (λ e. (e ≡ Refusal.Down → ⊥) → LeavesOnly (disk_of self.new) (size_of_store self.old) (now_state self.old)) }
         ensures in_doubt { doubt_of self.old ≡ None → IsErrOf result Refusal.Down
             → LeavesEither (disk_of self.new) (size_of_store self.old) (now_state self.old) (after (now_state self.old) (change_of command)) }
+
+        // A refusal but 5 and 6 leaves all as it was.
+        ensures untouched { IfErr result (λ e. (e ≡ Refusal.Device → ⊥) → (e ≡ Refusal.Down → ⊥) → self.new ≡ self.old) }
 
         // It gives up only where the disk failed.
         ensures device { IsErrOf result Refusal.Device → Failed (disk_of self.old).failures (disk_of self.new).failures }
@@ -208,6 +217,13 @@ impl<D: Disk + Drop> Store<D> {
     {
         self.disk.struck()
     }
+
+    /// What an open store keeps, from one call to the next: a crash leaves the state now, or with a command in doubt one of
+    /// two. It does nothing.
+    pub fn stands(&self)
+        ensures up { (s : State) → Stands self.now s → LeavesOnly (disk_of self.now) (size_of_store self.now) s }
+        ensures down { (s t : State) → Doubts self.now s t → LeavesEither (disk_of self.now) (size_of_store self.now) s t }
+    {}
 
     /// Ends the life, and gives the disk back: a crash leaves the state now, or with a command in doubt one of two.
     pub fn into_disk(self) -> D

@@ -2,6 +2,7 @@ use Rattle.std.proofs.Common.{◌≡◌, ◌+◌, ◌-◌, [], ◌∷◌, rules}
 use Rattle.disk.specs.Facts.{Torn, Written, Passes, Only}
 use Rattle.layout.specs.Records.{selected_by, gate_of, record_of}
 use Rattle.store.proofs.Steps.{while_recorded, while_selected, in_doubt, committed}
+use Rattle.store.proofs.Contents.{gate_selects}
 use Rattle.store.proofs.commits.commit.Goals as goal
 
 pub returns-in_err-map_err-clause-any_moment : goal.returns-in_err-map_err-clause-any_moment
@@ -54,3 +55,12 @@ returns-clause-any_moment g c size r up range =
     let only : Only b.content b.may_leave = search rules in
     let recorded = while_recorded a b size c.args.side r next c.requires.known up (g.met.D.Disk.only_now _) crash in
     while_selected a b size c.args.side r next c.requires.known up range (g.met.D.Disk.may_keep _) wrote only (g.D.Disk.facts c.write_gate.new.disk) c.write_gate.ensures.crash recorded
+
+pub returns-clause-written : goal.returns-clause-written
+returns-clause-written g c =
+    let b = g.D.Disk.facts c.write_record.new.disk in
+    let d = g.D.Disk.facts c.write_gate.new.disk in
+    let gate = gate_of (1 - c.args.side) in
+    let selects : selected_by gate ≡ 1 - c.args.side = search rules in
+    let wrote : Written 1 (gate ∷ []) b.content d.content = search rules in
+    gate_selects b.content d.content gate (1 - c.args.side) selects wrote

@@ -1,4 +1,4 @@
-use Rattle.std.proofs.Common.{◌≡◌, ◌∙◌, ◌+◌, ◌++◌, ℕ, [], ◌∷◌, Err, option_map, map, length, inl, inr, ⊎_elim, refl, sym, ap, subst, rules, arith}
+use Rattle.std.proofs.Common.{◌≡◌, ◌∙◌, ◌+◌, ◌-◌, ◌++◌, ℕ, [], ◌∷◌, Err, option_map, map, length, inl, inr, ⊎_elim, refl, sym, ap, subst, rules, arith}
 use Rattle.std.proofs.lemmas.Result.{err_from_is_err_and}
 use Rattle.std.proofs.lemmas.List.{length-map}
 use Rattle.board_model.specs.Durable.{after}
@@ -187,3 +187,9 @@ returns-in-Err-InDoubt-clause-up g c none =
     let s = c.args.self.now in
     let ok = c.in_ok-next.ensures.ok in
     inr (inl (refl, ok.1, found_same (g.D.Disk.facts s.disk) (g.D.Disk.facts c.commit.new.disk) s.shape s.side s.opened s.current c.in_ok-next.next s.journal.items c.args.command ok.2 c.commit.ensures.areas s.folded _ _ _))
+
+pub returns-in-Ok-clause-written : goal.returns-in-Ok-clause-written
+returns-in-Ok-clause-written g c =
+    let s = c.args.self.now in
+    let up = s.kept.up c.in_ok-next.ensures.ok.0 in
+    c.in-Ok.ensures.written ∙ ap (λ (k : ℕ). 1 - k) (sym (up.selects (g.D.Disk.facts s.disk).content (g.met.D.Disk.may_keep _)).gate)

@@ -1,0 +1,25 @@
+-- What an open store keeps, in durable states.
+use Rattle.std.proofs.Common.{◌≡◌, ◌∙◌, ℕ, ◌<◌, sym, ap, subst}
+use Rattle.board_model.specs.Durable.{State, Change, after}
+use Rattle.board_model.specs.Shapes.{Size}
+use Rattle.board_model.specs.Shown.{change_of}
+use Rattle.disk.specs.Facts.{Facts}
+use Rattle.layout.specs.declared.records.Record.{Record}
+use Rattle.store.specs.Standing.{state_of}
+use Rattle.store.specs.Leaves.{LeavesOnly, LeavesEither}
+use Rattle.store.specs.Commits.{IsUp, IsInDoubt}
+use Rattle.store.specs.declared.doubts.Doubt.{Doubt}
+use Rattle.store.proofs.States.{up_leaves, doubt_leaves}
+
+module _ (disk : Facts) (size : Size) (side : ℕ) (current : Record) (now s : State) (folded : now ≡ state_of size current disk.content) (s_is : s ≡ now) where
+  pub kept_up : IsUp disk size side current → LeavesOnly disk size s
+  kept_up up = subst (LeavesOnly disk size) (sym (s_is ∙ folded)) (up_leaves disk size side current up)
+
+  pub kept_down : (d : Doubt) (c : Change) (t : State) → side < 2 → IsInDoubt disk size side current d.next
+      → state_of size d.next disk.content ≡ after (state_of size current disk.content) (change_of d.command) → change_of d.command ≡ c → t ≡ after s c
+      → LeavesEither disk size s t
+  kept_down d c t known doubt doubted same t_is =
+      let here = state_of size current disk.content in
+      let next : t ≡ state_of size d.next disk.content = t_is ∙ ap (λ (x : State). after x c) (s_is ∙ folded) ∙ ap (λ (x : Change). after here x) (sym same) ∙ sym doubted in
+      subst (λ (x : State). LeavesEither disk size x t) (sym (s_is ∙ folded))
+      (subst (λ (x : State). LeavesEither disk size here x) (sym next) (doubt_leaves disk size side current d.next known doubt))
