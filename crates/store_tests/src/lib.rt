@@ -2,4 +2,6 @@
 #![tactic(auto)]
 
 #[cfg(test)]
+mod fixtures;
+#[cfg(test)]
 mod tests;

@@ -1,0 +1,160 @@
+//! The disks and the stores that the tests begin with, and calls of which a test reads the answer alone.
+ghost use Rattle.std.specs.Prelude.{◌≡◌, IfOk};
+
+use board_model::{Addr, Command, Durable, HartId, ImageHead, Reason, Refusal, Shape, Slot};
+use disk::{ArmedFault, Disk};
+use layout::{Record, Saved, Side, gate_bytes, record_bytes, superblock_bytes};
+use simdisk::{Choice, SimDisk};
+use std::alloc::Global;
+use std::fmt::Debug;
+use std::process::Abort;
+use std::test::Fail;
+use store::{Store, format};
+
+/// Formats a disk for the smallest board.
+pub fn format_smallest(disk: &mut SimDisk) -> Result<(), Refusal>
+    requires { (⟦<SimDisk as Disk>⟧.facts disk.old).lent.lanes ≡ 0 }
+    ensures { (⟦<SimDisk as Disk>⟧.facts disk.new).lent.lanes ≡ 0 }
+{
+    format(disk, &Shape::new(1, 1, 1)?)
+}
+
+/// A disk for the smallest board, formatted: 26 sectors.
+pub fn formatted(alloc: Global) -> Result<SimDisk, Fail>
+    ensures { IfOk result (λ disk. (⟦<SimDisk as Disk>⟧.facts disk).lent.lanes ≡ 0) }
+{
+    let mut disk = SimDisk::blank(alloc, 26)?;
+    format_smallest(&mut disk)?;
+    Ok(disk)
+}
+
+/// A disk of 26 sectors, of which these come first, and zeros.
+pub fn disk_of(alloc: Global, first: &[[u8; 512]]) -> Result<SimDisk, Fail>
+    ensures { IfOk result (λ disk. (⟦<SimDisk as Disk>⟧.facts disk).lent.lanes ≡ 0) }
+{
+    let mut bytes = Vec::new(alloc);
+    for sector in first {
+        bytes.extend_from_slice(sector)?;
+    }
+    bytes.resize(26 * 512, 0)?;
+    Ok(SimDisk::new(alloc, &bytes)?)
+}
+
+// What stands of the image of serial 4.
+fn image() -> Option<Saved> {
+    let head = ImageHead {
+        serial: 4,
+        hart: HartId::new(0)?,
+        address: Addr::new(0x8000_0008)?,
+        opaque: 77,
+    };
+    Some(Saved {
+        head,
+        area: Side::first(),
+        counts: [1, 0, 0, 0],
+    })
+}
+
+// The sector of a record with that image, of slot 3.
+fn record_with_image() -> Option<[u8; 512]> {
+    let record = Record {
+        slot: Slot::new(3)?,
+        reason: Reason::NoReason,
+        next: 5,
+        image: Some(image()?),
+    };
+    Some(record_bytes(&record))
+}
+
+/// A disk for the smallest board with an image in record 1, written by hand.
+pub fn with_image(alloc: Global) -> Result<SimDisk, Fail>
+    ensures { IfOk result (λ disk. (⟦<SimDisk as Disk>⟧.facts disk).lent.lanes ≡ 0) }
+{
+    let superblock = superblock_bytes(&Shape::new(1, 1, 1)?);
+    let gate = gate_bytes(Side::first().other());
+    let record = record_with_image().ok_or("record")?;
+    disk_of(alloc, &[superblock, gate, [0; 512], record])
+}
+
+/// An open of which only the refusal is told.
+pub fn open(alloc: Global, disk: SimDisk) -> Result<Store<SimDisk>, Refusal>
+    requires { (⟦<SimDisk as Disk>⟧.facts disk).lent.lanes ≡ 0 }
+{
+    match Store::open(alloc, disk) {
+        Ok(store) => Ok(store),
+        Err((_, refusal)) => Err(refusal),
+    }
+}
+
+/// An open that has to be refused, and the disk after it.
+pub fn unopened(alloc: Global, disk: SimDisk) -> Result<(SimDisk, Refusal), Fail>
+    requires { (⟦<SimDisk as Disk>⟧.facts disk).lent.lanes ≡ 0 }
+    ensures { IfOk result (λ e. (⟦<SimDisk as Disk>⟧.facts e.0).lent.lanes ≡ 0) }
+{
+    match Store::open(alloc, disk) {
+        Ok(_) => Err(Fail::new("the open did not fail")),
+        Err(refused) => Ok(refused),
+    }
+}
+
+/// The store of a disk that was just formatted.
+pub fn opened(alloc: Global) -> Result<Store<SimDisk>, Fail> {
+    Ok(open(alloc, formatted(alloc)?)?)
+}
+
+/// A store whose disk has this fault armed since before the open.
+pub fn opened_under(alloc: Global, fault: ArmedFault) -> Result<Store<SimDisk>, Fail> {
+    let mut disk = formatted(alloc)?;
+    disk.arm(fault);
+    Ok(open(alloc, disk)?)
+}
+
+/// The number of a command's receipt.
+pub fn apply(store: &mut Store<SimDisk>, command: Command) -> Result<u32, Refusal> {
+    Ok(store.apply(command)?.number())
+}
+
+/// These two have to be equal.
+pub fn same<T: PartialEq + Debug + Drop>(rt: &impl Abort, found: T, wanted: T) {
+    assert_eq!(rt; found, wanted);
+}
+
+/// What stands: the image's serial and opaque value, the slot, the reason and the next serial.
+pub fn numbers(state: Durable) -> (Option<(u64, u64)>, u32, Reason, u64) {
+    let image = state.image.map(|head| (head.serial, head.opaque));
+    (image, state.slot.number(), state.reason, state.next)
+}
+
+/// Issues these commands, which have to be answered so.
+pub fn answers(
+    rt: &impl Abort,
+    store: &mut Store<SimDisk>,
+    cases: &[(Command, Result<u32, Refusal>)],
+) {
+    for (command, answer) in cases {
+        assert_eq!(rt; apply(store, *command), *answer, "{command:?}");
+    }
+}
+
+/// The next open after power was cut.
+pub fn after_cut(
+    alloc: Global,
+    store: Store<SimDisk>,
+    choice: Choice,
+) -> Result<Store<SimDisk>, Refusal> {
+    open(alloc, store.into_disk().after_cut(choice))
+}
+
+/// The slot that an open finds after a cut.
+pub fn slot_after_cut(
+    alloc: Global,
+    store: Store<SimDisk>,
+    choice: Choice,
+) -> Result<u32, Refusal> {
+    Ok(after_cut(alloc, store, choice)?.found().slot.number())
+}
+
+/// The next open of the same disk.
+pub fn reopened(alloc: Global, store: Store<SimDisk>) -> Result<Store<SimDisk>, Refusal> {
+    open(alloc, store.into_disk())
+}
