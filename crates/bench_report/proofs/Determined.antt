@@ -92,7 +92,7 @@ boots None mode s b a new calm found (inr h) = inr (starves (off_with b.medium b
 boots (Some n) mode s b a new calm found h = settles (plain_boot (Some n) mode s b) a new (answers_as a _ _ found h.0) h.1 (calm.0, tt, calm.2)
 
 on_on : (m : Medium) (mode : BootMode) (b : Bench) (a : Answer) (new : Bench) → b.medium ≡ m → IsCalm b → CalmMedium m → PowersOn mode b a new → Determined (plain_on m mode b) a new
-on_on m mode b a new at calm cm (inr (inr (inl h))) = inr (starves b new h.1)
+on_on m mode b a new at calm cm (inr (inr (inl h))) = inr (starves b new h.2)
 on_on m mode b a new at calm cm (inr (inr (inr h))) = inr (hinders b new h.1)
 on_on Blank mode b a new at calm cm (inl h) = let P : Medium → Type 0 = λ m. Opens m h.0 h.1 in absurd (subst P at h.2)
 on_on Blank mode b a new at calm cm (inr (inl h)) =
@@ -247,7 +247,7 @@ boot_more (Some n) mode s m b line new h = same b (off_with m b) new refl refl h
 on_more : (mode : BootMode) (b : Bench) (a : Answer) (new : Bench) → PowersOn mode b a new → Grows b new
 on_more mode b a new (inl h) = boot_more (boot_refusal h.0 mode) mode h.0 h.1 b a.line new h.4
 on_more mode b a new (inr (inl h)) = same b b new refl refl h.3
-on_more mode b a new (inr (inr (inl h))) = starve b new h.1
+on_more mode b a new (inr (inr (inl h))) = starve b new h.2
 on_more mode b a new (inr (inr (inr h))) = hinder b b new refl h.1
 
 command_more : (d : Option Change) (o : Option ℕ) (c : Change) (life : Life) (ok refuses : ℕ → Printed) (b : Bench) (a : Answer) (new : Bench) → Commands d o c life ok refuses b a new → Grows b new

@@ -65,9 +65,12 @@ module _ (size : Size) (b : Bench) (old new : SimDisk) (a : Answer) (e : Refusal
   keeps : e ≢ Device → DeviceIs size b (mishaps new) (facts new)
   keeps is = stays size b (mishaps old) (mishaps new) (facts old) (facts new) device (calm e (mishaps old) (mishaps new) cause (no_down (facts old) size e (facts new) refusal) is) no_fewer fits
 
+  large : sectors_of size ≤ length (facts old).content
+  large = omega (arith, device.2)
+
   pub formats_err : (m : Medium) → b.medium ≡ m → DiskIs size m (facts old) → (x : Bench) × FormatsOn m b a x × OffIs size x new
   formats_err Blank at was =
-      let x = hinders (off_with Unknown b) refl refl refl tt (on_blank old size e (facts new) was device.2 refusal) in (x.0, inr x.1, x.2)
+      let x = hinders (off_with Unknown b) refl refl refl tt (on_blank old size e (facts new) was large refusal) in (x.0, inr x.1, x.2)
   formats_err Unknown at was =
       let P : Medium → Type 0 = λ m. DiskIs size m (facts new) in
       elim (is_device e) [
@@ -78,7 +81,7 @@ module _ (size : Size) (b : Bench) (old new : SimDisk) (a : Answer) (e : Refusal
       let P : Medium → Type 0 = λ m. DiskIs size m (facts new) in
       let passes : Passes (facts old) (facts new) Stays = marked (kept_magic size old was.0) in
       let now : DiskIs size (Formatted k) (facts new) = left_on size (Formatted k) (facts old) (facts new) was (passed (facts old) (facts new) passes) in
-      elim (kept_format (facts old) (facts new) size e device.2 refusal) [
+      elim (kept_format (facts old) (facts new) size e large refusal) [
         | inl f ↦ (b, inl (refused a e AlreadyFormatted h f, refl), (off, subst P (sym at) now, keeps (λ d. (let no : ⊥ = cc in no))))
         | inr f ↦ (let x = hinders b refl refl off (subst P (sym at) now) f in (x.0, inr x.1, x.2))
       ]

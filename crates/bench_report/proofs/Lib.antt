@@ -9,6 +9,7 @@ pub mod Ended
 pub mod Written
 pub mod Told
 pub mod Determined
+pub mod Smooth
 pub mod Single
 pub mod Prefixed
 pub mod Wholes

@@ -15,12 +15,12 @@ use Rattle.bench_report.specs.declared.printed.Answer.{Answer}
 use Rattle.bench_report.specs.declared.printed.Printed.TheVariants as printed
 use Rattle.bench_report.specs.Below.{facts, mishaps}
 use Rattle.bench_report.specs.Bench.{Medium, Blank, Unknown, Formatted, Bench}
-use Rattle.bench_report.specs.Steps.{says, starved, failed, begun, Opens, PowersOn}
+use Rattle.bench_report.specs.Steps.{says, starved, failed, begun, MayStand, Opens, PowersOn}
 use Rattle.bench_report.specs.Agree.{DiskIs, DeviceIs, Follows, OffIs}
 use Rattle.bench_report.proofs.Devices.{is_device, is_memory, five, eleven, hindered, stays}
 use Rattle.bench_report.proofs.Adapted.{struck, calm, failed_open, never_down}
 use Rattle.bench_report.proofs.Marks.{reads, blank_magic}
-use Rattle.store.proofs.Bridges.{kept_open}
+use Rattle.store.proofs.Bridges.{kept_open, stands_marked}
 use Rattle.bench_report.proofs.Ended.{left_on}
 
 -- what an open finds is one of the states that the medium lets it find
@@ -34,13 +34,13 @@ opens size (Formatted k) disk z s was leaves formatted one =
     (Formatted (record { changes = found.0; doubt = None }), (found.0, found.1, found.2, refl), (refl, found.2, sym (one size was.0)))
 
 -- by what an open is refused on a disk that has sectors
-on_blank : (disk : SimDisk) (e : Refusal) (new : Facts) → IsBlank (facts disk) → 0 < length (facts disk).content → OpenRefused (facts disk) e new → (e ≡ NotFormatted) ⊎ (e ≡ Device) ⊎ (e ≡ Memory)
+on_blank : (disk : SimDisk) (e : Refusal) (new : Facts) → IsBlank (facts disk) → 0 < length (facts disk).content → OpenRefused (facts disk) e new → (e ≡ NotFormatted) ⊎ (e ≡ Device)
 on_blank disk NotFormatted new blank some h = inl refl
 on_blank disk BadShape new blank some (inl h) = absurd (omega (arith, some, h))
 on_blank disk BadShape new blank some (inr h) = absurd (blank_magic disk blank h.0)
 on_blank disk BadRecord new blank some h = absurd (blank_magic disk blank h.0)
-on_blank disk Device new blank some h = inr (inl refl)
-on_blank disk Memory new blank some h = inr (inr refl)
+on_blank disk Device new blank some h = inr refl
+on_blank disk Memory new blank some h = absurd (blank_magic disk blank (stands_marked (facts disk).content h.0 h.1 h.2))
 on_blank disk e new blank some h = absurd h
 
 -- an open that was refused, of a board that is off
@@ -58,25 +58,25 @@ module _ (size : Size) (mode : BootMode) (b : Bench) (old new : SimDisk) (a : An
   keeps : e ≢ Device → DeviceIs size b (mishaps new) (facts new)
   keeps is = stays size b (mishaps old) (mishaps new) (facts old) (facts new) device (calm e (mishaps old) (mishaps new) cause (never_down (facts old) e (facts new) refusal) is) no_fewer fits
 
-  starves : DiskIs size b.medium (facts new) → e ≡ Memory → (x : Bench) × PowersOn mode b a x × OffIs size x new
-  starves disk is = (starved b, inr (inr (inl (refused Memory is, refl))), (off, disk, keeps (λ d. (let no : ⊥ = cc in no))))
+  starves : MayStand b.medium → DiskIs size b.medium (facts new) → e ≡ Memory → (x : Bench) × PowersOn mode b a x × OffIs size x new
+  starves stands disk is = (starved b, inr (inr (inl (stands, refused Memory is, refl))), (off, disk, keeps (λ d. (let no : ⊥ = cc in no))))
 
   by_medium : (m : Medium) → b.medium ≡ m → DiskIs size m (facts old) → DiskIs size b.medium (facts new) → (x : Bench) × PowersOn mode b a x × OffIs size x new
   by_medium Blank at was disk =
       elim (on_blank old e (facts new) was (omega (arith, device.2)) refusal) [
         | inl f ↦ (b, inr (inl (1, rw at refl, refused NotFormatted f, refl)), (off, disk, keeps (λ d. (let no : ⊥ = cc in no))))
-        | inr g ↦ elim g [ inl f ↦ hinders disk f | inr f ↦ starves disk f ]
+        | inr f ↦ hinders disk f
       ]
   by_medium Unknown at was disk =
       elim (is_device e) [
         | inl f ↦ hinders disk f
         | inr f ↦ elim (is_memory e) [
-          | inl g ↦ starves disk g
+          | inl g ↦ starves (rw at tt) disk g
           | inr g ↦ (b, inr (inl (number_of e, rw at (λ n. f (five e n), λ n. g (eleven e n)), h, refl)), (off, disk, keeps f))
         ]
       ]
   by_medium (Formatted k) at was disk =
-      elim (kept_open (facts old) (facts new) size e was.0 (reads old) refusal) [ inl f ↦ hinders disk f | inr f ↦ starves disk f ]
+      elim (kept_open (facts old) (facts new) size e was.0 (reads old) refusal) [ inl f ↦ hinders disk f | inr f ↦ starves (rw at tt) disk f ]
 
   pub open_err : DiskIs size b.medium (facts old) → (x : Bench) × PowersOn mode b a x × OffIs size x new
   open_err was = by_medium b.medium refl was (left_on size b.medium (facts old) (facts new) was left)

@@ -232,7 +232,7 @@ powers mode b a new s d h off (inl p) = opens b.medium mode b a new s d p.0 p.1 
 powers mode b a new s d h off (inr (inl p)) = absurd (no_open b.medium s d p.0 h p.1)
 powers mode b a new s d h off (inr (inr (inl p))) =
     let P : Option Life → Type 0 = λ p. Holds b.medium p s d in
-    unopened (issued_by mode) mode a _ s d new (starved b) refl refl p.0 p.1 (subst P (sym off) h)
+    unopened (issued_by mode) mode a _ s d new (starved b) refl refl p.1 p.2 (subst P (sym off) h)
 powers mode b a new s d h off (inr (inr (inr p))) =
     let P : Option Life → Type 0 = λ p. Holds b.medium p s d in
     unopened (issued_by mode) mode a _ s d new (failed p.1.0 b) refl refl p.0 p.1.2 (subst P (sym off) h)
@@ -397,7 +397,7 @@ powers_no : {T : Type 0} (p : Option Life) (mode : BootMode) (b : Bench) (a : An
 powers_no (Some life) mode b a new h formats_ok = other a _ h.0 refl formats_ok
 powers_no None mode b a new (inl h) formats_ok = boots_no (boot_refusal h.0 mode) mode h.0 h.1 b a.line new h.4 formats_ok
 powers_no None mode b a new (inr (inl h)) formats_ok = other a _ h.2 refl formats_ok
-powers_no None mode b a new (inr (inr (inl h))) formats_ok = other a _ h.0 refl formats_ok
+powers_no None mode b a new (inr (inr (inl h))) formats_ok = other a _ h.1 refl formats_ok
 powers_no None mode b a new (inr (inr (inr h))) formats_ok = other a _ h.0 refl formats_ok
 
 commands_no : {T : Type 0} (d : Option Change) (o : Option ℕ) (c : Change) (life : Life) (b : Bench) (a : Answer) (new : Bench) → Commands d o c life (λ i. printed.Slot i) (λ i. printed.SlotRefused i) b a new → is_format_ok a.line ≡ true → T

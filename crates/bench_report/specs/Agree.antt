@@ -40,9 +40,9 @@ abbrev pub StoreIs : Size → Medium → Option Life → Store → Type 0
 StoreIs size medium None store = ⊥
 StoreIs size medium (Some life) store = Follows size medium life (store_size store) × IsAs store life.now life.receipts life.doubt
 
--- the device below has the bench's mishaps, counted each failure that was answered, and is large enough
+-- the device below has the bench's mishaps, counted each failure that was answered, and is of exactly the size needed
 abbrev pub DeviceIs : Size → Bench → Mishaps → Facts → Type 0
-DeviceIs size b m disk = (b.mishaps ≡ m) × (b.failures ≤ disk.failures) × (sectors_of size ≤ length disk.content)
+DeviceIs size b m disk = (b.mishaps ≡ m) × (b.failures ≤ disk.failures) × (length disk.content ≡ sectors_of size)
 
 abbrev pub OffIs : Size → Bench → SimDisk → Type 0
 OffIs size b disk = (b.power ≡ None) × DiskIs size b.medium (facts disk) × DeviceIs size b (mishaps disk) (facts disk)

@@ -1,5 +1,5 @@
 -- The one report of a script where memory was never refused and the disk never failed.
-use Rattle.std.specs.Prelude.{◌≡◌, ◌⊎◌, ℕ, ◌+◌, ◌==◌, List, [], ◌∷◌, Option, Some, None, Result, Ok, if◌then◌else◌}
+use Rattle.std.specs.Prelude.{◌≡◌, ◌≢◌, ◌⊎◌, ℕ, ◌+◌, ◌==◌, List, [], ◌∷◌, Option, Some, None, Result, Ok, if◌then◌else◌}
 use Rattle.board_model.specs.Durable.{State, Change, Slot, Discard, refusal_of}
 use Rattle.board_model.specs.Kept.{nothing_kept, found_of}
 use Rattle.board_model.specs.Shown.{durable_of}
@@ -105,6 +105,20 @@ AreAlike [] [] = Unit {0}
 AreAlike (a ∷ answers) (b ∷ plain) = IsAlike a b × AreAlike answers plain
 AreAlike [] (b ∷ plain) = ⊥
 AreAlike (a ∷ answers) [] = ⊥
+
+-- a line by which no memory was refused (11), no call of the disk failed (5, and 6 where it leaves a command in doubt) and no
+-- armed cut struck
+abbrev pub IsSmooth : Printed → Type 0
+IsSmooth (printed.FormatRefused n) = n ≢ 5
+IsSmooth (printed.OnRefused n) = (n ≢ 5) × (n ≢ 6) × (n ≢ 11)
+IsSmooth (printed.SlotRefused n) = (n ≢ 5) × (n ≢ 6)
+IsSmooth printed.PowerLost = ⊥
+IsSmooth line = Unit {0}
+
+-- so is each line
+abbrev pub AreSmooth : List Answer → Type 0
+AreSmooth [] = Unit {0}
+AreSmooth (a ∷ answers) = IsSmooth a.line × AreSmooth answers
 
 -- what is written for the bytes of a script, or why nothing runs
 abbrev pub plain_text : List ℕ → Result (List ℕ) Refusal

@@ -1,5 +1,5 @@
 -- What a line of a script may answer, and what the bench then is. Source: docs/SCRIPT.md.
-use Rattle.std.specs.Prelude.{◌≡◌, ◌≢◌, ℕ, ◌+◌, ◌<◌, ◌⊎◌, true, false, List, [], ◌∷◌, ◌++◌, Option, Some, None}
+use Rattle.std.specs.Prelude.{◌≡◌, ◌≢◌, ℕ, ◌+◌, ◌<◌, ◌⊎◌, ⊤, true, false, List, [], ◌∷◌, ◌++◌, Option, Some, None}
 use Rattle.board_model.specs.Durable.{State, Change, Slot, Discard, refusal_of, after}
 use Rattle.board_model.specs.Kept.{nothing_kept, MayKeep, found_of}
 use Rattle.board_model.specs.Shown.{durable_of}
@@ -113,12 +113,18 @@ IsOpenRefusal Blank n = n ≡ 1
 IsOpenRefusal Unknown n = (n ≢ 5) × (n ≢ 11)
 IsOpenRefusal (Formatted kept) n = ⊥
 
+-- an open may find a state, for which there may be no memory: never on a disk that was not formatted
+abbrev pub MayStand : Medium → Type 0
+MayStand Blank = ⊥
+MayStand Unknown = ⊤
+MayStand (Formatted kept) = ⊤
+
 -- power on, with the board off
 abbrev pub PowersOn : BootMode → Bench → Answer → Bench → Type 0
 PowersOn mode b answer new =
     ((s : State) × (medium : Medium) × Opens b.medium s medium × ShowsFound answer.found s × BootsAs (boot_refusal s mode) mode s medium b answer.line new)
     ⊎ ((n : ℕ) × IsOpenRefusal b.medium n × (answer ≡ says (printed.OnRefused n)) × (new ≡ b))
-    ⊎ ((answer ≡ says (printed.OnRefused 11)) × (new ≡ starved b))
+    ⊎ (MayStand b.medium × (answer ≡ says (printed.OnRefused 11)) × (new ≡ starved b))
     ⊎ ((answer ≡ says (printed.OnRefused 5)) × IsHindered b new)
 
 -- a command's place in the life or its refusal, as a line: with a command in doubt, and without

@@ -4,17 +4,20 @@ ghost use Rattle.std.specs.Prelude.{◌≡◌, List, Ok, Err, codes};
 ghost use Rattle.board_model.specs.declared.refusal.Refusal.TheVariants.{BadScript};
 ghost use Rattle.script_lang.specs.Scripts.{Script};
 ghost use Rattle.bench_report.specs.Bench.{Bench, IsUnspoilt};
-ghost use Rattle.bench_report.specs.Plain.{AreAlike, plain_report, plain_text};
+ghost use Rattle.bench_report.specs.Plain.{AreAlike, AreSmooth, plain_report, plain_text};
 ghost use Rattle.bench_report.specs.Prefix.{KeepsPrefixLaw};
 ghost use Rattle.bench_report.specs.Reports.{IsReport};
 ghost use Rattle.bench_report.specs.declared.printed.Answer.{Answer};
 
-/// Where no power-on was refused memory and no failure of the disk was answered, a script has one report. What its lines
-/// say, but for those that show memory or harts, is computed by the plain report.
+/// A script has one report of smooth lines: lines of which none says that memory was refused, that the disk failed or
+/// that power was lost. What they say, but for those that show memory or harts, is computed by the plain report. So any
+/// two runs of a script that wrote such reports wrote the same.
 pub fn one_report()
-    ensures one { (script : Script) (answers others : List Answer) (end last : Bench) → IsReport script answers end → IsReport script others last → IsUnspoilt end → IsUnspoilt last
+    // Where each line of a report is smooth, no power-on was refused memory, and no failure of the disk was answered.
+    ensures smooth { (script : Script) (answers : List Answer) (end : Bench) → IsReport script answers end → AreSmooth answers → IsUnspoilt end }
+    ensures one { (script : Script) (answers others : List Answer) (end last : Bench) → IsReport script answers end → IsReport script others last → AreSmooth answers → AreSmooth others
         → answers ≡ others }
-    ensures plain { (script : Script) (answers : List Answer) (end : Bench) → IsReport script answers end → IsUnspoilt end → AreAlike answers (plain_report script) }
+    ensures plain { (script : Script) (answers : List Answer) (end : Bench) → IsReport script answers end → AreSmooth answers → AreAlike answers (plain_report script) }
 {
     machine_lines::one_line();
 }

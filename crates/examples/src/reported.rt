@@ -22,7 +22,9 @@ pub enum Fault {
     Differs(usize),
 }
 
-/// Runs the script. `Ok` where it writes just this report, which is then one that the script may have.
+/// Runs the script. `Ok` where it writes just this report, which is then one that the script may have. By the law
+/// `bench_report::one_report` it is the only such one, where none of its lines says that memory was refused, that the disk
+/// failed or that power was lost.
 pub fn compare_report(alloc: Global, script: &[u8], report: &[u8]) -> Result<(), Fault>
     ensures { OnOk result ((said : Said) × (answers : List Answer) × (end : Bench) × (script_of script.now ≡ Ok said)
         × IsReport said answers end × (report.now ≡ report_text answers)) }
