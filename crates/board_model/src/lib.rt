@@ -9,8 +9,6 @@ mod limits;
 mod numbers;
 mod refusal;
 mod shape;
-#[cfg(test)]
-mod tests;
 
 pub use boot_mode::BootMode;
 pub use durable::{Command, Durable, ImageHead, Reason};

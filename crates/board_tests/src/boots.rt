@@ -1,10 +1,18 @@
 //! Boots and turns (docs/BOARD.md). Programs are words of the RISC-V Unprivileged ISA 20191213, chapter 24.
+ghost use Rattle.std.specs.Prelude.{◌≡◌, IfOk};
 
-use crate::fixtures::{formatted, hart, one_payload, powered, set, shown, slot, turns, with_image};
-use board::Payloads;
+use crate::fixtures::{
+    booted, discard, formatted, imaged, numbers, one_payload, powered, same, set, set_slot, shown,
+    slot, turn, turns,
+};
+use board::{Board, Payloads};
 use board_model::{BootMode, Command, RAM_BASE, Reason, Refusal, Shape};
+use disk::Disk;
 use machine::Turned;
-use ram::Width;
+use ram::{Ram, Width};
+use simdisk::SimDisk;
+use std::alloc::Global;
+use std::process::Abort;
 use std::test::Fail;
 use store::Store;
 
@@ -13,73 +21,86 @@ const ONE: [u8; 4] = [0x13, 0x05, 0x10, 0x00];
 // ADDI x10, x0, 2
 const TWO: [u8; 4] = [0x13, 0x05, 0x20, 0x00];
 
+// Slot 0 boots ONE, slot 1 TWO.
+fn two_payloads(alloc: Global) -> Result<Payloads, Fail> {
+    let mut payloads = one_payload(alloc, 0, &ONE)?;
+    set(alloc, &mut payloads, 1, &TWO)?;
+    Ok(payloads)
+}
+
+// The board boots a slot whose payload is one addition of that number.
+fn adds(rt: &impl Abort, board: &mut Board<SimDisk>, slot: u32, number: u64) {
+    same(rt, board.found().slot.number(), slot);
+    same(rt, board.now(), board.found());
+    same(rt, shown(board, 0), Some((0, 0, RAM_BASE)));
+    same(rt, turns(board, 0, 1), Some(Turned::Next));
+    same(rt, shown(board, 0), Some((number, 0, RAM_BASE + 4)));
+}
+
 #[test]
 fn boots_the_slot_that_stands(rt: HostRuntime) -> Result<(), Fail> {
-    let mut payloads = one_payload(rt.alloc(), 0, &ONE)?;
-    set(rt.alloc(), &mut payloads, 1, &TWO)?;
-    let disk = formatted(rt.alloc(), 1)?;
-    let mut board = powered(rt.alloc(), disk, BootMode::Fresh, &payloads)?;
-    assert_eq!(rt; shown(&rt, &board, 0)?, (0, 0, RAM_BASE));
-    assert!(rt; board.machine().has(hart(0)?));
-    assert_eq!(rt; turns(&rt, &mut board, 0, 1)?, Turned::Next);
-    assert_eq!(rt; shown(&rt, &board, 0)?, (1, 0, RAM_BASE + 4));
-    assert_eq!(rt; board.console(Command::Slot(1))?.number(), 1);
-    assert_eq!(rt; board.found().slot, slot(0)?);
-    assert_eq!(rt; board.now().slot, slot(1)?);
+    let payloads = two_payloads(rt.alloc())?;
+    let mut board = booted(rt.alloc(), 1, BootMode::Fresh, &payloads)?;
+    adds(&rt, &mut board, 0, 1);
+    same(&rt, set_slot(&mut board, 1), Ok(1));
+    same(&rt, board.found().slot.number(), 0);
+    same(&rt, board.now().slot.number(), 1);
     let mut board = powered(rt.alloc(), board.into_disk(), BootMode::Fresh, &payloads)?;
-    assert_eq!(rt; board.found().slot, slot(1)?);
-    assert_eq!(rt; board.now(), board.found());
-    assert_eq!(rt; turns(&rt, &mut board, 0, 1)?, Turned::Next);
-    assert_eq!(rt; shown(&rt, &board, 0)?, (2, 0, RAM_BASE + 4));
+    adds(&rt, &mut board, 1, 2);
     Ok(())
+}
+
+// A page of RAM that begins with ONE and is zero to its end.
+fn holds_one(rt: &impl Abort, ram: &Ram) {
+    same(rt, ram.bytes().len(), 4096);
+    same(rt, ram.load(RAM_BASE, Width::Double), Ok(0x0010_0513));
+    same(rt, ram.load(RAM_BASE + 4088, Width::Double), Ok(0));
 }
 
 #[test]
 fn a_boot_leaves_the_payload_and_zeros(rt: HostRuntime) -> Result<(), Fail> {
     let payloads = one_payload(rt.alloc(), 0, &ONE)?;
-    let disk = formatted(rt.alloc(), 2)?;
-    let board = powered(rt.alloc(), disk, BootMode::Keep, &payloads)?;
-    assert_eq!(rt; board.shape(), Shape::new(2, 1, 1)?);
-    assert_eq!(rt; board.ram().bytes().len(), 4096);
-    assert_eq!(rt; board.ram().load(RAM_BASE, Width::Double), Ok(0x0010_0513));
-    assert_eq!(rt; board.ram().load(RAM_BASE + 4088, Width::Double), Ok(0));
+    let board = booted(rt.alloc(), 2, BootMode::Keep, &payloads)?;
+    same(&rt, Ok(board.shape()), Shape::new(2, 1, 1));
+    holds_one(&rt, board.ram());
     let parts = board.into_parts();
-    assert_eq!(rt; parts.harts.len(), 2);
-    assert_eq!(rt; parts.ram.pages(), 1);
-    assert_eq!(rt; parts.store.found().slot, slot(0)?);
+    same(&rt, (parts.harts.len(), parts.ram.pages()), (2, 1));
+    same(&rt, parts.store.found().slot.number(), 0);
     Ok(())
+}
+
+// A formatted disk, of which a life ended by a system failure.
+fn failed(rt: &impl Abort, alloc: Global) -> Result<SimDisk, Fail>
+    ensures { IfOk result (λ disk. (⟦<SimDisk as Disk>⟧.facts disk).lent.lanes ≡ 0) }
+{
+    let Ok(mut store) = Store::open(alloc, formatted(alloc, 1)?) else {
+        return Err(Fail::new("the open failed"));
+    };
+    let receipt = store.apply(Command::Reset(Reason::SystemFailure))?;
+    same(rt, receipt.number(), 1);
+    Ok(store.into_disk())
 }
 
 // A1 is the reset reason, which a system failure makes 1.
 #[test]
 fn a1_is_the_reset_reason(rt: HostRuntime) -> Result<(), Fail> {
     let payloads = Payloads::new(rt.alloc());
-    let disk = formatted(rt.alloc(), 1)?;
-    let Ok(mut store) = Store::open(rt.alloc(), disk) else {
-        return Err(Fail::new("the open failed"));
-    };
-    assert_eq!(rt;
-        store.apply(Command::Reset(Reason::SystemFailure))?.number(),
-        1
-    );
-    let board = powered(rt.alloc(), store.into_disk(), BootMode::Fresh, &payloads)?;
-    assert_eq!(rt; board.found().reason, Reason::SystemFailure);
-    assert_eq!(rt; shown(&rt, &board, 0)?, (0, 1, RAM_BASE));
+    let disk = failed(&rt, rt.alloc())?;
+    let board = powered(rt.alloc(), disk, BootMode::Fresh, &payloads)?;
+    same(&rt, board.found().reason, Reason::SystemFailure);
+    same(&rt, shown(&board, 0), Some((0, 1, RAM_BASE)));
     Ok(())
 }
 
 #[test]
 fn a_stopped_hart_is_idle(rt: HostRuntime) -> Result<(), Fail> {
     let payloads = one_payload(rt.alloc(), 0, &ONE)?;
-    let disk = formatted(rt.alloc(), 2)?;
-    let mut board = powered(rt.alloc(), disk, BootMode::Fresh, &payloads)?;
-    let second = hart(1)?;
-    assert!(rt; board.machine().has(second));
-    assert_eq!(rt; board.turn(second), Turned::Idle);
-    assert_eq!(rt; turns(&rt, &mut board, 1, 5)?, Turned::Idle);
-    assert_eq!(rt; shown(&rt, &board, 1)?, (0, 0, 0));
-    assert_eq!(rt; shown(&rt, &board, 0)?, (0, 0, RAM_BASE));
-    assert!(rt; !board.machine().has(hart(2)?));
+    let mut board = booted(rt.alloc(), 2, BootMode::Fresh, &payloads)?;
+    same(&rt, turn(&mut board, 1), Some(Turned::Idle));
+    same(&rt, turns(&mut board, 1, 5), Some(Turned::Idle));
+    same(&rt, shown(&board, 1), Some((0, 0, 0)));
+    same(&rt, shown(&board, 0), Some((0, 0, RAM_BASE)));
+    same(&rt, shown(&board, 2), None);
     Ok(())
 }
 
@@ -88,53 +109,62 @@ fn a_stopped_hart_is_idle(rt: HostRuntime) -> Result<(), Fail> {
 fn turns_are_made_one_after_another(rt: HostRuntime) -> Result<(), Fail> {
     let program = [0x13, 0x05, 0x15, 0x00, 0x6f, 0xf0, 0xdf, 0xff];
     let payloads = one_payload(rt.alloc(), 0, &program)?;
-    let disk = formatted(rt.alloc(), 1)?;
-    let mut board = powered(rt.alloc(), disk, BootMode::Fresh, &payloads)?;
-    assert_eq!(rt; turns(&rt, &mut board, 0, 5)?, Turned::Next);
-    assert_eq!(rt; shown(&rt, &board, 0)?, (3, 0, RAM_BASE + 4));
+    let mut board = booted(rt.alloc(), 1, BootMode::Fresh, &payloads)?;
+    same(&rt, turns(&mut board, 0, 5), Some(Turned::Next));
+    same(&rt, shown(&board, 0), Some((3, 0, RAM_BASE + 4)));
     Ok(())
+}
+
+// What the console does to the board of an image.
+fn sets_and_discards(rt: &impl Abort, board: &mut Board<SimDisk>) {
+    let standing = Some((4, 7));
+    let reason = Reason::SystemFailure;
+    same(rt, numbers(board.found()), (standing, 3, reason, 5));
+    same(rt, set_slot(board, 4), Err(Refusal::BadSlot));
+    same(rt, set_slot(board, 2), Ok(1));
+    same(rt, board.now().image, board.found().image);
+    same(rt, discard(board), Ok(2));
+    same(rt, numbers(board.now()), (None, 2, reason, 5));
+    same(rt, discard(board), Err(Refusal::NoImage));
 }
 
 #[test]
 fn the_console_sets_slots_and_drops_images(rt: HostRuntime) -> Result<(), Fail> {
     let payloads = Payloads::new(rt.alloc());
-    let disk = with_image(&rt, rt.alloc())?;
-    let mut board = powered(rt.alloc(), disk, BootMode::Keep, &payloads)?;
-    assert_eq!(rt; shown(&rt, &board, 0)?, (0, 1, RAM_BASE));
-    let image = board.found().image.ok_or("no image")?;
-    assert_eq!(rt; (image.serial, image.opaque), (4, 7));
-    assert_eq!(rt; board.console(Command::Slot(4)), Err(Refusal::BadSlot));
-    assert_eq!(rt; board.console(Command::Slot(2))?.number(), 1);
-    assert_eq!(rt; board.now().image, Some(image));
-    assert_eq!(rt; board.console(Command::Discard)?.number(), 2);
-    assert_eq!(rt; board.now().image, None);
-    assert_eq!(rt; board.console(Command::Discard), Err(Refusal::NoImage));
+    let mut board = imaged(rt.alloc(), BootMode::Keep, &payloads)?;
+    same(&rt, shown(&board, 0), Some((0, 1, RAM_BASE)));
+    sets_and_discards(&rt, &mut board);
     Ok(())
 }
 
 #[test]
 fn discard_drops_the_image_and_boots_the_slot(rt: HostRuntime) -> Result<(), Fail> {
     let payloads = one_payload(rt.alloc(), 3, &TWO)?;
-    let disk = with_image(&rt, rt.alloc())?;
-    let mut board = powered(rt.alloc(), disk, BootMode::Discard, &payloads)?;
-    assert!(rt; board.found().image.is_some());
-    assert_eq!(rt; board.now().image, None);
-    assert_eq!(rt; board.now().next, 5);
-    assert_eq!(rt; turns(&rt, &mut board, 0, 1)?, Turned::Next);
-    assert_eq!(rt; shown(&rt, &board, 0)?, (2, 1, RAM_BASE + 4));
-    assert_eq!(rt; board.console(Command::Slot(0))?.number(), 2);
+    let mut board = imaged(rt.alloc(), BootMode::Discard, &payloads)?;
+    let reason = Reason::SystemFailure;
+    same(&rt, numbers(board.found()), (Some((4, 7)), 3, reason, 5));
+    same(&rt, numbers(board.now()), (None, 3, reason, 5));
+    same(&rt, turns(&mut board, 0, 1), Some(Turned::Next));
+    same(&rt, shown(&board, 0), Some((2, 1, RAM_BASE + 4)));
+    same(&rt, set_slot(&mut board, 0), Ok(2));
+    Ok(())
+}
+
+// What a slot boots.
+fn boots(rt: &impl Abort, payloads: &Payloads, number: u32, bytes: &[u8]) -> Result<(), Fail> {
+    assert_eq!(rt; payloads.get(slot(number)?), bytes, "slot {number}");
     Ok(())
 }
 
 #[test]
 fn payloads_are_kept_by_slot(rt: HostRuntime) -> Result<(), Fail> {
     let mut payloads = Payloads::new(rt.alloc());
-    assert_eq!(rt; payloads.get(slot(3)?).len(), 0);
+    boots(&rt, &payloads, 3, &[])?;
     set(rt.alloc(), &mut payloads, 3, &ONE)?;
     set(rt.alloc(), &mut payloads, 0, &TWO)?;
-    assert_eq!(rt; payloads.get(slot(3)?), ONE.as_slice());
-    assert_eq!(rt; payloads.get(slot(0)?), TWO.as_slice());
-    assert_eq!(rt; payloads.get(slot(1)?).len(), 0);
-    assert!(rt; payloads.fit(&Shape::new(1, 1, 1)?));
+    boots(&rt, &payloads, 3, &ONE)?;
+    boots(&rt, &payloads, 0, &TWO)?;
+    boots(&rt, &payloads, 1, &[])?;
+    same(&rt, payloads.fit(&Shape::new(1, 1, 1)?), true);
     Ok(())
 }

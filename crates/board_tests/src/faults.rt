@@ -1,17 +1,20 @@
 //! Faults that are armed on a board's disk (docs/STORE.md, "A commit"). An open makes 4 calls of the disk, a commit 4: the
 //! record, a sync, the gate, a sync.
 
-use crate::fixtures::{formatted, powered, unpowered, with_image};
+use crate::fixtures::{booted, powered, same, set_slot, unpowered, with_image};
 use board::{Board, Payloads};
-use board_model::{BootMode, Command, Refusal};
+use board_model::{BootMode, Refusal};
 use disk::{ArmedFault, Disk};
 use simdisk::{Choice, SimDisk};
 use std::alloc::Global;
+use std::process::Abort;
 use std::test::Fail;
 
-fn fresh(alloc: Global) -> Result<Board<SimDisk>, Fail> {
-    let disk = formatted(alloc, 1)?;
-    Ok(powered(alloc, disk, BootMode::Fresh, &Payloads::new(alloc))?)
+// A board on a disk that was just formatted, with this fault armed.
+fn armed(alloc: Global, fault: ArmedFault) -> Result<Board<SimDisk>, Fail> {
+    let mut board = booted(alloc, 1, BootMode::Fresh, &Payloads::new(alloc))?;
+    board.arm(fault);
+    Ok(board)
 }
 
 // The slot that the next boot finds after a cut.
@@ -24,12 +27,11 @@ fn slot_after_cut(alloc: Global, board: Board<SimDisk>, choice: Choice) -> Resul
 #[test]
 fn a_cut_within_the_record_leaves_the_old_slot(rt: HostRuntime) -> Result<(), Fail> {
     for choice in [Choice::Byte(0), Choice::Byte(255), Choice::Old, Choice::New] {
-        let mut board = fresh(rt.alloc())?;
-        board.arm(ArmedFault::CutAt(1));
-        assert!(rt; !board.struck());
-        assert_eq!(rt; board.console(Command::Slot(1)), Err(Refusal::Device));
-        assert!(rt; board.struck());
-        assert_eq!(rt; slot_after_cut(rt.alloc(), board, choice)?, 0);
+        let mut board = armed(rt.alloc(), ArmedFault::CutAt(1))?;
+        same(&rt, board.struck(), false);
+        same(&rt, set_slot(&mut board, 1), Err(Refusal::Device));
+        same(&rt, board.struck(), true);
+        same(&rt, slot_after_cut(rt.alloc(), board, choice), Ok(0));
     }
     Ok(())
 }
@@ -37,15 +39,12 @@ fn a_cut_within_the_record_leaves_the_old_slot(rt: HostRuntime) -> Result<(), Fa
 #[test]
 fn a_cut_within_the_gate_leaves_either_slot(rt: HostRuntime) -> Result<(), Fail> {
     for (fill, slot) in [(0, 0), (1, 1)] {
-        let mut board = fresh(rt.alloc())?;
-        board.arm(ArmedFault::CutAt(3));
-        assert_eq!(rt; board.console(Command::Slot(1)), Err(Refusal::Down));
-        assert!(rt; board.struck());
-        assert_eq!(rt; board.now().slot.number(), 0);
-        assert_eq!(rt;
-            slot_after_cut(rt.alloc(), board, Choice::Byte(fill))?,
-            slot
-        );
+        let mut board = armed(rt.alloc(), ArmedFault::CutAt(3))?;
+        same(&rt, set_slot(&mut board, 1), Err(Refusal::Down));
+        same(&rt, board.struck(), true);
+        same(&rt, board.now().slot.number(), 0);
+        let found = slot_after_cut(rt.alloc(), board, Choice::Byte(fill));
+        same(&rt, found, Ok(slot));
     }
     Ok(())
 }
@@ -53,29 +52,47 @@ fn a_cut_within_the_gate_leaves_either_slot(rt: HostRuntime) -> Result<(), Fail>
 #[test]
 fn a_fault_at_the_gate_stays_for_the_life(rt: HostRuntime) -> Result<(), Fail> {
     for (fill, slot) in [(0, 0), (1, 1)] {
-        let mut board = fresh(rt.alloc())?;
-        board.arm(ArmedFault::FailAt(4));
-        assert_eq!(rt; board.console(Command::Slot(1)), Err(Refusal::Down));
-        assert_eq!(rt; board.console(Command::Slot(2)), Err(Refusal::Down));
-        assert!(rt; !board.struck());
-        assert_eq!(rt;
-            slot_after_cut(rt.alloc(), board, Choice::Byte(fill))?,
-            slot
-        );
+        let mut board = armed(rt.alloc(), ArmedFault::FailAt(4))?;
+        same(&rt, set_slot(&mut board, 1), Err(Refusal::Down));
+        same(&rt, set_slot(&mut board, 2), Err(Refusal::Down));
+        same(&rt, board.struck(), false);
+        let found = slot_after_cut(rt.alloc(), board, Choice::Byte(fill));
+        same(&rt, found, Ok(slot));
     }
     Ok(())
 }
 
 #[test]
 fn a_fault_before_the_gate_is_forgotten(rt: HostRuntime) -> Result<(), Fail> {
-    let mut board = fresh(rt.alloc())?;
-    board.arm(ArmedFault::CutAt(1));
+    let mut board = armed(rt.alloc(), ArmedFault::CutAt(1))?;
     board.arm(ArmedFault::FailAt(1));
-    assert_eq!(rt; board.console(Command::Slot(1)), Err(Refusal::Device));
-    assert!(rt; !board.struck());
-    assert_eq!(rt; board.console(Command::Slot(2))?.number(), 1);
-    assert_eq!(rt; slot_after_cut(rt.alloc(), board, Choice::Byte(0))?, 2);
+    same(&rt, set_slot(&mut board, 1), Err(Refusal::Device));
+    same(&rt, board.struck(), false);
+    same(&rt, set_slot(&mut board, 2), Ok(1));
+    same(
+        &rt,
+        slot_after_cut(rt.alloc(), board, Choice::Byte(0)),
+        Ok(2),
+    );
     Ok(())
+}
+
+// A disk with an image, whose discard at the boot was refused so, since that call of it failed.
+fn undiscarded(rt: &impl Abort, alloc: Global, call: u64, want: Refusal) -> Result<SimDisk, Fail> {
+    let mut disk = with_image(alloc)?;
+    disk.fail_at(call);
+    let left = unpowered(alloc, disk, BootMode::Discard, &Payloads::new(alloc))?;
+    same(rt, left.refusal, want);
+    same(rt, left.now, left.found);
+    same(rt, left.disk.failures(), 1);
+    Ok(left.disk)
+}
+
+// Whether the next boot finds an image after a cut.
+fn image_after_cut(alloc: Global, disk: SimDisk, fill: u8) -> Result<bool, Refusal> {
+    let disk = disk.after_cut(Choice::Byte(fill));
+    let board = powered(alloc, disk, BootMode::Keep, &Payloads::new(alloc))?;
+    Ok(board.found().image.is_some())
 }
 
 // Discard writes the record that the gate of the standing image, 1, does not select: gate 0 has no image.
@@ -87,20 +104,8 @@ fn a_discard_that_fails_refuses_the_boot(rt: HostRuntime) -> Result<(), Fail> {
         (7, Refusal::Down, 0, false),
         (8, Refusal::Down, 1, true),
     ] {
-        let mut disk = with_image(&rt, rt.alloc())?;
-        disk.fail_at(call);
-        let left = unpowered(
-            rt.alloc(),
-            disk,
-            BootMode::Discard,
-            &Payloads::new(rt.alloc()),
-        )?;
-        assert_eq!(rt; left.refusal, want);
-        assert_eq!(rt; left.now, left.found);
-        assert_eq!(rt; left.disk.failures(), 1);
-        let disk = left.disk.after_cut(Choice::Byte(fill));
-        let board = powered(rt.alloc(), disk, BootMode::Keep, &Payloads::new(rt.alloc()))?;
-        assert_eq!(rt; board.found().image.is_some(), stands);
+        let disk = undiscarded(&rt, rt.alloc(), call, want)?;
+        same(&rt, image_after_cut(rt.alloc(), disk, fill), Ok(stands));
     }
     Ok(())
 }

@@ -1,14 +1,17 @@
 //! The disks, the payloads and the boards that the tests begin with.
-ghost use Rattle.std.specs.Prelude.{◌≡◌, ◌<◌, IfOk};
+ghost use Rattle.std.specs.Prelude.{◌≡◌, IfOk};
 
 use board::{Board, Payloads, Unpowered};
-use board_model::{Addr, BootMode, HartId, ImageHead, RAM_BASE, Reason, Refusal, Shape, Slot};
+use board_model::{
+    Addr, BootMode, Command, Durable, HartId, ImageHead, RAM_BASE, Reason, Refusal, Shape, Slot,
+};
 use disk::Disk;
 use layout::{Record, Saved, Side, gate_bytes, record_bytes, superblock_bytes};
 use machine::Turned;
 use rv_decode::Reg;
 use simdisk::SimDisk;
 use std::alloc::Global;
+use std::fmt::Debug;
 use std::process::Abort;
 use std::test::Fail;
 use store::format;
@@ -22,38 +25,53 @@ pub fn formatted(alloc: Global, harts: u64) -> Result<SimDisk, Fail>
     Ok(disk)
 }
 
-/// A disk of a board of one hart with an image, written by hand: the record of slot 3 is selected, in sector 3, and its
-/// image has serial 4.
-pub fn with_image(rt: &impl Abort, alloc: Global) -> Result<SimDisk, Fail>
+/// A disk of 26 sectors, of which these come first, and zeros.
+fn disk_of(alloc: Global, first: &[[u8; 512]]) -> Result<SimDisk, Fail>
     ensures { IfOk result (λ disk. (⟦<SimDisk as Disk>⟧.facts disk).lent.lanes ≡ 0) }
 {
-    let head = ImageHead {
-        serial: 4,
-        hart: hart(0)?,
-        address: Addr::new(RAM_BASE).ok_or("address")?,
-        opaque: 7,
-    };
-    let saved = Saved {
-        head,
-        area: Side::first(),
-        counts: [1, 0, 0, 0],
-    };
-    let record = Record {
-        slot: slot(3)?,
-        reason: Reason::SystemFailure,
-        next: 5,
-        image: Some(saved),
-    };
-    let mut bytes = vec![in alloc; 0; 26 * 512]?;
-    assert!(rt; bytes.len() == 26 * 512);
-    bytes[..512].copy_from_slice(&superblock_bytes(&Shape::new(1, 1, 1)?));
-    bytes[512..1024].copy_from_slice(&gate_bytes(Side::first().other()));
-    bytes[1536..2048].copy_from_slice(&record_bytes(&record));
+    let mut bytes = Vec::new(alloc);
+    for sector in first {
+        bytes.extend_from_slice(sector)?;
+    }
+    bytes.resize(26 * 512, 0)?;
     Ok(SimDisk::new(alloc, &bytes)?)
 }
 
-pub fn hart(number: u64) -> Result<HartId, Fail> {
-    Ok(HartId::new(number).ok_or("no such hart")?)
+// What stands of the image of serial 4.
+fn image() -> Option<Saved> {
+    let head = ImageHead {
+        serial: 4,
+        hart: HartId::new(0)?,
+        address: Addr::new(RAM_BASE)?,
+        opaque: 7,
+    };
+    Some(Saved {
+        head,
+        area: Side::first(),
+        counts: [1, 0, 0, 0],
+    })
+}
+
+// The sector of a record with that image, of slot 3.
+fn record_with_image() -> Option<[u8; 512]> {
+    let record = Record {
+        slot: Slot::new(3)?,
+        reason: Reason::SystemFailure,
+        next: 5,
+        image: Some(image()?),
+    };
+    Some(record_bytes(&record))
+}
+
+/// A disk of a board of one hart with an image, written by hand: the record of slot 3 is selected, in sector 3, and its
+/// image has serial 4.
+pub fn with_image(alloc: Global) -> Result<SimDisk, Fail>
+    ensures { IfOk result (λ disk. (⟦<SimDisk as Disk>⟧.facts disk).lent.lanes ≡ 0) }
+{
+    let superblock = superblock_bytes(&Shape::new(1, 1, 1)?);
+    let gate = gate_bytes(Side::first().other());
+    let record = record_with_image().ok_or("record")?;
+    disk_of(alloc, &[superblock, gate, [0; 512], record])
 }
 
 pub fn slot(number: u32) -> Result<Slot, Fail> {
@@ -105,27 +123,69 @@ pub fn unpowered(
     }
 }
 
-/// So many turns of a hart.
-pub fn turns(
-    rt: &impl Abort,
-    board: &mut Board<SimDisk>,
-    number: u64,
-    count: u32,
-) -> Result<Turned, Fail> {
-    let id = hart(number)?;
-    assert!(rt; 1 <= count);
-    assert!(rt; board.machine().has(id));
-    Ok(board.turns(id, count))
+/// A board of so many harts, whose disk was just formatted.
+pub fn booted(
+    alloc: Global,
+    harts: u64,
+    mode: BootMode,
+    payloads: &Payloads,
+) -> Result<Board<SimDisk>, Fail> {
+    Ok(powered(alloc, formatted(alloc, harts)?, mode, payloads)?)
 }
 
-/// What a0, a1 and the pc of a hart hold.
-pub fn shown(
-    rt: &impl Abort,
-    board: &Board<SimDisk>,
-    number: u64,
-) -> Result<(u64, u64, u64), Fail> {
-    let id = hart(number)?;
-    assert!(rt; board.machine().has(id));
-    let state = board.hart(id);
-    Ok((state.reg(Reg::new(10)), state.reg(Reg::new(11)), state.pc()))
+/// A board whose disk has an image.
+pub fn imaged(alloc: Global, mode: BootMode, payloads: &Payloads) -> Result<Board<SimDisk>, Fail> {
+    Ok(powered(alloc, with_image(alloc)?, mode, payloads)?)
+}
+
+/// The number of the receipt for a slot.
+pub fn set_slot(board: &mut Board<SimDisk>, slot: u32) -> Result<u32, Refusal> {
+    Ok(board.console(Command::Slot(slot))?.number())
+}
+
+/// The number of the receipt for a discarded image.
+pub fn discard(board: &mut Board<SimDisk>) -> Result<u32, Refusal> {
+    Ok(board.console(Command::Discard)?.number())
+}
+
+/// So many turns of a hart that the board has.
+pub fn turns(board: &mut Board<SimDisk>, number: u64, count: u32) -> Option<Turned> {
+    let id = HartId::new(number)?;
+    if board.machine().has(id) && 1 <= count {
+        Some(board.turns(id, count))
+    } else {
+        None
+    }
+}
+
+/// One turn of a hart that the board has.
+pub fn turn(board: &mut Board<SimDisk>, number: u64) -> Option<Turned> {
+    let id = HartId::new(number)?;
+    if board.machine().has(id) {
+        Some(board.turn(id))
+    } else {
+        None
+    }
+}
+
+/// What a0, a1 and the pc of a hart hold that the board has.
+pub fn shown(board: &Board<SimDisk>, number: u64) -> Option<(u64, u64, u64)> {
+    let id = HartId::new(number)?;
+    if board.machine().has(id) {
+        let state = board.hart(id);
+        Some((state.reg(Reg::new(10)), state.reg(Reg::new(11)), state.pc()))
+    } else {
+        None
+    }
+}
+
+/// These two have to be equal.
+pub fn same<T: PartialEq + Debug + Drop>(rt: &impl Abort, found: T, wanted: T) {
+    assert_eq!(rt; found, wanted);
+}
+
+/// What stands: the image's serial and opaque value, the slot, the reason and the next serial.
+pub fn numbers(state: Durable) -> (Option<(u64, u64)>, u32, Reason, u64) {
+    let image = state.image.map(|head| (head.serial, head.opaque));
+    (image, state.slot.number(), state.reason, state.next)
 }

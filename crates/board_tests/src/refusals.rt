@@ -1,7 +1,7 @@
 //! Refused power-ons, in the order of docs/BOARD.md: the open, the mode, the payloads, and then what the mode does.
 ghost use Rattle.std.specs.Prelude.{◌≡◌};
 
-use crate::fixtures::{formatted, one_payload, powered, unpowered, with_image};
+use crate::fixtures::{formatted, one_payload, powered, same, unpowered, with_image};
 use board::Payloads;
 use board_model::{BootMode, Refusal};
 use disk::Disk;
@@ -26,12 +26,31 @@ fn refusal(
     requires { (⟦<SimDisk as Disk>⟧.facts disk).lent.lanes ≡ 0 }
 {
     let left = unpowered(alloc, disk, mode, payloads)?;
-    let refusal = left.refusal;
-    let found = left.found.ok_or("the open failed")?;
-    assert_eq!(rt; left.now, Some(found));
+    same(rt, left.found.is_some(), true);
+    same(rt, left.now, left.found);
     let board = powered(alloc, left.disk, BootMode::Keep, &Payloads::new(alloc))?;
-    assert_eq!(rt; board.found(), found);
-    Ok(refusal)
+    same(rt, Some(board.found()), left.found);
+    Ok(left.refusal)
+}
+
+// What a power-on over a formatted disk is refused.
+fn without_image(
+    rt: &impl Abort,
+    alloc: Global,
+    mode: BootMode,
+    payloads: &Payloads,
+) -> Result<Refusal, Fail> {
+    refusal(rt, alloc, formatted(alloc, 1)?, mode, payloads)
+}
+
+// What a power-on over a disk with an image is refused.
+fn over_image(
+    rt: &impl Abort,
+    alloc: Global,
+    mode: BootMode,
+    payloads: &Payloads,
+) -> Result<Refusal, Fail> {
+    refusal(rt, alloc, with_image(alloc)?, mode, payloads)
 }
 
 #[test]
@@ -43,8 +62,8 @@ fn no_image_comes_before_the_payloads(rt: HostRuntime) -> Result<(), Fail> {
         (BootMode::Discard, Refusal::NoImage),
         (BootMode::Resume, Refusal::NoImage),
     ] {
-        let disk = formatted(rt.alloc(), 1)?;
-        assert_eq!(rt; refusal(&rt, rt.alloc(), disk, mode, &payloads)?, want);
+        let refusal = without_image(&rt, rt.alloc(), mode, &payloads)?;
+        same(&rt, refusal, want);
     }
     Ok(())
 }
@@ -58,8 +77,8 @@ fn an_image_comes_before_the_payloads(rt: HostRuntime) -> Result<(), Fail> {
         (BootMode::Discard, Refusal::BadShape),
         (BootMode::Resume, Refusal::BadShape),
     ] {
-        let disk = with_image(&rt, rt.alloc())?;
-        assert_eq!(rt; refusal(&rt, rt.alloc(), disk, mode, &payloads)?, want);
+        let refusal = over_image(&rt, rt.alloc(), mode, &payloads)?;
+        same(&rt, refusal, want);
     }
     Ok(())
 }
@@ -68,17 +87,11 @@ fn an_image_comes_before_the_payloads(rt: HostRuntime) -> Result<(), Fail> {
 fn modes_that_the_state_refuses(rt: HostRuntime) -> Result<(), Fail> {
     let payloads = one_payload(rt.alloc(), 0, &[0; 4096])?;
     for mode in [BootMode::Discard, BootMode::Resume] {
-        let disk = formatted(rt.alloc(), 1)?;
-        assert_eq!(rt;
-            refusal(&rt, rt.alloc(), disk, mode, &payloads)?,
-            Refusal::NoImage
-        );
+        let refusal = without_image(&rt, rt.alloc(), mode, &payloads)?;
+        same(&rt, refusal, Refusal::NoImage);
     }
-    let disk = with_image(&rt, rt.alloc())?;
-    assert_eq!(rt;
-        refusal(&rt, rt.alloc(), disk, BootMode::Fresh, &payloads)?,
-        Refusal::ImageThere
-    );
+    let refusal = over_image(&rt, rt.alloc(), BootMode::Fresh, &payloads)?;
+    same(&rt, refusal, Refusal::ImageThere);
     Ok(())
 }
 
@@ -86,24 +99,24 @@ fn modes_that_the_state_refuses(rt: HostRuntime) -> Result<(), Fail> {
 #[test]
 fn an_image_is_not_resumed_yet(rt: HostRuntime) -> Result<(), Fail> {
     let payloads = Payloads::new(rt.alloc());
-    let disk = with_image(&rt, rt.alloc())?;
-    assert_eq!(rt;
-        refusal(&rt, rt.alloc(), disk, BootMode::Resume, &payloads)?,
-        Refusal::BadImage
-    );
+    let refusal = over_image(&rt, rt.alloc(), BootMode::Resume, &payloads)?;
+    same(&rt, refusal, Refusal::BadImage);
+    Ok(())
+}
+
+// An open of so many sectors of zeros is refused so, and nothing was found.
+fn open_refused(rt: &impl Abort, alloc: Global, sectors: usize, want: Refusal) -> Result<(), Fail> {
+    let payloads = too_long(alloc)?;
+    let disk = SimDisk::blank(alloc, sectors)?;
+    let left = unpowered(alloc, disk, BootMode::Resume, &payloads)?;
+    same(rt, left.refusal, want);
+    same(rt, (left.found, left.now), (None, None));
+    same(rt, left.disk.sectors(), sectors);
     Ok(())
 }
 
 #[test]
 fn the_open_is_refused_first(rt: HostRuntime) -> Result<(), Fail> {
-    let payloads = too_long(rt.alloc())?;
-    for (sectors, want) in [(26, Refusal::NotFormatted), (0, Refusal::BadShape)] {
-        let disk = SimDisk::blank(rt.alloc(), sectors)?;
-        let left = unpowered(rt.alloc(), disk, BootMode::Resume, &payloads)?;
-        assert_eq!(rt; left.refusal, want);
-        assert_eq!(rt; left.found, None);
-        assert_eq!(rt; left.now, None);
-        assert_eq!(rt; left.disk.sectors(), sectors);
-    }
-    Ok(())
+    open_refused(&rt, rt.alloc(), 26, Refusal::NotFormatted)?;
+    open_refused(&rt, rt.alloc(), 0, Refusal::BadShape)
 }

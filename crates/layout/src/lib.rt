@@ -11,8 +11,6 @@ mod records;
 mod side;
 mod sizes;
 mod superblocks;
-#[cfg(test)]
-mod tests;
 
 pub use laws::{one_place_head, one_record, one_superblock};
 pub use places::{PlaceHead, parse_place_head, place_head_bytes};

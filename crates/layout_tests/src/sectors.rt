@@ -1,39 +1,64 @@
 //! Sectors byte by byte, as docs/STORE.md has them.
-ghost use Rattle.std.specs.Prelude.{◌<◌};
 
-use super::*;
 use board_model::{Addr, HartId, ImageHead, PageNo, Reason, Refusal, Shape, Slot};
+use layout::{
+    PlaceHead, Record, Saved, Side, area_start, gate_bytes, lane_start, parse_place_head,
+    parse_record, parse_superblock, place_head_bytes, place_start, record_bytes, selected,
+    superblock_bytes,
+};
+use std::fmt::Debug;
+use std::process::Abort;
 use std::test::Fail;
+
+// These two have to be equal.
+fn same<T: PartialEq + Debug + Drop>(rt: &impl Abort, found: T, wanted: T) {
+    assert_eq!(rt; found, wanted);
+}
+
+// The bytes of a sector from that place on.
+fn holds(rt: &impl Abort, sector: &[u8; 512], from: usize, bytes: &[u8]) {
+    assert!(rt; from <= 512 && bytes.len() <= 512 - from);
+    assert_eq!(rt; &sector[from..from + bytes.len()], bytes);
+}
+
+// Zeros from that place of a sector to its end.
+fn ends(rt: &impl Abort, sector: &[u8; 512], from: usize) {
+    assert!(rt; from <= 512);
+    assert!(rt; sector[from..].iter().all(|byte| *byte == 0));
+}
+
+// The sector with another byte at that place.
+fn with_byte(sector: [u8; 512], place: usize, byte: u8) -> [u8; 512] {
+    let mut other = sector;
+    other[place % 512] = byte;
+    other
+}
 
 #[test]
 fn a_superblock_byte_by_byte(rt: HostRuntime) -> Result<(), Fail> {
     let shape = Shape::new(2, 5, 4)?;
     let sector = superblock_bytes(&shape);
-    assert_eq!(rt; &sector[..8], b"SBIDISK1".as_slice());
-    assert_eq!(rt;
-        &sector[8..20],
-        [2, 0, 0, 0, 5, 0, 0, 0, 4, 0, 0, 0].as_slice()
-    );
-    assert!(rt; sector[20..].iter().all(|byte| *byte == 0));
-    assert_eq!(rt; shape.sectors(), 152);
-    assert_eq!(rt; parse_superblock(&sector, 152), Ok(shape));
-    assert_eq!(rt; parse_superblock(&sector, 151), Err(Refusal::BadShape));
+    holds(&rt, &sector, 0, b"SBIDISK1");
+    holds(&rt, &sector, 8, &[2, 0, 0, 0, 5, 0, 0, 0, 4, 0, 0, 0]);
+    ends(&rt, &sector, 20);
+    same(&rt, shape.sectors(), 152);
+    same(&rt, parse_superblock(&sector, 152), Ok(shape));
+    let refused = parse_superblock(&sector, 151);
+    same(&rt, refused, Err(Refusal::BadShape));
     Ok(())
 }
 
 #[test]
 fn other_superblocks_are_refused(rt: HostRuntime) -> Result<(), Fail> {
-    assert_eq!(rt; parse_superblock(&[0; 512], 26), Err(Refusal::NotFormatted));
     let good = superblock_bytes(&Shape::new(1, 1, 1)?);
-    let mut nine_harts = good;
-    nine_harts[8] = 9;
-    assert_eq!(rt; parse_superblock(&nine_harts, 26), Err(Refusal::BadShape));
-    let mut rest = good;
-    rest[511] = 1;
-    assert_eq!(rt; parse_superblock(&rest, 26), Err(Refusal::BadShape));
-    let mut mark = good;
-    mark[7] = b'2';
-    assert_eq!(rt; parse_superblock(&mark, 26), Err(Refusal::NotFormatted));
+    for (sector, refusal) in [
+        ([0; 512], Refusal::NotFormatted),
+        (with_byte(good, 8, 9), Refusal::BadShape),
+        (with_byte(good, 511, 1), Refusal::BadShape),
+        (with_byte(good, 7, b'2'), Refusal::NotFormatted),
+    ] {
+        same(&rt, parse_superblock(&sector, 26), Err(refusal));
+    }
     Ok(())
 }
 
@@ -62,73 +87,68 @@ fn a_record_byte_by_byte(rt: HostRuntime) -> Result<(), Fail> {
     let shape = Shape::new(2, 5, 3)?;
     let record = a_record().ok_or("record")?;
     let sector = record_bytes(&record);
-    assert_eq!(rt;
-        &sector[..16],
-        [1, 0, 0, 0, 3, 0, 0, 0, 1, 0, 0, 0, 1, 0, 0, 0].as_slice()
-    );
-    assert_eq!(rt; &sector[16..24], [7, 0, 0, 0, 0, 0, 0, 0].as_slice());
-    assert!(rt; sector[72..].iter().all(|byte| *byte == 0));
-    assert_eq!(rt; parse_record(&sector, &shape), Ok(record));
+    let first = [1, 0, 0, 0, 3, 0, 0, 0, 1, 0, 0, 0, 1, 0, 0, 0];
+    holds(&rt, &sector, 0, &first);
+    holds(&rt, &sector, 16, &[7, 0, 0, 0, 0, 0, 0, 0]);
+    ends(&rt, &sector, 72);
+    same(&rt, parse_record(&sector, &shape), Ok(record));
     Ok(())
 }
 
 #[test]
 fn an_image_byte_by_byte(rt: HostRuntime) -> Result<(), Fail> {
     let sector = record_bytes(&a_record().ok_or("record")?);
-    assert_eq!(rt;
-        &sector[24..40],
-        [6, 0, 0, 0, 0, 0, 0, 0, 1, 0, 0, 0, 1, 0, 0, 0].as_slice()
-    );
-    assert_eq!(rt; &sector[40..48], [0, 0x10, 0, 0x80, 0, 0, 0, 0].as_slice());
-    assert_eq!(rt; &sector[48..56], [8, 7, 6, 5, 4, 3, 2, 1].as_slice());
-    assert_eq!(rt;
-        &sector[56..72],
-        [2, 0, 0, 0, 2, 0, 0, 0, 1, 0, 0, 0, 0, 0, 0, 0].as_slice()
-    );
+    let head = [6, 0, 0, 0, 0, 0, 0, 0, 1, 0, 0, 0, 1, 0, 0, 0];
+    holds(&rt, &sector, 24, &head);
+    holds(&rt, &sector, 40, &[0, 0x10, 0, 0x80, 0, 0, 0, 0]);
+    holds(&rt, &sector, 48, &[8, 7, 6, 5, 4, 3, 2, 1]);
+    let counts = [2, 0, 0, 0, 2, 0, 0, 0, 1, 0, 0, 0, 0, 0, 0, 0];
+    holds(&rt, &sector, 56, &counts);
     Ok(())
 }
 
-// A byte of the record turned into another, which no record spells on a board of 2 harts, 5 pages and 3 lanes.
-fn is_refused(place: usize, byte: u8) -> Result<bool, Fail>
-    requires { place < 512 }
-{
+// Whether the record with another byte is refused, on a board of 2 harts, 5 pages and 3 lanes.
+fn is_refused(place: usize, byte: u8) -> Result<bool, Fail> {
     let record = a_record().ok_or("record")?;
-    let mut sector = record_bytes(&record);
-    sector[place] = byte;
+    let sector = with_byte(record_bytes(&record), place, byte);
     let shape = Shape::new(2, 5, 3)?;
     Ok(matches!(parse_record(&sector, &shape), Err(Refusal::BadRecord)))
 }
 
 #[test]
 fn other_records_are_refused(rt: HostRuntime) -> Result<(), Fail> {
-    assert!(rt; is_refused(0, 2)?);
-    assert!(rt; is_refused(4, 4)?);
-    assert!(rt; is_refused(8, 2)?);
-    assert!(rt; is_refused(12, 0)?);
-    assert!(rt; is_refused(12, 2)?);
-    assert!(rt; is_refused(16, 6)?);
-    assert!(rt; is_refused(24, 7)?);
-    assert!(rt; is_refused(32, 2)?);
-    assert!(rt; is_refused(36, 2)?);
-    assert!(rt; is_refused(40, 2)?);
-    assert!(rt; is_refused(41, 0x50)?);
-    assert!(rt; is_refused(43, 0)?);
-    assert!(rt; is_refused(56, 3)?);
-    assert!(rt; is_refused(64, 2)?);
-    assert!(rt; is_refused(68, 1)?);
-    assert!(rt; is_refused(72, 1)?);
-    assert!(rt; is_refused(511, 1)?);
-    assert!(rt; !is_refused(48, 9)?);
+    for (place, byte, refused) in [
+        (0, 2, true),
+        (4, 4, true),
+        (8, 2, true),
+        (12, 0, true),
+        (12, 2, true),
+        (16, 6, true),
+        (24, 7, true),
+        (32, 2, true),
+        (36, 2, true),
+        (40, 2, true),
+        (41, 0x50, true),
+        (43, 0, true),
+        (56, 3, true),
+        (64, 2, true),
+        (68, 1, true),
+        (72, 1, true),
+        (511, 1, true),
+        (48, 9, false),
+    ] {
+        let found = is_refused(place, byte)?;
+        assert_eq!(rt; found, refused, "byte {place} as {byte}");
+    }
     Ok(())
 }
 
 #[test]
-fn a_gate_by_its_parity(rt: HostRuntime) -> Result<(), Fail> {
+fn a_gate_by_its_parity(rt: HostRuntime) {
     let one = Side::first().other();
-    assert_eq!(rt; gate_bytes(one)[0], 1);
-    assert_eq!(rt; selected(&[255; 512]), one);
-    assert_eq!(rt; selected(&[254; 512]), Side::first());
-    Ok(())
+    same(&rt, gate_bytes(one)[0], 1);
+    same(&rt, selected(&[255; 512]), one);
+    same(&rt, selected(&[254; 512]), Side::first());
 }
 
 #[test]
@@ -139,17 +159,13 @@ fn a_place_head_byte_by_byte(rt: HostRuntime) -> Result<(), Fail> {
         serial: 258,
     };
     let sector = place_head_bytes(&head);
-    assert_eq!(rt;
-        &sector[..16],
-        [4, 0, 0, 0, 0, 0, 0, 0, 2, 1, 0, 0, 0, 0, 0, 0].as_slice()
-    );
-    assert_eq!(rt; parse_place_head(&sector, &shape), Ok(head));
-    let mut beyond = sector;
-    beyond[0] = 5;
-    assert_eq!(rt; parse_place_head(&beyond, &shape), Err(Refusal::BadImage));
-    let mut between = sector;
-    between[4] = 1;
-    assert_eq!(rt; parse_place_head(&between, &shape), Err(Refusal::BadImage));
+    let first = [4, 0, 0, 0, 0, 0, 0, 0, 2, 1, 0, 0, 0, 0, 0, 0];
+    holds(&rt, &sector, 0, &first);
+    same(&rt, parse_place_head(&sector, &shape), Ok(head));
+    let beyond = parse_place_head(&with_byte(sector, 0, 5), &shape);
+    same(&rt, beyond, Err(Refusal::BadImage));
+    let between = parse_place_head(&with_byte(sector, 4, 1), &shape);
+    same(&rt, between, Err(Refusal::BadImage));
     Ok(())
 }
 
@@ -158,10 +174,10 @@ fn a_place_head_byte_by_byte(rt: HostRuntime) -> Result<(), Fail> {
 fn where_lanes_begin(rt: HostRuntime) -> Result<(), Fail> {
     let shape = Shape::new(1, 5, 4)?;
     let one = Side::first().other();
-    assert_eq!(rt; shape.places(), 2);
-    assert_eq!(rt; area_start(&shape, Side::first()), 8);
-    assert_eq!(rt; area_start(&shape, one), 80);
-    assert_eq!(rt; lane_start(&shape, one, 3), 134);
-    assert_eq!(rt; place_start(1), 9);
+    same(&rt, shape.places(), 2);
+    same(&rt, area_start(&shape, Side::first()), 8);
+    same(&rt, area_start(&shape, one), 80);
+    same(&rt, lane_start(&shape, one, 3), 134);
+    same(&rt, place_start(1), 9);
     Ok(())
 }

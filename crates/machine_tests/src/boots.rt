@@ -1,8 +1,7 @@
-ghost use Rattle.std.specs.Prelude.{◌≡◌, ◌≤◌, length, IfOk};
-ghost use Rattle.rv_decode.specs.Ranges.{IsReg};
+ghost use Rattle.std.specs.Prelude.{◌≤◌, length};
 
+use crate::fixtures::same;
 use board_model::{HartId, Reason, Shape};
-use hart::Hart;
 use machine::{Machine, Turned};
 use ram::Width;
 use rv_decode::{CsrNumber, Reg};
@@ -10,19 +9,9 @@ use std::test::Fail;
 
 const BASE: u64 = 0x8000_0000;
 
-fn hart_id(number: u64) -> Result<HartId, Fail>
-    ensures { IfOk result (λ h. h ≡ number) }
-{
-    match HartId::new(number) {
-        Some(id) => Ok(id),
-        None => Err(Fail::new(format_args!("no such hart"))),
-    }
-}
-
 /// A board of two harts and one page that boots these words for that reason.
 fn booted(rt: &HostRuntime, payload: &[u8], reason: Reason) -> Result<Machine, Fail>
     requires { length payload.now ≤ 4096 }
-    ensures { IfOk result (λ m. length m.harts ≡ 2) }
 {
     let shape = Shape::new(2, 1, 1)?;
     let mut machine = Machine::new(rt.alloc(), &shape)?;
@@ -30,22 +19,56 @@ fn booted(rt: &HostRuntime, payload: &[u8], reason: Reason) -> Result<Machine, F
     Ok(machine)
 }
 
-fn reg(hart: &Hart, number: u8) -> u64
-    requires { IsReg number }
-{
-    hart.reg(Reg::new(number))
+// One turn of a hart that the board has.
+fn turn(machine: &mut Machine, number: u64) -> Option<Turned> {
+    let id = HartId::new(number)?;
+    if machine.has(id) {
+        Some(machine.turn(id))
+    } else {
+        None
+    }
+}
+
+// So many turns of a hart that the board has.
+fn turns(machine: &mut Machine, number: u64, count: u32) -> Option<Turned> {
+    let id = HartId::new(number)?;
+    if machine.has(id) && 1 <= count {
+        Some(machine.turns(id, count))
+    } else {
+        None
+    }
+}
+
+// What a0, a1 and the pc of a hart hold that the board has.
+fn shown(machine: &Machine, number: u64) -> Option<(u64, u64, u64)> {
+    let id = HartId::new(number)?;
+    if machine.has(id) {
+        let hart = machine.hart(id);
+        Some((hart.reg(Reg::new(10)), hart.reg(Reg::new(11)), hart.pc()))
+    } else {
+        None
+    }
+}
+
+// What a hart that the board has reads of a register.
+fn csr(machine: &Machine, number: u64, register: u16) -> Option<u64> {
+    let id = HartId::new(number)?;
+    if machine.has(id) {
+        machine.hart(id).csr(CsrNumber::new(register % 4096), false)
+    } else {
+        None
+    }
 }
 
 // ADDI x10, x0, 1
 #[test]
 fn a_hart_runs_its_payload(rt: HostRuntime) -> Result<(), Fail> {
     let mut machine = booted(&rt, &[0x13, 0x05, 0x10, 0x00], Reason::NoReason)?;
-    let first = hart_id(0)?;
-    assert_eq!(rt; machine.turn(first), Turned::Next);
-    assert_eq!(rt; reg(machine.hart(first), 10), 1);
-    assert_eq!(rt; machine.hart(first).pc(), BASE + 4);
-    assert_eq!(rt; machine.ram().load(BASE, Width::Word), Ok(0x0010_0513));
-    assert_eq!(rt; machine.ram().load(BASE + 4, Width::Word), Ok(0));
+    same(&rt, turn(&mut machine, 0), Some(Turned::Next));
+    same(&rt, shown(&machine, 0), Some((1, 0, BASE + 4)));
+    let ram = machine.ram();
+    same(&rt, ram.load(BASE, Width::Word), Ok(0x0010_0513));
+    same(&rt, ram.load(BASE + 4, Width::Word), Ok(0));
     Ok(())
 }
 
@@ -53,15 +76,12 @@ fn a_hart_runs_its_payload(rt: HostRuntime) -> Result<(), Fail> {
 #[test]
 fn an_empty_slot_traps(rt: HostRuntime) -> Result<(), Fail> {
     let mut machine = booted(&rt, &[], Reason::NoReason)?;
-    let first = hart_id(0)?;
-    let scause = CsrNumber::new(0x142);
-    let sepc = CsrNumber::new(0x141);
-    assert_eq!(rt; machine.turn(first), Turned::Next);
-    assert_eq!(rt; machine.hart(first).csr(scause, false), Some(2));
-    assert_eq!(rt; machine.hart(first).pc(), 0);
-    assert_eq!(rt; machine.turn(first), Turned::Next);
-    assert_eq!(rt; machine.hart(first).csr(scause, false), Some(1));
-    assert_eq!(rt; machine.hart(first).csr(sepc, false), Some(0));
+    same(&rt, turn(&mut machine, 0), Some(Turned::Next));
+    same(&rt, csr(&machine, 0, 0x142), Some(2));
+    same(&rt, shown(&machine, 0), Some((0, 0, 0)));
+    same(&rt, turn(&mut machine, 0), Some(Turned::Next));
+    same(&rt, csr(&machine, 0, 0x142), Some(1));
+    same(&rt, csr(&machine, 0, 0x141), Some(0));
     Ok(())
 }
 
@@ -69,27 +89,20 @@ fn an_empty_slot_traps(rt: HostRuntime) -> Result<(), Fail> {
 #[test]
 fn a_call_is_not_supported(rt: HostRuntime) -> Result<(), Fail> {
     let mut machine = booted(&rt, &[0x73, 0, 0, 0], Reason::SystemFailure)?;
-    let first = hart_id(0)?;
-    assert_eq!(rt; reg(machine.hart(first), 10), 0);
-    assert_eq!(rt; reg(machine.hart(first), 11), 1);
-    assert_eq!(rt; machine.turn(first), Turned::Next);
-    assert_eq!(rt; reg(machine.hart(first), 10), 0xffff_ffff_ffff_fffe);
-    assert_eq!(rt; reg(machine.hart(first), 11), 0);
-    assert_eq!(rt; machine.hart(first).pc(), BASE + 4);
+    let not_supported = 0xffff_ffff_ffff_fffe;
+    same(&rt, shown(&machine, 0), Some((0, 1, BASE)));
+    same(&rt, turn(&mut machine, 0), Some(Turned::Next));
+    same(&rt, shown(&machine, 0), Some((not_supported, 0, BASE + 4)));
     Ok(())
 }
 
 #[test]
 fn a_stopped_hart_is_idle(rt: HostRuntime) -> Result<(), Fail> {
     let mut machine = booted(&rt, &[0x13, 0x05, 0x10, 0x00], Reason::NoReason)?;
-    let second = hart_id(1)?;
-    assert_eq!(rt; machine.turns(second, 5), Turned::Idle);
-    assert_eq!(rt; machine.hart(second).pc(), 0);
-    assert_eq!(rt;
-        machine.hart(second).csr(CsrNumber::new(0x100), false),
-        Some(0x100)
-    );
-    assert_eq!(rt; machine.hart(hart_id(0)?).pc(), BASE);
+    same(&rt, turns(&mut machine, 1, 5), Some(Turned::Idle));
+    same(&rt, shown(&machine, 1), Some((0, 0, 0)));
+    same(&rt, csr(&machine, 1, 0x100), Some(0x100));
+    same(&rt, shown(&machine, 0), Some((0, 0, BASE)));
     Ok(())
 }
 
@@ -98,11 +111,9 @@ fn a_stopped_hart_is_idle(rt: HostRuntime) -> Result<(), Fail> {
 fn many_turns_run_a_loop(rt: HostRuntime) -> Result<(), Fail> {
     let payload = [0x13, 0x05, 0x15, 0x00, 0x6f, 0xf0, 0xdf, 0xff];
     let mut machine = booted(&rt, &payload, Reason::NoReason)?;
-    let first = hart_id(0)?;
-    assert_eq!(rt; machine.turns(first, 1001), Turned::Next);
-    assert_eq!(rt; reg(machine.hart(first), 10), 501);
+    same(&rt, turns(&mut machine, 0, 1001), Some(Turned::Next));
+    same(&rt, shown(&machine, 0), Some((501, 0, BASE + 4)));
     let (harts, ram) = machine.into_parts();
-    assert_eq!(rt; harts.len(), 2);
-    assert_eq!(rt; ram.pages(), 1);
+    same(&rt, (harts.len(), ram.pages()), (2, 1));
     Ok(())
 }

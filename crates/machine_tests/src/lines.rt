@@ -35,8 +35,12 @@ fn turn(machine: &mut Machine, hart: HartId) -> MachineLine
     MachineLine::Turn(hart, 1, machine.turns(hart, 1))
 }
 
-fn says(rt: &impl Abort, alloc: Global, line: MachineLine, text: &str) -> Result<(), Fail> {
-    let written = format!(in alloc; "{line}")?;
+// The lines as they are written, each with a line feed.
+fn all_say(rt: &impl Abort, alloc: Global, lines: &[MachineLine], text: &str) -> Result<(), Fail> {
+    let mut written = String::new(alloc);
+    for line in lines {
+        written.push_str(&format!(in alloc; "{line}\n")?)?;
+    }
     assert_eq!(rt; written.as_str(), text);
     Ok(())
 }
@@ -46,59 +50,48 @@ fn says(rt: &impl Abort, alloc: Global, line: MachineLine, text: &str) -> Result
 fn shows_what_an_instruction_did(rt: HostRuntime) -> Result<(), Fail> {
     let mut machine = booted(&rt, &[0x13, 0x05, 0x10, 0x00])?;
     let hart = first_hart()?;
-    says(&rt, rt.alloc(), turn(&mut machine, hart), "turn 0 1 next")?;
-    says(
-        &rt,
-        rt.alloc(),
+    let turned = turn(&mut machine, hart);
+    let lines = [
+        turned,
         reg(&machine, hart, 10),
-        "reg 0 10 0x0000000000000001",
-    )?;
-    says(
-        &rt,
-        rt.alloc(),
         pc(&machine, hart),
-        "pc 0 0x0000000080000004",
-    )?;
-    says(
+        mem(&machine, 0x8000_0000, 4),
+    ];
+    all_say(
         &rt,
         rt.alloc(),
-        mem(&machine, 0x8000_0000, 4),
-        "mem 13051000",
-    )?;
-    Ok(())
+        &lines,
+        "turn 0 1 next\nreg 0 10 0x0000000000000001\npc 0 0x0000000080000004\nmem 13051000\n",
+    )
+}
+
+// The lines of a turn, and of the trap that it took: its cause, the pc that it saved, and the pc.
+fn trap_lines(machine: &mut Machine, hart: HartId) -> [MachineLine; 4]
+    requires { hart < length machine.old.harts }
+    ensures { length machine.new.harts ≡ length machine.old.harts }
+{
+    let turned = turn(machine, hart);
+    let cause = csr(machine, hart, 0x142);
+    let saved = csr(machine, hart, 0x141);
+    [turned, cause, saved, pc(machine, hart)]
 }
 
 #[test]
 fn shows_traps(rt: HostRuntime) -> Result<(), Fail> {
     let mut machine = booted(&rt, &[])?;
     let hart = first_hart()?;
-    says(&rt, rt.alloc(), turn(&mut machine, hart), "turn 0 1 next")?;
-    says(
+    all_say(
         &rt,
         rt.alloc(),
-        csr(&machine, hart, 0x142),
-        "csr 0 0x142 0x0000000000000002",
+        &trap_lines(&mut machine, hart),
+        "turn 0 1 next\ncsr 0 0x142 0x0000000000000002\ncsr 0 0x141 0x0000000080000000\npc 0 0x0000000000000000\n",
     )?;
-    says(
+    all_say(
         &rt,
         rt.alloc(),
-        pc(&machine, hart),
-        "pc 0 0x0000000000000000",
-    )?;
-    says(&rt, rt.alloc(), turn(&mut machine, hart), "turn 0 1 next")?;
-    says(
-        &rt,
-        rt.alloc(),
-        csr(&machine, hart, 0x142),
-        "csr 0 0x142 0x0000000000000001",
-    )?;
-    says(
-        &rt,
-        rt.alloc(),
-        csr(&machine, hart, 0x141),
-        "csr 0 0x141 0x0000000000000000",
-    )?;
-    Ok(())
+        &trap_lines(&mut machine, hart),
+        "turn 0 1 next\ncsr 0 0x142 0x0000000000000001\ncsr 0 0x141 0x0000000000000000\npc 0 0x0000000000000000\n",
+    )
 }
 
 #[test]
@@ -107,16 +100,18 @@ fn says_off_past_the_board(rt: HostRuntime) -> Result<(), Fail> {
     let Some(second) = HartId::new(1) else {
         return Err(Fail::new(format_args!("no hart 1")));
     };
-    says(&rt, rt.alloc(), reg(&machine, second, 0), "off")?;
-    says(&rt, rt.alloc(), pc(&machine, second), "off")?;
-    says(&rt, rt.alloc(), csr(&machine, second, 0x100), "off")?;
-    says(&rt, rt.alloc(), mem(&machine, 0x8000_0ffd, 4), "off")?;
-    says(
+    let lines = [
+        reg(&machine, second, 0),
+        pc(&machine, second),
+        csr(&machine, second, 0x100),
+        mem(&machine, 0x8000_0ffd, 4),
+        mem(&machine, 0x8000_0ffc, 4),
+        mem(&machine, 0x7fff_ffff, 1),
+    ];
+    all_say(
         &rt,
         rt.alloc(),
-        mem(&machine, 0x8000_0ffc, 4),
-        "mem 00000000",
-    )?;
-    says(&rt, rt.alloc(), mem(&machine, 0x7fff_ffff, 1), "off")?;
-    Ok(())
+        &lines,
+        "off\noff\noff\noff\nmem 00000000\noff\n",
+    )
 }

@@ -1,7 +1,9 @@
 ghost use Rattle.std.specs.Prelude.{◌≡◌, ℕ, ◌*◌, ◌≤◌, length, IfOk};
 
+use crate::fixtures::same;
 use board_model::{PageNo, Shape};
 use ram::{Access, Ram, Width};
+use std::process::Abort;
 use std::test::Fail;
 
 const BASE: u64 = 0x8000_0000;
@@ -13,27 +15,52 @@ fn memory(rt: &HostRuntime, pages: u64) -> Result<Ram, Fail>
     Ok(Ram::new(rt.alloc(), shape)?)
 }
 
+// Loads that give these numbers.
+fn all_load(rt: &impl Abort, ram: &Ram, cases: &[(u64, Width, u64)]) {
+    for (address, width, number) in cases {
+        assert_eq!(rt;
+            ram.load(*address, *width),
+            Ok(*number),
+            "load at {address}"
+        );
+    }
+}
+
 /// The bytes of a number stand with the lowest first, and a narrow store leaves its neighbours.
 #[test]
 fn numbers_are_little_endian(rt: HostRuntime) -> Result<(), Fail> {
     let mut ram = memory(&rt, 1)?;
-    assert_eq!(rt;
-        ram.store(BASE + 8, Width::Double, 0x8877_6655_4433_2211),
-        Ok(())
+    let number = 0x8877_6655_4433_2211;
+    same(&rt, ram.store(BASE + 8, Width::Double, number), Ok(()));
+    all_load(
+        &rt,
+        &ram,
+        &[
+            (BASE + 8, Width::Byte, 0x11),
+            (BASE + 15, Width::Byte, 0x88),
+            (BASE + 10, Width::Half, 0x4433),
+            (BASE + 12, Width::Word, 0x8877_6655),
+        ],
     );
-    assert_eq!(rt; ram.load(BASE + 8, Width::Byte), Ok(0x11));
-    assert_eq!(rt; ram.load(BASE + 15, Width::Byte), Ok(0x88));
-    assert_eq!(rt; ram.load(BASE + 10, Width::Half), Ok(0x4433));
-    assert_eq!(rt; ram.load(BASE + 12, Width::Word), Ok(0x8877_6655));
-    assert_eq!(rt; ram.fetch(BASE + 12), Ok(0x8877_6655));
-    assert_eq!(rt; ram.store(BASE + 10, Width::Half, 0xffff_abcd), Ok(()));
-    assert_eq!(rt;
-        ram.load(BASE + 8, Width::Double),
-        Ok(0x8877_6655_abcd_2211)
+    same(&rt, ram.fetch(BASE + 12), Ok(0x8877_6655));
+    same(&rt, ram.store(BASE + 10, Width::Half, 0xffff_abcd), Ok(()));
+    all_load(
+        &rt,
+        &ram,
+        &[
+            (BASE + 8, Width::Double, 0x8877_6655_abcd_2211),
+            (BASE, Width::Double, 0),
+            (BASE + 16, Width::Double, 0),
+        ],
     );
-    assert_eq!(rt; ram.load(BASE, Width::Double), Ok(0));
-    assert_eq!(rt; ram.load(BASE + 16, Width::Double), Ok(0));
     Ok(())
+}
+
+// No word is loaded, stored or fetched there.
+fn refused(rt: &impl Abort, ram: &mut Ram, address: u64, want: Access) {
+    same(rt, ram.load(address, Width::Word), Err(want));
+    same(rt, ram.store(address, Width::Word, 7), Err(want));
+    same(rt, ram.fetch(address), Err(want));
 }
 
 /// Alignment is checked before the range, and a refused store changes nothing.
@@ -51,37 +78,42 @@ fn alignment_is_checked_first(rt: HostRuntime) -> Result<(), Fail> {
         (0xffff_ffff_ffff_fffc, Access::Outside),
         (0xffff_ffff_ffff_ffff, Access::Misaligned),
     ] {
-        assert_eq!(rt;
-            ram.load(address, Width::Word),
-            Err(want),
-            "load at {address}"
-        );
-        assert_eq!(rt;
-            ram.store(address, Width::Word, 7),
-            Err(want),
-            "store at {address}"
-        );
-        assert_eq!(rt; ram.fetch(address), Err(want), "fetch at {address}");
+        refused(&rt, &mut ram, address, want);
     }
-    assert_eq!(rt; ram.load(end - 4, Width::Word), Ok(0));
-    assert_eq!(rt; ram.load(end - 4, Width::Double), Err(Access::Misaligned));
-    assert_eq!(rt; ram.load(end - 8, Width::Double), Ok(0));
+    let double = ram.load(end - 4, Width::Double);
+    same(&rt, double, Err(Access::Misaligned));
+    all_load(
+        &rt,
+        &ram,
+        &[(end - 4, Width::Word, 0), (end - 8, Width::Double, 0)],
+    );
     Ok(())
+}
+
+// The byte at that place of the memory.
+fn byte(ram: &Ram, at: usize) -> Option<u8> {
+    let bytes = ram.bytes();
+    if at < bytes.len() {
+        Some(bytes[at])
+    } else {
+        None
+    }
 }
 
 #[test]
 fn a_page_is_read_as_it_was_filled(rt: HostRuntime) -> Result<(), Fail> {
     let mut ram = memory(&rt, 3)?;
-    assert_eq!(rt; ram.pages(), 3);
-    assert_eq!(rt; ram.bytes().len(), 3 * 4096);
+    same(&rt, (ram.pages(), ram.bytes().len()), (3, 3 * 4096));
     let Some(page) = PageNo::new(1) else {
         return Err(Fail::new("page 1"));
     };
     ram.fill_page(page, &[0x5a; 4096]);
-    assert_eq!(rt; ram.page(page)[0], 0x5a);
-    assert_eq!(rt; ram.page(page)[4095], 0x5a);
-    assert_eq!(rt; ram.bytes()[4095], 0);
-    assert_eq!(rt; ram.bytes()[8192], 0);
+    same(&rt, (ram.page(page)[0], ram.page(page)[4095]), (0x5a, 0x5a));
+    same(
+        &rt,
+        (byte(&ram, 4095), byte(&ram, 8192)),
+        (Some(0), Some(0)),
+    );
     Ok(())
 }
 
@@ -89,10 +121,13 @@ fn a_page_is_read_as_it_was_filled(rt: HostRuntime) -> Result<(), Fail> {
 #[test]
 fn a_boot_puts_the_payload_and_zeros(rt: HostRuntime) -> Result<(), Fail> {
     let mut ram = memory(&rt, 1)?;
-    assert_eq!(rt; ram.store(BASE + 1, Width::Byte, 9), Ok(()));
-    assert_eq!(rt; ram.store(BASE + 4095, Width::Byte, 9), Ok(()));
+    same(&rt, ram.store(BASE + 1, Width::Byte, 9), Ok(()));
+    same(&rt, ram.store(BASE + 4095, Width::Byte, 9), Ok(()));
     ram.boot(&[1]);
-    assert_eq!(rt; ram.load(BASE, Width::Double), Ok(1));
-    assert_eq!(rt; ram.load(BASE + 4088, Width::Double), Ok(0));
+    all_load(
+        &rt,
+        &ram,
+        &[(BASE, Width::Double, 1), (BASE + 4088, Width::Double, 0)],
+    );
     Ok(())
 }

@@ -1,8 +1,10 @@
+use crate::fixtures::same;
 use crate::{edges, traps};
 use board_model::{HartId, Shape};
 use hart::{Hart, Outcome};
 use ram::{Ram, Width};
 use rv_decode::{CsrNumber, Reg};
+use std::process::Abort;
 use std::test::Fail;
 
 const BASE: u64 = 0x8000_0000;
@@ -61,17 +63,19 @@ fn result(ram: &Ram, results: u64, number: usize) -> u64 {
     .unwrap_or(0)
 }
 
+// The program's results from that number on.
+fn all_results(rt: &impl Abort, ram: &Ram, results: u64, first: usize, wants: &[u64]) {
+    for (i, want) in wants.iter().enumerate() {
+        let number = first.wrapping_add(i);
+        assert_eq!(rt; result(ram, results, number), *want, "result {number}");
+    }
+}
+
 /// Every instruction of a user's program, on edge values, gives what it gives under qemu-riscv64.
 #[test]
 fn edge_values_as_under_qemu(rt: HostRuntime) -> Result<(), Fail> {
     let ram = run_to_call(&rt, &edges::PROGRAM)?;
-    for (number, want) in edges::EXPECTED.iter().enumerate() {
-        assert_eq!(rt;
-            result(&ram, edges::RESULTS, number),
-            *want,
-            "result {number}"
-        );
-    }
+    all_results(&rt, &ram, edges::RESULTS, 0, &edges::EXPECTED);
     Ok(())
 }
 
@@ -158,16 +162,19 @@ fn traps_and_registers_of_the_supervisor(rt: HostRuntime) -> Result<(), Fail> {
     let ram = run_to_call(&rt, &traps::PROGRAM)?;
     for (number, (cause, tval)) in TRAPS.iter().enumerate() {
         let kept = [*cause, *tval, 0, 0x120];
-        for (i, want) in kept.iter().enumerate() {
-            let got = result(&ram, traps::RESULTS, 4 * (number % 32) + i);
-            assert_eq!(rt; got, *want, "number {i} of trap {number}");
-        }
+        all_results(&rt, &ram, traps::RESULTS, 4 * (number % 32), &kept);
     }
-    for (number, want) in REST.iter().enumerate() {
-        let got = result(&ram, traps::RESULTS, 4 * TRAPS.len() + number);
-        assert_eq!(rt; got, *want, "number {number} behind the traps");
-    }
+    all_results(&rt, &ram, traps::RESULTS, 4 * TRAPS.len(), &REST);
     Ok(())
+}
+
+// What the word does with that operand in x5 and the interrupt pending: what it asks for, x7 and the pc.
+fn stepped(rt: &HostRuntime, word: u32, operand: u64) -> Result<(Outcome, u64, u64), Fail> {
+    let mut ram = words(rt, &[word])?;
+    let mut hart = fresh()?;
+    hart.put(Reg::new(5), operand);
+    let outcome = hart.step(&mut ram, true);
+    Ok((outcome, hart.reg(Reg::new(7)), hart.pc()))
 }
 
 /// A write to sip takes the pending interrupt where it clears bit 1, and a write that is none does not.
@@ -188,13 +195,12 @@ fn writes_to_sip(rt: HostRuntime) -> Result<(), Fail> {
         (0x1440_73f3, 0, Outcome::Next),
         (0x1402_93f3, 0, Outcome::Next),
     ] {
-        let mut ram = words(&rt, &[word])?;
-        let mut hart = fresh()?;
-        hart.put(Reg::new(5), operand);
-        assert_eq!(rt; hart.step(&mut ram, true), want, "{word:#x} with {operand}");
         let old = if word / 0x10_0000 == 0x144 { 2 } else { 0 };
-        assert_eq!(rt; hart.reg(Reg::new(7)), old, "{word:#x} with {operand}");
-        assert_eq!(rt; hart.pc(), BASE + 4);
+        assert_eq!(rt;
+            stepped(&rt, word, operand)?,
+            (want, old, BASE + 4),
+            "{word:#x} with {operand}"
+        );
     }
     Ok(())
 }
@@ -203,62 +209,89 @@ fn csr(hart: &Hart, number: u16) -> Option<u64> {
     hart.csr(CsrNumber::new(number % 4096), true)
 }
 
+// The control and status registers that a hart shows, with its interrupt pending.
+fn csrs(rt: &impl Abort, hart: &Hart, cases: &[(u16, Option<u64>)]) {
+    for (number, value) in cases {
+        assert_eq!(rt; csr(hart, *number), *value, "csr {number:#x}");
+    }
+}
+
+// The pc and registers that a hart holds.
+fn holds(rt: &impl Abort, hart: &Hart, pc: u64, cases: &[(u8, u64)]) {
+    same(rt, hart.pc(), pc);
+    for (number, value) in cases {
+        assert_eq!(rt; hart.reg(Reg::new(*number % 32)), *value, "x{number}");
+    }
+}
+
+// Steps with the interrupt pending, which go on word by word.
+fn goes_on(rt: &impl Abort, hart: &mut Hart, ram: &mut Ram) {
+    for steps in 1..6u64 {
+        same(rt, hart.step(ram, true), Outcome::Next);
+        same(rt, hart.pc(), BASE + 4 * steps);
+    }
+}
+
 /// A pending interrupt is taken where sstatus and sie let it, before the fetch, and not before.
 #[test]
 fn a_pending_interrupt(rt: HostRuntime) -> Result<(), Fail> {
     // csrwi sie, 2; csrwi stvec, 0; addi x5, x0, 64; csrw stvec, x5; csrsi sstatus, 2; addi x6, x6, 1; at 64: sret
-    let mut ram = words(
-        &rt,
-        &[
-            0x1041_5073,
-            0x1050_5073,
-            0x0400_0293,
-            0x1052_9073,
-            0x1001_6073,
-            0x0013_0313,
-        ],
-    )?;
+    let program = [
+        0x1041_5073,
+        0x1050_5073,
+        0x0400_0293,
+        0x1052_9073,
+        0x1001_6073,
+        0x0013_0313,
+    ];
+    let mut ram = words(&rt, &program)?;
     let mut hart = fresh()?;
-    for steps in 1..6u64 {
-        assert_eq!(rt; hart.step(&mut ram, true), Outcome::Next);
-        assert_eq!(rt; hart.pc(), BASE + 4 * steps);
-    }
-    assert_eq!(rt; csr(&hart, 0x100), Some(0x102));
-    assert_eq!(rt; csr(&hart, 0x144), Some(2));
-    assert_eq!(rt; hart.step(&mut ram, true), Outcome::Next);
-    assert_eq!(rt; hart.reg(Reg::new(6)), 0);
-    assert_eq!(rt; hart.pc(), 64);
-    assert_eq!(rt; csr(&hart, 0x100), Some(0x120));
-    assert_eq!(rt; csr(&hart, 0x141), Some(BASE + 20));
-    assert_eq!(rt; csr(&hart, 0x142), Some(0x8000_0000_0000_0001));
-    assert_eq!(rt; csr(&hart, 0x143), Some(0));
-    assert_eq!(rt; csr(&hart, 0x106), None);
+    goes_on(&rt, &mut hart, &mut ram);
+    csrs(&rt, &hart, &[(0x100, Some(0x102)), (0x144, Some(2))]);
+    same(&rt, hart.step(&mut ram, true), Outcome::Next);
+    holds(&rt, &hart, 64, &[(6, 0)]);
+    csrs(
+        &rt,
+        &hart,
+        &[
+            (0x100, Some(0x120)),
+            (0x141, Some(BASE + 20)),
+            (0x142, Some(0x8000_0000_0000_0001)),
+            (0x143, Some(0)),
+            (0x106, None),
+        ],
+    );
     Ok(())
 }
 
 #[test]
-fn a_hart_that_never_ran_and_one_that_starts(rt: HostRuntime) -> Result<(), Fail> {
+fn a_hart_that_never_ran(rt: HostRuntime) -> Result<(), Fail> {
     let id = HartId::new(3).ok_or("no hart 3")?;
     let stopped = Hart::stopped(id);
+    same(&rt, stopped.id(), id);
+    csrs(&rt, &stopped, &[(0x100, Some(0x100))]);
+    holds(&rt, &stopped, 0, &[(10, 0), (11, 0)]);
+    Ok(())
+}
+
+#[test]
+fn a_hart_that_starts(rt: HostRuntime) -> Result<(), Fail> {
+    let id = HartId::new(3).ok_or("no hart 3")?;
     let mut started = Hart::fresh(id, BASE + 2, 7);
-    assert_eq!(rt; stopped.id(), id);
-    assert_eq!(rt; csr(&stopped, 0x100), Some(0x100));
-    assert_eq!(rt; csr(&started, 0x180), Some(0));
-    for (hart, number, want) in [
-        (&stopped, 10, 0),
-        (&stopped, 11, 0),
-        (&started, 0, 0),
-        (&started, 10, 3),
-        (&started, 11, 7),
-    ] {
-        assert_eq!(rt; hart.reg(Reg::new(number)), want);
-    }
+    csrs(&rt, &started, &[(0x180, Some(0))]);
+    holds(&rt, &started, BASE + 2, &[(0, 0), (10, 3), (11, 7)]);
     // the pc that only the caller can give: cause 0 with the pc in stval
     let mut ram = words(&rt, &[])?;
-    assert_eq!(rt; run(&mut started, &mut ram, 1), Outcome::Next);
-    assert_eq!(rt; csr(&started, 0x142), Some(0));
-    assert_eq!(rt; csr(&started, 0x143), Some(BASE + 2));
-    assert_eq!(rt; csr(&started, 0x141), Some(BASE));
+    same(&rt, run(&mut started, &mut ram, 1), Outcome::Next);
+    csrs(
+        &rt,
+        &started,
+        &[
+            (0x142, Some(0)),
+            (0x143, Some(BASE + 2)),
+            (0x141, Some(BASE)),
+        ],
+    );
     Ok(())
 }
 
@@ -267,13 +300,17 @@ fn a_hart_that_never_ran_and_one_that_starts(rt: HostRuntime) -> Result<(), Fail
 fn a_call_is_answered(rt: HostRuntime) -> Result<(), Fail> {
     let mut ram = words(&rt, &[0x0000_0073, 0x0005_8613])?;
     let mut hart = fresh()?;
-    assert_eq!(rt; run(&mut hart, &mut ram, 2), Outcome::Ecall);
-    assert_eq!(rt; hart.pc(), BASE);
+    same(&rt, run(&mut hart, &mut ram, 2), Outcome::Ecall);
+    holds(&rt, &hart, BASE, &[]);
     hart.answer(0xffff_ffff_ffff_fffe, 9);
-    assert_eq!(rt; hart.pc(), BASE + 4);
-    assert_eq!(rt; run(&mut hart, &mut ram, 1), Outcome::Next);
-    assert_eq!(rt; hart.reg(Reg::new(10)), 0xffff_ffff_ffff_fffe);
-    assert_eq!(rt; hart.reg(Reg::new(12)), 9);
+    holds(&rt, &hart, BASE + 4, &[]);
+    same(&rt, run(&mut hart, &mut ram, 1), Outcome::Next);
+    holds(
+        &rt,
+        &hart,
+        BASE + 8,
+        &[(10, 0xffff_ffff_ffff_fffe), (12, 9)],
+    );
     Ok(())
 }
 
@@ -281,9 +318,8 @@ fn a_call_is_answered(rt: HostRuntime) -> Result<(), Fail> {
 fn adds_an_immediate(rt: HostRuntime) -> Result<(), Fail> {
     let mut ram = words(&rt, &[0x00100513])?;
     let mut hart = fresh()?;
-    assert_eq!(rt; run(&mut hart, &mut ram, 1), Outcome::Next);
-    assert_eq!(rt; hart.reg(Reg::new(10)), 1);
-    assert_eq!(rt; hart.pc(), BASE + 4);
+    same(&rt, run(&mut hart, &mut ram, 1), Outcome::Next);
+    holds(&rt, &hart, BASE + 4, &[(10, 1)]);
     Ok(())
 }
 
@@ -293,11 +329,10 @@ fn traps_on_no_instruction(rt: HostRuntime) -> Result<(), Fail> {
     let mut ram = words(&rt, &[])?;
     let mut hart = fresh()?;
     run(&mut hart, &mut ram, 1);
-    assert_eq!(rt; csr(&hart, 0x142), Some(2));
-    assert_eq!(rt; hart.pc(), 0);
+    csrs(&rt, &hart, &[(0x142, Some(2))]);
+    holds(&rt, &hart, 0, &[]);
     run(&mut hart, &mut ram, 1);
-    assert_eq!(rt; csr(&hart, 0x142), Some(1));
-    assert_eq!(rt; csr(&hart, 0x141), Some(0));
+    csrs(&rt, &hart, &[(0x142, Some(1)), (0x141, Some(0))]);
     Ok(())
 }
 
@@ -310,12 +345,18 @@ fn calls_the_firmware(rt: HostRuntime) -> Result<(), Fail> {
     ];
     let mut ram = words(&rt, &program)?;
     let mut hart = fresh()?;
-    assert_eq!(rt; run(&mut hart, &mut ram, 8), Outcome::Ecall);
-    assert_eq!(rt; hart.reg(Reg::new(10)), 0xffff_ffff_8000_0001);
-    assert_eq!(rt; hart.reg(Reg::new(11)), 0x8000_1000);
-    assert_eq!(rt; hart.reg(Reg::new(12)), 0xffff_ffff_ffff_ffff);
-    assert_eq!(rt; hart.reg(Reg::new(17)), 0x5355_5350);
-    assert_eq!(rt; hart.pc(), BASE + 28);
+    same(&rt, run(&mut hart, &mut ram, 8), Outcome::Ecall);
+    holds(
+        &rt,
+        &hart,
+        BASE + 28,
+        &[
+            (10, 0xffff_ffff_8000_0001),
+            (11, 0x8000_1000),
+            (12, 0xffff_ffff_ffff_ffff),
+            (17, 0x5355_5350),
+        ],
+    );
     Ok(())
 }
 
@@ -328,8 +369,7 @@ fn runs_what_it_wrote(rt: HostRuntime) -> Result<(), Fail> {
     let mut ram = words(&rt, &program)?;
     let mut hart = Hart::fresh(HartId::new(0).ok_or("no hart 0")?, BASE, 0);
     run(&mut hart, &mut ram, 6);
-    assert_eq!(rt; hart.reg(Reg::new(10)), 0x11);
-    assert_eq!(rt; hart.pc(), BASE + 8);
-    assert_eq!(rt; ram.load(BASE + 4, Width::Word), Ok(0x01050513));
+    holds(&rt, &hart, BASE + 8, &[(10, 0x11)]);
+    same(&rt, ram.load(BASE + 4, Width::Word), Ok(0x01050513));
     Ok(())
 }

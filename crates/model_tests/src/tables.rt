@@ -1,8 +1,17 @@
 //! Values from docs/DURABLE.md and docs/REFUSALS.md: each command against each kind of state, each refusal, each limit
 //! at its edges.
-use crate::{Addr, Command, Durable, HartId, ImageHead, PageNo, Reason, Refusal, Shape, Slot};
+use board_model::{
+    Addr, Command, Durable, HartId, ImageHead, PageNo, Reason, Refusal, Shape, Slot,
+};
+use std::alloc::Global;
+use std::fmt::Debug;
 use std::process::Abort;
 use std::test::Fail;
+
+// These two have to be equal.
+fn same<T: PartialEq + Debug + Drop>(rt: &impl Abort, found: T, wanted: T) {
+    assert_eq!(rt; found, wanted);
+}
 
 /// Slot 2, reason 1, next serial 5, with an image under serial 4 or with none.
 fn state(rt: &impl Abort, image: bool) -> Durable {
@@ -24,37 +33,42 @@ fn with_next(state: Durable, next: u64) -> Durable {
     Durable { next, ..state }
 }
 
-#[test]
-fn slot_and_reset_change_their_field_alone(rt: HostRuntime) -> Result<(), Fail> {
-    for image in [false, true] {
-        let old = state(&rt, image);
-        let slot = Durable {
-            slot: Slot::new(3).expect(&rt, "slot 3"),
-            ..old
-        };
-        assert_eq!(rt; old.after(Command::Slot(3)), Ok(slot));
-        assert_eq!(rt; old.after(Command::Slot(2)), Ok(old));
-        assert_eq!(rt; old.after(Command::Slot(4)), Err(Refusal::BadSlot));
-        assert_eq!(rt; old.after(Command::Slot(u32::MAX)), Err(Refusal::BadSlot));
-        let reset = Durable {
-            reason: Reason::NoReason,
-            ..old
-        };
-        assert_eq!(rt; old.after(Command::Reset(Reason::NoReason)), Ok(reset));
-        assert_eq!(rt; old.after(Command::Reset(Reason::SystemFailure)), Ok(old));
+// Slots and reasons change their field of that state alone.
+fn one_field_changes(rt: &impl Abort, old: Durable) {
+    let slot = Durable {
+        slot: Slot::new(3).expect(rt, "slot 3"),
+        ..old
+    };
+    let reset = Durable {
+        reason: Reason::NoReason,
+        ..old
+    };
+    for (command, answer) in [
+        (Command::Slot(3), Ok(slot)),
+        (Command::Slot(2), Ok(old)),
+        (Command::Slot(4), Err(Refusal::BadSlot)),
+        (Command::Slot(u32::MAX), Err(Refusal::BadSlot)),
+        (Command::Reset(Reason::NoReason), Ok(reset)),
+        (Command::Reset(Reason::SystemFailure), Ok(old)),
+    ] {
+        assert_eq!(rt; old.after(command), answer, "{command:?}");
     }
-    Ok(())
 }
 
 #[test]
-fn consume_and_discard_want_an_image(rt: HostRuntime) -> Result<(), Fail> {
-    let without = state(&rt, false);
-    let with = state(&rt, true);
-    assert_eq!(rt; with.after(Command::Consume), Ok(without));
-    assert_eq!(rt; with.after(Command::Discard), Ok(without));
-    assert_eq!(rt; without.after(Command::Consume), Err(Refusal::NoImage));
-    assert_eq!(rt; without.after(Command::Discard), Err(Refusal::NoImage));
-    Ok(())
+fn slot_and_reset_change_their_field_alone(rt: HostRuntime) {
+    one_field_changes(&rt, state(&rt, false));
+    one_field_changes(&rt, state(&rt, true));
+}
+
+#[test]
+fn consume_and_discard_want_an_image(rt: HostRuntime) {
+    for command in [Command::Consume, Command::Discard] {
+        let dropped = state(&rt, true).after(command);
+        same(&rt, dropped, Ok(state(&rt, false)));
+        let refused = state(&rt, false).after(command);
+        same(&rt, refused, Err(Refusal::NoImage));
+    }
 }
 
 /// The image that hart 0 makes from `state` with address 0x80000004 and opaque value 7.
@@ -67,28 +81,42 @@ fn made(rt: &impl Abort) -> ImageHead {
     }
 }
 
+// A suspension by hart 0, from that state.
+fn suspended(rt: &impl Abort, old: Durable) -> Result<Durable, Refusal> {
+    let head = made(rt);
+    old.after_suspend(head.hart, head.address, 7)
+}
+
+// A suspension gives out serial 5, and none is given out at the end of all serials.
+fn takes_a_serial(rt: &impl Abort, image: bool) {
+    let new = Durable {
+        image: Some(made(rt)),
+        ..with_next(state(rt, image), 6)
+    };
+    same(rt, suspended(rt, state(rt, image)), Ok(new));
+    let last = with_next(state(rt, image), u64::MAX);
+    same(rt, suspended(rt, last), Err(Refusal::SerialsSpent));
+    let before_last = with_next(state(rt, image), u64::MAX - 1);
+    same(rt, suspended(rt, before_last).is_ok(), true);
+}
+
 #[test]
-fn suspend_takes_the_next_serial(rt: HostRuntime) -> Result<(), Fail> {
-    let head = made(&rt);
-    for image in [false, true] {
-        let new = Durable {
-            image: Some(made(&rt)),
-            ..with_next(state(&rt, image), 6)
-        };
-        let old = state(&rt, image);
-        assert_eq!(rt; old.after_suspend(head.hart, head.address, 7), Ok(new));
-        let last = with_next(state(&rt, image), u64::MAX);
-        assert_eq!(rt;
-            last.after_suspend(head.hart, head.address, 7),
-            Err(Refusal::SerialsSpent)
-        );
-        let before_last = with_next(state(&rt, image), u64::MAX - 1);
-        assert!(rt;
-            before_last
-                .after_suspend(head.hart, head.address, 7)
-                .is_ok()
-        );
-    }
+fn suspend_takes_the_next_serial(rt: HostRuntime) {
+    takes_a_serial(&rt, false);
+    takes_a_serial(&rt, true);
+}
+
+// A refusal's number and text.
+fn reads(
+    rt: &impl Abort,
+    alloc: Global,
+    refusal: Refusal,
+    code: u32,
+    text: &str,
+) -> Result<(), Fail> {
+    same(rt, refusal.code(), code);
+    let written = format!(in alloc; "{refusal}")?;
+    assert_eq!(rt; written.as_str(), text);
     Ok(())
 }
 
@@ -150,23 +178,26 @@ fn refusals_have_their_numbers_and_texts(rt: HostRuntime) -> Result<(), Fail> {
         (Refusal::Output, 16, "the report could not be written"),
     ];
     for (refusal, code, text) in table {
-        assert_eq!(rt; refusal.code(), code);
-        assert_eq!(rt; format!(in alloc; "{refusal}")?.as_str(), text);
+        reads(&rt, alloc, refusal, code, text)?;
     }
-    assert_eq!(rt; Reason::NoReason.number(), 0);
-    assert_eq!(rt; Reason::SystemFailure.number(), 1);
+    same(&rt, Reason::NoReason.number(), 0);
+    same(&rt, Reason::SystemFailure.number(), 1);
     Ok(())
 }
 
+// A shape of these numbers.
+fn has_shape(rt: &impl Abort, harts: u64, pages: u64, lanes: u64) {
+    let shape = Shape::new(harts, pages, lanes).expect(rt, "a shape within the limits");
+    same(rt, shape.harts() as u64, harts);
+    same(rt, shape.pages() as u64, pages);
+    same(rt, shape.lanes() as u64, lanes);
+    same(rt, shape.ram_bytes() as u64, pages.wrapping_mul(4096));
+}
+
 #[test]
-fn shapes_end_at_their_limits(rt: HostRuntime) -> Result<(), Fail> {
-    for (harts, pages, lanes) in [(1, 1, 1), (8, 256, 4)] {
-        let shape = Shape::new(harts, pages, lanes).expect(&rt, "a shape within the limits");
-        assert_eq!(rt; shape.harts() as u64, harts);
-        assert_eq!(rt; shape.pages() as u64, pages);
-        assert_eq!(rt; shape.lanes() as u64, lanes);
-        assert_eq!(rt; shape.ram_bytes() as u64, pages * 4096);
-    }
+fn shapes_end_at_their_limits(rt: HostRuntime) {
+    has_shape(&rt, 1, 1, 1);
+    has_shape(&rt, 8, 256, 4);
     for (harts, pages, lanes) in [
         (0, 1, 1),
         (9, 1, 1),
@@ -176,51 +207,54 @@ fn shapes_end_at_their_limits(rt: HostRuntime) -> Result<(), Fail> {
         (1, 1, 5),
         (u64::MAX, 1, 1),
     ] {
-        assert_eq!(rt; Shape::new(harts, pages, lanes), Err(Refusal::BadShape));
+        same(&rt, Shape::new(harts, pages, lanes), Err(Refusal::BadShape));
     }
-    Ok(())
+}
+
+// A board of so many pages and lanes has so many places in a lane, and so many sectors.
+fn has_sectors(rt: &impl Abort, pages: u64, lanes: u64, places: usize, sectors: usize) {
+    let shape = Shape::new(1, pages, lanes).expect(rt, "a shape within the limits");
+    same(rt, shape.places(), places);
+    same(rt, shape.sectors(), sectors);
+    same(rt, shape.area_sectors(), sectors.saturating_sub(8) / 2);
 }
 
 /// Sizes from the table of worked scripts: 26 sectors for 1 page and 1 lane, 80 for 4 and 2, 152 for 5 and 4.
 #[test]
-fn shapes_need_so_many_sectors(rt: HostRuntime) -> Result<(), Fail> {
-    for (pages, lanes, places, sectors) in [
-        (1, 1, 1, 26),
-        (4, 2, 2, 80),
-        (5, 4, 2, 152),
-        (256, 1, 256, 4616),
-    ] {
-        let shape = Shape::new(1, pages, lanes).expect(&rt, "a shape within the limits");
-        assert_eq!(rt; shape.places(), places);
-        assert_eq!(rt; shape.sectors(), sectors);
-        assert_eq!(rt; shape.area_sectors(), (sectors - 8) / 2);
-    }
-    Ok(())
+fn shapes_need_so_many_sectors(rt: HostRuntime) {
+    has_sectors(&rt, 1, 1, 1, 26);
+    has_sectors(&rt, 4, 2, 2, 80);
+    has_sectors(&rt, 5, 4, 2, 152);
+    has_sectors(&rt, 256, 1, 256, 4616);
 }
 
 #[test]
-fn numbers_end_at_their_limits(rt: HostRuntime) -> Result<(), Fail> {
+fn numbers_of_a_shape_end_at_it(rt: HostRuntime) {
     let shape = Shape::new(2, 3, 1).expect(&rt, "a shape within the limits");
-    assert_eq!(rt; shape.hart(1).map(|h| h.number()), Some(1));
-    assert_eq!(rt; shape.hart(1).map(|h| h.index()), Some(1));
-    assert_eq!(rt; shape.hart(2), None);
-    assert_eq!(rt; HartId::new(7).map(|h| h.number()), Some(7));
-    assert_eq!(rt; HartId::new(8), None);
-    assert_eq!(rt; shape.page(2).map(|p| p.number()), Some(2));
-    assert_eq!(rt; shape.page(3), None);
-    assert_eq!(rt; PageNo::new(255).map(|p| p.index()), Some(255));
-    assert_eq!(rt; PageNo::new(256), None);
-    assert_eq!(rt; Slot::new(3).map(|s| s.index()), Some(3));
-    assert_eq!(rt; Slot::new(3).map(|s| s.number()), Some(3));
-    assert_eq!(rt; Slot::new(4), None);
-    Ok(())
+    same(&rt, shape.hart(1).map(HartId::number), Some(1));
+    same(&rt, shape.hart(1).map(HartId::index), Some(1));
+    same(&rt, shape.hart(2), None);
+    same(&rt, shape.page(2).map(PageNo::number), Some(2));
+    same(&rt, shape.page(3), None);
 }
 
 #[test]
-fn addresses_lie_in_ram_at_multiples_of_four(rt: HostRuntime) -> Result<(), Fail> {
+fn numbers_end_at_their_limits(rt: HostRuntime) {
+    same(&rt, HartId::new(7).map(HartId::number), Some(7));
+    same(&rt, HartId::new(8), None);
+    same(&rt, PageNo::new(255).map(PageNo::index), Some(255));
+    same(&rt, PageNo::new(256), None);
+    same(&rt, Slot::new(3).map(Slot::index), Some(3));
+    same(&rt, Slot::new(3).map(Slot::number), Some(3));
+    same(&rt, Slot::new(4), None);
+}
+
+#[test]
+fn addresses_lie_in_ram_at_multiples_of_four(rt: HostRuntime) {
     let shape = Shape::new(1, 2, 1).expect(&rt, "a shape within the limits");
     for address in [0x8000_0000, 0x8000_0004, 0x8000_1ffc] {
-        assert_eq!(rt; shape.address(address).map(|a| a.value()), Some(address));
+        let found = shape.address(address).map(Addr::value);
+        same(&rt, found, Some(address));
     }
     for address in [
         0,
@@ -231,12 +265,9 @@ fn addresses_lie_in_ram_at_multiples_of_four(rt: HostRuntime) -> Result<(), Fail
         u64::MAX - 3,
         0x1_8000_0000,
     ] {
-        assert_eq!(rt; shape.address(address), None);
+        same(&rt, shape.address(address), None);
     }
-    assert_eq!(rt;
-        Addr::new(0x800f_fffc).map(|a| a.value()),
-        Some(0x800f_fffc)
-    );
-    assert_eq!(rt; Addr::new(0x8010_0000), None);
-    Ok(())
+    let last = Addr::new(0x800f_fffc).map(Addr::value);
+    same(&rt, last, Some(0x800f_fffc));
+    same(&rt, Addr::new(0x8010_0000), None);
 }
