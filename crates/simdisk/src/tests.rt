@@ -6,8 +6,14 @@ use super::*;
 use board_model::Refusal;
 use disk::{Disk, Fault, Lane, read_sector, write_synced};
 use std::alloc::{AllocError, Global};
+use std::fmt::Debug;
 use std::process::Abort;
 use std::test::Fail;
+
+// These two have to be equal.
+fn same<T: PartialEq + Debug + Drop>(rt: &impl Abort, found: T, wanted: T) {
+    assert_eq!(rt; found, wanted);
+}
 
 // Writes one sector full of a byte.
 fn write_byte(rt: &impl Abort, disk: &mut SimDisk, at: usize, byte: u8) -> Result<(), Fault>
@@ -36,10 +42,10 @@ fn written_disk(rt: &impl Abort, alloc: Global) -> Result<SimDisk, Fail>
     ensures { IfOk result (λ disk. (⟦<SimDisk as Disk>⟧.facts disk).lent.lanes ≡ 0) }
 {
     let mut disk = SimDisk::blank(alloc, 4)?;
-    assert_eq!(rt; write_byte(rt, &mut disk, 1, 1), Ok(()));
-    assert_eq!(rt; disk.sync(), Ok(()));
-    assert_eq!(rt; write_byte(rt, &mut disk, 1, 2), Ok(()));
-    assert_eq!(rt; write_byte(rt, &mut disk, 2, 3), Ok(()));
+    same(rt, write_byte(rt, &mut disk, 1, 1), Ok(()));
+    same(rt, disk.sync(), Ok(()));
+    same(rt, write_byte(rt, &mut disk, 1, 2), Ok(()));
+    same(rt, write_byte(rt, &mut disk, 2, 3), Ok(()));
     Ok(disk)
 }
 
@@ -59,16 +65,16 @@ fn bytes_become_sectors(rt: HostRuntime) -> Result<(), Fail> {
     let mut bytes = [0; 1024];
     bytes[512] = 7;
     let disk = SimDisk::new(rt.alloc(), &bytes)?;
-    assert_eq!(rt; disk.sectors(), 2);
-    assert_eq!(rt; disk.content()[1][0], 7);
-    assert_eq!(rt; disk.failures(), 0);
+    same(&rt, disk.sectors(), 2);
+    same(&rt, disk.content()[1][0], 7);
+    same(&rt, disk.failures(), 0);
     for short in [1, 511, 513, 1023] {
         match SimDisk::new(rt.alloc(), &bytes[..short]) {
             Ok(_) => return Err("a part of a sector")?,
-            Err(refusal) => assert_eq!(rt; refusal, Refusal::BadShape),
+            Err(refusal) => same(&rt, refusal, Refusal::BadShape),
         }
     }
-    assert_eq!(rt; SimDisk::new(rt.alloc(), &[])?.sectors(), 0);
+    same(&rt, SimDisk::new(rt.alloc(), &[])?.sectors(), 0);
     Ok(())
 }
 
@@ -81,10 +87,11 @@ fn each_choice_leaves_its_bytes(rt: HostRuntime) -> Result<(), Fail> {
         (Choice::New, [0, 2, 3, 0]),
     ] {
         let mut disk = written_disk(&rt, rt.alloc())?.after_cut(choice);
-        assert_eq!(rt; contents(&rt, &disk), left, "{choice:?}");
-        assert_eq!(rt; read_byte(&rt, &mut disk, 1), Ok(left[1]));
+        same(&rt, contents(&rt, &disk), left);
+        same(&rt, read_byte(&rt, &mut disk, 1), Ok(left[1]));
+        // What is left is durable.
         let disk = disk.after_cut(Choice::Byte(9));
-        assert_eq!(rt; contents(&rt, &disk), left, "what is left is durable");
+        same(&rt, contents(&rt, &disk), left);
     }
     Ok(())
 }
@@ -98,18 +105,16 @@ fn a_failed_write_stays_and_counts_as_written(rt: HostRuntime) -> Result<(), Fai
     ] {
         let mut disk = SimDisk::blank(rt.alloc(), 4)?;
         disk.fail_at(2);
-        assert_eq!(rt; disk.sync(), Ok(()));
-        assert_eq!(rt; write_byte(&rt, &mut disk, 1, 5), Err(Fault));
-        assert_eq!(rt; disk.failures(), 1);
-        assert_eq!(rt;
-            read_byte(&rt, &mut disk, 1),
-            Ok(0),
-            "a struck fault is gone"
-        );
-        assert!(rt; !disk.struck());
+        same(&rt, disk.sync(), Ok(()));
+        same(&rt, write_byte(&rt, &mut disk, 1, 5), Err(Fault));
+        same(&rt, disk.failures(), 1);
+        // A struck fault is gone.
+        same(&rt, read_byte(&rt, &mut disk, 1), Ok(0));
+        same(&rt, disk.struck(), false);
+        // The count goes on.
         let disk = disk.after_cut(choice);
-        assert_eq!(rt; contents(&rt, &disk), left, "{choice:?}");
-        assert_eq!(rt; disk.failures(), 1, "the count goes on");
+        same(&rt, contents(&rt, &disk), left);
+        same(&rt, disk.failures(), 1);
     }
     Ok(())
 }
@@ -117,11 +122,11 @@ fn a_failed_write_stays_and_counts_as_written(rt: HostRuntime) -> Result<(), Fai
 #[test]
 fn a_failed_sync_makes_nothing_durable(rt: HostRuntime) -> Result<(), Fail> {
     let mut disk = SimDisk::blank(rt.alloc(), 4)?;
-    assert_eq!(rt; write_byte(&rt, &mut disk, 3, 5), Ok(()));
+    same(&rt, write_byte(&rt, &mut disk, 3, 5), Ok(()));
     disk.fail_at(1);
-    assert_eq!(rt; disk.sync(), Err(Fault));
+    same(&rt, disk.sync(), Err(Fault));
     let disk = disk.after_cut(Choice::Old);
-    assert_eq!(rt; contents(&rt, &disk), [0, 0, 0, 0]);
+    same(&rt, contents(&rt, &disk), [0, 0, 0, 0]);
     Ok(())
 }
 
@@ -130,23 +135,21 @@ fn after_a_cut_every_call_fails(rt: HostRuntime) -> Result<(), Fail> {
     let mut disk = written_disk(&rt, rt.alloc())?;
     disk.fail_at(1);
     disk.cut_at(2);
-    assert_eq!(rt;
-        read_byte(&rt, &mut disk, 2),
-        Ok(3),
-        "the older fault is gone"
-    );
-    assert!(rt; !disk.struck());
-    assert_eq!(rt; write_byte(&rt, &mut disk, 3, 7), Err(Fault));
-    assert!(rt; disk.struck());
-    assert_eq!(rt; read_byte(&rt, &mut disk, 2), Err(Fault));
-    assert_eq!(rt; disk.sync(), Err(Fault));
-    assert_eq!(rt; disk.failures(), 3);
+    // The older fault is gone.
+    same(&rt, read_byte(&rt, &mut disk, 2), Ok(3));
+    same(&rt, disk.struck(), false);
+    same(&rt, write_byte(&rt, &mut disk, 3, 7), Err(Fault));
+    same(&rt, disk.struck(), true);
+    same(&rt, read_byte(&rt, &mut disk, 2), Err(Fault));
+    same(&rt, disk.sync(), Err(Fault));
+    same(&rt, disk.failures(), 3);
     let mut disk = disk.after_cut(Choice::New);
-    assert_eq!(rt; contents(&rt, &disk), [0, 2, 3, 7]);
-    assert!(rt; !disk.struck());
-    assert_eq!(rt; disk.sync(), Ok(()), "power is back");
-    assert_eq!(rt; disk.failures(), 3);
-    assert_eq!(rt; disk.refused(), 0);
+    same(&rt, contents(&rt, &disk), [0, 2, 3, 7]);
+    same(&rt, disk.struck(), false);
+    // Power is back.
+    same(&rt, disk.sync(), Ok(()));
+    same(&rt, disk.failures(), 3);
+    same(&rt, disk.refused(), 0);
     Ok(())
 }
 
@@ -160,24 +163,25 @@ fn nearly_spent(mut disk: SimDisk) -> SimDisk {
 fn the_count_of_failures_stays_at_its_end(rt: HostRuntime) -> Result<(), Fail> {
     let mut disk = nearly_spent(SimDisk::blank(rt.alloc(), 4)?);
     disk.fail_at(1);
-    assert_eq!(rt; disk.sync(), Err(Fault));
-    assert_eq!(rt; disk.failures(), u64::MAX);
+    same(&rt, disk.sync(), Err(Fault));
+    same(&rt, disk.failures(), u64::MAX);
     disk.fail_at(1);
-    assert_eq!(rt; disk.sync(), Err(Fault));
-    assert_eq!(rt; disk.failures(), u64::MAX);
-    assert_eq!(rt; disk.after_cut(Choice::Old).failures(), u64::MAX);
+    same(&rt, disk.sync(), Err(Fault));
+    same(&rt, disk.failures(), u64::MAX);
+    same(&rt, disk.after_cut(Choice::Old).failures(), u64::MAX);
     Ok(())
 }
 
 #[test]
 fn one_sector_is_written_synced_and_read(rt: HostRuntime) -> Result<(), Fail> {
     let mut disk = SimDisk::blank(rt.alloc(), 4)?;
-    assert_eq!(rt; write_synced(&mut disk, 2, &[6; 512]), Ok(()));
+    same(&rt, write_synced(&mut disk, 2, &[6; 512]), Ok(()));
     assert!(rt; disk.sectors() == 4);
-    assert_eq!(rt; read_sector(&mut disk, 2), Ok([6; 512]));
-    assert_eq!(rt;
+    same(&rt, read_sector(&mut disk, 2), Ok([6; 512]));
+    same(
+        &rt,
         contents(&rt, &disk.after_cut(Choice::Byte(9))),
-        [0, 0, 6, 0]
+        [0, 0, 6, 0],
     );
     Ok(())
 }
@@ -238,16 +242,16 @@ fn a_cut_lane_takes_the_disk_along_at_the_join(rt: HostRuntime) -> Result<(), Fa
         let Some(mut lane) = lanes.pop() else {
             return Err("no lane")?;
         };
-        assert_eq!(rt; lane_write(&rt, &mut lane, 1, 5), Ok(()));
-        assert_eq!(rt; lane_write(&rt, &mut lane, 2, 6), Err(Fault));
-        assert_eq!(rt; lane_write(&rt, &mut lane, 3, 7), Err(Fault));
-        assert!(rt; !disk.struck());
+        same(&rt, lane_write(&rt, &mut lane, 1, 5), Ok(()));
+        same(&rt, lane_write(&rt, &mut lane, 2, 6), Err(Fault));
+        same(&rt, lane_write(&rt, &mut lane, 3, 7), Err(Fault));
+        same(&rt, disk.struck(), false);
         join_one(&rt, &mut disk, rt.alloc(), lane)?;
-        assert!(rt; disk.struck());
-        assert_eq!(rt; (disk.failures(), disk.refused()), (2, 0));
-        assert_eq!(rt; disk.sync(), Err(Fault));
-        assert_eq!(rt; contents(&rt, &disk), [0, 5, 0, 0]);
-        assert_eq!(rt; contents(&rt, &disk.after_cut(choice)), left, "{choice:?}");
+        same(&rt, disk.struck(), true);
+        same(&rt, (disk.failures(), disk.refused()), (2, 0));
+        same(&rt, disk.sync(), Err(Fault));
+        same(&rt, contents(&rt, &disk), [0, 5, 0, 0]);
+        same(&rt, contents(&rt, &disk.after_cut(choice)), left);
     }
     Ok(())
 }
@@ -265,13 +269,14 @@ fn a_lane_counts_its_calls_from_split_to_split(rt: HostRuntime) -> Result<(), Fa
             let _ = lane_write(&rt, &mut lane, 0, 5);
         }
         join_one(&rt, &mut disk, rt.alloc(), lane)?;
-        assert_eq!(rt; (disk.failures(), disk.refused()), (failures, 0));
-        assert!(rt; !disk.struck());
+        same(&rt, (disk.failures(), disk.refused()), (failures, 0));
+        same(&rt, disk.struck(), false);
     }
-    assert_eq!(rt; disk.sync(), Ok(()));
-    assert_eq!(rt;
+    same(&rt, disk.sync(), Ok(()));
+    same(
+        &rt,
         contents(&rt, &disk.after_cut(Choice::Byte(9))),
-        [0, 5, 0, 0]
+        [0, 5, 0, 0],
     );
     Ok(())
 }
@@ -287,10 +292,10 @@ fn other_lanes_go_on_after_a_cut(rt: HostRuntime) -> Result<(), Fail> {
     let Some(mut first) = lanes.pop() else {
         return Err("no first lane")?;
     };
-    assert_eq!(rt; lane_write(&rt, &mut second, 0, 5), Err(Fault));
-    assert_eq!(rt; lane_write(&rt, &mut first, 0, 5), Ok(()));
-    assert_eq!(rt; lane_write(&rt, &mut second, 1, 5), Err(Fault));
-    assert_eq!(rt; (first.failures(), second.failures()), (0, 2));
+    same(&rt, lane_write(&rt, &mut second, 0, 5), Err(Fault));
+    same(&rt, lane_write(&rt, &mut first, 0, 5), Ok(()));
+    same(&rt, lane_write(&rt, &mut second, 1, 5), Err(Fault));
+    same(&rt, (first.failures(), second.failures()), (0, 2));
     Ok(())
 }
 
@@ -301,10 +306,14 @@ fn a_refused_growth_is_counted_and_changes_nothing(rt: HostRuntime) -> Result<()
         return Ok(());
     };
     let wrote = write_byte(&rt, &mut disk, 1, 5).is_ok();
-    assert_eq!(rt; contents(&rt, &disk), [0, if wrote { 5 } else { 0 }, 0, 0]);
+    same(
+        &rt,
+        contents(&rt, &disk),
+        [0, if wrote { 5 } else { 0 }, 0, 0],
+    );
     let synced = disk.sync().is_ok();
     let failures = u64::from(!wrote) + u64::from(!synced);
-    assert_eq!(rt; (disk.failures(), disk.refused()), (failures, failures));
+    same(&rt, (disk.failures(), disk.refused()), (failures, failures));
     let lent = match lend_some(&rt, &mut disk, 0, 2, 2) {
         Ok(lanes) => {
             disk.join(lanes);
@@ -312,13 +321,13 @@ fn a_refused_growth_is_counted_and_changes_nothing(rt: HostRuntime) -> Result<()
         }
         Err(_) => false,
     };
-    assert_eq!(rt; (disk.failures(), disk.refused()), (failures, failures));
+    same(&rt, (disk.failures(), disk.refused()), (failures, failures));
     let left = match (lent, wrote, synced) {
         (true, _, _) => [9, 9, 9, 9],
         (false, true, true) => [0, 5, 0, 0],
         (false, true, false) => [0, 9, 0, 0],
         (false, false, _) => [0, 0, 0, 0],
     };
-    assert_eq!(rt; contents(&rt, &disk.after_cut(Choice::Byte(9))), left);
+    same(&rt, contents(&rt, &disk.after_cut(Choice::Byte(9))), left);
     Ok(())
 }
