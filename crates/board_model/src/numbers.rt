@@ -37,6 +37,7 @@ impl HartId {
         }
     }
 
+    /// The number, 0 to 7.
     pub fn number(self) -> u32
         ensures value { result ≡ self }
         ensures range { result < 8 }
@@ -84,6 +85,7 @@ impl PageNo {
         }
     }
 
+    /// The number, 0 to 255.
     pub fn number(self) -> u32
         ensures value { result ≡ self }
         ensures range { result < 256 }
@@ -129,6 +131,7 @@ impl Slot {
         }
     }
 
+    /// The number, 0 to 3.
     pub fn number(self) -> u32
         ensures value { result ≡ self }
         ensures range { result ≤ 3 }
@@ -175,6 +178,7 @@ impl Addr {
         Some(Addr { address })
     }
 
+    /// The address in bytes: from 0x80000000 on, a multiple of 4.
     pub fn value(self) -> u64
         ensures value { result ≡ self }
         ensures range { IsAddressIn (256 * 4096) result }

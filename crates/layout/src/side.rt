@@ -39,6 +39,7 @@ impl Side {
         }
     }
 
+    /// The number, 0 or 1.
     pub fn number(self) -> u32
         ensures value { result ≡ self }
         ensures range { result < 2 }

@@ -25,6 +25,7 @@ impl Model for Reg {
 }
 
 impl Reg {
+    /// The register of that number, 0 to 31.
     pub fn new(number: u8) -> Self
         requires { IsReg number }
         ensures { result ≡ number }
@@ -32,6 +33,7 @@ impl Reg {
         Reg { number }
     }
 
+    /// The number, 0 to 31.
     pub fn number(self) -> u8
         ensures value { result ≡ self }
         ensures range { IsReg result }
@@ -57,6 +59,7 @@ impl Model for Shamt {
 }
 
 impl Shamt {
+    /// A shift by so many bits, 0 to 63.
     pub fn new(amount: u8) -> Self
         requires { IsShamt amount }
         ensures { result ≡ amount }
@@ -64,6 +67,7 @@ impl Shamt {
         Shamt { amount }
     }
 
+    /// The number of bits, 0 to 63.
     pub fn amount(self) -> u8
         ensures value { result ≡ self }
         ensures range { IsShamt result }
@@ -89,6 +93,7 @@ impl Model for WordShamt {
 }
 
 impl WordShamt {
+    /// A shift by so many bits, 0 to 31.
     pub fn new(amount: u8) -> Self
         requires { IsWordShamt amount }
         ensures { result ≡ amount }
@@ -96,6 +101,7 @@ impl WordShamt {
         WordShamt { amount }
     }
 
+    /// The number of bits, 0 to 31.
     pub fn amount(self) -> u8
         ensures value { result ≡ self }
         ensures range { IsWordShamt result }
@@ -121,6 +127,7 @@ impl Model for CsrUimm {
 }
 
 impl CsrUimm {
+    /// That operand, 0 to 31.
     pub fn new(value: u8) -> Self
         requires { IsCsrUimm value }
         ensures { result ≡ value }
@@ -128,6 +135,7 @@ impl CsrUimm {
         CsrUimm { value }
     }
 
+    /// The operand, 0 to 31.
     pub fn value(self) -> u8
         ensures value { result ≡ self }
         ensures range { IsCsrUimm result }
@@ -153,6 +161,7 @@ impl Model for Imm20 {
 }
 
 impl Imm20 {
+    /// That immediate, 0 to 2^20 - 1.
     pub fn new(value: u32) -> Self
         requires { IsImm20 value }
         ensures { result ≡ value }
@@ -160,6 +169,7 @@ impl Imm20 {
         Imm20 { value }
     }
 
+    /// The immediate, 0 to 2^20 - 1, as it stands in the word: the number that is loaded has it in bits 31 to 12.
     pub fn value(self) -> u32
         ensures value { result ≡ self }
         ensures range { IsImm20 result }
@@ -185,6 +195,7 @@ impl Model for CsrNumber {
 }
 
 impl CsrNumber {
+    /// The register of that number, 0 to 0xfff.
     pub fn new(number: u16) -> Self
         requires { IsCsrNumber number }
         ensures { result ≡ number }
@@ -192,6 +203,7 @@ impl CsrNumber {
         CsrNumber { number }
     }
 
+    /// The number, 0 to 0xfff.
     pub fn number(self) -> u16
         ensures value { result ≡ self }
         ensures range { IsCsrNumber result }
@@ -217,6 +229,7 @@ impl Model for Imm12 {
 }
 
 impl Imm12 {
+    /// That immediate, -2,048 to 2,047.
     pub fn new(value: i32) -> Self
         requires { IsImm12 value }
         ensures { result ≡ value }
@@ -224,6 +237,7 @@ impl Imm12 {
         Imm12 { value }
     }
 
+    /// The immediate, -2,048 to 2,047.
     pub fn value(self) -> i32
         ensures value { result ≡ self }
         ensures range { IsImm12 result }
@@ -249,6 +263,7 @@ impl Model for BranchOffset {
 }
 
 impl BranchOffset {
+    /// That many bytes: even, -4,096 to 4,094.
     pub fn new(value: i32) -> Self
         requires { IsBranchOffset value }
         ensures { result ≡ value }
@@ -256,6 +271,7 @@ impl BranchOffset {
         BranchOffset { value }
     }
 
+    /// The distance in bytes: even, -4,096 to 4,094.
     pub fn value(self) -> i32
         ensures value { result ≡ self }
         ensures range { IsBranchOffset result }
@@ -281,6 +297,7 @@ impl Model for JumpOffset {
 }
 
 impl JumpOffset {
+    /// That many bytes: even, -1,048,576 to 1,048,574.
     pub fn new(value: i32) -> Self
         requires { IsJumpOffset value }
         ensures { result ≡ value }
@@ -288,6 +305,7 @@ impl JumpOffset {
         JumpOffset { value }
     }
 
+    /// The distance in bytes: even, -1,048,576 to 1,048,574.
     pub fn value(self) -> i32
         ensures value { result ≡ self }
         ensures range { IsJumpOffset result }
