@@ -61,6 +61,23 @@ pub one_rest : (vs : List Diary) → 0 < length vs → take 1 vs ∷ one_by_one 
 one_rest [] pos = absurd (omega arith)
 one_rest (v ∷ vs) pos = refl
 
+numbers_append : (vs ws : List Diary) → numbers (vs ++ ws) ≡ numbers vs ++ numbers ws
+numbers_append [] ws = refl
+numbers_append (v ∷ vs) ws = ap (λ (l : List ℕ). v.hart ∷ l) (numbers_append vs ws)
+
+-- seats of one hart each, in the order of their numbers, have the harts in that order
+pub all_in_order : (t : PendingTable) (ss : List S) (first : ℕ) → AreSeatsOf t ss
+    → ((i : ℕ) (s : Seat (Unit {0}) Crew) → slice_get ss i ≡ Some (Some s) → numbers (diaries_in s) ≡ (first + i) ∷ [])
+    → numbers (all_diaries ss) ≡ numbers_from first (length ss)
+all_in_order t [] first are order = refl
+all_in_order t (None ∷ ss) first are order = absurd are.0
+all_in_order t (Some s ∷ ss) first are order =
+    let here : numbers (diaries_in s) ≡ first ∷ [] = order 0 s refl ∙ ap (λ (k : ℕ). k ∷ []) (let e : first + 0 ≡ first = omega arith in e) in
+    let next : (i : ℕ) (u : Seat (Unit {0}) Crew) → slice_get ss i ≡ Some (Some u) → numbers (diaries_in u) ≡ (suc first + i) ∷ [] =
+    λ i u at. order (suc i) u at ∙ ap (λ (k : ℕ). k ∷ []) (let e : first + suc i ≡ suc first + i = omega arith in e) in
+    numbers_append (diaries_in s) (all_diaries ss)
+    ∙ (ap (λ (l : List ℕ). l ++ numbers (all_diaries ss)) here ∙ ap (λ (l : List ℕ). first ∷ l) (all_in_order t ss (suc first) are.1 next))
+
 pub length_numbers : (vs : List Diary) → length (numbers vs) ≡ length vs
 length_numbers [] = refl
 length_numbers (v ∷ vs) = ap suc (length_numbers vs)

@@ -82,12 +82,14 @@ impl PendingTable {
         seats
     }
 
-    /// The seats of a list in one, which has their harts in the order of the list. It undoes `split`.
+    /// The seats of a list in one, which has their harts in the order of the list. It undoes `split`: a seat for each hart, in
+    /// the order of their numbers, makes the seat of all harts again.
     pub fn join(&self, seats: Seats) -> IpiSeat
         requires seats { AreSeatsOf self.now seats.items }
         requires some { 0 < array_vec_len seats }
         ensures seat { IsSeatOf self.now result }
         ensures harts { diaries_in result ≡ all_diaries seats.items }
+        ensures all { AreInOrder seats.items → array_vec_len seats ≡ harts_of self.now → IsOfAll self.now result }
     {
         let mut seats = seats;
         let last = seats.pop().unwrap();

@@ -1,8 +1,10 @@
-use Rattle.std.proofs.Common.{◌≡◌, ◌++◌, List, [], ◌∷◌, sym, ap, ◌∙◌, append_assoc}
+use Rattle.std.proofs.Common.{◌≡◌, ◌++◌, ◌+◌, ℕ, List, [], ◌∷◌, Some, slice_get, sym, ap, ◌∙◌, append_assoc, arith, rules}
+use Rattle.atomic_table.specs.declared.shared.Seat.{Seat}
+use Rattle.hsm_words.specs.Words.{numbers, numbers_from}
 use Rattle.hsm_words.specs.declared.view.HartView.{HartView}
 use Rattle.hsm_words.specs.declared.view.Crew.{Crew}
 use Rattle.hsm_steps.specs.Seating.{harts_in, all_harts}
-use Rattle.hsm_steps.proofs.Lists.{are_pop, is_some, last_seat}
+use Rattle.hsm_steps.proofs.Lists.{all_in_order, are_pop, is_some, last_seat}
 use Rattle.hsm_steps.proofs.table.HartTable.join.Goals as goal
 
 pub unwrap-whole-requires : goal.unwrap-whole-requires
@@ -37,3 +39,10 @@ loop-before-preserved c =
           ∙ (sym (append_assoc (all_harts new) (harts_in c.unwrap.result) (harts_in c.loop-before.whole))
           ∙ (ap (λ (l : List HartView). l ++ harts_in c.loop-before.whole) (sym p.2) ∙ c.loop-before.invariant.harts));
     }
+
+pub returns-clause-all : goal.returns-clause-all
+returns-clause-all c = λ order count.
+    let whole : harts_in c.loop-before.whole ≡ all_harts c.args.seats.items = search rules in
+    let from_0 = λ (i : ℕ) (s : Seat (Unit {0}) Crew) (at : slice_get c.args.seats.items i ≡ Some (Some s)).
+    order i s at ∙ ap (λ (k : ℕ). k ∷ []) (let e : i ≡ 0 + i = omega arith in e) in
+    ap numbers whole ∙ (all_in_order c.args.self.now c.args.seats.items 0 c.requires.seats from_0 ∙ ap (numbers_from 0) count)
