@@ -159,7 +159,8 @@ fn write_at<W: fmt::Write>(
 
 impl fmt::Display for Instr {
     fn fmt<W: fmt::Write>(&self, f: &mut fmt::Formatter<W>) -> fmt::Result {
-        by_group!(*self;
+        let i = *self;
+        by_group!(i;
             Upper(op, rd, imm) => write_two(f, tables::upper_name(op), rd, imm),
             Jal(rd, offset) => write_two(f, "jal", rd, offset),
             Jalr(rd, rs1, imm) => write_at(f, "jalr", rd, imm, rs1),
