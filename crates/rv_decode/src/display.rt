@@ -86,45 +86,6 @@ impl fmt::Display for CsrNumber {
     }
 }
 
-/// A set of the accesses that a FENCE orders: device input 8, device output 4, reads 2, writes 1.
-#[derive(Clone, Copy, Drop)]
-struct Accesses(i32);
-
-impl fmt::Display for Accesses {
-    fn fmt<W: fmt::Write>(&self, f: &mut fmt::Formatter<W>) -> fmt::Result {
-        for (weight, letter) in [(8, "i"), (4, "o"), (2, "r"), (1, "w")] {
-            if self.0 & weight != 0 {
-                write!(f, "{letter}")?;
-            }
-        }
-        Ok(())
-    }
-}
-
-/// The immediate of FENCE.TSO, 0x833 in two's complement.
-const FENCE_TSO: i32 = 0x833 - 0x1000;
-
-/// FENCE, whose immediate has the mode in its bits 11 to 8, the accesses before it in 7 to 4 and
-/// those after it in 3 to 0 (RISC-V Unprivileged ISA 20191213, section 2.7).
-fn write_fence<W: fmt::Write>(
-    f: &mut fmt::Formatter<W>,
-    rd: Reg,
-    rs1: Reg,
-    imm: Imm12,
-) -> fmt::Result {
-    let value = imm.value();
-    let (before, after) = (value >> 4, value & 15);
-    if rd.number() == 0 && rs1.number() == 0 {
-        if value == FENCE_TSO {
-            return write!(f, "fence.tso");
-        }
-        if 1 <= before && before <= 15 && after != 0 {
-            return write!(f, "fence {},{}", Accesses(before), Accesses(after));
-        }
-    }
-    write!(f, ".insn i 0x0f,0,{rd},{rs1},{imm}")
-}
-
 /// A name and two operands, as `lui x1,0x2`.
 fn write_two<W: fmt::Write>(
     f: &mut fmt::Formatter<W>,
@@ -155,6 +116,45 @@ fn write_at<W: fmt::Write>(
     base: Reg,
 ) -> fmt::Result {
     write!(f, "{name} {register},{imm}({base})")
+}
+
+/// A set of the accesses that a FENCE orders: device input 8, device output 4, reads 2, writes 1.
+#[derive(Clone, Copy, Drop)]
+struct Accesses(i32);
+
+impl fmt::Display for Accesses {
+    fn fmt<W: fmt::Write>(&self, f: &mut fmt::Formatter<W>) -> fmt::Result {
+        for (weight, letter) in [(8, "i"), (4, "o"), (2, "r"), (1, "w")] {
+            if self.0 & weight != 0 {
+                f.write_str(letter)?;
+            }
+        }
+        Ok(())
+    }
+}
+
+/// The immediate of FENCE.TSO, 0x833 in two's complement.
+const FENCE_TSO: i32 = 0x833 - 0x1000;
+
+/// FENCE, whose immediate has the mode in its bits 11 to 8, the accesses before it in 7 to 4 and
+/// those after it in 3 to 0 (RISC-V Unprivileged ISA 20191213, section 2.7).
+fn write_fence<W: fmt::Write>(
+    f: &mut fmt::Formatter<W>,
+    rd: Reg,
+    rs1: Reg,
+    imm: Imm12,
+) -> fmt::Result {
+    let value = imm.value();
+    let (before, after) = (value >> 4, value & 15);
+    if rd.number() == 0 && rs1.number() == 0 {
+        if value == FENCE_TSO {
+            return f.write_str("fence.tso");
+        }
+        if 1 <= before && before <= 15 && after != 0 {
+            return write_two(f, "fence", Accesses(before), Accesses(after));
+        }
+    }
+    write!(f, ".insn i 0x0f,0,{rd},{rs1},{imm}")
 }
 
 impl fmt::Display for Instr {
