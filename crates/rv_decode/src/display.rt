@@ -61,21 +61,61 @@ impl fmt::Display for JumpOffset {
     }
 }
 
+/// The name of a control and status register of this profile (RISC-V privileged ISA, supervisor CSRs).
+fn csr_name(number: u16) -> Option<&'static str> {
+    Some(match number {
+        0x100 => "sstatus",
+        0x104 => "sie",
+        0x105 => "stvec",
+        0x140 => "sscratch",
+        0x141 => "sepc",
+        0x142 => "scause",
+        0x143 => "stval",
+        0x144 => "sip",
+        0x180 => "satp",
+        _ => return None,
+    })
+}
+
 impl fmt::Display for CsrNumber {
     fn fmt<W: fmt::Write>(&self, f: &mut fmt::Formatter<W>) -> fmt::Result {
-        match self.number() {
-            0x100 => write!(f, "sstatus"),
-            0x104 => write!(f, "sie"),
-            0x105 => write!(f, "stvec"),
-            0x140 => write!(f, "sscratch"),
-            0x141 => write!(f, "sepc"),
-            0x142 => write!(f, "scause"),
-            0x143 => write!(f, "stval"),
-            0x144 => write!(f, "sip"),
-            0x180 => write!(f, "satp"),
-            number => write!(f, "{number:#x}"),
+        match csr_name(self.number()) {
+            Some(name) => f.write_str(name),
+            None => write!(f, "{:#x}", self.number()),
         }
     }
+}
+
+/// A name and two operands, as `lui x1,0x2`.
+fn write_two<W: fmt::Write>(
+    f: &mut fmt::Formatter<W>,
+    name: &str,
+    a: impl fmt::Display + Drop,
+    b: impl fmt::Display + Drop,
+) -> fmt::Result {
+    write!(f, "{name} {a},{b}")
+}
+
+/// A name and three operands, as `add x1,x2,x3`.
+fn write_three<W: fmt::Write>(
+    f: &mut fmt::Formatter<W>,
+    name: &str,
+    a: impl fmt::Display + Drop,
+    b: impl fmt::Display + Drop,
+    c: impl fmt::Display + Drop,
+) -> fmt::Result {
+    write!(f, "{name} {a},{b},{c}")
+}
+
+/// A name, a register and an address, as `lw x1,8(x2)`.
+fn write_at<W: fmt::Write>(
+    f: &mut fmt::Formatter<W>,
+    name: &str,
+    register: Reg,
+    imm: Imm12,
+    base: Reg,
+) -> fmt::Result {
+    write!(f, "{name} {register},{imm}({base})")
 }
 
 /// A set of the accesses that a FENCE orders: device input 8, device output 4, reads 2, writes 1.
@@ -86,7 +126,7 @@ impl fmt::Display for Accesses {
     fn fmt<W: fmt::Write>(&self, f: &mut fmt::Formatter<W>) -> fmt::Result {
         for (weight, letter) in [(8, "i"), (4, "o"), (2, "r"), (1, "w")] {
             if self.0 & weight != 0 {
-                write!(f, "{letter}")?;
+                f.write_str(letter)?;
             }
         }
         Ok(())
@@ -108,10 +148,10 @@ fn write_fence<W: fmt::Write>(
     let (before, after) = (value >> 4, value & 15);
     if rd.number() == 0 && rs1.number() == 0 {
         if value == FENCE_TSO {
-            return write!(f, "fence.tso");
+            return f.write_str("fence.tso");
         }
         if 1 <= before && before <= 15 && after != 0 {
-            return write!(f, "fence {},{}", Accesses(before), Accesses(after));
+            return write_two(f, "fence", Accesses(before), Accesses(after));
         }
     }
     write!(f, ".insn i 0x0f,0,{rd},{rs1},{imm}")
@@ -119,23 +159,24 @@ fn write_fence<W: fmt::Write>(
 
 impl fmt::Display for Instr {
     fn fmt<W: fmt::Write>(&self, f: &mut fmt::Formatter<W>) -> fmt::Result {
-        by_group!(*self;
-            Upper(op, rd, imm) => write!(f, "{} {rd},{imm}", tables::upper_name(op)),
-            Jal(rd, offset) => write!(f, "jal {rd},{offset}"),
-            Jalr(rd, rs1, imm) => write!(f, "jalr {rd},{imm}({rs1})"),
-            Branch(op, rs1, rs2, offset) => write!(f, "{} {rs1},{rs2},{offset}", tables::branch_name(op)),
-            Load(op, rd, rs1, imm) => write!(f, "{} {rd},{imm}({rs1})", tables::load_name(op)),
-            Store(op, rs1, rs2, imm) => write!(f, "{} {rs2},{imm}({rs1})", tables::store_name(op)),
-            Imm(op, rd, rs1, imm) => write!(f, "{} {rd},{rs1},{imm}", tables::imm_name(op)),
-            Shift(op, rd, rs1, amount) => write!(f, "{} {rd},{rs1},{amount}", tables::shift_name(op)),
-            Arith(op, rd, rs1, rs2) => write!(f, "{} {rd},{rs1},{rs2}", tables::arith_name(op)),
-            AddWord(rd, rs1, imm) => write!(f, "addiw {rd},{rs1},{imm}"),
-            ShiftWord(op, rd, rs1, amount) => write!(f, "{} {rd},{rs1},{amount}", tables::shift_word_name(op)),
-            ArithWord(op, rd, rs1, rs2) => write!(f, "{} {rd},{rs1},{rs2}", tables::arith_word_name(op)),
+        let i = *self;
+        by_group!(i;
+            Upper(op, rd, imm) => write_two(f, tables::upper_name(op), rd, imm),
+            Jal(rd, offset) => write_two(f, "jal", rd, offset),
+            Jalr(rd, rs1, imm) => write_at(f, "jalr", rd, imm, rs1),
+            Branch(op, rs1, rs2, offset) => write_three(f, tables::branch_name(op), rs1, rs2, offset),
+            Load(op, rd, rs1, imm) => write_at(f, tables::load_name(op), rd, imm, rs1),
+            Store(op, rs1, rs2, imm) => write_at(f, tables::store_name(op), rs2, imm, rs1),
+            Imm(op, rd, rs1, imm) => write_three(f, tables::imm_name(op), rd, rs1, imm),
+            Shift(op, rd, rs1, amount) => write_three(f, tables::shift_name(op), rd, rs1, amount),
+            Arith(op, rd, rs1, rs2) => write_three(f, tables::arith_name(op), rd, rs1, rs2),
+            AddWord(rd, rs1, imm) => write_three(f, "addiw", rd, rs1, imm),
+            ShiftWord(op, rd, rs1, amount) => write_three(f, tables::shift_word_name(op), rd, rs1, amount),
+            ArithWord(op, rd, rs1, rs2) => write_three(f, tables::arith_word_name(op), rd, rs1, rs2),
             Fence(rd, rs1, imm) => write_fence(f, rd, rs1, imm),
-            Csr(op, rd, rs1, csr) => write!(f, "{} {rd},{csr},{rs1}", tables::csr_name(op)),
-            CsrImm(op, rd, uimm, csr) => write!(f, "{} {rd},{csr},{uimm}", tables::csr_imm_name(op)),
-            System(op) => write!(f, "{}", tables::system_name(op)),
+            Csr(op, rd, rs1, csr) => write_three(f, tables::csr_name(op), rd, csr, rs1),
+            CsrImm(op, rd, uimm, csr) => write_three(f, tables::csr_imm_name(op), rd, csr, uimm),
+            System(op) => f.write_str(tables::system_name(op)),
         )
     }
 }

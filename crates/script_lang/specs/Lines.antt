@@ -10,26 +10,36 @@ use Rattle.script_lang.specs.declared.line.Line.{Line}
 use Rattle.script_lang.specs.declared.line.Line.TheVariants.{Format, Discard, Pending}
 use lib.Chars.{codes}
 
+-- the keywords by their words
+abbrev pub keywords_by_word : List (List ℕ × Keyword)
+keywords_by_word =
+    (codes "payload", keywords.Payload) ∷
+    (codes "format", keywords.Format) ∷
+    (codes "on", keywords.On) ∷
+    (codes "slot", keywords.Slot) ∷
+    (codes "discard", keywords.Discard) ∷
+    (codes "turn", keywords.Turn) ∷
+    (codes "call", keywords.Call) ∷
+    (codes "reg", keywords.Reg) ∷
+    (codes "pc", keywords.Pc) ∷
+    (codes "csr", keywords.Csr) ∷
+    (codes "pending", keywords.Pending) ∷
+    (codes "mem", keywords.Mem) ∷
+    (codes "cutat", keywords.CutAt) ∷
+    (codes "cutlane", keywords.CutLane) ∷
+    (codes "failat", keywords.FailAt) ∷
+    (codes "faillane", keywords.FailLane) ∷
+    (codes "cut", keywords.Cut) ∷
+    (codes "poke", keywords.Poke) ∷
+    []
+
+-- the keyword of the first row with this word
+abbrev pub keyword_in : List (List ℕ × Keyword) → List ℕ → Option Keyword
+keyword_in [] word = None
+keyword_in (row ∷ rows) word = if bytes_eq word row.0 then Some row.1 else keyword_in rows word
+
 abbrev pub keyword_of : List ℕ → Option Keyword
-keyword_of word =
-    if bytes_eq word (codes "payload") then Some keywords.Payload else
-    (if bytes_eq word (codes "format") then Some keywords.Format else
-    (if bytes_eq word (codes "on") then Some keywords.On else
-    (if bytes_eq word (codes "slot") then Some keywords.Slot else
-    (if bytes_eq word (codes "discard") then Some keywords.Discard else
-    (if bytes_eq word (codes "turn") then Some keywords.Turn else
-    (if bytes_eq word (codes "call") then Some keywords.Call else
-    (if bytes_eq word (codes "reg") then Some keywords.Reg else
-    (if bytes_eq word (codes "pc") then Some keywords.Pc else
-    (if bytes_eq word (codes "csr") then Some keywords.Csr else
-    (if bytes_eq word (codes "pending") then Some keywords.Pending else
-    (if bytes_eq word (codes "mem") then Some keywords.Mem else
-    (if bytes_eq word (codes "cutat") then Some keywords.CutAt else
-    (if bytes_eq word (codes "cutlane") then Some keywords.CutLane else
-    (if bytes_eq word (codes "failat") then Some keywords.FailAt else
-    (if bytes_eq word (codes "faillane") then Some keywords.FailLane else
-    (if bytes_eq word (codes "cut") then Some keywords.Cut else
-    (if bytes_eq word (codes "poke") then Some keywords.Poke else None)))))))))))))))))
+keyword_of word = keyword_in keywords_by_word word
 
 -- a line that is its keyword alone
 abbrev pub alone : Line → List (List ℕ) → Option Line

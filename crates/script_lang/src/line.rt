@@ -15,7 +15,7 @@ pub enum Fill {
 }
 
 /// The first word of a line.
-#[derive(Clone, Copy, Debug, PartialEq, Eq, Drop)]
+#[derive(Clone, Copy, Drop)]
 pub enum Keyword {
     Payload,
     Format,

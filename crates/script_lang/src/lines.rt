@@ -2,7 +2,7 @@
 
 ghost use Rattle.std.specs.Prelude.{◌≡◌, map, IfOk, IfSome};
 ghost use Rattle.script_lang.specs.Ranges.{IsInRange};
-ghost use Rattle.script_lang.specs.Lines.{keyword_of, alone, body_of, line_of};
+ghost use Rattle.script_lang.specs.Lines.{keyword_in, keyword_of, alone, body_of, line_of};
 
 use crate::line::{Keyword, Line};
 use crate::rows;
@@ -10,40 +10,45 @@ use crate::words::none;
 use board_model::Shape;
 use std::alloc::{AllocError, Global};
 
+/// The keywords by their words.
+const KEYWORDS: [(&[u8], Keyword); 18] = [
+    (b"payload", Keyword::Payload),
+    (b"format", Keyword::Format),
+    (b"on", Keyword::On),
+    (b"slot", Keyword::Slot),
+    (b"discard", Keyword::Discard),
+    (b"turn", Keyword::Turn),
+    (b"call", Keyword::Call),
+    (b"reg", Keyword::Reg),
+    (b"pc", Keyword::Pc),
+    (b"csr", Keyword::Csr),
+    (b"pending", Keyword::Pending),
+    (b"mem", Keyword::Mem),
+    (b"cutat", Keyword::CutAt),
+    (b"cutlane", Keyword::CutLane),
+    (b"failat", Keyword::FailAt),
+    (b"faillane", Keyword::FailLane),
+    (b"cut", Keyword::Cut),
+    (b"poke", Keyword::Poke),
+];
+
+/// The keyword of the first row with this word.
+fn keyword_in(rows: &[(&[u8], Keyword)], word: &[u8]) -> Option<Keyword>
+    ensures { result ≡ keyword_in (map (λ row. (row.0.now, row.1)) rows.now) word.now }
+{
+    for (text, keyword) in rows {
+        if word == *text {
+            return Some(*keyword);
+        }
+    }
+    None
+}
+
 /// The keyword that a word is.
 fn keyword(word: &[u8]) -> Option<Keyword>
     ensures { result ≡ keyword_of word.now }
 {
-    macro_rules! first_of {
-        ($($text:literal => $keyword:ident),*) => {
-            $(
-                if word == $text.as_slice() {
-                    return Some(Keyword::$keyword);
-                }
-            )*
-        };
-    }
-    first_of!(
-        b"payload" => Payload,
-        b"format" => Format,
-        b"on" => On,
-        b"slot" => Slot,
-        b"discard" => Discard,
-        b"turn" => Turn,
-        b"call" => Call,
-        b"reg" => Reg,
-        b"pc" => Pc,
-        b"csr" => Csr,
-        b"pending" => Pending,
-        b"mem" => Mem,
-        b"cutat" => CutAt,
-        b"cutlane" => CutLane,
-        b"failat" => FailAt,
-        b"faillane" => FailLane,
-        b"cut" => Cut,
-        b"poke" => Poke
-    );
-    None
+    keyword_in(&KEYWORDS, word)
 }
 
 /// A line that is its keyword alone.
