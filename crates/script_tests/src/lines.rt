@@ -4,6 +4,7 @@ use crate::read::{malformed, says};
 use board_model::{BootMode, HartId, Slot};
 use script_lang::{Bytes, Fill, Line};
 use std::alloc::{AllocError, Global};
+use std::process::Abort;
 use std::test::*;
 
 const BOARD: &[u8] = b"board 2 4 3";
@@ -108,38 +109,43 @@ fn memory_and_disk(rt: HostRuntime) -> Result<(), Fail> {
     Ok(())
 }
 
+// The text says a poke of these bytes.
+fn says_poke(
+    rt: &impl Abort,
+    alloc: Global,
+    text: &[u8],
+    sector: u32,
+    at: u32,
+    items: &[u8],
+) -> Result<(), Fail> {
+    let line = Line::Poke(sector, at, bytes(alloc, items)?);
+    says(rt, alloc, BOARD, text, &line)
+}
+
+// The text says a payload of these bytes for that slot.
+fn says_payload(
+    rt: &impl Abort,
+    alloc: Global,
+    text: &[u8],
+    slot: Slot,
+    items: &[u8],
+) -> Result<(), Fail> {
+    let line = Line::Payload(slot, bytes(alloc, items)?);
+    says(rt, alloc, BOARD, text, &line)
+}
+
 #[test]
 fn lines_that_carry_bytes(rt: HostRuntime) -> Result<(), Fail> {
     let alloc = rt.alloc();
     let slot = Slot::new(3).ok_or("a slot")?;
-    let rising = bytes(alloc, &[0x01, 0x23, 0xab, 0xcd])?;
-    says(
-        &rt,
-        alloc,
-        BOARD,
-        b"payload 3 0123aBCd",
-        &Line::Payload(slot, rising),
-    )?;
-    let last = bytes(alloc, &[0xff])?;
+    let rising = [0x01, 0x23, 0xab, 0xcd];
+    says_payload(&rt, alloc, b"payload 3 0123aBCd", slot, &rising)?;
     // 4 pages in 3 lanes are 2 places a lane: 8 + 2 * 9 * 3 * 2 = 116 sectors.
-    says(
-        &rt,
-        alloc,
-        BOARD,
-        b"poke 115 511 ff",
-        &Line::Poke(115, 511, last),
-    )?;
-    let first = bytes(alloc, &[0, 1])?;
-    says(
-        &rt,
-        alloc,
-        BOARD,
-        b"poke 0 510 0001",
-        &Line::Poke(0, 510, first),
-    )
+    says_poke(&rt, alloc, b"poke 115 511 ff", 115, 511, &[0xff])?;
+    says_poke(&rt, alloc, b"poke 0 510 0001", 0, 510, &[0, 1])
 }
 
-/// A word of so many hexadecimal digits at the end of a line.
+// A word of so many hexadecimal digits at the end of a line.
 fn digits(alloc: Global, start: &[u8], count: usize) -> Result<Vec<u8>, AllocError> {
     let mut text = start.to_vec(alloc)?;
     for _ in 0..count {
@@ -148,27 +154,36 @@ fn digits(alloc: Global, start: &[u8], count: usize) -> Result<Vec<u8>, AllocErr
     Ok(text)
 }
 
+// A line that ends with so many hexadecimal digits is a fault.
+fn malformed_digits(
+    rt: &impl Abort,
+    alloc: Global,
+    start: &[u8],
+    count: usize,
+) -> Result<(), Fail> {
+    let text = digits(alloc, start, count)?;
+    malformed(rt, alloc, BOARD, &text)
+}
+
+// 512 bytes may be poked.
+fn poke_of_a_sector(rt: &impl Abort, alloc: Global) -> Result<(), Fail> {
+    let text = digits(alloc, b"poke 7 0 ", 1024)?;
+    says_poke(rt, alloc, &text, 7, 0, &[0; 512])
+}
+
+// A payload may have 1,024 bytes.
+fn payload_of_1024(rt: &impl Abort, alloc: Global) -> Result<(), Fail> {
+    let slot = Slot::new(0).ok_or("a slot")?;
+    let text = digits(alloc, b"payload 0 ", 2048)?;
+    says_payload(rt, alloc, &text, slot, &[0; 1024])
+}
+
 #[test]
 fn the_largest_payload_and_poke(rt: HostRuntime) -> Result<(), Fail> {
     let alloc = rt.alloc();
-    let slot = Slot::new(0).ok_or("a slot")?;
-    let mut zeros = Vec::new(alloc);
-    for _ in 0..512 {
-        zeros.push(0)?;
-    }
-    let sector = bytes(alloc, &zeros)?;
-    let text = digits(alloc, b"poke 7 0 ", 1024)?;
-    says(&rt, alloc, BOARD, &text, &Line::Poke(7, 0, sector))?;
-    let text = digits(alloc, b"poke 7 0 ", 1026)?;
-    malformed(&rt, alloc, BOARD, &text)?;
-    let text = digits(alloc, b"poke 7 1 ", 1024)?;
-    malformed(&rt, alloc, BOARD, &text)?;
-    for _ in 0..512 {
-        zeros.push(0)?;
-    }
-    let most = bytes(alloc, &zeros)?;
-    let text = digits(alloc, b"payload 0 ", 2048)?;
-    says(&rt, alloc, BOARD, &text, &Line::Payload(slot, most))?;
-    let text = digits(alloc, b"payload 0 ", 2050)?;
-    malformed(&rt, alloc, BOARD, &text)
+    poke_of_a_sector(&rt, alloc)?;
+    malformed_digits(&rt, alloc, b"poke 7 0 ", 1026)?;
+    malformed_digits(&rt, alloc, b"poke 7 1 ", 1024)?;
+    payload_of_1024(&rt, alloc)?;
+    malformed_digits(&rt, alloc, b"payload 0 ", 2050)
 }

@@ -23,6 +23,12 @@ pub fn after_board(alloc: Global, board: &[u8], text: &[u8]) -> Result<Vec<u8>, 
     Ok(script)
 }
 
+// The script has just this line.
+fn has_line(rt: &impl Abort, script: &Script, text: &[u8], line: &Line) {
+    assert_eq!(rt; script.lines.len(), 1, "lines of {text:?}");
+    assert_eq!(rt; &script.lines[0], line);
+}
+
 /// The text after that board line says just this line.
 pub fn says(
     rt: &impl Abort,
@@ -33,10 +39,7 @@ pub fn says(
 ) -> Result<(), Fail> {
     let script = after_board(alloc, board, text)?;
     match parsed(alloc, &script)? {
-        Ok(script) => {
-            assert_eq!(rt; script.lines.len(), 1, "lines of {text:?}");
-            assert_eq!(rt; &script.lines[0], line);
-        }
+        Ok(script) => has_line(rt, &script, text, line),
         Err(refusal) => assert!(rt; false, "{text:?} is refused {refusal:?}"),
     }
     Ok(())
@@ -62,6 +65,12 @@ pub fn malformed(rt: &impl Abort, alloc: Global, board: &[u8], text: &[u8]) -> R
     refused(rt, alloc, &script, Refusal::BadScript(2))
 }
 
+// What was read has this shape and so many lines.
+fn has(rt: &impl Abort, script: &Script, shape: Shape, lines: usize) {
+    assert_eq!(rt; script.shape, shape);
+    assert_eq!(rt; script.lines.len(), lines);
+}
+
 /// The script has this shape and so many lines.
 pub fn holds(
     rt: &impl Abort,
@@ -71,10 +80,7 @@ pub fn holds(
     lines: usize,
 ) -> Result<(), Fail> {
     match parsed(alloc, script)? {
-        Ok(found) => {
-            assert_eq!(rt; found.shape, shape);
-            assert_eq!(rt; found.lines.len(), lines);
-        }
+        Ok(found) => has(rt, &found, shape, lines),
         Err(refusal) => assert!(rt; false, "refused {refusal:?}"),
     }
     Ok(())

@@ -24,6 +24,3 @@ pub use lane::SimLane;
 pub use letter::to_the_letter;
 pub use recorded::Recorded;
 pub use sim::SimDisk;
-
-#[cfg(test)]
-mod tests;
