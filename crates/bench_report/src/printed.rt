@@ -54,10 +54,10 @@ impl fmt::Display for ModeName {
 
     fn fmt<W: fmt::Write>(&self, f: &mut fmt::Formatter<W>) -> fmt::Result {
         match self.0 {
-            BootMode::Fresh => write!(f, "fresh"),
-            BootMode::Keep => write!(f, "keep"),
-            BootMode::Discard => write!(f, "discard"),
-            BootMode::Resume => write!(f, "resume"),
+            BootMode::Fresh => f.write_str("fresh"),
+            BootMode::Keep => f.write_str("keep"),
+            BootMode::Discard => f.write_str("discard"),
+            BootMode::Resume => f.write_str("resume"),
         }
     }
 }
@@ -70,7 +70,7 @@ impl fmt::Display for Printed {
             Printed::Board(harts, pages, lanes, sectors) => {
                 write!(f, "board {harts}/{pages}/{lanes} sectors {sectors}")
             }
-            Printed::Formatted => write!(f, "format ok"),
+            Printed::Formatted => f.write_str("format ok"),
             Printed::FormatRefused(n) => write!(f, "format refused {n}"),
             Printed::On(mode) => {
                 let name = ModeName(mode);
@@ -79,12 +79,12 @@ impl fmt::Display for Printed {
             Printed::OnRefused(n) => write!(f, "on refused {n}"),
             Printed::Slot(n) => write!(f, "slot ok {n}"),
             Printed::SlotRefused(n) => write!(f, "slot refused {n}"),
-            Printed::Cut => write!(f, "cut"),
-            Printed::PowerLost => write!(f, "power lost"),
-            Printed::Busy => write!(f, "busy"),
-            Printed::Off => write!(f, "off"),
+            Printed::Cut => f.write_str("cut"),
+            Printed::PowerLost => f.write_str("power lost"),
+            Printed::Busy => f.write_str("busy"),
+            Printed::Off => f.write_str("off"),
             Printed::Shown(shown) => write!(f, "{shown}"),
-            Printed::NotBuilt => write!(f, "not built"),
+            Printed::NotBuilt => f.write_str("not built"),
         }
     }
 }
@@ -97,7 +97,7 @@ impl fmt::Display for ImageName {
 
     fn fmt<W: fmt::Write>(&self, f: &mut fmt::Formatter<W>) -> fmt::Result {
         match self.0 {
-            None => write!(f, "none"),
+            None => f.write_str("none"),
             Some(head) => {
                 let serial = head.serial;
                 write!(f, "{serial}")

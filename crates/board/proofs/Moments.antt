@@ -32,3 +32,7 @@ meanwhile a b c size s (Some change) opened on =
 -- and then the disk is given back as it is
 pub kept_meanwhile : (a b c d : Facts) (size : Size) (s : State) (gone : Option Change) → LeavesSince a b a.may_leave → GoesOn b c size s gone → Unchanged c d → LeavesSince a d (MayLeave a size s gone)
 kept_meanwhile a b c d size s gone opened on same = leaves_stays a c d (MayLeave a size s gone) (meanwhile a b c size s gone opened on) (passes_unchanged c d same)
+
+-- and then the board is on
+pub on_meanwhile : (a b c : Facts) (size z : Size) (s t : State) (gone : Option Change) → LeavesSince a b a.may_leave → GoesOn b c size s gone → z ≡ size → t ≡ s → LeavesSince a c (MayLeave a z t gone)
+on_meanwhile a b c size z s t gone opened on same found = rw same (rw found (meanwhile a b c size s gone opened on))

@@ -6,7 +6,7 @@ use Rattle.store.specs.Lives.{Life, now_of}
 use Rattle.store.specs.Stores.{disk_of, size_of_store, found_state, life_of}
 use Rattle.disk.specs.Facts.{LeavesSince}
 use Rattle.board.specs.Moments.{gone_before, MayLeave}
-use Rattle.board.proofs.Moments.{kept_meanwhile}
+use Rattle.board.proofs.Moments.{kept_meanwhile, on_meanwhile}
 use Rattle.board.specs.Boots.{boot_refusal}
 use Rattle.board.specs.Unbooted.{IsBootRefusal, doubt_after, life_refused, LeavesLife}
 use Rattle.board.proofs.Doubted.{leaves_life}
@@ -30,3 +30,11 @@ returns-in-Err-ready-clause-refused g c =
     let moments : LeavesSince (g.D.Disk.facts c.args.disk) disk (MayLeave (g.D.Disk.facts c.args.disk) size s (gone_before c.in-Err-ready.refusal)) =
     kept_meanwhile _ (disk_of c.in-Ok.store) (disk_of c.ready.new.store) disk size s _ c.in-Ok.ensures.any_moment c.in-Err-ready.ensures.any_moment c.into_disk.ensures.facts in
     (size, s, c.found.ensures ∙ ap (λ (x : Life). durable_of x.found) life, reads, found, why, subst (λ z. LeavesLife (doubt_after c.in-Err-ready.refusal) disk z s) as_was left, moments)
+
+-- since the start of the open, the disk went on as the open and the boot leave it
+pub returns-in-Ok-ready-clause-any_moment : goal.returns-in-Ok-ready-clause-any_moment
+returns-in-Ok-ready-clause-any_moment g c =
+    let opened = c.in-Ok.store in
+    let now = c.ready.new.store in
+    let found : found_state now ≡ found_state opened = search rules in
+    on_meanwhile _ (disk_of opened) (disk_of now) _ _ _ _ _ c.in-Ok.ensures.any_moment c.in-Ok-ready.ensures.any_moment c.in-Ok-ready.ensures.size found
