@@ -2,40 +2,22 @@
 //! answered says whether it was made.
 ghost use Rattle.std.specs.Prelude.{◌≡◌, IfOk};
 
+use crate::fixtures::{disk_of, format_smallest, opened, same, slot_after_cut, unopened};
 use board_model::{Command, Refusal, Shape};
 use disk::{ArmedFault, Disk};
 use layout::superblock_bytes;
 use simdisk::{Choice, SimDisk};
 use std::alloc::Global;
-use std::process::Abort;
 use std::test::Fail;
-use store::{Store, format};
-
-fn blank(alloc: Global, sectors: usize) -> Result<SimDisk, Fail>
-    ensures { IfOk result (λ disk. (⟦<SimDisk as Disk>⟧.facts disk).lent.lanes ≡ 0) }
-{
-    Ok(SimDisk::blank(alloc, sectors)?)
-}
+use store::Store;
 
 // A disk with a superblock, whose last byte is as told, and zeros.
-fn marked(rt: &impl Abort, alloc: Global, last: u8) -> Result<SimDisk, Fail>
+fn marked(alloc: Global, last: u8) -> Result<SimDisk, Fail>
     ensures { IfOk result (λ disk. (⟦<SimDisk as Disk>⟧.facts disk).lent.lanes ≡ 0) }
 {
-    let mut bytes = vec![in alloc; 0; 26 * 512]?;
-    assert!(rt; bytes.len() == 26 * 512);
-    bytes[..512].copy_from_slice(&superblock_bytes(&Shape::new(1, 1, 1)?));
-    bytes[511] = last;
-    Ok(SimDisk::new(alloc, &bytes)?)
-}
-
-// A store over a new disk for the smallest board.
-fn opened(alloc: Global) -> Result<Store<SimDisk>, Fail> {
-    let mut disk = blank(alloc, 26)?;
-    format(&mut disk, &Shape::new(1, 1, 1)?)?;
-    match Store::open(alloc, disk) {
-        Ok(store) => Ok(store),
-        Err((_, refusal)) => Err(refusal)?,
-    }
+    let mut sector = superblock_bytes(&Shape::new(1, 1, 1)?);
+    sector[511] = last;
+    disk_of(alloc, &[sector])
 }
 
 fn answer(store: &mut Store<SimDisk>, slot: u32) -> Option<Refusal> {
@@ -48,10 +30,18 @@ fn open_failing(alloc: Global, disk: SimDisk, call: u64) -> Result<(Refusal, boo
 {
     let mut disk = disk;
     disk.fail_at(call);
-    match Store::open(alloc, disk) {
-        Ok(_) => Err("the open was not refused")?,
-        Err((mut disk, refusal)) => Ok((refusal, disk.sync().is_err())),
-    }
+    let (mut disk, refusal) = unopened(alloc, disk)?;
+    Ok((refusal, disk.sync().is_err()))
+}
+
+// The same for a disk of so many sectors of zeros.
+fn blank_open(alloc: Global, sectors: usize, call: u64) -> Result<(Refusal, bool), Fail> {
+    open_failing(alloc, SimDisk::blank(alloc, sectors)?, call)
+}
+
+// The same for a disk with a superblock, whose last byte is as told.
+fn marked_open(alloc: Global, last: u8, call: u64) -> Result<(Refusal, bool), Fail> {
+    open_failing(alloc, marked(alloc, last)?, call)
 }
 
 // What a format answers whose call of that number fails, and whether that fault is still to strike.
@@ -60,8 +50,18 @@ fn format_failing(disk: SimDisk, call: u64) -> Result<(Option<Refusal>, bool), F
 {
     let mut disk = disk;
     disk.fail_at(call);
-    let answer = format(&mut disk, &Shape::new(1, 1, 1)?).err();
+    let answer = format_smallest(&mut disk).err();
     Ok((answer, disk.sync().is_err()))
+}
+
+// The same for a disk of so many sectors of zeros.
+fn blank_format(alloc: Global, sectors: usize, call: u64) -> Result<(Option<Refusal>, bool), Fail> {
+    format_failing(SimDisk::blank(alloc, sectors)?, call)
+}
+
+// The same for a disk with a superblock.
+fn marked_format(alloc: Global, call: u64) -> Result<(Option<Refusal>, bool), Fail> {
+    format_failing(marked(alloc, 0)?, call)
 }
 
 // Writes a sector of a disk, and makes nothing durable.
@@ -89,7 +89,7 @@ fn durable_byte(disk: SimDisk) -> Option<u8> {
 
 // That byte of a blank disk, written before an open whose second call failed.
 fn written_before_open(alloc: Global) -> Result<Option<u8>, Fail> {
-    let mut disk = blank(alloc, 26)?;
+    let mut disk = SimDisk::blank(alloc, 26)?;
     write_unsynced(&mut disk)?;
     disk.fail_at(2);
     match Store::open(alloc, disk) {
@@ -100,33 +100,31 @@ fn written_before_open(alloc: Global) -> Result<Option<u8>, Fail> {
 
 #[test]
 fn an_open_begins_with_a_sync(rt: HostRuntime) -> Result<(), Fail> {
-    assert_eq!(rt; written_before_open(rt.alloc())?, Some(7));
+    same(&rt, written_before_open(rt.alloc())?, Some(7));
     Ok(())
 }
 
 #[test]
 fn a_refused_open_makes_no_further_call(rt: HostRuntime) -> Result<(), Fail> {
-    assert_eq!(rt;
-        open_failing(rt.alloc(), blank(rt.alloc(), 0)?, 1)?,
-        (Refusal::BadShape, true)
+    let device = (Refusal::Device, false);
+    same(
+        &rt,
+        blank_open(rt.alloc(), 0, 1)?,
+        (Refusal::BadShape, true),
     );
-    for call in [1, 2] {
-        assert_eq!(rt;
-            open_failing(rt.alloc(), blank(rt.alloc(), 26)?, call)?,
-            (Refusal::Device, false)
-        );
-        assert_eq!(rt;
-            open_failing(rt.alloc(), marked(&rt, rt.alloc(), 1)?, call)?,
-            (Refusal::Device, false)
-        );
-    }
-    assert_eq!(rt;
-        open_failing(rt.alloc(), blank(rt.alloc(), 26)?, 3)?,
-        (Refusal::NotFormatted, true)
+    same(&rt, blank_open(rt.alloc(), 26, 1)?, device);
+    same(&rt, blank_open(rt.alloc(), 26, 2)?, device);
+    same(
+        &rt,
+        blank_open(rt.alloc(), 26, 3)?,
+        (Refusal::NotFormatted, true),
     );
-    assert_eq!(rt;
-        open_failing(rt.alloc(), marked(&rt, rt.alloc(), 1)?, 3)?,
-        (Refusal::BadShape, true)
+    same(&rt, marked_open(rt.alloc(), 1, 1)?, device);
+    same(&rt, marked_open(rt.alloc(), 1, 2)?, device);
+    same(
+        &rt,
+        marked_open(rt.alloc(), 1, 3)?,
+        (Refusal::BadShape, true),
     );
     Ok(())
 }
@@ -134,44 +132,32 @@ fn a_refused_open_makes_no_further_call(rt: HostRuntime) -> Result<(), Fail> {
 #[test]
 fn a_bad_record_takes_four_calls(rt: HostRuntime) -> Result<(), Fail> {
     for call in [1, 2, 3, 4] {
-        assert_eq!(rt;
-            open_failing(rt.alloc(), marked(&rt, rt.alloc(), 0)?, call)?,
-            (Refusal::Device, false)
-        );
+        let answer = marked_open(rt.alloc(), 0, call)?;
+        same(&rt, answer, (Refusal::Device, false));
     }
-    assert_eq!(rt;
-        open_failing(rt.alloc(), marked(&rt, rt.alloc(), 0)?, 5)?,
-        (Refusal::BadRecord, true)
-    );
+    let answer = marked_open(rt.alloc(), 0, 5)?;
+    same(&rt, answer, (Refusal::BadRecord, true));
     Ok(())
 }
 
 #[test]
 fn a_format_takes_six_calls(rt: HostRuntime) -> Result<(), Fail> {
     for call in [1, 2, 3, 4, 5, 6] {
-        assert_eq!(rt;
-            format_failing(blank(rt.alloc(), 26)?, call)?,
-            (Some(Refusal::Device), false)
-        );
+        let answer = blank_format(rt.alloc(), 26, call)?;
+        same(&rt, answer, (Some(Refusal::Device), false));
     }
-    assert_eq!(rt; format_failing(blank(rt.alloc(), 26)?, 7)?, (None, true));
+    same(&rt, blank_format(rt.alloc(), 26, 7)?, (None, true));
     Ok(())
 }
 
 #[test]
 fn a_refused_format_makes_no_further_call(rt: HostRuntime) -> Result<(), Fail> {
-    assert_eq!(rt;
-        format_failing(blank(rt.alloc(), 25)?, 1)?,
-        (Some(Refusal::BadShape), true)
-    );
-    assert_eq!(rt;
-        format_failing(marked(&rt, rt.alloc(), 0)?, 1)?,
-        (Some(Refusal::Device), false)
-    );
-    assert_eq!(rt;
-        format_failing(marked(&rt, rt.alloc(), 0)?, 2)?,
-        (Some(Refusal::AlreadyFormatted), true)
-    );
+    let small = blank_format(rt.alloc(), 25, 1)?;
+    same(&rt, small, (Some(Refusal::BadShape), true));
+    let failed = marked_format(rt.alloc(), 1)?;
+    same(&rt, failed, (Some(Refusal::Device), false));
+    let formatted = marked_format(rt.alloc(), 2)?;
+    same(&rt, formatted, (Some(Refusal::AlreadyFormatted), true));
     Ok(())
 }
 
@@ -191,11 +177,11 @@ fn a_command_takes_four_calls_also_where_nothing_is_new(rt: HostRuntime) -> Resu
     let device = Some(Refusal::Device);
     let down = Some(Refusal::Down);
     for first in [true, false] {
-        assert_eq!(rt; nothing_new_failing(rt.alloc(), first, 1)?, device);
-        assert_eq!(rt; nothing_new_failing(rt.alloc(), first, 2)?, device);
-        assert_eq!(rt; nothing_new_failing(rt.alloc(), first, 3)?, down);
-        assert_eq!(rt; nothing_new_failing(rt.alloc(), first, 4)?, down);
-        assert_eq!(rt; nothing_new_failing(rt.alloc(), first, 5)?, None);
+        same(&rt, nothing_new_failing(rt.alloc(), first, 1)?, device);
+        same(&rt, nothing_new_failing(rt.alloc(), first, 2)?, device);
+        same(&rt, nothing_new_failing(rt.alloc(), first, 3)?, down);
+        same(&rt, nothing_new_failing(rt.alloc(), first, 4)?, down);
+        same(&rt, nothing_new_failing(rt.alloc(), first, 5)?, None);
     }
     Ok(())
 }
@@ -205,16 +191,13 @@ fn gate_failing(alloc: Global, fill: u8) -> Result<(Option<Refusal>, u32), Fail>
     let mut store = opened(alloc)?;
     store.arm(ArmedFault::FailAt(3));
     let refusal = answer(&mut store, 1);
-    match Store::open(alloc, store.into_disk().after_cut(Choice::Byte(fill))) {
-        Ok(store) => Ok((refusal, store.found().slot.number())),
-        Err((_, refusal)) => Err(refusal)?,
-    }
+    Ok((refusal, slot_after_cut(alloc, store, Choice::Byte(fill))?))
 }
 
 #[test]
 fn a_fault_at_the_gates_write_is_in_doubt(rt: HostRuntime) -> Result<(), Fail> {
     let down = Some(Refusal::Down);
-    assert_eq!(rt; gate_failing(rt.alloc(), 0)?, (down, 0));
-    assert_eq!(rt; gate_failing(rt.alloc(), 1)?, (down, 1));
+    same(&rt, gate_failing(rt.alloc(), 0)?, (down, 0));
+    same(&rt, gate_failing(rt.alloc(), 1)?, (down, 1));
     Ok(())
 }
