@@ -4,13 +4,14 @@ use Rattle.hsm_rule.specs.Rule.{stands}
 use Rattle.hsm_steps.specs.Seating.{IsSeatOf, harts_of, harts_in}
 use Rattle.hsm_steps.specs.declared.table.HartTable.{HartTable}
 use Rattle.hsm_words.specs.declared.view.Stage.TheVariants.{Out, Running}
-use Rattle.table_tests.specs.declared.race.Racers.{Racers}
+use Rattle.hsm_words.specs.declared.view.Crew.{Crew}
+use Rattle.atomic_table.specs.declared.shared.Seat.{Seat}
 
-pub record AreReady (t : HartTable) (r : Racers) : Type 0 where
-  pub first : IsSeatOf t r.first
-  pub second : IsSeatOf t r.second
-  pub third : IsSeatOf t r.third
-  pub first_runs : stands 0 Running (harts_in r.first)
-  pub second_runs : stands 1 Running (harts_in r.second)
-  pub third_is_out : stands 2 Out (harts_in r.third)
+pub record AreReady (t : HartTable) (one two three : Seat (Unit {0}) Crew) : Type 0 where
+  pub first : IsSeatOf t one
+  pub second : IsSeatOf t two
+  pub third : IsSeatOf t three
+  pub first_runs : stands 0 Running (harts_in one)
+  pub second_runs : stands 1 Running (harts_in two)
+  pub third_is_out : stands 2 Out (harts_in three)
   pub harts : 2 < harts_of t

@@ -1,8 +1,11 @@
 //! The hart table and the pending interrupts under threads.
 #![tactic(auto)]
 
-pub mod alone;
-pub mod crowd;
-pub mod race;
+#[cfg(test)]
+mod alone;
+#[cfg(test)]
+mod crowd;
+#[cfg(test)]
+mod race;
 #[cfg(test)]
 mod tests;

@@ -50,8 +50,8 @@ fn attempt(table: &HartTable, seat: HartSeat, by: HartId, plan: Plan) -> (HartSe
 /// One round: both start the third hart, which enters and stops. True where just one was told that it did, and what the
 /// third entered with is what that one asked for.
 pub fn round<R: Threads + Sync>(rt: &R, table: &HartTable, racers: Racers) -> (Racers, bool)
-    requires { AreReady table.now racers }
-    ensures { AreReady table.entry.now result.0 }
+    requires { AreReady table.now racers.first racers.second racers.third }
+    ensures { AreReady table.entry.now result.0.first result.0.second result.0.third }
 {
     let Racers {
         first,
@@ -94,7 +94,7 @@ pub fn round<R: Threads + Sync>(rt: &R, table: &HartTable, racers: Racers) -> (R
 
 /// How many of the rounds went right.
 pub fn rounds<R: Threads + Sync>(rt: &R, table: &HartTable, racers: Racers, count: u32) -> u32
-    requires { AreReady table.now racers }
+    requires { AreReady table.now racers.first racers.second racers.third }
 {
     let mut racers = racers;
     let mut right = 0u32;
@@ -111,7 +111,7 @@ fn seated(table: &HartTable, whole: HartSeat, plans: (Plan, Plan)) -> Option<Rac
     requires seat { IsSeatOf table.now whole }
     requires opening { crew_of whole ≡ opening_crew 3 0 }
     requires harts { harts_of table.now ≡ 3 }
-    ensures { IfSome result (λ r. AreReady table.entry.now r) }
+    ensures { IfSome result (λ r. AreReady table.entry.now r.first r.second r.third) }
 {
     let (first, rest) = table.split_first(whole);
     let (second, third) = table.split_first(rest);
@@ -134,7 +134,7 @@ pub fn ready_racers(
     alloc: Global,
     plans: (Plan, Plan),
 ) -> Result<Option<(HartTable, Racers)>, Refusal>
-    ensures { IfOk result (λ r. IfSome r (λ t. AreReady t.0 t.1)) }
+    ensures { IfOk result (λ r. IfSome r (λ t. AreReady t.0 t.1.first t.1.second t.1.third)) }
 {
     let shape = Shape::new(3, 1, 1)?;
     let (table, whole) = HartTable::new(alloc, shape, hart(0))?;
