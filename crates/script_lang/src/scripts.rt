@@ -1,11 +1,11 @@
 //! A whole script.
 
-ghost use Rattle.std.specs.Prelude.{◌≡◌, ◌+◌, ◌≤◌, ◌==◌, map, length, All, IfOk, OnOk, Ok, ◌++◌, ℕ};
+ghost use Rattle.std.specs.Prelude.{◌≡◌, ◌+◌, ◌≤◌, ◌==◌, map, length, take, All, IfOk, OnOk, Ok, ◌++◌, ℕ};
 ghost use Rattle.std.specs.List.{slice_split};
 ghost use Rattle.script_lang.specs.Words.{words_of, three_of};
 ghost use Rattle.script_lang.specs.Ranges.{IsInRange};
 ghost use Rattle.script_lang.specs.Lines.{line_of};
-ghost use Rattle.script_lang.specs.Scripts.{Gives, is_sound, is_passed, lines_of, size_of_words, board_of, or_fault, ◌>>>◌, said_of, rest_of, from_board, lines_from, script_of};
+ghost use Rattle.script_lang.specs.Scripts.{Gives, is_sound, is_passed, whole_lines, size_of_words, board_of, or_fault, ◌>>>◌, said_of, rest_of, from_board, lines_from, script_of};
 ghost use Rattle.script_lang.specs.Seen.{view};
 
 use crate::line::Line;
@@ -42,23 +42,33 @@ fn words(alloc: Global, line: &[u8]) -> Result<Vec<&[u8]>, AllocError>
     line.split(|b| *b == b' ').collect(alloc)
 }
 
-/// The parts of a script between its line feeds.
-fn all_parts(alloc: Global, script: &[u8]) -> Result<Vec<&[u8]>, AllocError>
-    ensures { IfOk result (λ v. map (λ w. w.now) v.items ≡ slice_split (λ b. b == 10) script.now) }
+/// The first parts of a script between its line feeds: all of them, or one more than the lines that are one too many.
+fn first_parts(alloc: Global, script: &[u8]) -> Result<Vec<&[u8]>, AllocError>
+    ensures { IfOk result (λ v. map (λ w. w.now) v.items ≡ take 65538 (slice_split (λ b. b == 10) script.now)) }
 {
-    script.split(|b| *b == b'\n').collect(alloc)
+    script
+        .split(|b| *b == b'\n')
+        .take(MAX_SCRIPT_LINES + 2)
+        .collect(alloc)
 }
 
-/// The lines of a script: a last line feed opens no further one.
-fn whole_lines(alloc: Global, script: &[u8]) -> Result<Vec<&[u8]>, AllocError>
-    ensures { IfOk result (λ v. map (λ w. w.now) v.items ≡ lines_of script.now) }
+/// Drops an empty part at the end: a last line feed opens no further line.
+fn drop_empty_end(parts: &mut Vec<&[u8]>)
+    ensures { map (λ w. w.now) parts.new.items ≡ whole_lines (map (λ w. w.now) parts.old.items) }
 {
-    let mut lines = all_parts(alloc, script)?;
-    let count = lines.len();
-    if 0 < count && lines[count - 1].is_empty() {
-        lines.truncate(count - 1);
+    let count = parts.len();
+    if 0 < count && parts[count - 1].is_empty() {
+        parts.truncate(count - 1);
     }
-    Ok(lines)
+}
+
+/// The lines of a script, as many as tell what all of them say.
+fn first_lines(alloc: Global, script: &[u8]) -> Result<Vec<&[u8]>, AllocError>
+    ensures { IfOk result (λ v. map (λ w. w.now) v.items ≡ whole_lines (take 65538 (slice_split (λ b. b == 10) script.now))) }
+{
+    let mut parts = first_parts(alloc, script)?;
+    drop_empty_end(&mut parts);
+    Ok(parts)
 }
 
 /// What line number `n` says on a board of this shape.
@@ -188,11 +198,12 @@ fn checked(alloc: Global, lines: &[&[u8]]) -> Result<Script, Refusal>
 /// script, the refusal is that of the first fault in the order of the lines, `BadShape` for numbers of the board line
 /// that are out of range, and else `BadScript` with the number of the line, from 1. `Memory` is answered only where
 /// memory was refused.
+#[tactic(auto, using(crate::proofs::Enough::first_enough))]
 pub fn parse_script(alloc: Global, script: &[u8]) -> Result<Script, Refusal>
     ensures value { Gives view result (script_of script.now) }
     ensures few { IfOk result (λ script. length script.lines.items ≤ 65535) }
     ensures ranges { IfOk result (λ script. All (IsInRange script.shape) script.lines.items) }
 {
-    let lines = whole_lines(alloc, script)?;
+    let lines = first_lines(alloc, script)?;
     checked(alloc, &lines)
 }
