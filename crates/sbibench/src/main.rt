@@ -2,6 +2,7 @@
 //! (docs/SCRIPT.md). Status 0; 1 where the input failed or the script was refused; 2 for a fault of the command line.
 #![tactic(auto)]
 
+mod fault;
 mod pipe;
 
 ghost use Rattle.std.specs.Prelude.{◌≡◌, ◌⊎◌, List, OnOk, IfErr, Ok, Err};
@@ -12,6 +13,7 @@ ghost use Rattle.bench_report.specs.Bench.{Bench};
 ghost use Rattle.bench_report.specs.Reports.{IsReport, report_text};
 ghost use Rattle.bench_report.specs.declared.printed.Answer.{Answer};
 
+use crate::fault::Fault;
 use crate::pipe::Pipe;
 use bench_report::run;
 use board_model::Refusal;
@@ -24,17 +26,6 @@ use std::process::ExitCode;
 
 /// How many bytes of the report are written at once.
 const WRITTEN_AT_ONCE: usize = 65_536;
-
-/// Why the program ends with status 1.
-#[derive(Debug, Drop)]
-enum Fault {
-    /// The standard input failed.
-    Input,
-    /// The script was refused, or its report could not be written.
-    Refused(Refusal),
-    /// Nobody reads the standard output any more.
-    Closed,
-}
 
 /// The script: the standard input to its end.
 fn read_script(rt: &(impl Input + Drop), alloc: Global) -> Result<Vec<u8>, Fault> {
@@ -75,17 +66,7 @@ fn write_report(rt: &impl Print, alloc: Global, script: &[u8]) -> Result<(), Fau
 
 /// Says on the standard error why the program ends.
 fn tell(rt: &impl Eprint, fault: Fault) {
-    let _told = match fault {
-        Fault::Input => eprintln!(rt; "sbibench: input"),
-        Fault::Refused(Refusal::BadScript(line)) => {
-            eprintln!(rt; "sbibench: refusal 14 line {line}")
-        }
-        Fault::Refused(refusal) => {
-            let code = refusal.code();
-            eprintln!(rt; "sbibench: refusal {code}")
-        }
-        Fault::Closed => Ok(()),
-    };
+    let _told = eprint!(rt; "{fault}");
 }
 
 /// The words of the command line, the program's name first.

@@ -1,0 +1,19 @@
+-- What the program says on its standard error where it ends with status 1. Source: docs/SCRIPT.md, README.md.
+use Rattle.std.specs.Prelude.{ℕ, List, [], ◌++◌}
+use Rattle.std.specs.Fmt.{decimal}
+use Rattle.board_model.specs.Shown.{number_of}
+use Rattle.board_model.specs.declared.refusal.Refusal.{Refusal}
+use Rattle.board_model.specs.declared.refusal.Refusal.TheVariants.{BadScript}
+use Rattle.sbibench.specs.declared.fault.Fault.{Fault}
+use Rattle.sbibench.specs.declared.fault.Fault.TheVariants.{Input, Refused, Closed}
+use lib.Chars.{codes}
+
+-- a malformed script is refused with the number of its line
+abbrev pub refusal_text : Refusal → List ℕ
+refusal_text (BadScript line) = codes "14 line " ++ decimal line
+refusal_text e = decimal (number_of e)
+
+abbrev pub fault_text : Fault → List ℕ
+fault_text Input = codes "sbibench: input\n"
+fault_text (Refused e) = codes "sbibench: refusal " ++ refusal_text e ++ codes "\n"
+fault_text Closed = []
