@@ -45,10 +45,7 @@ SameLine p a c new fin = (a ≡ c) × (new.payloads ≡ fin.payloads) × SameMac
 one_payload : (p : Option Life) (slot : ℕ) (bytes : List ℕ) (w v : Whole) (a c : Answer) (new fin : Whole) → w.payloads ≡ v.payloads → SameMachine p w.machine v.machine
     → PayloadStep p slot bytes w a new → PayloadStep p slot bytes v c fin → SameLine p a c new fin
 one_payload (Some life) slot bytes w v a c new fin e f x y = (x.0 ∙ sym y.0, x.1 ∙ (e ∙ sym y.1), x.2 ∙ (f ∙ sym y.2))
-one_payload None slot bytes w v a c new fin e f (inl x) (inl y) = (x.1 ∙ sym y.1, x.2 ∙ (ap (λ ps. slice_set ps slot bytes) e ∙ sym y.2), tt)
-one_payload None slot bytes w v a c new fin e f (inl x) (inr y) = absurd (omega (arith, x.0, y.0))
-one_payload None slot bytes w v a c new fin e f (inr x) (inl y) = absurd (omega (arith, x.0, y.0))
-one_payload None slot bytes w v a c new fin e f (inr x) (inr y) = (x.1 ∙ sym y.1, x.2 ∙ (e ∙ sym y.2), tt)
+one_payload None slot bytes w v a c new fin e f x y = (x.0 ∙ sym y.0, x.1 ∙ (ap (λ ps. slice_set ps slot bytes) e ∙ sym y.1), tt)
 
 one_turns : IsOneTurns → (p : Option Life) (h n : ℕ) (w v : Whole) (a c : Answer) (new fin : Whole) → w.payloads ≡ v.payloads → SameMachine p w.machine v.machine
     → TurnStep p h n w a new → TurnStep p h n v c fin → SameLine p a c new fin

@@ -1,5 +1,5 @@
 -- The bench with the memory and the harts of its board.
-use Rattle.std.proofs.Common.{◌≡◌, ◌⊎◌, ◌<◌, ◌≤◌, slice_set, ℕ, inl, inr, suc, ◌+◌, List, [], ◌∷◌, Option, None, Some, refl, sym, ◌∙◌, ap, subst, length, get_or, drop, drop-cons, add-one}
+use Rattle.std.proofs.Common.{◌≡◌, ◌<◌, slice_set, ℕ, inl, inr, suc, ◌+◌, List, [], ◌∷◌, Option, None, Some, refl, sym, ◌∙◌, ap, subst, length, get_or, drop, drop-cons, add-one}
 use Rattle.board_model.specs.Shapes.{Size}
 use Rattle.script_lang.specs.declared.line.Line.{Line}
 use Rattle.machine.specs.Machine.{Machine}
@@ -93,16 +93,11 @@ kept_on : (size : Size) (w : Whole) (p : Option Life) (n : Medium) (was : Store)
 kept_on size w None n was slot bytes a new is e f = absurd is
 kept_on size w (Some life) n was slot bytes a new is e f = (e, f, refl)
 
-kept_off : (w : Whole) (slot : ℕ) (bytes : List ℕ) (line : MachineLine) (a : Answer) (old new : List (List ℕ)) → a ≡ shows line → old ≡ w.payloads
-    → ((length bytes ≤ 1024) × (line ≡ shown.Payload slot (length bytes)) × (new ≡ slice_set old slot bytes)) ⊎ ((1024 < length bytes) × (line ≡ shown.Busy) × (new ≡ old)) → PayloadStep None slot bytes w a (record w { payloads = new })
-kept_off w slot bytes line a old new e f (inl h) = inl (h.0, e ∙ ap shows h.1, h.2 ∙ ap (λ p. slice_set p slot bytes) f)
-kept_off w slot bytes line a old new e f (inr h) = inr (h.0, e ∙ ap shows h.1, h.2 ∙ f)
-
 pub keeps_payload : (size : Size) (w : Whole) (power : Power) (slot : ℕ) (bytes : List ℕ) (line : MachineLine) (a : Answer) (old new : List (List ℕ)) → Agrees size w.bench power → old ≡ w.payloads → a ≡ shows line
     → KeepsPayload power slot bytes old line new → PayloadStep w.bench.power slot bytes w a (record w { payloads = new })
 keeps_payload size w (Off disk) slot bytes line a old new was same e h =
     let P : Option Life → Type 0 = λ p. PayloadStep p slot bytes w a (record w { payloads = new }) in
-    subst P (sym was.0) (kept_off w slot bytes line a old new e same h)
+    subst P (sym was.0) (e ∙ ap shows h.0, h.1 ∙ ap (λ p. slice_set p slot bytes) same)
 keeps_payload size w (On board) slot bytes line a old new was same e h =
     kept_on size w w.bench.power w.bench.medium (store_in board) slot bytes a new was.0 (e ∙ ap shows h.0) (h.1 ∙ same)
 

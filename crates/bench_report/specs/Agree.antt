@@ -1,5 +1,5 @@
 -- How the code's disk and store stand for the bench of the model.
-use Rattle.std.specs.Prelude.{◌≡◌, ℕ, List, All, slice_set, ◌<◌, ◌≤◌, ◌⊎◌, Option, Some, None, length, ⊤}
+use Rattle.std.specs.Prelude.{◌≡◌, ℕ, List, All, slice_set, ◌≤◌, Option, Some, None, length, ⊤}
 use Rattle.board_model.specs.Durable.{State, after}
 use Rattle.board_model.specs.Kept.{MayFind, found_of}
 use Rattle.board_model.specs.Shapes.{Size, sectors_of}
@@ -88,9 +88,7 @@ Carried payloads (On board) (On was) = machine_in board ≡ machine_in was
 -- a payload is kept while the board is off
 abbrev pub KeepsPayload : Power → ℕ → List ℕ → List (List ℕ) → MachineLine → List (List ℕ) → Type 0
 KeepsPayload (On board) slot bytes old line new = (line ≡ shown.Busy) × (new ≡ old)
-KeepsPayload (Off disk) slot bytes old line new =
-    ((length bytes ≤ 1024) × (line ≡ shown.Payload slot (length bytes)) × (new ≡ slice_set old slot bytes))
-    ⊎ ((1024 < length bytes) × (line ≡ shown.Busy) × (new ≡ old))
+KeepsPayload (Off disk) slot bytes old line new = (line ≡ shown.Payload slot (length bytes)) × (new ≡ slice_set old slot bytes)
 
 -- turns of a hart of a board that is on
 abbrev pub MakesTurns : Power → ℕ → ℕ → MachineLine → Power → Type 0

@@ -1,5 +1,5 @@
 -- The bench with the memory and the harts of its board, and what the lines that show them say. Source: docs/SCRIPT.md.
-use Rattle.std.specs.Prelude.{◌≡◌, ◌⊎◌, ℕ, ◌≤◌, ◌<◌, List, [], ◌∷◌, Option, Some, None, length, slice_set, true, false, ⊤}
+use Rattle.std.specs.Prelude.{◌≡◌, ◌⊎◌, ℕ, List, [], ◌∷◌, Option, Some, None, length, slice_set, true, false, ⊤}
 use Rattle.board_model.specs.Shapes.{Size}
 use Rattle.script_lang.specs.declared.line.Line.{Line}
 use Rattle.script_lang.specs.declared.line.Line.TheVariants as lines
@@ -43,12 +43,10 @@ abbrev pub Carries : Size → Whole → Whole → Type 0
 Carries size old new =
     (new.payloads ≡ old.payloads) × Powered size new.bench.power old.bench.power new.bench.medium old.payloads old.machine new.machine
 
--- `payload S HEX`; the language has none of more than 1,024 bytes
+-- `payload S HEX`
 abbrev pub PayloadStep : Option Life → ℕ → List ℕ → Whole → Answer → Whole → Type 0
 PayloadStep (Some life) slot bytes old answer new = (answer ≡ shows shown.Busy) × (new.payloads ≡ old.payloads) × (new.machine ≡ old.machine)
-PayloadStep None slot bytes old answer new =
-    ((length bytes ≤ 1024) × (answer ≡ shows (shown.Payload slot (length bytes))) × (new.payloads ≡ slice_set old.payloads slot bytes))
-    ⊎ ((1024 < length bytes) × (answer ≡ shows shown.Busy) × (new.payloads ≡ old.payloads))
+PayloadStep None slot bytes old answer new = (answer ≡ shows (shown.Payload slot (length bytes))) × (new.payloads ≡ slice_set old.payloads slot bytes)
 
 -- `turn H N`
 abbrev pub TurnStep : Option Life → ℕ → ℕ → Whole → Answer → Whole → Type 0

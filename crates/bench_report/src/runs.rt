@@ -1,7 +1,8 @@
 //! Whole scripts.
 
-ghost use Rattle.std.specs.Prelude.{◌≡◌, ◌⊎◌, ◌+◌, ◌++◌, ◌∷◌, [], ◌<◌, ◌≤◌, ◌^◌, length, Option, Result, ℕ, List, IfOk, IfErr, OnErr, OnOk, Ok, Err};
+ghost use Rattle.std.specs.Prelude.{◌≡◌, ◌⊎◌, ◌+◌, ◌++◌, ◌∷◌, [], ◌<◌, ◌≤◌, ◌^◌, length, Option, Result, ℕ, List, All, IfOk, IfErr, OnErr, OnOk, Ok, Err};
 ghost use Rattle.std.specs.Io.KnownBytes.{Appends};
+ghost use Rattle.script_lang.specs.Ranges.{IsInRange};
 ghost use Rattle.script_lang.specs.Scripts.{script_of, Script as Said};
 ghost use Rattle.bench_report.specs.Texts.{found_line, line_text};
 ghost use Rattle.bench_report.specs.Reports.{answer_text, IsReport};
@@ -94,6 +95,7 @@ fn run_line<W: Write>(
     report: &mut Report,
 ) -> Result<Power, Refusal>
     requires few { report.old.lines < 2 ^ 40 }
+    requires range { IsInRange shape.now line.now }
     requires resting { IsResting power }
     requires short { AreShort payloads.old }
     ensures resting { IfOk result IsResting }
@@ -119,6 +121,7 @@ fn run_lines<W: Write>(
     report: &mut Report,
 ) -> Result<Power, Refusal>
     requires few { length lines.now ≤ 65535 }
+    requires ranges { All (IsInRange shape.now) lines.now }
     requires first { report.old.lines ≤ 1 }
     requires resting { IsResting power }
     requires short { AreShort payloads.old }

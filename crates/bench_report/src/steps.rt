@@ -1,8 +1,9 @@
 //! One line of a script.
 
-ghost use Rattle.std.specs.Prelude.{◌≡◌, ℕ, List, Some, None, Err, IfOk, OnOk, OnErr, true, IsTrue, ◌↔◌};
+ghost use Rattle.std.specs.Prelude.{◌≡◌, ◌<◌, ◌≤◌, ℕ, List, length, Some, None, Err, IfOk, OnOk, OnErr, true, IsTrue, ◌↔◌};
 ghost use Rattle.board_model.specs.Durable.{Slot, refusal_of};
 ghost use Rattle.board_model.specs.Shapes.{Size};
+ghost use Rattle.script_lang.specs.Ranges.{IsInRange};
 ghost use Rattle.store.specs.Leaves.{IsIdle};
 ghost use Rattle.bench_report.specs.Below.{store_in, machine_in, facts};
 ghost use Rattle.bench_report.specs.Bench.{Bench, Life};
@@ -173,6 +174,7 @@ fn payload_line(
     power: &Power,
     payloads: &mut Payloads,
 ) -> Result<MachineLine, Refusal>
+    requires bytes { length bytes.now ≤ 1024 }
     requires short { AreShort payloads.old }
     ensures told { IfOk result (λ line. KeepsPayload power.now slot bytes.now payloads.old line payloads.new) }
     ensures short { OnOk result (AreShort payloads.new) }
@@ -182,9 +184,6 @@ fn payload_line(
         return Ok(MachineLine::Busy);
     }
     let count = bytes.len();
-    if 1024 < count {
-        return Ok(MachineLine::Busy);
-    }
     let mut copy = Vec::with_capacity(alloc, count)?;
     copy.extend_from_slice(bytes.as_slice())?;
     payloads.set(slot, copy);
@@ -193,10 +192,11 @@ fn payload_line(
 
 /// Turns of a hart of a board that is on.
 fn turn(board: &mut Board<SimDisk>, hart: HartId, count: u32) -> MachineLine
+    requires { 0 < count }
     ensures told { TurnsLine hart count (machine_in board.old) (machine_in board.new) result }
     ensures store { store_in board.new ≡ store_in board.old }
 {
-    if count == 0 || !board.machine().has(hart) {
+    if !board.machine().has(hart) {
         return MachineLine::Off;
     }
     let turned = board.turns(hart, count);
@@ -204,7 +204,8 @@ fn turn(board: &mut Board<SimDisk>, hart: HartId, count: u32) -> MachineLine
 }
 
 fn turn_line(hart: HartId, count: u32, power: Power) -> (Power, MachineLine)
-    requires { IsResting power }
+    requires some { 0 < count }
+    requires resting { IsResting power }
     ensures told { MakesTurns power hart count result.1 result.0 }
     ensures resting { IsResting result.0 }
 {
@@ -261,6 +262,7 @@ fn step(
     power: Power,
     payloads: &mut Payloads,
 ) -> Result<(Power, Answer), Refusal>
+    requires range { IsInRange shape.now line.now }
     requires resting { IsResting power }
     requires short { AreShort payloads.old }
     ensures told { IfOk result (λ r. (w : Whole) → WholeIs shape.now w power payloads.old
@@ -317,6 +319,7 @@ pub fn moves(
     power: Power,
     payloads: &mut Payloads,
 ) -> Result<(Power, Answer), Refusal>
+    requires range { IsInRange shape.now line.now }
     requires resting { IsResting power }
     requires short { AreShort payloads.old }
     ensures told { IfOk result (λ r. (w : Whole) → WholeIs shape.now w power payloads.old
