@@ -14,7 +14,8 @@ use Rattle.hsm_words.specs.declared.view.Deed.{Deed}
 use Rattle.hsm_words.specs.declared.view.HartView.{HartView}
 use Rattle.hsm_words.specs.declared.view.Crew.{Crew}
 use Rattle.tallies.specs.Sums.{total}
-use Rattle.hsm_words.specs.Words.{hart_view, Board, board_of, numbers, numbers_from}
+use Rattle.hsm_words.specs.Words.{hart_view, Board, board_of, numbers}
+use Rattle.tallies.specs.Seats.{numbers_from}
 use Rattle.hsm_rule.specs.Rule.{Grants, claim_of, entry_of, is_pending, fly, is_of, Fits, Sound, Kept, stands}
 use Rattle.hsm_rule.specs.States.{stopped, started, awaits, IsAt, Shows}
 use Rattle.hsm_steps.specs.Told.{opening_states, opening_from, opening_crew, first_hart, other_harts, together, nobody}

@@ -1,12 +1,14 @@
 -- Seats of a hart table.
-use Rattle.std.specs.Prelude.{◌≡◌, ℕ, List, [], ◌∷◌, ◌++◌, Option, Some, None, slice_get}
+use Rattle.std.specs.Prelude.{◌≡◌, ℕ, List, [], Option, Some, slice_get}
 use Rattle.atomic_table.specs.declared.shared.Seat.{Seat}
-use Rattle.hsm_words.specs.Words.{numbers, numbers_from}
+use Rattle.tallies.specs.Seats.{numbers_from, AreSeats, views_by_seat, all_views, AreByNumber}
+use Rattle.hsm_words.specs.Words.{numbers}
 use Rattle.hsm_words.specs.declared.view.Stage.{Stage}
 use Rattle.hsm_words.specs.declared.view.HartView.{HartView}
 use Rattle.hsm_words.specs.declared.view.Crew.{Crew}
 use Rattle.hsm_rule.specs.Rule.{stands}
 use Rattle.hsm_steps.specs.declared.table.HartTable.{HartTable}
+pub use Rattle.tallies.specs.Seats.{one_by_one}
 
 -- The seat is one of this table, and holds nothing else.
 abbrev pub IsSeatOf : HartTable → Seat (Unit {0}) Crew → Type 0
@@ -30,37 +32,21 @@ IsOfAll t s = numbers (harts_in s) ≡ numbers_from 0 (harts_of t)
 
 -- each seat of a list has just the hart of its place
 abbrev pub AreInOrder : List (Option (Seat (Unit {0}) Crew)) → Type 0
-AreInOrder ss = (i : ℕ) (s : Seat (Unit {0}) Crew) → slice_get ss i ≡ Some (Some s) → numbers (harts_in s) ≡ i ∷ []
+AreInOrder = AreByNumber harts_in (λ v. v.hart)
 
 -- and it stands where it stood in a list of all harts
 abbrev pub StandAsIn : List HartView → List (Option (Seat (Unit {0}) Crew)) → Type 0
 StandAsIn vs ss = (i : ℕ) (s : Seat (Unit {0}) Crew) (st : Stage) → slice_get ss i ≡ Some (Some s) → stands i st vs → stands i st (harts_in s)
 
 -- ---- lists of seats, of which a taken one leaves None
-abbrev pub IsSomeSeatOf : HartTable → Option (Seat (Unit {0}) Crew) → Type 0
-IsSomeSeatOf t None = ⊥
-IsSomeSeatOf t (Some s) = IsSeatOf t s
-
 -- every place has a seat of the table
 abbrev pub AreSeatsOf : HartTable → List (Option (Seat (Unit {0}) Crew)) → Type 0
-AreSeatsOf t [] = Unit {0}
-AreSeatsOf t (s ∷ ss) = IsSomeSeatOf t s × AreSeatsOf t ss
-
-abbrev pub harts_at : Option (Seat (Unit {0}) Crew) → List HartView
-harts_at None = []
-harts_at (Some s) = harts_in s
+AreSeatsOf t = AreSeats (IsSeatOf t)
 
 -- the harts of each seat of a list
 abbrev pub harts_by_seat : List (Option (Seat (Unit {0}) Crew)) → List (List HartView)
-harts_by_seat [] = []
-harts_by_seat (s ∷ ss) = harts_at s ∷ harts_by_seat ss
+harts_by_seat = views_by_seat harts_in
 
 -- the harts of all seats of a list
 abbrev pub all_harts : List (Option (Seat (Unit {0}) Crew)) → List HartView
-all_harts [] = []
-all_harts (s ∷ ss) = harts_at s ++ all_harts ss
-
--- each hart by itself
-abbrev pub one_by_one : List HartView → List (List HartView)
-one_by_one [] = []
-one_by_one (v ∷ vs) = (v ∷ []) ∷ one_by_one vs
+all_harts = all_views harts_in

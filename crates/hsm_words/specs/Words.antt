@@ -1,6 +1,6 @@
 -- The words of the hart table. The first word has four bits for each hart h: bit h says that it is claimed, bit 8 + h that it is armed, bit 16 + h that
 -- it has entered, bit 24 + h that it is suspended. Words 1 + 2h and 2 + 2h are the argument words of hart h: its address and its opaque value.
-use Rattle.std.specs.Prelude.{◌≡◌, ℕ, zero, suc, ◌+◌, ◌*◌, ◌<◌, List, [], ◌∷◌, slice_index}
+use Rattle.std.specs.Prelude.{◌≡◌, ℕ, ◌+◌, ◌*◌, ◌<◌, List, map, slice_index}
 use Rattle.std.specs.Int.{bit_at}
 use Rattle.hsm_words.specs.declared.view.Stage.{Stage}
 use Rattle.hsm_words.specs.declared.view.Deed.{Deed}
@@ -15,13 +15,7 @@ crew vs = record { harts = vs }
 
 -- the numbers of the harts, in the order of the list
 abbrev pub numbers : List HartView → List ℕ
-numbers [] = []
-numbers (v ∷ vs) = v.hart ∷ numbers vs
-
--- the n numbers from first on
-abbrev pub numbers_from : ℕ → ℕ → List ℕ
-numbers_from first zero = []
-numbers_from first (suc n) = first ∷ numbers_from (suc first) n
+numbers = map (λ v. v.hart)
 
 -- what the words say of each hart: four bits, and two numbers
 pub record Board : Type 0 where

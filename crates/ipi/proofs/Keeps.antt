@@ -15,7 +15,8 @@ use Rattle.ipi.specs.declared.view.Deed.TheVariants.{Raised, Took, Looked}
 use Rattle.ipi.specs.declared.view.Diary.{Diary}
 use Rattle.ipi.specs.declared.view.Crew.{Crew}
 use Rattle.tallies.specs.Sums.{total}
-use Rattle.ipi.specs.Ledger.{Each, diary, crew, raise_of, take_of, raised_by, taken_by, raised, taken, is_of, seats, owes, IsOwed, Kept, noted, SeatState, fresh_from, opening_crew, numbers, numbers_from, IsWhole, Tells, deeds_of, InRange, Raises, Takes, Looks, first_hart, other_harts, together, nobody}
+use Rattle.tallies.specs.Seats.{numbers_from}
+use Rattle.ipi.specs.Ledger.{Each, diary, crew, raise_of, take_of, raised_by, taken_by, raised, taken, is_of, seats, owes, IsOwed, Kept, noted, SeatState, fresh_from, opening_crew, numbers, IsWhole, Tells, deeds_of, InRange, Raises, Takes, Looks, first_hart, other_harts, together, nobody}
 use Rattle.ipi.specs.Pairs.{Shows}
 use Rattle.tallies.proofs.Totals.{total-set, two_at_most_total, at_most_total, total_none, total_alone, total_split, total_join, total-append}
 

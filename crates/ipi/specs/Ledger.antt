@@ -1,5 +1,5 @@
 -- The rule of the pending table. Word t has a bit for each sender of the hart t.
-use Rattle.std.specs.Prelude.{◌≡◌, ℕ, ◌+◌, ◌-◌, ◌<◌, ◌≤◌, zero, suc, Bool, true, false, List, [], ◌∷◌, ◌++◌, ◌==◌, length, slice_index, if◌then◌else◌, take, drop}
+use Rattle.std.specs.Prelude.{◌≡◌, ℕ, ◌+◌, ◌-◌, ◌<◌, ◌≤◌, zero, suc, Bool, true, false, List, [], ◌∷◌, ◌++◌, ◌==◌, length, map, slice_index, if◌then◌else◌, take, drop}
 use Rattle.std.specs.Int.{bit_at}
 use mathlib.Core.Option.{some}
 use lib.ListN.{get_elem?}
@@ -81,13 +81,7 @@ SeatState = Me (Unit {0}) Crew
 
 -- the numbers of the harts, in the order of the list
 abbrev pub numbers : List Diary → List ℕ
-numbers [] = []
-numbers (d ∷ ds) = d.hart ∷ numbers ds
-
--- the n numbers from first on
-abbrev pub numbers_from : ℕ → ℕ → List ℕ
-numbers_from first zero = []
-numbers_from first (suc n) = first ∷ numbers_from (suc first) n
+numbers = map (λ d. d.hart)
 
 -- no step yet
 abbrev pub fresh_from : ℕ → ℕ → List Diary

@@ -1,10 +1,12 @@
 -- Seats of a pending table.
-use Rattle.std.specs.Prelude.{◌≡◌, ℕ, List, [], ◌∷◌, ◌++◌, Option, Some, None, slice_get}
+use Rattle.std.specs.Prelude.{◌≡◌, ℕ, List, [], Option, Some, slice_get}
 use Rattle.atomic_table.specs.declared.shared.Seat.{Seat}
-use Rattle.ipi.specs.Ledger.{numbers, numbers_from, seats}
+use Rattle.tallies.specs.Seats.{numbers_from, AreSeats, views_by_seat, all_views, AreByNumber}
+use Rattle.ipi.specs.Ledger.{numbers, seats}
 use Rattle.ipi.specs.declared.view.Diary.{Diary}
 use Rattle.ipi.specs.declared.view.Crew.{Crew}
 use Rattle.ipi.specs.declared.table.PendingTable.{PendingTable}
+pub use Rattle.tallies.specs.Seats.{one_by_one}
 
 -- The seat is one of this table, and holds nothing else.
 abbrev pub IsSeatOf : PendingTable → Seat (Unit {0}) Crew → Type 0
@@ -28,37 +30,21 @@ IsOfAll t s = numbers (diaries_in s) ≡ numbers_from 0 (harts_of t)
 
 -- each seat of a list has just the hart of its place
 abbrev pub AreInOrder : List (Option (Seat (Unit {0}) Crew)) → Type 0
-AreInOrder ss = (i : ℕ) (s : Seat (Unit {0}) Crew) → slice_get ss i ≡ Some (Some s) → numbers (diaries_in s) ≡ i ∷ []
+AreInOrder = AreByNumber diaries_in (λ d. d.hart)
 
 -- and has it once
 abbrev pub AreSeated : List (Option (Seat (Unit {0}) Crew)) → Type 0
 AreSeated ss = (i : ℕ) (s : Seat (Unit {0}) Crew) → slice_get ss i ≡ Some (Some s) → seats i (crew_of s) ≡ 1
 
 -- ---- lists of seats, of which a taken one leaves None
-abbrev pub IsSomeSeatOf : PendingTable → Option (Seat (Unit {0}) Crew) → Type 0
-IsSomeSeatOf t None = ⊥
-IsSomeSeatOf t (Some s) = IsSeatOf t s
-
 -- every place has a seat of the table
 abbrev pub AreSeatsOf : PendingTable → List (Option (Seat (Unit {0}) Crew)) → Type 0
-AreSeatsOf t [] = Unit {0}
-AreSeatsOf t (s ∷ ss) = IsSomeSeatOf t s × AreSeatsOf t ss
-
-abbrev pub diaries_at : Option (Seat (Unit {0}) Crew) → List Diary
-diaries_at None = []
-diaries_at (Some s) = diaries_in s
+AreSeatsOf t = AreSeats (IsSeatOf t)
 
 -- the harts of each seat of a list
 abbrev pub diaries_by_seat : List (Option (Seat (Unit {0}) Crew)) → List (List Diary)
-diaries_by_seat [] = []
-diaries_by_seat (s ∷ ss) = diaries_at s ∷ diaries_by_seat ss
+diaries_by_seat = views_by_seat diaries_in
 
 -- the harts of all seats of a list
 abbrev pub all_diaries : List (Option (Seat (Unit {0}) Crew)) → List Diary
-all_diaries [] = []
-all_diaries (s ∷ ss) = diaries_at s ++ all_diaries ss
-
--- each hart by itself
-abbrev pub one_by_one : List Diary → List (List Diary)
-one_by_one [] = []
-one_by_one (v ∷ vs) = (v ∷ []) ∷ one_by_one vs
+all_diaries = all_views diaries_in

@@ -1,5 +1,6 @@
 -- The harts of a seat that is parted and joined.
 use Rattle.std.proofs.Common.{◌≡◌, ℕ, ◌+◌, ◌<◌, List, [], ◌∷◌, ◌++◌, length, refl, sym, ap, ◌∙◌, take, drop, arith, eq-eqb}
+use Rattle.std.proofs.lemmas.List.{map-append, take-append-drop}
 use Rattle.tallies.specs.Sums.{total}
 use Rattle.tallies.proofs.Totals.{total-append}
 use Rattle.ipi.specs.declared.view.Diary.{Diary}
@@ -18,23 +19,15 @@ pub sits_first : (first : ℕ) (ds : List Diary) → AreFrom first ds → 0 < le
 sits_first first [] row pos = absurd (omega arith)
 sits_first first (d ∷ ds) row pos = let e : is_of first d ≡ 1 = rw (eq-eqb d.hart first row.0) refl in omega arith
 
-both : (ds : List Diary) → take 1 ds ++ drop 1 ds ≡ ds
-both [] = refl
-both (d ∷ ds) = refl
-
-numbers-append : (xs ys : List Diary) → numbers (xs ++ ys) ≡ numbers xs ++ numbers ys
-numbers-append [] ys = refl
-numbers-append (x ∷ xs) ys = ap (λ (l : List ℕ). x.hart ∷ l) (numbers-append xs ys)
-
 -- both parts kept their harts, so the whole keeps them
 pub same_whole : (c one others one' others' c' : Crew) → one ≡ first_hart c → others ≡ other_harts c → SameHarts one one' → SameHarts others others' → c' ≡ together one' others' → SameHarts c c'
 same_whole c one others one' others' c' is_one is_others same more is = record {
   harts =
       ap (λ (d : Crew). numbers d.diaries) is
-      ∙ (numbers-append one'.diaries others'.diaries
+      ∙ (map-append (λ (d : Diary). d.hart) one'.diaries others'.diaries
       ∙ (ap (λ (l : List ℕ). l ++ numbers others'.diaries) (same.harts ∙ ap (λ (d : Crew). numbers d.diaries) is_one)
       ∙ (ap (λ (l : List ℕ). numbers (take 1 c.diaries) ++ l) (more.harts ∙ ap (λ (d : Crew). numbers d.diaries) is_others)
-      ∙ (sym (numbers-append (take 1 c.diaries) (drop 1 c.diaries)) ∙ ap numbers (both c.diaries)))));
+      ∙ (sym (map-append (λ (d : Diary). d.hart) (take 1 c.diaries) (drop 1 c.diaries)) ∙ ap numbers (take-append-drop 1 c.diaries)))));
   each = λ h.
       ap (seats h) is
       ∙ (total-append (is_of h) one'.diaries others'.diaries
@@ -42,7 +35,7 @@ same_whole c one others one' others' c' is_one is_others same more is = record {
       let r : total (is_of h) one.diaries + total (is_of h) others.diaries ≡ total (is_of h) c.diaries =
       ap (λ (d : Crew). total (is_of h) d.diaries + total (is_of h) others.diaries) is_one
       ∙ (ap (λ (d : Crew). total (is_of h) (take 1 c.diaries) + total (is_of h) d.diaries) is_others
-      ∙ (sym (total-append (is_of h) (take 1 c.diaries) (drop 1 c.diaries)) ∙ ap (λ (ds : List Diary). total (is_of h) ds) (both c.diaries))) in
+      ∙ (sym (total-append (is_of h) (take 1 c.diaries) (drop 1 c.diaries)) ∙ ap (λ (ds : List Diary). total (is_of h) ds) (take-append-drop 1 c.diaries))) in
       omega arith));
 }
 

@@ -1,36 +1,36 @@
-use Rattle.std.proofs.Common.{◌≡◌, ◌++◌, ◌+◌, ℕ, List, [], ◌∷◌, Some, slice_get, sym, ap, ◌∙◌, append_assoc, arith, rules}
-use Rattle.atomic_table.specs.declared.shared.Seat.{Seat}
-use Rattle.hsm_words.specs.Words.{numbers, numbers_from}
+use Rattle.std.proofs.Common.{◌≡◌, ◌++◌, List, [], ◌∷◌, sym, ap, ◌∙◌, append_assoc, rules}
+use Rattle.tallies.specs.Seats.{numbers_from}
+use Rattle.tallies.proofs.Seatings.{all_in_order, are_pop, is_some, last_seat}
+use Rattle.hsm_words.specs.Words.{numbers}
 use Rattle.hsm_words.specs.declared.view.HartView.{HartView}
 use Rattle.hsm_words.specs.declared.view.Crew.{Crew}
-use Rattle.hsm_steps.specs.Seating.{harts_in, all_harts}
-use Rattle.hsm_steps.proofs.Lists.{all_in_order, are_pop, is_some, last_seat}
+use Rattle.hsm_steps.specs.Seating.{IsSeatOf, harts_in, all_harts}
 use Rattle.hsm_steps.proofs.table.HartTable.join.Goals as goal
 
 pub unwrap-whole-requires : goal.unwrap-whole-requires
 unwrap-whole-requires c =
     let e : c.args.seats.items ≡ c.pop.new.self.items ++ c.unwrap-last.result ∷ [] = rw c.unwrap-last.ensures at c.pop.ensures.items in
-    is_some c.args.self.now c.unwrap-last.result (are_pop c.args.self.now c.pop.new.self.items c.unwrap-last.result (rw e at c.requires.seats)).1
+    is_some (IsSeatOf c.args.self.now) c.unwrap-last.result (are_pop (IsSeatOf c.args.self.now) c.pop.new.self.items c.unwrap-last.result (rw e at c.requires.seats)).1
 
 pub loop-before-init : goal.loop-before-init
 loop-before-init c =
     let e : c.args.seats.items ≡ c.pop.new.self.items ++ c.unwrap-last.result ∷ [] = rw c.unwrap-last.ensures at c.pop.ensures.items in
-    let p = last_seat c.args.self.now c.args.seats.items c.pop.new.self.items c.unwrap-last.result c.unwrap-whole.result e c.unwrap-whole.ensures c.requires.seats in
+    let p = last_seat harts_in (IsSeatOf c.args.self.now) c.args.seats.items c.pop.new.self.items c.unwrap-last.result c.unwrap-whole.result e c.unwrap-whole.ensures c.requires.seats in
     record { seat = p.1; are = p.0; harts = sym p.2 }
 
 pub unwrap-requires : goal.unwrap-requires
 unwrap-requires c =
-    is_some c.args.self.now c.in-Some.before
-    (are_pop c.args.self.now c.pop-in-loop-before.new.self.items c.in-Some.before (rw c.in-Some.ensures.items at c.loop-before.invariant.are)).1
+    is_some (IsSeatOf c.args.self.now) c.in-Some.before
+    (are_pop (IsSeatOf c.args.self.now) c.pop-in-loop-before.new.self.items c.in-Some.before (rw c.in-Some.ensures.items at c.loop-before.invariant.are)).1
 
 pub join_two-whole-requires-clause-seat : goal.join_two-whole-requires-clause-seat
 join_two-whole-requires-clause-seat c =
-    (last_seat c.args.self.now c.loop-before.seats.items c.pop-in-loop-before.new.self.items c.in-Some.before c.unwrap.result c.in-Some.ensures.items c.unwrap.ensures c.loop-before.invariant.are).1
+    (last_seat harts_in (IsSeatOf c.args.self.now) c.loop-before.seats.items c.pop-in-loop-before.new.self.items c.in-Some.before c.unwrap.result c.in-Some.ensures.items c.unwrap.ensures c.loop-before.invariant.are).1
 
 pub loop-before-preserved : goal.loop-before-preserved
 loop-before-preserved c =
     let new = c.pop-in-loop-before.new.self.items in
-    let p = last_seat c.args.self.now c.loop-before.seats.items new c.in-Some.before c.unwrap.result c.in-Some.ensures.items c.unwrap.ensures c.loop-before.invariant.are in
+    let p = last_seat harts_in (IsSeatOf c.args.self.now) c.loop-before.seats.items new c.in-Some.before c.unwrap.result c.in-Some.ensures.items c.unwrap.ensures c.loop-before.invariant.are in
     record {
       seat = c.join_two-whole.ensures.seat;
       are = p.0;
@@ -43,6 +43,4 @@ loop-before-preserved c =
 pub returns-clause-all : goal.returns-clause-all
 returns-clause-all c = λ order count.
     let whole : harts_in c.loop-before.whole ≡ all_harts c.args.seats.items = search rules in
-    let from_0 = λ (i : ℕ) (s : Seat (Unit {0}) Crew) (at : slice_get c.args.seats.items i ≡ Some (Some s)).
-    order i s at ∙ ap (λ (k : ℕ). k ∷ []) (let e : i ≡ 0 + i = omega arith in e) in
-    ap numbers whole ∙ (all_in_order c.args.self.now c.args.seats.items 0 c.requires.seats from_0 ∙ ap (numbers_from 0) count)
+    ap numbers whole ∙ (all_in_order harts_in (λ (v : HartView). v.hart) (IsSeatOf c.args.self.now) c.args.seats.items c.requires.seats order ∙ ap (numbers_from 0) count)

@@ -1,6 +1,7 @@
 use Rattle.std.proofs.Common.{◌==◌, if◌then◌else◌, sym, ap, ◌∙◌, subst, ◌≡◌, ℕ, ◌+◌, ◌*◌, ◌<◌, List, [], ◌∷◌, arith, take, zero, suc, refl, length-take}
 use Rattle.std.specs.Prelude.{slice_index}
-use Rattle.hsm_words.specs.Words.{numbers, numbers_from}
+use Rattle.tallies.specs.Seats.{numbers_from}
+use Rattle.hsm_words.specs.Words.{numbers}
 use Rattle.hsm_words.specs.declared.view.Stage.TheVariants.{Out, Running}
 use Rattle.hsm_words.specs.declared.view.HartView.{HartView}
 use Rattle.hsm_words.specs.declared.view.Crew.{Crew}

@@ -1,9 +1,10 @@
-use Rattle.std.proofs.Common.{subst, ◌∷◌, [], List, Some, ap, arith, drop, length, refl, sym, take, ℕ, ◌++◌, ◌+◌, ◌<◌, ◌∙◌, ◌≡◌}
+use Rattle.std.proofs.Common.{List, Some, ap, arith, drop, length, refl, take, ◌++◌, ◌+◌, ◌<◌, ◌∙◌, ◌≡◌}
+use Rattle.std.proofs.lemmas.List.{take-append-drop}
+use Rattle.tallies.proofs.Seatings.{by_seat_push, all_push, are_push, one_rest, length_rest, length_all, by_seat_done, in_order}
 use Rattle.hsm_words.specs.declared.view.HartView.{HartView}
 use Rattle.hsm_words.specs.declared.view.Crew.{Crew}
-use Rattle.hsm_rule.specs.Rule.{stands}
-use Rattle.hsm_steps.specs.Seating.{harts_in, harts_of, one_by_one, harts_by_seat, all_harts}
-use Rattle.hsm_steps.proofs.Lists.{by_seat_push, all_push, are_push, one_rest, both_rest, length_rest, length_numbers, length_from, by_seat_done, in_order, in_order_stands}
+use Rattle.hsm_steps.specs.Seating.{IsSeatOf, harts_in, harts_of, one_by_one, harts_by_seat, all_harts}
+use Rattle.hsm_steps.proofs.Lists.{in_order_stands}
 use Rattle.hsm_steps.proofs.table.HartTable.split.Goals as goal
 
 pub loop-place-preserved : goal.loop-place-preserved
@@ -20,38 +21,34 @@ loop-place-preserved c =
     let others : harts_in c.split_first-one.result.1 ≡ drop 1 harts = ap (λ (d : Crew). d.harts) e.others.1 in
     record {
       seat = e.others.0;
-      are = rw pushed (are_push c.args.self.now seats (Some one) inv.are e.first.0);
-      apart = rw (pushed, others) (by_seat_push seats (Some one) _ ∙ (rw mine (ap (λ (l : List (List HartView)). harts_by_seat seats ++ l) (one_rest harts some_left)) ∙ inv.apart));
-      harts = rw (pushed, others) (all_push seats (Some one) (drop 1 harts) ∙ (rw mine (ap (λ (l : List HartView). all_harts seats ++ l) (both_rest harts)) ∙ inv.harts));
+      are = rw pushed (are_push (IsSeatOf c.args.self.now) seats (Some one) inv.are e.first.0);
+      apart = rw (pushed, others) (by_seat_push harts_in seats (Some one) _ ∙ (rw mine (ap (λ (l : List (List HartView)). harts_by_seat seats ++ l) (one_rest harts some_left)) ∙ inv.apart));
+      harts = rw (pushed, others) (all_push harts_in seats (Some one) (drop 1 harts) ∙ (rw mine (ap (λ (l : List HartView). all_harts seats ++ l) (take-append-drop 1 harts)) ∙ inv.harts));
       count = c.push.ensures.len ∙ ap (λ n. n + 1) inv.count;
       left = rw others (let n = length_rest harts some_left in omega arith);
     }
 
 pub loop-place-init : goal.loop-place-init
 loop-place-init c =
-    let size = sym (length_numbers (harts_in c.args.seat)) ∙ (ap length c.requires.all ∙ length_from 0 (harts_of c.args.self.now)) in
+    let size = length_all (λ (v : HartView). v.hart) (harts_in c.args.seat) 0 (harts_of c.args.self.now) c.requires.all in
     record { seat = c.requires.seat; are = rw c.new-seats.ensures tt; apart = rw c.new-seats.ensures refl; harts = rw c.new-seats.ensures refl; count = rw c.new-seats.ensures refl; left = omega arith }
 
 pub returns-clause-order : goal.returns-clause-order
-returns-clause-order c = λ i s at.
+returns-clause-order c =
     let inv = c.loop-place.invariant in
     let left = inv.left in
     let size = c.harts-place-end.ensures.value in
     let end = c.loop-place-test.false in
     let none : length (harts_in c.loop-place.rest) ≡ 0 = omega arith in
-    in_order c.loop-place.seats.items (harts_in c.args.seat) 0 (harts_of c.args.self.now)
-    (by_seat_done c.loop-place.seats.items (harts_in c.loop-place.rest) (one_by_one (harts_in c.args.seat)) none inv.apart) c.requires.all i s at
-    ∙ ap (λ (k : ℕ). k ∷ []) (let e : 0 + i ≡ i = omega arith in e)
+    in_order harts_in (λ (v : HartView). v.hart) c.loop-place.seats.items (harts_in c.args.seat) (harts_of c.args.self.now)
+    (by_seat_done harts_in c.loop-place.seats.items (harts_in c.loop-place.rest) (one_by_one (harts_in c.args.seat)) none inv.apart) c.requires.all
 
 pub returns-clause-stages : goal.returns-clause-stages
-returns-clause-stages c = λ i s st at stood.
+returns-clause-stages c =
     let inv = c.loop-place.invariant in
     let left = inv.left in
     let size = c.harts-place-end.ensures.value in
     let end = c.loop-place-test.false in
     let none : length (harts_in c.loop-place.rest) ≡ 0 = omega arith in
-    let same : 0 + i ≡ i = omega arith in
-    subst (λ (k : ℕ). stands k st (harts_in s)) same
-    (in_order_stands c.loop-place.seats.items (harts_in c.args.seat) 0 (harts_of c.args.self.now)
-    (by_seat_done c.loop-place.seats.items (harts_in c.loop-place.rest) (one_by_one (harts_in c.args.seat)) none inv.apart) c.requires.all i s at st
-    (subst (λ (k : ℕ). stands k st (harts_in c.args.seat)) (sym same) stood))
+    in_order_stands c.loop-place.seats.items (harts_in c.args.seat) (harts_of c.args.self.now)
+    (by_seat_done harts_in c.loop-place.seats.items (harts_in c.loop-place.rest) (one_by_one (harts_in c.args.seat)) none inv.apart) c.requires.all

@@ -1,8 +1,9 @@
 use Rattle.std.proofs.Common.{◌≡◌, ℕ, [], ◌∷◌, arith, take, zero, suc, refl, replicate, length-take}
 use Rattle.std.specs.Prelude.{slice_index}
 use Rattle.std.proofs.Common.{false, sym, ap, ◌∙◌, subst}
+use Rattle.tallies.specs.Seats.{numbers_from}
 use Rattle.ipi.specs.declared.view.Crew.{Crew}
-use Rattle.ipi.specs.Ledger.{SeatState, seats, numbers, numbers_from, opening_crew}
+use Rattle.ipi.specs.Ledger.{SeatState, seats, numbers, opening_crew}
 use Rattle.ipi.specs.Pairs.{Shows}
 use Rattle.ipi.proofs.Keeps.{opens, opens_numbered, opens_seated, opens_shown}
 use Rattle.ipi.proofs.table.PendingTable.new.Goals as goal
