@@ -1,4 +1,4 @@
--- Lists of seats: of each hart where it stands.
+-- Where the harts of a parted seat stand.
 use Rattle.std.proofs.Common.{List, Option, Some, [], ap, arith, inl, slice_get, subst, suc, sym, zero, ℕ, ⊎_elim, ◌+◌, ◌∙◌, ◌∷◌, ◌≡◌, ◌≢◌}
 use Rattle.atomic_table.specs.declared.shared.Seat.{Seat}
 use Rattle.tallies.specs.Seats.{numbers_from, views_at}

@@ -38,8 +38,7 @@ AreInOrder = AreByNumber harts_in (λ v. v.hart)
 abbrev pub StandAsIn : List HartView → List (Option (Seat (Unit {0}) Crew)) → Type 0
 StandAsIn vs ss = (i : ℕ) (s : Seat (Unit {0}) Crew) (st : Stage) → slice_get ss i ≡ Some (Some s) → stands i st vs → stands i st (harts_in s)
 
--- ---- lists of seats, of which a taken one leaves None
--- every place has a seat of the table
+-- every place of a list has a seat of the table; one that was taken out leaves None
 abbrev pub AreSeatsOf : HartTable → List (Option (Seat (Unit {0}) Crew)) → Type 0
 AreSeatsOf t = AreSeats (IsSeatOf t)
 

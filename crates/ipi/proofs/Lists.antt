@@ -1,4 +1,4 @@
--- Lists of seats: of each hart that its seat has it.
+-- A seat of one hart.
 use Rattle.std.proofs.Common.{List, [], ap, arith, eq-eqb, refl, ℕ, ◌∷◌, ◌≡◌}
 use Rattle.tallies.specs.Sums.{total}
 use Rattle.tallies.proofs.Seatings.{head_or}

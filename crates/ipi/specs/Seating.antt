@@ -36,8 +36,7 @@ AreInOrder = AreByNumber diaries_in (λ d. d.hart)
 abbrev pub AreSeated : List (Option (Seat (Unit {0}) Crew)) → Type 0
 AreSeated ss = (i : ℕ) (s : Seat (Unit {0}) Crew) → slice_get ss i ≡ Some (Some s) → seats i (crew_of s) ≡ 1
 
--- ---- lists of seats, of which a taken one leaves None
--- every place has a seat of the table
+-- every place of a list has a seat of the table; one that was taken out leaves None
 abbrev pub AreSeatsOf : PendingTable → List (Option (Seat (Unit {0}) Crew)) → Type 0
 AreSeatsOf t = AreSeats (IsSeatOf t)
 

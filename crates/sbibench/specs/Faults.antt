@@ -1,4 +1,4 @@
--- What the program says on its standard error where it ends with status 1. Source: docs/SCRIPT.md, README.md.
+-- The text of each fault with which the program ends with status 1. Source: README.md, docs/SCRIPT.md.
 use Rattle.std.specs.Prelude.{ℕ, List, [], ◌++◌}
 use Rattle.std.specs.Fmt.{decimal}
 use Rattle.board_model.specs.Shown.{number_of}
@@ -8,9 +8,9 @@ use Rattle.sbibench.specs.declared.fault.Fault.{Fault}
 use Rattle.sbibench.specs.declared.fault.Fault.TheVariants.{Input, Refused, Closed}
 use lib.Chars.{codes}
 
--- a malformed script is refused with the number of its line
+-- the number of a refusal, and of a malformed script the line too
 abbrev pub refusal_text : Refusal → List ℕ
-refusal_text (BadScript line) = codes "14 line " ++ decimal line
+refusal_text (BadScript line) = decimal (number_of (BadScript line)) ++ codes " line " ++ decimal line
 refusal_text e = decimal (number_of e)
 
 abbrev pub fault_text : Fault → List ℕ

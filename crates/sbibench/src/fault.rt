@@ -6,7 +6,7 @@ ghost use Rattle.sbibench.specs.Faults.{fault_text, refusal_text};
 use board_model::Refusal;
 use std::fmt;
 
-/// Why the program ends with status 1. It prints as what the program says of it on its standard error, a whole line or nothing.
+/// Why the program ends with status 1. It prints as a whole line, or as nothing.
 #[derive(Clone, Copy, Debug, Drop)]
 pub enum Fault {
     /// The standard input failed.
@@ -17,7 +17,7 @@ pub enum Fault {
     Closed,
 }
 
-// The number of a refusal, and the line of a script that has a fault.
+// The number of a refusal, and of a malformed script the line too.
 #[derive(Drop)]
 struct RefusalText(Refusal);
 
@@ -25,12 +25,10 @@ impl fmt::Display for RefusalText {
     ghost output = { λ r. Some (refusal_text r.0) };
 
     fn fmt<W: fmt::Write>(&self, f: &mut fmt::Formatter<W>) -> fmt::Result {
+        let code = self.0.code();
         match self.0 {
-            Refusal::BadScript(line) => write!(f, "14 line {line}"),
-            refusal => {
-                let code = refusal.code();
-                write!(f, "{code}")
-            }
+            Refusal::BadScript(line) => write!(f, "{code} line {line}"),
+            _ => write!(f, "{code}"),
         }
     }
 }

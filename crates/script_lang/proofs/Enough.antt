@@ -1,11 +1,10 @@
--- Of a script with more than 65,536 lines the first 65,537 are enough: they say what all of them say.
-use Rattle.std.proofs.Common.{◌≡◌, ◌⊎◌, ℕ, ◌+◌, ◌-◌, ◌≤◌, ◌<◌, Bool, true, false, List, [], ◌∷◌, ◌++◌, length, take, Result, Ok, Err, if◌then◌else◌, zero, suc, inl, inr, ⊎_elim, refl, ap, sym, ◌∙◌, subst, arith}
+-- The first 65,537 lines of a script are enough: line 65,537 is a fault, so nothing after it is read.
+use Rattle.std.proofs.Common.{◌≡◌, ℕ, ◌+◌, ◌-◌, ◌≤◌, ◌<◌, Bool, true, false, List, [], ◌∷◌, length, take, Ok, if◌then◌else◌, zero, suc, inl, inr, ⊎_elim, refl, ap, sym, ◌∙◌, arith}
 use Rattle.std.proofs.lemmas.List.{take-take, take_all, length-take-le}
 use Rattle.std.proofs.lemmas.Bool.{cases_lt}
-use Rattle.board_model.specs.declared.refusal.Refusal.{Refusal}
 use Rattle.board_model.specs.Shapes.{Size}
 use Rattle.script_lang.specs.Words.{words_of}
-use Rattle.script_lang.specs.Scripts.{Script, ◌>>>◌, is_sound, is_passed, whole_lines, said_of, rest_of, board_of, from_board, lines_from}
+use Rattle.script_lang.specs.Scripts.{◌>>>◌, whole_lines, rest_of, board_of, from_board, lines_from}
 
 rest_of-first : (size : Size) (n m : ℕ) (lines : List (List ℕ)) → n ≤ 65537 → n + m ≡ 65538 → rest_of size n (take m lines) ≡ rest_of size n lines
 unfolding rest_of
