@@ -13,6 +13,7 @@ unchanged_here a = record {
   content = refl;
   moment = refl;
   failures = refl;
+  calls = refl;
   lent = refl;
   now = λ c. (λ left. left, λ left. left);
   since = λ t c. (λ left. left, λ left. left);
