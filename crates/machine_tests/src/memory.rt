@@ -31,7 +31,11 @@ fn all_load(rt: &impl Abort, ram: &Ram, cases: &[(u64, Width, u64)]) {
 fn every_size_is_made(rt: HostRuntime) -> Result<(), Fail> {
     for pages in 1..257 {
         let ram = memory(&rt, pages)?;
-        same(&rt, (u64::from(ram.pages()), ram.bytes().len() as u64), (pages, 4096 * pages));
+        same(
+            &rt,
+            (u64::from(ram.pages()), ram.bytes().len() as u64),
+            (pages, 4096 * pages),
+        );
     }
     Ok(())
 }
