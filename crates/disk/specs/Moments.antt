@@ -1,8 +1,8 @@
 -- How runs of calls go on: what the layers above compose their moments by.
-use Rattle.std.proofs.Common.{◌≡◌, ◌∙◌, ◌+◌, ◌≤◌, inl, inr, ⊎_elim, refl, sym, subst, arith, ℕ, false, Result, Ok, Err}
-use Rattle.disk.specs.Facts.{Content, Facts, After, Passes, Stays, Torn, Unchanged, LeavesSince, Counts, counted}
+use Rattle.std.proofs.Common.{◌∙◌, ◌+◌, ◌≤◌, inl, inr, ⊎_elim, refl, sym, subst, arith, ℕ, Result, Ok, Err}
+use Rattle.disk.specs.Facts.{Content, Facts, After, Passes, Stays, Torn, Unchanged, LeavesSince}
 use Rattle.disk.specs.Mishaps.{Mishaps, Cause}
-use Rattle.disk.specs.Calls.{Calls, Called}
+use Rattle.disk.specs.Calls.{Called}
 
 -- no call at all
 pub passes_none : (a : Facts) → Passes a a Stays
