@@ -2,7 +2,7 @@
 
 ghost use Rattle.std.specs.Prelude.{◌≡◌, ◌↔◌, ℕ, ◌+◌, ◌*◌, ◌-◌, ◌/◌, ◌%◌, ◌^◌, ◌<◌, ◌≤◌, IsTrue, IfOk, IfErr};
 ghost use Rattle.std.specs.Int.{bit_at};
-ghost use Rattle.sbi_abi.specs.Masks.{Has, IsNamed, IsBadMask};
+ghost use Rattle.sbi_abi.specs.Masks.{Has, IsNamed, IsBadMask, targets_of};
 ghost use Rattle.sbi_abi.specs.declared.ret.SbiError.TheVariants.{InvalidParam};
 
 use crate::ret::SbiError;
@@ -41,6 +41,7 @@ impl HartSet {
 /// or a hart named is none; a sum past 64 bits is no hart's number.
 pub fn targets(mask: u64, base: u64, harts: u32) -> Result<HartSet, SbiError>
     requires few { harts ≤ 8 }
+    ensures value { result ≡ targets_of mask base harts }
     ensures named { IfOk result (λ set. (h : ℕ) → Has h set ↔ IsNamed mask base harts h) }
     ensures good { IfOk result (λ set. IsBadMask mask base harts → ⊥) }
     ensures bad { IfErr result (λ e. (e ≡ InvalidParam) × IsBadMask mask base harts) }
@@ -54,7 +55,8 @@ pub fn targets(mask: u64, base: u64, harts: u32) -> Result<HartSet, SbiError>
     if count <= base {
         return Err(SbiError::InvalidParam);
     }
-    if mask >> (count - base) != 0 {
+    let past = mask >> (count - base);
+    if past != 0 {
         return Err(SbiError::InvalidParam);
     }
     Ok(HartSet { bits: mask << base })
