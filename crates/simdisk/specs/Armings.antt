@@ -1,5 +1,5 @@
 -- What faults are to a contract.
-use Rattle.std.specs.Prelude.{◌≡◌, ◌⊎◌, ℕ, ◌-◌, Bool, Option, Some, None, true}
+use Rattle.std.specs.Prelude.{◌≡◌, ◌⊎◌, ℕ, ◌-◌, Bool, Option, Some, None, true, false}
 use Rattle.disk.specs.declared.device.ArmedFault.{ArmedFault}
 use Rattle.disk.specs.declared.device.ArmedFault.TheVariants.{FailAt, CutAt, FailLane, CutLane}
 use Rattle.disk.specs.Mishaps.{Armed, Unarmed, FaultArmed, CutArmed, Mishaps, armed_by}
@@ -42,3 +42,17 @@ one_call_on (Some (FailAt n)) = Some (FailAt (n - 1))
 one_call_on (Some (CutAt n)) = Some (CutAt (n - 1))
 one_call_on (Some (FailLane lane n)) = Some (FailLane lane n)
 one_call_on (Some (CutLane lane n)) = Some (CutLane lane n)
+
+-- what is armed is a cut
+abbrev pub cuts : Option ArmedFault → Bool
+cuts None = false
+cuts (Some (FailAt n)) = false
+cuts (Some (CutAt n)) = true
+cuts (Some (FailLane lane n)) = false
+cuts (Some (CutLane lane n)) = true
+
+-- Power and what is armed after a call that failed by them: where power was cut before all stays, and else what was armed is
+-- gone, and took the power where it was a cut.
+abbrev pub Struck : Bool → Option ArmedFault → Bool → Option ArmedFault → Type 0
+Struck true armed cut' armed' = (cut' ≡ true) × (armed' ≡ armed)
+Struck false armed cut' armed' = (cut' ≡ cuts armed) × (armed' ≡ None)

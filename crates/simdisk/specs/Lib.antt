@@ -1,6 +1,7 @@
 pub mod Armings
 pub mod Choices
 pub mod History
+pub mod LaneRecords
 pub mod Lanes
 pub mod Laws
 pub mod Loans

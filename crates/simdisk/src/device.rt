@@ -1,16 +1,17 @@
 //! The disk in memory as a disk.
-ghost use Rattle.std.specs.Prelude.{◌≡◌, ◌⊎◌, ◌≤◌, ◌+◌, ◌*◌, [], ◌∷◌, length, map, OnOk, OnErr, IfOk};
+ghost use Rattle.std.specs.Prelude.{◌≡◌, ◌⊎◌, ◌≤◌, ◌+◌, ◌*◌, ℕ, [], ◌∷◌, length, map, OnOk, OnErr, IfOk};
 ghost use Rattle.disk.specs.Facts.{Content, Torn, Written, Passes, Stays, Only, Apart, Found, Handed, InRow, Joined, Unchanged, counted, nothing, lent_sectors, lane_failures};
 ghost use Rattle.disk.specs.Mishaps.{CausedInLanes, armed_by};
 ghost use Rattle.disk.specs.Calls.{Called, NoCall};
 ghost use Rattle.simdisk.specs.Armings.{FailsNext, one_call_on};
+ghost use Rattle.simdisk.specs.LaneRecords.{AreLent, CameBack};
 ghost use Rattle.simdisk.specs.Record.{more_written, more_synced, lent_piece, newest, NotedOrRefused, SameRanges};
 
 use crate::laid::overwrite;
 use crate::lane::SimLane;
 use crate::lending::{lend, take_back};
 use crate::loan::Loan;
-use crate::recorded::Recorded;
+use crate::recorded::{Recorded, RecordedLane};
 use crate::sim::SimDisk;
 use crate::striking::failed;
 use disk::{ArmedFault, Disk, Fault, Lane, Sector};
@@ -119,6 +120,8 @@ impl Disk for SimDisk {
         ensures no_call { NoCall (⟦<SimDisk as Disk>⟧.facts self.old) (⟦<SimDisk as Disk>⟧.facts self.new) (⟦<SimDisk as Disk>⟧.mishaps self.old) (⟦<SimDisk as Disk>⟧.mishaps self.new) }
         ensures record { OnOk result (⟦<SimDisk as Recorded>⟧.record self.new ≡ more_written (lent_piece (record { first = first; lanes = lanes; each = each }) (newest (⟦<SimDisk as Recorded>⟧.record self.old))) (⟦<SimDisk as Recorded>⟧.record self.old)) }
         ensures record_refused { OnErr result (⟦<SimDisk as Recorded>⟧.record self.new ≡ ⟦<SimDisk as Recorded>⟧.record self.old) }
+        ensures armed { ⟦<SimDisk as Recorded>⟧.armed self.new ≡ ⟦<SimDisk as Recorded>⟧.armed self.old }
+        ensures lanes { IfOk result (λ out. AreLent (record { first = first; lanes = lanes; each = each }) (newest (⟦<SimDisk as Recorded>⟧.record self.old)) (⟦<SimDisk as Recorded>⟧.armed self.old) (⟦<SimDisk as Disk>⟧.mishaps self.old).struck (map ⟦<SimLane as RecordedLane>⟧.record out.items)) }
     {
         let newest = self.history.newest(self.alloc)?;
         let out = lend(
@@ -150,6 +153,8 @@ impl Disk for SimDisk {
         ensures calls { (⟦<SimDisk as Disk>⟧.facts self.new).calls ≡ (⟦<SimDisk as Disk>⟧.facts self.old).calls }
         ensures cause { CausedInLanes (⟦<SimDisk as Disk>⟧.mishaps self.old) (⟦<SimDisk as Disk>⟧.mishaps self.new) (lane_failures (map ⟦<SimLane as Lane>⟧.lane_facts lanes.items)) }
         ensures record { SameRanges (⟦<SimDisk as Recorded>⟧.record self.old) (⟦<SimDisk as Recorded>⟧.record self.new) }
+        ensures came_back { (own : ℕ) × ((⟦<SimDisk as Disk>⟧.mishaps self.new).own ≡ counted (⟦<SimDisk as Disk>⟧.mishaps self.old).own own)
+            × CameBack (⟦<SimDisk as Recorded>⟧.armed self.old) (⟦<SimDisk as Disk>⟧.mishaps self.old).struck (map ⟦<SimLane as RecordedLane>⟧.record lanes.items) (counted 0 (lane_failures (map ⟦<SimLane as Lane>⟧.lane_facts lanes.items))) (⟦<SimDisk as Recorded>⟧.armed self.new) (⟦<SimDisk as Disk>⟧.mishaps self.new).struck own }
     {
         let loan = self.loan;
         let failures = take_back(&mut self.content, loan.first, loan.lanes, loan.each, &lanes);

@@ -1,9 +1,12 @@
 //! A lane, which owns its sectors.
 ghost use Rattle.std.specs.Prelude.{◌≡◌, ◌≤◌, ◌+◌, length, OnOk, OnErr};
-ghost use Rattle.disk.specs.Facts.{Torn, Written, Counts};
+ghost use Rattle.disk.specs.Facts.{Torn, Written, Found, Counts};
+ghost use Rattle.simdisk.specs.LaneRecords.{LaneCalled};
+ghost use Rattle.simdisk.specs.Record.{put};
 
 use crate::faults::Faults;
 use crate::laid::overwrite;
+use crate::recorded::RecordedLane;
 use crate::striking::failed;
 use disk::{Fault, Lane, Sector};
 
@@ -24,7 +27,15 @@ impl Lane for SimLane {
 
     ghost lane_facts = { lane_view };
 
-    fn read(&mut self, first: usize, sectors: &mut [Sector]) -> Result<(), Fault> {
+    fn read(&mut self, first: usize, sectors: &mut [Sector]) -> Result<(), Fault>
+        requires { first + length sectors.old ≤ length (⟦<SimLane as Lane>⟧.lane_facts self.old).content }
+        ensures found { OnOk result (Found first (⟦<SimLane as Lane>⟧.lane_facts self.old).content sectors.new) }
+        ensures content { (⟦<SimLane as Lane>⟧.lane_facts self.new).content ≡ (⟦<SimLane as Lane>⟧.lane_facts self.old).content }
+        ensures place { (⟦<SimLane as Lane>⟧.lane_facts self.new).first ≡ (⟦<SimLane as Lane>⟧.lane_facts self.old).first }
+        ensures failures { Counts (⟦<SimLane as Lane>⟧.lane_facts self.old).failures (⟦<SimLane as Lane>⟧.lane_facts self.new).failures result }
+        ensures newest { (⟦<SimLane as RecordedLane>⟧.record self.new).newest ≡ (⟦<SimLane as RecordedLane>⟧.record self.old).newest }
+        ensures called { LaneCalled (⟦<SimLane as RecordedLane>⟧.record self.old) (⟦<SimLane as RecordedLane>⟧.record self.new) result }
+    {
         if self.faults.strikes() {
             return Err(failed(&mut self.failures));
         }
@@ -39,6 +50,8 @@ impl Lane for SimLane {
         ensures place { (⟦<SimLane as Lane>⟧.lane_facts self.new).first ≡ (⟦<SimLane as Lane>⟧.lane_facts self.old).first }
         ensures failures { Counts (⟦<SimLane as Lane>⟧.lane_facts self.old).failures (⟦<SimLane as Lane>⟧.lane_facts self.new).failures result }
         ensures stays { OnErr result ((⟦<SimLane as Lane>⟧.lane_facts self.new).content ≡ (⟦<SimLane as Lane>⟧.lane_facts self.old).content) }
+        ensures newest { (⟦<SimLane as RecordedLane>⟧.record self.new).newest ≡ put (first, sectors.now) (⟦<SimLane as RecordedLane>⟧.record self.old).newest }
+        ensures called { LaneCalled (⟦<SimLane as RecordedLane>⟧.record self.old) (⟦<SimLane as RecordedLane>⟧.record self.new) result }
     {
         overwrite(&mut self.newest, first, sectors);
         if self.faults.strikes() {

@@ -1,7 +1,8 @@
 //! How sectors are lent and taken back.
 ghost use Rattle.std.specs.Prelude.{◌≡◌, ◌≤◌, ◌+◌, ◌*◌, length, map, IfOk};
 ghost use Rattle.disk.specs.Facts.{InRow, Handed, Joined, counted, lane_failures};
-ghost use Rattle.simdisk.specs.Lanes.{lane_view};
+ghost use Rattle.simdisk.specs.Lanes.{lane_view, lane_record};
+ghost use Rattle.simdisk.specs.LaneRecords.{AreLent};
 
 use crate::faults::Faults;
 use crate::laid::overwrite;
@@ -23,7 +24,8 @@ pub(crate) fn lend(
     requires few { lanes ≤ 4 }
     requires within { first + lanes * each ≤ length content.now.items }
     requires as_long { length newest.now.items ≡ length content.now.items }
-    ensures { IfOk result (λ out. Handed (record { first = first; lanes = lanes; each = each }) content.now.items (map lane_view out.items)) }
+    ensures handed { IfOk result (λ out. Handed (record { first = first; lanes = lanes; each = each }) content.now.items (map lane_view out.items)) }
+    ensures lent { IfOk result (λ out. AreLent (record { first = first; lanes = lanes; each = each }) newest.now.items faults.armed faults.cut (map lane_record out.items)) }
 {
     let mut out = Vec::new(alloc);
     for lane in 0..lanes {

@@ -22,5 +22,5 @@ mod striking;
 pub use choice::Choice;
 pub use lane::SimLane;
 pub use letter::to_the_letter;
-pub use recorded::Recorded;
+pub use recorded::{Recorded, RecordedLane};
 pub use sim::SimDisk;

@@ -1,7 +1,9 @@
 //! How armed faults come to their calls.
-ghost use Rattle.std.specs.Prelude.{◌≡◌, ◌⊎◌, ◌↔◌, ◌<◌, true, false, None, IsTrue, IsFalse};
+ghost use Rattle.std.specs.Prelude.{◌≡◌, ◌⊎◌, ◌↔◌, ◌<◌, map, true, false, None, IsTrue, IsFalse};
 ghost use Rattle.disk.specs.Facts.{counted};
-ghost use Rattle.simdisk.specs.Armings.{Strikes, Waits, FailsNext, one_call_on};
+ghost use Rattle.simdisk.specs.Armings.{Strikes, Struck, Waits, FailsNext, one_call_on, cuts};
+ghost use Rattle.simdisk.specs.LaneRecords.{armed_in, record_at, counted_on, HasStruck, CameBack};
+ghost use Rattle.simdisk.specs.Lanes.{lane_record};
 
 use crate::faults::Faults;
 use crate::lane::SimLane;
@@ -31,6 +33,7 @@ impl Faults {
     pub(crate) fn strikes(&mut self) -> bool
         ensures due { IsTrue result ↔ FailsNext self.old.cut self.old.armed }
         ensures strikes { IsTrue result → Strikes self.old self.new }
+        ensures struck { IsTrue result → Struck self.old.cut self.old.armed self.new.cut self.new.armed }
         ensures waits { IsFalse result → Waits self.old self.new }
         ensures counts { IsFalse result → self.new.armed ≡ one_call_on self.old.armed }
     {
@@ -72,7 +75,9 @@ impl Faults {
     }
 
     /// The faults of a lane, which counts its own calls.
-    pub(crate) fn of_lane(self, lane: usize) -> Faults {
+    pub(crate) fn of_lane(self, lane: usize) -> Faults
+        ensures { (result.armed ≡ armed_in lane self.armed) × (result.cut ≡ self.cut) }
+    {
         let armed = match self.armed {
             Some(ArmedFault::FailLane(i, call)) if i == lane => Some(ArmedFault::FailAt(call)),
             Some(ArmedFault::CutLane(i, call)) if i == lane => Some(ArmedFault::CutAt(call)),
@@ -89,6 +94,7 @@ impl Faults {
     pub(crate) fn come_back(&mut self, lanes: &[SimLane], failures: u64) -> u64
         ensures none { failures ≡ 0 → (result ≡ 0) × Waits self.old self.new }
         ensures some { 0 < failures → ((result ≡ 0) × Strikes self.old self.new) ⊎ ((result ≡ 1) × Waits self.old self.new) }
+        ensures exact { CameBack self.old.armed self.old.cut (map lane_record lanes.now) failures self.new.armed self.new.cut result }
     {
         if failures == 0 {
             self.count_on(lanes);
@@ -99,16 +105,17 @@ impl Faults {
 
     // Takes over from the lane that has the fault how many calls are left to it.
     fn count_on(&mut self, lanes: &[SimLane])
-        ensures { Waits self.old self.new }
+        ensures waits { Waits self.old self.new }
+        ensures counted { self.new.armed ≡ counted_on self.old.armed (map lane_record lanes.now) }
     {
         match self.armed {
             Some(ArmedFault::FailLane(i, _)) => {
-                if let Some(ArmedFault::FailAt(call)) = armed_in(lanes, i) {
+                if let Some(ArmedFault::FailAt(call)) = armed_of(lanes, i) {
                     self.armed = Some(ArmedFault::FailLane(i, call));
                 }
             }
             Some(ArmedFault::CutLane(i, _)) => {
-                if let Some(ArmedFault::CutAt(call)) = armed_in(lanes, i) {
+                if let Some(ArmedFault::CutAt(call)) = armed_of(lanes, i) {
                     self.armed = Some(ArmedFault::CutLane(i, call));
                 }
             }
@@ -122,16 +129,19 @@ impl Faults {
     fn struck_in(&mut self, lanes: &[SimLane]) -> bool
         ensures strikes { IsTrue result → Strikes self.old self.new }
         ensures waits { IsFalse result → Waits self.old self.new }
+        ensures dark { self.old.cut ≡ true → IsTrue result × (self.new ≡ self.old) }
+        ensures struck { self.old.cut ≡ false → HasStruck self.old.armed (map lane_record lanes.now) → IsTrue result × (self.new.armed ≡ None) × (self.new.cut ≡ cuts self.old.armed) }
+        ensures strange { self.old.cut ≡ false → (HasStruck self.old.armed (map lane_record lanes.now) → ⊥) → IsFalse result × (self.new ≡ self.old) }
     {
         if self.cut {
             return true;
         }
         match self.armed {
-            Some(ArmedFault::FailLane(i, _)) if armed_in(lanes, i).is_none() => {
+            Some(ArmedFault::FailLane(i, _)) if armed_of(lanes, i).is_none() => {
                 self.armed = None;
                 true
             }
-            Some(ArmedFault::CutLane(i, _)) if armed_in(lanes, i).is_none() => {
+            Some(ArmedFault::CutLane(i, _)) if armed_of(lanes, i).is_none() => {
                 self.armed = None;
                 self.cut = true;
                 true
@@ -142,6 +152,8 @@ impl Faults {
 }
 
 // What is armed in that lane, if there is one.
-fn armed_in(lanes: &[SimLane], lane: usize) -> Option<ArmedFault> {
+fn armed_of(lanes: &[SimLane], lane: usize) -> Option<ArmedFault>
+    ensures { result ≡ (record_at (map lane_record lanes.now) lane).armed }
+{
     lanes.get(lane).and_then(|lane| lane.faults.armed)
 }

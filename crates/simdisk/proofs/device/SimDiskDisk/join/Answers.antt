@@ -1,5 +1,7 @@
-use Rattle.std.proofs.Common.{ap, arith, rules}
-use Rattle.disk.specs.Facts.{Lent}
+use Rattle.std.proofs.Common.{◌≡◌, ℕ, map, ap, subst, arith, rules}
+use Rattle.disk.specs.Facts.{Lent, counted, lane_failures}
+use Rattle.simdisk.specs.Lanes.{lane_view, lane_record}
+use Rattle.simdisk.specs.LaneRecords.{CameBack}
 use Rattle.simdisk.specs.Views.{epochs}
 use Rattle.simdisk.specs.History.{record_of}
 use Rattle.simdisk.specs.Loans.{lent_of}
@@ -27,3 +29,13 @@ returns-clause-crash c =
     let all = c.take_newest.ensures in
     passes_ranges s.content.items _ s.history.synced.items c.take_newest.new.self.synced.items (record_of s.history) (record_of c.take_newest.new.self) _ _ _ _ _ _ all.ranges
     (ap (λ past. epochs past.items) all.past) (ap (λ began. began.items) all.began) (ap (λ synced. synced.items) all.synced)
+
+pub returns-clause-came_back : goal.returns-clause-came_back
+returns-clause-came_back c =
+    let s = c.args.self.now in
+    let lanes = c.args.lanes.items in
+    let more = c.come_back-own.result in
+    let failed : c.take_back-failures.result ≡ counted 0 (lane_failures (map lane_view lanes)) = search rules in
+    let own : c.saturating_add-self-2.result ≡ counted s.refused more = search rules in
+    let back : CameBack s.faults.armed s.faults.cut (map lane_record lanes) c.take_back-failures.result c.come_back-own.new.self.armed c.come_back-own.new.self.cut more = search rules in
+    (more, own, subst (λ (n : ℕ). CameBack s.faults.armed s.faults.cut (map lane_record lanes) n c.come_back-own.new.self.armed c.come_back-own.new.self.cut more) failed back)
