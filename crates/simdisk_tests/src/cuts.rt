@@ -94,13 +94,13 @@ fn after_a_cut_every_call_fails(rt: HostRuntime) -> Result<(), Fail> {
     same(&rt, disk.struck(), true);
     same(&rt, read_byte(&rt, &mut disk, 2), Err(Fault));
     same(&rt, disk.sync(), Err(Fault));
-    same(&rt, disk.failures(), 3);
+    same(&rt, (disk.calls(), disk.failures()), (8, 3));
     let mut disk = disk.after_cut(Choice::New);
     same(&rt, contents(&rt, &disk), [0, 2, 3, 7]);
     same(&rt, disk.struck(), false);
     // Power is back.
     same(&rt, disk.sync(), Ok(()));
-    same(&rt, disk.failures(), 3);
+    same(&rt, (disk.calls(), disk.failures()), (9, 3));
     same(&rt, disk.refused(), 0);
     Ok(())
 }

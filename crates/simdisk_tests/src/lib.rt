@@ -1,4 +1,5 @@
-//! The disk in memory: what each choice leaves, and where armed faults strike.
+//! The disk in memory: what each choice leaves, where armed faults strike, and that
+//! memory is not refused where there is some.
 #![tactic(auto)]
 
 #[cfg(test)]
@@ -7,3 +8,5 @@ mod cuts;
 mod fixtures;
 #[cfg(test)]
 mod lanes;
+#[cfg(test)]
+mod largest;
