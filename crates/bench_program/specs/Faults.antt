@@ -4,8 +4,8 @@ use Rattle.std.specs.Fmt.{decimal}
 use Rattle.board_model.specs.Shown.{number_of}
 use Rattle.board_model.specs.declared.refusal.Refusal.{Refusal}
 use Rattle.board_model.specs.declared.refusal.Refusal.TheVariants.{BadScript}
-use Rattle.sbibench.specs.declared.fault.Fault.{Fault}
-use Rattle.sbibench.specs.declared.fault.Fault.TheVariants.{Usage, Input, Refused, Closed}
+use Rattle.bench_program.specs.declared.fault.Fault.{Fault}
+use Rattle.bench_program.specs.declared.fault.Fault.TheVariants.{Usage, Input, Refused, Closed}
 use lib.Chars.{codes}
 
 -- the number of a refusal, and of a malformed script the line too

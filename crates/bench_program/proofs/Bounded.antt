@@ -8,6 +8,8 @@ use Rattle.std.proofs.lemmas.List.Splits.{length-slice_split, slice_split_none, 
 use Rattle.std.proofs.Math.Seq.{take-append-add}
 use Rattle.std.specs.List.{slice_split}
 use Rattle.std.specs.Option.{option_map}
+use Rattle.std.specs.Io.Take.{take_inner, take_limit, take_remaining}
+use Rattle.std.specs.declared.io.traits.Take.{Take}
 use Rattle.board_model.specs.declared.refusal.Refusal.{Refusal}
 use Rattle.board_model.specs.declared.refusal.Refusal.TheVariants.{BadScript}
 use Rattle.board_model.specs.Shapes.{Size}
@@ -56,7 +58,9 @@ lines_of-feed w ys free = ap whole_lines (slice_split_at (λ b. b == 10) w 10 ys
 
 lone : (w : List ℕ) → 0 < length w → whole_lines (w ∷ []) ≡ w ∷ []
 lone [] some = absurd (omega (arith, some))
-lone (b ∷ bs) some = refl
+lone (b ∷ bs) some =
+    let e : (length (b ∷ bs) == 0) ≡ false = grind (arith, nat_tests) in
+    rw e refl
 
 lines_of-lone : (w : List ℕ) → Free w → 0 < length w → lines_of w ≡ w ∷ []
 lines_of-lone w free some = ap whole_lines (slice_split_none (λ b. b == 10) w free) ∙ lone w some
@@ -76,14 +80,14 @@ agree : (n : ℕ) (ms bs : List (List ℕ)) → ms ≡ bs → Agree n ms bs
 agree n ms bs e = record { whole = ap (lines_from n) e; rest = λ size. ap (rest_of size n) e }
 
 agree-unsound : (n : ℕ) (a b : List ℕ) (ms bs : List (List ℕ)) → is_sound n a ≡ false → is_sound n b ≡ false → Agree n (a ∷ ms) (b ∷ bs)
-unfolding lines_from, rest_of
+unfolding lines_from rest_of
 agree-unsound n a b ms bs e f = record { whole = rw (e, f) refl; rest = λ size. rw (e, f) refl }
 
 from_board-same : (n : ℕ) (line : List ℕ) (ms bs : List (List ℕ)) → ((size : Size) → rest_of size (n + 1) ms ≡ rest_of size (n + 1) bs) → from_board n line ms ≡ from_board n line bs
 from_board-same n line ms bs same = λ i. board_of n (words_of line) >>> λ size. same size i >>> λ lines. Ok (record { size = size; lines = lines })
 
 agree-next : (n : ℕ) (line : List ℕ) (ms bs : List (List ℕ)) → Agree (n + 1) ms bs → Agree n (line ∷ ms) (line ∷ bs)
-unfolding lines_from, rest_of
+unfolding lines_from rest_of
 agree-next n line ms bs next = record { whole = rw (next.whole, from_board-same n line ms bs next.rest) refl; rest = λ size. rw (next.rest size) refl }
 
 long_line : (n : ℕ) (line : List ℕ) → (65536 < n) ⊎ (4096 < length line) → is_sound n line ≡ false
@@ -149,11 +153,15 @@ bounded (suc k) n m xs e bound =
 
 -- ---- the input
 
-first_bytes : (known : Option (List ℕ)) (read : List ℕ) → IfSome known (λ bytes. read ≡ take 268500993 bytes) → IfSome known (λ bytes. script_of read ≡ script_of bytes)
-first_bytes None read e = e
-first_bytes (Some bytes) read e = ap script_of e ∙ (bounded 65536 1 268500993 bytes (omega arith) (omega arith)).whole
+read_up_to : (n : ℕ) (known : Option (List ℕ)) (old read : List ℕ) → old ≡ [] → IfSome (option_map (take n) known) (λ more. read ≡ old ++ more) → IfSome known (λ bytes. read ≡ take n bytes)
+read_up_to n None old read o e = e
+read_up_to n (Some bytes) old read o e = e ∙ ap (λ front. front ++ take n bytes) o
 
 -- what was read of bytes that are known is their beginning
-pub read_up_to : (n : ℕ) (known : Option (List ℕ)) (read : List ℕ) → IfSome (option_map (take n) known) (λ bytes. read ≡ bytes) → IfSome known (λ bytes. read ≡ take n bytes)
-read_up_to n None read e = e
-read_up_to n (Some bytes) read e = e
+pub read_first : {R : Type 0} (remaining : R → Option (List ℕ)) (taken : Take R) (input : R) (n : ℕ) (old read : List ℕ) → take_inner taken ≡ input → take_limit taken ≡ n → old ≡ [] → IfSome (take_remaining remaining taken) (λ more. read ≡ old ++ more) → IfSome (remaining input) (λ bytes. read ≡ take n bytes)
+read_first remaining taken input n old read i l o e = rw (← i, ← l) (read_up_to (take_limit taken) (remaining (take_inner taken)) old read o e)
+
+-- and where they are more than any script has, it says what they say
+pub read_says : (known : Option (List ℕ)) (read : List ℕ) → IfSome known (λ bytes. read ≡ take 268500993 bytes) → IfSome known (λ bytes. script_of read ≡ script_of bytes)
+read_says None read e = e
+read_says (Some bytes) read e = ap script_of e ∙ (bounded 65536 1 268500993 bytes (omega arith) (omega arith)).whole

@@ -66,7 +66,7 @@ pub enum Wish {
     Shown,
 }
 
-fn command(alloc: Global) -> Command<'static> {
+fn command<'a>(alloc: Global) -> Command<'a> {
     Command::new(alloc, "sbibench")
         .version(VERSION)
         .override_usage(USAGE)

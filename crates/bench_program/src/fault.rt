@@ -1,7 +1,7 @@
 //! Why the program ends without a whole report: the status for it, and the text that says so.
 
 ghost use Rattle.std.specs.Prelude.{◌≡◌, Some};
-ghost use Rattle.sbibench.specs.Faults.{fault_text, refusal_text, status_after};
+ghost use Rattle.bench_program.specs.Faults.{fault_text, refusal_text, status_after};
 
 use board_model::Refusal;
 use std::fmt;
