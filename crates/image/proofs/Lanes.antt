@@ -6,7 +6,7 @@ use Rattle.std.proofs.lemmas.Nat.{mul-add-lt}
 use Rattle.board_model.specs.Shapes.{Size, places_of, area_sectors_of, ram_bytes_of}
 use Rattle.board_model.specs.declared.refusal.Refusal.{Refusal}
 use Rattle.board_model.specs.declared.refusal.Refusal.TheVariants.{NotFormatted, AlreadyFormatted, BadShape, BadRecord, Device, Down, Over, NoImage, BadSlot, JournalFull, Memory, SerialsSpent, BadImage, BadScript, ImageThere, Output}
-use Rattle.disk.specs.Facts.{Content, Facts, Passes, Stays}
+use Rattle.disk.specs.Facts.{Content, Facts}
 use Rattle.disk.specs.Mishaps.{Mishaps, Cause}
 use Rattle.layout.specs.Records.{AreCounts, most_places}
 use Rattle.layout.specs.Sizes.{lane_sectors, place_start}
@@ -16,9 +16,6 @@ use Rattle.image.specs.Refusals.{PlaceRefused, ReadRefused}
 use Rattle.image.proofs.Lists.{place_at}
 use Rattle.image.proofs.Written.{lanes_of}
 use Rattle.image.proofs.Taking.{taken_none, taken_all, lane_split, lane_more, lanes_split, lanes_more, not_whole}
-
-pub passes_none : (a : Facts) → Passes a a Stays
-passes_none a = record { later = omega arith; now = λ c left. (c, left, refl); nothing_else = λ t c le past. inl past; keeps = λ t c le past. past }
 
 pub place_within : (size : Size) (lane place : ℕ) → lane < size.lanes → place < places_of size → place_at size lane place + 9 ≤ area_sectors_of size
 place_within size lane place li lp =

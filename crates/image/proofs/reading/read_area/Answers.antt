@@ -1,8 +1,8 @@
 use Rattle.std.proofs.Common.{◌≡◌, ◌∙◌, ◌≤◌, ◌<◌, ◌++◌, length, slice_index, take, Err, false, refl, sym, ap, subst, arith, rules}
 use Rattle.std.proofs.lemmas.Result.{err_from_is_err_and}
 use Rattle.disk.specs.Facts.{Content, Stays}
-use Rattle.disk.proofs.Moments.{passes_stays}
-use Rattle.image.proofs.Lanes.{passes_none, taken_begin, taken_end, taken_lane, area_spoilt, read_refused}
+use Rattle.disk.specs.Moments.{passes_none, passes_stays}
+use Rattle.image.proofs.Lanes.{taken_begin, taken_end, taken_lane, area_spoilt, read_refused}
 use Rattle.image.specs.Reading.{IsTaken}
 use Rattle.image.specs.Images.{area_of, places_in, lane_places, is_whole, memory_of}
 use Rattle.image.proofs.reading.read_area.Goals as goal

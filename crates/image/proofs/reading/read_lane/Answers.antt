@@ -1,10 +1,10 @@
 use Rattle.std.proofs.Common.{◌≡◌, ◌∙◌, ◌<◌, ◌+◌, ◌*◌, ◌++◌, ◌∷◌, [], ℕ, refl, sym, subst, arith, rules}
 use Rattle.disk.specs.Facts.{Content, Stays}
-use Rattle.disk.proofs.Moments.{passes_stays}
+use Rattle.disk.specs.Moments.{passes_none, passes_stays}
 use Rattle.image.specs.Images.{area_of, lane_places}
 use Rattle.image.specs.Reading.{IsTaken}
 use Rattle.image.proofs.Lists.{place_at}
-use Rattle.image.proofs.Lanes.{passes_none, place_within, taken_first, taken_next, lane_spoilt, lane_there}
+use Rattle.image.proofs.Lanes.{place_within, taken_first, taken_next, lane_spoilt, lane_there}
 use Rattle.image.proofs.reading.read_lane.Goals as goal
 
 pub loop-place-init : goal.loop-place-init
