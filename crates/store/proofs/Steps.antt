@@ -2,7 +2,7 @@
 use Rattle.std.proofs.Common.{◌≡◌, ◌∙◌, inl, ℕ, ◌+◌, ◌-◌, ◌<◌, List, [], ◌∷◌, length, sym, ap, subst, arith}
 use Rattle.board_model.specs.Shapes.{Size}
 use Rattle.disk.specs.Facts.{Content, sector, Facts, Torn, Written, Passes, Only, LeavesSince}
-use Rattle.disk.proofs.Moments.{leaves_none, leaves_more}
+use Rattle.disk.specs.Moments.{leaves_none, leaves_more}
 use Rattle.layout.specs.Records.{selected_by, record_of, IsInRange}
 use Rattle.layout.specs.declared.records.Record.{Record}
 use Rattle.store.specs.Standing.{Selects}
