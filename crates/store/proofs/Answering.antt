@@ -1,16 +1,16 @@
 -- What a command does, put together from its steps.
-use Rattle.std.proofs.Common.{◌≡◌, ◌∙◌, ◌⊎◌, inl, inr, ⊎_elim, ℕ, ◌-◌, ◌<◌, length, Result, Ok, Err, Option, None, OnOk, IfErr, refl, sym, ap, subst, false}
+use Rattle.std.proofs.Common.{◌≡◌, ◌∙◌, inl, inr, ℕ, ◌-◌, ◌<◌, length, Result, Ok, Err, None, OnOk, refl, sym, ap, subst, false}
 use Rattle.std.specs.Result.{MatchResult}
 use Rattle.board_model.specs.Durable.{State, Change, after, refusal_of}
 use Rattle.board_model.specs.Shapes.{Size}
 use Rattle.board_model.specs.declared.refusal.Refusal.{Refusal}
 use Rattle.board_model.specs.declared.refusal.Refusal.TheVariants.{NotFormatted, AlreadyFormatted, BadShape, BadRecord, Device, Down, Over, NoImage, BadSlot, JournalFull, Memory, SerialsSpent, BadImage, BadScript, ImageThere, Output}
-use Rattle.disk.specs.Facts.{Content, Facts, LeavesSince}
+use Rattle.disk.specs.Facts.{Facts, LeavesSince}
 use Rattle.disk.specs.Mishaps.{Mishaps}
 use Rattle.disk.proofs.Moments.{leaves_then, leaves_weaker}
 use Rattle.image.specs.Refusals.{WriteRefused}
 use Rattle.store.specs.Leaves.{LeavesOnly, StandsForEither, WroteACommand}
-use Rattle.store.specs.Lives.{Life, now_of, Reaches, Applied, Suspended, SuspendApplied, SuspendRefused, IsReseen}
+use Rattle.store.specs.Lives.{Life, now_of, Reaches, Applied, Suspended, SuspendRefused, IsReseen}
 use Rattle.store.specs.Opens.{CausedRefusal}
 use Rattle.store.specs.Standing.{selected, StandsFor}
 use Rattle.store.specs.Views.{StoreView, GoesTo, CountedRefusal, Answered}

@@ -1,13 +1,13 @@
 -- What a command makes of a store.
-use Rattle.std.proofs.Common.{◌≡◌, ◌∙◌, ◌&&◌, inl, inr, ⊎_elim, ℕ, ◌-◌, ◌<◌, List, [], ◌∷◌, ◌++◌, map, Option, Some, None, option_map, Bool, true, false, refl, sym, ap, subst}
+use Rattle.std.proofs.Common.{◌≡◌, ◌∙◌, inl, inr, ⊎_elim, ℕ, ◌-◌, ◌<◌, List, [], ◌∷◌, ◌++◌, map, Option, None, option_map, Bool, true, refl, sym, ap, subst}
 use Rattle.std.proofs.lemmas.Bool.{and_parts, and_from}
 use Rattle.board_model.specs.Durable.{State, Change, after, fold}
 use Rattle.board_model.specs.Shapes.{Size}
-use Rattle.board_model.specs.Shown.{change_of, change_in}
+use Rattle.board_model.specs.Shown.{change_in}
 use Rattle.disk.specs.Facts.{Content, Facts, LeavesSince}
 use Rattle.disk.proofs.Moments.{leaves_none, leaves_weaker}
 use Rattle.layout.specs.declared.records.Record.{Record}
-use Rattle.store.specs.Entries.{is_plain, are_plain, drops_image, drop_image}
+use Rattle.store.specs.Entries.{is_plain, are_plain}
 use Rattle.store.specs.Standing.{state_of, memory_in, StandsFor}
 use Rattle.store.specs.Leaves.{LeavesOnly, LeavesEither, StandsForEither}
 use Rattle.store.specs.Commits.{SameAreas, SelectsEither, IsUp, IsInDoubt}

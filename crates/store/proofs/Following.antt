@@ -1,6 +1,6 @@
 -- The record that a command makes stands for the state after the command.
 use Rattle.std.proofs.Common.{◌≡◌, zero, suc, ℕ, ◌+◌, ◌≤◌, ◌<◌, ◌^◌, List, [], ◌∷◌, slice_index, sum, Option, Some, None, is_some, nat_lt, if◌then◌else◌, true, false, Bool, refl, sym, ap, subst, arith}
-use Rattle.board_model.specs.Durable.{State, Change, Image, refusal_of, after}
+use Rattle.board_model.specs.Durable.{refusal_of, after}
 use Rattle.board_model.specs.declared.durable.Entry.TheVariants as entries
 use Rattle.std.proofs.lemmas.Bool.Decides.{nat_tests}
 use Rattle.std.proofs.lemmas.List.Sums.{sum_by-cons}

@@ -1,21 +1,21 @@
 -- The area that the live image does not use may hold anything: the state stays, also while it is written.
-use Rattle.std.proofs.Common.{◌≡◌, ◌∙◌, ◌⊎◌, zero, suc, inl, inr, ⊎_elim, ℕ, ◌+◌, ◌*◌, ◌≤◌, ◌<◌, List, [], ◌∷◌, Option, Some, None, true, false, refl, sym, ap, subst, arith}
+use Rattle.std.proofs.Common.{◌≡◌, ◌∙◌, ◌⊎◌, zero, suc, inl, inr, ⊎_elim, ℕ, ◌+◌, ◌*◌, ◌≤◌, ◌<◌, List, [], ◌∷◌, Option, Some, true, false, refl, sym, ap, subst, arith}
 use Rattle.std.proofs.lemmas.Bool.{cases_Bool}
-use Rattle.board_model.specs.Durable.{Image, State, Change, fold}
+use Rattle.board_model.specs.Durable.{Image, State, fold}
 use Rattle.board_model.specs.Shapes.{Size, area_sectors_of}
 use Rattle.board_model.specs.Shown.{durable_of}
 use Rattle.board_model.specs.declared.durable.Command.TheVariants as commands
 use Rattle.board_model.specs.declared.durable.Reason.{Reason}
-use Rattle.disk.specs.Facts.{Content, Facts, sector, Torn, Passes, LeavesSince}
+use Rattle.disk.specs.Facts.{Content, Facts, Torn, Passes, LeavesSince}
 use Rattle.disk.proofs.Moments.{leaves_none, leaves_more}
 use Rattle.layout.specs.Superblocks.{IsSuperblock}
 use Rattle.layout.specs.Records.{selected_by, IsRecord}
 use Rattle.layout.specs.Sizes.{area_start}
 use Rattle.layout.specs.declared.records.Saved.{Saved}
 use Rattle.layout.specs.declared.records.Record.{Record}
-use Rattle.store.specs.Entries.{are_plain, drop_image}
+use Rattle.store.specs.Entries.{drop_image}
 use Rattle.store.specs.Standing.{image_of, state_of, memory_in, Selects, StandsFor}
-use Rattle.store.specs.Commits.{SameImage, SelectsAs, IsUp}
+use Rattle.store.specs.Commits.{SameImage, IsUp}
 use Rattle.board_model.specs.declared.durable.Entry.{Entry}
 use Rattle.board_model.specs.declared.durable.Entry.TheVariants as entries
 use Rattle.store.proofs.Applies.{told}

@@ -1,7 +1,7 @@
 -- A life that goes on has no suspension in its journal; and where no command of it dropped the image, that is still the one
 -- which the open found.
-use Rattle.std.proofs.Common.{◌≡◌, ◌∙◌, ◌&&◌, ◌||◌, ℕ, List, [], ◌∷◌, ◌++◌, Bool, true, false, refl, sym, ap}
-use Rattle.board_model.specs.Durable.{Change, ends_life}
+use Rattle.std.proofs.Common.{◌≡◌, ◌∙◌, ◌||◌, List, [], ◌∷◌, ◌++◌, Bool, true, false, refl, ap}
+use Rattle.board_model.specs.Durable.{ends_life}
 use Rattle.board_model.specs.Shapes.{Size}
 use Rattle.layout.specs.declared.records.Record.{Record}
 use Rattle.store.specs.Entries.{is_plain, are_plain, drops_image, drop_image}

@@ -2,7 +2,7 @@
 use Rattle.std.proofs.Common.{◌≡◌, ◌∙◌, inl, ℕ, Result, Ok, Err, ⊎_elim, sym, ap, subst}
 use Rattle.board_model.specs.Durable.{State, Change}
 use Rattle.board_model.specs.declared.refusal.Refusal.{Refusal}
-use Rattle.store.specs.Lives.{Life, now_of, Applied, Refused, SuspendApplied, IsReseen}
+use Rattle.store.specs.Lives.{Life, now_of, Applied, SuspendApplied, IsReseen}
 
 found_of : (l m : Life) → m ≡ l → m.found ≡ l.found
 found_of l m is = ap (λ (x : Life). x.found) is

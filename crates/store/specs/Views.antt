@@ -1,6 +1,6 @@
 -- What a contract sees of an open store, and what a command does to it.
 -- Source: docs/STORE.md, "A commit" and "A life".
-use Rattle.std.specs.Prelude.{◌≡◌, ◌≤◌, ℕ, Result, Ok, Err, OnOk, IfErr, IsErrOf, MatchResult}
+use Rattle.std.specs.Prelude.{◌≡◌, ◌≤◌, ℕ, Result, OnOk, IfErr, IsErrOf, MatchResult}
 use Rattle.board_model.specs.Durable.{State, Change, after}
 use Rattle.board_model.specs.Shapes.{Size}
 use Rattle.board_model.specs.declared.refusal.Refusal.{Refusal}

@@ -1,4 +1,4 @@
-use Rattle.std.proofs.Common.{◌≡◌, ◌∙◌, ◌+◌, ◌-◌, ◌++◌, ℕ, List, [], ◌∷◌, Err, Some, None, option_map, map, length, true, false, inl, inr, ⊎_elim, refl, sym, ap, subst, rules, arith}
+use Rattle.std.proofs.Common.{◌≡◌, ◌∙◌, ◌+◌, ◌++◌, ℕ, List, [], ◌∷◌, Err, Some, length, false, inl, inr, refl, sym, ap, subst, rules, arith}
 use Rattle.std.proofs.lemmas.List.{length-map}
 use Rattle.board_model.specs.Durable.{Change, after}
 use Rattle.layout.specs.Records.{IsInRange}

@@ -1,13 +1,11 @@
-use Rattle.std.proofs.Common.{◌≡◌, ◌∙◌, ◌≤◌, ℕ, Some, length, map, refl, sym, ap, subst, arith, rules}
+use Rattle.std.proofs.Common.{◌≡◌, ◌∙◌, ◌≤◌, Some, length, map, sym, subst, arith, rules}
 use Rattle.std.proofs.lemmas.Result.{err_from_is_err_and}
 use Rattle.board_model.specs.Durable.{after, fold}
 use Rattle.board_model.specs.Shapes.{ram_bytes_of}
 use Rattle.disk.specs.Facts.{Content}
-use Rattle.layout.specs.declared.records.Saved.{Saved}
 use Rattle.board_model.specs.Shown.{change_in}
 use Rattle.store.specs.Standing.{state_of, memory_in, saved_memory}
 use Rattle.store.specs.Stores.{now_state}
-use Rattle.store.proofs.Armed.{still_failed}
 use Rattle.store.proofs.Loading.{stays_keeps, kept_range, kept_counts, image_now, load_refused}
 use Rattle.store.proofs.stores.Store.load_image.Goals as goal
 

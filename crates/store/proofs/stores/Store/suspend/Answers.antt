@@ -1,12 +1,12 @@
 use Rattle.std.proofs.Common.{◌≡◌, ◌∙◌, Err, refl, sym, ap, subst, rules}
 use Rattle.std.proofs.lemmas.Result.{err_from_is_err_and}
-use Rattle.board_model.specs.Durable.{refusal_of, Suspend}
+use Rattle.board_model.specs.Durable.{Suspend}
 use Rattle.store.specs.Leaves.{LeavesOnly}
 use Rattle.store.specs.Lives.{Suspended}
 use Rattle.store.specs.Follows.{FitsBoard}
-use Rattle.store.specs.Standing.{state_of, memory_in}
+use Rattle.store.specs.Standing.{state_of}
 use Rattle.board_model.specs.Shapes.{Size}
-use Rattle.store.specs.Stores.{life_of, found_state, now_state, view_of, size_of_store}
+use Rattle.store.specs.Stores.{life_of, found_state, now_state, view_of}
 use Rattle.store.proofs.Suspending.{now_still}
 use Rattle.store.proofs.Answering.{refused_still, then_issued, unwritten}
 use Rattle.store.proofs.Found.{none_in_doubt}
