@@ -1,3 +1,4 @@
 pub mod Keeps
 pub mod Alone
 pub mod Lists
+pub mod Computed
