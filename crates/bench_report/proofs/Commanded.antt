@@ -93,7 +93,7 @@ module _ (size : Size) (b : Bench) (life : Life) (c : Change) (old new : Store) 
       → (doubt_of old ≡ None → store_mishaps new ≡ store_mishaps old) → (x : Bench) × Commands life.doubt (refusal_of life.now c) c life ok refuses b a x × OnIs size x new
   told_ok goes None calm n h up down unmoved =
       let did = acknowledged life.now life.receipts c (life_of old) (life_of new) (nothing calm) goes n (up (was.1.2 ∙ calm)) in
-      let x = up_ok calm n h did (stays size b (store_mishaps old) (store_mishaps new) (store_facts old) (store_facts new) device unmoved no_fewer fits) in
+      let x = up_ok calm n h did (stays size b (store_mishaps old) (store_mishaps new) (store_facts old) (store_facts new) device (unmoved (was.1.2 ∙ calm)) no_fewer fits) in
       let P : Option Change → Type 0 = λ d. (x : Bench) × Commands d (refusal_of life.now c) c life ok refuses b a x × OnIs size x new in
       subst P (sym calm) x
   told_ok goes (Some d) calm n h up down unmoved = absurd (let e = (down d (was.1.2 ∙ calm)).0 in let no : ⊥ = cc in no)

@@ -117,8 +117,10 @@ unwritten Fits old mid c e fits life reseen going room allowed only first why = 
   where
     again : Life
     again = record old.life { found = mid.life.found }
+
     reaches : Reaches again c
     reaches = (going, room, ap (λ (s : State). refusal_of s c) reseen.now ∙ allowed)
+
     made : (f : Refusal) → (f ≡ Down → ⊥) → SuspendRefused Fits again c f mid.life → CausedRefusal old.mishaps f mid.mishaps → CountedRefusal old.disk.failures f mid.disk.failures → Answered (Suspended Fits) old c (Err f) mid
     made f up told cause counts = record {
       life = record { reseen = reseen; told = told };
@@ -135,6 +137,7 @@ unwritten Fits old mid c e fits life reseen going room allowed only first why = 
       where
         one : (f : Refusal) → ◌≡◌ {A = Result ℕ Refusal} (Err f) (Err Down) → f ≡ Down
         one f is = cc
+
     by : (f : Refusal) → WriteRefused old.disk old.mishaps f mid.disk mid.mishaps → Answered (Suspended Fits) old c (Err f) mid
     by Device why = made Device (λ is. cc) (inl (fits, inl (refl, reaches, life))) why.1 why.0
     by Memory why = made Memory (λ is. cc) (inr (inr (inl (refl, fits, reaches, life)))) why.1 why.0

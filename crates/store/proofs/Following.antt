@@ -109,8 +109,10 @@ suspend_follows size r hart address opaque area counts is room small valid wide 
   where
     same : (saved : Saved) → Some (image_saved r.next hart address opaque area counts) ≡ Some saved → image_saved r.next hart address opaque area counts ≡ saved
     same saved there = cc
+
     count : (i : ℕ) → slice_index counts i < 256 ^ 4
     count i = let most = at_most counts i in omega (arith, most, are.all, is.3)
+
     kept : IsSaved size (r.next + 1) (image_saved r.next hart address opaque area counts)
     kept = record {
       serial = omega arith;

@@ -21,6 +21,7 @@ told_so Fits old mid c r new fits is did = by r (subst (λ (l : Life). Applied l
   where
     seen : State → Life
     seen s = record old { found = s }
+
     by : (q : Result ℕ Refusal) → Applied (record old { found = new.found }) c q new → SuspendApplied Fits (record old { found = new.found }) c q new
     by (Ok n) did = (fits, did)
     by (Err e) did = inl (fits, did)

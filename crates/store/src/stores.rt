@@ -249,15 +249,7 @@ impl<D: Disk + Drop> Store<D> {
     {
         let area = free_area(&self.current);
         let serial = self.current.next;
-        let counts = write_area(
-            alloc,
-            &mut self.disk,
-            crew,
-            &self.shape,
-            area,
-            ram,
-            serial,
-        )?;
+        let counts = write_area(alloc, &mut self.disk, crew, &self.shape, area, ram, serial)?;
         Ok((area, counts))
     }
 
