@@ -7,7 +7,7 @@ use Rattle.board_model.specs.declared.refusal.Refusal.{Refusal}
 use Rattle.board_model.specs.declared.refusal.Refusal.TheVariants.{NotFormatted, AlreadyFormatted, BadShape, BadRecord, Device, Down, Over, NoImage, BadSlot, JournalFull, Memory, SerialsSpent, BadImage, BadScript, ImageThere, Output}
 use Rattle.disk.specs.Facts.{Facts, LeavesSince}
 use Rattle.disk.specs.Mishaps.{Mishaps}
-use Rattle.disk.proofs.Moments.{leaves_then, leaves_weaker}
+use Rattle.disk.specs.Moments.{leaves_then, leaves_weaker}
 use Rattle.image.specs.Refusals.{WriteRefused}
 use Rattle.store.specs.Leaves.{LeavesOnly, StandsForEither, WroteACommand}
 use Rattle.store.specs.Lives.{Life, now_of, Reaches, Applied, Suspended, SuspendRefused, IsReseen}

@@ -5,7 +5,7 @@ use Rattle.board_model.specs.Durable.{State, Change, after, fold}
 use Rattle.board_model.specs.Shapes.{Size}
 use Rattle.board_model.specs.Shown.{change_in}
 use Rattle.disk.specs.Facts.{Content, Facts, LeavesSince}
-use Rattle.disk.proofs.Moments.{leaves_none, leaves_weaker}
+use Rattle.disk.specs.Moments.{leaves_none, leaves_weaker}
 use Rattle.layout.specs.declared.records.Record.{Record}
 use Rattle.store.specs.Entries.{is_plain, are_plain}
 use Rattle.store.specs.Standing.{state_of, memory_in, StandsFor}

@@ -7,7 +7,7 @@ use Rattle.board_model.specs.Shown.{durable_of}
 use Rattle.board_model.specs.declared.durable.Command.TheVariants as commands
 use Rattle.board_model.specs.declared.durable.Reason.{Reason}
 use Rattle.disk.specs.Facts.{Content, Facts, Torn, Passes, LeavesSince}
-use Rattle.disk.proofs.Moments.{leaves_none, leaves_more}
+use Rattle.disk.specs.Moments.{leaves_none, leaves_more}
 use Rattle.layout.specs.Superblocks.{IsSuperblock}
 use Rattle.layout.specs.Records.{selected_by, IsRecord}
 use Rattle.layout.specs.Sizes.{area_start}
