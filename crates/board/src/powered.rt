@@ -52,14 +52,14 @@ impl<D: Disk + Drop> Board<D> {
     ghost use Rattle.store.specs.Standing.{StandsFor};
     ghost use Rattle.store.specs.Leaves.{IsIdle, SameLength, Leaves, LeavesOnly, LeavesEither, StandsForEither, IsRewritten};
     ghost use Rattle.store.specs.Opens.{ReadsAs, OpenRefused, CausedRefusal};
-    ghost use Rattle.store.specs.Lives.{Applied, now_of};
+    ghost use Rattle.store.specs.Lives.{Applied};
     ghost use Rattle.store.specs.Stores.{disk_of, mishaps_of, arms_of, size_of_store, life_of, found_state, now_state, doubt_of, failures_at_open, Stands, Doubts};
     ghost use Rattle.machine.specs.Machine.{hart_at};
     ghost use Rattle.machine.specs.Turns.{Turns, TurnsMany};
     ghost use Rattle.board.specs.Boots.{IsConsoleCommand, life_after, boot_refusal, BootsSlot, Fits, booted};
     ghost use Rattle.board.specs.Boards.{store_of, machine_of};
     ghost use Rattle.board.specs.Moments.{issued_by, gone_before, MayLeave};
-    ghost use Rattle.board.specs.Unbooted.{IsBootRefusal, doubt_after, life_refused, LeavesLife, CountsRefusal};
+    ghost use Rattle.board.specs.Unbooted.{IsBootRefusal, doubt_after, LeavesLife, CountsRefusal, IsNowAfter};
 
     /// Powers a board on: opens the disk, and boots by the mode (docs/BOARD.md, "Power on").
     ///
@@ -93,10 +93,9 @@ impl<D: Disk + Drop> Board<D> {
         // start a crash leaves what one just before could have left, or where a command went to the disk the state found
         // before or after it.
         ensures refused { IfErr result (λ e. IfSome e.found (λ d. (size : Size) × (s : State) × (d ≡ durable_of s) × StandsFor (D.facts disk).content size s × Leaves (D.facts disk) size s
-            × (e.now ≡ Some (durable_of (now_of (life_refused e.refusal s))))
             × IsBootRefusal (boot_refusal s mode) size mode payloads.now e.refusal × LeavesLife (doubt_after e.refusal) (D.facts e.disk) size s
             × LeavesSince (D.facts disk) (D.facts e.disk) (MayLeave (D.facts disk) size s (gone_before e.refusal)))) }
-        ensures now { IfErr result (λ e. e.found ≡ None → e.now ≡ None) }
+        ensures now { IfErr result (λ e. IsNowAfter e.refusal e.found e.now) }
 
         // A disk that reads as no state is refused so, or for its failure, one without sectors before any call of it; and since
         // the start of a refused open a crash leaves what it could have left just before.
