@@ -2,3 +2,4 @@ pub mod Keeps
 pub mod Alone
 pub mod Lists
 pub mod Computed
+pub mod Order
