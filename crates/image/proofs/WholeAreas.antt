@@ -115,19 +115,19 @@ module _ (area : Content) (k : ℕ) (size : Size) where
       let here = often_append area k (lane_places size lane n) (place_at size lane n ∷ []) in
       elim (cases_eq p n) [
         | inl pn ↦ elim (cases_eq q n) [
-            | inl qn ↦ pn ∙ sym qn
-            | inr before ↦
-                let one = often_one area k (place_at size lane n) (ip ∙ ap (λ (m : ℕ). page lane m) pn) in
-                let more = some_in_lane lane n q (omega (arith, lq, before)) iq in
-                absurd (omega (arith, here, one, more, few))
-          ]
+          | inl qn ↦ pn ∙ sym qn
+          | inr before ↦
+              let one = often_one area k (place_at size lane n) (ip ∙ ap (λ (m : ℕ). page lane m) pn) in
+              let more = some_in_lane lane n q (omega (arith, lq, before)) iq in
+              absurd (omega (arith, here, one, more, few))
+        ]
         | inr before ↦ elim (cases_eq q n) [
-            | inl qn ↦
-                let one = often_one area k (place_at size lane n) (iq ∙ ap (λ (m : ℕ). page lane m) qn) in
-                let more = some_in_lane lane n p (omega (arith, lp, before)) ip in
-                absurd (omega (arith, here, one, more, few))
-            | inr also ↦ once_in_lane lane n p q (omega (arith, lp, before)) (omega (arith, lq, also)) ip iq (omega (arith, here, few))
-          ]
+          | inl qn ↦
+              let one = often_one area k (place_at size lane n) (iq ∙ ap (λ (m : ℕ). page lane m) qn) in
+              let more = some_in_lane lane n p (omega (arith, lp, before)) ip in
+              absurd (omega (arith, here, one, more, few))
+          | inr also ↦ once_in_lane lane n p q (omega (arith, lp, before)) (omega (arith, lq, also)) ip iq (omega (arith, here, few))
+        ]
       ]
 
   once_in_all : (lane : ℕ) (counts : List ℕ) (i p j q : ℕ) → p < slice_index counts i → q < slice_index counts j → k ≡ page (lane + i) p → k ≡ page (lane + j) q → often area k (places_in size lane counts) ≤ 1 → (i ≡ j) × (p ≡ q)
@@ -259,7 +259,7 @@ module _ (size : Size) (serial : ℕ) (counts : List ℕ) (area : Content) (boar
         (found.0, found.1, found.2, sym (found.3 ∙ lane_zero found.0 found.1))
 
     pub by_test : IsWholeArea size serial counts area
-    by_test = record { page = page_at; head = head_at; each = has_place; once = one_place; }
+    by_test = record { page = page_at; head = head_at; each = has_place; once = one_place }
 
     behind_place : (i p : ℕ) → p < slice_index counts i → page_in area places (page_at i p) ≡ page_behind area (place_at size i p)
     behind_place i p few =

@@ -57,7 +57,12 @@ fn saved(counts: LaneCounts) -> Option<Saved>
 
 /// Writes the area by that crew so often, reads it back, and compares. Then it writes a line of what came of it, and where
 /// times are wanted one of the microseconds that one write and one read took.
-fn measure<C: Crew>(rt: &HostRuntime, name: &str, crew: &C, count: NonZeroU32) -> anyhow::Result<()> {
+fn measure<C: Crew>(
+    rt: &HostRuntime,
+    name: &str,
+    crew: &C,
+    count: NonZeroU32,
+) -> anyhow::Result<()> {
     let alloc = rt.alloc();
     let shape = Shape::new(1, PAGES, 4)?;
     let ram = memory(alloc, &shape)?;
@@ -71,7 +76,11 @@ fn measure<C: Crew>(rt: &HostRuntime, name: &str, crew: &C, count: NonZeroU32) -
         reads(&mut disk, &shape, &saved, &mut read, count.get())?;
     }
     let took = each_took(rt, &start, count)?;
-    let same = if read.bytes() == ram.bytes() { "the same memory" } else { "another memory" };
+    let same = if read.bytes() == ram.bytes() {
+        "the same memory"
+    } else {
+        "another memory"
+    };
     println!(rt; "{name}: {same}")?;
     if count.get() > 1 {
         println!(rt; "{name}: write_area {write} us, read_area {took} us")?;
@@ -113,7 +122,12 @@ fn count_of(rt: &HostRuntime) -> anyhow::Result<NonZeroU32> {
 
 fn main(rt: HostRuntime) -> anyhow::Result<()> {
     let count = count_of(&rt)?;
-    measure(&rt, "turns", &Turns::<HostRuntime>::new([0, 1, 2, 3])?, count)?;
+    measure(
+        &rt,
+        "turns",
+        &Turns::<HostRuntime>::new([0, 1, 2, 3])?,
+        count,
+    )?;
     measure(&rt, "threads", &Threads::new(&rt), count)?;
     if count.get() > 1 {
         compare(&rt, count)?;

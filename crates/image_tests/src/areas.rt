@@ -105,7 +105,11 @@ fn a_cut_leaves_the_other_area(rt: HostRuntime) -> Result<(), Fail> {
     for call in 1..3 {
         for choice in [Choice::Byte(0), Choice::Byte(0xff), Choice::Old] {
             let answer = cut_beside(rt.alloc(), &turns, call, choice)?;
-            same(&rt, answer, (Some(Refusal::Device), Some(Refusal::BadImage), true));
+            same(
+                &rt,
+                answer,
+                (Some(Refusal::Device), Some(Refusal::BadImage), true),
+            );
         }
     }
     Ok(())

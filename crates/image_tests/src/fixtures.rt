@@ -127,7 +127,9 @@ impl Site {
         let mut bytes = read_sector(&mut self.disk, sector).map_err(|_| Refusal::Device)?;
         let old = bytes[offset];
         bytes[offset] = byte;
-        self.disk.write(sector, &[bytes]).map_err(|_| Refusal::Device)?;
+        self.disk
+            .write(sector, &[bytes])
+            .map_err(|_| Refusal::Device)?;
         Ok(old)
     }
 

@@ -67,7 +67,11 @@ fn pages_come_once_each_under_the_serial(rt: HostRuntime) -> Result<(), Fail> {
         (26, 0, 77, Ok(true)),
         (7, 0, 77, Ok(true)),
     ] {
-        same(&rt, read_poked(rt.alloc(), &mut site, sector, offset, byte), answer);
+        same(
+            &rt,
+            read_poked(rt.alloc(), &mut site, sector, offset, byte),
+            answer,
+        );
     }
     Ok(())
 }
@@ -84,7 +88,11 @@ fn counts_that_lie(rt: HostRuntime) -> Result<(), Fail> {
         ([2, 2, 1, 0], Err(Refusal::BadImage)),
         ([2, 2, 1, 1], Err(Refusal::BadRecord)),
     ] {
-        same(&rt, site.holds(rt.alloc(), Side::first(), 9, 7, counts), answer);
+        same(
+            &rt,
+            site.holds(rt.alloc(), Side::first(), 9, 7, counts),
+            answer,
+        );
     }
     Ok(())
 }
@@ -112,8 +120,20 @@ fn headers_are_read_before_pages(rt: HostRuntime) -> Result<(), Fail> {
         let answer = read_failing(rt.alloc(), &turns, 1, call)?;
         same(&rt, answer, (Err(Refusal::Device), false));
     }
-    same(&rt, read_failing(rt.alloc(), &turns, 1, 5)?, (Ok(true), true));
-    same(&rt, read_failing(rt.alloc(), &turns, 0, 3)?, (Err(Refusal::Device), false));
-    same(&rt, read_failing(rt.alloc(), &turns, 0, 4)?, (Err(Refusal::BadImage), true));
+    same(
+        &rt,
+        read_failing(rt.alloc(), &turns, 1, 5)?,
+        (Ok(true), true),
+    );
+    same(
+        &rt,
+        read_failing(rt.alloc(), &turns, 0, 3)?,
+        (Err(Refusal::Device), false),
+    );
+    same(
+        &rt,
+        read_failing(rt.alloc(), &turns, 0, 4)?,
+        (Err(Refusal::BadImage), true),
+    );
     Ok(())
 }
