@@ -4,11 +4,11 @@ use Rattle.std.proofs.Math.ListN.{get_or-map}
 use Rattle.std.proofs.Math.Nat.{zero-mul}
 use Rattle.std.proofs.lemmas.List.{map-append, map-set, set-get_or, get_or_append_left, get_or_push, length-take-le}
 use Rattle.std.proofs.lemmas.Bool.{cases_lt}
-use Rattle.disk.specs.Facts.{Content, Lent, Torn, IsFresh, nothing, sector}
+use Rattle.disk.specs.Facts.{Content, Lent, Torn, Apart, IsFresh, nothing, sector}
 use Rattle.simdisk.specs.declared.patch.Patch.{Patch}
 use Rattle.simdisk.specs.Record.{Piece, Record, range, ranges, more_written, more_synced, lent_piece, new_record, replay, filled, sim_facts, Untouched, Agrees, Fits}
 use Rattle.simdisk.specs.Views.{piece, pieces}
-use Rattle.simdisk.specs.Loans.{Noted}
+use Rattle.simdisk.specs.Loans.{Noted, IsLast}
 use Rattle.simdisk.specs.Choices.{left_by}
 use Rattle.simdisk.specs.declared.choice.Choice.{Choice}
 use Rattle.simdisk.specs.declared.choice.Choice.TheVariants.{Byte, Old, New}
@@ -19,11 +19,29 @@ use Rattle.simdisk.proofs.Walks.{read_piece}
 pub ranges_written : (r r' : Record) (p : Piece) → r' ≡ more_written p r → ranges r'.written ≡ ranges r.written ++ range p ∷ []
 ranges_written r r' p more = ap (λ (q : Record). ranges q.written) more ∙ map-append range r.written (p ∷ [])
 
-pub noted_push : (rs : List (ℕ × ℕ)) (x r : ℕ × ℕ) (i : ℕ) → Noted rs i r → Noted (rs ++ x ∷ []) i r
-noted_push rs x r i noted = (omega (arith, noted.0, length-append rs (x ∷ [])), get_or_append_left rs (x ∷ []) (0, 0) i noted.0 ∙ noted.1)
+-- a range more, which leaves the one at that place alone
+pub last_push : (rs : List (ℕ × ℕ)) (x r : ℕ × ℕ) (i : ℕ) → (x.0 + x.1 ≤ r.0) ⊎ (r.0 + r.1 ≤ x.0) → IsLast rs i r → IsLast (rs ++ x ∷ []) i r
+last_push rs x r i out last = record {
+  noted = (omega (arith, last.noted.0, length-append rs (x ∷ [])), get_or_append_left rs (x ∷ []) (0, 0) i last.noted.0 ∙ last.noted.1);
+  apart = λ j more lt. elim (cases_lt j (length rs)) [
+    | inl less ↦ subst (λ (y : ℕ × ℕ). r.0 < y.0 + y.1 → r.0 + r.1 ≤ y.0) (sym (get_or_append_left rs (x ∷ []) (0, 0) j less)) (last.apart j more less)
+    | inr le ↦ subst (λ (y : ℕ × ℕ). r.0 < y.0 + y.1 → r.0 + r.1 ≤ y.0) (sym (get_or_push rs x (0, 0) j (omega (arith, le, lt, length-append rs (x ∷ []))))) (λ behind. ⊎_elim (λ low. absurd (omega (arith, low, behind))) (λ high. high) out)
+  ];
+}
 
-pub noted_last : (rs : List (ℕ × ℕ)) (r : ℕ × ℕ) (i : ℕ) → length rs ≡ i → Noted (rs ++ r ∷ []) i r
-noted_last rs r i is = (omega (arith, is, length-append rs (r ∷ [])), get_or_push rs r (0, 0) i is)
+pub last_last : (rs : List (ℕ × ℕ)) (r : ℕ × ℕ) (i : ℕ) → length rs ≡ i → IsLast (rs ++ r ∷ []) i r
+last_last rs r i is = record {
+  noted = (omega (arith, is, length-append rs (r ∷ [])), get_or_push rs r (0, 0) i is);
+  apart = λ j more lt. absurd (omega (arith, is, more, lt, length-append rs (r ∷ [])));
+}
+
+pub last_alone : (x r : ℕ × ℕ) → x ≡ r → IsLast (x ∷ []) 0 r
+last_alone x r is = record { noted = (omega arith, is); apart = λ j more lt. absurd (omega (arith, more, lt)) }
+
+-- what may be written while sectors are lent
+pub apart_lent : (l : Lent) (first n : ℕ) → 0 < l.lanes → Apart first n l → (first + n ≤ l.first) ⊎ (l.first + l.lanes * l.each ≤ first)
+apart_lent l first n some (inl none) = absurd (omega (arith, some, none))
+apart_lent l first n some (inr out) = out
 
 -- a patch that keeps its range
 pub ranges_set : (patches : List Patch) (i : ℕ) (x new : Patch) → i < length patches → x ≡ get_or patches i x → range (piece new) ≡ range (piece x) → ranges (pieces (set patches i new)) ≡ ranges (pieces patches)

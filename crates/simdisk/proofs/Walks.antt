@@ -4,7 +4,7 @@ use Rattle.std.proofs.Math.ListN.{get_or-map}
 use Rattle.std.proofs.lemmas.List.{places, drop_more, drop_all, take_all, take_more, set_at, map-set, map-append, length-map, length-take-le, get_or_at, get_or_default, append_assoc, append-nil}
 use Rattle.disk.specs.Facts.{Content}
 use Rattle.simdisk.specs.declared.patch.Patch.{Patch}
-use Rattle.simdisk.specs.Record.{Piece, put, replay, range, ranges, Fits}
+use Rattle.simdisk.specs.Record.{Piece, put, replay, range, ranges, range_at, Fits}
 use Rattle.simdisk.specs.Views.{piece, pieces}
 
 -- what was read at that place, as a piece
@@ -12,6 +12,10 @@ pub read_piece : (patches : List Patch) (i : ℕ) (x : Patch) → i < length pat
 read_piece [] i x lt is d = absurd (omega arith)
 read_piece (p ∷ patches) zero x lt is d = ap piece (sym is)
 read_piece (p ∷ patches) (suc i) x lt is d = read_piece patches i x (omega arith) is d
+
+-- its range, by the ranges of all
+pub range_read : (patches : List Patch) (i : ℕ) (x : Patch) (r : ℕ × ℕ) → i < length patches → x ≡ get_or patches i x → range_at (ranges (pieces patches)) i ≡ r → range (piece x) ≡ r
+range_read patches i x r lt is at = sym (get_or-map range (pieces patches) i (0, []) ∙ ap range (read_piece patches i x lt is (0, []))) ∙ at
 
 -- the pieces from that place on
 pub rest_pieces : (patches : List Patch) (i : ℕ) (x : Patch) → i < length patches → x ≡ get_or patches i x → drop i (pieces patches) ≡ piece x ∷ drop (i + 1) (pieces patches)

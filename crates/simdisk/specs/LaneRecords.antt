@@ -2,7 +2,7 @@
 use Rattle.std.specs.Prelude.{◌≡◌, ◌==◌, if◌then◌else◌, ℕ, ◌+◌, ◌*◌, ◌<◌, Bool, true, false, Option, Some, None, List, [], length, take, drop, get_or, Result, OnOk, OnErr}
 use Rattle.disk.specs.declared.device.ArmedFault.{ArmedFault}
 use Rattle.disk.specs.declared.device.ArmedFault.TheVariants.{FailAt, CutAt, FailLane, CutLane}
-use Rattle.disk.specs.Facts.{Content, Lent}
+use Rattle.disk.specs.Facts.{Content, Lent, Torn, lent_sectors, sector}
 use Rattle.simdisk.specs.Armings.{FailsNext, one_call_on, Struck, cuts}
 
 pub record LaneRecord : Type 0 where
@@ -43,6 +43,11 @@ pub record IsLent (first each i : ℕ) (newest : Content) (armed : Option ArmedF
 pub record AreLent (l : Lent) (newest : Content) (armed : Option ArmedFault) (cut : Bool) (lanes : List LaneRecord) : Type 0 where
   pub count : length lanes ≡ l.lanes
   pub each : (i : ℕ) → i < l.lanes → IsLent l.first l.each i newest armed cut (record_at lanes i)
+
+-- what was written last on the disk, once those lanes came back: what was written last in each of them, and all else as it was
+pub record WrittenBack (l : Lent) (lanes : List LaneRecord) (old new : Content) : Type 0 where
+  pub elsewhere : Torn l.first (lent_sectors l) old new
+  pub there : (i j : ℕ) → i < l.lanes → j < l.each → sector (record_at lanes i).newest j ≡ sector new (l.first + i * l.each + j)
 
 -- the fault of a lane with the calls that are left to it in that lane
 abbrev pub left_to : ArmedFault → Option ArmedFault → Option ArmedFault

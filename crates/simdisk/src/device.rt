@@ -4,12 +4,12 @@ ghost use Rattle.disk.specs.Facts.{Content, Torn, Written, Passes, Stays, Only, 
 ghost use Rattle.disk.specs.Mishaps.{CausedInLanes, armed_by};
 ghost use Rattle.disk.specs.Calls.{Called, NoCall};
 ghost use Rattle.simdisk.specs.Armings.{FailsNext, one_call_on};
-ghost use Rattle.simdisk.specs.LaneRecords.{AreLent, CameBack};
+ghost use Rattle.simdisk.specs.LaneRecords.{AreLent, WrittenBack, CameBack};
 ghost use Rattle.simdisk.specs.Record.{more_written, more_synced, lent_piece, newest, NotedOrRefused, SameRanges};
 
 use crate::laid::overwrite;
-use crate::lane::SimLane;
-use crate::lending::{lend, take_back};
+use crate::lane::{Bytes, SimLane};
+use crate::lending::{failures_of, lay_row, lend};
 use crate::loan::Loan;
 use crate::recorded::{Recorded, RecordedLane};
 use crate::sim::SimDisk;
@@ -50,7 +50,7 @@ impl Disk for SimDisk {
         ensures record { ⟦<SimDisk as Recorded>⟧.record self.new ≡ ⟦<SimDisk as Recorded>⟧.record self.old }
         ensures due { OnOk result (FailsNext (⟦<SimDisk as Disk>⟧.mishaps self.old).struck (⟦<SimDisk as Recorded>⟧.armed self.old) → ⊥) }
         ensures early { OnErr result (FailsNext (⟦<SimDisk as Disk>⟧.mishaps self.old).struck (⟦<SimDisk as Recorded>⟧.armed self.old)) }
-        ensures counts { OnOk result (⟦<SimDisk as Recorded>⟧.armed self.new ≡ one_call_on (⟦<SimDisk as Recorded>⟧.armed self.old)) }
+        ensures counts { (FailsNext (⟦<SimDisk as Disk>⟧.mishaps self.old).struck (⟦<SimDisk as Recorded>⟧.armed self.old) → ⊥) → ⟦<SimDisk as Recorded>⟧.armed self.new ≡ one_call_on (⟦<SimDisk as Recorded>⟧.armed self.old) }
     {
         self.calls = self.calls.saturating_add(1);
         if self.faults.strikes() {
@@ -70,7 +70,7 @@ impl Disk for SimDisk {
         ensures record_failed { OnErr result (NotedOrRefused (first, sectors.now) (⟦<SimDisk as Recorded>⟧.record self.old) (⟦<SimDisk as Recorded>⟧.record self.new) (⟦<SimDisk as Disk>⟧.mishaps self.old).own (⟦<SimDisk as Disk>⟧.mishaps self.new).own) }
         ensures due { OnOk result (FailsNext (⟦<SimDisk as Disk>⟧.mishaps self.old).struck (⟦<SimDisk as Recorded>⟧.armed self.old) → ⊥) }
         ensures early { OnErr result (FailsNext (⟦<SimDisk as Disk>⟧.mishaps self.old).struck (⟦<SimDisk as Recorded>⟧.armed self.old) ⊎ ((⟦<SimDisk as Disk>⟧.mishaps self.new).own ≡ counted (⟦<SimDisk as Disk>⟧.mishaps self.old).own 1)) }
-        ensures counts { OnOk result (⟦<SimDisk as Recorded>⟧.armed self.new ≡ one_call_on (⟦<SimDisk as Recorded>⟧.armed self.old)) }
+        ensures counts { (FailsNext (⟦<SimDisk as Disk>⟧.mishaps self.old).struck (⟦<SimDisk as Recorded>⟧.armed self.old) → ⊥) → ⟦<SimDisk as Recorded>⟧.armed self.new ≡ one_call_on (⟦<SimDisk as Recorded>⟧.armed self.old) }
     {
         self.calls = self.calls.saturating_add(1);
         let Ok(()) = self.history.note(self.alloc, first, sectors) else {
@@ -93,7 +93,7 @@ impl Disk for SimDisk {
         ensures record_failed { OnErr result (⟦<SimDisk as Recorded>⟧.record self.new ≡ ⟦<SimDisk as Recorded>⟧.record self.old) }
         ensures due { OnOk result (FailsNext (⟦<SimDisk as Disk>⟧.mishaps self.old).struck (⟦<SimDisk as Recorded>⟧.armed self.old) → ⊥) }
         ensures early { OnErr result (FailsNext (⟦<SimDisk as Disk>⟧.mishaps self.old).struck (⟦<SimDisk as Recorded>⟧.armed self.old) ⊎ ((⟦<SimDisk as Disk>⟧.mishaps self.new).own ≡ counted (⟦<SimDisk as Disk>⟧.mishaps self.old).own 1)) }
-        ensures counts { OnOk result (⟦<SimDisk as Recorded>⟧.armed self.new ≡ one_call_on (⟦<SimDisk as Recorded>⟧.armed self.old)) }
+        ensures counts { (FailsNext (⟦<SimDisk as Disk>⟧.mishaps self.old).struck (⟦<SimDisk as Recorded>⟧.armed self.old) → ⊥) → ⟦<SimDisk as Recorded>⟧.armed self.new ≡ one_call_on (⟦<SimDisk as Recorded>⟧.armed self.old) }
     {
         self.calls = self.calls.saturating_add(1);
         if self.faults.strikes() {
@@ -153,12 +153,21 @@ impl Disk for SimDisk {
         ensures calls { (⟦<SimDisk as Disk>⟧.facts self.new).calls ≡ (⟦<SimDisk as Disk>⟧.facts self.old).calls }
         ensures cause { CausedInLanes (⟦<SimDisk as Disk>⟧.mishaps self.old) (⟦<SimDisk as Disk>⟧.mishaps self.new) (lane_failures (map ⟦<SimLane as Lane>⟧.lane_facts lanes.items)) }
         ensures record { SameRanges (⟦<SimDisk as Recorded>⟧.record self.old) (⟦<SimDisk as Recorded>⟧.record self.new) }
+        ensures newest { WrittenBack (⟦<SimDisk as Disk>⟧.facts self.old).lent (map ⟦<SimLane as RecordedLane>⟧.record lanes.items) (newest (⟦<SimDisk as Recorded>⟧.record self.old)) (newest (⟦<SimDisk as Recorded>⟧.record self.new)) }
         ensures came_back { (own : ℕ) × ((⟦<SimDisk as Disk>⟧.mishaps self.new).own ≡ counted (⟦<SimDisk as Disk>⟧.mishaps self.old).own own)
             × CameBack (⟦<SimDisk as Recorded>⟧.armed self.old) (⟦<SimDisk as Disk>⟧.mishaps self.old).struck (map ⟦<SimLane as RecordedLane>⟧.record lanes.items) (counted 0 (lane_failures (map ⟦<SimLane as Lane>⟧.lane_facts lanes.items))) (⟦<SimDisk as Recorded>⟧.armed self.new) (⟦<SimDisk as Disk>⟧.mishaps self.new).struck own }
     {
         let loan = self.loan;
-        let failures = take_back(&mut self.content, loan.first, loan.lanes, loan.each, &lanes);
-        self.history.take_newest(loan.patch, &lanes);
+        let failures = failures_of(&lanes);
+        lay_row(
+            &mut self.content,
+            loan.first,
+            loan.lanes,
+            loan.each,
+            &lanes,
+            Bytes::Read,
+        );
+        self.history.take_newest(loan, &lanes);
         self.loan = Loan::nothing();
         self.failures = self.failures.saturating_add(failures);
         let own = self.faults.come_back(&lanes, failures);

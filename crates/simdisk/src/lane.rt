@@ -22,6 +22,28 @@ pub struct SimLane {
     ghost as_long: { length newest.items ≡ length sectors.items },
 }
 
+/// Which bytes of a lane are meant.
+#[derive(Clone, Copy, Debug, PartialEq, Eq)]
+pub(crate) enum Bytes {
+    /// What a read gives.
+    Read,
+    /// The bytes of the last write, also of one that failed.
+    Written,
+}
+
+impl SimLane {
+    ghost use Rattle.simdisk.specs.Lanes.{view_of};
+
+    pub(crate) fn bytes(&self, bytes: Bytes) -> &[Sector]
+        ensures { result.now ≡ (view_of bytes self.now).content }
+    {
+        match bytes {
+            Bytes::Read => &self.sectors,
+            Bytes::Written => &self.newest,
+        }
+    }
+}
+
 impl Lane for SimLane {
     ghost use Rattle.simdisk.specs.Lanes.{lane_view};
 

@@ -1,12 +1,12 @@
 //! How sectors are lent and taken back.
-ghost use Rattle.std.specs.Prelude.{◌≡◌, ◌≤◌, ◌+◌, ◌*◌, length, map, IfOk};
-ghost use Rattle.disk.specs.Facts.{InRow, Handed, Joined, counted, lane_failures};
-ghost use Rattle.simdisk.specs.Lanes.{lane_view, lane_record};
+ghost use Rattle.std.specs.Prelude.{◌≡◌, ◌≤◌, ◌<◌, ◌+◌, ◌*◌, ℕ, length, map, IfOk};
+ghost use Rattle.disk.specs.Facts.{Handed, Joined, counted, lane_failures, lane_at};
+ghost use Rattle.simdisk.specs.Lanes.{lane_view, lane_record, view_of};
 ghost use Rattle.simdisk.specs.LaneRecords.{AreLent};
 
 use crate::faults::Faults;
 use crate::laid::overwrite;
-use crate::lane::SimLane;
+use crate::lane::{Bytes, SimLane};
 use crate::patch::copy_of;
 use disk::Sector;
 use std::alloc::{AllocError, Global};
@@ -41,23 +41,32 @@ pub(crate) fn lend(
     Ok(out)
 }
 
-// Puts back what the lanes hold, and answers how often they failed.
-pub(crate) fn take_back(
+// How often these lanes failed.
+pub(crate) fn failures_of(lanes: &[SimLane]) -> u64
+    ensures { result ≡ counted 0 (lane_failures (map lane_view lanes.now)) }
+{
+    let mut failures = 0u64;
+    for lane in lanes {
+        failures = failures.saturating_add(lane.failures);
+    }
+    failures
+}
+
+// Lays what the lanes hold in a row from that place on.
+pub(crate) fn lay_row(
     content: &mut Vec<Sector>,
     first: usize,
     count: usize,
     each: usize,
     lanes: &[SimLane],
-) -> u64
-    requires row { InRow (record { first = first; lanes = count; each = each }) (map lane_view lanes.now) }
+    bytes: Bytes,
+)
+    requires count { length lanes.now ≡ count }
+    requires each { (i : ℕ) → i < count → length (lane_at (map (view_of bytes) lanes.now) i).content ≡ each }
     requires within { first + count * each ≤ length content.old.items }
-    ensures content { Joined (record { first = first; lanes = count; each = each }) (map lane_view lanes.now) content.old.items content.new.items }
-    ensures failures { result ≡ counted 0 (lane_failures (map lane_view lanes.now)) }
+    ensures { Joined (record { first = first; lanes = count; each = each }) (map (view_of bytes) lanes.now) content.old.items content.new.items }
 {
-    let mut failures = 0u64;
     for (i, lane) in lanes.iter().enumerate() {
-        overwrite(content, first + i * each, &lane.sectors);
-        failures = failures.saturating_add(lane.failures);
+        overwrite(content, first + i * each, lane.bytes(bytes));
     }
-    failures
 }

@@ -1,7 +1,9 @@
 //! Sectors in a row, and how they are laid over a content.
 ghost use Rattle.std.specs.Prelude.{◌≡◌, length, IfOk};
 
-use crate::lane::SimLane;
+use crate::lane::{Bytes, SimLane};
+use crate::lending::lay_row;
+use crate::loan::Loan;
 use disk::Sector;
 use std::alloc::{AllocError, Global};
 
@@ -19,8 +21,10 @@ pub(crate) struct Epoch {
 }
 
 impl Patch {
-    ghost use Rattle.std.specs.Prelude.{◌≤◌, ◌+◌, length, vec_len};
-    ghost use Rattle.simdisk.specs.Record.{settled, filled, range};
+    ghost use Rattle.std.specs.Prelude.{◌≡◌, ◌≤◌, ◌<◌, ◌+◌, ◌*◌, ℕ, length, map};
+    ghost use Rattle.disk.specs.Facts.{Joined, lane_at};
+    ghost use Rattle.simdisk.specs.Lanes.{newest_view};
+    ghost use Rattle.simdisk.specs.Record.{settled, filled};
     ghost use Rattle.simdisk.specs.Views.{piece};
 
     // Takes what stands in its sectors.
@@ -32,15 +36,22 @@ impl Patch {
         self.sectors.copy_from_slice(&content[self.first..end]);
     }
 
-    // Takes what the lanes would hold had each failed write gone through, one after the other.
-    pub(crate) fn take_newest(&mut self, lanes: &[SimLane])
-        ensures { range (piece self.new) ≡ range (piece self.old) }
+    // Takes what was written last in the lanes of that loan.
+    pub(crate) fn take_newest(&mut self, loan: Loan, lanes: &[SimLane])
+        requires long { length self.old.sectors.items ≡ loan.lanes * loan.each }
+        requires count { length lanes.now ≡ loan.lanes }
+        requires each { (i : ℕ) → i < loan.lanes → length (lane_at (map newest_view lanes.now) i).content ≡ loan.each }
+        ensures first { self.new.first ≡ self.old.first }
+        ensures joined { Joined (record { first = 0; lanes = loan.lanes; each = loan.each }) (map newest_view lanes.now) self.old.sectors.items self.new.sectors.items }
     {
-        let mut at = 0usize;
-        for lane in lanes {
-            lay_within(&mut self.sectors, at, &lane.newest);
-            at = at.saturating_add(lane.newest.len());
-        }
+        lay_row(
+            &mut self.sectors,
+            0,
+            loan.lanes,
+            loan.each,
+            lanes,
+            Bytes::Written,
+        );
     }
 
     // Takes that byte throughout.
@@ -50,15 +61,6 @@ impl Patch {
         for sector in self.sectors.iter_mut() {
             *sector = [byte; 512];
         }
-    }
-}
-
-// Writes these sectors over those from that place on, where they fit.
-fn lay_within(content: &mut Vec<Sector>, at: usize, sectors: &[Sector])
-    ensures { length content.new.items ≡ length content.old.items }
-{
-    if at <= content.len() && sectors.len() <= content.len() - at {
-        content[at..at + sectors.len()].copy_from_slice(sectors);
     }
 }
 

@@ -1,6 +1,8 @@
 //! How the record of writes and syncs grows.
-ghost use Rattle.std.specs.Prelude.{◌≡◌, ◌≤◌, ◌+◌, ◌*◌, [], ◌∷◌, length, map, OnOk, OnErr, IfOk};
-ghost use Rattle.simdisk.specs.Record.{new_record, more_written, more_synced, lent_piece, replay, ranges, Agrees, Fits};
+ghost use Rattle.std.specs.Prelude.{◌≡◌, ◌≤◌, ◌<◌, ◌+◌, ◌*◌, ℕ, [], ◌∷◌, length, map, OnOk, OnErr, IfOk};
+ghost use Rattle.disk.specs.Facts.{Joined, lane_at};
+ghost use Rattle.simdisk.specs.Loans.{IsLast};
+ghost use Rattle.simdisk.specs.Record.{new_record, more_written, more_synced, lent_piece, newest, replay, ranges, Agrees, Fits};
 ghost use Rattle.simdisk.specs.Choices.{left_by};
 ghost use Rattle.simdisk.specs.Views.{pieces};
 
@@ -17,6 +19,7 @@ use std::mem::replace;
 impl History {
     ghost use Rattle.simdisk.specs.History.{record_of};
     ghost use Rattle.simdisk.specs.Loans.{lent_of};
+    ghost use Rattle.simdisk.specs.Lanes.{newest_view};
 
     // The record of a disk that begins with these sectors.
     pub(crate) fn begun(alloc: Global, sectors: &[Sector]) -> Result<History, AllocError>
@@ -105,16 +108,21 @@ impl History {
         self.note(alloc, loan.first, &newest[loan.first..end])
     }
 
-    // Takes over what the lanes would hold had each failed write gone through.
-    pub(crate) fn take_newest(&mut self, patch: usize, lanes: &[SimLane])
+    // Takes over what was written last in the lanes of that loan, which come back.
+    pub(crate) fn take_newest(&mut self, loan: Loan, lanes: &[SimLane])
+        requires count { length lanes.now ≡ loan.lanes }
+        requires each { (i : ℕ) → i < loan.lanes → length (lane_at (map newest_view lanes.now) i).content ≡ loan.each }
+        requires noted { 0 < loan.lanes → IsLast (ranges (pieces self.old.written.items)) loan.patch (loan.first, loan.lanes * loan.each) }
         ensures ranges { ranges (pieces self.new.written.items) ≡ ranges (pieces self.old.written.items) }
         ensures past { self.new.past ≡ self.old.past }
         ensures began { self.new.began ≡ self.old.began }
         ensures synced { self.new.synced ≡ self.old.synced }
+        ensures newest { Joined (lent_of loan) (map newest_view lanes.now) (newest (record_of self.old)) (newest (record_of self.new)) }
     {
-        if patch < self.written.len() {
-            self.written[patch].take_newest(lanes);
+        if loan.lanes == 0 {
+            return;
         }
+        self.written[loan.patch].take_newest(loan, lanes);
     }
 
     // What stands where each write, also one that failed, had gone through.

@@ -2,7 +2,7 @@
 ghost use Rattle.std.specs.Prelude.{◌≡◌, ◌≤◌, ◌<◌, ◌+◌, ◌*◌, ◌^◌, length};
 ghost use Rattle.simdisk.specs.Record.{ranges, Agrees};
 ghost use Rattle.simdisk.specs.Views.{pieces};
-ghost use Rattle.simdisk.specs.Loans.{Noted};
+ghost use Rattle.simdisk.specs.Loans.{IsLast};
 
 use crate::faults::Faults;
 use crate::history::History;
@@ -25,5 +25,5 @@ pub struct SimDisk {
     ghost few: { failures < 2 ^ 64 },
     ghost few_calls: { calls < 2 ^ 64 },
     ghost within: { loan.first + loan.lanes * loan.each ≤ length content.items },
-    ghost noted: { 0 < loan.lanes → Noted (ranges (pieces history.written.items)) loan.patch (loan.first, loan.lanes * loan.each) },
+    ghost noted: { 0 < loan.lanes → IsLast (ranges (pieces history.written.items)) loan.patch (loan.first, loan.lanes * loan.each) },
 }

@@ -66,7 +66,8 @@ impl Faults {
 
     /// Counts a call that failed by itself. What would have struck there strikes at the next call.
     pub(crate) fn pass(&mut self)
-        ensures { Waits self.old self.new }
+        ensures waits { Waits self.old self.new }
+        ensures counts { (FailsNext self.old.cut self.old.armed → ⊥) → self.new.armed ≡ one_call_on self.old.armed }
     {
         let before = *self;
         if self.strikes() {

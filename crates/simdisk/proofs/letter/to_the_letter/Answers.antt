@@ -7,4 +7,4 @@ use Rattle.simdisk.proofs.letter.to_the_letter.Goals as goal
 pub returns-clause-lent : goal.returns-clause-lent
 returns-clause-lent c k le lt u =
     let d = c.args.disk.now in
-    lent_written (lent_of d.loan) (ranges (pieces d.history.written.items)) d.loan.patch d.noted k le lt u
+    lent_written (lent_of d.loan) (ranges (pieces d.history.written.items)) d.loan.patch (λ lt. (d.noted lt).noted) k le lt u

@@ -1,13 +1,15 @@
-use Rattle.std.proofs.Common.{◌≡◌, ℕ, map, ap, subst, arith, rules}
-use Rattle.disk.specs.Facts.{Lent, counted, lane_failures}
-use Rattle.simdisk.specs.Lanes.{lane_view, lane_record}
+use Rattle.std.proofs.Common.{◌≡◌, ◌∙◌, ℕ, List, length, map, ap, subst, arith, rules}
+use Rattle.disk.specs.Facts.{Lent, Joined, counted, lane_at, lane_failures}
+use Rattle.simdisk.specs.Lanes.{lane_view, newest_view, lane_record}
 use Rattle.simdisk.specs.LaneRecords.{CameBack}
+use Rattle.simdisk.specs.declared.lane.SimLane.{SimLane}
 use Rattle.simdisk.specs.Views.{epochs}
 use Rattle.simdisk.specs.History.{record_of}
 use Rattle.simdisk.specs.Loans.{lent_of}
-use Rattle.simdisk.specs.Record.{ranges}
+use Rattle.simdisk.specs.Record.{newest, ranges}
 use Rattle.simdisk.specs.Views.{pieces}
 use Rattle.simdisk.proofs.Notes.{agrees_join}
+use Rattle.simdisk.proofs.Rows.{newest_long, written_back}
 use Rattle.simdisk.proofs.Stretches.{passes_ranges}
 use Rattle.simdisk.proofs.device.SimDiskDisk.join.Goals as goal
 
@@ -16,7 +18,7 @@ invariant_of-self c =
     let s = c.args.self.now in
     let all = c.take_newest.ensures in
     record {
-      agrees = rw (all.ranges, all.synced) (agrees_join (lent_of s.loan) s.history.synced.items (ranges (pieces s.history.written.items)) s.loan.patch s.content.items c.take_back-failures.new.content.items s.noted s.agrees c.take_back-failures.ensures.content.elsewhere);
+      agrees = rw (all.ranges, all.synced) (agrees_join (lent_of s.loan) s.history.synced.items (ranges (pieces s.history.written.items)) s.loan.patch s.content.items c.lay_row.new.content.items (λ lt. (s.noted lt).noted) s.agrees c.lay_row.ensures.elsewhere);
       few = search rules;
       few_calls = s.few_calls;
       within = search rules;
@@ -30,12 +32,22 @@ returns-clause-crash c =
     passes_ranges s.content.items _ s.history.synced.items c.take_newest.new.self.synced.items (record_of s.history) (record_of c.take_newest.new.self) _ _ _ _ _ _ all.ranges
     (ap (λ past. epochs past.items) all.past) (ap (λ began. began.items) all.began) (ap (λ synced. synced.items) all.synced)
 
+pub returns-clause-newest : goal.returns-clause-newest
+returns-clause-newest c =
+    let s = c.args.self.now in
+    written_back (lent_of s.loan) c.args.lanes.items (newest (record_of s.history)) (newest (record_of c.take_newest.new.self))
+    (subst (λ (ls : List SimLane). Joined (lent_of s.loan) (map newest_view ls) (newest (record_of s.history)) (newest (record_of c.take_newest.new.self))) c.deref-3.ensures.value c.take_newest.ensures.newest)
+
+pub take_newest-requires-clause-each : goal.take_newest-requires-clause-each
+take_newest-requires-clause-each c i lt =
+    ap (λ (ls : List SimLane). length (lane_at (map newest_view ls) i).content) c.deref-3.ensures.value ∙ newest_long c.args.lanes.items i ∙ c.requires.each i lt
+
 pub returns-clause-came_back : goal.returns-clause-came_back
 returns-clause-came_back c =
     let s = c.args.self.now in
     let lanes = c.args.lanes.items in
     let more = c.come_back-own.result in
-    let failed : c.take_back-failures.result ≡ counted 0 (lane_failures (map lane_view lanes)) = search rules in
+    let failed : c.failures_of-failures.result ≡ counted 0 (lane_failures (map lane_view lanes)) = search rules in
     let own : c.saturating_add-self-2.result ≡ counted s.refused more = search rules in
-    let back : CameBack s.faults.armed s.faults.cut (map lane_record lanes) c.take_back-failures.result c.come_back-own.new.self.armed c.come_back-own.new.self.cut more = search rules in
+    let back : CameBack s.faults.armed s.faults.cut (map lane_record lanes) c.failures_of-failures.result c.come_back-own.new.self.armed c.come_back-own.new.self.cut more = search rules in
     (more, own, subst (λ (n : ℕ). CameBack s.faults.armed s.faults.cut (map lane_record lanes) n c.come_back-own.new.self.armed c.come_back-own.new.self.cut more) failed back)

@@ -5,7 +5,7 @@ use Rattle.simdisk.specs.Record.{range, ranges, lent_piece, sim_facts}
 use Rattle.simdisk.specs.Views.{piece, pieces}
 use Rattle.simdisk.specs.History.{record_of}
 use Rattle.simdisk.proofs.Ranges.{agrees_push}
-use Rattle.simdisk.proofs.Notes.{ranges_written, noted_last, range_lent}
+use Rattle.simdisk.proofs.Notes.{ranges_written, last_last, range_lent}
 use Rattle.simdisk.proofs.Stretches.{passes_range}
 use Rattle.simdisk.proofs.device.SimDiskDisk.split.Goals as goal
 
@@ -24,7 +24,7 @@ invariant_of-self-3 c =
       few = s.few;
       few_calls = s.few_calls;
       within = c.requires.within;
-      noted = λ lt. rw more (noted_last rs r c.len.result (length-map (pieces s.history.written.items) range ∙ length-map s.history.written.items piece ∙ search rules));
+      noted = λ lt. rw more (last_last rs r c.len.result (length-map (pieces s.history.written.items) range ∙ length-map s.history.written.items piece ∙ search rules));
     }
 
 pub returns-clause-crash : goal.returns-clause-crash

@@ -17,7 +17,7 @@ returns-clause-called c =
     record {
       content = search rules;
       crash = passes_sync s.content.items s.history.synced.items c.end_epoch.new.self.synced.items (record_of s.history) (record_of c.end_epoch.new.self) _ _ _ _ _ (lent_piece (lent_of s.loan) s.content.items ∷ [])
-          c.in-Ok.ensures.noted c.in-Ok.ensures.synced s.history.replayed s.agrees s.history.fits (lent_fewer (lent_of s.loan) s.content.items _ s.loan.patch s.within s.noted);
+          c.in-Ok.ensures.noted c.in-Ok.ensures.synced s.history.replayed s.agrees s.history.fits (lent_fewer (lent_of s.loan) s.content.items _ s.loan.patch s.within (λ lt. (s.noted lt).noted));
       lent = search rules;
       calls = search rules;
       failures = search rules;

@@ -2,8 +2,9 @@ use Rattle.std.proofs.Common.{◌≡◌, ◌++◌, ◌∷◌, [], ℕ, ◌*◌, 
 use Rattle.simdisk.specs.Record.{ranges}
 use Rattle.simdisk.specs.Views.{pieces}
 use Rattle.simdisk.specs.History.{record_of}
+use Rattle.simdisk.specs.Loans.{lent_of}
 use Rattle.simdisk.proofs.Ranges.{agrees_write, agrees_push}
-use Rattle.simdisk.proofs.Notes.{ranges_written, noted_push}
+use Rattle.simdisk.proofs.Notes.{ranges_written, last_push, apart_lent}
 use Rattle.simdisk.proofs.Stretches.{passes_range}
 use Rattle.simdisk.proofs.device.SimDiskDisk.write.Goals as goal
 
@@ -18,7 +19,7 @@ invariant_of-self-then-strikes c =
       few = search rules;
       few_calls = search rules;
       within = s.within;
-      noted = λ lt. rw more (noted_push rs r (s.loan.first, s.loan.lanes * s.loan.each) s.loan.patch (s.noted lt));
+      noted = λ lt. rw more (last_push rs r (s.loan.first, s.loan.lanes * s.loan.each) s.loan.patch (apart_lent (lent_of s.loan) c.args.first (length c.args.sectors.now) lt c.requires.apart) (s.noted lt));
     }
 
 pub returns-then-strikes-clause-called : goal.returns-then-strikes-clause-called
@@ -47,7 +48,7 @@ invariant_of-self-2 c =
       few = s.few;
       few_calls = search rules;
       within = rw torn.as_long s.within;
-      noted = λ lt. rw more (noted_push rs r (s.loan.first, s.loan.lanes * s.loan.each) s.loan.patch (s.noted lt));
+      noted = λ lt. rw more (last_push rs r (s.loan.first, s.loan.lanes * s.loan.each) s.loan.patch (apart_lent (lent_of s.loan) c.args.first (length c.args.sectors.now) lt c.requires.apart) (s.noted lt));
     }
 
 pub returns-clause-called : goal.returns-clause-called
