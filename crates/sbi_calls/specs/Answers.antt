@@ -1,6 +1,6 @@
 -- The table of answers: from the states of all harts, the pending pairs, the caller and the call to the answer and what the tables then are.
 -- Source: SBI specification 2.0, chapters 4, 7 and 9; docs/SBI.md.
-use Rattle.std.specs.Prelude.{◌≡◌, ℕ, Bool, true, List, map, length, slice_set, ◌==◌, if◌then◌else◌, Result, Ok, Err}
+use Rattle.std.specs.Prelude.{◌≡◌, ℕ, Bool, true, List, map, length, slice_set, ◌==◌, if◌then◌else◌, Ok, Err}
 use Rattle.std.specs.Int.{bit_at}
 use Rattle.board_model.specs.Shapes.{Size}
 use Rattle.tallies.specs.Seats.{numbers_from}

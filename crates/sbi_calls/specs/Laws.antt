@@ -1,12 +1,10 @@
 -- Laws of the table of answers, in the words of the calls. Source: SBI specification 2.0, chapters 7 and 9.
-use Rattle.std.specs.Prelude.{◌≡◌, ◌⊎◌, ◌↔◌, ◌<◌, ℕ, IsTrue, Ok, Err}
+use Rattle.std.specs.Prelude.{◌≡◌, ◌⊎◌, ◌↔◌, ◌<◌, ℕ, Ok, Err}
 use Rattle.board_model.specs.Shapes.{Size, IsValidAddress}
-use Rattle.hsm_rule.specs.States.{stopped, start_pending}
+use Rattle.hsm_rule.specs.States.{stopped}
 use Rattle.hsm.specs.Seen.{listed}
-use Rattle.ipi.specs.Seen.{pair_at, AreRows}
-use Rattle.sbi_abi.specs.Masks.{IsNamed, IsBadMask}
 use Rattle.sbi_abi.specs.declared.call.Call.{Call}
-use Rattle.sbi_abi.specs.declared.call.Call.TheVariants.{HartStart, HartStatus, SendIpi}
+use Rattle.sbi_abi.specs.declared.call.Call.TheVariants.{HartStart, HartStatus}
 use Rattle.sbi_abi.specs.declared.ret.SbiError.{SbiError}
 use Rattle.sbi_calls.specs.declared.endings.Ending.TheVariants.{Answers}
 use Rattle.sbi_calls.specs.Both.{TableState}

@@ -1,5 +1,5 @@
-use Rattle.std.proofs.Common.{◌≡◌, ◌<◌, ℕ, List, Bool, refl, sym, subst}
-use Rattle.ipi.specs.Seating.{harts_of, crew_of, diaries_in}
+use Rattle.std.proofs.Common.{◌<◌, ℕ, List, Bool, refl, sym, subst}
+use Rattle.ipi.specs.Seating.{crew_of, diaries_in}
 use Rattle.ipi.specs.Seen.{ArePairs}
 use Rattle.sbi_calls.specs.Answers.{pairs_sent}
 use Rattle.sbi_calls.specs.Steps.{Sends}
