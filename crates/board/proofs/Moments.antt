@@ -1,7 +1,7 @@
 -- What a crash may leave from an open to the end of a power-on.
 use Rattle.std.proofs.Common.{◌≡◌, inl, inr, Option, None, Some, refl}
 use Rattle.disk.specs.Facts.{Content, Facts, LeavesSince, Unchanged}
-use Rattle.disk.proofs.Moments.{passes_unchanged, leaves_stays, leaves_then, leaves_weaker}
+use Rattle.disk.specs.Moments.{passes_unchanged, leaves_stays, leaves_then, leaves_weaker}
 use Rattle.board_model.specs.Durable.{State, Change, after}
 use Rattle.board_model.specs.Shapes.{Size}
 use Rattle.store.specs.Leaves.{StandsForEither}
@@ -13,6 +13,7 @@ unchanged_here a = record {
   content = refl;
   moment = refl;
   failures = refl;
+  calls = refl;
   lent = refl;
   now = λ c. (λ left. left, λ left. left);
   since = λ t c. (λ left. left, λ left. left);

@@ -53,7 +53,7 @@ impl<D: Disk + Drop> Board<D> {
     ghost use Rattle.store.specs.Leaves.{IsIdle, SameLength, Leaves, LeavesOnly, LeavesEither, StandsForEither, IsRewritten};
     ghost use Rattle.store.specs.Opens.{ReadsAs, OpenRefused, CausedRefusal};
     ghost use Rattle.store.specs.Lives.{Applied};
-    ghost use Rattle.store.specs.Stores.{disk_of, mishaps_of, size_of_store, life_of, found_state, now_state, doubt_of, failures_at_open, Stands, Doubts};
+    ghost use Rattle.store.specs.Stores.{disk_of, mishaps_of, arms_of, size_of_store, life_of, found_state, now_state, doubt_of, failures_at_open, Stands, Doubts};
     ghost use Rattle.machine.specs.Machine.{hart_at};
     ghost use Rattle.machine.specs.Turns.{Turns, TurnsMany};
     ghost use Rattle.board.specs.Boots.{IsConsoleCommand, life_after, boot_refusal, BootsSlot, Fits, booted};
@@ -148,6 +148,7 @@ impl<D: Disk + Drop> Board<D> {
         ensures board { size_of_store (store_of self.new) ≡ size_of_store (store_of self.old) }
         ensures facts { Unchanged (disk_of (store_of self.old)) (disk_of (store_of self.new)) }
         ensures armed { mishaps_of (store_of self.new) ≡ record (mishaps_of (store_of self.old)) { armed = armed_by fault } }
+        ensures arms { arms_of (store_of self.new) fault }
         ensures opened { failures_at_open (store_of self.new) ≡ failures_at_open (store_of self.old) }
     {
         self.store.arm(fault);

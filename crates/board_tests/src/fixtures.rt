@@ -16,13 +16,20 @@ use std::process::Abort;
 use std::test::Fail;
 use store::format;
 
+/// A disk that was formatted for a board of that shape, and has just the sectors that it needs.
+pub fn formatted_for(alloc: Global, shape: Shape) -> Result<SimDisk, Fail>
+    ensures { IfOk result (λ disk. (⟦<SimDisk as Disk>⟧.facts disk).lent.lanes ≡ 0) }
+{
+    let mut disk = SimDisk::blank(alloc, shape.sectors())?;
+    format(&mut disk, &shape)?;
+    Ok(disk)
+}
+
 /// A disk that was formatted for a board of so many harts, of one page and one lane: 26 sectors.
 pub fn formatted(alloc: Global, harts: u64) -> Result<SimDisk, Fail>
     ensures { IfOk result (λ disk. (⟦<SimDisk as Disk>⟧.facts disk).lent.lanes ≡ 0) }
 {
-    let mut disk = SimDisk::blank(alloc, 26)?;
-    format(&mut disk, &Shape::new(harts, 1, 1)?)?;
-    Ok(disk)
+    formatted_for(alloc, Shape::new(harts, 1, 1)?)
 }
 
 /// A disk of 26 sectors, of which these come first, and zeros.

@@ -8,4 +8,6 @@ mod faults;
 #[cfg(test)]
 mod fixtures;
 #[cfg(test)]
+mod largest;
+#[cfg(test)]
 mod refusals;

@@ -2,7 +2,7 @@
 ghost use Rattle.std.specs.Prelude.{◌≡◌};
 
 use crate::fixtures::{formatted, one_payload, powered, same, unpowered, with_image};
-use board::Payloads;
+use board::{Board, Payloads, Unpowered};
 use board_model::{BootMode, Refusal};
 use disk::Disk;
 use simdisk::SimDisk;
@@ -119,4 +119,24 @@ fn open_refused(rt: &impl Abort, alloc: Global, sectors: usize, want: Refusal) -
 fn the_open_is_refused_first(rt: HostRuntime) -> Result<(), Fail> {
     open_refused(&rt, rt.alloc(), 26, Refusal::NotFormatted)?;
     open_refused(&rt, rt.alloc(), 0, Refusal::BadShape)
+}
+
+// Where the board is off, memory was refused it, and the states that the open found are told.
+fn told(rt: &impl Abort, powered: Result<Board<SimDisk>, Unpowered<SimDisk>>) {
+    if let Err(left) = powered {
+        same(rt, left.refusal, Refusal::Memory);
+        same(rt, left.found.is_some(), true);
+        same(rt, left.now, left.found);
+    }
+}
+
+// By hand: with `rt try --test --fail-alloc N` for each N this fails where the open itself is refused its journal, and at no
+// other N, since a board that is refused memory after a good open tells what the open found.
+#[test]
+fn memory_refused_after_the_open_tells_what_it_found(rt: HostRuntime) -> Result<(), Fail> {
+    let payloads = Payloads::new(rt.alloc());
+    let disk = formatted(rt.alloc(), 8)?;
+    let powered = Board::power_on(rt.alloc(), disk, BootMode::Fresh, &payloads);
+    told(&rt, powered);
+    Ok(())
 }

@@ -32,6 +32,8 @@ pub record Facts : Type 1 where
   pub since : ℕ → Content → Type 0
   -- how often it has failed
   pub failures : ℕ
+  -- how many calls were made of it: reads, writes and syncs, those that failed too
+  pub calls : ℕ
   pub lent : Lent
 
 -- the facts of a lane
@@ -90,15 +92,17 @@ pub record Unchanged (old new : Facts) : Type 0 where
   pub content : new.content ≡ old.content
   pub moment : new.moment ≡ old.moment
   pub failures : new.failures ≡ old.failures
+  pub calls : new.calls ≡ old.calls
   pub lent : new.lent ≡ old.lent
   pub now : (c : Content) → (new.may_leave c → old.may_leave c) × (old.may_leave c → new.may_leave c)
   pub since : (t : ℕ) (c : Content) → (new.since t c → old.since t c) × (old.since t c → new.since t c)
 
--- a crash has left the one as the other, which goes on counting failures
+-- a crash has left the one as the other, which goes on counting failures and calls
 pub record IsLeft (before after : Facts) : Type 0 where
   pub left : before.may_leave after.content
   pub fresh : IsFresh after.content after
   pub failures : after.failures ≡ before.failures
+  pub calls : after.calls ≡ before.calls
 
 -- none of these sectors is lent
 abbrev pub Apart : ℕ → ℕ → Lent → Type 0

@@ -62,8 +62,10 @@ pub trait Lane {
 /// Each error of a call is one failure more, in a count that stays where it ends. What a call does
 /// to the contents that a crash may leave, before, during and after it, is its clause `crash`.
 pub trait Disk {
-    ghost use Rattle.disk.specs.Facts.{Content, Facts, Torn, Written, Stays, Passes, Only, Apart, Found, Counts, Handed, InRow, Joined, Unchanged, counted, most, nothing, lent_sectors, lane_failures};
-    ghost use Rattle.disk.specs.Mishaps.{Mishaps, Caused, CausedInLanes, armed_by};
+    ghost use Rattle.disk.specs.Facts.{Content, Facts, Torn, Written, Stays, Passes, Only, Apart, Found, Handed, InRow, Joined, Unchanged, counted, most, nothing, lent_sectors, lane_failures};
+    ghost use Rattle.disk.specs.Mishaps.{Mishaps, CausedInLanes, armed_by};
+    ghost use Rattle.disk.specs.Calls.{Called, NoCall};
+    ghost use Rattle.disk.specs.declared.device.ArmedFault.{ArmedFault};
 
     type Lane: Lane + Send + Drop;
 
@@ -71,6 +73,9 @@ pub trait Disk {
 
     /// What is armed, whether an armed cut has struck, and how often the disk failed by itself.
     ghost mishaps: { Self → Mishaps };
+
+    /// That fault is armed, and each call of it is still to come. A disk may ignore what is armed.
+    ghost arms: { Self → ArmedFault → Type 0 };
 
     /// How many sectors the disk has.
     fn sectors(&self) -> usize
@@ -82,11 +87,7 @@ pub trait Disk {
         requires within { first + length sectors.old ≤ length (facts self.old).content }
         requires apart { Apart first (length sectors.old) (facts self.old).lent }
         ensures found { OnOk result (Found first (facts self.old).content sectors.new) }
-        ensures content { (facts self.new).content ≡ (facts self.old).content }
-        ensures crash { Passes (facts self.old) (facts self.new) Stays }
-        ensures failures { Counts (facts self.old).failures (facts self.new).failures result }
-        ensures cause { Caused (mishaps self.old) (mishaps self.new) result }
-        ensures lent { (facts self.new).lent ≡ (facts self.old).lent };
+        ensures called { Called 1 Stays (facts self.old) (facts self.new) (mishaps self.old) (mishaps self.new) result };
 
     /// Writes these sectors from that one on. Until a sync succeeds, a crash may leave any bytes in
     /// the range, at `Err` as at `Ok`. At `Err` the range reads as any bytes until it is written
@@ -95,22 +96,14 @@ pub trait Disk {
         requires within { first + length sectors.now ≤ length (facts self.old).content }
         requires apart { Apart first (length sectors.now) (facts self.old).lent }
         ensures written { OnOk result (Written first sectors.now (facts self.old).content (facts self.new).content) }
-        ensures content { Torn first (length sectors.now) (facts self.old).content (facts self.new).content }
-        ensures crash { Passes (facts self.old) (facts self.new) (Torn first (length sectors.now)) }
-        ensures failures { Counts (facts self.old).failures (facts self.new).failures result }
-        ensures cause { Caused (mishaps self.old) (mishaps self.new) result }
-        ensures lent { (facts self.new).lent ≡ (facts self.old).lent };
+        ensures called { Called 1 (Torn first (length sectors.now)) (facts self.old) (facts self.new) (mishaps self.old) (mishaps self.new) result };
 
     /// Makes durable what a read gives: at `Ok` a crash leaves that and nothing else, but for
     /// sectors that are lent. At `Err` it has made nothing durable.
     fn sync(&mut self) -> Result<(), Fault>
         ensures durable { OnOk result ((facts self.old).lent.lanes ≡ 0 → Only (facts self.new).content (facts self.new).may_leave) }
         ensures but_lent { OnOk result ((c : Content) → (facts self.new).may_leave c → Torn (facts self.old).lent.first (lent_sectors (facts self.old).lent) (facts self.new).content c) }
-        ensures content { (facts self.new).content ≡ (facts self.old).content }
-        ensures crash { Passes (facts self.old) (facts self.new) Stays }
-        ensures failures { Counts (facts self.old).failures (facts self.new).failures result }
-        ensures cause { Caused (mishaps self.old) (mishaps self.new) result }
-        ensures lent { (facts self.new).lent ≡ (facts self.old).lent };
+        ensures called { Called 1 Stays (facts self.old) (facts self.new) (mishaps self.old) (mishaps self.new) result };
 
     /// Lends so many lanes, at most 4, of so many sectors each, in a row from the first. From now
     /// until a sync after the join succeeds, a crash may leave any bytes in them. At `Err` memory
@@ -130,8 +123,7 @@ pub trait Disk {
         ensures content { (facts self.new).content ≡ (facts self.old).content }
         ensures crash { Passes (facts self.old) (facts self.new) (Torn first (lanes * each)) }
         ensures crash_refused { OnErr result (Passes (facts self.old) (facts self.new) Stays) }
-        ensures failures { (facts self.new).failures ≡ (facts self.old).failures }
-        ensures cause { mishaps self.new ≡ mishaps self.old };
+        ensures no_call { NoCall (facts self.old) (facts self.new) (mishaps self.old) (mishaps self.new) };
 
     /// Takes back all lanes that are lent, in their order, with what they hold and their failures.
     fn join(&mut self, lanes: Vec<Self::Lane>)
@@ -140,6 +132,7 @@ pub trait Disk {
         ensures back { (facts self.new).lent ≡ nothing }
         ensures crash { Passes (facts self.old) (facts self.new) Stays }
         ensures failures { (facts self.new).failures ≡ counted (facts self.old).failures (lane_failures (map Self.Lane.lane_facts lanes.items)) }
+        ensures calls { (facts self.new).calls ≡ (facts self.old).calls }
         ensures cause { CausedInLanes (mishaps self.old) (mishaps self.new) (lane_failures (map Self.Lane.lane_facts lanes.items)) };
 
     /// How often a call of the disk has failed, and of the lanes that it took back. At 2^64 - 1 the
@@ -151,7 +144,8 @@ pub trait Disk {
     /// A lane's fault goes to that lane at the next split. A disk may ignore what is armed.
     fn arm(&mut self, fault: ArmedFault)
         ensures facts { Unchanged (facts self.old) (facts self.new) }
-        ensures armed { mishaps self.new ≡ record (mishaps self.old) { armed = armed_by fault } };
+        ensures armed { mishaps self.new ≡ record (mishaps self.old) { armed = armed_by fault } }
+        ensures arms { arms self.new fault };
 
     /// Whether an armed cut has struck, so that power is gone. It is no call of the disk.
     fn struck(&self) -> bool
@@ -166,6 +160,8 @@ pub trait Disk {
     /// Since this moment there is no other.
     ghost only_now: { (disk : Self) (c : Content) → (facts disk).since (facts disk).moment c → (facts disk).may_leave c };
 
-    /// The count stays where it ends.
+    /// Both counts stay where they end.
     ghost bounded: { (disk : Self) → (facts disk).failures ≤ most };
+
+    ghost bounded_calls: { (disk : Self) → (facts disk).calls ≤ most };
 }

@@ -28,3 +28,8 @@ pub fn one_step()
 {
     ram::one_store();
 }
+
+/// A step leaves the hart's number.
+pub fn one_number()
+    ensures { (p : Bool) (s t : State) (m n : List ℕ) (o : Outcome) → Steps p s m t n o → t.id ≡ s.id }
+{}

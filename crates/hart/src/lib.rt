@@ -10,7 +10,7 @@ mod laws;
 mod state;
 mod step;
 
-pub use laws::{one_outcome, one_result, one_step};
+pub use laws::{one_number, one_outcome, one_result, one_step};
 pub use state::Hart;
 
 /// What a step asks of its caller.

@@ -4,37 +4,37 @@ use Rattle.std.specs.Int.{bit_at}
 use mathlib.Core.Logic.{dite}
 use native.Mathlib.Decide.{ℕ_discrete}
 use Rattle.tallies.specs.Sums.{total}
-use Rattle.hsm_words.specs.Words.{crew, numbers}
+use Rattle.hsm_words.specs.Words.{numbers}
 use Rattle.hsm_words.specs.declared.view.Stage.{Stage}
 use Rattle.hsm_words.specs.declared.view.Stage.TheVariants.{Out, Ready, Addressed, Loaded, Running, Claiming, Half, Stored, Asleep, Quiet}
 use Rattle.hsm_words.specs.declared.view.Deed.{Deed}
 use Rattle.hsm_words.specs.declared.view.Deed.TheVariants.{Claimed, Wrote, Armed, Looked, Read, Entered, Quieted, Unquieted}
 use Rattle.hsm_words.specs.declared.view.HartView.{HartView}
 use Rattle.hsm_words.specs.declared.view.Crew.{Crew}
-use Rattle.hsm_rule.specs.Rule.{claim_of, entry_of, did, noted, stands}
+use Rattle.hsm_rule.specs.Rule.{claim_of, entry_of, did, noted, HasNoted, stands}
 use Rattle.hsm_rule.specs.States.{HartState, stopped, start_pending, started, suspended, awaits, Says, is_outside, is_running, is_asleep, IsAt, IsIn, IsStarted, Shows, Tells, change_at, is_stopped, grant, entry, begin}
 use Rattle.hsm_steps.specs.Told.{after_claim, after_look, after_quiet, is_alone, IsOpenStart}
 use Rattle.hsm.specs.Calls.{state_of, named, is_ready, KeepsOthers}
 use Rattle.hsm.proofs.Stand.{stands_after, stands_other}
 
 -- ---- one more deed
-numbers_noted : (h : ℕ) (st : Stage) (x : Deed) (vs : List HartView) → numbers (noted h st x vs) ≡ numbers vs
-numbers_noted h st x [] = refl
-numbers_noted h st x (v ∷ vs) =
+numbers_noted : (h : ℕ) (st : Stage) (p : ℕ) (x : Deed) (vs : List HartView) → numbers (noted h st p x vs) ≡ numbers vs
+numbers_noted h st p x [] = refl
+numbers_noted h st p x (v ∷ vs) =
     dite (ℕ_discrete v.hart h)
     (λ hit. rw (eq-eqb v.hart h hit) refl)
-    (λ miss. rw (ne_eqb v.hart h miss) (ap (λ (l : List ℕ). v.hart ∷ l) (numbers_noted h st x vs)))
+    (λ miss. rw (ne_eqb v.hart h miss) (ap (λ (l : List ℕ). v.hart ∷ l) (numbers_noted h st p x vs)))
 
-pub numbered : (h : ℕ) (st : Stage) (x : Deed) (c c' : Crew) → c' ≡ crew (noted h st x c.harts) → numbers c'.harts ≡ numbers c.harts
-numbered h st x c c' is = ap (λ (d : Crew). numbers d.harts) is ∙ numbers_noted h st x c.harts
+pub numbered : (h : ℕ) (st : Stage) (x : Deed) (c c' : Crew) → HasNoted h st x c.harts c'.harts → numbers c'.harts ≡ numbers c.harts
+numbered h st x c c' is = ap numbers is.1 ∙ numbers_noted h st is.0 x c.harts
 
-did_noted : (g : Deed → ℕ) (h : ℕ) (st st' : Stage) (x : Deed) (vs : List HartView) → stands h st vs
-    → total (λ (v : HartView). total g v.deeds) (noted h st' x vs) ≡ g x + total (λ (v : HartView). total g v.deeds) vs
-did_noted g h st st' x [] s = absurd s
-did_noted g h st st' x (v ∷ vs) s =
+did_noted : (g : Deed → ℕ) (h : ℕ) (st st' : Stage) (p : ℕ) (x : Deed) (vs : List HartView) → stands h st vs
+    → total (λ (v : HartView). total g v.deeds) (noted h st' p x vs) ≡ g x + total (λ (v : HartView). total g v.deeds) vs
+did_noted g h st st' p x [] s = absurd s
+did_noted g h st st' p x (v ∷ vs) s =
     ⊎_elim
     (λ (hit : (v.hart ≡ h) × (v.stage ≡ st)). rw (eq-eqb v.hart h hit.0) (omega arith))
-    (λ (miss : (v.hart ≢ h) × stands h st vs). let more = did_noted g h st st' x vs miss.1 in rw (ne_eqb v.hart h miss.0) (omega arith))
+    (λ (miss : (v.hart ≢ h) × stands h st vs). let more = did_noted g h st st' p x vs miss.1 in rw (ne_eqb v.hart h miss.0) (omega arith))
     s
 
 stands_once : (h : ℕ) (st st' : Stage) (vs : List HartView) → stands h st vs → stands h st' vs → st ≡ st'
@@ -54,12 +54,12 @@ stands_once h st st' (v ∷ vs) s t =
 shows_as : (harts : ℕ) (c : Crew) (states states' : ℕ → HartState) → ((k : ℕ) → states' k ≡ states k) → Shows harts c states → Shows harts c states'
 shows_as harts c states states' same shown k lt = subst (λ (x : HartState). IsIn c k x) (sym (same k)) (shown k lt)
 
-module _ (harts h : ℕ) (st st' : Stage) (x : Deed) (c c' : Crew) (is : c' ≡ crew (noted h st' x c.harts)) (stood : stands h st c.harts) where
+module _ (harts h : ℕ) (st st' : Stage) (x : Deed) (c c' : Crew) (is : HasNoted h st' x c.harts c'.harts) (stood : stands h st c.harts) where
   pub weight : (g : Deed → ℕ) → did g c' ≡ g x + did g c
-  weight g = ap (did g) is ∙ did_noted g h st st' x c.harts stood
+  weight g = ap (total (λ (v : HartView). total g v.deeds)) is.1 ∙ did_noted g h st st' is.0 x c.harts stood
 
   pub others : (k : ℕ) (sk : Stage) → k ≢ h → stands k sk c.harts → stands k sk c'.harts
-  others k sk ne s = subst (λ (d : Crew). stands k sk d.harts) (sym is) (stands_other h k st' sk x c.harts ne s)
+  others k sk ne s = subst (stands k sk) (sym is.1) (stands_other h k st' sk is.0 x c.harts ne s)
 
   pub keeps : KeepsOthers h c.harts c'.harts
   keeps = record { harts = numbered h st' x c c' is; stages = others }
@@ -190,15 +190,15 @@ looked_out true true e = absurd (true≢false e)
 looked_out true false e = refl
 looked_out false q e = refl
 
-pub stays_out : (h found : ℕ) (c c' : Crew) → c' ≡ crew (noted h (after_look h found) (Looked found) c.harts) → is_ready h found ≡ false → c' ≡ crew (noted h Out (Looked found) c.harts)
+pub stays_out : (h found : ℕ) (c c' : Crew) → HasNoted h (after_look h found) (Looked found) c.harts c'.harts → is_ready h found ≡ false → HasNoted h Out (Looked found) c.harts c'.harts
 stays_out h found c c' is z =
-    is ∙ ap (λ (w : Stage). crew (noted h w (Looked found) c.harts)) (looked_out (eqb (bit_at found (8 + h)) 1) (eqb (bit_at found (16 + h)) 0) z)
+    (is.0, is.1 ∙ ap (λ (w : Stage). noted h w is.0 (Looked found) c.harts) (looked_out (eqb (bit_at found (8 + h)) 1) (eqb (bit_at found (16 + h)) 0) z))
 
-pub gets_ready : (h found : ℕ) (c c' : Crew) → c' ≡ crew (noted h (after_look h found) (Looked found) c.harts) → bit_at found (8 + h) ≡ 1 → bit_at found (16 + h) ≡ 0 → c' ≡ crew (noted h Ready (Looked found) c.harts)
+pub gets_ready : (h found : ℕ) (c c' : Crew) → HasNoted h (after_look h found) (Looked found) c.harts c'.harts → bit_at found (8 + h) ≡ 1 → bit_at found (16 + h) ≡ 0 → HasNoted h Ready (Looked found) c.harts c'.harts
 gets_ready h found c c' is armed out =
-    let e : after_look h found ≡ Ready = rw (armed, out) refl in is ∙ ap (λ (w : Stage). crew (noted h w (Looked found) c.harts)) e
+    let e : after_look h found ≡ Ready = rw (armed, out) refl in (is.0, is.1 ∙ ap (λ (w : Stage). noted h w is.0 (Looked found) c.harts) e)
 
-pub enters_none : (harts h found : ℕ) (c c' : Crew) → c' ≡ crew (noted h (after_look h found) (Looked found) c.harts) → is_ready h found ≡ false → stands h Out c.harts → h < harts → Tells harts c found
+pub enters_none : (harts h found : ℕ) (c c' : Crew) → HasNoted h (after_look h found) (Looked found) c.harts c'.harts → is_ready h found ≡ false → stands h Out c.harts → h < harts → Tells harts c found
     → (states : ℕ → HartState) → Shows harts c states → (None ≡ entry (states h)) × Shows harts c' (change_at h begin states)
 enters_none harts h found c c' is z stood lt tells states shown =
     let t = tells states shown h lt in
@@ -211,10 +211,10 @@ enters_none harts h found c c' is z stood lt tells states shown =
     )
 
 pub enters_some : (harts h found a o : ℕ) (c c1 c2 c3 c4 : Crew)
-    → c1 ≡ crew (noted h Ready (Looked found) c.harts)
-    → c2 ≡ crew (noted h (Addressed a) (Read (1 + 2 * h) a) c1.harts)
-    → c3 ≡ crew (noted h (Loaded a o) (Read (2 + 2 * h) o) c2.harts)
-    → c4 ≡ crew (noted h Running (Entered h a o) c3.harts)
+    → HasNoted h Ready (Looked found) c.harts c1.harts
+    → HasNoted h (Addressed a) (Read (1 + 2 * h) a) c1.harts c2.harts
+    → HasNoted h (Loaded a o) (Read (2 + 2 * h) o) c2.harts c3.harts
+    → HasNoted h Running (Entered h a o) c3.harts c4.harts
     → stands h Out c.harts → IsOpenStart harts c3 h a o
     → (states : ℕ → HartState) → Shows harts c states → (Some (a, o) ≡ entry (states h)) × Shows harts c4 (change_at h begin states)
 enters_some harts h found a o c c1 c2 c3 c4 is1 is2 is3 is4 stood opened states shown =
@@ -251,15 +251,15 @@ no_claim t a o found k b d taken =
     nil true false n e = refl
     nil false q n e = refl
 
-pub stays_running : (h t a o found : ℕ) (c c' : Crew) → c' ≡ crew (noted h (after_claim t a o found) (Claimed t a o found) c.harts) → bit_at found t ≢ 0 → c' ≡ crew (noted h Running (Claimed t a o found) c.harts)
+pub stays_running : (h t a o found : ℕ) (c c' : Crew) → HasNoted h (after_claim t a o found) (Claimed t a o found) c.harts c'.harts → bit_at found t ≢ 0 → HasNoted h Running (Claimed t a o found) c.harts c'.harts
 stays_running h t a o found c c' is taken =
-    let e : after_claim t a o found ≡ Running = rw (ne_eqb (bit_at found t) 0 taken) refl in is ∙ ap (λ (w : Stage). crew (noted h w (Claimed t a o found) c.harts)) e
+    let e : after_claim t a o found ≡ Running = rw (ne_eqb (bit_at found t) 0 taken) refl in (is.0, is.1 ∙ ap (λ (w : Stage). noted h w is.0 (Claimed t a o found) c.harts) e)
 
-pub claims_it : (h t a o found : ℕ) (c c' : Crew) → c' ≡ crew (noted h (after_claim t a o found) (Claimed t a o found) c.harts) → bit_at found t ≡ 0 → c' ≡ crew (noted h (Claiming t a o) (Claimed t a o found) c.harts)
+pub claims_it : (h t a o found : ℕ) (c c' : Crew) → HasNoted h (after_claim t a o found) (Claimed t a o found) c.harts c'.harts → bit_at found t ≡ 0 → HasNoted h (Claiming t a o) (Claimed t a o found) c.harts c'.harts
 claims_it h t a o found c c' is clear =
-    let e : after_claim t a o found ≡ Claiming t a o = rw clear refl in is ∙ ap (λ (w : Stage). crew (noted h w (Claimed t a o found) c.harts)) e
+    let e : after_claim t a o found ≡ Claiming t a o = rw clear refl in (is.0, is.1 ∙ ap (λ (w : Stage). noted h w is.0 (Claimed t a o found) c.harts) e)
 
-pub start_refused : (harts h t a o found : ℕ) (c c' : Crew) → c' ≡ crew (noted h (after_claim t a o found) (Claimed t a o found) c.harts) → bit_at found t ≢ 0 → stands h Running c.harts → t < harts → Tells harts c found
+pub start_refused : (harts h t a o found : ℕ) (c c' : Crew) → HasNoted h (after_claim t a o found) (Claimed t a o found) c.harts c'.harts → bit_at found t ≢ 0 → stands h Running c.harts → t < harts → Tells harts c found
     → (states : ℕ → HartState) → Shows harts c states → (false ≡ is_stopped (states t)) × Shows harts c' (change_at t (grant a o) states)
 start_refused harts h t a o found c c' is taken stood lt tells states shown =
     let n = taken_of found t (states t) (tells states shown t lt).0 taken in (
@@ -271,10 +271,10 @@ start_refused harts h t a o found c c' is taken stood lt tells states shown =
     )
 
 pub start_granted : (harts h t a o found : ℕ) (c c1 c2 c3 c4 : Crew)
-    → c1 ≡ crew (noted h (after_claim t a o found) (Claimed t a o found) c.harts)
-    → c2 ≡ crew (noted h (Half t a o) (Wrote (1 + 2 * t) a) c1.harts)
-    → c3 ≡ crew (noted h (Stored t a o) (Wrote (2 + 2 * t) o) c2.harts)
-    → c4 ≡ crew (noted h Running (Armed t) c3.harts)
+    → HasNoted h (after_claim t a o found) (Claimed t a o found) c.harts c1.harts
+    → HasNoted h (Half t a o) (Wrote (1 + 2 * t) a) c1.harts c2.harts
+    → HasNoted h (Stored t a o) (Wrote (2 + 2 * t) o) c2.harts c3.harts
+    → HasNoted h Running (Armed t) c3.harts c4.harts
     → bit_at found t ≡ 0 → stands h Running c.harts → t < harts → Tells harts c found
     → (states : ℕ → HartState) → Shows harts c states → (true ≡ is_stopped (states t)) × Shows harts c4 (change_at t (grant a o) states)
 start_granted harts h t a o found c c1 c2 c3 c4 is0 is2 is3 is4 clear stood lt tells states shown = (
@@ -284,7 +284,7 @@ start_granted harts h t a o found c c1 c2 c3 c4 is0 is2 is3 is4 clear stood lt t
       (λ ne. subst (λ (x : HartState). IsIn c4 k x) (sym (elsewhere k ne)) (other k below ne))),
 )
   where
-    is1 : c1 ≡ crew (noted h (Claiming t a o) (Claimed t a o found) c.harts)
+    is1 : HasNoted h (Claiming t a o) (Claimed t a o found) c.harts c1.harts
     is1 = claims_it h t a o found c c1 is0 clear
 
     s1 : stands h (Claiming t a o) c1.harts
@@ -362,7 +362,7 @@ after_runs : (q : Bool) → is_running (if q then Quiet else Running) ≡ true
 after_runs true = refl
 after_runs false = refl
 
-pub quiet_alone : (harts h found : ℕ) (c c' : Crew) → c' ≡ crew (noted h (after_quiet harts h found) (Quieted found) c.harts) → IsStarted h c.harts
+pub quiet_alone : (harts h found : ℕ) (c c' : Crew) → HasNoted h (after_quiet harts h found) (Quieted found) c.harts c'.harts → IsStarted h c.harts
     → (IsTrue (is_alone harts h found) ↔ ((t : ℕ) → t < harts → t ≢ h → bit_at found t ≡ 0)) → Tells harts c found
     → (states : ℕ → HartState) → Shows harts c states
     → (IsTrue (is_alone harts h found) ↔ ((t : ℕ) → t < harts → t ≢ h → states t ≡ stopped)) × Shows harts c' states
@@ -377,11 +377,11 @@ quiet_alone harts h found c c' is stood alone tells states shown = (
       stood,
 )
 
-pub unquiet_alone : (harts h found : ℕ) (c c' : Crew) → c' ≡ crew (noted h Running (Unquieted found) c.harts) → stands h Quiet c.harts → (states : ℕ → HartState) → Shows harts c states → Shows harts c' states
+pub unquiet_alone : (harts h found : ℕ) (c c' : Crew) → HasNoted h Running (Unquieted found) c.harts c'.harts → stands h Quiet c.harts → (states : ℕ → HartState) → Shows harts c states → Shows harts c' states
 unquiet_alone harts h found c c' is stood states shown =
     shows_same harts h Quiet Running (Unquieted found) c c' is stood (at_running Quiet Running refl refl refl) (λ k a o. refl) (λ k a o. refl) states shown
 
-module _ (harts h found : ℕ) (c c' : Crew) (is : c' ≡ crew (noted h (after_quiet harts h found) (Quieted found) c.harts)) (stood : IsStarted h c.harts) where
+module _ (harts h found : ℕ) (c c' : Crew) (is : HasNoted h (after_quiet harts h found) (Quieted found) c.harts c'.harts) (stood : IsStarted h c.harts) where
   pub quiet_stands : MatchBool (is_alone harts h found) (stands h Quiet c'.harts) (stands h Running c'.harts)
   quiet_stands = settle (is_alone harts h found) (⊎_elim
       (λ (s : stands h Running c.harts). stands_after h Running (after_quiet harts h found) (Quieted found) c c' is s)

@@ -1,2 +1,3 @@
 pub mod Stand
 pub mod Alone
+pub mod Computed

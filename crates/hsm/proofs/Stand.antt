@@ -1,64 +1,33 @@
--- Where a hart stands after a step, and what a test of a bit says.
-use Rattle.std.proofs.Common.{◌≡◌, ◌≢◌, ℕ, ◌+◌, Bool, true, false, if◌then◌else◌, eqb, List, [], ◌∷◌, refl, sym, ap, ◌∙◌, subst, ⊎_elim, inl, inr, eq-eqb, ne_eqb}
-use Rattle.std.specs.Int.{bit_at}
+-- Where a hart stands after a step.
+use Rattle.std.proofs.Common.{◌≡◌, ◌≢◌, ◌⊎◌, ℕ, List, [], ◌∷◌, refl, sym, ◌∙◌, subst, ⊎_elim, inl, inr, eq-eqb, ne_eqb}
 use mathlib.Core.Logic.{dite}
 use native.Mathlib.Decide.{ℕ_discrete}
 use Rattle.hsm_words.specs.declared.view.Stage.{Stage}
-use Rattle.hsm_words.specs.declared.view.Stage.TheVariants.{Out, Ready, Running, Claiming}
+use Rattle.hsm_words.specs.declared.view.Stage.TheVariants.{Out, Running, Asleep, Quiet}
 use Rattle.hsm_words.specs.declared.view.Deed.{Deed}
-use Rattle.hsm_words.specs.declared.view.Deed.TheVariants.{Claimed, Looked}
 use Rattle.hsm_words.specs.declared.view.HartView.{HartView}
 use Rattle.hsm_words.specs.declared.view.Crew.{Crew}
-use Rattle.hsm_words.specs.Words.{crew}
-use Rattle.hsm_rule.specs.Rule.{noted, stands}
-use Rattle.hsm_steps.specs.Told.{after_claim, after_look}
-use Rattle.hsm.specs.Calls.{stage_of}
+use Rattle.hsm_rule.specs.Rule.{noted, HasNoted, stands}
+use Rattle.hsm.specs.declared.state.State.{State}
+use Rattle.hsm.specs.declared.state.State.TheVariants.{Started, Stopped, StartPending, Suspended}
+use Rattle.hsm.specs.Calls.{stage_of, KeepsAll, IsOwnStatus, IsSettled, StandsBy}
 
-pub stands_noted : (h : ℕ) (st st' : Stage) (x : Deed) (vs : List HartView) → stands h st vs → stands h st' (noted h st' x vs)
-stands_noted h st st' x [] s = s
-stands_noted h st st' x (v ∷ vs) s =
+stands_noted : (h : ℕ) (st st' : Stage) (p : ℕ) (x : Deed) (vs : List HartView) → stands h st vs → stands h st' (noted h st' p x vs)
+stands_noted h st st' p x [] s = s
+stands_noted h st st' p x (v ∷ vs) s =
     ⊎_elim
     (λ (hit : (v.hart ≡ h) × (v.stage ≡ st)). rw (eq-eqb v.hart h hit.0) (inl (hit.0, refl)))
-    (λ (miss : (v.hart ≢ h) × stands h st vs). rw (ne_eqb v.hart h miss.0) (inr (miss.0, stands_noted h st st' x vs miss.1)))
+    (λ (miss : (v.hart ≢ h) × stands h st vs). rw (ne_eqb v.hart h miss.0) (inr (miss.0, stands_noted h st st' p x vs miss.1)))
     s
 
 -- after a step whose view is known
-pub stands_after : (h : ℕ) (st st' : Stage) (x : Deed) (c c' : Crew) → c' ≡ crew (noted h st' x c.harts) → stands h st c.harts → stands h st' c'.harts
-stands_after h st st' x c c' is s = subst (λ (d : Crew). stands h st' d.harts) (sym is) (stands_noted h st st' x c.harts s)
-
-pub stands_claimed : (h t a o found : ℕ) (c c' : Crew) → c' ≡ crew (noted h (after_claim t a o found) (Claimed t a o found) c.harts) → bit_at found t ≡ 0 → stands h Running c.harts → stands h (Claiming t a o) c'.harts
-stands_claimed h t a o found c c' is clear s =
-    let e : after_claim t a o found ≡ Claiming t a o = rw clear refl in
-    stands_after h Running (Claiming t a o) (Claimed t a o found) c c' (is ∙ ap (λ (z : Stage). crew (noted h z (Claimed t a o found) c.harts)) e) s
-
-pub stands_looked : (h found : ℕ) (c c' : Crew) → c' ≡ crew (noted h (after_look h found) (Looked found) c.harts) → bit_at found (8 + h) ≡ 1 → bit_at found (16 + h) ≡ 0 → stands h Out c.harts → stands h Ready c'.harts
-stands_looked h found c c' is armed out s =
-    let e : after_look h found ≡ Ready = rw (armed, out) refl in
-    stands_after h Out Ready (Looked found) c c' (is ∙ ap (λ (z : Stage). crew (noted h z (Looked found) c.harts)) e) s
-
-pub stands_refused : (h t a o found : ℕ) (c c' : Crew) → c' ≡ crew (noted h (after_claim t a o found) (Claimed t a o found) c.harts) → bit_at found t ≢ 0 → stands h Running c.harts → stands h Running c'.harts
-stands_refused h t a o found c c' is taken s =
-    let e : after_claim t a o found ≡ Running = rw (ne_eqb (bit_at found t) 0 taken) refl in
-    stands_after h Running Running (Claimed t a o found) c c' (is ∙ ap (λ (z : Stage). crew (noted h z (Claimed t a o found) c.harts)) e) s
-
-pub stands_unarmed : (h found : ℕ) (c c' : Crew) → c' ≡ crew (noted h (after_look h found) (Looked found) c.harts) → bit_at found (8 + h) ≢ 1 → stands h Out c.harts → stands h Out c'.harts
-stands_unarmed h found c c' is unarmed s =
-    let e : after_look h found ≡ Out = rw (ne_eqb (bit_at found (8 + h)) 1 unarmed) refl in
-    stands_after h Out Out (Looked found) c c' (is ∙ ap (λ (z : Stage). crew (noted h z (Looked found) c.harts)) e) s
-
-in_or_out : (b : Bool) → (if b then (if false then Ready else Out) else Out) ≡ Out
-in_or_out true = refl
-in_or_out false = refl
-
-pub stands_in : (h found : ℕ) (c c' : Crew) → c' ≡ crew (noted h (after_look h found) (Looked found) c.harts) → bit_at found (16 + h) ≢ 0 → stands h Out c.harts → stands h Out c'.harts
-stands_in h found c c' is entered s =
-    let e : after_look h found ≡ Out = rw (ne_eqb (bit_at found (16 + h)) 0 entered) (in_or_out (eqb (bit_at found (8 + h)) 1)) in
-    stands_after h Out Out (Looked found) c c' (is ∙ ap (λ (z : Stage). crew (noted h z (Looked found) c.harts)) e) s
+pub stands_after : (h : ℕ) (st st' : Stage) (x : Deed) (c c' : Crew) → HasNoted h st' x c.harts c'.harts → stands h st c.harts → stands h st' c'.harts
+stands_after h st st' x c c' is s = subst (stands h st') (sym is.1) (stands_noted h st st' is.0 x c.harts s)
 
 -- another hart of the seat stands as it did
-pub stands_other : (h k : ℕ) (st' st : Stage) (x : Deed) (vs : List HartView) → k ≢ h → stands k st vs → stands k st (noted h st' x vs)
-stands_other h k st' st x [] ne s = s
-stands_other h k st' st x (v ∷ vs) ne s =
+pub stands_other : (h k : ℕ) (st' st : Stage) (p : ℕ) (x : Deed) (vs : List HartView) → k ≢ h → stands k st vs → stands k st (noted h st' p x vs)
+stands_other h k st' st p x [] ne s = s
+stands_other h k st' st p x (v ∷ vs) ne s =
     dite (ℕ_discrete v.hart h)
     (λ hit. rw (eq-eqb v.hart h hit) (⊎_elim
     (λ (mine : (v.hart ≡ k) × (v.stage ≡ st)). absurd (ne (sym mine.0 ∙ hit)))
@@ -66,7 +35,7 @@ stands_other h k st' st x (v ∷ vs) ne s =
     s))
     (λ miss. rw (ne_eqb v.hart h miss) (⊎_elim
     (λ (mine : (v.hart ≡ k) × (v.stage ≡ st)). inl mine)
-    (λ (other : (v.hart ≢ k) × stands k st vs). inr (other.0, stands_other h k st' st x vs ne other.1))
+    (λ (other : (v.hart ≢ k) × stands k st vs). inr (other.0, stands_other h k st' st p x vs ne other.1))
     s))
 
 -- the stage at which a hart stands
@@ -80,3 +49,21 @@ stands_stage h st (v ∷ vs) s =
 
 pub stands_own : (h : ℕ) (st : Stage) (vs : List HartView) → stands h st vs → stands h (stage_of h vs) vs
 stands_own h st vs s = subst (λ (x : Stage). stands h x vs) (sym (stands_stage h st vs s)) s
+
+-- where a settled hart stands, by its status
+pub stands_by : (x : State) (h : ℕ) (vs vs' : List HartView) → IsOwnStatus h vs x → KeepsAll vs vs' → IsSettled h vs → StandsBy x h vs'
+stands_by x h vs vs' own keeps settled =
+    let by : (y : State) → x ≡ y → StandsBy y h vs' → StandsBy x h vs' = λ y e s. subst (λ (z : State). StandsBy z h vs') (sym e) s in
+    ⊎_elim
+    (λ (out : stands h Out vs). ⊎_elim
+    (λ (e : x ≡ Stopped). by Stopped e (keeps.stages h Out out))
+    (λ (e : x ≡ StartPending). by StartPending e (keeps.stages h Out out))
+    (own.outside out))
+    (λ (more : stands h Running vs ⊎ (stands h Asleep vs ⊎ stands h Quiet vs)). ⊎_elim
+    (λ (runs : stands h Running vs). by Started (own.started (inl runs)) (inl (keeps.stages h Running runs)))
+    (λ (rest : stands h Asleep vs ⊎ stands h Quiet vs). ⊎_elim
+    (λ (sleeps : stands h Asleep vs). by Suspended (own.asleep sleeps) (keeps.stages h Asleep sleeps))
+    (λ (quiet : stands h Quiet vs). by Started (own.started (inr quiet)) (inr (keeps.stages h Quiet quiet)))
+    rest)
+    more)
+    settled

@@ -1,13 +1,13 @@
 -- What a call adds to the view of its seat, what it answers, and what it is with the one seat of all harts.
-use Rattle.std.specs.Prelude.{◌≡◌, ◌≢◌, ◌⊎◌, ℕ, ◌+◌, ◌*◌, Bool, true, false, List, [], ◌∷◌, ◌==◌, if◌then◌else◌}
+use Rattle.std.specs.Prelude.{◌≡◌, ◌≢◌, ◌⊎◌, ℕ, ◌+◌, ◌*◌, Bool, true, false, List, [], ◌∷◌, ◌==◌, if◌then◌else◌, MatchBool}
 use Rattle.std.specs.Int.{bit_at}
 use Rattle.hsm_words.specs.Words.{numbers}
 use Rattle.hsm_words.specs.declared.view.Stage.{Stage}
-use Rattle.hsm_words.specs.declared.view.Stage.TheVariants.{Out, Ready, Addressed, Loaded, Running, Claiming, Half, Stored, Asleep}
+use Rattle.hsm_words.specs.declared.view.Stage.TheVariants.{Out, Ready, Addressed, Loaded, Running, Claiming, Half, Stored, Asleep, Quiet}
 use Rattle.hsm_words.specs.declared.view.Deed.TheVariants.{Claimed, Wrote, Armed, Looked, Read, Entered}
 use Rattle.hsm_words.specs.declared.view.HartView.{HartView}
 use Rattle.hsm_words.specs.declared.view.Crew.{Crew}
-use Rattle.hsm_rule.specs.Rule.{noted, stands}
+use Rattle.hsm_rule.specs.Rule.{HasNoted, stands}
 use Rattle.hsm_rule.specs.States.{HartState, stopped, start_pending, started, suspended, IsStarted, Shows}
 use Rattle.hsm.specs.declared.state.State.{State}
 use Rattle.hsm.specs.declared.state.State.TheVariants.{Started, Stopped, StartPending, Suspended}
@@ -56,35 +56,48 @@ pub record IsOwnStatus (h : ℕ) (vs : List HartView) (x : State) : Type 0 where
   pub asleep : stands h Asleep vs → x ≡ Suspended
   pub outside : stands h Out vs → (x ≡ Stopped) ⊎ (x ≡ StartPending)
 
+-- the hart stands where each call leaves the one that acts: it has no start in flight, and is not in the midst of an entry
+abbrev pub IsSettled : ℕ → List HartView → Type 0
+IsSettled h vs = stands h Out vs ⊎ (stands h Running vs ⊎ (stands h Asleep vs ⊎ stands h Quiet vs))
+
+-- where a settled hart stands, by its status
+abbrev pub StandsBy : State → ℕ → List HartView → Type 0
+StandsBy Started h vs = IsStarted h vs
+StandsBy Suspended h vs = stands h Asleep vs
+StandsBy Stopped h vs = stands h Out vs
+StandsBy StartPending h vs = stands h Out vs
+
 -- ---- each call's own steps
 -- a start that found the target claimed makes the claim alone
-abbrev pub refused_start : ℕ → ℕ → ℕ → ℕ → ℕ → List HartView → List HartView
-refused_start h t a o found vs = noted h Running (Claimed t a o found) vs
+abbrev pub IsRefused : ℕ → ℕ → ℕ → ℕ → ℕ → List HartView → List HartView → Type 0
+IsRefused h t a o found vs vs' = HasNoted h Running (Claimed t a o found) vs vs'
 
 -- one that found it unclaimed stores both arguments, and then arms it
-abbrev pub granted_start : ℕ → ℕ → ℕ → ℕ → ℕ → List HartView → List HartView
-granted_start h t a o found vs =
-    noted h Running (Armed t) (noted h (Stored t a o) (Wrote (2 + 2 * t) o) (noted h (Half t a o) (Wrote (1 + 2 * t) a) (noted h (Claiming t a o) (Claimed t a o found) vs)))
+abbrev pub IsGranted : ℕ → ℕ → ℕ → ℕ → ℕ → List HartView → List HartView → Type 0
+IsGranted h t a o found vs vs' = (one two three : List HartView)
+    × HasNoted h (Claiming t a o) (Claimed t a o found) vs one
+    × HasNoted h (Half t a o) (Wrote (1 + 2 * t) a) one two
+    × HasNoted h (Stored t a o) (Wrote (2 + 2 * t) o) two three
+    × HasNoted h Running (Armed t) three vs'
 
 -- the answer is true exactly where the claim found the target unclaimed
 abbrev pub Starts : ℕ → ℕ → ℕ → ℕ → List HartView → Bool → List HartView → Type 0
-Starts h t a o vs answer vs' =
-    (found : ℕ) × (answer ≡ (bit_at found t == 0)) × (vs' ≡ (if bit_at found t == 0 then granted_start h t a o found vs else refused_start h t a o found vs))
-
--- an entry: a look, two loads and the step
-abbrev pub entered_view : ℕ → ℕ → ℕ → ℕ → List HartView → List HartView
-entered_view h found a o vs =
-    noted h Running (Entered h a o) (noted h (Loaded a o) (Read (2 + 2 * h) o) (noted h (Addressed a) (Read (1 + 2 * h) a) (noted h Ready (Looked found) vs)))
+Starts h t a o vs answer vs' = (found : ℕ) × (answer ≡ (bit_at found t == 0)) × MatchBool answer (IsGranted h t a o found vs vs') (IsRefused h t a o found vs vs')
 
 -- the word has the hart armed and not entered
 abbrev pub is_ready : ℕ → ℕ → Bool
 is_ready h found = if bit_at found (8 + h) == 1 then bit_at found (16 + h) == 0 else false
 
+-- an entry: a look, two loads and the step
 abbrev pub EntersAs : ℕ → List HartView → ℕ → ℕ → List HartView → Type 0
-EntersAs h vs a o vs' = (found : ℕ) × (is_ready h found ≡ true) × (vs' ≡ entered_view h found a o vs)
+EntersAs h vs a o vs' = (found : ℕ) × (one two three : List HartView) × (is_ready h found ≡ true)
+    × HasNoted h Ready (Looked found) vs one
+    × HasNoted h (Addressed a) (Read (1 + 2 * h) a) one two
+    × HasNoted h (Loaded a o) (Read (2 + 2 * h) o) two three
+    × HasNoted h Running (Entered h a o) three vs'
 
 abbrev pub FindsNone : ℕ → List HartView → List HartView → Type 0
-FindsNone h vs vs' = (found : ℕ) × (is_ready h found ≡ false) × (vs' ≡ noted h Out (Looked found) vs)
+FindsNone h vs vs' = (found : ℕ) × (is_ready h found ≡ false) × HasNoted h Out (Looked found) vs vs'
 
 -- ---- with the one seat of all harts
 -- Whatever the states are, the answer is right of them, and the states after the call are those that follow.

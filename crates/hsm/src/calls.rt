@@ -2,13 +2,13 @@
 
 ghost use Rattle.std.specs.Prelude.{◌≡◌, ◌≢◌, ℕ, ◌+◌, ◌*◌, ◌<◌, ◌↔◌, true, false, IsTrue, MatchBool, MatchOption};
 ghost use Rattle.std.specs.Int.{bit_at};
-ghost use Rattle.hsm_rule.specs.Rule.{stands, noted};
+ghost use Rattle.hsm_rule.specs.Rule.{stands, HasNoted};
 ghost use Rattle.hsm_rule.specs.States.{IsStarted, is_stopped, stopped, started, suspended, change_at, grant, entry, begin};
 ghost use Rattle.hsm_steps.specs.Told.{after_quiet};
 ghost use Rattle.hsm_steps.specs.Seating.{IsSeatOf, harts_of, crew_of, harts_in};
 ghost use Rattle.hsm_words.specs.declared.view.Stage.TheVariants.{Out, Running, Asleep, Quiet};
 ghost use Rattle.hsm_words.specs.declared.view.Deed.TheVariants.{Looked, Stopped as DidStop, Suspended as DidSuspend, Woke, Quieted, Unquieted};
-ghost use Rattle.hsm.specs.Calls.{stage_of, Sits, KeepsAll, KeepsOthers, IsOwnStatus, state_of, named, Starts, EntersAs, FindsNone, ActsAlone};
+ghost use Rattle.hsm.specs.Calls.{stage_of, Sits, KeepsAll, KeepsOthers, IsOwnStatus, IsSettled, StandsBy, state_of, named, Starts, EntersAs, FindsNone, ActsAlone};
 
 use crate::state::{State, state_in};
 use board_model::{Addr, HartId};
@@ -84,7 +84,7 @@ pub fn stop(table: &HartTable, seat: HartSeat, by: HartId) -> HartSeat
     ensures seat { IsSeatOf table.entry.now result }
     ensures stands { stands by Out (harts_in result) }
     ensures others { KeepsOthers by (harts_in seat) (harts_in result) }
-    ensures steps { (found : ℕ) × (harts_in result ≡ noted by Out (DidStop found) (harts_in seat)) }
+    ensures steps { (found : ℕ) × HasNoted by Out (DidStop found) (harts_in seat) (harts_in result) }
     ensures alone { ActsAlone (harts_of table.entry.now) (crew_of seat) (crew_of result) (λ _. Unit {0}) (change_at by (λ _. stopped)) }
 {
     let mut seat = seat;
@@ -100,8 +100,9 @@ pub fn status(table: &HartTable, seat: HartSeat, by: HartId, hart: HartId) -> (H
     requires hart { hart < harts_of table.now }
     ensures seat { IsSeatOf table.entry.now result.0 }
     ensures stays { KeepsAll (harts_in seat) (harts_in result.0) }
-    ensures steps { (found : ℕ) × (result.1 ≡ state_of hart found) × (harts_in result.0 ≡ noted by (stage_of by (harts_in seat)) (Looked found) (harts_in seat)) }
+    ensures steps { (found : ℕ) × (result.1 ≡ state_of hart found) × HasNoted by (stage_of by (harts_in seat)) (Looked found) (harts_in seat) (harts_in result.0) }
     ensures fresh { IsOwnStatus hart (harts_in seat) result.1 }
+    ensures own { IsSettled hart (harts_in seat) → StandsBy result.1 hart (harts_in result.0) }
     ensures alone { ActsAlone (harts_of table.entry.now) (crew_of seat) (crew_of result.0) (λ states. result.1 ≡ named (states hart)) (λ states. states) }
 {
     let mut seat = seat;
@@ -119,7 +120,7 @@ pub fn suspend(table: &HartTable, seat: HartSeat, by: HartId) -> HartSeat
     ensures seat { IsSeatOf table.entry.now result }
     ensures stands { stands by Asleep (harts_in result) }
     ensures others { KeepsOthers by (harts_in seat) (harts_in result) }
-    ensures steps { (found : ℕ) × (harts_in result ≡ noted by Asleep (DidSuspend found) (harts_in seat)) }
+    ensures steps { (found : ℕ) × HasNoted by Asleep (DidSuspend found) (harts_in seat) (harts_in result) }
     ensures alone { ActsAlone (harts_of table.entry.now) (crew_of seat) (crew_of result) (λ _. Unit {0}) (change_at by (λ _. suspended)) }
 {
     let mut seat = seat;
@@ -135,7 +136,7 @@ pub fn wake(table: &HartTable, seat: HartSeat, by: HartId) -> HartSeat
     ensures seat { IsSeatOf table.entry.now result }
     ensures stands { stands by Running (harts_in result) }
     ensures others { KeepsOthers by (harts_in seat) (harts_in result) }
-    ensures steps { (found : ℕ) × (harts_in result ≡ noted by Running (Woke found) (harts_in seat)) }
+    ensures steps { (found : ℕ) × HasNoted by Running (Woke found) (harts_in seat) (harts_in result) }
     ensures alone { ActsAlone (harts_of table.entry.now) (crew_of seat) (crew_of result) (λ _. Unit {0}) (change_at by (λ _. started)) }
 {
     let mut seat = seat;
@@ -153,7 +154,7 @@ pub fn quiet(table: &HartTable, seat: HartSeat, by: HartId) -> (HartSeat, bool)
     ensures stands { MatchBool result.1 (stands by Quiet (harts_in result.0)) (stands by Running (harts_in result.0)) }
     ensures still { stands by Quiet (harts_in seat) → result.1 ≡ true }
     ensures others { KeepsOthers by (harts_in seat) (harts_in result.0) }
-    ensures steps { (found : ℕ) × (IsTrue result.1 ↔ ((t : ℕ) → t < harts_of table.entry.now → t ≢ by → bit_at found t ≡ 0)) × (harts_in result.0 ≡ noted by (after_quiet (harts_of table.entry.now) by found) (Quieted found) (harts_in seat)) }
+    ensures steps { (found : ℕ) × (IsTrue result.1 ↔ ((t : ℕ) → t < harts_of table.entry.now → t ≢ by → bit_at found t ≡ 0)) × HasNoted by (after_quiet (harts_of table.entry.now) by found) (Quieted found) (harts_in seat) (harts_in result.0) }
     ensures alone { ActsAlone (harts_of table.entry.now) (crew_of seat) (crew_of result.0) (λ states. IsTrue result.1 ↔ ((t : ℕ) → t < harts_of table.entry.now → t ≢ by → states t ≡ stopped)) (λ states. states) }
 {
     let mut seat = seat;
@@ -170,7 +171,7 @@ pub fn unquiet(table: &HartTable, seat: HartSeat, by: HartId) -> HartSeat
     ensures seat { IsSeatOf table.entry.now result }
     ensures stands { stands by Running (harts_in result) }
     ensures others { KeepsOthers by (harts_in seat) (harts_in result) }
-    ensures steps { (found : ℕ) × (harts_in result ≡ noted by Running (Unquieted found) (harts_in seat)) }
+    ensures steps { (found : ℕ) × HasNoted by Running (Unquieted found) (harts_in seat) (harts_in result) }
     ensures alone { ActsAlone (harts_of table.entry.now) (crew_of seat) (crew_of result) (λ _. Unit {0}) (λ states. states) }
 {
     let mut seat = seat;

@@ -4,9 +4,11 @@
 #![tactic(auto)]
 
 mod calls;
+mod seen;
 mod state;
 
 pub use calls::{quiet, start, status, stop, suspend, try_enter, unquiet, wake};
 pub use hsm_rule::laws;
 pub use hsm_steps::{HartSeat, HartTable, Seats};
+pub use seen::one_table;
 pub use state::State;

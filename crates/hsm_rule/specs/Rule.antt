@@ -1,16 +1,18 @@
 -- The rule of the hart table, which holds between any two steps: a fact of the words and of the views of all seats.
-use Rattle.std.specs.Prelude.{◌≡◌, ◌≢◌, ◌⊎◌, ℕ, ◌+◌, ◌-◌, ◌*◌, ◌<◌, ◌≤◌, List, [], ◌∷◌, ◌==◌, length, if◌then◌else◌}
-use Rattle.std.specs.Int.{bit_at}
+use Rattle.std.specs.Prelude.{◌≡◌, ◌≢◌, ◌⊎◌, ℕ, ◌+◌, ◌-◌, ◌*◌, ◌%◌, ◌^◌, ◌<◌, ◌≤◌, List, [], ◌∷◌, ◌==◌, length, slice_index, bit_or, bit_and, if◌then◌else◌}
+use Rattle.std.specs.Int.{bit_at, bit_not}
+use Rattle.std.proofs.Common.{w64}
 use mathlib.Core.Option.{some}
 use lib.ListN.{get_elem?}
 use Rattle.atomic_table.specs.Table.{State}
 use Rattle.tallies.specs.Sums.{total}
+use Rattle.tallies.specs.Logs.{Log, Reading, IsOfLog, IsTrueLog, word_after}
 use Rattle.board_model.specs.Shapes.{IsAddressIn}
 use Rattle.hsm_words.specs.Words.{hart_view, Board, board_of}
 use Rattle.hsm_words.specs.declared.view.Stage.{Stage}
 use Rattle.hsm_words.specs.declared.view.Stage.TheVariants.{Out, Ready, Addressed, Loaded, Running, Claiming, Half, Stored, Asleep, Quiet}
 use Rattle.hsm_words.specs.declared.view.Deed.{Deed}
-use Rattle.hsm_words.specs.declared.view.Deed.TheVariants.{Claimed, Entered}
+use Rattle.hsm_words.specs.declared.view.Deed.TheVariants.{Claimed, Wrote, Armed, Looked, Read, Entered, Stopped, Suspended, Woke, Quieted, Unquieted}
 use Rattle.hsm_words.specs.declared.view.HartView.{HartView}
 use Rattle.hsm_words.specs.declared.view.Crew.{Crew}
 
@@ -90,17 +92,70 @@ pub record Sound (harts : ℕ) (m : Board) (g : Grants) (views : List Crew) : Ty
   pub none_else : (h : ℕ) → harts ≤ h → total (seats h) views ≡ 0
   pub fits : (id : ℕ) (c : Crew) (k : ℕ) (v : HartView) → get_elem? views id ≡ some c → get_elem? c.harts k ≡ some v → Fits harts m g v.hart v.stage
 
--- The rule: some grants fit the words and the views.
-pub record Kept (harts : ℕ) (s : State (Unit {0}) Crew) : Type 0 where
+-- ---- the deeds as steps
+-- the word in which a deed was
+abbrev pub word_of : ℕ → Deed → ℕ
+word_of h (Wrote i n) = i
+word_of h (Read i found) = i
+word_of h _ = 0
+
+-- what it says that it found there, if it does
+abbrev pub found_by : Deed → ℕ → ℕ
+found_by (Claimed t a o found) word = found
+found_by (Looked found) word = found
+found_by (Read i found) word = found
+found_by (Stopped found) word = found
+found_by (Suspended found) word = found
+found_by (Woke found) word = found
+found_by (Quieted found) word = found
+found_by (Unquieted found) word = found
+found_by _ word = word
+
+-- the bit of a number
+abbrev pub bit : ℕ → ℕ
+bit i = 1 * 2 ^ i % 2 ^ 64
+
+-- and what it left there
+abbrev pub left_by : ℕ → Deed → ℕ → ℕ
+left_by h (Claimed t a o found) word = bit_or word (bit t)
+left_by h (Wrote i n) word = n
+left_by h (Armed t) word = bit_or word (bit (8 + t))
+left_by h (Entered k a o) word = bit_or word (bit (16 + k))
+left_by h (Stopped found) word = bit_and word (bit_and (bit_and (bit_and (bit_not w64 (bit h)) (bit_not w64 (bit (8 + h)))) (bit_not w64 (bit (16 + h)))) (bit_not w64 (bit (24 + h))))
+left_by h (Suspended found) word = bit_or word (bit (24 + h))
+left_by h (Woke found) word = bit_and word (bit_not w64 (bit (24 + h)))
+left_by h _ word = word
+
+abbrev pub reading : Reading Deed
+reading = record { word_of = word_of; found_by = found_by; left_by = left_by }
+
+-- the words at the start: one hart is claimed, armed and entered
+abbrev pub first_word : ℕ → ℕ → ℕ
+first_word started t = if t == 0 then bit_or (bit_or (bit started) (bit (8 + started))) (bit (16 + started)) else 0
+
+-- each hart of each seat has just its steps of the log, each with its place
+abbrev pub AreInLog : Log Deed → List Crew → Type 0
+AreInLog log views = (id : ℕ) (c : Crew) (k : ℕ) (v : HartView) → get_elem? views id ≡ some c → get_elem? c.harts k ≡ some v → IsOfLog log v.hart v.deeds v.places
+
+-- The rule: some grants fit the words and the views, and a log of all steps.
+pub record Kept (harts started : ℕ) (s : State (Unit {0}) Crew) : Type 0 where
+  pub log : Log Deed
+  pub is_true : IsTrueLog reading (first_word started) harts log
+  pub entered : AreInLog log s.views
+  pub left : (t : ℕ) → t < 1 + 2 * harts → slice_index s.words t ≡ word_after reading (first_word started) t log
   pub wide : length s.words ≡ 1 + 2 * harts
   pub grants : Grants
   pub sites : (h : ℕ) → IsSite (grants.address h)
   pub sound : Sound harts (board_of s.words) grants s.views
 
 -- ---- one more deed of the hart, which then stands at this stage
-abbrev pub noted : ℕ → Stage → Deed → List HartView → List HartView
-noted h st x [] = []
-noted h st x (v ∷ vs) = if v.hart == h then hart_view v.hart st (x ∷ v.deeds) ∷ vs else v ∷ noted h st x vs
+abbrev pub noted : ℕ → Stage → ℕ → Deed → List HartView → List HartView
+noted h st p x [] = []
+noted h st p x (v ∷ vs) = if v.hart == h then hart_view v.hart st (x ∷ v.deeds) (p ∷ v.places) ∷ vs else v ∷ noted h st p x vs
+
+-- a view that has one more deed of the hart, at whatever place, and nothing else is new
+abbrev pub HasNoted : ℕ → Stage → Deed → List HartView → List HartView → Type 0
+HasNoted h st x vs vs' = (place : ℕ) × (vs' ≡ noted h st place x vs)
 
 -- the seat has the hart, once, at this stage
 abbrev pub stands : ℕ → Stage → List HartView → Type 0

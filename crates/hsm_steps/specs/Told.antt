@@ -9,7 +9,7 @@ use Rattle.hsm_words.specs.declared.view.Deed.{Deed}
 use Rattle.hsm_words.specs.declared.view.Deed.TheVariants.{Claimed, Wrote, Armed, Looked, Read, Entered, Stopped, Suspended, Woke, Quieted, Unquieted}
 use Rattle.hsm_words.specs.declared.view.HartView.{HartView}
 use Rattle.hsm_words.specs.declared.view.Crew.{Crew}
-use Rattle.hsm_rule.specs.Rule.{IsSite, noted, stands}
+use Rattle.hsm_rule.specs.Rule.{IsSite, HasNoted, stands}
 use Rattle.hsm_rule.specs.States.{HartState, stopped, start_pending, started, IsStarted, Shows, Tells}
 
 -- ---- what each step tells
@@ -19,7 +19,7 @@ SeatState = Me (Unit {0}) Crew
 
 -- the view has one more deed of the hart, and the hart then stands at this stage
 abbrev pub Notes : ℕ → Stage → Deed → SeatState → SeatState → Type 0
-Notes h st x m m' = (m'.0 ≡ crew (noted h st x m.0.harts)) × (m'.1 ≡ m.1)
+Notes h st x m m' = HasNoted h st x m.0.harts m'.0.harts × (m'.1 ≡ m.1)
 
 -- where a hart stands after a claim
 abbrev pub after_claim : ℕ → ℕ → ℕ → ℕ → Stage
@@ -95,7 +95,7 @@ Unquiets h st m found m' = Notes h Running (Unquieted found) m m'
 -- ---- the table at the start
 abbrev pub opening_from : ℕ → ℕ → ℕ → List HartView
 opening_from lone first zero = []
-opening_from lone first (suc n) = hart_view first (if first == lone then Running else Out) [] ∷ opening_from lone (suc first) n
+opening_from lone first (suc n) = hart_view first (if first == lone then Running else Out) [] [] ∷ opening_from lone (suc first) n
 
 abbrev pub opening_crew : ℕ → ℕ → Crew
 opening_crew harts lone = crew (opening_from lone 0 harts)

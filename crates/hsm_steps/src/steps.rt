@@ -2,8 +2,7 @@
 
 ghost use Rattle.std.specs.Prelude.{◌≡◌, ◌≢◌, ℕ, ◌+◌, ◌*◌, ◌<◌, ◌↔◌, true, IsTrue};
 ghost use Rattle.std.specs.Int.{bit_at};
-ghost use Rattle.hsm_words.specs.Words.{crew};
-ghost use Rattle.hsm_rule.specs.Rule.{IsSite, stands, noted};
+ghost use Rattle.hsm_rule.specs.Rule.{IsSite, HasNoted, stands};
 ghost use Rattle.hsm_rule.specs.States.{IsStarted, Tells};
 ghost use Rattle.hsm_steps.specs.Told.{after_claim, after_look, Claims, PutsAddress, PutsOpaque, Arms, IsFresh, Looks, LooksOut, ReadsAddress, ReadsOpaque, IsOpenStart, Enters, Stops, Suspends, Wakes, Quiets, Unquiets, is_alone, after_quiet};
 ghost use Rattle.hsm_steps.specs.Seating.{IsSeatOf, harts_of, crew_of, harts_in};
@@ -144,7 +143,7 @@ pub fn claim<J: Acting>(
     requires target { target < harts_of table.now }
     requires site { IsSite address }
     ensures seat { IsSeatOf table.now seat.new }
-    ensures told { crew_of seat.new ≡ crew (noted by (after_claim target address opaque result) (Claimed target address opaque result) (harts_in seat.old)) }
+    ensures told { HasNoted by (after_claim target address opaque result) (Claimed target address opaque result) (harts_in seat.old) (harts_in seat.new) }
     ensures tells { Tells (harts_of table.now) (crew_of seat.old) result }
 {
     let bit = target.number();
@@ -168,7 +167,7 @@ pub fn put_address<J: Acting>(
     requires acts { stands by (Claiming target address opaque) (harts_in seat.old) }
     requires target { target < harts_of table.now }
     ensures seat { IsSeatOf table.now seat.new }
-    ensures told { crew_of seat.new ≡ crew (noted by (Half target address opaque) (Wrote (1 + 2 * target) address) (harts_in seat.old)) }
+    ensures told { HasNoted by (Half target address opaque) (Wrote (1 + 2 * target) address) (harts_in seat.old) (harts_in seat.new) }
 {
     let word = 1 + 2 * target.index();
     table
@@ -191,7 +190,7 @@ pub fn put_opaque<J: Acting>(
     requires acts { stands by (Half target address opaque) (harts_in seat.old) }
     requires target { target < harts_of table.now }
     ensures seat { IsSeatOf table.now seat.new }
-    ensures told { crew_of seat.new ≡ crew (noted by (Stored target address opaque) (Wrote (2 + 2 * target) opaque) (harts_in seat.old)) }
+    ensures told { HasNoted by (Stored target address opaque) (Wrote (2 + 2 * target) opaque) (harts_in seat.old) (harts_in seat.new) }
 {
     let word = 2 + 2 * target.index();
     table
@@ -214,7 +213,7 @@ pub fn arm<J: Acting>(
     requires acts { stands by (Stored target address opaque) (harts_in seat.old) }
     requires target { target < harts_of table.now }
     ensures seat { IsSeatOf table.now seat.new }
-    ensures told { crew_of seat.new ≡ crew (noted by Running (Armed target) (harts_in seat.old)) }
+    ensures told { HasNoted by Running (Armed target) (harts_in seat.old) (harts_in seat.new) }
 {
     let bit = 8 + target.number();
     table.table.shared.fetch_or::<ArmStep<J>>(seat, 0, 1 << bit);
@@ -226,7 +225,7 @@ pub fn look<J: Acting>(table: &HartTable, seat: &mut HartSeat, by: HartId) -> u6
     requires seat { IsSeatOf table.now seat.old }
     requires acts { stands by J.stage (harts_in seat.old) }
     ensures seat { IsSeatOf table.now seat.new }
-    ensures told { crew_of seat.new ≡ crew (noted by J.stage (Looked result) (harts_in seat.old)) }
+    ensures told { HasNoted by J.stage (Looked result) (harts_in seat.old) (harts_in seat.new) }
     ensures fresh { IsFresh result (harts_in seat.old) }
     ensures tells { Tells (harts_of table.now) (crew_of seat.old) result }
 {
@@ -239,7 +238,7 @@ pub fn look_out<J: Acting>(table: &HartTable, seat: &mut HartSeat, by: HartId) -
     requires seat { IsSeatOf table.now seat.old }
     requires acts { stands by Out (harts_in seat.old) }
     ensures seat { IsSeatOf table.now seat.new }
-    ensures told { crew_of seat.new ≡ crew (noted by (after_look by result) (Looked result) (harts_in seat.old)) }
+    ensures told { HasNoted by (after_look by result) (Looked result) (harts_in seat.old) (harts_in seat.new) }
     ensures tells { Tells (harts_of table.now) (crew_of seat.old) result }
 {
     table.table.shared.load::<LookOutStep<J>>(seat, 0)
@@ -252,7 +251,7 @@ pub fn read_address<J: Acting>(table: &HartTable, seat: &mut HartSeat, by: HartI
     requires acts { stands by Ready (harts_in seat.old) }
     requires by { by < harts_of table.now }
     ensures seat { IsSeatOf table.now seat.new }
-    ensures told { crew_of seat.new ≡ crew (noted by (Addressed result) (Read (1 + 2 * by) result) (harts_in seat.old)) }
+    ensures told { HasNoted by (Addressed result) (Read (1 + 2 * by) result) (harts_in seat.old) (harts_in seat.new) }
     ensures site { IsSite result }
 {
     let word = 1 + 2 * by.index();
@@ -271,7 +270,7 @@ pub fn read_opaque<J: Acting>(
     requires acts { stands by (Addressed address) (harts_in seat.old) }
     requires by { by < harts_of table.now }
     ensures seat { IsSeatOf table.now seat.new }
-    ensures told { crew_of seat.new ≡ crew (noted by (Loaded address result) (Read (2 + 2 * by) result) (harts_in seat.old)) }
+    ensures told { HasNoted by (Loaded address result) (Read (2 + 2 * by) result) (harts_in seat.old) (harts_in seat.new) }
 {
     let word = 2 + 2 * by.index();
     table.table.shared.load::<ReadOpaqueStep<J>>(seat, word)
@@ -290,7 +289,7 @@ pub fn enter<J: Acting>(
     requires acts { stands by (Loaded address opaque) (harts_in seat.old) }
     requires by { by < harts_of table.now }
     ensures seat { IsSeatOf table.now seat.new }
-    ensures told { crew_of seat.new ≡ crew (noted by Running (Entered by address opaque) (harts_in seat.old)) }
+    ensures told { HasNoted by Running (Entered by address opaque) (harts_in seat.old) (harts_in seat.new) }
     ensures open { IsOpenStart (harts_of table.now) (crew_of seat.old) by address opaque }
 {
     let bit = 16 + by.number();
@@ -307,7 +306,7 @@ pub fn stop<J: Acting>(table: &HartTable, seat: &mut HartSeat, by: HartId) -> u6
     requires acts { stands by Running (harts_in seat.old) }
     requires by { by < harts_of table.now }
     ensures seat { IsSeatOf table.now seat.new }
-    ensures told { crew_of seat.new ≡ crew (noted by Out (Stopped result) (harts_in seat.old)) }
+    ensures told { HasNoted by Out (Stopped result) (harts_in seat.old) (harts_in seat.new) }
 {
     let hart = by.number();
     let others = !(1u64 << hart)
@@ -324,7 +323,7 @@ pub fn suspend<J: Acting>(table: &HartTable, seat: &mut HartSeat, by: HartId) ->
     requires acts { stands by Running (harts_in seat.old) }
     requires by { by < harts_of table.now }
     ensures seat { IsSeatOf table.now seat.new }
-    ensures told { crew_of seat.new ≡ crew (noted by Asleep (Suspended result) (harts_in seat.old)) }
+    ensures told { HasNoted by Asleep (Suspended result) (harts_in seat.old) (harts_in seat.new) }
 {
     let bit = 24 + by.number();
     table
@@ -340,7 +339,7 @@ pub fn wake<J: Acting>(table: &HartTable, seat: &mut HartSeat, by: HartId) -> u6
     requires acts { stands by Asleep (harts_in seat.old) }
     requires by { by < harts_of table.now }
     ensures seat { IsSeatOf table.now seat.new }
-    ensures told { crew_of seat.new ≡ crew (noted by Running (Woke result) (harts_in seat.old)) }
+    ensures told { HasNoted by Running (Woke result) (harts_in seat.old) (harts_in seat.new) }
 {
     let bit = 24 + by.number();
     table
@@ -356,7 +355,7 @@ pub fn quiet<J: Acting>(table: &HartTable, seat: &mut HartSeat, by: HartId) -> u
     requires seat { IsSeatOf table.now seat.old }
     requires acts { IsStarted by (harts_in seat.old) }
     ensures seat { IsSeatOf table.now seat.new }
-    ensures told { crew_of seat.new ≡ crew (noted by (after_quiet (harts_of table.now) by result) (Quieted result) (harts_in seat.old)) }
+    ensures told { HasNoted by (after_quiet (harts_of table.now) by result) (Quieted result) (harts_in seat.old) (harts_in seat.new) }
     ensures alone { IsTrue (is_alone (harts_of table.now) by result) ↔ ((t : ℕ) → t < harts_of table.now → t ≢ by → bit_at result t ≡ 0) }
     ensures still { stands by Quiet (harts_in seat.old) → is_alone (harts_of table.now) by result ≡ true }
     ensures tells { Tells (harts_of table.now) (crew_of seat.old) result }
@@ -370,7 +369,7 @@ pub fn unquiet<J: Acting>(table: &HartTable, seat: &mut HartSeat, by: HartId) ->
     requires seat { IsSeatOf table.now seat.old }
     requires acts { stands by Quiet (harts_in seat.old) }
     ensures seat { IsSeatOf table.now seat.new }
-    ensures told { crew_of seat.new ≡ crew (noted by Running (Unquieted result) (harts_in seat.old)) }
+    ensures told { HasNoted by Running (Unquieted result) (harts_in seat.old) (harts_in seat.new) }
 {
     table.table.shared.load::<UnquietStep<J>>(seat, 0)
 }

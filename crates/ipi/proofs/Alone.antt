@@ -7,11 +7,12 @@ use Rattle.std.proofs.Math.Nat.{mod-lt}
 use Rattle.std.proofs.Math.Pow.{pow_pos, pow-lt}
 use mathlib.Core.Logic.{dite}
 use native.Mathlib.Decide.{ℕ_discrete, dec_le}
+use Rattle.tallies.specs.Sums.{total}
 use Rattle.ipi.specs.declared.view.Deed.{Deed}
 use Rattle.ipi.specs.declared.view.Deed.TheVariants.{Raised, Took, Looked}
 use Rattle.ipi.specs.declared.view.Diary.{Diary}
 use Rattle.ipi.specs.declared.view.Crew.{Crew}
-use Rattle.ipi.specs.Ledger.{numbers, crew, raise_of, take_of, raised, taken, seats, noted, IsWhole, InRange}
+use Rattle.ipi.specs.Ledger.{numbers, crew, raise_of, take_of, raised, taken, is_of, seats, noted, HasNoted, IsWhole, InRange}
 use Rattle.ipi.specs.Pairs.{IsPending, SameHarts, Shows, with_pair, without_target}
 use Rattle.ipi.specs.Senders.{Has}
 use Rattle.ipi.proofs.Keeps.{weigh_noted, seats_noted}
@@ -20,28 +21,28 @@ module _ (harts by : ℕ) (c : Crew) (whole : IsWhole harts c) (lt : by < harts)
   sits : 0 < seats by c
   sits = let w = whole by lt in omega arith
 
-  raised_then : (x : Deed) (s t : ℕ) → raised s t (crew (noted by x c.diaries)) ≡ raised s t c + (if by == s then raise_of s t x else 0)
-  raised_then x s t = weigh_noted s (raise_of s t) by x c.diaries sits
+  raised_then : (p : ℕ) (x : Deed) (s t : ℕ) → raised s t (crew (noted by p x c.diaries)) ≡ raised s t c + (if by == s then raise_of s t x else 0)
+  raised_then p x s t = weigh_noted s (raise_of s t) by p x c.diaries sits
 
-  taken_then : (x : Deed) (s t : ℕ) → taken s t (crew (noted by x c.diaries)) ≡ taken s t c + (if by == t then take_of s x else 0)
-  taken_then x s t = weigh_noted t (take_of s) by x c.diaries sits
+  taken_then : (p : ℕ) (x : Deed) (s t : ℕ) → taken s t (crew (noted by p x c.diaries)) ≡ taken s t c + (if by == t then take_of s x else 0)
+  taken_then p x s t = weigh_noted t (take_of s) by p x c.diaries sits
 
 nothing : (b : Bool) → ◌≡◌ {A = ℕ} (if b then 0 else 0) 0
 nothing true = refl
 nothing false = refl
 
 -- ---- the harts of the seat stay
-numbers_noted : (by : ℕ) (x : Deed) (ds : List Diary) → numbers (noted by x ds) ≡ numbers ds
-numbers_noted by x [] = refl
-numbers_noted by x (d ∷ ds) =
+numbers_noted : (by p : ℕ) (x : Deed) (ds : List Diary) → numbers (noted by p x ds) ≡ numbers ds
+numbers_noted by p x [] = refl
+numbers_noted by p x (d ∷ ds) =
     dite (ℕ_discrete d.hart by)
     (λ hit. rw (eq-eqb d.hart by hit) refl)
-    (λ miss. rw (ne_eqb d.hart by miss) (ap (λ (l : List ℕ). d.hart ∷ l) (numbers_noted by x ds)))
+    (λ miss. rw (ne_eqb d.hart by miss) (ap (λ (l : List ℕ). d.hart ∷ l) (numbers_noted by p x ds)))
 
-pub same_harts : (by : ℕ) (x : Deed) (c c' : Crew) → c' ≡ crew (noted by x c.diaries) → SameHarts c c'
+pub same_harts : (by : ℕ) (x : Deed) (c c' : Crew) → HasNoted by x c.diaries c'.diaries → SameHarts c c'
 same_harts by x c c' is = record {
-  harts = ap (λ (d : Crew). numbers d.diaries) is ∙ numbers_noted by x c.diaries;
-  each = λ h. ap (seats h) is ∙ seats_noted h by x c.diaries;
+  harts = ap numbers is.1 ∙ numbers_noted by is.0 x c.diaries;
+  each = λ h. ap (total (is_of h)) is.1 ∙ seats_noted h by is.0 x c.diaries;
 }
 
 whole_still : (harts : ℕ) (c c' : Crew) → SameHarts c c' → IsWhole harts c → IsWhole harts c'
@@ -62,7 +63,7 @@ is_not false true e = refl
 is_not false false e = e.1 (λ f. true≢false (sym f))
 
 -- ---- raise
-module _ (harts by target found : ℕ) (c c' : Crew) (whole : IsWhole harts c) (lt : by < harts) (is : c' ≡ crew (noted by (Raised target found) c.diaries)) (tells : raised by target c ≡ taken by target c + bit_at found by) where
+module _ (harts by target found : ℕ) (c c' : Crew) (whole : IsWhole harts c) (lt : by < harts) (is : HasNoted by (Raised target found) c.diaries c'.diaries) (tells : raised by target c ≡ taken by target c + bit_at found by) where
   newly : (bit_at found by ≡ 0) ↔ (IsPending c by target → ⊥)
   newly = let bit = bit_at-lt found by in (
     (λ z p. omega arith),
@@ -70,7 +71,7 @@ module _ (harts by target found : ℕ) (c c' : Crew) (whole : IsWhole harts c) (
   )
 
   raised_pairs : (s t : ℕ) → IsPending c' s t ↔ (IsPending c s t ⊎ ((s ≡ by) × (t ≡ target)))
-  raised_pairs s t = subst (λ (d : Crew). IsPending d s t ↔ (IsPending c s t ⊎ ((s ≡ by) × (t ≡ target)))) (sym is) (pairs found tells s t)
+  raised_pairs s t = subst (λ (d : Crew). IsPending d s t ↔ (IsPending c s t ⊎ ((s ≡ by) × (t ≡ target)))) (sym (ap crew is.1)) (pairs found tells s t)
     where
       other : (found s t : ℕ) → ((s ≡ by) × (t ≡ target) → ⊥) → (if by == s then raise_of s t (Raised target found) else 0) ≡ 0
       other found s t apart = dite (ℕ_discrete s by)
@@ -82,10 +83,10 @@ module _ (harts by target found : ℕ) (c c' : Crew) (whole : IsWhole harts c) (
       here : (found s t : ℕ) → s ≡ by → t ≡ target → (if by == s then raise_of s t (Raised target found) else 0) ≡ 1 - bit_at found s
       here found s t e f = rw (eq-eqb by s (sym e), eq-eqb target t (sym f)) refl
 
-      pairs : (found : ℕ) → raised by target c ≡ taken by target c + bit_at found by → (s t : ℕ) → IsPending (crew (noted by (Raised target found) c.diaries)) s t ↔ (IsPending c s t ⊎ ((s ≡ by) × (t ≡ target)))
+      pairs : (found : ℕ) → raised by target c ≡ taken by target c + bit_at found by → (s t : ℕ) → IsPending (crew (noted by is.0 (Raised target found) c.diaries)) s t ↔ (IsPending c s t ⊎ ((s ≡ by) × (t ≡ target)))
       pairs found tells s t =
-          let up = raised_then harts by c whole lt (Raised target found) s t in
-          let same = taken_then harts by c whole lt (Raised target found) s t in
+          let up = raised_then harts by c whole lt is.0 (Raised target found) s t in
+          let same = taken_then harts by c whole lt is.0 (Raised target found) s t in
           let z = nothing (eqb by t) in
           let bit = bit_at-lt found s in
           dite (ℕ_discrete s by)
@@ -119,17 +120,17 @@ module _ (harts by target found : ℕ) (c c' : Crew) (whole : IsWhole harts c) (
           ((λ p. r.1 (inl (old.0 (sym it ∙ p)))), (λ q. it ∙ old.1 (⊎_elim (λ (p : IsPending c s t). p) (λ (x : (s ≡ by) × (t ≡ target)). absurd (n x.0)) (r.0 q)))))
 
 -- ---- take
-module _ (harts by found : ℕ) (c c' : Crew) (whole : IsWhole harts c) (lt : by < harts) (is : c' ≡ crew (noted by (Took found) c.diaries)) (tells : (sender : ℕ) → raised sender by c ≡ taken sender by c + bit_at found sender) where
+module _ (harts by found : ℕ) (c c' : Crew) (whole : IsWhole harts c) (lt : by < harts) (is : HasNoted by (Took found) c.diaries c'.diaries) (tells : (sender : ℕ) → raised sender by c ≡ taken sender by c + bit_at found sender) where
   found_pairs : (s : ℕ) → Has s found ↔ IsPending c s by
   found_pairs s = let e = tells s in let bit = bit_at-lt found s in ((λ one. omega arith), (λ p. omega arith))
 
   taken_pairs : (s t : ℕ) → IsPending c' s t ↔ (IsPending c s t × (t ≢ by))
-  taken_pairs s t = subst (λ (d : Crew). IsPending d s t ↔ (IsPending c s t × (t ≢ by))) (sym is) (pairs s (tells s) t)
+  taken_pairs s t = subst (λ (d : Crew). IsPending d s t ↔ (IsPending c s t × (t ≢ by))) (sym (ap crew is.1)) (pairs s (tells s) t)
     where
-      pairs : (s : ℕ) → raised s by c ≡ taken s by c + bit_at found s → (t : ℕ) → IsPending (crew (noted by (Took found) c.diaries)) s t ↔ (IsPending c s t × (t ≢ by))
+      pairs : (s : ℕ) → raised s by c ≡ taken s by c + bit_at found s → (t : ℕ) → IsPending (crew (noted by is.0 (Took found) c.diaries)) s t ↔ (IsPending c s t × (t ≢ by))
       pairs s tells t =
-          let same = raised_then harts by c whole lt (Took found) s t in
-          let up = taken_then harts by c whole lt (Took found) s t in
+          let same = raised_then harts by c whole lt is.0 (Took found) s t in
+          let up = taken_then harts by c whole lt is.0 (Took found) s t in
           let z = nothing (eqb by s) in
           dite (ℕ_discrete t by)
           (λ e.
@@ -162,11 +163,11 @@ some_sender found small ne = let b = bit_at-trailing_zeros w64 found (omega arit
 pub no_sender : (found s : ℕ) → bit_at found s ≡ 1 → found ≢ 0
 no_sender found s one z = let e = ap (λ (n : ℕ). bit_at n s) z in let n = bit_at-zero s in omega arith
 
-module _ (harts by found : ℕ) (c c' : Crew) (whole : IsWhole harts c) (lt : by < harts) (is : c' ≡ crew (noted by (Looked found) c.diaries)) (tells : (sender : ℕ) → raised sender by c ≡ taken sender by c + bit_at found sender) where
+module _ (harts by found : ℕ) (c c' : Crew) (whole : IsWhole harts c) (lt : by < harts) (is : HasNoted by (Looked found) c.diaries c'.diaries) (tells : (sender : ℕ) → raised sender by c ≡ taken sender by c + bit_at found sender) where
   looked_pairs : (s t : ℕ) → IsPending c' s t ↔ IsPending c s t
-  looked_pairs s t = subst (λ (d : Crew). IsPending d s t ↔ IsPending c s t) (sym is)
-      (let p = raised_then harts by c whole lt (Looked found) s t in
-      let q = taken_then harts by c whole lt (Looked found) s t in
+  looked_pairs s t = subst (λ (d : Crew). IsPending d s t ↔ IsPending c s t) (sym (ap crew is.1))
+      (let p = raised_then harts by c whole lt is.0 (Looked found) s t in
+      let q = taken_then harts by c whole lt is.0 (Looked found) s t in
       let y = nothing (eqb by s) in
       let z = nothing (eqb by t) in
       ((λ x. let w = x in omega arith), (λ x. let w = x in omega arith)))

@@ -1,10 +1,11 @@
 -- The rule of the pending table. Word t has a bit for each sender of the hart t.
-use Rattle.std.specs.Prelude.{◌≡◌, ℕ, ◌+◌, ◌-◌, ◌<◌, ◌≤◌, zero, suc, Bool, true, false, List, [], ◌∷◌, ◌++◌, ◌==◌, length, map, slice_index, if◌then◌else◌, take, drop}
+use Rattle.std.specs.Prelude.{◌≡◌, ℕ, ◌+◌, ◌-◌, ◌^◌, ◌<◌, ◌≤◌, zero, suc, Bool, true, false, List, [], ◌∷◌, ◌++◌, ◌==◌, length, map, slice_index, bit_or, if◌then◌else◌, take, drop}
 use Rattle.std.specs.Int.{bit_at}
 use mathlib.Core.Option.{some}
 use lib.ListN.{get_elem?}
 use Rattle.atomic_table.specs.Table.{State, Me, Step}
 use Rattle.tallies.specs.Sums.{total}
+use Rattle.tallies.specs.Logs.{Log, Reading, IsOfLog, IsTrueLog, word_after}
 use Rattle.ipi.specs.declared.view.Deed.{Deed}
 use Rattle.ipi.specs.declared.view.Deed.TheVariants.{Raised, Took, Looked}
 use Rattle.ipi.specs.declared.view.Diary.{Diary}
@@ -14,8 +15,8 @@ abbrev pub Each : {A : Type 0} → (A → Type 0) → List A → Type 0
 Each P [] = Unit {0}
 Each P (x ∷ xs) = P x × Each P xs
 
-abbrev pub diary : ℕ → List Deed → Diary
-diary h ds = record { hart = h; deeds = ds }
+abbrev pub diary : ℕ → List Deed → List ℕ → Diary
+diary h ds ps = record { hart = h; deeds = ds; places = ps }
 
 abbrev pub crew : List Diary → Crew
 crew ds = record { diaries = ds }
@@ -61,7 +62,38 @@ owes h (Looked found ∷ ds) = owes h ds
 abbrev pub IsOwed : List ℕ → Diary → Type 0
 IsOwed words d = owes d.hart d.deeds ≡ true → bit_at (slice_index words d.hart) d.hart ≡ 1
 
--- The rule. The ledger: the raises that found a pair clear are the takes that answered it, and one more if it is pending
+-- ---- the deeds as steps
+-- the hart in whose word a deed of the hart h was
+abbrev pub word_of : ℕ → Deed → ℕ
+word_of h (Raised t found) = t
+word_of h (Took found) = h
+word_of h (Looked found) = h
+
+-- what it says that it found there
+abbrev pub found_by : Deed → ℕ → ℕ
+found_by (Raised t found) word = found
+found_by (Took found) word = found
+found_by (Looked found) word = found
+
+-- and what it left there
+abbrev pub left_by : ℕ → Deed → ℕ → ℕ
+left_by h (Raised t found) word = bit_or word (2 ^ h)
+left_by h (Took found) word = 0
+left_by h (Looked found) word = word
+
+abbrev pub reading : Reading Deed
+reading = record { word_of = word_of; found_by = found_by; left_by = left_by }
+
+-- the words at the start
+abbrev pub first_word : ℕ → ℕ
+first_word t = 0
+
+-- the diary has just the steps of its hart, each with its place
+abbrev pub IsInLog : Log Deed → Diary → Type 0
+IsInLog log d = IsOfLog log d.hart d.deeds d.places
+
+-- The rule. The ledger: the raises that found a pair clear are the takes that answered it, and one more if it is pending.
+-- The log: all steps in their order, the newest first, which the diaries fix, since each diary has the steps of its hart with their places.
 pub record Kept (harts : ℕ) (s : State (Unit {0}) Crew) : Type 0 where
   pub wide : length s.words ≡ harts
   pub ledger : (sender target : ℕ) → target < harts
@@ -69,11 +101,19 @@ pub record Kept (harts : ℕ) (s : State (Unit {0}) Crew) : Type 0 where
   pub once : (h : ℕ) → h < harts → total (seats h) s.views ≡ 1
   pub none_else : (h : ℕ) → harts ≤ h → total (seats h) s.views ≡ 0
   pub owed : (id : ℕ) (c : Crew) → get_elem? s.views id ≡ some c → Each (IsOwed s.words) c.diaries
+  pub log : Log Deed
+  pub is_true : IsTrueLog reading first_word harts log
+  pub entered : (id : ℕ) (c : Crew) → get_elem? s.views id ≡ some c → Each (IsInLog log) c.diaries
+  pub left : (t : ℕ) → t < harts → slice_index s.words t ≡ word_after reading first_word t log
 
--- one more deed of the hart
-abbrev pub noted : ℕ → Deed → List Diary → List Diary
-noted h x [] = []
-noted h x (d ∷ ds) = if d.hart == h then diary d.hart (x ∷ d.deeds) ∷ ds else d ∷ noted h x ds
+-- one more deed of the hart, at its place
+abbrev pub noted : ℕ → ℕ → Deed → List Diary → List Diary
+noted h p x [] = []
+noted h p x (d ∷ ds) = if d.hart == h then diary d.hart (x ∷ d.deeds) (p ∷ d.places) ∷ ds else d ∷ noted h p x ds
+
+-- a view that has one more deed of the hart, at whatever place, and nothing else is new
+abbrev pub HasNoted : ℕ → Deed → List Diary → List Diary → Type 0
+HasNoted h x ds ds' = (place : ℕ) × (ds' ≡ noted h place x ds)
 
 -- what the table keeps of a seat: its view, and the slots that it has taken, of which there are none
 abbrev pub SeatState : Type 0
@@ -86,7 +126,7 @@ numbers = map (λ d. d.hart)
 -- no step yet
 abbrev pub fresh_from : ℕ → ℕ → List Diary
 fresh_from first zero = []
-fresh_from first (suc n) = diary first [] ∷ fresh_from (suc first) n
+fresh_from first (suc n) = diary first [] [] ∷ fresh_from (suc first) n
 
 abbrev pub opening_crew : ℕ → Crew
 opening_crew harts = crew (fresh_from 0 harts)
@@ -118,13 +158,13 @@ InRange harts found = (sender : ℕ) → harts ≤ sender → bit_at found sende
 
 -- what a step tells
 abbrev pub Raises : ℕ → ℕ → Step (Unit {0}) → SeatState → ℕ → SeatState → Type 0
-Raises harts by st m found m' = (m'.0 ≡ crew (noted by (Raised st.word found) m.0.diaries)) × (m'.1 ≡ m.1) × Tells harts m.0 st.word found
+Raises harts by st m found m' = HasNoted by (Raised st.word found) m.0.diaries m'.0.diaries × (m'.1 ≡ m.1) × Tells harts m.0 st.word found
 
 abbrev pub Takes : ℕ → Step (Unit {0}) → SeatState → ℕ → SeatState → Type 0
-Takes harts st m found m' = (m'.0 ≡ crew (noted st.word (Took found) m.0.diaries)) × (m'.1 ≡ m.1) × Tells harts m.0 st.word found × OwnsUp m.0 st.word found × InRange harts found
+Takes harts st m found m' = HasNoted st.word (Took found) m.0.diaries m'.0.diaries × (m'.1 ≡ m.1) × Tells harts m.0 st.word found × OwnsUp m.0 st.word found × InRange harts found
 
 abbrev pub Looks : ℕ → Step (Unit {0}) → SeatState → ℕ → SeatState → Type 0
-Looks harts st m found m' = (m'.0 ≡ crew (noted st.word (Looked found) m.0.diaries)) × (m'.1 ≡ m.1) × Tells harts m.0 st.word found × OwnsUp m.0 st.word found × InRange harts found
+Looks harts st m found m' = HasNoted st.word (Looked found) m.0.diaries m'.0.diaries × (m'.1 ≡ m.1) × Tells harts m.0 st.word found × OwnsUp m.0 st.word found × InRange harts found
 
 -- ---- seats
 -- the first hart of a seat, and the others

@@ -6,11 +6,13 @@
 mod calls;
 mod pairs;
 mod seats;
+mod seen;
 mod senders;
 mod table;
 mod view;
 
 pub use pairs::laws;
+pub use seen::one_set;
 pub use senders::SenderSet;
 pub use table::{IpiSeat, Ledger, PendingTable, Seats};
 pub use view::{Crew, Deed, Diary};

@@ -7,6 +7,8 @@ mod boots;
 #[cfg(test)]
 mod edges;
 #[cfg(test)]
+mod first_use;
+#[cfg(test)]
 mod fixtures;
 #[cfg(test)]
 mod lines;

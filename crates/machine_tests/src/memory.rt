@@ -26,6 +26,20 @@ fn all_load(rt: &impl Abort, ram: &Ram, cases: &[(u64, Width, u64)]) {
     }
 }
 
+/// A memory of each size that a board may have is there.
+#[test]
+fn every_size_is_made(rt: HostRuntime) -> Result<(), Fail> {
+    for pages in 1..257 {
+        let ram = memory(&rt, pages)?;
+        same(
+            &rt,
+            (u64::from(ram.pages()), ram.bytes().len() as u64),
+            (pages, 4096 * pages),
+        );
+    }
+    Ok(())
+}
+
 /// The bytes of a number stand with the lowest first, and a narrow store leaves its neighbours.
 #[test]
 fn numbers_are_little_endian(rt: HostRuntime) -> Result<(), Fail> {

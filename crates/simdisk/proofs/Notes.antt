@@ -88,8 +88,8 @@ lent_written l rs i noted k le lt u = elim (cases_lt 0 l.lanes) [
     zero_each none = let is : l.lanes ≡ 0 = omega arith in ap (λ (n : ℕ). n * l.each) is ∙ zero-mul l.each
 
 -- a disk that begins with that content
-pub fresh_of : (now stood : Content) (r : Record) (f : ℕ) (l : Lent) → r ≡ new_record now → stood ≡ now → l ≡ nothing → IsFresh now (sim_facts now stood r f l)
-fresh_of now stood r f l begun is none = record {
+pub fresh_of : (now stood : Content) (r : Record) (f i : ℕ) (l : Lent) → r ≡ new_record now → stood ≡ now → l ≡ nothing → IsFresh now (sim_facts now stood r f i l)
+fresh_of now stood r f i l begun is none = record {
   reads = refl;
   durable = λ c a. agrees_all now c (subst (λ (s : Content). Agrees s [] c) is (subst (λ (q : Record). Agrees stood (ranges q.written) c) begun a));
   none_out = none;

@@ -29,17 +29,17 @@ synced_parts : (t : ℕ) (past : List (List Piece)) (c : Content) → synced_aft
 synced_parts t past c = sym (synced_append (take t past) (drop t past) c) ∙ ap (λ (es : List (List Piece)). synced_after es c) (take-append-drop t past)
 
 -- nothing is written
-pub passes_same : (now new stood stood' : Content) (r r' : Record) (f g : ℕ) (l m : Lent) → r' ≡ r → stood' ≡ stood → Passes (sim_facts now stood r f l) (sim_facts new stood' r' g m) Stays
-passes_same now new stood stood' r r' f g l m same is =
-    subst (λ (s : Content). Passes (sim_facts now stood r f l) (sim_facts new s r' g m) Stays) (sym is) (subst (λ (q : Record). Passes (sim_facts now stood r f l) (sim_facts new stood q g m) Stays) (sym same) stays)
+pub passes_same : (now new stood stood' : Content) (r r' : Record) (f g i j : ℕ) (l m : Lent) → r' ≡ r → stood' ≡ stood → Passes (sim_facts now stood r f i l) (sim_facts new stood' r' g j m) Stays
+passes_same now new stood stood' r r' f g i j l m same is =
+    subst (λ (s : Content). Passes (sim_facts now stood r f i l) (sim_facts new s r' g j m) Stays) (sym is) (subst (λ (q : Record). Passes (sim_facts now stood r f i l) (sim_facts new stood q g j m) Stays) (sym same) stays)
   where
-    stays : Passes (sim_facts now stood r f l) (sim_facts new stood r g m) Stays
+    stays : Passes (sim_facts now stood r f i l) (sim_facts new stood r g j m) Stays
     stays = record { later = omega arith; now = λ c a. (c, a, refl); nothing_else = λ t c le left. inl left; keeps = λ t c le left. left }
 
 -- the bytes of what is written change, and no range of it
-pub passes_ranges : (now new stood stood' : Content) (r r' : Record) (f g : ℕ) (l m : Lent) → ranges r'.written ≡ ranges r.written → r'.past ≡ r.past → r'.began ≡ r.began → stood' ≡ stood
-    → Passes (sim_facts now stood r f l) (sim_facts new stood' r' g m) Stays
-passes_ranges now new stood stood' r r' f g l m same past began is = record {
+pub passes_ranges : (now new stood stood' : Content) (r r' : Record) (f g i j : ℕ) (l m : Lent) → ranges r'.written ≡ ranges r.written → r'.past ≡ r.past → r'.began ≡ r.began → stood' ≡ stood
+    → Passes (sim_facts now stood r f i l) (sim_facts new stood' r' g j m) Stays
+passes_ranges now new stood stood' r r' f g i j l m same past began is = record {
   later = omega (arith, ap (λ (es : List (List Piece)). length es) past);
   now = λ c a. (c, back c a, refl);
   nothing_else = λ t c le left. inl (⊎_elim (λ a. inl (back c a)) (λ had. inr (subst (λ (T : Type 0). T) (had_same t c) had)) left);
@@ -59,11 +59,11 @@ ranges_push : (ps : List Piece) (p : Piece) → ranges (ps ++ p ∷ []) ≡ rang
 ranges_push ps p = map-append range ps (p ∷ [])
 
 -- a piece more is written
-pub passes_range : (now new stood stood' : Content) (r r' : Record) (f g : ℕ) (l m : Lent) (p : Piece) → r' ≡ more_written p r → stood' ≡ stood → p.0 + length p.1 ≤ length stood
-    → Passes (sim_facts now stood r f l) (sim_facts new stood' r' g m) (Torn p.0 (length p.1))
-passes_range now new stood stood' r r' f g l m p more is within =
-    subst (λ (s : Content). Passes (sim_facts now stood r f l) (sim_facts new s r' g m) (Torn p.0 (length p.1))) (sym is)
-    (subst (λ (q : Record). Passes (sim_facts now stood r f l) (sim_facts new stood q g m) (Torn p.0 (length p.1))) (sym more) pushed)
+pub passes_range : (now new stood stood' : Content) (r r' : Record) (f g i j : ℕ) (l m : Lent) (p : Piece) → r' ≡ more_written p r → stood' ≡ stood → p.0 + length p.1 ≤ length stood
+    → Passes (sim_facts now stood r f i l) (sim_facts new stood' r' g j m) (Torn p.0 (length p.1))
+passes_range now new stood stood' r r' f g i j l m p more is within =
+    subst (λ (s : Content). Passes (sim_facts now stood r f i l) (sim_facts new s r' g j m) (Torn p.0 (length p.1))) (sym is)
+    (subst (λ (q : Record). Passes (sim_facts now stood r f i l) (sim_facts new stood q g j m) (Torn p.0 (length p.1))) (sym more) pushed)
   where
     split : (c : Content) → Agrees stood (ranges (r.written ++ p ∷ [])) c → Agrees stood (ranges r.written ++ range p ∷ []) c
     split c a = subst (λ (rs : List (ℕ × ℕ)). Agrees stood rs c) (ranges_push r.written p) a
@@ -71,10 +71,10 @@ passes_range now new stood stood' r r' f g l m p more is within =
     joined : (c : Content) → Agrees stood (ranges r.written) c → Agrees stood (ranges (r.written ++ p ∷ [])) c
     joined c a = subst (λ (rs : List (ℕ × ℕ)). Agrees stood rs c) (sym (ranges_push r.written p)) (agrees_push stood (ranges r.written) (range p) c a)
 
-    step : (c : Content) → Agrees stood (ranges (r.written ++ p ∷ [])) c → After (sim_facts now stood r f l) (Torn p.0 (length p.1)) c
+    step : (c : Content) → Agrees stood (ranges (r.written ++ p ∷ [])) c → After (sim_facts now stood r f i l) (Torn p.0 (length p.1)) c
     step c a = crash_write stood (ranges r.written) p.0 (length p.1) c within (split c a)
 
-    pushed : Passes (sim_facts now stood r f l) (sim_facts new stood (more_written p r) g m) (Torn p.0 (length p.1))
+    pushed : Passes (sim_facts now stood r f i l) (sim_facts new stood (more_written p r) g j m) (Torn p.0 (length p.1))
     pushed = record {
       later = omega arith;
       now = step;
@@ -83,14 +83,14 @@ passes_range now new stood stood' r r' f g l m p more is within =
     }
 
 -- a sync more
-pub passes_sync : (now stood stood' : Content) (r r' : Record) (f g : ℕ) (l : Lent) (next : List Piece) → r' ≡ more_synced now next r → stood' ≡ now → synced_after r.past r.began ≡ stood
+pub passes_sync : (now stood stood' : Content) (r r' : Record) (f g i j : ℕ) (l : Lent) (next : List Piece) → r' ≡ more_synced now next r → stood' ≡ now → synced_after r.past r.began ≡ stood
     → Agrees stood (ranges r.written) now → Fits (length stood) (ranges r.written) → ((k : ℕ) → Untouched (ranges r.written) k → Untouched (ranges next) k)
-    → Passes (sim_facts now stood r f l) (sim_facts now stood' r' g l) Stays
-passes_sync now stood stood' r r' f g l next more is stood_so agrees fits fewer =
-    subst (λ (s : Content). Passes before (sim_facts now s r' g l) Stays) (sym is) (subst (λ (q : Record). Passes before (sim_facts now now q g l) Stays) (sym more) pushed)
+    → Passes (sim_facts now stood r f i l) (sim_facts now stood' r' g j l) Stays
+passes_sync now stood stood' r r' f g i j l next more is stood_so agrees fits fewer =
+    subst (λ (s : Content). Passes before (sim_facts now s r' g j l) Stays) (sym is) (subst (λ (q : Record). Passes before (sim_facts now now q g j l) Stays) (sym more) pushed)
   where
     before : Facts
-    before = sim_facts now stood r f l
+    before = sim_facts now stood r f i l
 
     epoch : List Piece
     epoch = map (settled now) r.written
@@ -110,7 +110,7 @@ passes_sync now stood stood' r r' f g l next more is stood_so agrees fits fewer 
     into : (t : ℕ) (c : Content) → Agrees stood (ranges r.written) c → Agrees (synced_after (drop t r.past) (synced_after (take t r.past) r.began)) (ranges (map (settled now) r.written)) c
     into t c a = subst (λ (s : Content). Agrees s (ranges (map (settled now) r.written)) c) (sym (at t)) (subst (λ (rs : List (ℕ × ℕ)). Agrees stood rs c) (sym same) a)
 
-    step : (c : Content) → Agrees now (ranges next) c → After (sim_facts now stood r f l) Stays c
+    step : (c : Content) → Agrees now (ranges next) c → After (sim_facts now stood r f i l) Stays c
     step c a = (c, crash_sync stood (ranges r.written) (ranges next) now c agrees fewer a, refl)
 
     Then : ℕ → Content → Type 0
@@ -131,7 +131,7 @@ passes_sync now stood stood' r r' f g l next more is stood_so agrees fits fewer 
     joined t c left = ⊎_elim (λ a. had_last (synced_after (take t r.past) r.began) (drop t r.past) (map (settled now) r.written) c (into t c a))
         (λ had. had_push (synced_after (take t r.past) r.began) (drop t r.past) (map (settled now) r.written) c had) left
 
-    pushed : Passes (sim_facts now stood r f l) (sim_facts now now (more_synced now next r) g l) Stays
+    pushed : Passes (sim_facts now stood r f i l) (sim_facts now now (more_synced now next r) g j l) Stays
     pushed = record {
       later = omega (arith, length-append r.past (map (settled now) r.written ∷ []));
       now = step;

@@ -101,12 +101,13 @@ Had stood [] c = ⊥
 Had stood (epoch ∷ epochs) c = Agrees stood (ranges epoch) c ⊎ Had (replay epoch stood) epochs c
 
 -- the facts of a disk with that record, whose last sync had that content
-abbrev pub sim_facts : Content → Content → Record → ℕ → Lent → Facts
-sim_facts now stood r failures lent = record {
+abbrev pub sim_facts : Content → Content → Record → ℕ → ℕ → Lent → Facts
+sim_facts now stood r failures calls lent = record {
   content = now;
   may_leave = λ c. Agrees stood (ranges r.written) c;
   moment = length r.past;
   since = λ t c. Agrees stood (ranges r.written) c ⊎ Had (synced_after (take t r.past) r.began) (drop t r.past) c;
   failures = failures;
+  calls = calls;
   lent = lent;
 }

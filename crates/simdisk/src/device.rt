@@ -1,7 +1,8 @@
 //! The disk in memory as a disk.
 ghost use Rattle.std.specs.Prelude.{◌≡◌, ◌⊎◌, ◌≤◌, ◌+◌, ◌*◌, [], ◌∷◌, length, map, OnOk, OnErr, IfOk};
-ghost use Rattle.disk.specs.Facts.{Content, Torn, Written, Passes, Stays, Only, Apart, Found, Counts, Handed, InRow, Joined, Unchanged, counted, nothing, lent_sectors, lane_failures};
-ghost use Rattle.disk.specs.Mishaps.{Caused, CausedInLanes, armed_by};
+ghost use Rattle.disk.specs.Facts.{Content, Torn, Written, Passes, Stays, Only, Apart, Found, Handed, InRow, Joined, Unchanged, counted, nothing, lent_sectors, lane_failures};
+ghost use Rattle.disk.specs.Mishaps.{CausedInLanes, armed_by};
+ghost use Rattle.disk.specs.Calls.{Called, NoCall};
 ghost use Rattle.simdisk.specs.Armings.{FailsNext, one_call_on};
 ghost use Rattle.simdisk.specs.Record.{more_written, more_synced, lent_piece, newest, NotedOrRefused, SameRanges};
 
@@ -23,15 +24,17 @@ impl Disk for SimDisk {
     ghost use Rattle.simdisk.specs.Record.{ranges, Agrees};
     ghost use Rattle.simdisk.specs.Views.{pieces, epochs};
     ghost use Rattle.simdisk.specs.Laws.{only_the_last, below};
-    ghost use Rattle.std.specs.Prelude.{◌⊎◌, length, take};
+    ghost use Rattle.std.specs.Prelude.{◌≡◌, ◌⊎◌, length, take, Some};
     ghost use Rattle.simdisk.specs.Record.{synced_after};
     ghost use mathlib.Core.Logic.{inl};
 
     type Lane = SimLane;
 
-    ghost facts = { λ d. sim_facts d.content.items d.history.synced.items (record_of d.history) d.failures (lent_of d.loan) };
+    ghost facts = { λ d. sim_facts d.content.items d.history.synced.items (record_of d.history) d.failures d.calls (lent_of d.loan) };
 
     ghost mishaps = { λ d. mishaps_of d.faults d.refused };
+
+    ghost arms = { λ d fault. d.faults.armed ≡ Some fault };
 
     fn sectors(&self) -> usize {
         self.content.len()
@@ -41,17 +44,14 @@ impl Disk for SimDisk {
         requires within { first + length sectors.old ≤ length (⟦<SimDisk as Disk>⟧.facts self.old).content }
         requires apart { Apart first (length sectors.old) (⟦<SimDisk as Disk>⟧.facts self.old).lent }
         ensures found { OnOk result (Found first (⟦<SimDisk as Disk>⟧.facts self.old).content sectors.new) }
-        ensures content { (⟦<SimDisk as Disk>⟧.facts self.new).content ≡ (⟦<SimDisk as Disk>⟧.facts self.old).content }
-        ensures crash { Passes (⟦<SimDisk as Disk>⟧.facts self.old) (⟦<SimDisk as Disk>⟧.facts self.new) Stays }
-        ensures failures { Counts (⟦<SimDisk as Disk>⟧.facts self.old).failures (⟦<SimDisk as Disk>⟧.facts self.new).failures result }
-        ensures cause { Caused (⟦<SimDisk as Disk>⟧.mishaps self.old) (⟦<SimDisk as Disk>⟧.mishaps self.new) result }
-        ensures lent { (⟦<SimDisk as Disk>⟧.facts self.new).lent ≡ (⟦<SimDisk as Disk>⟧.facts self.old).lent }
+        ensures called { Called 1 Stays (⟦<SimDisk as Disk>⟧.facts self.old) (⟦<SimDisk as Disk>⟧.facts self.new) (⟦<SimDisk as Disk>⟧.mishaps self.old) (⟦<SimDisk as Disk>⟧.mishaps self.new) result }
         ensures not_its_own { (⟦<SimDisk as Disk>⟧.mishaps self.new).own ≡ (⟦<SimDisk as Disk>⟧.mishaps self.old).own }
         ensures record { ⟦<SimDisk as Recorded>⟧.record self.new ≡ ⟦<SimDisk as Recorded>⟧.record self.old }
         ensures due { OnOk result (FailsNext (⟦<SimDisk as Disk>⟧.mishaps self.old).struck (⟦<SimDisk as Recorded>⟧.armed self.old) → ⊥) }
         ensures early { OnErr result (FailsNext (⟦<SimDisk as Disk>⟧.mishaps self.old).struck (⟦<SimDisk as Recorded>⟧.armed self.old)) }
         ensures counts { OnOk result (⟦<SimDisk as Recorded>⟧.armed self.new ≡ one_call_on (⟦<SimDisk as Recorded>⟧.armed self.old)) }
     {
+        self.calls = self.calls.saturating_add(1);
         if self.faults.strikes() {
             return Err(failed(&mut self.failures));
         }
@@ -63,11 +63,7 @@ impl Disk for SimDisk {
         requires within { first + length sectors.now ≤ length (⟦<SimDisk as Disk>⟧.facts self.old).content }
         requires apart { Apart first (length sectors.now) (⟦<SimDisk as Disk>⟧.facts self.old).lent }
         ensures written { OnOk result (Written first sectors.now (⟦<SimDisk as Disk>⟧.facts self.old).content (⟦<SimDisk as Disk>⟧.facts self.new).content) }
-        ensures content { Torn first (length sectors.now) (⟦<SimDisk as Disk>⟧.facts self.old).content (⟦<SimDisk as Disk>⟧.facts self.new).content }
-        ensures crash { Passes (⟦<SimDisk as Disk>⟧.facts self.old) (⟦<SimDisk as Disk>⟧.facts self.new) (Torn first (length sectors.now)) }
-        ensures failures { Counts (⟦<SimDisk as Disk>⟧.facts self.old).failures (⟦<SimDisk as Disk>⟧.facts self.new).failures result }
-        ensures cause { Caused (⟦<SimDisk as Disk>⟧.mishaps self.old) (⟦<SimDisk as Disk>⟧.mishaps self.new) result }
-        ensures lent { (⟦<SimDisk as Disk>⟧.facts self.new).lent ≡ (⟦<SimDisk as Disk>⟧.facts self.old).lent }
+        ensures called { Called 1 (Torn first (length sectors.now)) (⟦<SimDisk as Disk>⟧.facts self.old) (⟦<SimDisk as Disk>⟧.facts self.new) (⟦<SimDisk as Disk>⟧.mishaps self.old) (⟦<SimDisk as Disk>⟧.mishaps self.new) result }
         ensures stays { OnErr result ((⟦<SimDisk as Disk>⟧.facts self.new).content ≡ (⟦<SimDisk as Disk>⟧.facts self.old).content) }
         ensures record { OnOk result (⟦<SimDisk as Recorded>⟧.record self.new ≡ more_written (first, sectors.now) (⟦<SimDisk as Recorded>⟧.record self.old)) }
         ensures record_failed { OnErr result (NotedOrRefused (first, sectors.now) (⟦<SimDisk as Recorded>⟧.record self.old) (⟦<SimDisk as Recorded>⟧.record self.new) (⟦<SimDisk as Disk>⟧.mishaps self.old).own (⟦<SimDisk as Disk>⟧.mishaps self.new).own) }
@@ -75,6 +71,7 @@ impl Disk for SimDisk {
         ensures early { OnErr result (FailsNext (⟦<SimDisk as Disk>⟧.mishaps self.old).struck (⟦<SimDisk as Recorded>⟧.armed self.old) ⊎ ((⟦<SimDisk as Disk>⟧.mishaps self.new).own ≡ counted (⟦<SimDisk as Disk>⟧.mishaps self.old).own 1)) }
         ensures counts { OnOk result (⟦<SimDisk as Recorded>⟧.armed self.new ≡ one_call_on (⟦<SimDisk as Recorded>⟧.armed self.old)) }
     {
+        self.calls = self.calls.saturating_add(1);
         let Ok(()) = self.history.note(self.alloc, first, sectors) else {
             self.faults.pass();
             self.refused = self.refused.saturating_add(1);
@@ -90,17 +87,14 @@ impl Disk for SimDisk {
     fn sync(&mut self) -> Result<(), Fault>
         ensures durable { OnOk result ((⟦<SimDisk as Disk>⟧.facts self.old).lent.lanes ≡ 0 → Only (⟦<SimDisk as Disk>⟧.facts self.new).content (⟦<SimDisk as Disk>⟧.facts self.new).may_leave) }
         ensures but_lent { OnOk result ((c : Content) → (⟦<SimDisk as Disk>⟧.facts self.new).may_leave c → Torn (⟦<SimDisk as Disk>⟧.facts self.old).lent.first (lent_sectors (⟦<SimDisk as Disk>⟧.facts self.old).lent) (⟦<SimDisk as Disk>⟧.facts self.new).content c) }
-        ensures content { (⟦<SimDisk as Disk>⟧.facts self.new).content ≡ (⟦<SimDisk as Disk>⟧.facts self.old).content }
-        ensures crash { Passes (⟦<SimDisk as Disk>⟧.facts self.old) (⟦<SimDisk as Disk>⟧.facts self.new) Stays }
-        ensures failures { Counts (⟦<SimDisk as Disk>⟧.facts self.old).failures (⟦<SimDisk as Disk>⟧.facts self.new).failures result }
-        ensures cause { Caused (⟦<SimDisk as Disk>⟧.mishaps self.old) (⟦<SimDisk as Disk>⟧.mishaps self.new) result }
-        ensures lent { (⟦<SimDisk as Disk>⟧.facts self.new).lent ≡ (⟦<SimDisk as Disk>⟧.facts self.old).lent }
+        ensures called { Called 1 Stays (⟦<SimDisk as Disk>⟧.facts self.old) (⟦<SimDisk as Disk>⟧.facts self.new) (⟦<SimDisk as Disk>⟧.mishaps self.old) (⟦<SimDisk as Disk>⟧.mishaps self.new) result }
         ensures record { OnOk result (⟦<SimDisk as Recorded>⟧.record self.new ≡ more_synced (⟦<SimDisk as Disk>⟧.facts self.old).content (lent_piece (⟦<SimDisk as Disk>⟧.facts self.old).lent (⟦<SimDisk as Disk>⟧.facts self.old).content ∷ []) (⟦<SimDisk as Recorded>⟧.record self.old)) }
         ensures record_failed { OnErr result (⟦<SimDisk as Recorded>⟧.record self.new ≡ ⟦<SimDisk as Recorded>⟧.record self.old) }
         ensures due { OnOk result (FailsNext (⟦<SimDisk as Disk>⟧.mishaps self.old).struck (⟦<SimDisk as Recorded>⟧.armed self.old) → ⊥) }
         ensures early { OnErr result (FailsNext (⟦<SimDisk as Disk>⟧.mishaps self.old).struck (⟦<SimDisk as Recorded>⟧.armed self.old) ⊎ ((⟦<SimDisk as Disk>⟧.mishaps self.new).own ≡ counted (⟦<SimDisk as Disk>⟧.mishaps self.old).own 1)) }
         ensures counts { OnOk result (⟦<SimDisk as Recorded>⟧.armed self.new ≡ one_call_on (⟦<SimDisk as Recorded>⟧.armed self.old)) }
     {
+        self.calls = self.calls.saturating_add(1);
         if self.faults.strikes() {
             return Err(failed(&mut self.failures));
         }
@@ -122,8 +116,7 @@ impl Disk for SimDisk {
         ensures content { (⟦<SimDisk as Disk>⟧.facts self.new).content ≡ (⟦<SimDisk as Disk>⟧.facts self.old).content }
         ensures crash { Passes (⟦<SimDisk as Disk>⟧.facts self.old) (⟦<SimDisk as Disk>⟧.facts self.new) (Torn first (lanes * each)) }
         ensures crash_refused { OnErr result (Passes (⟦<SimDisk as Disk>⟧.facts self.old) (⟦<SimDisk as Disk>⟧.facts self.new) Stays) }
-        ensures failures { (⟦<SimDisk as Disk>⟧.facts self.new).failures ≡ (⟦<SimDisk as Disk>⟧.facts self.old).failures }
-        ensures cause { ⟦<SimDisk as Disk>⟧.mishaps self.new ≡ ⟦<SimDisk as Disk>⟧.mishaps self.old }
+        ensures no_call { NoCall (⟦<SimDisk as Disk>⟧.facts self.old) (⟦<SimDisk as Disk>⟧.facts self.new) (⟦<SimDisk as Disk>⟧.mishaps self.old) (⟦<SimDisk as Disk>⟧.mishaps self.new) }
         ensures record { OnOk result (⟦<SimDisk as Recorded>⟧.record self.new ≡ more_written (lent_piece (record { first = first; lanes = lanes; each = each }) (newest (⟦<SimDisk as Recorded>⟧.record self.old))) (⟦<SimDisk as Recorded>⟧.record self.old)) }
         ensures record_refused { OnErr result (⟦<SimDisk as Recorded>⟧.record self.new ≡ ⟦<SimDisk as Recorded>⟧.record self.old) }
     {
@@ -154,6 +147,7 @@ impl Disk for SimDisk {
         ensures back { (⟦<SimDisk as Disk>⟧.facts self.new).lent ≡ nothing }
         ensures crash { Passes (⟦<SimDisk as Disk>⟧.facts self.old) (⟦<SimDisk as Disk>⟧.facts self.new) Stays }
         ensures failures { (⟦<SimDisk as Disk>⟧.facts self.new).failures ≡ counted (⟦<SimDisk as Disk>⟧.facts self.old).failures (lane_failures (map ⟦<SimLane as Lane>⟧.lane_facts lanes.items)) }
+        ensures calls { (⟦<SimDisk as Disk>⟧.facts self.new).calls ≡ (⟦<SimDisk as Disk>⟧.facts self.old).calls }
         ensures cause { CausedInLanes (⟦<SimDisk as Disk>⟧.mishaps self.old) (⟦<SimDisk as Disk>⟧.mishaps self.new) (lane_failures (map ⟦<SimLane as Lane>⟧.lane_facts lanes.items)) }
         ensures record { SameRanges (⟦<SimDisk as Recorded>⟧.record self.old) (⟦<SimDisk as Recorded>⟧.record self.new) }
     {
@@ -173,6 +167,7 @@ impl Disk for SimDisk {
     fn arm(&mut self, fault: ArmedFault)
         ensures facts { Unchanged (⟦<SimDisk as Disk>⟧.facts self.old) (⟦<SimDisk as Disk>⟧.facts self.new) }
         ensures armed { ⟦<SimDisk as Disk>⟧.mishaps self.new ≡ record (⟦<SimDisk as Disk>⟧.mishaps self.old) { armed = armed_by fault } }
+        ensures arms { ⟦<SimDisk as Disk>⟧.arms self.new fault }
         ensures call { ⟦<SimDisk as Recorded>⟧.armed self.new ≡ Some fault }
         ensures record { ⟦<SimDisk as Recorded>⟧.record self.new ≡ ⟦<SimDisk as Recorded>⟧.record self.old }
     {
@@ -190,4 +185,6 @@ impl Disk for SimDisk {
     ghost only_now = { λ d c left. only_the_last (synced_after (take (length (epochs d.history.past.items)) (epochs d.history.past.items)) d.history.began.items) (epochs d.history.past.items) c (Agrees d.history.synced.items (ranges (pieces d.history.written.items)) c) left };
 
     ghost bounded = { λ d. below d.failures d.few };
+
+    ghost bounded_calls = { λ d. below d.calls d.few_calls };
 }

@@ -23,7 +23,7 @@ impl SimDisk {
     pub fn new(alloc: Global, bytes: &[u8]) -> Result<SimDisk, Refusal>
         ensures fresh { IfOk result (λ disk. IsFresh (first_chunks 512 (length bytes.now / 512) bytes.now) (⟦<SimDisk as Disk>⟧.facts disk)) }
         ensures record { IfOk result (λ disk. ⟦<SimDisk as Recorded>⟧.record disk ≡ new_record (first_chunks 512 (length bytes.now / 512) bytes.now)) }
-        ensures no_failure { IfOk result (λ disk. (⟦<SimDisk as Disk>⟧.facts disk).failures ≡ 0) }
+        ensures no_call { IfOk result (λ disk. ((⟦<SimDisk as Disk>⟧.facts disk).failures ≡ 0) × ((⟦<SimDisk as Disk>⟧.facts disk).calls ≡ 0)) }
         ensures no_mishap { IfOk result (λ disk. ⟦<SimDisk as Disk>⟧.mishaps disk ≡ no_mishap) }
         ensures whole { OnOk result (length bytes.now % 512 ≡ 0) }
         ensures refused { IfErr result (λ e. ((e ≡ Refusal.BadShape) × (length bytes.now % 512 ≢ 0)) ⊎ ((e ≡ Refusal.Memory) × (length bytes.now % 512 ≡ 0))) }
@@ -40,7 +40,7 @@ impl SimDisk {
     pub fn blank(alloc: Global, sectors: usize) -> Result<SimDisk, AllocError>
         ensures fresh { IfOk result (λ disk. IsFresh (replicate sectors (replicate 512 0)) (⟦<SimDisk as Disk>⟧.facts disk)) }
         ensures record { IfOk result (λ disk. ⟦<SimDisk as Recorded>⟧.record disk ≡ new_record (replicate sectors (replicate 512 0))) }
-        ensures no_failure { IfOk result (λ disk. (⟦<SimDisk as Disk>⟧.facts disk).failures ≡ 0) }
+        ensures no_call { IfOk result (λ disk. ((⟦<SimDisk as Disk>⟧.facts disk).failures ≡ 0) × ((⟦<SimDisk as Disk>⟧.facts disk).calls ≡ 0)) }
         ensures no_mishap { IfOk result (λ disk. ⟦<SimDisk as Disk>⟧.mishaps disk ≡ no_mishap) }
     {
         let content = vec![in alloc; [0; 512]; sectors]?;
@@ -51,7 +51,7 @@ impl SimDisk {
     fn holding(alloc: Global, content: Vec<Sector>) -> Result<SimDisk, AllocError>
         ensures fresh { IfOk result (λ disk. IsFresh content.items (⟦<SimDisk as Disk>⟧.facts disk)) }
         ensures record { IfOk result (λ disk. ⟦<SimDisk as Recorded>⟧.record disk ≡ new_record content.items) }
-        ensures no_failure { IfOk result (λ disk. (⟦<SimDisk as Disk>⟧.facts disk).failures ≡ 0) }
+        ensures no_call { IfOk result (λ disk. ((⟦<SimDisk as Disk>⟧.facts disk).failures ≡ 0) × ((⟦<SimDisk as Disk>⟧.facts disk).calls ≡ 0)) }
         ensures no_mishap { IfOk result (λ disk. ⟦<SimDisk as Disk>⟧.mishaps disk ≡ no_mishap) }
     {
         let history = History::begun(alloc, &content)?;
@@ -60,14 +60,15 @@ impl SimDisk {
             content,
             history,
             failures: 0,
+            calls: 0,
             refused: 0,
             loan: Loan::nothing(),
             faults: Faults::none(),
         })
     }
 
-    /// The disk that a crash now leaves by that choice. It goes on counting failures; nothing of it
-    /// is lent, nothing is armed, and power is back. No memory is taken.
+    /// The disk that a crash now leaves by that choice. It goes on counting failures and calls; nothing
+    /// of it is lent, nothing is armed, and power is back. No memory is taken.
     pub fn after_cut(self, choice: Choice) -> SimDisk
         ensures left { IsLeft (⟦<SimDisk as Disk>⟧.facts self) (⟦<SimDisk as Disk>⟧.facts result) }
         ensures exact { (⟦<SimDisk as Disk>⟧.facts result).content ≡ left_by choice (synced (⟦<SimDisk as Recorded>⟧.record self)) (⟦<SimDisk as Recorded>⟧.record self).written }
@@ -82,6 +83,7 @@ impl SimDisk {
             content,
             history,
             failures: self.failures,
+            calls: self.calls,
             refused: self.refused,
             loan: Loan::nothing(),
             faults: Faults::none(),
@@ -131,6 +133,14 @@ impl SimDisk {
         ensures { result ≡ (⟦<SimDisk as Disk>⟧.mishaps self.now).own }
     {
         self.refused
+    }
+
+    /// How many calls were made of this disk: reads, writes and syncs, those that failed too. At
+    /// 2^64 - 1 the count stays. A disk that a crash left goes on counting.
+    pub fn calls(&self) -> u64
+        ensures { result ≡ (⟦<SimDisk as Disk>⟧.facts self.now).calls }
+    {
+        self.calls
     }
 
     /// What a read gives, sector by sector.

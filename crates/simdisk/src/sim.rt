@@ -17,11 +17,13 @@ pub struct SimDisk {
     pub(crate) content: Vec<Sector>,
     pub(crate) history: History,
     pub(crate) failures: u64,
+    pub(crate) calls: u64,
     pub(crate) refused: u64,
     pub(crate) loan: Loan,
     pub(crate) faults: Faults,
     ghost agrees: { Agrees history.synced.items (ranges (pieces history.written.items)) content.items },
     ghost few: { failures < 2 ^ 64 },
+    ghost few_calls: { calls < 2 ^ 64 },
     ghost within: { loan.first + loan.lanes * loan.each ≤ length content.items },
     ghost noted: { 0 < loan.lanes → Noted (ranges (pieces history.written.items)) loan.patch (loan.first, loan.lanes * loan.each) },
 }

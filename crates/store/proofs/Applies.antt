@@ -5,7 +5,7 @@ use Rattle.board_model.specs.Shapes.{Size}
 use Rattle.board_model.specs.Shown.{change_of}
 use Rattle.board_model.specs.declared.durable.Command.{Command}
 use Rattle.disk.specs.Facts.{Content, Facts, LeavesSince}
-use Rattle.disk.proofs.Moments.{leaves_none, leaves_weaker}
+use Rattle.disk.specs.Moments.{leaves_none, leaves_weaker}
 use Rattle.layout.specs.declared.records.Record.{Record}
 use Rattle.store.specs.Standing.{state_of, StandsFor}
 use Rattle.store.specs.Leaves.{LeavesOnly, LeavesEither, StandsForEither}

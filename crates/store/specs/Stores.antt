@@ -3,6 +3,7 @@ use Rattle.std.specs.Prelude.{◌≡◌, ℕ, List, Option, None, Some, length, 
 use Rattle.board_model.specs.Durable.{State, Change, after}
 use Rattle.board_model.specs.Shapes.{Size}
 use Rattle.board_model.specs.Shown.{change_of}
+use Rattle.disk.specs.declared.device.ArmedFault.{ArmedFault}
 use Rattle.disk.specs.declared.device.Disk.{Ghosts}
 use Rattle.disk.specs.declared.device.Lane.{Ghosts as Lanes}
 use Rattle.disk.specs.Facts.{Facts}
@@ -18,6 +19,10 @@ module _ {D L : Type 0} {g : Ghosts D L} {l : Lanes L} where
 
   abbrev pub mishaps_of : Store D L g l → Mishaps
   mishaps_of store = g.mishaps store.disk
+
+  -- that fault is armed on its disk, and each call of it is still to come
+  abbrev pub arms_of : Store D L g l → ArmedFault → Type 0
+  arms_of store fault = g.arms store.disk fault
 
   abbrev pub size_of_store : Store D L g l → Size
   size_of_store store = store.shape

@@ -47,7 +47,7 @@ impl<D: Disk + Drop> Store<D> {
     ghost use Rattle.disk.specs.Facts.{LeavesSince, Unchanged};
     ghost use Rattle.disk.specs.Mishaps.{armed_by};
     ghost use Rattle.store.specs.Standing.{StandsFor};
-    ghost use Rattle.store.specs.Stores.{disk_of, mishaps_of, size_of_store, life_of, found_state, journal_of, now_state, receipts, doubt_of, failures_at_open, Stands, Doubts};
+    ghost use Rattle.store.specs.Stores.{disk_of, mishaps_of, arms_of, size_of_store, life_of, found_state, journal_of, now_state, receipts, doubt_of, failures_at_open, Stands, Doubts};
 
     /// Opens a disk, and so begins a life. What the last life left in doubt is settled by a sync. Each crash since the
     /// call's start, after a refusal too, leaves a content that a crash just before could have left, and after `Ok` only
@@ -205,6 +205,7 @@ impl<D: Disk + Drop> Store<D> {
         ensures life { life_of self.new ≡ life_of self.old }
         ensures facts { Unchanged (disk_of self.old) (disk_of self.new) }
         ensures armed { mishaps_of self.new ≡ record (mishaps_of self.old) { armed = armed_by fault } }
+        ensures arms { arms_of self.new fault }
         ensures board { size_of_store self.new ≡ size_of_store self.old }
         ensures opened { failures_at_open self.new ≡ failures_at_open self.old }
     {

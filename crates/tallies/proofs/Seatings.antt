@@ -1,6 +1,7 @@
--- Lists of seats: one that grows by the first hart of the rest, and one that shrinks from its end.
-use Rattle.std.proofs.Common.{IsSome, List, None, Option, Some, [], ap, append-nil, append_assoc, arith, drop, length, map, refl, rules, slice_get, subst, suc, sym, take, zero, ℕ, ◌++◌, ◌+◌, ◌<◌, ◌∙◌, ◌∷◌, ◌≡◌}
+-- Lists of seats: one that grows by the first hart of the rest, and one that shrinks from its end. And lists of a value for each hart.
+use Rattle.std.proofs.Common.{IsSome, List, None, Option, Some, [], ap, append-nil, append_assoc, arith, drop, get_or, length, map, refl, rules, slice_get, subst, suc, sym, take, zero, ℕ, ◌++◌, ◌+◌, ◌<◌, ◌≤◌, ◌∙◌, ◌∷◌, ◌≡◌, ◌≢◌}
 use Rattle.std.proofs.lemmas.List.{length-map, map-append}
+use Rattle.tallies.specs.Sums.{total}
 use Rattle.tallies.specs.Seats.{numbers_from, one_by_one, IsSomeSeat, AreSeats, views_at, views_by_seat, all_views, AreByNumber}
 
 module _ {A : Type 0} where
@@ -26,13 +27,48 @@ module _ {V : Type 0} where
   length_rest [] pos = absurd (omega arith)
   length_rest (v ∷ vs) pos = omega arith
 
-length_from : (first n : ℕ) → length (numbers_from first n) ≡ n
+pub length_from : (first n : ℕ) → length (numbers_from first n) ≡ n
 length_from first zero = refl
 length_from first (suc n) = ap suc (length_from (suc first) n)
 
 -- the views of n harts are n
 pub length_all : {V : Type 0} (hart : V → ℕ) (vs : List V) (first n : ℕ) → map hart vs ≡ numbers_from first n → length vs ≡ n
 length_all hart vs first n all = sym (length-map vs hart) ∙ (ap length all ∙ length_from first n)
+
+-- ---- values by number
+-- a function at each number from first on is the list that has its values
+map_from : {A : Type 0} (f : ℕ → A) (d : A) (first n : ℕ) (xs : List A) → length xs ≡ n → ((k : ℕ) → k < n → f (first + k) ≡ get_or xs k d) → map f (numbers_from first n) ≡ xs
+map_from f d first zero [] long same = refl
+map_from f d first zero (x ∷ xs) long same = absurd (omega (arith, long))
+map_from f d first (suc n) [] long same = absurd (omega (arith, long))
+map_from f d first (suc n) (x ∷ xs) long same =
+    let here : f first ≡ x = let z : first + 0 ≡ first = omega arith in ap f (sym z) ∙ same 0 (omega arith) in
+    let rest = map_from f d (suc first) n xs (omega (arith, long)) (λ k lt. let z : suc first + k ≡ first + suc k = omega arith in ap f z ∙ same (suc k) (omega arith)) in
+    ap (λ y. y ∷ map f (numbers_from (suc first) n)) here ∙ ap (λ ys. x ∷ ys) rest
+
+pub map_all : {A : Type 0} (f : ℕ → A) (d : A) (n : ℕ) (xs : List A) → length xs ≡ n → ((k : ℕ) → k < n → f k ≡ get_or xs k d) → map f (numbers_from 0 n) ≡ xs
+map_all f d n xs long same = map_from f d 0 n xs long (λ k lt. let z : 0 + k ≡ k = omega arith in ap f z ∙ same k lt)
+
+at_from : {A : Type 0} (f : ℕ → A) (d : A) (first n k : ℕ) → k < n → get_or (map f (numbers_from first n)) k d ≡ f (first + k)
+at_from f d first zero k lt = absurd (omega arith)
+at_from f d first (suc n) zero lt = let z : first ≡ first + 0 = omega arith in ap f z
+at_from f d first (suc n) (suc k) lt = let z : suc first + k ≡ first + suc k = omega arith in at_from f d (suc first) n k (omega arith) ∙ ap f z
+
+pub at_all : {A : Type 0} (f : ℕ → A) (d : A) (n k : ℕ) → k < n → get_or (map f (numbers_from 0 n)) k d ≡ f k
+at_all f d n k lt = let z : 0 + k ≡ k = omega arith in at_from f d 0 n k lt ∙ ap f z
+
+-- a hart that the list lacks adds nothing to a sum
+beyond_from : {V : Type 0} (hart f : V → ℕ) (h : ℕ) → ((v : V) → hart v ≢ h → f v ≡ 0) → (vs : List V) (first n : ℕ) → map hart vs ≡ numbers_from first n → first + n ≤ h → total f vs ≡ 0
+beyond_from hart f h none [] first n all le = refl
+beyond_from hart f h none (v ∷ vs) first zero all le = absurd (cc)
+beyond_from hart f h none (v ∷ vs) first (suc n) all le =
+    let is : hart v ≡ first = ap (head_or first) all in
+    let here = none v (λ e. omega arith) in
+    let rest = beyond_from hart f h none vs (suc first) n (ap tail_of all) (omega arith) in
+    omega arith
+
+pub total_beyond : {V : Type 0} (hart f : V → ℕ) (h n : ℕ) (vs : List V) → ((v : V) → hart v ≢ h → f v ≡ 0) → map hart vs ≡ numbers_from 0 n → n ≤ h → total f vs ≡ 0
+total_beyond hart f h n vs none all le = beyond_from hart f h none vs 0 n all (omega arith)
 
 -- ---- seats of a table
 module _ {S : Type 0} (IsSeat : S → Type 0) where

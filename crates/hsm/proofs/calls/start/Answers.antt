@@ -1,4 +1,4 @@
-use Rattle.std.proofs.Common.{◌≡◌, ◌≢◌, ◌+◌, ◌*◌, sym, ap, ◌∙◌}
+use Rattle.std.proofs.Common.{◌≡◌, ◌≢◌, ◌+◌, ◌*◌, sym, ap, ◌∙◌, eq-eqb, ne_eqb}
 use Rattle.std.specs.Int.{bit_at}
 use Rattle.std.proofs.lemmas.Nat.Bits.{shr_and_one}
 use Rattle.hsm_words.specs.declared.view.Stage.TheVariants.{Claiming, Half, Stored, Running}
@@ -32,6 +32,18 @@ returns-then-found-bit-ne0-clause-others c =
     let taken : bit_at found t ≢ 0 = λ z. c.if-found-bit-ne0.true (shr_and_one found c.number-bit.result ∙ (ap (bit_at found) c.number-bit.ensures.value ∙ z)) in
     let is = stays_running h t a o found c0 c1 c.claim-found.ensures.told taken in
     keeps c.args.table.now.table.shared.key.harts h Running Running (Claimed t a o found) c0 c1 is c.requires.acts
+
+pub returns-then-found-bit-ne0-clause-steps : goal.returns-then-found-bit-ne0-clause-steps
+returns-then-found-bit-ne0-clause-steps c =
+    let h = c.args.by in
+    let t = c.args.target in
+    let a = c.value-site.result in
+    let o = c.args.opaque in
+    let found = c.claim-found.result in
+    let c0 = c.args.seat.me.0 in
+    let c1 = c.claim-found.new.seat.me.0 in
+    let taken : bit_at found t ≢ 0 = λ z. c.if-found-bit-ne0.true (shr_and_one found c.number-bit.result ∙ (ap (bit_at found) c.number-bit.ensures.value ∙ z)) in
+    rw (← c.value-site.ensures.value) (found, sym (ne_eqb (bit_at found t) 0 taken), stays_running h t a o found c0 c1 c.claim-found.ensures.told taken)
 
 pub returns-then-found-bit-ne0-clause-alone : goal.returns-then-found-bit-ne0-clause-alone
 returns-then-found-bit-ne0-clause-alone c = λ states shown.
@@ -139,6 +151,21 @@ returns-clause-others c =
     (keeps n h (Claiming t a o) (Half t a o) (Wrote (1 + 2 * t) a) c1 c2 c.put_address.ensures.told s1))
     (keeps n h (Half t a o) (Stored t a o) (Wrote (2 + 2 * t) o) c2 c3 c.put_opaque.ensures.told s2))
     (keeps n h (Stored t a o) Running (Armed t) c3 c4 c.arm.ensures.told s3)
+
+pub returns-clause-steps : goal.returns-clause-steps
+returns-clause-steps c =
+    let h = c.args.by in
+    let t = c.args.target in
+    let a = c.value-site.result in
+    let o = c.args.opaque in
+    let found = c.claim-found.result in
+    let c0 = c.args.seat.me.0 in
+    let c1 = c.claim-found.new.seat.me.0 in
+    let c2 = c.put_address.new.seat.me.0 in
+    let c3 = c.put_opaque.new.seat.me.0 in
+    let clear : bit_at found t ≡ 0 = sym (ap (bit_at found) c.number-bit.ensures.value) ∙ (sym (shr_and_one found c.number-bit.result) ∙ c.if-found-bit-ne0.false) in
+    rw (← c.value-site.ensures.value)
+    (found, sym (eq-eqb (bit_at found t) 0 clear), (c1.harts, c2.harts, c3.harts, claims_it h t a o found c0 c1 c.claim-found.ensures.told clear, c.put_address.ensures.told, c.put_opaque.ensures.told, c.arm.ensures.told))
 
 pub returns-clause-alone : goal.returns-clause-alone
 returns-clause-alone c = λ states shown.

@@ -1,11 +1,11 @@
-use Rattle.std.proofs.Common.{ℕ, refl, sym, ap, ◌∙◌, subst}
+use Rattle.std.proofs.Common.{ℕ, rules, refl, sym, ap, ◌∙◌, subst}
 use mathlib.Core.Logic.{dite}
 use native.Mathlib.Decide.{ℕ_discrete}
 use Rattle.hsm_words.specs.declared.view.Stage.{Stage}
 use Rattle.hsm_words.specs.declared.view.Deed.TheVariants.{Looked}
 use Rattle.hsm_rule.specs.Rule.{stands}
-use Rattle.hsm.specs.Calls.{stage_of, state_of}
-use Rattle.hsm.proofs.Stand.{stands_after, stands_own, stands_stage}
+use Rattle.hsm.specs.Calls.{stage_of, state_of, IsOwnStatus}
+use Rattle.hsm.proofs.Stand.{stands_after, stands_own, stands_stage, stands_by}
 use Rattle.hsm.proofs.Alone.{numbered, others, shows_same, named_is}
 use Rattle.hsm.proofs.calls.status.Goals as goal
 
@@ -26,6 +26,11 @@ returns-clause-stays c = record {
       subst (λ (n : ℕ). stands n sk c.look-found.new.seat.me.0.harts) (sym e) (subst (λ (x : Stage). stands c.args.by x c.look-found.new.seat.me.0.harts) (stands_stage c.args.by sk vs mine) after))
       (λ ne. others c.args.table.now.table.shared.key.harts c.args.by st st (Looked c.look-found.result) c.args.seat.me.0 c.look-found.new.seat.me.0 c.look-found.ensures.told own k sk ne s);
 }
+
+pub returns-clause-own : goal.returns-clause-own
+returns-clause-own c = λ settled.
+    let fresh : IsOwnStatus c.args.hart c.args.seat.me.0.harts c.state_in.result = search rules in
+    stands_by c.state_in.result c.args.hart c.args.seat.me.0.harts c.look-found.new.seat.me.0.harts fresh (returns-clause-stays c) settled
 
 pub returns-clause-alone : goal.returns-clause-alone
 returns-clause-alone c = λ states shown.

@@ -22,6 +22,7 @@ invariant_of-self-3 c =
     record {
       agrees = rw (c.in_ok-note_loan.ensures.synced, more) (agrees_push s.history.synced.items rs r s.content.items s.agrees);
       few = s.few;
+      few_calls = s.few_calls;
       within = c.requires.within;
       noted = λ lt. rw more (noted_last rs r c.len.result (length-map (pieces s.history.written.items) range ∙ length-map s.history.written.items piece ∙ search rules));
     }
@@ -33,7 +34,7 @@ returns-clause-crash c =
     let newest = c.in_ok-newest.newest.items in
     let long : length newest ≡ length s.content.items = c.in_ok-newest.ensures.as_long ∙ sym s.agrees.as_long in
     let size : length (lent_piece l newest).1 ≡ c.args.lanes * c.args.each = ap (λ (x : ℕ × ℕ). x.1) (range_lent l newest (rw long c.requires.within)) in
-    let all : Passes (sim_facts s.content.items s.history.synced.items (record_of s.history) s.failures _) (sim_facts s.content.items c.note_loan.new.self.synced.items (record_of c.note_loan.new.self) s.failures l) (Torn c.args.first (length (lent_piece l newest).1)) =
-    passes_range s.content.items s.content.items s.history.synced.items c.note_loan.new.self.synced.items (record_of s.history) (record_of c.note_loan.new.self) _ _ _ _ (lent_piece l newest) c.in_ok-note_loan.ensures.noted c.in_ok-note_loan.ensures.synced
+    let all : Passes (sim_facts s.content.items s.history.synced.items (record_of s.history) s.failures s.calls _) (sim_facts s.content.items c.note_loan.new.self.synced.items (record_of c.note_loan.new.self) s.failures s.calls l) (Torn c.args.first (length (lent_piece l newest).1)) =
+    passes_range s.content.items s.content.items s.history.synced.items c.note_loan.new.self.synced.items (record_of s.history) (record_of c.note_loan.new.self) _ _ _ _ _ _ (lent_piece l newest) c.in_ok-note_loan.ensures.noted c.in_ok-note_loan.ensures.synced
     (rw (size, ← s.agrees.as_long) c.requires.within) in
     rw (← size) all

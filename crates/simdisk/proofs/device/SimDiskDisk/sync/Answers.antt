@@ -1,4 +1,4 @@
-use Rattle.std.proofs.Common.{◌∷◌, []}
+use Rattle.std.proofs.Common.{◌∷◌, [], rules}
 use Rattle.simdisk.specs.Record.{lent_piece}
 use Rattle.simdisk.specs.History.{record_of}
 use Rattle.simdisk.specs.Loans.{lent_of}
@@ -11,8 +11,16 @@ returns-clause-durable c none x a =
     let s = c.args.self.now in
     durable_then (lent_of s.loan) s.content.items x (record_of s.history) (record_of c.end_epoch.new.self) c.end_epoch.new.self.synced.items c.in-Ok.ensures.noted c.in-Ok.ensures.synced none a
 
-pub returns-clause-crash : goal.returns-clause-crash
-returns-clause-crash c =
+pub returns-clause-called : goal.returns-clause-called
+returns-clause-called c =
     let s = c.args.self.now in
-    passes_sync s.content.items s.history.synced.items c.end_epoch.new.self.synced.items (record_of s.history) (record_of c.end_epoch.new.self) _ _ _ (lent_piece (lent_of s.loan) s.content.items ∷ [])
-    c.in-Ok.ensures.noted c.in-Ok.ensures.synced s.history.replayed s.agrees s.history.fits (lent_fewer (lent_of s.loan) s.content.items _ s.loan.patch s.within s.noted)
+    record {
+      content = search rules;
+      crash = passes_sync s.content.items s.history.synced.items c.end_epoch.new.self.synced.items (record_of s.history) (record_of c.end_epoch.new.self) _ _ _ _ _ (lent_piece (lent_of s.loan) s.content.items ∷ [])
+          c.in-Ok.ensures.noted c.in-Ok.ensures.synced s.history.replayed s.agrees s.history.fits (lent_fewer (lent_of s.loan) s.content.items _ s.loan.patch s.within s.noted);
+      lent = search rules;
+      calls = search rules;
+      failures = search rules;
+      cause = search rules;
+      gone = search rules;
+    }

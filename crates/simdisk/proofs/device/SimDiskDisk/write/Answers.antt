@@ -16,15 +16,24 @@ invariant_of-self-then-strikes c =
     record {
       agrees = rw (c.in-Ok.ensures.synced, more) (agrees_push s.history.synced.items rs r s.content.items s.agrees);
       few = search rules;
+      few_calls = search rules;
       within = s.within;
       noted = λ lt. rw more (noted_push rs r (s.loan.first, s.loan.lanes * s.loan.each) s.loan.patch (s.noted lt));
     }
 
-pub returns-then-strikes-clause-crash : goal.returns-then-strikes-clause-crash
-returns-then-strikes-clause-crash c =
+pub returns-then-strikes-clause-called : goal.returns-then-strikes-clause-called
+returns-then-strikes-clause-called c =
     let s = c.args.self.now in
-    passes_range s.content.items _ s.history.synced.items c.note.new.self.synced.items (record_of s.history) (record_of c.note.new.self) _ _ _ _ (c.args.first, c.args.sectors.now) c.in-Ok.ensures.noted c.in-Ok.ensures.synced
-    (rw (← s.agrees.as_long) c.requires.within)
+    record {
+      content = search rules;
+      crash = passes_range s.content.items _ s.history.synced.items c.note.new.self.synced.items (record_of s.history) (record_of c.note.new.self) _ _ _ _ _ _ (c.args.first, c.args.sectors.now) c.in-Ok.ensures.noted c.in-Ok.ensures.synced
+          (rw (← s.agrees.as_long) c.requires.within);
+      lent = search rules;
+      calls = search rules;
+      failures = search rules;
+      cause = search rules;
+      gone = search rules;
+    }
 
 pub invariant_of-self-2 : goal.invariant_of-self-2
 invariant_of-self-2 c =
@@ -36,12 +45,21 @@ invariant_of-self-2 c =
     record {
       agrees = rw (c.in-Ok.ensures.synced, more) (agrees_write s.history.synced.items rs c.args.first (length c.args.sectors.now) s.content.items c.overwrite.new.content.items s.agrees torn);
       few = s.few;
+      few_calls = search rules;
       within = rw torn.as_long s.within;
       noted = λ lt. rw more (noted_push rs r (s.loan.first, s.loan.lanes * s.loan.each) s.loan.patch (s.noted lt));
     }
 
-pub returns-clause-crash : goal.returns-clause-crash
-returns-clause-crash c =
+pub returns-clause-called : goal.returns-clause-called
+returns-clause-called c =
     let s = c.args.self.now in
-    passes_range s.content.items _ s.history.synced.items c.note.new.self.synced.items (record_of s.history) (record_of c.note.new.self) _ _ _ _ (c.args.first, c.args.sectors.now) c.in-Ok.ensures.noted c.in-Ok.ensures.synced
-    (rw (← s.agrees.as_long) c.requires.within)
+    record {
+      content = search rules;
+      crash = passes_range s.content.items _ s.history.synced.items c.note.new.self.synced.items (record_of s.history) (record_of c.note.new.self) _ _ _ _ _ _ (c.args.first, c.args.sectors.now) c.in-Ok.ensures.noted c.in-Ok.ensures.synced
+          (rw (← s.agrees.as_long) c.requires.within);
+      lent = search rules;
+      calls = search rules;
+      failures = search rules;
+      cause = search rules;
+      gone = search rules;
+    }

@@ -15,6 +15,7 @@ returns-clause-left c =
     let is : now ≡ history.synced.items = c.copy_from_slice.ensures.items ∙ c.deref.ensures.value in
     record {
       left = rw (is, c.left-history.ensures.synced) (left_agrees c.args.choice s.synced.items (pieces s.written.items) s.fits);
-      fresh = fresh_of now history.synced.items (record_of history) _ _ (rw (is, c.left-history.ensures.synced) c.left-history.ensures.record) (sym is) c.nothing.ensures;
+      fresh = fresh_of now history.synced.items (record_of history) _ _ _ (rw (is, c.left-history.ensures.synced) c.left-history.ensures.record) (sym is) c.nothing.ensures;
       failures = refl;
+      calls = refl;
     }

@@ -9,4 +9,4 @@ returns-clause-fresh c =
     let history = c.in_ok-history.history in
     let begun : record_of history ≡ new_record c.args.content.items = rw (← c.deref.ensures.value) c.in_ok-history.ensures.0 in
     let stood : history.synced.items ≡ c.args.content.items = c.in_ok-history.ensures.1 ∙ c.deref.ensures.value in
-    fresh_of c.args.content.items history.synced.items (record_of history) 0 _ begun stood c.nothing.ensures
+    fresh_of c.args.content.items history.synced.items (record_of history) 0 0 _ begun stood c.nothing.ensures
