@@ -7,6 +7,7 @@ use Rattle.board_model.specs.Shown.{number_of}
 use Rattle.board_model.specs.declared.refusal.Refusal.{Refusal}
 use Rattle.board_model.specs.declared.refusal.Refusal.TheVariants.{Device, Down, JournalFull}
 use Rattle.disk.specs.Facts.{Failed}
+use Rattle.machine.specs.Machine.{Machine}
 use Rattle.store.specs.Leaves.{SameLength}
 use Rattle.store.specs.Lives.{Applied}
 use Rattle.store.specs.Opens.{CausedRefusal}
@@ -30,6 +31,12 @@ follows_doubt : (size : Size) (m : Medium) (k : Kept) (c : Change) (life : Life)
 follows_doubt size Blank k c life z h = h
 follows_doubt size Unknown k c life z h = tt
 follows_doubt size Formatted k c life z h = (refl, h.1, h.2)
+
+-- a life goes on from what the disk keeps, whatever its memory and harts are
+pub follows_with : (size : Size) (m : Medium) (k : Kept) (life : Life) (machine : Machine) (z : Size) → Follows size m k life z → Follows size m k (record life { machine = machine }) z
+follows_with size Blank k life machine z h = h
+follows_with size Unknown k life machine z h = tt
+follows_with size Formatted k life machine z h = h
 
 sized : (size : Size) (m : Medium) (k : Kept) (life : Life) (z y : Size) → y ≡ z → Follows size m k life z → Follows size m k life y
 sized size m k life z y same h = let P : Size → Type 0 = λ x. Follows size m k life x in subst P (sym same) h

@@ -16,3 +16,4 @@ pub mod Issues
 pub mod PlainRun
 pub mod Started
 pub mod Lines
+pub mod RunLines

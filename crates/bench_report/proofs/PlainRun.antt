@@ -1,5 +1,5 @@
 -- The plain report is one, of a run in which memory was never refused and no failure was answered.
-use Rattle.std.proofs.Common.{◌≡◌, ◌⊎◌, ℕ, ◌+◌, ◌<◌, ◌≤◌, inl, inr, List, [], ◌∷◌, Option, None, Some, Result, Ok, Err, refl, sym, ◌∙◌, ap, subst, arith, Bool, true, false, ◌==◌, cond, eqb→eq, lit<, lit≤}
+use Rattle.std.proofs.Common.{◌≡◌, ◌⊎◌, ℕ, ◌+◌, ◌<◌, ◌≤◌, inl, inr, List, [], ◌∷◌, Option, None, Some, Result, Ok, Err, refl, sym, ◌∙◌, ap, subst, arith, Bool, true, false, ◌==◌, cond, eqb→eq, T, lit<, lit≤}
 use Rattle.std.specs.Bool.{⊤}
 use Rattle.board_model.specs.Durable.{State, Change, Slot, Discard, refusal_of, after}
 use Rattle.board_model.specs.Kept.{found_of}
@@ -52,7 +52,10 @@ issued : (full : Bool) (c : Change) (life : Life) (b : Bench) → (life.receipts
 issued true c life b at calm few good =
     let P : Bool → Type 0 = λ t. WellIssued c life b (cond t (Err 10, b) (plain_written (refusal_of life.now c) c life b)) in
     let Q : Option Change → Type 0 = λ d. IssuedBy d c life b (Err 10) b in
-    subst P (sym at) (subst Q (sym calm) (inl (eqb→eq life.receipts 4096 at, refl, refl)), good, (refl, refl))
+    subst P (sym at) (subst Q (sym calm) (inl (equal life.receipts at, refl, refl)), good, (refl, refl))
+  where
+    equal : (n : ℕ) → (n == 4096) ≡ true → n ≡ 4096
+    equal n h = let P : Bool → Type 0 = T in eqb→eq n 4096 (subst P (sym h) tt)
 issued false c life b at calm few good =
     let P : Bool → Type 0 = λ t. WellIssued c life b (cond t (Err 10, b) (plain_written (refusal_of life.now c) c life b)) in
     subst P (sym at) (written (refusal_of life.now c) c life b refl calm (less life.receipts at few) good)

@@ -27,7 +27,7 @@ use Rattle.bench_report.specs.Bench.{Medium, Blank, Unknown, Formatted, Life, Be
 use Rattle.bench_report.specs.Steps.{says, starved, failed, off, on_with, begun, acknowledged, in_doubt, Writes, Issued, ShowsFound, Opens, Begins, Boots, PowersOn}
 use Rattle.bench_report.specs.Agree.{AreShort, DiskIs, DeviceIs, Follows, OffIs, OnIs}
 use Rattle.bench_report.proofs.Adapted.{calm}
-use Rattle.bench_report.proofs.Commanded.{follows_more}
+use Rattle.bench_report.proofs.Commanded.{follows_more, follows_with}
 use Rattle.bench_report.proofs.Devices.{hindered, stays}
 use Rattle.bench_report.proofs.Ended.{left_only, left_either}
 use Rattle.bench_report.proofs.Marks.{leaves_marked, leaves_size, leaves_least}
@@ -78,12 +78,12 @@ on_begun modes.Fresh size b payloads s board line follows device same boots life
     let z = store_size (store_in board) in
     let is = as_begun (store_in board) s life in
     let start = on_with (begun s z) b in
-    (on_with (record (begun s z) { machine = booted b.payloads s z }) b, (Ok 0, start, (refl, refl), (begun s z, refl, h, refl)), (((follows, is), boots_as payloads b.payloads board s z same boots is.0), device), refl)
+    (on_with (record (begun s z) { machine = booted b.payloads s z }) b, (Ok 0, start, (refl, refl), (begun s z, refl, h, refl)), (((follows_with size b.medium b.kept (begun s z) (booted b.payloads s z) z follows, is), boots_as payloads b.payloads board s z same boots is.0), device), refl)
 on_begun modes.Keep size b payloads s board line follows device same boots life allowed goes h =
     let z = store_size (store_in board) in
     let is = as_begun (store_in board) s life in
     let start = on_with (begun s z) b in
-    (on_with (record (begun s z) { machine = booted b.payloads s z }) b, (Ok 0, start, (refl, refl), (begun s z, refl, h, refl)), (((follows, is), boots_as payloads b.payloads board s z same boots is.0), device), refl)
+    (on_with (record (begun s z) { machine = booted b.payloads s z }) b, (Ok 0, start, (refl, refl), (begun s z, refl, h, refl)), (((follows_with size b.medium b.kept (begun s z) (booted b.payloads s z) z follows, is), boots_as payloads b.payloads board s z same boots is.0), device), refl)
 on_begun modes.Discard size b payloads s board line follows device same boots life allowed goes h =
     let z = store_size (store_in board) in
     let is = as_discarded (store_in board) s life in
@@ -94,7 +94,7 @@ on_begun modes.Discard size b payloads s board line follows device same boots li
     let begins : Life = record (begun s z) { now = after s Discard; receipts = 1 } in (
       on_with (record begins { machine = booted b.payloads (after s Discard) z }) mid,
       (Ok 0, mid, (begun s z, refl, Ok 1, mid, one, inl (1, refl, (refl, refl))), (begins, refl, h, refl)),
-      (((follows_more size b.medium b.kept Discard (begun s z) z follows, is), boots_as payloads b.payloads board (after s Discard) z same boots is.0), device),
+      (((follows_with size b.medium mid.kept begins (booted b.payloads (after s Discard) z) z (follows_more size b.medium b.kept Discard (begun s z) z follows), is), boots_as payloads b.payloads board (after s Discard) z same boots is.0), device),
       refl,
     )
 on_begun modes.Resume size b payloads s board line follows device same boots life allowed goes h = absurd goes
@@ -136,12 +136,12 @@ module _ (size : Size) (b : Bench) (old new : SimDisk) (z : Size) (s : State) (p
   late mode BadShape allowed h why left cause counts = absurd (why fits)
   late mode Memory allowed h why left cause counts = (starved b, inr (h, refl), quiet Memory (λ f. (let no : ⊥ = cc in no)) (λ f. (let no : ⊥ = cc in no)) cause left, refl)
   late mode Device allowed h why left cause counts =
-      let did = hindered size b (mishaps old) (mishaps new) (facts old) (facts new) device cause counts long in
       let start = on_with (begun s z) b in
+      let did = hindered size start (mishaps old) (mishaps new) (facts old) (facts new) device cause counts long in
       let mid = failed (mishaps new) start in
       let P : BootMode → Type 0 = λ y. Boots None y z s b line (off mid) in
       let Q : BootMode → Type 0 = λ y. boot_refusal s y ≡ None in
-      (off mid, subst P (sym why.1) (fails 5 mid (subst Q why.1 allowed) (inr (inl (refl, (mishaps new, did.0.1, refl)))) h), (refl, kept_only size z b.medium b.kept s (facts new) follows left, did.1), refl)
+      (off mid, subst P (sym why.1) (fails 5 mid (subst Q why.1 allowed) (inr (inl (refl, did.0))) h), (refl, kept_only size z b.medium b.kept s (facts new) follows left, did.1), refl)
   late mode Down allowed h why left cause counts =
       let start = on_with (begun s z) b in
       let c = in_doubt Discard (begun s z) start in

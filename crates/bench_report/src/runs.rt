@@ -175,10 +175,10 @@ fn run_lines<W: Write>(
     let mut power = power;
     for line in lines {
         let (after, ran) = run_line(alloc, shape, line, power, payloads, out, report);
-        power = after;
         if let Err(refusal) = ran {
-            return (power, Err(refusal));
+            return (after, Err(refusal));
         }
+        power = after;
     }
     (power, Ok(()))
 }

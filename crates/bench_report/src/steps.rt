@@ -172,14 +172,16 @@ fn payload_line(
     ensures short { OnOk result (AreShort payloads.new) }
     ensures refused { OnErr result ((result ≡ Err Memory) × (payloads.new ≡ payloads.old)) }
 {
-    if let Power::On(_) = power {
-        return Ok(MachineLine::Busy);
+    match power {
+        Power::On(_board) => Ok(MachineLine::Busy),
+        Power::Off(_disk) => {
+            let count = bytes.len();
+            let mut copy = Vec::with_capacity(alloc, count)?;
+            copy.extend_from_slice(bytes.as_slice())?;
+            payloads.set(slot, copy);
+            Ok(MachineLine::Payload(slot, count))
+        }
     }
-    let count = bytes.len();
-    let mut copy = Vec::with_capacity(alloc, count)?;
-    copy.extend_from_slice(bytes.as_slice())?;
-    payloads.set(slot, copy);
-    Ok(MachineLine::Payload(slot, count))
 }
 
 /// Turns of a hart of a board that is on.

@@ -1,0 +1,42 @@
+use Rattle.std.proofs.Common.{◌≡◌, refl, sym, ◌∙◌, subst}
+use Rattle.bench_report.specs.Steps.{unpowered}
+use Rattle.bench_report.proofs.steps.step.Goals as goal
+
+pub returns-in-Format-clause-told : goal.returns-in-Format-clause-told
+returns-in-Format-clause-told c = λ b h.
+    let did = c.format_line.ensures.told b h.0 in
+    rw c.answered.ensures.answer (rw c.answered.ensures.power (rw c.in-Format.is (did.0, did.1, (did.2, h.1 ∙ sym did.3))))
+
+pub returns-in-On-clause-told : goal.returns-in-On-clause-told
+returns-in-On-clause-told c = λ b h.
+    let did = c.on_line.ensures.told c.args.shape.now b h in
+    rw c.answered-in-On.ensures.answer (rw c.answered-in-On.ensures.power (rw c.in-On.is (did.0, did.1, (did.2, h.1 ∙ sym did.3))))
+
+pub returns-in-Slot-clause-told : goal.returns-in-Slot-clause-told
+returns-in-Slot-clause-told c = λ b h.
+    let did = c.slot_line.ensures.told c.args.shape.now b h.0 in
+    rw c.answered-in-Slot.ensures.answer (rw c.answered-in-Slot.ensures.power (rw c.in-Slot.is (did.0, did.1, (did.2, h.1 ∙ sym did.3))))
+
+pub returns-in-Cut-clause-told : goal.returns-in-Cut-clause-told
+returns-in-Cut-clause-told c = λ b h. rw c.in-Cut.is (unpowered b, (c.says.ensures, refl), (c.cut.ensures.told c.args.shape.now b h.0, h.1))
+
+pub returns-in-Ok-clause-told : goal.returns-in-Ok-clause-told
+returns-in-Ok-clause-told c = λ b h. rw c.in-Payload.is (rw c.says-in-Ok.ensures (c.in-Ok.ensures.told c.args.shape.now b h))
+
+pub returns-in-Turn-clause-told : goal.returns-in-Turn-clause-told
+returns-in-Turn-clause-told c = λ b h.
+    let did = c.turn_line-after.ensures.told c.args.shape.now b h.0 in
+    rw c.in-Turn.is (rw c.says-in-Turn.ensures (did.0, did.1, (did.2, h.1 ∙ sym did.3)))
+
+pub returns-in-Reg-clause-told : goal.returns-in-Reg-clause-told
+returns-in-Reg-clause-told c = λ b h. rw c.in-Reg.is (rw c.says-in-Reg.ensures (b, c.reg_line-shown.ensures c.args.shape.now b h.0, h))
+
+pub returns-in-Pc-clause-told : goal.returns-in-Pc-clause-told
+returns-in-Pc-clause-told c = λ b h. rw c.in-Pc.is (rw c.says-in-Pc.ensures (b, c.pc_line-shown.ensures c.args.shape.now b h.0, h))
+
+pub returns-in-Csr-clause-told : goal.returns-in-Csr-clause-told
+returns-in-Csr-clause-told c = λ b h. rw c.in-Csr.is (rw c.says-in-Csr.ensures (b, c.csr_line-shown.ensures c.args.shape.now b h.0, h))
+
+pub returns-in-Mem-clause-told : goal.returns-in-Mem-clause-told
+returns-in-Mem-clause-told c = λ b h. rw c.in-Mem.is (rw c.says-in-Mem.ensures (b, c.mem_line-shown.ensures c.args.shape.now b h.0, h))
+
