@@ -12,6 +12,7 @@ use Rattle.store.specs.Leaves.{SameLength}
 use Rattle.store.specs.Lives.{Applied}
 use Rattle.store.specs.Opens.{CausedRefusal}
 use Rattle.store.specs.Stores.{life_of, doubt_of}
+use Rattle.store.specs.Views.{CountedRefusal}
 use Rattle.bench_report.specs.Below.{Store, Board, store_in, machine_in, IsAs, store_size, store_mishaps, store_facts}
 use Rattle.bench_report.specs.Bench.{Medium, Blank, Unknown, Formatted, Life, Bench}
 use Rattle.bench_report.specs.Steps.{failed, acknowledged, in_doubt, Writes, IssuedBy, Issued}
@@ -115,22 +116,22 @@ module _ (size : Size) (b : Bench) (life : Life) (c : Change) (old new : Board)
 
   pub told_ok : ends_life c ≡ false → (doubt : Option Change) → life.doubt ≡ doubt → (n : ℕ)
       → (doubt_of (store_in old) ≡ None → Applied (life_of (store_in old)) c (Ok n) (life_of (store_in new))) → ((d : Change) → doubt_of (store_in old) ≡ Some d → (◌≡◌ {A = Result ℕ Refusal} (Ok n) (Err Down)) × (store_in new ≡ store_in old))
-      → store_mishaps (store_in new) ≡ store_mishaps (store_in old) → Told (Ok n)
+      → (doubt_of (store_in old) ≡ None → store_mishaps (store_in new) ≡ store_mishaps (store_in old)) → Told (Ok n)
   told_ok goes None calm n up down unmoved =
       let did = acknowledges life.now life.receipts c (life_of (store_in old)) (life_of (store_in new)) (nothing calm) goes n (up (was.0.1.2 ∙ calm)) in
-      up_ok calm n did (calm_device unmoved)
+      up_ok calm n did (calm_device (unmoved (was.0.1.2 ∙ calm)))
   told_ok goes (Some d) calm n up down unmoved = absurd (let e = (down d (was.0.1.2 ∙ calm)).0 in let no : ⊥ = cc in no)
 
   pub told_err : (doubt : Option Change) → life.doubt ≡ doubt → (e : Refusal)
       → (doubt_of (store_in old) ≡ None → Applied (life_of (store_in old)) c (Err e) (life_of (store_in new))) → ((d : Change) → doubt_of (store_in old) ≡ Some d → (◌≡◌ {A = Result ℕ Refusal} (Err e) (Err Down)) × (store_in new ≡ store_in old))
       → (doubt_of (store_in old) ≡ None → CausedRefusal (store_mishaps (store_in old)) e (store_mishaps (store_in new)))
-      → (e ≡ Device → Failed (store_facts (store_in old)).failures (store_facts (store_in new)).failures)
-      → (doubt_of (store_in old) ≡ None → e ≡ Down → Failed (store_facts (store_in old)).failures (store_facts (store_in new)).failures) → Told (Err (number_of e))
-  told_err None calm e up down cause fails downs =
+      → (doubt_of (store_in old) ≡ None → CountedRefusal (store_facts (store_in old)).failures e (store_facts (store_in new)).failures) → Told (Err (number_of e))
+  told_err None calm e up down cause counts =
       let none = was.0.1.2 ∙ calm in
       let did = refused life.now life.receipts c (life_of (store_in old)) (life_of (store_in new)) (nothing calm) e (up none) in
-      up_err calm e did (cause none) fails (downs none)
-  told_err (Some d) calm e up down cause fails downs =
+      let P : Refusal → Type 0 = λ f. CountedRefusal (store_facts (store_in old)).failures f (store_facts (store_in new)).failures in
+      up_err calm e did (cause none) (λ is. subst P is (counts none)) (λ is. subst P is (counts none))
+  told_err (Some d) calm e up down cause counts =
       let did = down d (was.0.1.2 ∙ calm) in
       let P : Option Change → Type 0 = λ d. IssuedBy d c life b (Err (number_of e)) b in
       let Q : Store → Type 0 = λ store. Follows size b.medium b.kept life (store_size store) × IsAs store life.now life.receipts life.doubt in
