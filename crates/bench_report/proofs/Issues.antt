@@ -4,7 +4,7 @@ use Rattle.std.proofs.Common.{◌≡◌, ◌≢◌, ◌⊎◌, ℕ, ◌+◌, inl
 use Rattle.std.specs.Bool.{⊤}
 use Rattle.board_model.specs.Durable.{State, Change, formatted, refusal_of, after}
 use Rattle.board_model.specs.Kept.{Kept, found_of, MayFind, TakesIn}
-use Rattle.board_model.specs.Taken.{Takes, TakesSome, TakesFewer}
+use Rattle.bench_report.specs.Taken.{Takes, TakesSome, TakesFewer}
 use Rattle.bench_report.specs.Bench.{Medium, Formatted, Life, Bench}
 use Rattle.bench_report.specs.Steps.{failed, acknowledged, in_doubt, Writes, IssuedBy, Issued, IssuesAll}
 use Rattle.bench_report.proofs.Adapted.{grows}

@@ -8,13 +8,15 @@ use Rattle.disk.specs.Mishaps.{Mishaps}
 use Rattle.simdisk.specs.declared.SimDisk.{SimDisk}
 use Rattle.simdisk.specs.declared.choice.Choice.{Choice}
 use Rattle.simdisk.specs.declared.choice.Choice.TheVariants as choices
+use Rattle.simdisk.specs.Choices.{left_by}
+use Rattle.simdisk.specs.Record.{synced}
 use Rattle.script_lang.specs.declared.line.Fill.{Fill}
 use Rattle.script_lang.specs.declared.line.Fill.TheVariants as fills
 use Rattle.store.specs.Leaves.{Leaves, IsBlank, IsKept, IsIdle}
 use Rattle.bench_report.specs.declared.power.Power.{Power}
 use Rattle.bench_report.specs.declared.power.Power.TheVariants.{Off, On}
 use Rattle.machine.specs.Machine.{Machine}
-use Rattle.bench_report.specs.Below.{Store, Board, store_in, machine_in, facts, mishaps, store_facts, store_mishaps, store_size, IsAs}
+use Rattle.bench_report.specs.Below.{Store, Board, store_in, machine_in, facts, record_of, mishaps, store_facts, store_mishaps, store_size, IsAs}
 use Rattle.bench_report.specs.Bench.{Medium, Blank, Unknown, Formatted, Life, Bench}
 
 -- what a crash may leave of the disk is what an open may find of the commands that it keeps
@@ -61,6 +63,16 @@ abbrev pub choice_by : Fill → Choice
 choice_by fills.Old = choices.Old
 choice_by fills.New = choices.New
 choice_by (fills.Byte byte) = choices.Byte byte
+
+-- the disk of a board that is off, or that of one that is on, as its store has it
+abbrev pub HasDisk : Power → SimDisk → Type 0
+HasDisk (Off disk) d = d ≡ disk
+HasDisk (On board) d = (facts d).content ≡ (store_facts (store_in board)).content
+
+-- power was cut, and the disk holds exactly what the fill says of what was written since the last sync
+abbrev pub IsCutBy : Fill → SimDisk → Power → Type 0
+IsCutBy fill d (Off left) = (facts left).content ≡ left_by (choice_by fill) (synced (record_of d)) (record_of d).written
+IsCutBy fill d (On board) = ⊥
 
 -- nothing of a disk that no store holds is lent
 abbrev pub IsResting : Power → Type 0

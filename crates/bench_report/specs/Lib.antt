@@ -9,6 +9,8 @@ pub mod Texts
 pub mod Reports
 -- The one report where memory was never refused and the disk never failed, computed for plain lines.
 pub mod Plain
+-- Which of some commands in a row took effect.
+pub mod Taken
 -- The prefix law, in the words of the report alone.
 pub mod Prefix
 -- What the layers below say of a disk in memory and of a board over it.

@@ -5,7 +5,7 @@
 -- end or a cut.
 use Rattle.std.specs.Prelude.{◌≡◌, ◌≢◌, ◌⊎◌, ℕ, ◌+◌, ◌≤◌, Bool, true, false, List, [], ◌∷◌, Option, Some, None, MatchBool, ⊤}
 use Rattle.board_model.specs.Durable.{State, Change, Slot, formatted}
-use Rattle.board_model.specs.Taken.{Takes, TakesSome, TakesFewer}
+use Rattle.bench_report.specs.Taken.{Takes, TakesSome, TakesFewer}
 use Rattle.board_model.specs.Shown.{durable_of}
 use Rattle.board_model.specs.declared.durable.Durable.{Durable}
 use Rattle.board_model.specs.declared.durable.ImageHead.{ImageHead}

@@ -8,7 +8,8 @@ ghost use Rattle.store.specs.Leaves.{IsIdle};
 ghost use Rattle.bench_report.specs.Below.{store_in, machine_in, facts};
 ghost use Rattle.bench_report.specs.Bench.{Bench, Life};
 ghost use Rattle.bench_report.specs.Steps.{FormatsOn, PowersOn, FormatStep, OnStep, SlotStep, PayloadStep, TurnStep, ReadStep, Step, Moves, off, unpowered, says, shows};
-ghost use Rattle.bench_report.specs.Agree.{choice_by, Agrees, IsResting, OffIs, OnIs, AreShort, IsBench, Goes};
+ghost use Rattle.simdisk.specs.declared.SimDisk.{SimDisk};
+ghost use Rattle.bench_report.specs.Agree.{choice_by, HasDisk, IsCutBy, Agrees, IsResting, OffIs, OnIs, AreShort, IsBench, Goes};
 ghost use Rattle.machine_lines.specs.Shows.{TurnsLine, reg_line, pc_line, CsrLine, mem_line};
 ghost use Rattle.machine.specs.Machine.{Machine};
 ghost use Rattle.board_model.specs.declared.refusal.Refusal.TheVariants.{Memory};
@@ -83,6 +84,7 @@ pub fn disk_left(power: Power) -> SimDisk
     requires { IsResting power }
     ensures told { (size : Size) (b : Bench) → Agrees size b power → OffIs size (off b) result }
     ensures resting { IsIdle (facts result) }
+    ensures disk { HasDisk power result }
 {
     match power {
         Power::Off(disk) => disk,
@@ -105,6 +107,7 @@ fn choice(fill: Fill) -> Choice
 fn cut(power: Power, fill: Fill) -> Power
     requires { IsResting power }
     ensures told { (size : Size) (b : Bench) → Agrees size b power → Agrees size (unpowered b) result }
+    ensures exact { (disk : SimDisk) × HasDisk power disk × IsCutBy fill disk result }
     ensures resting { IsResting result }
 {
     Power::Off(disk_left(power).after_cut(choice(fill)))

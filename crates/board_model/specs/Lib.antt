@@ -2,4 +2,3 @@ pub mod Shapes
 pub mod Durable
 pub mod Kept
 pub mod Shown
-pub mod Taken

@@ -11,7 +11,7 @@ returns-in-On-clause-told c = λ size b h.
     let P : Power → Type 0 = λ p. Agrees size b p in
     let was = subst P c.in-On.is h in
     on_life size b c.in-On.board was (λ life on. (
-        let did = c.slot-answer.ensures size b life on was in
-        let Q : Option Life → Type 0 = λ p. SlotStep p c.args.n b c.slot-answer.result did.0 in
-        (did.0, subst Q (sym on) did.1, did.2, did.3)
-        ))
+    let did = c.slot-answer.ensures size b life on was in
+    let Q : Option Life → Type 0 = λ p. SlotStep p c.args.n b c.slot-answer.result did.0 in
+    (did.0, subst Q (sym on) did.1, did.2, did.3)
+    ))

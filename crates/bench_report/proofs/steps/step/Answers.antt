@@ -39,4 +39,3 @@ returns-in-Csr-clause-told c = λ b h. rw c.in-Csr.is (rw c.says-in-Csr.ensures 
 
 pub returns-in-Mem-clause-told : goal.returns-in-Mem-clause-told
 returns-in-Mem-clause-told c = λ b h. rw c.in-Mem.is (rw c.says-in-Mem.ensures (b, c.mem_line-shown.ensures c.args.shape.now b h.0, h))
-
