@@ -11,8 +11,8 @@ use Rattle.bench_report.specs.declared.power.Power.{Power}
 use Rattle.bench_report.specs.declared.power.Power.TheVariants.{Off, On}
 use Rattle.bench_report.specs.declared.printed.Answer.{Answer}
 use Rattle.bench_report.specs.Below.{Store, Board, store_in, machine_in, store_size, store_facts, store_mishaps, IsAs}
-use Rattle.bench_report.specs.Bench.{Medium, Life, Bench}
-use Rattle.bench_report.specs.Steps.{shows, on_with, has_machine, FormatsOn, FormatStep, PowersOn, OnStep, SlotStep, PayloadStep, TurnStep, ReadStep}
+use Rattle.bench_report.specs.Bench.{Life, Bench}
+use Rattle.bench_report.specs.Steps.{shows, on_with, has_machine, FormatsOn, FormatStep, PowersOn, OnStep, PayloadStep, TurnStep, ReadStep}
 use Rattle.bench_report.proofs.Commanded.{follows_with}
 use Rattle.bench_report.specs.Agree.{Follows, BoardIs, DeviceIs, OffIs, OnIs, Agrees, IsBench, Goes}
 

@@ -1,5 +1,5 @@
 -- The plain report is one, of a run in which memory was never refused and no failure was answered.
-use Rattle.std.proofs.Common.{◌≡◌, ◌⊎◌, ℕ, ◌+◌, ◌<◌, ◌≤◌, inl, inr, List, [], ◌∷◌, Option, None, Some, Result, Ok, Err, refl, sym, ◌∙◌, ap, subst, arith, Bool, true, false, ◌==◌, cond, eqb→eq, T, lit<, lit≤}
+use Rattle.std.proofs.Common.{◌≡◌, ℕ, ◌+◌, ◌<◌, ◌≤◌, inl, inr, List, [], ◌∷◌, Option, None, Some, Result, Ok, Err, refl, sym, subst, arith, Bool, true, false, ◌==◌, cond, eqb→eq, T, lit<, lit≤}
 use Rattle.std.specs.Bool.{⊤}
 use Rattle.board_model.specs.Durable.{State, Change, Slot, Discard, refusal_of, after}
 use Rattle.board_model.specs.Kept.{found_of}
@@ -12,7 +12,7 @@ use Rattle.script_lang.specs.declared.line.Line.{Line}
 use Rattle.script_lang.specs.declared.line.Line.TheVariants as lines
 use Rattle.bench_report.specs.declared.printed.Answer.{Answer}
 use Rattle.bench_report.specs.Bench.{Medium, Blank, Unknown, Formatted, Life, Bench, IsUnspoilt, blank_bench}
-use Rattle.bench_report.specs.Steps.{on_with, settled, acknowledged, begun, slot_told, Writes, Issued, IssuedBy, ShowsFound, NotBuilt, FormatsOn, Boots, Begins, Opens, IsOpenRefusal, PowersOn, FormatStep, OnStep, SlotStep, PayloadStep, Step, Moves, Run}
+use Rattle.bench_report.specs.Steps.{on_with, settled, acknowledged, begun, Writes, Issued, IssuedBy, ShowsFound, NotBuilt, FormatsOn, Boots, Begins, Opens, IsOpenRefusal, PowersOn, FormatStep, OnStep, SlotStep, PayloadStep, Step, Run}
 use Rattle.bench_report.specs.Reports.{IsReport}
 use Rattle.bench_report.specs.Plain.{plain_written, plain_issued, plain_format, plain_mode, plain_boot, plain_on, plain_at, plain, plain_answers, plain_report, IsPlain, ArePlain}
 use Rattle.bench_report.proofs.Determined.{CalmDisk}

@@ -1,7 +1,6 @@
 -- The prefix law, one induction over the lines, backwards: the state before a line comes of the one after it, so that the fate of a
 -- command in doubt is told by the open that settles it.
-use Rattle.std.proofs.Common.{◌≡◌, ◌≢◌, ◌⊎◌, ℕ, ◌+◌, inl, inr, List, [], ◌∷◌, Option, None, Some, Result, Ok, Err, refl, sym, ◌∙◌, ap, subst, Bool, true, false, MatchBool}
-use Rattle.std.specs.Bool.{⊤}
+use Rattle.std.proofs.Common.{◌≡◌, ◌⊎◌, ℕ, inl, inr, List, [], ◌∷◌, Option, None, Some, Result, Ok, Err, refl, sym, ◌∙◌, ap, subst, Bool, true, false, MatchBool}
 use Rattle.board_model.specs.Durable.{State, Change, Slot, formatted, after}
 use Rattle.board_model.specs.Kept.{Kept, nothing_kept, found_of, MayKeep, MayFind}
 use Rattle.bench_report.specs.Taken.{Takes, TakesSome, TakesFewer}
@@ -10,7 +9,7 @@ use Rattle.board_model.specs.Shown.{durable_of}
 use Rattle.board_model.specs.declared.durable.Durable.{Durable}
 use Rattle.board_model.specs.declared.boot_mode.BootMode.{BootMode}
 use Rattle.board_model.specs.declared.boot_mode.BootMode.TheVariants as modes
-use Rattle.board.specs.Boots.{boot_refusal, booted, BootsSlot}
+use Rattle.board.specs.Boots.{boot_refusal, BootsSlot}
 use Rattle.script_lang.specs.Scripts.{Script}
 use Rattle.script_lang.specs.declared.line.Line.{Line}
 use Rattle.script_lang.specs.declared.line.Line.TheVariants as lines
@@ -20,7 +19,7 @@ use Rattle.bench_report.specs.declared.printed.Printed.{Printed}
 use Rattle.bench_report.specs.declared.printed.Printed.TheVariants as printed
 use Rattle.bench_report.specs.declared.printed.Answer.{Answer}
 use Rattle.bench_report.specs.Bench.{Medium, Blank, Unknown, Formatted, Life, Bench, blank_bench}
-use Rattle.bench_report.specs.Steps.{says, shows, starved, failed, off, on_with, unpowered, formatted_anew, settled, has_machine, begun, commands_of, slot_told, IsOn, Starts, Begins, Boots, Opens, ShowsFound, IsOpenRefusal, PowersOn, FormatsOn, FormatStep, OnStep, SlotStep, PayloadStep, TurnStep, ReadStep, Step, Moves, Run}
+use Rattle.bench_report.specs.Steps.{says, shows, starved, failed, on_with, unpowered, formatted_anew, settled, has_machine, begun, commands_of, slot_told, IsOn, Starts, Begins, Boots, Opens, ShowsFound, IsOpenRefusal, PowersOn, FormatsOn, FormatStep, OnStep, SlotStep, PayloadStep, TurnStep, ReadStep, Step, Moves, Run}
 use Rattle.bench_report.specs.Reports.{IsReport}
 use Rattle.bench_report.specs.Prefix.{Asked, Boot, Command, Nothing, asked_by, Refused, Lost, Tells, ShowsIts, IsPrefixed, resumed, resumes, RisesFrom, is_format_ok, IsFoundByPrefix, KeepsPrefixLaw}
 use Rattle.bench_report.proofs.Issues.{takes_more, is_up, GoesOn, IsSound, Back, joined, said, Went, Does, issued_back, AllWent, all_back}

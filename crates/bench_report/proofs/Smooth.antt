@@ -1,5 +1,5 @@
 -- A report whose lines are smooth: no power-on was refused memory, and no failure was answered.
-use Rattle.std.proofs.Common.{◌≡◌, ◌≢◌, ◌⊎◌, ℕ, inl, inr, List, [], ◌∷◌, Option, None, Some, Result, Ok, Err, refl, ◌∙◌, ap, subst}
+use Rattle.std.proofs.Common.{◌≡◌, ◌≢◌, ℕ, inl, inr, List, [], ◌∷◌, Option, None, Some, Result, Ok, Err, refl, ◌∙◌, ap, subst}
 use Rattle.std.specs.Bool.{⊤}
 use Rattle.board_model.specs.Durable.{State, Change, Slot, refusal_of}
 use Rattle.board_model.specs.Shapes.{Size}
@@ -15,7 +15,7 @@ use Rattle.bench_report.specs.declared.printed.Printed.{Printed}
 use Rattle.bench_report.specs.declared.printed.Printed.TheVariants as printed
 use Rattle.bench_report.specs.declared.printed.Answer.{Answer}
 use Rattle.bench_report.specs.Bench.{Medium, Blank, Unknown, Formatted, Life, Bench, IsUnspoilt, blank_bench}
-use Rattle.bench_report.specs.Steps.{says, off, on_with, unpowered, formatted_anew, settled, has_machine, acknowledged, begun, commands_of, slot_told, Writes, IssuedBy, Issued, IssuesAll, FormatsOn, IsOn, Starts, Begins, Boots, Opens, PowersOn, FormatStep, OnStep, SlotStep, PayloadStep, TurnStep, ReadStep, Step, Moves, Run}
+use Rattle.bench_report.specs.Steps.{says, off, on_with, unpowered, formatted_anew, settled, has_machine, acknowledged, begun, commands_of, slot_told, Writes, IssuedBy, IssuesAll, FormatsOn, IsOn, Starts, Begins, Boots, Opens, PowersOn, FormatStep, OnStep, SlotStep, PayloadStep, TurnStep, ReadStep, Step, Moves, Run}
 use Rattle.bench_report.specs.Reports.{IsReport}
 use Rattle.bench_report.specs.Plain.{IsSmooth, AreSmooth}
 

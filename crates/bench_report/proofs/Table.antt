@@ -1,5 +1,5 @@
 -- The numbers of the table of commands, and of the modes of a boot.
-use Rattle.std.proofs.Common.{◌≡◌, ◌≢◌, ◌⊎◌, ℕ, inl, inr, Option, None, Some, refl, ◌∙◌, ap, subst, arith, Bool, true, false, nat_lt, ◌==◌, is_some, if◌then◌else◌}
+use Rattle.std.proofs.Common.{◌≡◌, ◌≢◌, ◌⊎◌, ℕ, inl, inr, Option, None, Some, ◌∙◌, ap, arith, Bool, true, false, nat_lt, is_some, if◌then◌else◌}
 use Rattle.board_model.specs.Durable.{State, Change, Slot, Reset, Suspend, Consume, Discard, refusal_of}
 use Rattle.board_model.specs.Shown.{number_of}
 use Rattle.board_model.specs.declared.boot_mode.BootMode.{BootMode}

@@ -15,7 +15,6 @@ use Rattle.script_lang.specs.declared.line.Fill.TheVariants as fills
 use Rattle.store.specs.Leaves.{Leaves, IsBlank, IsKept, IsIdle}
 use Rattle.bench_report.specs.declared.power.Power.{Power}
 use Rattle.bench_report.specs.declared.power.Power.TheVariants.{Off, On}
-use Rattle.machine.specs.Machine.{Machine}
 use Rattle.bench_report.specs.Below.{Store, Board, store_in, machine_in, facts, record_of, mishaps, store_facts, store_mishaps, store_size, IsAs}
 use Rattle.bench_report.specs.Bench.{Medium, Blank, Unknown, Formatted, Life, Bench}
 

@@ -1,6 +1,6 @@
 -- The report of a script where memory was never refused and the disk never failed, computed: for scripts whose lines neither
 -- make turns nor show memory or harts.
-use Rattle.std.specs.Prelude.{◌≡◌, ◌≢◌, ℕ, ◌+◌, ◌==◌, List, [], ◌∷◌, All, Option, Some, None, Result, Ok, Err, length, slice_set, if◌then◌else◌, ⊤}
+use Rattle.std.specs.Prelude.{◌≢◌, ℕ, ◌+◌, ◌==◌, List, [], ◌∷◌, Option, Some, None, Result, Ok, Err, length, slice_set, if◌then◌else◌, ⊤}
 use Rattle.board_model.specs.Durable.{State, Change, Slot, Discard, refusal_of, after}
 use Rattle.board_model.specs.Kept.{found_of}
 use Rattle.board_model.specs.Shapes.{Size}

@@ -5,11 +5,7 @@ use std::alloc::{AllocError, Global};
 use std::test::*;
 
 /// Adds these bytes, so many times.
-fn add_times(
-    script: &mut Vec<u8>,
-    bytes: &[u8],
-    times: usize,
-) -> Result<(), AllocError> {
+fn add_times(script: &mut Vec<u8>, bytes: &[u8], times: usize) -> Result<(), AllocError> {
     for _ in 0..times {
         script.extend_from_slice(bytes)?;
     }
@@ -31,7 +27,9 @@ fn largest(alloc: Global) -> Result<Vec<u8>, AllocError> {
     add_payload(&mut script, b"payload 1 ")?;
     add_payload(&mut script, b"payload 2 ")?;
     add_payload(&mut script, b"payload 3 ")?;
-    script.extend_from_slice(b"format\non fresh\nturn 0 256\nreg 0 10\nturn 7 3\npc 7\nmem 0x800fffc0 4\n")?;
+    script.extend_from_slice(
+        b"format\non fresh\nturn 0 256\nreg 0 10\nturn 7 3\npc 7\nmem 0x800fffc0 4\n",
+    )?;
     script.extend_from_slice(b"slot 3\ncut new\non fresh\nturn 0 1\nreg 0 10\n")?;
     Ok(script)
 }

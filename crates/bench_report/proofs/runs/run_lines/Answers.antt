@@ -1,4 +1,4 @@
-use Rattle.std.proofs.Common.{◌≡◌, ◌+◌, arith, List, [], ◌∷◌, ◌++◌, inl, inr, refl, subst, take, append_assoc}
+use Rattle.std.proofs.Common.{◌+◌, arith, List, [], ◌∷◌, ◌++◌, inl, inr, refl, subst, append_assoc}
 use Rattle.std.proofs.lemmas.List.{append-nil, take_all}
 use Rattle.script_lang.specs.declared.line.Line.{Line}
 use Rattle.bench_report.specs.Steps.{Moves, Run}

@@ -1,4 +1,4 @@
-use Rattle.std.proofs.Common.{◌≡◌, refl, sym, ◌∙◌, subst}
+use Rattle.std.proofs.Common.{refl, sym, ◌∙◌}
 use Rattle.bench_report.specs.Steps.{unpowered}
 use Rattle.bench_report.proofs.steps.step.Goals as goal
 
