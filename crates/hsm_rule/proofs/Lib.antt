@@ -1,3 +1,4 @@
 pub mod Next
 pub mod Steps
 pub mod Whole
+pub mod Order

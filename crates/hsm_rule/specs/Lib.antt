@@ -1,2 +1,3 @@
 pub mod Rule
 pub mod States
+pub mod Truth

@@ -1,9 +1,13 @@
 //! What holds of the hart table between any two steps of any threads.
 
 ghost use Rattle.hsm_rule.specs.States.{StartsLedger, QuietLaw};
+ghost use Rattle.hsm_rule.specs.Truth.{StepsAreTrue, ChangesAreNoted};
 
-/// The ledger of starts, and what a quiet hart knows. The rule of which they speak is that of `hsm_steps::HartTable`.
+/// The ledger of starts; what a quiet hart knows; that each step that a seat notes found what the word held, and that
+/// nothing changes but by such steps. The rule of which they speak is that of `hsm_steps::HartTable`.
 pub fn laws()
     ensures starts { StartsLedger }
     ensures quiet { QuietLaw }
+    ensures truth { StepsAreTrue }
+    ensures unnoted { ChangesAreNoted }
 {}

@@ -1,0 +1,25 @@
+-- Every step that a hart of the hart table noted is true, and nothing changes that none noted.
+use Rattle.std.specs.Prelude.{◌≡◌, ◌≢◌, ℕ, ◌+◌, ◌*◌, ◌<◌, ◌∷◌, length, slice_index, ◌==◌, if◌then◌else◌}
+use mathlib.Core.Option.{some}
+use lib.ListN.{get_elem?}
+use Rattle.atomic_table.specs.Table.{State}
+use Rattle.hsm_words.specs.Words.{crew}
+use Rattle.hsm_words.specs.declared.view.Stage.{Stage}
+use Rattle.hsm_words.specs.declared.view.Deed.{Deed}
+use Rattle.hsm_words.specs.declared.view.Crew.{Crew}
+use Rattle.hsm_rule.specs.Rule.{Kept, noted, stands, word_of, found_by, left_by}
+
+-- The truth of each step: where a hart of a seat has noted a step, and the other seats are as they were, it found what its word held, changed only that word,
+-- and is the newest of all steps.
+abbrev pub StepsAreTrue : Type 0
+StepsAreTrue = (harts boot : ℕ) (s s' : State (Unit {0}) Crew) (kept : Kept harts boot s) (kept' : Kept harts boot s') (id h place : ℕ) (c : Crew) (st st' : Stage) (x : Deed)
+    → get_elem? s.views id ≡ some c → stands h st c.harts → word_of h x < 1 + 2 * harts
+    → get_elem? s'.views id ≡ some (crew (noted h st' place x c.harts)) → ((j : ℕ) → j ≢ id → get_elem? s'.views j ≡ get_elem? s.views j)
+    → (found_by x (slice_index s.words (word_of h x)) ≡ slice_index s.words (word_of h x))
+    × ((t : ℕ) → t < 1 + 2 * harts → slice_index s'.words t ≡ (if word_of h x == t then left_by h x (slice_index s.words t) else slice_index s.words t))
+    × (place ≡ length kept.log) × (kept'.log ≡ (h, x) ∷ kept.log)
+
+-- What no seat noted changed nothing.
+abbrev pub ChangesAreNoted : Type 0
+ChangesAreNoted = (harts boot : ℕ) (s s' : State (Unit {0}) Crew) → Kept harts boot s → Kept harts boot s' → ((j : ℕ) → get_elem? s'.views j ≡ get_elem? s.views j)
+    → (t : ℕ) → t < 1 + 2 * harts → slice_index s'.words t ≡ slice_index s.words t
