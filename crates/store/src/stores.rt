@@ -142,8 +142,13 @@ impl<D: Disk + Drop> Store<D> {
         ensures some { IfSome result (λ e. (1 ≤ number) × (number ≤ receipts self.now) × ((memory : List ℕ) × (get_or (journal_of self.now) (number - 1) (change_in e memory) ≡ change_in e memory))) }
         ensures none { result ≡ None → (number ≡ 0) ⊎ (receipts self.now < number) }
     {
-        let place = number.checked_sub(1)?;
-        self.journal.get(place as usize).copied()
+        if number == 0 {
+            return None;
+        }
+        if self.journal.len() < number as usize {
+            return None;
+        }
+        Some(self.journal[number as usize - 1])
     }
 
     /// Issues a command: its record is made durable, and then the gate that selects it. The receipt is its place in the
