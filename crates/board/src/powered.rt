@@ -60,7 +60,7 @@ impl<D: Disk + Drop> Board<D> {
     ghost use Rattle.board.specs.Boots.{IsConsoleCommand, life_after, boot_refusal, BootsSlot, Fits, booted};
     ghost use Rattle.board.specs.Boards.{store_of, machine_of};
     ghost use Rattle.board.specs.Moments.{issued_by, gone_before, MayLeave};
-    ghost use Rattle.board.specs.Unbooted.{IsBootRefusal, doubt_after, LeavesLife, CountsRefusal};
+    ghost use Rattle.board.specs.Unbooted.{IsBootRefusal, doubt_after, LeavesLife, CountsRefusal, IsNowAfter};
 
     /// Powers a board on: opens the disk, and boots by the mode (docs/BOARD.md, "Power on").
     ///
@@ -96,11 +96,12 @@ impl<D: Disk + Drop> Board<D> {
         ensures refused { IfErr result (λ e. IfSome e.found (λ d. (size : Size) × (s : State) × (d ≡ durable_of s) × StandsFor (D.facts disk).content size s × Leaves (D.facts disk) size s
             × IsBootRefusal (boot_refusal s mode) size mode payloads.now e.refusal × LeavesLife (doubt_after e.refusal) (D.facts e.disk) size s
             × LeavesSince (D.facts disk) (D.facts e.disk) (MayLeave (D.facts disk) size s (gone_before e.refusal)))) }
-        ensures now { IfErr result (λ e. e.now ≡ e.found) }
+        ensures now { IfErr result (λ e. IsNowAfter e.refusal e.found e.now) }
 
-        // A disk that reads as no state is refused so, or for its failure; and since the start of a refused open a crash leaves
-        // what it could have left just before.
+        // A disk that reads as no state is refused so, or for its failure, one without sectors before any call of it; and since
+        // the start of a refused open a crash leaves what it could have left just before.
         ensures refuses { (e : Refusal) → ReadsAs (D.facts disk).content e → MatchResult result (λ board. ⊥) (λ f. (f.found ≡ None) × ((f.refusal ≡ e) ⊎ (f.refusal ≡ Refusal.Device))) }
+        ensures no_sectors { length (D.facts disk).content ≡ 0 → MatchResult result (λ board. ⊥) (λ f. (f.refusal ≡ Refusal.BadShape) × (f.found ≡ None) × (f.disk ≡ disk)) }
         ensures unopened { IfErr result (λ e. e.found ≡ None → OpenRefused (D.facts disk) e.refusal (D.facts e.disk)) }
         ensures unopened_moments { IfErr result (λ e. e.found ≡ None → LeavesSince (D.facts disk) (D.facts e.disk) (D.facts disk).may_leave) }
 

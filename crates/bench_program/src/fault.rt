@@ -1,14 +1,16 @@
-//! Why the program ends with status 1, and the text that says so.
+//! Why the program ends without a whole report: the status for it, and the text that says so.
 
-ghost use Rattle.std.specs.Prelude.{Some};
-ghost use Rattle.sbibench.specs.Faults.{fault_text, refusal_text};
+ghost use Rattle.std.specs.Prelude.{◌≡◌, Some};
+ghost use Rattle.bench_program.specs.Faults.{fault_text, refusal_text, status_after};
 
 use board_model::Refusal;
 use std::fmt;
 
-/// Why the program ends with status 1. It prints as a whole line, or as nothing.
+/// Why the program ends without a whole report. It prints as a whole line, or as nothing.
 #[derive(Clone, Copy, Debug, Drop)]
 pub enum Fault {
+    /// The command line has a fault, which was told by the command line's own text.
+    Usage,
     /// The standard input failed.
     Input,
     /// The script was refused, or its report could not be written.
@@ -43,7 +45,19 @@ impl fmt::Display for Fault {
                 let text = RefusalText(refusal);
                 writeln!(f, "sbibench: refusal {text}")
             }
-            Fault::Closed => Ok(()),
+            Fault::Usage | Fault::Closed => Ok(()),
         }
+    }
+}
+
+/// The program's status (README.md, "The program"): 0 where it did what it was asked, 2 for a fault of the command line, and
+/// 1 for any other.
+pub fn status_of(done: &Result<(), Fault>) -> u8
+    ensures { result ≡ status_after done.now }
+{
+    match done {
+        Ok(()) => 0,
+        Err(Fault::Usage) => 2,
+        Err(_) => 1,
     }
 }
