@@ -67,7 +67,7 @@ not_six s Discard h = one_of (is_some s.image) None (Some 8) (λ is. cc) (λ is.
 -- 6 is a command in doubt, and another refusal changes nothing
 down : (old new : Life) (c : Change) → Refused old c Down new → Reaches old c × (new ≡ record old { doubt = Some c })
 down old new c (inl did) = (let no : ⊥ = (let is : Down ≡ Device = did.0 in cc) in absurd no)
-down old new c (inr (inl did)) = did.1
+down old new c (inr (inl did)) = (did.1, did.2)
 down old new c (inr (inr (inl did))) = (let no : ⊥ = (let is : Down ≡ Over = did.0 in cc) in absurd no)
 down old new c (inr (inr (inr (inl did)))) = (let no : ⊥ = (let is : Down ≡ JournalFull = did.0 in cc) in absurd no)
 down old new c (inr (inr (inr (inr did)))) = absurd (not_six (now_of old) c did.0)
