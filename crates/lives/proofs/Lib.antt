@@ -1,2 +1,0 @@
-pub mod Worlds
-pub mod Calls
