@@ -5,7 +5,7 @@ ghost use Rattle.hsm_rule.specs.Rule.{stands};
 ghost use Rattle.hsm_rule.specs.States.{Shows};
 ghost use Rattle.hsm_words.specs.declared.view.Stage.TheVariants.{Out, Running};
 ghost use Rattle.hsm_steps.specs.Told.{opening_states, opening_crew, first_hart, other_harts, together};
-ghost use Rattle.hsm_steps.specs.Seating.{IsSeatOf, harts_of, crew_of, harts_in, IsOfAll, AreInOrder, StandAsIn, AreSeatsOf, harts_by_seat, all_harts, one_by_one};
+ghost use Rattle.hsm_steps.specs.Seating.{IsSeatOf, harts_of, crew_of, harts_in, IsOfAll, AreInOrder, StandAsIn, StandTogether, AreSeatsOf, harts_by_seat, all_harts, one_by_one};
 ghost use Rattle.arrayvec.specs.ArrayVec.{array_vec_len};
 ghost use Rattle.board_model.specs.declared.refusal.Refusal.TheVariants.{Memory};
 
@@ -103,6 +103,7 @@ impl HartTable {
         ensures seat { IsSeatOf self.now result }
         ensures harts { harts_in result ≡ all_harts seats.items }
         ensures all { AreInOrder seats.items → array_vec_len seats ≡ harts_of self.now → IsOfAll self.now result }
+        ensures stands { AreInOrder seats.items → StandTogether seats.items (harts_in result) }
     {
         let mut seats = seats;
         let last = seats.pop().unwrap();

@@ -1,10 +1,12 @@
-use Rattle.std.proofs.Common.{◌≡◌, ◌++◌, List, [], ◌∷◌, sym, ap, ◌∙◌, append_assoc, rules}
+use Rattle.std.proofs.Common.{◌≡◌, ◌++◌, List, [], ◌∷◌, sym, ap, subst, ◌∙◌, append_assoc, rules}
 use Rattle.tallies.specs.Seats.{numbers_from}
 use Rattle.tallies.proofs.Seatings.{all_in_order, are_pop, is_some, last_seat}
 use Rattle.hsm_words.specs.Words.{numbers}
 use Rattle.hsm_words.specs.declared.view.HartView.{HartView}
 use Rattle.hsm_words.specs.declared.view.Crew.{Crew}
 use Rattle.hsm_steps.specs.Seating.{IsSeatOf, harts_in, all_harts}
+use Rattle.hsm_rule.specs.Rule.{stands}
+use Rattle.hsm_steps.proofs.Lists.{stand_together}
 use Rattle.hsm_steps.proofs.table.HartTable.join.Goals as goal
 
 pub unwrap-whole-requires : goal.unwrap-whole-requires
@@ -44,3 +46,8 @@ pub returns-clause-all : goal.returns-clause-all
 returns-clause-all c = λ order count.
     let whole : harts_in c.loop-before.whole ≡ all_harts c.args.seats.items = search rules in
     ap numbers whole ∙ (all_in_order harts_in (λ (v : HartView). v.hart) (IsSeatOf c.args.self.now) c.args.seats.items c.requires.seats order ∙ ap (numbers_from 0) count)
+
+pub returns-clause-stands : goal.returns-clause-stands
+returns-clause-stands c = λ order i s st at stood.
+    let whole : harts_in c.loop-before.whole ≡ all_harts c.args.seats.items = search rules in
+    subst (λ (vs : List HartView). stands i st vs) (sym whole) (stand_together c.args.seats.items order i s st at stood)
