@@ -10,6 +10,7 @@ use Rattle.store.specs.Leaves.{SameLength}
 use Rattle.store.specs.Lives.{Applied}
 use Rattle.store.specs.Opens.{CausedRefusal}
 use Rattle.store.specs.Stores.{life_of, doubt_of}
+use Rattle.store.specs.Views.{CountedRefusal}
 use Rattle.bench_report.specs.declared.printed.Answer.{Answer}
 use Rattle.bench_report.specs.declared.printed.Printed.{Printed}
 use Rattle.bench_report.specs.Below.{Store, IsAs, store_size, store_mishaps, store_facts}
@@ -89,10 +90,10 @@ module _ (size : Size) (b : Bench) (life : Life) (c : Change) (old new : Store) 
 
   pub told_ok : ends_life c ≡ false → (doubt : Option Change) → life.doubt ≡ doubt → (n : ℕ) → a ≡ says (ok n)
       → (doubt_of old ≡ None → Applied (life_of old) c (Ok n) (life_of new)) → ((d : Change) → doubt_of old ≡ Some d → (◌≡◌ {A = Result ℕ Refusal} (Ok n) (Err Down)) × (new ≡ old))
-      → store_mishaps new ≡ store_mishaps old → (x : Bench) × Commands life.doubt (refusal_of life.now c) c life ok refuses b a x × OnIs size x new
+      → (doubt_of old ≡ None → store_mishaps new ≡ store_mishaps old) → (x : Bench) × Commands life.doubt (refusal_of life.now c) c life ok refuses b a x × OnIs size x new
   told_ok goes None calm n h up down unmoved =
       let did = acknowledged life.now life.receipts c (life_of old) (life_of new) (nothing calm) goes n (up (was.1.2 ∙ calm)) in
-      let x = up_ok calm n h did (stays size b (store_mishaps old) (store_mishaps new) (store_facts old) (store_facts new) device unmoved no_fewer fits) in
+      let x = up_ok calm n h did (stays size b (store_mishaps old) (store_mishaps new) (store_facts old) (store_facts new) device (unmoved (was.1.2 ∙ calm)) no_fewer fits) in
       let P : Option Change → Type 0 = λ d. (x : Bench) × Commands d (refusal_of life.now c) c life ok refuses b a x × OnIs size x new in
       subst P (sym calm) x
   told_ok goes (Some d) calm n h up down unmoved = absurd (let e = (down d (was.1.2 ∙ calm)).0 in let no : ⊥ = cc in no)
@@ -100,15 +101,16 @@ module _ (size : Size) (b : Bench) (life : Life) (c : Change) (old new : Store) 
   pub told_err : (doubt : Option Change) → life.doubt ≡ doubt → (e : Refusal) → a ≡ says (refuses (number_of e))
       → (doubt_of old ≡ None → Applied (life_of old) c (Err e) (life_of new)) → ((d : Change) → doubt_of old ≡ Some d → (◌≡◌ {A = Result ℕ Refusal} (Err e) (Err Down)) × (new ≡ old))
       → (doubt_of old ≡ None → CausedRefusal (store_mishaps old) e (store_mishaps new))
-      → (e ≡ Device → Failed (store_facts old).failures (store_facts new).failures) → (doubt_of old ≡ None → e ≡ Down → Failed (store_facts old).failures (store_facts new).failures)
+      → (doubt_of old ≡ None → CountedRefusal (store_facts old).failures e (store_facts new).failures)
       → (x : Bench) × Commands life.doubt (refusal_of life.now c) c life ok refuses b a x × OnIs size x new
-  told_err None calm e h up down cause fails downs =
+  told_err None calm e h up down cause counts =
       let none = was.1.2 ∙ calm in
       let did = refused life.now life.receipts c (life_of old) (life_of new) (nothing calm) e (up none) in
-      let x = up_err calm e h did (cause none) fails (downs none) in
-      let P : Option Change → Type 0 = λ d. (x : Bench) × Commands d (refusal_of life.now c) c life ok refuses b a x × OnIs size x new in
-      subst P (sym calm) x
-  told_err (Some d) calm e h up down cause fails downs =
+      let P : Refusal → Type 0 = λ f. CountedRefusal (store_facts old).failures f (store_facts new).failures in
+      let x = up_err calm e h did (cause none) (λ is. subst P is (counts none)) (λ is. subst P is (counts none)) in
+      let Q : Option Change → Type 0 = λ d. (x : Bench) × Commands d (refusal_of life.now c) c life ok refuses b a x × OnIs size x new in
+      subst Q (sym calm) x
+  told_err (Some d) calm e h up down cause counts =
       let did = down d (was.1.2 ∙ calm) in
       let P : Option Change → Type 0 = λ d. Commands d (refusal_of life.now c) c life ok refuses b a b in
       let Q : Store → Type 0 = λ store. OnIs size b store in

@@ -4,13 +4,14 @@ use Rattle.std.specs.Prelude.{◌≡◌, ◌⊎◌, ◌≤◌, ℕ, List, Option
 use Rattle.disk.specs.Facts.{Facts, Failed}
 use Rattle.board_model.specs.Durable.{State, Change, Discard, after}
 use Rattle.board_model.specs.Shapes.{Size}
-use Rattle.board_model.specs.Shown.{number_of}
+use Rattle.board_model.specs.Shown.{number_of, durable_of}
+use Rattle.board_model.specs.declared.durable.Durable.{Durable}
 use Rattle.board_model.specs.declared.boot_mode.BootMode.{BootMode}
 use Rattle.board_model.specs.declared.boot_mode.BootMode.TheVariants as modes
 use Rattle.board_model.specs.declared.refusal.Refusal.{Refusal}
 use Rattle.board_model.specs.declared.refusal.Refusal.TheVariants.{BadShape, Memory, Device, Down, NoImage, BadImage, ImageThere}
 use Rattle.store.specs.Leaves.{LeavesOnly, LeavesEither}
-use Rattle.store.specs.Lives.{Life, begun}
+use Rattle.store.specs.Lives.{Life, begun, now_of}
 use Rattle.board.specs.Boots.{Fits}
 
 -- of a store that is open: a payload that does not fit, or memory
@@ -41,6 +42,11 @@ doubt_after e = None
 
 abbrev pub life_refused : Refusal → State → Life
 life_refused e s = record (begun s) { doubt = doubt_after e }
+
+-- the state now of a board that is not on, by the state found: that of the life which the refusal left
+abbrev pub IsNowAfter : Refusal → Option Durable → Option Durable → Type 0
+IsNowAfter e None now = now ≡ None
+IsNowAfter e (Some found) now = (s : State) × (found ≡ durable_of s) × (now ≡ Some (durable_of (now_of (life_refused e s))))
 
 -- the refusals of what a mode issues
 abbrev pub IsIssueRefusal : BootMode → Refusal → Type 0

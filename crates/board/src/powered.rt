@@ -43,23 +43,24 @@ pub struct Parts<D: Disk + Drop> {
 
 impl<D: Disk + Drop> Board<D> {
     ghost use Rattle.std.specs.Prelude.{◌≡◌, ◌⊎◌, ◌<◌, ◌≤◌, length, Some, None, Err, IfSome, OnOk, IfOk, IfErr, IsErrOf, MatchResult};
-    ghost use Rattle.board_model.specs.Durable.{State, Change, after};
+    ghost use Rattle.board_model.specs.Durable.{State, Change};
     ghost use Rattle.board_model.specs.Shapes.{Size};
     ghost use Rattle.board_model.specs.Shown.{durable_of, change_of};
     ghost use Rattle.board_model.specs.declared.refusal.Refusal.{Refusal};
     ghost use Rattle.disk.specs.Facts.{LeavesSince, Failed, Unchanged};
     ghost use Rattle.disk.specs.Mishaps.{armed_by};
     ghost use Rattle.store.specs.Standing.{StandsFor};
-    ghost use Rattle.store.specs.Leaves.{IsIdle, SameLength, Leaves, LeavesOnly, LeavesEither, StandsForEither, IsRewritten};
+    ghost use Rattle.store.specs.Leaves.{IsIdle, SameLength, Leaves, LeavesOnly, LeavesEither};
     ghost use Rattle.store.specs.Opens.{ReadsAs, OpenRefused, CausedRefusal};
     ghost use Rattle.store.specs.Lives.{Applied};
-    ghost use Rattle.store.specs.Stores.{disk_of, mishaps_of, arms_of, size_of_store, life_of, found_state, now_state, doubt_of, failures_at_open, Stands, Doubts};
+    ghost use Rattle.store.specs.Views.{Answered, StaysOpen};
+    ghost use Rattle.store.specs.Stores.{disk_of, mishaps_of, arms_of, size_of_store, life_of, found_state, now_state, doubt_of, failures_at_open, view_of, Stands, Doubts};
     ghost use Rattle.machine.specs.Machine.{hart_at};
     ghost use Rattle.machine.specs.Turns.{Turns, TurnsMany};
     ghost use Rattle.board.specs.Boots.{IsConsoleCommand, life_after, boot_refusal, BootsSlot, Fits, booted};
     ghost use Rattle.board.specs.Boards.{store_of, machine_of};
     ghost use Rattle.board.specs.Moments.{issued_by, gone_before, MayLeave};
-    ghost use Rattle.board.specs.Unbooted.{IsBootRefusal, doubt_after, LeavesLife, CountsRefusal};
+    ghost use Rattle.board.specs.Unbooted.{IsBootRefusal, doubt_after, LeavesLife, CountsRefusal, IsNowAfter};
 
     /// Powers a board on: opens the disk, and boots by the mode (docs/BOARD.md, "Power on").
     ///
@@ -95,11 +96,12 @@ impl<D: Disk + Drop> Board<D> {
         ensures refused { IfErr result (λ e. IfSome e.found (λ d. (size : Size) × (s : State) × (d ≡ durable_of s) × StandsFor (D.facts disk).content size s × Leaves (D.facts disk) size s
             × IsBootRefusal (boot_refusal s mode) size mode payloads.now e.refusal × LeavesLife (doubt_after e.refusal) (D.facts e.disk) size s
             × LeavesSince (D.facts disk) (D.facts e.disk) (MayLeave (D.facts disk) size s (gone_before e.refusal)))) }
-        ensures now { IfErr result (λ e. e.now ≡ e.found) }
+        ensures now { IfErr result (λ e. IsNowAfter e.refusal e.found e.now) }
 
-        // A disk that reads as no state is refused so, or for its failure; and since the start of a refused open a crash leaves
-        // what it could have left just before.
+        // A disk that reads as no state is refused so, or for its failure, one without sectors before any call of it; and since
+        // the start of a refused open a crash leaves what it could have left just before.
         ensures refuses { (e : Refusal) → ReadsAs (D.facts disk).content e → MatchResult result (λ board. ⊥) (λ f. (f.found ≡ None) × ((f.refusal ≡ e) ⊎ (f.refusal ≡ Refusal.Device))) }
+        ensures no_sectors { length (D.facts disk).content ≡ 0 → MatchResult result (λ board. ⊥) (λ f. (f.refusal ≡ Refusal.BadShape) × (f.found ≡ None) × (f.disk ≡ disk)) }
         ensures unopened { IfErr result (λ e. e.found ≡ None → OpenRefused (D.facts disk) e.refusal (D.facts e.disk)) }
         ensures unopened_moments { IfErr result (λ e. e.found ≡ None → LeavesSince (D.facts disk) (D.facts e.disk) (D.facts disk).may_leave) }
 
@@ -225,34 +227,11 @@ impl<D: Disk + Drop> Board<D> {
     pub fn console(&mut self, command: Command) -> Result<Receipt, Refusal>
         requires { IsConsoleCommand command }
         ensures machine { machine_of self.new ≡ machine_of self.old }
-        ensures board { size_of_store (store_of self.new) ≡ size_of_store (store_of self.old) }
-        ensures up { doubt_of (store_of self.old) ≡ None → Applied (life_of (store_of self.old)) (change_of command) result (life_of (store_of self.new)) }
+        ensures answered { doubt_of (store_of self.old) ≡ None → Answered Applied (view_of (store_of self.old)) (change_of command) result (view_of (store_of self.new)) }
         ensures down { (c : Change) → doubt_of (store_of self.old) ≡ Some c → (result ≡ Err Refusal.Down) × (store_of self.new ≡ store_of self.old) }
-
-        // Each acknowledged command is written, also one that changes nothing in value.
-        ensures written { OnOk result (IsRewritten (disk_of (store_of self.old)) (disk_of (store_of self.new))) }
-
-        // What a crash leaves at any moment of the call, and after it.
-        ensures any_moment { doubt_of (store_of self.old) ≡ None → LeavesSince (disk_of (store_of self.old)) (disk_of (store_of self.new))
-            (StandsForEither (size_of_store (store_of self.old)) (now_state (store_of self.old)) (after (now_state (store_of self.old)) (change_of command))) }
-        ensures acknowledged { OnOk result (LeavesOnly (disk_of (store_of self.new)) (size_of_store (store_of self.old)) (after (now_state (store_of self.old)) (change_of command))) }
-        ensures unchanged { IfErr result (λ e. (e ≡ Refusal.Down → ⊥) → LeavesOnly (disk_of (store_of self.new)) (size_of_store (store_of self.old)) (now_state (store_of self.old))) }
-        ensures in_doubt { doubt_of (store_of self.old) ≡ None → IsErrOf result Refusal.Down
-            → LeavesEither (disk_of (store_of self.new)) (size_of_store (store_of self.old)) (now_state (store_of self.old)) (after (now_state (store_of self.old)) (change_of command)) }
-
-        // A refusal but 5 and 6 leaves all as it was.
         ensures untouched { IfErr result (λ e. (e ≡ Refusal.Device → ⊥) → (e ≡ Refusal.Down → ⊥) → store_of self.new ≡ store_of self.old) }
-
-        // What its disk counts.
-        ensures device { IsErrOf result Refusal.Device → Failed (disk_of (store_of self.old)).failures (disk_of (store_of self.new)).failures }
-        ensures gate { doubt_of (store_of self.old) ≡ None → IsErrOf result Refusal.Down → Failed (disk_of (store_of self.old)).failures (disk_of (store_of self.new)).failures }
         ensures life { IsErrOf result Refusal.Down → Failed (failures_at_open (store_of self.new)) (disk_of (store_of self.new)).failures }
-        ensures no_fewer { (disk_of (store_of self.old)).failures ≤ (disk_of (store_of self.new)).failures }
-        ensures unmoved { OnOk result (mishaps_of (store_of self.new) ≡ mishaps_of (store_of self.old)) }
-        ensures cause { doubt_of (store_of self.old) ≡ None → IfErr result (λ e. CausedRefusal (mishaps_of (store_of self.old)) e (mishaps_of (store_of self.new))) }
-        ensures opened { failures_at_open (store_of self.new) ≡ failures_at_open (store_of self.old) }
-        ensures length { SameLength (disk_of (store_of self.old)) (disk_of (store_of self.new)) }
-        ensures none_out { IsIdle (disk_of (store_of self.new)) }
+        ensures stays { StaysOpen (view_of (store_of self.old)) (view_of (store_of self.new)) }
     {
         self.store.apply(command)
     }

@@ -1,6 +1,7 @@
 -- The durable state of the board, the changes that commands make to it, and which of them are refused.
 -- Source: docs/DURABLE.md.
-use Rattle.std.specs.Prelude.{◌≡◌, ℕ, ◌+◌, ◌-◌, ◌^◌, ◌<◌, Bool, true, false, List, [], ◌∷◌, Option, Some, None, IfSome, nat_lt, ◌==◌, is_some, if◌then◌else◌}
+use Rattle.std.specs.Prelude.{◌≡◌, ℕ, ◌+◌, ◌-◌, ◌^◌, ◌<◌, Bool, true, false, List, [], ◌∷◌, Option, Some, None, IfSome, length, nat_lt, ◌==◌, is_some, if◌then◌else◌}
+use Rattle.board_model.specs.Shapes.{Size, ram_bytes_of}
 use Rattle.board_model.specs.declared.durable.Reason.{Reason}
 use Rattle.board_model.specs.declared.durable.Reason.TheVariants.{NoReason}
 
@@ -68,3 +69,12 @@ Stands s serial = (i : Image) × (s.image ≡ Some i) × (i.serial ≡ serial)
 -- A standing image has a serial that was given out: it is below the next one.
 abbrev pub IsOrdered : State → Type 0
 IsOrdered s = IfSome s.image (λ i. i.serial < s.next)
+
+-- An image that stands has the memory of a board of that size.
+abbrev pub IsWhole : Size → State → Type 0
+IsWhole size s = IfSome s.image (λ i. length i.memory ≡ ram_bytes_of size)
+
+-- A suspension carries such a memory.
+abbrev pub CarriesWhole : Size → Change → Type 0
+CarriesWhole size (Suspend hart address opaque memory) = length memory ≡ ram_bytes_of size
+CarriesWhole size c = Unit {0}

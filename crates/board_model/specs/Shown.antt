@@ -1,14 +1,16 @@
 -- How the code's values show those of the model.
-use Rattle.std.specs.Prelude.{◌≡◌, ℕ, Option, Some, None, Result, IfOk, IfErr}
+use Rattle.std.specs.Prelude.{◌≡◌, ℕ, List, Option, Some, None, Result, IfOk, IfErr}
 use Rattle.board_model.specs.declared.durable.Command.{Command}
 use Rattle.board_model.specs.declared.durable.Command.TheVariants as commands
+use Rattle.board_model.specs.declared.durable.Entry.{Entry}
+use Rattle.board_model.specs.declared.durable.Entry.TheVariants as entries
 use Rattle.board_model.specs.declared.durable.Reason.{Reason}
 use Rattle.board_model.specs.declared.durable.Reason.TheVariants.{NoReason, SystemFailure}
 use Rattle.board_model.specs.declared.durable.ImageHead.{ImageHead}
 use Rattle.board_model.specs.declared.durable.Durable.{Durable}
 use Rattle.board_model.specs.declared.refusal.Refusal.{Refusal}
 use Rattle.board_model.specs.declared.refusal.Refusal.TheVariants as refusals
-use Rattle.board_model.specs.Durable.{Image, State, Change, Slot, Reset, Consume, Discard, after, refusal_of}
+use Rattle.board_model.specs.Durable.{Image, State, Change, Slot, Reset, Suspend, Consume, Discard, after, refusal_of}
 
 -- The SBI specification 2.0, chapter SRST: 0 no reason, 1 system failure.
 abbrev pub reason_number : Reason → ℕ
@@ -21,6 +23,11 @@ change_of (commands.Slot n) = Slot n
 change_of (commands.Reset r) = Reset r
 change_of commands.Consume = Consume
 change_of commands.Discard = Discard
+
+-- The command that an entry of a journal stands for, where the memory that a suspension carried is this one.
+abbrev pub change_in : Entry → List ℕ → Change
+change_in (entries.Command c) memory = change_of c
+change_in (entries.Suspend hart address opaque) memory = Suspend hart address opaque memory
 
 -- The durable state as the code knows it: all but the memory of the image.
 abbrev pub head_of : Option Image → Option ImageHead

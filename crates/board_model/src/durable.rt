@@ -35,6 +35,14 @@ pub enum Command {
     Discard,
 }
 
+/// A durable command as a journal keeps it. A suspension stands there without its memory, which the image reads as.
+#[derive(Clone, Copy, Debug, PartialEq, Eq, Drop)]
+pub enum Entry {
+    Command(Command),
+    /// The hart that suspended the board, the address at which it is resumed, and the value that it is given in a1.
+    Suspend(HartId, Addr, u64),
+}
+
 /// What stands of an image beside its memory.
 #[derive(Clone, Copy, Debug, PartialEq, Eq, Drop)]
 pub struct ImageHead {

@@ -1,7 +1,8 @@
 //! Laws of the durable commands over whole lists, each the contract of a function that does nothing.
 
-ghost use Rattle.std.specs.Prelude.{◌≡◌, ℕ, ◌≤◌, List, ◌++◌};
-ghost use Rattle.board_model.specs.Durable.{State, Change, Slot, Reset, after, fold, Stands, IsOrdered};
+ghost use Rattle.std.specs.Prelude.{◌≡◌, ℕ, ◌≤◌, List, [], ◌++◌, Some, All};
+ghost use Rattle.board_model.specs.Durable.{State, Image, Change, Slot, Reset, formatted, after, fold, Stands, IsOrdered, IsWhole, CarriesWhole};
+ghost use Rattle.board_model.specs.Shapes.{Size, IsSize};
 ghost use Rattle.board_model.specs.declared.durable.Reason.{Reason};
 
 /// The fold of a longer list is the fold of its end, from the fold of its beginning.
@@ -24,4 +25,13 @@ pub fn slot_and_reset_leave_the_image()
 pub fn image_never_again()
     ensures { (s : State) (c : Change) (cs : List Change) (serial : ℕ) → IsOrdered s → Stands s serial
         → (Stands (after s c) serial → ⊥) → Stands (fold (after s c) cs) serial → ⊥ }
+{}
+
+/// Where each suspension carries the memory of its board, so does each image that stands after it; and such a memory
+/// has bytes. What a format leaves has no image.
+pub fn images_stay_whole()
+    ensures first { (size : Size) → IsWhole size formatted }
+    ensures next { (size : Size) (s : State) (c : Change) → IsWhole size s → CarriesWhole size c → IsWhole size (after s c) }
+    ensures all { (size : Size) (s : State) (cs : List Change) → IsWhole size s → All (CarriesWhole size) cs → IsWhole size (fold s cs) }
+    ensures some { (size : Size) (s : State) (i : Image) → IsSize size → IsWhole size s → s.image ≡ Some i → i.memory ≡ [] → ⊥ }
 {}

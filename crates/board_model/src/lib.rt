@@ -11,8 +11,10 @@ mod refusal;
 mod shape;
 
 pub use boot_mode::BootMode;
-pub use durable::{Command, Durable, ImageHead, Reason};
-pub use laws::{image_never_again, longer_list, serials_rise, slot_and_reset_leave_the_image};
+pub use durable::{Command, Durable, Entry, ImageHead, Reason};
+pub use laws::{
+    image_never_again, images_stay_whole, longer_list, serials_rise, slot_and_reset_leave_the_image,
+};
 pub use limits::{
     MAX_COMMANDS, MAX_HARTS, MAX_LANES, MAX_LINE_BYTES, MAX_PAGES, MAX_SCRIPT_LINES, PAGE_BYTES,
     RAM_BASE, SECTOR_BYTES, SLOTS,

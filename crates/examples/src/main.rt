@@ -5,7 +5,7 @@
 
 mod reported;
 
-use crate::reported::{Fault, compare_report};
+use crate::reported::{AsReported, Fault, compare_report};
 use std::path::Path;
 use std::process::ExitCode;
 use std::{env, fs, io};
@@ -36,11 +36,16 @@ fn file_of(rt: &HostRuntime, folder: &str, name: &str, ending: &str) -> io::Resu
     fs::read(rt, path)
 }
 
-/// Whether the script writes what the report beside it has.
-fn compare(rt: &HostRuntime, folder: &str, name: &str) -> Result<(), Fault> {
+/// Compares what the script writes with the report beside it.
+fn compare<'a>(rt: &HostRuntime, folder: &str, name: &'a str) -> Result<AsReported<'a>, Fault> {
     let script = file_of(rt, folder, name, SCRIPT).map_err(Fault::Unread)?;
     let report = file_of(rt, folder, name, REPORT).map_err(Fault::Unread)?;
-    compare_report(rt.alloc(), &script, &report)
+    compare_report(rt.alloc(), name, &script, &report)
+}
+
+/// Says that the script is as reported.
+fn say(rt: &HostRuntime, compared: &AsReported<'_>) -> io::Result<()> {
+    println!(rt; "{compared}")
 }
 
 /// Compares all scripts of the folder, up to the first that is not as reported.
@@ -51,11 +56,13 @@ fn compare_all(rt: &HostRuntime, folder: &str) -> io::Result<ExitCode> {
         return Ok(ExitCode::FAILURE);
     }
     for name in &names {
-        if let Err(fault) = compare(rt, folder, name.as_str()) {
-            eprintln!(rt; "examples: {name}{SCRIPT}: {fault}")?;
-            return Ok(ExitCode::FAILURE);
+        match compare(rt, folder, name.as_str()) {
+            Ok(compared) => say(rt, &compared)?,
+            Err(fault) => {
+                eprintln!(rt; "examples: {name}{SCRIPT}: {fault}")?;
+                return Ok(ExitCode::FAILURE);
+            }
         }
-        println!(rt; "{name}{SCRIPT} as reported")?;
     }
     Ok(ExitCode::SUCCESS)
 }

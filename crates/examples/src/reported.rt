@@ -8,8 +8,22 @@ ghost use Rattle.bench_report.specs.declared.printed.Answer.{Answer};
 use bench_report::run;
 use board_model::Refusal;
 use std::alloc::Global;
-use std::io;
+use std::{fmt, io};
 use thiserror::Error;
+
+/// A script that writes just the report that it was compared with. Only [`compare_report`] makes one, so nobody says
+/// "as reported" of a script that was not compared.
+#[derive(Drop)]
+pub struct AsReported<'a> {
+    name: &'a str,
+}
+
+impl fmt::Display for AsReported<'_> {
+    fn fmt<W: fmt::Write>(&self, f: &mut fmt::Formatter<W>) -> fmt::Result {
+        let name = self.name;
+        write!(f, "{name}.sbi as reported")
+    }
+}
 
 /// Why a script is not as reported.
 #[derive(Debug, Drop, Error)]
@@ -22,10 +36,15 @@ pub enum Fault {
     Differs(usize),
 }
 
-/// Runs the script. `Ok` where it writes just this report, which is then one that the script may have. By the law
-/// `bench_report::one_report` it is the only such one, where none of its lines says that memory was refused, that the disk
-/// failed or that power was lost.
-pub fn compare_report(alloc: Global, script: &[u8], report: &[u8]) -> Result<(), Fault>
+/// Runs the script of that name. `Ok` where it writes just this report, which is then one that the script may have. By the
+/// law `bench_report::one_report` it is the only such one, where none of its lines says that memory was refused, that the
+/// disk failed or that power was lost.
+pub fn compare_report<'a>(
+    alloc: Global,
+    name: &'a str,
+    script: &[u8],
+    report: &[u8],
+) -> Result<AsReported<'a>, Fault>
     ensures { OnOk result ((said : Said) × (answers : List Answer) × (end : Bench) × (script_of script.now ≡ Ok said)
         × IsReport said answers end × (report.now ≡ report_text answers)) }
 {
@@ -34,7 +53,7 @@ pub fn compare_report(alloc: Global, script: &[u8], report: &[u8]) -> Result<(),
     if out.as_slice() != report {
         return Err(Fault::Differs(first_line_apart(out.as_slice(), report)));
     }
-    Ok(())
+    Ok(AsReported { name })
 }
 
 // The first line, from 1, in which the one differs from the other.

@@ -1,6 +1,6 @@
 //! Where everything stands on a disk. All numbers are sectors, unless said otherwise.
 ghost use Rattle.std.specs.Prelude.{◌≡◌, ◌+◌, ◌*◌, ◌<◌, ◌≤◌};
-ghost use Rattle.board_model.specs.Shapes.{area_sectors_of, sectors_of};
+ghost use Rattle.board_model.specs.Shapes.{Size, places_of, area_sectors_of, sectors_of};
 ghost use Rattle.layout.specs.Sizes.{lane_sectors, area_start, lane_start, place_start};
 
 use crate::side::Side;
@@ -25,10 +25,12 @@ pub fn lane_start(shape: &Shape, area: Side, lane: usize) -> usize
     area_start(shape, area) + lane * (9 * shape.places())
 }
 
-/// Where the header of a place stands, from its lane's first sector on; the 8 sectors of the page stand behind it.
+/// Where the header of a place stands, from its lane's first sector on; the 8 sectors of the page stand behind it, and a
+/// lane has all nine of each place of its board.
 pub fn place_start(place: usize) -> usize
     requires { place < 256 }
-    ensures { result ≡ place_start place }
+    ensures value { result ≡ place_start place }
+    ensures within { (size : Size) → place < places_of size → result + 9 ≤ lane_sectors size }
 {
     9 * place
 }

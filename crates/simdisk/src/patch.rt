@@ -66,7 +66,5 @@ fn lay_within(content: &mut Vec<Sector>, at: usize, sectors: &[Sector])
 pub(crate) fn copy_of(alloc: Global, sectors: &[Sector]) -> Result<Vec<Sector>, AllocError>
     ensures { IfOk result (λ copy. copy.items ≡ sectors.now) }
 {
-    let mut copy = vec![in alloc; [0; 512]; sectors.len()]?;
-    copy.copy_from_slice(sectors);
-    Ok(copy)
+    Vec::from_slice(alloc, sectors)
 }

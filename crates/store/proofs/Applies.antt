@@ -1,88 +1,131 @@
 -- What a command makes of a store.
-use Rattle.std.proofs.Common.{◌≡◌, ◌∙◌, inl, inr, ⊎_elim, ℕ, ◌-◌, ◌<◌, List, [], ◌∷◌, ◌++◌, map, Option, Bool, refl, sym, ap, subst}
+use Rattle.std.proofs.Common.{◌≡◌, ◌∙◌, inl, inr, ⊎_elim, ℕ, ◌-◌, ◌<◌, List, [], ◌∷◌, ◌++◌, map, Option, None, option_map, Bool, true, refl, sym, ap, subst}
+use Rattle.std.proofs.lemmas.Bool.{and_parts, and_from}
 use Rattle.board_model.specs.Durable.{State, Change, after, fold}
 use Rattle.board_model.specs.Shapes.{Size}
-use Rattle.board_model.specs.Shown.{change_of}
-use Rattle.board_model.specs.declared.durable.Command.{Command}
+use Rattle.board_model.specs.Shown.{change_in}
 use Rattle.disk.specs.Facts.{Content, Facts, LeavesSince}
 use Rattle.disk.specs.Moments.{leaves_none, leaves_weaker}
 use Rattle.layout.specs.declared.records.Record.{Record}
-use Rattle.store.specs.Standing.{state_of, StandsFor}
+use Rattle.store.specs.Entries.{is_plain, are_plain}
+use Rattle.store.specs.Standing.{state_of, memory_in, StandsFor}
 use Rattle.store.specs.Leaves.{LeavesOnly, LeavesEither, StandsForEither}
 use Rattle.store.specs.Commits.{SameAreas, SelectsEither, IsUp, IsInDoubt}
 use Rattle.store.specs.Follows.{Follows}
 use Rattle.store.specs.Lives.{Life}
-use Rattle.store.proofs.States.{state_same, stands_for, up_leaves, doubt_leaves, either_stands}
+use Rattle.board_model.specs.declared.durable.Entry.{Entry}
+use Rattle.board_model.specs.declared.durable.Entry.TheVariants as entries
+use Rattle.store.proofs.States.{state_same, memory_same, of_areas, stands_for, up_leaves, doubt_leaves, either_stands}
 
-one_more : (s : State) (commands : List Command) (c : Command) → fold s (map change_of (commands ++ c ∷ [])) ≡ after (fold s (map change_of commands)) (change_of c)
+-- the journal, where the image's memory is this one
+abbrev pub told : List ℕ → List Entry → List Change
+told memory journal = map (λ e. change_in e memory) journal
+
+pub told_more : (m : List ℕ) (journal : List Entry) (e : Entry) → told m (journal ++ e ∷ []) ≡ told m journal ++ change_in e m ∷ []
+told_more m [] e = refl
+told_more m (d ∷ journal) e = ap (λ (cs : List Change). change_in d m ∷ cs) (told_more m journal e)
+
+-- commands have no memory
+plain_entry : (m n : List ℕ) (e : Entry) → is_plain e ≡ true → change_in e m ≡ change_in e n
+plain_entry m n (entries.Command c) plain = refl
+plain_entry m n (entries.Suspend h a o) plain = cc
+
+pub plain_told : (m n : List ℕ) (journal : List Entry) → are_plain journal ≡ true → told m journal ≡ told n journal
+plain_told m n [] plain = refl
+plain_told m n (e ∷ journal) plain =
+    let parts = and_parts (is_plain e) (are_plain journal) plain in
+    ap (λ (c : Change). c ∷ told m journal) (plain_entry m n e parts.0) ∙ ap (λ (cs : List Change). change_in e n ∷ cs) (plain_told m n journal parts.1)
+
+pub plain_more : (journal : List Entry) (e : Entry) → are_plain journal ≡ true → is_plain e ≡ true → are_plain (journal ++ e ∷ []) ≡ true
+plain_more [] e plain is = and_from (is_plain e) true is refl
+plain_more (d ∷ journal) e plain is =
+    let parts = and_parts (is_plain d) (are_plain journal) plain in
+    and_from (is_plain d) (are_plain (journal ++ e ∷ [])) parts.0 (plain_more journal e parts.1 is)
+
+one_more : (s : State) (cs : List Change) (c : Change) → fold s (cs ++ c ∷ []) ≡ after (fold s cs) c
 one_more s [] c = refl
-one_more s (d ∷ commands) c = one_more (after s (change_of d)) commands c
+one_more s (d ∷ cs) c = one_more (after s d) cs c
 
-pub journal_grows : (commands : List Command) (c : Command) → map change_of (commands ++ c ∷ []) ≡ map change_of commands ++ change_of c ∷ []
-journal_grows [] c = refl
-journal_grows (d ∷ commands) c = ap (λ (cs : List Change). change_of d ∷ cs) (journal_grows commands c)
+pub none_maps : (A : Type 0) (f g : A → Change) (d : Option A) → d ≡ None → option_map f d ≡ option_map g d
+none_maps A f g d is = ap (option_map f) is ∙ sym (ap (option_map g) is)
 
-pub life_is : (found : State) (journal more : List Change) (doubt : Option Change) (over ends : Bool) → journal ≡ more → over ≡ ends
-    → ◌≡◌ {A = Life} (record { found = found; journal = journal; doubt = doubt; over = over }) (record { found = found; journal = more; doubt = doubt; over = ends })
-life_is found journal more doubt over ends same is = ap (λ (x : List Change). made x over) same ∙ ap (λ (x : Bool). made more x) is
+pub life_is : (f g : State) (i j : List Change) (c d : Option Change) (n o : Bool) → f ≡ g → i ≡ j → c ≡ d → n ≡ o
+    → ◌≡◌ {A = Life} (record { found = f; journal = i; doubt = c; over = n }) (record { found = g; journal = j; doubt = d; over = o })
+life_is f g i j c d n o fg ij cd ends =
+    ap (λ (x : State). made x i c n) fg ∙ ap (λ (x : List Change). made g x c n) ij ∙ ap (λ (x : Option Change). made g j x n) cd ∙ ap (λ (x : Bool). made g j d x) ends
   where
-    made : List Change → Bool → Life
-    made journal over = record { found = found; journal = journal; doubt = doubt; over = over }
+    made : State → List Change → Option Change → Bool → Life
+    made found journal doubt over = record { found = found; journal = journal; doubt = doubt; over = over }
 
 -- a store that is up, before any call
 pub still_stands : (a : Facts) (size : Size) (side : ℕ) (current : Record) (now then : State) → ((x : Content) → a.since a.moment x → a.may_leave x) → IsUp a size side current
     → now ≡ state_of size current a.content → LeavesSince a a (StandsForEither size now then)
 still_stands a size side current now then only_now up is =
     leaves_none a (StandsForEither size now then) only_now
-    (λ x left. inl (subst (StandsFor x size) (sym is) (stands_for size side current a.content x (up.selects x left) (up.areas x left))))
+    (λ x left. inl (subst (StandsFor x size) (sym is) (stands_for size side current a.content x (up x left))))
 
-module _ (a b : Facts) (size : Size) (side : ℕ) (opened current next : Record) (commands : List Command) (c : Command) (follows : Follows size current (change_of c) next)
-    (areas : SameAreas a.content b.content) (folded : fold (state_of size opened a.content) (map change_of commands) ≡ state_of size current a.content) where
-  found_still : state_of size opened b.content ≡ state_of size opened a.content
-  found_still = state_same size opened a.content b.content areas
+module _ (a b : Facts) (size : Size) (side : ℕ) (opened current next : Record) (journal : List Entry) (entry : Entry) (follows : Follows size current entry next)
+    (areas : SameAreas a.content b.content) (folded : fold (state_of size opened a.content) (told (memory_in size current a.content) journal) ≡ state_of size current a.content) where
+  abbrev now : State
+  now = fold (state_of size opened a.content) (told (memory_in size current a.content) journal)
 
-  now_still : state_of size current b.content ≡ fold (state_of size opened a.content) (map change_of commands)
-  now_still = state_same size current a.content b.content areas ∙ sym folded
+  abbrev change : Change
+  change = change_in entry (memory_in size next a.content)
 
-  next_is : state_of size next b.content ≡ after (fold (state_of size opened a.content) (map change_of commands)) (change_of c)
-  next_is = follows.state b.content ∙ ap (λ (s : State). after s (change_of c)) now_still
+  pub found_still : state_of size opened b.content ≡ state_of size opened a.content
+  found_still = state_same size opened a.content b.content (of_areas size opened.image a.content b.content areas)
 
-  pub folded_still : fold (state_of size opened b.content) (map change_of commands) ≡ state_of size current b.content
-  folded_still = ap (λ (s : State). fold s (map change_of commands)) found_still ∙ sym now_still
+  current_memory : memory_in size current b.content ≡ memory_in size current a.content
+  current_memory = memory_same size current a.content b.content (of_areas size current.image a.content b.content areas)
 
-  pub folded_more : fold (state_of size opened b.content) (map change_of (commands ++ c ∷ [])) ≡ state_of size next b.content
-  folded_more =
-      one_more (state_of size opened b.content) commands c
-      ∙ ap (λ (s : State). after (fold s (map change_of commands)) (change_of c)) found_still
+  pub next_memory : memory_in size next b.content ≡ memory_in size next a.content
+  next_memory = memory_same size next a.content b.content (of_areas size next.image a.content b.content areas)
+
+  pub told_still : told (memory_in size current b.content) journal ≡ told (memory_in size current a.content) journal
+  told_still = ap (λ (m : List ℕ). told m journal) current_memory
+
+  pub change_still : change_in entry (memory_in size next b.content) ≡ change
+  change_still = ap (change_in entry) next_memory
+
+  now_still : state_of size current b.content ≡ now
+  now_still = state_same size current a.content b.content (of_areas size current.image a.content b.content areas) ∙ sym folded
+
+  next_is : state_of size next b.content ≡ after now change
+  next_is = follows.state b.content ∙ ap (after (state_of size current b.content)) change_still ∙ ap (λ (s : State). after s change) now_still
+
+  pub folded_still : fold (state_of size opened b.content) (told (memory_in size current b.content) journal) ≡ state_of size current b.content
+  folded_still = ap (fold (state_of size opened b.content)) told_still ∙ ap (λ (s : State). fold s (told (memory_in size current a.content) journal)) found_still ∙ sym now_still
+
+  -- the journal with the command
+  pub told_next : are_plain journal ≡ true → told (memory_in size next b.content) (journal ++ entry ∷ []) ≡ told (memory_in size current a.content) journal ++ change ∷ []
+  told_next plain =
+      told_more (memory_in size next b.content) journal entry
+      ∙ ap (λ (cs : List Change). cs ++ change_in entry (memory_in size next b.content) ∷ []) (plain_told (memory_in size next b.content) (memory_in size current a.content) journal plain)
+      ∙ ap (λ (c : Change). told (memory_in size current a.content) journal ++ c ∷ []) change_still
+
+  pub folded_more : are_plain journal ≡ true → fold (state_of size opened b.content) (told (memory_in size next b.content) (journal ++ entry ∷ [])) ≡ state_of size next b.content
+  folded_more plain =
+      ap (fold (state_of size opened b.content)) (told_next plain)
+      ∙ ap (λ (s : State). fold s (told (memory_in size current a.content) journal ++ change ∷ [])) found_still
+      ∙ one_more (state_of size opened a.content) (told (memory_in size current a.content) journal) change
       ∙ sym next_is
 
-  pub found_same : (journal : List Change) (doubt : Option Change) (over : Bool)
-      → ◌≡◌ {A = Life} (record { found = state_of size opened b.content; journal = journal; doubt = doubt; over = over }) (record { found = state_of size opened a.content; journal = journal; doubt = doubt; over = over })
-  found_same journal doubt over = ap (λ (s : State). made s) found_still
-    where
-      made : State → Life
-      made s = record { found = s; journal = journal; doubt = doubt; over = over }
-
-  pub leaves_next : IsUp b size (1 - side) next → LeavesOnly b size (after (fold (state_of size opened a.content) (map change_of commands)) (change_of c))
+  pub leaves_next : IsUp b size (1 - side) next → LeavesOnly b size (after now change)
   leaves_next up = subst (LeavesOnly b size) next_is (up_leaves b size (1 - side) next up)
 
-  pub leaves_before : IsUp b size side current → LeavesOnly b size (fold (state_of size opened a.content) (map change_of commands))
+  pub leaves_before : IsUp b size side current → LeavesOnly b size now
   leaves_before up = subst (LeavesOnly b size) now_still (up_leaves b size side current up)
 
-  pub leaves_one : side < 2 → IsInDoubt b size side current next
-      → LeavesEither b size (fold (state_of size opened a.content) (map change_of commands)) (after (fold (state_of size opened a.content) (map change_of commands)) (change_of c))
+  pub leaves_one : side < 2 → IsInDoubt b size side current next → LeavesEither b size now (after now change)
   leaves_one known doubt =
-      subst (λ (s : State). LeavesEither b size s (after (fold (state_of size opened a.content) (map change_of commands)) (change_of c))) now_still
+      subst (λ (s : State). LeavesEither b size s (after now change)) now_still
       (subst (λ (s : State). LeavesEither b size (state_of size current b.content) s) next_is (doubt_leaves b size side current next known doubt))
 
-  pub either_moment : LeavesSince a b (SelectsEither size side current next a.content)
-      → LeavesSince a b (StandsForEither size (fold (state_of size opened a.content) (map change_of commands)) (after (fold (state_of size opened a.content) (map change_of commands)) (change_of c)))
+  pub either_moment : LeavesSince a b (SelectsEither size side current next a.content) → LeavesSince a b (StandsForEither size now (after now change))
   either_moment only =
-      leaves_weaker a b (SelectsEither size side current next a.content)
-      (StandsForEither size (fold (state_of size opened a.content) (map change_of commands)) (after (fold (state_of size opened a.content) (map change_of commands)) (change_of c)))
-      only
+      leaves_weaker a b (SelectsEither size side current next a.content) (StandsForEither size now (after now change)) only
       (λ x either.
       ⊎_elim
       (λ old. inl (subst (StandsFor x size) (sym folded) old))
-      (λ new. inr (subst (StandsFor x size) (follows.state a.content ∙ ap (λ (s : State). after s (change_of c)) (sym folded)) new))
+      (λ new. inr (subst (StandsFor x size) (follows.state a.content ∙ ap (λ (s : State). after s change) (sym folded)) new))
       (either_stands size side current next a.content x either))

@@ -2,10 +2,10 @@
 use Rattle.std.proofs.Common.{◌≡◌, ◌∙◌, ℕ, ◌<◌, sym, ap, subst}
 use Rattle.board_model.specs.Durable.{State, Change, after}
 use Rattle.board_model.specs.Shapes.{Size}
-use Rattle.board_model.specs.Shown.{change_of}
+use Rattle.board_model.specs.Shown.{change_in}
 use Rattle.disk.specs.Facts.{Facts}
 use Rattle.layout.specs.declared.records.Record.{Record}
-use Rattle.store.specs.Standing.{state_of}
+use Rattle.store.specs.Standing.{state_of, memory_in}
 use Rattle.store.specs.Leaves.{LeavesOnly, LeavesEither}
 use Rattle.store.specs.Commits.{IsUp, IsInDoubt}
 use Rattle.store.specs.declared.doubts.Doubt.{Doubt}
@@ -16,7 +16,7 @@ module _ (disk : Facts) (size : Size) (side : ℕ) (current : Record) (now s : S
   kept_up up = subst (LeavesOnly disk size) (sym (s_is ∙ folded)) (up_leaves disk size side current up)
 
   pub kept_down : (d : Doubt) (c : Change) (t : State) → side < 2 → IsInDoubt disk size side current d.next
-      → state_of size d.next disk.content ≡ after (state_of size current disk.content) (change_of d.command) → change_of d.command ≡ c → t ≡ after s c
+      → state_of size d.next disk.content ≡ after (state_of size current disk.content) (change_in d.entry (memory_in size d.next disk.content)) → change_in d.entry (memory_in size d.next disk.content) ≡ c → t ≡ after s c
       → LeavesEither disk size s t
   kept_down d c t known doubt doubted same t_is =
       let here = state_of size current disk.content in

@@ -5,6 +5,11 @@ pub mod Found
 pub mod Following
 pub mod Refusing
 pub mod Applies
+pub mod Going
+pub mod Freeing
+pub mod Suspending
+pub mod Answering
+pub mod Loading
 pub mod Formatting
 pub mod Reading
 pub mod Bridges

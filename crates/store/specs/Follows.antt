@@ -1,18 +1,32 @@
 -- The record that a command makes.
-use Rattle.std.specs.Prelude.{◌≡◌, None, is_some, if◌then◌else◌}
-use Rattle.board_model.specs.Durable.{Change, after}
-use Rattle.board_model.specs.Shapes.{Size}
+use Rattle.std.specs.Prelude.{◌≡◌, ℕ, ◌+◌, ◌<◌, List, length, Some, None, false, is_some, if◌then◌else◌}
+use Rattle.board_model.specs.Durable.{after}
+use Rattle.board_model.specs.Shapes.{Size, IsValidAddress, ram_bytes_of}
 use Rattle.board_model.specs.declared.durable.Durable.{Durable}
 use Rattle.disk.specs.Facts.{Content}
 use Rattle.layout.specs.Records.{IsInRange}
 use Rattle.layout.specs.declared.records.Record.{Record}
-use Rattle.store.specs.Standing.{state_of}
+use Rattle.store.specs.Standing.{state_of, memory_in}
+use Rattle.store.specs.Entries.{drops_image}
+use Rattle.board_model.specs.Shown.{change_in}
+use Rattle.board_model.specs.declared.durable.Entry.{Entry}
 
 -- the record of that durable state, whose image, where it has one, is the old record's
 abbrev pub next_of : Record → Durable → Record
 next_of r d = record { slot = d.slot; reason = d.reason; next = d.next; image = (if is_some d.image then r.image else None) }
 
--- the next record is that of the state after the command, and in range where the old one is
-pub record Follows (size : Size) (r : Record) (c : Change) (next : Record) : Type 0 where
-  pub state : (content : Content) → state_of size next content ≡ after (state_of size r content) c
+-- the record of the state after a suspension whose memory stands in that area
+abbrev pub suspended : Record → ℕ → ℕ → ℕ → ℕ → List ℕ → Record
+suspended r hart address opaque area counts =
+    record { slot = r.slot; reason = r.reason; next = r.next + 1; image = Some (record { head = record { serial = r.next; hart = hart; address = address; opaque = opaque }; area = area; counts = counts }) }
+
+-- the memory, the hart and the address are those of the board
+abbrev pub FitsBoard : Size → List ℕ → ℕ → ℕ → Type 0
+FitsBoard size memory hart address = (length memory ≡ ram_bytes_of size) × (hart < size.harts) × IsValidAddress size address
+
+-- the next record is that of the state after the command, and in range where the old one is; a command that keeps the image
+-- keeps its area
+pub record Follows (size : Size) (r : Record) (entry : Entry) (next : Record) : Type 0 where
+  pub state : (content : Content) → state_of size next content ≡ after (state_of size r content) (change_in entry (memory_in size next content))
   pub in_range : IsInRange size r → IsInRange size next
+  pub image : drops_image entry ≡ false → next.image ≡ r.image

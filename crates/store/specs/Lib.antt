@@ -1,8 +1,10 @@
+pub mod Entries
 pub mod Standing
 pub mod Leaves
 pub mod Commits
 pub mod Opens
 pub mod Lives
+pub mod Views
 pub mod Stores
 pub mod Follows
 pub mod Formats

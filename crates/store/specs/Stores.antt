@@ -2,14 +2,15 @@
 use Rattle.std.specs.Prelude.{◌≡◌, ℕ, List, Option, None, Some, length, map, option_map}
 use Rattle.board_model.specs.Durable.{State, Change, after}
 use Rattle.board_model.specs.Shapes.{Size}
-use Rattle.board_model.specs.Shown.{change_of}
 use Rattle.disk.specs.declared.device.ArmedFault.{ArmedFault}
 use Rattle.disk.specs.declared.device.Disk.{Ghosts}
 use Rattle.disk.specs.declared.device.Lane.{Ghosts as Lanes}
 use Rattle.disk.specs.Facts.{Facts}
 use Rattle.disk.specs.Mishaps.{Mishaps}
-use Rattle.store.specs.Standing.{state_of}
+use Rattle.store.specs.Standing.{state_of, memory_in}
+use Rattle.board_model.specs.Shown.{change_in}
 use Rattle.store.specs.Lives.{Life, now_of}
+use Rattle.store.specs.Views.{StoreView}
 use Rattle.store.specs.declared.stores.Store.{Store}
 
 module _ {D L : Type 0} {g : Ghosts D L} {l : Lanes L} where
@@ -30,8 +31,8 @@ module _ {D L : Type 0} {g : Ghosts D L} {l : Lanes L} where
   abbrev pub life_of : Store D L g l → Life
   life_of store = record {
     found = state_of store.shape store.opened (g.facts store.disk).content;
-    journal = map change_of store.journal.items;
-    doubt = option_map (λ x. change_of x.command) store.doubt;
+    journal = map (λ e. change_in e (memory_in store.shape store.current (g.facts store.disk).content)) store.journal.items;
+    doubt = option_map (λ x. change_in x.entry (memory_in store.shape x.next (g.facts store.disk).content)) store.doubt;
     over = store.over;
   }
 
@@ -61,3 +62,7 @@ module _ {D L : Type 0} {g : Ghosts D L} {l : Lanes L} where
   -- it is down: a command is in doubt, which makes t of s
   abbrev pub Doubts : Store D L g l → State → State → Type 0
   Doubts store s t = (c : Change) × (doubt_of store ≡ Some c) × (s ≡ now_state store) × (t ≡ after s c)
+
+  -- all of it
+  abbrev pub view_of : Store D L g l → StoreView
+  view_of store = record { disk = disk_of store; mishaps = mishaps_of store; size = size_of_store store; life = life_of store; failures_at_open = failures_at_open store }

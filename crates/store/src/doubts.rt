@@ -1,10 +1,10 @@
 //! A command whose fate is in doubt.
-use board_model::Command;
+use board_model::Entry;
 use layout::Record;
 
 /// A command that reached the disk, and of which nobody knows whether the gate selects its record.
 #[derive(Clone, Copy, Debug, PartialEq, Eq, Drop)]
 pub struct Doubt {
-    pub command: Command,
+    pub entry: Entry,
     pub next: Record,
 }

@@ -1,21 +1,30 @@
 //! The store: one life of the durable state.
-ghost use Rattle.std.specs.Prelude.{◌≡◌, ◌≤◌, ◌≢◌, ◌<◌, ◌⊎◌, length, map, vec_len, vec_capacity, Some, None, Err, IfOk, IfErr, OnOk, IsErrOf, MatchResult};
-ghost use Rattle.board_model.specs.Durable.{State, Change, after, fold, ends_life, refusal_of};
-ghost use Rattle.board_model.specs.Shown.{change_of, number_of};
-ghost use Rattle.board_model.specs.Shapes.{Size};
+ghost use Rattle.std.specs.Prelude.{◌≡◌, ◌≤◌, ◌≢◌, ◌<◌, ◌+◌, ◌-◌, ◌^◌, ◌⊎◌, ◌↔◌, IsTrue, ℕ, List, get_or, false, true, length, map, vec_len, vec_capacity, Some, None, Err, IfSome, IfOk, IfErr, OnOk, OnErr, IsErrOf, MatchResult};
+ghost use Rattle.board_model.specs.Durable.{State, Change, Suspend, after, fold, ends_life, refusal_of};
+ghost use Rattle.board_model.specs.Shown.{change_of, change_in, number_of};
+ghost use Rattle.board_model.specs.Shapes.{Size, IsSize, ram_bytes_of};
+ghost use Rattle.layout.specs.Records.{AreCounts};
+ghost use Rattle.layout.specs.declared.records.Saved.{Saved};
+ghost use Rattle.image.specs.Images.{area_of, memory_of};
+ghost use Rattle.image.specs.Refusals.{WriteRefused};
 ghost use Rattle.disk.specs.Facts.{Failed, Content};
-ghost use Rattle.store.specs.Standing.{state_of};
+ghost use Rattle.store.specs.Standing.{state_of, memory_in};
+ghost use Rattle.store.specs.Entries.{are_plain, drop_image};
 ghost use Rattle.store.specs.Commits.{Keeps};
-ghost use Rattle.store.specs.Follows.{next_of, Follows};
+ghost use Rattle.store.specs.Follows.{next_of, suspended, FitsBoard, Follows};
 ghost use Rattle.store.specs.declared.doubts.Doubt.{Doubt};
 
 use crate::commits::{Uncommitted, commit};
 use crate::doubts::Doubt;
 use crate::opens::find;
 use crate::receipts::Receipt;
-use board_model::{Command, Durable, MAX_COMMANDS, Refusal, Shape};
+use board_model::{Addr, Command, Durable, Entry, HartId, ImageHead, MAX_COMMANDS, Refusal, Shape};
+use crew::Crew;
 use disk::{ArmedFault, Disk};
-use layout::{Record, Side};
+use image::{read_area, write_area};
+use layout::{Record, Saved, Side};
+use ram::Ram;
+use savers::LaneCounts;
 use std::alloc::Global;
 
 /// An open store: one life of the durable state, over a disk that nobody else writes.
@@ -26,13 +35,15 @@ pub struct Store<D: Disk + Drop> {
     side: Side,
     opened: Record,
     current: Record,
-    journal: Vec<Command>,
+    journal: Vec<Entry>,
     doubt: Option<Doubt>,
     over: bool,
     failures_at_open: u64,
     ghost kept: { Keeps (D.facts disk) shape side current doubt },
-    ghost folded: { fold (state_of shape opened (D.facts disk).content) (map change_of journal.items) ≡ state_of shape current (D.facts disk).content },
-    ghost doubted: { (x : Doubt) → doubt ≡ Some x → state_of shape x.next (D.facts disk).content ≡ after (state_of shape current (D.facts disk).content) (change_of x.command) },
+    ghost folded: { fold (state_of shape opened (D.facts disk).content) (map (λ e. change_in e (memory_in shape current (D.facts disk).content)) journal.items) ≡ state_of shape current (D.facts disk).content },
+    ghost doubted: { (x : Doubt) → doubt ≡ Some x → state_of shape x.next (D.facts disk).content ≡ after (state_of shape current (D.facts disk).content) (change_in x.entry (memory_in shape x.next (D.facts disk).content)) },
+    ghost plain: { over ≡ false → are_plain journal.items ≡ true },
+    ghost same_image: { over ≡ false → drop_image journal.items ≡ false → current.image ≡ opened.image },
     ghost room: { vec_capacity journal ≡ 4096 },
     ghost few: { vec_len journal ≤ 4096 },
     ghost failed: { (x : Doubt) → doubt ≡ Some x → Failed failures_at_open (D.facts disk).failures },
@@ -41,13 +52,14 @@ pub struct Store<D: Disk + Drop> {
 
 impl<D: Disk + Drop> Store<D> {
     ghost use Rattle.board_model.specs.Shown.{durable_of};
-    ghost use Rattle.store.specs.Leaves.{IsIdle, SameLength, Leaves, LeavesOnly, LeavesEither, StandsForEither, IsRewritten};
-    ghost use Rattle.store.specs.Opens.{ReadsAs, OpenRefused, CausedRefusal};
-    ghost use Rattle.store.specs.Lives.{begun, Reaches, Refused, Applied};
-    ghost use Rattle.disk.specs.Facts.{LeavesSince, Unchanged};
+    ghost use Rattle.store.specs.Leaves.{IsIdle, SameLength, Leaves, LeavesOnly, LeavesEither};
+    ghost use Rattle.store.specs.Opens.{ReadsAs, OpenRefused, OpenCalls, CausedRefusal};
+    ghost use Rattle.store.specs.Lives.{begun, Reaches, TakesNone, Refused, Applied, IsReseen, SuspendRefused, Suspended, IsLoaded, LoadRefused};
+    ghost use Rattle.store.specs.Views.{Answered, StaysOpen};
+    ghost use Rattle.disk.specs.Facts.{LeavesSince, Unchanged, Passes, Stays, counted};
     ghost use Rattle.disk.specs.Mishaps.{armed_by};
-    ghost use Rattle.store.specs.Standing.{StandsFor};
-    ghost use Rattle.store.specs.Stores.{disk_of, mishaps_of, arms_of, size_of_store, life_of, found_state, journal_of, now_state, receipts, doubt_of, failures_at_open, Stands, Doubts};
+    ghost use Rattle.store.specs.Standing.{StandsFor, selected};
+    ghost use Rattle.store.specs.Stores.{disk_of, mishaps_of, arms_of, size_of_store, life_of, found_state, journal_of, now_state, receipts, doubt_of, failures_at_open, view_of, Stands, Doubts};
 
     /// Opens a disk, and so begins a life. What the last life left in doubt is settled by a sync. Each crash since the
     /// call's start, after a refusal too, leaves a content that a crash just before could have left, and after `Ok` only
@@ -77,6 +89,8 @@ impl<D: Disk + Drop> Store<D> {
 
         ensures content { MatchResult result (λ store. (disk_of store).content ≡ (D.facts disk).content) (λ e. (D.facts e.0).content ≡ (D.facts disk).content) }
         ensures no_failure { IfOk result (λ store. ((disk_of store).failures ≡ (D.facts disk).failures) × (failures_at_open store ≡ (D.facts disk).failures)) }
+        ensures calls { 0 < length (D.facts disk).content
+            → MatchResult result (λ store. (disk_of store).calls ≡ counted (D.facts disk).calls 4) (λ e. OpenCalls e.1 (D.facts disk).calls (D.facts e.0).calls) }
         ensures no_fewer { IfErr result (λ e. (D.facts disk).failures ≤ (D.facts e.0).failures) }
         ensures cause { MatchResult result (λ store. mishaps_of store ≡ D.mishaps disk) (λ e. CausedRefusal (D.mishaps disk) e.1 (D.mishaps e.0)) }
         ensures none_out { MatchResult result (λ store. IsIdle (disk_of store)) (λ e. IsIdle (D.facts e.0)) }
@@ -123,6 +137,20 @@ impl<D: Disk + Drop> Store<D> {
         self.current.durable()
     }
 
+    /// The entry of this life's journal at that place, from 1 as receipts count; none past its end.
+    pub fn entry(&self, number: u32) -> Option<Entry>
+        ensures some { IfSome result (λ e. (1 ≤ number) × (number ≤ receipts self.now) × ((memory : List ℕ) × (get_or (journal_of self.now) (number - 1) (change_in e memory) ≡ change_in e memory))) }
+        ensures none { result ≡ None → (number ≡ 0) ⊎ (receipts self.now < number) }
+    {
+        if number == 0 {
+            return None;
+        }
+        if self.journal.len() < number as usize {
+            return None;
+        }
+        Some(self.journal[number as usize - 1])
+    }
+
     /// Issues a command: its record is made durable, and then the gate that selects it. The receipt is its place in the
     /// journal of this life, from 1. Each crash since the call's start leaves the state before or the state after.
     ///
@@ -131,59 +159,51 @@ impl<D: Disk + Drop> Store<D> {
     /// before the gate was written; `Down` where it failed at the gate, and then this command is in doubt until the next
     /// open. After each refusal but `Down` a crash leaves the state before.
     pub fn apply(&mut self, command: Command) -> Result<Receipt, Refusal>
-        ensures up { doubt_of self.old ≡ None → Applied (life_of self.old) (change_of command) result (life_of self.new) }
+        ensures answered { doubt_of self.old ≡ None → Answered Applied (view_of self.old) (change_of command) result (view_of self.new) }
         ensures down { (c : Change) → doubt_of self.old ≡ Some c → (result ≡ Err Refusal.Down) × (self.new ≡ self.old) }
-
-        // Each acknowledged command is written, also one that changes nothing in value.
-        ensures written { OnOk result (IsRewritten (disk_of self.old) (disk_of self.new)) }
-
-        // What a crash leaves at any moment of the call, and after it.
-        ensures any_moment { doubt_of self.old ≡ None → LeavesSince (disk_of self.old) (disk_of self.new)
-            (StandsForEither (size_of_store self.old) (now_state self.old) (after (now_state self.old) (change_of command))) }
-        ensures acknowledged { OnOk result (LeavesOnly (disk_of self.new) (size_of_store self.old) (after (now_state self.old) (change_of command))) }
-        ensures unchanged { IfErr result (λ e. (e ≡ Refusal.Down → ⊥) → LeavesOnly (disk_of self.new) (size_of_store self.old) (now_state self.old)) }
-        ensures in_doubt { doubt_of self.old ≡ None → IsErrOf result Refusal.Down
-            → LeavesEither (disk_of self.new) (size_of_store self.old) (now_state self.old) (after (now_state self.old) (change_of command)) }
-
-        // A refusal but 5 and 6 leaves all as it was.
         ensures untouched { IfErr result (λ e. (e ≡ Refusal.Device → ⊥) → (e ≡ Refusal.Down → ⊥) → self.new ≡ self.old) }
-
-        // It gives up only where the disk failed.
-        ensures device { IsErrOf result Refusal.Device → Failed (disk_of self.old).failures (disk_of self.new).failures }
-        ensures gate { doubt_of self.old ≡ None → IsErrOf result Refusal.Down → Failed (disk_of self.old).failures (disk_of self.new).failures }
+        ensures calls { OnOk result ((disk_of self.new).calls ≡ counted (disk_of self.old).calls 4) }
         ensures life { IsErrOf result Refusal.Down → Failed (failures_at_open self.new) (disk_of self.new).failures }
-        ensures no_fewer { (disk_of self.old).failures ≤ (disk_of self.new).failures }
-        ensures unmoved { OnOk result (mishaps_of self.new ≡ mishaps_of self.old) }
-        ensures cause { doubt_of self.old ≡ None → IfErr result (λ e. CausedRefusal (mishaps_of self.old) e (mishaps_of self.new)) }
-
-        // The rest stays.
-        ensures board { size_of_store self.new ≡ size_of_store self.old }
-        ensures opened { failures_at_open self.new ≡ failures_at_open self.old }
-        ensures length { SameLength (disk_of self.old) (disk_of self.new) }
-        ensures none_out { IsIdle (disk_of self.new) }
+        ensures stays { StaysOpen (view_of self.old) (view_of self.new) }
     {
         let next = self.next_for(command)?;
-        match commit(&mut self.disk, self.side, &next) {
-            Ok(()) => {
-                self.side = self.side.other();
-                self.current = next;
-                self.over = ends_life(command);
-                self.journal.push_reserved(command);
-                Ok(Receipt::new(self.journal.len() as u32))
-            }
-            Err(Uncommitted::Unchanged) => Err(Refusal::Device),
-            Err(Uncommitted::InDoubt) => {
-                self.doubt = Some(Doubt { command, next });
-                Err(Refusal::Down)
-            }
-        }
+        self.issue(Entry::Command(command), next)
     }
 
-    // The record that the command makes, where it goes to the disk.
-    fn next_for(&self, command: Command) -> Result<Record, Refusal>
-        ensures ok { IfOk result (λ next. (self.now.doubt ≡ None) × Reaches (life_of self.now) (change_of command)
-            × Follows self.now.shape self.now.current (change_of command) next) }
-        ensures refused { IfErr result (λ e. doubt_of self.now ≡ None → Refused (life_of self.now) (change_of command) e (life_of self.now)) }
+    /// Suspends the board to the disk: this memory goes to the area that the live image does not use, through lanes and by
+    /// that crew, and is made durable; then the command is committed as any other. The life is then over.
+    ///
+    /// Refused `Down`, `Over` and `JournalFull` as other commands; then `BadShape` for a memory of another size, or a hart or
+    /// an address that the board has not; then `SerialsSpent` where no serial is left; `Memory`; `Device` where the disk
+    /// failed before the gate was written, and `Down` where it failed at the gate. After each refusal but `Down` a crash leaves
+    /// the state before, its image with all its bytes, also one that is then in the way of nothing but a later suspension.
+    pub fn suspend<C: Crew>(
+        &mut self,
+        alloc: Global,
+        ram: &Ram,
+        crew: &C,
+        hart: HartId,
+        address: Addr,
+        opaque: u64,
+    ) -> Result<Receipt, Refusal>
+        ensures answered { doubt_of self.old ≡ None → Answered (Suspended (FitsBoard (size_of_store self.old) ram.now hart address))
+            (view_of self.old) (Suspend hart address opaque ram.now) result (view_of self.new) }
+        ensures down { (c : Change) → doubt_of self.old ≡ Some c → (result ≡ Err Refusal.Down) × (self.new ≡ self.old) }
+        ensures untouched { IfErr result (λ e. (e ≡ Refusal.Device → ⊥) → (e ≡ Refusal.Down → ⊥) → (e ≡ Refusal.Memory → ⊥) → self.new ≡ self.old) }
+        ensures life { IsErrOf result Refusal.Down → Failed (failures_at_open self.new) (disk_of self.new).failures }
+        ensures stays { StaysOpen (view_of self.old) (view_of self.new) }
+    {
+        self.may_suspend(ram, hart, address)?;
+        let (area, counts) = self.write_free(alloc, ram, crew)?;
+        let next = suspended(&self.current, hart, address, opaque, area, counts);
+        self.issue(Entry::Suspend(hart, address, opaque), next)
+    }
+
+    // What each command is asked first: refused `Down` where one is in doubt, `Over` in a life that has ended, and
+    // `JournalFull` where there is no room for another.
+    fn takes(&self) -> Result<(), Refusal>
+        ensures ok { OnOk result ((self.now.doubt ≡ None) × (self.now.over ≡ false) × (receipts self.now < 4096)) }
+        ensures refused { IfErr result (λ e. doubt_of self.now ≡ None → TakesNone (life_of self.now) e) }
         ensures up { IfErr result (λ e. doubt_of self.now ≡ None → e ≡ Refusal.Down → ⊥) }
         ensures not_device { IsErrOf result Refusal.Device → ⊥ }
         ensures down { (c : Change) → doubt_of self.now ≡ Some c → result ≡ Err Refusal.Down }
@@ -197,7 +217,126 @@ impl<D: Disk + Drop> Store<D> {
         if self.journal.len() == MAX_COMMANDS {
             return Err(Refusal::JournalFull);
         }
+        Ok(())
+    }
+
+    // Whether a suspension may go to the disk.
+    fn may_suspend(&self, ram: &Ram, hart: HartId, address: Addr) -> Result<(), Refusal>
+        ensures ok { OnOk result ((self.now.doubt ≡ None) × (self.now.over ≡ false) × (receipts self.now < 4096) × FitsBoard self.now.shape ram.now hart address × (self.now.current.next + 1 < 2 ^ 64)) }
+        ensures refused { IfErr result (λ e. (opaque : ℕ) → doubt_of self.now ≡ None
+            → SuspendRefused (FitsBoard self.now.shape ram.now hart address) (life_of self.now) (Suspend hart address opaque ram.now) e (life_of self.now)) }
+        ensures up { IfErr result (λ e. doubt_of self.now ≡ None → e ≡ Refusal.Down → ⊥) }
+        ensures not_device { IsErrOf result Refusal.Device → ⊥ }
+        ensures down { (c : Change) → doubt_of self.now ≡ Some c → result ≡ Err Refusal.Down }
+    {
+        self.takes()?;
+        if !fits_board(&self.shape, ram, hart, address) {
+            return Err(Refusal::BadShape);
+        }
+        if self.current.next == u64::MAX {
+            return Err(Refusal::SerialsSpent);
+        }
+        Ok(())
+    }
+
+    // Writes the memory into the area that the live image does not use. The state stays, with all bytes of its image.
+    fn write_free<C: Crew>(
+        &mut self,
+        alloc: Global,
+        ram: &Ram,
+        crew: &C,
+    ) -> Result<(Side, LaneCounts), Refusal>
+        requires up { self.old.doubt ≡ None }
+        requires going { self.old.over ≡ false }
+        requires ram { length ram.now ≡ ram_bytes_of self.old.shape }
+        ensures area { IfOk result (λ saved. saved.0 < 2) }
+        ensures counts { IfOk result (λ saved. AreCounts self.old.shape saved.1) }
+        ensures reads { IfOk result (λ saved. memory_of self.old.shape self.old.current.next saved.1 (area_of self.old.shape saved.0 (disk_of self.new).content) ≡ ram.now) }
+        ensures size { OnOk result (IsSize self.old.shape) }
+        ensures life { life_of self.new ≡ record (life_of self.old) { found = found_state self.new } }
+        ensures reseen { IsReseen (life_of self.old) (found_state self.new) }
+        ensures any_moment { LeavesSince (disk_of self.old) (disk_of self.new) (λ c. StandsFor c (size_of_store self.old) (now_state self.old)) }
+        ensures refused { IfErr result (λ e. WriteRefused (disk_of self.old) (mishaps_of self.old) e (disk_of self.new) (mishaps_of self.new)) }
+        ensures no_failure { OnOk result ((disk_of self.new).failures ≡ (disk_of self.old).failures) }
+        ensures unmoved { OnOk result (mishaps_of self.new ≡ mishaps_of self.old) }
+        ensures same { (self.new.doubt ≡ self.old.doubt) × (self.new.over ≡ self.old.over) × (self.new.current ≡ self.old.current) × (self.new.shape ≡ self.old.shape) × (self.new.journal ≡ self.old.journal) × (self.new.failures_at_open ≡ self.old.failures_at_open) }
+        ensures selected { selected (disk_of self.new).content ≡ selected (disk_of self.old).content }
+        ensures length { SameLength (disk_of self.old) (disk_of self.new) }
+        ensures none_out { IsIdle (disk_of self.new) }
+    {
+        let area = free_area(&self.current);
+        let serial = self.current.next;
+        let counts = write_area(alloc, &mut self.disk, crew, &self.shape, area, ram, serial)?;
+        Ok((area, counts))
+    }
+
+    // Commits an entry that may go to the disk.
+    fn issue(&mut self, entry: Entry, next: Record) -> Result<Receipt, Refusal>
+        requires up { self.old.doubt ≡ None }
+        requires reaches { Reaches (life_of self.old) (change_in entry (memory_in self.old.shape next (disk_of self.old).content)) }
+        requires follows { Follows self.old.shape self.old.current entry next }
+        ensures answered { Answered Applied (view_of self.old) (change_in entry (memory_in self.old.shape next (disk_of self.old).content)) result (view_of self.new) }
+        ensures few { IfErr result (λ e. (e ≡ Refusal.Device) ⊎ (e ≡ Refusal.Down)) }
+        ensures calls { OnOk result ((disk_of self.new).calls ≡ counted (disk_of self.old).calls 4) }
+        ensures life { IsErrOf result Refusal.Down → Failed (failures_at_open self.new) (disk_of self.new).failures }
+        ensures stays { StaysOpen (view_of self.old) (view_of self.new) }
+    {
+        let ends = ends_life(&entry);
+        match commit(&mut self.disk, self.side, &next) {
+            Ok(()) => {
+                self.side = self.side.other();
+                self.current = next;
+                self.over = ends;
+                self.journal.push_reserved(entry);
+                Ok(Receipt::new(self.journal.len() as u32))
+            }
+            Err(Uncommitted::Unchanged) => Err(Refusal::Device),
+            Err(Uncommitted::InDoubt) => {
+                self.doubt = Some(Doubt { entry, next });
+                Err(Refusal::Down)
+            }
+        }
+    }
+
+    // The record that the command makes, where it goes to the disk.
+    fn next_for(&self, command: Command) -> Result<Record, Refusal>
+        ensures ok { IfOk result (λ next. (self.now.doubt ≡ None) × Reaches (life_of self.now) (change_of command)
+            × Follows self.now.shape self.now.current (Entry.Command command) next) }
+        ensures refused { IfErr result (λ e. doubt_of self.now ≡ None → Refused (life_of self.now) (change_of command) e (life_of self.now)) }
+        ensures up { IfErr result (λ e. doubt_of self.now ≡ None → e ≡ Refusal.Down → ⊥) }
+        ensures not_device { IsErrOf result Refusal.Device → ⊥ }
+        ensures down { (c : Change) → doubt_of self.now ≡ Some c → result ≡ Err Refusal.Down }
+    {
+        self.takes()?;
         record_after(&self.current, command)
+    }
+
+    /// Loads the memory of the image that stands. Nothing of the disk changes, and no command is issued: the image stays.
+    ///
+    /// Refused `BadShape` for a memory of another size, `NoImage` where no image stands, `Device` where the disk failed in this
+    /// call, and `BadImage` where the image reads as no memory. After `Device` and `BadImage` the memory is of no use.
+    pub fn load_image(&mut self, ram: &mut Ram) -> Result<(), Refusal>
+        ensures loads { OnOk result (IsLoaded (now_state self.old) ram.new) }
+        ensures refused { IfErr result (λ e. LoadRefused (size_of_store self.old) (now_state self.old) ram.old (disk_of self.old) (mishaps_of self.old) e (disk_of self.new) (mishaps_of self.new)) }
+        ensures life { life_of self.new ≡ life_of self.old }
+        ensures crash { Passes (disk_of self.old) (disk_of self.new) Stays }
+        ensures content { (disk_of self.new).content ≡ (disk_of self.old).content }
+        ensures length { length ram.new ≡ length ram.old }
+        ensures no_failure { OnOk result ((disk_of self.new).failures ≡ (disk_of self.old).failures) }
+        ensures no_fewer { (disk_of self.old).failures ≤ (disk_of self.new).failures }
+        ensures unmoved { OnOk result (mishaps_of self.new ≡ mishaps_of self.old) }
+        ensures board { size_of_store self.new ≡ size_of_store self.old }
+        ensures opened { failures_at_open self.new ≡ failures_at_open self.old }
+        ensures none_out { IsIdle (disk_of self.new) }
+    {
+        if ram.pages() != self.shape.pages() {
+            return Err(Refusal::BadShape);
+        }
+        let Some(saved) = self.current.image else {
+            return Err(Refusal::NoImage);
+        };
+        read_area(&mut self.disk, &self.shape, &saved, ram)?;
+        Ok(())
     }
 
     /// Arms a fault of the disk, which changes nothing of the store.
@@ -253,7 +392,7 @@ impl<D: Disk + Drop> Store<D> {
 
 // The record that the command makes. Refused `BadSlot` and `NoImage` by the table of commands.
 fn record_after(old: &Record, command: Command) -> Result<Record, Refusal>
-    ensures ok { IfOk result (λ next. (size : Size) (content : Content) → (refusal_of (state_of size old.now content) (change_of command) ≡ None) × Follows size old.now (change_of command) next) }
+    ensures ok { IfOk result (λ next. (size : Size) (content : Content) → (refusal_of (state_of size old.now content) (change_of command) ≡ None) × Follows size old.now (Entry.Command command) next) }
     ensures refused { IfErr result (λ e. (size : Size) (content : Content) → refusal_of (state_of size old.now content) (change_of command) ≡ Some (number_of e)) }
     ensures few { IfErr result (λ e. (e ≡ Refusal.BadSlot) ⊎ (e ≡ Refusal.NoImage)) }
 {
@@ -277,9 +416,60 @@ fn next_record(old: &Record, durable: &Durable) -> Record
     }
 }
 
-// Whether the command ends the life in which it is issued: a reset does.
-fn ends_life(command: Command) -> bool
-    ensures { result ≡ ends_life (change_of command) }
+// Whether the memory, the hart and the address are the board's.
+fn fits_board(shape: &Shape, ram: &Ram, hart: HartId, address: Addr) -> bool
+    ensures { IsTrue result ↔ FitsBoard shape.now ram.now hart address }
 {
-    matches!(command, Command::Reset(_))
+    ram.pages() == shape.pages()
+        && shape.hart(hart.number() as u64).is_some()
+        && shape.address(address.value()).is_some()
+}
+
+// The area that the record's image does not use, area 0 where there is none.
+fn free_area(r: &Record) -> Side
+    ensures free { (saved : Saved) → r.now.image ≡ Some saved → (result ≡ 0 → saved.area ≡ 0 → ⊥) × (result ≡ 1 → saved.area ≡ 1 → ⊥) }
+    ensures first { r.now.image ≡ None → result ≡ 0 }
+    ensures range { result < 2 }
+{
+    match r.image {
+        None => Side::first(),
+        Some(saved) => saved.area.other(),
+    }
+}
+
+// The record of the state after a suspension whose memory stands in that area.
+fn suspended(
+    old: &Record,
+    hart: HartId,
+    address: Addr,
+    opaque: u64,
+    area: Side,
+    counts: LaneCounts,
+) -> Record
+    requires { old.now.next + 1 < 2 ^ 64 }
+    ensures { result ≡ suspended old.now hart address opaque area counts }
+{
+    let head = ImageHead {
+        serial: old.next,
+        hart,
+        address,
+        opaque,
+    };
+    Record {
+        slot: old.slot,
+        reason: old.reason,
+        next: old.next + 1,
+        image: Some(Saved { head, area, counts }),
+    }
+}
+
+// Whether the command ends the life in which it is issued: a reset and a suspension do.
+fn ends_life(entry: &Entry) -> bool
+    ensures { (memory : List ℕ) → result ≡ ends_life (change_in entry.now memory) }
+{
+    match entry {
+        Entry::Command(Command::Reset(_)) => true,
+        Entry::Command(_) => false,
+        Entry::Suspend(..) => true,
+    }
 }

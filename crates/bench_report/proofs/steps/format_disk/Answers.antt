@@ -15,5 +15,5 @@ returns-in-Ok-clause-told c = λ b h.
 pub returns-in-Err-clause-told : goal.returns-in-Err-clause-told
 returns-in-Err-clause-told c = λ b h.
     let did = c.in-Err.ensures in
-    formats_err c.args.shape.now b c.args.disk c.format.new.disk c.says-in-Err.result c.in-Err.e h.0 h.2 did.refused did.marked did.cause did.no_fewer did.length
+    formats_err c.args.shape.now b c.args.disk c.format.new.disk c.says-in-Err.result c.in-Err.e h.0 h.2 did.refused (λ has. (did.marked has).0) did.cause did.no_fewer did.length
     (c.says-in-Err.ensures ∙ ap (λ n. says (printed.FormatRefused n)) c.code.ensures) b.medium refl h.1

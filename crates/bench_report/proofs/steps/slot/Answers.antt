@@ -1,4 +1,4 @@
-use Rattle.std.proofs.Common.{refl, ◌∙◌, ap, subst, Option, Err}
+use Rattle.std.proofs.Common.{refl, ◌∙◌, ap, subst, Option}
 use Rattle.board_model.specs.Durable.{Slot}
 use Rattle.bench_report.specs.Bench.{Life}
 use Rattle.bench_report.specs.Steps.{says}
@@ -12,12 +12,12 @@ pub returns-in-Ok-clause-told : goal.returns-in-Ok-clause-told
 returns-in-Ok-clause-told c = λ size b life on h.
     let did = c.in-Ok.ensures in
     let P : Option Life → Type 0 = λ p. StoreIs size b.medium p (store_in c.args.board.now) in
-    told_ok size b life (Slot c.args.n) (store_in c.args.board.now) (store_in c.console.new.self) c.says.result (λ n. printed.Slot n) (λ n. printed.SlotRefused n) on (subst P on h.0) h.1 did.board did.length did.no_fewer refl life.doubt refl
-    _ (c.says.ensures ∙ ap (λ n. says (printed.Slot n)) c.number.ensures) did.up did.down did.unmoved
+    told_ok size b life (Slot c.args.n) (store_in c.args.board.now) (store_in c.console.new.self) c.says.result (λ n. printed.Slot n) (λ n. printed.SlotRefused n) on (subst P on h.0) h.1 did.stays.board did.stays.length did.stays.no_fewer refl life.doubt refl
+    _ (c.says.ensures ∙ ap (λ n. says (printed.Slot n)) c.number.ensures) (λ none. (did.answered none).life) did.down (λ none. (did.answered none).cause)
 
 pub returns-in-Err-clause-told : goal.returns-in-Err-clause-told
 returns-in-Err-clause-told c = λ size b life on h.
     let did = c.in-Err.ensures in
     let P : Option Life → Type 0 = λ p. StoreIs size b.medium p (store_in c.args.board.now) in
-    told_err size b life (Slot c.args.n) (store_in c.args.board.now) (store_in c.console.new.self) c.says-in-Err.result (λ n. printed.Slot n) (λ n. printed.SlotRefused n) on (subst P on h.0) h.1 did.board did.length did.no_fewer life.doubt refl
-    c.in-Err.e (c.says-in-Err.ensures ∙ ap (λ n. says (printed.SlotRefused n)) c.code.ensures) did.up did.down did.cause (λ f. did.device (ap Err f)) (λ none f. did.gate none (ap Err f))
+    told_err size b life (Slot c.args.n) (store_in c.args.board.now) (store_in c.console.new.self) c.says-in-Err.result (λ n. printed.Slot n) (λ n. printed.SlotRefused n) on (subst P on h.0) h.1 did.stays.board did.stays.length did.stays.no_fewer life.doubt refl
+    c.in-Err.e (c.says-in-Err.ensures ∙ ap (λ n. says (printed.SlotRefused n)) c.code.ensures) (λ none. (did.answered none).life) did.down (λ none. (did.answered none).cause) (λ none. (did.answered none).counts)

@@ -1,4 +1,5 @@
-use Rattle.std.proofs.Common.{rules, ◌≡◌, sym, ◌∙◌, ap, refl, subst}
+use Rattle.std.proofs.Common.{rules, ◌≡◌, Some, sym, ◌∙◌, ap, refl, subst}
+use Rattle.board_model.specs.declared.durable.Durable.{Durable}
 use Rattle.board_model.specs.Shown.{durable_of}
 use Rattle.store.specs.Leaves.{Leaves}
 use Rattle.store.specs.Standing.{StandsFor}
@@ -30,6 +31,12 @@ returns-in-Err-ready-clause-refused g c =
     let moments : LeavesSince (g.D.Disk.facts c.args.disk) disk (MayLeave (g.D.Disk.facts c.args.disk) size s (gone_before c.in-Err-ready.refusal)) =
     kept_meanwhile _ (disk_of c.in-Ok.store) (disk_of c.ready.new.store) disk size s _ c.in-Ok.ensures.any_moment c.in-Err-ready.ensures.any_moment c.into_disk.ensures.facts in
     (size, s, c.found.ensures ∙ ap (λ (x : Life). durable_of x.found) life, reads, found, why, subst (λ z. LeavesLife (doubt_after c.in-Err-ready.refusal) disk z s) as_was left, moments)
+
+pub returns-in-Err-ready-clause-now : goal.returns-in-Err-ready-clause-now
+returns-in-Err-ready-clause-now g c =
+    let s = found_state c.in-Ok.store in
+    let life : life_of c.ready.new.store ≡ life_refused c.in-Err-ready.refusal s = search rules in
+    (s, c.found.ensures ∙ ap (λ (x : Life). durable_of x.found) life, ap (λ (d : Durable). Some d) (c.now.ensures ∙ ap (λ (x : Life). durable_of (now_of x)) life))
 
 -- since the start of the open, the disk went on as the open and the boot leave it
 pub returns-in-Ok-ready-clause-any_moment : goal.returns-in-Ok-ready-clause-any_moment

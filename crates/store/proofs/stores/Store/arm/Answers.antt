@@ -1,8 +1,8 @@
 use Rattle.std.proofs.Common.{◌≡◌, ◌≤◌, ℕ, map, sym, subst}
 use Rattle.board_model.specs.Durable.{after, fold}
-use Rattle.board_model.specs.Shown.{change_of}
+use Rattle.board_model.specs.Shown.{change_in}
 use Rattle.disk.specs.Facts.{Content}
-use Rattle.store.specs.Standing.{state_of}
+use Rattle.store.specs.Standing.{state_of, memory_in}
 use Rattle.store.proofs.Armed.{still_keeps, still_failed}
 use Rattle.store.proofs.stores.Store.arm.Goals as goal
 
@@ -14,8 +14,10 @@ invariant_of-self g c =
     let same = c.arm.ensures.facts in
     record {
       kept = still_keeps a b same s.shape s.side s.current s.doubt s.kept;
-      folded = subst (λ (d : Content). fold (state_of s.shape s.opened d) (map change_of s.journal.items) ≡ state_of s.shape s.current d) (sym same.content) s.folded;
-      doubted = λ x is. subst (λ (d : Content). state_of s.shape x.next d ≡ after (state_of s.shape s.current d) (change_of x.command)) (sym same.content) (s.doubted x is);
+      folded = subst (λ (d : Content). fold (state_of s.shape s.opened d) (map (λ e. change_in e (memory_in s.shape s.current d)) s.journal.items) ≡ state_of s.shape s.current d) (sym same.content) s.folded;
+      doubted = λ x is. subst (λ (d : Content). state_of s.shape x.next d ≡ after (state_of s.shape s.current d) (change_in x.entry (memory_in s.shape x.next d))) (sym same.content) (s.doubted x is);
+      plain = s.plain;
+      same_image = s.same_image;
       room = s.room;
       few = s.few;
       failed = λ x is. still_failed s.failures_at_open a.failures b.failures same.failures (s.failed x is);

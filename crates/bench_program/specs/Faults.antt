@@ -1,0 +1,28 @@
+-- The text and the status of each fault with which the program ends. Source: README.md, docs/SCRIPT.md.
+use Rattle.std.specs.Prelude.{ℕ, List, [], ◌++◌, Result, Ok, Err}
+use Rattle.std.specs.Fmt.{decimal}
+use Rattle.board_model.specs.Shown.{number_of}
+use Rattle.board_model.specs.declared.refusal.Refusal.{Refusal}
+use Rattle.board_model.specs.declared.refusal.Refusal.TheVariants.{BadScript}
+use Rattle.bench_program.specs.declared.fault.Fault.{Fault}
+use Rattle.bench_program.specs.declared.fault.Fault.TheVariants.{Usage, Input, Refused, Closed}
+use lib.Chars.{codes}
+
+-- the number of a refusal, and of a malformed script the line too
+abbrev pub refusal_text : Refusal → List ℕ
+refusal_text (BadScript line) = decimal (number_of (BadScript line)) ++ codes " line " ++ decimal line
+refusal_text e = decimal (number_of e)
+
+abbrev pub fault_text : Fault → List ℕ
+fault_text Input = codes "sbibench: input\n"
+fault_text (Refused e) = codes "sbibench: refusal " ++ refusal_text e ++ codes "\n"
+fault_text Usage = []
+fault_text Closed = []
+
+-- the status with which the program ends
+abbrev pub status_after : {A : Type 0} → Result A Fault → ℕ
+status_after (Ok done) = 0
+status_after (Err Usage) = 2
+status_after (Err Input) = 1
+status_after (Err (Refused e)) = 1
+status_after (Err Closed) = 1

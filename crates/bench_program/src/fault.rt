@@ -1,0 +1,63 @@
+//! Why the program ends without a whole report: the status for it, and the text that says so.
+
+ghost use Rattle.std.specs.Prelude.{◌≡◌, Some};
+ghost use Rattle.bench_program.specs.Faults.{fault_text, refusal_text, status_after};
+
+use board_model::Refusal;
+use std::fmt;
+
+/// Why the program ends without a whole report. It prints as a whole line, or as nothing.
+#[derive(Clone, Copy, Debug, Drop)]
+pub enum Fault {
+    /// The command line has a fault, which was told by the command line's own text.
+    Usage,
+    /// The standard input failed.
+    Input,
+    /// The script was refused, or its report could not be written.
+    Refused(Refusal),
+    /// Nobody reads the standard output any more, and nothing is said of it.
+    Closed,
+}
+
+// The number of a refusal, and of a malformed script the line too.
+#[derive(Drop)]
+struct RefusalText(Refusal);
+
+impl fmt::Display for RefusalText {
+    ghost output = { λ r. Some (refusal_text r.0) };
+
+    fn fmt<W: fmt::Write>(&self, f: &mut fmt::Formatter<W>) -> fmt::Result {
+        let code = self.0.code();
+        match self.0 {
+            Refusal::BadScript(line) => write!(f, "{code} line {line}"),
+            _ => write!(f, "{code}"),
+        }
+    }
+}
+
+impl fmt::Display for Fault {
+    ghost output = { λ fault. Some (fault_text fault) };
+
+    fn fmt<W: fmt::Write>(&self, f: &mut fmt::Formatter<W>) -> fmt::Result {
+        match *self {
+            Fault::Input => f.write_str("sbibench: input\n"),
+            Fault::Refused(refusal) => {
+                let text = RefusalText(refusal);
+                writeln!(f, "sbibench: refusal {text}")
+            }
+            Fault::Usage | Fault::Closed => Ok(()),
+        }
+    }
+}
+
+/// The program's status (README.md, "The program"): 0 where it did what it was asked, 2 for a fault of the command line, and
+/// 1 for any other.
+pub fn status_of(done: &Result<(), Fault>) -> u8
+    ensures { result ≡ status_after done.now }
+{
+    match done {
+        Ok(()) => 0,
+        Err(Fault::Usage) => 2,
+        Err(_) => 1,
+    }
+}

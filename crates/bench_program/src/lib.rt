@@ -1,0 +1,108 @@
+//! What the program `sbibench` does: its command line, the script that it reads, the report that it writes, and its status.
+#![tactic(auto)]
+
+mod fault;
+mod pipe;
+mod usage;
+
+ghost use Rattle.std.specs.Prelude.{◌≡◌, ◌⊎◌, List, [], OnOk, IfOk, IfErr, IfSome, Ok, Err, take};
+ghost use Rattle.std.specs.Io.Buffered.{writer_buffer, writer_contents};
+ghost use Rattle.std.specs.Io.KnownBytes.{Appends};
+ghost use Rattle.board_model.specs.declared.refusal.Refusal.{Refusal};
+ghost use Rattle.board_model.specs.declared.refusal.Refusal.TheVariants.{Memory};
+ghost use Rattle.bench_program.specs.declared.fault.Fault.TheVariants.{Input, Refused};
+ghost use Rattle.script_lang.specs.Scripts.{script_of, Script as Said};
+ghost use Rattle.bench_report.specs.Bench.{Bench};
+ghost use Rattle.bench_report.specs.Reports.{IsReport, report_text};
+ghost use Rattle.bench_report.specs.declared.printed.Answer.{Answer};
+
+use crate::fault::{Fault, status_of};
+use crate::pipe::Pipe;
+use crate::usage::{Wish, asked};
+use bench_report::run;
+use board_model::{MAX_LINE_BYTES, MAX_SCRIPT_LINES, Refusal};
+use std::alloc::Global;
+use std::io::{self, BufWriter, ErrorKind, IsTerminal, Read, Write};
+use std::process::ExitCode;
+
+/// How many bytes of a report are written at once into a pipe or a file. A terminal gets each as it is made.
+const WRITTEN_AT_ONCE: usize = 65_536;
+
+/// One byte more than the longest script has, each line with its line feed: more bytes change nothing of the first fault.
+const READ_AT_MOST: u64 = (MAX_SCRIPT_LINES * (MAX_LINE_BYTES + 1) + 1) as u64;
+
+/// The script: the input to its end, or as much of it as tells its first fault. Answers `Input` where the input failed, and
+/// the refusal `Memory` where memory was refused.
+fn read_script<R: Read + Drop>(alloc: Global, input: R) -> Result<Vec<u8>, Fault>
+    // It says what the whole input says, where its bytes are known: the script, or its first fault.
+    ensures said { IfOk result (λ script. IfSome (R.remaining input) (λ bytes. script_of script.items ≡ script_of bytes)) }
+    // It is the whole input, but for what is more than any script has.
+    ensures bytes { IfOk result (λ script. IfSome (R.remaining input) (λ bytes. script.items ≡ take 268500993 bytes)) }
+    ensures failed { IfErr result (λ e. (e ≡ Input) ⊎ (e ≡ Refused Memory)) }
+{
+    let mut script = Vec::new(alloc);
+    match input.take(READ_AT_MOST).read_to_end(&mut script) {
+        Ok(_) => Ok(script),
+        Err(e) if e.kind() == ErrorKind::OutOfMemory => Err(Fault::Refused(Refusal::Memory)),
+        Err(_) => Err(Fault::Input),
+    }
+}
+
+/// Runs the script, and writes its report to the end.
+fn report_to<W: Write + Drop>(
+    alloc: Global,
+    script: &[u8],
+    out: &mut BufWriter<W>,
+) -> Result<(), Refusal>
+    // What was written is a report of the script, and nothing else.
+    ensures report { OnOk result ((said : Said) × (answers : List Answer) × (end : Bench)
+        × (script_of script.now ≡ Ok said) × IsReport said answers end × Appends (writer_contents W.contents out.old) (writer_contents W.contents out.new) (report_text answers)) }
+    // Nothing of it is held back.
+    ensures flushed { OnOk result (writer_buffer out.new ≡ []) }
+    // A refusal is the script's fault, or out of memory, or the writer's.
+    ensures refused { IfErr result (λ e. (e ≡ Refusal.Memory) ⊎ (e ≡ Refusal.Output) ⊎ (script_of script.now ≡ Err e)) }
+    // A script with a fault writes nothing.
+    ensures nothing { (e : Refusal) → script_of script.now ≡ Err e → (writer_contents W.contents out.new ≡ writer_contents W.contents out.old) × ((result ≡ Err e) ⊎ (result ≡ Err Refusal.Memory)) }
+{
+    run(alloc, script, out)?;
+    out.flush().map_err(|_| Refusal::Output)
+}
+
+/// Writes the report of the script to the standard output.
+fn write_report(rt: &HostRuntime, script: &[u8]) -> Result<(), Fault> {
+    let at_once = if rt.stdout().is_terminal() {
+        0
+    } else {
+        WRITTEN_AT_ONCE
+    };
+    let pipe = Pipe::new(io::writer(rt));
+    let Ok(mut out) = BufWriter::with_capacity(rt.alloc(), at_once, pipe) else {
+        return Err(Fault::Refused(Refusal::Memory));
+    };
+    match report_to(rt.alloc(), script, &mut out) {
+        Ok(()) => Ok(()),
+        Err(_) if out.get_ref().is_closed() => Err(Fault::Closed),
+        Err(e) => Err(Fault::Refused(e)),
+    }
+}
+
+/// Does what the command line asks for.
+fn reported(rt: &HostRuntime) -> Result<(), Fault> {
+    match asked(rt)? {
+        Wish::Shown => Ok(()),
+        Wish::Report => {
+            let script = read_script(rt.alloc(), rt.reader())?;
+            write_report(rt, &script)
+        }
+    }
+}
+
+/// The whole program: reads a script from standard input and writes its report to standard output (docs/SCRIPT.md), or says
+/// why not on standard error. Answers the status that README.md, "The program", has.
+pub fn bench(rt: &HostRuntime) -> ExitCode {
+    let done = reported(rt);
+    if let Err(fault) = &done {
+        let _told = eprint!(rt; "{fault}");
+    }
+    ExitCode::from(status_of(&done))
+}

@@ -1,0 +1,116 @@
+//! The command line, and what `--help` says.
+
+use crate::fault::Fault;
+use board_model::Refusal;
+use clap::error::ErrorKind;
+use clap::{Command, Error};
+use std::alloc::Global;
+use std::{env, io};
+
+/// The version of the firmware.
+const VERSION: &str = "1";
+
+const USAGE: &str = "sbibench < SCRIPT";
+
+const ABOUT: &str = "\
+Runs a script of programs, commands and power cuts on a modelled RISC-V board.
+
+The script comes on standard input, and its report goes to standard output.";
+
+const NUMBERS: &str = "\
+Status:
+  0  the script ran and its report was written; what was refused or is not
+     built stands in the report
+  1  the script did not run, or its report was not written: standard error has
+     'sbibench: refusal N', for a malformed script 'sbibench: refusal 14 line K',
+     for failed input 'sbibench: input', and nothing where no one reads the
+     report
+  2  a fault of the command line
+
+Refusals, on standard error and in reports:
+   1  the disk is not formatted
+   2  the disk is formatted already
+   3  a number of the shape is out of its range, or the disk, the payload or
+      the RAM does not fit the shape
+   4  the selected record is not in its form
+   5  the device failed, and the durable state is unchanged
+   6  the fate of a command is in doubt until the disk is opened again
+   7  this life has ended by a reset or a suspension
+   8  no image stands
+   9  the boot slot is above 3
+  10  the journal of this life is full
+  11  memory was refused
+  12  every serial has been given out
+  13  a place of the image is not in its form
+  14  line K of the script is not in its form
+  15  an image stands, and a fresh boot would leave it behind
+  16  the report could not be written
+
+A first script:
+  board 1 1 1
+  format
+  on fresh
+  slot 1
+  cut 00
+  on fresh
+
+docs/SCRIPT.md of the source has the language, docs/REFUSALS.md the refusals,
+and crates/examples/data more scripts, each with its report.";
+
+/// What the words of the command line ask for.
+#[derive(Clone, Copy, Debug, Drop)]
+pub enum Wish {
+    /// The report of the script.
+    Report,
+    /// Nothing more: the help or the version was shown.
+    Shown,
+}
+
+fn command<'a>(alloc: Global) -> Command<'a> {
+    Command::new(alloc, "sbibench")
+        .version(VERSION)
+        .override_usage(USAGE)
+        .about(ABOUT)
+        .after_help(NUMBERS)
+}
+
+/// The words of the command line, the program's name first.
+fn words(rt: &HostRuntime) -> io::Result<Vec<String>> {
+    let words = env::args(rt)?.collect(rt.alloc())?;
+    Ok(words)
+}
+
+/// Shows what the command line's own text says. Where nobody reads it, nothing is said of that: the status tells.
+fn show(rt: &HostRuntime, text: &Error) -> Result<Wish, Fault> {
+    if text.kind() == ErrorKind::OutOfMemory {
+        return Err(Fault::Refused(Refusal::Memory));
+    }
+    let _shown = text.print(rt);
+    if text.use_stderr() {
+        Err(Fault::Usage)
+    } else {
+        Ok(Wish::Shown)
+    }
+}
+
+/// A fault of the command line: a word that is no text.
+fn no_text(rt: &HostRuntime) -> Result<Wish, Fault> {
+    let message = "invalid UTF-8 was detected in one or more arguments";
+    match command(rt.alloc()).error(ErrorKind::InvalidValue, message) {
+        Ok(text) => show(rt, &text),
+        Err(_) => Err(Fault::Refused(Refusal::Memory)),
+    }
+}
+
+/// Reads the command line, and shows what it asks to be shown, or its fault.
+pub fn asked(rt: &HostRuntime) -> Result<Wish, Fault> {
+    let words = match words(rt) {
+        Ok(words) => words,
+        Err(e) if e.kind() == io::ErrorKind::InvalidData => return no_text(rt),
+        Err(_) => return Err(Fault::Refused(Refusal::Memory)),
+    };
+    match command(rt.alloc()).try_get_matches_from(words.as_slice()) {
+        Ok(_) => Ok(Wish::Report),
+        Err(text) => show(rt, &text),
+    }
+}

@@ -1,0 +1,116 @@
+//! Areas written and read back (docs/IMAGE.md): through one to four lanes, in turn and on threads; a lane or the sync
+//! that fails; what a cut leaves.
+use crate::fixtures::{Site, same};
+use board_model::Refusal;
+use crew::{Crew, Threads, Turns};
+use disk::ArmedFault;
+use layout::Side;
+use savers::LaneCounts;
+use simdisk::Choice;
+use std::alloc::Global;
+use std::test::Fail;
+
+// Five pages written through so many lanes: how many places are in use, and whether a cut leaves the memory.
+fn written<C: Crew>(alloc: Global, crew: &C, lanes: u64) -> Result<(LaneCounts, bool), Refusal> {
+    let mut site = Site::new(alloc, 5, lanes)?;
+    let counts = site.write(alloc, crew, Side::first(), 9, 7)?;
+    let mut site = site.after_cut(Choice::Byte(0xff))?;
+    let holds = site.holds(alloc, Side::first(), 9, 7, counts)?;
+    Ok((counts, holds))
+}
+
+const STRIPES: [(u64, LaneCounts); 4] = [
+    (1, [5, 0, 0, 0]),
+    (2, [3, 2, 0, 0]),
+    (3, [2, 2, 1, 0]),
+    (4, [2, 1, 1, 1]),
+];
+
+#[test]
+fn turns_in_any_order_write_the_memory(rt: HostRuntime) -> Result<(), Fail> {
+    let turns: Turns<HostRuntime> = Turns::new([2, 0, 3, 1])?;
+    for (lanes, counts) in STRIPES {
+        same(&rt, written(rt.alloc(), &turns, lanes)?, (counts, true));
+    }
+    Ok(())
+}
+
+#[test]
+fn threads_write_the_memory(rt: HostRuntime) -> Result<(), Fail> {
+    let threads = Threads::new(&rt);
+    for (lanes, counts) in STRIPES {
+        same(&rt, written(rt.alloc(), &threads, lanes)?, (counts, true));
+    }
+    Ok(())
+}
+
+// Two pages in two lanes, written under that fault; then, where it was refused, once more. What the first write answered,
+// whether the fault is still to strike, and whether the memory stands in the end.
+fn written_under<C: Crew>(
+    alloc: Global,
+    crew: &C,
+    fault: ArmedFault,
+) -> Result<(Option<Refusal>, bool, bool), Refusal> {
+    let mut site = Site::new(alloc, 2, 2)?;
+    site.arm(fault);
+    let refusal = site.write(alloc, crew, Side::first(), 9, 7).err();
+    let left = site.fails();
+    site.arm(ArmedFault::FailAt(0));
+    let counts = site.write(alloc, crew, Side::first(), 9, 7)?;
+    let holds = site.holds(alloc, Side::first(), 9, 7, counts)?;
+    Ok((refusal, left, holds))
+}
+
+// Of the disk, a write makes one call, the sync; of each lane two calls for each of its pages.
+#[test]
+fn a_failure_is_refused_and_the_next_write_stands(rt: HostRuntime) -> Result<(), Fail> {
+    let turns: Turns<HostRuntime> = Turns::new([2, 0, 3, 1])?;
+    for fault in [
+        ArmedFault::FailAt(1),
+        ArmedFault::FailLane(0, 1),
+        ArmedFault::FailLane(0, 2),
+        ArmedFault::FailLane(1, 1),
+        ArmedFault::FailLane(1, 2),
+    ] {
+        let answer = written_under(rt.alloc(), &turns, fault)?;
+        same(&rt, answer, (Some(Refusal::Device), false, true));
+    }
+    let answer = written_under(rt.alloc(), &turns, ArmedFault::FailAt(2))?;
+    same(&rt, answer, (None, true, true));
+    Ok(())
+}
+
+// An image in one area, and a second one into the other, whose lane is cut at that call. What the write answered, what a
+// read of its area answers after the cut, and whether the first image stands.
+fn cut_beside<C: Crew>(
+    alloc: Global,
+    crew: &C,
+    call: u64,
+    choice: Choice,
+) -> Result<(Option<Refusal>, Option<Refusal>, bool), Refusal> {
+    let mut site = Site::new(alloc, 2, 2)?;
+    let counts = site.write(alloc, crew, Side::first(), 9, 7)?;
+    site.arm(ArmedFault::CutLane(0, call));
+    let other = Side::first().other();
+    let refusal = site.write(alloc, crew, other, 100, 8).err();
+    let mut site = site.after_cut(choice)?;
+    let read = site.holds(alloc, other, 100, 8, counts).err();
+    let holds = site.holds(alloc, Side::first(), 9, 7, counts)?;
+    Ok((refusal, read, holds))
+}
+
+#[test]
+fn a_cut_leaves_the_other_area(rt: HostRuntime) -> Result<(), Fail> {
+    let turns: Turns<HostRuntime> = Turns::new([0, 1, 2, 3])?;
+    for call in 1..3 {
+        for choice in [Choice::Byte(0), Choice::Byte(0xff), Choice::Old] {
+            let answer = cut_beside(rt.alloc(), &turns, call, choice)?;
+            same(
+                &rt,
+                answer,
+                (Some(Refusal::Device), Some(Refusal::BadImage), true),
+            );
+        }
+    }
+    Ok(())
+}

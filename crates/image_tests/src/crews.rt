@@ -1,0 +1,115 @@
+//! Crews at work: jobs that meet, and how often a crew is asked.
+use crate::fixtures::{Site, same};
+use board_model::Refusal;
+use crew::{Crew, Plan, Threads, Turns};
+use layout::Side;
+use std::alloc::Global;
+use std::sync::atomic::{AtomicBool, AtomicU64, Ordering};
+use std::test::Fail;
+use std::thread;
+use std::time::{Clock, Duration};
+
+const MOST_SLEEPS: u32 = 10_000;
+
+// Says that one more has begun, and waits for the other, a millisecond at a time.
+fn begin<R: Clock>(clock: &R, begun: &AtomicU64, missed: &AtomicBool) {
+    begun.fetch_add(1, Ordering::SeqCst);
+    for _ in 0..MOST_SLEEPS {
+        if begun.load(Ordering::SeqCst) >= 2 {
+            return;
+        }
+        thread::sleep(clock, Duration::from_millis(1));
+    }
+    missed.store(true, Ordering::SeqCst);
+}
+
+// Whether each of two jobs saw the other begin.
+fn both_begin<R: Clock + Sync, C: Crew>(clock: &R, crew: &C) -> bool {
+    let begun = AtomicU64::new(0);
+    let missed = AtomicBool::new(false);
+    let mut jobs = [0u8; 2];
+    crew.each(
+        &mut jobs,
+        &|i: usize, job: &mut u8| {
+            begin(clock, &begun, &missed);
+            *job = if i == 0 { 1 } else { 2 };
+        },
+    );
+    jobs == [1, 2] && !missed.load(Ordering::SeqCst)
+}
+
+#[test]
+fn threads_run_two_jobs_at_once(rt: HostRuntime) {
+    same(&rt, both_begin(&rt, &Threads::new(&rt)), true);
+}
+
+/// Goes to work as the crew in it, and counts the lists of jobs, the jobs, and the lists that went to threads.
+#[derive(Drop)]
+struct Counting<C> {
+    crew: C,
+    lists: AtomicU64,
+    jobs: AtomicU64,
+    on_threads: AtomicU64,
+}
+
+impl<C> Counting<C> {
+    fn new(crew: C) -> Counting<C> {
+        Counting {
+            crew,
+            lists: AtomicU64::new(0),
+            jobs: AtomicU64::new(0),
+            on_threads: AtomicU64::new(0),
+        }
+    }
+
+    fn counts(&self) -> (u64, u64, u64) {
+        (
+            self.lists.load(Ordering::SeqCst),
+            self.jobs.load(Ordering::SeqCst),
+            self.on_threads.load(Ordering::SeqCst),
+        )
+    }
+}
+
+impl<C: Crew> Crew for Counting<C> {
+    type Handle = C::Handle;
+
+    fn plan(&self, jobs: usize) -> Plan<'_, C::Handle> {
+        self.lists.fetch_add(1, Ordering::SeqCst);
+        self.jobs.fetch_add(jobs as u64, Ordering::SeqCst);
+        let plan = self.crew.plan(jobs);
+        if let Plan::OnThreads(_) = &plan {
+            self.on_threads.fetch_add(1, Ordering::SeqCst);
+        }
+        plan
+    }
+}
+
+// What a write of an area in two lanes asks of its crew.
+fn asked<C: Crew + Drop>(alloc: Global, crew: C) -> Result<(u64, u64, u64), Refusal> {
+    let crew = Counting::new(crew);
+    let mut site = Site::new(alloc, 2, 2)?;
+    site.write(alloc, &crew, Side::first(), 1, 7)?;
+    Ok(crew.counts())
+}
+
+#[test]
+fn one_list_of_two_jobs(rt: HostRuntime) -> Result<(), Fail> {
+    let turns: Turns<HostRuntime> = Turns::new([3, 2, 1, 0])?;
+    same(&rt, asked(rt.alloc(), turns)?, (1, 2, 0));
+    same(&rt, asked(rt.alloc(), Threads::new(&rt))?, (1, 2, 1));
+    Ok(())
+}
+
+// What an order is refused.
+fn refused<R: thread::Threads + Sync>(_rt: &R, order: [usize; 4]) -> Option<Refusal> {
+    Turns::<R>::new(order).err()
+}
+
+#[test]
+fn orders_have_each_job_once(rt: HostRuntime) {
+    same(&rt, refused(&rt, [2, 0, 3, 1]), None);
+    for order in [[0, 1, 2, 2], [0, 1, 2, 4], [1, 2, 3, 4], [0, 0, 0, 0]] {
+        same(&rt, refused(&rt, order), Some(Refusal::BadShape));
+    }
+}

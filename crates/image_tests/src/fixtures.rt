@@ -1,0 +1,150 @@
+//! A board's memory and a disk for it, and calls of which a test reads the answer alone.
+ghost use Rattle.std.specs.Prelude.{◌≡◌, ◌≤◌, length, IfOk};
+ghost use Rattle.board_model.specs.Shapes.{ram_bytes_of, sectors_of};
+ghost use Rattle.layout.specs.Records.{AreCounts};
+
+use board_model::{Addr, HartId, ImageHead, Reason, Refusal, Shape, Slot};
+use crew::Crew;
+use disk::{ArmedFault, Disk, read_sector};
+use image::{read_area, write_area};
+use layout::{Record, Saved, Side, parse_record, record_bytes};
+use ram::Ram;
+use savers::LaneCounts;
+use simdisk::{Choice, SimDisk};
+use std::alloc::Global;
+use std::fmt::Debug;
+use std::process::Abort;
+
+/// A disk for a board of that shape.
+#[derive(Drop)]
+pub struct Site {
+    shape: Shape,
+    disk: SimDisk,
+    ghost none_out: { (⟦<SimDisk as Disk>⟧.facts disk).lent.lanes ≡ 0 },
+    ghost enough: { sectors_of shape ≤ length (⟦<SimDisk as Disk>⟧.facts disk).content },
+}
+
+// A memory in which page k is filled with the byte k after the first.
+fn memory(alloc: Global, shape: &Shape, first: u8) -> Result<Ram, Refusal>
+    ensures { IfOk result (λ ram. length ram ≡ ram_bytes_of shape.now) }
+{
+    let mut bytes = Vec::new(alloc);
+    let mut byte = first;
+    for _ in 0..shape.pages() {
+        bytes.extend_from_slice(&[byte; 4096])?;
+        byte = byte.wrapping_add(1);
+    }
+    let mut ram = Ram::new(alloc, *shape)?;
+    if bytes.len() <= ram.bytes().len() {
+        ram.boot(&bytes);
+    }
+    Ok(ram)
+}
+
+// A record with an image in that area.
+fn record(area: Side, serial: u64, counts: LaneCounts) -> Option<Record> {
+    let head = ImageHead {
+        serial,
+        hart: HartId::new(0)?,
+        address: Addr::new(0x8000_0000)?,
+        opaque: 0,
+    };
+    Some(Record {
+        slot: Slot::new(0)?,
+        reason: Reason::NoReason,
+        next: serial.saturating_add(1),
+        image: Some(Saved { head, area, counts }),
+    })
+}
+
+// What such a record keeps of the image, which is refused where no board of that shape has such counts.
+fn saved(shape: &Shape, area: Side, serial: u64, counts: LaneCounts) -> Result<Saved, Refusal>
+    ensures { IfOk result (λ saved. AreCounts shape.now saved.counts) }
+{
+    let record = record(area, serial, counts).ok_or(Refusal::BadRecord)?;
+    let record = parse_record(&record_bytes(&record), shape)?;
+    let saved = record.image.ok_or(Refusal::NoImage)?;
+    Ok(saved)
+}
+
+impl Site {
+    /// A disk of zeros for a board of so many pages and lanes.
+    pub fn new(alloc: Global, pages: u64, lanes: u64) -> Result<Site, Refusal> {
+        let shape = Shape::new(1, pages, lanes)?;
+        let disk = SimDisk::blank(alloc, shape.sectors())?;
+        Site::over(shape, disk)
+    }
+
+    // That disk, which is refused where it is too small.
+    fn over(shape: Shape, disk: SimDisk) -> Result<Site, Refusal>
+        requires { (⟦<SimDisk as Disk>⟧.facts disk).lent.lanes ≡ 0 }
+    {
+        if disk.sectors() < shape.sectors() {
+            return Err(Refusal::BadShape);
+        }
+        Ok(Site { shape, disk })
+    }
+
+    /// What a cut leaves by that choice.
+    pub fn after_cut(self, choice: Choice) -> Result<Site, Refusal> {
+        Site::over(self.shape, self.disk.after_cut(choice))
+    }
+
+    /// Writes the memory that begins with that byte into the area.
+    pub fn write<C: Crew>(
+        &mut self,
+        alloc: Global,
+        crew: &C,
+        area: Side,
+        first: u8,
+        serial: u64,
+    ) -> Result<LaneCounts, Refusal> {
+        let ram = memory(alloc, &self.shape, first)?;
+        write_area(alloc, &mut self.disk, crew, &self.shape, area, &ram, serial)
+    }
+
+    /// Whether the area reads as that memory.
+    pub fn holds(
+        &mut self,
+        alloc: Global,
+        area: Side,
+        first: u8,
+        serial: u64,
+        counts: LaneCounts,
+    ) -> Result<bool, Refusal> {
+        let saved = saved(&self.shape, area, serial, counts)?;
+        let mut ram = Ram::new(alloc, self.shape)?;
+        read_area(&mut self.disk, &self.shape, &saved, &mut ram)?;
+        let written = memory(alloc, &self.shape, first)?;
+        Ok(ram.bytes() == written.bytes())
+    }
+
+    /// Changes a byte of a sector, as a read gives it.
+    pub fn poke(&mut self, sector: usize, offset: usize, byte: u8) -> Result<u8, Refusal> {
+        if self.disk.sectors() <= sector || 512 <= offset {
+            return Err(Refusal::BadShape);
+        }
+        let mut bytes = read_sector(&mut self.disk, sector).map_err(|_| Refusal::Device)?;
+        let old = bytes[offset];
+        bytes[offset] = byte;
+        self.disk
+            .write(sector, &[bytes])
+            .map_err(|_| Refusal::Device)?;
+        Ok(old)
+    }
+
+    /// Arms a fault.
+    pub fn arm(&mut self, fault: ArmedFault) {
+        self.disk.arm(fault);
+    }
+
+    /// Whether the disk's next call fails.
+    pub fn fails(&mut self) -> bool {
+        self.disk.sync().is_err()
+    }
+}
+
+/// These two have to be equal.
+pub fn same<T: PartialEq + Debug + Drop>(rt: &impl Abort, found: T, wanted: T) {
+    assert_eq!(rt; found, wanted);
+}

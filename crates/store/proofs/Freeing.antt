@@ -1,0 +1,120 @@
+-- The area that the live image does not use may hold anything: the state stays, also while it is written.
+use Rattle.std.proofs.Common.{◌≡◌, ◌∙◌, ◌⊎◌, zero, suc, inl, inr, ⊎_elim, ℕ, ◌+◌, ◌*◌, ◌≤◌, ◌<◌, List, [], ◌∷◌, Option, Some, true, false, refl, sym, ap, subst, arith}
+use Rattle.std.proofs.lemmas.Bool.{cases_Bool}
+use Rattle.board_model.specs.Durable.{Image, State, fold}
+use Rattle.board_model.specs.Shapes.{Size, area_sectors_of}
+use Rattle.board_model.specs.Shown.{durable_of}
+use Rattle.board_model.specs.declared.durable.Command.TheVariants as commands
+use Rattle.board_model.specs.declared.durable.Reason.{Reason}
+use Rattle.disk.specs.Facts.{Content, Facts, Torn, Passes, LeavesSince}
+use Rattle.disk.specs.Moments.{leaves_none, leaves_more}
+use Rattle.layout.specs.Superblocks.{IsSuperblock}
+use Rattle.layout.specs.Records.{selected_by, IsRecord}
+use Rattle.layout.specs.Sizes.{area_start}
+use Rattle.layout.specs.declared.records.Saved.{Saved}
+use Rattle.layout.specs.declared.records.Record.{Record}
+use Rattle.store.specs.Entries.{drop_image}
+use Rattle.store.specs.Standing.{image_of, state_of, memory_in, Selects, StandsFor}
+use Rattle.store.specs.Commits.{SameImage, IsUp}
+use Rattle.board_model.specs.declared.durable.Entry.{Entry}
+use Rattle.board_model.specs.declared.durable.Entry.TheVariants as entries
+use Rattle.store.proofs.Applies.{told}
+use Rattle.store.proofs.Following.{durable_same}
+use Rattle.store.proofs.States.{image_then, state_same, memory_same, stands_for}
+
+-- the two areas have no sector in common
+apart : (i j n k : ℕ) → i < 2 → j < 2 → (i ≡ 0 → j ≡ 0 → ⊥) → (i ≡ 1 → j ≡ 1 → ⊥) → 8 + j * n ≤ k → k < 8 + j * n + n → (k < 8 + i * n) ⊎ (8 + i * n + n ≤ k)
+apart zero zero n k il jl first second from below = absurd (first refl refl)
+apart zero (suc zero) n k il jl first second from below = inr (omega arith)
+apart (suc zero) zero n k il jl first second from below = inl (omega arith)
+apart (suc zero) (suc zero) n k il jl first second from below = absurd (second refl refl)
+apart (suc (suc i)) j n k il jl first second from below = absurd (omega arith)
+apart zero (suc (suc j)) n k il jl first second from below = absurd (omega arith)
+apart (suc zero) (suc (suc j)) n k il jl first second from below = absurd (omega arith)
+
+abbrev made : ℕ → Reason → ℕ → Option Image → State
+made slot reason next image = record { slot = slot; reason = reason; next = next; image = image }
+
+-- where a command dropped the image, nothing is left of it
+forget : (m : List ℕ) (journal : List Entry) (slot : ℕ) (reason : Reason) (next : ℕ) (x y : Option Image) → drop_image journal ≡ true
+    → fold (made slot reason next x) (told m journal) ≡ fold (made slot reason next y) (told m journal)
+forget m [] slot reason next x y drops = cc
+forget m (entries.Command (commands.Slot n) ∷ journal) slot reason next x y drops = forget m journal n reason next x y drops
+forget m (entries.Command (commands.Reset r) ∷ journal) slot reason next x y drops = forget m journal slot r next x y drops
+forget m (entries.Command commands.Consume ∷ journal) slot reason next x y drops = refl
+forget m (entries.Command commands.Discard ∷ journal) slot reason next x y drops = refl
+forget m (entries.Suspend h a o ∷ journal) slot reason next x y drops = refl
+
+image_back : (size : Size) (image : Option Saved) (c d : Content) → SameImage size image c d → SameImage size image d c
+image_back size image c d same = record { as_long = sym same.as_long; same = λ saved is k from below. sym (same.same saved is k from below) }
+
+module _ (a b : Facts) (size : Size) (side : ℕ) (opened current : Record) (journal : List Entry) (area : ℕ) (known : side < 2) (two : area < 2)
+    (free : (saved : Saved) → current.image ≡ Some saved → (area ≡ 0 → saved.area ≡ 0 → ⊥) × (area ≡ 1 → saved.area ≡ 1 → ⊥))
+    (up : IsUp a size side current) (may_keep : a.may_leave a.content)
+    (content : Torn (area_start size area) (area_sectors_of size) a.content b.content) (crash : Passes a b (Torn (area_start size area) (area_sectors_of size))) where
+  clear : (x y : Content) → Torn (area_start size area) (area_sectors_of size) x y → SameImage size current.image x y
+  clear x y torn = record {
+    as_long = torn.as_long;
+    same = λ saved is k from below.
+        let kept = (up a.content may_keep).selects.is.0.image saved is in
+        let not = free saved is in
+        ⊎_elim (torn.before k) (torn.after k) (apart area saved.area (area_sectors_of size) k two kept.area not.0 not.1 from below);
+  }
+
+  still_selects : (x y : Content) → Torn (area_start size area) (area_sectors_of size) x y → Selects size side current x → Selects size side current y
+  still_selects x y torn s = record {
+    board = subst (IsSuperblock size) (sym (torn.before 0 (omega arith))) s.board;
+    enough = omega (arith, s.enough, torn.as_long);
+    gate = ap selected_by (torn.before 1 (omega arith)) ∙ s.gate;
+    is = subst (IsRecord size current) (sym (torn.before (2 + side) (omega arith))) s.is;
+  }
+
+  here : SameImage size current.image a.content b.content
+  here = clear a.content b.content content
+
+  pub free_up : IsUp b size side current
+  free_up x left =
+      let from = crash.now x left in
+      let chosen = up from.0 from.1 in
+      record {
+        selects = still_selects from.0 x from.2 chosen.selects;
+        image = image_then size current.image b.content a.content x (image_back size current.image a.content b.content here) (image_then size current.image a.content from.0 x chosen.image (clear from.0 x from.2));
+      }
+
+  pub free_memory : memory_in size current b.content ≡ memory_in size current a.content
+  free_memory = memory_same size current a.content b.content here
+
+  pub free_told : told (memory_in size current b.content) journal ≡ told (memory_in size current a.content) journal
+  free_told = ap (λ (m : List ℕ). told m journal) free_memory
+
+  pub free_heads : durable_of (state_of size opened b.content) ≡ durable_of (state_of size opened a.content)
+  free_heads = durable_same size opened b.content ∙ sym (durable_same size opened a.content)
+
+  module _ (same : drop_image journal ≡ false → current.image ≡ opened.image) where
+    pub free_fold : fold (state_of size opened b.content) (told (memory_in size current a.content) journal) ≡ fold (state_of size opened a.content) (told (memory_in size current a.content) journal)
+    free_fold =
+        ⊎_elim
+        (λ drops. forget (memory_in size current a.content) journal opened.slot opened.reason opened.next (image_of size opened.image b.content) (image_of size opened.image a.content) drops)
+        (λ keeps. ap (λ (s : State). fold s (told (memory_in size current a.content) journal)) (state_same size opened a.content b.content (subst (λ (i : Option Saved). SameImage size i a.content b.content) (same keeps) here)))
+        (cases_Bool (drop_image journal))
+
+    module _ (folded : fold (state_of size opened a.content) (told (memory_in size current a.content) journal) ≡ state_of size current a.content) where
+      pub free_folded : fold (state_of size opened b.content) (told (memory_in size current b.content) journal) ≡ state_of size current b.content
+      free_folded =
+          ap (fold (state_of size opened b.content)) free_told
+          ∙ free_fold
+          ∙ folded
+          ∙ sym (state_same size current a.content b.content here)
+
+      -- at each moment
+      pub free_moment : ((x : Content) → a.since a.moment x → a.may_leave x) → LeavesSince a b (λ c. StandsFor c size (fold (state_of size opened a.content) (told (memory_in size current a.content) journal)))
+      free_moment only_now =
+          let now = fold (state_of size opened a.content) (told (memory_in size current a.content) journal) in
+          let P : Content → Type 0 = λ c. StandsFor c size now in
+          leaves_more a a b P (Torn (area_start size area) (area_sectors_of size))
+          (leaves_none a P only_now (λ x left. subst (StandsFor x size) (sym folded) (stands_for size side current a.content x (up x left))))
+          crash
+          (λ x y left torn.
+          let chosen = up x left in
+          subst (StandsFor y size) (sym folded)
+          (stands_for size side current a.content y (record { selects = still_selects x y torn chosen.selects; image = image_then size current.image a.content x y chosen.image (clear x y torn) })))

@@ -1,0 +1,59 @@
+use Rattle.std.proofs.Common.{◌≡◌, ◌∙◌, ◌≤◌, Some, length, map, sym, subst, arith, rules}
+use Rattle.std.proofs.lemmas.Result.{err_from_is_err_and}
+use Rattle.board_model.specs.Durable.{after, fold}
+use Rattle.board_model.specs.Shapes.{ram_bytes_of}
+use Rattle.disk.specs.Facts.{Content}
+use Rattle.board_model.specs.Shown.{change_in}
+use Rattle.store.specs.Standing.{state_of, memory_in, saved_memory}
+use Rattle.store.specs.Stores.{now_state}
+use Rattle.store.proofs.Loading.{stays_keeps, kept_range, kept_counts, image_now, load_refused}
+use Rattle.store.proofs.stores.Store.load_image.Goals as goal
+
+pub read_area-requires-clause-enough : goal.read_area-requires-clause-enough
+read_area-requires-clause-enough g c κs within =
+    let s = c.args.self.now in
+    (kept_range (g.D.Disk.facts s.disk) s.shape s.side s.current s.doubt s.kept (g.met.D.Disk.may_keep _)).1
+
+pub read_area-requires-clause-counts : goal.read_area-requires-clause-counts
+read_area-requires-clause-counts g c κs within =
+    let s = c.args.self.now in
+    let there : s.current.image ≡ Some c.in-Some.saved = search rules in
+    kept_counts s.shape s.current c.in-Some.saved (kept_range (g.D.Disk.facts s.disk) s.shape s.side s.current s.doubt s.kept (g.met.D.Disk.may_keep _)).0 there
+
+pub invariant_of-self : goal.invariant_of-self
+invariant_of-self g c =
+    let s = c.args.self.now in
+    let a = g.D.Disk.facts s.disk in
+    let b = g.D.Disk.facts c.read_area.new.disk in
+    let same = c.read_area.ensures.content in
+    let more : a.failures ≤ b.failures = c.read_area.ensures.no_fewer in
+    record {
+      kept = stays_keeps a b c.read_area.ensures.crash same c.read_area.ensures.none_out s.shape s.side s.current s.doubt s.kept;
+      folded = subst (λ (d : Content). fold (state_of s.shape s.opened d) (map (λ e. change_in e (memory_in s.shape s.current d)) s.journal.items) ≡ state_of s.shape s.current d) (sym same) s.folded;
+      doubted = λ x is. subst (λ (d : Content). state_of s.shape x.next d ≡ after (state_of s.shape s.current d) (change_in x.entry (memory_in s.shape x.next d))) (sym same) (s.doubted x is);
+      plain = s.plain;
+      same_image = s.same_image;
+      room = s.room;
+      few = s.few;
+      failed = λ x is. (let was = s.failed x is in omega (arith, was, more));
+      counted = omega (arith, s.counted, more);
+    }
+
+pub returns-in_err-read_area-clause-refused : goal.returns-in_err-read_area-clause-refused
+returns-in_err-read_area-clause-refused g c =
+    let p = err_from_is_err_and c.from_residual.result c.from_residual.ensures.1 in
+    let s = c.args.self.now in
+    let a = g.D.Disk.facts s.disk in
+    let there : s.current.image ≡ Some c.in-Some.saved = search rules in
+    let fits : length c.args.ram.now ≡ ram_bytes_of s.shape = search (rules, arith) in
+    rw (p.1, p.2)
+    (load_refused s.shape (now_state s) c.args.ram.now (saved_memory s.shape c.in-Some.saved a.content) a (g.D.Disk.mishaps s.disk) c.in_err-read_area.field-0.0 (g.D.Disk.facts c.read_area.new.disk) (g.D.Disk.mishaps c.read_area.new.disk) fits
+    (image_now s.shape s.current a.content (now_state s) c.in-Some.saved s.folded there) c.in_err-read_area.ensures.refused)
+
+pub returns-clause-loads : goal.returns-clause-loads
+returns-clause-loads g c =
+    let s = c.args.self.now in
+    let a = g.D.Disk.facts s.disk in
+    let there : s.current.image ≡ Some c.in-Some.saved = search rules in
+    let image = image_now s.shape s.current a.content (now_state s) c.in-Some.saved s.folded there in
+    (image.0, image.1, c.in_ok-read_area.ensures.reads ∙ image.2)
