@@ -1,6 +1,5 @@
 -- A step that keeps the rule found what its word held, and is the newest of all.
-use Rattle.std.proofs.Common.{◌≡◌, ◌≢◌, ℕ, zero, suc, ◌+◌, ◌*◌, ◌<◌, if◌then◌else◌, ◌==◌, List, [], ◌∷◌, length, set, refl, sym, ap, ◌∙◌, subst, arith, ne_eqb}
-use Rattle.std.specs.Prelude.{slice_index}
+use Rattle.std.proofs.Common.{◌≡◌, ◌≢◌, ℕ, zero, suc, ◌<◌, if◌then◌else◌, ◌==◌, List, [], ◌∷◌, set, refl, sym, ap, ◌∙◌, subst, arith, ne_eqb}
 use mathlib.Core.Logic.{dite}
 use mathlib.Core.Option.{some, some-injective, some-ne-none}
 use native.Mathlib.Decide.{ℕ_discrete}
@@ -11,11 +10,10 @@ use Rattle.tallies.specs.Logs.{Log, deeds_in, placed, earlier, IsAmong, IsTrueLo
 use Rattle.tallies.proofs.Logs.{Same, More, one_log, newest, found_at, true_of}
 use Rattle.tallies.proofs.Places.{placed_in, one_found}
 use Rattle.hsm_words.specs.Words.{hart_view, crew, board_of}
-use Rattle.hsm_words.specs.declared.view.Stage.{Stage}
 use Rattle.hsm_words.specs.declared.view.Deed.{Deed}
 use Rattle.hsm_words.specs.declared.view.HartView.{HartView}
 use Rattle.hsm_words.specs.declared.view.Crew.{Crew}
-use Rattle.hsm_rule.specs.Rule.{is_of, seats, Kept, AreInLog, noted, stands, word_of, found_by, left_by, reading, first_word}
+use Rattle.hsm_rule.specs.Rule.{is_of, seats, Kept, noted, word_of, found_by, left_by, reading, first_word}
 use Rattle.hsm_rule.specs.Truth.{ChangesAreNoted, EarlierStepsStand, StepsAreTrue}
 use Rattle.hsm_rule.proofs.Next.{find, under as under_board}
 
