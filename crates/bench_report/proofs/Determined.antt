@@ -1,327 +1,269 @@
--- Where memory was never refused and no failure was answered, a report is the plain one but for what shows memory or harts.
-use Rattle.std.proofs.Common.{◌≡◌, ◌⊎◌, ℕ, ◌+◌, ◌<◌, ◌≤◌, inl, inr, List, [], ◌∷◌, Option, None, Some, refl, sym, ◌∙◌, ap, subst, arith, Bool, true, false, cond, eq-eqb, rules, tests, ◌==◌}
-use Rattle.board_model.specs.Durable.{State, Change, Slot, Discard, refusal_of}
-use Rattle.board_model.specs.Kept.{Kept, nothing_kept, found_of, MayKeep, TakesIn}
-use Rattle.board_model.specs.declared.durable.Durable.{Durable}
+-- Where memory was never refused and no failure was answered, two runs of the same lines answer the same: commands and power on.
+use Rattle.std.proofs.Common.{◌≡◌, ◌⊎◌, ℕ, ◌+◌, ◌<◌, inl, inr, List, [], ◌∷◌, Option, None, Some, Result, Ok, Err, refl, sym, ◌∙◌, ap, subst, arith}
+use Rattle.std.specs.Bool.{⊤}
+use Rattle.board_model.specs.Durable.{State, Change, refusal_of}
+use Rattle.board_model.specs.Kept.{Kept, found_of, MayKeep, TakesIn}
+use Rattle.board_model.specs.Shapes.{Size}
 use Rattle.board_model.specs.Shown.{durable_of}
-use Rattle.disk.specs.Facts.{counted}
-use Rattle.script_lang.specs.Scripts.{Script}
-use Rattle.board.specs.Boots.{boot_refusal}
+use Rattle.board_model.specs.declared.durable.Durable.{Durable}
 use Rattle.board_model.specs.declared.boot_mode.BootMode.{BootMode}
 use Rattle.board_model.specs.declared.boot_mode.BootMode.TheVariants as modes
-use Rattle.script_lang.specs.declared.line.Line.{Line}
-use Rattle.script_lang.specs.declared.line.Line.TheVariants as lines
+use Rattle.board.specs.Boots.{boot_refusal, booted}
+use Rattle.disk.specs.Facts.{counted}
 use Rattle.bench_report.specs.declared.printed.Printed.{Printed}
 use Rattle.bench_report.specs.declared.printed.Printed.TheVariants as printed
 use Rattle.bench_report.specs.declared.printed.Answer.{Answer}
-use Rattle.bench_report.specs.Bench.{Medium, Blank, Unknown, Formatted, Life, Bench, IsUnspoilt, blank_bench}
-use Rattle.bench_report.specs.Steps.{says, starved, IsHindered, off_with, on_with, unpowered, begun, keeps, doubts, went_on, FormatsOn, FormatStep, OnStep, SlotStep, IsOpenRefusal, Opens, ShowsFound, Begins, BootsAs, PowersOn, Commands, Shows, Step, Moves, Run}
-use Rattle.bench_report.specs.Reports.{IsReport}
-use Rattle.bench_report.proofs.Wholes.{report_alone}
-use Rattle.bench_report.specs.Plain.{hidden, IsShown, IsAlike, AreAlike, plain_format, plain_mode, plain_boot, plain_on, plain_command, plain_issued, plain_at, plain, plain_answers, plain_report}
+use Rattle.bench_report.specs.Bench.{Medium, Blank, Unknown, Formatted, Life, Bench}
+use Rattle.bench_report.specs.Steps.{says, starved, IsHindered, off, on_with, formatted_anew, unknown, settled, has_machine, acknowledged, in_doubt, begun, commands_of, Writes, IssuedBy, Issued, IssuesAll, FormatsOn, IsOn, Starts, Begins, Boots, Opens, ShowsFound, IsOpenRefusal, PowersOn}
 
--- nothing is in doubt, and no cut has struck
-abbrev pub CalmMedium : Medium → Type 0
-CalmMedium Blank = Unit {0}
-CalmMedium Unknown = ⊥
-CalmMedium (Formatted k) = k.doubt ≡ None
-
-abbrev pub CalmPower : Option Life → Type 0
-CalmPower None = Unit {0}
-CalmPower (Some life) = life.doubt ≡ None
-
-abbrev pub IsCalm : Bench → Type 0
-IsCalm b = CalmMedium b.medium × CalmPower b.power × (b.mishaps.struck ≡ false)
-
--- memory was refused, or a failure was answered
 abbrev pub IsSpoilt : Bench → Type 0
 IsSpoilt b = (0 < b.growths) ⊎ (0 < b.failures)
 
--- the bench went on by this answer, or is spoilt
-abbrev pub Determined : Answer × Bench → Answer → Bench → Type 0
-Determined told a new = (IsAlike a told.0 × (new ≡ told.1) × IsCalm new) ⊎ IsSpoilt new
+-- the disk is known, and nothing is in doubt
+abbrev pub CalmDisk : Medium → Option Change → Type 0
+CalmDisk Blank doubt = ⊤
+CalmDisk Unknown doubt = ⊥
+CalmDisk Formatted doubt = doubt ≡ None
 
-starves : (c new : Bench) → new ≡ starved c → IsSpoilt new
+abbrev pub IsCalm : Bench → Type 0
+IsCalm b = CalmDisk b.medium b.kept.doubt
+
+-- what was spoilt stays so; what was calm stays so, or is spoilt
+abbrev pub Fair : Bench → Bench → Type 0
+Fair b new = (IsSpoilt b → IsSpoilt new) × (IsCalm b → IsSpoilt new ⊎ IsCalm new)
+
+pub fair_then : (b mid new : Bench) → Fair b mid → Fair mid new → Fair b new
+fair_then b mid new x y = (λ s. y.0 (x.0 s), λ c. on (x.1 c))
+  where
+    on : IsSpoilt mid ⊎ IsCalm mid → IsSpoilt new ⊎ IsCalm new
+    on (inl s) = inl (y.0 s)
+    on (inr c) = y.1 c
+
+pub fair_to : (b new x : Bench) → new ≡ x → Fair b x → Fair b new
+fair_to b new x e h = let P : Bench → Type 0 = Fair b in subst P (sym e) h
+
+pub unmoved : (b new : Bench) → new ≡ b → Fair b new
+unmoved b new e = fair_to b new b e (λ s. s, λ c. inr c)
+
+pub spoils : (b new : Bench) → IsSpoilt new → Fair b new
+spoils b new s = (λ h. s, λ c. inl s)
+
+pub starves : (c new : Bench) → new ≡ starved c → IsSpoilt new
 starves c new e = let g : new.growths ≡ c.growths + 1 = ap (λ x. x.growths) e in inl (omega arith)
 
-hinders : (c new : Bench) → IsHindered c new → IsSpoilt new
+pub hinders : (c new : Bench) → IsHindered c new → IsSpoilt new
 hinders c new h = let g : new.failures ≡ counted c.failures 1 = ap (λ x. x.failures) h.2 in inr (omega (arith, g))
 
-settles : (told : Answer × Bench) (a : Answer) (new : Bench) → a ≡ told.0 → new ≡ told.1 → IsCalm told.1 → Determined told a new
-settles told a new e f calm = let P : Bench → Type 0 = IsCalm in inl (inl e, f, subst P (sym f) calm)
+-- ---- fair
+writes_fair : (r : Option ℕ) (c : Change) (life : Life) (b : Bench) (o : Result ℕ ℕ) (new : Bench) → Writes r c life b o new → Fair b new
+writes_fair (Some n) c life b o new w = unmoved b new w.1
+writes_fair None c life b o new (inl w) = fair_to b new (acknowledged c life b) w.1 (λ s. s, λ c. inr c)
+writes_fair None c life b o new (inr (inl w)) = spoils b new (hinders b new w.1)
+writes_fair None c life b o new (inr (inr w)) = spoils b new (hinders (in_doubt c life b) new w.1)
 
-format_on : (m : Medium) (b : Bench) (a : Answer) (new : Bench) → b.medium ≡ m → IsCalm b → CalmMedium m → FormatsOn m b a new → Determined (plain_format m b) a new
-format_on Blank b a new at calm m (inl h) = settles (plain_format Blank b) a new h.0 h.1 (refl, tt, calm.2)
-format_on Blank b a new at calm m (inr h) = inr (hinders (off_with Unknown b) new h.1)
-format_on Unknown b a new at calm m h = absurd m
-format_on (Formatted k) b a new at calm m (inl h) = settles (plain_format (Formatted k) b) a new h.0 h.1 calm
-format_on (Formatted k) b a new at calm m (inr h) = inr (hinders b new h.1)
+by_fair : (d : Option Change) (c : Change) (life : Life) (b : Bench) (o : Result ℕ ℕ) (new : Bench) → IssuedBy d c life b o new → Fair b new
+by_fair (Some d) c life b o new i = unmoved b new i.1
+by_fair None c life b o new (inl i) = unmoved b new i.2
+by_fair None c life b o new (inr i) = writes_fair (refusal_of life.now c) c life b o new i.1
 
-shown : (o : Option Durable) (s : State) → ShowsFound o s → o ≡ Some (durable_of s)
-shown None s h = absurd h
-shown (Some d) s h = ap Some h
+pub issued_fair : (c : Change) (life : Life) (b : Bench) (o : Result ℕ ℕ) (new : Bench) → Issued c life b o new → Fair b new
+issued_fair c life b o new i = by_fair life.doubt c life b o new i
 
-kept_as : (k : Kept) (changes : List Change) → k.doubt ≡ None → MayKeep k changes → changes ≡ k.changes
-kept_as k changes calm (inl e) = e
-kept_as k changes calm (inr t) = let P : Option Change → Type 0 = λ d. TakesIn d k.changes changes in absurd (subst P calm t)
+all_fair : (cs : List Change) (b : Bench) (o : Result ℕ ℕ) (new : Bench) → IssuesAll cs b o new → Fair b new
+all_fair [] b o new h = unmoved b new h.1
+all_fair (c ∷ cs) b o new (life, on, first, mid, i, inl h) = fair_then b mid new (issued_fair c life b first mid i) (all_fair cs mid o new h.2)
+all_fair (c ∷ cs) b o new (life, on, first, mid, i, inr h) = fair_to b new mid h.3 (issued_fair c life b first mid i)
 
-same_medium : (k : Kept) (changes : List Change) → k.doubt ≡ None → changes ≡ k.changes → Formatted (record { changes = changes; doubt = None }) ≡ Formatted k
-same_medium k changes calm e = ap (λ cs. Formatted (record { changes = cs; doubt = None })) e ∙ ap (λ d. Formatted (record { changes = k.changes; doubt = d })) (sym calm)
+-- ---- the same answer and the same bench, or one of them is spoilt
+abbrev pub Agree : {A : Type 0} → A → A → Bench → Bench → Type 0
+Agree o p new last = IsSpoilt new ⊎ IsSpoilt last ⊎ ((o ≡ p) × (new ≡ last))
+
+pub same : {A : Type 0} (o p x : A) (new last y : Bench) → o ≡ x → p ≡ x → new ≡ y → last ≡ y → Agree o p new last
+same o p x new last y a b c d = inr (inr (a ∙ sym b, c ∙ sym d))
+
+pub some_inj : (x y : Life) (p : Option Life) → p ≡ Some x → p ≡ Some y → y ≡ x
+some_inj x y p e f = let g : Some y ≡ Some x = sym f ∙ e in let h : y ≡ x = cc in h
+
+writes : (r : Option ℕ) (c : Change) (life : Life) (b : Bench) (o p : Result ℕ ℕ) (new last : Bench) → Writes r c life b o new → Writes r c life b p last → Agree o p new last
+writes (Some n) c life b o p new last w v = same o p (Err n) new last b w.0 v.0 w.1 v.1
+writes None c life b o p new last (inl w) (inl v) = same o p _ new last _ w.0 v.0 w.1 v.1
+writes None c life b o p new last (inr (inl w)) v = inl (hinders b new w.1)
+writes None c life b o p new last (inr (inr w)) v = inl (hinders (in_doubt c life b) new w.1)
+writes None c life b o p new last (inl w) (inr (inl v)) = inr (inl (hinders b last v.1))
+writes None c life b o p new last (inl w) (inr (inr v)) = inr (inl (hinders (in_doubt c life b) last v.1))
+
+by : (d : Option Change) (c : Change) (life : Life) (b : Bench) (o p : Result ℕ ℕ) (new last : Bench) → IssuedBy d c life b o new → IssuedBy d c life b p last → Agree o p new last
+by (Some d) c life b o p new last i j = same o p (Err 6) new last b i.0 j.0 i.1 j.1
+by None c life b o p new last (inl i) (inl j) = same o p (Err 10) new last b i.1 j.1 i.2 j.2
+by None c life b o p new last (inl i) (inr j) = absurd (omega (arith, i.0, j.0))
+by None c life b o p new last (inr i) (inl j) = absurd (omega (arith, i.0, j.0))
+by None c life b o p new last (inr i) (inr j) = writes (refusal_of life.now c) c life b o p new last i.1 j.1
+
+pub issued : (c : Change) (life : Life) (b : Bench) (o p : Result ℕ ℕ) (new last : Bench) → Issued c life b o new → Issued c life b p last → Agree o p new last
+issued c life b o p new last i j = by life.doubt c life b o p new last i j
+
+err_inj : (n m : ℕ) (x y : Result ℕ ℕ) → x ≡ y → x ≡ Err n → y ≡ Err m → n ≡ m
+err_inj n m x y e f g = let h : y ≡ Err n = sym e ∙ f in let i : n ≡ m = cc in i
+
+ok_err : {A : Type 0} (n m : ℕ) (x y : Result ℕ ℕ) → x ≡ y → x ≡ Ok n → y ≡ Err m → A
+ok_err n m x y e f g = let h : y ≡ Ok n = sym e ∙ f in absurd (let no : ⊥ = cc in no)
+
+all : (cs : List Change) (b : Bench) (o p : Result ℕ ℕ) (new last : Bench) → IssuesAll cs b o new → IssuesAll cs b p last → Agree o p new last
+all [] b o p new last h k = same o p (Ok 0) new last b h.0 k.0 h.1 k.1
+all (c ∷ cs) b o p new last (life, on, first, mid, i, h) (life2, on2, first2, mid2, j, k) =
+    let L : Life → Type 0 = λ l. Issued c l b first2 mid2 in
+    ended h k (issued c life b first first2 mid mid2 i (subst L (some_inj life life2 b.power on on2) j)) (λ h k e. (let M : Bench → Type 0 = λ m. IssuesAll cs m p last in all cs mid o p new last h (subst M (sym e) k)))
+  where
+    ended : (((n : ℕ) × (first ≡ Ok n) × IssuesAll cs mid o new) ⊎ ((n : ℕ) × (first ≡ Err n) × (o ≡ Err n) × (new ≡ mid)))
+        → (((n : ℕ) × (first2 ≡ Ok n) × IssuesAll cs mid2 p last) ⊎ ((n : ℕ) × (first2 ≡ Err n) × (p ≡ Err n) × (last ≡ mid2)))
+        → Agree first first2 mid mid2 → (IssuesAll cs mid o new → IssuesAll cs mid2 p last → mid ≡ mid2 → Agree o p new last) → Agree o p new last
+    ended (inl h) k (inl s) more = inl ((all_fair cs mid o new h.2).0 s)
+    ended (inr h) k (inl s) more = let P : Bench → Type 0 = IsSpoilt in inl (subst P (sym h.3) s)
+    ended h (inl k) (inr (inl s)) more = inr (inl ((all_fair cs mid2 p last k.2).0 s))
+    ended h (inr k) (inr (inl s)) more = let P : Bench → Type 0 = IsSpoilt in inr (inl (subst P (sym k.3) s))
+    ended (inl h) (inl k) (inr (inr e)) more = more h.2 k.2 e.1
+    ended (inl h) (inr k) (inr (inr e)) more = ok_err h.0 k.0 first first2 e.0 h.1 k.1
+    ended (inr h) (inl k) (inr (inr e)) more = ok_err k.0 h.0 first2 first (sym e.0) k.1 h.1
+    ended (inr h) (inr k) (inr (inr e)) more = inr (inr (h.2 ∙ ap (λ n. Err n) (err_inj h.0 k.0 first first2 e.0 h.1 k.1) ∙ sym k.2, h.3 ∙ e.1 ∙ sym k.3))
 
 answers_as : (a : Answer) (o : Option Durable) (line : Printed) → a.found ≡ o → a.line ≡ line → a ≡ record { found = o; line = line }
 answers_as a o line e f = ap (λ (x : Option Durable). let r : Answer = record { found = x; line = a.line } in r) e ∙ ap (λ (l : Printed). let r : Answer = record { found = o; line = l } in r) f
 
-keeps_calm : (c : Change) (m : Medium) → CalmMedium m → CalmMedium (keeps c m)
-keeps_calm c Blank h = tt
-keeps_calm c Unknown h = h
-keeps_calm c (Formatted k) h = h
+-- ---- format
+pub formats_fair : (m : Medium) (b : Bench) (a : Answer) (new : Bench) → FormatsOn m b a new → Fair b new
+formats_fair Blank b a new (inl h) = fair_to b new (formatted_anew b) h.1 (λ s. s, λ c. inr refl)
+formats_fair Blank b a new (inr h) = spoils b new (hinders (unknown b) new h.1)
+formats_fair Unknown b a new (inl h) = fair_to b new (formatted_anew b) h.1 (λ s. s, λ c. inr refl)
+formats_fair Unknown b a new (inr (inl h)) = spoils b new (hinders b new h.1)
+formats_fair Unknown b a new (inr (inr h)) = unmoved b new h.3
+formats_fair Formatted b a new (inl h) = unmoved b new h.1
+formats_fair Formatted b a new (inr h) = spoils b new (hinders b new h.1)
 
-begins : (mode : BootMode) (s : State) (b : Bench) (a : Answer) (new : Bench) → IsCalm b → a.found ≡ Some (durable_of s) → Begins mode s b.medium b a.line new → Determined (plain_mode mode s b) a new
-begins modes.Fresh s b a new calm found h = settles (plain_mode modes.Fresh s b) a new (answers_as a _ _ found h.0) h.1 (calm.0, refl, calm.2)
-begins modes.Keep s b a new calm found h = settles (plain_mode modes.Keep s b) a new (answers_as a _ _ found h.0) h.1 (calm.0, refl, calm.2)
-begins modes.Discard s b a new calm found (inl h) =
-    settles (plain_mode modes.Discard s b) a new (answers_as a _ _ found h.0) h.1 (keeps_calm Discard b.medium calm.0, refl, calm.2)
-begins modes.Discard s b a new calm found (inr (inl h)) = inr (hinders (off_with b.medium b) new h.1)
-begins modes.Discard s b a new calm found (inr (inr h)) = inr (hinders (off_with (doubts Discard b.medium) b) new h.1)
-begins modes.Resume s b a new calm found h = settles (plain_mode modes.Resume s b) a new (answers_as a _ _ found h.0) h.1 (calm.0, tt, calm.2)
+pub formats : (m : Medium) (b : Bench) (a z : Answer) (new last : Bench) → CalmDisk m b.kept.doubt → FormatsOn m b a new → FormatsOn m b z last → Agree a z new last
+formats Blank b a z new last calm (inl h) (inl k) = same a z _ new last _ h.0 k.0 h.1 k.1
+formats Blank b a z new last calm (inr h) k = inl (hinders (unknown b) new h.1)
+formats Blank b a z new last calm (inl h) (inr k) = inr (inl (hinders (unknown b) last k.1))
+formats Unknown b a z new last calm h k = absurd calm
+formats Formatted b a z new last calm (inl h) (inl k) = same a z _ new last b h.0 k.0 h.1 k.1
+formats Formatted b a z new last calm (inr h) k = inl (hinders b new h.1)
+formats Formatted b a z new last calm (inl h) (inr k) = inr (inl (hinders b last k.1))
 
-boots : (o : Option ℕ) (mode : BootMode) (s : State) (b : Bench) (a : Answer) (new : Bench) → IsCalm b → a.found ≡ Some (durable_of s) → BootsAs o mode s b.medium b a.line new
-    → Determined (plain_boot o mode s b) a new
-boots None mode s b a new calm found (inl h) = begins mode s b a new calm found h
-boots None mode s b a new calm found (inr h) = inr (starves (off_with b.medium b) new h.1)
-boots (Some n) mode s b a new calm found h = settles (plain_boot (Some n) mode s b) a new (answers_as a _ _ found h.0) h.1 (calm.0, tt, calm.2)
+-- ---- power on
+on_fair : (o : Result ℕ ℕ) (mode : BootMode) (z : Size) (b : Bench) (line : Printed) (new : Bench) → IsOn o mode z b line new → Fair b new
+on_fair (Ok n) mode z b line new (life, on, said, e) = fair_to b new _ e (λ s. s, λ c. inr c)
+on_fair (Err n) mode z b line new x = fair_to b new (off b) x.1 (λ s. s, λ c. inr c)
 
-on_on : (m : Medium) (mode : BootMode) (b : Bench) (a : Answer) (new : Bench) → b.medium ≡ m → IsCalm b → CalmMedium m → PowersOn mode b a new → Determined (plain_on m mode b) a new
-on_on m mode b a new at calm cm (inr (inr (inl h))) = inr (starves b new h.2)
-on_on m mode b a new at calm cm (inr (inr (inr h))) = inr (hinders b new h.1)
-on_on Blank mode b a new at calm cm (inl h) = let P : Medium → Type 0 = λ m. Opens m h.0 h.1 in absurd (subst P at h.2)
-on_on Blank mode b a new at calm cm (inr (inl h)) =
-    let P : Medium → Type 0 = λ m. IsOpenRefusal m h.0 in
-    settles (plain_on Blank mode b) a new (h.2 ∙ ap (λ n. says (printed.OnRefused n)) (subst P at h.1)) h.3 calm
-on_on Unknown mode b a new at calm cm (inl h) = absurd cm
-on_on Unknown mode b a new at calm cm (inr (inl h)) = absurd cm
-on_on (Formatted k) mode b a new at calm cm (inr (inl h)) = let P : Medium → Type 0 = λ m. IsOpenRefusal m h.0 in absurd (subst P at h.1)
-on_on (Formatted k) mode b a new at calm cm (inl h) =
-    let P : Medium → Type 0 = λ m. Opens m h.0 h.1 in
-    let opened = subst P at h.2 in
-    let same : opened.0 ≡ k.changes = kept_as k opened.0 cm opened.1 in
-    let state : h.0 ≡ found_of k.changes = opened.2 ∙ ap found_of same in
-    let medium : h.1 ≡ b.medium = opened.3 ∙ same_medium k opened.0 cm same ∙ sym at in
-    let Q : State → Type 0 = λ s. ShowsFound a.found s × BootsAs (boot_refusal s mode) mode s h.1 b a.line new in
-    let booted = subst Q state (h.3, h.4) in
-    let R : Medium → Type 0 = λ m. BootsAs (boot_refusal (found_of k.changes) mode) mode (found_of k.changes) m b a.line new in
-    boots (boot_refusal (found_of k.changes) mode) mode (found_of k.changes) b a new calm (shown a.found (found_of k.changes) booted.0) (subst R medium booted.1)
+slot_fair : (mode : BootMode) (z : Size) (s : State) (b : Bench) (line : Printed) (new : Bench) → Starts mode z s b line new → Fair b new
+slot_fair mode z s b line new (o, mid, h, on) =
+    let start : Bench = on_with (begun s z) b in
+    let one : Fair start new = fair_then start mid new (all_fair (commands_of mode) start o mid h) (on_fair o mode z mid line new on) in
+    (λ s. one.0 s, λ c. one.1 c)
 
-not_full : (n : ℕ) → n < 4096 → (n == 4096) ≡ false
-not_full n h = search (rules, tests)
+begins_fair : (mode : BootMode) (z : Size) (s : State) (b : Bench) (line : Printed) (new : Bench) → Begins mode z s b line new → Fair b new
+begins_fair modes.Fresh z s b line new h = slot_fair modes.Fresh z s b line new h
+begins_fair modes.Keep z s b line new h = slot_fair modes.Keep z s b line new h
+begins_fair modes.Discard z s b line new h = slot_fair modes.Discard z s b line new h
+begins_fair modes.Resume z s b line new h = unmoved b new h.1
 
-room_left : (c : Change) (life : Life) (ok refuses : ℕ → Printed) (b : Bench) (a : Answer) (new : Bench) → life.receipts < 4096
-    → Determined (plain_command (refusal_of life.now c) c life ok refuses b) a new → Determined (plain_issued c life ok refuses b) a new
-room_left c life ok refuses b a new few h =
-    let P : Bool → Type 0 = λ t. Determined (cond t (says (refuses 10), b) (plain_command (refusal_of life.now c) c life ok refuses b)) a new in
-    subst P (sym (not_full life.receipts few)) h
+boots_fair : (r : Option ℕ) (mode : BootMode) (z : Size) (s : State) (b : Bench) (line : Printed) (new : Bench) → Boots r mode z s b line new → Fair b new
+boots_fair (Some n) mode z s b line new x = unmoved b new x.1
+boots_fair None mode z s b line new (inl x) = begins_fair mode z s b line new x
+boots_fair None mode z s b line new (inr x) = spoils b new (starves b new x.1)
 
-by_table : (o : Option ℕ) (c : Change) (life : Life) (ok refuses : ℕ → Printed) (b : Bench) (a : Answer) (new : Bench) → life.receipts < 4096 → refusal_of life.now c ≡ o
-    → Determined (plain_command o c life ok refuses b) a new → Determined (plain_issued c life ok refuses b) a new
-by_table o c life ok refuses b a new few at h =
-    let P : Option ℕ → Type 0 = λ r. Determined (plain_command r c life ok refuses b) a new in
-    room_left c life ok refuses b a new few (subst P (sym at) h)
+settled_fair : (changes : List Change) (m : Medium) (b mid : Bench) → b.medium ≡ m → CalmDisk m None → mid ≡ settled changes b → Fair b mid
+settled_fair changes m b mid at calm e =
+    let P : Medium → Type 0 = λ x. CalmDisk x None in
+    fair_to b mid (settled changes b) e (λ s. s, λ c. inr (subst P (sym at) calm))
 
-command_on : (c : Change) (life : Life) (ok refuses : ℕ → Printed) (b : Bench) (a : Answer) (new : Bench) → IsCalm b → life.doubt ≡ None
-    → Commands None (refusal_of life.now c) c life ok refuses b a new → Determined (plain_issued c life ok refuses b) a new
-command_on c life ok refuses b a new calm d (inl h) =
-    let P : Bool → Type 0 = λ t. Determined (cond t (says (refuses 10), b) (plain_command (refusal_of life.now c) c life ok refuses b)) a new in
-    subst P (sym (eq-eqb life.receipts 4096 h.0)) (settles (says (refuses 10), b) a new h.1 h.2 calm)
-command_on c life ok refuses b a new calm d (inr (inl h)) =
-    by_table (Some h.1) c life ok refuses b a new h.0 h.2 (settles (plain_command (Some h.1) c life ok refuses b) a new h.3 h.4 calm)
-command_on c life ok refuses b a new calm d (inr (inr (inl h))) =
-    by_table None c life ok refuses b a new h.0 h.1 (settles (plain_command None c life ok refuses b) a new h.2 h.3 (keeps_calm c b.medium calm.0, d, calm.2))
-command_on c life ok refuses b a new calm d (inr (inr (inr (inl h)))) = inr (hinders b new h.3)
-command_on c life ok refuses b a new calm d (inr (inr (inr (inr h)))) = inr (hinders _ new h.3)
+opens_fair : (size : Size) (m : Medium) (b : Bench) (s : State) (z : Size) (mid : Bench) → b.medium ≡ m → Opens size m b s z mid → Fair b mid
+opens_fair size Blank b s z mid at h = absurd h
+opens_fair size Unknown b s z mid at h = unmoved b mid h
+opens_fair size Formatted b s z mid at h = settled_fair h.0 Formatted b mid at refl h.4
 
-issued : (d : Option Change) (c : Change) (life : Life) (ok refuses : ℕ → Printed) (b : Bench) (a : Answer) (new : Bench) → IsCalm b → life.doubt ≡ None → d ≡ None
-    → Commands d (refusal_of life.now c) c life ok refuses b a new → Determined (plain_issued c life ok refuses b) a new
-issued None c life ok refuses b a new calm e f h = command_on c life ok refuses b a new calm e h
-issued (Some d) c life ok refuses b a new calm e f h = absurd (let no : ⊥ = cc in no)
+pub powers_fair : (size : Size) (mode : BootMode) (b : Bench) (a : Answer) (new : Bench) → PowersOn size mode b a new → Fair b new
+powers_fair size mode b a new (inl (s, z, mid, found, shows, x)) = fair_then b mid new (opens_fair size b.medium b s z mid refl found) (boots_fair (boot_refusal s mode) mode z s mid a.line new x)
+powers_fair size mode b a new (inr (inl x)) = unmoved b new x.3
+powers_fair size mode b a new (inr (inr (inl x))) = spoils b new (starves b new x.2)
+powers_fair size mode b a new (inr (inr (inr x))) = spoils b new (hinders b new x.1)
 
-format_at : (p : Option Life) (b : Bench) (a : Answer) (new : Bench) → IsCalm b → FormatStep p b a new → Determined (plain_at p lines.Format b) a new
-format_at None b a new calm h = format_on b.medium b a new refl calm calm.0 h
-format_at (Some life) b a new calm h = settles (says printed.Busy, b) a new h.0 h.1 calm
+is_on : (o p : Result ℕ ℕ) (mode : BootMode) (z : Size) (b d : Bench) (line said : Printed) (new last : Bench) → Agree o p b d → IsOn o mode z b line new → IsOn p mode z d said last → Agree line said new last
+is_on o p mode z b d line said new last (inl f) x y = inl ((on_fair o mode z b line new x).0 f)
+is_on o p mode z b d line said new last (inr (inl f)) x y = inr (inl ((on_fair p mode z d said last y).0 f))
+is_on o p mode z b d line said new last (inr (inr e)) x y =
+    let P : Result ℕ ℕ → Type 0 = λ r. IsOn r mode z d said last in
+    let Q : Bench → Type 0 = λ m. IsOn o mode z m said last in
+    alike o x (subst Q (sym e.1) (subst P (sym e.0) y))
+  where
+    alike : (o : Result ℕ ℕ) → IsOn o mode z b line new → IsOn o mode z b said last → Agree line said new last
+    alike (Ok n) x y =
+        let P : Life → Type 0 = λ l. last ≡ on_with (has_machine (booted b.payloads l.now z) l) b in
+        same line said (printed.On mode) new last _ x.2 y.2 x.3 (subst P (some_inj x.0 y.0 b.power x.1 y.1) y.3)
+    alike (Err n) x y = same line said (printed.OnRefused n) new last (off b) x.0 y.0 x.1 y.1
 
-on_at : (p : Option Life) (mode : BootMode) (b : Bench) (a : Answer) (new : Bench) → IsCalm b → OnStep p mode b a new → Determined (plain_at p (lines.On mode) b) a new
-on_at None mode b a new calm h = on_on b.medium mode b a new refl calm calm.0 h
-on_at (Some life) mode b a new calm h = settles (says printed.Busy, b) a new h.0 h.1 calm
+slot_boots : (mode : BootMode) (z : Size) (s : State) (b : Bench) (line said : Printed) (new last : Bench) → Starts mode z s b line new → Starts mode z s b said last → Agree line said new last
+slot_boots mode z s b line said new last (o, mid, h, x) (p, mid2, k, y) = is_on o p mode z mid mid2 line said new last (all (commands_of mode) (on_with (begun s z) b) o p mid mid2 h k) x y
 
-slot_at : (p : Option Life) (n : ℕ) (b : Bench) (a : Answer) (new : Bench) → b.power ≡ p → IsCalm b → SlotStep p n b a new → Determined (plain_at p (lines.Slot n) b) a new
-slot_at None n b a new at calm h = settles (says printed.Off, b) a new h.0 h.1 calm
-slot_at (Some life) n b a new at calm h =
-    let P : Option Life → Type 0 = CalmPower in
-    let d : life.doubt ≡ None = subst P at calm.1 in
-    issued life.doubt (Slot n) life (λ k. printed.Slot k) (λ k. printed.SlotRefused k) b a new calm d d h
+begins : (mode : BootMode) (z : Size) (s : State) (b : Bench) (line said : Printed) (new last : Bench) → Begins mode z s b line new → Begins mode z s b said last → Agree line said new last
+begins modes.Fresh z s b line said new last x y = slot_boots modes.Fresh z s b line said new last x y
+begins modes.Keep z s b line said new last x y = slot_boots modes.Keep z s b line said new last x y
+begins modes.Discard z s b line said new last x y = slot_boots modes.Discard z s b line said new last x y
+begins modes.Resume z s b line said new last x y = same line said (printed.OnRefused 13) new last b x.0 y.0 x.1 y.1
 
-not_built : (b : Bench) (a : Answer) (new : Bench) → IsCalm b → a ≡ says printed.NotBuilt → new ≡ b → Determined (says printed.NotBuilt, b) a new
-not_built b a new calm e f = settles (says printed.NotBuilt, b) a new e f calm
+boots : (r : Option ℕ) (mode : BootMode) (z : Size) (s : State) (b : Bench) (line said : Printed) (new last : Bench) → Boots r mode z s b line new → Boots r mode z s b said last → Agree line said new last
+boots (Some n) mode z s b line said new last x y = same line said (printed.OnRefused n) new last b x.0 y.0 x.1 y.1
+boots None mode z s b line said new last (inr x) y = inl (starves b new x.1)
+boots None mode z s b line said new last (inl x) (inr y) = inr (inl (starves b last y.1))
+boots None mode z s b line said new last (inl x) (inl y) = begins mode z s b line said new last x y
 
--- what a line shows of memory and harts is hidden
-shows_on : (b : Bench) (a : Answer) (new : Bench) → IsCalm b → Shows b a new → Determined (says hidden, b) a new
-shows_on b a new calm h =
-    let P : Answer → Type 0 = λ x. IsShown x.line in
-    let Q : Bench → Type 0 = IsCalm in
-    inl (inr (subst P (sym h.1) tt, tt, ap (λ (x : Answer). x.found) h.1), h.2, subst Q (sym h.2) calm)
+kept_as : (k : Kept) (changes : List Change) → k.doubt ≡ None → MayKeep k changes → k.changes ≡ changes
+kept_as k changes calm (inl e) = sym e
+kept_as k changes calm (inr t) = let P : Option Change → Type 0 = λ d. TakesIn d k.changes changes in absurd (subst P calm t)
 
--- one line, as far as no cut strikes
-pub step_on : (line : Line) (b : Bench) (a : Answer) (new : Bench) → IsCalm b → Step line b a new → Determined (plain line b) a new
-step_on lines.Format b a new calm h = format_at b.power b a new calm h
-step_on (lines.On mode) b a new calm h = on_at b.power mode b a new calm h
-step_on (lines.Slot n) b a new calm h = slot_at b.power n b a new refl calm h
-step_on (lines.Cut fill) b a new calm h = settles (says printed.Cut, unpowered b) a new h.0 h.1 (calm.0, tt, refl)
-step_on (lines.Payload x y) b a new calm h = shows_on b a new calm h
-step_on lines.Discard b a new calm h = not_built b a new calm h.0 h.1
-step_on (lines.Turn x y) b a new calm h = shows_on b a new calm h
-step_on (lines.Call x y z u v w) b a new calm h = not_built b a new calm h.0 h.1
-step_on (lines.Reg x y) b a new calm h = shows_on b a new calm h
-step_on (lines.Pc x) b a new calm h = shows_on b a new calm h
-step_on (lines.Csr x y) b a new calm h = shows_on b a new calm h
-step_on lines.Pending b a new calm h = not_built b a new calm h.0 h.1
-step_on (lines.Mem x y) b a new calm h = shows_on b a new calm h
-step_on (lines.CutAt x y) b a new calm h = not_built b a new calm h.0 h.1
-step_on (lines.CutLane x y z) b a new calm h = not_built b a new calm h.0 h.1
-step_on (lines.FailAt x) b a new calm h = not_built b a new calm h.0 h.1
-step_on (lines.FailLane x y) b a new calm h = not_built b a new calm h.0 h.1
-step_on (lines.Poke x y z) b a new calm h = not_built b a new calm h.0 h.1
+with_found : (f : Option Durable) (a z : Answer) (new last : Bench) → a.found ≡ f → z.found ≡ f → Agree a.line z.line new last → Agree a z new last
+with_found f a z new last e g (inl s) = inl s
+with_found f a z new last e g (inr (inl s)) = inr (inl s)
+with_found f a z new last e g (inr (inr h)) = inr (inr (answers_as a f z.line e h.0 ∙ sym (answers_as z f z.line g refl), h.1))
 
--- a cut strikes only where a failure was answered
-pub moves_on : (line : Line) (b : Bench) (a : Answer) (new : Bench) → IsCalm b → Moves line b a new → Determined (plain line b) a new
-moves_on line b a new calm (inl h) = step_on line b a new calm h.0
-moves_on line b a new calm (inr h) =
-    let spoils : IsSpoilt h.1 → IsSpoilt new = λ s. (let P : Bench → Type 0 = IsSpoilt in subst P (sym h.5) s) in
-    elim (step_on line b h.0 h.1 calm h.2) [
-      | inl d ↦ absurd (let no : true ≡ false = sym h.3 ∙ d.2.2 in let never : ⊥ = cc in never)
-      | inr s ↦ inr (spoils s)
-    ]
+found_as : (o : Option Durable) (s : State) → ShowsFound o s → o ≡ Some (durable_of s)
+found_as None s h = absurd h
+found_as (Some d) s h = ap Some h
 
--- what was counted is never forgotten
-abbrev pub Grows : Bench → Bench → Type 0
-Grows b new = (b.growths ≤ new.growths) × (0 < b.failures → 0 < new.failures)
+-- what an open finds on a disk with nothing in doubt is one state, one size and one bench
+abbrev IsOneOpen : Bench → State → Size → Bench → State → Size → Bench → Type 0
+IsOneOpen b s z mid t y other = (t ≡ s) × (y ≡ z) × (other ≡ mid)
 
-same : (b c new : Bench) → c.growths ≡ b.growths → c.failures ≡ b.failures → new ≡ c → Grows b new
-same b c new e f g =
-    let grown : new.growths ≡ c.growths = ap (λ x. x.growths) g in
-    let count : new.failures ≡ c.failures = ap (λ x. x.failures) g in
-    (omega arith, λ p. omega arith)
+one_open : (size : Size) (m : Medium) (b : Bench) (s : State) (z : Size) (mid : Bench) (t : State) (y : Size) (other : Bench) → CalmDisk m b.kept.doubt → Opens size m b s z mid → Opens size m b t y other → IsOneOpen b s z mid t y other
+one_open size Blank b s z mid t y other calm h k = absurd h
+one_open size Unknown b s z mid t y other calm h k = absurd calm
+one_open size Formatted b s z mid t y other calm (cs, may, is, sized, e) (ds, may2, is2, sized2, e2) =
+    let f : ds ≡ cs = sym (kept_as b.kept ds calm may2) ∙ kept_as b.kept cs calm may in
+    (is2 ∙ ap found_of f ∙ sym is, sized2 ∙ sym sized, e2 ∙ ap (λ k. settled k b) f ∙ sym e)
 
-starve : (b new : Bench) → new ≡ starved b → Grows b new
-starve b new g =
-    let grown : new.growths ≡ b.growths + 1 = ap (λ x. x.growths) g in
-    let count : new.failures ≡ b.failures = ap (λ x. x.failures) g in
-    (omega arith, λ p. omega arith)
+no_open : (size : Size) (m : Medium) (b : Bench) (s : State) (z : Size) (mid : Bench) (n : ℕ) → CalmDisk m b.kept.doubt → Opens size m b s z mid → IsOpenRefusal m n → ⊥
+no_open size Blank b s z mid n calm h r = h
+no_open size Unknown b s z mid n calm h r = calm
+no_open size Formatted b s z mid n calm h r = r
 
-hinder : (b c new : Bench) → c.growths ≡ b.growths → IsHindered c new → Grows b new
-hinder b c new e h =
-    let grown : new.growths ≡ c.growths = ap (λ x. x.growths) h.2 in
-    let count : new.failures ≡ counted c.failures 1 = ap (λ x. x.failures) h.2 in
-    (omega arith, λ p. omega (arith, count))
+one_number : (m : Medium) (b : Bench) (n k : ℕ) → CalmDisk m b.kept.doubt → IsOpenRefusal m n → IsOpenRefusal m k → n ≡ k
+one_number Blank b n k calm h r = h ∙ sym r
+one_number Unknown b n k calm h r = absurd calm
+one_number Formatted b n k calm h r = absurd h
 
-format_more : (m : Medium) (b : Bench) (a : Answer) (new : Bench) → FormatsOn m b a new → Grows b new
-format_more Blank b a new (inl h) = same b (off_with (Formatted nothing_kept) b) new refl refl h.1
-format_more Blank b a new (inr h) = hinder b (off_with Unknown b) new refl h.1
-format_more Unknown b a new (inl h) = same b (off_with (Formatted nothing_kept) b) new refl refl h.1
-format_more Unknown b a new (inr (inl h)) = hinder b b new refl h.1
-format_more Unknown b a new (inr (inr h)) = same b b new refl refl h.3
-format_more (Formatted k) b a new (inl h) = same b b new refl refl h.1
-format_more (Formatted k) b a new (inr h) = hinder b b new refl h.1
-
-begin_more : (mode : BootMode) (s : State) (m : Medium) (b : Bench) (line : Printed) (new : Bench) → Begins mode s m b line new → Grows b new
-begin_more modes.Fresh s m b line new h = same b (on_with m (begun s) b) new refl refl h.1
-begin_more modes.Keep s m b line new h = same b (on_with m (begun s) b) new refl refl h.1
-begin_more modes.Discard s m b line new (inl h) = same b (on_with (keeps Discard m) (went_on Discard (begun s)) b) new refl refl h.1
-begin_more modes.Discard s m b line new (inr (inl h)) = hinder b (off_with m b) new refl h.1
-begin_more modes.Discard s m b line new (inr (inr h)) = hinder b (off_with (doubts Discard m) b) new refl h.1
-begin_more modes.Resume s m b line new h = same b (off_with m b) new refl refl h.1
-
-boot_more : (o : Option ℕ) (mode : BootMode) (s : State) (m : Medium) (b : Bench) (line : Printed) (new : Bench) → BootsAs o mode s m b line new → Grows b new
-boot_more None mode s m b line new (inl h) = begin_more mode s m b line new h
-boot_more None mode s m b line new (inr h) = let P : Bench → Bench → Type 0 = Grows in (omega (arith, ap (λ (x : Bench). x.growths) h.1), λ p. omega (arith, ap (λ (x : Bench). x.failures) h.1))
-boot_more (Some n) mode s m b line new h = same b (off_with m b) new refl refl h.1
-
-on_more : (mode : BootMode) (b : Bench) (a : Answer) (new : Bench) → PowersOn mode b a new → Grows b new
-on_more mode b a new (inl h) = boot_more (boot_refusal h.0 mode) mode h.0 h.1 b a.line new h.4
-on_more mode b a new (inr (inl h)) = same b b new refl refl h.3
-on_more mode b a new (inr (inr (inl h))) = starve b new h.2
-on_more mode b a new (inr (inr (inr h))) = hinder b b new refl h.1
-
-command_more : (d : Option Change) (o : Option ℕ) (c : Change) (life : Life) (ok refuses : ℕ → Printed) (b : Bench) (a : Answer) (new : Bench) → Commands d o c life ok refuses b a new → Grows b new
-command_more (Some d) o c life ok refuses b a new h = same b b new refl refl h.1
-command_more None o c life ok refuses b a new (inl h) = same b b new refl refl h.2
-command_more None o c life ok refuses b a new (inr (inl h)) = same b b new refl refl h.4
-command_more None o c life ok refuses b a new (inr (inr (inl h))) = same b _ new refl refl h.3
-command_more None o c life ok refuses b a new (inr (inr (inr (inl h)))) = hinder b b new refl h.3
-command_more None o c life ok refuses b a new (inr (inr (inr (inr h)))) = hinder b _ new refl h.3
-
-format_power : (p : Option Life) (b : Bench) (a : Answer) (new : Bench) → FormatStep p b a new → Grows b new
-format_power None b a new h = format_more b.medium b a new h
-format_power (Some life) b a new h = same b b new refl refl h.1
-
-on_power : (p : Option Life) (mode : BootMode) (b : Bench) (a : Answer) (new : Bench) → OnStep p mode b a new → Grows b new
-on_power None mode b a new h = on_more mode b a new h
-on_power (Some life) mode b a new h = same b b new refl refl h.1
-
-slot_power : (p : Option Life) (n : ℕ) (b : Bench) (a : Answer) (new : Bench) → SlotStep p n b a new → Grows b new
-slot_power None n b a new h = same b b new refl refl h.1
-slot_power (Some life) n b a new h = command_more life.doubt (refusal_of life.now (Slot n)) (Slot n) life (λ k. printed.Slot k) (λ k. printed.SlotRefused k) b a new h
-
-step_more : (line : Line) (b : Bench) (a : Answer) (new : Bench) → Step line b a new → Grows b new
-step_more lines.Format b a new h = format_power b.power b a new h
-step_more (lines.On mode) b a new h = on_power b.power mode b a new h
-step_more (lines.Slot n) b a new h = slot_power b.power n b a new h
-step_more (lines.Cut fill) b a new h = same b (unpowered b) new refl refl h.1
-step_more (lines.Payload x y) b a new h = same b b new refl refl h.2
-step_more lines.Discard b a new h = same b b new refl refl h.1
-step_more (lines.Turn x y) b a new h = same b b new refl refl h.2
-step_more (lines.Call x y z u v w) b a new h = same b b new refl refl h.1
-step_more (lines.Reg x y) b a new h = same b b new refl refl h.2
-step_more (lines.Pc x) b a new h = same b b new refl refl h.2
-step_more (lines.Csr x y) b a new h = same b b new refl refl h.2
-step_more lines.Pending b a new h = same b b new refl refl h.1
-step_more (lines.Mem x y) b a new h = same b b new refl refl h.2
-step_more (lines.CutAt x y) b a new h = same b b new refl refl h.1
-step_more (lines.CutLane x y z) b a new h = same b b new refl refl h.1
-step_more (lines.FailAt x) b a new h = same b b new refl refl h.1
-step_more (lines.FailLane x y) b a new h = same b b new refl refl h.1
-step_more (lines.Poke x y z) b a new h = same b b new refl refl h.1
-
-moves_more : (line : Line) (b : Bench) (a : Answer) (new : Bench) → Moves line b a new → Grows b new
-moves_more line b a new (inl h) = step_more line b a new h.0
-moves_more line b a new (inr h) =
-    let first = step_more line b h.0 h.1 h.2 in
-    let then = same h.1 (unpowered h.1) new refl refl h.5 in
-    (omega (arith, first.0, then.0), λ p. then.1 (first.1 p))
-
-pub run_more : (ls : List Line) (b : Bench) (answers : List Answer) (end : Bench) → Run b ls answers end → Grows b end
-run_more [] b [] end h = same b b end refl refl h
-run_more [] b (a ∷ answers) end h = absurd h
-run_more (l ∷ ls) b [] end h = absurd h
-run_more (l ∷ ls) b (a ∷ answers) end h =
-    let one = moves_more l b a h.0 h.1 in
-    let others = run_more ls h.0 answers end h.2 in
-    (omega (arith, one.0, others.0), λ p. others.1 (one.1 p))
-
--- a run in which nothing was refused memory and no failure was answered
-run_plain : (ls : List Line) (b : Bench) (answers : List Answer) (end : Bench) → IsCalm b → Run b ls answers end → end.growths ≡ 0 → end.failures ≡ 0 → AreAlike answers (plain_answers ls b)
-run_plain [] b [] end calm h none nothing = tt
-run_plain [] b (a ∷ answers) end calm h none nothing = absurd h
-run_plain (l ∷ ls) b [] end calm h none nothing = absurd h
-run_plain (l ∷ ls) b (a ∷ answers) end calm h none nothing =
-    let others = run_more ls h.0 answers end h.2 in
-    elim (moves_on l b a h.0 calm h.1) [
-      | inl d ↦ (
-          let rest : AreAlike answers (plain_answers ls h.0) = run_plain ls h.0 answers end d.2 h.2 none nothing in
-          let P : Bench → Type 0 = λ x. AreAlike answers (plain_answers ls x) in
-          (d.0, subst P d.1 rest))
-      | inr spoilt ↦ absurd (elim spoilt [ inl g ↦ omega (arith, g, others.0, none) | inr f ↦ omega (arith, others.1 f, nothing) ])
-    ]
-
-pub plain_alone : (script : Script) (answers : List Answer) (end : Bench) → IsReport script answers end → IsUnspoilt end → AreAlike answers (plain_report script)
-plain_alone script [] end h clean = absurd h
-plain_alone script (board ∷ answers) end h clean =
-    (inl h.0, run_plain script.lines blank_bench answers end (tt, tt, refl) (report_alone script board answers end h) clean.0 clean.1)
+pub powers : (size : Size) (mode : BootMode) (b : Bench) (a c : Answer) (new last : Bench) → IsCalm b → PowersOn size mode b a new → PowersOn size mode b c last → Agree a c new last
+powers size mode b a c new last calm (inr (inr (inl x))) y = inl (starves b new x.2)
+powers size mode b a c new last calm (inr (inr (inr x))) y = inl (hinders b new x.1)
+powers size mode b a c new last calm (inl x) (inr (inr (inl y))) = inr (inl (starves b last y.2))
+powers size mode b a c new last calm (inr (inl x)) (inr (inr (inl y))) = inr (inl (starves b last y.2))
+powers size mode b a c new last calm (inl x) (inr (inr (inr y))) = inr (inl (hinders b last y.1))
+powers size mode b a c new last calm (inr (inl x)) (inr (inr (inr y))) = inr (inl (hinders b last y.1))
+powers size mode b a c new last calm (inr (inl x)) (inr (inl y)) =
+    same a c (says (printed.OnRefused x.0)) new last b x.2 (y.2 ∙ ap (λ n. says (printed.OnRefused n)) (one_number b.medium b y.0 x.0 calm y.1 x.1)) x.3 y.3
+powers size mode b a c new last calm (inl x) (inr (inl y)) = absurd (no_open size b.medium b x.0 x.1 x.2 y.0 calm x.3 y.1)
+powers size mode b a c new last calm (inr (inl x)) (inl y) = absurd (no_open size b.medium b y.0 y.1 y.2 x.0 calm y.3 x.1)
+powers size mode b a c new last calm (inl (s, z, mid, found, shows, x)) (inl (t, w, other, found2, shows2, y)) =
+    let one = one_open size b.medium b s z mid t w other calm found found2 in
+    let P : State → Type 0 = λ u. ShowsFound c.found u × Boots (boot_refusal u mode) mode w u other c.line last in
+    let Q : Size → Type 0 = λ u. Boots (boot_refusal s mode) mode u s other c.line last in
+    let R : Bench → Type 0 = λ u. Boots (boot_refusal s mode) mode z s u c.line last in
+    let again = subst P one.0 (shows2, y) in
+    with_found (Some (durable_of s)) a c new last (found_as a.found s shows) (found_as c.found s again.0) (boots (boot_refusal s mode) mode z s mid a.line c.line new last x (subst R one.2 (subst Q one.1 again.1)))

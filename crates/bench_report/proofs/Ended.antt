@@ -6,9 +6,9 @@ use Rattle.board_model.specs.Shapes.{Size}
 use Rattle.disk.specs.Facts.{Facts, Content, IsLeft}
 use Rattle.store.specs.Leaves.{Leaves, IsBlank, IsKept, LeavesOnly, LeavesEither}
 use Rattle.store.specs.Stores.{Stands, Doubts}
-use Rattle.bench_report.specs.Below.{Store, IsAs, store_size}
+use Rattle.bench_report.specs.Below.{Store, Board, store_in, IsAs, store_size}
 use Rattle.bench_report.specs.Bench.{Medium, Blank, Unknown, Formatted, Life}
-use Rattle.bench_report.specs.Agree.{StoreIs, DiskIs}
+use Rattle.bench_report.specs.Agree.{StoreIs, BoardIs, DiskIs}
 use Rattle.bench_report.proofs.Adapted.{grows}
 
 pub found_more : (cs : List Change) (c : Change) (now : State) → now ≡ found_of cs → after now c ≡ found_of (cs ++ c ∷ [])
@@ -28,34 +28,37 @@ with_doubt k c now u doubt same (inr e) =
     (k.changes ++ c ∷ [], inr (subst P (sym doubt) refl), e ∙ found_more k.changes c now same)
 
 -- a crash leaves the state that the commands kept make, or that with the one in doubt
-pub left_only : (size z : Size) (k : Kept) (now : State) (disk : Facts) → now ≡ found_of k.changes → z ≡ size → LeavesOnly disk z now → DiskIs size (Formatted k) disk
+pub left_only : (size z : Size) (k : Kept) (now : State) (disk : Facts) → now ≡ found_of k.changes → z ≡ size → LeavesOnly disk z now → DiskIs size Formatted k disk
 left_only size z k now disk same sized l =
     let P : Size → Type 0 = λ y. IsKept disk y × ((s : State) → Leaves disk y s → MayFind k s) in
     subst P sized (l.kept, λ s h. (k.changes, inl refl, (l.only z s h).1 ∙ same))
 
-pub left_either : (size z : Size) (k : Kept) (c : Change) (now : State) (disk : Facts) → k.doubt ≡ Some c → now ≡ found_of k.changes → z ≡ size → LeavesEither disk z now (after now c) → DiskIs size (Formatted k) disk
+pub left_either : (size z : Size) (k : Kept) (c : Change) (now : State) (disk : Facts) → k.doubt ≡ Some c → now ≡ found_of k.changes → z ≡ size → LeavesEither disk z now (after now c) → DiskIs size Formatted k disk
 left_either size z k c now disk doubt same sized l =
     let P : Size → Type 0 = λ y. IsKept disk y × ((s : State) → Leaves disk y s → MayFind k s) in
     subst P sized (l.kept, λ s h. with_doubt k c now s doubt same (l.only z s h).1)
 
 left : (size : Size) (k : Kept) (now : State) (count : ℕ) (doubt : Option Change) (store : Store) (disk : Facts) → k.doubt ≡ doubt → now ≡ found_of k.changes → store_size store ≡ size
-    → IsAs store now count doubt → LeftUp store disk → LeftDown store disk → DiskIs size (Formatted k) disk
+    → IsAs store now count doubt → LeftUp store disk → LeftDown store disk → DiskIs size Formatted k disk
 left size k now count None store disk doubt same sized is up down = left_only size (store_size store) k now disk same sized (up now (is.2, sym is.0))
 left size k now count (Some c) store disk doubt same sized is up down = left_either size (store_size store) k c now disk doubt same sized (down now (after now c) (c, is.2, sym is.0, refl))
 
-pub ended : (size : Size) (m : Medium) (p : Option Life) (store : Store) (disk : Facts) → StoreIs size m p store → LeftUp store disk → LeftDown store disk → DiskIs size m disk
-ended size m None store disk was up down = absurd was
-ended size Blank (Some life) store disk was up down = absurd was.0
-ended size Unknown (Some life) store disk was up down = tt
-ended size (Formatted k) (Some life) store disk was up down =
+pub ended : (size : Size) (m : Medium) (k : Kept) (life : Life) (store : Store) (disk : Facts) → StoreIs size m k life store → LeftUp store disk → LeftDown store disk → DiskIs size m k disk
+ended size Blank k life store disk was up down = absurd was.0
+ended size Unknown k life store disk was up down = tt
+ended size Formatted k life store disk was up down =
     left size k life.now life.receipts life.doubt store disk was.0.0 was.0.1 was.0.2 was.1 up down
 
+pub board_ended : (size : Size) (m : Medium) (k : Kept) (p : Option Life) (board : Board) (disk : Facts) → BoardIs size m k p board → LeftUp (store_in board) disk → LeftDown (store_in board) disk → DiskIs size m k disk
+board_ended size m k None board disk was up down = absurd was
+board_ended size m k (Some life) board disk was up down = ended size m k life (store_in board) disk was.0 up down
+
 -- where no other content may be left than before, the medium is the same
-pub left_on : (size : Size) (m : Medium) (old new : Facts) → DiskIs size m old → ((c : Content) → new.may_leave c → old.may_leave c) → DiskIs size m new
+pub left_on : (size : Size) (m : Medium) (k : Kept) (old new : Facts) → DiskIs size m k old → ((c : Content) → new.may_leave c → old.may_leave c) → DiskIs size m k new
 unfolding Leaves IsKept IsBlank
-left_on size Blank old new was less = λ c l. was c (less c l)
-left_on size Unknown old new was less = tt
-left_on size (Formatted k) old new was less = (λ c l. was.0 c (less c l), λ s found. was.1 s (found.0, less found.0 found.1, found.2))
+left_on size Blank k old new was less = λ c l. was c (less c l)
+left_on size Unknown k old new was less = tt
+left_on size Formatted k old new was less = (λ c l. was.0 c (less c l), λ s found. was.1 s (found.0, less found.0 found.1, found.2))
 
 -- a power cut leaves one of the contents that it may leave, and that alone from then on
 pub cut_leaves : (old new : Facts) → IsLeft old new → (c : Content) → new.may_leave c → old.may_leave c

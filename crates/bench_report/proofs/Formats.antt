@@ -16,7 +16,7 @@ use Rattle.bench_report.specs.declared.printed.Answer.{Answer}
 use Rattle.bench_report.specs.declared.printed.Printed.TheVariants as printed
 use Rattle.bench_report.specs.Below.{facts, mishaps}
 use Rattle.bench_report.specs.Bench.{Medium, Blank, Unknown, Formatted, Bench}
-use Rattle.bench_report.specs.Steps.{says, failed, off_with, FormatsOn}
+use Rattle.bench_report.specs.Steps.{says, failed, formatted_anew, unknown, FormatsOn}
 use Rattle.bench_report.specs.Agree.{DiskIs, DeviceIs, OffIs}
 use Rattle.bench_report.proofs.Devices.{is_device, five, hindered, stays}
 use Rattle.store.proofs.Bridges.{kept_format}
@@ -31,15 +31,18 @@ MarkedClause old new = HasMagic (sector (facts old).content 0) → Passes (facts
 pub same_error : {T : Type 0} {e f : Refusal} → ◌≡◌ {A = Result T Refusal} (Err e) (Err f) → e ≡ f
 same_error h = cc
 
-fresh : (size : Size) (new : Facts) → LeavesOnly new size formatted → DiskIs size (Formatted nothing_kept) new
+fresh : (size : Size) (new : Facts) → LeavesOnly new size formatted → DiskIs size Formatted nothing_kept new
 fresh size new h = (h.kept, λ s l. ([], inl refl, (h.only size s l).1))
 
-pub formats_ok : (size : Size) (m : Medium) (b : Bench) (old new : SimDisk) (a : Answer) → DiskIs size m (facts old) → DeviceIs size b (mishaps new) (facts new) → a ≡ says printed.Formatted
-    → LeavesOnly (facts new) size formatted → (HasMagic (sector (facts old).content 0) → ⊥)
-    → (x : Bench) × FormatsOn m b a x × OffIs size x new
-formats_ok size Blank b old new a was device e ok unmarked = (off_with (Formatted nothing_kept) b, inl (e, refl), (refl, fresh size (facts new) ok, device))
-formats_ok size Unknown b old new a was device e ok unmarked = (off_with (Formatted nothing_kept) b, inl (e, refl), (refl, fresh size (facts new) ok, device))
-formats_ok size (Formatted k) b old new a was device e ok unmarked = absurd (unmarked (kept_magic size old was.0))
+-- a bench after a format, which keeps the payloads
+abbrev Formats : Size → Medium → Bench → Answer → SimDisk → Type 0
+Formats size m b a new = (x : Bench) × FormatsOn m b a x × OffIs size x new × (x.payloads ≡ b.payloads)
+
+pub formats_ok : (size : Size) (m : Medium) (b : Bench) (old new : SimDisk) (a : Answer) → b.power ≡ None → DiskIs size m b.kept (facts old) → DeviceIs size b (mishaps new) (facts new) → a ≡ says printed.Formatted
+    → LeavesOnly (facts new) size formatted → (HasMagic (sector (facts old).content 0) → ⊥) → Formats size m b a new
+formats_ok size Blank b old new a off was device e ok unmarked = (formatted_anew b, inl (e, refl), (off, fresh size (facts new) ok, device), refl)
+formats_ok size Unknown b old new a off was device e ok unmarked = (formatted_anew b, inl (e, refl), (off, fresh size (facts new) ok, device), refl)
+formats_ok size Formatted b old new a off was device e ok unmarked = absurd (unmarked (kept_magic size old was.0))
 
 refused : (a : Answer) (e f : Refusal) → a ≡ says (printed.FormatRefused (number_of e)) → e ≡ f → a ≡ says (printed.FormatRefused (number_of f))
 refused a e f h g = h ∙ ap (λ x. says (printed.FormatRefused (number_of x))) g
@@ -55,7 +58,7 @@ on_blank disk size e new blank fits h = absurd h
 module _ (size : Size) (b : Bench) (old new : SimDisk) (a : Answer) (e : Refusal) (off : b.power ≡ None) (device : DeviceIs size b (mishaps old) (facts old))
     (refusal : FormatRefused (facts old) size e (facts new)) (marked : MarkedClause old new) (cause : CausedRefusal (mishaps old) e (mishaps new)) (no_fewer : (facts old).failures ≤ (facts new).failures)
     (fits : SameLength (facts old) (facts new)) (h : a ≡ says (printed.FormatRefused (number_of e))) where
-  hinders : (c : Bench) → c.mishaps ≡ b.mishaps → c.failures ≡ b.failures → c.power ≡ None → DiskIs size c.medium (facts new) → e ≡ Device
+  hinders : (c : Bench) → c.mishaps ≡ b.mishaps → c.failures ≡ b.failures → c.power ≡ None → DiskIs size c.medium c.kept (facts new) → e ≡ Device
       → (x : Bench) × ((a ≡ says (printed.FormatRefused 5)) × ((n : Mishaps) × Cause c.mishaps n × (x ≡ failed n c))) × OffIs size x new
   hinders c same count off disk is =
       let its : DeviceIs size c (mishaps old) (facts old) = (same ∙ device.0, rw count device.1, device.2) in
@@ -68,20 +71,20 @@ module _ (size : Size) (b : Bench) (old new : SimDisk) (a : Answer) (e : Refusal
   large : sectors_of size ≤ length (facts old).content
   large = omega (arith, device.2)
 
-  pub formats_err : (m : Medium) → b.medium ≡ m → DiskIs size m (facts old) → (x : Bench) × FormatsOn m b a x × OffIs size x new
+  pub formats_err : (m : Medium) → b.medium ≡ m → DiskIs size m b.kept (facts old) → Formats size m b a new
   formats_err Blank at was =
-      let x = hinders (off_with Unknown b) refl refl refl tt (on_blank old size e (facts new) was large refusal) in (x.0, inr x.1, x.2)
+      let x = hinders (unknown b) refl refl off tt (on_blank old size e (facts new) was large refusal) in (x.0, inr x.1, x.2, ap (λ (y : Bench). y.payloads) x.1.1.2)
   formats_err Unknown at was =
-      let P : Medium → Type 0 = λ m. DiskIs size m (facts new) in
+      let P : Medium → Type 0 = λ m. DiskIs size m b.kept (facts new) in
       elim (is_device e) [
-        | inl is ↦ (let x = hinders b refl refl off (subst P (sym at) tt) is in (x.0, inr (inl x.1), x.2))
-        | inr is ↦ (b, inr (inr (number_of e, (λ n. is (five e n)), h, refl)), (off, subst P (sym at) tt, keeps is))
+        | inl is ↦ (let x = hinders b refl refl off (subst P (sym at) tt) is in (x.0, inr (inl x.1), x.2, ap (λ (y : Bench). y.payloads) x.1.1.2))
+        | inr is ↦ (b, inr (inr (number_of e, (λ n. is (five e n)), h, refl)), (off, subst P (sym at) tt, keeps is), refl)
       ]
-  formats_err (Formatted k) at was =
-      let P : Medium → Type 0 = λ m. DiskIs size m (facts new) in
+  formats_err Formatted at was =
+      let P : Medium → Type 0 = λ m. DiskIs size m b.kept (facts new) in
       let passes : Passes (facts old) (facts new) Stays = marked (kept_magic size old was.0) in
-      let now : DiskIs size (Formatted k) (facts new) = left_on size (Formatted k) (facts old) (facts new) was (passed (facts old) (facts new) passes) in
+      let now : DiskIs size Formatted b.kept (facts new) = left_on size Formatted b.kept (facts old) (facts new) was (passed (facts old) (facts new) passes) in
       elim (kept_format (facts old) (facts new) size e large refusal) [
-        | inl f ↦ (b, inl (refused a e AlreadyFormatted h f, refl), (off, subst P (sym at) now, keeps (λ d. (let no : ⊥ = cc in no))))
-        | inr f ↦ (let x = hinders b refl refl off (subst P (sym at) now) f in (x.0, inr x.1, x.2))
+        | inl f ↦ (b, inl (refused a e AlreadyFormatted h f, refl), (off, subst P (sym at) now, keeps (λ d. (let no : ⊥ = cc in no))), refl)
+        | inr f ↦ (let x = hinders b refl refl off (subst P (sym at) now) f in (x.0, inr x.1, x.2, ap (λ (y : Bench). y.payloads) x.1.1.2))
       ]

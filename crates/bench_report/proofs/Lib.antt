@@ -12,5 +12,8 @@ pub mod Determined
 pub mod Smooth
 pub mod Single
 pub mod Prefixed
-pub mod Wholes
+pub mod Issues
+pub mod PlainRun
 pub mod Started
+pub mod Lines
+pub mod RunLines

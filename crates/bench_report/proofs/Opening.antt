@@ -1,7 +1,7 @@
 -- What an open answers, and the boot after it.
 use Rattle.std.proofs.Common.{◌≡◌, ◌≢◌, ◌⊎◌, ◌≤◌, ◌<◌, arith, inl, inr, None, refl, sym, ◌∙◌, ap, subst, length}
 use Rattle.board_model.specs.Durable.{State}
-use Rattle.board_model.specs.Kept.{MayFind}
+use Rattle.board_model.specs.Kept.{Kept, MayFind}
 use Rattle.board_model.specs.Shapes.{Size}
 use Rattle.board_model.specs.Shown.{number_of}
 use Rattle.board_model.specs.declared.refusal.Refusal.{Refusal}
@@ -23,15 +23,15 @@ use Rattle.bench_report.proofs.Marks.{reads, blank_magic}
 use Rattle.store.proofs.Bridges.{kept_open, stands_marked}
 use Rattle.bench_report.proofs.Ended.{left_on}
 
--- what an open finds is one of the states that the medium lets it find
-pub opens : (size : Size) (m : Medium) (disk : Facts) (z : Size) (s : State) → DiskIs size m disk → Leaves disk z s → (IsBlank disk → ⊥) → ((y : Size) → IsKept disk y → y ≡ z)
-    → (new : Medium) × Opens m s new × Follows size new (begun s) z
-opens size Blank disk z s was leaves formatted one = absurd (formatted was)
-opens size Unknown disk z s was leaves formatted one = (Unknown, refl, tt)
-opens size (Formatted k) disk z s was leaves formatted one =
+-- what an open finds is one of the states that the commands kept let it find; it keeps the command in doubt or drops it
+pub opens : (size : Size) (m : Medium) (b : Bench) (disk : Facts) (z : Size) (s : State) → DiskIs size m b.kept disk → Leaves disk z s → (IsBlank disk → ⊥) → ((y : Size) → IsKept disk y → y ≡ z)
+    → (k : Kept) × Opens size m b s z (record b { kept = k }) × Follows size m k (begun s z) z
+opens size Blank b disk z s was leaves formatted one = absurd (formatted was)
+opens size Unknown b disk z s was leaves formatted one = (b.kept, refl, tt)
+opens size Formatted b disk z s was leaves formatted one =
     let P : Size → Type 0 = λ y. Leaves disk y s in
-    let found : MayFind k s = was.1 s (subst P (sym (one size was.0)) leaves) in
-    (Formatted (record { changes = found.0; doubt = None }), (found.0, found.1, found.2, refl), (refl, found.2, sym (one size was.0)))
+    let found : MayFind b.kept s = was.1 s (subst P (sym (one size was.0)) leaves) in
+    (record { changes = found.0; doubt = None }, (found.0, found.1, found.2, sym (one size was.0), refl), (refl, found.2, sym (one size was.0)))
 
 -- by what an open is refused on a disk that has sectors
 on_blank : (disk : SimDisk) (e : Refusal) (new : Facts) → IsBlank (facts disk) → 0 < length (facts disk).content → OpenRefused (facts disk) e new → (e ≡ NotFormatted) ⊎ (e ≡ Device)
@@ -47,24 +47,27 @@ on_blank disk e new blank some h = absurd h
 module _ (size : Size) (mode : BootMode) (b : Bench) (old new : SimDisk) (a : Answer) (e : Refusal) (off : b.power ≡ None) (device : DeviceIs size b (mishaps old) (facts old))
     (refusal : OpenRefused (facts old) e (facts new)) (cause : CausedRefusal (mishaps old) e (mishaps new)) (no_fewer : (facts old).failures ≤ (facts new).failures)
     (fits : SameLength (facts old) (facts new)) (left : (c : Content) → (facts new).may_leave c → (facts old).may_leave c) (h : a ≡ says (printed.OnRefused (number_of e))) where
+  abbrev Stays : Type 0
+  Stays = (x : Bench) × PowersOn size mode b a x × OffIs size x new × (x.payloads ≡ b.payloads)
+
   refused : (f : Refusal) → e ≡ f → a ≡ says (printed.OnRefused (number_of f))
   refused f g = h ∙ ap (λ x. says (printed.OnRefused (number_of x))) g
 
-  hinders : DiskIs size b.medium (facts new) → e ≡ Device → (x : Bench) × PowersOn mode b a x × OffIs size x new
+  hinders : DiskIs size b.medium b.kept (facts new) → e ≡ Device → Stays
   hinders disk is =
       let x = hindered size b (mishaps old) (mishaps new) (facts old) (facts new) device (struck e (mishaps old) (mishaps new) cause is) (failed_open (facts old) e (facts new) refusal is) fits in
-      (failed (mishaps new) b, inr (inr (inr (refused Device is, x.0))), (off, disk, x.1))
+      (failed (mishaps new) b, inr (inr (inr (refused Device is, x.0))), (off, disk, x.1), refl)
 
   keeps : e ≢ Device → DeviceIs size b (mishaps new) (facts new)
   keeps is = stays size b (mishaps old) (mishaps new) (facts old) (facts new) device (calm e (mishaps old) (mishaps new) cause (never_down (facts old) e (facts new) refusal) is) no_fewer fits
 
-  starves : MayStand b.medium → DiskIs size b.medium (facts new) → e ≡ Memory → (x : Bench) × PowersOn mode b a x × OffIs size x new
-  starves stands disk is = (starved b, inr (inr (inl (stands, refused Memory is, refl))), (off, disk, keeps (λ d. (let no : ⊥ = cc in no))))
+  starves : MayStand b.medium → DiskIs size b.medium b.kept (facts new) → e ≡ Memory → Stays
+  starves stands disk is = (starved b, inr (inr (inl (stands, refused Memory is, refl))), (off, disk, keeps (λ d. (let no : ⊥ = cc in no))), refl)
 
-  by_medium : (m : Medium) → b.medium ≡ m → DiskIs size m (facts old) → DiskIs size b.medium (facts new) → (x : Bench) × PowersOn mode b a x × OffIs size x new
+  by_medium : (m : Medium) → b.medium ≡ m → DiskIs size m b.kept (facts old) → DiskIs size b.medium b.kept (facts new) → Stays
   by_medium Blank at was disk =
       elim (on_blank old e (facts new) was (omega (arith, device.2)) refusal) [
-        | inl f ↦ (b, inr (inl (1, rw at refl, refused NotFormatted f, refl)), (off, disk, keeps (λ d. (let no : ⊥ = cc in no))))
+        | inl f ↦ (b, inr (inl (1, rw at refl, refused NotFormatted f, refl)), (off, disk, keeps (λ d. (let no : ⊥ = cc in no))), refl)
         | inr f ↦ hinders disk f
       ]
   by_medium Unknown at was disk =
@@ -72,11 +75,11 @@ module _ (size : Size) (mode : BootMode) (b : Bench) (old new : SimDisk) (a : An
         | inl f ↦ hinders disk f
         | inr f ↦ elim (is_memory e) [
           | inl g ↦ starves (rw at tt) disk g
-          | inr g ↦ (b, inr (inl (number_of e, rw at (λ n. f (five e n), λ n. g (eleven e n)), h, refl)), (off, disk, keeps f))
+          | inr g ↦ (b, inr (inl (number_of e, rw at (λ n. f (five e n), λ n. g (eleven e n)), h, refl)), (off, disk, keeps f), refl)
         ]
       ]
-  by_medium (Formatted k) at was disk =
+  by_medium Formatted at was disk =
       elim (kept_open (facts old) (facts new) size e was.0 (reads old) refusal) [ inl f ↦ hinders disk f | inr f ↦ starves (rw at tt) disk f ]
 
-  pub open_err : DiskIs size b.medium (facts old) → (x : Bench) × PowersOn mode b a x × OffIs size x new
-  open_err was = by_medium b.medium refl was (left_on size b.medium (facts old) (facts new) was left)
+  pub open_err : DiskIs size b.medium b.kept (facts old) → Stays
+  open_err was = by_medium b.medium refl was (left_on size b.medium b.kept (facts old) (facts new) was left)

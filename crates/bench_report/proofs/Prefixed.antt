@@ -1,452 +1,421 @@
--- The prefix law, from what each line does to the bench.
-use Rattle.std.proofs.Common.{◌≡◌, ℕ, ◌+◌, inl, inr, List, [], ◌∷◌, ◌++◌, Option, None, Some, refl, sym, ◌∙◌, ap, subst, Bool, true, false, MatchBool, ◌==◌, if◌then◌else◌}
-use Rattle.std.specs.Option.{option_to_list}
-use Rattle.board_model.specs.Durable.{State, Change, Slot, Discard, formatted, refusal_of, after}
-use Rattle.board_model.specs.Kept.{Kept, nothing_kept, found_of, MayKeep, MayFind, TakesIn}
+-- The prefix law, one induction over the lines, backwards: the state before a line comes of the one after it, so that the fate of a
+-- command in doubt is told by the open that settles it.
+use Rattle.std.proofs.Common.{◌≡◌, ◌⊎◌, ℕ, inl, inr, List, [], ◌∷◌, Option, None, Some, Result, Ok, Err, refl, sym, ◌∙◌, ap, subst, Bool, true, false, MatchBool}
+use Rattle.board_model.specs.Durable.{State, Change, Slot, formatted, after}
+use Rattle.board_model.specs.Kept.{Kept, nothing_kept, found_of, MayKeep, MayFind}
+use Rattle.bench_report.specs.Taken.{Takes, TakesSome, TakesFewer}
+use Rattle.board_model.specs.Shapes.{Size}
+use Rattle.board_model.specs.Shown.{durable_of}
 use Rattle.board_model.specs.declared.durable.Durable.{Durable}
-use Rattle.script_lang.specs.Scripts.{Script}
-use Rattle.board.specs.Boots.{boot_refusal}
-use Rattle.board.specs.Moments.{issued_by}
 use Rattle.board_model.specs.declared.boot_mode.BootMode.{BootMode}
 use Rattle.board_model.specs.declared.boot_mode.BootMode.TheVariants as modes
+use Rattle.board.specs.Boots.{boot_refusal, BootsSlot}
+use Rattle.script_lang.specs.Scripts.{Script}
 use Rattle.script_lang.specs.declared.line.Line.{Line}
 use Rattle.script_lang.specs.declared.line.Line.TheVariants as lines
-use Rattle.bench_report.specs.declared.printed.Answer.{Answer}
+use Rattle.machine.specs.Machine.{Machine}
+use Rattle.machine_lines.specs.declared.line.MachineLine.{MachineLine}
 use Rattle.bench_report.specs.declared.printed.Printed.{Printed}
 use Rattle.bench_report.specs.declared.printed.Printed.TheVariants as printed
+use Rattle.bench_report.specs.declared.printed.Answer.{Answer}
 use Rattle.bench_report.specs.Bench.{Medium, Blank, Unknown, Formatted, Life, Bench, blank_bench}
-use Rattle.bench_report.specs.Steps.{says, starved, failed, off_with, on_with, unpowered, begun, keeps, doubts, went_on, doubtful, FormatsOn, FormatStep, OnStep, SlotStep, IsOpenRefusal, Opens, ShowsFound, Begins, BootsAs, PowersOn, Commands, Step, Moves, Run}
+use Rattle.bench_report.specs.Steps.{says, shows, starved, failed, on_with, unpowered, formatted_anew, settled, has_machine, begun, commands_of, slot_told, IsOn, Starts, Begins, Boots, Opens, ShowsFound, IsOpenRefusal, PowersOn, FormatsOn, FormatStep, OnStep, SlotStep, PayloadStep, TurnStep, ReadStep, Step, Moves, Run}
 use Rattle.bench_report.specs.Reports.{IsReport}
-use Rattle.bench_report.specs.Prefix.{command_of, Fate, Acknowledged, Doubtful, Refused, refused_by, fate_of, first_of, joined, MayFollow, Issues, Tells, IsPrefixed, is_format_ok, IsFoundByPrefix, KeepsPrefixLaw}
-use Rattle.bench_report.proofs.Ended.{found_more}
-use Rattle.bench_report.proofs.Wholes.{report_alone}
-use Rattle.bench_report.proofs.Table.{not_six, mode_not_six}
+use Rattle.bench_report.specs.Prefix.{Asked, Boot, Command, Nothing, asked_by, Refused, Lost, Tells, ShowsIts, IsPrefixed, resumed, resumes, RisesFrom, is_format_ok, IsFoundByPrefix, KeepsPrefixLaw}
+use Rattle.bench_report.proofs.Issues.{takes_more, is_up, GoesOn, IsSound, Back, joined, said, Went, Does, issued_back, AllWent, all_back}
 
--- the bench holds the state that the acknowledged commands make, and the commands in doubt
-abbrev pub Holds : Medium → Option Life → State → List Change → Type 0
-Holds Blank p s d = ⊥
-Holds Unknown p s d = ⊥
-Holds (Formatted k) None s d = (t : State) → MayFind k t → MayFollow s d t
-Holds (Formatted k) (Some life) s d = (s ≡ life.now) × (d ≡ option_to_list life.doubt) × (k.doubt ≡ life.doubt) × (life.now ≡ found_of k.changes)
+-- ---- lost power
+none_some : (cs : List Change) (s t : State) → t ≡ s → TakesSome cs s t
+none_some [] s t e = e
+none_some (c ∷ cs) s t e = inl e
 
--- each command in doubt may have had no effect
-unchanged : (s : State) (d : List Change) → MayFollow s d s
-unchanged s [] = refl
-unchanged s (c ∷ d) = inl (unchanged s d)
+all_some : (cs : List Change) (s t : State) → Takes cs s t → TakesSome cs s t
+all_some [] s t e = e
+all_some (c ∷ cs) s t h = inr (h.0, all_some cs (after s c) t h.1)
 
-follows : (s : State) (d : List Change) (t : State) → t ≡ s → MayFollow s d t
-follows s d t e = let P : State → Type 0 = MayFollow s d in subst P (sym e) (unchanged s d)
+fewer_some : (cs : List Change) (s t : State) → TakesFewer cs s t → TakesSome cs s t
+fewer_some [] s t h = absurd h
+fewer_some (c ∷ cs) s t (inl e) = inl e
+fewer_some (c ∷ cs) s t (inr h) = inr (h.0, fewer_some cs (after s c) t h.1)
 
--- a command after those in doubt, which had no effect, or had it
-still : (s : State) (d : List Change) (c : Change) (t : State) → MayFollow s d t → MayFollow s (d ++ c ∷ []) t
-still s [] c t e = inl e
-still s (x ∷ d) c t (inl h) = inl (still s d c t h)
-still s (x ∷ d) c t (inr h) = inr (still (after s x) d c t h)
+lost_refused : (n : ℕ) (c : Change) (s t : State) (up now : Bool) → Refused n c s up t now → (t ≡ s) ⊎ ((up ≡ true) × TakesSome (c ∷ []) s t)
+lost_refused n c s t up now (inl h) = inl h.1
+lost_refused n c s t up now (inr h) = h.2
 
-taken : (s : State) (d : List Change) (c : Change) (t : State) → MayFollow s d t → MayFollow s (d ++ c ∷ []) (after t c)
-taken s [] c t e = inr (ap (λ u. after u c) e)
-taken s (x ∷ d) c t (inl h) = inl (taken s d c t h)
-taken s (x ∷ d) c t (inr h) = inr (taken (after s x) d c t h)
+lost_boot : (mode : BootMode) (x : Printed) (s t : State) (up now : Bool) → Tells (Boot mode) x s up t now → TakesSome (commands_of mode) s t
+lost_boot mode (printed.On m) s t up now h = all_some (commands_of mode) s t h.3
+lost_boot mode (printed.OnRefused n) s t up now (a, b, inl e) = none_some (commands_of mode) s t e
+lost_boot mode (printed.OnRefused n) s t up now (a, b, inr (inl h)) = fewer_some (commands_of mode) s t h
+lost_boot mode (printed.OnRefused n) s t up now (a, b, inr (inr h)) = h.1
+lost_boot mode printed.PowerLost s t up now h = h.0
+lost_boot mode x s t up now h = none_some (commands_of mode) s t h.0
 
-takes : (k : Kept) (s : State) (o : Option Change) (changes : List Change) → k.doubt ≡ o → s ≡ found_of k.changes → TakesIn k.doubt k.changes changes → MayFollow s (option_to_list o) (found_of changes)
-takes k s None changes doubt same t = let P : Option Change → Type 0 = λ o. TakesIn o k.changes changes in absurd (subst P doubt t)
-takes k s (Some c) changes doubt same t =
-    let P : Option Change → Type 0 = λ o. TakesIn o k.changes changes in
-    let whole : changes ≡ k.changes ++ c ∷ [] = subst P doubt t in
-    inr (ap found_of whole ∙ sym (found_more k.changes c s same))
+lost_command : (c : Change) (x : Printed) (s t : State) (up now : Bool) → Tells (Command c) x s up t now → (t ≡ s) ⊎ ((up ≡ true) × TakesSome (c ∷ []) s t)
+lost_command c (printed.Slot k) s t up now h = inr (h.0, all_some (c ∷ []) s t h.1)
+lost_command c (printed.SlotRefused n) s t up now h = lost_refused n c s t up now h
+lost_command c (printed.On m) s t up now h = absurd h
+lost_command c printed.PowerLost s t up now h = h.0
+lost_command c x s t up now h = inl h.0
 
-keeps_to : (k : Kept) (s : State) (o : Option Change) (changes : List Change) → k.doubt ≡ o → s ≡ found_of k.changes → MayKeep k changes → MayFollow s (option_to_list o) (found_of changes)
-keeps_to k s o changes doubt same (inl e) = follows s (option_to_list o) (found_of changes) (ap found_of e ∙ sym same)
-keeps_to k s o changes doubt same (inr t) = takes k s o changes doubt same t
+lost_nothing : (x : Printed) (s t : State) (up now : Bool) → Tells Nothing x s up t now → t ≡ s
+lost_nothing (printed.On m) s t up now h = absurd h
+lost_nothing x s t up now h = h.0
 
--- a board that goes off leaves what it held
-off_holds : (m : Medium) (p : Option Life) (s : State) (d : List Change) → Holds m p s d → Holds m None s d
-off_holds Blank p s d h = h
-off_holds Unknown p s d h = h
-off_holds (Formatted k) None s d h = h
-off_holds (Formatted k) (Some life) s d h = λ t found.
-    let P : State → Type 0 = MayFollow s d in
-    let Q : List Change → Type 0 = λ x. MayFollow s x (found_of found.0) in
-    subst P (sym found.2) (subst Q (sym h.1) (keeps_to k s life.doubt found.0 h.2 (h.0 ∙ h.3) found.1))
+lost : (asked : Asked) (x : Printed) (s t : State) (up now : Bool) → Tells asked x s up t now → Lost asked s up t
+lost (Boot mode) x s t up now h = lost_boot mode x s t up now h
+lost (Command c) x s t up now h = lost_command c x s t up now h
+lost Nothing x s t up now h = lost_nothing x s t up now h
 
-loosen : (m : Medium) (s t : State) (d e : List Change) → Holds m None s d → ((u : State) → MayFollow s d u → MayFollow t e u) → Holds m None t e
-loosen Blank s t d e h more = h
-loosen Unknown s t d e h more = h
-loosen (Formatted k) s t d e h more = λ u found. more u (h u found)
+-- ---- a line that leaves what the disk stands for
+abbrev pub Told : Asked → Answer → Bool → Bool → State → State → Type 0
+Told asked a up now s t = ShowsIts a.found s × Tells asked a.line s up t now
 
--- where power is lost within a line, its command is in doubt
-abbrev pub lost_doubt : Line → List Change → Option Change → List Change
-lost_doubt line d None = d
-lost_doubt line d (Some c) = joined line d c
+abbrev pub Tell : Asked → Bench → Answer → Bench → Type 0
+Tell asked b a new = Back b new (λ s t. Told asked a (is_up b.power) (is_up new.power) s t)
 
-weaker : (s : State) (d : List Change) (c : Change) (u : State) → MayFollow s d u → MayFollow s (first_of d c) u
-weaker s [] c u h = inl h
-weaker s (x ∷ d) c u h = h
+by_eqs : (asked : Asked) (b : Bench) (a x : Answer) (new n : Bench) → a ≡ x → new ≡ n → Tell asked b x n → Tell asked b a new
+by_eqs asked b a x new n e f h =
+    let P : Answer → Type 0 = λ y. Tell asked b y new in
+    let Q : Bench → Type 0 = λ m. Tell asked b x m in
+    subst P (sym e) (subst Q (sym f) h)
 
--- what a line told: the bench then holds t with e in doubt, as the report says, and t is one of those that a cut may leave
-abbrev pub Told : Line → State → List Change → Answer → Bench → Type 1
-Told line s d a new =
-    (t : State) × (e : List Change) × Holds new.medium new.power t e × ((rest : State → List Change → Type 0) → rest t e → Tells a.found line a.line s d rest)
-    × ((u : State) → MayFollow t e u → MayFollow s (lost_doubt line d (command_of line)) u)
+-- it says a word that tells of no command, and the bench is as it was to an open
+same : (asked : Asked) (b : Bench) (a : Answer) (x : Printed) (new n : Bench) → a ≡ says x → new ≡ n → n.kept ≡ b.kept → n.medium ≡ b.medium → is_up n.power ≡ is_up b.power → GoesOn n.kept n.power → IsSound b
+    → ((s t : State) → t ≡ s → Tells asked x s (is_up b.power) t (is_up b.power)) → Tell asked b a new
+same asked b a x new n e f kept medium up goes sound tells =
+    let P : Kept → State → Type 0 = λ k t. MayFind k t in
+    let Q : Bool → State → Type 0 = λ now s. Tells asked x s (is_up b.power) s now in
+    by_eqs asked b a (says x) new n e f
+    ((medium ∙ sound.0, goes), λ t found. (t, (let R : Kept → Type 0 = λ k. MayFind k t in subst R kept found), (tt, (let S : Bool → Type 0 = λ now. Tells asked x t (is_up b.power) t now in subst S (sym up) (tells t t refl)))))
 
-said : (line : Line) (a : Answer) (x : Printed) (s : State) (d : List Change) (rest : State → List Change → Type 0) → a ≡ says x → Issues line (command_of line) (fate_of x) s d rest → Tells a.found line a.line s d rest
-said line a x s d rest e h = let P : Answer → Type 0 = λ y. Tells y.found line y.line s d rest in subst P (sym e) h
+stays : (asked : Asked) (b : Bench) (a : Answer) (x : Printed) (new : Bench) → a ≡ says x → new ≡ b → IsSound b → ((s t : State) → t ≡ s → Tells asked x s (is_up b.power) t (is_up b.power)) → Tell asked b a new
+stays asked b a x new e f sound tells = same asked b a x new b e f refl refl refl sound.1 sound tells
 
-held : (new c : Bench) (s : State) (d : List Change) → new ≡ c → Holds c.medium c.power s d → Holds new.medium new.power s d
-held new c s d e h = let P : Bench → Type 0 = λ x. Holds x.medium x.power s d in subst P (sym e) h
+-- ---- power on
+by_parts : (mode : BootMode) (a : Answer) (f : Option Durable) (x : Printed) (up now : Bool) (s t : State) → a.found ≡ f → a.line ≡ x → ShowsIts f s → Tells (Boot mode) x s up t now → Told (Boot mode) a up now s t
+by_parts mode a f x up now s t e g shows tells =
+    let P : Option Durable → Type 0 = λ o. ShowsIts o s in
+    let Q : Printed → Type 0 = λ y. Tells (Boot mode) y s up t now in
+    (subst P (sym e) shows, subst Q (sym g) tells)
 
--- a line that issues no command and found nothing
-nothing : (line : Line) (a : Answer) (x : Printed) (s : State) (d : List Change) (new c : Bench) → command_of line ≡ None → a ≡ says x → new ≡ c → Holds c.medium c.power s d → Told line s d a new
-nothing line a x s d new c none e f h = (
-  s,
-  d,
-  held new c s d f h,
-  (λ rest r. said line a x s d rest e (let P : Option Change → Type 0 = λ o. Issues line o (fate_of x) s d rest in subst P (sym none) r)),
-  (λ u m. (let P : Option Change → Type 0 = λ o. MayFollow s (lost_doubt line d o) u in subst P (sym none) m)),
-)
+found_as : (o : Option Durable) (s : State) → ShowsFound o s → o ≡ Some (durable_of s)
+found_as None s h = absurd h
+found_as (Some d) s h = ap Some h
 
--- a power-on that opened nothing issues nothing
-unopened : (o : Option Change) (mode : BootMode) (a : Answer) (x : Printed) (s : State) (d : List Change) (new c : Bench) → issued_by mode ≡ o → fate_of x ≡ Refused → a ≡ says x → new ≡ c
-    → Holds c.medium c.power s d → Told (lines.On mode) s d a new
-unopened None mode a x s d new c at fate e f h = nothing (lines.On mode) a x s d new c at e f h
-unopened (Some y) mode a x s d new c at fate e f h =
-    let P : Option Change → Fate → (State → List Change → Type 0) → Type 0 = λ o told rest. Issues (lines.On mode) o told s d rest in (
-      s,
-      d,
-      held new c s d f h,
-      (λ rest r. said (lines.On mode) a x s d rest e (let Q : Option Change → Type 0 = λ o. P o (fate_of x) rest in let R : Fate → Type 0 = λ told. P (Some y) told rest in subst Q (sym at) (subst R (sym fate) r))),
-      (λ u m. (let Q : Option Change → Type 0 = λ o. MayFollow s (lost_doubt (lines.On mode) d o) u in subst Q (sym at) (still s d y u m))),
-    )
+-- an open: what is found stands
+module _ (b : Bench) (changes : List Change) (may : MayKeep b.kept changes) (medium : b.medium ≡ Formatted) (on : b.power ≡ None) where
+  opened : (x : Bench) → x.kept ≡ record { changes = changes; doubt = None } → IsSound x → Back b x (λ s t. (t ≡ s) × (s ≡ found_of changes))
+  opened x e sound = (sound, λ t found. (found_of changes, (changes, may, refl), (let P : Kept → Type 0 = λ k. MayFind k t in alone t (subst P e found), refl)))
+    where
+      alone : (t : State) → MayFind (record { changes = changes; doubt = None }) t → t ≡ found_of changes
+      alone t (cs, inl e, is) = is ∙ ap found_of e
+      alone t (cs, inr e, is) = absurd e
 
-formats : (m : Medium) (b : Bench) (a : Answer) (new : Bench) (s : State) (d : List Change) → b.medium ≡ m → Holds b.medium None s d → b.power ≡ None → FormatsOn m b a new → Told lines.Format s d a new
-formats Blank b a new s d at h off f = let P : Medium → Type 0 = λ m. Holds m None s d in absurd (subst P at h)
-formats Unknown b a new s d at h off f = let P : Medium → Type 0 = λ m. Holds m None s d in absurd (subst P at h)
-formats (Formatted k) b a new s d at h off (inl f) = let P : Option Life → Type 0 = λ p. Holds b.medium p s d in nothing lines.Format a _ s d new b refl f.0 f.1 (subst P (sym off) h)
-formats (Formatted k) b a new s d at h off (inr f) = let P : Option Life → Type 0 = λ p. Holds b.medium p s d in nothing lines.Format a _ s d new (failed f.1.0 b) refl f.0 f.1.2 (subst P (sym off) h)
+  off_now : is_up b.power ≡ false
+  off_now = ap is_up on
 
--- a power-on that found a state
-shown : (o : Option Durable) (line : Line) (x : Printed) (s t : State) (d : List Change) (rest : State → List Change → Type 0) → ShowsFound o t → MayFollow s d t → Issues line (command_of line) (fate_of x) t [] rest → Tells o line x s d rest
-shown None line x s t d rest shows follow r = absurd shows
-shown (Some found) line x s t d rest shows follow r = (t, follow, shows, r)
+  sound_off : (k : Kept) (p : Option Life) → p ≡ b.power → GoesOn k p
+  sound_off k p e = let F : Option Life → Type 0 = λ q. GoesOn k q in subst F (sym (e ∙ on)) tt
 
-module _ (mode : BootMode) (b : Bench) (a : Answer) (new : Bench) (s : State) (d : List Change) (t : State) (k : Kept) (shows : ShowsFound a.found t) (follow : MayFollow s d t)
-    (calm : k.doubt ≡ None) (same : t ≡ found_of k.changes) where
-  -- the state that was found is one of those that a cut may leave, whatever the mode issues
-  settled : (o : Option Change) (u : State) → u ≡ t → MayFollow s (lost_doubt (lines.On mode) d o) u
-  settled None u e = let P : State → Type 0 = MayFollow s d in subst P (sym e) follow
-  settled (Some c) u e = let P : State → Type 0 = MayFollow s (d ++ c ∷ []) in subst P (sym e) (still s d c t follow)
+  shown : (s : State) → s ≡ found_of changes → ShowsIts (Some (durable_of (found_of changes))) s
+  shown s e = ap durable_of (sym e)
 
-  -- no command of the boot was acknowledged, nor is one in doubt
-  found_alone : (x : Printed) (c : Bench) → ((rest : State → List Change → Type 0) → rest t [] → Issues (lines.On mode) (issued_by mode) (fate_of x) t [] rest) → a.line ≡ x → new ≡ c
-      → Holds c.medium c.power t [] → Told (lines.On mode) s d a new
-  found_alone x c issues e f h = (
-    t,
-    [],
-    held new c t [] f h,
-    (λ rest r. (let P : Printed → Type 0 = λ y. Tells a.found (lines.On mode) y s d rest in subst P (sym e) (shown a.found (lines.On mode) x s t d rest shows follow (issues rest r)))),
-    (λ u m. settled (issued_by mode) u m),
-  )
+  refused_boot : (n : ℕ) (mode : BootMode) (a : Answer) (x new : Bench) → a.found ≡ Some (durable_of (found_of changes)) → a.line ≡ printed.OnRefused n → new ≡ x
+      → x.kept ≡ record { changes = changes; doubt = None } → x.power ≡ b.power → x.medium ≡ b.medium → Tell (Boot mode) b a new
+  refused_boot n mode a x new found line e kept same_power same_medium =
+      let Q : Bench → Type 0 = λ m. Tell (Boot mode) b a m in
+      let back = opened x kept (same_medium ∙ medium, sound_off x.kept x.power same_power) in
+      subst Q (sym e) (said b x (λ s t. (t ≡ s) × (s ≡ found_of changes)) (λ s t. Told (Boot mode) a (is_up b.power) (is_up x.power) s t) back
+      (λ s t h. by_parts mode a _ (printed.OnRefused n) (is_up b.power) (is_up x.power) s t found line (shown s h.1) (off_now, ap is_up same_power ∙ off_now, inl h.0)))
 
-  stands : Holds (Formatted k) None t []
-  stands = off_holds (Formatted k) (Some (begun t)) t [] (refl, refl, calm, same)
-
-  refused : (o : Option Change) (n : ℕ) (rest : State → List Change → Type 0) → (n == 6) ≡ false → rest t [] → Issues (lines.On mode) o (refused_by n) t [] rest
-  refused None n rest six r = r
-  refused (Some c) n rest six r = let P : Bool → Type 0 = λ q. Issues (lines.On mode) (Some c) (if q then Doubtful else Refused) t [] rest in subst P (sym six) r
-
-  found_off : (n : ℕ) (c : Bench) → (n == 6) ≡ false → a.line ≡ printed.OnRefused n → new ≡ c → c.medium ≡ Formatted k → c.power ≡ None → Told (lines.On mode) s d a new
-  found_off n c six e f medium off =
-      let P : Medium → Type 0 = λ m. Holds m None t [] in
-      let Q : Option Life → Type 0 = λ p. Holds c.medium p t [] in
-      found_alone (printed.OnRefused n) c (λ rest r. refused (issued_by mode) n rest six r) e f (subst Q (sym off) (subst P (sym medium) stands))
-
-  found_on : issued_by mode ≡ None → a.line ≡ printed.On mode → new ≡ on_with (Formatted k) (begun t) b → Told (lines.On mode) s d a new
-  found_on none e f =
-      found_alone (printed.On mode) (on_with (Formatted k) (begun t) b) (λ rest r. (let P : Option Change → Type 0 = λ o. Issues (lines.On mode) o Acknowledged t [] rest in subst P (sym none) r)) e f (refl, refl, calm, same)
-
--- a boot by `discard`
-module _ (b : Bench) (a : Answer) (new : Bench) (s : State) (d : List Change) (t : State) (k : Kept) (shows : ShowsFound a.found t) (follow : MayFollow s d t)
-    (calm : k.doubt ≡ None) (same : t ≡ found_of k.changes) where
-  discarded : refusal_of t Discard ≡ None → a.line ≡ printed.On modes.Discard → new ≡ on_with (keeps Discard (Formatted k)) (went_on Discard (begun t)) b → Told (lines.On modes.Discard) s d a new
-  discarded allowed e f =
-      let u = after t Discard in (
-        u,
-        [],
-        held new (on_with (keeps Discard (Formatted k)) (went_on Discard (begun t)) b) u [] f (refl, refl, calm, found_more k.changes Discard t same),
-        (λ rest r. (let P : Printed → Type 0 = λ y. Tells a.found (lines.On modes.Discard) y s d rest in subst P (sym e) (shown a.found (lines.On modes.Discard) (printed.On modes.Discard) s t d rest shows follow (refl, allowed, r)))),
-        (λ v m. (let P : State → Type 0 = MayFollow s (d ++ Discard ∷ []) in subst P (sym m) (taken s d Discard t follow))),
+  is_on : (o : Result ℕ ℕ) (mode : BootMode) (z : Size) (a : Answer) (mid new : Bench) → BootsSlot mode → a.found ≡ Some (durable_of (found_of changes))
+      → Back b mid (λ s t. (s ≡ found_of changes) × AllWent o (commands_of mode) (is_up mid.power) s t) → IsOn o mode z mid a.line new → Tell (Boot mode) b a new
+  is_on (Ok n) mode z a mid new loads found back (life, at, line, e) =
+      let Q : Bench → Type 0 = λ m. Tell (Boot mode) b a m in
+      let F : Option Life → Type 0 = λ p. GoesOn mid.kept p in
+      subst Q (sym e) (
+        (back.0.0, subst F at back.0.1),
+        λ t f. (
+            let s = back.1 t f in (
+              s.0,
+              s.1,
+              by_parts mode a _ (printed.On mode) (is_up b.power) (takes_more life.doubt) s.0 t found line (shown s.0 s.2.0) (refl, loads, off_now, s.2.1.0, sym (ap is_up at) ∙ s.2.1.1),
+            )
+            ),
+      )
+  is_on (Err n) mode z a mid new loads found back (line, e) =
+      let Q : Bench → Type 0 = λ m. Tell (Boot mode) b a m in
+      subst Q (sym e) (
+        (back.0.0, tt),
+        λ t f. (let s = back.1 t f in (s.0, s.1, by_parts mode a _ (printed.OnRefused n) (is_up b.power) false s.0 t found line (shown s.0 s.2.0) (off_now, refl, inr s.2.1))),
       )
 
-  either_of : (v : State) → MayFollow t (Discard ∷ []) v → MayFollow s (d ++ Discard ∷ []) v
-  either_of v (inl e) = let P : State → Type 0 = MayFollow s (d ++ Discard ∷ []) in subst P (sym e) (still s d Discard t follow)
-  either_of v (inr e) = let P : State → Type 0 = MayFollow s (d ++ Discard ∷ []) in subst P (sym e) (taken s d Discard t follow)
+  boots_slot : (mode : BootMode) (z : Size) (a : Answer) (new : Bench) → BootsSlot mode → a.found ≡ Some (durable_of (found_of changes)) → Starts mode z (found_of changes) (settled changes b) a.line new → Tell (Boot mode) b a new
+  boots_slot mode z a new loads found (o, mid, all, on_h) =
+      let start : Bench = on_with (begun (found_of changes) z) (settled changes b) in
+      let sound : IsSound start = (medium, (refl, refl)) in
+      let rest : Back start mid (AllWent o (commands_of mode) (is_up mid.power)) = all_back (commands_of mode) start o mid sound refl all in
+      let whole : Back b mid (λ s t. (s ≡ found_of changes) × AllWent o (commands_of mode) (is_up mid.power) s t) =
+      joined b start mid (λ s t. (t ≡ s) × (s ≡ found_of changes)) (AllWent o (commands_of mode) (is_up mid.power)) (λ s t. (s ≡ found_of changes) × AllWent o (commands_of mode) (is_up mid.power) s t)
+      (opened start refl sound) rest
+      (λ s u t x w. (x.1, (let R : State → Type 0 = λ v. AllWent o (commands_of mode) (is_up mid.power) v t in subst R x.0 w))) in
+      is_on o mode z a mid new loads found whole on_h
 
-  in_doubt : (c : Bench) → a.line ≡ printed.OnRefused 6 → new ≡ c → c.medium ≡ doubts Discard (Formatted k) → c.power ≡ None → Told (lines.On modes.Discard) s d a new
-  in_doubt c e f medium off =
-      let P : Medium → Type 0 = λ m. Holds m None t (Discard ∷ []) in
-      let Q : Option Life → Type 0 = λ p. Holds c.medium p t (Discard ∷ []) in
-      let life = doubtful Discard (begun t) in
-      let holds = off_holds (doubts Discard (Formatted k)) (Some life) t (Discard ∷ []) (refl, refl, refl, same) in (
-        t,
-        Discard ∷ [],
-        held new c t (Discard ∷ []) f (subst Q (sym off) (subst P (sym medium) holds)),
-        (λ rest r. (let R : Printed → Type 0 = λ y. Tells a.found (lines.On modes.Discard) y s d rest in subst R (sym e) (shown a.found (lines.On modes.Discard) (printed.OnRefused 6) s t d rest shows follow r))),
-        either_of,
-      )
+  begins : (mode : BootMode) (z : Size) (a : Answer) (new : Bench) → a.found ≡ Some (durable_of (found_of changes)) → Begins mode z (found_of changes) (settled changes b) a.line new → Tell (Boot mode) b a new
+  begins modes.Fresh z a new found h = boots_slot modes.Fresh z a new tt found h
+  begins modes.Keep z a new found h = boots_slot modes.Keep z a new tt found h
+  begins modes.Discard z a new found h = boots_slot modes.Discard z a new tt found h
+  begins modes.Resume z a new found h = refused_boot 13 modes.Resume a (settled changes b) new found h.0 h.1 refl refl refl
 
-begins : (mode : BootMode) (b : Bench) (a : Answer) (new : Bench) (s : State) (d : List Change) (t : State) (k : Kept) → ShowsFound a.found t → MayFollow s d t → k.doubt ≡ None → t ≡ found_of k.changes
-    → boot_refusal t mode ≡ None → Begins mode t (Formatted k) b a.line new → Told (lines.On mode) s d a new
-begins modes.Fresh b a new s d t k shows follow calm same allowed h = found_on modes.Fresh b a new s d t k shows follow calm same refl h.0 h.1
-begins modes.Keep b a new s d t k shows follow calm same allowed h = found_on modes.Keep b a new s d t k shows follow calm same refl h.0 h.1
-begins modes.Discard b a new s d t k shows follow calm same allowed (inl h) = discarded b a new s d t k shows follow calm same allowed h.0 h.1
-begins modes.Discard b a new s d t k shows follow calm same allowed (inr (inl h)) =
-    found_off modes.Discard b a new s d t k shows follow calm same 5 (failed h.1.0 (off_with (Formatted k) b)) refl h.0 h.1.2 refl refl
-begins modes.Discard b a new s d t k shows follow calm same allowed (inr (inr h)) =
-    in_doubt b a new s d t k shows follow calm same (failed h.1.0 (off_with (doubts Discard (Formatted k)) b)) h.0 h.1.2 refl refl
-begins modes.Resume b a new s d t k shows follow calm same allowed h = found_off modes.Resume b a new s d t k shows follow calm same 13 (off_with (Formatted k) b) refl h.0 h.1 refl refl
+  boots : (r : Option ℕ) (mode : BootMode) (z : Size) (a : Answer) (new : Bench) → a.found ≡ Some (durable_of (found_of changes)) → Boots r mode z (found_of changes) (settled changes b) a.line new → Tell (Boot mode) b a new
+  boots (Some n) mode z a new found h = refused_boot n mode a (settled changes b) new found h.0 h.1 refl refl refl
+  boots None mode z a new found (inl h) = begins mode z a new found h
+  boots None mode z a new found (inr h) = refused_boot 11 mode a (starved (settled changes b)) new found h.0 h.1 refl refl refl
 
-booted : (o : Option ℕ) (mode : BootMode) (b : Bench) (a : Answer) (new : Bench) (s : State) (d : List Change) (t : State) (k : Kept) → boot_refusal t mode ≡ o → ShowsFound a.found t → MayFollow s d t → k.doubt ≡ None
-    → t ≡ found_of k.changes → BootsAs o mode t (Formatted k) b a.line new → Told (lines.On mode) s d a new
-booted None mode b a new s d t k at shows follow calm same (inl h) = begins mode b a new s d t k shows follow calm same at h
-booted None mode b a new s d t k at shows follow calm same (inr h) =
-    found_off mode b a new s d t k shows follow calm same 11 (starved (off_with (Formatted k) b)) refl h.0 h.1 refl refl
-booted (Some n) mode b a new s d t k at shows follow calm same h =
-    found_off mode b a new s d t k shows follow calm same n (off_with (Formatted k) b) (mode_not_six t mode n at) h.0 h.1 refl refl
+opens : (size : Size) (m : Medium) (mode : BootMode) (b : Bench) (a : Answer) (new mid : Bench) (s : State) (z : Size) → b.medium ≡ m → b.medium ≡ Formatted → b.power ≡ None → Opens size m b s z mid → ShowsFound a.found s
+    → Boots (boot_refusal s mode) mode z s mid a.line new → Tell (Boot mode) b a new
+opens size Blank mode b a new mid s z at medium on h shows boot = absurd h
+opens size Unknown mode b a new mid s z at medium on h shows boot = absurd (let e : Unknown ≡ Formatted = sym at ∙ medium in let no : ⊥ = cc in no)
+opens size Formatted mode b a new mid s z at medium on (changes, may, is, sized, e) shows boot =
+    let P : State → Type 0 = λ x. Boots (boot_refusal x mode) mode z x mid a.line new in
+    let Q : Bench → Type 0 = λ x. Boots (boot_refusal (found_of changes) mode) mode z (found_of changes) x a.line new in
+    boots b changes may medium on (boot_refusal (found_of changes) mode) mode z a new (found_as a.found s shows ∙ ap (λ x. Some (durable_of x)) is) (subst Q e (subst P is boot))
 
-opens : (m : Medium) (mode : BootMode) (b : Bench) (a : Answer) (new : Bench) (s : State) (d : List Change) (t : State) (n : Medium) → Holds m None s d → Opens m t n → ShowsFound a.found t
-    → BootsAs (boot_refusal t mode) mode t n b a.line new → Told (lines.On mode) s d a new
-opens Blank mode b a new s d t n h o shows boots = absurd h
-opens Unknown mode b a new s d t n h o shows boots = absurd h
-opens (Formatted k) mode b a new s d t n h o shows boots =
-    let P : Medium → Type 0 = λ m. BootsAs (boot_refusal t mode) mode t m b a.line new in
-    booted (boot_refusal t mode) mode b a new s d t (record { changes = o.0; doubt = None }) refl shows (h t (o.0, o.1, o.2)) refl o.2 (subst P o.3 boots)
+powers : (size : Size) (mode : BootMode) (b : Bench) (a : Answer) (new : Bench) → IsSound b → b.power ≡ None → PowersOn size mode b a new → Tell (Boot mode) b a new
+powers size mode b a new sound on (inl (s, z, mid, found, shows, boot)) = opens size b.medium mode b a new mid s z refl sound.0 on found shows boot
+powers size mode b a new sound on (inr (inl h)) = let P : Medium → Type 0 = λ m. IsOpenRefusal m h.0 in absurd (subst P sound.0 h.1)
+powers size mode b a new sound on (inr (inr (inl h))) = same (Boot mode) b a (printed.OnRefused 11) new (starved b) h.1 h.2 refl refl refl sound.1 sound (λ s t e. (ap is_up on, ap is_up on, inl e))
+powers size mode b a new sound on (inr (inr (inr h))) = same (Boot mode) b a (printed.OnRefused 5) new (failed h.1.0 b) h.0 h.1.2 refl refl refl sound.1 sound (λ s t e. (ap is_up on, ap is_up on, inl e))
 
--- the number of an open that was refused on a formatted disk
-no_open : {T : Type 0} (m : Medium) (s : State) (d : List Change) (n : ℕ) → Holds m None s d → IsOpenRefusal m n → T
-no_open Blank s d n h r = absurd h
-no_open Unknown s d n h r = absurd h
-no_open (Formatted k) s d n h r = absurd r
-
-powers : (mode : BootMode) (b : Bench) (a : Answer) (new : Bench) (s : State) (d : List Change) → Holds b.medium None s d → b.power ≡ None → PowersOn mode b a new → Told (lines.On mode) s d a new
-powers mode b a new s d h off (inl p) = opens b.medium mode b a new s d p.0 p.1 h p.2 p.3 p.4
-powers mode b a new s d h off (inr (inl p)) = absurd (no_open b.medium s d p.0 h p.1)
-powers mode b a new s d h off (inr (inr (inl p))) =
-    let P : Option Life → Type 0 = λ p. Holds b.medium p s d in
-    unopened (issued_by mode) mode a _ s d new (starved b) refl refl p.1 p.2 (subst P (sym off) h)
-powers mode b a new s d h off (inr (inr (inr p))) =
-    let P : Option Life → Type 0 = λ p. Holds b.medium p s d in
-    unopened (issued_by mode) mode a _ s d new (failed p.1.0 b) refl refl p.0 p.1.2 (subst P (sym off) h)
-
--- the command of a line `slot`, on a board that is on
-module _ (k : Kept) (b : Bench) (life : Life) (n : ℕ) (a : Answer) (new : Bench) (s : State) (d : List Change) (at : b.medium ≡ Formatted k) (on : b.power ≡ Some life) (h : Holds (Formatted k) (Some life) s d) where
-  here : Holds b.medium b.power s d
-  here =
-      let P : Medium → Type 0 = λ m. Holds m b.power s d in
-      let Q : Option Life → Type 0 = λ p. Holds (Formatted k) p s d in
-      subst P (sym at) (subst Q (sym on) h)
-
-  -- it was refused, by a number other than 6
-  refuses : (r : ℕ) (c : Bench) → (r == 6) ≡ false → a ≡ says (printed.SlotRefused r) → new ≡ c → Holds c.medium c.power s d → Told (lines.Slot n) s d a new
-  refuses r c six e f g =
-      let P : Bool → (State → List Change → Type 0) → Type 0 = λ t rest. Issues (lines.Slot n) (Some (Slot n)) (if t then Doubtful else Refused) s d rest in
-      let Q : (State → List Change → Type 0) → Bool → Type 0 = λ rest t. P t rest in
-      (s, d, held new c s d f g, (λ rest more. said (lines.Slot n) a (printed.SlotRefused r) s d rest e (subst (Q rest) (sym six) more)), (λ u m. weaker s d (Slot n) u m))
-
-  down : (x : Change) → life.doubt ≡ Some x → a ≡ says (printed.SlotRefused 6) → new ≡ b → Told (lines.Slot n) s d a new
-  down x is_down e f =
-      let same : d ≡ x ∷ [] = h.1 ∙ ap option_to_list is_down in
-      let first : first_of d (Slot n) ≡ d = (let P : List Change → Type 0 = λ o. first_of o (Slot n) ≡ o in subst P (sym same) refl) in (
-        s,
-        d,
-        held new b s d f here,
-        (λ rest more. said (lines.Slot n) a (printed.SlotRefused 6) s d rest e (let P : List Change → Type 0 = λ o. rest s o in subst P (sym first) more)),
-        (λ u m. weaker s d (Slot n) u m),
-      )
-
-  up : life.doubt ≡ None → Commands None (refusal_of life.now (Slot n)) (Slot n) life (λ i. printed.Slot i) (λ i. printed.SlotRefused i) b a new → Told (lines.Slot n) s d a new
-  up calm (inl c) = refuses 10 b refl c.1 c.2 here
-  up calm (inr (inl c)) = refuses c.1 b (not_six life.now (Slot n) c.1 c.2) c.3 c.4 here
-  up calm (inr (inr (inl c))) =
-      let none : d ≡ [] = h.1 ∙ ap option_to_list calm in
-      let P : Medium → Type 0 = λ m. Holds (keeps (Slot n) m) (Some (went_on (Slot n) life)) (after s (Slot n)) [] in
-      let Q : State → Type 0 = λ t. refusal_of t (Slot n) ≡ None in
-      let table : refusal_of s (Slot n) ≡ None = subst Q (sym h.0) c.1 in
-      let holds = subst P (sym at) (ap (λ t. after t (Slot n)) h.0, sym (ap option_to_list calm), h.2, found_more k.changes (Slot n) life.now h.3) in (
-        after s (Slot n),
-        [],
-        held new (on_with (keeps (Slot n) b.medium) (went_on (Slot n) life) b) (after s (Slot n)) [] c.3 holds,
-        (λ rest more. said (lines.Slot n) a (printed.Slot (life.receipts + 1)) s d rest c.2 (none, table, more)),
-        (λ u e. (let R : List Change → Type 0 = λ o. MayFollow s (first_of o (Slot n)) u in subst R (sym none) (inr e))),
-      )
-  up calm (inr (inr (inr (inl c)))) = refuses 5 (failed c.3.0 b) refl c.2 c.3.2 here
-  up calm (inr (inr (inr (inr c)))) =
-      let none : d ≡ [] = h.1 ∙ ap option_to_list calm in
-      let P : Medium → Type 0 = λ m. Holds (doubts (Slot n) m) (Some (doubtful (Slot n) life)) s (Slot n ∷ []) in
-      let holds = subst P (sym at) (h.0, refl, refl, h.3) in
-      let Q : List Change → Type 0 = λ o. first_of o (Slot n) ≡ Slot n ∷ [] in
-      let first : first_of d (Slot n) ≡ Slot n ∷ [] = subst Q (sym none) refl in (
-        s,
-        Slot n ∷ [],
-        held new (failed c.3.0 (on_with (doubts (Slot n) b.medium) (doubtful (Slot n) life) b)) s (Slot n ∷ []) c.3.2 holds,
-        (λ rest more. said (lines.Slot n) a (printed.SlotRefused 6) s d rest c.2 (let R : List Change → Type 0 = λ o. rest s o in subst R (sym first) more)),
-        (λ u m. (let R : List Change → Type 0 = λ o. MayFollow s o u in subst R (sym first) m)),
-      )
-
-  issues : (o : Option Change) → life.doubt ≡ o → Commands o (refusal_of life.now (Slot n)) (Slot n) life (λ i. printed.Slot i) (λ i. printed.SlotRefused i) b a new → Told (lines.Slot n) s d a new
-  issues None calm c = up calm c
-  issues (Some x) is_down c = down x is_down c.0 c.1
-
-slots : (m : Medium) (p : Option Life) (n : ℕ) (b : Bench) (a : Answer) (new : Bench) (s : State) (d : List Change) → b.medium ≡ m → b.power ≡ p → Holds m p s d → SlotStep p n b a new → Told (lines.Slot n) s d a new
-slots Blank p n b a new s d at on h step = absurd h
-slots Unknown p n b a new s d at on h step = absurd h
-slots (Formatted k) None n b a new s d at on h step =
-    let P : Medium → Type 0 = λ m. Holds m b.power s d in
-    let Q : Option Life → Type 0 = λ p. Holds (Formatted k) p s d in
-    (s, d, held new b s d step.1 (subst P (sym at) (subst Q (sym on) h)), (λ rest more. said (lines.Slot n) a printed.Off s d rest step.0 more), (λ u m. weaker s d (Slot n) u m))
-slots (Formatted k) (Some life) n b a new s d at on h step = issues k b life n a new s d at on h life.doubt refl step
-
-format_at : (p : Option Life) (b : Bench) (a : Answer) (new : Bench) (s : State) (d : List Change) → b.power ≡ p → Holds b.medium b.power s d → FormatStep p b a new → Told lines.Format s d a new
-format_at None b a new s d on h step = formats b.medium b a new s d refl (off_holds b.medium b.power s d h) on step
-format_at (Some life) b a new s d on h step = nothing lines.Format a _ s d new b refl step.0 step.1 h
-
-on_at : (p : Option Life) (mode : BootMode) (b : Bench) (a : Answer) (new : Bench) (s : State) (d : List Change) → b.power ≡ p → Holds b.medium b.power s d → OnStep p mode b a new → Told (lines.On mode) s d a new
-on_at None mode b a new s d on h step = powers mode b a new s d (off_holds b.medium b.power s d h) on step
-on_at (Some life) mode b a new s d on h step = unopened (issued_by mode) mode a _ s d new b refl refl step.0 step.1 h
-
-step_tells : (line : Line) (b : Bench) (a : Answer) (new : Bench) (s : State) (d : List Change) → Holds b.medium b.power s d → Step line b a new → Told line s d a new
-step_tells lines.Format b a new s d h step = format_at b.power b a new s d refl h step
-step_tells (lines.On mode) b a new s d h step = on_at b.power mode b a new s d refl h step
-step_tells (lines.Slot n) b a new s d h step = slots b.medium b.power n b a new s d refl refl h step
-step_tells (lines.Cut fill) b a new s d h step = nothing (lines.Cut fill) a _ s d new (unpowered b) refl step.0 step.1 (off_holds b.medium b.power s d h)
-step_tells (lines.Payload x y) b a new s d h step = nothing (lines.Payload x y) a _ s d new b refl step.1 step.2 h
-step_tells lines.Discard b a new s d h step = nothing lines.Discard a _ s d new b refl step.0 step.1 h
-step_tells (lines.Turn x y) b a new s d h step = nothing (lines.Turn x y) a _ s d new b refl step.1 step.2 h
-step_tells (lines.Call x y z u v w) b a new s d h step = nothing (lines.Call x y z u v w) a _ s d new b refl step.0 step.1 h
-step_tells (lines.Reg x y) b a new s d h step = nothing (lines.Reg x y) a _ s d new b refl step.1 step.2 h
-step_tells (lines.Pc x) b a new s d h step = nothing (lines.Pc x) a _ s d new b refl step.1 step.2 h
-step_tells (lines.Csr x y) b a new s d h step = nothing (lines.Csr x y) a _ s d new b refl step.1 step.2 h
-step_tells lines.Pending b a new s d h step = nothing lines.Pending a _ s d new b refl step.0 step.1 h
-step_tells (lines.Mem x y) b a new s d h step = nothing (lines.Mem x y) a _ s d new b refl step.1 step.2 h
-step_tells (lines.CutAt x y) b a new s d h step = nothing (lines.CutAt x y) a _ s d new b refl step.0 step.1 h
-step_tells (lines.CutLane x y z) b a new s d h step = nothing (lines.CutLane x y z) a _ s d new b refl step.0 step.1 h
-step_tells (lines.FailAt x) b a new s d h step = nothing (lines.FailAt x) a _ s d new b refl step.0 step.1 h
-step_tells (lines.FailLane x y) b a new s d h step = nothing (lines.FailLane x y) a _ s d new b refl step.0 step.1 h
-step_tells (lines.Poke x y z) b a new s d h step = nothing (lines.Poke x y z) a _ s d new b refl step.0 step.1 h
-
-lost : (line : Line) (o : Option Change) (s : State) (d : List Change) (rest : State → List Change → Type 0) → rest s (lost_doubt line d o) → Issues line o Doubtful s d rest
-lost line None s d rest r = r
-lost line (Some c) s d rest r = r
-
-moves_tell : (line : Line) (b : Bench) (a : Answer) (new : Bench) (s : State) (d : List Change) → Holds b.medium b.power s d → Moves line b a new
-    → (t : State) × (e : List Change) × Holds new.medium new.power t e × ((rest : State → List Change → Type 0) → rest t e → Tells a.found line a.line s d rest)
-moves_tell line b a new s d h (inl m) = let told = step_tells line b a new s d h m.0 in (told.0, told.1, told.2, told.3)
-moves_tell line b a new s d h (inr m) =
-    let told = step_tells line b m.0 m.1 s d h m.2 in
-    let off = off_holds m.1.medium m.1.power told.0 told.1 told.2 in
-    let left = loosen m.1.medium told.0 s told.1 (lost_doubt line d (command_of line)) off told.4 in
-    (s, lost_doubt line d (command_of line), held new (unpowered m.1) s (lost_doubt line d (command_of line)) m.5 left, (λ rest r. said line a printed.PowerLost s d rest m.4 (lost line (command_of line) s d rest r)))
-
-prefixed : (ls : List Line) (b : Bench) (answers : List Answer) (end : Bench) (s : State) (d : List Change) → Holds b.medium b.power s d → Run b ls answers end → IsPrefixed s d ls answers
-prefixed [] b answers end s d h run = tt
-prefixed (l ∷ ls) b [] end s d h run = absurd run
-prefixed (l ∷ ls) b (a ∷ answers) end s d h run =
-    let told = moves_tell l b a run.0 s d h run.1 in
-    told.3 (λ t e. IsPrefixed t e ls answers) (prefixed ls run.0 answers end told.0 told.1 told.2 run.2)
-
--- a format that answered Ok
-other : {T : Type 0} (a : Answer) (x : Printed) → a ≡ says x → is_format_ok x ≡ false → is_format_ok a.line ≡ true → T
-other a x e differs formats_ok = let P : Answer → Type 0 = λ y. is_format_ok y.line ≡ true in absurd (let never : true ≡ false = sym (subst P e formats_ok) ∙ differs in let bad : ⊥ = cc in bad)
-
-fresh : (new b : Bench) → new ≡ off_with (Formatted nothing_kept) b → Holds new.medium new.power formatted []
-fresh new b e = held new (off_with (Formatted nothing_kept) b) formatted [] e (λ t found. keeps_all t found.0 found.1 found.2)
+-- ---- the other lines
+slot_says : (o : Result ℕ ℕ) (n : ℕ) (b : Bench) (a : Answer) (new : Bench) → Does (Slot n) (is_up b.power) b o new → a ≡ slot_told o → Tell (Command (Slot n)) b a new
+slot_says (Ok k) n b a new one e =
+    by_eqs (Command (Slot n)) b a _ new new e refl (said b new (Went (Ok k) (Slot n) (is_up b.power) (is_up new.power)) (λ s t. Told (Command (Slot n)) (says (printed.Slot k)) (is_up b.power) (is_up new.power) s t) one (λ s t w. (tt, (w.0, (w.1, w.2), w.3))))
+slot_says (Err k) n b a new one e =
+    by_eqs (Command (Slot n)) b a _ new new e refl (said b new (Went (Err k) (Slot n) (is_up b.power) (is_up new.power)) (λ s t. Told (Command (Slot n)) (says (printed.SlotRefused k)) (is_up b.power) (is_up new.power) s t) one (λ s t w. (tt, down s t w)))
   where
-    keeps_all : (t : State) (changes : List Change) → MayKeep nothing_kept changes → t ≡ found_of changes → t ≡ formatted
-    keeps_all t changes (inl e) f = f ∙ ap found_of e
-    keeps_all t changes (inr differs) f = absurd differs
+    down : (s t : State) → Went (Err k) (Slot n) (is_up b.power) (is_up new.power) s t → Refused k (Slot n) s (is_up b.power) t (is_up new.power)
+    down s t (inl w) = inl w
+    down s t (inr (inl w)) = inr (w.0, w.3, inl w.1)
+    down s t (inr (inr w)) = inr (w.0, w.2, inr (w.1, w.3))
 
-formatted_on : (m : Medium) (b : Bench) (a : Answer) (new : Bench) → FormatsOn m b a new → is_format_ok a.line ≡ true → Holds new.medium new.power formatted []
-formatted_on Blank b a new (inl h) formats_ok = fresh new b h.1
-formatted_on Blank b a new (inr h) formats_ok = other a _ h.0 refl formats_ok
-formatted_on Unknown b a new (inl h) formats_ok = fresh new b h.1
-formatted_on Unknown b a new (inr (inl h)) formats_ok = other a _ h.0 refl formats_ok
-formatted_on Unknown b a new (inr (inr h)) formats_ok = other a _ h.2 refl formats_ok
-formatted_on (Formatted k) b a new (inl h) formats_ok = other a _ h.0 refl formats_ok
-formatted_on (Formatted k) b a new (inr h) formats_ok = other a _ h.0 refl formats_ok
+slots : (p : Option Life) (n : ℕ) (b : Bench) (a : Answer) (new : Bench) → IsSound b → b.power ≡ p → SlotStep p n b a new → Tell (Command (Slot n)) b a new
+slots None n b a new sound on h = stays (Command (Slot n)) b a printed.Off new h.0 h.1 sound (λ s t e. (e, refl))
+slots (Some life) n b a new sound on (o, issued, e) = slot_says o n b a new (issued_back (Slot n) life b o new sound on issued) e
 
-formatted_at : (p : Option Life) (b : Bench) (a : Answer) (new : Bench) → FormatStep p b a new → is_format_ok a.line ≡ true → Holds new.medium new.power formatted []
-formatted_at None b a new h formats_ok = formatted_on b.medium b a new h formats_ok
-formatted_at (Some life) b a new h formats_ok = other a _ h.0 refl formats_ok
+formats : (m : Medium) (b : Bench) (a : Answer) (new : Bench) → IsSound b → b.medium ≡ m → FormatsOn m b a new → Tell Nothing b a new
+formats Blank b a new sound at h = absurd (let e : Blank ≡ Formatted = sym at ∙ sound.0 in let no : ⊥ = cc in no)
+formats Unknown b a new sound at h = absurd (let e : Unknown ≡ Formatted = sym at ∙ sound.0 in let no : ⊥ = cc in no)
+formats Formatted b a new sound at (inl h) = stays Nothing b a (printed.FormatRefused 2) new h.0 h.1 sound (λ s t e. (e, refl))
+formats Formatted b a new sound at (inr h) = same Nothing b a (printed.FormatRefused 5) new (failed h.1.0 b) h.0 h.1.2 refl refl refl sound.1 sound (λ s t e. (e, refl))
+
+format_at : (p : Option Life) (b : Bench) (a : Answer) (new : Bench) → IsSound b → FormatStep p b a new → Tell Nothing b a new
+format_at None b a new sound h = formats b.medium b a new sound refl h
+format_at (Some life) b a new sound h = stays Nothing b a printed.Busy new h.0 h.1 sound (λ s t e. (e, refl))
+
+on_at : (size : Size) (p : Option Life) (mode : BootMode) (b : Bench) (a : Answer) (new : Bench) → IsSound b → b.power ≡ p → OnStep size p mode b a new → Tell (Boot mode) b a new
+on_at size None mode b a new sound on h = powers size mode b a new sound on h
+on_at size (Some life) mode b a new sound on h = stays (Boot mode) b a printed.Busy new h.0 h.1 sound (λ s t e. (e, refl))
+
+shows_on : (line : MachineLine) (b : Bench) (a : Answer) (new : Bench) → IsSound b → a ≡ shows line → new ≡ b → Tell Nothing b a new
+shows_on line b a new sound e f = stays Nothing b a (printed.Shown line) new e f sound (λ s t e. (e, refl))
+
+payload_at : (p : Option Life) (slot : ℕ) (bytes : List ℕ) (b : Bench) (a : Answer) (new : Bench) → IsSound b → PayloadStep p slot bytes b a new → Tell Nothing b a new
+payload_at (Some life) slot bytes b a new sound h = shows_on _ b a new sound h.0 h.1
+payload_at None slot bytes b a new sound h = same Nothing b a _ new _ h.0 h.1 refl refl refl sound.1 sound (λ s t e. (e, refl))
+
+turn_at : (p : Option Life) (h n : ℕ) (b : Bench) (a : Answer) (new : Bench) → IsSound b → b.power ≡ p → TurnStep p h n b a new → Tell Nothing b a new
+turn_at None h n b a new sound on x = shows_on _ b a new sound x.0 x.1
+turn_at (Some life) h n b a new sound on (line, m, turns, e, f) =
+    let F : Option Life → Type 0 = λ p. GoesOn b.kept p in
+    same Nothing b a (printed.Shown line) new (on_with (has_machine m life) b) e f refl refl (sym (ap is_up on)) (subst F on sound.1) sound (λ s t e. (e, refl))
+
+read_at : (p : Option Life) (says_so : Machine → MachineLine → Type 0) (b : Bench) (a : Answer) (new : Bench) → IsSound b → ReadStep p says_so b a new → Tell Nothing b a new
+read_at None says_so b a new sound x = shows_on _ b a new sound x.0 x.1
+read_at (Some life) says_so b a new sound x = shows_on x.0 b a new sound x.2 x.3
+
+not_built : (b : Bench) (a : Answer) (new : Bench) → IsSound b → a ≡ says printed.NotBuilt → new ≡ b → Tell Nothing b a new
+not_built b a new sound e f = stays Nothing b a printed.NotBuilt new e f sound (λ s t e. (e, refl))
+
+steps : (size : Size) (line : Line) (b : Bench) (a : Answer) (new : Bench) → IsSound b → Step size line b a new → Tell (asked_by line) b a new
+steps size (lines.Payload x y) b a new sound h = payload_at b.power x y b a new sound h
+steps size lines.Format b a new sound h = format_at b.power b a new sound h
+steps size (lines.On mode) b a new sound h = on_at size b.power mode b a new sound refl h
+steps size (lines.Slot n) b a new sound h = slots b.power n b a new sound refl h
+steps size lines.Discard b a new sound h = not_built b a new sound h.0 h.1
+steps size (lines.Turn x y) b a new sound h = turn_at b.power x y b a new sound refl h
+steps size (lines.Call x y z u v w) b a new sound h = not_built b a new sound h.0 h.1
+steps size (lines.Reg x y) b a new sound h = read_at b.power _ b a new sound h
+steps size (lines.Pc x) b a new sound h = read_at b.power _ b a new sound h
+steps size (lines.Csr x y) b a new sound h = read_at b.power _ b a new sound h
+steps size lines.Pending b a new sound h = not_built b a new sound h.0 h.1
+steps size (lines.Mem x y) b a new sound h = read_at b.power _ b a new sound h
+steps size (lines.CutAt x y) b a new sound h = not_built b a new sound h.0 h.1
+steps size (lines.CutLane x y z) b a new sound h = not_built b a new sound h.0 h.1
+steps size (lines.FailAt x) b a new sound h = not_built b a new sound h.0 h.1
+steps size (lines.FailLane x y) b a new sound h = not_built b a new sound h.0 h.1
+steps size (lines.Cut fill) b a new sound h = by_eqs Nothing b a _ new (unpowered b) h.0 h.1 ((sound.0, tt), λ t f. (t, f, (tt, (refl, refl))))
+steps size (lines.Poke x y z) b a new sound h = not_built b a new sound h.0 h.1
+
+lost_tells : (asked : Asked) (s t : State) (up : Bool) → Lost asked s up t → Tells asked printed.PowerLost s up t false
+lost_tells (Boot mode) s t up h = (h, refl)
+lost_tells (Command c) s t up h = (h, refl)
+lost_tells Nothing s t up h = (h, refl)
+
+moves : (size : Size) (line : Line) (b : Bench) (a : Answer) (new : Bench) → IsSound b → Moves size line b a new → Tell (asked_by line) b a new
+moves size line b a new sound (inl h) = steps size line b a new sound h.0
+moves size line b a new sound (inr (would, mid, step, struck, e, is)) =
+    let told : Tell (asked_by line) b would mid = steps size line b would mid sound step in
+    by_eqs (asked_by line) b a _ new (unpowered mid) e is
+    ((told.0.0, tt), λ t f. (let s = told.1 t f in (s.0, s.1, (tt, lost_tells (asked_by line) s.0 t (is_up b.power) (lost (asked_by line) would.line s.0 t (is_up b.power) (is_up mid.power) s.2.1)))))
+
+prefixed : (size : Size) (ls : List Line) (b : Bench) (answers : List Answer) (end : Bench) → IsSound b → Run size b ls answers end → (s : State) × MayFind b.kept s × IsPrefixed s (is_up b.power) ls answers
+prefixed size [] b [] end sound run = (found_of b.kept.changes, (b.kept.changes, inl refl, refl), tt)
+prefixed size (l ∷ ls) b (a ∷ answers) end sound run =
+    let told : Tell (asked_by l) b a run.0 = moves size l b a run.0 sound run.1 in
+    let rest = prefixed size ls run.0 answers end told.0 run.2 in
+    let s = told.1 rest.0 rest.1 in
+    (s.0, s.1, (s.2.0, rest.0, is_up run.0.power, s.2.1, rest.2))
+prefixed size [] b (a ∷ answers) end sound run = absurd run
+prefixed size (l ∷ ls) b [] end sound run = absurd run
+
+-- no image is resumed, since none can be loaded yet
+not_resumed : (asked : Asked) (x : Printed) (found : Option Durable) (s t : State) (up now : Bool) (rest : List ℕ) → Tells asked x s up t now → resumed found x rest ≡ rest
+not_resumed asked x None s t up now rest h = refl
+not_resumed (Boot m) (printed.On modes.Resume) (Some d) s t up now rest h = absurd h.1
+not_resumed (Command c) (printed.On modes.Resume) (Some d) s t up now rest h = absurd h
+not_resumed Nothing (printed.On modes.Resume) (Some d) s t up now rest h = absurd h
+not_resumed asked (printed.On modes.Fresh) (Some d) s t up now rest h = refl
+not_resumed asked (printed.On modes.Keep) (Some d) s t up now rest h = refl
+not_resumed asked (printed.On modes.Discard) (Some d) s t up now rest h = refl
+not_resumed asked x (Some d) s t up now rest h = refl
+
+none_resumed : (ls : List Line) (answers : List Answer) (s : State) (up : Bool) → IsPrefixed s up ls answers → resumes answers ≡ []
+none_resumed [] [] s up h = refl
+none_resumed (l ∷ ls) (a ∷ answers) s up h = not_resumed (asked_by l) a.line a.found s h.1 up h.2 (resumes answers) h.3 ∙ none_resumed ls answers h.1 h.2 h.4
+none_resumed [] (a ∷ answers) s up h = absurd h
+none_resumed (l ∷ ls) [] s up h = absurd h
+
+-- ---- from the first format that answered Ok on
+other : {T : Type 0} (a : Answer) (x : Printed) → a ≡ says x → is_format_ok x ≡ false → is_format_ok a.line ≡ true → T
+other a x e differs ok = let P : Answer → Type 0 = λ y. is_format_ok y.line ≡ true in absurd (let never : true ≡ false = sym (subst P e ok) ∙ differs in let bad : ⊥ = cc in bad)
 
 by_line : {T : Type 0} (x y : Printed) → x ≡ y → is_format_ok y ≡ false → is_format_ok x ≡ true → T
-by_line x y e differs formats_ok = let P : Printed → Type 0 = λ z. is_format_ok z ≡ true in absurd (let never : true ≡ false = sym (subst P e formats_ok) ∙ differs in let bad : ⊥ = cc in bad)
+by_line x y e differs ok = let P : Printed → Type 0 = λ z. is_format_ok z ≡ true in absurd (let never : true ≡ false = sym (subst P e ok) ∙ differs in let bad : ⊥ = cc in bad)
 
-begins_no : {T : Type 0} (mode : BootMode) (s : State) (m : Medium) (b : Bench) (x : Printed) (new : Bench) → Begins mode s m b x new → is_format_ok x ≡ true → T
-begins_no modes.Fresh s m b x new h formats_ok = by_line x _ h.0 refl formats_ok
-begins_no modes.Keep s m b x new h formats_ok = by_line x _ h.0 refl formats_ok
-begins_no modes.Discard s m b x new (inl h) formats_ok = by_line x _ h.0 refl formats_ok
-begins_no modes.Discard s m b x new (inr (inl h)) formats_ok = by_line x _ h.0 refl formats_ok
-begins_no modes.Discard s m b x new (inr (inr h)) formats_ok = by_line x _ h.0 refl formats_ok
-begins_no modes.Resume s m b x new h formats_ok = by_line x _ h.0 refl formats_ok
+-- a board that is off over a disk that was formatted anew
+abbrev IsFresh : Bench → Type 0
+IsFresh new = (new.medium ≡ Formatted) × (new.kept ≡ nothing_kept) × (new.power ≡ None)
 
-boots_no : {T : Type 0} (o : Option ℕ) (mode : BootMode) (s : State) (m : Medium) (b : Bench) (x : Printed) (new : Bench) → BootsAs o mode s m b x new → is_format_ok x ≡ true → T
-boots_no None mode s m b x new (inl h) formats_ok = begins_no mode s m b x new h formats_ok
-boots_no None mode s m b x new (inr h) formats_ok = by_line x _ h.0 refl formats_ok
-boots_no (Some n) mode s m b x new h formats_ok = by_line x _ h.0 refl formats_ok
+fresh : (new b : Bench) → b.power ≡ None → new ≡ formatted_anew b → IsFresh new
+fresh new b on e = let P : Bench → Type 0 = IsFresh in subst P (sym e) (refl, refl, on)
 
-powers_no : {T : Type 0} (p : Option Life) (mode : BootMode) (b : Bench) (a : Answer) (new : Bench) → OnStep p mode b a new → is_format_ok a.line ≡ true → T
-powers_no (Some life) mode b a new h formats_ok = other a _ h.0 refl formats_ok
-powers_no None mode b a new (inl h) formats_ok = boots_no (boot_refusal h.0 mode) mode h.0 h.1 b a.line new h.4 formats_ok
-powers_no None mode b a new (inr (inl h)) formats_ok = other a _ h.2 refl formats_ok
-powers_no None mode b a new (inr (inr (inl h))) formats_ok = other a _ h.1 refl formats_ok
-powers_no None mode b a new (inr (inr (inr h))) formats_ok = other a _ h.0 refl formats_ok
+formatted_on : (m : Medium) (b : Bench) (a : Answer) (new : Bench) → b.power ≡ None → FormatsOn m b a new → is_format_ok a.line ≡ true → IsFresh new
+formatted_on Blank b a new on (inl h) ok = fresh new b on h.1
+formatted_on Blank b a new on (inr h) ok = other a _ h.0 refl ok
+formatted_on Unknown b a new on (inl h) ok = fresh new b on h.1
+formatted_on Unknown b a new on (inr (inl h)) ok = other a _ h.0 refl ok
+formatted_on Unknown b a new on (inr (inr h)) ok = other a _ h.2 refl ok
+formatted_on Formatted b a new on (inl h) ok = other a _ h.0 refl ok
+formatted_on Formatted b a new on (inr h) ok = other a _ h.0 refl ok
 
-commands_no : {T : Type 0} (d : Option Change) (o : Option ℕ) (c : Change) (life : Life) (b : Bench) (a : Answer) (new : Bench) → Commands d o c life (λ i. printed.Slot i) (λ i. printed.SlotRefused i) b a new → is_format_ok a.line ≡ true → T
-commands_no (Some d) o c life b a new h formats_ok = other a _ h.0 refl formats_ok
-commands_no None o c life b a new (inl h) formats_ok = other a _ h.1 refl formats_ok
-commands_no None o c life b a new (inr (inl h)) formats_ok = other a _ h.3 refl formats_ok
-commands_no None o c life b a new (inr (inr (inl h))) formats_ok = other a _ h.2 refl formats_ok
-commands_no None o c life b a new (inr (inr (inr (inl h)))) formats_ok = other a _ h.2 refl formats_ok
-commands_no None o c life b a new (inr (inr (inr (inr h)))) formats_ok = other a _ h.2 refl formats_ok
+formatted_at : (p : Option Life) (b : Bench) (a : Answer) (new : Bench) → b.power ≡ p → FormatStep p b a new → is_format_ok a.line ≡ true → IsFresh new
+formatted_at None b a new on h ok = formatted_on b.medium b a new on h ok
+formatted_at (Some life) b a new on h ok = other a _ h.0 refl ok
+
+is_on_no : {T : Type 0} (o : Result ℕ ℕ) (mode : BootMode) (z : Size) (b : Bench) (x : Printed) (new : Bench) → IsOn o mode z b x new → is_format_ok x ≡ true → T
+is_on_no (Ok n) mode z b x new h ok = by_line x _ h.2 refl ok
+is_on_no (Err n) mode z b x new h ok = by_line x _ h.0 refl ok
+
+begins_no : {T : Type 0} (mode : BootMode) (z : Size) (s : State) (b : Bench) (x : Printed) (new : Bench) → Begins mode z s b x new → is_format_ok x ≡ true → T
+begins_no modes.Fresh z s b x new h ok = is_on_no h.0 modes.Fresh z h.1 x new h.3 ok
+begins_no modes.Keep z s b x new h ok = is_on_no h.0 modes.Keep z h.1 x new h.3 ok
+begins_no modes.Discard z s b x new h ok = is_on_no h.0 modes.Discard z h.1 x new h.3 ok
+begins_no modes.Resume z s b x new h ok = by_line x _ h.0 refl ok
+
+boots_no : {T : Type 0} (r : Option ℕ) (mode : BootMode) (z : Size) (s : State) (b : Bench) (x : Printed) (new : Bench) → Boots r mode z s b x new → is_format_ok x ≡ true → T
+boots_no None mode z s b x new (inl h) ok = begins_no mode z s b x new h ok
+boots_no None mode z s b x new (inr h) ok = by_line x _ h.0 refl ok
+boots_no (Some n) mode z s b x new h ok = by_line x _ h.0 refl ok
+
+powers_no : {T : Type 0} (size : Size) (p : Option Life) (mode : BootMode) (b : Bench) (a : Answer) (new : Bench) → OnStep size p mode b a new → is_format_ok a.line ≡ true → T
+powers_no size (Some life) mode b a new h ok = other a _ h.0 refl ok
+powers_no size None mode b a new (inl h) ok = boots_no (boot_refusal h.0 mode) mode h.1 h.0 h.2 a.line new h.5 ok
+powers_no size None mode b a new (inr (inl h)) ok = other a _ h.2 refl ok
+powers_no size None mode b a new (inr (inr (inl h))) ok = other a _ h.1 refl ok
+powers_no size None mode b a new (inr (inr (inr h))) ok = other a _ h.0 refl ok
+
+told_no : {T : Type 0} (o : Result ℕ ℕ) (a : Answer) → a ≡ slot_told o → is_format_ok a.line ≡ true → T
+told_no (Ok n) a e ok = other a _ e refl ok
+told_no (Err n) a e ok = other a _ e refl ok
 
 slots_no : {T : Type 0} (p : Option Life) (n : ℕ) (b : Bench) (a : Answer) (new : Bench) → SlotStep p n b a new → is_format_ok a.line ≡ true → T
-slots_no None n b a new h formats_ok = other a _ h.0 refl formats_ok
-slots_no (Some life) n b a new h formats_ok = commands_no life.doubt (refusal_of life.now (Slot n)) (Slot n) life b a new h formats_ok
+slots_no None n b a new h ok = other a _ h.0 refl ok
+slots_no (Some life) n b a new h ok = told_no h.0 a h.2 ok
 
-step_formats : (line : Line) (b : Bench) (a : Answer) (new : Bench) → Step line b a new → is_format_ok a.line ≡ true → Holds new.medium new.power formatted []
-step_formats lines.Format b a new h formats_ok = formatted_at b.power b a new h formats_ok
-step_formats (lines.On mode) b a new h formats_ok = powers_no b.power mode b a new h formats_ok
-step_formats (lines.Slot n) b a new h formats_ok = slots_no b.power n b a new h formats_ok
-step_formats (lines.Cut fill) b a new h formats_ok = other a _ h.0 refl formats_ok
-step_formats (lines.Payload x y) b a new h formats_ok = other a _ h.1 refl formats_ok
-step_formats lines.Discard b a new h formats_ok = other a _ h.0 refl formats_ok
-step_formats (lines.Turn x y) b a new h formats_ok = other a _ h.1 refl formats_ok
-step_formats (lines.Call x y z u v w) b a new h formats_ok = other a _ h.0 refl formats_ok
-step_formats (lines.Reg x y) b a new h formats_ok = other a _ h.1 refl formats_ok
-step_formats (lines.Pc x) b a new h formats_ok = other a _ h.1 refl formats_ok
-step_formats (lines.Csr x y) b a new h formats_ok = other a _ h.1 refl formats_ok
-step_formats lines.Pending b a new h formats_ok = other a _ h.0 refl formats_ok
-step_formats (lines.Mem x y) b a new h formats_ok = other a _ h.1 refl formats_ok
-step_formats (lines.CutAt x y) b a new h formats_ok = other a _ h.0 refl formats_ok
-step_formats (lines.CutLane x y z) b a new h formats_ok = other a _ h.0 refl formats_ok
-step_formats (lines.FailAt x) b a new h formats_ok = other a _ h.0 refl formats_ok
-step_formats (lines.FailLane x y) b a new h formats_ok = other a _ h.0 refl formats_ok
-step_formats (lines.Poke x y z) b a new h formats_ok = other a _ h.0 refl formats_ok
+payload_no : {T : Type 0} (p : Option Life) (slot : ℕ) (bytes : List ℕ) (b : Bench) (a : Answer) (new : Bench) → PayloadStep p slot bytes b a new → is_format_ok a.line ≡ true → T
+payload_no None slot bytes b a new h ok = other a _ h.0 refl ok
+payload_no (Some life) slot bytes b a new h ok = other a _ h.0 refl ok
 
-moves_format : (line : Line) (b : Bench) (a : Answer) (new : Bench) → Moves line b a new → is_format_ok a.line ≡ true → Holds new.medium new.power formatted []
-moves_format line b a new (inl h) formats_ok = step_formats line b a new h.0 formats_ok
-moves_format line b a new (inr h) formats_ok = other a _ h.4 refl formats_ok
+turn_no : {T : Type 0} (p : Option Life) (h n : ℕ) (b : Bench) (a : Answer) (new : Bench) → TurnStep p h n b a new → is_format_ok a.line ≡ true → T
+turn_no None h n b a new x ok = other a _ x.0 refl ok
+turn_no (Some life) h n b a new x ok = other a _ x.3 refl ok
+
+read_no : {T : Type 0} (p : Option Life) (says_so : Machine → MachineLine → Type 0) (b : Bench) (a : Answer) (new : Bench) → ReadStep p says_so b a new → is_format_ok a.line ≡ true → T
+read_no None says_so b a new x ok = other a _ x.0 refl ok
+read_no (Some life) says_so b a new x ok = other a _ x.2 refl ok
+
+step_formats : (size : Size) (line : Line) (b : Bench) (a : Answer) (new : Bench) → Step size line b a new → is_format_ok a.line ≡ true → IsFresh new
+step_formats size (lines.Payload x y) b a new h ok = payload_no b.power x y b a new h ok
+step_formats size lines.Format b a new h ok = formatted_at b.power b a new refl h ok
+step_formats size (lines.On mode) b a new h ok = powers_no size b.power mode b a new h ok
+step_formats size (lines.Slot n) b a new h ok = slots_no b.power n b a new h ok
+step_formats size lines.Discard b a new h ok = other a _ h.0 refl ok
+step_formats size (lines.Turn x y) b a new h ok = turn_no b.power x y b a new h ok
+step_formats size (lines.Call x y z u v w) b a new h ok = other a _ h.0 refl ok
+step_formats size (lines.Reg x y) b a new h ok = read_no b.power _ b a new h ok
+step_formats size (lines.Pc x) b a new h ok = read_no b.power _ b a new h ok
+step_formats size (lines.Csr x y) b a new h ok = read_no b.power _ b a new h ok
+step_formats size lines.Pending b a new h ok = other a _ h.0 refl ok
+step_formats size (lines.Mem x y) b a new h ok = read_no b.power _ b a new h ok
+step_formats size (lines.CutAt x y) b a new h ok = other a _ h.0 refl ok
+step_formats size (lines.CutLane x y z) b a new h ok = other a _ h.0 refl ok
+step_formats size (lines.FailAt x) b a new h ok = other a _ h.0 refl ok
+step_formats size (lines.FailLane x y) b a new h ok = other a _ h.0 refl ok
+step_formats size (lines.Cut x) b a new h ok = other a _ h.0 refl ok
+step_formats size (lines.Poke x y z) b a new h ok = other a _ h.0 refl ok
+
+moves_format : (size : Size) (line : Line) (b : Bench) (a : Answer) (new : Bench) → Moves size line b a new → is_format_ok a.line ≡ true → IsFresh new
+moves_format size line b a new (inl h) ok = step_formats size line b a new h.0 ok
+moves_format size line b a new (inr h) ok = other a _ h.4 refl ok
+
+-- what is found on a disk that was just formatted
+anew : (size : Size) (ls : List Line) (b : Bench) (answers : List Answer) (end : Bench) → IsFresh b → Run size b ls answers end → IsPrefixed formatted false ls answers × RisesFrom 0 (resumes answers)
+anew size ls b answers end (medium, kept, on) run =
+    let F : Option Life → Type 0 = λ p. GoesOn b.kept p in
+    let told = prefixed size ls b answers end (medium, subst F (sym on) tt) run in
+    let P : State → Type 0 = λ s. IsPrefixed s (is_up b.power) ls answers in
+    let Q : Bool → Type 0 = λ up. IsPrefixed formatted up ls answers in
+    let R : Kept → Type 0 = λ k. MayFind k told.0 in
+    let law = subst Q (ap is_up on) (subst P (first told.0 (subst R kept told.1)) told.2) in
+    let S : List ℕ → Type 0 = RisesFrom 0 in
+    (law, subst S (sym (none_resumed ls answers formatted false law)) tt)
+  where
+    first : (s : State) → MayFind nothing_kept s → s ≡ formatted
+    first s (cs, inl e, is) = is ∙ ap found_of e
+    first s (cs, inr e, is) = absurd e
 
 either : (t : Bool) (P Q : Type 0) → (t ≡ true → P) → Q → MatchBool t P Q
 either true P Q p q = p refl
 either false P Q p q = q
 
-by_prefix : (ls : List Line) (b : Bench) (answers : List Answer) (end : Bench) → Run b ls answers end → IsFoundByPrefix ls answers
-by_prefix [] b answers end run = tt
-by_prefix (l ∷ ls) b [] end run = absurd run
-by_prefix (l ∷ ls) b (a ∷ answers) end run =
-    either (is_format_ok a.line) (IsPrefixed formatted [] ls answers) (IsFoundByPrefix ls answers)
-    (λ formats_ok. prefixed ls run.0 answers end formatted [] (moves_format l b a run.0 run.1 formats_ok) run.2) (by_prefix ls run.0 answers end run.2)
+by_prefix : (size : Size) (ls : List Line) (b : Bench) (answers : List Answer) (end : Bench) → Run size b ls answers end → IsFoundByPrefix ls answers
+by_prefix size [] b answers end run = tt
+by_prefix size (l ∷ ls) b [] end run = absurd run
+by_prefix size (l ∷ ls) b (a ∷ answers) end run =
+    either (is_format_ok a.line) (IsPrefixed formatted false ls answers × RisesFrom 0 (resumes answers)) (IsFoundByPrefix ls answers)
+    (λ ok. anew size ls run.0 answers end (moves_format size l b a run.0 run.1 ok) run.2) (by_prefix size ls run.0 answers end run.2)
 
 pub prefix_law : (script : Script) (answers : List Answer) (end : Bench) → IsReport script answers end → KeepsPrefixLaw script.lines answers
 prefix_law script [] end h = absurd h
-prefix_law script (board ∷ answers) end h = by_prefix script.lines blank_bench answers end (report_alone script board answers end h)
+prefix_law script (board ∷ answers) end h = by_prefix script.size script.lines blank_bench answers end h.1

@@ -1,10 +1,13 @@
 -- A report whose lines are smooth: no power-on was refused memory, and no failure was answered.
-use Rattle.std.proofs.Common.{◌≡◌, ℕ, inl, inr, List, [], ◌∷◌, Option, None, Some, refl, ◌∙◌, ap, subst}
-use Rattle.board_model.specs.Durable.{State, Change, Slot, Discard, refusal_of}
-use Rattle.board_model.specs.Kept.{nothing_kept}
+use Rattle.std.proofs.Common.{◌≡◌, ◌≢◌, ℕ, inl, inr, List, [], ◌∷◌, Option, None, Some, Result, Ok, Err, refl, ◌∙◌, ap, subst}
+use Rattle.std.specs.Bool.{⊤}
+use Rattle.board_model.specs.Durable.{State, Change, Slot, refusal_of}
+use Rattle.board_model.specs.Shapes.{Size}
 use Rattle.board.specs.Boots.{boot_refusal}
 use Rattle.board_model.specs.declared.boot_mode.BootMode.{BootMode}
 use Rattle.board_model.specs.declared.boot_mode.BootMode.TheVariants as modes
+use Rattle.machine.specs.Machine.{Machine}
+use Rattle.machine_lines.specs.declared.line.MachineLine.{MachineLine}
 use Rattle.script_lang.specs.Scripts.{Script}
 use Rattle.script_lang.specs.declared.line.Line.{Line}
 use Rattle.script_lang.specs.declared.line.Line.TheVariants as lines
@@ -12,17 +15,19 @@ use Rattle.bench_report.specs.declared.printed.Printed.{Printed}
 use Rattle.bench_report.specs.declared.printed.Printed.TheVariants as printed
 use Rattle.bench_report.specs.declared.printed.Answer.{Answer}
 use Rattle.bench_report.specs.Bench.{Medium, Blank, Unknown, Formatted, Life, Bench, IsUnspoilt, blank_bench}
-use Rattle.bench_report.specs.Steps.{says, off_with, on_with, unpowered, begun, keeps, went_on, FormatsOn, FormatStep, OnStep, SlotStep, Begins, BootsAs, PowersOn, Commands, Step, Moves, Run}
+use Rattle.bench_report.specs.Steps.{says, off, on_with, unpowered, formatted_anew, settled, has_machine, acknowledged, begun, commands_of, slot_told, Writes, IssuedBy, IssuesAll, FormatsOn, IsOn, Starts, Begins, Boots, Opens, PowersOn, FormatStep, OnStep, SlotStep, PayloadStep, TurnStep, ReadStep, Step, Moves, Run}
 use Rattle.bench_report.specs.Reports.{IsReport}
 use Rattle.bench_report.specs.Plain.{IsSmooth, AreSmooth}
-use Rattle.bench_report.proofs.Wholes.{report_alone}
 
 -- as many growths were refused and failures answered as before
 abbrev pub AsMany : Bench → Bench → Type 0
 AsMany b new = (new.growths ≡ b.growths) × (new.failures ≡ b.failures)
 
-as_many : (b c new : Bench) → c.growths ≡ b.growths → c.failures ≡ b.failures → new ≡ c → AsMany b new
+pub as_many : (b c new : Bench) → c.growths ≡ b.growths → c.failures ≡ b.failures → new ≡ c → AsMany b new
 as_many b c new e f g = (ap (λ (x : Bench). x.growths) g ∙ e, ap (λ (x : Bench). x.failures) g ∙ f)
+
+pub many_then : (b mid new : Bench) → AsMany b mid → AsMany mid new → AsMany b new
+many_then b mid new x y = (y.0 ∙ x.0, y.1 ∙ x.1)
 
 -- what is smooth by its line
 of_line : (line told : Printed) → line ≡ told → IsSmooth line → IsSmooth told
@@ -31,89 +36,138 @@ of_line line told e smooth = let P : Printed → Type 0 = IsSmooth in subst P e 
 of_answer : (a : Answer) (told : Printed) → a ≡ says told → IsSmooth a.line → IsSmooth told
 of_answer a told e smooth = of_line a.line told (ap (λ (x : Answer). x.line) e) smooth
 
-format_smooth : (m : Medium) (b : Bench) (a : Answer) (new : Bench) → FormatsOn m b a new → IsSmooth a.line → AsMany b new
-format_smooth Blank b a new (inl h) smooth = as_many b (off_with (Formatted nothing_kept) b) new refl refl h.1
-format_smooth Blank b a new (inr h) smooth = absurd (of_answer a (printed.FormatRefused 5) h.0 smooth refl)
-format_smooth Unknown b a new (inl h) smooth = as_many b (off_with (Formatted nothing_kept) b) new refl refl h.1
-format_smooth Unknown b a new (inr (inl h)) smooth = absurd (of_answer a (printed.FormatRefused 5) h.0 smooth refl)
-format_smooth Unknown b a new (inr (inr h)) smooth = as_many b b new refl refl h.3
-format_smooth (Formatted k) b a new (inl h) smooth = as_many b b new refl refl h.1
-format_smooth (Formatted k) b a new (inr h) smooth = absurd (of_answer a (printed.FormatRefused 5) h.0 smooth refl)
+-- a command that was refused by none of the disk's numbers
+abbrev IsSmoothResult : Result ℕ ℕ → Type 0
+IsSmoothResult (Ok n) = ⊤
+IsSmoothResult (Err n) = (n ≢ 5) × (n ≢ 6)
 
-begin_smooth : (mode : BootMode) (s : State) (m : Medium) (b : Bench) (line : Printed) (new : Bench) → Begins mode s m b line new → IsSmooth line → AsMany b new
-begin_smooth modes.Fresh s m b line new h smooth = as_many b (on_with m (begun s) b) new refl refl h.1
-begin_smooth modes.Keep s m b line new h smooth = as_many b (on_with m (begun s) b) new refl refl h.1
-begin_smooth modes.Discard s m b line new (inl h) smooth = as_many b (on_with (keeps Discard m) (went_on Discard (begun s)) b) new refl refl h.1
-begin_smooth modes.Discard s m b line new (inr (inl h)) smooth = absurd ((of_line line (printed.OnRefused 5) h.0 smooth).0 refl)
-begin_smooth modes.Discard s m b line new (inr (inr h)) smooth = absurd ((of_line line (printed.OnRefused 6) h.0 smooth).1 refl)
-begin_smooth modes.Resume s m b line new h smooth = as_many b (off_with m b) new refl refl h.1
+smooth_as : (o p : Result ℕ ℕ) → o ≡ p → IsSmoothResult o → IsSmoothResult p
+smooth_as o p e smooth = let P : Result ℕ ℕ → Type 0 = IsSmoothResult in subst P e smooth
 
-boot_smooth : (o : Option ℕ) (mode : BootMode) (s : State) (m : Medium) (b : Bench) (line : Printed) (new : Bench) → BootsAs o mode s m b line new → IsSmooth line → AsMany b new
-boot_smooth None mode s m b line new (inl h) smooth = begin_smooth mode s m b line new h smooth
-boot_smooth None mode s m b line new (inr h) smooth = absurd ((of_line line (printed.OnRefused 11) h.0 smooth).2 refl)
-boot_smooth (Some n) mode s m b line new h smooth = as_many b (off_with m b) new refl refl h.1
+writes_smooth : (r : Option ℕ) (c : Change) (life : Life) (b : Bench) (o : Result ℕ ℕ) (new : Bench) → Writes r c life b o new → IsSmoothResult o → AsMany b new
+writes_smooth (Some n) c life b o new h smooth = as_many b b new refl refl h.1
+writes_smooth None c life b o new (inl h) smooth = as_many b (acknowledged c life b) new refl refl h.1
+writes_smooth None c life b o new (inr (inl h)) smooth = absurd ((smooth_as o (Err 5) h.0 smooth).0 refl)
+writes_smooth None c life b o new (inr (inr h)) smooth = absurd ((smooth_as o (Err 6) h.0 smooth).1 refl)
 
-on_smooth : (mode : BootMode) (b : Bench) (a : Answer) (new : Bench) → PowersOn mode b a new → IsSmooth a.line → AsMany b new
-on_smooth mode b a new (inl h) smooth = boot_smooth (boot_refusal h.0 mode) mode h.0 h.1 b a.line new h.4 smooth
-on_smooth mode b a new (inr (inl h)) smooth = as_many b b new refl refl h.3
-on_smooth mode b a new (inr (inr (inl h))) smooth = absurd ((of_answer a (printed.OnRefused 11) h.1 smooth).2 refl)
-on_smooth mode b a new (inr (inr (inr h))) smooth = absurd ((of_answer a (printed.OnRefused 5) h.0 smooth).0 refl)
+issued_smooth : (d : Option Change) (c : Change) (life : Life) (b : Bench) (o : Result ℕ ℕ) (new : Bench) → IssuedBy d c life b o new → IsSmoothResult o → AsMany b new
+issued_smooth (Some d) c life b o new h smooth = as_many b b new refl refl h.1
+issued_smooth None c life b o new (inl h) smooth = as_many b b new refl refl h.2
+issued_smooth None c life b o new (inr h) smooth = writes_smooth (refusal_of life.now c) c life b o new h.1 smooth
 
-slot_smooth : (d : Option Change) (o : Option ℕ) (c : Change) (life : Life) (ok : ℕ → Printed) (b : Bench) (a : Answer) (new : Bench) → Commands d o c life ok (λ k. printed.SlotRefused k) b a new
-    → IsSmooth a.line → AsMany b new
-slot_smooth (Some d) o c life ok b a new h smooth = as_many b b new refl refl h.1
-slot_smooth None o c life ok b a new (inl h) smooth = as_many b b new refl refl h.2
-slot_smooth None o c life ok b a new (inr (inl h)) smooth = as_many b b new refl refl h.4
-slot_smooth None o c life ok b a new (inr (inr (inl h))) smooth = as_many b (on_with (keeps c b.medium) (went_on c life) b) new refl refl h.3
-slot_smooth None o c life ok b a new (inr (inr (inr (inl h)))) smooth = absurd ((of_answer a (printed.SlotRefused 5) h.2 smooth).0 refl)
-slot_smooth None o c life ok b a new (inr (inr (inr (inr h)))) smooth = absurd ((of_answer a (printed.SlotRefused 6) h.2 smooth).1 refl)
+all_smooth : (cs : List Change) (b : Bench) (o : Result ℕ ℕ) (new : Bench) → IssuesAll cs b o new → IsSmoothResult o → AsMany b new
+all_smooth [] b o new h smooth = as_many b b new refl refl h.1
+all_smooth (c ∷ cs) b o new (life, on, first, mid, issued, inl h) smooth =
+    let P : Result ℕ ℕ → Type 0 = λ r. IssuedBy life.doubt c life b r mid in
+    many_then b mid new (issued_smooth life.doubt c life b (Ok h.0) mid (subst P h.1 issued) tt) (all_smooth cs mid o new h.2 smooth)
+all_smooth (c ∷ cs) b o new (life, on, first, mid, issued, inr h) smooth =
+    let P : Result ℕ ℕ → Type 0 = λ r. IssuedBy life.doubt c life b r mid in
+    let Q : Bench → Type 0 = λ m. AsMany b m in
+    let R : Bench → Type 0 = λ m. m ≡ mid in
+    many_then b mid new (issued_smooth life.doubt c life b (Err h.0) mid (subst P h.1 issued) (smooth_as o (Err h.0) h.2 smooth)) (as_many mid mid new refl refl h.3)
+
+-- ---- lines
+formats_smooth : (m : Medium) (b : Bench) (a : Answer) (new : Bench) → FormatsOn m b a new → IsSmooth a.line → AsMany b new
+formats_smooth Blank b a new (inl h) smooth = as_many b (formatted_anew b) new refl refl h.1
+formats_smooth Blank b a new (inr h) smooth = absurd (of_answer a (printed.FormatRefused 5) h.0 smooth refl)
+formats_smooth Unknown b a new (inl h) smooth = as_many b (formatted_anew b) new refl refl h.1
+formats_smooth Unknown b a new (inr (inl h)) smooth = absurd (of_answer a (printed.FormatRefused 5) h.0 smooth refl)
+formats_smooth Unknown b a new (inr (inr h)) smooth = as_many b b new refl refl h.3
+formats_smooth Formatted b a new (inl h) smooth = as_many b b new refl refl h.1
+formats_smooth Formatted b a new (inr h) smooth = absurd (of_answer a (printed.FormatRefused 5) h.0 smooth refl)
+
+is_on_smooth : (o : Result ℕ ℕ) (mode : BootMode) (z : Size) (b : Bench) (line : Printed) (new : Bench) → IsOn o mode z b line new → IsSmooth line → IsSmoothResult o × AsMany b new
+is_on_smooth (Ok n) mode z b line new h smooth = (tt, as_many b _ new refl refl h.3)
+is_on_smooth (Err n) mode z b line new h smooth = let told = of_line line (printed.OnRefused n) h.0 smooth in ((told.0, told.1), as_many b (off b) new refl refl h.1)
+
+slot_smooth : (mode : BootMode) (z : Size) (s : State) (b : Bench) (line : Printed) (new : Bench) → Starts mode z s b line new → IsSmooth line → AsMany b new
+slot_smooth mode z s b line new (o, mid, h, on) smooth =
+    let last = is_on_smooth o mode z mid line new on smooth in
+    let start : Bench = on_with (begun s z) b in
+    many_then b mid new (let first = all_smooth (commands_of mode) start o mid h last.0 in (first.0, first.1)) last.1
+
+begins_smooth : (mode : BootMode) (z : Size) (s : State) (b : Bench) (line : Printed) (new : Bench) → Begins mode z s b line new → IsSmooth line → AsMany b new
+begins_smooth modes.Fresh z s b line new h smooth = slot_smooth modes.Fresh z s b line new h smooth
+begins_smooth modes.Keep z s b line new h smooth = slot_smooth modes.Keep z s b line new h smooth
+begins_smooth modes.Discard z s b line new h smooth = slot_smooth modes.Discard z s b line new h smooth
+begins_smooth modes.Resume z s b line new h smooth = as_many b b new refl refl h.1
+
+boots_smooth : (r : Option ℕ) (mode : BootMode) (z : Size) (s : State) (b : Bench) (line : Printed) (new : Bench) → Boots r mode z s b line new → IsSmooth line → AsMany b new
+boots_smooth None mode z s b line new (inl h) smooth = begins_smooth mode z s b line new h smooth
+boots_smooth None mode z s b line new (inr h) smooth = absurd ((of_line line (printed.OnRefused 11) h.0 smooth).2 refl)
+boots_smooth (Some n) mode z s b line new h smooth = as_many b b new refl refl h.1
+
+opens_many : (size : Size) (m : Medium) (b : Bench) (s : State) (z : Size) (mid : Bench) → Opens size m b s z mid → AsMany b mid
+opens_many size Blank b s z mid h = absurd h
+opens_many size Unknown b s z mid h = as_many b b mid refl refl h
+opens_many size Formatted b s z mid h = as_many b (settled h.0 b) mid refl refl h.4
+
+powers_smooth : (size : Size) (mode : BootMode) (b : Bench) (a : Answer) (new : Bench) → PowersOn size mode b a new → IsSmooth a.line → AsMany b new
+powers_smooth size mode b a new (inl (s, z, mid, found, shows, h)) smooth = many_then b mid new (opens_many size b.medium b s z mid found) (boots_smooth (boot_refusal s mode) mode z s mid a.line new h smooth)
+powers_smooth size mode b a new (inr (inl h)) smooth = as_many b b new refl refl h.3
+powers_smooth size mode b a new (inr (inr (inl h))) smooth = absurd ((of_answer a (printed.OnRefused 11) h.1 smooth).2 refl)
+powers_smooth size mode b a new (inr (inr (inr h))) smooth = absurd ((of_answer a (printed.OnRefused 5) h.0 smooth).0 refl)
 
 format_at : (p : Option Life) (b : Bench) (a : Answer) (new : Bench) → FormatStep p b a new → IsSmooth a.line → AsMany b new
-format_at None b a new h smooth = format_smooth b.medium b a new h smooth
+format_at None b a new h smooth = formats_smooth b.medium b a new h smooth
 format_at (Some life) b a new h smooth = as_many b b new refl refl h.1
 
-on_at : (p : Option Life) (mode : BootMode) (b : Bench) (a : Answer) (new : Bench) → OnStep p mode b a new → IsSmooth a.line → AsMany b new
-on_at None mode b a new h smooth = on_smooth mode b a new h smooth
-on_at (Some life) mode b a new h smooth = as_many b b new refl refl h.1
+on_at : (size : Size) (p : Option Life) (mode : BootMode) (b : Bench) (a : Answer) (new : Bench) → OnStep size p mode b a new → IsSmooth a.line → AsMany b new
+on_at size None mode b a new h smooth = powers_smooth size mode b a new h smooth
+on_at size (Some life) mode b a new h smooth = as_many b b new refl refl h.1
+
+told_smooth : (o : Result ℕ ℕ) (a : Answer) → a ≡ slot_told o → IsSmooth a.line → IsSmoothResult o
+told_smooth (Ok n) a e smooth = tt
+told_smooth (Err n) a e smooth = of_answer a (printed.SlotRefused n) e smooth
 
 slot_at : (p : Option Life) (n : ℕ) (b : Bench) (a : Answer) (new : Bench) → SlotStep p n b a new → IsSmooth a.line → AsMany b new
 slot_at None n b a new h smooth = as_many b b new refl refl h.1
-slot_at (Some life) n b a new h smooth = slot_smooth life.doubt (refusal_of life.now (Slot n)) (Slot n) life (λ k. printed.Slot k) b a new h smooth
+slot_at (Some life) n b a new h smooth = issued_smooth life.doubt (Slot n) life b h.0 new h.1 (told_smooth h.0 a h.2 smooth)
 
-step_smooth : (line : Line) (b : Bench) (a : Answer) (new : Bench) → Step line b a new → IsSmooth a.line → AsMany b new
-step_smooth lines.Format b a new h smooth = format_at b.power b a new h smooth
-step_smooth (lines.On mode) b a new h smooth = on_at b.power mode b a new h smooth
-step_smooth (lines.Slot n) b a new h smooth = slot_at b.power n b a new h smooth
-step_smooth (lines.Cut fill) b a new h smooth = as_many b (unpowered b) new refl refl h.1
-step_smooth (lines.Payload x y) b a new h smooth = as_many b b new refl refl h.2
-step_smooth lines.Discard b a new h smooth = as_many b b new refl refl h.1
-step_smooth (lines.Turn x y) b a new h smooth = as_many b b new refl refl h.2
-step_smooth (lines.Call x y z u v w) b a new h smooth = as_many b b new refl refl h.1
-step_smooth (lines.Reg x y) b a new h smooth = as_many b b new refl refl h.2
-step_smooth (lines.Pc x) b a new h smooth = as_many b b new refl refl h.2
-step_smooth (lines.Csr x y) b a new h smooth = as_many b b new refl refl h.2
-step_smooth lines.Pending b a new h smooth = as_many b b new refl refl h.1
-step_smooth (lines.Mem x y) b a new h smooth = as_many b b new refl refl h.2
-step_smooth (lines.CutAt x y) b a new h smooth = as_many b b new refl refl h.1
-step_smooth (lines.CutLane x y z) b a new h smooth = as_many b b new refl refl h.1
-step_smooth (lines.FailAt x) b a new h smooth = as_many b b new refl refl h.1
-step_smooth (lines.FailLane x y) b a new h smooth = as_many b b new refl refl h.1
-step_smooth (lines.Poke x y z) b a new h smooth = as_many b b new refl refl h.1
+payload_at : (p : Option Life) (slot : ℕ) (bytes : List ℕ) (b : Bench) (a : Answer) (new : Bench) → PayloadStep p slot bytes b a new → AsMany b new
+payload_at None slot bytes b a new h = as_many b _ new refl refl h.1
+payload_at (Some life) slot bytes b a new h = as_many b b new refl refl h.1
+
+turn_at : (p : Option Life) (h n : ℕ) (b : Bench) (a : Answer) (new : Bench) → TurnStep p h n b a new → AsMany b new
+turn_at None h n b a new x = as_many b b new refl refl x.1
+turn_at (Some life) h n b a new x = as_many b (on_with (has_machine x.1 life) b) new refl refl x.4
+
+read_at : (p : Option Life) (says_so : Machine → MachineLine → Type 0) (b : Bench) (a : Answer) (new : Bench) → ReadStep p says_so b a new → AsMany b new
+read_at None says_so b a new x = as_many b b new refl refl x.1
+read_at (Some life) says_so b a new x = as_many b b new refl refl x.3
+
+step_smooth : (size : Size) (line : Line) (b : Bench) (a : Answer) (new : Bench) → Step size line b a new → IsSmooth a.line → AsMany b new
+step_smooth size (lines.Payload x y) b a new h smooth = payload_at b.power x y b a new h
+step_smooth size lines.Format b a new h smooth = format_at b.power b a new h smooth
+step_smooth size (lines.On mode) b a new h smooth = on_at size b.power mode b a new h smooth
+step_smooth size (lines.Slot n) b a new h smooth = slot_at b.power n b a new h smooth
+step_smooth size lines.Discard b a new h smooth = as_many b b new refl refl h.1
+step_smooth size (lines.Turn x y) b a new h smooth = turn_at b.power x y b a new h
+step_smooth size (lines.Call x y z u v w) b a new h smooth = as_many b b new refl refl h.1
+step_smooth size (lines.Reg x y) b a new h smooth = read_at b.power _ b a new h
+step_smooth size (lines.Pc x) b a new h smooth = read_at b.power _ b a new h
+step_smooth size (lines.Csr x y) b a new h smooth = read_at b.power _ b a new h
+step_smooth size lines.Pending b a new h smooth = as_many b b new refl refl h.1
+step_smooth size (lines.Mem x y) b a new h smooth = read_at b.power _ b a new h
+step_smooth size (lines.CutAt x y) b a new h smooth = as_many b b new refl refl h.1
+step_smooth size (lines.CutLane x y z) b a new h smooth = as_many b b new refl refl h.1
+step_smooth size (lines.FailAt x) b a new h smooth = as_many b b new refl refl h.1
+step_smooth size (lines.FailLane x y) b a new h smooth = as_many b b new refl refl h.1
+step_smooth size (lines.Cut fill) b a new h smooth = as_many b (unpowered b) new refl refl h.1
+step_smooth size (lines.Poke x y z) b a new h smooth = as_many b b new refl refl h.1
 
 -- within a smooth line no cut struck
-moves_smooth : (line : Line) (b : Bench) (a : Answer) (new : Bench) → Moves line b a new → IsSmooth a.line → AsMany b new
-moves_smooth line b a new (inl h) smooth = step_smooth line b a new h.0 smooth
-moves_smooth line b a new (inr h) smooth = absurd (of_answer a printed.PowerLost h.4 smooth)
+moves_smooth : (size : Size) (line : Line) (b : Bench) (a : Answer) (new : Bench) → Moves size line b a new → IsSmooth a.line → AsMany b new
+moves_smooth size line b a new (inl h) smooth = step_smooth size line b a new h.0 smooth
+moves_smooth size line b a new (inr h) smooth = absurd (of_answer a printed.PowerLost h.4 smooth)
 
-run_smooth : (ls : List Line) (b : Bench) (answers : List Answer) (end : Bench) → Run b ls answers end → AreSmooth answers → AsMany b end
-run_smooth [] b [] end h smooth = as_many b b end refl refl h
-run_smooth [] b (a ∷ answers) end h smooth = absurd h
-run_smooth (l ∷ ls) b [] end h smooth = absurd h
-run_smooth (l ∷ ls) b (a ∷ answers) end h smooth =
-    let one = moves_smooth l b a h.0 h.1 smooth.0 in
-    let others = run_smooth ls h.0 answers end h.2 smooth.1 in
-    (others.0 ∙ one.0, others.1 ∙ one.1)
+run_smooth : (size : Size) (ls : List Line) (b : Bench) (answers : List Answer) (end : Bench) → Run size b ls answers end → AreSmooth answers → AsMany b end
+run_smooth size [] b [] end h smooth = as_many b b end refl refl h
+run_smooth size [] b (a ∷ answers) end h smooth = absurd h
+run_smooth size (l ∷ ls) b [] end h smooth = absurd h
+run_smooth size (l ∷ ls) b (a ∷ answers) end h smooth =
+    many_then b h.0 end (moves_smooth size l b a h.0 h.1 smooth.0) (run_smooth size ls h.0 answers end h.2 smooth.1)
 
 pub unspoilt : (script : Script) (answers : List Answer) (end : Bench) → IsReport script answers end → AreSmooth answers → IsUnspoilt end
 unspoilt script [] end h smooth = absurd h
-unspoilt script (board ∷ answers) end h smooth = run_smooth script.lines blank_bench answers end (report_alone script board answers end h) smooth.1
+unspoilt script (board ∷ answers) end h smooth = run_smooth script.size script.lines blank_bench answers end h.1 smooth.1

@@ -1,5 +1,5 @@
 -- The numbers of the table of commands, and of the modes of a boot.
-use Rattle.std.proofs.Common.{◌≡◌, ◌≢◌, ◌⊎◌, ℕ, inl, inr, Option, None, Some, refl, ◌∙◌, ap, subst, arith, Bool, true, false, nat_lt, ◌==◌, is_some, if◌then◌else◌}
+use Rattle.std.proofs.Common.{◌≡◌, ◌≢◌, ◌⊎◌, ℕ, inl, inr, Option, None, Some, ◌∙◌, ap, arith, Bool, true, false, nat_lt, is_some, if◌then◌else◌}
 use Rattle.board_model.specs.Durable.{State, Change, Slot, Reset, Suspend, Consume, Discard, refusal_of}
 use Rattle.board_model.specs.Shown.{number_of}
 use Rattle.board_model.specs.declared.boot_mode.BootMode.{BootMode}
@@ -45,13 +45,8 @@ not_device s c e h is = differs 5 (number_of e) (λ f. omega (arith, f)) (λ f. 
 pub not_down : (s : State) (c : Change) (e : Refusal) → refusal_of s c ≡ Some (number_of e) → e ≢ Down
 not_down s c e h is = differs 6 (number_of e) (λ f. omega (arith, f)) (λ f. omega (arith, f)) (λ f. omega (arith, f)) (of_table s c (number_of e) h) (ap number_of is)
 
-pub not_six : (s : State) (c : Change) (n : ℕ) → refusal_of s c ≡ Some n → (n == 6) ≡ false
-not_six s c n h = test n (of_table s c n h)
-  where
-    test : (n : ℕ) → IsOfTable n → (n == 6) ≡ false
-    test n (inl e) = let P : ℕ → Type 0 = λ i. (i == 6) ≡ false in subst P e refl
-    test n (inr (inl e)) = let P : ℕ → Type 0 = λ i. (i == 6) ≡ false in subst P e refl
-    test n (inr (inr e)) = let P : ℕ → Type 0 = λ i. (i == 6) ≡ false in subst P e refl
+pub table_not_six : (s : State) (c : Change) (n : ℕ) → refusal_of s c ≡ Some n → n ≢ 6
+table_not_six s c n h = differs 6 n (λ f. omega (arith, f)) (λ f. omega (arith, f)) (λ f. omega (arith, f)) (of_table s c n h)
 
 abbrev pub IsOfModes : ℕ → Type 0
 IsOfModes n = (15 ≡ n) ⊎ (8 ≡ n)
@@ -62,13 +57,6 @@ of_modes s modes.Fresh n h = elim (one_of (is_some s.image) (Some 15) None n h) 
 of_modes s modes.Keep n h = absurd (let no : ⊥ = cc in no)
 of_modes s modes.Discard n h = elim (one_of (is_some s.image) None (Some 8) n h) [ inl e ↦ absurd (let no : ⊥ = cc in no) | inr e ↦ inr (let f : 8 ≡ n = cc in f) ]
 of_modes s modes.Resume n h = elim (one_of (is_some s.image) None (Some 8) n h) [ inl e ↦ absurd (let no : ⊥ = cc in no) | inr e ↦ inr (let f : 8 ≡ n = cc in f) ]
-
-pub mode_not_six : (s : State) (mode : BootMode) (n : ℕ) → boot_refusal s mode ≡ Some n → (n == 6) ≡ false
-mode_not_six s mode n h = test n (of_modes s mode n h)
-  where
-    test : (n : ℕ) → IsOfModes n → (n == 6) ≡ false
-    test n (inl e) = let P : ℕ → Type 0 = λ i. (i == 6) ≡ false in subst P e refl
-    test n (inr e) = let P : ℕ → Type 0 = λ i. (i == 6) ≡ false in subst P e refl
 
 -- a refusal of a mode is none of the disk
 pub mode_not_device : (s : State) (mode : BootMode) (n : ℕ) (e : Refusal) → boot_refusal s mode ≡ Some n → number_of e ≡ n → e ≢ Device

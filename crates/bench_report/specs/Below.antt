@@ -8,6 +8,8 @@ use Rattle.simdisk.specs.declared.SimDisk.{SimDisk}
 use Rattle.simdisk.specs.declared.SimLane.{SimLane}
 use Rattle.simdisk.specs.contracts.device.SimDiskDisk.TheImpl as sim_disk
 use Rattle.simdisk.specs.contracts.lane.SimLaneLane.TheImpl as sim_lane
+use Rattle.simdisk.specs.contracts.recorded.SimDiskRecorded.TheImpl as sim_record
+use Rattle.simdisk.specs.Record.{Record}
 use Rattle.board.specs.Boards as words
 use Rattle.board.specs.declared.Board as boards
 use Rattle.machine.specs.Machine.{Machine}
@@ -36,6 +38,10 @@ facts disk = sim_disk.ghosts.facts disk
 
 abbrev pub mishaps : SimDisk → Mishaps
 mishaps disk = sim_disk.ghosts.mishaps disk
+
+-- its record of writes and syncs
+abbrev pub record_of : SimDisk → Record
+record_of disk = sim_record.ghosts.record disk
 
 -- the same of the disk that a store holds
 abbrev pub store_facts : Store → Facts

@@ -1,37 +1,44 @@
--- The bench as a model: what its disk keeps, its board, and why the disk failed.
-use Rattle.std.specs.Prelude.{◌≡◌, ℕ, Option, None}
+-- The bench as a model: what its disk keeps, its board with memory and harts, and why the disk failed.
+use Rattle.std.specs.Prelude.{◌≡◌, ℕ, List, [], ◌∷◌, Option, None}
 use Rattle.board_model.specs.Durable.{State, Change}
-use Rattle.board_model.specs.Kept.{Kept}
+use Rattle.board_model.specs.Kept.{Kept, nothing_kept}
 use Rattle.disk.specs.Mishaps.{Mishaps, no_mishap}
+use Rattle.machine.specs.Machine.{Machine}
 
 -- A disk that was never written; one of which nothing is known, since a format was refused 5 or cut and none has
--- answered Ok since; one that was formatted, with the commands that it keeps.
+-- answered Ok since; one that was formatted.
 pub data Medium : Type 0 where
   Blank : Medium
   Unknown : Medium
-  Formatted : Kept → Medium
+  Formatted : Medium
 
--- A board that is on: the durable state with what was acknowledged, how many commands that were in this life, and
--- the command in doubt, after which each later one is refused 6.
+-- A board that is on: the durable state with what was acknowledged, how many commands that were in this life, the
+-- command in doubt, after which each later one is refused 6, and its memory and harts.
 pub record Life : Type 0 where
   pub now : State
   pub receipts : ℕ
   pub doubt : Option Change
+  pub machine : Machine
 
--- The disk, the board where it is on, how often a power-on was refused memory (11), how often a failure of the disk
--- was answered (each 5, and each 6 that begins a doubt), and the mishaps of the disk: what is armed, whether an armed
--- cut has struck, and how often it failed by itself.
+-- The disk and, once it was formatted, the commands that it keeps; the board where it is on; what the slots boot; how
+-- often a power-on was refused memory (11), how often a failure of the disk was answered (each 5, and each 6 that begins
+-- a doubt), and the mishaps of the disk: what is armed, whether an armed cut has struck, and how often it failed by itself.
 pub record Bench : Type 0 where
   pub medium : Medium
+  pub kept : Kept
   pub power : Option Life
+  pub payloads : List (List ℕ)
   pub growths : ℕ
   pub failures : ℕ
   pub mishaps : Mishaps
 
--- memory was never refused, and no failure of the disk was answered
+-- memory was never refused, and no failure of the disk was answered; so no armed cut has struck
 abbrev pub IsUnspoilt : Bench → Type 0
 IsUnspoilt b = (b.growths ≡ 0) × (b.failures ≡ 0)
 
+abbrev pub no_payloads : List (List ℕ)
+no_payloads = [] ∷ [] ∷ [] ∷ [] ∷ []
+
 -- the bench after the board line
 abbrev pub blank_bench : Bench
-blank_bench = record { medium = Blank; power = None; growths = 0; failures = 0; mishaps = no_mishap }
+blank_bench = record { medium = Blank; kept = nothing_kept; power = None; payloads = no_payloads; growths = 0; failures = 0; mishaps = no_mishap }

@@ -1,10 +1,21 @@
-pub mod Texts
-pub mod Below
+-- In reading order.
+-- The bench as a model: disk, board, payloads, mishaps.
 pub mod Bench
+-- What each line of a script may answer, and the bench after it; whole runs.
 pub mod Steps
-pub mod Agree
+-- The exact text of each line of a report.
+pub mod Texts
+-- The reports of a script.
 pub mod Reports
-pub mod Counts
+-- The one report where memory was never refused and the disk never failed, computed for plain lines.
 pub mod Plain
+-- Which of some commands in a row took effect.
+pub mod Taken
+-- The prefix law, in the words of the report alone.
 pub mod Prefix
-pub mod Whole
+-- What the layers below say of a disk in memory and of a board over it.
+pub mod Below
+-- How the code's disk and board stand for the bench of the model.
+pub mod Agree
+-- What was written and counted so far.
+pub mod Counts

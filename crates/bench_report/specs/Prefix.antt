@@ -1,84 +1,102 @@
--- The prefix law over whole runs, in the words of the report alone: each power-on finds what the one before it found,
--- with each command that was acknowledged since, in order, and after them at most the one in doubt of each life since.
-use Rattle.std.specs.Prelude.{◌≡◌, ◌⊎◌, ℕ, ◌==◌, Bool, true, false, List, [], ◌∷◌, ◌++◌, Option, Some, None, MatchBool, if◌then◌else◌, ⊤}
-use Rattle.board_model.specs.Durable.{State, Change, Slot, formatted, refusal_of, after}
+-- The prefix law over whole runs, in the words of the report alone. There is one state before each line, the formatted one
+-- after the first `format ok`. A found line shows the state before its line. A line turns it into the state after those of its
+-- commands that took effect, the first of them first: all, where it says so; where it was refused, some but not all; where it
+-- was refused 6 or lost power, some first of them. A life takes commands from its power-on to its first command in doubt, its
+-- end or a cut.
+use Rattle.std.specs.Prelude.{◌≡◌, ◌≢◌, ◌⊎◌, ℕ, ◌+◌, ◌≤◌, Bool, true, false, List, [], ◌∷◌, Option, Some, None, MatchBool, ⊤}
+use Rattle.board_model.specs.Durable.{State, Change, Slot, formatted}
+use Rattle.bench_report.specs.Taken.{Takes, TakesSome, TakesFewer}
 use Rattle.board_model.specs.Shown.{durable_of}
 use Rattle.board_model.specs.declared.durable.Durable.{Durable}
-use Rattle.board.specs.Moments.{issued_by}
+use Rattle.board_model.specs.declared.durable.ImageHead.{ImageHead}
+use Rattle.board_model.specs.declared.boot_mode.BootMode.{BootMode}
+use Rattle.board_model.specs.declared.boot_mode.BootMode.TheVariants as modes
+use Rattle.board.specs.Boots.{BootsSlot}
 use Rattle.script_lang.specs.declared.line.Line.{Line}
 use Rattle.script_lang.specs.declared.line.Line.TheVariants as lines
 use Rattle.bench_report.specs.declared.printed.Answer.{Answer}
 use Rattle.bench_report.specs.declared.printed.Printed.{Printed}
 use Rattle.bench_report.specs.declared.printed.Printed.TheVariants as printed
+use Rattle.bench_report.specs.Steps.{commands_of}
 
--- the durable command that a line issues: a boot by `discard` issues one too
-abbrev pub command_of : Line → Option Change
-command_of (lines.Slot n) = Some (Slot n)
-command_of (lines.On mode) = issued_by mode
-command_of line = None
+-- what a line asks of the disk: a boot with its commands, one command of the console, or none
+pub data Asked : Type 0 where
+  Boot : BootMode → Asked
+  Command : Change → Asked
+  Nothing : Asked
 
--- how a command was answered: it was acknowledged; its fate is in doubt, by a refusal 6 or since power was lost; or it
--- was refused
-pub data Fate : Type 0 where
-  Acknowledged : Fate
-  Doubtful : Fate
-  Refused : Fate
+abbrev pub asked_by : Line → Asked
+asked_by (lines.On mode) = Boot mode
+asked_by (lines.Slot n) = Command (Slot n)
+asked_by line = Nothing
 
-abbrev pub refused_by : ℕ → Fate
-refused_by n = if n == 6 then Doubtful else Refused
+-- A command was refused: by 6 it may have taken effect, and the life takes no more (up: whether it took commands before; now:
+-- whether it does after); by another number it did not.
+abbrev pub Refused : ℕ → Change → State → Bool → State → Bool → Type 0
+Refused n c s up t now =
+    ((n ≢ 6) × (t ≡ s) × (now ≡ up))
+    ⊎ ((n ≡ 6) × (now ≡ false) × ((t ≡ s) ⊎ ((up ≡ true) × TakesSome (c ∷ []) s t)))
 
-abbrev pub fate_of : Printed → Fate
-fate_of (printed.Slot n) = Acknowledged
-fate_of (printed.SlotRefused n) = refused_by n
-fate_of (printed.On mode) = Acknowledged
-fate_of (printed.OnRefused n) = refused_by n
-fate_of printed.PowerLost = Doubtful
-fate_of line = Refused
+-- power was lost within the line: some first of its commands took effect, of which a board takes none that is off or in doubt
+abbrev pub Lost : Asked → State → Bool → State → Type 0
+Lost (Boot mode) s up t = TakesSome (commands_of mode) s t
+Lost (Command c) s up t = (t ≡ s) ⊎ ((up ≡ true) × TakesSome (c ∷ []) s t)
+Lost Nothing s up t = t ≡ s
 
--- of the commands in doubt in a life, the first alone reached the disk
-abbrev pub first_of : List Change → Change → List Change
-first_of [] c = c ∷ []
-first_of (d ∷ doubts) c = d ∷ doubts
+-- The state s before a line and t after it, and whether a board that is on takes commands before and after, by what the line
+-- asked and what it says. A board that is on booted its slot, since no image can be loaded yet.
+abbrev pub Tells : Asked → Printed → State → Bool → State → Bool → Type 0
+Tells (Boot asked) (printed.On mode) s up t now = (mode ≡ asked) × BootsSlot mode × (up ≡ false) × Takes (commands_of asked) s t × (now ≡ true)
+Tells (Boot mode) (printed.OnRefused n) s up t now =
+    (up ≡ false) × (now ≡ false) × ((t ≡ s) ⊎ TakesFewer (commands_of mode) s t ⊎ ((n ≡ 6) × TakesSome (commands_of mode) s t))
+Tells (Command c) (printed.Slot k) s up t now = (up ≡ true) × Takes (c ∷ []) s t × (now ≡ true)
+Tells (Command c) (printed.SlotRefused n) s up t now = Refused n c s up t now
+Tells Nothing (printed.On mode) s up t now = ⊥
+Tells (Command c) (printed.On mode) s up t now = ⊥
+Tells asked printed.Cut s up t now = (t ≡ s) × (now ≡ false)
+Tells asked printed.PowerLost s up t now = Lost asked s up t × (now ≡ false)
+Tells asked said s up t now = (t ≡ s) × (now ≡ up)
 
--- The commands in doubt once that of a line is. A power-on settles those of earlier lives as it opens the disk, also where its
--- report does not tell what it found; so its own command comes after them.
-abbrev pub joined : Line → List Change → Change → List Change
-joined (lines.On mode) doubts c = doubts ++ c ∷ []
-joined line doubts c = first_of doubts c
+abbrev pub ShowsIts : Option Durable → State → Type 0
+ShowsIts None s = ⊤
+ShowsIts (Some d) s = d ≡ durable_of s
 
--- the states that an open may find where the acknowledged commands make s: each command in doubt took effect, or did not
-abbrev pub MayFollow : State → List Change → State → Type 0
-MayFollow s [] t = t ≡ s
-MayFollow s (c ∷ doubts) t = MayFollow s doubts t ⊎ MayFollow (after s c) doubts t
+-- the lines that are left, where the disk stands for s, and the board takes commands or not
+abbrev pub IsPrefixed : State → Bool → List Line → List Answer → Type 0
+IsPrefixed s up [] [] = ⊤
+IsPrefixed s up (line ∷ more) (answer ∷ answers) =
+    ShowsIts answer.found s × (t : State) × (now : Bool) × Tells (asked_by line) answer.line s up t now × IsPrefixed t now more answers
+IsPrefixed s up [] (answer ∷ answers) = ⊥
+IsPrefixed s up (line ∷ more) [] = ⊥
 
--- What a line's command does to the state that the acknowledged commands make, and to the commands in doubt. One that was
--- acknowledged is none that the table of commands refuses.
-abbrev pub Issues : Line → Option Change → Fate → State → List Change → (State → List Change → Type 0) → Type 0
-Issues line (Some c) Acknowledged s doubts rest = (doubts ≡ []) × (refusal_of s c ≡ None) × rest (after s c) []
-Issues line (Some c) Doubtful s doubts rest = rest s (joined line doubts c)
-Issues line (Some c) Refused s doubts rest = rest s doubts
-Issues line None fate s doubts rest = rest s doubts
+-- the serials of the images that were resumed, in order
+abbrev pub serial_then : Option ImageHead → List ℕ → List ℕ
+serial_then None rest = rest
+serial_then (Some head) rest = head.serial ∷ rest
 
--- one line: a found state settles the doubts, and then comes the command of the boot
-abbrev pub Tells : Option Durable → Line → Printed → State → List Change → (State → List Change → Type 0) → Type 0
-Tells (Some found) line said s doubts rest = (t : State) × MayFollow s doubts t × (found ≡ durable_of t) × Issues line (command_of line) (fate_of said) t [] rest
-Tells None line said s doubts rest = Issues line (command_of line) (fate_of said) s doubts rest
+abbrev pub resumed : Option Durable → Printed → List ℕ → List ℕ
+resumed (Some d) (printed.On modes.Resume) rest = serial_then d.image rest
+resumed found line rest = rest
 
--- the lines that are left, where the acknowledged commands make s
-abbrev pub IsPrefixed : State → List Change → List Line → List Answer → Type 0
-IsPrefixed s doubts [] answers = ⊤
-IsPrefixed s doubts (line ∷ more) [] = ⊥
-IsPrefixed s doubts (line ∷ more) (answer ∷ answers) = Tells answer.found line answer.line s doubts (λ t d. IsPrefixed t d more answers)
+abbrev pub resumes : List Answer → List ℕ
+resumes [] = []
+resumes (a ∷ answers) = resumed a.found a.line (resumes answers)
+
+-- each is n or more, and above those before it
+abbrev pub RisesFrom : ℕ → List ℕ → Type 0
+RisesFrom n [] = ⊤
+RisesFrom n (x ∷ xs) = (n ≤ x) × RisesFrom (x + 1) xs
 
 abbrev pub is_format_ok : Printed → Bool
 is_format_ok printed.Formatted = true
 is_format_ok line = false
 
--- from the first format that answered Ok on
+-- from the first format that answered Ok on, no board is on before it that could go on after it
 abbrev pub IsFoundByPrefix : List Line → List Answer → Type 0
 IsFoundByPrefix [] answers = ⊤
 IsFoundByPrefix (line ∷ more) [] = ⊥
-IsFoundByPrefix (line ∷ more) (answer ∷ answers) = MatchBool (is_format_ok answer.line) (IsPrefixed formatted [] more answers) (IsFoundByPrefix more answers)
+IsFoundByPrefix (line ∷ more) (answer ∷ answers) =
+    MatchBool (is_format_ok answer.line) (IsPrefixed formatted false more answers × RisesFrom 0 (resumes answers)) (IsFoundByPrefix more answers)
 
 -- a report: the first answer is the board line's
 abbrev pub KeepsPrefixLaw : List Line → List Answer → Type 0

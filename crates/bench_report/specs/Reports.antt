@@ -1,5 +1,5 @@
 -- The reports of a script.
-use Rattle.std.specs.Prelude.{◌≡◌, ℕ, ◌+◌, List, [], ◌∷◌, ◌++◌}
+use Rattle.std.specs.Prelude.{◌≡◌, ℕ, ◌+◌, List, [], ◌∷◌, ◌++◌, take}
 use Rattle.std.specs.List.{flat_map, sum_by, filter_map}
 use Rattle.board_model.specs.Shapes.{Size, sectors_of}
 use Rattle.board_model.specs.declared.durable.Durable.{Durable}
@@ -7,9 +7,8 @@ use Rattle.script_lang.specs.Scripts.{Script}
 use Rattle.bench_report.specs.declared.printed.Printed.TheVariants as printed
 use Rattle.bench_report.specs.declared.printed.Answer.{Answer}
 use Rattle.bench_report.specs.Texts.{found_line, line_text, found_count}
-use Rattle.bench_report.specs.Bench.{Bench}
-use Rattle.bench_report.specs.Steps.{says}
-use Rattle.bench_report.specs.Whole.{Whole, IsBlankWhole, WholeRun}
+use Rattle.bench_report.specs.Bench.{Bench, blank_bench}
+use Rattle.bench_report.specs.Steps.{says, Run}
 
 -- the lines that one line of a script makes
 abbrev pub answer_text : Answer → List ℕ
@@ -32,5 +31,8 @@ board_answer size = says (printed.Board size.harts size.pages size.lanes (sector
 -- these answers are a report of the script, and leave this bench
 abbrev pub IsReport : Script → List Answer → Bench → Type 0
 IsReport script [] end = ⊥
-IsReport script (board ∷ answers) end =
-    (board ≡ board_answer script.size) × (start : Whole) × (last : Whole) × IsBlankWhole start × WholeRun script.size start script.lines answers last × (last.bench ≡ end)
+IsReport script (board ∷ answers) end = (board ≡ board_answer script.size) × Run script.size blank_bench script.lines answers end
+
+-- these answers are a report of the script cut short: some first of its lines ran, and leave this bench
+abbrev pub IsCutShort : Script → List Answer → Bench → Type 0
+IsCutShort script answers end = (n : ℕ) × IsReport (record script { lines = take n script.lines }) answers end

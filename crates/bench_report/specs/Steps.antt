@@ -1,31 +1,45 @@
 -- What a line of a script may answer, and what the bench then is. Source: docs/SCRIPT.md.
-use Rattle.std.specs.Prelude.{◌≡◌, ◌≢◌, ℕ, ◌+◌, ◌<◌, ◌⊎◌, ⊤, true, false, List, [], ◌∷◌, ◌++◌, Option, Some, None}
-use Rattle.board_model.specs.Durable.{State, Change, Slot, Discard, refusal_of, after}
+use Rattle.std.specs.Prelude.{◌≡◌, ◌≢◌, ℕ, ◌+◌, ◌<◌, ◌⊎◌, ⊤, true, false, List, [], ◌∷◌, ◌++◌, Option, Some, None, Result, Ok, Err, length, slice_set}
+use Rattle.std.specs.Option.{option_to_list}
+use Rattle.board_model.specs.Durable.{State, Change, Slot, refusal_of, after}
 use Rattle.board_model.specs.Kept.{nothing_kept, MayKeep, found_of}
+use Rattle.board_model.specs.Shapes.{Size}
 use Rattle.board_model.specs.Shown.{durable_of}
 use Rattle.board_model.specs.declared.durable.Durable.{Durable}
 use Rattle.disk.specs.Facts.{counted}
 use Rattle.disk.specs.Mishaps.{Mishaps, Cause, mishaps_left}
 use Rattle.board_model.specs.declared.boot_mode.BootMode.{BootMode}
 use Rattle.board_model.specs.declared.boot_mode.BootMode.TheVariants as modes
-use Rattle.board.specs.Boots.{boot_refusal}
+use Rattle.board.specs.Boots.{boot_refusal, booted}
+use Rattle.board.specs.Moments.{issued_by}
+use Rattle.machine.specs.Machine.{Machine, resting}
 use Rattle.script_lang.specs.declared.line.Line.{Line}
 use Rattle.script_lang.specs.declared.line.Line.TheVariants as lines
+use Rattle.machine_lines.specs.Shows.{TurnsLine, reg_line, pc_line, CsrLine, mem_line}
 use Rattle.machine_lines.specs.declared.line.MachineLine.{MachineLine}
+use Rattle.machine_lines.specs.declared.line.MachineLine.TheVariants as shown
 use Rattle.bench_report.specs.declared.printed.Printed.{Printed}
 use Rattle.bench_report.specs.declared.printed.Printed.TheVariants as printed
 use Rattle.bench_report.specs.declared.printed.Answer.{Answer}
 use Rattle.bench_report.specs.Bench.{Medium, Blank, Unknown, Formatted, Life, Bench}
 
+-- ---- answers
+
 -- a line alone
 abbrev pub says : Printed → Answer
 says line = record { found = None; line = line }
 
--- the bench once a power-on was refused memory
+-- a line that shows memory or harts, or what the slots boot
+abbrev pub shows : MachineLine → Answer
+shows line = says (printed.Shown line)
+
+-- ---- the bench after one thing that happened
+
+-- a power-on was refused memory
 abbrev pub starved : Bench → Bench
 starved b = record b { growths = b.growths + 1 }
 
--- the bench once a failure of its disk was answered, which has these mishaps since
+-- a failure of the disk was answered, which has these mishaps since
 abbrev pub failed : Mishaps → Bench → Bench
 failed m b = record b { failures = counted b.failures 1; mishaps = m }
 
@@ -33,74 +47,119 @@ failed m b = record b { failures = counted b.failures 1; mishaps = m }
 abbrev pub IsHindered : Bench → Bench → Type 0
 IsHindered b new = (m : Mishaps) × Cause b.mishaps m × (new ≡ failed m b)
 
-abbrev pub off_with : Medium → Bench → Bench
-off_with medium b = record b { medium = medium; power = None }
+abbrev pub off : Bench → Bench
+off b = record b { power = None }
 
-abbrev pub on_with : Medium → Life → Bench → Bench
-on_with medium life b = record b { medium = medium; power = Some life }
+abbrev pub on_with : Life → Bench → Bench
+on_with life b = record b { power = Some life }
 
--- the bench once power was cut
+-- power was cut
 abbrev pub unpowered : Bench → Bench
 unpowered b = record b { power = None; mishaps = mishaps_left b.mishaps }
 
--- format, with the board off
+-- nothing is known of the disk any more
+abbrev pub unknown : Bench → Bench
+unknown b = record b { medium = Unknown }
+
+-- the disk was formatted
+abbrev pub formatted_anew : Bench → Bench
+formatted_anew b = record b { medium = Formatted; kept = nothing_kept }
+
+-- an open settled the command in doubt: these are kept
+abbrev pub settled : List Change → Bench → Bench
+settled changes b = record b { kept = record { changes = changes; doubt = None } }
+
+abbrev pub has_machine : Machine → Life → Life
+has_machine m life = record life { machine = m }
+
+-- a command of the life was acknowledged
+abbrev pub acknowledged : Change → Life → Bench → Bench
+acknowledged c life b = record b {
+  kept = record b.kept { changes = b.kept.changes ++ c ∷ [] };
+  power = Some (record life { now = after life.now c; receipts = life.receipts + 1 });
+}
+
+-- a command of the life is in doubt
+abbrev pub in_doubt : Change → Life → Bench → Bench
+in_doubt c life b = record b { kept = record b.kept { doubt = Some c }; power = Some (record life { doubt = Some c }) }
+
+-- ---- a durable command: its receipt, or the number with which it is refused
+
+-- by the number with which the table of commands refuses it: else it is acknowledged, or the disk fails before it could take
+-- effect (5) or where it may have (6)
+abbrev pub Writes : Option ℕ → Change → Life → Bench → Result ℕ ℕ → Bench → Type 0
+Writes (Some n) c life b o new = (o ≡ Err n) × (new ≡ b)
+Writes None c life b o new =
+    ((o ≡ Ok (life.receipts + 1)) × (new ≡ acknowledged c life b))
+    ⊎ ((o ≡ Err 5) × IsHindered b new)
+    ⊎ ((o ≡ Err 6) × IsHindered (in_doubt c life b) new)
+
+-- by the command that is in doubt: after it each is refused 6, and after 4,096 commands each is refused 10
+abbrev pub IssuedBy : Option Change → Change → Life → Bench → Result ℕ ℕ → Bench → Type 0
+IssuedBy (Some d) c life b o new = (o ≡ Err 6) × (new ≡ b)
+IssuedBy None c life b o new =
+    ((life.receipts ≡ 4096) × (o ≡ Err 10) × (new ≡ b))
+    ⊎ ((life.receipts < 4096) × Writes (refusal_of life.now c) c life b o new)
+
+abbrev pub Issued : Change → Life → Bench → Result ℕ ℕ → Bench → Type 0
+Issued c life b o new = IssuedBy life.doubt c life b o new
+
+-- commands in a row: the first that is refused ends it
+abbrev pub IssuesAll : List Change → Bench → Result ℕ ℕ → Bench → Type 0
+IssuesAll [] b o new = (o ≡ Ok 0) × (new ≡ b)
+IssuesAll (c ∷ cs) b o new = (life : Life) × (b.power ≡ Some life) × (first : Result ℕ ℕ) × (mid : Bench) × Issued c life b first mid
+    × (((n : ℕ) × (first ≡ Ok n) × IssuesAll cs mid o new) ⊎ ((n : ℕ) × (first ≡ Err n) × (o ≡ Err n) × (new ≡ mid)))
+
+-- ---- format
+
 abbrev pub FormatsOn : Medium → Bench → Answer → Bench → Type 0
 FormatsOn Blank b answer new =
-    ((answer ≡ says printed.Formatted) × (new ≡ off_with (Formatted nothing_kept) b))
-    ⊎ ((answer ≡ says (printed.FormatRefused 5)) × IsHindered (off_with Unknown b) new)
+    ((answer ≡ says printed.Formatted) × (new ≡ formatted_anew b))
+    ⊎ ((answer ≡ says (printed.FormatRefused 5)) × IsHindered (unknown b) new)
 FormatsOn Unknown b answer new =
-    ((answer ≡ says printed.Formatted) × (new ≡ off_with (Formatted nothing_kept) b))
+    ((answer ≡ says printed.Formatted) × (new ≡ formatted_anew b))
     ⊎ ((answer ≡ says (printed.FormatRefused 5)) × IsHindered b new)
     ⊎ ((n : ℕ) × (n ≢ 5) × (answer ≡ says (printed.FormatRefused n)) × (new ≡ b))
-FormatsOn (Formatted kept) b answer new =
+FormatsOn Formatted b answer new =
     ((answer ≡ says (printed.FormatRefused 2)) × (new ≡ b))
     ⊎ ((answer ≡ says (printed.FormatRefused 5)) × IsHindered b new)
 
--- a life that an open begins
-abbrev pub begun : State → Life
-begun s = record { now = s; receipts = 0; doubt = None }
+-- ---- power on
 
--- the medium after an acknowledged command, and with one in doubt
-abbrev pub keeps : Change → Medium → Medium
-keeps c Blank = Blank
-keeps c Unknown = Unknown
-keeps c (Formatted kept) = Formatted (record kept { changes = kept.changes ++ c ∷ [] })
+-- the commands that a boot by the mode issues
+abbrev pub commands_of : BootMode → List Change
+commands_of mode = option_to_list (issued_by mode)
 
-abbrev pub doubts : Change → Medium → Medium
-doubts c Blank = Blank
-doubts c Unknown = Unknown
-doubts c (Formatted kept) = Formatted (record kept { doubt = Some c })
+-- a life that an open begins, before the boot
+abbrev pub begun : State → Size → Life
+begun s z = record { now = s; receipts = 0; doubt = None; machine = resting z }
 
--- a life after an acknowledged command, and with one in doubt
-abbrev pub went_on : Change → Life → Life
-went_on c life = record life { now = after life.now c; receipts = life.receipts + 1 }
+-- the boot of a board of that size, once its commands were issued
+abbrev pub IsOn : Result ℕ ℕ → BootMode → Size → Bench → Printed → Bench → Type 0
+IsOn (Ok n) mode z b line new = (life : Life) × (b.power ≡ Some life) × (line ≡ printed.On mode) × (new ≡ on_with (has_machine (booted b.payloads life.now z) life) b)
+IsOn (Err n) mode z b line new = (line ≡ printed.OnRefused n) × (new ≡ off b)
 
-abbrev pub doubtful : Change → Life → Life
-doubtful c life = record life { doubt = Some c }
+-- the boot of the slot, after the commands of the mode
+abbrev pub Starts : BootMode → Size → State → Bench → Printed → Bench → Type 0
+Starts mode z s b line new = (o : Result ℕ ℕ) × (mid : Bench) × IssuesAll (commands_of mode) (on_with (begun s z) b) o mid × IsOn o mode z mid line new
 
--- The boot of a mode that is allowed, once there is memory for the board, after an open that left this medium. By `discard` the
--- life begins with its command acknowledged, which may be refused, or be left in doubt; an image cannot be loaded yet.
-abbrev pub Begins : BootMode → State → Medium → Bench → Printed → Bench → Type 0
-Begins modes.Fresh s medium b line new = (line ≡ printed.On modes.Fresh) × (new ≡ on_with medium (begun s) b)
-Begins modes.Keep s medium b line new = (line ≡ printed.On modes.Keep) × (new ≡ on_with medium (begun s) b)
-Begins modes.Discard s medium b line new =
-    ((line ≡ printed.On modes.Discard) × (new ≡ on_with (keeps Discard medium) (went_on Discard (begun s)) b))
-    ⊎ ((line ≡ printed.OnRefused 5) × IsHindered (off_with medium b) new)
-    ⊎ ((line ≡ printed.OnRefused 6) × IsHindered (off_with (doubts Discard medium) b) new)
-Begins modes.Resume s medium b line new = (line ≡ printed.OnRefused 13) × (new ≡ off_with medium b)
+-- the boot by a mode that is allowed, once there is memory for the board: an image cannot be loaded yet
+abbrev pub Begins : BootMode → Size → State → Bench → Printed → Bench → Type 0
+Begins modes.Fresh z s b line new = Starts modes.Fresh z s b line new
+Begins modes.Keep z s b line new = Starts modes.Keep z s b line new
+Begins modes.Discard z s b line new = Starts modes.Discard z s b line new
+Begins modes.Resume z s b line new = (line ≡ printed.OnRefused 13) × (new ≡ b)
 
--- the boot, by the number with which the state refuses the mode; there may be no memory for the board
-abbrev pub BootsAs : Option ℕ → BootMode → State → Medium → Bench → Printed → Bench → Type 0
-BootsAs None mode s medium b line new =
-    Begins mode s medium b line new
-    ⊎ ((line ≡ printed.OnRefused 11) × (new ≡ starved (off_with medium b)))
-BootsAs (Some n) mode s medium b line new = (line ≡ printed.OnRefused n) × (new ≡ off_with medium b)
+-- the boot after an open that found a state, by the number with which that refuses the mode; there may be no memory
+abbrev pub Boots : Option ℕ → BootMode → Size → State → Bench → Printed → Bench → Type 0
+Boots (Some n) mode z s b line new = (line ≡ printed.OnRefused n) × (new ≡ b)
+Boots None mode z s b line new = Begins mode z s b line new ⊎ ((line ≡ printed.OnRefused 11) × (new ≡ starved b))
 
--- an open that succeeds finds this state and leaves this medium: a command in doubt is settled
-abbrev pub Opens : Medium → State → Medium → Type 0
-Opens Blank s new = ⊥
-Opens Unknown s new = new ≡ Unknown
-Opens (Formatted kept) s new = (changes : List Change) × MayKeep kept changes × (s ≡ found_of changes) × (new ≡ Formatted (record { changes = changes; doubt = None }))
+-- an open that succeeds finds this state, and its board is of that size: a command in doubt is settled
+abbrev pub Opens : Size → Medium → Bench → State → Size → Bench → Type 0
+Opens size Blank b s z new = ⊥
+Opens size Unknown b s z new = new ≡ b
+Opens size Formatted b s z new = (changes : List Change) × MayKeep b.kept changes × (s ≡ found_of changes) × (z ≡ size) × (new ≡ settled changes b)
 
 -- the found line shows the state
 abbrev pub ShowsFound : Option Durable → State → Type 0
@@ -111,83 +170,89 @@ ShowsFound (Some d) s = d ≡ durable_of s
 abbrev pub IsOpenRefusal : Medium → ℕ → Type 0
 IsOpenRefusal Blank n = n ≡ 1
 IsOpenRefusal Unknown n = (n ≢ 5) × (n ≢ 11)
-IsOpenRefusal (Formatted kept) n = ⊥
+IsOpenRefusal Formatted n = ⊥
 
 -- an open may find a state, for which there may be no memory: never on a disk that was not formatted
 abbrev pub MayStand : Medium → Type 0
 MayStand Blank = ⊥
 MayStand Unknown = ⊤
-MayStand (Formatted kept) = ⊤
+MayStand Formatted = ⊤
 
--- power on, with the board off
-abbrev pub PowersOn : BootMode → Bench → Answer → Bench → Type 0
-PowersOn mode b answer new =
-    ((s : State) × (medium : Medium) × Opens b.medium s medium × ShowsFound answer.found s × BootsAs (boot_refusal s mode) mode s medium b answer.line new)
+-- power on, with the board off, of a script whose board is of that size
+abbrev pub PowersOn : Size → BootMode → Bench → Answer → Bench → Type 0
+PowersOn size mode b answer new =
+    ((s : State) × (z : Size) × (mid : Bench) × Opens size b.medium b s z mid × ShowsFound answer.found s × Boots (boot_refusal s mode) mode z s mid answer.line new)
     ⊎ ((n : ℕ) × IsOpenRefusal b.medium n × (answer ≡ says (printed.OnRefused n)) × (new ≡ b))
     ⊎ (MayStand b.medium × (answer ≡ says (printed.OnRefused 11)) × (new ≡ starved b))
     ⊎ ((answer ≡ says (printed.OnRefused 5)) × IsHindered b new)
 
--- a command's place in the life or its refusal, as a line: with a command in doubt, and without
-abbrev pub Commands : Option Change → Option ℕ → Change → Life → (ℕ → Printed) → (ℕ → Printed) → Bench → Answer → Bench → Type 0
-Commands (Some d) refused c life ok refuses b answer new = (answer ≡ says (refuses 6)) × (new ≡ b)
-Commands None refused c life ok refuses b answer new =
-    ((life.receipts ≡ 4096) × (answer ≡ says (refuses 10)) × (new ≡ b))
-    ⊎ ((life.receipts < 4096) × (n : ℕ) × (refused ≡ Some n) × (answer ≡ says (refuses n)) × (new ≡ b))
-    ⊎ ((life.receipts < 4096) × (refused ≡ None) × (answer ≡ says (ok (life.receipts + 1))) × (new ≡ on_with (keeps c b.medium) (went_on c life) b))
-    ⊎ ((life.receipts < 4096) × (refused ≡ None) × (answer ≡ says (refuses 5)) × IsHindered b new)
-    ⊎ ((life.receipts < 4096) × (refused ≡ None) × (answer ≡ says (refuses 6)) × IsHindered (on_with (doubts c b.medium) (doubtful c life) b) new)
+-- ---- lines, by whether the board is on
 
 abbrev pub FormatStep : Option Life → Bench → Answer → Bench → Type 0
 FormatStep (Some life) b answer new = (answer ≡ says printed.Busy) × (new ≡ b)
 FormatStep None b answer new = FormatsOn b.medium b answer new
 
-abbrev pub OnStep : Option Life → BootMode → Bench → Answer → Bench → Type 0
-OnStep (Some life) mode b answer new = (answer ≡ says printed.Busy) × (new ≡ b)
-OnStep None mode b answer new = PowersOn mode b answer new
+abbrev pub OnStep : Size → Option Life → BootMode → Bench → Answer → Bench → Type 0
+OnStep size (Some life) mode b answer new = (answer ≡ says printed.Busy) × (new ≡ b)
+OnStep size None mode b answer new = PowersOn size mode b answer new
+
+-- what a line of `slot` says of its command
+abbrev pub slot_told : Result ℕ ℕ → Answer
+slot_told (Ok n) = says (printed.Slot n)
+slot_told (Err n) = says (printed.SlotRefused n)
 
 abbrev pub SlotStep : Option Life → ℕ → Bench → Answer → Bench → Type 0
 SlotStep None n b answer new = (answer ≡ says printed.Off) × (new ≡ b)
-SlotStep (Some life) n b answer new = Commands life.doubt (refusal_of life.now (Slot n)) (Slot n) life printed.Slot printed.SlotRefused b answer new
+SlotStep (Some life) n b answer new = (o : Result ℕ ℕ) × Issued (Slot n) life b o new × (answer ≡ slot_told o)
+
+-- a payload is kept while the board is off
+abbrev pub PayloadStep : Option Life → ℕ → List ℕ → Bench → Answer → Bench → Type 0
+PayloadStep (Some life) slot bytes b answer new = (answer ≡ shows shown.Busy) × (new ≡ b)
+PayloadStep None slot bytes b answer new = (answer ≡ shows (shown.Payload slot (length bytes))) × (new ≡ record b { payloads = slice_set b.payloads slot bytes })
+
+abbrev pub TurnStep : Option Life → ℕ → ℕ → Bench → Answer → Bench → Type 0
+TurnStep None h n b answer new = (answer ≡ shows shown.Off) × (new ≡ b)
+TurnStep (Some life) h n b answer new = (line : MachineLine) × (m : Machine) × TurnsLine h n life.machine m line × (answer ≡ shows line) × (new ≡ on_with (has_machine m life) b)
+
+-- a line that shows something of memory and harts
+abbrev pub ReadStep : Option Life → (Machine → MachineLine → Type 0) → Bench → Answer → Bench → Type 0
+ReadStep None says_so b answer new = (answer ≡ shows shown.Off) × (new ≡ b)
+ReadStep (Some life) says_so b answer new = (line : MachineLine) × says_so life.machine line × (answer ≡ shows line) × (new ≡ b)
 
 -- a line that is well formed and not built yet does nothing
 abbrev pub NotBuilt : Bench → Answer → Bench → Type 0
 NotBuilt b answer new = (answer ≡ says printed.NotBuilt) × (new ≡ b)
 
--- a line that shows the board's memory or harts, or makes turns of a hart, or keeps a payload for a boot: what it says is
--- told by WholeStep of specs/Whole.antt
-abbrev pub Shows : Bench → Answer → Bench → Type 0
-Shows b answer new = (shown : MachineLine) × (answer ≡ says (printed.Shown shown)) × (new ≡ b)
-
 -- what a line may answer on a bench, and what the bench then is, as far as no armed cut strikes
-abbrev pub Step : Line → Bench → Answer → Bench → Type 0
-Step lines.Format b answer new = FormatStep b.power b answer new
-Step (lines.On mode) b answer new = OnStep b.power mode b answer new
-Step (lines.Slot n) b answer new = SlotStep b.power n b answer new
-Step (lines.Cut fill) b answer new = (answer ≡ says printed.Cut) × (new ≡ unpowered b)
-Step (lines.Payload s bytes) b answer new = Shows b answer new
-Step lines.Discard b answer new = NotBuilt b answer new
-Step (lines.Turn h n) b answer new = Shows b answer new
-Step (lines.Call h e f x y z) b answer new = NotBuilt b answer new
-Step (lines.Reg h r) b answer new = Shows b answer new
-Step (lines.Pc h) b answer new = Shows b answer new
-Step (lines.Csr h c) b answer new = Shows b answer new
-Step lines.Pending b answer new = NotBuilt b answer new
-Step (lines.Mem a n) b answer new = Shows b answer new
-Step (lines.CutAt n fill) b answer new = NotBuilt b answer new
-Step (lines.CutLane i n fill) b answer new = NotBuilt b answer new
-Step (lines.FailAt n) b answer new = NotBuilt b answer new
-Step (lines.FailLane i n) b answer new = NotBuilt b answer new
-Step (lines.Poke k n bytes) b answer new = NotBuilt b answer new
+abbrev pub Step : Size → Line → Bench → Answer → Bench → Type 0
+Step size (lines.Payload slot bytes) b answer new = PayloadStep b.power slot bytes b answer new
+Step size lines.Format b answer new = FormatStep b.power b answer new
+Step size (lines.On mode) b answer new = OnStep size b.power mode b answer new
+Step size (lines.Slot n) b answer new = SlotStep b.power n b answer new
+Step size lines.Discard b answer new = NotBuilt b answer new
+Step size (lines.Turn h n) b answer new = TurnStep b.power h n b answer new
+Step size (lines.Call h e f x y z) b answer new = NotBuilt b answer new
+Step size (lines.Reg h r) b answer new = ReadStep b.power (λ m line. line ≡ reg_line h r m) b answer new
+Step size (lines.Pc h) b answer new = ReadStep b.power (λ m line. line ≡ pc_line h m) b answer new
+Step size (lines.Csr h c) b answer new = ReadStep b.power (λ m line. CsrLine h c m line) b answer new
+Step size lines.Pending b answer new = NotBuilt b answer new
+Step size (lines.Mem a n) b answer new = ReadStep b.power (λ m line. line ≡ mem_line a n m) b answer new
+Step size (lines.CutAt n fill) b answer new = NotBuilt b answer new
+Step size (lines.CutLane i n fill) b answer new = NotBuilt b answer new
+Step size (lines.FailAt n) b answer new = NotBuilt b answer new
+Step size (lines.FailLane i n) b answer new = NotBuilt b answer new
+Step size (lines.Cut fill) b answer new = (answer ≡ says printed.Cut) × (new ≡ unpowered b)
+Step size (lines.Poke k n bytes) b answer new = NotBuilt b answer new
 
 -- the same, where an armed cut that struck within the line makes its whole report `power lost`
-abbrev pub Moves : Line → Bench → Answer → Bench → Type 0
-Moves line b answer new =
-    (Step line b answer new × (new.mishaps.struck ≡ false))
-    ⊎ ((would : Answer) × (mid : Bench) × Step line b would mid × (mid.mishaps.struck ≡ true) × (answer ≡ says printed.PowerLost) × (new ≡ unpowered mid))
+abbrev pub Moves : Size → Line → Bench → Answer → Bench → Type 0
+Moves size line b answer new =
+    (Step size line b answer new × (new.mishaps.struck ≡ false))
+    ⊎ ((would : Answer) × (mid : Bench) × Step size line b would mid × (mid.mishaps.struck ≡ true) × (answer ≡ says printed.PowerLost) × (new ≡ unpowered mid))
 
 -- lines that may answer so, one after another
-abbrev pub Run : Bench → List Line → List Answer → Bench → Type 0
-Run b [] [] new = new ≡ b
-Run b (line ∷ more) (answer ∷ answers) new = (mid : Bench) × Moves line b answer mid × Run mid more answers new
-Run b [] (answer ∷ answers) new = ⊥
-Run b (line ∷ more) [] new = ⊥
+abbrev pub Run : Size → Bench → List Line → List Answer → Bench → Type 0
+Run size b [] [] new = new ≡ b
+Run size b (line ∷ more) (answer ∷ answers) new = (mid : Bench) × Moves size line b answer mid × Run size mid more answers new
+Run size b [] (answer ∷ answers) new = ⊥
+Run size b (line ∷ more) [] new = ⊥

@@ -4,28 +4,28 @@ ghost use Rattle.std.specs.Prelude.{◌≡◌, List, Ok, Err, codes};
 ghost use Rattle.board_model.specs.declared.refusal.Refusal.TheVariants.{BadScript};
 ghost use Rattle.script_lang.specs.Scripts.{Script};
 ghost use Rattle.bench_report.specs.Bench.{Bench, IsUnspoilt};
-ghost use Rattle.bench_report.specs.Plain.{AreAlike, AreSmooth, plain_report, plain_text};
+ghost use Rattle.bench_report.specs.Plain.{ArePlain, AreSmooth, plain_report, plain_text};
 ghost use Rattle.bench_report.specs.Prefix.{KeepsPrefixLaw};
 ghost use Rattle.bench_report.specs.Reports.{IsReport};
 ghost use Rattle.bench_report.specs.declared.printed.Answer.{Answer};
 
-/// A script has one report of smooth lines: lines of which none says that memory was refused, that the disk failed or
-/// that power was lost. What they say, but for those that show memory or harts, is computed by the plain report. So any
-/// two runs of a script that wrote such reports wrote the same.
+/// There is one report of a script where memory was never refused and no failure of the disk was answered, so that no
+/// armed cut struck: any two such runs of it wrote the same and left the same. For lines that neither make turns nor show
+/// memory or harts it is computed by the plain report. A report shows that it is one by its lines, where they are smooth:
+/// none says that memory was refused, that the disk failed or that power was lost.
 pub fn one_report()
-    // Where each line of a report is smooth, no power-on was refused memory, and no failure of the disk was answered.
+    ensures one { (script : Script) (answers others : List Answer) (end last : Bench) → IsReport script answers end → IsReport script others last → IsUnspoilt end → IsUnspoilt last
+        → (answers ≡ others) × (end ≡ last) }
     ensures smooth { (script : Script) (answers : List Answer) (end : Bench) → IsReport script answers end → AreSmooth answers → IsUnspoilt end }
-    ensures one { (script : Script) (answers others : List Answer) (end last : Bench) → IsReport script answers end → IsReport script others last → AreSmooth answers → AreSmooth others
-        → answers ≡ others }
-    ensures plain { (script : Script) (answers : List Answer) (end : Bench) → IsReport script answers end → AreSmooth answers → AreAlike answers (plain_report script) }
+    ensures plain { (script : Script) (answers : List Answer) (end : Bench) → IsReport script answers end → IsUnspoilt end → ArePlain script.lines → answers ≡ plain_report script }
 {
     machine_lines::one_line();
 }
 
 /// The prefix law, over each whole run: whatever memory was refused, whatever failed and wherever power was cut, from
 /// the first `format ok` on each power-on finds what the one before it found, with each command that was acknowledged
-/// since, in order, and after them at most the one in doubt of each life since. A power-on by `discard` issues its command
-/// after what it found.
+/// since, in order, and after them at most the one in doubt of each life since, and of that life's commands none after it.
+/// No command takes effect that the table of commands refuses. The serials of the images that are resumed rise strictly.
 pub fn prefix_law()
     ensures { (script : Script) (answers : List Answer) (end : Bench) → IsReport script answers end → KeepsPrefixLaw script.lines answers }
 {}

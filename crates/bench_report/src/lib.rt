@@ -10,4 +10,4 @@ mod steps;
 
 pub use laws::{one_report, prefix_law, worked_scripts};
 pub use printed::{Answer, Printed};
-pub use runs::{Report, run, run_left};
+pub use runs::{Report, Stopped, run, run_left};

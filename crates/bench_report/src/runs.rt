@@ -1,27 +1,29 @@
 //! Whole scripts.
 
-ghost use Rattle.std.specs.Prelude.{◌≡◌, ◌⊎◌, ◌+◌, ◌++◌, ◌∷◌, [], ◌<◌, ◌≤◌, ◌^◌, length, Option, Result, ℕ, List, All, IfOk, IfErr, OnErr, OnOk, Ok, Err};
+ghost use Rattle.std.specs.Prelude.{◌≡◌, ◌⊎◌, ◌+◌, ◌++◌, ◌∷◌, [], ◌<◌, ◌≤◌, ◌^◌, length, take, Option, Result, ℕ, List, All, IfOk, IfErr, IfSome, OnErr, OnOk, Ok, Err, None, MatchResult};
 ghost use Rattle.std.specs.Io.KnownBytes.{Appends};
 ghost use Rattle.script_lang.specs.Ranges.{IsInRange};
 ghost use Rattle.script_lang.specs.Scripts.{script_of, Script as Said};
+ghost use Rattle.script_lang.specs.Seen.{view};
+ghost use Rattle.store.specs.Leaves.{IsIdle};
 ghost use Rattle.bench_report.specs.Texts.{found_line, line_text};
-ghost use Rattle.bench_report.specs.Reports.{answer_text, IsReport};
+ghost use Rattle.bench_report.specs.Reports.{answer_text, IsReport, IsCutShort};
 ghost use Rattle.bench_report.specs.Counts.{Adds, Reported};
-ghost use Rattle.bench_report.specs.Bench.{Bench};
-ghost use Rattle.bench_report.specs.Agree.{Agrees, IsResting, OffIs, AreShort, WholeIs};
-ghost use Rattle.bench_report.specs.Whole.{Whole, WholeMoves, WholeRun};
+ghost use Rattle.bench_report.specs.Bench.{Bench, blank_bench};
+ghost use Rattle.bench_report.specs.Below.{facts};
+ghost use Rattle.bench_report.specs.Agree.{Agrees, IsResting, OffIs, AreShort, IsBench};
 ghost use Rattle.bench_report.specs.declared.printed.Answer.{Answer};
 ghost use Rattle.board_model.specs.declared.refusal.Refusal.{Refusal};
-ghost use Rattle.bench_report.specs.Steps.{off_with};
+ghost use Rattle.bench_report.specs.Steps.{off, Moves, Run};
 
 use crate::power::Power;
 use crate::printed::{Answer, FoundLine, Printed};
 use crate::steps::{disk_left, moves};
 use board::Payloads;
 use board_model::{Durable, Refusal, Shape};
-use script_lang::{Line, parse_script};
+use script_lang::{Line, Script, parse_script};
 use simdisk::SimDisk;
-use std::alloc::Global;
+use std::alloc::{AllocError, Global};
 use std::io::Write;
 
 /// How many lines a run wrote, and what each power-on found.
@@ -84,7 +86,38 @@ fn add<W: Write>(out: &mut W, report: &mut Report, answer: &Answer) -> Result<()
     Ok(())
 }
 
-/// Runs one line of a script.
+/// A run that stopped before the end of its script.
+#[derive(Drop)]
+pub struct Stopped {
+    /// Why it stopped.
+    pub refusal: Refusal,
+    /// The disk, off and with nothing of it lent, where a board was made.
+    pub disk: Option<SimDisk>,
+}
+
+impl From<Refusal> for Stopped {
+    ghost from_gives = { λ refusal stopped. stopped ≡ record { refusal = refusal; disk = None } };
+
+    fn from(refusal: Refusal) -> Stopped {
+        Stopped {
+            refusal,
+            disk: None,
+        }
+    }
+}
+
+impl From<AllocError> for Stopped {
+    ghost from_gives = { λ refused stopped. stopped ≡ record { refusal = Refusal.Memory; disk = None } };
+
+    fn from(_refused: AllocError) -> Stopped {
+        Stopped {
+            refusal: Refusal::Memory,
+            disk: None,
+        }
+    }
+}
+
+/// Runs one line of a script. Where it is refused the line may have been run.
 fn run_line<W: Write>(
     alloc: Global,
     shape: &Shape,
@@ -93,24 +126,31 @@ fn run_line<W: Write>(
     payloads: &mut Payloads,
     out: &mut W,
     report: &mut Report,
-) -> Result<Power, Refusal>
+) -> (Power, Result<(), Refusal>)
     requires few { report.old.lines < 2 ^ 40 }
     requires range { IsInRange shape.now line.now }
     requires resting { IsResting power }
     requires short { AreShort payloads.old }
-    ensures resting { IfOk result IsResting }
-    ensures short { OnOk result (AreShort payloads.new) }
-    ensures ok { IfOk result (λ after. (w : Whole) → WholeIs shape.now w power payloads.old → (answer : Answer) × (new : Whole) × WholeMoves shape.now line.now w answer new
-        × WholeIs shape.now new after payloads.new × Adds (W.contents out.old) (W.contents out.new) report.old report.new answer) }
-    ensures few { OnOk result (report.new.lines ≤ report.old.lines + 2) }
-    ensures err { IfErr result (λ e. (e ≡ Refusal.Output) ⊎ (e ≡ Refusal.Memory)) }
+    ensures resting { IsResting result.0 }
+    ensures short { AreShort payloads.new }
+    ensures ok { OnOk result.1 ((b : Bench) → IsBench shape.now b power payloads.old → (answer : Answer) × (new : Bench) × Moves shape.now line.now b answer new
+        × IsBench shape.now new result.0 payloads.new × Adds (W.contents out.old) (W.contents out.new) report.old report.new answer) }
+    ensures few { OnOk result.1 (report.new.lines ≤ report.old.lines + 2) }
+    ensures stopped { OnErr result.1 ((b : Bench) → IsBench shape.now b power payloads.old → Agrees shape.now b result.0
+        ⊎ ((answer : Answer) × (new : Bench) × Moves shape.now line.now b answer new × Agrees shape.now new result.0)) }
+    ensures err { IfErr result.1 (λ e. (e ≡ Refusal.Output) ⊎ (e ≡ Refusal.Memory)) }
 {
-    let (after, answer) = moves(alloc, shape, line, power, payloads)?;
-    add(out, report, &answer)?;
-    Ok(after)
+    let (after, answer) = moves(alloc, shape, line, power, payloads);
+    match answer {
+        Ok(answer) => {
+            let added = add(out, report, &answer);
+            (after, added)
+        }
+        Err(refusal) => (after, Err(refusal)),
+    }
 }
 
-/// Runs the lines after the board line.
+/// Runs the lines after the board line, up to the first that is refused.
 fn run_lines<W: Write>(
     alloc: Global,
     shape: &Shape,
@@ -119,55 +159,61 @@ fn run_lines<W: Write>(
     payloads: &mut Payloads,
     out: &mut W,
     report: &mut Report,
-) -> Result<Power, Refusal>
+) -> (Power, Result<(), Refusal>)
     requires few { length lines.now ≤ 65535 }
     requires ranges { All (IsInRange shape.now) lines.now }
     requires first { report.old.lines ≤ 1 }
     requires resting { IsResting power }
     requires short { AreShort payloads.old }
-    ensures resting { IfOk result IsResting }
-    ensures ok { IfOk result (λ after. (w : Whole) (before : List Answer) (start : Option (List ℕ)) → WholeIs shape.now w power payloads.old → Reported start (W.contents out.old) report.old before
-        → (answers : List Answer) × (new : Whole) × WholeRun shape.now w lines.now answers new × Reported start (W.contents out.new) report.new (before ++ answers) × Agrees shape.now new.bench after) }
-    ensures err { IfErr result (λ e. (e ≡ Refusal.Output) ⊎ (e ≡ Refusal.Memory)) }
+    ensures resting { IsResting result.0 }
+    ensures ok { OnOk result.1 ((b : Bench) → IsBench shape.now b power payloads.old → (answers : List Answer) × (new : Bench) × Run shape.now b lines.now answers new × Agrees shape.now new result.0
+        × ((before : List Answer) (start : Option (List ℕ)) → Reported start (W.contents out.old) report.old before → Reported start (W.contents out.new) report.new (before ++ answers))) }
+    ensures stopped { OnErr result.1 ((b : Bench) → IsBench shape.now b power payloads.old
+        → (n : ℕ) × (answers : List Answer) × (new : Bench) × Run shape.now b (take n lines.now) answers new × Agrees shape.now new result.0) }
+    ensures err { IfErr result.1 (λ e. (e ≡ Refusal.Output) ⊎ (e ≡ Refusal.Memory)) }
 {
     let mut power = power;
     for line in lines {
-        power = run_line(alloc, shape, line, power, payloads, out, report)?;
+        let (after, ran) = run_line(alloc, shape, line, power, payloads, out, report);
+        if let Err(refusal) = ran {
+            return (after, Err(refusal));
+        }
+        power = after;
     }
-    Ok(power)
+    (power, Ok(()))
 }
 
-/// Runs a script and writes its report, as [`run`] does, and answers also the disk that is left, of a board whose power
-/// is off. That disk counted each failure that the report answers (each refusal 5, and each 6 that begins a doubt), and
-/// each growth that its record was refused.
-pub fn run_left<W: Write>(
+/// Runs a script over a blank disk of the size that its board needs.
+fn run_script<W: Write>(
     alloc: Global,
-    script: &[u8],
+    script: &Script,
+    disk: SimDisk,
     out: &mut W,
-) -> Result<(Report, SimDisk), Refusal>
-    // What was written is a report of the script, and so are the count and the states; the disk is the one of its end.
-    ensures report { IfOk result (λ left. (said : Said) × (answers : List Answer) × (end : Bench) × (script_of script.now ≡ Ok said) × IsReport said answers end
-        × Reported (W.contents out.old) (W.contents out.new) left.0 answers × OffIs said.size (off_with end.medium end) left.1) }
-    // A refusal is the script's fault, or want of memory, or the writer's.
-    ensures refused { IfErr result (λ e. (e ≡ Refusal.Memory) ⊎ (e ≡ Refusal.Output) ⊎ (script_of script.now ≡ Err e)) }
-    // A script with a fault runs nothing.
-    ensures nothing { (e : Refusal) → script_of script.now ≡ Err e → (W.contents out.new ≡ W.contents out.old) × ((result ≡ Err e) ⊎ (result ≡ Err Refusal.Memory)) }
+) -> (SimDisk, Result<Report, Refusal>)
+    requires few { length script.now.lines.items ≤ 65535 }
+    requires ranges { All (IsInRange script.now.shape) script.now.lines.items }
+    requires blank { OffIs script.now.shape blank_bench disk }
+    requires idle { IsIdle (facts disk) }
+    ensures report { IfOk result.1 (λ report. (answers : List Answer) × (end : Bench) × IsReport (view script.now) answers end × Reported (W.contents out.old) (W.contents out.new) report answers
+        × OffIs script.now.shape (off end) result.0) }
+    ensures stopped { OnErr result.1 ((answers : List Answer) × (end : Bench) × IsCutShort (view script.now) answers end × OffIs script.now.shape (off end) result.0) }
+    ensures idle { IsIdle (facts result.0) }
+    ensures err { IfErr result.1 (λ e. (e ≡ Refusal.Output) ⊎ (e ≡ Refusal.Memory)) }
 {
-    let script = parse_script(alloc, script)?;
     let shape = script.shape;
-    let sectors = shape.sectors();
-    let disk = SimDisk::blank(alloc, sectors)?;
     let mut report = Report {
         lines: 0,
         found: Vec::new(alloc),
     };
     let board = Answer {
         found: None,
-        line: Printed::Board(shape.harts(), shape.pages(), shape.lanes(), sectors),
+        line: Printed::Board(shape.harts(), shape.pages(), shape.lanes(), shape.sectors()),
     };
-    add(out, &mut report, &board)?;
+    if let Err(refusal) = add(out, &mut report, &board) {
+        return (disk, Err(refusal));
+    }
     let mut payloads = Payloads::new(alloc);
-    let power = run_lines(
+    let (power, ran) = run_lines(
         alloc,
         &shape,
         &script.lines,
@@ -175,8 +221,48 @@ pub fn run_left<W: Write>(
         &mut payloads,
         out,
         &mut report,
-    )?;
-    Ok((report, disk_left(power)))
+    );
+    let left = disk_left(power);
+    match ran {
+        Ok(()) => (left, Ok(report)),
+        Err(refusal) => (left, Err(refusal)),
+    }
+}
+
+/// Runs a script and writes its report, as [`run`] does, and answers also the disk that is left, of a board whose power
+/// is off. That disk counted each failure that the report answers (each refusal 5, and each 6 that begins a doubt), and
+/// each growth that its record was refused.
+///
+/// Refused as `run` is. Where a board was made its disk is given back, as the lines left it that ran: some first of the
+/// script's.
+pub fn run_left<W: Write>(
+    alloc: Global,
+    script: &[u8],
+    out: &mut W,
+) -> Result<(Report, SimDisk), Stopped>
+    // What was written is a report of the script, and so are the count and the states; the disk is the one of its end.
+    ensures report { IfOk result (λ left. (said : Said) × (answers : List Answer) × (end : Bench) × (script_of script.now ≡ Ok said) × IsReport said answers end
+        × Reported (W.contents out.old) (W.contents out.new) left.0 answers × OffIs said.size (off end) left.1) }
+    // Where it stopped, the disk is the one of the end of some first lines.
+    ensures stopped { IfErr result (λ s. IfSome s.disk (λ disk. (said : Said) × (answers : List Answer) × (end : Bench) × (script_of script.now ≡ Ok said) × IsCutShort said answers end
+        × OffIs said.size (off end) disk)) }
+    // A board can be powered on over it.
+    ensures idle { MatchResult result (λ left. IsIdle (facts left.1)) (λ s. IfSome s.disk (λ disk. IsIdle (facts disk))) }
+    // A refusal is the script's fault, or want of memory, or the writer's.
+    ensures refused { IfErr result (λ s. (s.refusal ≡ Refusal.Memory) ⊎ (s.refusal ≡ Refusal.Output) ⊎ (script_of script.now ≡ Err s.refusal)) }
+    // A script with a fault runs nothing.
+    ensures nothing { (e : Refusal) → script_of script.now ≡ Err e → (W.contents out.new ≡ W.contents out.old)
+        × MatchResult result (λ left. ⊥) (λ s. ((s.refusal ≡ e) ⊎ (s.refusal ≡ Refusal.Memory)) × (s.disk ≡ None)) }
+{
+    let script = parse_script(alloc, script)?;
+    let disk = SimDisk::blank(alloc, script.shape.sectors())?;
+    match run_script(alloc, &script, disk, out) {
+        (left, Ok(report)) => Ok((report, left)),
+        (left, Err(refusal)) => Err(Stopped {
+            refusal,
+            disk: Some(left),
+        }),
+    }
 }
 
 /// Runs a script (docs/SCRIPT.md) and writes its report.
@@ -193,6 +279,8 @@ pub fn run<W: Write>(alloc: Global, script: &[u8], out: &mut W) -> Result<Report
     // A script with a fault runs nothing.
     ensures nothing { (e : Refusal) → script_of script.now ≡ Err e → (W.contents out.new ≡ W.contents out.old) × ((result ≡ Err e) ⊎ (result ≡ Err Refusal.Memory)) }
 {
-    let (report, _disk) = run_left(alloc, script, out)?;
-    Ok(report)
+    match run_left(alloc, script, out) {
+        Ok((report, _disk)) => Ok(report),
+        Err(stopped) => Err(stopped.refusal),
+    }
 }

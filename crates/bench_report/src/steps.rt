@@ -1,15 +1,15 @@
 //! One line of a script.
 
-ghost use Rattle.std.specs.Prelude.{◌≡◌, ◌<◌, ◌≤◌, ℕ, List, length, Some, None, Err, IfOk, OnOk, OnErr, true, IsTrue, ◌↔◌};
-ghost use Rattle.board_model.specs.Durable.{Slot, refusal_of};
+ghost use Rattle.std.specs.Prelude.{◌≡◌, ◌<◌, ◌≤◌, ℕ, List, length, Some, None, Ok, Err, IfOk, OnOk, OnErr, true, IsTrue, ◌↔◌, MatchResult};
+ghost use Rattle.board_model.specs.Durable.{Slot};
 ghost use Rattle.board_model.specs.Shapes.{Size};
 ghost use Rattle.script_lang.specs.Ranges.{IsInRange};
 ghost use Rattle.store.specs.Leaves.{IsIdle};
 ghost use Rattle.bench_report.specs.Below.{store_in, machine_in, facts};
 ghost use Rattle.bench_report.specs.Bench.{Bench, Life};
-ghost use Rattle.bench_report.specs.Steps.{FormatsOn, PowersOn, FormatStep, OnStep, SlotStep, Step, Commands, off_with, unpowered, says};
-ghost use Rattle.bench_report.specs.Whole.{Whole, WholeStep, WholeMoves};
-ghost use Rattle.bench_report.specs.Agree.{choice_by, MachineIs, KeepsPayload, MakesTurns, Agrees, IsResting, OffIs, OnIs, AreShort, WholeIs, Carried, Reads};
+ghost use Rattle.bench_report.specs.Steps.{FormatsOn, PowersOn, FormatStep, OnStep, SlotStep, PayloadStep, TurnStep, ReadStep, Step, Moves, off, unpowered, says, shows};
+ghost use Rattle.simdisk.specs.declared.SimDisk.{SimDisk};
+ghost use Rattle.bench_report.specs.Agree.{choice_by, HasDisk, IsCutBy, Agrees, IsResting, OffIs, OnIs, AreShort, IsBench, Goes};
 ghost use Rattle.machine_lines.specs.Shows.{TurnsLine, reg_line, pc_line, CsrLine, mem_line};
 ghost use Rattle.machine.specs.Machine.{Machine};
 ghost use Rattle.board_model.specs.declared.refusal.Refusal.TheVariants.{Memory};
@@ -34,8 +34,7 @@ fn says(line: Printed) -> Answer
 /// Formats the disk of a board that is off.
 fn format_disk(shape: &Shape, mut disk: SimDisk) -> (Power, Answer)
     requires { IsIdle (facts disk) }
-    ensures told { (b : Bench) → OffIs shape.now b disk → (new : Bench) × FormatsOn b.medium b result.1 new × Agrees shape.now new result.0 }
-    ensures carried { (payloads : List (List ℕ)) (power : Power) → Carried payloads result.0 power }
+    ensures told { (b : Bench) → OffIs shape.now b disk → Goes shape.now b result.0 (FormatsOn b.medium b result.1) }
     ensures resting { IsResting result.0 }
 {
     match format(&mut disk, shape) {
@@ -48,8 +47,7 @@ fn format_disk(shape: &Shape, mut disk: SimDisk) -> (Power, Answer)
 fn power_on(alloc: Global, mode: BootMode, disk: SimDisk, payloads: &Payloads) -> (Power, Answer)
     requires idle { IsIdle (facts disk) }
     requires short { AreShort payloads.now }
-    ensures told { (size : Size) (b : Bench) → OffIs size b disk → (new : Bench) × PowersOn mode b result.1 new × Agrees size new result.0 }
-    ensures carried { Carried payloads.now result.0 (Power.Off disk) }
+    ensures told { (size : Size) (b : Bench) → OffIs size b disk → payloads.now ≡ b.payloads → Goes size b result.0 (PowersOn size mode b result.1) }
     ensures resting { IsResting result.0 }
 {
     match Board::power_on(alloc, disk, mode, payloads) {
@@ -72,9 +70,8 @@ fn power_on(alloc: Global, mode: BootMode, disk: SimDisk, payloads: &Payloads) -
 
 /// Issues the command Slot on a board that is on.
 fn slot(board: &mut Board<SimDisk>, n: u32) -> Answer
-    ensures told { (size : Size) (b : Bench) (life : Life) → b.power ≡ Some life → OnIs size b (store_in board.old)
-        → (new : Bench) × Commands life.doubt (refusal_of life.now (Slot n)) (Slot n) life Printed.Slot Printed.SlotRefused b result new × OnIs size new (store_in board.new) }
-    ensures machine { machine_in board.new ≡ machine_in board.old }
+    ensures { (size : Size) (b : Bench) (life : Life) → b.power ≡ Some life → OnIs size b board.old
+        → (new : Bench) × SlotStep (Some life) n b result new × OnIs size new board.new × (new.payloads ≡ b.payloads) }
 {
     match board.console(Command::Slot(n)) {
         Ok(receipt) => says(Printed::Slot(receipt.number())),
@@ -85,8 +82,9 @@ fn slot(board: &mut Board<SimDisk>, n: u32) -> Answer
 /// The disk of a board whose life ends here.
 pub fn disk_left(power: Power) -> SimDisk
     requires { IsResting power }
-    ensures told { (size : Size) (b : Bench) → Agrees size b power → OffIs size (off_with b.medium b) result }
+    ensures told { (size : Size) (b : Bench) → Agrees size b power → OffIs size (off b) result }
     ensures resting { IsIdle (facts result) }
+    ensures disk { HasDisk power result }
 {
     match power {
         Power::Off(disk) => disk,
@@ -109,8 +107,7 @@ fn choice(fill: Fill) -> Choice
 fn cut(power: Power, fill: Fill) -> Power
     requires { IsResting power }
     ensures told { (size : Size) (b : Bench) → Agrees size b power → Agrees size (unpowered b) result }
-    ensures carried { (payloads : List (List ℕ)) (was : Power) → Carried payloads result was }
-    ensures machine { (m : Machine) → MachineIs m result }
+    ensures exact { (disk : SimDisk) × HasDisk power disk × IsCutBy fill disk result }
     ensures resting { IsResting result }
 {
     Power::Off(disk_left(power).after_cut(choice(fill)))
@@ -128,8 +125,7 @@ fn struck(power: &Power) -> bool
 
 fn format_line(shape: &Shape, power: Power) -> (Power, Answer)
     requires { IsResting power }
-    ensures told { (b : Bench) → Agrees shape.now b power → (new : Bench) × FormatStep b.power b result.1 new × Agrees shape.now new result.0 }
-    ensures carried { (payloads : List (List ℕ)) → Carried payloads result.0 power }
+    ensures told { (b : Bench) → Agrees shape.now b power → Goes shape.now b result.0 (FormatStep b.power b result.1) }
     ensures resting { IsResting result.0 }
 {
     match power {
@@ -141,8 +137,7 @@ fn format_line(shape: &Shape, power: Power) -> (Power, Answer)
 fn on_line(alloc: Global, mode: BootMode, power: Power, payloads: &Payloads) -> (Power, Answer)
     requires resting { IsResting power }
     requires short { AreShort payloads.now }
-    ensures told { (size : Size) (b : Bench) → Agrees size b power → (new : Bench) × OnStep b.power mode b result.1 new × Agrees size new result.0 }
-    ensures carried { Carried payloads.now result.0 power }
+    ensures told { (size : Size) (b : Bench) → IsBench size b power payloads.now → Goes size b result.0 (OnStep size b.power mode b result.1) }
     ensures resting { IsResting result.0 }
 {
     match power {
@@ -153,8 +148,7 @@ fn on_line(alloc: Global, mode: BootMode, power: Power, payloads: &Payloads) -> 
 
 fn slot_line(n: u32, power: Power) -> (Power, Answer)
     requires { IsResting power }
-    ensures told { (size : Size) (b : Bench) → Agrees size b power → (new : Bench) × SlotStep b.power n b result.1 new × Agrees size new result.0 }
-    ensures carried { (payloads : List (List ℕ)) → Carried payloads result.0 power }
+    ensures told { (size : Size) (b : Bench) → Agrees size b power → Goes size b result.0 (SlotStep b.power n b result.1) }
     ensures resting { IsResting result.0 }
 {
     match power {
@@ -176,18 +170,21 @@ fn payload_line(
 ) -> Result<MachineLine, Refusal>
     requires bytes { length bytes.now ≤ 1024 }
     requires short { AreShort payloads.old }
-    ensures told { IfOk result (λ line. KeepsPayload power.now slot bytes.now payloads.old line payloads.new) }
+    ensures told { IfOk result (λ line. (size : Size) (b : Bench) → IsBench size b power.now payloads.old
+        → (new : Bench) × PayloadStep b.power slot bytes.now b (shows line) new × IsBench size new power.now payloads.new) }
     ensures short { OnOk result (AreShort payloads.new) }
-    ensures refused { OnErr result (result ≡ Err Memory) }
+    ensures refused { OnErr result ((result ≡ Err Memory) × (payloads.new ≡ payloads.old)) }
 {
-    if let Power::On(_) = power {
-        return Ok(MachineLine::Busy);
+    match power {
+        Power::On(_board) => Ok(MachineLine::Busy),
+        Power::Off(_disk) => {
+            let count = bytes.len();
+            let mut copy = Vec::with_capacity(alloc, count)?;
+            copy.extend_from_slice(bytes.as_slice())?;
+            payloads.set(slot, copy);
+            Ok(MachineLine::Payload(slot, count))
+        }
     }
-    let count = bytes.len();
-    let mut copy = Vec::with_capacity(alloc, count)?;
-    copy.extend_from_slice(bytes.as_slice())?;
-    payloads.set(slot, copy);
-    Ok(MachineLine::Payload(slot, count))
 }
 
 /// Turns of a hart of a board that is on.
@@ -206,7 +203,7 @@ fn turn(board: &mut Board<SimDisk>, hart: HartId, count: u32) -> MachineLine
 fn turn_line(hart: HartId, count: u32, power: Power) -> (Power, MachineLine)
     requires some { 0 < count }
     requires resting { IsResting power }
-    ensures told { MakesTurns power hart count result.1 result.0 }
+    ensures told { (size : Size) (b : Bench) → Agrees size b power → Goes size b result.0 (TurnStep b.power hart count b (shows result.1)) }
     ensures resting { IsResting result.0 }
 {
     match power {
@@ -219,7 +216,7 @@ fn turn_line(hart: HartId, count: u32, power: Power) -> (Power, MachineLine)
 }
 
 fn reg_line(hart: HartId, register: u32, power: &Power) -> MachineLine
-    ensures { Reads power.now (λ m line. line ≡ reg_line hart register m) result }
+    ensures { (size : Size) (b : Bench) → Agrees size b power.now → ReadStep b.power (λ m line. line ≡ reg_line hart register m) b (shows result) b }
 {
     match power {
         Power::Off(_) => MachineLine::Off,
@@ -228,7 +225,7 @@ fn reg_line(hart: HartId, register: u32, power: &Power) -> MachineLine
 }
 
 fn pc_line(hart: HartId, power: &Power) -> MachineLine
-    ensures { Reads power.now (λ m line. line ≡ pc_line hart m) result }
+    ensures { (size : Size) (b : Bench) → Agrees size b power.now → ReadStep b.power (λ m line. line ≡ pc_line hart m) b (shows result) b }
 {
     match power {
         Power::Off(_) => MachineLine::Off,
@@ -237,7 +234,7 @@ fn pc_line(hart: HartId, power: &Power) -> MachineLine
 }
 
 fn csr_line(hart: HartId, number: u32, power: &Power) -> MachineLine
-    ensures { Reads power.now (λ m line. CsrLine hart number m line) result }
+    ensures { (size : Size) (b : Bench) → Agrees size b power.now → ReadStep b.power (λ m line. CsrLine hart number m line) b (shows result) b }
 {
     match power {
         Power::Off(_) => MachineLine::Off,
@@ -246,7 +243,7 @@ fn csr_line(hart: HartId, number: u32, power: &Power) -> MachineLine
 }
 
 fn mem_line(address: u64, count: u32, power: &Power) -> MachineLine
-    ensures { Reads power.now (λ m line. line ≡ mem_line address count m) result }
+    ensures { (size : Size) (b : Bench) → Agrees size b power.now → ReadStep b.power (λ m line. line ≡ mem_line address count m) b (shows result) b }
 {
     match power {
         Power::Off(_) => MachineLine::Off,
@@ -254,84 +251,99 @@ fn mem_line(address: u64, count: u32, power: &Power) -> MachineLine
     }
 }
 
-/// One line of a script, as far as no armed cut strikes. Refused only where there is no memory for a payload.
+/// A line that is never refused.
+fn answered(did: (Power, Answer)) -> (Power, Result<Answer, Refusal>)
+    ensures power { result.0 ≡ did.0 }
+    ensures answer { result.1 ≡ Ok did.1 }
+{
+    let (after, answer) = did;
+    (after, Ok(answer))
+}
+
+/// One line of a script, as far as no armed cut strikes. Refused only where there is no memory for a payload, and then the
+/// bench is as it was.
 fn step(
     alloc: Global,
     shape: &Shape,
     line: &Line,
     power: Power,
     payloads: &mut Payloads,
-) -> Result<(Power, Answer), Refusal>
+) -> (Power, Result<Answer, Refusal>)
     requires range { IsInRange shape.now line.now }
     requires resting { IsResting power }
     requires short { AreShort payloads.old }
-    ensures told { IfOk result (λ r. (w : Whole) → WholeIs shape.now w power payloads.old
-        → (new : Whole) × Step line.now w.bench r.1 new.bench × WholeStep shape.now line.now w r.1 new × WholeIs shape.now new r.0 payloads.new) }
-    ensures resting { IfOk result (λ r. IsResting r.0) }
-    ensures short { OnOk result (AreShort payloads.new) }
-    ensures refused { OnErr result (result ≡ Err Memory) }
+    ensures told { (b : Bench) → IsBench shape.now b power payloads.old → MatchResult result.1
+        (λ answer. (new : Bench) × Step shape.now line.now b answer new × IsBench shape.now new result.0 payloads.new) (λ e. (e ≡ Memory) × IsBench shape.now b result.0 payloads.new) }
+    ensures resting { IsResting result.0 }
+    ensures short { AreShort payloads.new }
+    ensures refused { OnErr result.1 (result.1 ≡ Err Memory) }
 {
     match line {
-        Line::Format => Ok(format_line(shape, power)),
-        Line::On(mode) => Ok(on_line(alloc, *mode, power, payloads)),
-        Line::Slot(n) => Ok(slot_line(*n, power)),
-        Line::Cut(fill) => Ok((cut(power, *fill), says(Printed::Cut))),
+        Line::Format => answered(format_line(shape, power)),
+        Line::On(mode) => answered(on_line(alloc, *mode, power, payloads)),
+        Line::Slot(n) => answered(slot_line(*n, power)),
+        Line::Cut(fill) => (cut(power, *fill), Ok(says(Printed::Cut))),
         Line::Payload(slot, bytes) => {
-            let shown = payload_line(alloc, *slot, bytes, &power, payloads)?;
-            Ok((power, says(Printed::Shown(shown))))
+            match payload_line(alloc, *slot, bytes, &power, payloads) {
+                Ok(shown) => (power, Ok(says(Printed::Shown(shown)))),
+                Err(refusal) => (power, Err(refusal)),
+            }
         }
         Line::Turn(hart, count) => {
             let (after, shown) = turn_line(*hart, *count, power);
-            Ok((after, says(Printed::Shown(shown))))
+            (after, Ok(says(Printed::Shown(shown))))
         }
         Line::Reg(hart, register) => {
             let shown = reg_line(*hart, *register, &power);
-            Ok((power, says(Printed::Shown(shown))))
+            (power, Ok(says(Printed::Shown(shown))))
         }
         Line::Pc(hart) => {
             let shown = pc_line(*hart, &power);
-            Ok((power, says(Printed::Shown(shown))))
+            (power, Ok(says(Printed::Shown(shown))))
         }
         Line::Csr(hart, number) => {
             let shown = csr_line(*hart, *number, &power);
-            Ok((power, says(Printed::Shown(shown))))
+            (power, Ok(says(Printed::Shown(shown))))
         }
         Line::Mem(address, count) => {
             let shown = mem_line(*address, *count, &power);
-            Ok((power, says(Printed::Shown(shown))))
+            (power, Ok(says(Printed::Shown(shown))))
         }
-        Line::Discard => Ok((power, says(Printed::NotBuilt))),
-        Line::Call(_, _, _, _, _, _) => Ok((power, says(Printed::NotBuilt))),
-        Line::Pending => Ok((power, says(Printed::NotBuilt))),
-        Line::CutAt(_, _) => Ok((power, says(Printed::NotBuilt))),
-        Line::CutLane(_, _, _) => Ok((power, says(Printed::NotBuilt))),
-        Line::FailAt(_) => Ok((power, says(Printed::NotBuilt))),
-        Line::FailLane(_, _) => Ok((power, says(Printed::NotBuilt))),
-        Line::Poke(_, _, _) => Ok((power, says(Printed::NotBuilt))),
+        Line::Discard => (power, Ok(says(Printed::NotBuilt))),
+        Line::Call(_, _, _, _, _, _) => (power, Ok(says(Printed::NotBuilt))),
+        Line::Pending => (power, Ok(says(Printed::NotBuilt))),
+        Line::CutAt(_, _) => (power, Ok(says(Printed::NotBuilt))),
+        Line::CutLane(_, _, _) => (power, Ok(says(Printed::NotBuilt))),
+        Line::FailAt(_) => (power, Ok(says(Printed::NotBuilt))),
+        Line::FailLane(_, _) => (power, Ok(says(Printed::NotBuilt))),
+        Line::Poke(_, _, _) => (power, Ok(says(Printed::NotBuilt))),
     }
 }
 
-/// One line of a script; its report is `power lost` where an armed cut struck within it.
+/// One line of a script; its report is `power lost` where an armed cut struck within it. Refused as [`step`] is.
 pub fn moves(
     alloc: Global,
     shape: &Shape,
     line: &Line,
     power: Power,
     payloads: &mut Payloads,
-) -> Result<(Power, Answer), Refusal>
+) -> (Power, Result<Answer, Refusal>)
     requires range { IsInRange shape.now line.now }
     requires resting { IsResting power }
     requires short { AreShort payloads.old }
-    ensures told { IfOk result (λ r. (w : Whole) → WholeIs shape.now w power payloads.old
-        → (new : Whole) × WholeMoves shape.now line.now w r.1 new × WholeIs shape.now new r.0 payloads.new) }
-    ensures resting { IfOk result (λ r. IsResting r.0) }
-    ensures short { OnOk result (AreShort payloads.new) }
-    ensures refused { OnErr result (result ≡ Err Memory) }
+    ensures told { (b : Bench) → IsBench shape.now b power payloads.old → MatchResult result.1
+        (λ answer. (new : Bench) × Moves shape.now line.now b answer new × IsBench shape.now new result.0 payloads.new) (λ e. (e ≡ Memory) × IsBench shape.now b result.0 payloads.new) }
+    ensures resting { IsResting result.0 }
+    ensures short { AreShort payloads.new }
+    ensures refused { OnErr result.1 (result.1 ≡ Err Memory) }
 {
-    let (after, answer) = step(alloc, shape, line, power, payloads)?;
+    let (after, answer) = step(alloc, shape, line, power, payloads);
+    let Ok(answer) = answer else {
+        return (after, answer);
+    };
     if struck(&after) {
-        Ok((cut(after, Fill::Old), says(Printed::PowerLost)))
+        (cut(after, Fill::Old), Ok(says(Printed::PowerLost)))
     } else {
-        Ok((after, answer))
+        (after, Ok(answer))
     }
 }

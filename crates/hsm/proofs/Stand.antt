@@ -7,10 +7,11 @@ use Rattle.hsm_words.specs.declared.view.Stage.TheVariants.{Out, Running, Asleep
 use Rattle.hsm_words.specs.declared.view.Deed.{Deed}
 use Rattle.hsm_words.specs.declared.view.HartView.{HartView}
 use Rattle.hsm_words.specs.declared.view.Crew.{Crew}
+use Rattle.hsm_rule.specs.States.{IsSettled}
 use Rattle.hsm_rule.specs.Rule.{noted, HasNoted, stands}
 use Rattle.hsm.specs.declared.state.State.{State}
 use Rattle.hsm.specs.declared.state.State.TheVariants.{Started, Stopped, StartPending, Suspended}
-use Rattle.hsm.specs.Calls.{stage_of, KeepsAll, IsOwnStatus, IsSettled, StandsBy}
+use Rattle.hsm.specs.Calls.{stage_of, KeepsAll, IsOwnStatus, StandsBy}
 
 stands_noted : (h : ℕ) (st st' : Stage) (p : ℕ) (x : Deed) (vs : List HartView) → stands h st vs → stands h st' (noted h st' p x vs)
 stands_noted h st st' p x [] s = s

@@ -56,10 +56,6 @@ pub record IsOwnStatus (h : ℕ) (vs : List HartView) (x : State) : Type 0 where
   pub asleep : stands h Asleep vs → x ≡ Suspended
   pub outside : stands h Out vs → (x ≡ Stopped) ⊎ (x ≡ StartPending)
 
--- the hart stands where each call leaves the one that acts: it has no start in flight, and is not in the midst of an entry
-abbrev pub IsSettled : ℕ → List HartView → Type 0
-IsSettled h vs = stands h Out vs ⊎ (stands h Running vs ⊎ (stands h Asleep vs ⊎ stands h Quiet vs))
-
 -- where a settled hart stands, by its status
 abbrev pub StandsBy : State → ℕ → List HartView → Type 0
 StandsBy Started h vs = IsStarted h vs

@@ -1,21 +1,20 @@
 -- A step that keeps the rule found what its word held, and is the newest of all.
-use Rattle.std.proofs.Common.{◌≡◌, ◌≢◌, ℕ, zero, suc, ◌+◌, ◌*◌, ◌<◌, if◌then◌else◌, ◌==◌, List, [], ◌∷◌, length, set, refl, sym, ap, ◌∙◌, subst, arith, ne_eqb}
-use Rattle.std.specs.Prelude.{slice_index}
+use Rattle.std.proofs.Common.{◌≡◌, ◌≢◌, ℕ, zero, suc, ◌<◌, if◌then◌else◌, ◌==◌, List, [], ◌∷◌, set, refl, sym, ap, ◌∙◌, subst, arith, ne_eqb}
 use mathlib.Core.Logic.{dite}
 use mathlib.Core.Option.{some, some-injective, some-ne-none}
 use native.Mathlib.Decide.{ℕ_discrete}
 use lib.ListN.{get_elem?}
 use Rattle.atomic_table.specs.Table.{State}
 use Rattle.atomic_table.proofs.Lists.{set_else}
-use Rattle.tallies.specs.Logs.{Log, IsTrueLog, word_after}
+use Rattle.tallies.specs.Logs.{Log, deeds_in, placed, earlier, IsAmong, IsTrueLog, word_after}
 use Rattle.tallies.proofs.Logs.{Same, More, one_log, newest, found_at, true_of}
+use Rattle.tallies.proofs.Places.{placed_in, one_found}
 use Rattle.hsm_words.specs.Words.{hart_view, crew, board_of}
-use Rattle.hsm_words.specs.declared.view.Stage.{Stage}
 use Rattle.hsm_words.specs.declared.view.Deed.{Deed}
 use Rattle.hsm_words.specs.declared.view.HartView.{HartView}
 use Rattle.hsm_words.specs.declared.view.Crew.{Crew}
-use Rattle.hsm_rule.specs.Rule.{is_of, seats, Kept, AreInLog, noted, stands, word_of, found_by, left_by, reading, first_word}
-use Rattle.hsm_rule.specs.Truth.{ChangesAreNoted, StepsAreTrue}
+use Rattle.hsm_rule.specs.Rule.{is_of, seats, Kept, noted, word_of, found_by, left_by, reading, first_word}
+use Rattle.hsm_rule.specs.Truth.{ChangesAreNoted, EarlierStepsStand, StepsAreTrue}
 use Rattle.hsm_rule.proofs.Next.{find, under as under_board}
 
 hart_is : (k : ℕ) (v : HartView) → 0 < is_of k v → v.hart ≡ k
@@ -89,3 +88,27 @@ changes_noted harts boot s s' kept kept' alike t lt =
     let log = one_log harts kept.log kept'.log (true_of reading first harts kept.log kept.is_true) (true_of reading first harts kept'.log kept'.is_true)
     (λ k lt_k. same harts boot s s' kept kept' k lt_k (λ v a. record { id = a.id; c = a.c; i = a.i; seat = alike a.id ∙ a.seat; there = a.there; own = a.own })) in
     kept'.left t lt ∙ (ap (word_after reading first t) log ∙ sym (kept.left t lt))
+
+-- ---- earlier steps
+module _ (harts boot : ℕ) (s : State (Unit {0}) Crew) (kept : Kept harts boot s) where
+  among : (k : ℕ) (v : HartView) → Holder k s.views v → IsAmong (λ (c : Crew). c.harts) s.views v
+  among k v a = record { id = a.id; c = a.c; k = a.i; seat = a.seat; there = a.there }
+
+  -- the steps of a hart are those of the log
+  steps_of : (k : ℕ) (v : HartView) → IsAmong (λ (c : Crew). c.harts) s.views v → v.hart ≡ k → placed v.deeds v.places ≡ placed_in k kept.log
+  steps_of k v a own =
+      let e = kept.entered a.id a.c a.k v a.seat a.there in
+      ap (λ (ds : List Deed). placed ds v.places) e.0 ∙ (ap (placed (deeds_in v.hart kept.log)) e.1 ∙ ap (λ (n : ℕ). placed_in n kept.log) own)
+
+pub earlier_stand : EarlierStepsStand
+earlier_stand harts boot s s' kept kept' p same_before v v' i j x y a a' own got got' word =
+    one_found reading (first_word boot) harts kept.log kept'.log kept.is_true kept'.is_true p v.hart i j x y
+    (λ k lt.
+    let b = holder harts boot s s' kept kept' k lt in
+    let b' = holder harts boot s' s kept' kept k lt in
+    let m = among harts boot s kept k b.0 b.1 in
+    let m' = among harts boot s' kept' k b'.0 b'.1 in
+    ap (earlier p) (sym (steps_of harts boot s' kept' k b'.0 m' b'.1.own)) ∙ (same_before b.0 b'.0 m m' (b'.1.own ∙ sym b.1.own) ∙ ap (earlier p) (steps_of harts boot s kept k b.0 m b.1.own)))
+    (ap (λ (xs : List (ℕ × Deed)). get_elem? xs i) (sym (steps_of harts boot s kept v.hart v a refl)) ∙ got)
+    (ap (λ (xs : List (ℕ × Deed)). get_elem? xs j) (sym (steps_of harts boot s' kept' v.hart v' a' own)) ∙ got')
+    word

@@ -6,6 +6,8 @@ use Rattle.atomic_table.specs.Table.{State}
 use Rattle.hsm_words.specs.Words.{crew}
 use Rattle.hsm_words.specs.declared.view.Stage.{Stage}
 use Rattle.hsm_words.specs.declared.view.Deed.{Deed}
+use Rattle.tallies.specs.Logs.{placed, earlier, IsAmong}
+use Rattle.hsm_words.specs.declared.view.HartView.{HartView}
 use Rattle.hsm_words.specs.declared.view.Crew.{Crew}
 use Rattle.hsm_rule.specs.Rule.{Kept, noted, stands, word_of, found_by, left_by}
 
@@ -18,6 +20,15 @@ StepsAreTrue = (harts boot : ℕ) (s s' : State (Unit {0}) Crew) (kept : Kept ha
     → (found_by x (slice_index s.words (word_of h x)) ≡ slice_index s.words (word_of h x))
     × ((t : ℕ) → t < 1 + 2 * harts → slice_index s'.words t ≡ (if word_of h x == t then left_by h x (slice_index s.words t) else slice_index s.words t))
     × (place ≡ length kept.log) × (kept'.log ≡ (h, x) ∷ kept.log)
+
+-- No earlier step can be noted anew: where every hart has the same steps before a place in two states, and a hart has a step at that place in both, in the same
+-- word, then both found what that word held.
+abbrev pub EarlierStepsStand : Type 0
+EarlierStepsStand = (harts boot : ℕ) (s s' : State (Unit {0}) Crew) → Kept harts boot s → Kept harts boot s' → (p : ℕ)
+    → ((v v' : HartView) → IsAmong (λ (c : Crew). c.harts) s.views v → IsAmong (λ (c : Crew). c.harts) s'.views v' → v'.hart ≡ v.hart → earlier p (placed v'.deeds v'.places) ≡ earlier p (placed v.deeds v.places))
+    → (v v' : HartView) (i j : ℕ) (x y : Deed) → IsAmong (λ (c : Crew). c.harts) s.views v → IsAmong (λ (c : Crew). c.harts) s'.views v' → v'.hart ≡ v.hart
+    → get_elem? (placed v.deeds v.places) i ≡ some (p, x) → get_elem? (placed v'.deeds v'.places) j ≡ some (p, y) → word_of v.hart y ≡ word_of v.hart x
+    → (w : ℕ) × (found_by x w ≡ w) × (found_by y w ≡ w)
 
 -- What no seat noted changed nothing.
 abbrev pub ChangesAreNoted : Type 0

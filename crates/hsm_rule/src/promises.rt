@@ -1,7 +1,7 @@
 //! What holds of the hart table between any two steps of any threads.
 
 ghost use Rattle.hsm_rule.specs.States.{StartsLedger, QuietLaw};
-ghost use Rattle.hsm_rule.specs.Truth.{StepsAreTrue, ChangesAreNoted};
+ghost use Rattle.hsm_rule.specs.Truth.{StepsAreTrue, EarlierStepsStand, ChangesAreNoted};
 
 /// The ledger of starts; what a quiet hart knows; that each step that a seat notes found what the word held, and that
 /// nothing changes but by such steps. The rule of which they speak is that of `hsm_steps::HartTable`.
@@ -9,5 +9,6 @@ pub fn laws()
     ensures starts { StartsLedger }
     ensures quiet { QuietLaw }
     ensures truth { StepsAreTrue }
+    ensures earlier { EarlierStepsStand }
     ensures unnoted { ChangesAreNoted }
 {}

@@ -1,5 +1,5 @@
 -- Where the harts of a parted seat stand.
-use Rattle.std.proofs.Common.{List, Option, Some, [], ap, arith, inl, slice_get, subst, suc, sym, zero, ℕ, ⊎_elim, ◌+◌, ◌∙◌, ◌∷◌, ◌≡◌, ◌≢◌}
+use Rattle.std.proofs.Common.{List, None, Option, Some, [], ap, arith, inl, inr, refl, slice_get, subst, suc, sym, zero, ℕ, ⊎_elim, ◌++◌, ◌+◌, ◌∙◌, ◌∷◌, ◌≡◌, ◌≢◌}
 use Rattle.atomic_table.specs.declared.shared.Seat.{Seat}
 use Rattle.tallies.specs.Seats.{numbers_from, views_at}
 use Rattle.tallies.proofs.Seatings.{head_or, tail_of, some_or}
@@ -8,7 +8,7 @@ use Rattle.hsm_rule.specs.Rule.{stands}
 use Rattle.hsm_words.specs.declared.view.Stage.{Stage}
 use Rattle.hsm_words.specs.declared.view.HartView.{HartView}
 use Rattle.hsm_words.specs.declared.view.Crew.{Crew}
-use Rattle.hsm_steps.specs.Seating.{StandAsIn, harts_in, harts_by_seat, one_by_one}
+use Rattle.hsm_steps.specs.Seating.{StandAsIn, StandTogether, AreInOrder, harts_in, harts_by_seat, all_harts, one_by_one}
 
 stands_from : (ss : List (Option (Seat (Unit {0}) Crew))) (vs : List HartView) (first n : ℕ) → harts_by_seat ss ≡ one_by_one vs → numbers vs ≡ numbers_from first n
     → (i : ℕ) (s : Seat (Unit {0}) Crew) → slice_get ss i ≡ Some (Some s) → (st : Stage) → stands (first + i) st vs → stands (first + i) st (harts_in s)
@@ -39,3 +39,40 @@ pub in_order_stands : (ss : List (Option (Seat (Unit {0}) Crew))) (vs : List Har
 in_order_stands ss vs n same own = λ i s st at stood.
     let k : 0 + i ≡ i = omega arith in
     subst (λ (j : ℕ). stands j st (harts_in s)) k (stands_from ss vs 0 n same own i s at st (subst (λ (j : ℕ). stands j st vs) (sym k) stood))
+
+-- ---- seats that are joined
+front : (vs ws : List HartView) (n : ℕ) (st : Stage) → stands n st vs → stands n st (vs ++ ws)
+front [] ws n st s = absurd s
+front (v ∷ vs) ws n st s =
+    ⊎_elim
+    (λ (hit : (v.hart ≡ n) × (v.stage ≡ st)). inl hit)
+    (λ (miss : (v.hart ≢ n) × stands n st vs). inr (miss.0, front vs ws n st miss.1))
+    s
+
+behind : (vs ws : List HartView) (n k : ℕ) (st : Stage) → numbers vs ≡ n ∷ [] → k ≢ n → stands k st ws → stands k st (vs ++ ws)
+behind [] ws n k st own ne s = absurd (cc)
+behind (v ∷ []) ws n k st own ne s = inr ((λ e. ne (sym e ∙ ap (head_or n) own)), s)
+behind (v ∷ w ∷ vs) ws n k st own ne s = absurd (cc)
+
+together_from : (ss : List (Option (Seat (Unit {0}) Crew))) (first : ℕ) → ((i : ℕ) (s : Seat (Unit {0}) Crew) → slice_get ss i ≡ Some (Some s) → numbers (harts_in s) ≡ (first + i) ∷ [])
+    → (i : ℕ) (s : Seat (Unit {0}) Crew) (st : Stage) → slice_get ss i ≡ Some (Some s) → stands (first + i) st (harts_in s) → stands (first + i) st (all_harts ss)
+together_from [] first order i s st at stood = absurd (cc)
+together_from (None ∷ ss) first order zero s st at stood = absurd (cc)
+together_from (None ∷ ss) first order (suc i) s st at stood =
+    let e : suc first + i ≡ first + suc i = omega arith in
+    subst (λ (n : ℕ). stands n st (all_harts ss)) e
+    (together_from ss (suc first) (λ j u got. order (suc j) u got ∙ ap (λ (k : ℕ). k ∷ []) (let f : first + suc j ≡ suc first + j = omega arith in f)) i s st at (subst (λ (n : ℕ). stands n st (harts_in s)) (sym e) stood))
+together_from (Some x ∷ ss) first order zero s st at stood =
+    let is : Some x ≡ Some s = ap (some_or (Some x)) at in
+    front (harts_in x) (all_harts ss) (first + 0) st (subst (λ (vs : List HartView). stands (first + 0) st vs) (sym (ap (views_at harts_in) is)) stood)
+together_from (Some x ∷ ss) first order (suc i) s st at stood =
+    let own : numbers (harts_in x) ≡ first ∷ [] = order 0 x refl ∙ ap (λ (k : ℕ). k ∷ []) (let f : first + 0 ≡ first = omega arith in f) in
+    let e : suc first + i ≡ first + suc i = omega arith in
+    behind (harts_in x) (all_harts ss) first (first + suc i) st own (λ z. omega arith) (subst (λ (n : ℕ). stands n st (all_harts ss)) e
+    (together_from ss (suc first) (λ j u got. order (suc j) u got ∙ ap (λ (k : ℕ). k ∷ []) (let f : first + suc j ≡ suc first + j = omega arith in f)) i s st at (subst (λ (n : ℕ). stands n st (harts_in s)) (sym e) stood)))
+
+pub stand_together : (ss : List (Option (Seat (Unit {0}) Crew))) → AreInOrder ss → StandTogether ss (all_harts ss)
+stand_together ss order = λ i s st at stood.
+    let k : 0 + i ≡ i = omega arith in
+    subst (λ (n : ℕ). stands n st (all_harts ss)) k
+    (together_from ss 0 (λ j u got. order j u got ∙ ap (λ (m : ℕ). m ∷ []) (let f : j ≡ 0 + j = omega arith in f)) i s st at (subst (λ (n : ℕ). stands n st (harts_in s)) (sym k) stood))

@@ -38,6 +38,10 @@ AreInOrder = AreByNumber harts_in (λ v. v.hart)
 abbrev pub StandAsIn : List HartView → List (Option (Seat (Unit {0}) Crew)) → Type 0
 StandAsIn vs ss = (i : ℕ) (s : Seat (Unit {0}) Crew) (st : Stage) → slice_get ss i ≡ Some (Some s) → stands i st vs → stands i st (harts_in s)
 
+-- each hart stands in a list of all harts where it stands in its seat
+abbrev pub StandTogether : List (Option (Seat (Unit {0}) Crew)) → List HartView → Type 0
+StandTogether ss vs = (i : ℕ) (s : Seat (Unit {0}) Crew) (st : Stage) → slice_get ss i ≡ Some (Some s) → stands i st (harts_in s) → stands i st vs
+
 -- every place of a list has a seat of the table; one that was taken out leaves None
 abbrev pub AreSeatsOf : HartTable → List (Option (Seat (Unit {0}) Crew)) → Type 0
 AreSeatsOf t = AreSeats (IsSeatOf t)

@@ -10,7 +10,7 @@ use Rattle.hsm_words.specs.declared.view.Deed.TheVariants.{Claimed, Wrote, Armed
 use Rattle.hsm_words.specs.declared.view.HartView.{HartView}
 use Rattle.hsm_words.specs.declared.view.Crew.{Crew}
 use Rattle.hsm_rule.specs.Rule.{IsSite, HasNoted, stands}
-use Rattle.hsm_rule.specs.States.{HartState, stopped, start_pending, started, IsStarted, Shows, Tells}
+use Rattle.hsm_rule.specs.States.{HartState, stopped, start_pending, started, IsStarted, IsSettled, Shows, Tells}
 
 -- ---- what each step tells
 -- what the table keeps of a seat: its view, and the slots that it has taken, of which there are none
@@ -91,6 +91,10 @@ Quiets harts h st m found m' = Notes h (after_quiet harts h found) (Quieted foun
 
 abbrev pub Unquiets : ℕ → Step (Unit {0}) → SeatState → ℕ → SeatState → Type 0
 Unquiets h st m found m' = Notes h Running (Unquieted found) m m'
+
+-- a look that a seat does not note: it stays as it was, and where it is of all harts and each is settled, it shows some states
+abbrev pub Sees : ℕ → Step (Unit {0}) → SeatState → ℕ → SeatState → Type 0
+Sees harts st m found m' = (m'.0 ≡ m.0) × (m'.1 ≡ m.1) × (((h : ℕ) → h < harts → IsSettled h m.0.harts) → (states : ℕ → HartState) × Shows harts m.0 states)
 
 -- ---- the table at the start
 abbrev pub opening_from : ℕ → ℕ → ℕ → List HartView

@@ -2,17 +2,19 @@
 
 ghost use Rattle.std.specs.Prelude.{◌≡◌, ◌≢◌, ℕ, ◌<◌, ◌≤◌, ◌==◌, if◌then◌else◌, [], length, IfOk, IfErr};
 ghost use Rattle.hsm_rule.specs.Rule.{stands};
-ghost use Rattle.hsm_rule.specs.States.{Shows};
+ghost use Rattle.hsm_rule.specs.States.{HartState, IsSettled, Shows};
 ghost use Rattle.hsm_words.specs.declared.view.Stage.TheVariants.{Out, Running};
 ghost use Rattle.hsm_steps.specs.Told.{opening_states, opening_crew, first_hart, other_harts, together};
-ghost use Rattle.hsm_steps.specs.Seating.{IsSeatOf, harts_of, crew_of, harts_in, IsOfAll, AreInOrder, StandAsIn, AreSeatsOf, harts_by_seat, all_harts, one_by_one};
+ghost use Rattle.hsm_steps.specs.Seating.{IsSeatOf, harts_of, crew_of, harts_in, IsOfAll, AreInOrder, StandAsIn, StandTogether, AreSeatsOf, harts_by_seat, all_harts, one_by_one};
 ghost use Rattle.arrayvec.specs.ArrayVec.{array_vec_len};
 ghost use Rattle.board_model.specs.declared.refusal.Refusal.TheVariants.{Memory};
 
+use crate::steps::see;
 use crate::table::{ByHart, HartSeat, HartTable, Seats, Setup};
 use atomic_table::Table;
 use board_model::{HartId, Refusal, Shape};
 use std::alloc::Global;
+use std::marker::Brand;
 
 impl HartTable {
     /// The table of a board of that shape, with the hart `started` alone STARTED and every other hart STOPPED, and one
@@ -103,6 +105,8 @@ impl HartTable {
         ensures seat { IsSeatOf self.now result }
         ensures harts { harts_in result ≡ all_harts seats.items }
         ensures all { AreInOrder seats.items → array_vec_len seats ≡ harts_of self.now → IsOfAll self.now result }
+        ensures stands { AreInOrder seats.items → StandTogether seats.items (harts_in result) }
+        ensures shows { ((h : ℕ) → h < harts_of self.now → IsSettled h (harts_in result)) → (states : ℕ → HartState) × Shows (harts_of self.now) (crew_of result) states }
     {
         let mut seats = seats;
         let last = seats.pop().unwrap();
@@ -110,6 +114,7 @@ impl HartTable {
         while let Some(before) = seats.pop() {
             whole = self.join_two(before.unwrap(), whole);
         }
+        see::<Brand>(self, &mut whole);
         whole
     }
 }

@@ -3,8 +3,8 @@
 ghost use Rattle.std.specs.Prelude.{◌≡◌, ◌≢◌, ℕ, ◌+◌, ◌*◌, ◌<◌, ◌↔◌, true, IsTrue};
 ghost use Rattle.std.specs.Int.{bit_at};
 ghost use Rattle.hsm_rule.specs.Rule.{IsSite, HasNoted, stands};
-ghost use Rattle.hsm_rule.specs.States.{IsStarted, Tells};
-ghost use Rattle.hsm_steps.specs.Told.{after_claim, after_look, Claims, PutsAddress, PutsOpaque, Arms, IsFresh, Looks, LooksOut, ReadsAddress, ReadsOpaque, IsOpenStart, Enters, Stops, Suspends, Wakes, Quiets, Unquiets, is_alone, after_quiet};
+ghost use Rattle.hsm_rule.specs.States.{HartState, IsStarted, IsSettled, Shows, Tells};
+ghost use Rattle.hsm_steps.specs.Told.{after_claim, after_look, Claims, PutsAddress, PutsOpaque, Arms, IsFresh, Looks, LooksOut, ReadsAddress, ReadsOpaque, IsOpenStart, Enters, Stops, Suspends, Wakes, Quiets, Unquiets, Sees, is_alone, after_quiet};
 ghost use Rattle.hsm_steps.specs.Seating.{IsSeatOf, harts_of, crew_of, harts_in};
 ghost use Rattle.hsm_words.specs.declared.view.Stage.TheVariants.{Out, Ready, Addressed, Loaded, Running, Claiming, Half, Stored, Asleep, Quiet};
 ghost use Rattle.hsm_words.specs.declared.view.Deed.TheVariants.{Claimed, Wrote, Armed, Looked, Read, Entered, Stopped, Suspended, Woke, Quieted, Unquieted};
@@ -125,6 +125,25 @@ struct UnquietStep<J> {
 
 impl<J: Acting> Play<(), Crew> for UnquietStep<J> {
     ghost then = { Unquiets J.by };
+}
+
+struct SeeStep<J> {
+    of: PhantomData<J>,
+}
+
+impl<J: Acting> Play<(), Crew> for SeeStep<J> {
+    ghost then = { Sees J.harts };
+}
+
+/// A look that is not noted, by which a seat of all harts that are settled is known to show the table's states.
+pub(crate) fn see<J: Acting>(table: &HartTable, seat: &mut HartSeat)
+    requires named { J.harts ≡ harts_of table.now }
+    requires seat { IsSeatOf table.now seat.old }
+    ensures seat { IsSeatOf table.now seat.new }
+    ensures same { crew_of seat.new ≡ crew_of seat.old }
+    ensures shows { ((h : ℕ) → h < harts_of table.now → IsSettled h (harts_in seat.old)) → (states : ℕ → HartState) × Shows (harts_of table.now) (crew_of seat.old) states }
+{
+    table.table.shared.load::<SeeStep<J>>(seat, 0);
 }
 
 /// Claims the target for a start, and answers the first word as the step found it. It was unclaimed where its bit of

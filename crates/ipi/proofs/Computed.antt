@@ -7,10 +7,10 @@ use Rattle.std.proofs.lemmas.Grind.{get_or-set_at}
 use mathlib.Core.Logic.{dite}
 use native.Mathlib.Decide.{ℕ_discrete}
 use Rattle.tallies.specs.Seats.{numbers_from}
-use Rattle.tallies.proofs.Seatings.{map_all, at_all, total_beyond}
+use Rattle.tallies.proofs.Seatings.{map_all, at_all, total_beyond, total_once}
 use Rattle.ipi.specs.declared.view.Diary.{Diary}
 use Rattle.ipi.specs.declared.view.Crew.{Crew}
-use Rattle.ipi.specs.Ledger.{numbers, raised_by, raised, taken, IsWhole}
+use Rattle.ipi.specs.Ledger.{numbers, is_of, raised_by, raised, taken, IsWhole}
 use Rattle.ipi.specs.Pairs.{IsPending, Shows, with_pair, without_target}
 use Rattle.ipi.specs.Seen.{pair_in, pairs_in, row_of, pair_at, AreRows, ArePairs, pairs_with, pairs_without}
 
@@ -113,3 +113,7 @@ one_less harts c target pairs rows lt shown =
           (λ far. at_else harts target pairs rows lt row s t far ∙ rw (ne_eqb t target far) refl))
           shown,
     )
+
+-- a seat of every hart, in the order of their numbers, has each once
+pub whole_of : (harts : ℕ) (c : Crew) → numbers c.diaries ≡ numbers_from 0 harts → IsWhole harts c
+whole_of harts c all h lt = total_once (λ (d : Diary). d.hart) (is_of h) h (λ d e. rw (eq-eqb d.hart h e) refl) (λ d ne. rw (ne_eqb d.hart h ne) refl) c.diaries harts all lt

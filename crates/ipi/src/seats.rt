@@ -4,6 +4,7 @@ ghost use Rattle.std.specs.Prelude.{◌≡◌, ℕ, ◌<◌, ◌≤◌, false, I
 ghost use Rattle.arrayvec.specs.ArrayVec.{array_vec_len};
 ghost use Rattle.ipi.specs.Ledger.{opening_crew, first_hart, other_harts, together};
 ghost use Rattle.ipi.specs.Pairs.{Sits, Shows};
+ghost use Rattle.ipi.specs.Seen.{pair_in};
 ghost use Rattle.ipi.specs.Seating.{IsSeatOf, harts_of, crew_of, diaries_in, IsOfAll, AreInOrder, AreSeated, AreSeatsOf, diaries_by_seat, all_diaries, one_by_one};
 ghost use Rattle.board_model.specs.declared.refusal.Refusal.TheVariants.{Memory};
 
@@ -90,6 +91,7 @@ impl PendingTable {
         ensures seat { IsSeatOf self.now result }
         ensures harts { diaries_in result ≡ all_diaries seats.items }
         ensures all { AreInOrder seats.items → array_vec_len seats ≡ harts_of self.now → IsOfAll self.now result }
+        ensures shows { AreInOrder seats.items → array_vec_len seats ≡ harts_of self.now → Shows (harts_of self.now) (crew_of result) (pair_in (crew_of result)) }
     {
         let mut seats = seats;
         let last = seats.pop().unwrap();

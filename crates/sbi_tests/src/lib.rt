@@ -7,3 +7,5 @@ mod fixtures;
 mod masks;
 #[cfg(test)]
 mod registers;
+#[cfg(test)]
+mod requests;

@@ -1,5 +1,5 @@
 //! The store: one life of the durable state.
-ghost use Rattle.std.specs.Prelude.{◌≡◌, ◌≤◌, ◌≢◌, ◌<◌, ◌+◌, ◌^◌, ◌⊎◌, ◌↔◌, IsTrue, ℕ, List, false, true, length, map, vec_len, vec_capacity, Some, None, Err, IfOk, IfErr, OnOk, OnErr, IsErrOf, MatchResult};
+ghost use Rattle.std.specs.Prelude.{◌≡◌, ◌≤◌, ◌≢◌, ◌<◌, ◌+◌, ◌-◌, ◌^◌, ◌⊎◌, ◌↔◌, IsTrue, ℕ, List, get_or, false, true, length, map, vec_len, vec_capacity, Some, None, Err, IfSome, IfOk, IfErr, OnOk, OnErr, IsErrOf, MatchResult};
 ghost use Rattle.board_model.specs.Durable.{State, Change, Suspend, after, fold, ends_life, refusal_of};
 ghost use Rattle.board_model.specs.Shown.{change_of, change_in, number_of};
 ghost use Rattle.board_model.specs.Shapes.{Size, IsSize, ram_bytes_of};
@@ -53,10 +53,10 @@ pub struct Store<D: Disk + Drop> {
 impl<D: Disk + Drop> Store<D> {
     ghost use Rattle.board_model.specs.Shown.{durable_of};
     ghost use Rattle.store.specs.Leaves.{IsIdle, SameLength, Leaves, LeavesOnly, LeavesEither};
-    ghost use Rattle.store.specs.Opens.{ReadsAs, OpenRefused, CausedRefusal};
+    ghost use Rattle.store.specs.Opens.{ReadsAs, OpenRefused, OpenCalls, CausedRefusal};
     ghost use Rattle.store.specs.Lives.{begun, Reaches, TakesNone, Refused, Applied, IsReseen, SuspendRefused, Suspended, IsLoaded, LoadRefused};
     ghost use Rattle.store.specs.Views.{Answered, StaysOpen};
-    ghost use Rattle.disk.specs.Facts.{LeavesSince, Unchanged, Passes, Stays};
+    ghost use Rattle.disk.specs.Facts.{LeavesSince, Unchanged, Passes, Stays, counted};
     ghost use Rattle.disk.specs.Mishaps.{armed_by};
     ghost use Rattle.store.specs.Standing.{StandsFor, selected};
     ghost use Rattle.store.specs.Stores.{disk_of, mishaps_of, arms_of, size_of_store, life_of, found_state, journal_of, now_state, receipts, doubt_of, failures_at_open, view_of, Stands, Doubts};
@@ -89,6 +89,8 @@ impl<D: Disk + Drop> Store<D> {
 
         ensures content { MatchResult result (λ store. (disk_of store).content ≡ (D.facts disk).content) (λ e. (D.facts e.0).content ≡ (D.facts disk).content) }
         ensures no_failure { IfOk result (λ store. ((disk_of store).failures ≡ (D.facts disk).failures) × (failures_at_open store ≡ (D.facts disk).failures)) }
+        ensures calls { 0 < length (D.facts disk).content
+            → MatchResult result (λ store. (disk_of store).calls ≡ counted (D.facts disk).calls 4) (λ e. OpenCalls e.1 (D.facts disk).calls (D.facts e.0).calls) }
         ensures no_fewer { IfErr result (λ e. (D.facts disk).failures ≤ (D.facts e.0).failures) }
         ensures cause { MatchResult result (λ store. mishaps_of store ≡ D.mishaps disk) (λ e. CausedRefusal (D.mishaps disk) e.1 (D.mishaps e.0)) }
         ensures none_out { MatchResult result (λ store. IsIdle (disk_of store)) (λ e. IsIdle (D.facts e.0)) }
@@ -135,6 +137,20 @@ impl<D: Disk + Drop> Store<D> {
         self.current.durable()
     }
 
+    /// The entry of this life's journal at that place, from 1 as receipts count; none past its end.
+    pub fn entry(&self, number: u32) -> Option<Entry>
+        ensures some { IfSome result (λ e. (1 ≤ number) × (number ≤ receipts self.now) × ((memory : List ℕ) × (get_or (journal_of self.now) (number - 1) (change_in e memory) ≡ change_in e memory))) }
+        ensures none { result ≡ None → (number ≡ 0) ⊎ (receipts self.now < number) }
+    {
+        if number == 0 {
+            return None;
+        }
+        if self.journal.len() < number as usize {
+            return None;
+        }
+        Some(self.journal[number as usize - 1])
+    }
+
     /// Issues a command: its record is made durable, and then the gate that selects it. The receipt is its place in the
     /// journal of this life, from 1. Each crash since the call's start leaves the state before or the state after.
     ///
@@ -146,6 +162,7 @@ impl<D: Disk + Drop> Store<D> {
         ensures answered { doubt_of self.old ≡ None → Answered Applied (view_of self.old) (change_of command) result (view_of self.new) }
         ensures down { (c : Change) → doubt_of self.old ≡ Some c → (result ≡ Err Refusal.Down) × (self.new ≡ self.old) }
         ensures untouched { IfErr result (λ e. (e ≡ Refusal.Device → ⊥) → (e ≡ Refusal.Down → ⊥) → self.new ≡ self.old) }
+        ensures calls { OnOk result ((disk_of self.new).calls ≡ counted (disk_of self.old).calls 4) }
         ensures life { IsErrOf result Refusal.Down → Failed (failures_at_open self.new) (disk_of self.new).failures }
         ensures stays { StaysOpen (view_of self.old) (view_of self.new) }
     {
@@ -260,6 +277,7 @@ impl<D: Disk + Drop> Store<D> {
         requires follows { Follows self.old.shape self.old.current entry next }
         ensures answered { Answered Applied (view_of self.old) (change_in entry (memory_in self.old.shape next (disk_of self.old).content)) result (view_of self.new) }
         ensures few { IfErr result (λ e. (e ≡ Refusal.Device) ⊎ (e ≡ Refusal.Down)) }
+        ensures calls { OnOk result ((disk_of self.new).calls ≡ counted (disk_of self.old).calls 4) }
         ensures life { IsErrOf result Refusal.Down → Failed (failures_at_open self.new) (disk_of self.new).failures }
         ensures stays { StaysOpen (view_of self.old) (view_of self.new) }
     {

@@ -1,2 +1,3 @@
 pub mod Race
 pub mod Crowd
+pub mod Known

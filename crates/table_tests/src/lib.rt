@@ -6,6 +6,10 @@ mod alone;
 #[cfg(test)]
 mod crowd;
 #[cfg(test)]
+mod known;
+#[cfg(test)]
 mod race;
+#[cfg(test)]
+mod sizes;
 #[cfg(test)]
 mod tests;

@@ -1,6 +1,8 @@
 use crate::alone::{quiet_of_one, run_of_one};
 use crate::crowd::{all_harts, take_all};
+use crate::known::{lost, refused};
 use crate::race::{Plan, ready_racers, rounds};
+use crate::sizes::all_sizes;
 use board_model::{Addr, HartId, Shape};
 use hsm::{HartTable, State};
 use ipi::PendingTable;
@@ -108,5 +110,29 @@ fn seats_are_parted_and_joined(rt: HostRuntime) -> Result<(), Fail> {
     let seats = pending.split(seat);
     assert_eq!(&rt; (pending.harts(), seats.len()), (8, 8));
     let _whole = pending.join(seats);
+    Ok(())
+}
+
+#[test]
+fn no_interrupt_is_lost(rt: HostRuntime) -> Result<(), Fail> {
+    let shape = Shape::new(3, 1, 1)?;
+    let (table, whole) = PendingTable::new(rt.alloc(), shape)?;
+    assert_eq!(&rt; lost(&rt, &table, whole, 100_000), 0);
+    Ok(())
+}
+
+#[test]
+fn no_start_is_refused(rt: HostRuntime) -> Result<(), Fail> {
+    let shape = Shape::new(4, 1, 1)?;
+    let one = HartId::new(1).unwrap();
+    let address = Addr::new(0x8000_0000).unwrap();
+    let (table, whole) = HartTable::new(rt.alloc(), shape, one)?;
+    assert_eq!(&rt; refused(&rt, &table, whole, address, 100_000), Some(0));
+    Ok(())
+}
+
+#[test]
+fn tables_of_every_size(rt: HostRuntime) -> Result<(), Fail> {
+    assert!(&rt; all_sizes(rt.alloc())?);
     Ok(())
 }

@@ -1,6 +1,8 @@
 -- Lists of seats: one that grows by the first hart of the rest, and one that shrinks from its end. And lists of a value for each hart.
 use Rattle.std.proofs.Common.{IsSome, List, None, Option, Some, [], ap, append-nil, append_assoc, arith, drop, get_or, length, map, refl, rules, slice_get, subst, suc, sym, take, zero, ℕ, ◌++◌, ◌+◌, ◌<◌, ◌≤◌, ◌∙◌, ◌∷◌, ◌≡◌, ◌≢◌}
 use Rattle.std.proofs.lemmas.List.{length-map, map-append}
+use mathlib.Core.Logic.{dite}
+use native.Mathlib.Decide.{ℕ_discrete}
 use Rattle.tallies.specs.Sums.{total}
 use Rattle.tallies.specs.Seats.{numbers_from, one_by_one, IsSomeSeat, AreSeats, views_at, views_by_seat, all_views, AreByNumber}
 
@@ -69,6 +71,30 @@ beyond_from hart f h none (v ∷ vs) first (suc n) all le =
 
 pub total_beyond : {V : Type 0} (hart f : V → ℕ) (h n : ℕ) (vs : List V) → ((v : V) → hart v ≢ h → f v ≡ 0) → map hart vs ≡ numbers_from 0 n → n ≤ h → total f vs ≡ 0
 total_beyond hart f h n vs none all le = beyond_from hart f h none vs 0 n all (omega arith)
+
+-- and one that it has is in it once
+module _ {V : Type 0} (hart f : V → ℕ) (h : ℕ) (one : (v : V) → hart v ≡ h → f v ≡ 1) (none : (v : V) → hart v ≢ h → f v ≡ 0) where
+  below_from : (vs : List V) (first n : ℕ) → map hart vs ≡ numbers_from first n → h < first → total f vs ≡ 0
+  below_from [] first n all lt = refl
+  below_from (v ∷ vs) first zero all lt = absurd (cc)
+  below_from (v ∷ vs) first (suc n) all lt =
+      let is : hart v ≡ first = ap (head_or first) all in
+      let here = none v (λ e. omega arith) in
+      let rest = below_from vs (suc first) n (ap tail_of all) (omega arith) in
+      omega arith
+
+  once_from : (vs : List V) (first n : ℕ) → map hart vs ≡ numbers_from first n → first ≤ h → h < first + n → total f vs ≡ 1
+  once_from [] first zero all le lt = absurd (omega arith)
+  once_from [] first (suc n) all le lt = absurd (cc)
+  once_from (v ∷ vs) first zero all le lt = absurd (cc)
+  once_from (v ∷ vs) first (suc n) all le lt =
+      let is : hart v ≡ first = ap (head_or first) all in
+      dite (ℕ_discrete (hart v) h)
+      (λ hit. let here = one v hit in let rest = below_from vs (suc first) n (ap tail_of all) (omega arith) in omega arith)
+      (λ miss. let here = none v miss in let more = once_from vs (suc first) n (ap tail_of all) (omega arith) (omega arith) in omega arith)
+
+  pub total_once : (vs : List V) (n : ℕ) → map hart vs ≡ numbers_from 0 n → h < n → total f vs ≡ 1
+  total_once vs n all lt = once_from vs 0 n all (omega arith) (omega arith)
 
 -- ---- seats of a table
 module _ {S : Type 0} (IsSeat : S → Type 0) where

@@ -1,10 +1,9 @@
-use Rattle.std.proofs.Common.{arith, [], ◌∷◌, ◌++◌}
-use Rattle.std.proofs.Common.{◌≡◌, drop, refl, subst, append_assoc}
+use Rattle.std.proofs.Common.{◌+◌, arith, List, [], ◌∷◌, ◌++◌, inl, inr, refl, subst, append_assoc}
+use Rattle.std.proofs.lemmas.List.{append-nil, take_all}
 use Rattle.script_lang.specs.declared.line.Line.{Line}
-use Rattle.bench_report.specs.Whole.{WholeMoves, WholeRun}
-use Rattle.std.proofs.lemmas.List.{append-nil, drop_all}
+use Rattle.bench_report.specs.Steps.{Moves, Run}
+use Rattle.bench_report.proofs.RunLines.{run_more}
 use Rattle.bench_report.proofs.Told.{reported_more}
-use Rattle.bench_report.proofs.Wholes.{goes_on}
 use Rattle.bench_report.proofs.runs.run_lines.Goals as goal
 
 pub loop-line-init : goal.loop-line-init
@@ -12,24 +11,36 @@ loop-line-init g c = record {
   few = omega arith;
   resting = c.requires.resting;
   short = c.requires.short;
-  told = λ b before start agrees told. (b, [], agrees, rw append-nil told, λ more new r. r);
+  told = λ b h. ([], b, refl, h, λ before start r. rw append-nil r);
 }
 
 pub loop-line-preserved : goal.loop-line-preserved
 loop-line-preserved g c = record {
-  few = omega (arith, c.in_ok-power.ensures.few);
-  resting = c.in_ok-power.ensures.resting;
-  short = c.in_ok-power.ensures.short;
-  told = λ b before start agrees told.
-      let was = c.loop-line.invariant.told b before start agrees told in
-      let did = c.in_ok-power.ensures.ok was.0 was.2 in
-      let Q : Line → Type 0 = λ line. WholeMoves c.args.shape.now line was.0 did.0 did.1 in
-      (did.1, was.1 ++ did.0 ∷ [], did.3, rw (← append_assoc) (reported_more start _ _ _ _ (before ++ was.1) did.0 was.3 did.4), λ more new r. rw append_assoc (was.4 (did.0 ∷ more) new (goes_on c.args.shape.now c.args.lines.now c.loop-line.line-index c.line-item.result was.0 did.1 new did.0 more c.loop-line-test.true (subst Q c.line-item.is did.2) r)));
+  few = (let few = rw c.in_default.is at c.run_line-after.ensures.few in omega (arith, few, c.loop-line.invariant.few));
+  resting = c.run_line-after.ensures.resting;
+  short = c.run_line-after.ensures.short;
+  told = λ b h.
+      let was = c.loop-line.invariant.told b h in
+      let ok = rw c.in_default.is at c.run_line-after.ensures.ok in
+      let did = ok was.1 was.3 in
+      let Q : Line → Type 0 = λ line. Moves c.args.shape.now line was.1 did.0 did.1 in
+      (was.0 ++ did.0 ∷ [], did.1, run_more c.args.shape.now c.args.lines.now c.loop-line.line-index c.line-item.result b was.0 was.1 did.0 did.1 c.loop-line-test.true was.2 (subst Q c.line-item.is did.2), did.3, λ before start r. rw (← append_assoc) (reported_more start _ _ _ _ (before ++ was.0) did.0 (was.4 before start r) did.4));
 }
 
+pub returns-in-Err-clause-stopped : goal.returns-in-Err-clause-stopped
+returns-in-Err-clause-stopped g c = λ b h.
+    let was = c.loop-line.invariant.told b h in
+    let stopped = rw c.in-Err.is at c.run_line-after.ensures.stopped in
+    elim (stopped was.1 was.3) [
+      | inl same ↦ (c.loop-line.line-index, was.0, was.1, was.2, same)
+      | inr did ↦ (
+          let Q : Line → Type 0 = λ line. Moves c.args.shape.now line was.1 did.0 did.1 in
+          (c.loop-line.line-index + 1, was.0 ++ did.0 ∷ [], did.1, run_more c.args.shape.now c.args.lines.now c.loop-line.line-index c.line-item.result b was.0 was.1 did.0 did.1 c.loop-line-test.true was.2 (subst Q c.line-item.is did.2), did.3)
+          )
+    ]
+
 pub returns-clause-ok : goal.returns-clause-ok
-returns-clause-ok g c = λ b before start agrees told.
-    let was = c.loop-line.invariant.told b before start agrees told in
-    let spent : drop c.loop-line.line-index c.args.lines.now ≡ [] = drop_all c.loop-line.line-index c.args.lines.now (omega arith) in
-    let ends : WholeRun c.args.shape.now was.0 (drop c.loop-line.line-index c.args.lines.now) [] was.0 = rw spent refl in
-    (was.1, was.0, rw append-nil at (was.4 [] was.0 ends), was.3, was.2.0)
+returns-clause-ok g c = λ b h.
+    let was = c.loop-line.invariant.told b h in
+    let P : List Line → Type 0 = λ ls. Run c.args.shape.now b ls was.0 was.1 in
+    (was.0, was.1, subst P (take_all c.loop-line.line-index c.args.lines.now (omega arith)) was.2, was.3.0, was.4)

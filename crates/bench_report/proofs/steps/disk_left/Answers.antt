@@ -3,7 +3,7 @@ use Rattle.bench_report.specs.declared.power.Power.{Power}
 use Rattle.bench_report.specs.Below.{store_in, facts, mishaps, store_facts, store_mishaps}
 use Rattle.bench_report.specs.Agree.{Agrees}
 use Rattle.bench_report.proofs.Devices.{stays}
-use Rattle.bench_report.proofs.Ended.{ended}
+use Rattle.bench_report.proofs.Ended.{board_ended}
 use Rattle.bench_report.proofs.steps.disk_left.Goals as goal
 
 pub returns-in-Off-clause-told : goal.returns-in-Off-clause-told
@@ -13,4 +13,7 @@ pub returns-in-On-clause-told : goal.returns-in-On-clause-told
 returns-in-On-clause-told c = λ size b h.
     let P : Power → Type 0 = λ p. Agrees size b p in
     let was = subst P c.in-On.is h in
-    (refl, ended size b.medium b.power (store_in c.in-On.board) (facts c.into_disk.result) was.0 c.into_disk.ensures.up c.into_disk.ensures.down, stays size b (store_mishaps (store_in c.in-On.board)) (mishaps c.into_disk.result) (store_facts (store_in c.in-On.board)) (facts c.into_disk.result) was.1 c.into_disk.ensures.mishaps (omega (arith, c.into_disk.ensures.failures)) (ap length c.into_disk.ensures.content))
+    let board = c.in-On.board in
+    let left = c.into_disk.result in
+    let device = stays size b (store_mishaps (store_in board)) (mishaps left) (store_facts (store_in board)) (facts left) was.1 c.into_disk.ensures.mishaps (omega (arith, c.into_disk.ensures.failures)) (ap length c.into_disk.ensures.content) in
+    (refl, board_ended size b.medium b.kept b.power board (facts left) was.0 c.into_disk.ensures.up c.into_disk.ensures.down, device)

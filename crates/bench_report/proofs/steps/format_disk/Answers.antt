@@ -10,7 +10,7 @@ pub returns-in-Ok-clause-told : goal.returns-in-Ok-clause-told
 returns-in-Ok-clause-told c = λ b h.
     let did = c.in-Ok.ensures in
     let device = stays c.args.shape.now b (mishaps c.args.disk) (mishaps c.format.new.disk) (facts c.args.disk) (facts c.format.new.disk) h.2 did.unmoved did.no_fewer did.length in
-    formats_ok c.args.shape.now b.medium b c.args.disk c.format.new.disk c.says.result h.1 device c.says.ensures did.ok did.unmarked
+    formats_ok c.args.shape.now b.medium b c.args.disk c.format.new.disk c.says.result h.0 h.1 device c.says.ensures did.ok did.unmarked
 
 pub returns-in-Err-clause-told : goal.returns-in-Err-clause-told
 returns-in-Err-clause-told c = λ b h.

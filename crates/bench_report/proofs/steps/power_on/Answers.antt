@@ -6,13 +6,13 @@ use Rattle.store.specs.Stores.{found_state}
 use Rattle.bench_report.proofs.steps.power_on.Goals as goal
 
 pub returns-in-Ok-clause-told : goal.returns-in-Ok-clause-told
-returns-in-Ok-clause-told c = λ size b h.
+returns-in-Ok-clause-told c = λ size b h same.
     let did = c.in-Ok.ensures in
     let store = store_in c.in-Ok.board in
-    power_ok size c.args.mode b c.args.disk store (found_state store) (record { found = Some c.found.result; line = printed.On c.args.mode }) h did.found c.found.ensures refl did.life did.allowed.0 did.allowed.1 did.cause did.counts did.length
+    power_ok size c.args.mode b c.args.payloads.now c.args.disk c.in-Ok.board (found_state store) (record { found = Some c.found.result; line = printed.On c.args.mode }) h same did.found c.found.ensures refl did.boots did.life did.allowed.0 did.allowed.1 did.cause did.counts did.length
 
 pub returns-in-Err-clause-told : goal.returns-in-Err-clause-told
-returns-in-Err-clause-told c = λ size b h.
+returns-in-Err-clause-told c = λ size b h same.
     let did = c.in-Err.ensures in
     let e = c.in-Err.unpowered in
     unpowered size c.args.mode b c.args.disk e.disk c.args.payloads.now e.refusal c.code.result e.found h c.requires.short c.code.ensures did.refused did.unopened did.unopened_moments did.cause did.counts did.no_fewer did.length

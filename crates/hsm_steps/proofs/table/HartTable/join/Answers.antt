@@ -1,10 +1,13 @@
-use Rattle.std.proofs.Common.{◌≡◌, ◌++◌, List, [], ◌∷◌, sym, ap, ◌∙◌, append_assoc, rules}
+use Rattle.std.proofs.Common.{◌≡◌, ◌++◌, List, [], ◌∷◌, sym, ap, subst, ◌∙◌, append_assoc, rules}
 use Rattle.tallies.specs.Seats.{numbers_from}
 use Rattle.tallies.proofs.Seatings.{all_in_order, are_pop, is_some, last_seat}
 use Rattle.hsm_words.specs.Words.{numbers}
 use Rattle.hsm_words.specs.declared.view.HartView.{HartView}
 use Rattle.hsm_words.specs.declared.view.Crew.{Crew}
-use Rattle.hsm_steps.specs.Seating.{IsSeatOf, harts_in, all_harts}
+use Rattle.hsm_steps.specs.Seating.{IsSeatOf, harts_of, harts_in, all_harts}
+use Rattle.hsm_rule.specs.Rule.{stands}
+use Rattle.hsm_rule.specs.States.{IsSettled, Shows}
+use Rattle.hsm_steps.proofs.Lists.{stand_together}
 use Rattle.hsm_steps.proofs.table.HartTable.join.Goals as goal
 
 pub unwrap-whole-requires : goal.unwrap-whole-requires
@@ -43,4 +46,20 @@ loop-before-preserved c =
 pub returns-clause-all : goal.returns-clause-all
 returns-clause-all c = λ order count.
     let whole : harts_in c.loop-before.whole ≡ all_harts c.args.seats.items = search rules in
-    ap numbers whole ∙ (all_in_order harts_in (λ (v : HartView). v.hart) (IsSeatOf c.args.self.now) c.args.seats.items c.requires.seats order ∙ ap (numbers_from 0) count)
+    ap (λ (d : Crew). numbers d.harts) c.see.ensures.same ∙ (ap numbers whole ∙ (all_in_order harts_in (λ (v : HartView). v.hart) (IsSeatOf c.args.self.now) c.args.seats.items c.requires.seats order ∙ ap (numbers_from 0) count))
+
+pub returns-clause-stands : goal.returns-clause-stands
+returns-clause-stands c = λ order i s st at stood.
+    let whole : harts_in c.loop-before.whole ≡ all_harts c.args.seats.items = search rules in
+    subst (λ (vs : List HartView). stands i st vs) (sym (ap (λ (d : Crew). d.harts) c.see.ensures.same ∙ whole)) (stand_together c.args.seats.items order i s st at stood)
+
+pub returns-clause-harts : goal.returns-clause-harts
+returns-clause-harts c =
+    let whole : harts_in c.loop-before.whole ≡ all_harts c.args.seats.items = search rules in
+    ap (λ (d : Crew). d.harts) c.see.ensures.same ∙ whole
+
+pub returns-clause-shows : goal.returns-clause-shows
+returns-clause-shows c = λ settled.
+    let same = c.see.ensures.same in
+    let r = c.see.ensures.shows (λ h lt. subst (λ (d : Crew). IsSettled h d.harts) same (settled h lt)) in
+    (r.0, subst (λ (d : Crew). Shows (harts_of c.args.self.now) d r.0) (sym same) r.1)

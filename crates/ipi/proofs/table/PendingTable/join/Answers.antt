@@ -4,7 +4,8 @@ use Rattle.tallies.proofs.Seatings.{all_in_order, are_pop, is_some, last_seat}
 use Rattle.ipi.specs.Ledger.{numbers}
 use Rattle.ipi.specs.declared.view.Diary.{Diary}
 use Rattle.ipi.specs.declared.view.Crew.{Crew}
-use Rattle.ipi.specs.Seating.{IsSeatOf, diaries_in, all_diaries}
+use Rattle.ipi.specs.Seating.{IsSeatOf, harts_of, diaries_in, all_diaries}
+use Rattle.ipi.proofs.Computed.{shows_seen, whole_of}
 use Rattle.ipi.proofs.table.PendingTable.join.Goals as goal
 
 pub unwrap-whole-requires : goal.unwrap-whole-requires
@@ -44,3 +45,6 @@ pub returns-clause-all : goal.returns-clause-all
 returns-clause-all c = λ order count.
     let whole : diaries_in c.loop-before.whole ≡ all_diaries c.args.seats.items = search rules in
     ap numbers whole ∙ (all_in_order diaries_in (λ (d : Diary). d.hart) (IsSeatOf c.args.self.now) c.args.seats.items c.requires.seats order ∙ ap (numbers_from 0) count)
+
+pub returns-clause-shows : goal.returns-clause-shows
+returns-clause-shows c = λ order count. shows_seen (harts_of c.args.self.now) c.loop-before.whole.me.0 (whole_of (harts_of c.args.self.now) c.loop-before.whole.me.0 (returns-clause-all c order count))

@@ -1,0 +1,12 @@
+use Rattle.std.proofs.Common.{refl}
+use Rattle.hsm_rule.specs.States.{HartState, stopped}
+use Rattle.hsm.specs.Seen.{listed}
+use Rattle.sbi_calls.proofs.serves.stop.Goals as goal
+
+pub returns-clause-does : goal.returns-clause-does
+returns-clause-does c = let s = c.stop-harts.ensures.steps in (s.0, (s.1, refl), refl)
+
+pub returns-clause-alone : goal.returns-clause-alone
+returns-clause-alone c = λ t are.
+    let a = c.stop-harts.ensures.alone (listed t.states) are.0.1 in
+    (refl, (c.one_table.ensures.changed _ c.args.by (λ (x : HartState). stopped) _ t.states are.0.0 c.requires.by a.1, are.1))

@@ -1,0 +1,6 @@
+pub mod Same
+pub mod Both
+pub mod Requests
+pub mod Answers
+pub mod Steps
+pub mod Laws

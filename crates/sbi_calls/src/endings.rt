@@ -1,0 +1,54 @@
+//! How a call ends.
+
+ghost use Rattle.std.specs.Prelude.{◌≡◌};
+ghost use Rattle.sbi_calls.specs.Answers.{Ends};
+
+use board_model::Addr;
+use hart::Hart;
+use sbi_abi::{SbiRet, put};
+
+/// What a call leaves to the firmware.
+#[derive(Clone, Copy, Debug, PartialEq, Eq, Drop)]
+pub enum After {
+    /// The call was answered, and the hart goes on.
+    Goes,
+    /// The hart stopped.
+    Stopped,
+    /// The hart is suspended.
+    Suspended,
+}
+
+/// How a call ends.
+#[derive(Clone, Copy, Debug, PartialEq, Eq, Drop)]
+pub enum Ending {
+    /// It is answered so.
+    Answers(SbiRet),
+    /// The hart stops, and no answer comes.
+    Stops,
+    /// The hart is suspended, and finds SUCCESS when it wakes.
+    Suspends,
+    /// The hart is suspended, and wakes as one that starts at the address with the opaque value.
+    SuspendsAfresh(Addr, u64),
+}
+
+/// Gives the hart what the call ends with. What a suspended hart finds when it wakes is put at once.
+pub(crate) fn end(hart: &mut Hart, ending: Ending) -> After
+    ensures ends { Ends ending hart.old hart.new result }
+    ensures id { hart.new.id ≡ hart.old.id }
+{
+    match ending {
+        Ending::Answers(answer) => {
+            put(hart, answer);
+            After::Goes
+        }
+        Ending::Stops => After::Stopped,
+        Ending::Suspends => {
+            put(hart, Ok(0));
+            After::Suspended
+        }
+        Ending::SuspendsAfresh(site, opaque) => {
+            *hart = Hart::fresh(hart.id(), site.value(), opaque);
+            After::Suspended
+        }
+    }
+}

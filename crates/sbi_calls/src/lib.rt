@@ -1,0 +1,18 @@
+//! The SBI calls that make no durable command (SBI specification 2.0; docs/SBI.md): what each asks for once its
+//! arguments are checked, and its answer by the tables of harts and of interrupts. Nothing here waits, locks or takes
+//! memory.
+#![tactic(auto)]
+
+mod dispatches;
+mod endings;
+mod laws;
+mod requests;
+mod sends;
+mod serves;
+mod tables;
+
+pub use dispatches::dispatch;
+pub use endings::{After, Ending};
+pub use laws::one_table_of_answers;
+pub use requests::{Request, request_of};
+pub use tables::{Seats, Tables};

@@ -1,0 +1,16 @@
+use Rattle.std.proofs.Common.{◌≡◌, ◌∙◌, ◌≤◌, ◌-◌, ℕ, List, length, map, sym, ap, arith}
+use Rattle.std.proofs.lemmas.List.{length-map}
+use Rattle.std.proofs.Math.ListN.{get_or-map}
+use Rattle.board_model.specs.Durable.{Change}
+use Rattle.board_model.specs.Shown.{change_in}
+use Rattle.board_model.specs.declared.durable.Entry.{Entry}
+use Rattle.store.specs.Standing.{memory_in}
+use Rattle.store.proofs.stores.Store.entry.Goals as goal
+
+pub returns-clause-some : goal.returns-clause-some
+returns-clause-some g c =
+    let s = c.args.self.now in
+    let memory : List ℕ = memory_in s.shape s.current (g.D.Disk.facts s.disk).content in
+    let told : Entry → Change = λ e. change_in e memory in
+    let long : length (map told s.journal.items) ≡ length s.journal.items = length-map s.journal.items told in
+    (omega (arith, c.if-number-eq0.false), omega (arith, c.if-len-number.false, c.len.ensures, long), (memory, get_or-map told s.journal.items (c.args.number - 1) c.index.result.now ∙ ap told (sym c.index.ensures)))

@@ -1,0 +1,127 @@
+-- What a look at the own state tells of a hart between two turns, and what a turn comes to.
+use Rattle.std.proofs.Common.{◌≡◌, ◌≢◌, ◌⊎◌, ◌↔◌, ℕ, zero, suc, Bool, true, false, true≢false, IsTrue, List, [], ◌∷◌, Some, None, Option, refl, sym, ap, ◌∙◌, subst, ⊎_elim, inl, get_or}
+use Rattle.hsm_words.specs.declared.view.Stage.TheVariants.{Out, Running, Asleep}
+use Rattle.hsm_words.specs.declared.view.HartView.{HartView}
+use Rattle.hsm_rule.specs.Rule.{stands}
+use Rattle.hsm_rule.specs.States.{HartState, stopped, start_pending, started, suspended, entry}
+use Rattle.hsm.specs.Calls.{Sits as SitsIn, IsOwnStatus, named}
+use Rattle.hsm.specs.declared.state.State.{State}
+use Rattle.hsm.specs.declared.state.State.TheVariants as codes
+use Rattle.ipi.specs.declared.view.Crew.{Crew}
+use Rattle.ipi.specs.Pairs.{Shows, ActsAlone}
+use Rattle.ipi.specs.Seen.{ArePairs, pair_at, row_of}
+use Rattle.sbi_calls.specs.declared.tables.Tables.{Tables}
+use Rattle.sbi_calls.specs.declared.tables.Seats.{Seats}
+use Rattle.sbi_calls.specs.Both.{GivesBack}
+use Rattle.turns.specs.Turns.{RestsAt, IsOutside, has_true, is_pending}
+
+-- ---- where the hart stands
+pub sits : (h : ℕ) (vs : List HartView) → RestsAt h vs → SitsIn h vs
+sits h vs r = ⊎_elim (λ (o : stands h Out vs). (Out, o)) (⊎_elim (λ (o : stands h Running vs). (Running, o)) (λ (o : stands h Asleep vs). (Asleep, o))) r
+
+pub runs : (h : ℕ) (vs : List HartView) (x : State) → IsOwnStatus h vs x → RestsAt h vs → x ≡ codes.Started → stands h Running vs
+runs h vs x own r e =
+    ⊎_elim
+    (λ (o : stands h Out vs). ⊎_elim (λ (p : x ≡ codes.Stopped). absurd (let z = sym p ∙ e in let n : ⊥ = cc in n)) (λ (p : x ≡ codes.StartPending). absurd (let z = sym p ∙ e in let n : ⊥ = cc in n)) (own.outside o))
+    (⊎_elim
+    (λ (o : stands h Running vs). o)
+    (λ (o : stands h Asleep vs). absurd (let p = own.asleep o in let z = sym p ∙ e in let n : ⊥ = cc in n)))
+    r
+
+pub sleeps : (h : ℕ) (vs : List HartView) (x : State) → IsOwnStatus h vs x → RestsAt h vs → x ≡ codes.Suspended → stands h Asleep vs
+sleeps h vs x own r e =
+    ⊎_elim
+    (λ (o : stands h Out vs). ⊎_elim (λ (p : x ≡ codes.Stopped). absurd (let z = sym p ∙ e in let n : ⊥ = cc in n)) (λ (p : x ≡ codes.StartPending). absurd (let z = sym p ∙ e in let n : ⊥ = cc in n)) (own.outside o))
+    (⊎_elim
+    (λ (o : stands h Running vs). absurd (let p = own.started (inl o) in let z = sym p ∙ e in let n : ⊥ = cc in n))
+    (λ (o : stands h Asleep vs). o))
+    r
+
+abbrev pub IsOutCode : State → Type 0
+IsOutCode x = (x ≡ codes.Stopped) ⊎ (x ≡ codes.StartPending)
+
+not_out : (x : State) → IsOutCode x → (x ≢ codes.Started) × (x ≢ codes.Suspended)
+not_out x e =
+    ⊎_elim
+    (λ (p : x ≡ codes.Stopped). ((λ q. let z = sym p ∙ q in let n : ⊥ = cc in n), (λ q. let z = sym p ∙ q in let n : ⊥ = cc in n)))
+    (λ (p : x ≡ codes.StartPending). ((λ q. let z = sym p ∙ q in let n : ⊥ = cc in n), (λ q. let z = sym p ∙ q in let n : ⊥ = cc in n)))
+    e
+
+pub is_out : (h : ℕ) (vs : List HartView) (x : State) → IsOwnStatus h vs x → RestsAt h vs → IsOutCode x → stands h Out vs
+is_out h vs x own r e =
+    let n = not_out x e in
+    ⊎_elim
+    (λ (o : stands h Out vs). o)
+    (⊎_elim
+    (λ (o : stands h Running vs). absurd (n.0 (own.started (inl o))))
+    (λ (o : stands h Asleep vs). absurd (n.1 (own.asleep o))))
+    r
+
+pub gives_then : (t : Tables) (by : ℕ) (a b c : Seats) → GivesBack t by a b → GivesBack t by b c → GivesBack t by a c
+gives_then t by a b c p q = record {
+  seats = q.seats;
+  others = record { harts = q.others.harts ∙ p.others.harts; stages = λ k st ne s. q.others.stages k st ne (p.others.stages k st ne s) };
+  pairs = record { harts = q.pairs.harts ∙ p.pairs.harts; each = λ h. q.pairs.each h ∙ p.pairs.each h };
+}
+
+-- ---- the own state, by its name
+pub is_started : (y : HartState) → named y ≡ codes.Started → y ≡ started
+is_started stopped e = absurd (cc)
+is_started (start_pending a o) e = absurd (cc)
+is_started started e = refl
+is_started suspended e = absurd (cc)
+
+pub is_suspended : (y : HartState) → named y ≡ codes.Suspended → y ≡ suspended
+is_suspended stopped e = absurd (cc)
+is_suspended (start_pending a o) e = absurd (cc)
+is_suspended started e = absurd (cc)
+is_suspended suspended e = refl
+
+pub named_out : (y : HartState) → IsOutCode (named y) → IsOutside y
+named_out stopped e = tt
+named_out (start_pending a o) e = tt
+named_out started e = absurd ((not_out codes.Started e).0 refl)
+named_out suspended e = absurd ((not_out codes.Suspended e).1 refl)
+
+abbrev arguments : Option (ℕ × ℕ) → ℕ × ℕ
+arguments None = (0, 0)
+arguments (Some p) = p
+
+pub none_is : (y : HartState) → IsOutside y → None ≡ entry y → y ≡ stopped
+none_is stopped is e = refl
+none_is (start_pending a o) is e = absurd (cc)
+none_is started is e = absurd is
+none_is suspended is e = absurd is
+
+pub some_is : (p : ℕ × ℕ) (y : HartState) → Some p ≡ entry y → y ≡ start_pending p.0 p.1
+some_is p stopped e = absurd (cc)
+some_is p (start_pending b d) e = ap (λ (x : Option (ℕ × ℕ)). start_pending (arguments x).0 (arguments x).1) (sym e)
+some_is p started e = absurd (cc)
+some_is p suspended e = absurd (cc)
+
+-- ---- pending interrupts
+some_true : (bs : List Bool) → has_true bs ≡ true → (k : ℕ) × (get_or bs k false ≡ true)
+some_true [] e = absurd (true≢false (sym e))
+some_true (true ∷ bs) e = (0, refl)
+some_true (false ∷ bs) e = let r = some_true bs e in (suc r.0, r.1)
+
+is_true : (bs : List Bool) (k : ℕ) → get_or bs k false ≡ true → has_true bs ≡ true
+is_true [] zero e = absurd (true≢false (sym e))
+is_true [] (suc k) e = absurd (true≢false (sym e))
+is_true (true ∷ bs) k e = refl
+is_true (false ∷ bs) zero e = absurd (true≢false (sym e))
+is_true (false ∷ bs) (suc k) e = is_true bs k e
+
+same_bool : (a b : Bool) → (a ≡ true → b ≡ true) → (b ≡ true → a ≡ true) → a ≡ b
+same_bool true true f g = refl
+same_bool true false f g = sym (f refl)
+same_bool false true f g = g refl
+same_bool false false f g = refl
+
+pub looked : (n m by : ℕ) (c c' : Crew) (found : Bool) → n ≡ m → ActsAlone n c c' (λ pairs. IsTrue found ↔ ((sender : ℕ) × IsTrue (pairs sender by))) (λ pairs. pairs)
+    → (pairs : List (List Bool)) → ArePairs m c pairs → (found ≡ is_pending by pairs) × ArePairs m c' pairs
+looked n m by c c' found e acts pairs are =
+    let a = acts (pair_at pairs) (subst (λ (k : ℕ). Shows k c (pair_at pairs)) (sym e) are.1) in (
+      same_bool found (is_pending by pairs) (λ r. let s = a.0.0 r in is_true (row_of pairs by) s.0 s.1) (λ h. a.0.1 (some_true (row_of pairs by) h)),
+      (are.0, subst (λ (k : ℕ). Shows k c' (pair_at pairs)) e a.1),
+    )

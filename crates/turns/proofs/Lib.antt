@@ -1,0 +1,3 @@
+pub mod Begun
+pub mod OneTurn
+pub mod Running

@@ -1,0 +1,70 @@
+use Rattle.std.proofs.Common.{◌≡◌, Bool, List, refl, sym, ap, ◌∙◌, subst}
+use Rattle.hsm_words.specs.declared.view.HartView.{HartView}
+use Rattle.hsm_words.specs.declared.view.Stage.TheVariants.{Running}
+use Rattle.hsm_rule.specs.Rule.{stands}
+use Rattle.hsm_rule.specs.States.{HartState}
+use Rattle.hsm_steps.specs.Seating.{harts_in}
+use Rattle.hsm.specs.Seen.{listed}
+use Rattle.sbi_calls.specs.Both.{harts_of, views, IsTable}
+use Rattle.turns.specs.declared.words.Ready.TheVariants as readies
+use Rattle.turns.specs.Turns.{begun_by}
+use Rattle.turns.proofs.Begun.{sits, runs, sleeps, is_out, gives_then, is_started, is_suspended, named_out, IsOutCode}
+use Rattle.turns.proofs.begins.begin.Goals as goal
+
+pub status-harts-requires-clause-acts : goal.status-harts-requires-clause-acts
+status-harts-requires-clause-acts c = sits c.args.by (views c.args.seats) c.requires.rests.0
+
+pub wake-requires-clause-acts : goal.wake-requires-clause-acts
+wake-requires-clause-acts c = (
+  c.status-harts.ensures.stays.stages _ _ (sleeps c.args.by (views c.args.seats) c.status-harts.result.1 c.status-harts.ensures.fresh c.requires.rests.0 c.in-Suspended.is),
+  c.requires.rests.1,
+)
+
+pub enter-requires-clause-acts : goal.enter-requires-clause-acts
+enter-requires-clause-acts c = (
+  c.status-harts.ensures.stays.stages _ _ (is_out c.args.by (views c.args.seats) c.status-harts.result.1 c.status-harts.ensures.fresh c.requires.rests.0 c.in-Stopped.is),
+  c.requires.rests.1,
+)
+
+pub returns-in-Started-clause-gives : goal.returns-in-Started-clause-gives
+returns-in-Started-clause-gives c = let kept = c.status-harts.ensures.stays in
+    gives_then c.args.tables.now c.args.by c.args.seats (record { harts = c.status-harts.result.0; pending = c.args.seats.pending }) c.look-seats.result.0
+    (record { seats = (c.status-harts.ensures.seat, c.requires.seats.1); others = record { harts = kept.harts; stages = λ k st ne s. kept.stages k st s }; pairs = record { harts = refl; each = λ h. refl } })
+    c.look-seats.ensures.gives
+
+pub returns-in-Started-clause-rests : goal.returns-in-Started-clause-rests
+returns-in-Started-clause-rests c = (
+  subst (λ (v : List HartView). stands c.args.by Running v) (sym (ap harts_in c.look-seats.ensures.harts))
+      (c.status-harts.ensures.stays.stages _ _ (runs c.args.by (views c.args.seats) c.status-harts.result.1 c.status-harts.ensures.fresh c.requires.rests.0 c.in-Started.is)),
+  c.look-seats.ensures.gives.pairs.each c.args.by ∙ c.requires.rests.1,
+)
+
+pub returns-in-Started-clause-alone : goal.returns-in-Started-clause-alone
+returns-in-Started-clause-alone c = λ t are.
+    let a = c.status-harts.ensures.alone (listed t.states) are.0.1 in
+    let e = is_started (listed t.states c.args.by) (sym a.0 ∙ c.in-Started.is) in
+    let l = c.look-seats.ensures.alone t ((are.0.0, a.1), are.1) in
+    subst (λ (y : HartState). (readies.Steps c.look-seats.result.1 ≡ (begun_by c.args.by t y).ready) × IsTable (harts_of c.args.tables.now) c.look-seats.result.0 (begun_by c.args.by t y).table) (sym e)
+    (ap (λ (b : Bool). readies.Steps b) l.0, l.1)
+
+pub returns-in-Suspended-clause-gives : goal.returns-in-Suspended-clause-gives
+returns-in-Suspended-clause-gives c = let kept = c.status-harts.ensures.stays in
+    gives_then c.args.tables.now c.args.by c.args.seats (record { harts = c.status-harts.result.0; pending = c.args.seats.pending }) c.wake.result.0
+    (record { seats = (c.status-harts.ensures.seat, c.requires.seats.1); others = record { harts = kept.harts; stages = λ k st ne s. kept.stages k st s }; pairs = record { harts = refl; each = λ h. refl } })
+    c.wake.ensures.gives
+
+pub returns-in-Suspended-clause-alone : goal.returns-in-Suspended-clause-alone
+returns-in-Suspended-clause-alone c = λ t are.
+    let a = c.status-harts.ensures.alone (listed t.states) are.0.1 in
+    c.wake.ensures.alone t ((are.0.0, a.1), are.1) (is_suspended (listed t.states c.args.by) (sym a.0 ∙ c.in-Suspended.is))
+
+pub returns-in-Stopped-clause-gives : goal.returns-in-Stopped-clause-gives
+returns-in-Stopped-clause-gives c = let kept = c.status-harts.ensures.stays in
+    gives_then c.args.tables.now c.args.by c.args.seats (record { harts = c.status-harts.result.0; pending = c.args.seats.pending }) c.enter.result.0
+    (record { seats = (c.status-harts.ensures.seat, c.requires.seats.1); others = record { harts = kept.harts; stages = λ k st ne s. kept.stages k st s }; pairs = record { harts = refl; each = λ h. refl } })
+    c.enter.ensures.gives
+
+pub returns-in-Stopped-clause-alone : goal.returns-in-Stopped-clause-alone
+returns-in-Stopped-clause-alone c = λ t are.
+    let a = c.status-harts.ensures.alone (listed t.states) are.0.1 in
+    c.enter.ensures.alone t ((are.0.0, a.1), are.1) (named_out (listed t.states c.args.by) (subst IsOutCode a.0 c.in-Stopped.is))

@@ -1,0 +1,41 @@
+use Rattle.std.proofs.Common.{◌≡◌, List, refl, sym, ap, ◌∙◌, subst}
+use Rattle.std.specs.Prelude.{slice_set}
+use Rattle.std.proofs.lemmas.List.{set-get_or}
+use Rattle.hsm_rule.specs.States.{HartState, stopped, started, begin}
+use Rattle.hsm.specs.Seen.{listed, AreStates}
+use Rattle.sbi_calls.specs.declared.tables.Seats.{Seats}
+use Rattle.sbi_calls.specs.Both.{harts_of, crew, IsTable}
+use Rattle.sbi_calls.specs.Answers.{with_state}
+use Rattle.turns.specs.declared.words.Ready.TheVariants as readies
+use Rattle.turns.specs.Turns.{begun_by}
+use Rattle.turns.proofs.Begun.{gives_then, none_is, some_is}
+use Rattle.turns.proofs.begins.enter.Goals as goal
+
+pub returns-in-None-clause-alone : goal.returns-in-None-clause-alone
+returns-in-None-clause-alone c = λ t are out.
+    let n = harts_of c.args.tables.now in
+    let s : Seats = record { harts = c.try_enter-harts.result.0; pending = c.args.seats.pending } in
+    let a = c.try_enter-harts.ensures.alone (listed t.states) are.0.1 in
+    let e = none_is (listed t.states c.args.by) out (sym c.in-None.is ∙ a.0) in
+    let are_begun = c.one_table.ensures.changed n c.args.by begin _ t.states are.0.0 c.requires.by a.1 in
+    let same = ap (λ (y : HartState). slice_set t.states c.args.by (begin y)) e ∙ (ap (λ (y : HartState). slice_set t.states c.args.by y) (sym e) ∙ set-get_or t.states c.args.by stopped) in
+    let kept : AreStates n (crew s) t.states = subst (λ (l : List HartState). AreStates n (crew s) l) same are_begun in
+    subst (λ (y : HartState). (readies.Idle ≡ (begun_by c.args.by t y).ready) × IsTable n s (begun_by c.args.by t y).table) (sym e) (refl, (kept, are.1))
+
+pub returns-in-Some-clause-gives : goal.returns-in-Some-clause-gives
+returns-in-Some-clause-gives c =
+    gives_then c.args.tables.now c.args.by c.args.seats (record { harts = c.try_enter-harts.result.0; pending = c.args.seats.pending }) c.take.result
+    (record { seats = (c.try_enter-harts.ensures.seat, c.requires.seats.1); others = c.try_enter-harts.ensures.others; pairs = record { harts = refl; each = λ h. refl } })
+    c.take.ensures.gives
+
+pub returns-in-Some-clause-alone : goal.returns-in-Some-clause-alone
+returns-in-Some-clause-alone c = λ t are out.
+    let n = harts_of c.args.tables.now in
+    let s : Seats = record { harts = c.try_enter-harts.result.0; pending = c.args.seats.pending } in
+    let p = c.in-Some.start in
+    let a = c.try_enter-harts.ensures.alone (listed t.states) are.0.1 in
+    let e = some_is p (listed t.states c.args.by) (sym c.in-Some.is ∙ a.0) in
+    let are_begun = c.one_table.ensures.changed n c.args.by begin _ t.states are.0.0 c.requires.by a.1 in
+    let runs : AreStates n (crew s) (slice_set t.states c.args.by started) = subst (λ (l : List HartState). AreStates n (crew s) l) (ap (λ (y : HartState). slice_set t.states c.args.by (begin y)) e) are_begun in
+    subst (λ (y : HartState). (readies.Enters p.0 p.1 ≡ (begun_by c.args.by t y).ready) × IsTable n c.take.result (begun_by c.args.by t y).table) (sym e)
+    (refl, c.take.ensures.alone (with_state t c.args.by started) (runs, are.1))

@@ -1,0 +1,35 @@
+use Rattle.std.proofs.Common.{◌≡◌, Bool, refl, sym, ◌∙◌, subst}
+use Rattle.hsm_rule.specs.States.{HartState, started}
+use Rattle.hsm.specs.Seen.{listed}
+use Rattle.sbi_calls.specs.declared.tables.Seats.{Seats}
+use Rattle.sbi_calls.specs.Both.{harts_of, IsTable}
+use Rattle.turns.specs.declared.words.Ready.TheVariants as readies
+use Rattle.turns.specs.Turns.{begun_by, woken}
+use Rattle.turns.proofs.Begun.{gives_then}
+use Rattle.turns.proofs.begins.wake.Goals as goal
+
+pub returns-then-wakes-clause-gives : goal.returns-then-wakes-clause-gives
+returns-then-wakes-clause-gives c =
+    gives_then c.args.tables.now c.args.by c.args.seats c.look-seats.result.0 (record { harts = c.wake-harts.result; pending = c.look-seats.result.0.pending })
+    c.look-seats.ensures.gives
+    (record { seats = (c.wake-harts.ensures.seat, c.look-seats.ensures.gives.seats.1); others = c.wake-harts.ensures.others; pairs = record { harts = refl; each = λ h. refl } })
+
+pub returns-then-wakes-clause-alone : goal.returns-then-wakes-clause-alone
+returns-then-wakes-clause-alone c = λ t are e.
+    let n = harts_of c.args.tables.now in
+    let s : Seats = record { harts = c.wake-harts.result; pending = c.look-seats.result.0.pending } in
+    let l = c.look-seats.ensures.alone t are in
+    let a = c.wake-harts.ensures.alone (listed t.states) l.1.0.1 in
+    let states = c.one_table.ensures.changed n c.args.by (λ (x : HartState). started) _ t.states l.1.0.0 c.requires.by a.1 in
+    let p = sym l.0 ∙ c.if-wakes.true in
+    subst (λ (y : HartState). (readies.Woke ≡ (begun_by c.args.by t y).ready) × IsTable n s (begun_by c.args.by t y).table) (sym e)
+    (subst (λ (b : Bool). (readies.Woke ≡ (woken b c.args.by t).ready) × IsTable n s (woken b c.args.by t).table) (sym p) (refl, (states, l.1.1)))
+
+pub returns-else-wakes-clause-alone : goal.returns-else-wakes-clause-alone
+returns-else-wakes-clause-alone c = λ t are e.
+    let n = harts_of c.args.tables.now in
+    let s = c.look-seats.result.0 in
+    let l = c.look-seats.ensures.alone t are in
+    let p = sym l.0 ∙ c.if-wakes.false in
+    subst (λ (y : HartState). (readies.Idle ≡ (begun_by c.args.by t y).ready) × IsTable n s (begun_by c.args.by t y).table) (sym e)
+    (subst (λ (b : Bool). (readies.Idle ≡ (woken b c.args.by t).ready) × IsTable n s (woken b c.args.by t).table) (sym p) (refl, l.1))

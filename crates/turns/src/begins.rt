@@ -1,0 +1,106 @@
+//! What comes before the step of a turn.
+
+ghost use Rattle.std.specs.Prelude.{◌≡◌, ◌<◌};
+ghost use Rattle.hsm_words.specs.declared.view.Stage.TheVariants.{Out, Running, Asleep};
+ghost use Rattle.ipi.specs.Pairs.{Sits};
+ghost use Rattle.sbi_calls.specs.Both.{AreSeatsOf, GivesBack, Acts, harts_of, pair_crew};
+ghost use Rattle.turns.specs.Turns.{Rests, RestsAs, BeginsAlone, LooksAlone, TakesAlone, EntersAlone, WakesAlone};
+
+use crate::words::Ready;
+use board_model::HartId;
+use hsm::State;
+use sbi_calls::{Seats, Tables};
+
+/// Whether an interrupt is pending for the hart, by one look.
+#[inline(always)]
+fn look(seats: Seats, tables: &Tables, by: HartId) -> (Seats, bool)
+    requires seats { AreSeatsOf tables.now seats }
+    requires by { by < harts_of tables.now }
+    requires sits { Sits by (pair_crew seats) }
+    ensures gives { GivesBack tables.entry.now by seats result.0 }
+    ensures harts { result.0.harts ≡ seats.harts }
+    ensures alone { LooksAlone (harts_of tables.entry.now) by seats result.0 result.1 }
+{
+    let Seats { harts, pending } = seats;
+    let (pending, is) = tables.pending.pending(pending, by);
+    (Seats { harts, pending }, is)
+}
+
+/// Takes what is pending for the hart, in one step.
+pub(crate) fn take(seats: Seats, tables: &Tables, by: HartId) -> Seats
+    requires seats { AreSeatsOf tables.now seats }
+    requires by { by < harts_of tables.now }
+    requires sits { Sits by (pair_crew seats) }
+    ensures gives { GivesBack tables.entry.now by seats result }
+    ensures harts { result.harts ≡ seats.harts }
+    ensures alone { TakesAlone (harts_of tables.entry.now) by seats result }
+{
+    ipi::one_set();
+    let Seats { harts, pending } = seats;
+    let (pending, _) = tables.pending.take(pending, by);
+    Seats { harts, pending }
+}
+
+/// Enters, where the hart is START_PENDING, and takes what is pending for it.
+fn enter(seats: Seats, tables: &Tables, by: HartId) -> (Seats, Ready)
+    requires seats { AreSeatsOf tables.now seats }
+    requires by { by < harts_of tables.now }
+    requires acts { Acts by Out seats }
+    ensures gives { GivesBack tables.entry.now by seats result.0 }
+    ensures rests { RestsAs by result.1 result.0 }
+    ensures alone { EntersAlone (harts_of tables.entry.now) by seats result.0 result.1 }
+{
+    hsm::one_table();
+    let Seats { harts, pending } = seats;
+    let (harts, entry) = hsm::try_enter(&tables.harts, harts, by);
+    let seats = Seats { harts, pending };
+    match entry {
+        None => (seats, Ready::Idle),
+        Some(start) => (take(seats, tables, by), Ready::Enters(start.0, start.1)),
+    }
+}
+
+/// Wakes the suspended hart where an interrupt is pending for it, which stays.
+fn wake(seats: Seats, tables: &Tables, by: HartId) -> (Seats, Ready)
+    requires seats { AreSeatsOf tables.now seats }
+    requires by { by < harts_of tables.now }
+    requires acts { Acts by Asleep seats }
+    ensures gives { GivesBack tables.entry.now by seats result.0 }
+    ensures rests { RestsAs by result.1 result.0 }
+    ensures alone { WakesAlone (harts_of tables.entry.now) by seats result.0 result.1 }
+{
+    hsm::one_table();
+    let (seats, wakes) = look(seats, tables, by);
+    if wakes {
+        let Seats { harts, pending } = seats;
+        let harts = hsm::wake(&tables.harts, harts, by);
+        (Seats { harts, pending }, Ready::Woke)
+    } else {
+        (seats, Ready::Idle)
+    }
+}
+
+/// What a turn of the hart comes to before the step, by one look at its own state: a STOPPED hart is idle; one that is
+/// START_PENDING enters where its start is armed; a suspended one wakes where an interrupt is pending for it; a STARTED
+/// one makes a step, for which one more look says whether an interrupt is pending.
+#[inline(always)]
+pub fn begin(seats: Seats, tables: &Tables, by: HartId) -> (Seats, Ready)
+    requires seats { AreSeatsOf tables.now seats }
+    requires by { by < harts_of tables.now }
+    requires rests { Rests by seats }
+    ensures gives { GivesBack tables.entry.now by seats result.0 }
+    ensures rests { RestsAs by result.1 result.0 }
+    ensures alone { BeginsAlone (harts_of tables.entry.now) by seats result.0 result.1 }
+{
+    let Seats { harts, pending } = seats;
+    let (harts, state) = hsm::status(&tables.harts, harts, by, by);
+    let seats = Seats { harts, pending };
+    match state {
+        State::Started => {
+            let (seats, pending) = look(seats, tables, by);
+            (seats, Ready::Steps(pending))
+        }
+        State::Suspended => wake(seats, tables, by),
+        State::Stopped | State::StartPending => enter(seats, tables, by),
+    }
+}

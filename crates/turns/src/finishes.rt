@@ -1,0 +1,50 @@
+//! What comes after the step of a turn.
+
+ghost use Rattle.std.specs.Prelude.{◌≡◌, ◌<◌};
+ghost use Rattle.hsm_words.specs.declared.view.Stage.TheVariants.{Running};
+ghost use Rattle.sbi_calls.specs.Both.{AreTablesOf, AreSeatsOf, GivesBack, Acts};
+ghost use Rattle.turns.specs.Turns.{Rests, FinishesAlone, turned_by};
+
+use crate::begins::take;
+use crate::words::Turned;
+use board_model::Shape;
+use hart::{Hart, Outcome};
+use sbi_calls::{After, Seats, Tables, dispatch};
+
+fn told(after: After) -> Turned
+    ensures { result ≡ turned_by after }
+{
+    match after {
+        After::Goes => Turned::Next,
+        After::Stopped => Turned::Stopped,
+        After::Suspended => Turned::Suspended,
+    }
+}
+
+/// What comes after the step: the call at which the hart stands is dispatched, and what the hart took is taken.
+#[inline(always)]
+pub fn finish(
+    outcome: Outcome,
+    hart: &mut Hart,
+    seats: Seats,
+    tables: &Tables,
+    shape: &Shape,
+) -> (Seats, Turned)
+    requires tables { AreTablesOf shape.now tables.now }
+    requires seats { AreSeatsOf tables.now seats }
+    requires hart { hart.old.id < shape.now.harts }
+    requires acts { Acts hart.old.id Running seats }
+    ensures gives { GivesBack tables.entry.now hart.old.id seats result.0 }
+    ensures rests { Rests hart.old.id result.0 }
+    ensures id { hart.new.id ≡ hart.old.id }
+    ensures alone { FinishesAlone shape.now outcome hart.old hart.new seats result.0 result.1 }
+{
+    match outcome {
+        Outcome::Next => (seats, Turned::Next),
+        Outcome::TakePending => (take(seats, tables, hart.id()), Turned::Next),
+        Outcome::Ecall => {
+            let (seats, after) = dispatch(hart, seats, tables, shape);
+            (seats, told(after))
+        }
+    }
+}
