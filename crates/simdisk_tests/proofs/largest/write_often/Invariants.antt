@@ -3,4 +3,4 @@ use Rattle.simdisk.specs.contracts.device.SimDiskDisk.TheImpl as sim_disk
 use Rattle.simdisk_tests.proofs.largest.write_often.Given as goal
 
 abbrev pub invariant-loop : goal.invariant-loop
-invariant-loop l = (sim_disk.ghosts.facts l.disk).lent.lanes ≡ 0
+invariant-loop g l = (sim_disk.ghosts.facts l.disk).lent.lanes ≡ 0
