@@ -1,0 +1,3 @@
+pub mod Resets
+pub mod Asked
+pub mod Helds
