@@ -1,3 +1,2 @@
 pub mod Resets
-pub mod Asked
 pub mod Helds
