@@ -1,5 +1,5 @@
 -- The laws of the store, for the disk in memory.
-use Rattle.std.specs.Prelude.{◌≡◌, ◌⊎◌, ◌≤◌, ◌<◌, ℕ, length, replicate, ⊥}
+use Rattle.std.specs.Prelude.{◌≡◌, ◌⊎◌, ◌≤◌, ◌<◌, ℕ, length, replicate}
 use Rattle.board_model.specs.Durable.{State}
 use Rattle.board_model.specs.Shapes.{Size, IsSize, sectors_of}
 use Rattle.board_model.specs.declared.refusal.Refusal.{Refusal}

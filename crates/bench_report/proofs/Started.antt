@@ -35,7 +35,7 @@ use Rattle.bench_report.proofs.Opening.{opens, open_err}
 use Rattle.bench_report.proofs.Table.{mode_not_device, mode_not_down}
 
 pub roomy : (size : Size) (payloads : List (List ℕ)) → IsSize size → AreShort payloads → Fits size payloads
-roomy size payloads is short = λ k d lt. omega (arith, is.2.0, short k d lt)
+roomy size payloads is short = λ k d lt. omega (arith, is.2, short k d lt)
 
 no_doubt : (e : Refusal) → e ≢ Down → doubt_after e ≡ None
 no_doubt Down up = absurd (up refl)
