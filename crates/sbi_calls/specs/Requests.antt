@@ -10,7 +10,7 @@ use Rattle.sbi_abi.specs.declared.call.Call.TheVariants as calls
 use Rattle.sbi_abi.specs.declared.ret.SbiError.{SbiError}
 use Rattle.sbi_abi.specs.declared.ret.SbiError.TheVariants.{NotSupported, InvalidParam, InvalidAddress}
 use Rattle.sbi_calls.specs.declared.requests.Request.{Request}
-use Rattle.sbi_calls.specs.declared.requests.Request.TheVariants.{Value, Start, Stop, Status, Suspend, SuspendAfresh, Send, Command}
+use Rattle.sbi_calls.specs.declared.requests.Request.TheVariants.{Value, Start, Stop, Status, Suspend, SuspendAfresh, Send}
 
 abbrev pub Checked : Type 0
 Checked = Result Request SbiError
@@ -29,7 +29,7 @@ has_calls None = 0
 has_calls (Some Base) = 1
 has_calls (Some Hsm) = 1
 has_calls (Some Ipi) = 1
-has_calls (Some Srst) = 1
+has_calls (Some Srst) = 0
 has_calls (Some Susp) = 0
 
 abbrev pub probed : ℕ → ℕ
@@ -59,8 +59,8 @@ request_of size calls.HartStop = Ok Stop
 request_of size (calls.HartStatus h) = checked (hart_in size h) (λ hart. Ok (Status hart))
 request_of size (calls.HartSuspend kind a o) = suspend_of (kind == 0) (kind == 0x80000000) size a o
 request_of size (calls.SendIpi mask base) = checked (targets_of mask base size.harts) (λ targets. Ok (Send targets))
-request_of size (calls.SystemReset kind reason) = Ok Command
-request_of size (calls.SystemSuspend kind a o) = Ok Command
+request_of size (calls.SystemReset kind reason) = Err NotSupported
+request_of size (calls.SystemSuspend kind a o) = Err NotSupported
 request_of size calls.Unknown = Err NotSupported
 
 -- a request names harts of the board alone
@@ -73,4 +73,3 @@ IsWithin harts (Ok (Status h)) = h < harts
 IsWithin harts (Ok Suspend) = Unit {0}
 IsWithin harts (Ok (SuspendAfresh a o)) = Unit {0}
 IsWithin harts (Ok (Send targets)) = Unit {0}
-IsWithin harts (Ok Command) = Unit {0}

@@ -16,8 +16,6 @@ pub enum After {
     Stopped,
     /// The hart is suspended.
     Suspended,
-    /// The call comes to a durable command. Nothing was done, and the hart still stands at it.
-    Durable,
 }
 
 /// How a call ends.
@@ -31,8 +29,6 @@ pub enum Ending {
     Suspends,
     /// The hart is suspended, and wakes as one that starts at the address with the opaque value.
     SuspendsAfresh(Addr, u64),
-    /// It is left as it is, for what has the store at hand.
-    Defers,
 }
 
 /// Gives the hart what the call ends with. What a suspended hart finds when it wakes is put at once.
@@ -54,6 +50,5 @@ pub(crate) fn end(hart: &mut Hart, ending: Ending) -> After
             *hart = Hart::fresh(hart.id(), site.value(), opaque);
             After::Suspended
         }
-        Ending::Defers => After::Durable,
     }
 }

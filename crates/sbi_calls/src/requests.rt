@@ -25,8 +25,6 @@ pub enum Request {
     SuspendAfresh(Addr, u64),
     /// An interrupt from the calling hart to each of these.
     Send(HartSet),
-    /// A durable command, if the arguments, the tables and the store allow it: what asks the store checks them.
-    Command,
 }
 
 /// The version of the specification: the major number 2 in bits 24 to 30, the minor number 0 below.
@@ -77,10 +75,7 @@ fn probed(extension: u64) -> u64
     ensures { result ≡ probed extension }
 {
     match Extension::at(extension) {
-        Some(Extension::Base)
-        | Some(Extension::Hsm)
-        | Some(Extension::Ipi)
-        | Some(Extension::Srst) => 1,
+        Some(Extension::Base) | Some(Extension::Hsm) | Some(Extension::Ipi) => 1,
         _ => 0,
     }
 }
@@ -145,8 +140,6 @@ pub fn request_of(call: Call, shape: &Shape) -> Result<Request, SbiError>
             Call::HartStatus { hart } => status(shape, hart),
             Call::HartSuspend { kind, address, opaque } => suspend(shape, kind, address, opaque),
             Call::SendIpi { mask, base } => send(shape, mask, base),
-            Call::SystemReset { .. } => Ok(Request::Command),
-            Call::SystemSuspend { .. } => Ok(Request::Command),
         }
     )
 }

@@ -67,7 +67,7 @@ fn probe_is_1_for_what_is_there(rt: HostRuntime) {
         (0x10, 1),
         (0x48534d, 1),
         (0x735049, 1),
-        (0x53525354, 1),
+        (0x53525354, 0),
         (0x53555350, 0),
         (0x54494d45, 0),
         (0x1_0000_0010, 0),
@@ -121,19 +121,17 @@ fn a_suspend_has_two_types(rt: HostRuntime) {
     }
 }
 
-// Its arguments are checked by what asks the store.
 #[test]
-fn a_durable_command_is_left_as_it_is(rt: HostRuntime) {
-    let reset = Call::SystemReset { kind: 9, reason: 9 };
+fn what_is_not_built_is_not_supported(rt: HostRuntime) {
+    let reset = Call::SystemReset { kind: 0, reason: 0 };
     let sleep = Call::SystemSuspend {
-        kind: 9,
-        address: 1,
+        kind: 0x8000_0001,
+        address: RAM,
         opaque: 0,
     };
-    for call in [reset, sleep] {
-        same(&rt, asked(&rt, call), Ok(Request::Command));
+    for call in [Call::Unknown, reset, sleep] {
+        same(&rt, asked(&rt, call), Err(SbiError::NotSupported));
     }
-    same(&rt, asked(&rt, Call::Unknown), Err(SbiError::NotSupported));
 }
 
 // A mask that names a hart past the board is refused, an empty one is not.
