@@ -73,7 +73,18 @@ fn sleep<D: Disk + Drop, C: Crew>(
 {
     let Seats { harts, pending } = seats;
     let by = hart.id();
-    match susp::suspend(alloc, harts, by, &tables.harts, ram, store, crew, kind, address, opaque) {
+    match susp::suspend(
+        alloc,
+        harts,
+        by,
+        &tables.harts,
+        ram,
+        store,
+        crew,
+        kind,
+        address,
+        opaque,
+    ) {
         Ok(asleep) => {
             let harts = asleep.seat;
             (Seats { harts, pending }, Held::Asleep)
@@ -116,7 +127,9 @@ pub fn dispatch_held<D: Disk + Drop, C: Crew>(
             kind,
             address,
             opaque,
-        } => sleep(alloc, hart, seats, tables, ram, store, crew, kind, address, opaque),
+        } => sleep(
+            alloc, hart, seats, tables, ram, store, crew, kind, address, opaque,
+        ),
         _ => (seats, refuse(hart, SbiError::NotSupported)),
     }
 }

@@ -1,6 +1,5 @@
 -- What a system suspend comes to, put together from its steps.
-use Rattle.std.proofs.Common.{◌≡◌, ◌≢◌, ◌↔◌, ◌∙◌, ◌<◌, ℕ, Bool, true, false, true≢false, IsTrue, List, Some, None, Ok, Err, Result, refl, sym, inl, inr}
-use Rattle.std.specs.Int.{bit_at}
+use Rattle.std.proofs.Common.{◌≡◌, ◌↔◌, ◌∙◌, ℕ, Bool, true, false, true≢false, IsTrue, List, Some, None, Ok, Err, refl, sym, inl, inr}
 use Rattle.disk.specs.declared.device.Disk.{Ghosts}
 use Rattle.disk.specs.declared.device.Lane.{Ghosts as Lanes}
 use Rattle.board_model.specs.declared.refusal.Refusal.{Refusal}

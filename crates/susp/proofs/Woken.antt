@@ -1,5 +1,5 @@
 -- An image was loaded, and then its consumption asked: together, from the state before the load.
-use Rattle.std.proofs.Common.{◌≡◌, ◌⊎◌, ◌-◌, ℕ, None, Some, Ok, Err, Result, OnOk, refl, sym, ap, ◌∙◌, subst, inl}
+use Rattle.std.proofs.Common.{◌≡◌, ◌-◌, ℕ, Ok, Err, Result, OnOk, ap, ◌∙◌, subst, inl}
 use Rattle.std.specs.Result.{MatchResult}
 use Rattle.board_model.specs.Durable.{State, Change, after}
 use Rattle.board_model.specs.Shapes.{Size}
@@ -35,8 +35,8 @@ answered_on old mid new c result life sized calm counted content first only did 
     let s = now_of old.life in
     let P = StandsForEither old.size s (after s c) in
     let goes : GoesTo mid.disk new.disk old.size s (after s c) result =
-        subst (λ (x : Life). GoesTo mid.disk new.disk old.size (now_of x) (after (now_of x) c) result) life
-        (subst (λ (y : Size). GoesTo mid.disk new.disk y (now_of mid.life) (after (now_of mid.life) c) result) sized did.leaves) in
+    subst (λ (x : Life). GoesTo mid.disk new.disk old.size (now_of x) (after (now_of x) c) result) life
+    (subst (λ (y : Size). GoesTo mid.disk new.disk y (now_of mid.life) (after (now_of mid.life) c) result) sized did.leaves) in
     record {
       life = subst (λ (x : Life). Applied x c result new.life) life did.life;
       leaves = record {

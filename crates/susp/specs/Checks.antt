@@ -1,5 +1,5 @@
 -- The arguments of a system suspend, with their checks in order. Source: SBI specification 2.0, chapter 13; docs/SBI.md.
-use Rattle.std.specs.Prelude.{◌≡◌, ◌⊎◌, ◌≢◌, ℕ, Bool, true, false, ◌==◌, if◌then◌else◌, Result, Ok, Err}
+use Rattle.std.specs.Prelude.{◌≡◌, ◌⊎◌, ◌≢◌, ℕ, Result, Ok, Err}
 use Rattle.board_model.specs.Shapes.{Size, IsValidAddress}
 use Rattle.sbi_abi.specs.declared.ret.SbiError.{SbiError}
 use Rattle.sbi_abi.specs.declared.ret.SbiError.TheVariants.{NotSupported, InvalidParam, InvalidAddress}

@@ -1,4 +1,4 @@
-use Rattle.std.proofs.Common.{rules, ◌≡◌, ℕ, Bool, List, Ok, Err}
+use Rattle.std.proofs.Common.{rules}
 use Rattle.susp.proofs.Slept.{others_then, denied_steps, asleep_steps, refused_steps, denied_alone, refused_alone}
 use Rattle.susp.proofs.sleeps.suspend.Goals as goal
 
