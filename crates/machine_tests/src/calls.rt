@@ -39,8 +39,11 @@ fn hart(number: u64) -> Result<HartId, Fail> {
 
 fn answer(machine: &mut Machine, asks: Asks) -> Result<MachineLine, Fail> {
     match asks {
-        Asks::Call(number, [eid, fid, a0, a1, a2]) => {
-            Ok(call(machine, hart(number)?, eid, fid, a0, a1, a2))
+        Asks::Call(number, words) => {
+            let id = hart(number)?;
+            Ok(call(
+                machine, id, words[0], words[1], words[2], words[3], words[4],
+            ))
         }
         Asks::Turn(number, count) => Ok(turn(machine, hart(number)?, count)),
         Asks::Reg(number, register) => Ok(reg(machine, hart(number)?, register)),
