@@ -1,7 +1,8 @@
 //! What the lines say of a board.
 
 ghost use Rattle.std.specs.Prelude.{◌≡◌, ◌<◌, ◌≤◌, ◌++◌, ◌-◌, length, replicate};
-ghost use Rattle.machine_lines.specs.Shows.{TurnsLine, CallLine, waits, pending_line, reg_line, pc_line, CsrLine, mem_line};
+ghost use Rattle.machine.specs.Machine.{hart_at};
+ghost use Rattle.machine_lines.specs.Shows.{TurnsLine, CallLine, called_line, waits, pending_line, reg_line, pc_line, CsrLine, mem_line};
 
 use crate::line::{MachineLine, MemBytes};
 use board_model::{HartId, RAM_BASE};
@@ -55,7 +56,16 @@ pub fn call(
     if !machine.has(hart) {
         return MachineLine::Off;
     }
-    match machine.call(hart, eid, fid, a0, a1, a2) {
+    let made = machine.call(hart, eid, fid, a0, a1, a2);
+    called(machine, hart, made)
+}
+
+/// What `call H EID FID A0 A1 A2` says of a call that was made in the place of a hart.
+pub fn called(machine: &Machine, hart: HartId, called: Called) -> MachineLine
+    requires { hart < length machine.now.harts }
+    ensures { result ≡ called_line hart (hart_at machine.now hart) called }
+{
+    match called {
         Called::NotStarted => MachineLine::NotStarted(hart),
         Called::Made(Turned::Next) => {
             let state = machine.hart(hart);
@@ -97,10 +107,18 @@ pub fn csr(machine: &mut Machine, hart: HartId, number: u32) -> MachineLine
     ensures line { CsrLine hart number machine.old result }
     ensures stays { machine.new ≡ machine.old }
 {
+    let pending = machine.has(hart) && machine.pending(hart);
+    csr_of(machine, hart, number, pending)
+}
+
+/// The same, for which `pending` says whether an interrupt is pending for the hart.
+pub fn csr_of(machine: &Machine, hart: HartId, number: u32, pending: bool) -> MachineLine
+    requires { pending ≡ waits machine.now hart }
+    ensures { CsrLine hart number machine.now result }
+{
     if !machine.has(hart) || 4096 <= number {
         return MachineLine::Off;
     }
-    let pending = machine.pending(hart);
     match machine
         .hart(hart)
         .csr(CsrNumber::new(number as u16), pending)

@@ -1,5 +1,11 @@
 /* Hart 0 starts hart 1, waits until it has begun, sends it an interrupt, and waits until it was taken.
-   The words at the end of the page tell what each saw. */
+   The words from 0x80000800 on tell what each saw. The bytes of two-harts.sbi come of these commands (clang 14):
+
+   clang --target=riscv64 -march=rv64i -mabi=lp64 -mcmodel=medany -O2 -ffreestanding -fno-pic -nostdlib \
+       -c two-harts.c -o two-harts.o
+   riscv64-linux-gnu-ld -T page.ld -e start two-harts.o -o two-harts.elf
+   riscv64-linux-gnu-objcopy -O binary -j .text two-harts.elf two-harts.bin
+*/
 typedef unsigned long u64;
 
 #define HSM 0x48534Dul
