@@ -1,6 +1,6 @@
 //! One line of a script.
 
-ghost use Rattle.std.specs.Prelude.{◌≡◌, ◌<◌, ◌≤◌, ℕ, List, length, Some, None, Ok, Err, IfOk, OnOk, OnErr, true, IsTrue, ◌↔◌, MatchResult};
+ghost use Rattle.std.specs.Prelude.{◌≡◌, ◌<◌, ◌≤◌, ◌+◌, ◌*◌, ◌^◌, if◌then◌else◌, ℕ, List, length, Some, None, Ok, Err, IfOk, OnOk, OnErr, true, IsTrue, ◌↔◌, MatchResult};
 ghost use Rattle.board_model.specs.Durable.{Slot};
 ghost use Rattle.board_model.specs.Shapes.{Size};
 ghost use Rattle.script_lang.specs.Ranges.{IsInRange};
@@ -314,6 +314,20 @@ fn csr_line(hart: HartId, number: u32, power: Power) -> (Power, MachineLine)
 /// The bit of each hart in a set of harts.
 const BITS: [u32; 8] = [1, 2, 4, 8, 16, 32, 64, 128];
 
+/// A set of harts below that number, and this one where it is to be in it.
+fn with_hart(set: u32, number: u64, waits: bool) -> u32
+    requires number { number < 8 }
+    requires few { set ≤ 128 * number }
+    ensures value { result ≡ set + (if waits then 2 ^ number else 0) }
+    ensures few { result ≤ 128 * number + 128 }
+{
+    if waits {
+        set + BITS[number as usize]
+    } else {
+        set
+    }
+}
+
 /// The harts of a board that is on for which an interrupt is pending. The board stays as it was.
 fn pending(board: &mut Board<SimDisk>) -> MachineLine
     ensures told { result ≡ pending_line (machine_in board.old) }
@@ -323,9 +337,8 @@ fn pending(board: &mut Board<SimDisk>) -> MachineLine
     let mut set = 0;
     for number in 0..8 {
         let hart = HartId::new(number).unwrap();
-        if waits(board, hart) {
-            set += BITS[number as usize];
-        }
+        let waits = waits(board, hart);
+        set = with_hart(set, number, waits);
     }
     MachineLine::Pending(set)
 }
