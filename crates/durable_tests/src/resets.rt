@@ -1,10 +1,12 @@
 //! System reset (SBI specification 2.0, chapter 10; docs/SBI.md).
-use crate::sites::{Asked, Other, ask, opened, same};
-use board_model::{Command, Reason};
+use crate::sites::{Asked, NONE, Other, Told, ask, minus, once, opened, same, twice};
+use board_model::{Command, Reason, Refusal};
 use crew::Turns;
 use disk::ArmedFault;
 use sbi::{Held, ResetType};
+use std::alloc::Global;
 use std::test::Fail;
+use std::thread::Threads;
 
 fn reset(kind: u64, reason: u64) -> Asked {
     Asked {
@@ -13,16 +15,10 @@ fn reset(kind: u64, reason: u64) -> Asked {
     }
 }
 
-// The error as a0 holds it.
-fn minus(number: u64) -> u64 {
-    0u64.wrapping_sub(number)
-}
-
 // Type above 2: -3. Reason other than 0 and 1: -3. Type 2: -2. Each by the low 32 bits of its register.
 #[test]
 fn the_arguments_are_checked_in_order(rt: HostRuntime) -> Result<(), Fail> {
     let crew: Turns<HostRuntime> = Turns::new([0, 1, 2, 3])?;
-    let mut store = opened(rt.alloc())?;
     for (kind, reason, error) in [
         (3, 0, 3),
         (0xffff_ffff, 2, 3),
@@ -33,21 +29,11 @@ fn the_arguments_are_checked_in_order(rt: HostRuntime) -> Result<(), Fail> {
         (0x1_0000_0003, 0, 3),
         (0x1_0000_0002, 0x1_0000_0001, 2),
     ] {
-        let told = ask(
-            rt.alloc(),
-            &mut store,
-            &crew,
-            Other::Started,
-            reset(kind, reason),
-        )?;
-        same(
-            &rt,
-            (told.held, told.error, told.value),
-            (Held::Goes, minus(error), 0),
-        );
-        same(&rt, (told.moved, told.now), (4, store.found()));
+        let (told, found, none) = once(rt.alloc(), &crew, Other::Started, reset(kind, reason))?;
+        same(&rt, (told.held, told.error), (Held::Goes, minus(error)));
+        same(&rt, (told.value, told.moved), (0, 4));
+        same(&rt, (told.now, none), (found, true));
     }
-    same(&rt, store.entry(1).is_none(), true);
     Ok(())
 }
 
@@ -67,27 +53,13 @@ fn a_reset_ends_the_life(rt: HostRuntime) -> Result<(), Fail> {
             Reason::NoReason,
         ),
     ] {
-        let mut store = opened(rt.alloc())?;
-        let told = ask(
-            rt.alloc(),
-            &mut store,
-            &crew,
-            Other::Started,
-            reset(kind, reason),
-        )?;
+        let (told, again, _found) = twice(rt.alloc(), &crew, NONE, reset(kind, reason))?;
+        let now = told.now;
         same(&rt, (told.held, told.moved), (Held::Reset(held), 0));
         same(&rt, (told.error, told.value), (kind, reason));
-        same(
-            &rt,
-            (told.now.reason, store.entry(2).is_none()),
-            (kept, true),
-        );
-        let again = ask(rt.alloc(), &mut store, &crew, Other::Started, reset(1, 1))?;
-        same(
-            &rt,
-            (again.held, again.error, again.now),
-            (Held::Goes, minus(1), told.now),
-        );
+        same(&rt, now.reason, kept);
+        same(&rt, (again.held, again.error), (Held::Goes, minus(1)));
+        same(&rt, again.now, now);
     }
     Ok(())
 }
@@ -96,33 +68,43 @@ fn a_reset_ends_the_life(rt: HostRuntime) -> Result<(), Fail> {
 #[test]
 fn what_the_store_refuses_is_minus_1(rt: HostRuntime) -> Result<(), Fail> {
     let crew: Turns<HostRuntime> = Turns::new([0, 1, 2, 3])?;
-    for (call, then) in [(1, true), (2, true), (3, false), (4, false)] {
-        let mut store = opened(rt.alloc())?;
-        store.arm(ArmedFault::FailAt(call));
-        let told = ask(rt.alloc(), &mut store, &crew, Other::Stopped, reset(1, 1))?;
-        same(
-            &rt,
-            (told.held, told.error, told.value),
-            (Held::Goes, minus(1), 0),
-        );
-        same(&rt, (told.moved, told.now), (4, store.found()));
-        let again = ask(rt.alloc(), &mut store, &crew, Other::Stopped, reset(1, 1))?;
-        same(&rt, again.held == Held::Reset(ResetType::ColdReboot), then);
-        same(&rt, again.error == minus(1), !then);
+    for (call, then) in [
+        (1, Held::Reset(ResetType::ColdReboot)),
+        (2, Held::Reset(ResetType::ColdReboot)),
+        (3, Held::Goes),
+        (4, Held::Goes),
+    ] {
+        let fault = ArmedFault::FailAt(call);
+        let (told, again, found) = twice(rt.alloc(), &crew, fault, reset(1, 1))?;
+        same(&rt, (told.held, told.error), (Held::Goes, minus(1)));
+        same(&rt, (told.value, told.moved), (0, 4));
+        same(&rt, told.now, found);
+        same(&rt, again.held, then);
     }
     Ok(())
+}
+
+// The call after a life that took so many commands.
+fn after_slots<R: Threads + Sync>(
+    alloc: Global,
+    crew: &Turns<R>,
+    count: u32,
+    asked: Asked,
+) -> Result<Told, Refusal> {
+    let mut store = opened(alloc)?;
+    for _ in 0..count {
+        store.apply(Command::Slot(1))?;
+    }
+    ask(alloc, &mut store, crew, Other::Stopped, asked)
 }
 
 // A life that took 4,096 commands takes no reset.
 #[test]
 fn a_full_journal_is_minus_1(rt: HostRuntime) -> Result<(), Fail> {
     let crew: Turns<HostRuntime> = Turns::new([0, 1, 2, 3])?;
-    let mut store = opened(rt.alloc())?;
-    for _ in 0..4096 {
-        store.apply(Command::Slot(1))?;
-    }
-    let told = ask(rt.alloc(), &mut store, &crew, Other::Stopped, reset(0, 1))?;
+    let told = after_slots(rt.alloc(), &crew, 4096, reset(0, 1))?;
+    let now = told.now;
     same(&rt, (told.held, told.error), (Held::Goes, minus(1)));
-    same(&rt, told.now.reason, Reason::NoReason);
+    same(&rt, now.reason, Reason::NoReason);
     Ok(())
 }

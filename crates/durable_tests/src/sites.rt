@@ -7,6 +7,7 @@ ghost use Rattle.sbi_calls.specs.Both.{AreSeatsOf, Acts, harts_of as hart_count}
 
 use board_model::{Addr, Durable, HartId, Refusal, Shape};
 use crew::Turns;
+use disk::ArmedFault;
 use hart::Hart;
 use hsm::{HartSeat, HartTable};
 use ipi::PendingTable;
@@ -154,3 +155,40 @@ pub fn ask<R: Threads + Sync>(
     ram.boot(&[7; 4096]);
     Ok(made(alloc, seats, &tables, store, &ram, crew, zero, asked))
 }
+
+/// The same call made twice on a new board, under that fault: what each of them came to, and the state that was opened.
+pub fn twice<R: Threads + Sync>(
+    alloc: Global,
+    crew: &Turns<R>,
+    fault: ArmedFault,
+    asked: Asked,
+) -> Result<(Told, Told, Durable), Refusal> {
+    let mut store = opened(alloc)?;
+    store.arm(fault);
+    let found = store.found();
+    let first = ask(alloc, &mut store, crew, Other::Stopped, asked)?;
+    let second = ask(alloc, &mut store, crew, Other::Stopped, asked)?;
+    Ok((first, second, found))
+}
+
+/// The call made on a new board, with hart 1 as it is to be: what it came to, the state that was opened, and whether no
+/// command was acknowledged.
+pub fn once<R: Threads + Sync>(
+    alloc: Global,
+    crew: &Turns<R>,
+    other: Other,
+    asked: Asked,
+) -> Result<(Told, Durable, bool), Refusal> {
+    let mut store = opened(alloc)?;
+    let found = store.found();
+    let told = ask(alloc, &mut store, crew, other, asked)?;
+    Ok((told, found, store.entry(1).is_none()))
+}
+
+/// The error of that number as a0 holds it.
+pub fn minus(number: u64) -> u64 {
+    0u64.wrapping_sub(number)
+}
+
+/// No fault.
+pub const NONE: ArmedFault = ArmedFault::FailAt(0);

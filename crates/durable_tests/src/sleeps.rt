@@ -1,8 +1,9 @@
 //! System suspend, and waking from it (SBI specification 2.0, chapter 13; docs/SBI.md).
-use crate::sites::{Asked, Other, RAM, ask, opened, same};
-use board_model::{Addr, HartId, ImageHead, Refusal, Shape};
+use crate::sites::{Asked, NONE, Other, RAM, ask, minus, once, opened, same, twice};
+use board_model::{Addr, Durable, HartId, ImageHead, Refusal, Shape};
 use crew::Turns;
 use disk::ArmedFault;
+use hart::Hart;
 use ram::Ram;
 use rv_decode::Reg;
 use sbi::Held;
@@ -22,16 +23,10 @@ fn suspend(kind: u64, address: u64, opaque: u64) -> Asked {
     }
 }
 
-// The error as a0 holds it.
-fn minus(number: u64) -> u64 {
-    0u64.wrapping_sub(number)
-}
-
 // Type 0: -2. Any type but suspend to disk: -3. Then the address: -5. Then another hart that is not STOPPED: -4.
 #[test]
 fn the_checks_are_made_in_order(rt: HostRuntime) -> Result<(), Fail> {
     let crew: Turns<HostRuntime> = Turns::new([0, 1, 2, 3])?;
-    let mut store = opened(rt.alloc())?;
     for (kind, address, other, error) in [
         (0, 1, Other::Started, 2),
         (0, RAM, Other::Stopped, 2),
@@ -46,21 +41,11 @@ fn the_checks_are_made_in_order(rt: HostRuntime) -> Result<(), Fail> {
         (0x1_8000_0001, RAM, Other::Pending, 4),
         (0x1_0000_0000, RAM, Other::Stopped, 2),
     ] {
-        let told = ask(
-            rt.alloc(),
-            &mut store,
-            &crew,
-            other,
-            suspend(kind, address, 0),
-        )?;
-        same(
-            &rt,
-            (told.held, told.error, told.value),
-            (Held::Goes, minus(error), 0),
-        );
-        same(&rt, (told.moved, told.now), (4, store.found()));
+        let (told, found, none) = once(rt.alloc(), &crew, other, suspend(kind, address, 0))?;
+        same(&rt, (told.held, told.error), (Held::Goes, minus(error)));
+        same(&rt, (told.value, told.moved), (0, 4));
+        same(&rt, (told.now, none), (found, true));
     }
-    same(&rt, store.entry(1).is_none(), true);
     Ok(())
 }
 
@@ -79,22 +64,15 @@ fn image(address: u64, opaque: u64) -> Option<ImageHead> {
 fn asleep_after_the_command(rt: HostRuntime) -> Result<(), Fail> {
     let crew: Turns<HostRuntime> = Turns::new([0, 1, 2, 3])?;
     for (kind, address, opaque) in [(TO_DISK, RAM, 7), (0x3_8000_0001, RAM + 0xffc, u64::MAX)] {
-        let mut store = opened(rt.alloc())?;
         let asked = suspend(kind, address, opaque);
-        let told = ask(rt.alloc(), &mut store, &crew, Other::Stopped, asked)?;
+        let (told, again, _found) = twice(rt.alloc(), &crew, NONE, asked)?;
+        let now = told.now;
         same(&rt, (told.held, told.moved), (Held::Asleep, 0));
         same(&rt, (told.error, told.value), (kind, address));
-        same(
-            &rt,
-            (told.now.image, told.now.next),
-            (image(address, opaque), 1),
-        );
-        let again = ask(rt.alloc(), &mut store, &crew, Other::Stopped, asked)?;
-        same(
-            &rt,
-            (again.held, again.error, again.now),
-            (Held::Goes, minus(1), told.now),
-        );
+        same(&rt, now.image, image(address, opaque));
+        same(&rt, now.next, 1);
+        same(&rt, (again.held, again.error), (Held::Goes, minus(1)));
+        same(&rt, again.now, now);
     }
     Ok(())
 }
@@ -105,25 +83,18 @@ fn asleep_after_the_command(rt: HostRuntime) -> Result<(), Fail> {
 fn what_the_store_refuses_is_minus_1(rt: HostRuntime) -> Result<(), Fail> {
     let crew: Turns<HostRuntime> = Turns::new([0, 1, 2, 3])?;
     for (fault, then) in [
-        (ArmedFault::FailLane(0, 1), true),
-        (ArmedFault::FailLane(0, 2), true),
-        (ArmedFault::FailAt(1), true),
-        (ArmedFault::FailAt(3), true),
-        (ArmedFault::FailAt(4), false),
-        (ArmedFault::FailAt(5), false),
+        (ArmedFault::FailLane(0, 1), Held::Asleep),
+        (ArmedFault::FailLane(0, 2), Held::Asleep),
+        (ArmedFault::FailAt(1), Held::Asleep),
+        (ArmedFault::FailAt(3), Held::Asleep),
+        (ArmedFault::FailAt(4), Held::Goes),
+        (ArmedFault::FailAt(5), Held::Goes),
     ] {
-        let mut store = opened(rt.alloc())?;
-        store.arm(fault);
-        let asked = suspend(TO_DISK, RAM, 8);
-        let told = ask(rt.alloc(), &mut store, &crew, Other::Stopped, asked)?;
-        same(
-            &rt,
-            (told.held, told.error, told.value),
-            (Held::Goes, minus(1), 0),
-        );
-        same(&rt, (told.moved, told.now), (4, store.found()));
-        let again = ask(rt.alloc(), &mut store, &crew, Other::Stopped, asked)?;
-        same(&rt, again.held == Held::Asleep, then);
+        let (told, again, found) = twice(rt.alloc(), &crew, fault, suspend(TO_DISK, RAM, 8))?;
+        same(&rt, (told.held, told.error), (Held::Goes, minus(1)));
+        same(&rt, (told.value, told.moved), (0, 4));
+        same(&rt, told.now, found);
+        same(&rt, again.held, then);
     }
     Ok(())
 }
@@ -142,13 +113,35 @@ fn with_image<R: Threads + Sync>(
     }
 }
 
-// The hart as it starts, with the memory of its suspend; and never a second time.
-#[test]
-fn a_board_wakes_once(rt: HostRuntime) -> Result<(), Fail> {
-    let crew: Turns<HostRuntime> = Turns::new([0, 1, 2, 3])?;
-    let mut store = with_image(rt.alloc(), &crew)?;
-    let mut ram = Ram::new(rt.alloc(), Shape::new(2, 1, 1)?)?;
+// What a wake answers under that fault, and then once more; the durable state after each.
+fn woken_twice<R: Threads + Sync>(
+    alloc: Global,
+    crew: &Turns<R>,
+    fault: ArmedFault,
+    pages: u64,
+) -> Result<(Option<Refusal>, Durable, Option<Refusal>, Durable), Refusal> {
+    let mut store = with_image(alloc, crew)?;
+    let mut ram = Ram::new(alloc, Shape::new(2, pages, 1)?)?;
+    store.arm(fault);
+    let first = wake_image(&mut store, &mut ram).err();
+    let after_first = store.now();
+    let second = wake_image(&mut store, &mut ram).err();
+    Ok((first, after_first, second, store.now()))
+}
+
+// The hart of the image, and whether each byte of the memory is 7.
+fn woken<R: Threads + Sync>(alloc: Global, crew: &Turns<R>) -> Result<(Hart, bool), Refusal> {
+    let mut store = with_image(alloc, crew)?;
+    let mut ram = Ram::new(alloc, Shape::new(2, 1, 1)?)?;
     let hart = wake_image(&mut store, &mut ram)?;
+    Ok((hart, ram.bytes().iter().all(|byte| *byte == 7)))
+}
+
+// The hart is as one that starts, and the memory that of the suspension.
+#[test]
+fn a_board_wakes(rt: HostRuntime) -> Result<(), Fail> {
+    let crew: Turns<HostRuntime> = Turns::new([0, 1, 2, 3])?;
+    let (hart, sevens) = woken(rt.alloc(), &crew)?;
     same(
         &rt,
         (hart.id(), hart.pc()),
@@ -158,61 +151,65 @@ fn a_board_wakes_once(rt: HostRuntime) -> Result<(), Fail> {
         let value = if number == 11 { 9 } else { 0 };
         same(&rt, hart.reg(Reg::new(number)), value);
     }
-    same(&rt, ram.bytes().iter().all(|byte| *byte == 7), true);
-    same(&rt, (store.now().image, store.now().next), (None, 1));
-    let again = wake_image(&mut store, &mut ram).err();
-    same(&rt, again, Some(Refusal::NoImage));
+    same(&rt, sevens, true);
     Ok(())
 }
 
 // Two reads load the one page, and four calls consume the image. What is refused leaves the image, which wakes the board once
-// the disk is well; at the gate the fate of the image is in doubt.
+// the disk is well; at the gate the fate of the image is in doubt. A board wakes once, and not into a memory of another size.
 #[test]
 fn a_refused_wake_leaves_the_image(rt: HostRuntime) -> Result<(), Fail> {
     let crew: Turns<HostRuntime> = Turns::new([0, 1, 2, 3])?;
-    for (call, refusal, then) in [
-        (1, Refusal::Device, None),
-        (2, Refusal::Device, None),
-        (3, Refusal::Device, None),
-        (4, Refusal::Device, None),
-        (5, Refusal::Down, Some(Refusal::Down)),
-        (6, Refusal::Down, Some(Refusal::Down)),
+    for (call, pages, refusal, then, stands) in [
+        (0, 1, None, Some(Refusal::NoImage), (false, false)),
+        (
+            0,
+            2,
+            Some(Refusal::BadShape),
+            Some(Refusal::BadShape),
+            (true, true),
+        ),
+        (1, 1, Some(Refusal::Device), None, (true, false)),
+        (2, 1, Some(Refusal::Device), None, (true, false)),
+        (3, 1, Some(Refusal::Device), None, (true, false)),
+        (4, 1, Some(Refusal::Device), None, (true, false)),
+        (5, 1, Some(Refusal::Down), Some(Refusal::Down), (true, true)),
+        (6, 1, Some(Refusal::Down), Some(Refusal::Down), (true, true)),
     ] {
-        let mut store = with_image(rt.alloc(), &crew)?;
-        let mut ram = Ram::new(rt.alloc(), Shape::new(2, 1, 1)?)?;
-        store.arm(ArmedFault::FailAt(call));
-        same(&rt, wake_image(&mut store, &mut ram).err(), Some(refusal));
-        same(&rt, store.now(), store.found());
-        same(&rt, wake_image(&mut store, &mut ram).err(), then);
+        let fault = ArmedFault::FailAt(call);
+        let (first, before, second, after) = woken_twice(rt.alloc(), &crew, fault, pages)?;
+        same(&rt, (first, second), (refusal, then));
+        same(&rt, (before.image.is_some(), after.image.is_some()), stands);
+        same(&rt, (before.next, after.next), (1, 1));
     }
     Ok(())
 }
 
-// A memory of another size is refused before anything is read, and a life that is over after its image was loaded.
+// Without an image, and in the life that the suspension ended.
+fn unwoken<R: Threads + Sync>(
+    alloc: Global,
+    crew: &Turns<R>,
+) -> Result<(Option<Refusal>, Option<Refusal>, Durable), Refusal> {
+    let mut store = opened(alloc)?;
+    let mut ram = Ram::new(alloc, Shape::new(2, 1, 1)?)?;
+    let first = wake_image(&mut store, &mut ram).err();
+    ask(
+        alloc,
+        &mut store,
+        crew,
+        Other::Stopped,
+        suspend(TO_DISK, RAM, 0),
+    )?;
+    let second = wake_image(&mut store, &mut ram).err();
+    Ok((first, second, store.now()))
+}
+
 #[test]
-fn other_refusals_of_a_wake(rt: HostRuntime) -> Result<(), Fail> {
+fn no_board_wakes_within_its_life(rt: HostRuntime) -> Result<(), Fail> {
     let crew: Turns<HostRuntime> = Turns::new([0, 1, 2, 3])?;
-    let mut store = with_image(rt.alloc(), &crew)?;
-    let mut two = Ram::new(rt.alloc(), Shape::new(2, 2, 1)?)?;
-    same(
-        &rt,
-        wake_image(&mut store, &mut two).err(),
-        Some(Refusal::BadShape),
-    );
-    let mut one = Ram::new(rt.alloc(), Shape::new(2, 1, 1)?)?;
-    let mut over = opened(rt.alloc())?;
-    same(
-        &rt,
-        wake_image(&mut over, &mut one).err(),
-        Some(Refusal::NoImage),
-    );
-    let asked = suspend(TO_DISK, RAM, 0);
-    ask(rt.alloc(), &mut over, &crew, Other::Stopped, asked)?;
-    same(
-        &rt,
-        wake_image(&mut over, &mut one).err(),
-        Some(Refusal::Over),
-    );
-    same(&rt, over.now().image.is_some(), true);
+    let (first, second, now) = unwoken(rt.alloc(), &crew)?;
+    same(&rt, first, Some(Refusal::NoImage));
+    same(&rt, second, Some(Refusal::Over));
+    same(&rt, now.image, image(RAM, 0));
     Ok(())
 }
