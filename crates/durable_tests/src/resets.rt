@@ -58,6 +58,7 @@ fn a_reset_ends_the_life(rt: HostRuntime) -> Result<(), Fail> {
         same(&rt, (told.held, told.moved), (Held::Reset(held), 0));
         same(&rt, (told.error, told.value), (kind, reason));
         same(&rt, now.reason, kept);
+        same(&rt, now.image, None);
         same(&rt, (again.held, again.error), (Held::Goes, minus(1)));
         same(&rt, again.now, now);
     }
@@ -78,7 +79,9 @@ fn what_the_store_refuses_is_minus_1(rt: HostRuntime) -> Result<(), Fail> {
         let (told, again, found) = twice(rt.alloc(), &crew, fault, reset(1, 1))?;
         same(&rt, (told.held, told.error), (Held::Goes, minus(1)));
         same(&rt, (told.value, told.moved), (0, 4));
-        same(&rt, told.now, found);
+        let now = told.now;
+        same(&rt, now.image, None);
+        same(&rt, now, found);
         same(&rt, again.held, then);
     }
     Ok(())
@@ -106,5 +109,6 @@ fn a_full_journal_is_minus_1(rt: HostRuntime) -> Result<(), Fail> {
     let now = told.now;
     same(&rt, (told.held, told.error), (Held::Goes, minus(1)));
     same(&rt, now.reason, Reason::NoReason);
+    same(&rt, now.image, None);
     Ok(())
 }

@@ -93,7 +93,9 @@ fn what_the_store_refuses_is_minus_1(rt: HostRuntime) -> Result<(), Fail> {
         let (told, again, found) = twice(rt.alloc(), &crew, fault, suspend(TO_DISK, RAM, 8))?;
         same(&rt, (told.held, told.error), (Held::Goes, minus(1)));
         same(&rt, (told.value, told.moved), (0, 4));
-        same(&rt, told.now, found);
+        let now = told.now;
+        same(&rt, now.image, None);
+        same(&rt, now, found);
         same(&rt, again.held, then);
     }
     Ok(())
