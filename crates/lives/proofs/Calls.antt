@@ -21,6 +21,14 @@ opened w s kept finds = (
 still : (w : World) (old new : Life) → IsLived w old → new ≡ old → IsLived w new
 still w old new lived same = subst (IsLived w) (sym same) lived
 
+-- what an open finds of what a life left
+pub finds_state : (w : World) (life : Life) (s : State) → IsLived w life → s ≡ now_of life → (kept : List Change) × Finds w s kept
+finds_state w life s lived is = (w.kept, inl (is ∙ sym lived.state, refl))
+
+pub finds_either : (w : World) (life : Life) (c : Change) (s : State) → IsLived w life → life.doubt ≡ Some c → (s ≡ now_of life) ⊎ (s ≡ after (now_of life) c) → (kept : List Change) × Finds w s kept
+finds_either w life c s lived doubt (inl is) = finds_state w life s lived is
+finds_either w life c s lived doubt (inr is) = (w.kept ++ c ∷ [], inr (c, lived.doubt ∙ doubt, is ∙ ap (λ (t : State). after t c) (sym lived.state), refl))
+
 -- a command that may go to the disk
 may_go : (w : World) (old : Life) (c : Change) → IsLived w old → old.doubt ≡ None → Reaches old c → Goes w c
 may_go w old c lived calm reaches = (

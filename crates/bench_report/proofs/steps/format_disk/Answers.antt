@@ -9,11 +9,11 @@ use Rattle.bench_report.proofs.steps.format_disk.Goals as goal
 pub returns-in-Ok-clause-told : goal.returns-in-Ok-clause-told
 returns-in-Ok-clause-told c = λ b h.
     let did = c.in-Ok.ensures in
-    let device = stays c.args.shape.now b (mishaps c.args.disk) (mishaps c.format.new.disk) (facts c.args.disk) (facts c.format.new.disk) h.2 did.unmoved did.no_fewer did.length in
+    let device = stays c.args.shape.now b (mishaps c.args.disk) (mishaps c.format.new.disk) (facts c.args.disk) (facts c.format.new.disk) h.2 did.cause did.in_order.no_fewer did.in_order.content.head.as_long in
     formats_ok c.args.shape.now b.medium b c.args.disk c.format.new.disk c.says.result h.0 h.1 device c.says.ensures did.ok did.unmarked
 
 pub returns-in-Err-clause-told : goal.returns-in-Err-clause-told
 returns-in-Err-clause-told c = λ b h.
     let did = c.in-Err.ensures in
-    formats_err c.args.shape.now b c.args.disk c.format.new.disk c.says-in-Err.result c.in-Err.e h.0 h.2 did.refused (λ has. (did.marked has).0) did.cause did.no_fewer did.length
+    formats_err c.args.shape.now b c.args.disk c.format.new.disk c.says-in-Err.result c.in-Err.e h.0 h.2 did.refused (λ has. (did.marked has).0) did.cause did.in_order.no_fewer did.in_order.content.head.as_long
     (c.says-in-Err.ensures ∙ ap (λ n. says (printed.FormatRefused n)) c.code.ensures) b.medium refl h.1
