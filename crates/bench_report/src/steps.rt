@@ -23,7 +23,7 @@ use machine_lines::MachineLine;
 use script_lang::{Bytes, Fill, Line};
 use simdisk::{Choice, SimDisk};
 use std::alloc::Global;
-use store::format;
+use store::{blank_disks, format, kept_disks};
 
 fn says(line: Printed) -> Answer
     ensures { result ≡ says line }
@@ -37,6 +37,8 @@ fn format_disk(shape: &Shape, mut disk: SimDisk) -> (Power, Answer)
     ensures told { (b : Bench) → OffIs shape.now b disk → Goes shape.now b result.0 (FormatsOn b.medium b result.1) }
     ensures resting { IsResting result.0 }
 {
+    kept_disks::<SimDisk>();
+    blank_disks::<SimDisk>();
     match format(&mut disk, shape) {
         Ok(()) => (Power::Off(disk), says(Printed::Formatted)),
         Err(e) => (Power::Off(disk), says(Printed::FormatRefused(e.code()))),
@@ -50,6 +52,8 @@ fn power_on(alloc: Global, mode: BootMode, disk: SimDisk, payloads: &Payloads) -
     ensures told { (size : Size) (b : Bench) → OffIs size b disk → payloads.now ≡ b.payloads → Goes size b result.0 (PowersOn size mode b result.1) }
     ensures resting { IsResting result.0 }
 {
+    kept_disks::<SimDisk>();
+    blank_disks::<SimDisk>();
     match Board::power_on(alloc, disk, mode, payloads) {
         Ok(board) => {
             let booted = Answer {
@@ -110,6 +114,7 @@ fn cut(power: Power, fill: Fill) -> Power
     ensures exact { (disk : SimDisk) × HasDisk power disk × IsCutBy fill disk result }
     ensures resting { IsResting result }
 {
+    kept_disks::<SimDisk>();
     Power::Off(disk_left(power).after_cut(choice(fill)))
 }
 
