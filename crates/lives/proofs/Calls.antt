@@ -1,11 +1,10 @@
 -- What the store says of its calls, as events.
-use Rattle.std.proofs.Common.{◌≡◌, ◌∙◌, ◌⊎◌, inl, inr, ⊎_elim, ℕ, List, [], ◌∷◌, ◌++◌, Option, Some, None, Result, Ok, Err, Bool, true, false, nat_lt, ◌==◌, is_some, if◌then◌else◌, refl, sym, ap, subst}
+use Rattle.std.proofs.Common.{◌≡◌, ◌∙◌, ◌⊎◌, inl, inr, ℕ, List, [], ◌∷◌, ◌++◌, Option, Some, None, Result, Ok, Err, Bool, true, false, nat_lt, is_some, if◌then◌else◌, refl, sym, ap, subst}
 use Rattle.board_model.specs.Durable.{State, Change, Slot, Reset, Suspend, Consume, Discard, refusal_of, after, fold, ends_life}
-use Rattle.board_model.specs.Shown.{number_of}
 use Rattle.board_model.specs.declared.refusal.Refusal.{Refusal}
 use Rattle.board_model.specs.declared.refusal.Refusal.TheVariants.{NotFormatted, AlreadyFormatted, BadShape, BadRecord, Device, Down, Over, NoImage, BadSlot, JournalFull, Memory, SerialsSpent, BadImage, BadScript, ImageThere, Output}
 use Rattle.store.specs.Lives.{Life, now_of, begun, Reaches, Refused, Applied, SuspendRefused, SuspendApplied, Suspended}
-use Rattle.lives.specs.Events.{World, WasOpened, WasAcknowledged, WasRefused, WasDoubtful, Finds, Goes, dropped_by, goes_on, goes_with, Happens, event_of, IsLived, Leads}
+use Rattle.lives.specs.Events.{World, WasOpened, WasAcknowledged, WasDoubtful, Finds, Goes, dropped_by, goes_on, goes_with, event_of, IsLived, Leads}
 
 one_more : (s : State) (cs : List Change) (c : Change) → fold s (cs ++ c ∷ []) ≡ after (fold s cs) c
 one_more s [] c = refl

@@ -60,8 +60,8 @@ returns-clause-loads g c =
     (image.0, image.1, c.in_ok-read_area.ensures.reads ∙ image.2)
 
 -- of the disk, where it is not asked
-pub returns-then-ne-clause-reads_alone : goal.returns-then-ne-clause-reads_alone
-returns-then-ne-clause-reads_alone g c = none_read _ (g.met.D.Disk.only_now _) c.args.self.now.kept.none_out
+pub returns-then-pages-clause-reads_alone : goal.returns-then-pages-clause-reads_alone
+returns-then-pages-clause-reads_alone g c = none_read _ (g.met.D.Disk.only_now _) c.args.self.now.kept.none_out
 
 pub returns-in_default-clause-reads_alone : goal.returns-in_default-clause-reads_alone
 returns-in_default-clause-reads_alone g c = none_read _ (g.met.D.Disk.only_now _) c.args.self.now.kept.none_out
