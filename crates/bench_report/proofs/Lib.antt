@@ -1,5 +1,5 @@
 pub mod Table
-pub mod Marks
+pub mod KeptDisks
 pub mod Devices
 pub mod Adapted
 pub mod Formats

@@ -25,6 +25,7 @@ use script_lang::{Line, Script, parse_script};
 use simdisk::SimDisk;
 use std::alloc::{AllocError, Global};
 use std::io::Write;
+use store::blank_disks;
 
 /// How many lines a run wrote, and what each power-on found.
 #[derive(Drop)]
@@ -255,6 +256,7 @@ pub fn run_left<W: Write>(
         × MatchResult result (λ left. ⊥) (λ s. ((s.refusal ≡ e) ⊎ (s.refusal ≡ Refusal.Memory)) × (s.disk ≡ None)) }
 {
     let script = parse_script(alloc, script)?;
+    blank_disks::<SimDisk>();
     let disk = SimDisk::blank(alloc, script.shape.sectors())?;
     match run_script(alloc, &script, disk, out) {
         (left, Ok(report)) => Ok((report, left)),

@@ -4,10 +4,14 @@
 #[cfg(test)]
 mod faults;
 #[cfg(test)]
+mod large;
+#[cfg(test)]
 mod lines;
 #[cfg(test)]
 mod programs;
 #[cfg(test)]
 mod rows;
+#[cfg(test)]
+mod stopped;
 #[cfg(test)]
 mod told;

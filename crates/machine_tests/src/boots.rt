@@ -13,7 +13,7 @@ const BASE: u64 = 0x8000_0000;
 fn booted(rt: &HostRuntime, payload: &[u8], reason: Reason) -> Result<Machine, Fail>
     requires { length payload.now ≤ 4096 }
 {
-    booted_for(rt, 2, payload, reason)
+    booted_for(rt.alloc(), 2, payload, reason)
 }
 
 // One turn of a hart that the board has.

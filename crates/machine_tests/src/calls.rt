@@ -5,6 +5,8 @@ use crate::fixtures::{all_say, booted};
 use board_model::{HartId, Reason};
 use machine::Machine;
 use machine_lines::{MachineLine, call, csr, pc, pending, reg, turn};
+use std::alloc::Global;
+use std::process::Abort;
 use std::test::Fail;
 
 const BASE: u64 = 0x10;
@@ -37,8 +39,11 @@ fn hart(number: u64) -> Result<HartId, Fail> {
 
 fn answer(machine: &mut Machine, asks: Asks) -> Result<MachineLine, Fail> {
     match asks {
-        Asks::Call(number, [eid, fid, a0, a1, a2]) => {
-            Ok(call(machine, hart(number)?, eid, fid, a0, a1, a2))
+        Asks::Call(number, words) => {
+            let id = hart(number)?;
+            Ok(call(
+                machine, id, words[0], words[1], words[2], words[3], words[4],
+            ))
         }
         Asks::Turn(number, count) => Ok(turn(machine, hart(number)?, count)),
         Asks::Reg(number, register) => Ok(reg(machine, hart(number)?, register)),
@@ -49,13 +54,19 @@ fn answer(machine: &mut Machine, asks: Asks) -> Result<MachineLine, Fail> {
 }
 
 // A board of so many harts and one empty page is asked these, and says that.
-fn all_asked(rt: &HostRuntime, harts: u64, asked: &[Asks], text: &str) -> Result<(), Fail> {
-    let mut machine = booted(rt, harts, &[], Reason::NoReason)?;
-    let mut lines = Vec::new(rt.alloc());
+fn all_asked(
+    rt: &impl Abort,
+    alloc: Global,
+    harts: u64,
+    asked: &[Asks],
+    text: &str,
+) -> Result<(), Fail> {
+    let mut machine = booted(alloc, harts, &[], Reason::NoReason)?;
+    let mut lines = Vec::new(alloc);
     for asks in asked {
         lines.push(answer(&mut machine, *asks)?)?;
     }
-    all_say(rt, rt.alloc(), &lines, text)
+    all_say(rt, alloc, &lines, text)
 }
 
 // A start is granted once, and a START_PENDING hart enters with its number and the opaque value.
@@ -74,6 +85,7 @@ fn a_hart_is_started_once(rt: HostRuntime) -> Result<(), Fail> {
     ];
     all_asked(
         &rt,
+        rt.alloc(),
         2,
         &asked,
         "call 0 error -5 value 0x0000000000000000\ncall 0 error -3 value 0x0000000000000000\ncall 0 error 0 value 0x0000000000000000\ncall 0 error -6 value 0x0000000000000000\ncall 0 error 0 value 0x0000000000000002\ncall 1 not started\nturn 1 1 entered\nreg 1 10 0x0000000000000001\nreg 1 11 0x0000000000000005\n",
@@ -94,6 +106,7 @@ fn a_mask_with_a_hart_that_is_none_sends_nothing(rt: HostRuntime) -> Result<(), 
     ];
     all_asked(
         &rt,
+        rt.alloc(),
         8,
         &asked,
         "call 0 error -3 value 0x0000000000000000\npending 0x00\ncall 0 error -3 value 0x0000000000000000\ncall 0 error 0 value 0x0000000000000000\npending 0x00\ncall 0 error 0 value 0x0000000000000000\npending 0xff\n",
@@ -115,6 +128,7 @@ fn a_suspended_hart_wakes_by_an_interrupt(rt: HostRuntime) -> Result<(), Fail> {
     ];
     all_asked(
         &rt,
+        rt.alloc(),
         2,
         &asked,
         "call 0 error 0 value 0x0000000000000000\nturn 1 1 entered\ncall 1 suspended\nturn 1 1 idle\ncall 0 error 0 value 0x0000000000000000\nturn 1 1 woke\npc 1 0x0000000080000004\ncsr 1 0x144 0x0000000000000002\n",
@@ -135,6 +149,7 @@ fn a_hart_that_enters_takes_its_interrupts(rt: HostRuntime) -> Result<(), Fail> 
     ];
     all_asked(
         &rt,
+        rt.alloc(),
         2,
         &asked,
         "call 0 error 0 value 0x0000000000000000\npending 0x02\ncall 0 error 0 value 0x0000000000000000\nturn 1 1 entered\npending 0x00\ncall 1 error -3 value 0x0000000000000000\ncall 1 error -5 value 0x0000000000000000\n",
@@ -154,6 +169,7 @@ fn a_hart_that_stopped_is_not_started(rt: HostRuntime) -> Result<(), Fail> {
     ];
     all_asked(
         &rt,
+        rt.alloc(),
         1,
         &asked,
         "call 0 error 0 value 0x0000000002000000\ncall 0 error -2 value 0x0000000000000000\ncall 0 error -2 value 0x0000000000000000\ncall 0 stopped\nturn 0 5 idle\ncall 0 not started\n",

@@ -16,12 +16,12 @@ pub fn same<T: PartialEq + Debug + Drop>(rt: &impl Abort, found: T, wanted: T) {
 }
 
 /// A board of so many harts and one page that boots this payload for that reason.
-pub fn booted(rt: &HostRuntime, harts: u64, payload: &[u8], reason: Reason) -> Result<Machine, Fail>
+pub fn booted(alloc: Global, harts: u64, payload: &[u8], reason: Reason) -> Result<Machine, Fail>
     requires { length payload.now ≤ 4096 }
 {
     let shape = Shape::new(harts, 1, 1)?;
     let first = shape.hart(0).ok_or("hart 0")?;
-    let mut machine = Machine::new(rt.alloc(), &shape, first)?;
+    let mut machine = Machine::new(alloc, &shape, first)?;
     machine.boot(&shape, payload, reason);
     Ok(machine)
 }

@@ -19,7 +19,7 @@ fn first_hart() -> Result<HartId, Fail>
 fn booted(rt: &HostRuntime, payload: &[u8]) -> Result<Machine, Fail>
     requires { length payload.now ≤ 4096 }
 {
-    booted_for(rt, 1, payload, Reason::NoReason)
+    booted_for(rt.alloc(), 1, payload, Reason::NoReason)
 }
 
 // ADDI x10, x0, 1
