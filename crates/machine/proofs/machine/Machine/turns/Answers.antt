@@ -1,6 +1,6 @@
-use Rattle.std.proofs.Common.{◌≡◌, ◌⊎◌, ℕ, ◌+◌, ◌-◌, ◌<◌, ◌≤◌, Bool, true, false, inl, inr, refl, subst, ◌∙◌, arith}
+use Rattle.std.proofs.Common.{◌≡◌, ℕ, ◌<◌, true, false, inl, inr, sym, subst, ◌∙◌, arith}
 use Rattle.std.specs.Prelude.{length}
-use Rattle.machine.specs.Turns.{ends_row, IsLast, Rows}
+use Rattle.machine.specs.Turns.{ends_row}
 use Rattle.machine.proofs.Rows.{first_row, more_row, all_made}
 use Rattle.machine.proofs.machine.Machine.turns.Goals as goal
 
@@ -15,11 +15,22 @@ pub loop-made-preserved : goal.loop-made-preserved
 loop-made-preserved c =
     let i = c.loop-made.invariant in
     let r = c.row-more.ensures in
-    let range = r.range in record {
-      made = more_row c.args.id c.args.count c.loop-made.made c.row-more.result.0 c.args.self.now c.loop-made.self c.row-more.new.self c.loop-made.turned c.row-more.result.1 (omega arith) (cc) (cc) i.made r.row;
+    let range = r.range in
+    let has : c.args.id < length c.loop-made.self.harts = subst (λ (n : ℕ). c.args.id < n) (sym i.harts) c.requires.hart in
+    let on : ends_row c.loop-made.turned ≡ false = cc in record {
+      made = more_row c.args.id c.args.count c.loop-made.made c.row-more.result.0 c.args.self.now c.loop-made.self c.row-more.new.self c.loop-made.turned c.row-more.result.1 (omega arith) has on i.made r.row;
       range = omega arith;
       harts = r.harts ∙ i.harts;
     }
 
-pub returns-clause-turns : goal.returns-clause-turns
-returns-clause-turns c = all_made c.args.id c.args.count c.loop-made.made c.args.self.now c.loop-made.self c.loop-made.turned (omega arith) (search rules) c.loop-made.invariant.made
+pub returns-after-loop-made-clause-turns : goal.returns-after-loop-made-clause-turns
+returns-after-loop-made-clause-turns c =
+    let i = c.loop-made.invariant in
+    let all : c.loop-made.made ≡ c.args.count = let low = i.range in omega arith in
+    all_made c.args.id c.args.count c.loop-made.made c.args.self.now c.loop-made.self c.loop-made.turned i.range (inr all) i.made
+
+pub returns-else-not-ends_row-clause-turns : goal.returns-else-not-ends_row-clause-turns
+returns-else-not-ends_row-clause-turns c =
+    let i = c.loop-made.invariant in
+    let last : ends_row c.loop-made.turned ≡ true = cc in
+    all_made c.args.id c.args.count c.loop-made.made c.args.self.now c.loop-made.self c.loop-made.turned i.range (inl last) i.made
