@@ -3,6 +3,7 @@ pub mod KeptDisks
 pub mod Devices
 pub mod Adapted
 pub mod Formats
+pub mod Armings
 pub mod Opening
 pub mod Commanded
 pub mod Ended

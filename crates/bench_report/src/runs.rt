@@ -21,7 +21,7 @@ use crate::printed::{Answer, FoundLine, Printed};
 use crate::steps::{disk_left, moves};
 use board::Payloads;
 use board_model::{Durable, Refusal, Shape};
-use script_lang::{Line, Script, parse_script};
+use script_lang::{Fill, Line, Script, parse_script};
 use simdisk::SimDisk;
 use std::alloc::{AllocError, Global};
 use std::io::Write;
@@ -125,6 +125,7 @@ fn run_line<W: Write>(
     line: &Line,
     power: Power,
     payloads: &mut Payloads,
+    fill: &mut Fill,
     out: &mut W,
     report: &mut Report,
 ) -> (Power, Result<(), Refusal>)
@@ -141,7 +142,7 @@ fn run_line<W: Write>(
         ⊎ ((answer : Answer) × (new : Bench) × Moves shape.now line.now b answer new × Agrees shape.now new result.0)) }
     ensures err { IfErr result.1 (λ e. (e ≡ Refusal.Output) ⊎ (e ≡ Refusal.Memory)) }
 {
-    let (after, answer) = moves(alloc, shape, line, power, payloads);
+    let (after, answer) = moves(alloc, shape, line, power, payloads, fill);
     match answer {
         Ok(answer) => {
             let added = add(out, report, &answer);
@@ -158,6 +159,7 @@ fn run_lines<W: Write>(
     lines: &[Line],
     power: Power,
     payloads: &mut Payloads,
+    fill: &mut Fill,
     out: &mut W,
     report: &mut Report,
 ) -> (Power, Result<(), Refusal>)
@@ -175,7 +177,7 @@ fn run_lines<W: Write>(
 {
     let mut power = power;
     for line in lines {
-        let (after, ran) = run_line(alloc, shape, line, power, payloads, out, report);
+        let (after, ran) = run_line(alloc, shape, line, power, payloads, fill, out, report);
         if let Err(refusal) = ran {
             return (after, Err(refusal));
         }
@@ -214,12 +216,14 @@ fn run_script<W: Write>(
         return (disk, Err(refusal));
     }
     let mut payloads = Payloads::new(alloc);
+    let mut fill = Fill::Old;
     let (power, ran) = run_lines(
         alloc,
         &shape,
         &script.lines,
         Power::Off(disk),
         &mut payloads,
+        &mut fill,
         out,
         &mut report,
     );
