@@ -4,12 +4,14 @@ use Rattle.board_model.specs.Durable.{State, Change, formatted, after}
 use Rattle.board_model.specs.Kept.{Kept, MayFind, TakesIn, found_of}
 use Rattle.board_model.specs.Shapes.{Size}
 use Rattle.disk.specs.Facts.{Facts, Content, IsLeft}
-use Rattle.store.specs.Leaves.{Leaves, IsBlank, IsKept, LeavesOnly, LeavesEither}
+use Rattle.store.specs.Leaves.{Leaves, IsKept, LeavesOnly, LeavesEither}
 use Rattle.store.specs.Stores.{Stands, Doubts}
-use Rattle.bench_report.specs.Below.{Store, Board, store_in, IsAs, store_size}
+use Rattle.simdisk.specs.declared.SimDisk.{SimDisk}
+use Rattle.bench_report.specs.Below.{facts, Store, Board, store_in, IsAs, store_size}
 use Rattle.bench_report.specs.Bench.{Medium, Blank, Unknown, Formatted, Life}
 use Rattle.bench_report.specs.Agree.{StoreIs, BoardIs, DiskIs}
 use Rattle.bench_report.proofs.Adapted.{grows}
+use Rattle.bench_report.proofs.KeptDisks.{GoesOn, LeavesLess}
 
 pub found_more : (cs : List Change) (c : Change) (now : State) → now ≡ found_of cs → after now c ≡ found_of (cs ++ c ∷ [])
 found_more cs c now e = ap (λ s. after s c) e ∙ sym (grows formatted cs c)
@@ -54,12 +56,13 @@ board_ended size m k None board disk was up down = absurd was
 board_ended size m k (Some life) board disk was up down = ended size m k life (store_in board) disk was.0 up down
 
 -- where no other content may be left than before, the medium is the same
-pub left_on : (size : Size) (m : Medium) (k : Kept) (old new : Facts) → DiskIs size m k old → ((c : Content) → new.may_leave c → old.may_leave c) → DiskIs size m k new
-unfolding Leaves IsKept IsBlank
-left_on size Blank k old new was less = λ c l. was c (less c l)
-left_on size Unknown k old new was less = tt
-left_on size Formatted k old new was less = (λ c l. was.0 c (less c l), λ s found. was.1 s (found.0, less found.0 found.1, found.2))
+pub left_on : GoesOn → (size : Size) (m : Medium) (k : Kept) (old new : SimDisk) → DiskIs size m k (facts old) → LeavesLess old new → DiskIs size m k (facts new)
+left_on goes_on size Blank k old new was less = (goes_on old new less).0 was
+left_on goes_on size Unknown k old new was less = tt
+left_on goes_on size Formatted k old new was less = let on = goes_on old new less in (on.1 size was.0, λ s l. was.1 s (on.2 size s l))
 
 -- a power cut leaves one of the contents that it may leave, and that alone from then on
-pub cut_leaves : (old new : Facts) → IsLeft old new → (c : Content) → new.may_leave c → old.may_leave c
-cut_leaves old new h c l = let P : Content → Type 0 = λ x. old.may_leave x in subst P (sym (h.fresh.durable c l ∙ h.fresh.reads)) (let Q : Content → Type 0 = λ x. old.may_leave x in h.left)
+pub cut_leaves : (old new : SimDisk) → IsLeft (facts old) (facts new) → LeavesLess old new
+cut_leaves old new h c l =
+    let P : Content → Type 0 = λ x. (facts old).may_leave x in
+    subst P (sym (h.fresh.durable c l ∙ h.fresh.reads)) h.left

@@ -5,12 +5,11 @@ use Rattle.board_model.specs.Kept.{nothing_kept}
 use Rattle.board_model.specs.Shapes.{Size, sectors_of}
 use Rattle.board_model.specs.Shown.{number_of}
 use Rattle.board_model.specs.declared.refusal.Refusal.{Refusal}
-use Rattle.board_model.specs.declared.refusal.Refusal.TheVariants.{AlreadyFormatted, BadShape, Device}
-use Rattle.disk.specs.Facts.{Facts, sector, Passes, Stays}
+use Rattle.board_model.specs.declared.refusal.Refusal.TheVariants.{AlreadyFormatted, Device}
+use Rattle.disk.specs.Facts.{Facts, Passes, Stays}
 use Rattle.disk.specs.Mishaps.{Mishaps, Cause}
-use Rattle.layout.specs.Superblocks.{HasMagic}
 use Rattle.simdisk.specs.declared.SimDisk.{SimDisk}
-use Rattle.store.specs.Leaves.{IsBlank, LeavesOnly, SameLength}
+use Rattle.store.specs.Leaves.{IsMarked, LeavesOnly, SameLength}
 use Rattle.store.specs.Opens.{CausedRefusal, FormatRefused}
 use Rattle.bench_report.specs.declared.printed.Answer.{Answer}
 use Rattle.bench_report.specs.declared.printed.Printed.TheVariants as printed
@@ -19,14 +18,13 @@ use Rattle.bench_report.specs.Bench.{Medium, Blank, Unknown, Formatted, Bench}
 use Rattle.bench_report.specs.Steps.{says, failed, formatted_anew, unknown, FormatsOn}
 use Rattle.bench_report.specs.Agree.{DiskIs, DeviceIs, OffIs}
 use Rattle.bench_report.proofs.Devices.{is_device, five, hindered, stays}
-use Rattle.store.proofs.Bridges.{kept_format}
 use Rattle.bench_report.proofs.Adapted.{struck, calm, failed_format, no_down}
 use Rattle.bench_report.proofs.Ended.{left_on}
-use Rattle.bench_report.proofs.Marks.{kept_magic, blank_magic, passed}
+use Rattle.bench_report.proofs.KeptDisks.{KeptLaw, BlankLaw, passed}
 
 -- what a format leaves of a disk that begins with the mark
 abbrev pub MarkedClause : SimDisk → SimDisk → Type 0
-MarkedClause old new = HasMagic (sector (facts old).content 0) → Passes (facts old) (facts new) Stays
+MarkedClause old new = IsMarked (facts old).content → Passes (facts old) (facts new) Stays
 
 pub same_error : {T : Type 0} {e f : Refusal} → ◌≡◌ {A = Result T Refusal} (Err e) (Err f) → e ≡ f
 same_error h = cc
@@ -38,24 +36,17 @@ fresh size new h = (h.kept, λ s l. ([], inl refl, (h.only size s l).1))
 abbrev Formats : Size → Medium → Bench → Answer → SimDisk → Type 0
 Formats size m b a new = (x : Bench) × FormatsOn m b a x × OffIs size x new × (x.payloads ≡ b.payloads)
 
-pub formats_ok : (size : Size) (m : Medium) (b : Bench) (old new : SimDisk) (a : Answer) → b.power ≡ None → DiskIs size m b.kept (facts old) → DeviceIs size b (mishaps new) (facts new) → a ≡ says printed.Formatted
-    → LeavesOnly (facts new) size formatted → (HasMagic (sector (facts old).content 0) → ⊥) → Formats size m b a new
-formats_ok size Blank b old new a off was device e ok unmarked = (formatted_anew b, inl (e, refl), (off, fresh size (facts new) ok, device), refl)
-formats_ok size Unknown b old new a off was device e ok unmarked = (formatted_anew b, inl (e, refl), (off, fresh size (facts new) ok, device), refl)
-formats_ok size Formatted b old new a off was device e ok unmarked = absurd (unmarked (kept_magic size old was.0))
+pub formats_ok : KeptLaw → (size : Size) (m : Medium) (b : Bench) (old new : SimDisk) (a : Answer) → b.power ≡ None → DiskIs size m b.kept (facts old) → DeviceIs size b (mishaps new) (facts new) → a ≡ says printed.Formatted
+    → LeavesOnly (facts new) size formatted → (IsMarked (facts old).content → ⊥) → Formats size m b a new
+formats_ok law size Blank b old new a off was device e ok unmarked = (formatted_anew b, inl (e, refl), (off, fresh size (facts new) ok, device), refl)
+formats_ok law size Unknown b old new a off was device e ok unmarked = (formatted_anew b, inl (e, refl), (off, fresh size (facts new) ok, device), refl)
+formats_ok law size Formatted b old new a off was device e ok unmarked = absurd (unmarked (law.marked old size was.0))
 
 refused : (a : Answer) (e f : Refusal) → a ≡ says (printed.FormatRefused (number_of e)) → e ≡ f → a ≡ says (printed.FormatRefused (number_of f))
 refused a e f h g = h ∙ ap (λ x. says (printed.FormatRefused (number_of x))) g
 
--- by what a format is refused on a disk that is large enough
-on_blank : (disk : SimDisk) (size : Size) (e : Refusal) (new : Facts) → IsBlank (facts disk) → sectors_of size ≤ length (facts disk).content → FormatRefused (facts disk) size e new → e ≡ Device
-on_blank disk size Device new blank fits h = refl
-on_blank disk size AlreadyFormatted new blank fits h = absurd (blank_magic disk blank h.0)
-on_blank disk size BadShape new blank fits h = absurd (omega (arith, fits, h.0))
-on_blank disk size e new blank fits h = absurd h
-
 -- a refused format of a board that is off
-module _ (size : Size) (b : Bench) (old new : SimDisk) (a : Answer) (e : Refusal) (off : b.power ≡ None) (device : DeviceIs size b (mishaps old) (facts old))
+module _ (kept : KeptLaw) (blank : BlankLaw) (size : Size) (b : Bench) (old new : SimDisk) (a : Answer) (e : Refusal) (off : b.power ≡ None) (device : DeviceIs size b (mishaps old) (facts old))
     (refusal : FormatRefused (facts old) size e (facts new)) (marked : MarkedClause old new) (cause : CausedRefusal (mishaps old) e (mishaps new)) (no_fewer : (facts old).failures ≤ (facts new).failures)
     (fits : SameLength (facts old) (facts new)) (h : a ≡ says (printed.FormatRefused (number_of e))) where
   hinders : (c : Bench) → c.mishaps ≡ b.mishaps → c.failures ≡ b.failures → c.power ≡ None → DiskIs size c.medium c.kept (facts new) → e ≡ Device
@@ -73,7 +64,7 @@ module _ (size : Size) (b : Bench) (old new : SimDisk) (a : Answer) (e : Refusal
 
   pub formats_err : (m : Medium) → b.medium ≡ m → DiskIs size m b.kept (facts old) → Formats size m b a new
   formats_err Blank at was =
-      let x = hinders (unknown b) refl refl off tt (on_blank old size e (facts new) was large refusal) in (x.0, inr x.1, x.2, ap (λ (y : Bench). y.payloads) x.1.1.2)
+      let x = hinders (unknown b) refl refl off tt (blank.formats old new size e was large refusal) in (x.0, inr x.1, x.2, ap (λ (y : Bench). y.payloads) x.1.1.2)
   formats_err Unknown at was =
       let P : Medium → Type 0 = λ m. DiskIs size m b.kept (facts new) in
       elim (is_device e) [
@@ -82,9 +73,9 @@ module _ (size : Size) (b : Bench) (old new : SimDisk) (a : Answer) (e : Refusal
       ]
   formats_err Formatted at was =
       let P : Medium → Type 0 = λ m. DiskIs size m b.kept (facts new) in
-      let passes : Passes (facts old) (facts new) Stays = marked (kept_magic size old was.0) in
-      let now : DiskIs size Formatted b.kept (facts new) = left_on size Formatted b.kept (facts old) (facts new) was (passed (facts old) (facts new) passes) in
-      elim (kept_format (facts old) (facts new) size e large refusal) [
+      let passes : Passes (facts old) (facts new) Stays = marked (kept.marked old size was.0) in
+      let now : DiskIs size Formatted b.kept (facts new) = left_on kept.goes_on size Formatted b.kept old new was (passed old new passes) in
+      elim (kept.formats old new size e large refusal) [
         | inl f ↦ (b, inl (refused a e AlreadyFormatted h f, refl), (off, subst P (sym at) now, keeps (λ d. (let no : ⊥ = cc in no))), refl)
         | inr f ↦ (let x = hinders b refl refl off (subst P (sym at) now) f in (x.0, inr x.1, x.2, ap (λ (y : Bench). y.payloads) x.1.1.2))
       ]

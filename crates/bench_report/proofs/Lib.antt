@@ -1,8 +1,9 @@
 pub mod Table
-pub mod Marks
+pub mod KeptDisks
 pub mod Devices
 pub mod Adapted
 pub mod Formats
+pub mod Armings
 pub mod Opening
 pub mod Commanded
 pub mod Ended

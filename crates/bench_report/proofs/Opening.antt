@@ -5,8 +5,8 @@ use Rattle.board_model.specs.Kept.{Kept, MayFind}
 use Rattle.board_model.specs.Shapes.{Size}
 use Rattle.board_model.specs.Shown.{number_of}
 use Rattle.board_model.specs.declared.refusal.Refusal.{Refusal}
-use Rattle.board_model.specs.declared.refusal.Refusal.TheVariants.{NotFormatted, BadShape, BadRecord, Device, Memory}
-use Rattle.disk.specs.Facts.{Facts, Content}
+use Rattle.board_model.specs.declared.refusal.Refusal.TheVariants.{NotFormatted, Device, Memory}
+use Rattle.disk.specs.Facts.{Facts}
 use Rattle.simdisk.specs.declared.SimDisk.{SimDisk}
 use Rattle.store.specs.Leaves.{Leaves, IsBlank, IsKept, SameLength}
 use Rattle.store.specs.Opens.{CausedRefusal, OpenRefused}
@@ -19,8 +19,7 @@ use Rattle.bench_report.specs.Steps.{says, starved, failed, begun, MayStand, Ope
 use Rattle.bench_report.specs.Agree.{DiskIs, DeviceIs, Follows, OffIs}
 use Rattle.bench_report.proofs.Devices.{is_device, is_memory, five, eleven, hindered, stays}
 use Rattle.bench_report.proofs.Adapted.{struck, calm, failed_open, never_down}
-use Rattle.bench_report.proofs.Marks.{reads, blank_magic}
-use Rattle.store.proofs.Bridges.{kept_open, stands_marked}
+use Rattle.bench_report.proofs.KeptDisks.{KeptLaw, BlankLaw, LeavesLess}
 use Rattle.bench_report.proofs.Ended.{left_on}
 
 -- what an open finds is one of the states that the commands kept let it find; it keeps the command in doubt or drops it
@@ -33,20 +32,10 @@ opens size Formatted b disk z s was leaves formatted one =
     let found : MayFind b.kept s = was.1 s (subst P (sym (one size was.0)) leaves) in
     (record { changes = found.0; doubt = None }, (found.0, found.1, found.2, sym (one size was.0), refl), (refl, found.2, sym (one size was.0)))
 
--- by what an open is refused on a disk that has sectors
-on_blank : (disk : SimDisk) (e : Refusal) (new : Facts) → IsBlank (facts disk) → 0 < length (facts disk).content → OpenRefused (facts disk) e new → (e ≡ NotFormatted) ⊎ (e ≡ Device)
-on_blank disk NotFormatted new blank some h = inl refl
-on_blank disk BadShape new blank some (inl h) = absurd (omega (arith, some, h))
-on_blank disk BadShape new blank some (inr h) = absurd (blank_magic disk blank h.0)
-on_blank disk BadRecord new blank some h = absurd (blank_magic disk blank h.0)
-on_blank disk Device new blank some h = inr refl
-on_blank disk Memory new blank some h = absurd (blank_magic disk blank (stands_marked (facts disk).content h.0 h.1 h.2))
-on_blank disk e new blank some h = absurd h
-
 -- an open that was refused, of a board that is off
-module _ (size : Size) (mode : BootMode) (b : Bench) (old new : SimDisk) (a : Answer) (e : Refusal) (off : b.power ≡ None) (device : DeviceIs size b (mishaps old) (facts old))
+module _ (kept : KeptLaw) (blank : BlankLaw) (size : Size) (mode : BootMode) (b : Bench) (old new : SimDisk) (a : Answer) (e : Refusal) (off : b.power ≡ None) (device : DeviceIs size b (mishaps old) (facts old))
     (refusal : OpenRefused (facts old) e (facts new)) (cause : CausedRefusal (mishaps old) e (mishaps new)) (no_fewer : (facts old).failures ≤ (facts new).failures)
-    (fits : SameLength (facts old) (facts new)) (left : (c : Content) → (facts new).may_leave c → (facts old).may_leave c) (h : a ≡ says (printed.OnRefused (number_of e))) where
+    (fits : SameLength (facts old) (facts new)) (left : LeavesLess old new) (h : a ≡ says (printed.OnRefused (number_of e))) where
   abbrev Stays : Type 0
   Stays = (x : Bench) × PowersOn size mode b a x × OffIs size x new × (x.payloads ≡ b.payloads)
 
@@ -66,7 +55,7 @@ module _ (size : Size) (mode : BootMode) (b : Bench) (old new : SimDisk) (a : An
 
   by_medium : (m : Medium) → b.medium ≡ m → DiskIs size m b.kept (facts old) → DiskIs size b.medium b.kept (facts new) → Stays
   by_medium Blank at was disk =
-      elim (on_blank old e (facts new) was (omega (arith, device.2)) refusal) [
+      elim (blank.opens old new e was (omega (arith, device.2)) refusal) [
         | inl f ↦ (b, inr (inl (1, rw at refl, refused NotFormatted f, refl)), (off, disk, keeps (λ d. (let no : ⊥ = cc in no))), refl)
         | inr f ↦ hinders disk f
       ]
@@ -79,7 +68,7 @@ module _ (size : Size) (mode : BootMode) (b : Bench) (old new : SimDisk) (a : An
         ]
       ]
   by_medium Formatted at was disk =
-      elim (kept_open (facts old) (facts new) size e was.0 (reads old) refusal) [ inl f ↦ hinders disk f | inr f ↦ starves (rw at tt) disk f ]
+      elim (kept.opens old new size e was.0 refusal) [ inl f ↦ hinders disk f | inr f ↦ starves (rw at tt) disk f ]
 
   pub open_err : DiskIs size b.medium b.kept (facts old) → Stays
-  open_err was = by_medium b.medium refl was (left_on size b.medium b.kept (facts old) (facts new) was left)
+  open_err was = by_medium b.medium refl was (left_on kept.goes_on size b.medium b.kept old new was left)

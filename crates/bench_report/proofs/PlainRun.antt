@@ -10,9 +10,10 @@ use Rattle.board_model.specs.declared.boot_mode.BootMode.TheVariants as modes
 use Rattle.script_lang.specs.Scripts.{Script}
 use Rattle.script_lang.specs.declared.line.Line.{Line}
 use Rattle.script_lang.specs.declared.line.Line.TheVariants as lines
+use Rattle.disk.specs.Mishaps.{FaultArmed, CutArmed}
 use Rattle.bench_report.specs.declared.printed.Answer.{Answer}
 use Rattle.bench_report.specs.Bench.{Medium, Blank, Unknown, Formatted, Life, Bench, IsUnspoilt, blank_bench}
-use Rattle.bench_report.specs.Steps.{on_with, settled, acknowledged, begun, Writes, Issued, IssuedBy, ShowsFound, NotBuilt, FormatsOn, Boots, Begins, Opens, IsOpenRefusal, PowersOn, FormatStep, OnStep, SlotStep, PayloadStep, Step, Run}
+use Rattle.bench_report.specs.Steps.{on_with, settled, acknowledged, begun, Writes, Issued, IssuedBy, ShowsFound, NotBuilt, ArmStep, FormatsOn, Boots, Begins, Opens, IsOpenRefusal, PowersOn, FormatStep, OnStep, SlotStep, PayloadStep, Step, Run}
 use Rattle.bench_report.specs.Reports.{IsReport}
 use Rattle.bench_report.specs.Plain.{plain_written, plain_issued, plain_format, plain_mode, plain_boot, plain_on, plain_at, plain, plain_answers, plain_report, IsPlain, ArePlain}
 use Rattle.bench_report.proofs.Determined.{CalmDisk}
@@ -138,9 +139,9 @@ steps size (lines.Slot n) b plain good = slot_at size b.power n b good.1 good
 steps size lines.Discard b plain good = by_power b.power (λ p. Well b (NotBuilt b) (plain_at size p lines.Discard b)) ((refl, refl), good, (refl, refl)) (λ life. ((refl, refl), good, (refl, refl)))
 steps size (lines.Call x y z u v w) b plain good = by_power b.power (λ p. Well b (NotBuilt b) (plain_at size p (lines.Call x y z u v w) b)) ((refl, refl), good, (refl, refl)) (λ life. ((refl, refl), good, (refl, refl)))
 steps size lines.Pending b plain good = by_power b.power (λ p. Well b (NotBuilt b) (plain_at size p lines.Pending b)) ((refl, refl), good, (refl, refl)) (λ life. ((refl, refl), good, (refl, refl)))
-steps size (lines.CutAt x y) b plain good = by_power b.power (λ p. Well b (NotBuilt b) (plain_at size p (lines.CutAt x y) b)) ((refl, refl), good, (refl, refl)) (λ life. ((refl, refl), good, (refl, refl)))
+steps size (lines.CutAt x y) b plain good = by_power b.power (λ p. Well b (ArmStep CutArmed b) (plain_at size p (lines.CutAt x y) b)) ((refl, refl), good, (refl, refl)) (λ life. ((refl, refl), good, (refl, refl)))
 steps size (lines.CutLane x y z) b plain good = by_power b.power (λ p. Well b (NotBuilt b) (plain_at size p (lines.CutLane x y z) b)) ((refl, refl), good, (refl, refl)) (λ life. ((refl, refl), good, (refl, refl)))
-steps size (lines.FailAt x) b plain good = by_power b.power (λ p. Well b (NotBuilt b) (plain_at size p (lines.FailAt x) b)) ((refl, refl), good, (refl, refl)) (λ life. ((refl, refl), good, (refl, refl)))
+steps size (lines.FailAt x) b plain good = by_power b.power (λ p. Well b (ArmStep FaultArmed b) (plain_at size p (lines.FailAt x) b)) ((refl, refl), good, (refl, refl)) (λ life. ((refl, refl), good, (refl, refl)))
 steps size (lines.FailLane x y) b plain good = by_power b.power (λ p. Well b (NotBuilt b) (plain_at size p (lines.FailLane x y) b)) ((refl, refl), good, (refl, refl)) (λ life. ((refl, refl), good, (refl, refl)))
 steps size (lines.Poke x y z) b plain good = by_power b.power (λ p. Well b (NotBuilt b) (plain_at size p (lines.Poke x y z) b)) ((refl, refl), good, (refl, refl)) (λ life. ((refl, refl), good, (refl, refl)))
 steps size (lines.Cut fill) b plain good =

@@ -17,9 +17,10 @@ use Rattle.machine.specs.Machine.{Machine}
 use Rattle.machine_lines.specs.declared.line.MachineLine.{MachineLine}
 use Rattle.bench_report.specs.declared.printed.Printed.{Printed}
 use Rattle.bench_report.specs.declared.printed.Printed.TheVariants as printed
+use Rattle.disk.specs.Mishaps.{FaultArmed, CutArmed}
 use Rattle.bench_report.specs.declared.printed.Answer.{Answer}
 use Rattle.bench_report.specs.Bench.{Medium, Blank, Unknown, Formatted, Life, Bench, blank_bench}
-use Rattle.bench_report.specs.Steps.{says, shows, starved, failed, on_with, unpowered, formatted_anew, settled, has_machine, begun, commands_of, slot_told, IsOn, Starts, Begins, Boots, Opens, ShowsFound, IsOpenRefusal, PowersOn, FormatsOn, FormatStep, OnStep, SlotStep, PayloadStep, TurnStep, ReadStep, Step, Moves, Run}
+use Rattle.bench_report.specs.Steps.{says, shows, starved, failed, on_with, unpowered, armed_with, formatted_anew, settled, has_machine, begun, commands_of, slot_told, IsOn, Starts, Begins, Boots, Opens, ShowsFound, IsOpenRefusal, PowersOn, FormatsOn, FormatStep, OnStep, SlotStep, PayloadStep, TurnStep, ReadStep, Step, Moves, Run}
 use Rattle.bench_report.specs.Reports.{IsReport}
 use Rattle.bench_report.specs.Prefix.{Asked, Boot, Command, Nothing, asked_by, Refused, Lost, Tells, ShowsIts, IsPrefixed, resumed, resumes, RisesFrom, is_format_ok, IsFoundByPrefix, KeepsPrefixLaw}
 use Rattle.bench_report.proofs.Issues.{takes_more, is_up, GoesOn, IsSound, Back, joined, said, Went, Does, issued_back, AllWent, all_back}
@@ -250,9 +251,9 @@ steps size (lines.Pc x) b a new sound h = read_at b.power _ b a new sound h
 steps size (lines.Csr x y) b a new sound h = read_at b.power _ b a new sound h
 steps size lines.Pending b a new sound h = not_built b a new sound h.0 h.1
 steps size (lines.Mem x y) b a new sound h = read_at b.power _ b a new sound h
-steps size (lines.CutAt x y) b a new sound h = not_built b a new sound h.0 h.1
+steps size (lines.CutAt x y) b a new sound h = same Nothing b a _ new (armed_with CutArmed b) h.0 h.1 refl refl refl sound.1 sound (λ s t e. (e, refl))
 steps size (lines.CutLane x y z) b a new sound h = not_built b a new sound h.0 h.1
-steps size (lines.FailAt x) b a new sound h = not_built b a new sound h.0 h.1
+steps size (lines.FailAt x) b a new sound h = same Nothing b a _ new (armed_with FaultArmed b) h.0 h.1 refl refl refl sound.1 sound (λ s t e. (e, refl))
 steps size (lines.FailLane x y) b a new sound h = not_built b a new sound h.0 h.1
 steps size (lines.Cut fill) b a new sound h = by_eqs Nothing b a _ new (unpowered b) h.0 h.1 ((sound.0, tt), λ t f. (t, f, (tt, (refl, refl))))
 steps size (lines.Poke x y z) b a new sound h = not_built b a new sound h.0 h.1

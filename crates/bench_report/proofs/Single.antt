@@ -3,6 +3,7 @@ use Rattle.std.proofs.Common.{◌≡◌, ◌⊎◌, ℕ, inl, inr, List, [], ◌
 use Rattle.board_model.specs.Durable.{Slot}
 use Rattle.board_model.specs.Shapes.{Size}
 use Rattle.board_model.specs.declared.boot_mode.BootMode.{BootMode}
+use Rattle.disk.specs.Mishaps.{FaultArmed, CutArmed}
 use Rattle.machine.specs.Machine.{Machine}
 use Rattle.machine_lines.specs.declared.line.MachineLine.{MachineLine}
 use Rattle.machine_lines.specs.Shows.{TurnsLine, CsrLine}
@@ -11,7 +12,7 @@ use Rattle.script_lang.specs.declared.line.Line.{Line}
 use Rattle.script_lang.specs.declared.line.Line.TheVariants as lines
 use Rattle.bench_report.specs.declared.printed.Answer.{Answer}
 use Rattle.bench_report.specs.Bench.{Life, Bench, IsUnspoilt, blank_bench}
-use Rattle.bench_report.specs.Steps.{shows, unpowered, on_with, has_machine, slot_told, FormatStep, OnStep, SlotStep, PayloadStep, TurnStep, ReadStep, Step, Moves, Run}
+use Rattle.bench_report.specs.Steps.{shows, unpowered, armed_with, on_with, has_machine, slot_told, FormatStep, OnStep, SlotStep, PayloadStep, TurnStep, ReadStep, Step, Moves, Run}
 use Rattle.bench_report.specs.Reports.{IsReport}
 use Rattle.bench_report.proofs.Determined.{IsSpoilt, IsCalm, Fair, fair_to, unmoved, issued_fair, Agree, same, issued, formats_fair, formats, powers_fair, powers}
 
@@ -60,9 +61,9 @@ step_fair size (lines.Pc x) b a new h = read_fair b.power _ b a new h
 step_fair size (lines.Csr x y) b a new h = read_fair b.power _ b a new h
 step_fair size lines.Pending b a new h = unmoved b new h.1
 step_fair size (lines.Mem x y) b a new h = read_fair b.power _ b a new h
-step_fair size (lines.CutAt x y) b a new h = unmoved b new h.1
+step_fair size (lines.CutAt x y) b a new h = fair_to b new (armed_with CutArmed b) h.1 (λ s. s, λ c. inr c)
 step_fair size (lines.CutLane x y z) b a new h = unmoved b new h.1
-step_fair size (lines.FailAt x) b a new h = unmoved b new h.1
+step_fair size (lines.FailAt x) b a new h = fair_to b new (armed_with FaultArmed b) h.1 (λ s. s, λ c. inr c)
 step_fair size (lines.FailLane x y) b a new h = unmoved b new h.1
 step_fair size (lines.Cut fill) b a new h = fair_to b new (unpowered b) h.1 (λ s. s, λ c. inr c)
 step_fair size (lines.Poke x y z) b a new h = unmoved b new h.1
@@ -129,9 +130,9 @@ steps turns csr size (lines.Pc h) b a z new last calm x y = read_at _ (λ m line
 steps turns csr size (lines.Csr h n) b a z new last calm x y = read_at (λ m line. CsrLine h n m line) (csr h n) b.power b a z new last x y
 steps turns csr size lines.Pending b a z new last calm x y = not_built b a z _ new last x y
 steps turns csr size (lines.Mem i n) b a z new last calm x y = read_at _ (λ m line also p q. p ∙ sym q) b.power b a z new last x y
-steps turns csr size (lines.CutAt n fill) b a z new last calm x y = not_built b a z _ new last x y
+steps turns csr size (lines.CutAt n fill) b a z new last calm x y = same a z _ new last _ x.0 y.0 x.1 y.1
 steps turns csr size (lines.CutLane i n fill) b a z new last calm x y = not_built b a z _ new last x y
-steps turns csr size (lines.FailAt n) b a z new last calm x y = not_built b a z _ new last x y
+steps turns csr size (lines.FailAt n) b a z new last calm x y = same a z _ new last _ x.0 y.0 x.1 y.1
 steps turns csr size (lines.FailLane i n) b a z new last calm x y = not_built b a z _ new last x y
 steps turns csr size (lines.Cut fill) b a z new last calm x y = same a z _ new last _ x.0 y.0 x.1 y.1
 steps turns csr size (lines.Poke k n bytes) b a z new last calm x y = not_built b a z _ new last x y

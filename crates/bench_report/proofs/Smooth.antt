@@ -13,9 +13,10 @@ use Rattle.script_lang.specs.declared.line.Line.{Line}
 use Rattle.script_lang.specs.declared.line.Line.TheVariants as lines
 use Rattle.bench_report.specs.declared.printed.Printed.{Printed}
 use Rattle.bench_report.specs.declared.printed.Printed.TheVariants as printed
+use Rattle.disk.specs.Mishaps.{FaultArmed, CutArmed}
 use Rattle.bench_report.specs.declared.printed.Answer.{Answer}
 use Rattle.bench_report.specs.Bench.{Medium, Blank, Unknown, Formatted, Life, Bench, IsUnspoilt, blank_bench}
-use Rattle.bench_report.specs.Steps.{says, off, on_with, unpowered, formatted_anew, settled, has_machine, acknowledged, begun, commands_of, slot_told, Writes, IssuedBy, IssuesAll, FormatsOn, IsOn, Starts, Begins, Boots, Opens, PowersOn, FormatStep, OnStep, SlotStep, PayloadStep, TurnStep, ReadStep, Step, Moves, Run}
+use Rattle.bench_report.specs.Steps.{says, off, on_with, unpowered, armed_with, formatted_anew, settled, has_machine, acknowledged, begun, commands_of, slot_told, Writes, IssuedBy, IssuesAll, FormatsOn, IsOn, Starts, Begins, Boots, Opens, PowersOn, FormatStep, OnStep, SlotStep, PayloadStep, TurnStep, ReadStep, Step, Moves, Run}
 use Rattle.bench_report.specs.Reports.{IsReport}
 use Rattle.bench_report.specs.Plain.{IsSmooth, AreSmooth}
 
@@ -149,9 +150,9 @@ step_smooth size (lines.Pc x) b a new h smooth = read_at b.power _ b a new h
 step_smooth size (lines.Csr x y) b a new h smooth = read_at b.power _ b a new h
 step_smooth size lines.Pending b a new h smooth = as_many b b new refl refl h.1
 step_smooth size (lines.Mem x y) b a new h smooth = read_at b.power _ b a new h
-step_smooth size (lines.CutAt x y) b a new h smooth = as_many b b new refl refl h.1
+step_smooth size (lines.CutAt x y) b a new h smooth = as_many b (armed_with CutArmed b) new refl refl h.1
 step_smooth size (lines.CutLane x y z) b a new h smooth = as_many b b new refl refl h.1
-step_smooth size (lines.FailAt x) b a new h smooth = as_many b b new refl refl h.1
+step_smooth size (lines.FailAt x) b a new h smooth = as_many b (armed_with FaultArmed b) new refl refl h.1
 step_smooth size (lines.FailLane x y) b a new h smooth = as_many b b new refl refl h.1
 step_smooth size (lines.Cut fill) b a new h smooth = as_many b (unpowered b) new refl refl h.1
 step_smooth size (lines.Poke x y z) b a new h smooth = as_many b b new refl refl h.1

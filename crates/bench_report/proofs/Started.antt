@@ -2,7 +2,7 @@
 use Rattle.std.proofs.Common.{◌≡◌, ◌≢◌, ◌≤◌, ℕ, List, [], ◌∷◌, Option, None, Some, IfSome, Ok, Err, inl, inr, refl, sym, ◌∙◌, ap, subst, arith, lit<}
 use Rattle.board_model.specs.Durable.{State, Change, Discard, after, refusal_of}
 use Rattle.board_model.specs.Kept.{Kept}
-use Rattle.board_model.specs.Shapes.{Size, ram_bytes_of}
+use Rattle.board_model.specs.Shapes.{Size, IsSize, ram_bytes_of}
 use Rattle.board_model.specs.Shown.{number_of, durable_of}
 use Rattle.board_model.specs.declared.boot_mode.BootMode.{BootMode}
 use Rattle.board_model.specs.declared.boot_mode.BootMode.TheVariants as modes
@@ -30,12 +30,12 @@ use Rattle.bench_report.proofs.Adapted.{calm}
 use Rattle.bench_report.proofs.Commanded.{follows_more, follows_with}
 use Rattle.bench_report.proofs.Devices.{hindered, stays}
 use Rattle.bench_report.proofs.Ended.{left_only, left_either}
-use Rattle.bench_report.proofs.Marks.{leaves_marked, leaves_size, leaves_least}
+use Rattle.bench_report.proofs.KeptDisks.{KeptLaw, BlankLaw}
 use Rattle.bench_report.proofs.Opening.{opens, open_err}
 use Rattle.bench_report.proofs.Table.{mode_not_device, mode_not_down}
 
-pub roomy : (size : Size) (payloads : List (List ℕ)) → 4096 ≤ ram_bytes_of size → AreShort payloads → Fits size payloads
-roomy size payloads least short = λ k d lt. omega (arith, least, short k d lt)
+pub roomy : (size : Size) (payloads : List (List ℕ)) → IsSize size → AreShort payloads → Fits size payloads
+roomy size payloads is short = λ k d lt. omega (arith, is.2, short k d lt)
 
 no_doubt : (e : Refusal) → e ≢ Down → doubt_after e ≡ None
 no_doubt Down up = absurd (up refl)
@@ -59,8 +59,8 @@ kept_either size z Unknown k s disk follows l = tt
 kept_either size z Formatted k s disk follows l = left_either size z (record k { doubt = Some Discard }) Discard s disk refl follows.1 follows.2 l
 
 -- an open that found a state
-opened : (size : Size) (b : Bench) (old : SimDisk) (z : Size) (s : State) → OffIs size b old → Leaves (facts old) z s → (k : Kept) × Opens size b.medium b s z (record b { kept = k }) × Follows size b.medium k (begun s z) z
-opened size b old z s off leaves = opens size b.medium b (facts old) z s off.1 leaves (leaves_marked (facts old) z s leaves) (λ y kept. leaves_size (facts old) y z s leaves kept)
+opened : KeptLaw → BlankLaw → (size : Size) (b : Bench) (old : SimDisk) (z : Size) (s : State) → OffIs size b old → Leaves (facts old) z s → (k : Kept) × Opens size b.medium b s z (record b { kept = k }) × Follows size b.medium k (begun s z) z
+opened kept blank size b old z s off leaves = opens size b.medium b (facts old) z s off.1 leaves (λ is. blank.stands old z s is leaves) (λ y is. kept.one_size old y z s leaves is)
 
 -- the machine of a board that booted the slot
 boots_as : (payloads slots : List (List ℕ)) (board : Board) (s : State) (z : Size) → payloads ≡ slots → machine_in board ≡ booted payloads (now_of (life_of (store_in board))) z → now_of (life_of (store_in board)) ≡ s
@@ -99,13 +99,13 @@ on_begun modes.Discard size b payloads s board line follows device same boots li
     )
 on_begun modes.Resume size b payloads s board line follows device same boots life allowed goes h = absurd goes
 
-pub power_ok : (size : Size) (mode : BootMode) (b : Bench) (payloads : List (List ℕ)) (old : SimDisk) (board : Board) (s : State) (a : Answer) → OffIs size b old → payloads ≡ b.payloads → Leaves (facts old) (store_size (store_in board)) s
+pub power_ok : KeptLaw → BlankLaw → (size : Size) (mode : BootMode) (b : Bench) (payloads : List (List ℕ)) (old : SimDisk) (board : Board) (s : State) (a : Answer) → OffIs size b old → payloads ≡ b.payloads → Leaves (facts old) (store_size (store_in board)) s
     → ShowsFound a.found s → a.line ≡ printed.On mode → machine_in board ≡ booted payloads (now_of (life_of (store_in board))) (store_size (store_in board)) → life_of (store_in board) ≡ life_after mode s → boot_refusal s mode ≡ None
     → BootsSlot mode → store_mishaps (store_in board) ≡ mishaps old → (facts old).failures ≤ (store_facts (store_in board)).failures → SameLength (facts old) (store_facts (store_in board))
     → (x : Bench) × PowersOn size mode b a x × OnIs size x board × (x.payloads ≡ b.payloads)
-power_ok size mode b payloads old board s a off same leaves shows h boots life allowed goes cause no_fewer long =
+power_ok kept blank size mode b payloads old board s a off same leaves shows h boots life allowed goes cause no_fewer long =
     let z = store_size (store_in board) in
-    let m = opened size b old z s off leaves in
+    let m = opened kept blank size b old z s off leaves in
     let c : Bench = record b { kept = m.0 } in
     let device = stays size c (mishaps old) (store_mishaps (store_in board)) (facts old) (store_facts (store_in board)) off.2 cause no_fewer long in
     let did = on_begun mode size c payloads s board a.line m.2 device same boots life allowed goes h in
@@ -165,24 +165,24 @@ module _ (size : Size) (b : Bench) (old new : SimDisk) (z : Size) (s : State) (p
 abbrev pub Unpowered : Size → BootMode → Bench → Answer → SimDisk → Type 0
 Unpowered size mode b a new = (x : Bench) × PowersOn size mode b a x × OffIs size x new × (x.payloads ≡ b.payloads)
 
-power_err : (size : Size) (mode : BootMode) (b : Bench) (old new : SimDisk) (z : Size) (s : State) (payloads : List (List ℕ)) (e : Refusal) (a : Answer) → OffIs size b old → Leaves (facts old) z s → ShowsFound a.found s
+power_err : KeptLaw → BlankLaw → (size : Size) (mode : BootMode) (b : Bench) (old new : SimDisk) (z : Size) (s : State) (payloads : List (List ℕ)) (e : Refusal) (a : Answer) → OffIs size b old → Leaves (facts old) z s → ShowsFound a.found s
     → a.line ≡ printed.OnRefused (number_of e) → AreShort payloads → IsBootRefusal (boot_refusal s mode) z mode payloads e → LeavesLife (doubt_after e) (facts new) z s → CausedRefusal (mishaps old) e (mishaps new)
     → CountsRefusal (facts old).failures e (facts new).failures → (facts old).failures ≤ (facts new).failures → SameLength (facts old) (facts new) → Unpowered size mode b a new
-power_err size mode b old new z s payloads e a off leaves shows h short why left cause counts no_fewer long =
-    let m = opened size b old z s off leaves in
+power_err kept blank size mode b old new z s payloads e a off leaves shows h short why left cause counts no_fewer long =
+    let m = opened kept blank size b old z s off leaves in
     let c : Bench = record b { kept = m.0 } in
-    let fits = roomy z payloads (leaves_least (facts old) z s leaves) short in
+    let fits = roomy z payloads (kept.sized old z s leaves) short in
     let did = refused size c old new z s payloads a.line off.0 off.2 m.2 fits no_fewer long mode (boot_refusal s mode) e refl h why left cause counts in
     (did.0, inl (s, z, c, m.1, shows, did.1), did.2, did.3)
 
 -- the board stays off, whether the open found a state or not
-pub unpowered : (size : Size) (mode : BootMode) (b : Bench) (old new : SimDisk) (payloads : List (List ℕ)) (e : Refusal) (n : ℕ) (o : Option Durable) → OffIs size b old → AreShort payloads → n ≡ number_of e
+pub unpowered : KeptLaw → BlankLaw → (size : Size) (mode : BootMode) (b : Bench) (old new : SimDisk) (payloads : List (List ℕ)) (e : Refusal) (n : ℕ) (o : Option Durable) → OffIs size b old → AreShort payloads → n ≡ number_of e
     → IfSome o (λ d. (z : Size) × (s : State) × (d ≡ durable_of s) × StandsFor (facts old).content z s × Leaves (facts old) z s × IsBootRefusal (boot_refusal s mode) z mode payloads e × LeavesLife (doubt_after e) (facts new) z s
     × LeavesSince (facts old) (facts new) (MayLeave (facts old) z s (gone_before e)))
     → (o ≡ None → OpenRefused (facts old) e (facts new)) → (o ≡ None → LeavesSince (facts old) (facts new) (facts old).may_leave) → CausedRefusal (mishaps old) e (mishaps new)
     → CountsRefusal (facts old).failures e (facts new).failures → (facts old).failures ≤ (facts new).failures → SameLength (facts old) (facts new)
     → Unpowered size mode b (record { found = o; line = printed.OnRefused n }) new
-unpowered size mode b old new payloads e n None off short code found why left cause counts no_fewer long =
-    open_err size mode b old new (says (printed.OnRefused n)) e off.0 off.2 (why refl) cause no_fewer long (left refl).now (ap (λ k. says (printed.OnRefused k)) code) off.1
-unpowered size mode b old new payloads e n (Some d) off short code found why left cause counts no_fewer long =
-    power_err size mode b old new found.0 found.1 payloads e (record { found = Some d; line = printed.OnRefused n }) off found.4 found.2 (ap (λ k. printed.OnRefused k) code) short found.5 found.6 cause counts no_fewer long
+unpowered kept blank size mode b old new payloads e n None off short code found why left cause counts no_fewer long =
+    open_err kept blank size mode b old new (says (printed.OnRefused n)) e off.0 off.2 (why refl) cause no_fewer long (left refl).now (ap (λ k. says (printed.OnRefused k)) code) off.1
+unpowered kept blank size mode b old new payloads e n (Some d) off short code found why left cause counts no_fewer long =
+    power_err kept blank size mode b old new found.0 found.1 payloads e (record { found = Some d; line = printed.OnRefused n }) off found.4 found.2 (ap (λ k. printed.OnRefused k) code) short found.5 found.6 cause counts no_fewer long

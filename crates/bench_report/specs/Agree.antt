@@ -1,10 +1,12 @@
 -- How the code's disk and board stand for the bench of the model.
-use Rattle.std.specs.Prelude.{◌≡◌, ℕ, List, All, ◌≤◌, Option, Some, None, length, ⊤}
+use Rattle.std.specs.Prelude.{◌≡◌, ◌⊎◌, true, false, ℕ, List, All, ◌≤◌, Option, Some, None, length, ⊤}
 use Rattle.board_model.specs.Durable.{State}
 use Rattle.board_model.specs.Kept.{Kept, MayFind, found_of}
 use Rattle.board_model.specs.Shapes.{Size, sectors_of}
 use Rattle.disk.specs.Facts.{Facts}
 use Rattle.disk.specs.Mishaps.{Mishaps}
+use Rattle.disk.specs.declared.device.ArmedFault.{ArmedFault}
+use Rattle.disk.specs.declared.device.ArmedFault.TheVariants as faults
 use Rattle.simdisk.specs.declared.SimDisk.{SimDisk}
 use Rattle.simdisk.specs.declared.choice.Choice.{Choice}
 use Rattle.simdisk.specs.declared.choice.Choice.TheVariants as choices
@@ -12,11 +14,15 @@ use Rattle.simdisk.specs.Choices.{left_by}
 use Rattle.simdisk.specs.Record.{synced}
 use Rattle.script_lang.specs.declared.line.Fill.{Fill}
 use Rattle.script_lang.specs.declared.line.Fill.TheVariants as fills
+use Rattle.script_lang.specs.declared.line.Line.{Line}
+use Rattle.script_lang.specs.declared.line.Line.TheVariants as lines
 use Rattle.store.specs.Leaves.{Leaves, IsBlank, IsKept, IsIdle}
 use Rattle.bench_report.specs.declared.power.Power.{Power}
 use Rattle.bench_report.specs.declared.power.Power.TheVariants.{Off, On}
-use Rattle.bench_report.specs.Below.{Store, Board, store_in, machine_in, facts, record_of, mishaps, store_facts, store_mishaps, store_size, IsAs}
+use Rattle.bench_report.specs.Below.{Store, Board, store_in, machine_in, facts, arms, store_arms, record_of, mishaps, store_facts, store_mishaps, store_size, IsAs}
 use Rattle.bench_report.specs.Bench.{Medium, Blank, Unknown, Formatted, Life, Bench}
+use Rattle.bench_report.specs.Steps.{Step}
+use Rattle.bench_report.specs.declared.printed.Answer.{Answer}
 
 -- what a crash may leave of the disk is what an open may find of the commands that it keeps
 abbrev pub DiskIs : Size → Medium → Kept → Facts → Type 0
@@ -72,6 +78,29 @@ HasDisk (On board) d = (facts d).content ≡ (store_facts (store_in board)).cont
 abbrev pub IsCutBy : Fill → SimDisk → Power → Type 0
 IsCutBy fill d (Off left) = (facts left).content ≡ left_by (choice_by fill) (synced (record_of d)) (record_of d).written
 IsCutBy fill d (On board) = ⊥
+
+-- that fault is armed on the disk, whether the board is off or on, and each call of it is still to come
+abbrev pub Arms : ArmedFault → Power → Type 0
+Arms fault (Off disk) = arms disk fault
+Arms fault (On board) = store_arms (store_in board) fault
+
+-- what a line arms
+abbrev pub ArmsIts : Line → Power → Type 0
+ArmsIts (lines.CutAt n fill) power = Arms (faults.CutAt n) power
+ArmsIts (lines.FailAt n) power = Arms (faults.FailAt n) power
+ArmsIts line power = ⊤
+
+-- what an armed cut is to leave after a line: as the line says that armed the newest one
+abbrev pub fill_after : Line → Fill → Fill
+fill_after (lines.CutAt n newest) fill = newest
+fill_after line fill = fill
+
+-- A line was run to its end; or an armed cut struck within it, and then power was cut by the fill, whatever the line would have
+-- answered and left.
+abbrev pub EndsBy : Size → Line → Fill → Bench → Answer → Power → Type 0
+EndsBy size line fill b answer left =
+    ((new : Bench) × Step size line b answer new × (new.mishaps.struck ≡ false))
+    ⊎ ((would : Answer) × (mid : Bench) × (after : Power) × (disk : SimDisk) × Step size line b would mid × (mid.mishaps.struck ≡ true) × Agrees size mid after × HasDisk after disk × IsCutBy fill disk left)
 
 -- nothing of a disk that no store holds is lent
 abbrev pub IsResting : Power → Type 0

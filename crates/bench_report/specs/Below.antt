@@ -4,6 +4,7 @@ use Rattle.board_model.specs.Durable.{State, Change}
 use Rattle.board_model.specs.Shapes.{Size}
 use Rattle.disk.specs.Facts.{Facts}
 use Rattle.disk.specs.Mishaps.{Mishaps}
+use Rattle.disk.specs.declared.device.ArmedFault.{ArmedFault}
 use Rattle.simdisk.specs.declared.SimDisk.{SimDisk}
 use Rattle.simdisk.specs.declared.SimLane.{SimLane}
 use Rattle.simdisk.specs.contracts.device.SimDiskDisk.TheImpl as sim_disk
@@ -39,6 +40,10 @@ facts disk = sim_disk.ghosts.facts disk
 abbrev pub mishaps : SimDisk → Mishaps
 mishaps disk = sim_disk.ghosts.mishaps disk
 
+-- that fault is armed on it, and each call of it is still to come
+abbrev pub arms : SimDisk → ArmedFault → Type 0
+arms disk fault = sim_disk.ghosts.arms disk fault
+
 -- its record of writes and syncs
 abbrev pub record_of : SimDisk → Record
 record_of disk = sim_record.ghosts.record disk
@@ -49,6 +54,9 @@ store_facts store = stores.disk_of store
 
 abbrev pub store_mishaps : Store → Mishaps
 store_mishaps store = stores.mishaps_of store
+
+abbrev pub store_arms : Store → ArmedFault → Type 0
+store_arms store fault = stores.arms_of store fault
 
 -- the size of the board that a store's disk was formatted for
 abbrev pub store_size : Store → Size

@@ -5,6 +5,7 @@ use Rattle.board_model.specs.Durable.{State, Change, Slot, Discard, refusal_of, 
 use Rattle.board_model.specs.Kept.{found_of}
 use Rattle.board_model.specs.Shapes.{Size}
 use Rattle.board_model.specs.Shown.{durable_of}
+use Rattle.disk.specs.Mishaps.{FaultArmed, CutArmed}
 use Rattle.board_model.specs.declared.refusal.Refusal.{Refusal}
 use Rattle.script_lang.specs.Scripts.{Script, script_of, ◌>>>◌}
 use Rattle.board.specs.Boots.{boot_refusal, booted}
@@ -17,7 +18,7 @@ use Rattle.bench_report.specs.declared.printed.Answer.{Answer}
 use Rattle.bench_report.specs.declared.printed.Printed.{Printed}
 use Rattle.bench_report.specs.declared.printed.Printed.TheVariants as printed
 use Rattle.bench_report.specs.Bench.{Medium, Blank, Unknown, Formatted, Life, Bench, blank_bench}
-use Rattle.bench_report.specs.Steps.{says, shows, on_with, unpowered, formatted_anew, settled, has_machine, acknowledged, begun, slot_told}
+use Rattle.bench_report.specs.Steps.{says, shows, on_with, unpowered, armed_with, formatted_anew, settled, has_machine, acknowledged, begun, slot_told}
 use Rattle.bench_report.specs.Reports.{board_answer, report_text}
 
 -- a command's receipt or number, and the bench after it, by the number with which the table refuses it
@@ -74,6 +75,8 @@ plain_at size (Some life) (lines.On mode) b = (says printed.Busy, b)
 plain_at size None (lines.Slot n) b = (says printed.Off, b)
 plain_at size (Some life) (lines.Slot n) b = (slot_told (plain_issued (Slot n) life b).0, (plain_issued (Slot n) life b).1)
 plain_at size p (lines.Cut fill) b = (says printed.Cut, unpowered b)
+plain_at size p (lines.CutAt n fill) b = (says printed.Armed, armed_with CutArmed b)
+plain_at size p (lines.FailAt n) b = (says printed.Armed, armed_with FaultArmed b)
 plain_at size None (lines.Payload s bytes) b = (shows (shown.Payload s (length bytes)), record b { payloads = slice_set b.payloads s bytes })
 plain_at size (Some life) (lines.Payload s bytes) b = (shows shown.Busy, b)
 plain_at size p line b = (says printed.NotBuilt, b)

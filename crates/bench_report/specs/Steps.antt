@@ -7,7 +7,7 @@ use Rattle.board_model.specs.Shapes.{Size}
 use Rattle.board_model.specs.Shown.{durable_of}
 use Rattle.board_model.specs.declared.durable.Durable.{Durable}
 use Rattle.disk.specs.Facts.{counted}
-use Rattle.disk.specs.Mishaps.{Mishaps, Cause, mishaps_left}
+use Rattle.disk.specs.Mishaps.{Armed, FaultArmed, CutArmed, Mishaps, Cause, mishaps_left}
 use Rattle.board_model.specs.declared.boot_mode.BootMode.{BootMode}
 use Rattle.board_model.specs.declared.boot_mode.BootMode.TheVariants as modes
 use Rattle.board.specs.Boots.{boot_refusal, booted}
@@ -56,6 +56,10 @@ on_with life b = record b { power = Some life }
 -- power was cut
 abbrev pub unpowered : Bench → Bench
 unpowered b = record b { power = None; mishaps = mishaps_left b.mishaps }
+
+-- a cut or a failure is armed, in the place of an older one
+abbrev pub armed_with : Armed → Bench → Bench
+armed_with armed b = record b { mishaps = record b.mishaps { armed = armed } }
 
 -- nothing is known of the disk any more
 abbrev pub unknown : Bench → Bench
@@ -219,6 +223,10 @@ abbrev pub ReadStep : Option Life → (Machine → MachineLine → Type 0) → B
 ReadStep None says_so b answer new = (answer ≡ shows shown.Off) × (new ≡ b)
 ReadStep (Some life) says_so b answer new = (line : MachineLine) × says_so life.machine line × (answer ≡ shows line) × (new ≡ b)
 
+-- a line that arms a cut or a failure, with the board on or off
+abbrev pub ArmStep : Armed → Bench → Answer → Bench → Type 0
+ArmStep armed b answer new = (answer ≡ says printed.Armed) × (new ≡ armed_with armed b)
+
 -- a line that is well formed and not built yet does nothing
 abbrev pub NotBuilt : Bench → Answer → Bench → Type 0
 NotBuilt b answer new = (answer ≡ says printed.NotBuilt) × (new ≡ b)
@@ -237,9 +245,9 @@ Step size (lines.Pc h) b answer new = ReadStep b.power (λ m line. line ≡ pc_l
 Step size (lines.Csr h c) b answer new = ReadStep b.power (λ m line. CsrLine h c m line) b answer new
 Step size lines.Pending b answer new = NotBuilt b answer new
 Step size (lines.Mem a n) b answer new = ReadStep b.power (λ m line. line ≡ mem_line a n m) b answer new
-Step size (lines.CutAt n fill) b answer new = NotBuilt b answer new
+Step size (lines.CutAt n fill) b answer new = ArmStep CutArmed b answer new
 Step size (lines.CutLane i n fill) b answer new = NotBuilt b answer new
-Step size (lines.FailAt n) b answer new = NotBuilt b answer new
+Step size (lines.FailAt n) b answer new = ArmStep FaultArmed b answer new
 Step size (lines.FailLane i n) b answer new = NotBuilt b answer new
 Step size (lines.Cut fill) b answer new = (answer ≡ says printed.Cut) × (new ≡ unpowered b)
 Step size (lines.Poke k n bytes) b answer new = NotBuilt b answer new

@@ -26,6 +26,7 @@ line_text (printed.OnRefused n) = codes "on refused " ++ decimal n
 line_text (printed.Slot n) = codes "slot ok " ++ decimal n
 line_text (printed.SlotRefused n) = codes "slot refused " ++ decimal n
 line_text printed.Cut = codes "cut"
+line_text printed.Armed = codes "armed"
 line_text printed.PowerLost = codes "power lost"
 line_text printed.Busy = codes "busy"
 line_text printed.Off = codes "off"

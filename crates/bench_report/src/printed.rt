@@ -26,6 +26,8 @@ pub enum Printed {
     SlotRefused(u32),
     /// `cut`
     Cut,
+    /// `armed`: a cut or a failure is armed.
+    Armed,
     /// `power lost`: an armed cut struck within the line.
     PowerLost,
     /// `busy`: not while the board is on.
@@ -80,6 +82,7 @@ impl fmt::Display for Printed {
             Printed::Slot(n) => write!(f, "slot ok {n}"),
             Printed::SlotRefused(n) => write!(f, "slot refused {n}"),
             Printed::Cut => f.write_str("cut"),
+            Printed::Armed => f.write_str("armed"),
             Printed::PowerLost => f.write_str("power lost"),
             Printed::Busy => f.write_str("busy"),
             Printed::Off => f.write_str("off"),

@@ -21,10 +21,11 @@ use crate::printed::{Answer, FoundLine, Printed};
 use crate::steps::{disk_left, moves};
 use board::Payloads;
 use board_model::{Durable, Refusal, Shape};
-use script_lang::{Line, Script, parse_script};
+use script_lang::{Fill, Line, Script, parse_script};
 use simdisk::SimDisk;
 use std::alloc::{AllocError, Global};
 use std::io::Write;
+use store::blank_disks;
 
 /// How many lines a run wrote, and what each power-on found.
 #[derive(Drop)]
@@ -124,6 +125,7 @@ fn run_line<W: Write>(
     line: &Line,
     power: Power,
     payloads: &mut Payloads,
+    fill: &mut Fill,
     out: &mut W,
     report: &mut Report,
 ) -> (Power, Result<(), Refusal>)
@@ -140,7 +142,7 @@ fn run_line<W: Write>(
         ⊎ ((answer : Answer) × (new : Bench) × Moves shape.now line.now b answer new × Agrees shape.now new result.0)) }
     ensures err { IfErr result.1 (λ e. (e ≡ Refusal.Output) ⊎ (e ≡ Refusal.Memory)) }
 {
-    let (after, answer) = moves(alloc, shape, line, power, payloads);
+    let (after, answer) = moves(alloc, shape, line, power, payloads, fill);
     match answer {
         Ok(answer) => {
             let added = add(out, report, &answer);
@@ -157,6 +159,7 @@ fn run_lines<W: Write>(
     lines: &[Line],
     power: Power,
     payloads: &mut Payloads,
+    fill: &mut Fill,
     out: &mut W,
     report: &mut Report,
 ) -> (Power, Result<(), Refusal>)
@@ -174,7 +177,7 @@ fn run_lines<W: Write>(
 {
     let mut power = power;
     for line in lines {
-        let (after, ran) = run_line(alloc, shape, line, power, payloads, out, report);
+        let (after, ran) = run_line(alloc, shape, line, power, payloads, fill, out, report);
         if let Err(refusal) = ran {
             return (after, Err(refusal));
         }
@@ -213,12 +216,14 @@ fn run_script<W: Write>(
         return (disk, Err(refusal));
     }
     let mut payloads = Payloads::new(alloc);
+    let mut fill = Fill::Old;
     let (power, ran) = run_lines(
         alloc,
         &shape,
         &script.lines,
         Power::Off(disk),
         &mut payloads,
+        &mut fill,
         out,
         &mut report,
     );
@@ -255,6 +260,7 @@ pub fn run_left<W: Write>(
         × MatchResult result (λ left. ⊥) (λ s. ((s.refusal ≡ e) ⊎ (s.refusal ≡ Refusal.Memory)) × (s.disk ≡ None)) }
 {
     let script = parse_script(alloc, script)?;
+    blank_disks::<SimDisk>();
     let disk = SimDisk::blank(alloc, script.shape.sectors())?;
     match run_script(alloc, &script, disk, out) {
         (left, Ok(report)) => Ok((report, left)),

@@ -7,9 +7,10 @@ ghost use Rattle.script_lang.specs.Ranges.{IsInRange};
 ghost use Rattle.store.specs.Leaves.{IsIdle};
 ghost use Rattle.bench_report.specs.Below.{store_in, machine_in, facts};
 ghost use Rattle.bench_report.specs.Bench.{Bench, Life};
-ghost use Rattle.bench_report.specs.Steps.{FormatsOn, PowersOn, FormatStep, OnStep, SlotStep, PayloadStep, TurnStep, ReadStep, Step, Moves, off, unpowered, says, shows};
+ghost use Rattle.bench_report.specs.Steps.{FormatsOn, PowersOn, FormatStep, OnStep, SlotStep, PayloadStep, TurnStep, ReadStep, Step, Moves, off, unpowered, armed_with, says, shows};
+ghost use Rattle.disk.specs.Mishaps.{armed_by};
 ghost use Rattle.simdisk.specs.declared.SimDisk.{SimDisk};
-ghost use Rattle.bench_report.specs.Agree.{choice_by, HasDisk, IsCutBy, Agrees, IsResting, OffIs, OnIs, AreShort, IsBench, Goes};
+ghost use Rattle.bench_report.specs.Agree.{choice_by, HasDisk, IsCutBy, Arms, ArmsIts, fill_after, EndsBy, Agrees, IsResting, OffIs, OnIs, AreShort, IsBench, Goes};
 ghost use Rattle.machine_lines.specs.Shows.{TurnsLine, reg_line, pc_line, CsrLine, mem_line};
 ghost use Rattle.machine.specs.Machine.{Machine};
 ghost use Rattle.board_model.specs.declared.refusal.Refusal.TheVariants.{Memory};
@@ -18,12 +19,12 @@ use crate::power::Power;
 use crate::printed::{Answer, Printed};
 use board::{Board, Payloads};
 use board_model::{BootMode, Command, HartId, Refusal, Shape};
-use disk::Disk;
+use disk::{ArmedFault, Disk};
 use machine_lines::MachineLine;
 use script_lang::{Bytes, Fill, Line};
 use simdisk::{Choice, SimDisk};
 use std::alloc::Global;
-use store::format;
+use store::{blank_disks, format, kept_disks};
 
 fn says(line: Printed) -> Answer
     ensures { result ≡ says line }
@@ -37,6 +38,8 @@ fn format_disk(shape: &Shape, mut disk: SimDisk) -> (Power, Answer)
     ensures told { (b : Bench) → OffIs shape.now b disk → Goes shape.now b result.0 (FormatsOn b.medium b result.1) }
     ensures resting { IsResting result.0 }
 {
+    kept_disks::<SimDisk>();
+    blank_disks::<SimDisk>();
     match format(&mut disk, shape) {
         Ok(()) => (Power::Off(disk), says(Printed::Formatted)),
         Err(e) => (Power::Off(disk), says(Printed::FormatRefused(e.code()))),
@@ -50,6 +53,8 @@ fn power_on(alloc: Global, mode: BootMode, disk: SimDisk, payloads: &Payloads) -
     ensures told { (size : Size) (b : Bench) → OffIs size b disk → payloads.now ≡ b.payloads → Goes size b result.0 (PowersOn size mode b result.1) }
     ensures resting { IsResting result.0 }
 {
+    kept_disks::<SimDisk>();
+    blank_disks::<SimDisk>();
     match Board::power_on(alloc, disk, mode, payloads) {
         Ok(board) => {
             let booted = Answer {
@@ -110,7 +115,38 @@ fn cut(power: Power, fill: Fill) -> Power
     ensures exact { (disk : SimDisk) × HasDisk power disk × IsCutBy fill disk result }
     ensures resting { IsResting result }
 {
+    kept_disks::<SimDisk>();
     Power::Off(disk_left(power).after_cut(choice(fill)))
+}
+
+/// Arms a cut or a failure of the disk in the place of an older one, with the board on or off.
+fn arm(power: Power, fault: ArmedFault) -> Power
+    requires { IsResting power }
+    ensures told { (size : Size) (b : Bench) → Agrees size b power → Agrees size (armed_with (armed_by fault) b) result }
+    ensures arms { Arms fault result }
+    ensures resting { IsResting result }
+{
+    kept_disks::<SimDisk>();
+    match power {
+        Power::Off(mut disk) => {
+            disk.arm(fault);
+            Power::Off(disk)
+        }
+        Power::On(mut board) => {
+            board.arm(fault);
+            Power::On(board)
+        }
+    }
+}
+
+/// What an armed cut is to leave after this line, by what it was to leave before.
+fn newest_fill(line: &Line, fill: Fill) -> Fill
+    ensures { result ≡ fill_after line.now fill }
+{
+    match line {
+        Line::CutAt(_, newest) => *newest,
+        _ => fill,
+    }
 }
 
 /// Whether an armed cut has struck.
@@ -274,6 +310,7 @@ fn step(
     requires short { AreShort payloads.old }
     ensures told { (b : Bench) → IsBench shape.now b power payloads.old → MatchResult result.1
         (λ answer. (new : Bench) × Step shape.now line.now b answer new × IsBench shape.now new result.0 payloads.new) (λ e. (e ≡ Memory) × IsBench shape.now b result.0 payloads.new) }
+    ensures arms { ArmsIts line.now result.0 }
     ensures resting { IsResting result.0 }
     ensures short { AreShort payloads.new }
     ensures refused { OnErr result.1 (result.1 ≡ Err Memory) }
@@ -312,37 +349,48 @@ fn step(
         Line::Discard => (power, Ok(says(Printed::NotBuilt))),
         Line::Call(_, _, _, _, _, _) => (power, Ok(says(Printed::NotBuilt))),
         Line::Pending => (power, Ok(says(Printed::NotBuilt))),
-        Line::CutAt(_, _) => (power, Ok(says(Printed::NotBuilt))),
+        Line::CutAt(call, _) => {
+            let after = arm(power, ArmedFault::CutAt(u64::from(*call)));
+            (after, Ok(says(Printed::Armed)))
+        }
         Line::CutLane(_, _, _) => (power, Ok(says(Printed::NotBuilt))),
-        Line::FailAt(_) => (power, Ok(says(Printed::NotBuilt))),
+        Line::FailAt(call) => {
+            let after = arm(power, ArmedFault::FailAt(u64::from(*call)));
+            (after, Ok(says(Printed::Armed)))
+        }
         Line::FailLane(_, _) => (power, Ok(says(Printed::NotBuilt))),
         Line::Poke(_, _, _) => (power, Ok(says(Printed::NotBuilt))),
     }
 }
 
-/// One line of a script; its report is `power lost` where an armed cut struck within it. Refused as [`step`] is.
+/// One line of a script. Where an armed cut struck within it, its report is `power lost`, and what was written since the last
+/// sync holds what the newest armed cut is to leave. Refused as [`step`] is.
 pub fn moves(
     alloc: Global,
     shape: &Shape,
     line: &Line,
     power: Power,
     payloads: &mut Payloads,
+    fill: &mut Fill,
 ) -> (Power, Result<Answer, Refusal>)
     requires range { IsInRange shape.now line.now }
     requires resting { IsResting power }
     requires short { AreShort payloads.old }
     ensures told { (b : Bench) → IsBench shape.now b power payloads.old → MatchResult result.1
         (λ answer. (new : Bench) × Moves shape.now line.now b answer new × IsBench shape.now new result.0 payloads.new) (λ e. (e ≡ Memory) × IsBench shape.now b result.0 payloads.new) }
+    ensures fill { fill.new ≡ fill_after line.now fill.old }
+    ensures exact { (b : Bench) → IsBench shape.now b power payloads.old → IfOk result.1 (λ answer. EndsBy shape.now line.now fill.new b answer result.0) }
     ensures resting { IsResting result.0 }
     ensures short { AreShort payloads.new }
     ensures refused { OnErr result.1 (result.1 ≡ Err Memory) }
 {
+    *fill = newest_fill(line, *fill);
     let (after, answer) = step(alloc, shape, line, power, payloads);
     let Ok(answer) = answer else {
         return (after, answer);
     };
     if struck(&after) {
-        (cut(after, Fill::Old), Ok(says(Printed::PowerLost)))
+        (cut(after, *fill), Ok(says(Printed::PowerLost)))
     } else {
         (after, Ok(answer))
     }

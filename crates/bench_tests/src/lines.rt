@@ -57,15 +57,11 @@ const OTHERS: &[u8] = b"\
 discard\n\
 call 0 base 0\n\
 pending\n\
-cutat 1 00\n\
 cutlane 0 1 00\n\
-failat 1\n\
 faillane 0 1\n\
 poke 0 0 00\n";
 
 const NOT_BUILT: &[u8] = b"\
-not built\n\
-not built\n\
 not built\n\
 not built\n\
 not built\n\

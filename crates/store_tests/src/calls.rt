@@ -2,12 +2,15 @@
 //! answered says whether it was made.
 ghost use Rattle.std.specs.Prelude.{◌≡◌, IfOk};
 
-use crate::fixtures::{disk_of, format_smallest, opened, same, slot_after_cut, unopened};
-use board_model::{Command, Refusal, Shape};
+use crate::fixtures::{
+    disk_of, format_smallest, numbers, open, opened, same, slot_after_cut, unopened,
+};
+use board_model::{Command, Reason, Refusal, Shape};
 use disk::{ArmedFault, Disk};
 use layout::superblock_bytes;
 use simdisk::{Choice, SimDisk};
 use std::alloc::Global;
+use std::process::Abort;
 use std::test::Fail;
 use store::Store;
 
@@ -158,6 +161,57 @@ fn a_refused_format_makes_no_further_call(rt: HostRuntime) -> Result<(), Fail> {
     same(&rt, failed, (Some(Refusal::Device), false));
     let formatted = marked_format(rt.alloc(), 2)?;
     same(&rt, formatted, (Some(Refusal::AlreadyFormatted), true));
+    Ok(())
+}
+
+// What a second format answers, after a first one whose call of that number failed and a cut with that fill; an open of the disk
+// then has to find the formatted state.
+fn format_again(
+    rt: &impl Abort,
+    alloc: Global,
+    call: u64,
+    choice: Choice,
+) -> Result<Option<Refusal>, Fail> {
+    let mut disk = SimDisk::blank(alloc, 26)?;
+    disk.fail_at(call);
+    same(rt, format_smallest(&mut disk), Err(Refusal::Device));
+    let mut disk = disk.after_cut(choice);
+    let answer = format_smallest(&mut disk).err();
+    let store = open(alloc, disk)?;
+    same(rt, numbers(store.found()), (None, 0, Reason::NoReason, 0));
+    Ok(answer)
+}
+
+// A format that failed can be made again, but where the cut left the superblock that it had written.
+fn formats_again(
+    rt: &impl Abort,
+    alloc: Global,
+    choice: Choice,
+    written: Option<Refusal>,
+) -> Result<(), Fail> {
+    for (call, answer) in [
+        (1, None),
+        (2, None),
+        (3, None),
+        (4, None),
+        (5, written),
+        (6, written),
+    ] {
+        same(rt, format_again(rt, alloc, call, choice)?, answer);
+    }
+    Ok(())
+}
+
+#[test]
+fn a_format_that_failed_is_made_again(rt: HostRuntime) -> Result<(), Fail> {
+    for (choice, written) in [
+        (Choice::Byte(0), None),
+        (Choice::Byte(255), None),
+        (Choice::Old, None),
+        (Choice::New, Some(Refusal::AlreadyFormatted)),
+    ] {
+        formats_again(&rt, rt.alloc(), choice, written)?;
+    }
     Ok(())
 }
 

@@ -4,6 +4,8 @@
 #[cfg(test)]
 mod calls;
 #[cfg(test)]
+mod first_use;
+#[cfg(test)]
 mod fixtures;
 #[cfg(test)]
 mod tests;

@@ -6,7 +6,7 @@ use crate::fixtures::{
     after_cut, answers, apply, disk_of, format_smallest, formatted, numbers, open, opened,
     opened_under, reopened, same, slot_after_cut, unopened, with_image,
 };
-use board_model::{Command, MAX_COMMANDS, Reason, Refusal, Shape};
+use board_model::{Command, Entry, MAX_COMMANDS, Reason, Refusal, Shape};
 use disk::{ArmedFault, Disk};
 use layout::superblock_bytes;
 use simdisk::{Choice, SimDisk};
@@ -216,6 +216,26 @@ fn fill_journal(rt: &impl Abort, store: &mut Store<SimDisk>) {
     for place in 0..MAX_COMMANDS as u32 {
         same(rt, apply(store, Command::Slot(place % 4)), Ok(place + 1));
     }
+}
+
+#[test]
+fn receipts_name_the_entries_of_the_journal(rt: HostRuntime) -> Result<(), Fail> {
+    let mut store = opened(rt.alloc())?;
+    answers(
+        &rt,
+        &mut store,
+        &[
+            (Command::Slot(3), Ok(1)),
+            (Command::Slot(4), Err(Refusal::BadSlot)),
+            (Command::Reset(Reason::NoReason), Ok(2)),
+        ],
+    );
+    let second = Command::Reset(Reason::NoReason);
+    same(&rt, store.entry(0), None);
+    same(&rt, store.entry(1), Some(Entry::Command(Command::Slot(3))));
+    same(&rt, store.entry(2), Some(Entry::Command(second)));
+    same(&rt, store.entry(3), None);
+    Ok(())
 }
 
 #[test]

@@ -6,6 +6,8 @@ mod alone;
 #[cfg(test)]
 mod crowd;
 #[cfg(test)]
+mod first_use;
+#[cfg(test)]
 mod known;
 #[cfg(test)]
 mod race;

@@ -1,5 +1,6 @@
 use crate::alone::{quiet_of_one, run_of_one};
 use crate::crowd::{all_harts, take_all};
+use crate::first_use::first_use;
 use crate::known::{lost, refused};
 use crate::race::{Plan, ready_racers, rounds};
 use crate::sizes::all_sizes;
@@ -134,5 +135,19 @@ fn no_start_is_refused(rt: HostRuntime) -> Result<(), Fail> {
 #[test]
 fn tables_of_every_size(rt: HostRuntime) -> Result<(), Fail> {
     assert!(&rt; all_sizes(rt.alloc())?);
+    Ok(())
+}
+
+#[test]
+fn a_first_use(rt: HostRuntime) -> Result<(), Fail> {
+    let zero = HartId::new(0).unwrap();
+    let address = Addr::new(0x8000_0000).unwrap();
+    let shape = Shape::new(2, 1, 1)?;
+    let (harts, whole) = HartTable::new(rt.alloc(), shape, zero)?;
+    let (pending, pairs) = PendingTable::new(rt.alloc(), shape)?;
+    let (state, (entry, senders)) = first_use(&rt, &harts, whole, &pending, pairs);
+    assert!(&rt; state != State::Stopped);
+    assert_eq!(&rt; entry, Some((address, 7)));
+    assert!(&rt; senders.contains(zero));
     Ok(())
 }

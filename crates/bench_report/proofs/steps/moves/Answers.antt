@@ -15,3 +15,14 @@ pub returns-else-struck-clause-told : goal.returns-else-struck-clause-told
 returns-else-struck-clause-told c = λ b h.
     let did = rw c.in-Ok.is at (c.step-after.ensures.told b h) in
     (did.0, inl (did.1, sym (c.struck.ensures c.args.shape.now did.0 did.2.0) ∙ c.if-struck.false), did.2)
+
+pub returns-then-struck-clause-exact : goal.returns-then-struck-clause-exact
+returns-then-struck-clause-exact c = λ b h.
+    let did = rw c.in-Ok.is at (c.step-after.ensures.told b h) in
+    let hit = sym (c.struck.ensures c.args.shape.now did.0 did.2.0) ∙ c.if-struck.true in
+    inr (c.in-Ok.answer, did.0, c.step-after.result.0, c.cut.ensures.exact.0, did.1, hit, did.2.0, c.cut.ensures.exact.1, c.cut.ensures.exact.2)
+
+pub returns-else-struck-clause-exact : goal.returns-else-struck-clause-exact
+returns-else-struck-clause-exact c = λ b h.
+    let did = rw c.in-Ok.is at (c.step-after.ensures.told b h) in
+    inl (did.0, did.1, sym (c.struck.ensures c.args.shape.now did.0 did.2.0) ∙ c.if-struck.false)

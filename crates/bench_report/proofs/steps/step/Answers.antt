@@ -1,5 +1,6 @@
 use Rattle.std.proofs.Common.{refl, sym, ◌∙◌}
-use Rattle.bench_report.specs.Steps.{unpowered}
+use Rattle.disk.specs.Mishaps.{FaultArmed, CutArmed}
+use Rattle.bench_report.specs.Steps.{unpowered, armed_with}
 use Rattle.bench_report.proofs.steps.step.Goals as goal
 
 pub returns-in-Format-clause-told : goal.returns-in-Format-clause-told
@@ -39,3 +40,9 @@ returns-in-Csr-clause-told c = λ b h. rw c.in-Csr.is (rw c.says-in-Csr.ensures 
 
 pub returns-in-Mem-clause-told : goal.returns-in-Mem-clause-told
 returns-in-Mem-clause-told c = λ b h. rw c.in-Mem.is (rw c.says-in-Mem.ensures (b, c.mem_line-shown.ensures c.args.shape.now b h.0, h))
+
+pub returns-in-CutAt-clause-told : goal.returns-in-CutAt-clause-told
+returns-in-CutAt-clause-told c = λ b h. rw c.in-CutAt.is (armed_with CutArmed b, (c.says-in-CutAt.ensures, refl), (c.arm-after.ensures.told c.args.shape.now b h.0, h.1))
+
+pub returns-in-FailAt-clause-told : goal.returns-in-FailAt-clause-told
+returns-in-FailAt-clause-told c = λ b h. rw c.in-FailAt.is (armed_with FaultArmed b, (c.says-in-FailAt.ensures, refl), (c.arm-after-in-FailAt.ensures.told c.args.shape.now b h.0, h.1))

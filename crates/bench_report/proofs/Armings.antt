@@ -1,0 +1,37 @@
+-- A bench on whose disk a cut or a failure is armed.
+use Rattle.std.proofs.Common.{◌≡◌, ◌≤◌, ℕ, Option, None, Some, sym, ◌∙◌, ap, subst, length}
+use Rattle.board_model.specs.Shapes.{Size}
+use Rattle.disk.specs.Facts.{Facts, Unchanged}
+use Rattle.disk.specs.Mishaps.{Armed, Mishaps}
+use Rattle.simdisk.specs.declared.SimDisk.{SimDisk}
+use Rattle.store.specs.Lives.{Life as Told}
+use Rattle.store.specs.Stores.{life_of}
+use Rattle.bench_report.specs.Below.{Board, store_in, machine_in, facts, mishaps, store_size, store_facts, store_mishaps, IsLife}
+use Rattle.bench_report.specs.Bench.{Life, Bench}
+use Rattle.bench_report.specs.Steps.{armed_with}
+use Rattle.bench_report.specs.Agree.{Follows, BoardIs, DeviceIs, OffIs, OnIs}
+use Rattle.bench_report.proofs.Ended.{left_on}
+use Rattle.bench_report.proofs.KeptDisks.{GoesOn}
+
+device : (size : Size) (b : Bench) (a : Armed) (m n : Mishaps) (old new : Facts) → DeviceIs size b m old → Unchanged old new → n ≡ record m { armed = a } → DeviceIs size (armed_with a b) n new
+device size b a m n old new was same is =
+    let P : ℕ → Type 0 = λ k. b.failures ≤ k in
+    (ap (λ (x : Mishaps). let y : Mishaps = record x { armed = a } in y) was.0 ∙ sym is, subst P (sym same.failures) was.1, ap length same.content ∙ was.2)
+
+pub armed_off : GoesOn → (size : Size) (b : Bench) (a : Armed) (old new : SimDisk) → OffIs size b old → Unchanged (facts old) (facts new) → mishaps new ≡ record (mishaps old) { armed = a }
+    → OffIs size (armed_with a b) new
+armed_off goes_on size b a old new was same is =
+    (was.0, left_on goes_on size b.medium b.kept old new was.1 (λ c l. (same.now c).0 l), device size b a (mishaps old) (mishaps new) (facts old) (facts new) was.2 same is)
+
+pub armed_on : (size : Size) (b : Bench) (a : Armed) (old new : Board) → OnIs size b old → machine_in new ≡ machine_in old → life_of (store_in new) ≡ life_of (store_in old)
+    → store_size (store_in new) ≡ store_size (store_in old) → Unchanged (store_facts (store_in old)) (store_facts (store_in new)) → store_mishaps (store_in new) ≡ record (store_mishaps (store_in old)) { armed = a }
+    → OnIs size (armed_with a b) new
+armed_on size b a old new was machine life board same is =
+    (by b.power was.0, device size b a (store_mishaps (store_in old)) (store_mishaps (store_in new)) (store_facts (store_in old)) (store_facts (store_in new)) was.1 same is)
+  where
+    by : (p : Option Life) → BoardIs size b.medium b.kept p old → BoardIs size b.medium b.kept p new
+    by None on = absurd on
+    by (Some l) on =
+        let P : Size → Type 0 = λ z. Follows size b.medium b.kept l z in
+        let Q : Told → Type 0 = λ x. IsLife x l.now l.receipts l.doubt in
+        ((subst P (sym board) on.0.0, subst Q (sym life) on.0.1), machine ∙ on.1)

@@ -1,0 +1,42 @@
+-- The laws of the store, for the disk in memory.
+use Rattle.std.specs.Prelude.{◌≡◌, ◌⊎◌, ◌≤◌, ◌<◌, ℕ, length, replicate}
+use Rattle.board_model.specs.Durable.{State}
+use Rattle.board_model.specs.Shapes.{Size, IsSize, sectors_of}
+use Rattle.board_model.specs.declared.refusal.Refusal.{Refusal}
+use Rattle.board_model.specs.declared.refusal.Refusal.TheVariants.{NotFormatted, AlreadyFormatted, Device, Memory}
+use Rattle.disk.specs.Facts.{Content, Facts, IsFresh, Passes, Stays}
+use Rattle.simdisk.specs.declared.SimDisk.{SimDisk}
+use Rattle.store.specs.Leaves.{Leaves, IsBlank, IsKept, IsMarked, NoMore}
+use Rattle.store.specs.Opens.{OpenRefused, FormatRefused}
+use Rattle.bench_report.specs.Below.{facts}
+use Rattle.std.proofs.Common.{sym, subst}
+
+-- no content may be left that could not be left before
+abbrev pub LeavesLess : SimDisk → SimDisk → Type 0
+LeavesLess old new = (c : Content) → (facts new).may_leave c → (facts old).may_leave c
+
+-- what the law of kept disks says where a crash leaves no more than before
+abbrev pub GoesOn : Type 0
+GoesOn = (old new : SimDisk) → LeavesLess old new
+    → (IsBlank (facts old) → IsBlank (facts new)) × ((size : Size) → IsKept (facts old) size → IsKept (facts new) size) × NoMore (facts old) (facts new)
+
+-- the law of kept disks
+pub record KeptLaw : Type 0 where
+  pub goes_on : GoesOn
+  pub marked : (disk : SimDisk) (size : Size) → IsKept (facts disk) size → IsMarked (facts disk).content
+  pub one_size : (disk : SimDisk) (y z : Size) (s : State) → Leaves (facts disk) z s → IsKept (facts disk) y → y ≡ z
+  pub sized : (disk : SimDisk) (size : Size) (s : State) → Leaves (facts disk) size s → IsSize size
+  pub opens : (disk new : SimDisk) (size : Size) (e : Refusal) → IsKept (facts disk) size → OpenRefused (facts disk) e (facts new) → (e ≡ Device) ⊎ (e ≡ Memory)
+  pub formats : (disk new : SimDisk) (size : Size) (e : Refusal) → sectors_of size ≤ length (facts disk).content → FormatRefused (facts disk) size e (facts new)
+      → (e ≡ AlreadyFormatted) ⊎ (e ≡ Device)
+
+-- the law of blank disks
+pub record BlankLaw : Type 0 where
+  pub unmarked : (disk : SimDisk) → IsBlank (facts disk) → IsMarked (facts disk).content → ⊥
+  pub stands : (disk : SimDisk) (size : Size) (s : State) → IsBlank (facts disk) → Leaves (facts disk) size s → ⊥
+  pub opens : (disk new : SimDisk) (e : Refusal) → IsBlank (facts disk) → 0 < length (facts disk).content → OpenRefused (facts disk) e (facts new) → (e ≡ NotFormatted) ⊎ (e ≡ Device)
+  pub formats : (disk new : SimDisk) (size : Size) (e : Refusal) → IsBlank (facts disk) → sectors_of size ≤ length (facts disk).content → FormatRefused (facts disk) size e (facts new) → e ≡ Device
+
+-- what a call passes that changes nothing was there before
+pub passed : (old new : SimDisk) → Passes (facts old) (facts new) Stays → LeavesLess old new
+passed old new passes c l = let was = passes.now c l in let P : Content → Type 0 = λ x. (facts old).may_leave x in subst P (sym was.2) was.1

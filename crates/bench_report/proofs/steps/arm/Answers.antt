@@ -1,0 +1,17 @@
+use Rattle.std.proofs.Common.{subst}
+use Rattle.disk.specs.Mishaps.{armed_by}
+use Rattle.bench_report.specs.declared.power.Power.{Power}
+use Rattle.bench_report.specs.Agree.{Agrees}
+use Rattle.bench_report.proofs.Armings.{armed_off, armed_on}
+use Rattle.bench_report.proofs.steps.arm.Goals as goal
+
+pub returns-in-Off-clause-told : goal.returns-in-Off-clause-told
+returns-in-Off-clause-told c = λ size b h.
+    let P : Power → Type 0 = λ p. Agrees size b p in
+    armed_off c.kept_disks.ensures.goes_on size b (armed_by c.args.fault) c.in-Off.disk c.arm.new.self (subst P c.in-Off.is h) c.arm.ensures.facts c.arm.ensures.armed
+
+pub returns-in-On-clause-told : goal.returns-in-On-clause-told
+returns-in-On-clause-told c = λ size b h.
+    let P : Power → Type 0 = λ p. Agrees size b p in
+    let did = c.arm-in-On.ensures in
+    armed_on size b (armed_by c.args.fault) c.in-On.board c.arm-in-On.new.self (subst P c.in-On.is h) did.machine did.life did.board did.facts did.armed

@@ -1,0 +1,6 @@
+//! What holds over all lives of a disk, whatever happens to it (docs/DURABLE.md, "Many lives").
+#![tactic(auto)]
+
+mod laws;
+
+pub use laws::{commands_are_events, lives, opens_are_events};

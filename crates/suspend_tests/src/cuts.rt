@@ -1,0 +1,118 @@
+//! A suspension over a standing image that is cut at each call of a lane and of the disk, with each fill, on a board of 5
+//! pages and 4 lanes: the next open finds the old image or the new one, with its whole memory.
+use crate::fixtures::{after_cut, holds, memory, same, standing, suspend, turns};
+use board_model::{Refusal, Shape};
+use crew::Crew;
+use disk::ArmedFault;
+use ram::Ram;
+use simdisk::Choice;
+use std::alloc::Global;
+use std::process::Abort;
+use std::test::Fail;
+
+// A board, the memory that its image holds, and the one that is suspended over it.
+#[derive(Drop)]
+struct Case {
+    shape: Shape,
+    old: Ram,
+    new: Ram,
+}
+
+fn make_case(alloc: Global) -> Result<Case, Fail> {
+    let shape = Shape::new(1, 5, 4)?;
+    Ok(Case {
+        shape,
+        old: memory(alloc, shape, 9)?,
+        new: memory(alloc, shape, 100)?,
+    })
+}
+
+// What a suspension answers that meets this fault, and after a cut whether the new image stands; that one or the old one has to
+// be whole.
+fn cut<C: Crew>(
+    rt: &impl Abort,
+    alloc: Global,
+    case: &Case,
+    crew: &C,
+    fault: ArmedFault,
+    choice: Choice,
+) -> Result<(Option<Refusal>, bool), Fail> {
+    let mut store = standing(alloc, &case.old, case.shape, crew, fault)?;
+    let answer = suspend(alloc, &mut store, &case.new, crew).err();
+    let mut store = after_cut(alloc, store, choice)?;
+    let new = store.found().next == 2;
+    let memory = if new { &case.new } else { &case.old };
+    same(rt, holds(alloc, &mut store, memory)?, true);
+    Ok((answer, new))
+}
+
+// Lane 0 has two pages and the others one; a page takes two calls.
+fn cut_lane<C: Crew>(
+    rt: &impl Abort,
+    alloc: Global,
+    case: &Case,
+    crew: &C,
+    choice: Choice,
+) -> Result<(), Fail> {
+    for (lane, calls) in [(0, 4), (1, 2), (2, 2), (3, 2)] {
+        for call in 1..calls + 1 {
+            let fault = ArmedFault::CutLane(lane, call);
+            let found = cut(rt, alloc, case, crew, fault, choice)?;
+            same(rt, found, (Some(Refusal::Device), false));
+        }
+        let past = ArmedFault::CutLane(lane, calls + 1);
+        let found = cut(rt, alloc, case, crew, past, choice)?;
+        same(rt, found, (None, true));
+    }
+    Ok(())
+}
+
+#[test]
+fn a_cut_at_each_call_of_a_lane(rt: HostRuntime) -> Result<(), Fail> {
+    let crew = turns(&rt)?;
+    let case = make_case(rt.alloc())?;
+    for choice in [Choice::Byte(0), Choice::Byte(255), Choice::Old, Choice::New] {
+        cut_lane(&rt, rt.alloc(), &case, &crew, choice)?;
+    }
+    Ok(())
+}
+
+// The area's sync, the record, its sync, the gate, its sync. A cut at the last two leaves the command in doubt, and the
+// gate by its parity settles it: the old image is that of record 1, the new one of record 0.
+fn cut_disk<C: Crew>(
+    rt: &impl Abort,
+    alloc: Global,
+    case: &Case,
+    crew: &C,
+    choice: Choice,
+    doubt: bool,
+) -> Result<(), Fail> {
+    for (call, answer, new) in [
+        (1, Some(Refusal::Device), false),
+        (2, Some(Refusal::Device), false),
+        (3, Some(Refusal::Device), false),
+        (4, Some(Refusal::Down), doubt),
+        (5, Some(Refusal::Down), doubt),
+        (6, None, true),
+    ] {
+        let fault = ArmedFault::CutAt(call);
+        let found = cut(rt, alloc, case, crew, fault, choice)?;
+        same(rt, found, (answer, new));
+    }
+    Ok(())
+}
+
+#[test]
+fn a_cut_at_each_call_of_the_disk(rt: HostRuntime) -> Result<(), Fail> {
+    let crew = turns(&rt)?;
+    let case = make_case(rt.alloc())?;
+    for (choice, doubt) in [
+        (Choice::Byte(0), true),
+        (Choice::Byte(255), false),
+        (Choice::Old, false),
+        (Choice::New, true),
+    ] {
+        cut_disk(&rt, rt.alloc(), &case, &crew, choice, doubt)?;
+    }
+    Ok(())
+}
