@@ -1,10 +1,10 @@
 -- The laws of the store, for the disk in memory.
-use Rattle.std.specs.Prelude.{◌≡◌, ◌⊎◌, ◌≤◌, ◌<◌, ℕ, length, replicate}
+use Rattle.std.specs.Prelude.{◌≡◌, ◌⊎◌, ◌≤◌, ◌<◌, length}
 use Rattle.board_model.specs.Durable.{State}
 use Rattle.board_model.specs.Shapes.{Size, IsSize, sectors_of}
 use Rattle.board_model.specs.declared.refusal.Refusal.{Refusal}
 use Rattle.board_model.specs.declared.refusal.Refusal.TheVariants.{NotFormatted, AlreadyFormatted, Device, Memory}
-use Rattle.disk.specs.Facts.{Content, Facts, IsFresh, Passes, Stays}
+use Rattle.disk.specs.Facts.{Content, Passes, Stays}
 use Rattle.simdisk.specs.declared.SimDisk.{SimDisk}
 use Rattle.store.specs.Leaves.{Leaves, IsBlank, IsKept, IsMarked, NoMore}
 use Rattle.store.specs.Opens.{OpenRefused, FormatRefused}

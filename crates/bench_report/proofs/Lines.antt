@@ -6,15 +6,14 @@ use Rattle.simdisk.specs.declared.SimDisk.{SimDisk}
 use Rattle.machine.specs.Machine.{Machine}
 use Rattle.machine_lines.specs.declared.line.MachineLine.{MachineLine}
 use Rattle.machine_lines.specs.declared.line.MachineLine.TheVariants as shown
-use Rattle.machine_lines.specs.Shows.{TurnsLine}
 use Rattle.bench_report.specs.declared.power.Power.{Power}
 use Rattle.bench_report.specs.declared.power.Power.TheVariants.{Off, On}
 use Rattle.bench_report.specs.declared.printed.Answer.{Answer}
 use Rattle.bench_report.specs.Below.{Store, Board, store_in, machine_in, store_size, store_facts, store_mishaps, IsAs}
 use Rattle.bench_report.specs.Bench.{Life, Bench}
-use Rattle.bench_report.specs.Steps.{shows, on_with, has_machine, FormatsOn, FormatStep, PowersOn, OnStep, PayloadStep, TurnStep, ReadStep}
+use Rattle.bench_report.specs.Steps.{shows, on_with, has_machine, FormatsOn, FormatStep, PowersOn, OnStep, PayloadStep, GuestStep, ReadStep}
 use Rattle.bench_report.proofs.Commanded.{follows_with}
-use Rattle.bench_report.specs.Agree.{Follows, BoardIs, DeviceIs, OffIs, OnIs, Agrees, IsBench, Goes}
+use Rattle.bench_report.specs.Agree.{Follows, StoreIs, BoardIs, DeviceIs, OffIs, OnIs, Agrees, IsBench, Goes}
 
 -- a board that is off
 pub off_formats : (size : Size) (b : Bench) (a : Answer) (after : Power) → b.power ≡ None → Goes size b after (FormatsOn b.medium b a) → Goes size b after (FormatStep b.power b a)
@@ -31,9 +30,6 @@ life_by size b board (Some life) e was then = then life e
 pub on_life : {X : Type 0} (size : Size) (b : Bench) (board : Board) → OnIs size b board → ((life : Life) → b.power ≡ Some life → X) → X
 on_life size b board was then = life_by size b board b.power refl was then
 
-pub off_reads : (size : Size) (b : Bench) (disk : SimDisk) (says_so : Machine → MachineLine → Type 0) → OffIs size b disk → ReadStep b.power says_so b (shows shown.Off) b
-off_reads size b disk says_so was = let P : Option Life → Type 0 = λ p. ReadStep p says_so b (shows shown.Off) b in subst P (sym was.0) (refl, refl)
-
 pub on_reads : (size : Size) (b : Bench) (board : Board) (says_so : Machine → MachineLine → Type 0) (line : MachineLine) → OnIs size b board → says_so (machine_in board) line → ReadStep b.power says_so b (shows line) b
 on_reads size b board says_so line was so = by b.power was.0
   where
@@ -41,25 +37,33 @@ on_reads size b board says_so line was so = by b.power was.0
     by None is = absurd is
     by (Some life) is = let P : Machine → Type 0 = λ m. says_so m line in (line, subst P is.1 so, refl, refl)
 
-pub on_turns : (size : Size) (b : Bench) (old new : Board) (h n : ℕ) (line : MachineLine) → OnIs size b old → TurnsLine h n (machine_in old) (machine_in new) line → store_in new ≡ store_in old
-    → Goes size b (On new) (TurnStep b.power h n b (shows line))
-on_turns size b old new h n line was turned same = by b.power was.0
+pub on_guest : (size : Size) (b : Bench) (old new : Board) (does : Machine → Machine → MachineLine → Type 0) (line : MachineLine) → OnIs size b old → does (machine_in old) (machine_in new) line → store_in new ≡ store_in old
+    → Goes size b (On new) (GuestStep b.power does b (shows line))
+on_guest size b old new does line was did same = by b.power was.0
   where
-    by : (p : Option Life) → BoardIs size b.medium b.kept p old → Goes size b (On new) (TurnStep p h n b (shows line))
+    by : (p : Option Life) → BoardIs size b.medium b.kept p old → Goes size b (On new) (GuestStep p does b (shows line))
     by None is = absurd is
     by (Some life) is =
-        let P : Machine → Type 0 = λ m. TurnsLine h n m (machine_in new) line in
+        let P : Machine → Type 0 = λ m. does m (machine_in new) line in
         let Q : Store → Type 0 = λ store. Follows size b.medium b.kept life (store_size store) × IsAs store life.now life.receipts life.doubt in
         let R : Store → Type 0 = λ store. DeviceIs size b (store_mishaps store) (store_facts store) in
         let store = subst Q (sym same) is.0 in (
           on_with (has_machine (machine_in new) life) b,
-          (line, machine_in new, subst P is.1 turned, refl, refl),
+          (line, machine_in new, subst P is.1 did, refl, refl),
           (((follows_with size b.medium b.kept life (machine_in new) (store_size (store_in new)) store.0, store.1), refl), subst R (sym same) was.1),
           refl,
         )
 
-pub off_turns : (size : Size) (b : Bench) (disk : SimDisk) (h n : ℕ) → OffIs size b disk → Goes size b (Off disk) (TurnStep b.power h n b (shows shown.Off))
-off_turns size b disk h n was = let P : Option Life → Type 0 = λ p. TurnStep p h n b (shows shown.Off) b in (b, subst P (sym was.0) (refl, refl), was, refl)
+-- a look that leaves the board as it was
+pub on_looks : (size : Size) (b : Bench) (old new : Board) (says_so : Machine → MachineLine → Type 0) (line : MachineLine) → OnIs size b old → says_so (machine_in old) line → machine_in new ≡ machine_in old → store_in new ≡ store_in old
+    → Goes size b (On new) (ReadStep b.power says_so b (shows line))
+on_looks size b old new says_so line was so still same =
+    let R : Store → Type 0 = λ store. DeviceIs size b (store_mishaps store) (store_facts store) in
+    (b, on_reads size b old says_so line was so, (by b.power was.0, subst R (sym same) was.1), refl)
+  where
+    by : (p : Option Life) → BoardIs size b.medium b.kept p old → BoardIs size b.medium b.kept p new
+    by None is = absurd is
+    by (Some life) is = let Q : Store → Type 0 = λ store. StoreIs size b.medium b.kept life store in (subst Q (sym same) is.0, still ∙ is.1)
 
 -- a payload
 abbrev pub Keeps : Size → Bench → Power → ℕ → List ℕ → MachineLine → List (List ℕ) → Type 0

@@ -1,5 +1,5 @@
 -- What an open answers, and the boot after it.
-use Rattle.std.proofs.Common.{◌≡◌, ◌≢◌, ◌⊎◌, ◌≤◌, ◌<◌, arith, inl, inr, None, refl, sym, ◌∙◌, ap, subst, length}
+use Rattle.std.proofs.Common.{◌≡◌, ◌≢◌, ◌≤◌, arith, inl, inr, None, refl, sym, ◌∙◌, ap, subst}
 use Rattle.board_model.specs.Durable.{State}
 use Rattle.board_model.specs.Kept.{Kept, MayFind}
 use Rattle.board_model.specs.Shapes.{Size}

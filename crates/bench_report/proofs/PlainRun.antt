@@ -18,7 +18,7 @@ use Rattle.bench_report.specs.Reports.{IsReport}
 use Rattle.bench_report.specs.Plain.{plain_written, plain_issued, plain_format, plain_mode, plain_boot, plain_on, plain_at, plain, plain_answers, plain_report, IsPlain, ArePlain}
 use Rattle.bench_report.proofs.Determined.{CalmDisk}
 use Rattle.bench_report.proofs.Smooth.{AsMany, many_then}
-use Rattle.bench_report.proofs.Single.{IsOneTurns, IsOneCsr, one_report}
+use Rattle.bench_report.proofs.Single.{IsOneTurns, IsOneCall, IsOneCsr, one_report}
 
 -- nothing is in doubt, and a life has room for its receipts
 abbrev CalmPower : Option Life → Type 0
@@ -137,8 +137,6 @@ steps size lines.Format b plain good = format_at size b.power b good
 steps size (lines.On mode) b plain good = on_at size b.power mode b good
 steps size (lines.Slot n) b plain good = slot_at size b.power n b good.1 good
 steps size lines.Discard b plain good = by_power b.power (λ p. Well b (NotBuilt b) (plain_at size p lines.Discard b)) ((refl, refl), good, (refl, refl)) (λ life. ((refl, refl), good, (refl, refl)))
-steps size (lines.Call x y z u v w) b plain good = by_power b.power (λ p. Well b (NotBuilt b) (plain_at size p (lines.Call x y z u v w) b)) ((refl, refl), good, (refl, refl)) (λ life. ((refl, refl), good, (refl, refl)))
-steps size lines.Pending b plain good = by_power b.power (λ p. Well b (NotBuilt b) (plain_at size p lines.Pending b)) ((refl, refl), good, (refl, refl)) (λ life. ((refl, refl), good, (refl, refl)))
 steps size (lines.CutAt x y) b plain good = by_power b.power (λ p. Well b (ArmStep CutArmed b) (plain_at size p (lines.CutAt x y) b)) ((refl, refl), good, (refl, refl)) (λ life. ((refl, refl), good, (refl, refl)))
 steps size (lines.CutLane x y z) b plain good = by_power b.power (λ p. Well b (NotBuilt b) (plain_at size p (lines.CutLane x y z) b)) ((refl, refl), good, (refl, refl)) (λ life. ((refl, refl), good, (refl, refl)))
 steps size (lines.FailAt x) b plain good = by_power b.power (λ p. Well b (ArmStep FaultArmed b) (plain_at size p (lines.FailAt x) b)) ((refl, refl), good, (refl, refl)) (λ life. ((refl, refl), good, (refl, refl)))
@@ -147,9 +145,11 @@ steps size (lines.Poke x y z) b plain good = by_power b.power (λ p. Well b (Not
 steps size (lines.Cut fill) b plain good =
     by_power b.power (λ p. Well b (Step size (lines.Cut fill) b) (plain_at size p (lines.Cut fill) b)) ((refl, refl), (good.0, tt, refl), (refl, refl)) (λ life. ((refl, refl), (good.0, tt, refl), (refl, refl)))
 steps size (lines.Turn x y) b plain good = absurd plain
+steps size (lines.Call x y z u v w) b plain good = absurd plain
 steps size (lines.Reg x y) b plain good = absurd plain
 steps size (lines.Pc x) b plain good = absurd plain
 steps size (lines.Csr x y) b plain good = absurd plain
+steps size lines.Pending b plain good = absurd plain
 steps size (lines.Mem x y) b plain good = absurd plain
 
 -- the run of a plain report
@@ -160,7 +160,7 @@ runs size (l ∷ ls) b are good =
     let rest = runs size ls (plain size l b).1 are.1 one.1 in
     (rest.0, ((plain size l b).1, inl (one.0, one.1.2), rest.1), many_then b (plain size l b).1 rest.0 one.2 rest.2)
 
-pub plain_alone : IsOneTurns → IsOneCsr → (script : Script) (answers : List Answer) (end : Bench) → IsReport script answers end → IsUnspoilt end → ArePlain script.lines → answers ≡ plain_report script
-plain_alone turns csr script answers end h unspoilt plain =
+pub plain_alone : IsOneTurns → IsOneCall → IsOneCsr → (script : Script) (answers : List Answer) (end : Bench) → IsReport script answers end → IsUnspoilt end → ArePlain script.lines → answers ≡ plain_report script
+plain_alone turns call csr script answers end h unspoilt plain =
     let run = runs script.size script.lines blank_bench plain (tt, tt, refl) in
-    (one_report turns csr script answers (plain_report script) end run.0 h (refl, run.1) unspoilt run.2).0
+    (one_report turns call csr script answers (plain_report script) end run.0 h (refl, run.1) unspoilt run.2).0

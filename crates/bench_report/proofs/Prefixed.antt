@@ -20,7 +20,7 @@ use Rattle.bench_report.specs.declared.printed.Printed.TheVariants as printed
 use Rattle.disk.specs.Mishaps.{FaultArmed, CutArmed}
 use Rattle.bench_report.specs.declared.printed.Answer.{Answer}
 use Rattle.bench_report.specs.Bench.{Medium, Blank, Unknown, Formatted, Life, Bench, blank_bench}
-use Rattle.bench_report.specs.Steps.{says, shows, starved, failed, on_with, unpowered, armed_with, formatted_anew, settled, has_machine, begun, commands_of, slot_told, IsOn, Starts, Begins, Boots, Opens, ShowsFound, IsOpenRefusal, PowersOn, FormatsOn, FormatStep, OnStep, SlotStep, PayloadStep, TurnStep, ReadStep, Step, Moves, Run}
+use Rattle.bench_report.specs.Steps.{says, shows, starved, failed, on_with, unpowered, armed_with, formatted_anew, settled, has_machine, begun, commands_of, slot_told, IsOn, Starts, Begins, Boots, Opens, ShowsFound, IsOpenRefusal, PowersOn, FormatsOn, FormatStep, OnStep, SlotStep, PayloadStep, GuestStep, ReadStep, Step, Moves, Run}
 use Rattle.bench_report.specs.Reports.{IsReport}
 use Rattle.bench_report.specs.Prefix.{Asked, Boot, Command, Nothing, asked_by, Refused, Lost, Tells, ShowsIts, IsPrefixed, resumed, resumes, RisesFrom, is_format_ok, IsFoundByPrefix, KeepsPrefixLaw}
 use Rattle.bench_report.proofs.Issues.{takes_more, is_up, GoesOn, IsSound, Back, joined, said, Went, Does, issued_back, AllWent, all_back}
@@ -225,9 +225,9 @@ payload_at : (p : Option Life) (slot : ℕ) (bytes : List ℕ) (b : Bench) (a : 
 payload_at (Some life) slot bytes b a new sound h = shows_on _ b a new sound h.0 h.1
 payload_at None slot bytes b a new sound h = same Nothing b a _ new _ h.0 h.1 refl refl refl sound.1 sound (λ s t e. (e, refl))
 
-turn_at : (p : Option Life) (h n : ℕ) (b : Bench) (a : Answer) (new : Bench) → IsSound b → b.power ≡ p → TurnStep p h n b a new → Tell Nothing b a new
-turn_at None h n b a new sound on x = shows_on _ b a new sound x.0 x.1
-turn_at (Some life) h n b a new sound on (line, m, turns, e, f) =
+guest_at : (p : Option Life) (does : Machine → Machine → MachineLine → Type 0) (b : Bench) (a : Answer) (new : Bench) → IsSound b → b.power ≡ p → GuestStep p does b a new → Tell Nothing b a new
+guest_at None does b a new sound on x = shows_on _ b a new sound x.0 x.1
+guest_at (Some life) does b a new sound on (line, m, did, e, f) =
     let F : Option Life → Type 0 = λ p. GoesOn b.kept p in
     same Nothing b a (printed.Shown line) new (on_with (has_machine m life) b) e f refl refl (sym (ap is_up on)) (subst F on sound.1) sound (λ s t e. (e, refl))
 
@@ -244,12 +244,12 @@ steps size lines.Format b a new sound h = format_at b.power b a new sound h
 steps size (lines.On mode) b a new sound h = on_at size b.power mode b a new sound refl h
 steps size (lines.Slot n) b a new sound h = slots b.power n b a new sound refl h
 steps size lines.Discard b a new sound h = not_built b a new sound h.0 h.1
-steps size (lines.Turn x y) b a new sound h = turn_at b.power x y b a new sound refl h
-steps size (lines.Call x y z u v w) b a new sound h = not_built b a new sound h.0 h.1
+steps size (lines.Turn x y) b a new sound h = guest_at b.power _ b a new sound refl h
+steps size (lines.Call x y z u v w) b a new sound h = guest_at b.power _ b a new sound refl h
 steps size (lines.Reg x y) b a new sound h = read_at b.power _ b a new sound h
 steps size (lines.Pc x) b a new sound h = read_at b.power _ b a new sound h
 steps size (lines.Csr x y) b a new sound h = read_at b.power _ b a new sound h
-steps size lines.Pending b a new sound h = not_built b a new sound h.0 h.1
+steps size lines.Pending b a new sound h = read_at b.power _ b a new sound h
 steps size (lines.Mem x y) b a new sound h = read_at b.power _ b a new sound h
 steps size (lines.CutAt x y) b a new sound h = same Nothing b a _ new (armed_with CutArmed b) h.0 h.1 refl refl refl sound.1 sound (λ s t e. (e, refl))
 steps size (lines.CutLane x y z) b a new sound h = not_built b a new sound h.0 h.1
@@ -358,9 +358,9 @@ payload_no : {T : Type 0} (p : Option Life) (slot : ℕ) (bytes : List ℕ) (b :
 payload_no None slot bytes b a new h ok = other a _ h.0 refl ok
 payload_no (Some life) slot bytes b a new h ok = other a _ h.0 refl ok
 
-turn_no : {T : Type 0} (p : Option Life) (h n : ℕ) (b : Bench) (a : Answer) (new : Bench) → TurnStep p h n b a new → is_format_ok a.line ≡ true → T
-turn_no None h n b a new x ok = other a _ x.0 refl ok
-turn_no (Some life) h n b a new x ok = other a _ x.3 refl ok
+guest_no : {T : Type 0} (p : Option Life) (does : Machine → Machine → MachineLine → Type 0) (b : Bench) (a : Answer) (new : Bench) → GuestStep p does b a new → is_format_ok a.line ≡ true → T
+guest_no None does b a new x ok = other a _ x.0 refl ok
+guest_no (Some life) does b a new x ok = other a _ x.3 refl ok
 
 read_no : {T : Type 0} (p : Option Life) (says_so : Machine → MachineLine → Type 0) (b : Bench) (a : Answer) (new : Bench) → ReadStep p says_so b a new → is_format_ok a.line ≡ true → T
 read_no None says_so b a new x ok = other a _ x.0 refl ok
@@ -372,12 +372,12 @@ step_formats size lines.Format b a new h ok = formatted_at b.power b a new refl 
 step_formats size (lines.On mode) b a new h ok = powers_no size b.power mode b a new h ok
 step_formats size (lines.Slot n) b a new h ok = slots_no b.power n b a new h ok
 step_formats size lines.Discard b a new h ok = other a _ h.0 refl ok
-step_formats size (lines.Turn x y) b a new h ok = turn_no b.power x y b a new h ok
-step_formats size (lines.Call x y z u v w) b a new h ok = other a _ h.0 refl ok
+step_formats size (lines.Turn x y) b a new h ok = guest_no b.power _ b a new h ok
+step_formats size (lines.Call x y z u v w) b a new h ok = guest_no b.power _ b a new h ok
 step_formats size (lines.Reg x y) b a new h ok = read_no b.power _ b a new h ok
 step_formats size (lines.Pc x) b a new h ok = read_no b.power _ b a new h ok
 step_formats size (lines.Csr x y) b a new h ok = read_no b.power _ b a new h ok
-step_formats size lines.Pending b a new h ok = other a _ h.0 refl ok
+step_formats size lines.Pending b a new h ok = read_no b.power _ b a new h ok
 step_formats size (lines.Mem x y) b a new h ok = read_no b.power _ b a new h ok
 step_formats size (lines.CutAt x y) b a new h ok = other a _ h.0 refl ok
 step_formats size (lines.CutLane x y z) b a new h ok = other a _ h.0 refl ok

@@ -6,19 +6,22 @@ use Rattle.board_model.specs.declared.boot_mode.BootMode.{BootMode}
 use Rattle.disk.specs.Mishaps.{FaultArmed, CutArmed}
 use Rattle.machine.specs.Machine.{Machine}
 use Rattle.machine_lines.specs.declared.line.MachineLine.{MachineLine}
-use Rattle.machine_lines.specs.Shows.{TurnsLine, CsrLine}
+use Rattle.machine_lines.specs.Shows.{TurnsLine, CallLine, CsrLine}
 use Rattle.script_lang.specs.Scripts.{Script}
 use Rattle.script_lang.specs.declared.line.Line.{Line}
 use Rattle.script_lang.specs.declared.line.Line.TheVariants as lines
 use Rattle.bench_report.specs.declared.printed.Answer.{Answer}
 use Rattle.bench_report.specs.Bench.{Life, Bench, IsUnspoilt, blank_bench}
-use Rattle.bench_report.specs.Steps.{shows, unpowered, armed_with, on_with, has_machine, slot_told, FormatStep, OnStep, SlotStep, PayloadStep, TurnStep, ReadStep, Step, Moves, Run}
+use Rattle.bench_report.specs.Steps.{shows, unpowered, armed_with, on_with, has_machine, slot_told, FormatStep, OnStep, SlotStep, PayloadStep, GuestStep, ReadStep, Step, Moves, Run}
 use Rattle.bench_report.specs.Reports.{IsReport}
 use Rattle.bench_report.proofs.Determined.{IsSpoilt, IsCalm, Fair, fair_to, unmoved, issued_fair, Agree, same, issued, formats_fair, formats, powers_fair, powers}
 
 -- what the lines leave nothing open of
 abbrev pub IsOneTurns : Type 0
 IsOneTurns = (h n : ℕ) (old new other : Machine) (line also : MachineLine) → TurnsLine h n old new line → TurnsLine h n old other also → (new ≡ other) × (line ≡ also)
+
+abbrev pub IsOneCall : Type 0
+IsOneCall = (h eid fid a0 a1 a2 : ℕ) (old new other : Machine) (line also : MachineLine) → CallLine h eid fid a0 a1 a2 old new line → CallLine h eid fid a0 a1 a2 old other also → (new ≡ other) × (line ≡ also)
 
 abbrev pub IsOneCsr : Type 0
 IsOneCsr = (h n : ℕ) (m : Machine) (line also : MachineLine) → CsrLine h n m line → CsrLine h n m also → line ≡ also
@@ -40,9 +43,9 @@ payload_fair : (p : Option Life) (slot : ℕ) (bytes : List ℕ) (b : Bench) (a 
 payload_fair None slot bytes b a new h = fair_to b new _ h.1 (λ s. s, λ c. inr c)
 payload_fair (Some life) slot bytes b a new h = unmoved b new h.1
 
-turn_fair : (p : Option Life) (h n : ℕ) (b : Bench) (a : Answer) (new : Bench) → TurnStep p h n b a new → Fair b new
-turn_fair None h n b a new x = unmoved b new x.1
-turn_fair (Some life) h n b a new x = fair_to b new (on_with (has_machine x.1 life) b) x.4 (λ s. s, λ c. inr c)
+guest_fair : (p : Option Life) (does : Machine → Machine → MachineLine → Type 0) (b : Bench) (a : Answer) (new : Bench) → GuestStep p does b a new → Fair b new
+guest_fair None does b a new x = unmoved b new x.1
+guest_fair (Some life) does b a new x = fair_to b new (on_with (has_machine x.1 life) b) x.4 (λ s. s, λ c. inr c)
 
 read_fair : (p : Option Life) (says_so : Machine → MachineLine → Type 0) (b : Bench) (a : Answer) (new : Bench) → ReadStep p says_so b a new → Fair b new
 read_fair None says_so b a new x = unmoved b new x.1
@@ -54,12 +57,12 @@ step_fair size lines.Format b a new h = format_fair b.power b a new h
 step_fair size (lines.On mode) b a new h = on_fair size b.power mode b a new h
 step_fair size (lines.Slot n) b a new h = slot_fair b.power n b a new h
 step_fair size lines.Discard b a new h = unmoved b new h.1
-step_fair size (lines.Turn x y) b a new h = turn_fair b.power x y b a new h
-step_fair size (lines.Call x y z u v w) b a new h = unmoved b new h.1
+step_fair size (lines.Turn x y) b a new h = guest_fair b.power _ b a new h
+step_fair size (lines.Call x y z u v w) b a new h = guest_fair b.power _ b a new h
 step_fair size (lines.Reg x y) b a new h = read_fair b.power _ b a new h
 step_fair size (lines.Pc x) b a new h = read_fair b.power _ b a new h
 step_fair size (lines.Csr x y) b a new h = read_fair b.power _ b a new h
-step_fair size lines.Pending b a new h = unmoved b new h.1
+step_fair size lines.Pending b a new h = read_fair b.power _ b a new h
 step_fair size (lines.Mem x y) b a new h = read_fair b.power _ b a new h
 step_fair size (lines.CutAt x y) b a new h = fair_to b new (armed_with CutArmed b) h.1 (λ s. s, λ c. inr c)
 step_fair size (lines.CutLane x y z) b a new h = unmoved b new h.1
@@ -103,10 +106,11 @@ payload_at : (p : Option Life) (slot : ℕ) (bytes : List ℕ) (b : Bench) (a z 
 payload_at None slot bytes b a z new last x y = same a z _ new last _ x.0 y.0 x.1 y.1
 payload_at (Some life) slot bytes b a z new last x y = same a z _ new last b x.0 y.0 x.1 y.1
 
-turn_at : IsOneTurns → (p : Option Life) (h n : ℕ) (b : Bench) (a z : Answer) (new last : Bench) → TurnStep p h n b a new → TurnStep p h n b z last → Agree a z new last
-turn_at one None h n b a z new last x y = same a z _ new last b x.0 y.0 x.1 y.1
-turn_at one (Some life) h n b a z new last (line, m, turns, e, f) (also, other, turns2, e2, f2) =
-    let is = one h n life.machine m other line also turns turns2 in
+guest_at : (does : Machine → Machine → MachineLine → Type 0) → ((old new other : Machine) (line also : MachineLine) → does old new line → does old other also → (new ≡ other) × (line ≡ also)) → (p : Option Life) (b : Bench) (a z : Answer)
+    (new last : Bench) → GuestStep p does b a new → GuestStep p does b z last → Agree a z new last
+guest_at does one None b a z new last x y = same a z _ new last b x.0 y.0 x.1 y.1
+guest_at does one (Some life) b a z new last (line, m, did, e, f) (also, other, did2, e2, f2) =
+    let is = one life.machine m other line also did did2 in
     inr (inr (e ∙ ap shows is.1 ∙ sym e2, f ∙ ap (λ x. on_with (has_machine x life) b) is.0 ∙ sym f2))
 
 read_at : (says_so : Machine → MachineLine → Type 0) → ((m : Machine) (line also : MachineLine) → says_so m line → says_so m also → line ≡ also) → (p : Option Life) (b : Bench) (a z : Answer) (new last : Bench)
@@ -117,45 +121,45 @@ read_at says_so one (Some life) b a z new last (line, so, e, f) (also, so2, e2, 
 not_built : (b : Bench) (a z x : Answer) (new last : Bench) → (a ≡ x) × (new ≡ b) → (z ≡ x) × (last ≡ b) → Agree a z new last
 not_built b a z x new last h k = same a z x new last b h.0 k.0 h.1 k.1
 
-steps : IsOneTurns → IsOneCsr → (size : Size) (line : Line) (b : Bench) (a z : Answer) (new last : Bench) → IsCalm b → Step size line b a new → Step size line b z last → Agree a z new last
-steps turns csr size (lines.Payload s bytes) b a z new last calm x y = payload_at b.power s bytes b a z new last x y
-steps turns csr size lines.Format b a z new last calm x y = format_at b.power b a z new last calm x y
-steps turns csr size (lines.On mode) b a z new last calm x y = on_at size b.power mode b a z new last calm x y
-steps turns csr size (lines.Slot n) b a z new last calm x y = slot_at b.power n b a z new last x y
-steps turns csr size lines.Discard b a z new last calm x y = not_built b a z _ new last x y
-steps turns csr size (lines.Turn h n) b a z new last calm x y = turn_at turns b.power h n b a z new last x y
-steps turns csr size (lines.Call h e f u v w) b a z new last calm x y = not_built b a z _ new last x y
-steps turns csr size (lines.Reg h r) b a z new last calm x y = read_at _ (λ m line also p q. p ∙ sym q) b.power b a z new last x y
-steps turns csr size (lines.Pc h) b a z new last calm x y = read_at _ (λ m line also p q. p ∙ sym q) b.power b a z new last x y
-steps turns csr size (lines.Csr h n) b a z new last calm x y = read_at (λ m line. CsrLine h n m line) (csr h n) b.power b a z new last x y
-steps turns csr size lines.Pending b a z new last calm x y = not_built b a z _ new last x y
-steps turns csr size (lines.Mem i n) b a z new last calm x y = read_at _ (λ m line also p q. p ∙ sym q) b.power b a z new last x y
-steps turns csr size (lines.CutAt n fill) b a z new last calm x y = same a z _ new last _ x.0 y.0 x.1 y.1
-steps turns csr size (lines.CutLane i n fill) b a z new last calm x y = not_built b a z _ new last x y
-steps turns csr size (lines.FailAt n) b a z new last calm x y = same a z _ new last _ x.0 y.0 x.1 y.1
-steps turns csr size (lines.FailLane i n) b a z new last calm x y = not_built b a z _ new last x y
-steps turns csr size (lines.Cut fill) b a z new last calm x y = same a z _ new last _ x.0 y.0 x.1 y.1
-steps turns csr size (lines.Poke k n bytes) b a z new last calm x y = not_built b a z _ new last x y
+steps : IsOneTurns → IsOneCall → IsOneCsr → (size : Size) (line : Line) (b : Bench) (a z : Answer) (new last : Bench) → IsCalm b → Step size line b a new → Step size line b z last → Agree a z new last
+steps turns call csr size (lines.Payload s bytes) b a z new last calm x y = payload_at b.power s bytes b a z new last x y
+steps turns call csr size lines.Format b a z new last calm x y = format_at b.power b a z new last calm x y
+steps turns call csr size (lines.On mode) b a z new last calm x y = on_at size b.power mode b a z new last calm x y
+steps turns call csr size (lines.Slot n) b a z new last calm x y = slot_at b.power n b a z new last x y
+steps turns call csr size lines.Discard b a z new last calm x y = not_built b a z _ new last x y
+steps turns call csr size (lines.Turn h n) b a z new last calm x y = guest_at (λ old m line. TurnsLine h n old m line) (turns h n) b.power b a z new last x y
+steps turns call csr size (lines.Call h e f u v w) b a z new last calm x y = guest_at (λ old m line. CallLine h e f u v w old m line) (call h e f u v w) b.power b a z new last x y
+steps turns call csr size (lines.Reg h r) b a z new last calm x y = read_at _ (λ m line also p q. p ∙ sym q) b.power b a z new last x y
+steps turns call csr size (lines.Pc h) b a z new last calm x y = read_at _ (λ m line also p q. p ∙ sym q) b.power b a z new last x y
+steps turns call csr size (lines.Csr h n) b a z new last calm x y = read_at (λ m line. CsrLine h n m line) (csr h n) b.power b a z new last x y
+steps turns call csr size lines.Pending b a z new last calm x y = read_at _ (λ m line also p q. p ∙ sym q) b.power b a z new last x y
+steps turns call csr size (lines.Mem i n) b a z new last calm x y = read_at _ (λ m line also p q. p ∙ sym q) b.power b a z new last x y
+steps turns call csr size (lines.CutAt n fill) b a z new last calm x y = same a z _ new last _ x.0 y.0 x.1 y.1
+steps turns call csr size (lines.CutLane i n fill) b a z new last calm x y = not_built b a z _ new last x y
+steps turns call csr size (lines.FailAt n) b a z new last calm x y = same a z _ new last _ x.0 y.0 x.1 y.1
+steps turns call csr size (lines.FailLane i n) b a z new last calm x y = not_built b a z _ new last x y
+steps turns call csr size (lines.Cut fill) b a z new last calm x y = same a z _ new last _ x.0 y.0 x.1 y.1
+steps turns call csr size (lines.Poke k n bytes) b a z new last calm x y = not_built b a z _ new last x y
 
 true_false : {A : Type 0} (x y : Bool) → x ≡ y → x ≡ true → y ≡ false → A
 true_false x y e f g = let h : y ≡ true = sym e ∙ f in absurd (let no : ⊥ = cc in no)
 
 -- an armed cut that struck in one of them alone would have been answered there
-moves : IsOneTurns → IsOneCsr → (size : Size) (line : Line) (b : Bench) (a z : Answer) (new last : Bench) → IsCalm b → Moves size line b a new → Moves size line b z last → Agree a z new last
-moves turns csr size line b a z new last calm (inl x) (inl y) = steps turns csr size line b a z new last calm x.0 y.0
-moves turns csr size line b a z new last calm (inl x) (inr (would, mid, y, struck, e, is)) = apart (steps turns csr size line b a would new mid calm x.0 y)
+moves : IsOneTurns → IsOneCall → IsOneCsr → (size : Size) (line : Line) (b : Bench) (a z : Answer) (new last : Bench) → IsCalm b → Moves size line b a new → Moves size line b z last → Agree a z new last
+moves turns call csr size line b a z new last calm (inl x) (inl y) = steps turns call csr size line b a z new last calm x.0 y.0
+moves turns call csr size line b a z new last calm (inl x) (inr (would, mid, y, struck, e, is)) = apart (steps turns call csr size line b a would new mid calm x.0 y)
   where
     apart : Agree a would new mid → Agree a z new last
     apart (inl s) = inl s
     apart (inr (inl s)) = inr (inl (spoilt_as last (unpowered mid) is s))
     apart (inr (inr h)) = true_false mid.mishaps.struck new.mishaps.struck (ap (λ (b : Bench). b.mishaps.struck) (sym h.1)) struck x.1
-moves turns csr size line b a z new last calm (inr (would, mid, x, struck, e, is)) (inl y) = apart (steps turns csr size line b would z mid last calm x y.0)
+moves turns call csr size line b a z new last calm (inr (would, mid, x, struck, e, is)) (inl y) = apart (steps turns call csr size line b would z mid last calm x y.0)
   where
     apart : Agree would z mid last → Agree a z new last
     apart (inl s) = inl (spoilt_as new (unpowered mid) is s)
     apart (inr (inl s)) = inr (inl s)
     apart (inr (inr h)) = true_false mid.mishaps.struck last.mishaps.struck (ap (λ (b : Bench). b.mishaps.struck) h.1) struck y.1
-moves turns csr size line b a z new last calm (inr (would, mid, x, struck, e, is)) (inr (would2, mid2, y, struck2, e2, is2)) = apart (steps turns csr size line b would would2 mid mid2 calm x y)
+moves turns call csr size line b a z new last calm (inr (would, mid, x, struck, e, is)) (inr (would2, mid2, y, struck2, e2, is2)) = apart (steps turns call csr size line b would would2 mid mid2 calm x y)
   where
     apart : Agree would would2 mid mid2 → Agree a z new last
     apart (inl s) = inl (spoilt_as new (unpowered mid) is s)
@@ -166,26 +170,26 @@ clean : {A : Type 0} (end : Bench) → IsUnspoilt end → IsSpoilt end → A
 clean end u (inl s) = absurd (omega (arith, u.0, s))
 clean end u (inr s) = absurd (omega (arith, u.1, s))
 
-runs : IsOneTurns → IsOneCsr → (size : Size) (ls : List Line) (b : Bench) (answers others : List Answer) (end last : Bench) → IsCalm b → IsUnspoilt end → IsUnspoilt last → Run size b ls answers end → Run size b ls others last
+runs : IsOneTurns → IsOneCall → IsOneCsr → (size : Size) (ls : List Line) (b : Bench) (answers others : List Answer) (end last : Bench) → IsCalm b → IsUnspoilt end → IsUnspoilt last → Run size b ls answers end → Run size b ls others last
     → (answers ≡ others) × (end ≡ last)
-runs turns csr size [] b [] [] end last calm u v x y = (refl, x ∙ sym y)
-runs turns csr size (l ∷ ls) b (a ∷ answers) (z ∷ others) end last calm u v x y =
-    go (moves turns csr size l b a z x.0 y.0 calm x.1 y.1) ((moves_fair size l b a x.0 x.1).1 calm)
-    (λ calm e. (let M : Bench → Type 0 = λ m. Run size m ls others last in runs turns csr size ls x.0 answers others end last calm u v x.2 (subst M (sym e) y.2)))
+runs turns call csr size [] b [] [] end last calm u v x y = (refl, x ∙ sym y)
+runs turns call csr size (l ∷ ls) b (a ∷ answers) (z ∷ others) end last calm u v x y =
+    go (moves turns call csr size l b a z x.0 y.0 calm x.1 y.1) ((moves_fair size l b a x.0 x.1).1 calm)
+    (λ calm e. (let M : Bench → Type 0 = λ m. Run size m ls others last in runs turns call csr size ls x.0 answers others end last calm u v x.2 (subst M (sym e) y.2)))
   where
     go : Agree a z x.0 y.0 → IsSpoilt x.0 ⊎ IsCalm x.0 → (IsCalm x.0 → x.0 ≡ y.0 → (answers ≡ others) × (end ≡ last)) → ((a ∷ answers) ≡ (z ∷ others)) × (end ≡ last)
     go (inl s) c more = clean end u (run_spoilt size ls x.0 answers end x.2 s)
     go (inr (inl s)) c more = clean last v (run_spoilt size ls y.0 others last y.2 s)
     go (inr (inr e)) (inl s) more = clean end u (run_spoilt size ls x.0 answers end x.2 s)
     go (inr (inr e)) (inr c) more = let rest = more c e.1 in (ap (λ h. h ∷ answers) e.0 ∙ ap (λ t. z ∷ t) rest.0, rest.1)
-runs turns csr size [] b (a ∷ answers) others end last calm u v x y = absurd x
-runs turns csr size [] b [] (z ∷ others) end last calm u v x y = absurd y
-runs turns csr size (l ∷ ls) b [] others end last calm u v x y = absurd x
-runs turns csr size (l ∷ ls) b (a ∷ answers) [] end last calm u v x y = absurd y
+runs turns call csr size [] b (a ∷ answers) others end last calm u v x y = absurd x
+runs turns call csr size [] b [] (z ∷ others) end last calm u v x y = absurd y
+runs turns call csr size (l ∷ ls) b [] others end last calm u v x y = absurd x
+runs turns call csr size (l ∷ ls) b (a ∷ answers) [] end last calm u v x y = absurd y
 
-pub one_report : IsOneTurns → IsOneCsr → (script : Script) (answers others : List Answer) (end last : Bench) → IsReport script answers end → IsReport script others last → IsUnspoilt end → IsUnspoilt last → (answers ≡ others) × (end ≡ last)
-one_report turns csr script [] others end last x y u v = absurd x
-one_report turns csr script (b ∷ answers) [] end last x y u v = absurd y
-one_report turns csr script (b ∷ answers) (d ∷ others) end last x y u v =
-    let rest = runs turns csr script.size script.lines blank_bench answers others end last tt u v x.1 y.1 in
+pub one_report : IsOneTurns → IsOneCall → IsOneCsr → (script : Script) (answers others : List Answer) (end last : Bench) → IsReport script answers end → IsReport script others last → IsUnspoilt end → IsUnspoilt last → (answers ≡ others) × (end ≡ last)
+one_report turns call csr script [] others end last x y u v = absurd x
+one_report turns call csr script (b ∷ answers) [] end last x y u v = absurd y
+one_report turns call csr script (b ∷ answers) (d ∷ others) end last x y u v =
+    let rest = runs turns call csr script.size script.lines blank_bench answers others end last tt u v x.1 y.1 in
     (ap (λ q. q ∷ answers) (x.0 ∙ sym y.0) ∙ ap (λ qs. d ∷ qs) rest.0, rest.1)

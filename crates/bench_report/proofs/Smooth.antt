@@ -16,7 +16,7 @@ use Rattle.bench_report.specs.declared.printed.Printed.TheVariants as printed
 use Rattle.disk.specs.Mishaps.{FaultArmed, CutArmed}
 use Rattle.bench_report.specs.declared.printed.Answer.{Answer}
 use Rattle.bench_report.specs.Bench.{Medium, Blank, Unknown, Formatted, Life, Bench, IsUnspoilt, blank_bench}
-use Rattle.bench_report.specs.Steps.{says, off, on_with, unpowered, armed_with, formatted_anew, settled, has_machine, acknowledged, begun, commands_of, slot_told, Writes, IssuedBy, IssuesAll, FormatsOn, IsOn, Starts, Begins, Boots, Opens, PowersOn, FormatStep, OnStep, SlotStep, PayloadStep, TurnStep, ReadStep, Step, Moves, Run}
+use Rattle.bench_report.specs.Steps.{says, off, on_with, unpowered, armed_with, formatted_anew, settled, has_machine, acknowledged, begun, commands_of, slot_told, Writes, IssuedBy, IssuesAll, FormatsOn, IsOn, Starts, Begins, Boots, Opens, PowersOn, FormatStep, OnStep, SlotStep, PayloadStep, GuestStep, ReadStep, Step, Moves, Run}
 use Rattle.bench_report.specs.Reports.{IsReport}
 use Rattle.bench_report.specs.Plain.{IsSmooth, AreSmooth}
 
@@ -129,9 +129,9 @@ payload_at : (p : Option Life) (slot : ℕ) (bytes : List ℕ) (b : Bench) (a : 
 payload_at None slot bytes b a new h = as_many b _ new refl refl h.1
 payload_at (Some life) slot bytes b a new h = as_many b b new refl refl h.1
 
-turn_at : (p : Option Life) (h n : ℕ) (b : Bench) (a : Answer) (new : Bench) → TurnStep p h n b a new → AsMany b new
-turn_at None h n b a new x = as_many b b new refl refl x.1
-turn_at (Some life) h n b a new x = as_many b (on_with (has_machine x.1 life) b) new refl refl x.4
+guest_at : (p : Option Life) (does : Machine → Machine → MachineLine → Type 0) (b : Bench) (a : Answer) (new : Bench) → GuestStep p does b a new → AsMany b new
+guest_at None does b a new x = as_many b b new refl refl x.1
+guest_at (Some life) does b a new x = as_many b (on_with (has_machine x.1 life) b) new refl refl x.4
 
 read_at : (p : Option Life) (says_so : Machine → MachineLine → Type 0) (b : Bench) (a : Answer) (new : Bench) → ReadStep p says_so b a new → AsMany b new
 read_at None says_so b a new x = as_many b b new refl refl x.1
@@ -143,12 +143,12 @@ step_smooth size lines.Format b a new h smooth = format_at b.power b a new h smo
 step_smooth size (lines.On mode) b a new h smooth = on_at size b.power mode b a new h smooth
 step_smooth size (lines.Slot n) b a new h smooth = slot_at b.power n b a new h smooth
 step_smooth size lines.Discard b a new h smooth = as_many b b new refl refl h.1
-step_smooth size (lines.Turn x y) b a new h smooth = turn_at b.power x y b a new h
-step_smooth size (lines.Call x y z u v w) b a new h smooth = as_many b b new refl refl h.1
+step_smooth size (lines.Turn x y) b a new h smooth = guest_at b.power _ b a new h
+step_smooth size (lines.Call x y z u v w) b a new h smooth = guest_at b.power _ b a new h
 step_smooth size (lines.Reg x y) b a new h smooth = read_at b.power _ b a new h
 step_smooth size (lines.Pc x) b a new h smooth = read_at b.power _ b a new h
 step_smooth size (lines.Csr x y) b a new h smooth = read_at b.power _ b a new h
-step_smooth size lines.Pending b a new h smooth = as_many b b new refl refl h.1
+step_smooth size lines.Pending b a new h smooth = read_at b.power _ b a new h
 step_smooth size (lines.Mem x y) b a new h smooth = read_at b.power _ b a new h
 step_smooth size (lines.CutAt x y) b a new h smooth = as_many b (armed_with CutArmed b) new refl refl h.1
 step_smooth size (lines.CutLane x y z) b a new h smooth = as_many b b new refl refl h.1

@@ -2,7 +2,7 @@
 use Rattle.std.proofs.Common.{◌≡◌, ◌≢◌, ◌≤◌, ℕ, List, [], ◌∷◌, Option, None, Some, IfSome, Ok, Err, inl, inr, refl, sym, ◌∙◌, ap, subst, arith, lit<}
 use Rattle.board_model.specs.Durable.{State, Change, Discard, after, refusal_of}
 use Rattle.board_model.specs.Kept.{Kept}
-use Rattle.board_model.specs.Shapes.{Size, IsSize, ram_bytes_of}
+use Rattle.board_model.specs.Shapes.{Size, IsSize}
 use Rattle.board_model.specs.Shown.{number_of, durable_of}
 use Rattle.board_model.specs.declared.boot_mode.BootMode.{BootMode}
 use Rattle.board_model.specs.declared.boot_mode.BootMode.TheVariants as modes

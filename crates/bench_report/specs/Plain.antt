@@ -1,5 +1,5 @@
 -- The report of a script where memory was never refused and the disk never failed, computed: for scripts whose lines neither
--- make turns nor show memory or harts.
+-- move harts nor show memory or harts.
 use Rattle.std.specs.Prelude.{◌≢◌, ℕ, ◌+◌, ◌==◌, List, [], ◌∷◌, Option, Some, None, Result, Ok, Err, length, slice_set, if◌then◌else◌, ⊤}
 use Rattle.board_model.specs.Durable.{State, Change, Slot, Discard, refusal_of, after}
 use Rattle.board_model.specs.Kept.{found_of}
@@ -92,12 +92,14 @@ plain_answers size (line ∷ more) b = (plain size line b).0 ∷ plain_answers s
 abbrev pub plain_report : Script → List Answer
 plain_report script = board_answer script.size ∷ plain_answers script.size script.lines blank_bench
 
--- a line that neither makes turns nor shows memory or harts
+-- a line that neither moves a hart nor shows memory or harts
 abbrev pub IsPlain : Line → Type 0
 IsPlain (lines.Turn h n) = ⊥
+IsPlain (lines.Call h e f x y z) = ⊥
 IsPlain (lines.Reg h r) = ⊥
 IsPlain (lines.Pc h) = ⊥
 IsPlain (lines.Csr h c) = ⊥
+IsPlain lines.Pending = ⊥
 IsPlain (lines.Mem a n) = ⊥
 IsPlain line = ⊤
 

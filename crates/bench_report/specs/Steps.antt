@@ -15,7 +15,7 @@ use Rattle.board.specs.Moments.{issued_by}
 use Rattle.machine.specs.Machine.{Machine, resting}
 use Rattle.script_lang.specs.declared.line.Line.{Line}
 use Rattle.script_lang.specs.declared.line.Line.TheVariants as lines
-use Rattle.machine_lines.specs.Shows.{TurnsLine, reg_line, pc_line, CsrLine, mem_line}
+use Rattle.machine_lines.specs.Shows.{TurnsLine, CallLine, reg_line, pc_line, CsrLine, pending_line, mem_line}
 use Rattle.machine_lines.specs.declared.line.MachineLine.{MachineLine}
 use Rattle.machine_lines.specs.declared.line.MachineLine.TheVariants as shown
 use Rattle.bench_report.specs.declared.printed.Printed.{Printed}
@@ -136,7 +136,7 @@ commands_of mode = option_to_list (issued_by mode)
 
 -- a life that an open begins, before the boot
 abbrev pub begun : State → Size → Life
-begun s z = record { now = s; receipts = 0; doubt = None; machine = resting z }
+begun s z = record { now = s; receipts = 0; doubt = None; machine = resting z 0 }
 
 -- the boot of a board of that size, once its commands were issued
 abbrev pub IsOn : Result ℕ ℕ → BootMode → Size → Bench → Printed → Bench → Type 0
@@ -214,9 +214,11 @@ abbrev pub PayloadStep : Option Life → ℕ → List ℕ → Bench → Answer �
 PayloadStep (Some life) slot bytes b answer new = (answer ≡ shows shown.Busy) × (new ≡ b)
 PayloadStep None slot bytes b answer new = (answer ≡ shows (shown.Payload slot (length bytes))) × (new ≡ record b { payloads = slice_set b.payloads slot bytes })
 
-abbrev pub TurnStep : Option Life → ℕ → ℕ → Bench → Answer → Bench → Type 0
-TurnStep None h n b answer new = (answer ≡ shows shown.Off) × (new ≡ b)
-TurnStep (Some life) h n b answer new = (line : MachineLine) × (m : Machine) × TurnsLine h n life.machine m line × (answer ≡ shows line) × (new ≡ on_with (has_machine m life) b)
+-- a line by which a hart does something: turns, or a call that is made in its place
+abbrev pub GuestStep : Option Life → (Machine → Machine → MachineLine → Type 0) → Bench → Answer → Bench → Type 0
+GuestStep None does b answer new = (answer ≡ shows shown.Off) × (new ≡ b)
+GuestStep (Some life) does b answer new =
+    (line : MachineLine) × (m : Machine) × does life.machine m line × (answer ≡ shows line) × (new ≡ on_with (has_machine m life) b)
 
 -- a line that shows something of memory and harts
 abbrev pub ReadStep : Option Life → (Machine → MachineLine → Type 0) → Bench → Answer → Bench → Type 0
@@ -238,12 +240,12 @@ Step size lines.Format b answer new = FormatStep b.power b answer new
 Step size (lines.On mode) b answer new = OnStep size b.power mode b answer new
 Step size (lines.Slot n) b answer new = SlotStep b.power n b answer new
 Step size lines.Discard b answer new = NotBuilt b answer new
-Step size (lines.Turn h n) b answer new = TurnStep b.power h n b answer new
-Step size (lines.Call h e f x y z) b answer new = NotBuilt b answer new
+Step size (lines.Turn h n) b answer new = GuestStep b.power (λ old m line. TurnsLine h n old m line) b answer new
+Step size (lines.Call h e f x y z) b answer new = GuestStep b.power (λ old m line. CallLine h e f x y z old m line) b answer new
 Step size (lines.Reg h r) b answer new = ReadStep b.power (λ m line. line ≡ reg_line h r m) b answer new
 Step size (lines.Pc h) b answer new = ReadStep b.power (λ m line. line ≡ pc_line h m) b answer new
 Step size (lines.Csr h c) b answer new = ReadStep b.power (λ m line. CsrLine h c m line) b answer new
-Step size lines.Pending b answer new = NotBuilt b answer new
+Step size lines.Pending b answer new = ReadStep b.power (λ m line. line ≡ pending_line m) b answer new
 Step size (lines.Mem a n) b answer new = ReadStep b.power (λ m line. line ≡ mem_line a n m) b answer new
 Step size (lines.CutAt n fill) b answer new = ArmStep CutArmed b answer new
 Step size (lines.CutLane i n fill) b answer new = NotBuilt b answer new

@@ -1,17 +1,17 @@
 //! One line of a script.
 
-ghost use Rattle.std.specs.Prelude.{◌≡◌, ◌<◌, ◌≤◌, ℕ, List, length, Some, None, Ok, Err, IfOk, OnOk, OnErr, true, IsTrue, ◌↔◌, MatchResult};
+ghost use Rattle.std.specs.Prelude.{◌≡◌, ◌<◌, ◌≤◌, ◌+◌, ◌*◌, ◌^◌, if◌then◌else◌, ℕ, List, length, Some, None, Ok, Err, IfOk, OnOk, OnErr, true, IsTrue, ◌↔◌, MatchResult};
 ghost use Rattle.board_model.specs.Durable.{Slot};
 ghost use Rattle.board_model.specs.Shapes.{Size};
 ghost use Rattle.script_lang.specs.Ranges.{IsInRange};
 ghost use Rattle.store.specs.Leaves.{IsIdle};
 ghost use Rattle.bench_report.specs.Below.{store_in, machine_in, facts};
 ghost use Rattle.bench_report.specs.Bench.{Bench, Life};
-ghost use Rattle.bench_report.specs.Steps.{FormatsOn, PowersOn, FormatStep, OnStep, SlotStep, PayloadStep, TurnStep, ReadStep, Step, Moves, off, unpowered, armed_with, says, shows};
+ghost use Rattle.bench_report.specs.Steps.{FormatsOn, PowersOn, FormatStep, OnStep, SlotStep, PayloadStep, GuestStep, ReadStep, Step, Moves, off, unpowered, armed_with, says, shows};
 ghost use Rattle.disk.specs.Mishaps.{armed_by};
 ghost use Rattle.simdisk.specs.declared.SimDisk.{SimDisk};
 ghost use Rattle.bench_report.specs.Agree.{choice_by, HasDisk, IsCutBy, Arms, ArmsIts, fill_after, EndsBy, Agrees, IsResting, OffIs, OnIs, AreShort, IsBench, Goes};
-ghost use Rattle.machine_lines.specs.Shows.{TurnsLine, reg_line, pc_line, CsrLine, mem_line};
+ghost use Rattle.machine_lines.specs.Shows.{TurnsLine, CallLine, waits, reg_line, pc_line, CsrLine, pending_line, mem_line};
 ghost use Rattle.machine.specs.Machine.{Machine};
 ghost use Rattle.board_model.specs.declared.refusal.Refusal.TheVariants.{Memory};
 
@@ -232,20 +232,64 @@ fn turn(board: &mut Board<SimDisk>, hart: HartId, count: u32) -> MachineLine
     if !board.machine().has(hart) {
         return MachineLine::Off;
     }
-    let turned = board.turns(hart, count);
-    MachineLine::Turn(hart, count, turned)
+    let (made, turned) = board.turns(hart, count);
+    MachineLine::Turn(hart, made, turned)
 }
 
 fn turn_line(hart: HartId, count: u32, power: Power) -> (Power, MachineLine)
     requires some { 0 < count }
     requires resting { IsResting power }
-    ensures told { (size : Size) (b : Bench) → Agrees size b power → Goes size b result.0 (TurnStep b.power hart count b (shows result.1)) }
+    ensures told { (size : Size) (b : Bench) → Agrees size b power
+        → Goes size b result.0 (GuestStep b.power (λ old m line. TurnsLine hart count old m line) b (shows result.1)) }
     ensures resting { IsResting result.0 }
 {
     match power {
         Power::Off(disk) => (Power::Off(disk), MachineLine::Off),
         Power::On(mut board) => {
             let line = turn(&mut board, hart, count);
+            (Power::On(board), line)
+        }
+    }
+}
+
+/// A call that is made in the place of a hart of a board that is on.
+fn call(
+    board: &mut Board<SimDisk>,
+    hart: HartId,
+    eid: u64,
+    fid: u64,
+    a0: u64,
+    a1: u64,
+    a2: u64,
+) -> MachineLine
+    ensures told { CallLine hart eid fid a0 a1 a2 (machine_in board.old) (machine_in board.new) result }
+    ensures store { store_in board.new ≡ store_in board.old }
+{
+    if !board.machine().has(hart) {
+        return MachineLine::Off;
+    }
+    let called = board.call(hart, eid, fid, a0, a1, a2);
+    machine_lines::called(board.machine(), hart, called)
+}
+
+fn call_line(
+    hart: HartId,
+    eid: u64,
+    fid: u64,
+    a0: u64,
+    a1: u64,
+    a2: u64,
+    power: Power,
+) -> (Power, MachineLine)
+    requires { IsResting power }
+    ensures told { (size : Size) (b : Bench) → Agrees size b power
+        → Goes size b result.0 (GuestStep b.power (λ old m line. CallLine hart eid fid a0 a1 a2 old m line) b (shows result.1)) }
+    ensures resting { IsResting result.0 }
+{
+    match power {
+        Power::Off(disk) => (Power::Off(disk), MachineLine::Off),
+        Power::On(mut board) => {
+            let line = call(&mut board, hart, eid, fid, a0, a1, a2);
             (Power::On(board), line)
         }
     }
@@ -269,12 +313,84 @@ fn pc_line(hart: HartId, power: &Power) -> MachineLine
     }
 }
 
-fn csr_line(hart: HartId, number: u32, power: &Power) -> MachineLine
-    ensures { (size : Size) (b : Bench) → Agrees size b power.now → ReadStep b.power (λ m line. CsrLine hart number m line) b (shows result) b }
+/// Whether the board has the hart, and an interrupt is pending for it. The board stays as it was.
+fn waits(board: &mut Board<SimDisk>, hart: HartId) -> bool
+    ensures value { result ≡ waits (machine_in board.old) hart }
+    ensures machine { machine_in board.new ≡ machine_in board.old }
+    ensures store { store_in board.new ≡ store_in board.old }
+{
+    board.machine().has(hart) && board.pending(hart)
+}
+
+/// A control and status register of a hart of a board that is on, which stays as it was.
+fn csr(board: &mut Board<SimDisk>, hart: HartId, number: u32) -> MachineLine
+    ensures told { CsrLine hart number (machine_in board.old) result }
+    ensures machine { machine_in board.new ≡ machine_in board.old }
+    ensures store { store_in board.new ≡ store_in board.old }
+{
+    let pending = waits(board, hart);
+    machine_lines::csr_of(board.machine(), hart, number, pending)
+}
+
+fn csr_line(hart: HartId, number: u32, power: Power) -> (Power, MachineLine)
+    requires { IsResting power }
+    ensures told { (size : Size) (b : Bench) → Agrees size b power
+        → Goes size b result.0 (ReadStep b.power (λ m line. CsrLine hart number m line) b (shows result.1)) }
+    ensures resting { IsResting result.0 }
 {
     match power {
-        Power::Off(_) => MachineLine::Off,
-        Power::On(board) => machine_lines::csr(board.machine(), hart, number),
+        Power::Off(disk) => (Power::Off(disk), MachineLine::Off),
+        Power::On(mut board) => {
+            let line = csr(&mut board, hart, number);
+            (Power::On(board), line)
+        }
+    }
+}
+
+/// The bit of each hart in a set of harts.
+const BITS: [u32; 8] = [1, 2, 4, 8, 16, 32, 64, 128];
+
+/// A set of harts below that number, and this one where it is to be in it.
+fn with_hart(set: u32, number: u64, waits: bool) -> u32
+    requires number { number < 8 }
+    requires few { set ≤ 128 * number }
+    ensures value { result ≡ set + (if waits then 2 ^ number else 0) }
+    ensures few { result ≤ 128 * number + 128 }
+{
+    if waits {
+        set + BITS[number as usize]
+    } else {
+        set
+    }
+}
+
+/// The harts of a board that is on for which an interrupt is pending. The board stays as it was.
+fn pending(board: &mut Board<SimDisk>) -> MachineLine
+    ensures told { result ≡ pending_line (machine_in board.old) }
+    ensures machine { machine_in board.new ≡ machine_in board.old }
+    ensures store { store_in board.new ≡ store_in board.old }
+{
+    let mut set = 0;
+    for number in 0..8 {
+        let hart = HartId::new(number).unwrap();
+        let waits = waits(board, hart);
+        set = with_hart(set, number, waits);
+    }
+    MachineLine::Pending(set)
+}
+
+fn pending_line(power: Power) -> (Power, MachineLine)
+    requires { IsResting power }
+    ensures told { (size : Size) (b : Bench) → Agrees size b power
+        → Goes size b result.0 (ReadStep b.power (λ m line. line ≡ pending_line m) b (shows result.1)) }
+    ensures resting { IsResting result.0 }
+{
+    match power {
+        Power::Off(disk) => (Power::Off(disk), MachineLine::Off),
+        Power::On(mut board) => {
+            let line = pending(&mut board);
+            (Power::On(board), line)
+        }
     }
 }
 
@@ -294,6 +410,15 @@ fn answered(did: (Power, Answer)) -> (Power, Result<Answer, Refusal>)
 {
     let (after, answer) = did;
     (after, Ok(answer))
+}
+
+/// The same of a line that speaks of memory and harts.
+fn shown(did: (Power, MachineLine)) -> (Power, Result<Answer, Refusal>)
+    ensures power { result.0 ≡ did.0 }
+    ensures answer { result.1 ≡ Ok (shows did.1) }
+{
+    let (after, line) = did;
+    (after, Ok(says(Printed::Shown(line))))
 }
 
 /// One line of a script, as far as no armed cut strikes. Refused only where there is no memory for a payload, and then the
@@ -326,9 +451,9 @@ fn step(
                 Err(refusal) => (power, Err(refusal)),
             }
         }
-        Line::Turn(hart, count) => {
-            let (after, shown) = turn_line(*hart, *count, power);
-            (after, Ok(says(Printed::Shown(shown))))
+        Line::Turn(hart, count) => shown(turn_line(*hart, *count, power)),
+        Line::Call(hart, eid, fid, a0, a1, a2) => {
+            shown(call_line(*hart, *eid, *fid, *a0, *a1, *a2, power))
         }
         Line::Reg(hart, register) => {
             let shown = reg_line(*hart, *register, &power);
@@ -338,17 +463,13 @@ fn step(
             let shown = pc_line(*hart, &power);
             (power, Ok(says(Printed::Shown(shown))))
         }
-        Line::Csr(hart, number) => {
-            let shown = csr_line(*hart, *number, &power);
-            (power, Ok(says(Printed::Shown(shown))))
-        }
+        Line::Csr(hart, number) => shown(csr_line(*hart, *number, power)),
+        Line::Pending => shown(pending_line(power)),
         Line::Mem(address, count) => {
             let shown = mem_line(*address, *count, &power);
             (power, Ok(says(Printed::Shown(shown))))
         }
         Line::Discard => (power, Ok(says(Printed::NotBuilt))),
-        Line::Call(_, _, _, _, _, _) => (power, Ok(says(Printed::NotBuilt))),
-        Line::Pending => (power, Ok(says(Printed::NotBuilt))),
         Line::CutAt(call, _) => {
             let after = arm(power, ArmedFault::CutAt(u64::from(*call)));
             (after, Ok(says(Printed::Armed)))

@@ -1,9 +1,8 @@
 //! What a new user types, and a writer that fails.
 
-use crate::told::{START, refused, reports};
+use crate::told::{START, Short, refused, reports};
 use bench_report::run;
 use board_model::Refusal;
-use std::io::{self, ErrorKind, Write};
 use std::test::*;
 
 #[test]
@@ -62,27 +61,6 @@ fn a_line_of_any_length_is_answered(rt: HostRuntime) -> Result<(), Fail> {
     }
     refused(&rt, alloc, &script, Refusal::BadScript(2));
     Ok(())
-}
-
-/// A writer that takes so many bytes, and then fails.
-#[derive(Drop)]
-struct Short {
-    room: usize,
-}
-
-impl Write for Short {
-    fn write(&mut self, buf: &[u8]) -> io::Result<usize> {
-        if self.room == 0 {
-            return Err(io::Error::from(ErrorKind::StorageFull));
-        }
-        let taken = buf.len().min(self.room);
-        self.room -= taken;
-        Ok(taken)
-    }
-
-    fn flush(&mut self) -> io::Result<()> {
-        Ok(())
-    }
 }
 
 #[test]

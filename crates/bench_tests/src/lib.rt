@@ -6,10 +6,14 @@ mod cuts;
 #[cfg(test)]
 mod faults;
 #[cfg(test)]
+mod large;
+#[cfg(test)]
 mod lines;
 #[cfg(test)]
 mod programs;
 #[cfg(test)]
 mod rows;
+#[cfg(test)]
+mod stopped;
 #[cfg(test)]
 mod told;

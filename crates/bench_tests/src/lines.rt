@@ -55,15 +55,11 @@ fn a_cut_before_the_format_leaves_a_blank_disk(rt: HostRuntime) -> Result<(), Fa
 
 const OTHERS: &[u8] = b"\
 discard\n\
-call 0 base 0\n\
-pending\n\
 cutlane 0 1 00\n\
 faillane 0 1\n\
 poke 0 0 00\n";
 
 const NOT_BUILT: &[u8] = b"\
-not built\n\
-not built\n\
 not built\n\
 not built\n\
 not built\n\

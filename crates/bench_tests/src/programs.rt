@@ -46,9 +46,9 @@ fn a_boot_takes_the_payload_of_its_slot(rt: HostRuntime) -> Result<(), Fail> {
     )
 }
 
-// ECALL: no call is built, so each is answered NOT_SUPPORTED, which is -2.
+// ECALL with 0 in a7: a legacy call, which the board lacks, is answered NOT_SUPPORTED, which is -2.
 #[test]
-fn a_call_is_not_supported(rt: HostRuntime) -> Result<(), Fail> {
+fn a_legacy_call_is_not_supported(rt: HostRuntime) -> Result<(), Fail> {
     reports(
         &rt,
         rt.alloc(),
@@ -62,7 +62,7 @@ fn a_board_that_is_off_shows_nothing(rt: HostRuntime) -> Result<(), Fail> {
     goes_on(
         &rt,
         rt.alloc(),
-        b"payload 0 00\ncut 00\nturn 0 1\nreg 0 0\npc 0\ncsr 0 0x100\nmem 0x80000000 1\npayload 3 0000\n",
-        b"busy\ncut\noff\noff\noff\noff\noff\npayload 3 2\n",
+        b"payload 0 00\ncut 00\nturn 0 1\ncall 0 base 0\nreg 0 0\npc 0\ncsr 0 0x100\npending\nmem 0x80000000 1\npayload 3 0000\n",
+        b"busy\ncut\noff\noff\noff\noff\noff\noff\noff\npayload 3 2\n",
     )
 }

@@ -3,6 +3,7 @@
 use bench_report::{run, run_left};
 use board_model::{Durable, Reason, Refusal, Slot};
 use std::alloc::Global;
+use std::io::{self, ErrorKind, Write};
 use std::process::Abort;
 use std::test::*;
 
@@ -44,6 +45,28 @@ pub fn refused(rt: &impl Abort, alloc: Global, script: &[u8], want: Refusal) {
         Err(e) => assert_eq!(rt; e, want),
     }
     assert!(rt; out.is_empty());
+}
+
+/// A writer that takes so many bytes, and then fails.
+#[derive(Drop)]
+pub struct Short {
+    /// How many bytes it still takes.
+    pub room: usize,
+}
+
+impl Write for Short {
+    fn write(&mut self, buf: &[u8]) -> io::Result<usize> {
+        if self.room == 0 {
+            return Err(io::Error::from(ErrorKind::StorageFull));
+        }
+        let taken = buf.len().min(self.room);
+        self.room -= taken;
+        Ok(taken)
+    }
+
+    fn flush(&mut self) -> io::Result<()> {
+        Ok(())
+    }
 }
 
 /// The durable state with this slot and nothing else.

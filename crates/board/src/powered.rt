@@ -5,8 +5,9 @@ use crate::ready::ready;
 use board_model::{BootMode, Command, Durable, HartId, Refusal, Shape};
 use disk::{ArmedFault, Disk};
 use hart::Hart;
-use machine::{Machine, Turned};
+use machine::{Called, Machine, Turned};
 use ram::Ram;
+use sbi_calls::{Seats, Tables};
 use std::alloc::Global;
 use store::{Receipt, Store};
 
@@ -35,6 +36,10 @@ pub struct Unpowered<D: Disk + Drop> {
 pub struct Parts<D: Disk + Drop> {
     /// The harts, by number.
     pub harts: Vec<Hart>,
+    /// The seat of all harts in each table, of which `split` makes one for each.
+    pub seats: Seats,
+    /// The states of the harts, and the pending interrupts.
+    pub tables: Tables,
     /// The memory.
     pub ram: Ram,
     /// The durable state, with its disk.
@@ -56,7 +61,9 @@ impl<D: Disk + Drop> Board<D> {
     ghost use Rattle.store.specs.Views.{Answered, StaysOpen};
     ghost use Rattle.store.specs.Stores.{disk_of, mishaps_of, arms_of, size_of_store, life_of, found_state, now_state, doubt_of, failures_at_open, view_of, Stands, Doubts};
     ghost use Rattle.machine.specs.Machine.{hart_at};
-    ghost use Rattle.machine.specs.Turns.{Turns, TurnsMany};
+    ghost use Rattle.machine.specs.Turns.{Turns, TurnsMany, Calls};
+    ghost use Rattle.machine.specs.Held.{shown_by, IsHeld};
+    ghost use Rattle.turns.specs.Turns.{is_pending};
     ghost use Rattle.board.specs.Boots.{IsConsoleCommand, life_after, boot_refusal, BootsSlot, Fits, booted};
     ghost use Rattle.board.specs.Boards.{store_of, machine_of};
     ghost use Rattle.board.specs.Moments.{issued_by, gone_before, MayLeave};
@@ -210,15 +217,36 @@ impl<D: Disk + Drop> Board<D> {
         self.machine.hart(hart)
     }
 
-    /// So many turns of a hart of this board, one after another, and what the last one did.
-    pub fn turns(&mut self, hart: HartId, count: u32) -> Turned
+    /// At most so many turns of a hart of this board, one after another: how many were made, and what the last one did. One
+    /// that stops the hart is the last.
+    pub fn turns(&mut self, hart: HartId, count: u32) -> (u32, Turned)
         requires hart { hart < length (machine_of self.old).harts }
         requires some { 1 ≤ count }
-        ensures turns { TurnsMany hart count (machine_of self.old) (machine_of self.new) result }
+        ensures turns { TurnsMany hart count (machine_of self.old) (machine_of self.new) result.0 result.1 }
         ensures harts { length (machine_of self.new).harts ≡ length (machine_of self.old).harts }
         ensures store { store_of self.new ≡ store_of self.old }
     {
         self.machine.turns(hart, count)
+    }
+
+    /// An SBI call that is made in the place of a hart of this board, as `Machine::call` says.
+    pub fn call(&mut self, hart: HartId, eid: u64, fid: u64, a0: u64, a1: u64, a2: u64) -> Called
+        requires { hart < length (machine_of self.old).harts }
+        ensures calls { Calls hart eid fid a0 a1 a2 (machine_of self.old) (machine_of self.new) result }
+        ensures harts { length (machine_of self.new).harts ≡ length (machine_of self.old).harts }
+        ensures store { store_of self.new ≡ store_of self.old }
+    {
+        self.machine.call(hart, eid, fid, a0, a1, a2)
+    }
+
+    /// Whether an interrupt is pending for a hart of this board, which stays as it was.
+    pub fn pending(&mut self, hart: HartId) -> bool
+        requires { hart < length (machine_of self.old).harts }
+        ensures value { result ≡ is_pending hart (machine_of self.old).table.pairs }
+        ensures machine { machine_of self.new ≡ machine_of self.old }
+        ensures store { store_of self.new ≡ store_of self.old }
+    {
+        self.machine.pending(hart)
     }
 
     /// Issues a durable command of the console, Slot or Discard, and answers its place in the journal of this life.
@@ -254,10 +282,23 @@ impl<D: Disk + Drop> Board<D> {
     pub fn into_parts(self) -> Parts<D>
         ensures harts { result.harts.items ≡ (machine_of self).harts }
         ensures ram { result.ram ≡ (machine_of self).memory }
+        ensures held { IsHeld (machine_of self).size result.harts.items result.tables (Some result.seats) }
+        ensures shows { shown_by (machine_of self).size.harts result.seats ≡ (machine_of self).table }
         ensures store { result.store ≡ store_of self }
     {
         let Board { store, machine } = self;
-        let (harts, ram) = machine.into_parts();
-        Parts { harts, ram, store }
+        let machine::Parts {
+            harts,
+            seats,
+            tables,
+            ram,
+        } = machine.into_parts();
+        Parts {
+            harts,
+            seats,
+            tables,
+            ram,
+            store,
+        }
     }
 }

@@ -78,20 +78,21 @@ fn resting<D: Disk + Drop>(
 ) -> Result<Machine, Refusal>
     ensures fits { OnOk result (Fits (size_of_store store.now) payloads.now) }
     ensures least { 4096 ≤ ram_bytes_of (size_of_store store.now) }
-    ensures machine { IfOk result (λ m. m ≡ resting (size_of_store store.now)) }
+    ensures machine { IfOk result (λ m. m ≡ resting (size_of_store store.now) 0) }
     ensures refused { IfErr result (λ e. IsStartRefusal (size_of_store store.now) payloads.now e) }
 {
     let shape = store.shape();
     if !payloads.fit(&shape) {
         return Err(Refusal::BadShape);
     }
-    let machine = Machine::new(alloc, &shape)?;
+    let first = shape.hart(0).unwrap();
+    let machine = Machine::new(alloc, &shape, first)?;
     Ok(machine)
 }
 
 /// Boots the slot of the state now, on a board that was just made.
 fn boot_slot<D: Disk + Drop>(machine: &mut Machine, store: &Store<D>, payloads: &Payloads)
-    requires resting { machine.old ≡ resting (size_of_store store.now) }
+    requires resting { machine.old ≡ resting (size_of_store store.now) 0 }
     requires fits { Fits (size_of_store store.now) payloads.now }
     ensures { machine.new ≡ booted payloads.now (now_state store.now) (size_of_store store.now) }
 {

@@ -2,13 +2,13 @@
 ghost use Rattle.std.specs.Prelude.{◌≡◌, IfOk};
 
 use crate::fixtures::{
-    booted, discard, formatted, imaged, numbers, one_payload, powered, same, set, set_slot, shown,
-    slot, turn, turns,
+    booted, call, discard, formatted, imaged, numbers, one_payload, pending, powered, same, set,
+    set_slot, shown, slot, turn, turns,
 };
 use board::{Board, Payloads};
 use board_model::{BootMode, Command, RAM_BASE, Reason, Refusal, Shape};
 use disk::Disk;
-use machine::Turned;
+use machine::{Called, Turned};
 use ram::{Ram, Width};
 use simdisk::SimDisk;
 use std::alloc::Global;
@@ -33,7 +33,7 @@ fn adds(rt: &impl Abort, board: &mut Board<SimDisk>, slot: u32, number: u64) {
     same(rt, board.found().slot.number(), slot);
     same(rt, board.now(), board.found());
     same(rt, shown(board, 0), Some((0, 0, RAM_BASE)));
-    same(rt, turns(board, 0, 1), Some(Turned::Next));
+    same(rt, turns(board, 0, 1), Some((1, Turned::Next)));
     same(rt, shown(board, 0), Some((number, 0, RAM_BASE + 4)));
 }
 
@@ -97,10 +97,40 @@ fn a_stopped_hart_is_idle(rt: HostRuntime) -> Result<(), Fail> {
     let payloads = one_payload(rt.alloc(), 0, &ONE)?;
     let mut board = booted(rt.alloc(), 2, BootMode::Fresh, &payloads)?;
     same(&rt, turn(&mut board, 1), Some(Turned::Idle));
-    same(&rt, turns(&mut board, 1, 5), Some(Turned::Idle));
+    same(&rt, turns(&mut board, 1, 5), Some((5, Turned::Idle)));
     same(&rt, shown(&board, 1), Some((0, 0, 0)));
     same(&rt, shown(&board, 0), Some((0, 0, RAM_BASE)));
     same(&rt, shown(&board, 2), None);
+    Ok(())
+}
+
+// Hart 0 starts hart 1 and sends it an interrupt, which hart 1 takes as it enters (SBI specification 2.0, chapters 7 and 9).
+#[test]
+fn calls_reach_another_hart(rt: HostRuntime) -> Result<(), Fail> {
+    let payloads = Payloads::new(rt.alloc());
+    let mut board = booted(rt.alloc(), 2, BootMode::Fresh, &payloads)?;
+    let answered = Some(Called::Made(Turned::Next));
+    same(
+        &rt,
+        call(&mut board, 0, [0x48_534d, 0, 1, RAM_BASE, 7]),
+        answered,
+    );
+    same(&rt, call(&mut board, 0, [0x73_5049, 0, 1, 1, 0]), answered);
+    same(&rt, pending(&mut board, 1), Some(true));
+    same(
+        &rt,
+        call(&mut board, 1, [0x10, 0, 0, 0, 0]),
+        Some(Called::NotStarted),
+    );
+    same(&rt, turn(&mut board, 1), Some(Turned::Entered));
+    same(&rt, pending(&mut board, 1), Some(false));
+    same(&rt, shown(&board, 1), Some((1, 7, RAM_BASE)));
+    let parts = board.into_parts();
+    same(
+        &rt,
+        (parts.tables.harts.harts(), parts.tables.pending.harts()),
+        (2, 2),
+    );
     Ok(())
 }
 
@@ -110,7 +140,7 @@ fn turns_are_made_one_after_another(rt: HostRuntime) -> Result<(), Fail> {
     let program = [0x13, 0x05, 0x15, 0x00, 0x6f, 0xf0, 0xdf, 0xff];
     let payloads = one_payload(rt.alloc(), 0, &program)?;
     let mut board = booted(rt.alloc(), 1, BootMode::Fresh, &payloads)?;
-    same(&rt, turns(&mut board, 0, 5), Some(Turned::Next));
+    same(&rt, turns(&mut board, 0, 5), Some((5, Turned::Next)));
     same(&rt, shown(&board, 0), Some((3, 0, RAM_BASE + 4)));
     Ok(())
 }
@@ -144,7 +174,7 @@ fn discard_drops_the_image_and_boots_the_slot(rt: HostRuntime) -> Result<(), Fai
     let reason = Reason::SystemFailure;
     same(&rt, numbers(board.found()), (Some((4, 7)), 3, reason, 5));
     same(&rt, numbers(board.now()), (None, 3, reason, 5));
-    same(&rt, turns(&mut board, 0, 1), Some(Turned::Next));
+    same(&rt, turns(&mut board, 0, 1), Some((1, Turned::Next)));
     same(&rt, shown(&board, 0), Some((2, 1, RAM_BASE + 4)));
     same(&rt, set_slot(&mut board, 0), Ok(2));
     Ok(())

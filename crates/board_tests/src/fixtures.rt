@@ -7,7 +7,7 @@ use board_model::{
 };
 use disk::Disk;
 use layout::{Record, Saved, Side, gate_bytes, record_bytes, superblock_bytes};
-use machine::Turned;
+use machine::{Called, Turned};
 use rv_decode::Reg;
 use simdisk::SimDisk;
 use std::alloc::Global;
@@ -155,11 +155,32 @@ pub fn discard(board: &mut Board<SimDisk>) -> Result<u32, Refusal> {
     Ok(board.console(Command::Discard)?.number())
 }
 
-/// So many turns of a hart that the board has.
-pub fn turns(board: &mut Board<SimDisk>, number: u64, count: u32) -> Option<Turned> {
+/// So many turns of a hart that the board has: how many were made, and what the last one did.
+pub fn turns(board: &mut Board<SimDisk>, number: u64, count: u32) -> Option<(u32, Turned)> {
     let id = HartId::new(number)?;
     if board.machine().has(id) && 1 <= count {
         Some(board.turns(id, count))
+    } else {
+        None
+    }
+}
+
+/// What a call made of a hart that the board has: the extension, the function and three arguments.
+pub fn call(board: &mut Board<SimDisk>, number: u64, asked: [u64; 5]) -> Option<Called> {
+    let id = HartId::new(number)?;
+    let [eid, fid, a0, a1, a2] = asked;
+    if board.machine().has(id) {
+        Some(board.call(id, eid, fid, a0, a1, a2))
+    } else {
+        None
+    }
+}
+
+/// Whether an interrupt is pending for a hart that the board has.
+pub fn pending(board: &mut Board<SimDisk>, number: u64) -> Option<bool> {
+    let id = HartId::new(number)?;
+    if board.machine().has(id) {
+        Some(board.pending(id))
     } else {
         None
     }

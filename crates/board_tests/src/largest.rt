@@ -37,9 +37,13 @@ fn largest(alloc: Global) -> Result<Board<SimDisk>, Fail> {
 
 // Hart 0 runs its payload to the end, and hart 7 was never started.
 fn runs(rt: &impl Abort, board: &mut Board<SimDisk>) {
-    same(rt, turns(board, 0, 256), Some(Turned::Next));
+    same(rt, turns(board, 0, 256), Some((256, Turned::Next)));
     same(rt, shown(board, 0), Some((256, 0, RAM_BASE + 1024)));
-    same(rt, turns(board, 7, 1_000_000), Some(Turned::Idle));
+    same(
+        rt,
+        turns(board, 7, 1_000_000),
+        Some((1_000_000, Turned::Idle)),
+    );
     same(rt, shown(board, 7), Some((0, 0, 0)));
 }
 

@@ -1,51 +1,109 @@
--- A turn of a hart is one outcome, and so are many in a row.
-use Rattle.std.proofs.Common.{ℕ, zero, suc, Bool, false, ◌≡◌, List, sym, ◌∙◌, ap, refl, subst, arith}
+-- A turn of a hart is one outcome, and so are turns in a row, and a call.
+use Rattle.std.proofs.Common.{ℕ, zero, suc, Bool, ◌≡◌, ◌⊎◌, List, sym, ◌∙◌, ap, refl, subst, inl, inr, ⊎_elim}
+use Rattle.board_model.specs.Shapes.{Size}
 use Rattle.hart.specs.State.{State}
 use Rattle.hart.specs.Means.{Steps, IsSame}
 use Rattle.hart.specs.declared.Outcome.{Outcome}
-use Rattle.machine.specs.Machine.{Machine, hart_at, status_at, with_hart}
-use Rattle.machine.specs.Turns.{after_step, Runs, RunsOne, Turns, MakesTurns, TurnsMany}
-use Rattle.machine.specs.declared.status.Status.{Status}
-use Rattle.machine.specs.declared.status.Status.TheVariants.{Stopped, Started}
-use Rattle.machine.specs.declared.status.Turned.{Turned}
+use Rattle.hart.specs.declared.Outcome.TheVariants as outcomes
+use Rattle.hsm_rule.specs.States.{HartState, stopped, start_pending, started, suspended}
+use Rattle.hsm.specs.Seen.{listed}
+use Rattle.sbi_abi.specs.Calls.{call_of}
+use Rattle.sbi_calls.specs.declared.endings.Ending.{Ending}
+use Rattle.sbi_calls.specs.declared.endings.Ending.TheVariants.{Answers, Stops, Suspends, SuspendsAfresh}
+use Rattle.sbi_calls.specs.declared.endings.After.{After}
+use Rattle.sbi_calls.specs.Both.{TableState}
+use Rattle.sbi_calls.specs.Answers.{Ends, answer}
+use Rattle.turns.specs.declared.words.Turned.{Turned}
+use Rattle.turns.specs.declared.words.Ready.{Ready}
+use Rattle.turns.specs.declared.words.Ready.TheVariants as readies
+use Rattle.turns.specs.Turns.{Moment, moment, begun, turned_by, Finishes, TurnAs, TurnOf}
+use Rattle.machine.specs.declared.parts.Called.{Called}
+use Rattle.machine.specs.declared.parts.Called.TheVariants.{NotStarted, Made}
+use Rattle.machine.specs.Machine.{Machine}
+use Rattle.machine.specs.Turns as turns
 
 -- a step is one outcome
 abbrev pub IsOneStep : Type 0
 IsOneStep = (p : Bool) (s t u : State) (m n l : List ℕ) (o q : Outcome) → Steps p s m t n o → Steps p s m u l q → IsSame t u n l o q
 
-one_run : IsOneStep → (s t u : State) (m n l : List ℕ) → Runs s m t n → Runs s m u l → (t ≡ u) × (n ≡ l)
-one_run step s t u m n l x y =
-    let same = step false s x.0 y.0 m n l x.1 y.1 x.2 y.2 in
-    let state : after_step x.1 x.0 ≡ after_step y.1 y.0 = ap (after_step x.1) same.0 ∙ ap (λ o. after_step o y.0) same.2 in
-    (x.3 ∙ (state ∙ sym y.3), same.1)
+one_end : (e : Ending) (s t u : State) (a b : After) → Ends e s t a → Ends e s u b → (t ≡ u) × (a ≡ b)
+one_end (Answers x) s t u a b p q = (p.0 ∙ sym q.0, p.1 ∙ sym q.1)
+one_end Stops s t u a b p q = (p.0 ∙ sym q.0, p.1 ∙ sym q.1)
+one_end Suspends s t u a b p q = (p.0 ∙ sym q.0, p.1 ∙ sym q.1)
+one_end (SuspendsAfresh x y) s t u a b p q = (p.0 ∙ sym q.0, p.1 ∙ sym q.1)
 
-one_turned : IsOneStep → (h : ℕ) (old new other : Machine) → RunsOne h old new → RunsOne h old other → new ≡ other
-one_turned step h old new other x y =
-    let same = one_run step (hart_at old h) x.0 y.0 old.memory x.1 y.1 x.2 y.2 in
-    let left : with_hart (record old { memory = x.1 }) h x.0 ≡ with_hart (record old { memory = y.1 }) h y.0 =
-    ap (λ n. with_hart (record old { memory = n }) h x.0) same.1 ∙ ap (λ t. with_hart (record old { memory = y.1 }) h t) same.0 in
-    x.3 ∙ (left ∙ sym y.3)
+one_finish : (size : Size) (o : Outcome) (x : TableState) (u : State) (y z : TableState) (v w : State) (word also : Turned) → Finishes size o x u y v word → Finishes size o x u z w also → (y ≡ z) × (v ≡ w) × (word ≡ also)
+one_finish size outcomes.Next x u y z v w word also p q = (p.0 ∙ sym q.0, p.1 ∙ sym q.1, p.2 ∙ sym q.2)
+one_finish size outcomes.TakePending x u y z v w word also p q = (p.0 ∙ sym q.0, p.1 ∙ sym q.1, p.2 ∙ sym q.2)
+one_finish size outcomes.Ecall x u y z v w word also p q =
+    let e = one_end (answer size u.id (call_of u) x).ending u v w p.0 q.0 p.1 q.1 in
+    (p.2 ∙ sym q.2, e.0, p.3 ∙ (ap turned_by e.1 ∙ sym q.3))
 
-by_status : IsOneStep → (status : Status) (h : ℕ) (old new other : Machine) (word also : Turned) → status_at old h ≡ status → Turns h old new word → Turns h old other also → (new ≡ other) × (word ≡ also)
-by_status step Stopped h old new other word also at x y =
-    ((x.stopped at).0 ∙ sym (y.stopped at).0, (x.stopped at).1 ∙ sym (y.stopped at).1)
-by_status step Started h old new other word also at x y =
-    (one_turned step h old new other (x.started at).0 (y.started at).0, (x.started at).1 ∙ sym (y.started at).1)
+one_moment : (b c : Moment) → b.table ≡ c.table → b.hart ≡ c.hart → b.memory ≡ c.memory → b ≡ c
+one_moment b c e f g =
+    ap (λ (x : TableState). moment x b.hart b.memory) e ∙ (ap (λ (s : State). moment c.table s b.memory) f ∙ ap (λ (m : List ℕ). moment c.table c.hart m) g)
 
-pub one_turn : IsOneStep → (h : ℕ) (old new other : Machine) (word also : Turned) → Turns h old new word → Turns h old other also → (new ≡ other) × (word ≡ also)
-one_turn step h old new other word also x y = by_status step (status_at old h) h old new other word also refl x y
+one_as : IsOneStep → (size : Size) (r : Ready) (x : TableState) (a b c : Moment) (word also : Turned) → TurnAs size r x a b word → TurnAs size r x a c also → (b ≡ c) × (word ≡ also)
+one_as step size readies.Idle x a b c word also p q = (p.0 ∙ sym q.0, p.1 ∙ sym q.1)
+one_as step size readies.Woke x a b c word also p q = (p.0 ∙ sym q.0, p.1 ∙ sym q.1)
+one_as step size (readies.Enters site opaque) x a b c word also p q = (p.0 ∙ sym q.0, p.1 ∙ sym q.1)
+one_as step size (readies.Steps pending) x a b c word also p q =
+    let same = step pending a.hart p.0 q.0 a.memory b.memory c.memory p.1 q.1 p.2 q.2 in
+    let at : Finishes size q.1 x q.0 b.table b.hart word =
+    subst (λ (o : Outcome). Finishes size o x q.0 b.table b.hart word) same.2 (subst (λ (u : State). Finishes size p.1 x u b.table b.hart word) same.0 p.3) in
+    let e = one_finish size q.1 x q.0 b.table c.table b.hart c.hart word also at q.3 in
+    (one_moment b c e.0 e.1 same.1, e.2)
 
-many : IsOneStep → (h n : ℕ) (old new other : Machine) → MakesTurns h n old new → MakesTurns h n old other → new ≡ other
-many step h zero old new other x y = x ∙ sym y
-many step h (suc n) old new other x y =
-    let P : Machine → Type 0 = λ m. Turns h m new x.1 in
-    let mid : x.0 ≡ y.0 = many step h n old x.0 y.0 x.2 y.2 in
-    (one_turn step h y.0 new other x.1 y.1 (subst P mid x.3) y.3).0
+one_of : IsOneStep → (size : Size) (a b c : Moment) (word also : Turned) → TurnOf size a b word → TurnOf size a c also → (b ≡ c) × (word ≡ also)
+one_of step size a b c word also p q = one_as step size (begun a.hart.id a.table).ready (begun a.hart.id a.table).table a b c word also p q
 
-pub one_row : IsOneStep → (h n : ℕ) (old new other : Machine) (word also : Turned) → TurnsMany h n old new word → TurnsMany h n old other also → (new ≡ other) × (word ≡ also)
-one_row step h n old new other word also x y =
-    let count : x.0 ≡ y.0 = omega (arith, x.2, y.2) in
-    let P : ℕ → Type 0 = λ k. MakesTurns h k old x.1 in
-    let Q : Machine → Type 0 = λ m. Turns h m new word in
-    let mid : x.1 ≡ y.1 = many step h y.0 old x.1 y.1 (subst P count x.3) y.3 in
-    one_turn step h y.1 new other word also (subst Q mid x.4) y.4
+-- ---- of a machine
+with_same : (h : ℕ) (old new other : Machine) (b c : Moment) → new ≡ turns.with_moment h old b → other ≡ turns.with_moment h old c → b ≡ c → new ≡ other
+with_same h old new other b c p q e = p ∙ (ap (turns.with_moment h old) e ∙ sym q)
+
+pub one_turn : IsOneStep → (h : ℕ) (old new other : Machine) (word also : Turned) → turns.Turns h old new word → turns.Turns h old other also → (new ≡ other) × (word ≡ also)
+one_turn step h old new other word also p q =
+    let e = one_of step old.size (turns.moment_of h old) p.0 q.0 word also p.1 q.1 in
+    (with_same h old new other p.0 q.0 p.2 q.2 e.0, e.1)
+
+-- ---- in a row
+pub one_row : IsOneStep → (h n k l : ℕ) (old new other : Machine) (word also : Turned) → turns.TurnsMany h n old new k word → turns.TurnsMany h n old other l also → (new ≡ other) × (k ≡ l) × (word ≡ also)
+one_row step h zero k l old new other word also p q = absurd p
+one_row step h (suc n) k l old new other word also p q =
+    let e = one_turn step h old p.0 q.0 p.1 q.1 p.2 q.2 in
+    elim p.3 [
+      | inl x ↦ elim q.3 [
+        | inl y ↦ (x.1 ∙ (e.0 ∙ sym y.1), x.2 ∙ sym y.2, x.3 ∙ (e.1 ∙ sym y.3))
+        | inr y ↦ absurd (y.0 (subst (λ (w : Turned). turns.IsLast w n) e.1 x.0))
+      ]
+      | inr x ↦ elim q.3 [
+        | inl y ↦ absurd (x.0 (subst (λ (w : Turned). turns.IsLast w n) (sym e.1) y.0))
+        | inr y ↦ (
+            let r = one_row step h n x.1 y.1 q.0 new other word also (subst (λ (m : Machine). turns.TurnsMany h n m new x.1 word) e.0 x.3) y.3 in
+            (r.0, x.2 ∙ (ap (λ (j : ℕ). suc j) r.1 ∙ sym y.2), r.2))
+      ]
+    ]
+
+-- ---- a call
+is_decided : (y : HartState) → (y ≡ started) ⊎ (y ≡ started → ⊥)
+is_decided stopped = inr (λ e. cc)
+is_decided (start_pending a o) = inr (λ e. cc)
+is_decided started = inl refl
+is_decided suspended = inr (λ e. cc)
+
+call_of_one : (size : Size) (u : State) (a b c : Moment) (called also : Called) → turns.CallOf size u a b called → turns.CallOf size u a c also → (b ≡ c) × (called ≡ also)
+call_of_one size u a b c called also x y =
+    elim (is_decided (listed a.table.states a.hart.id)) [
+      | inl at ↦ (
+          let p = x.made at in
+          let q = y.made at in
+          let e = one_finish size outcomes.Ecall a.table u b.table c.table b.hart c.hart p.0 q.0 p.1 q.1 in
+          (one_moment b c e.0 e.1 (p.2 ∙ sym q.2), p.3 ∙ (ap Made e.2 ∙ sym q.3)))
+      | inr none ↦ ((x.not_started none).0 ∙ sym (y.not_started none).0, (x.not_started none).1 ∙ sym (y.not_started none).1)
+    ]
+
+pub one_call : (h eid fid a0 a1 a2 : ℕ) (old new other : Machine) (called also : Called) → turns.Calls h eid fid a0 a1 a2 old new called → turns.Calls h eid fid a0 a1 a2 old other also → (new ≡ other) × (called ≡ also)
+one_call h eid fid a0 a1 a2 old new other called also p q =
+    let a = turns.moment_of h old in
+    let e = call_of_one old.size (turns.calling a.hart eid fid a0 a1 a2) a p.0 q.0 called also p.1 q.1 in
+    (with_same h old new other p.0 q.0 p.2 q.2 e.0, e.1)

@@ -1,47 +1,70 @@
--- One turn of a hart, and many in a row.
--- Source: docs/BOARD.md; RISC-V Unprivileged ISA 20191213 for the step, SBI specification 2.0, chapter 3, for a call that
--- nothing answers.
-use Rattle.std.specs.Prelude.{◌≡◌, ℕ, zero, suc, List, ◌+◌, ◌-◌, ◌^◌, false}
-use Rattle.machine.specs.Machine.{Machine, hart_at, status_at, with_hart}
-use Rattle.machine.specs.declared.status.Status.TheVariants.{Stopped, Started}
-use Rattle.machine.specs.declared.status.Turned.{Turned}
-use Rattle.machine.specs.declared.status.Turned.TheVariants.{Idle, Next}
-use Rattle.hart.specs.State.{State, answered}
-use Rattle.hart.specs.Means.{Steps}
-use Rattle.hart.specs.declared.Outcome.{Outcome}
-use Rattle.hart.specs.declared.Outcome.TheVariants as outcomes
+-- Turns of a hart, and calls that are made in its place. Source: docs/BOARD.md; SBI specification 2.0, chapters 3 and 9.
+use Rattle.std.specs.Prelude.{◌≡◌, ◌⊎◌, ℕ, zero, suc, Bool, true, false, List, slice_set}
+use Rattle.board_model.specs.Shapes.{Size}
+use Rattle.hart.specs.State.{State, put}
+use Rattle.hart.specs.declared.Outcome.TheVariants.{Ecall}
+use Rattle.hsm_rule.specs.States.{started}
+use Rattle.hsm.specs.Seen.{listed}
+use Rattle.sbi_calls.specs.declared.tables.Seats.{Seats}
+use Rattle.sbi_calls.specs.Both.{TableState, IsTable}
+use Rattle.turns.specs.declared.words.Turned.{Turned}
+use Rattle.turns.specs.declared.words.Turned.TheVariants.{Idle, Entered, Woke, Next, Suspended, Stopped}
+use Rattle.turns.specs.Turns.{Moment, moment, TurnOf, Finishes}
+use Rattle.machine.specs.declared.parts.Called.{Called}
+use Rattle.machine.specs.declared.parts.Called.TheVariants.{NotStarted, Made}
+use Rattle.machine.specs.Machine.{Machine, hart_at}
 
--- NOT_SUPPORTED, as a0 holds it
-abbrev pub not_supported : ℕ
-not_supported = 2 ^ 64 - 2
+-- hart h of a machine, with the tables and the memory
+abbrev pub moment_of : ℕ → Machine → Moment
+moment_of h m = moment m.table (hart_at m h) m.memory
 
--- What the firmware makes of a hart after its step. No SBI call is built yet, so each answers NOT_SUPPORTED with the
--- value 0; and no interrupt can pend, so there is none to take.
-abbrev pub after_step : Outcome → State → State
-after_step outcomes.Next t = t
-after_step outcomes.Ecall t = answered t not_supported 0
-after_step outcomes.TakePending t = t
+-- the machine whose hart h stands so; its other harts are as they were
+abbrev pub with_moment : ℕ → Machine → Moment → Machine
+with_moment h m a = record { size = m.size; memory = a.memory; harts = slice_set m.harts h a.hart; table = a.table }
 
--- one instruction of a hart, and what the firmware makes of it
-abbrev pub Runs : State → List ℕ → State → List ℕ → Type 0
-Runs s m t n = (u : State) × (outcome : Outcome) × Steps false s m u n outcome × (t ≡ after_step outcome u)
+-- what hart h did made that of the machine
+abbrev pub DoneBy : (Moment → Moment → Type 0) → ℕ → Machine → Machine → Type 0
+DoneBy Does h old new = (after : Moment) × Does (moment_of h old) after × (new ≡ with_moment h old after)
 
--- the same on the board, of hart h
-abbrev pub RunsOne : ℕ → Machine → Machine → Type 0
-RunsOne h old new =
-    (t : State) × (memory : List ℕ) × Runs (hart_at old h) old.memory t memory
-    × (new ≡ with_hart (record old { memory = memory }) h t)
+-- a turn of hart h
+abbrev pub Turns : ℕ → Machine → Machine → Turned → Type 0
+Turns h old new word = DoneBy (λ a b. TurnOf old.size a b word) h old new
 
--- what a turn of hart h makes of the board, and what is said of it
-pub record Turns (h : ℕ) (old new : Machine) (word : Turned) : Type 0 where
-  pub stopped : status_at old h ≡ Stopped → (new ≡ old) × (word ≡ Idle)
-  pub started : status_at old h ≡ Started → RunsOne h old new × (word ≡ Next)
+-- a turn after which no other follows in a row: the hart stopped
+abbrev pub ends_row : Turned → Bool
+ends_row Stopped = true
+ends_row Idle = false
+ends_row Entered = false
+ends_row Woke = false
+ends_row Next = false
+ends_row Suspended = false
 
--- n turns of hart h, one after another
-abbrev pub MakesTurns : ℕ → ℕ → Machine → Machine → Type 0
-MakesTurns h zero old new = new ≡ old
-MakesTurns h (suc n) old new = (mid : Machine) × (word : Turned) × MakesTurns h n old mid × Turns h mid new word
+-- the turn is the last of a row, with so many that might follow
+abbrev pub IsLast : Turned → ℕ → Type 0
+IsLast word left = (ends_row word ≡ true) ⊎ (left ≡ 0)
 
--- n turns of hart h, of which word is said of the last
-abbrev pub TurnsMany : ℕ → ℕ → Machine → Machine → Turned → Type 0
-TurnsMany h n old new word = (k : ℕ) × (mid : Machine) × (n ≡ k + 1) × MakesTurns h k old mid × Turns h mid new word
+-- at most n turns of hart h in a row, of which so many were made: one that ends the row is the last, and word is said of it
+abbrev pub TurnsMany : ℕ → ℕ → Machine → Machine → ℕ → Turned → Type 0
+TurnsMany h zero old new made word = ⊥
+TurnsMany h (suc n) old new made word =
+    (mid : Machine) × (first : Turned) × Turns h old mid first
+    × ((IsLast first n × (new ≡ mid) × (made ≡ 1) × (word ≡ first)) ⊎ ((IsLast first n → ⊥) × (rest : ℕ) × (made ≡ suc rest) × TurnsMany h n mid new rest word))
+
+-- ---- a call that is made in the place of a hart
+-- the registers of a call: the extension in a7, the function in a6, the arguments in a0 to a2
+abbrev pub calling : State → ℕ → ℕ → ℕ → ℕ → ℕ → State
+calling s eid fid a0 a1 a2 = put (put (put (put (put s 10 a0) 11 a1) 12 a2) 16 fid) 17 eid
+
+-- the call of a hart that then stands as u at an ECALL: none where the hart is not STARTED
+pub record CallOf (size : Size) (u : State) (a b : Moment) (called : Called) : Type 0 where
+  pub made : listed a.table.states a.hart.id ≡ started → (word : Turned) × Finishes size Ecall a.table u b.table b.hart word × (b.memory ≡ a.memory) × (called ≡ Made word)
+  pub not_started : (listed a.table.states a.hart.id ≡ started → ⊥) → (b ≡ a) × (called ≡ NotStarted)
+
+-- with the one seat of all harts
+abbrev pub CallsAlone : Size → State → State → State → List ℕ → Seats → Seats → Called → Type 0
+CallsAlone size s u t m before after called = (x : TableState) → IsTable size.harts before x
+    → (y : TableState) × CallOf size u (moment x s m) (moment y t m) called × IsTable size.harts after y
+
+-- a call of hart h with these registers
+abbrev pub Calls : ℕ → ℕ → ℕ → ℕ → ℕ → ℕ → Machine → Machine → Called → Type 0
+Calls h eid fid a0 a1 a2 old new called = DoneBy (λ a b. CallOf old.size (calling a.hart eid fid a0 a1 a2) a b called) h old new

@@ -1,10 +1,13 @@
-//! A board's memory and harts: what a boot leaves, and what a turn of a hart does. docs/BOARD.md has it in plain words.
+//! A board's memory, harts and tables on one thread: what a boot leaves, and what a turn or a call of a hart does.
+//! docs/BOARD.md has it in plain words.
 #![tactic(auto)]
 
+mod calls;
 mod laws;
 mod machine;
-mod status;
+mod parts;
 
 pub use laws::one_turn;
 pub use machine::Machine;
-pub use status::{Status, Turned};
+pub use parts::{Called, Parts};
+pub use turns::Turned;

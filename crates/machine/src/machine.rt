@@ -1,35 +1,45 @@
-//! The memory and the harts.
+//! The memory, the harts, and both tables with the one seat of all harts.
 
-ghost use Rattle.std.specs.Prelude.{◌≡◌, ◌≤◌, ◌<◌, ℕ, length, IfOk, OnErr, Err, IsTrue, ◌↔◌};
+ghost use Rattle.std.specs.Prelude.{◌≡◌, ◌≤◌, ◌<◌, ℕ, length, IfOk, OnErr, Err, Some, IsTrue, ◌↔◌};
 ghost use Rattle.board_model.specs.Shapes.{ram_bytes_of};
 ghost use Rattle.board_model.specs.declared.refusal.Refusal.TheVariants.{Memory};
+ghost use Rattle.turns.specs.Turns.{is_pending};
 ghost use Rattle.machine.specs.Machine.{hart_at, stopped_harts, resting, begun};
-ghost use Rattle.machine.specs.Turns.{Runs, Turns, TurnsMany};
+ghost use Rattle.machine.specs.Turns.{Turns, TurnsMany, Calls};
+ghost use Rattle.machine.specs.Held.{IsHeld, shown_by};
 
-use crate::status::{Status, Turned};
+use crate::calls::{Registers, make_call};
+use crate::parts::{Called, Parts, ends_row};
 use board_model::{HartId, RAM_BASE, Reason, Refusal, Shape};
-use hart::{Hart, Outcome};
+use hart::Hart;
+use hsm::HartTable;
+use ipi::PendingTable;
 use ram::Ram;
+use sbi_calls::{Seats, Tables};
 use std::alloc::Global;
 use std::marker::Model;
+use turns::Turned;
 
-/// The error with which the SBI answers a call that it does not have (SBI specification 2.0, chapter 3): -2.
-const NOT_SUPPORTED: u64 = 0xffff_ffff_ffff_fffe;
-
-/// A board's memory and harts, which contracts see as the record `Machine` of specs/.
+/// A board's memory, harts and tables, which contracts see as the record `Machine` of specs/. The seats are out of their
+/// place only within a call.
 #[derive(Drop)]
 pub struct Machine {
     ram: Ram,
     harts: Vec<Hart>,
-    statuses: [Status; 8],
+    shape: Shape,
+    tables: Tables,
+    seats: Option<Seats>,
 }
 
 impl Model for Machine {
     ghost use Rattle.machine.specs.Machine.{Machine};
+    ghost use Rattle.machine.specs.Held.{table_of, IsHeld};
 
     ghost Value = { Machine };
 
-    ghost view = { λ m. record { memory = m.ram; harts = m.harts.items; statuses = m.statuses } };
+    ghost view = { λ m. record { size = m.shape; memory = m.ram; harts = m.harts.items; table = table_of m.shape.harts m.seats } };
+
+    ghost invariant = { λ m. IsHeld m.shape m.harts.items m.tables m.seats };
 }
 
 /// The harts of a board, none of which ever ran.
@@ -46,36 +56,38 @@ fn stopped_harts(alloc: Global, shape: &Shape) -> Result<Vec<Hart>, Refusal>
     Ok(harts)
 }
 
-/// One instruction of a hart. No SBI call is built yet, and no interrupt can pend.
-#[inline(always)]
-fn run_one(hart: &mut Hart, ram: &mut Ram)
-    ensures { Runs hart.old ram.old hart.new ram.new }
-{
-    match hart.step(ram, false) {
-        Outcome::Next => {}
-        Outcome::Ecall => hart.answer(NOT_SUPPORTED, 0),
-        Outcome::TakePending => {}
-    }
-}
-
 impl Machine {
-    /// A board of that shape before a boot: RAM is zeros, and no hart runs. Refused 11 where there is no room for it.
-    pub fn new(alloc: Global, shape: &Shape) -> Result<Self, Refusal>
-        ensures resting { IfOk result (λ m. m ≡ resting shape.now) }
+    /// A board of that shape before a boot, whose hart `first` is to begin: RAM is zeros, every other hart is STOPPED,
+    /// and no interrupt is pending. Refused 11 where there is no room for it.
+    pub fn new(alloc: Global, shape: &Shape, first: HartId) -> Result<Self, Refusal>
+        requires { first < shape.now.harts }
+        ensures resting { IfOk result (λ m. m ≡ resting shape.now first) }
         ensures refused { OnErr result (result ≡ Err Memory) }
     {
         let ram = Ram::new(alloc, *shape)?;
-        let harts = stopped_harts(alloc, shape)?;
+        let all = stopped_harts(alloc, shape)?;
+        let starts = HartTable::new(alloc, *shape, first)?;
+        let raises = PendingTable::new(alloc, *shape)?;
+        hsm::one_table();
+        ipi::one_set();
         Ok(Machine {
             ram,
-            harts,
-            statuses: [Status::Stopped; 8],
+            harts: all,
+            shape: *shape,
+            tables: Tables {
+                harts: starts.0,
+                pending: raises.0,
+            },
+            seats: Some(Seats {
+                harts: starts.1,
+                pending: raises.1,
+            }),
         })
     }
 
-    /// Boots a payload on a board that was just made.
+    /// Boots a payload on a board of that shape that was just made, whose hart 0 is to begin.
     pub fn boot(&mut self, shape: &Shape, payload: &[u8], reason: Reason)
-        requires resting { self.old ≡ resting shape.now }
+        requires resting { self.old ≡ resting shape.now 0 }
         requires fits { length payload.now ≤ ram_bytes_of shape.now }
         ensures { self.new ≡ begun payload.now reason shape.now }
     {
@@ -83,7 +95,6 @@ impl Machine {
         if let Some(first) = shape.hart(0) {
             self.harts[0] = Hart::fresh(first, RAM_BASE, u64::from(reason.number()));
         }
-        self.statuses[0] = Status::Started;
     }
 
     /// Whether the board has a hart of that number.
@@ -108,45 +119,107 @@ impl Machine {
         &self.harts[id.index()]
     }
 
+    /// Whether an interrupt is pending for a hart. It is one look at the table by that hart's seat, so it needs the whole
+    /// machine, and leaves it as it was.
+    pub fn pending(&mut self, id: HartId) -> bool
+        requires { id < length self.old.harts }
+        ensures value { result ≡ is_pending id self.old.table.pairs }
+        ensures stays { self.new ≡ self.old }
+    {
+        let seats = self.seats.take().unwrap();
+        let (seats, pending) = turns::look(seats, &self.tables, id);
+        hsm::one_table();
+        ipi::one_set();
+        self.seats = Some(seats);
+        pending
+    }
+
     /// One turn of a hart.
-    #[inline(always)]
     pub fn turn(&mut self, id: HartId) -> Turned
         requires { id < length self.old.harts }
         ensures turns { Turns id self.old self.new result }
         ensures harts { length self.new.harts ≡ length self.old.harts }
     {
-        match self.statuses[id.index()] {
-            Status::Stopped => Turned::Idle,
-            Status::Started => {
-                run_one(&mut self.harts[id.index()], &mut self.ram);
-                Turned::Next
-            }
-        }
+        let seats = self.seats.take().unwrap();
+        let (seats, turned) = turns::turn(
+            &mut self.harts[id.index()],
+            seats,
+            &self.tables,
+            &mut self.ram,
+            &self.shape,
+        );
+        hsm::one_table();
+        ipi::one_set();
+        self.seats = Some(seats);
+        turned
     }
 
-    /// So many turns of a hart, one after another, and what the last one did.
-    pub fn turns(&mut self, id: HartId, count: u32) -> Turned
+    /// At most so many turns of a hart, one after another: how many were made, and what the last one did. One that stops
+    /// the hart is the last.
+    pub fn turns(&mut self, id: HartId, count: u32) -> (u32, Turned)
         requires hart { id < length self.old.harts }
         requires some { 1 ≤ count }
-        ensures turns { TurnsMany id count self.old self.new result }
+        ensures turns { TurnsMany id count self.old self.new result.0 result.1 }
         ensures harts { length self.new.harts ≡ length self.old.harts }
     {
-        for _made in 1..count {
-            self.turn(id);
+        for made in 1..count {
+            let turned = self.turn(id);
+            if ends_row(turned) {
+                return (made, turned);
+            }
         }
-        self.turn(id)
+        let last = self.turn(id);
+        (count, last)
     }
 
-    /// The harts by number, and the memory.
-    pub fn into_parts(self) -> (Vec<Hart>, Ram)
-        ensures harts { result.0.items ≡ self.harts }
-        ensures ram { result.1 ≡ self.memory }
+    /// An SBI call that is made in the place of a hart: sets a0 to a2, a6 and a7, and acts as if ECALL stood at its pc. A
+    /// hart that is not STARTED makes none, and stays as it was.
+    pub fn call(&mut self, id: HartId, eid: u64, fid: u64, a0: u64, a1: u64, a2: u64) -> Called
+        requires { id < length self.old.harts }
+        ensures calls { Calls id eid fid a0 a1 a2 self.old self.new result }
+        ensures harts { length self.new.harts ≡ length self.old.harts }
+    {
+        let call = Registers {
+            eid,
+            fid,
+            a0,
+            a1,
+            a2,
+        };
+        let seats = self.seats.take().unwrap();
+        let (seats, called) = make_call(
+            &mut self.harts[id.index()],
+            seats,
+            &self.tables,
+            &self.shape,
+            &call,
+        );
+        hsm::one_table();
+        ipi::one_set();
+        self.seats = Some(seats);
+        called
+    }
+
+    /// The parts of the machine, with the seat of all harts, by which `split` makes one for each.
+    pub fn into_parts(self) -> Parts
+        ensures harts { result.harts.items ≡ self.harts }
+        ensures ram { result.ram ≡ self.memory }
+        ensures held { IsHeld self.size result.harts.items result.tables (Some result.seats) }
+        ensures shows { shown_by self.size.harts result.seats ≡ self.table }
     {
         let Machine {
             ram,
             harts,
-            statuses: _,
+            shape: _,
+            tables,
+            seats,
         } = self;
-        (harts, ram)
+        let seats = seats.unwrap();
+        Parts {
+            harts,
+            seats,
+            tables,
+            ram,
+        }
     }
 }

@@ -4,23 +4,27 @@ use Rattle.std.proofs.lemmas.Bool.{cases_eq, cases_lt}
 use Rattle.hart.specs.Csrs.{csr_number}
 use Rattle.hart.specs.declared.csr.Csr.{Csr}
 use Rattle.hart.specs.declared.csr.Csr.TheVariants.{Sstatus, Sie, Stvec, Sscratch, Sepc, Scause, Stval, Sip, Satp}
-use Rattle.machine.specs.Machine.{Machine}
-use Rattle.machine.specs.Turns.{TurnsMany}
-use Rattle.machine.specs.declared.status.Turned.{Turned}
-use Rattle.machine_lines.specs.Shows.{Has, TurnsLine, CsrLine}
+use Rattle.machine.specs.Machine.{Machine, hart_at}
+use Rattle.machine.specs.Turns.{TurnsMany, Calls}
+use Rattle.machine.specs.declared.parts.Called.{Called}
+use Rattle.turns.specs.declared.words.Turned.{Turned}
+use Rattle.machine_lines.specs.Shows.{Has, TurnsLine, CallLine, CsrLine, called_line}
 use Rattle.machine_lines.specs.declared.line.MachineLine.{MachineLine}
 use Rattle.machine_lines.specs.declared.line.MachineLine.TheVariants as lines
 
--- many turns in a row are one outcome
+-- turns in a row are one outcome, and so is a call
 abbrev pub IsOneRow : Type 0
-IsOneRow = (h n : ℕ) (old new other : Machine) (word also : Turned) → TurnsMany h n old new word → TurnsMany h n old other also → (new ≡ other) × (word ≡ also)
+IsOneRow = (h n k l : ℕ) (old new other : Machine) (word also : Turned) → TurnsMany h n old new k word → TurnsMany h n old other l also → (new ≡ other) × (k ≡ l) × (word ≡ also)
+
+abbrev pub IsOneCall : Type 0
+IsOneCall = (h eid fid a0 a1 a2 : ℕ) (old new other : Machine) (called also : Called) → Calls h eid fid a0 a1 a2 old new called → Calls h eid fid a0 a1 a2 old other also → (new ≡ other) × (called ≡ also)
 
 made : IsOneRow → (h n : ℕ) (old new other : Machine) (line also : MachineLine) → Has old h → 1 ≤ n → TurnsLine h n old new line → TurnsLine h n old other also → (new ≡ other) × (line ≡ also)
 made row h n old new other line also has some x y =
     let a = x.made has some in
     let b = y.made has some in
-    let same = row h n old new other a.0 b.0 a.1 b.1 in
-    (same.0, a.2 ∙ (ap (lines.Turn h n) same.1 ∙ sym b.2))
+    let same = row h n a.0 b.0 old new other a.1 b.1 a.2 b.2 in
+    (same.0, a.3 ∙ (ap (λ (k : ℕ). lines.Turn h k a.1) same.1 ∙ (ap (lines.Turn h b.0) same.2 ∙ sym b.3)))
 
 pub one_line : IsOneRow → (h n : ℕ) (old new other : Machine) (line also : MachineLine) → TurnsLine h n old new line → TurnsLine h n old other also → (new ≡ other) × (line ≡ also)
 one_line row h n old new other line also x y =
@@ -31,6 +35,18 @@ one_line row h n old new other line also x y =
         | inr past ↦ (let lacks : Has old h → ⊥ = λ has. omega (arith, has, past) in
             ((x.lacks lacks).0 ∙ sym (y.lacks lacks).0, (x.lacks lacks).1 ∙ sym (y.lacks lacks).1))
       ]
+    ]
+
+pub one_call : IsOneCall → (h eid fid a0 a1 a2 : ℕ) (old new other : Machine) (line also : MachineLine) → CallLine h eid fid a0 a1 a2 old new line → CallLine h eid fid a0 a1 a2 old other also → (new ≡ other) × (line ≡ also)
+one_call call h eid fid a0 a1 a2 old new other line also x y =
+    elim (cases_lt h (length old.harts)) [
+      | inl has ↦ (
+          let a = x.made has in
+          let b = y.made has in
+          let same = call h eid fid a0 a1 a2 old new other a.0 b.0 a.1 b.1 in
+          (same.0, a.2 ∙ (ap (λ (m : Machine). called_line h (hart_at m h) a.0) same.0 ∙ (ap (called_line h (hart_at other h)) same.1 ∙ sym b.2))))
+      | inr past ↦ (let lacks : Has old h → ⊥ = λ has. omega (arith, has, past) in
+          ((x.lacks lacks).0 ∙ sym (y.lacks lacks).0, (x.lacks lacks).1 ∙ sym (y.lacks lacks).1))
     ]
 
 -- ---- control and status registers

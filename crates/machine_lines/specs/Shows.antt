@@ -1,12 +1,16 @@
 -- What the lines that show a board's memory and harts say, and what a line of turns makes of them. A line whose hart or whose
 -- bytes the board lacks says `off`, and does nothing. Source: docs/SCRIPT.md.
-use Rattle.std.specs.Prelude.{◌≡◌, ◌≢◌, ℕ, ◌+◌, ◌-◌, ◌<◌, ◌≤◌, ◌++◌, length, replicate, slice_range, nat_lt, nat_le, ◌&&◌, false, if◌then◌else◌}
-use Rattle.hart.specs.State.{reg}
+use Rattle.std.specs.Prelude.{◌≡◌, ◌≢◌, ℕ, zero, suc, ◌+◌, ◌-◌, ◌^◌, ◌<◌, ◌≤◌, ◌++◌, Bool, length, replicate, slice_range, nat_lt, nat_le, ◌&&◌, if◌then◌else◌}
+use Rattle.hart.specs.State.{State, reg}
 use Rattle.hart.specs.Csrs.{csr_number, csr_read}
 use Rattle.hart.specs.declared.csr.Csr.{Csr}
 use Rattle.machine.specs.Machine.{Machine, hart_at}
-use Rattle.machine.specs.Turns.{TurnsMany}
-use Rattle.machine.specs.declared.status.Turned.{Turned}
+use Rattle.turns.specs.Turns.{is_pending}
+use Rattle.machine.specs.Turns.{TurnsMany, Calls}
+use Rattle.machine.specs.declared.parts.Called.{Called}
+use Rattle.machine.specs.declared.parts.Called.TheVariants.{NotStarted, Made}
+use Rattle.turns.specs.declared.words.Turned.{Turned}
+use Rattle.turns.specs.declared.words.Turned.TheVariants.{Idle, Entered, Woke, Next, Suspended, Stopped}
 use Rattle.machine_lines.specs.declared.line.MachineLine.{MachineLine}
 use Rattle.machine_lines.specs.declared.line.MachineLine.TheVariants as lines
 
@@ -15,9 +19,40 @@ Has m h = h < length m.harts
 
 -- `turn H N`, with N at least 1
 pub record TurnsLine (h n : ℕ) (old new : Machine) (line : MachineLine) : Type 0 where
-  pub made : Has old h → 1 ≤ n → (word : Turned) × TurnsMany h n old new word × (line ≡ lines.Turn h n word)
+  pub made : Has old h → 1 ≤ n → (k : ℕ) × (word : Turned) × TurnsMany h n old new k word × (line ≡ lines.Turn h k word)
   pub lacks : (Has old h → ⊥) → (new ≡ old) × (line ≡ lines.Off)
   pub none : n ≡ 0 → (new ≡ old) × (line ≡ lines.Off)
+
+-- what a call that was made says of its hart
+abbrev pub made_line : ℕ → State → Turned → MachineLine
+made_line h s Next = lines.Answered h (reg s 10) (reg s 11)
+made_line h s Idle = lines.Called h Idle
+made_line h s Entered = lines.Called h Entered
+made_line h s Woke = lines.Called h Woke
+made_line h s Suspended = lines.Called h Suspended
+made_line h s Stopped = lines.Called h Stopped
+
+abbrev pub called_line : ℕ → State → Called → MachineLine
+called_line h s NotStarted = lines.NotStarted h
+called_line h s (Made word) = made_line h s word
+
+-- `call H EID FID A0 A1 A2`
+pub record CallLine (h eid fid a0 a1 a2 : ℕ) (old new : Machine) (line : MachineLine) : Type 0 where
+  pub made : Has old h → (called : Called) × Calls h eid fid a0 a1 a2 old new called × (line ≡ called_line h (hart_at new h) called)
+  pub lacks : (Has old h → ⊥) → (new ≡ old) × (line ≡ lines.Off)
+
+-- the board has the hart, and an interrupt is pending for it
+abbrev pub waits : Machine → ℕ → Bool
+waits m h = nat_lt h (length m.harts) && is_pending h m.table.pairs
+
+-- the harts below n for which one is pending, as a number with bit h for hart h
+abbrev pub pending_set : Machine → ℕ → ℕ
+pending_set m zero = 0
+pending_set m (suc n) = pending_set m n + (if waits m n then 2 ^ n else 0)
+
+-- `pending`
+abbrev pub pending_line : Machine → MachineLine
+pending_line m = lines.Pending (pending_set m 8)
 
 -- `reg H R`, with R below 32
 abbrev pub reg_line : ℕ → ℕ → Machine → MachineLine
@@ -27,9 +62,9 @@ reg_line h r m = if nat_lt h (length m.harts) && nat_lt r 32 then lines.Reg h r 
 abbrev pub pc_line : ℕ → Machine → MachineLine
 pc_line h m = if nat_lt h (length m.harts) then lines.Pc h (hart_at m h).pc else lines.Off
 
--- `csr H C`, with C the number of a control and status register of the profile; no interrupt can pend
+-- `csr H C`, with C the number of a control and status register of the profile
 pub record CsrLine (h n : ℕ) (m : Machine) (line : MachineLine) : Type 0 where
-  pub shown : Has m h → (c : Csr) → csr_number c ≡ n → line ≡ lines.Csr h n (csr_read c (hart_at m h) false)
+  pub shown : Has m h → (c : Csr) → csr_number c ≡ n → line ≡ lines.Csr h n (csr_read c (hart_at m h) (is_pending h m.table.pairs))
   pub no_csr : ((c : Csr) → csr_number c ≢ n) → line ≡ lines.Off
   pub lacks : (Has m h → ⊥) → line ≡ lines.Off
 

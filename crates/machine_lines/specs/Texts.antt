@@ -1,9 +1,10 @@
 -- The exact text of the report lines that show a board's memory and harts. Source: docs/SCRIPT.md.
 use Rattle.std.specs.Prelude.{ℕ, List, ◌++◌, ◌-◌, length, replicate, take, false}
-use Rattle.std.specs.Fmt.{decimal, digits}
+use Rattle.std.specs.Fmt.{decimal, digits, signed_decimal}
+use Rattle.std.specs.Int.{cast_signed, w64}
 use Rattle.std.specs.List.{flat_map}
-use Rattle.machine.specs.declared.status.Turned.{Turned}
-use Rattle.machine.specs.declared.status.Turned.TheVariants.{Idle, Next}
+use Rattle.turns.specs.declared.words.Turned.{Turned}
+use Rattle.turns.specs.declared.words.Turned.TheVariants.{Idle, Entered, Woke, Next, Suspended, Stopped}
 use Rattle.machine_lines.specs.declared.line.MachineLine.{MachineLine}
 use Rattle.machine_lines.specs.declared.line.MachineLine.TheVariants as lines
 use lib.Chars.{codes}
@@ -17,13 +18,21 @@ bytes_text bytes = flat_map (hex_text 2) bytes
 
 abbrev pub word_text : Turned → List ℕ
 word_text Idle = codes "idle"
+word_text Entered = codes "entered"
+word_text Woke = codes "woke"
 word_text Next = codes "next"
+word_text Suspended = codes "suspended"
+word_text Stopped = codes "stopped"
 
 abbrev pub machine_line_text : MachineLine → List ℕ
 machine_line_text (lines.Turn h k word) = codes "turn " ++ decimal h ++ codes " " ++ decimal k ++ codes " " ++ word_text word
+machine_line_text (lines.Answered h e v) = codes "call " ++ decimal h ++ codes " error " ++ signed_decimal (cast_signed w64 e) ++ codes " value 0x" ++ hex_text 16 v
+machine_line_text (lines.Called h word) = codes "call " ++ decimal h ++ codes " " ++ word_text word
+machine_line_text (lines.NotStarted h) = codes "call " ++ decimal h ++ codes " not started"
 machine_line_text (lines.Reg h r v) = codes "reg " ++ decimal h ++ codes " " ++ decimal r ++ codes " 0x" ++ hex_text 16 v
 machine_line_text (lines.Pc h v) = codes "pc " ++ decimal h ++ codes " 0x" ++ hex_text 16 v
 machine_line_text (lines.Csr h c v) = codes "csr " ++ decimal h ++ codes " 0x" ++ hex_text 3 c ++ codes " 0x" ++ hex_text 16 v
+machine_line_text (lines.Pending harts) = codes "pending 0x" ++ hex_text 2 harts
 machine_line_text (lines.Mem bytes) = codes "mem " ++ bytes_text (take bytes.count bytes.bytes)
 machine_line_text (lines.Payload slot count) = codes "payload " ++ decimal slot ++ codes " " ++ decimal count
 machine_line_text lines.Busy = codes "busy"

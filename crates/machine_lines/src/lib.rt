@@ -7,4 +7,4 @@ mod shows;
 
 pub use laws::one_line;
 pub use line::{MachineLine, MemBytes};
-pub use shows::{csr, mem, pc, reg};
+pub use shows::{call, called, csr, csr_of, mem, pc, pending, reg, turn};

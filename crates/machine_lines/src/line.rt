@@ -21,12 +21,20 @@ pub struct MemBytes {
 pub enum MachineLine {
     /// `turn H K WORD`: K turns were made, and what the last one did.
     Turn(HartId, u32, Turned),
+    /// `call H error E value V`: the call was answered so; the error is signed, as a0 holds it.
+    Answered(HartId, u64, u64),
+    /// `call H WORD`: the call was made, and no answer came.
+    Called(HartId, Turned),
+    /// `call H not started`: the hart is not STARTED, and nothing was done.
+    NotStarted(HartId),
     /// `reg H R V`
     Reg(HartId, u32, u64),
     /// `pc H V`
     Pc(HartId, u64),
     /// `csr H C V`
     Csr(HartId, u32, u64),
+    /// `pending 0xMM`: the harts for which an interrupt is pending, below 256, with bit h for hart h.
+    Pending(u32),
     /// `mem HEX`
     Mem(MemBytes),
     /// `payload S N`: the slot, and how many bytes it boots.
@@ -46,7 +54,11 @@ impl fmt::Display for Word {
     fn fmt<W: fmt::Write>(&self, f: &mut fmt::Formatter<W>) -> fmt::Result {
         match self.0 {
             Turned::Idle => write!(f, "idle"),
+            Turned::Entered => write!(f, "entered"),
+            Turned::Woke => write!(f, "woke"),
             Turned::Next => write!(f, "next"),
+            Turned::Suspended => write!(f, "suspended"),
+            Turned::Stopped => write!(f, "stopped"),
         }
     }
 }
@@ -74,6 +86,19 @@ impl fmt::Display for CsrName {
     fn fmt<W: fmt::Write>(&self, f: &mut fmt::Formatter<W>) -> fmt::Result {
         let number = self.0;
         write!(f, "{number:03x}")
+    }
+}
+
+/// A set of harts in 2 hexadecimal digits.
+#[derive(Drop)]
+struct Set(u32);
+
+impl fmt::Display for Set {
+    ghost output = { λ s. Some (hex_text 2 s.0) };
+
+    fn fmt<W: fmt::Write>(&self, f: &mut fmt::Formatter<W>) -> fmt::Result {
+        let harts = self.0;
+        write!(f, "{harts:02x}")
     }
 }
 
@@ -128,6 +153,21 @@ impl fmt::Display for MachineLine {
                 let word = Word(turned);
                 write!(f, "turn {number} {count} {word}")
             }
+            MachineLine::Answered(hart, error, value) => {
+                let number = hart.number();
+                let error = error.cast_signed();
+                let text = Value(value);
+                write!(f, "call {number} error {error} value 0x{text}")
+            }
+            MachineLine::Called(hart, turned) => {
+                let number = hart.number();
+                let word = Word(turned);
+                write!(f, "call {number} {word}")
+            }
+            MachineLine::NotStarted(hart) => {
+                let number = hart.number();
+                write!(f, "call {number} not started")
+            }
             MachineLine::Reg(hart, register, value) => {
                 let number = hart.number();
                 let text = Value(value);
@@ -143,6 +183,10 @@ impl fmt::Display for MachineLine {
                 let name = CsrName(csr);
                 let text = Value(value);
                 write!(f, "csr {number} 0x{name} 0x{text}")
+            }
+            MachineLine::Pending(harts) => {
+                let text = Set(harts);
+                write!(f, "pending 0x{text}")
             }
             MachineLine::Mem(bytes) => {
                 let hex = Hex(bytes.shown());

@@ -1,11 +1,12 @@
 //! What the lines say of a board.
 
-ghost use Rattle.std.specs.Prelude.{◌≡◌, ◌≤◌, ◌++◌, ◌-◌, length, replicate};
-ghost use Rattle.machine_lines.specs.Shows.{reg_line, pc_line, CsrLine, mem_line};
+ghost use Rattle.std.specs.Prelude.{◌≡◌, ◌<◌, ◌≤◌, ◌++◌, ◌-◌, length, replicate};
+ghost use Rattle.machine.specs.Machine.{hart_at};
+ghost use Rattle.machine_lines.specs.Shows.{TurnsLine, CallLine, called_line, waits, pending_line, reg_line, pc_line, CsrLine, mem_line};
 
 use crate::line::{MachineLine, MemBytes};
 use board_model::{HartId, RAM_BASE};
-use machine::Machine;
+use machine::{Called, Machine, Turned};
 use rv_decode::{CsrNumber, Reg};
 
 /// `reg H R`: a register, 0 to 31.
@@ -29,14 +30,99 @@ pub fn pc(machine: &Machine, hart: HartId) -> MachineLine
     MachineLine::Pc(hart, machine.hart(hart).pc())
 }
 
-/// `csr H C`: a control and status register by its number.
-pub fn csr(machine: &Machine, hart: HartId, number: u32) -> MachineLine
+/// `turn H N`: at most so many turns of a hart, one after another.
+pub fn turn(machine: &mut Machine, hart: HartId, count: u32) -> MachineLine
+    ensures { TurnsLine hart count machine.old machine.new result }
+{
+    if !machine.has(hart) || count == 0 {
+        return MachineLine::Off;
+    }
+    let (made, turned) = machine.turns(hart, count);
+    MachineLine::Turn(hart, made, turned)
+}
+
+/// `call H EID FID A0 A1 A2`: a call that is made in the place of a hart.
+pub fn call(
+    machine: &mut Machine,
+    hart: HartId,
+    eid: u64,
+    fid: u64,
+    a0: u64,
+    a1: u64,
+    a2: u64,
+) -> MachineLine
+    ensures { CallLine hart eid fid a0 a1 a2 machine.old machine.new result }
+{
+    if !machine.has(hart) {
+        return MachineLine::Off;
+    }
+    let made = machine.call(hart, eid, fid, a0, a1, a2);
+    called(machine, hart, made)
+}
+
+/// What `call H EID FID A0 A1 A2` says of a call that was made in the place of a hart.
+pub fn called(machine: &Machine, hart: HartId, called: Called) -> MachineLine
+    requires { hart < length machine.now.harts }
+    ensures { result ≡ called_line hart (hart_at machine.now hart) called }
+{
+    match called {
+        Called::NotStarted => MachineLine::NotStarted(hart),
+        Called::Made(Turned::Next) => {
+            let state = machine.hart(hart);
+            MachineLine::Answered(hart, state.reg(Reg::new(10)), state.reg(Reg::new(11)))
+        }
+        Called::Made(turned) => MachineLine::Called(hart, turned),
+    }
+}
+
+/// Whether an interrupt is pending for the hart of that number, where the board has it. The machine stays as it was.
+fn waits(machine: &mut Machine, number: u64) -> bool
+    requires { number < 8 }
+    ensures value { result ≡ waits machine.old number }
+    ensures stays { machine.new ≡ machine.old }
+{
+    let hart = HartId::new(number).unwrap();
+    machine.has(hart) && machine.pending(hart)
+}
+
+/// The bit of each hart in a set of harts.
+const BITS: [u32; 8] = [1, 2, 4, 8, 16, 32, 64, 128];
+
+/// `pending`: the harts for which an interrupt is pending. The machine stays as it was.
+pub fn pending(machine: &mut Machine) -> MachineLine
+    ensures line { result ≡ pending_line machine.old }
+    ensures stays { machine.new ≡ machine.old }
+{
+    let mut set = 0;
+    for number in 0..8 {
+        if waits(machine, number) {
+            set += BITS[number as usize];
+        }
+    }
+    MachineLine::Pending(set)
+}
+
+/// `csr H C`: a control and status register by its number. The machine stays as it was.
+pub fn csr(machine: &mut Machine, hart: HartId, number: u32) -> MachineLine
+    ensures line { CsrLine hart number machine.old result }
+    ensures stays { machine.new ≡ machine.old }
+{
+    let pending = machine.has(hart) && machine.pending(hart);
+    csr_of(machine, hart, number, pending)
+}
+
+/// The same, for which `pending` says whether an interrupt is pending for the hart.
+pub fn csr_of(machine: &Machine, hart: HartId, number: u32, pending: bool) -> MachineLine
+    requires { pending ≡ waits machine.now hart }
     ensures { CsrLine hart number machine.now result }
 {
     if !machine.has(hart) || 4096 <= number {
         return MachineLine::Off;
     }
-    match machine.hart(hart).csr(CsrNumber::new(number as u16), false) {
+    match machine
+        .hart(hart)
+        .csr(CsrNumber::new(number as u16), pending)
+    {
         Some(value) => MachineLine::Csr(hart, number, value),
         None => MachineLine::Off,
     }

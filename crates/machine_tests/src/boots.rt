@@ -1,7 +1,7 @@
 ghost use Rattle.std.specs.Prelude.{◌≤◌, length};
 
-use crate::fixtures::same;
-use board_model::{HartId, Reason, Shape};
+use crate::fixtures::{booted as booted_for, same};
+use board_model::{HartId, Reason};
 use machine::{Machine, Turned};
 use ram::Width;
 use rv_decode::{CsrNumber, Reg};
@@ -13,10 +13,7 @@ const BASE: u64 = 0x8000_0000;
 fn booted(rt: &HostRuntime, payload: &[u8], reason: Reason) -> Result<Machine, Fail>
     requires { length payload.now ≤ 4096 }
 {
-    let shape = Shape::new(2, 1, 1)?;
-    let mut machine = Machine::new(rt.alloc(), &shape)?;
-    machine.boot(&shape, payload, reason);
-    Ok(machine)
+    booted_for(rt.alloc(), 2, payload, reason)
 }
 
 // One turn of a hart that the board has.
@@ -30,7 +27,7 @@ fn turn(machine: &mut Machine, number: u64) -> Option<Turned> {
 }
 
 // So many turns of a hart that the board has.
-fn turns(machine: &mut Machine, number: u64, count: u32) -> Option<Turned> {
+fn turns(machine: &mut Machine, number: u64, count: u32) -> Option<(u32, Turned)> {
     let id = HartId::new(number)?;
     if machine.has(id) && 1 <= count {
         Some(machine.turns(id, count))
@@ -99,7 +96,7 @@ fn a_call_is_not_supported(rt: HostRuntime) -> Result<(), Fail> {
 #[test]
 fn a_stopped_hart_is_idle(rt: HostRuntime) -> Result<(), Fail> {
     let mut machine = booted(&rt, &[0x13, 0x05, 0x10, 0x00], Reason::NoReason)?;
-    same(&rt, turns(&mut machine, 1, 5), Some(Turned::Idle));
+    same(&rt, turns(&mut machine, 1, 5), Some((5, Turned::Idle)));
     same(&rt, shown(&machine, 1), Some((0, 0, 0)));
     same(&rt, csr(&machine, 1, 0x100), Some(0x100));
     same(&rt, shown(&machine, 0), Some((0, 0, BASE)));
@@ -111,9 +108,18 @@ fn a_stopped_hart_is_idle(rt: HostRuntime) -> Result<(), Fail> {
 fn many_turns_run_a_loop(rt: HostRuntime) -> Result<(), Fail> {
     let payload = [0x13, 0x05, 0x15, 0x00, 0x6f, 0xf0, 0xdf, 0xff];
     let mut machine = booted(&rt, &payload, Reason::NoReason)?;
-    same(&rt, turns(&mut machine, 0, 1001), Some(Turned::Next));
+    same(
+        &rt,
+        turns(&mut machine, 0, 1001),
+        Some((1001, Turned::Next)),
+    );
     same(&rt, shown(&machine, 0), Some((501, 0, BASE + 4)));
-    let (harts, ram) = machine.into_parts();
-    same(&rt, (harts.len(), ram.pages()), (2, 1));
+    let parts = machine.into_parts();
+    same(&rt, (parts.harts.len(), parts.ram.pages()), (2, 1));
+    same(
+        &rt,
+        (parts.tables.harts.harts(), parts.tables.pending.harts()),
+        (2, 2),
+    );
     Ok(())
 }

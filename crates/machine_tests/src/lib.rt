@@ -5,6 +5,8 @@
 #[cfg(test)]
 mod boots;
 #[cfg(test)]
+mod calls;
+#[cfg(test)]
 mod edges;
 #[cfg(test)]
 mod first_use;

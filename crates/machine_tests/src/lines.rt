@@ -1,10 +1,9 @@
-ghost use Rattle.std.specs.Prelude.{◌≡◌, ◌<◌, ◌≤◌, length, IfOk};
+ghost use Rattle.std.specs.Prelude.{◌≡◌, ◌≤◌, length, IfOk};
 
-use board_model::{HartId, Reason, Shape};
+use crate::fixtures::{all_say, booted as booted_for};
+use board_model::{HartId, Reason};
 use machine::Machine;
-use machine_lines::{MachineLine, csr, mem, pc, reg};
-use std::alloc::Global;
-use std::process::Abort;
+use machine_lines::{MachineLine, csr, mem, pc, reg, turn};
 use std::test::Fail;
 
 fn first_hart() -> Result<HartId, Fail>
@@ -19,30 +18,8 @@ fn first_hart() -> Result<HartId, Fail>
 /// A board of one hart and one page that boots this payload.
 fn booted(rt: &HostRuntime, payload: &[u8]) -> Result<Machine, Fail>
     requires { length payload.now ≤ 4096 }
-    ensures { IfOk result (λ m. length m.harts ≡ 1) }
 {
-    let shape = Shape::new(1, 1, 1)?;
-    let mut machine = Machine::new(rt.alloc(), &shape)?;
-    machine.boot(&shape, payload, Reason::NoReason);
-    Ok(machine)
-}
-
-/// One turn of a hart, as its line.
-fn turn(machine: &mut Machine, hart: HartId) -> MachineLine
-    requires { hart < length machine.old.harts }
-    ensures { length machine.new.harts ≡ length machine.old.harts }
-{
-    MachineLine::Turn(hart, 1, machine.turns(hart, 1))
-}
-
-// The lines as they are written, each with a line feed.
-fn all_say(rt: &impl Abort, alloc: Global, lines: &[MachineLine], text: &str) -> Result<(), Fail> {
-    let mut written = String::new(alloc);
-    for line in lines {
-        written.push_str(&format!(in alloc; "{line}\n")?)?;
-    }
-    assert_eq!(rt; written.as_str(), text);
-    Ok(())
+    booted_for(rt.alloc(), 1, payload, Reason::NoReason)
 }
 
 // ADDI x10, x0, 1
@@ -50,7 +27,7 @@ fn all_say(rt: &impl Abort, alloc: Global, lines: &[MachineLine], text: &str) ->
 fn shows_what_an_instruction_did(rt: HostRuntime) -> Result<(), Fail> {
     let mut machine = booted(&rt, &[0x13, 0x05, 0x10, 0x00])?;
     let hart = first_hart()?;
-    let turned = turn(&mut machine, hart);
+    let turned = turn(&mut machine, hart, 1);
     let lines = [
         turned,
         reg(&machine, hart, 10),
@@ -66,11 +43,8 @@ fn shows_what_an_instruction_did(rt: HostRuntime) -> Result<(), Fail> {
 }
 
 // The lines of a turn, and of the trap that it took: its cause, the pc that it saved, and the pc.
-fn trap_lines(machine: &mut Machine, hart: HartId) -> [MachineLine; 4]
-    requires { hart < length machine.old.harts }
-    ensures { length machine.new.harts ≡ length machine.old.harts }
-{
-    let turned = turn(machine, hart);
+fn trap_lines(machine: &mut Machine, hart: HartId) -> [MachineLine; 4] {
+    let turned = turn(machine, hart, 1);
     let cause = csr(machine, hart, 0x142);
     let saved = csr(machine, hart, 0x141);
     [turned, cause, saved, pc(machine, hart)]
@@ -96,14 +70,14 @@ fn shows_traps(rt: HostRuntime) -> Result<(), Fail> {
 
 #[test]
 fn says_off_past_the_board(rt: HostRuntime) -> Result<(), Fail> {
-    let machine = booted(&rt, &[])?;
+    let mut machine = booted(&rt, &[])?;
     let Some(second) = HartId::new(1) else {
         return Err(Fail::new(format_args!("no hart 1")));
     };
     let lines = [
         reg(&machine, second, 0),
         pc(&machine, second),
-        csr(&machine, second, 0x100),
+        csr(&mut machine, second, 0x100),
         mem(&machine, 0x8000_0ffd, 4),
         mem(&machine, 0x8000_0ffc, 4),
         mem(&machine, 0x7fff_ffff, 1),

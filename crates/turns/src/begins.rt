@@ -13,7 +13,7 @@ use sbi_calls::{Seats, Tables};
 
 /// Whether an interrupt is pending for the hart, by one look.
 #[inline(always)]
-fn look(seats: Seats, tables: &Tables, by: HartId) -> (Seats, bool)
+pub fn look(seats: Seats, tables: &Tables, by: HartId) -> (Seats, bool)
     requires seats { AreSeatsOf tables.now seats }
     requires by { by < harts_of tables.now }
     requires sits { Sits by (pair_crew seats) }

@@ -8,7 +8,7 @@ mod many;
 mod whole;
 mod words;
 
-pub use begins::begin;
+pub use begins::{begin, look};
 pub use finishes::finish;
 pub use many::run;
 pub use whole::turn;

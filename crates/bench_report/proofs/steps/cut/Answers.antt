@@ -1,6 +1,5 @@
 use Rattle.std.proofs.Common.{refl, sym, ◌∙◌, ap, arith}
 use Rattle.disk.specs.Mishaps.{mishaps_left}
-use Rattle.bench_report.specs.Below.{facts}
 use Rattle.bench_report.proofs.Ended.{left_on, cut_leaves}
 use Rattle.bench_report.proofs.steps.cut.Goals as goal
 

@@ -26,8 +26,13 @@ returns-in-Ok-clause-told c = λ b h. rw c.in-Payload.is (rw c.says-in-Ok.ensure
 
 pub returns-in-Turn-clause-told : goal.returns-in-Turn-clause-told
 returns-in-Turn-clause-told c = λ b h.
-    let did = c.turn_line-after.ensures.told c.args.shape.now b h.0 in
-    rw c.in-Turn.is (rw c.says-in-Turn.ensures (did.0, did.1, (did.2, h.1 ∙ sym did.3)))
+    let did = c.turn_line.ensures.told c.args.shape.now b h.0 in
+    rw c.shown.ensures.answer (rw c.shown.ensures.power (rw c.in-Turn.is (did.0, did.1, (did.2, h.1 ∙ sym did.3))))
+
+pub returns-in-Call-clause-told : goal.returns-in-Call-clause-told
+returns-in-Call-clause-told c = λ b h.
+    let did = c.call_line.ensures.told c.args.shape.now b h.0 in
+    rw c.shown-in-Call.ensures.answer (rw c.shown-in-Call.ensures.power (rw c.in-Call.is (did.0, did.1, (did.2, h.1 ∙ sym did.3))))
 
 pub returns-in-Reg-clause-told : goal.returns-in-Reg-clause-told
 returns-in-Reg-clause-told c = λ b h. rw c.in-Reg.is (rw c.says-in-Reg.ensures (b, c.reg_line-shown.ensures c.args.shape.now b h.0, h))
@@ -36,7 +41,14 @@ pub returns-in-Pc-clause-told : goal.returns-in-Pc-clause-told
 returns-in-Pc-clause-told c = λ b h. rw c.in-Pc.is (rw c.says-in-Pc.ensures (b, c.pc_line-shown.ensures c.args.shape.now b h.0, h))
 
 pub returns-in-Csr-clause-told : goal.returns-in-Csr-clause-told
-returns-in-Csr-clause-told c = λ b h. rw c.in-Csr.is (rw c.says-in-Csr.ensures (b, c.csr_line-shown.ensures c.args.shape.now b h.0, h))
+returns-in-Csr-clause-told c = λ b h.
+    let did = c.csr_line.ensures.told c.args.shape.now b h.0 in
+    rw c.shown-in-Csr.ensures.answer (rw c.shown-in-Csr.ensures.power (rw c.in-Csr.is (did.0, did.1, (did.2, h.1 ∙ sym did.3))))
+
+pub returns-in-Pending-clause-told : goal.returns-in-Pending-clause-told
+returns-in-Pending-clause-told c = λ b h.
+    let did = c.pending_line.ensures.told c.args.shape.now b h.0 in
+    rw c.shown-in-Pending.ensures.answer (rw c.shown-in-Pending.ensures.power (rw c.in-Pending.is (did.0, did.1, (did.2, h.1 ∙ sym did.3))))
 
 pub returns-in-Mem-clause-told : goal.returns-in-Mem-clause-told
 returns-in-Mem-clause-told c = λ b h. rw c.in-Mem.is (rw c.says-in-Mem.ensures (b, c.mem_line-shown.ensures c.args.shape.now b h.0, h))

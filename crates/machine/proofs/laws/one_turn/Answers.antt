@@ -6,3 +6,6 @@ returns-clause-turn c = determined.one_turn c.one_step.ensures
 
 pub returns-clause-turns : goal.returns-clause-turns
 returns-clause-turns c = determined.one_row c.one_step.ensures
+
+pub returns-clause-call : goal.returns-clause-call
+returns-clause-call c = determined.one_call

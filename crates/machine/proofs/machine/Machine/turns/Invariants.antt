@@ -1,6 +1,7 @@
-use Rattle.std.proofs.Common.{◌≡◌, ◌-◌, length}
-use Rattle.machine.specs.Turns.{MakesTurns}
+use Rattle.std.proofs.Common.{◌≡◌, ◌+◌, ℕ, length}
+use Rattle.machine.specs.Machine.{Machine}
+use Rattle.machine.proofs.Rows.{Continues}
 use Rattle.machine.proofs.machine.Machine.turns.Given as goal
 
 abbrev pub invariant-loop-made : goal.invariant-loop-made
-invariant-loop-made l = MakesTurns l.id (l._made - 1) l.fn.self l.self × (length l.self.harts ≡ length l.fn.self.harts)
+invariant-loop-made l = Continues l.id l.count l.made l.fn.self l.self × (length l.self.harts ≡ length l.fn.self.harts)

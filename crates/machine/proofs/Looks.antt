@@ -1,0 +1,45 @@
+-- A look at the pending interrupts leaves the machine.
+use Rattle.std.proofs.Common.{◌≡◌, ℕ, Bool, List, Option, Some, sym, ap, ◌∙◌, subst}
+use Rattle.atomic_table.specs.declared.shared.Seat.{Seat}
+use Rattle.board_model.specs.Shapes.{Size}
+use Rattle.hsm_words.specs.declared.view.Crew.{Crew}
+use Rattle.hart.specs.State.{State}
+use Rattle.sbi_calls.specs.declared.tables.Tables.{Tables}
+use Rattle.sbi_calls.specs.declared.tables.Seats.{Seats}
+use Rattle.sbi_calls.specs.Both.{TableState, IsTable, GivesBack}
+use Rattle.turns.specs.Turns.{LooksAlone, is_pending, RestsAt}
+use Rattle.hsm_steps.specs.Seating.{harts_in}
+use Rattle.machine.specs.Machine.{Machine}
+use Rattle.machine.specs.Held.{shown_by, table_of, AreWhole, IsHeld}
+use Rattle.machine.proofs.Holding.{IsOneList, IsOneSet, one_shown, all_seats}
+
+module _ (size : Size) (memory : List ℕ) (harts : List State) (t : Tables) (os : Option Seats) (s s' : Seats) (n id : ℕ) (found : Bool) (one : IsOneList) (set : IsOneSet) (held : IsHeld size harts t os) (taken : os ≡ Some s)
+    (many : n ≡ size.harts) (gives : GivesBack t id s s') (same : s'.harts ≡ s.harts) (looks : LooksAlone n id s s' found) where
+  before : AreWhole size.harts t s
+  before = all_seats size harts t os s held taken
+
+  looked : (found ≡ is_pending id (shown_by size.harts s).pairs) × IsTable size.harts s' (shown_by size.harts s)
+  looked = subst (λ (k : ℕ). LooksAlone k id s s' found) many looks (shown_by size.harts s) before.shows
+
+  shown_after : shown_by size.harts s' ≡ shown_by size.harts s
+  shown_after = one_shown one set size.harts s' (shown_by size.harts s) looked.1
+
+  whole_after : AreWhole size.harts t s'
+  whole_after = record {
+    seats = gives.seats;
+    all = (gives.others.harts ∙ before.all.0, gives.pairs.harts ∙ before.all.1);
+    shows = subst (λ (l : TableState). IsTable size.harts s' l) (sym shown_after) looked.1;
+    rests = λ h below. let r = before.rests h below in (subst (λ (x : Seat (Unit {0}) Crew). RestsAt h (harts_in x)) (sym same) r.0, gives.pairs.each h ∙ r.1);
+  }
+
+  pub held_still : IsHeld size harts t (Some s')
+  held_still = record { long = held.long; numbered = held.numbered; tables = held.tables; seats = whole_after }
+
+  abbrev shown : TableState → Machine
+  shown table = record { size = size; memory = memory; harts = harts; table = table }
+
+  pub shows_still : ◌≡◌ {A = Machine} (record { size = size; memory = memory; harts = harts; table = shown_by size.harts s' }) (record { size = size; memory = memory; harts = harts; table = table_of size.harts os })
+  shows_still = ap shown (shown_after ∙ ap (table_of size.harts) (sym taken))
+
+  pub found_it : found ≡ is_pending id (table_of size.harts os).pairs
+  found_it = subst (λ (o : Option Seats). found ≡ is_pending id (table_of size.harts o).pairs) (sym taken) looked.0

@@ -1,0 +1,68 @@
+//! A call that is made in the place of a hart.
+
+ghost use Rattle.std.specs.Prelude.{◌≡◌, ◌<◌, ℕ, List};
+ghost use Rattle.sbi_calls.specs.Both.{AreTablesOf, AreSeatsOf, GivesBack};
+ghost use Rattle.turns.specs.Turns.{Rests};
+ghost use Rattle.machine.specs.Turns.{calling, CallsAlone};
+
+use crate::parts::Called;
+use board_model::Shape;
+use hart::{Hart, Outcome};
+use hsm::State;
+use rv_decode::Reg;
+use sbi_calls::{Seats, Tables};
+
+/// The registers of a call (SBI specification 2.0, chapter 3).
+#[derive(Clone, Copy, Drop)]
+pub struct Registers {
+    /// The extension, in a7.
+    pub eid: u64,
+    /// The function, in a6.
+    pub fid: u64,
+    /// The arguments, in a0 to a2.
+    pub a0: u64,
+    pub a1: u64,
+    pub a2: u64,
+}
+
+/// Sets the registers, and leaves all else of the hart.
+fn set_registers(hart: &mut Hart, call: &Registers)
+    ensures { hart.new ≡ calling hart.old call.now.eid call.now.fid call.now.a0 call.now.a1 call.now.a2 }
+{
+    hart.put(Reg::new(10), call.a0);
+    hart.put(Reg::new(11), call.a1);
+    hart.put(Reg::new(12), call.a2);
+    hart.put(Reg::new(16), call.fid);
+    hart.put(Reg::new(17), call.eid);
+}
+
+/// Where the hart is STARTED, sets the registers and makes the call.
+pub fn make_call(
+    hart: &mut Hart,
+    seats: Seats,
+    tables: &Tables,
+    shape: &Shape,
+    call: &Registers,
+) -> (Seats, Called)
+    requires tables { AreTablesOf shape.now tables.now }
+    requires seats { AreSeatsOf tables.now seats }
+    requires hart { hart.old.id < shape.now.harts }
+    requires rests { Rests hart.old.id seats }
+    ensures gives { GivesBack tables.entry.now hart.old.id seats result.0 }
+    ensures rests { Rests hart.old.id result.0 }
+    ensures id { hart.new.id ≡ hart.old.id }
+    ensures alone { (m : List ℕ) → CallsAlone shape.now hart.old (calling hart.old call.entry.now.eid call.entry.now.fid call.entry.now.a0 call.entry.now.a1 call.entry.now.a2) hart.new m seats result.0 result.1 }
+{
+    let by = hart.id();
+    let Seats { harts, pending } = seats;
+    let (harts, state) = hsm::status(&tables.harts, harts, by, by);
+    let seats = Seats { harts, pending };
+    match state {
+        State::Started => {
+            set_registers(hart, call);
+            let (seats, turned) = turns::finish(Outcome::Ecall, hart, seats, tables, shape);
+            (seats, Called::Made(turned))
+        }
+        _ => (seats, Called::NotStarted),
+    }
+}
