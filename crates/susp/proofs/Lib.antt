@@ -1,0 +1,2 @@
+pub mod Slept
+pub mod Woken

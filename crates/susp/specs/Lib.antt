@@ -1,0 +1,4 @@
+pub mod Asked
+pub mod Checks
+pub mod Sleeps
+pub mod Wakes

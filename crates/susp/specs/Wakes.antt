@@ -1,0 +1,33 @@
+-- A board wakes from its image. Source: SBI specification 2.0, chapter 13; docs/SBI.md.
+use Rattle.std.specs.Prelude.{◌≡◌, ℕ, List, Result, Err, Some, None}
+use Rattle.board_model.specs.Durable.{State, Image, Change, Consume}
+use Rattle.board_model.specs.declared.refusal.Refusal.{Refusal}
+use Rattle.board_model.specs.declared.refusal.Refusal.TheVariants.{Down}
+use Rattle.disk.specs.declared.device.Disk.{Ghosts}
+use Rattle.disk.specs.declared.device.Lane.{Ghosts as Lanes}
+use Rattle.disk.specs.Facts.{Passes, Stays}
+use Rattle.hart.specs.State.{State as HartState, started}
+use Rattle.store.specs.Lives.{Applied, LoadRefused}
+use Rattle.store.specs.Views.{Answered}
+use Rattle.store.specs.Stores.{disk_of, mishaps_of, size_of_store, life_of, now_state, doubt_of, view_of}
+use Rattle.store.specs.declared.stores.Store.{Store}
+
+-- The memory is that of the image that stands, and the hart is the image's, as one that starts at its address with its opaque value.
+abbrev pub IsWoken : State → List ℕ → HartState → Type 0
+IsWoken s memory hart = (i : Image) × (s.image ≡ Some i) × (memory ≡ i.memory) × (hart ≡ started i.hart i.address i.opaque)
+
+module _ {D L : Type 0} {g : Ghosts D L} {l : Lanes L} where
+  -- the life went on as it was, and a crash leaves what it might have left before
+  pub record IsLeft (old new : Store D L g l) : Type 0 where
+    pub life : life_of new ≡ life_of old
+    pub crash : Passes (disk_of old) (disk_of new) Stays
+
+  -- the image was not loaded into that memory
+  pub record IsUnloaded (old : Store D L g l) (memory : List ℕ) (e : Refusal) (new : Store D L g l) : Type 0 where
+    pub why : LoadRefused (size_of_store old) (now_state old) memory (disk_of old) (mishaps_of old) e (disk_of new) (mishaps_of new)
+    pub left : IsLeft old new
+
+  -- the image was loaded, and its consumption asked of the store
+  pub record IsConsumed (old : Store D L g l) (r : Result ℕ Refusal) (new : Store D L g l) : Type 0 where
+    pub answered : doubt_of old ≡ None → Answered Applied (view_of old) Consume r (view_of new)
+    pub down : (c : Change) → doubt_of old ≡ Some c → (r ≡ Err Down) × IsLeft old new

@@ -1,0 +1,32 @@
+//! A board wakes from its image.
+
+ghost use Rattle.std.specs.Prelude.{◌≡◌, ◌⊎◌, ℕ, length, Ok, Err, IfOk, IfErr, OnOk};
+ghost use Rattle.store.specs.Stores.{now_state, view_of};
+ghost use Rattle.store.specs.Views.{StaysOpen};
+ghost use Rattle.susp.specs.Wakes.{IsWoken, IsUnloaded, IsConsumed};
+
+use board_model::{Command, Refusal};
+use disk::Disk;
+use hart::Hart;
+use ram::Ram;
+use store::Store;
+
+/// Wakes a board from the image that stands: loads its memory, then consumes the image, and only then answers its hart, as
+/// one that starts at the image's address with its opaque value (SBI specification 2.0, chapter 13).
+///
+/// Refused as `Store::load_image` says, and then as `Store::apply` says of Consume. After each refusal but `Down` a crash
+/// leaves the state before, with the image; the memory is of use only after `Ok`.
+pub fn wake_image<D: Disk + Drop>(store: &mut Store<D>, ram: &mut Ram) -> Result<Hart, Refusal>
+    ensures woken { IfOk result (λ hart. IsWoken (now_state store.old) ram.new hart) }
+    ensures consumed { OnOk result ((n : ℕ) × IsConsumed store.old (Ok n) store.new) }
+    ensures refused { IfErr result (λ e. IsUnloaded store.old ram.old e store.new ⊎ IsConsumed store.old (Err e) store.new) }
+    ensures stays { StaysOpen (view_of store.old) (view_of store.new) }
+    ensures length { length ram.new ≡ length ram.old }
+{
+    store.stands();
+    let image = store.now().image;
+    store.load_image(ram)?;
+    let head = image.unwrap();
+    store.apply(Command::Consume)?;
+    Ok(Hart::fresh(head.hart, head.address.value(), head.opaque))
+}
