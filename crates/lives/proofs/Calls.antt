@@ -1,11 +1,10 @@
 -- What the store says of its calls, as events.
-use Rattle.std.proofs.Common.{◌≡◌, ◌∙◌, ◌⊎◌, inl, inr, ⊎_elim, ℕ, List, [], ◌∷◌, ◌++◌, Option, Some, None, Result, Ok, Err, Bool, true, false, nat_lt, ◌==◌, is_some, if◌then◌else◌, refl, sym, ap, subst}
+use Rattle.std.proofs.Common.{◌≡◌, ◌∙◌, ◌⊎◌, inl, inr, ℕ, List, [], ◌∷◌, ◌++◌, Option, Some, None, Result, Ok, Err, Bool, true, false, nat_lt, is_some, if◌then◌else◌, refl, sym, ap, subst}
 use Rattle.board_model.specs.Durable.{State, Change, Slot, Reset, Suspend, Consume, Discard, refusal_of, after, fold, ends_life}
-use Rattle.board_model.specs.Shown.{number_of}
 use Rattle.board_model.specs.declared.refusal.Refusal.{Refusal}
 use Rattle.board_model.specs.declared.refusal.Refusal.TheVariants.{NotFormatted, AlreadyFormatted, BadShape, BadRecord, Device, Down, Over, NoImage, BadSlot, JournalFull, Memory, SerialsSpent, BadImage, BadScript, ImageThere, Output}
 use Rattle.store.specs.Lives.{Life, now_of, begun, Reaches, Refused, Applied, SuspendRefused, SuspendApplied, Suspended}
-use Rattle.lives.specs.Events.{World, WasOpened, WasAcknowledged, WasRefused, WasDoubtful, Finds, Goes, dropped_by, goes_on, goes_with, Happens, event_of, IsLived, Leads}
+use Rattle.lives.specs.Events.{World, WasOpened, WasAcknowledged, WasDoubtful, Finds, Goes, Happens, dropped_by, goes_on, goes_with, event_of, IsLived, Leads}
 
 one_more : (s : State) (cs : List Change) (c : Change) → fold s (cs ++ c ∷ []) ≡ after (fold s cs) c
 one_more s [] c = refl
@@ -21,6 +20,14 @@ opened w s kept finds = (
 still : (w : World) (old new : Life) → IsLived w old → new ≡ old → IsLived w new
 still w old new lived same = subst (IsLived w) (sym same) lived
 
+-- what an open finds of what a life left
+pub finds_state : (w : World) (life : Life) (s : State) → IsLived w life → s ≡ now_of life → (kept : List Change) × Finds w s kept
+finds_state w life s lived is = (w.kept, inl (is ∙ sym lived.state, refl))
+
+pub finds_either : (w : World) (life : Life) (c : Change) (s : State) → IsLived w life → life.doubt ≡ Some c → (s ≡ now_of life) ⊎ (s ≡ after (now_of life) c) → (kept : List Change) × Finds w s kept
+finds_either w life c s lived doubt (inl is) = finds_state w life s lived is
+finds_either w life c s lived doubt (inr is) = (w.kept ++ c ∷ [], inr (c, lived.doubt ∙ doubt, is ∙ ap (λ (t : State). after t c) (sym lived.state), refl))
+
 -- a command that may go to the disk
 may_go : (w : World) (old : Life) (c : Change) → IsLived w old → old.doubt ≡ None → Reaches old c → Goes w c
 may_go w old c lived calm reaches = (
@@ -32,6 +39,15 @@ may_go w old c lived calm reaches = (
 ends : (b : Bool) → goes_on b ≡ goes_with b None
 ends true = refl
 ends false = refl
+
+-- power failed while a command was under way that reached the disk
+pub under_way : (w : World) (life : Life) (c : Change) (s : State) → IsLived w life → life.doubt ≡ None → Reaches life c → (s ≡ now_of life) ⊎ (s ≡ after (now_of life) c)
+    → (v : World) × Happens w (WasDoubtful c) v × ((kept : List Change) × Finds v s kept)
+under_way w life c s lived calm reaches is = (record w { doubt = Some c; on = false }, (may_go w life c lived calm reaches, refl), found is)
+  where
+    found : (s ≡ now_of life) ⊎ (s ≡ after (now_of life) c) → (kept : List Change) × Finds (record w { doubt = Some c; on = false }) s kept
+    found (inl same) = (w.kept, inl (same ∙ sym lived.state, refl))
+    found (inr next) = (w.kept ++ c ∷ [], inr (c, refl, next ∙ ap (λ (t : State). after t c) (sym lived.state), refl))
 
 acknowledged : (w : World) (old new : Life) (c : Change) → IsLived w old → old.doubt ≡ None → Reaches old c → new ≡ record old { journal = old.journal ++ c ∷ []; over = ends_life c } → Leads w (WasAcknowledged c) new
 acknowledged w old new c lived calm reaches is = (

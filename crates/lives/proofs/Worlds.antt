@@ -1,8 +1,8 @@
 -- What holds of a world, from event to event.
-use Rattle.std.proofs.Common.{◌≡◌, ◌∙◌, ◌⊎◌, inl, inr, ⊎_elim, ℕ, ◌+◌, ◌<◌, ◌≤◌, List, [], ◌∷◌, ◌++◌, Option, Some, None, Bool, true, false, refl, sym, ap, subst, arith}
+use Rattle.std.proofs.Common.{◌≡◌, ◌∙◌, ⊎_elim, ℕ, ◌+◌, ◌<◌, ◌≤◌, List, [], ◌∷◌, ◌++◌, Option, Some, None, true, refl, sym, ap, subst, arith}
 use Rattle.std.specs.Bool.{⊤}
-use Rattle.board_model.specs.Durable.{State, Image, Change, Slot, Reset, Suspend, Consume, Discard, formatted, refusal_of, after, fold, ends_life}
-use Rattle.lives.specs.Events.{Event, WasOpened, WasAcknowledged, WasRefused, WasDoubtful, WasCut, WasResumed, World, new_world, Finds, Goes, serial_of, dropped_by, goes_on, Happens, Runs, IsBelow, IsAbove, Rises}
+use Rattle.board_model.specs.Durable.{State, Image, Change, Slot, Reset, Suspend, Consume, Discard, formatted, after, fold}
+use Rattle.lives.specs.Events.{Event, WasOpened, WasAcknowledged, WasRefused, WasDoubtful, WasCut, WasResumed, World, new_world, Finds, serial_of, dropped_by, Happens, Runs, IsBelow, IsAbove, Rises}
 
 -- the image's serial was given out, and no hart with it or a later one was answered
 abbrev pub Fresh : List ℕ → ℕ → Option Image → Type 0

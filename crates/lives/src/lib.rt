@@ -3,4 +3,4 @@
 
 mod laws;
 
-pub use laws::{commands_are_events, lives, opens_are_events};
+pub use laws::{commands_are_events, lives, opens_are_events, opens_find_what_stands};

@@ -1,8 +1,14 @@
 -- Turns in a row.
-use Rattle.std.proofs.Common.{◌≡◌, ◌⊎◌, ℕ, zero, suc, ◌+◌, ◌-◌, ◌<◌, ◌≤◌, Bool, true, false, true≢false, refl, sym, ◌∙◌, subst, ⊎_elim, inl, inr, arith}
+use Rattle.std.proofs.Common.{◌≡◌, ◌⊎◌, ℕ, zero, suc, ◌+◌, ◌-◌, ◌<◌, ◌≤◌, Bool, true, false, true≢false, List, refl, sym, ap, ◌∙◌, subst, ⊎_elim, inl, inr, arith}
+use Rattle.std.specs.Prelude.{length}
+use Rattle.std.proofs.lemmas.List.{get_or-set_same, set-set, set-get_or}
+use Rattle.hart.specs.State.{State, never_started}
 use Rattle.turns.specs.declared.words.Turned.{Turned}
+use Rattle.turns.specs.declared.words.Turned.TheVariants.{Next}
+use Rattle.turns.specs.Turns.{Moment, moment, TurnOf}
+use Rattle.turns.specs.Many.{NextTurns}
 use Rattle.machine.specs.Machine.{Machine}
-use Rattle.machine.specs.Turns.{Turns, ends_row, IsLast, TurnsMany}
+use Rattle.machine.specs.Turns.{moment_of, with_moment, Turns, Rows, ends_row, IsLast, TurnsMany}
 
 -- before the turn `made` of at most `count`, none has ended the row: what the turns that are left make of the machine, all make of it
 abbrev pub Continues : ℕ → ℕ → ℕ → Machine → Machine → Type 0
@@ -26,3 +32,72 @@ goes_on h count made old mid next word more on turn before n k total new last le
 pub ends_with : (h count made : ℕ) (old mid next : Machine) (word : Turned) (left : ℕ) → left + made ≡ count → IsLast word left → Turns h mid next word → Continues h count made old mid → TurnsMany h count old next made word
 ends_with h count made old mid next word left sum last turn before =
     before (suc left) 1 made next word (omega (arith, sum)) (omega arith) (next, word, turn, inl (last, refl, refl, refl))
+
+-- ---- turns by one look
+-- so many turns that all said Next
+abbrev pub AllNext : ℕ → ℕ → Machine → Machine → Type 0
+AllNext h zero old new = new ≡ old
+AllNext h (suc n) old new = (mid : Machine) × AllNext h n old mid × Turns h mid new Next
+
+-- a hart that stands so is read so, and replaced by the next
+read_back : (h : ℕ) (m : Machine) (a : Moment) → h < length m.harts → moment_of h (with_moment h m a) ≡ a
+read_back h m a lt = ap (λ (s : State). moment a.table s a.memory) (get_or-set_same m.harts h a.hart (never_started h) lt)
+
+put_twice : (h : ℕ) (m : Machine) (a b : Moment) → with_moment h (with_moment h m a) b ≡ with_moment h m b
+put_twice h m a b = ap (λ (harts : List State). let r : Machine = record { size = m.size; memory = b.memory; harts = harts; table = b.table } in r) (set-set m.harts h a.hart b.hart)
+
+put_same : (h : ℕ) (m : Machine) → with_moment h m (moment_of h m) ≡ m
+put_same h m = ap (λ (harts : List State). let r : Machine = record { size = m.size; memory = m.memory; harts = harts; table = m.table } in r) (set-get_or m.harts h (never_started h))
+
+module _ (h : ℕ) (old : Machine) (lt : h < length old.harts) where
+  one_more : (a b : Moment) (word : Turned) → TurnOf old.size a b word → Turns h (with_moment h old a) (with_moment h old b) word
+  one_more a b word turn = (b, subst (λ (x : Moment). TurnOf old.size x b word) (sym (read_back h old a lt)) turn, sym (put_twice h old a b))
+
+  all_next : (k : ℕ) (b : Moment) → NextTurns old.size k (moment_of h old) b → AllNext h k old (with_moment h old b)
+  all_next zero b e = ap (with_moment h old) e ∙ put_same h old
+  all_next (suc k) b x = (with_moment h old x.0, all_next k x.0 x.1, one_more x.0 b Next x.2)
+
+  parted : (count : ℕ) (new : Machine) (word : Turned) → Rows h count old new word → (k : ℕ) × (mid : Machine) × (count ≡ suc k) × AllNext h k old mid × Turns h mid new word
+  parted count new word r =
+      let row = r.1 in
+      let turn = one_more row.1 r.0 word row.4 in (
+        row.0,
+        with_moment h old row.1,
+        row.2,
+        all_next row.0 row.1 row.3,
+        subst (λ (m : Machine). Turns h (with_moment h old row.1) m word) (sym r.2) turn,
+      )
+
+nexts_on : (h count made k : ℕ) (old mid last : Machine) → made + k ≤ count → AllNext h k mid last → Continues h count made old mid → Continues h count (made + k) old last
+nexts_on h count made zero old mid last low e before =
+    let z : made ≡ made + 0 = omega arith in
+    subst (λ (m : Machine). Continues h count (made + 0) old m) (sym e) (subst (λ (j : ℕ). Continues h count j old mid) z before)
+nexts_on h count made (suc k) old mid last low x before =
+    let z : made + k + 1 ≡ made + suc k = omega arith in
+    let more : made + k < count = omega (arith, low) in
+    subst (λ (j : ℕ). Continues h count j old last) z (goes_on h count (made + k) old x.0 last Next more refl x.2 (nexts_on h count made k old mid x.0 (omega (arith, low)) x.1 before))
+
+-- so many turns were made, none of which but the last may have ended the row, and word was said of the last
+abbrev pub Made : ℕ → ℕ → ℕ → Machine → Machine → Turned → Type 0
+Made h count made old new word = (mid : Machine) × Continues h count made old mid × Turns h mid new word
+
+pub first_row : (h count made : ℕ) (old new : Machine) (word : Turned) → h < length old.harts → made ≤ count → Rows h made old new word → Made h count made old new word
+first_row h count made old new word lt low r =
+    let p = parted h old lt made new word r in
+    let z : 1 + p.0 ≡ made = let e = p.2 in omega (arith, e) in
+    let most : 1 + p.0 ≤ count = omega (arith, z, low) in
+    (p.1, subst (λ (j : ℕ). Continues h count j old p.1) z (nexts_on h count 1 p.0 old old p.1 most p.3 (begins h count old)), p.4)
+
+pub more_row : (h count made more : ℕ) (old mid new : Machine) (said word : Turned) → made + more ≤ count → h < length mid.harts → ends_row said ≡ false → Made h count made old mid said → Rows h more mid new word → Made h count (made + more) old new word
+more_row h count made more old mid new said word low lt on m r =
+    let p = parted h mid lt more new word r in
+    let z : made + 1 + p.0 ≡ made + more = let e = p.2 in omega (arith, e) in
+    let most : made + 1 + p.0 ≤ count = omega (arith, z, low) in
+    let less : made < count = omega (arith, most) in
+    (p.1, subst (λ (j : ℕ). Continues h count j old p.1) z (nexts_on h count (made + 1) p.0 old mid p.1 most p.3 (goes_on h count made old m.0 mid said less on m.2 m.1)), p.4)
+
+pub all_made : (h count made : ℕ) (old new : Machine) (word : Turned) → made ≤ count → (ends_row word ≡ true) ⊎ (made ≡ count) → Made h count made old new word → TurnsMany h count old new made word
+all_made h count made old new word low last m =
+    let left : (count - made) + made ≡ count = omega (arith, low) in
+    let is : IsLast word (count - made) = ⊎_elim (λ (e : ends_row word ≡ true). inl e) (λ (e : made ≡ count). inr (omega (arith, e))) last in
+    ends_with h count made old m.0 new word (count - made) left is m.2 m.1

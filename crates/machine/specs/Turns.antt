@@ -10,6 +10,7 @@ use Rattle.sbi_calls.specs.Both.{TableState, IsTable}
 use Rattle.turns.specs.declared.words.Turned.{Turned}
 use Rattle.turns.specs.declared.words.Turned.TheVariants.{Idle, Entered, Woke, Next, Suspended, Stopped}
 use Rattle.turns.specs.Turns.{Moment, moment, TurnOf, Finishes}
+use Rattle.turns.specs.Many.{RowOf}
 use Rattle.machine.specs.declared.parts.Called.{Called}
 use Rattle.machine.specs.declared.parts.Called.TheVariants.{NotStarted, Made}
 use Rattle.machine.specs.Machine.{Machine, hart_at}
@@ -29,6 +30,10 @@ DoneBy Does h old new = (after : Moment) × Does (moment_of h old) after × (new
 -- a turn of hart h
 abbrev pub Turns : ℕ → Machine → Machine → Turned → Type 0
 Turns h old new word = DoneBy (λ a b. TurnOf old.size a b word) h old new
+
+-- turns of hart h in a row, of which all but the last said Next
+abbrev pub Rows : ℕ → ℕ → Machine → Machine → Turned → Type 0
+Rows h count old new word = DoneBy (λ a b. RowOf old.size count a b word) h old new
 
 -- a turn after which no other follows in a row: the hart stopped
 abbrev pub ends_row : Turned → Bool

@@ -5,7 +5,7 @@ ghost use Rattle.board_model.specs.Shapes.{ram_bytes_of};
 ghost use Rattle.board_model.specs.declared.refusal.Refusal.TheVariants.{Memory};
 ghost use Rattle.turns.specs.Turns.{is_pending};
 ghost use Rattle.machine.specs.Machine.{hart_at, stopped_harts, resting, begun};
-ghost use Rattle.machine.specs.Turns.{Turns, TurnsMany, Calls};
+ghost use Rattle.machine.specs.Turns.{Turns, Rows, TurnsMany, Calls};
 ghost use Rattle.machine.specs.Held.{IsHeld, shown_by};
 
 use crate::calls::{Registers, make_call};
@@ -154,6 +154,30 @@ impl Machine {
         turned
     }
 
+    /// Turns of a hart in a row by one look at the tables, `most` of them at most: how many were made, and what the last
+    /// one did. Each before it said `Next`.
+    fn row(&mut self, id: HartId, most: u32) -> (u32, Turned)
+        requires hart { id < length self.old.harts }
+        requires some { 1 ≤ most }
+        ensures row { Rows id result.0 self.old self.new result.1 }
+        ensures range { (1 ≤ result.0) × (result.0 ≤ most) }
+        ensures harts { length self.new.harts ≡ length self.old.harts }
+    {
+        let seats = self.seats.take().unwrap();
+        let (seats, made, turned) = turns::turns_by_one_look(
+            &mut self.harts[id.index()],
+            seats,
+            &self.tables,
+            &mut self.ram,
+            &self.shape,
+            most,
+        );
+        hsm::one_table();
+        ipi::one_set();
+        self.seats = Some(seats);
+        (made, turned)
+    }
+
     /// At most so many turns of a hart, one after another: how many were made, and what the last one did. One that stops
     /// the hart is the last.
     pub fn turns(&mut self, id: HartId, count: u32) -> (u32, Turned)
@@ -162,14 +186,15 @@ impl Machine {
         ensures turns { TurnsMany id count self.old self.new result.0 result.1 }
         ensures harts { length self.new.harts ≡ length self.old.harts }
     {
-        for made in 1..count {
-            let turned = self.turn(id);
-            if ends_row(turned) {
-                return (made, turned);
-            }
+        let (first, said) = self.row(id, count);
+        let mut made = first;
+        let mut turned = said;
+        while made < count && !ends_row(turned) {
+            let (more, word) = self.row(id, count - made);
+            made += more;
+            turned = word;
         }
-        let last = self.turn(id);
-        (count, last)
+        (made, turned)
     }
 
     /// An SBI call that is made in the place of a hart: sets a0 to a2, a6 and a7, and acts as if ECALL stood at its pc. A

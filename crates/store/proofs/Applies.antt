@@ -1,7 +1,7 @@
 -- What a command makes of a store.
 use Rattle.std.proofs.Common.{◌≡◌, ◌∙◌, inl, inr, ⊎_elim, ℕ, ◌-◌, ◌<◌, List, [], ◌∷◌, ◌++◌, map, Option, None, option_map, Bool, true, refl, sym, ap, subst}
 use Rattle.std.proofs.lemmas.Bool.{and_parts, and_from}
-use Rattle.board_model.specs.Durable.{State, Change, after, fold}
+use Rattle.board_model.specs.Durable.{State, Change, refusal_of, after, fold}
 use Rattle.board_model.specs.Shapes.{Size}
 use Rattle.board_model.specs.Shown.{change_in}
 use Rattle.disk.specs.Facts.{Content, Facts, LeavesSince}
@@ -89,6 +89,10 @@ module _ (a b : Facts) (size : Size) (side : ℕ) (opened current next : Record)
 
   now_still : state_of size current b.content ≡ now
   now_still = state_same size current a.content b.content (of_areas size current.image a.content b.content areas) ∙ sym folded
+
+  -- a command that the table does not refuse is not refused then
+  pub allowed_still : refusal_of now change ≡ None → refusal_of (state_of size current b.content) (change_in entry (memory_in size next b.content)) ≡ None
+  allowed_still allowed = ap (λ (s : State). refusal_of s (change_in entry (memory_in size next b.content))) now_still ∙ ap (λ (c : Change). refusal_of now c) change_still ∙ allowed
 
   next_is : state_of size next b.content ≡ after now change
   next_is = follows.state b.content ∙ ap (after (state_of size current b.content)) change_still ∙ ap (λ (s : State). after s change) now_still

@@ -1,6 +1,6 @@
 -- What an open store keeps, in durable states.
-use Rattle.std.proofs.Common.{◌≡◌, ◌∙◌, ℕ, ◌<◌, sym, ap, subst}
-use Rattle.board_model.specs.Durable.{State, Change, after}
+use Rattle.std.proofs.Common.{◌≡◌, ◌∙◌, ℕ, ◌<◌, None, sym, ap, subst}
+use Rattle.board_model.specs.Durable.{State, Change, refusal_of, after}
 use Rattle.board_model.specs.Shapes.{Size}
 use Rattle.board_model.specs.Shown.{change_in}
 use Rattle.disk.specs.Facts.{Facts}
@@ -23,3 +23,7 @@ module _ (disk : Facts) (size : Size) (side : ℕ) (current : Record) (now s : S
       let next : t ≡ state_of size d.next disk.content = t_is ∙ ap (λ (x : State). after x c) (s_is ∙ folded) ∙ ap (λ (x : Change). after here x) (sym same) ∙ sym doubted in
       subst (λ (x : State). LeavesEither disk size x t) (sym (s_is ∙ folded))
       (subst (λ (x : State). LeavesEither disk size here x) (sym next) (doubt_leaves disk size side current d.next known doubt))
+
+-- the table does not refuse the command in doubt
+pub kept_allowed : (here now : State) (c d : Change) → now ≡ here → c ≡ d → refusal_of here c ≡ None → refusal_of now d ≡ None
+kept_allowed here now c d folded same allowed = ap (λ (s : State). refusal_of s d) folded ∙ ap (λ (x : Change). refusal_of here x) (sym same) ∙ allowed

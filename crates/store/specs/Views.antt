@@ -7,9 +7,10 @@ use Rattle.board_model.specs.declared.refusal.Refusal.{Refusal}
 use Rattle.board_model.specs.declared.refusal.Refusal.TheVariants.{Device, Down}
 use Rattle.disk.specs.Facts.{Facts, LeavesSince, Failed}
 use Rattle.disk.specs.Mishaps.{Mishaps}
-use Rattle.store.specs.Leaves.{IsIdle, SameLength, LeavesOnly, LeavesEither, StandsForEither, WroteACommand}
-use Rattle.store.specs.Lives.{Life, now_of}
+use Rattle.store.specs.Leaves.{IsIdle, SameLength, Leaves, LeavesOnly, LeavesEither, StandsForEither, WroteACommand}
+use Rattle.store.specs.Lives.{Life, now_of, begun}
 use Rattle.store.specs.Opens.{CausedRefusal}
+use Rattle.store.specs.Standing.{StandsFor}
 
 -- what is seen of an open store: its disk, why that failed, the board, the life, and how often the disk had failed at the open
 pub record StoreView : Type 1 where
@@ -18,6 +19,16 @@ pub record StoreView : Type 1 where
   pub size : Size
   pub life : Life
   pub failures_at_open : ℕ
+
+-- What an open made of a disk. A life begins in the state that the disk stands for; a crash just before could have left that
+-- state, and each crash leaves it from then on. The disk did not fail.
+pub record Opened (disk : Facts) (store : StoreView) : Type 0 where
+  pub begins : store.life ≡ begun store.life.found
+  pub reads : StandsFor disk.content store.size store.life.found
+  pub earlier : Leaves disk store.size store.life.found
+  pub only : LeavesOnly store.disk store.size store.life.found
+  pub no_failure : store.disk.failures ≡ disk.failures
+  pub at_open : store.failures_at_open ≡ disk.failures
 
 -- A command goes to the disk that makes t of s. A crash leaves the one or the other at each moment since its start; t alone
 -- once it is acknowledged; s alone after a refusal, but after 6 the one or the other.

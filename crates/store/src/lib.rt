@@ -10,6 +10,6 @@ mod receipts;
 mod stores;
 
 pub use formats::format;
-pub use laws::{blank_disks, formats_in_order, kept_disks, one_standing};
+pub use laws::{blank_disks, formats_in_order, kept_disks, one_standing, whole_images_load};
 pub use receipts::Receipt;
 pub use stores::Store;

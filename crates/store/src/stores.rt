@@ -1,5 +1,5 @@
 //! The store: one life of the durable state.
-ghost use Rattle.std.specs.Prelude.{◌≡◌, ◌≤◌, ◌≢◌, ◌<◌, ◌+◌, ◌-◌, ◌^◌, ◌⊎◌, ◌↔◌, IsTrue, ℕ, List, get_or, false, true, length, map, vec_len, vec_capacity, Some, None, Err, IfSome, IfOk, IfErr, OnOk, OnErr, IsErrOf, MatchResult};
+ghost use Rattle.std.specs.Prelude.{◌≡◌, ◌≤◌, ◌≢◌, ◌<◌, ◌+◌, ◌-◌, ◌*◌, ◌^◌, ◌⊎◌, ◌↔◌, IsTrue, ℕ, List, get_or, false, true, length, map, vec_len, vec_capacity, Some, None, Err, IfSome, IfOk, IfErr, OnOk, OnErr, IsErrOf, MatchResult};
 ghost use Rattle.board_model.specs.Durable.{State, Change, Suspend, after, fold, ends_life, refusal_of};
 ghost use Rattle.board_model.specs.Shown.{change_of, change_in, number_of};
 ghost use Rattle.board_model.specs.Shapes.{Size, IsSize, ram_bytes_of};
@@ -48,14 +48,15 @@ pub struct Store<D: Disk + Drop> {
     ghost few: { vec_len journal ≤ 4096 },
     ghost failed: { (x : Doubt) → doubt ≡ Some x → Failed failures_at_open (D.facts disk).failures },
     ghost counted: { failures_at_open ≤ (D.facts disk).failures },
+    ghost allowed: { (x : Doubt) → doubt ≡ Some x → refusal_of (state_of shape current (D.facts disk).content) (change_in x.entry (memory_in shape x.next (D.facts disk).content)) ≡ None },
 }
 
 impl<D: Disk + Drop> Store<D> {
     ghost use Rattle.board_model.specs.Shown.{durable_of};
-    ghost use Rattle.store.specs.Leaves.{IsIdle, SameLength, Leaves, LeavesOnly, LeavesEither};
+    ghost use Rattle.store.specs.Leaves.{IsIdle, SameLength, LeavesOnly, LeavesEither, ReadsAlone};
     ghost use Rattle.store.specs.Opens.{ReadsAs, OpenRefused, OpenCalls, CausedRefusal};
-    ghost use Rattle.store.specs.Lives.{begun, Reaches, TakesNone, Refused, Applied, IsReseen, SuspendRefused, Suspended, IsLoaded, LoadRefused};
-    ghost use Rattle.store.specs.Views.{Answered, StaysOpen};
+    ghost use Rattle.store.specs.Lives.{Reaches, TakesNone, Refused, Applied, IsReseen, SuspendRefused, Suspended, IsLoaded, LoadRefused};
+    ghost use Rattle.store.specs.Views.{Opened, Answered, StaysOpen};
     ghost use Rattle.disk.specs.Facts.{LeavesSince, Unchanged, Passes, Stays, counted};
     ghost use Rattle.disk.specs.Mishaps.{armed_by};
     ghost use Rattle.store.specs.Standing.{StandsFor, selected};
@@ -68,16 +69,7 @@ impl<D: Disk + Drop> Store<D> {
     /// refusal gives the disk back.
     pub fn open(alloc: Global, mut disk: D) -> Result<Store<D>, (D, Refusal)>
         requires none_out { IsIdle (D.facts disk) }
-        // What it finds, and what a crash leaves from then on.
-        ensures reads { IfOk result (λ store. StandsFor (D.facts disk).content (size_of_store store) (found_state store)) }
-        ensures only { IfOk result (λ store. LeavesOnly (disk_of store) (size_of_store store) (found_state store)) }
-        ensures begins { IfOk result (λ store. life_of store ≡ begun (found_state store)) }
-        ensures earlier { IfOk result (λ store. Leaves (D.facts disk) (size_of_store store) (found_state store)) }
-        ensures any_moment { MatchResult result
-            (λ store. LeavesSince (D.facts disk) (disk_of store) (D.facts disk).may_leave)
-            (λ e. LeavesSince (D.facts disk) (D.facts e.0) (D.facts disk).may_leave) }
-
-        // Why it is refused.
+        ensures opened { IfOk result (λ store. Opened (D.facts disk) (view_of store)) }
         ensures refused { IfErr result (λ e. OpenRefused (D.facts disk) e.1 (D.facts e.0)) }
 
         // And the other way: a disk that reads as a refusal is refused so, or by 5; one that stands for a state is opened, but for 5 and 11.
@@ -87,13 +79,11 @@ impl<D: Disk + Drop> Store<D> {
         // A disk without sectors is refused before any call.
         ensures no_sectors { length (D.facts disk).content ≡ 0 → MatchResult result (λ store. ⊥) (λ f. (f.1 ≡ Refusal.BadShape) × (f.0 ≡ disk)) }
 
-        ensures content { MatchResult result (λ store. (disk_of store).content ≡ (D.facts disk).content) (λ e. (D.facts e.0).content ≡ (D.facts disk).content) }
-        ensures no_failure { IfOk result (λ store. ((disk_of store).failures ≡ (D.facts disk).failures) × (failures_at_open store ≡ (D.facts disk).failures)) }
+        // Whatever it answers.
+        ensures reads_alone { MatchResult result (λ store. ReadsAlone (D.facts disk) (disk_of store)) (λ e. ReadsAlone (D.facts disk) (D.facts e.0)) }
         ensures calls { 0 < length (D.facts disk).content
             → MatchResult result (λ store. (disk_of store).calls ≡ counted (D.facts disk).calls 4) (λ e. OpenCalls e.1 (D.facts disk).calls (D.facts e.0).calls) }
-        ensures no_fewer { IfErr result (λ e. (D.facts disk).failures ≤ (D.facts e.0).failures) }
         ensures cause { MatchResult result (λ store. mishaps_of store ≡ D.mishaps disk) (λ e. CausedRefusal (D.mishaps disk) e.1 (D.mishaps e.0)) }
-        ensures none_out { MatchResult result (λ store. IsIdle (disk_of store)) (λ e. IsIdle (D.facts e.0)) }
     {
         let found = match find(&mut disk) {
             Ok(found) => found,
@@ -190,6 +180,7 @@ impl<D: Disk + Drop> Store<D> {
             (view_of self.old) (Suspend hart address opaque ram.now) result (view_of self.new) }
         ensures down { (c : Change) → doubt_of self.old ≡ Some c → (result ≡ Err Refusal.Down) × (self.new ≡ self.old) }
         ensures untouched { IfErr result (λ e. (e ≡ Refusal.Device → ⊥) → (e ≡ Refusal.Down → ⊥) → (e ≡ Refusal.Memory → ⊥) → self.new ≡ self.old) }
+        ensures calls { OnOk result ((disk_of self.new).calls ≡ counted (disk_of self.old).calls 5) }
         ensures life { IsErrOf result Refusal.Down → Failed (failures_at_open self.new) (disk_of self.new).failures }
         ensures stays { StaysOpen (view_of self.old) (view_of self.new) }
     {
@@ -259,6 +250,7 @@ impl<D: Disk + Drop> Store<D> {
         ensures refused { IfErr result (λ e. WriteRefused (disk_of self.old) (mishaps_of self.old) e (disk_of self.new) (mishaps_of self.new)) }
         ensures no_failure { OnOk result ((disk_of self.new).failures ≡ (disk_of self.old).failures) }
         ensures unmoved { OnOk result (mishaps_of self.new ≡ mishaps_of self.old) }
+        ensures calls { OnOk result ((disk_of self.new).calls ≡ counted (disk_of self.old).calls 1) }
         ensures same { (self.new.doubt ≡ self.old.doubt) × (self.new.over ≡ self.old.over) × (self.new.current ≡ self.old.current) × (self.new.shape ≡ self.old.shape) × (self.new.journal ≡ self.old.journal) × (self.new.failures_at_open ≡ self.old.failures_at_open) }
         ensures selected { selected (disk_of self.new).content ≡ selected (disk_of self.old).content }
         ensures length { SameLength (disk_of self.old) (disk_of self.new) }
@@ -318,16 +310,12 @@ impl<D: Disk + Drop> Store<D> {
     pub fn load_image(&mut self, ram: &mut Ram) -> Result<(), Refusal>
         ensures loads { OnOk result (IsLoaded (now_state self.old) ram.new) }
         ensures refused { IfErr result (λ e. LoadRefused (size_of_store self.old) (now_state self.old) ram.old (disk_of self.old) (mishaps_of self.old) e (disk_of self.new) (mishaps_of self.new)) }
-        ensures life { life_of self.new ≡ life_of self.old }
-        ensures crash { Passes (disk_of self.old) (disk_of self.new) Stays }
-        ensures content { (disk_of self.new).content ≡ (disk_of self.old).content }
         ensures length { length ram.new ≡ length ram.old }
-        ensures no_failure { OnOk result ((disk_of self.new).failures ≡ (disk_of self.old).failures) }
-        ensures no_fewer { (disk_of self.old).failures ≤ (disk_of self.new).failures }
-        ensures unmoved { OnOk result (mishaps_of self.new ≡ mishaps_of self.old) }
-        ensures board { size_of_store self.new ≡ size_of_store self.old }
-        ensures opened { failures_at_open self.new ≡ failures_at_open self.old }
-        ensures none_out { IsIdle (disk_of self.new) }
+        ensures life { life_of self.new ≡ life_of self.old }
+        ensures reads_alone { ReadsAlone (disk_of self.old) (disk_of self.new) }
+        ensures no_failure { OnOk result (((disk_of self.new).failures ≡ (disk_of self.old).failures) × (mishaps_of self.new ≡ mishaps_of self.old)) }
+        ensures calls { OnOk result ((disk_of self.new).calls ≡ counted (disk_of self.old).calls (2 * (size_of_store self.old).pages)) }
+        ensures stays { StaysOpen (view_of self.old) (view_of self.new) }
     {
         if ram.pages() != self.shape.pages() {
             return Err(Refusal::BadShape);
@@ -359,16 +347,18 @@ impl<D: Disk + Drop> Store<D> {
     }
 
     /// What an open store keeps, from one call to the next: a crash leaves the state now, or with a command in doubt one of
-    /// two. It does nothing.
+    /// two; such a command is one that the table of commands does not refuse. It does nothing.
     pub fn stands(&self)
         ensures up { (s : State) → Stands self.now s → LeavesOnly (disk_of self.now) (size_of_store self.now) s }
         ensures down { (s t : State) → Doubts self.now s t → LeavesEither (disk_of self.now) (size_of_store self.now) s t }
+        ensures allowed { (c : Change) → doubt_of self.now ≡ Some c → refusal_of (now_state self.now) c ≡ None }
     {}
 
     /// Ends the life, and gives the disk back: a crash leaves the state now, or with a command in doubt one of two.
     pub fn into_disk(self) -> D
         ensures up { (s : State) → Stands self s → LeavesOnly (D.facts result) (size_of_store self) s }
         ensures down { (s t : State) → Doubts self s t → LeavesEither (D.facts result) (size_of_store self) s t }
+        ensures allowed { (c : Change) → doubt_of self ≡ Some c → refusal_of (now_state self) c ≡ None }
         ensures none_out { IsIdle (D.facts result) }
         ensures facts { Unchanged (disk_of self) (D.facts result) }
         ensures content { (D.facts result).content ≡ (disk_of self).content }

@@ -3,8 +3,9 @@
 ghost use Rattle.std.specs.Prelude.{◌≡◌, ◌<◌};
 ghost use Rattle.hsm_words.specs.declared.view.Stage.TheVariants.{Out, Running, Asleep};
 ghost use Rattle.ipi.specs.Pairs.{Sits};
-ghost use Rattle.sbi_calls.specs.Both.{AreSeatsOf, GivesBack, Acts, harts_of, pair_crew};
+ghost use Rattle.sbi_calls.specs.Both.{AreSeatsOf, GivesBack, Acts, harts_of, known, pair_crew};
 ghost use Rattle.turns.specs.Turns.{Rests, RestsAs, BeginsAlone, LooksAlone, TakesAlone, EntersAlone, WakesAlone};
+ghost use Rattle.turns.specs.Own.{LooksOwn, TakesOwn, EntersOwn, WakesOwn, BeginsOwn};
 
 use crate::words::Ready;
 use board_model::HartId;
@@ -19,6 +20,7 @@ pub fn look(seats: Seats, tables: &Tables, by: HartId) -> (Seats, bool)
     requires sits { Sits by (pair_crew seats) }
     ensures gives { GivesBack tables.entry.now by seats result.0 }
     ensures harts { result.0.harts ≡ seats.harts }
+    ensures own { LooksOwn by (known seats) (known result.0) result.1 }
     ensures alone { LooksAlone (harts_of tables.entry.now) by seats result.0 result.1 }
 {
     let Seats { harts, pending } = seats;
@@ -33,6 +35,7 @@ pub(crate) fn take(seats: Seats, tables: &Tables, by: HartId) -> Seats
     requires sits { Sits by (pair_crew seats) }
     ensures gives { GivesBack tables.entry.now by seats result }
     ensures harts { result.harts ≡ seats.harts }
+    ensures own { TakesOwn by (known seats) (known result) }
     ensures alone { TakesAlone (harts_of tables.entry.now) by seats result }
 {
     ipi::one_set();
@@ -48,6 +51,7 @@ fn enter(seats: Seats, tables: &Tables, by: HartId) -> (Seats, Ready)
     requires acts { Acts by Out seats }
     ensures gives { GivesBack tables.entry.now by seats result.0 }
     ensures rests { RestsAs by result.1 result.0 }
+    ensures own { EntersOwn by (known seats) (known result.0) result.1 }
     ensures alone { EntersAlone (harts_of tables.entry.now) by seats result.0 result.1 }
 {
     hsm::one_table();
@@ -67,6 +71,7 @@ fn wake(seats: Seats, tables: &Tables, by: HartId) -> (Seats, Ready)
     requires acts { Acts by Asleep seats }
     ensures gives { GivesBack tables.entry.now by seats result.0 }
     ensures rests { RestsAs by result.1 result.0 }
+    ensures own { WakesOwn by (known seats) (known result.0) result.1 }
     ensures alone { WakesAlone (harts_of tables.entry.now) by seats result.0 result.1 }
 {
     hsm::one_table();
@@ -90,6 +95,7 @@ pub fn begin(seats: Seats, tables: &Tables, by: HartId) -> (Seats, Ready)
     requires rests { Rests by seats }
     ensures gives { GivesBack tables.entry.now by seats result.0 }
     ensures rests { RestsAs by result.1 result.0 }
+    ensures own { BeginsOwn by (known seats) (known result.0) result.1 }
     ensures alone { BeginsAlone (harts_of tables.entry.now) by seats result.0 result.1 }
 {
     let Seats { harts, pending } = seats;

@@ -2,7 +2,8 @@
 
 ghost use Rattle.std.specs.Prelude.{◌≡◌, ◌<◌};
 ghost use Rattle.hsm_words.specs.declared.view.Stage.TheVariants.{Running};
-ghost use Rattle.sbi_calls.specs.Both.{AreTablesOf, AreSeatsOf, GivesBack, Acts};
+ghost use Rattle.sbi_calls.specs.Both.{AreTablesOf, AreSeatsOf, GivesBack, Acts, known};
+ghost use Rattle.turns.specs.Own.{FinishesOwn};
 ghost use Rattle.turns.specs.Turns.{Rests, FinishesAlone, turned_by};
 
 use crate::begins::take;
@@ -37,6 +38,7 @@ pub fn finish(
     ensures gives { GivesBack tables.entry.now hart.old.id seats result.0 }
     ensures rests { Rests hart.old.id result.0 }
     ensures id { hart.new.id ≡ hart.old.id }
+    ensures own { FinishesOwn shape.now outcome hart.old hart.new (known seats) (known result.0) result.1 }
     ensures alone { FinishesAlone shape.now outcome hart.old hart.new seats result.0 result.1 }
 {
     match outcome {

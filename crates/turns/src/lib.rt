@@ -10,6 +10,6 @@ mod words;
 
 pub use begins::{begin, look};
 pub use finishes::finish;
-pub use many::run;
+pub use many::turns_by_one_look;
 pub use whole::turn;
 pub use words::{Ready, Turned};

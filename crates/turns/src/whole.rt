@@ -1,7 +1,8 @@
 //! A whole turn, where the memory is at hand.
 
 ghost use Rattle.std.specs.Prelude.{◌≡◌, ◌<◌};
-ghost use Rattle.sbi_calls.specs.Both.{AreTablesOf, AreSeatsOf, GivesBack};
+ghost use Rattle.sbi_calls.specs.Both.{AreTablesOf, AreSeatsOf, GivesBack, known};
+ghost use Rattle.turns.specs.Own.{TurnOwn};
 ghost use Rattle.turns.specs.Turns.{Rests, TurnsAlone};
 
 use crate::begins::begin;
@@ -27,6 +28,7 @@ pub fn turn(
     ensures gives { GivesBack tables.entry.now hart.old.id seats result.0 }
     ensures rests { Rests hart.old.id result.0 }
     ensures id { hart.new.id ≡ hart.old.id }
+    ensures own { TurnOwn shape.now hart.old ram.old hart.new ram.new (known seats) (known result.0) result.1 }
     ensures alone { TurnsAlone shape.now hart.old ram.old hart.new ram.new seats result.0 result.1 }
 {
     let (seats, ready) = begin(seats, tables, hart.id());

@@ -2,7 +2,6 @@ use Rattle.std.proofs.Common.{refl, sym, ◌∙◌, ap, subst, inr}
 use Rattle.std.proofs.lemmas.Result.{err_from_is_err_and}
 use Rattle.board_model.specs.Durable.{Consume}
 use Rattle.disk.specs.Facts.{LeavesSince}
-use Rattle.disk.specs.Moments.{leaves_none, leaves_stays}
 use Rattle.store.specs.Lives.{Life}
 use Rattle.store.specs.Stores.{view_of}
 use Rattle.susp.specs.Wakes.{IsLeft}
@@ -17,12 +16,12 @@ returns-in_err-apply-clause-refused g c =
     let e = c.in_ok-load_image.ensures in
     let a = c.in_err-apply.ensures in
     let first : LeavesSince (g.D.Disk.facts old.disk) (g.D.Disk.facts mid.disk) (g.D.Disk.facts old.disk).may_leave =
-    leaves_stays _ _ _ _ (leaves_none _ _ (g.met.D.Disk.only_now _) (λ x left. left)) e.crash in
+    e.reads_alone.any_moment in
     rw (p.1, p.2)
     (inr (record {
-      answered = λ none. answered_on (view_of old) (view_of mid) (view_of c.apply.new.self) Consume _ e.life e.board e.unmoved e.no_failure e.content first
+      answered = λ none. answered_on (view_of old) (view_of mid) (view_of c.apply.new.self) Consume _ e.life e.stays.board e.no_failure.1 e.no_failure.0 e.reads_alone.content first
           (c.stands.ensures.up _ (none, refl)) (a.answered (ap (λ (x : Life). x.doubt) e.life ∙ none));
-      down = λ d is. let b = a.down d (ap (λ (x : Life). x.doubt) e.life ∙ is) in (b.0, subst (λ s. IsLeft old s) (sym b.1) (record { life = e.life; crash = e.crash }));
+      down = λ d is. let b = a.down d (ap (λ (x : Life). x.doubt) e.life ∙ is) in (b.0, subst (λ s. IsLeft old s) (sym b.1) (record { life = e.life; crash = e.reads_alone.crash }));
     }))
 
 pub returns-clause-consumed : goal.returns-clause-consumed
@@ -32,10 +31,10 @@ returns-clause-consumed g c =
     let e = c.in_ok-load_image.ensures in
     let a = c.in_ok-apply.ensures in
     let first : LeavesSince (g.D.Disk.facts old.disk) (g.D.Disk.facts mid.disk) (g.D.Disk.facts old.disk).may_leave =
-    leaves_stays _ _ _ _ (leaves_none _ _ (g.met.D.Disk.only_now _) (λ x left. left)) e.crash in (
+    e.reads_alone.any_moment in (
       _,
       record {
-        answered = λ none. answered_on (view_of old) (view_of mid) (view_of c.apply.new.self) Consume _ e.life e.board e.unmoved e.no_failure e.content first
+        answered = λ none. answered_on (view_of old) (view_of mid) (view_of c.apply.new.self) Consume _ e.life e.stays.board e.no_failure.1 e.no_failure.0 e.reads_alone.content first
             (c.stands.ensures.up _ (none, refl)) (a.answered (ap (λ (x : Life). x.doubt) e.life ∙ none));
         down = λ d is. let b = a.down d (ap (λ (x : Life). x.doubt) e.life ∙ is) in absurd (let n : ⊥ = cc in n);
       },

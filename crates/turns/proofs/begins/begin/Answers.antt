@@ -1,14 +1,18 @@
-use Rattle.std.proofs.Common.{◌≡◌, Bool, List, refl, sym, ap, ◌∙◌, subst}
+use Rattle.std.proofs.Common.{◌≡◌, Bool, List, refl, sym, ap, ◌∙◌, subst, ⊎_elim}
 use Rattle.hsm_words.specs.declared.view.HartView.{HartView}
 use Rattle.hsm_words.specs.declared.view.Stage.TheVariants.{Running}
 use Rattle.hsm_rule.specs.Rule.{stands}
 use Rattle.hsm_rule.specs.States.{HartState}
 use Rattle.hsm_steps.specs.Seating.{harts_in}
+use Rattle.hsm.specs.Calls.{state_of}
 use Rattle.hsm.specs.Seen.{listed}
-use Rattle.sbi_calls.specs.Both.{harts_of, views, IsTable}
+use Rattle.hsm.specs.declared.state.State.{State as Code}
+use Rattle.hsm.specs.declared.state.State.TheVariants as codes
+use Rattle.sbi_calls.specs.Both.{harts_of, known, views, IsTable}
 use Rattle.turns.specs.declared.words.Ready.TheVariants as readies
 use Rattle.turns.specs.Turns.{begun_by}
 use Rattle.turns.proofs.Begun.{sits, runs, sleeps, is_out, gives_then, is_started, is_suspended, named_out, IsOutCode}
+use Rattle.turns.specs.Own.{GoesOwn}
 use Rattle.turns.proofs.begins.begin.Goals as goal
 
 pub status-harts-requires-clause-acts : goal.status-harts-requires-clause-acts
@@ -68,3 +72,28 @@ pub returns-in-Stopped-clause-alone : goal.returns-in-Stopped-clause-alone
 returns-in-Stopped-clause-alone c = λ t are.
     let a = c.status-harts.ensures.alone (listed t.states) are.0.1 in
     c.enter.ensures.alone t ((are.0.0, a.1), are.1) (named_out (listed t.states c.args.by) (subst IsOutCode a.0 c.in-Stopped.is))
+
+pub returns-in-Started-clause-own : goal.returns-in-Started-clause-own
+returns-in-Started-clause-own c =
+    let step = c.status-harts.ensures.steps in
+    let mid = known (record { harts = c.status-harts.result.0; pending = c.args.seats.pending }) in
+    let P : Code → Type 0 = λ x. GoesOwn c.args.by x mid (known c.look-seats.result.0) (readies.Steps c.look-seats.result.1) in
+    (step.0, mid, (step.2, refl), subst P (sym c.in-Started.is ∙ step.1) (c.look-seats.result.1, c.look-seats.ensures.own, refl))
+
+pub returns-in-Suspended-clause-own : goal.returns-in-Suspended-clause-own
+returns-in-Suspended-clause-own c =
+    let step = c.status-harts.ensures.steps in
+    let mid = known (record { harts = c.status-harts.result.0; pending = c.args.seats.pending }) in
+    let P : Code → Type 0 = λ x. GoesOwn c.args.by x mid (known c.wake.result.0) c.wake.result.1 in
+    (step.0, mid, (step.2, refl), subst P (sym c.in-Suspended.is ∙ step.1) c.wake.ensures.own)
+
+pub returns-in-Stopped-clause-own : goal.returns-in-Stopped-clause-own
+returns-in-Stopped-clause-own c =
+    let step = c.status-harts.ensures.steps in
+    let mid = known (record { harts = c.status-harts.result.0; pending = c.args.seats.pending }) in
+    let P : Code → Type 0 = λ x. GoesOwn c.args.by x mid (known c.enter.result.0) c.enter.result.1 in
+    let goes : P (state_of c.args.by step.0) = ⊎_elim
+    (λ (e : c.status-harts.result.1 ≡ codes.Stopped). subst P (sym e ∙ step.1) c.enter.ensures.own)
+    (λ (e : c.status-harts.result.1 ≡ codes.StartPending). subst P (sym e ∙ step.1) c.enter.ensures.own)
+    c.in-Stopped.is in
+    (step.0, mid, (step.2, refl), goes)

@@ -1,10 +1,12 @@
-use Rattle.std.proofs.Common.{◌≡◌, List, refl, sym, ap, ◌∙◌, subst}
-use Rattle.std.specs.Prelude.{slice_set}
+use Rattle.std.proofs.Common.{◌≡◌, ℕ, List, Option, refl, sym, ap, ◌∙◌, subst}
+use Rattle.std.specs.Prelude.{slice_set, MatchOption}
 use Rattle.std.proofs.lemmas.List.{set-get_or}
 use Rattle.hsm_rule.specs.States.{HartState, stopped, started, begin}
+use Rattle.hsm_steps.specs.Seating.{harts_in}
+use Rattle.hsm.specs.Calls.{EntersAs, FindsNone}
 use Rattle.hsm.specs.Seen.{listed, AreStates}
 use Rattle.sbi_calls.specs.declared.tables.Seats.{Seats}
-use Rattle.sbi_calls.specs.Both.{harts_of, crew, IsTable}
+use Rattle.sbi_calls.specs.Both.{harts_of, crew, known, IsTable}
 use Rattle.sbi_calls.specs.Answers.{with_state}
 use Rattle.turns.specs.declared.words.Ready.TheVariants as readies
 use Rattle.turns.specs.Turns.{begun_by}
@@ -39,3 +41,13 @@ returns-in-Some-clause-alone c = λ t are out.
     let runs : AreStates n (crew s) (slice_set t.states c.args.by started) = subst (λ (l : List HartState). AreStates n (crew s) l) (ap (λ (y : HartState). slice_set t.states c.args.by (begin y)) e) are_begun in
     subst (λ (y : HartState). (readies.Enters p.0 p.1 ≡ (begun_by c.args.by t y).ready) × IsTable n c.take.result (begun_by c.args.by t y).table) (sym e)
     (refl, c.take.ensures.alone (with_state t c.args.by started) (runs, are.1))
+
+pub returns-in-None-clause-own : goal.returns-in-None-clause-own
+returns-in-None-clause-own c =
+    let P : Option (ℕ × ℕ) → Type 0 = λ e. MatchOption e (FindsNone c.args.by (harts_in c.args.seats.harts) (harts_in c.try_enter-harts.result.0)) (λ x. EntersAs c.args.by (harts_in c.args.seats.harts) x.0 x.1 (harts_in c.try_enter-harts.result.0)) in
+    (subst P c.in-None.is c.try_enter-harts.ensures.steps, refl)
+
+pub returns-in-Some-clause-own : goal.returns-in-Some-clause-own
+returns-in-Some-clause-own c =
+    let P : Option (ℕ × ℕ) → Type 0 = λ e. MatchOption e (FindsNone c.args.by (harts_in c.args.seats.harts) (harts_in c.try_enter-harts.result.0)) (λ x. EntersAs c.args.by (harts_in c.args.seats.harts) x.0 x.1 (harts_in c.try_enter-harts.result.0)) in
+    (known (record { harts = c.try_enter-harts.result.0; pending = c.args.seats.pending }), subst P c.in-Some.is c.try_enter-harts.ensures.steps, refl, c.take.ensures.own)

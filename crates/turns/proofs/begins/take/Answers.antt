@@ -1,4 +1,4 @@
-use Rattle.std.proofs.Common.{◌<◌, ℕ, sym, subst}
+use Rattle.std.proofs.Common.{◌<◌, ℕ, refl, sym, subst}
 use Rattle.ipi.specs.Seating.{crew_of, harts_of as pair_harts}
 use Rattle.ipi.specs.Seen.{ArePairs, pair_at, pairs_without}
 use Rattle.turns.proofs.begins.take.Goals as goal
@@ -11,3 +11,6 @@ returns-clause-alone c = λ t are.
     let lt = subst (λ (k : ℕ). c.args.by < k) (sym e) c.requires.by in
     let a = c.take-pending.ensures.alone (pair_at t.pairs) before.1 in
     (are.0, subst (λ (k : ℕ). ArePairs k (crew_of c.take-pending.result.0) (pairs_without c.args.by t.pairs)) e (c.one_set.ensures.taken n (crew_of c.take-pending.result.0) c.args.by t.pairs before.0 lt a.1))
+
+pub returns-clause-own : goal.returns-clause-own
+returns-clause-own c = (refl, c.take-pending.result.1, c.take-pending.ensures.steps)

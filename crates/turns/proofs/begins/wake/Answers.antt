@@ -1,11 +1,12 @@
-use Rattle.std.proofs.Common.{◌≡◌, Bool, refl, sym, ◌∙◌, subst}
+use Rattle.std.proofs.Common.{◌≡◌, Bool, true, refl, sym, ◌∙◌, subst}
 use Rattle.hsm_rule.specs.States.{HartState, started}
 use Rattle.hsm.specs.Seen.{listed}
 use Rattle.sbi_calls.specs.declared.tables.Seats.{Seats}
-use Rattle.sbi_calls.specs.Both.{harts_of, IsTable}
+use Rattle.sbi_calls.specs.Both.{harts_of, known, IsTable}
 use Rattle.turns.specs.declared.words.Ready.TheVariants as readies
 use Rattle.turns.specs.Turns.{begun_by, woken}
 use Rattle.turns.proofs.Begun.{gives_then}
+use Rattle.turns.specs.Own.{LooksOwn}
 use Rattle.turns.proofs.begins.wake.Goals as goal
 
 pub returns-then-wakes-clause-gives : goal.returns-then-wakes-clause-gives
@@ -33,3 +34,13 @@ returns-else-wakes-clause-alone c = λ t are e.
     let p = sym l.0 ∙ c.if-wakes.false in
     subst (λ (y : HartState). (readies.Idle ≡ (begun_by c.args.by t y).ready) × IsTable n s (begun_by c.args.by t y).table) (sym e)
     (subst (λ (b : Bool). (readies.Idle ≡ (woken b c.args.by t).ready) × IsTable n s (woken b c.args.by t).table) (sym p) (refl, l.1))
+
+pub returns-then-wakes-clause-own : goal.returns-then-wakes-clause-own
+returns-then-wakes-clause-own c =
+    let mid = known c.look-seats.result.0 in
+    let looked : LooksOwn c.args.by (known c.args.seats) mid true = subst (λ (b : Bool). LooksOwn c.args.by (known c.args.seats) mid b) c.if-wakes.true c.look-seats.ensures.own in
+    let step = c.wake-harts.ensures.steps in
+    (mid, looked, step.0, (step.1, refl))
+
+pub returns-else-wakes-clause-own : goal.returns-else-wakes-clause-own
+returns-else-wakes-clause-own c = subst (λ (b : Bool). LooksOwn c.args.by (known c.args.seats) (known c.look-seats.result.0) b) c.if-wakes.false c.look-seats.ensures.own

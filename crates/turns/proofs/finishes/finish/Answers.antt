@@ -1,5 +1,6 @@
 use Rattle.std.proofs.Common.{ℕ, refl, sym, ap, subst}
-use Rattle.sbi_calls.specs.Both.{IsTable}
+use Rattle.sbi_calls.specs.Both.{known, IsTable}
+use Rattle.turns.specs.Own.{TakesOwn}
 use Rattle.turns.specs.Turns.{taken}
 use Rattle.turns.proofs.finishes.finish.Goals as goal
 
@@ -16,3 +17,14 @@ returns-in-TakePending-clause-alone c = λ x are.
 
 pub returns-in-Ecall-clause-alone : goal.returns-in-Ecall-clause-alone
 returns-in-Ecall-clause-alone c = λ x are. let a = c.dispatch-seats.ensures.alone x are in rw c.in-Ecall.is (_, (c.dispatch-seats.result.1, a.0, refl, c.told.ensures), a.1)
+
+pub returns-in-Next-clause-own : goal.returns-in-Next-clause-own
+returns-in-Next-clause-own c = rw c.in-Next.is (refl, refl, refl)
+
+pub returns-in-TakePending-clause-own : goal.returns-in-TakePending-clause-own
+returns-in-TakePending-clause-own c =
+    let own = subst (λ (h : ℕ). TakesOwn h (known c.args.seats) (known c.take.result)) c.id.ensures c.take.ensures.own in
+    rw c.in-TakePending.is (own, refl, refl)
+
+pub returns-in-Ecall-clause-own : goal.returns-in-Ecall-clause-own
+returns-in-Ecall-clause-own c = rw c.in-Ecall.is (c.dispatch-seats.result.1, c.dispatch-seats.ensures.calls, c.told.ensures)

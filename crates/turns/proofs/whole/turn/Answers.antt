@@ -1,6 +1,9 @@
-use Rattle.std.proofs.Common.{sym, ap, ◌∙◌, subst, ◌<◌, ℕ}
+use Rattle.std.proofs.Common.{refl, sym, ap, ◌∙◌, subst, ◌<◌, ℕ}
 use Rattle.hart.specs.State.{started}
-use Rattle.sbi_calls.specs.Both.{GivesBack}
+use Rattle.sbi_calls.specs.Both.{GivesBack, known}
+use Rattle.turns.specs.declared.words.Ready.{Ready}
+use Rattle.turns.specs.declared.words.Ready.TheVariants as readies
+use Rattle.turns.specs.Own.{BeginsOwn}
 use Rattle.turns.specs.Turns.{Rests}
 use Rattle.turns.proofs.Begun.{gives_then}
 use Rattle.turns.proofs.OneTurn.{begun_alone, rests_as, idle_turn, woke_turn, enters_turn, steps_turn}
@@ -55,3 +58,26 @@ returns-in-Steps-clause-alone c =
     let size = c.args.shape.now in let b = c.args.seats in let a = c.begin-seats.result.0 in let r = c.begin-seats.result.1 in
     steps_turn size c.args.hart.now c.args.ram.now b a r (begun_alone _ size.harts c.id.result c.args.hart.now.id b a r c.requires.tables c.id.ensures c.begin-seats.ensures.alone)
     c.in-Steps.pending c.step-outcome.new.self c.finish.new.hart c.step-outcome.new.ram c.step-outcome.result c.finish.result.0 c.finish.result.1 c.step-outcome.ensures c.finish.ensures.alone c.in-Steps.is
+
+pub returns-in-Idle-clause-own : goal.returns-in-Idle-clause-own
+returns-in-Idle-clause-own c =
+    let began = subst (λ (h : ℕ). BeginsOwn h (known c.args.seats) (known c.begin-seats.result.0) readies.Idle) c.id.ensures (subst (λ (r : Ready). BeginsOwn c.id.result (known c.args.seats) (known c.begin-seats.result.0) r) c.in-Idle.is c.begin-seats.ensures.own) in
+    (readies.Idle, known c.begin-seats.result.0, began, (refl, refl, refl, refl))
+
+pub returns-in-Woke-clause-own : goal.returns-in-Woke-clause-own
+returns-in-Woke-clause-own c =
+    let began = subst (λ (h : ℕ). BeginsOwn h (known c.args.seats) (known c.begin-seats.result.0) readies.Woke) c.id.ensures (subst (λ (r : Ready). BeginsOwn c.id.result (known c.args.seats) (known c.begin-seats.result.0) r) c.in-Woke.is c.begin-seats.ensures.own) in
+    (readies.Woke, known c.begin-seats.result.0, began, (refl, refl, refl, refl))
+
+pub returns-in-Enters-clause-own : goal.returns-in-Enters-clause-own
+returns-in-Enters-clause-own c =
+    let ready : Ready = readies.Enters c.in-Enters.address c.in-Enters.opaque in
+    let began = subst (λ (h : ℕ). BeginsOwn h (known c.args.seats) (known c.begin-seats.result.0) ready) c.id.ensures (subst (λ (r : Ready). BeginsOwn c.id.result (known c.args.seats) (known c.begin-seats.result.0) r) c.in-Enters.is c.begin-seats.ensures.own) in
+    let f = c.fresh.ensures ∙ (ap (λ (k : ℕ). started k c.value.result c.in-Enters.opaque) c.id-in-Enters.ensures ∙ ap (λ (k : ℕ). started c.args.hart.now.id k c.in-Enters.opaque) c.value.ensures.value) in
+    (ready, known c.begin-seats.result.0, began, (f, refl, refl, refl))
+
+pub returns-in-Steps-clause-own : goal.returns-in-Steps-clause-own
+returns-in-Steps-clause-own c =
+    let ready : Ready = readies.Steps c.in-Steps.pending in
+    let began = subst (λ (h : ℕ). BeginsOwn h (known c.args.seats) (known c.begin-seats.result.0) ready) c.id.ensures (subst (λ (r : Ready). BeginsOwn c.id.result (known c.args.seats) (known c.begin-seats.result.0) r) c.in-Steps.is c.begin-seats.ensures.own) in
+    (ready, known c.begin-seats.result.0, began, (c.step-outcome.new.self, c.step-outcome.result, c.step-outcome.ensures, c.finish.ensures.own))

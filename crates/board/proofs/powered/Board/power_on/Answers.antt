@@ -29,7 +29,7 @@ returns-in-Err-ready-clause-refused g c =
     let found : Leaves (g.D.Disk.facts c.args.disk) size s = search rules in
     let why : IsBootRefusal (boot_refusal s c.args.mode) size c.args.mode c.args.payloads.now c.in-Err-ready.refusal = search rules in
     let moments : LeavesSince (g.D.Disk.facts c.args.disk) disk (MayLeave (g.D.Disk.facts c.args.disk) size s (gone_before c.in-Err-ready.refusal)) =
-    kept_meanwhile _ (disk_of c.in-Ok.store) (disk_of c.ready.new.store) disk size s _ c.in-Ok.ensures.any_moment c.in-Err-ready.ensures.any_moment c.into_disk.ensures.facts in
+    kept_meanwhile _ (disk_of c.in-Ok.store) (disk_of c.ready.new.store) disk size s _ c.in-Ok.ensures.reads_alone.any_moment c.in-Err-ready.ensures.any_moment c.into_disk.ensures.facts in
     (size, s, c.found.ensures ∙ ap (λ (x : Life). durable_of x.found) life, reads, found, why, subst (λ z. LeavesLife (doubt_after c.in-Err-ready.refusal) disk z s) as_was left, moments)
 
 pub returns-in-Err-ready-clause-now : goal.returns-in-Err-ready-clause-now
@@ -44,4 +44,4 @@ returns-in-Ok-ready-clause-any_moment g c =
     let opened = c.in-Ok.store in
     let now = c.ready.new.store in
     let found : found_state now ≡ found_state opened = search rules in
-    on_meanwhile _ (disk_of opened) (disk_of now) _ _ _ _ _ c.in-Ok.ensures.any_moment c.in-Ok-ready.ensures.any_moment c.in-Ok-ready.ensures.size found
+    on_meanwhile _ (disk_of opened) (disk_of now) _ _ _ _ _ c.in-Ok.ensures.reads_alone.any_moment c.in-Ok-ready.ensures.any_moment c.in-Ok-ready.ensures.size found

@@ -1,27 +1,36 @@
-use Rattle.std.proofs.Common.{◌≡◌, ℕ, ◌+◌, ◌-◌, ◌<◌, true, false, inl, inr, refl, subst, ◌∙◌, arith}
+use Rattle.std.proofs.Common.{◌≡◌, ℕ, ◌<◌, true, false, inl, inr, sym, subst, ◌∙◌, arith}
+use Rattle.std.specs.Prelude.{length}
 use Rattle.machine.specs.Turns.{ends_row}
-use Rattle.machine.proofs.Rows.{Continues, begins, goes_on, ends_with}
+use Rattle.machine.proofs.Rows.{first_row, more_row, all_made}
 use Rattle.machine.proofs.machine.Machine.turns.Goals as goal
 
 pub loop-made-init : goal.loop-made-init
-loop-made-init c = (begins c.args.id c.args.count c.args.self.now, refl)
+loop-made-init c = record {
+  made = first_row c.args.id c.args.count c.row-first.result.0 c.args.self.now c.row-first.new.self c.row-first.result.1 c.requires.hart c.row-first.ensures.range.1 c.row-first.ensures.row;
+  range = c.row-first.ensures.range.1;
+  harts = c.row-first.ensures.harts;
+}
 
 pub loop-made-preserved : goal.loop-made-preserved
 loop-made-preserved c =
-    let on : ends_row c.turn-turned.result ≡ false = cc in
-    let more : c.loop-made.made < c.args.count = omega arith in (
-      goes_on c.args.id c.args.count c.loop-made.made c.args.self.now c.loop-made.self c.turn-turned.new.self c.turn-turned.result more on c.turn-turned.ensures.turns c.loop-made.invariant.0,
-      c.turn-turned.ensures.harts ∙ c.loop-made.invariant.1,
-    )
+    let i = c.loop-made.invariant in
+    let r = c.row-more.ensures in
+    let range = r.range in
+    let has : c.args.id < length c.loop-made.self.harts = subst (λ (n : ℕ). c.args.id < n) (sym i.harts) c.requires.hart in
+    let on : ends_row c.loop-made.turned ≡ false = cc in record {
+      made = more_row c.args.id c.args.count c.loop-made.made c.row-more.result.0 c.args.self.now c.loop-made.self c.row-more.new.self c.loop-made.turned c.row-more.result.1 (omega arith) has on i.made r.row;
+      range = omega arith;
+      harts = r.harts ∙ i.harts;
+    }
 
-pub returns-then-ends_row-clause-turns : goal.returns-then-ends_row-clause-turns
-returns-then-ends_row-clause-turns c =
-    let last : ends_row c.turn-turned.result ≡ true = cc in
-    let left : (c.args.count - c.loop-made.made) + c.loop-made.made ≡ c.args.count = omega arith in
-    ends_with c.args.id c.args.count c.loop-made.made c.args.self.now c.loop-made.self c.turn-turned.new.self c.turn-turned.result (c.args.count - c.loop-made.made) left (inl last) c.turn-turned.ensures.turns c.loop-made.invariant.0
+pub returns-after-loop-made-clause-turns : goal.returns-after-loop-made-clause-turns
+returns-after-loop-made-clause-turns c =
+    let i = c.loop-made.invariant in
+    let all : c.loop-made.made ≡ c.args.count = let low = i.range in omega arith in
+    all_made c.args.id c.args.count c.loop-made.made c.args.self.now c.loop-made.self c.loop-made.turned i.range (inr all) i.made
 
-pub returns-clause-turns : goal.returns-clause-turns
-returns-clause-turns c =
-    let all : c.loop-made.made ≡ c.args.count = omega arith in
-    let before = subst (λ (k : ℕ). Continues c.args.id c.args.count k c.args.self.now c.loop-made.self) all c.loop-made.invariant.0 in
-    ends_with c.args.id c.args.count c.args.count c.args.self.now c.loop-made.self c.turn-last.new.self c.turn-last.result 0 (omega arith) (inr refl) c.turn-last.ensures.turns before
+pub returns-else-not-ends_row-clause-turns : goal.returns-else-not-ends_row-clause-turns
+returns-else-not-ends_row-clause-turns c =
+    let i = c.loop-made.invariant in
+    let last : ends_row c.loop-made.turned ≡ true = cc in
+    all_made c.args.id c.args.count c.loop-made.made c.args.self.now c.loop-made.self c.loop-made.turned i.range (inl last) i.made

@@ -1,5 +1,5 @@
-use Rattle.std.proofs.Common.{◌≡◌, ◌≤◌, ℕ, map, sym, subst}
-use Rattle.board_model.specs.Durable.{after, fold}
+use Rattle.std.proofs.Common.{◌≡◌, ◌≤◌, ℕ, None, map, sym, subst}
+use Rattle.board_model.specs.Durable.{refusal_of, after, fold}
 use Rattle.board_model.specs.Shown.{change_in}
 use Rattle.disk.specs.Facts.{Content}
 use Rattle.store.specs.Standing.{state_of, memory_in}
@@ -22,4 +22,5 @@ invariant_of-self g c =
       few = s.few;
       failed = λ x is. still_failed s.failures_at_open a.failures b.failures same.failures (s.failed x is);
       counted = subst (λ (n : ℕ). s.failures_at_open ≤ n) (sym same.failures) s.counted;
+      allowed = λ x is. subst (λ (d : Content). refusal_of (state_of s.shape s.current d) (change_in x.entry (memory_in s.shape x.next d)) ≡ None) (sym same.content) (s.allowed x is);
     }

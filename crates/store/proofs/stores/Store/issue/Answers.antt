@@ -1,6 +1,6 @@
-use Rattle.std.proofs.Common.{◌≡◌, ◌∙◌, ◌+◌, ◌++◌, ℕ, List, [], ◌∷◌, Err, Some, length, false, inl, inr, refl, sym, ap, subst, rules, arith}
+use Rattle.std.proofs.Common.{◌≡◌, ◌∙◌, ◌+◌, ◌++◌, ℕ, List, [], ◌∷◌, Err, Some, None, length, false, inl, inr, refl, sym, ap, subst, rules, arith}
 use Rattle.std.proofs.lemmas.List.{length-map}
-use Rattle.board_model.specs.Durable.{Change, after}
+use Rattle.board_model.specs.Durable.{Change, refusal_of, after}
 use Rattle.layout.specs.Records.{IsInRange}
 use Rattle.store.specs.Commits.{IsUp, IsInDoubt}
 use Rattle.store.specs.Entries.{drop_image}
@@ -9,7 +9,7 @@ use Rattle.board_model.specs.declared.durable.Entry.{Entry}
 use Rattle.store.specs.Standing.{state_of, memory_in}
 use Rattle.store.specs.declared.doubts.Doubt.{Doubt}
 use Rattle.store.proofs.Found.{no_doubt, no_none, one_doubt}
-use Rattle.store.proofs.Applies.{told, folded_still, folded_more, found_still, told_still, told_next, change_still, none_maps, leaves_next, leaves_before, leaves_one, either_moment, life_is}
+use Rattle.store.proofs.Applies.{told, folded_still, folded_more, found_still, told_still, told_next, change_still, allowed_still, none_maps, leaves_next, leaves_before, leaves_one, either_moment, life_is}
 use Rattle.store.proofs.Answering.{wrote}
 use Rattle.store.proofs.Going.{going_plain, going_image}
 use Rattle.store.proofs.stores.Store.issue.Goals as goal
@@ -38,6 +38,7 @@ invariant_of-self g c =
       room = c.push_reserved.ensures.capacity ∙ s.room;
       few = search rules;
       failed = λ x is. absurd (no_doubt s.doubt x c.requires.up is);
+      allowed = λ x is. absurd (no_doubt s.doubt x c.requires.up is);
       counted = omega (arith, s.counted, c.commit.ensures.no_fewer);
     }
 
@@ -61,6 +62,7 @@ invariant_of-self-in-Err-Unchanged g c =
       room = s.room;
       few = s.few;
       failed = λ x is. absurd (no_doubt s.doubt x c.requires.up is);
+      allowed = λ x is. absurd (no_doubt s.doubt x c.requires.up is);
       counted = omega (arith, s.counted, c.commit.ensures.no_fewer);
     }
 
@@ -88,6 +90,8 @@ invariant_of-self-in-Err-InDoubt g c =
       room = s.room;
       few = s.few;
       failed = λ x is. omega (arith, s.counted, c.in-Err-InDoubt.ensures.failed);
+      allowed = λ x is. subst (λ (d : Doubt). refusal_of now (change_in d.entry (memory_in s.shape d.next b.content)) ≡ None) (one_doubt _ x is)
+          (allowed_still a b s.shape s.side s.opened s.current next s.journal.items c.args.entry follows c.commit.ensures.areas s.folded c.requires.reaches.2);
       counted = omega (arith, s.counted, c.commit.ensures.no_fewer);
     }
 

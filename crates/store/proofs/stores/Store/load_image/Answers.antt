@@ -1,12 +1,12 @@
-use Rattle.std.proofs.Common.{◌≡◌, ◌∙◌, ◌≤◌, Some, length, map, sym, subst, arith, rules}
+use Rattle.std.proofs.Common.{◌≡◌, ◌∙◌, ◌≤◌, Some, None, length, map, sym, subst, arith, rules}
 use Rattle.std.proofs.lemmas.Result.{err_from_is_err_and}
-use Rattle.board_model.specs.Durable.{after, fold}
+use Rattle.board_model.specs.Durable.{refusal_of, after, fold}
 use Rattle.board_model.specs.Shapes.{ram_bytes_of}
 use Rattle.disk.specs.Facts.{Content}
 use Rattle.board_model.specs.Shown.{change_in}
 use Rattle.store.specs.Standing.{state_of, memory_in, saved_memory}
 use Rattle.store.specs.Stores.{now_state}
-use Rattle.store.proofs.Loading.{stays_keeps, kept_range, kept_counts, image_now, load_refused}
+use Rattle.store.proofs.Loading.{read_alone, none_read, stays_keeps, kept_range, kept_counts, image_now, load_refused}
 use Rattle.store.proofs.stores.Store.load_image.Goals as goal
 
 pub read_area-requires-clause-enough : goal.read_area-requires-clause-enough
@@ -37,6 +37,7 @@ invariant_of-self g c =
       few = s.few;
       failed = λ x is. (let was = s.failed x is in omega (arith, was, more));
       counted = omega (arith, s.counted, more);
+      allowed = λ x is. subst (λ (d : Content). refusal_of (state_of s.shape s.current d) (change_in x.entry (memory_in s.shape x.next d)) ≡ None) (sym same) (s.allowed x is);
     }
 
 pub returns-in_err-read_area-clause-refused : goal.returns-in_err-read_area-clause-refused
@@ -57,3 +58,17 @@ returns-clause-loads g c =
     let there : s.current.image ≡ Some c.in-Some.saved = search rules in
     let image = image_now s.shape s.current a.content (now_state s) c.in-Some.saved s.folded there in
     (image.0, image.1, c.in_ok-read_area.ensures.reads ∙ image.2)
+
+-- of the disk, where it is not asked
+pub returns-then-pages-clause-reads_alone : goal.returns-then-pages-clause-reads_alone
+returns-then-pages-clause-reads_alone g c = none_read _ (g.met.D.Disk.only_now _) c.args.self.now.kept.none_out
+
+pub returns-in_default-clause-reads_alone : goal.returns-in_default-clause-reads_alone
+returns-in_default-clause-reads_alone g c = none_read _ (g.met.D.Disk.only_now _) c.args.self.now.kept.none_out
+
+-- and where it is
+pub returns-in_err-read_area-clause-reads_alone : goal.returns-in_err-read_area-clause-reads_alone
+returns-in_err-read_area-clause-reads_alone g c = let did = c.read_area.ensures in read_alone _ _ (g.met.D.Disk.only_now _) did.content did.crash did.none_out did.no_fewer
+
+pub returns-clause-reads_alone : goal.returns-clause-reads_alone
+returns-clause-reads_alone g c = let did = c.read_area.ensures in read_alone _ _ (g.met.D.Disk.only_now _) did.content did.crash did.none_out did.no_fewer

@@ -1,0 +1,73 @@
+-- A turn's own steps on the tables, and what it comes to by what they found, whatever the other threads do.
+-- Source: docs/BOARD.md, "A turn of a hart"; docs/TABLES.md.
+use Rattle.std.specs.Prelude.{◌≡◌, ◌↔◌, ℕ, Bool, true, false, IsTrue, List}
+use Rattle.std.specs.Int.{bit_at}
+use Rattle.board_model.specs.Shapes.{Size}
+use Rattle.hart.specs.State.{State, started as fresh}
+use Rattle.hart.specs.Means.{Steps}
+use Rattle.hart.specs.declared.Outcome.{Outcome}
+use Rattle.hart.specs.declared.Outcome.TheVariants as outcomes
+use Rattle.hsm_words.specs.declared.view.Stage.TheVariants.{Running}
+use Rattle.hsm_words.specs.declared.view.Deed.TheVariants.{Looked, Woke}
+use Rattle.hsm.specs.Calls.{stage_of, state_of, EntersAs, FindsNone}
+use Rattle.hsm.specs.declared.state.State.{State as Code}
+use Rattle.hsm.specs.declared.state.State.TheVariants as codes
+use Rattle.ipi.specs.Ledger.{HasNoted}
+use Rattle.ipi.specs.declared.view.Deed.TheVariants.{Took, Looked as LookedAt}
+use Rattle.sbi_calls.specs.declared.endings.After.{After}
+use Rattle.sbi_calls.specs.Both.{Known}
+use Rattle.sbi_calls.specs.Steps.{OneStep, Calls}
+use Rattle.turns.specs.declared.words.Turned.{Turned}
+use Rattle.turns.specs.declared.words.Turned.TheVariants as words
+use Rattle.turns.specs.declared.words.Ready.{Ready}
+use Rattle.turns.specs.declared.words.Ready.TheVariants as readies
+use Rattle.turns.specs.Turns.{turned_by}
+
+-- one look at what is pending for the hart, and whether there was any
+abbrev pub LooksOwn : ℕ → Known → Known → Bool → Type 0
+LooksOwn by k k' is = (k'.harts ≡ k.harts) × (found : ℕ) × HasNoted by (LookedAt found) k.pairs k'.pairs × (IsTrue is ↔ ((sender : ℕ) × (bit_at found sender ≡ 1)))
+
+-- one step that takes it
+abbrev pub TakesOwn : ℕ → Known → Known → Type 0
+TakesOwn by k k' = (k'.harts ≡ k.harts) × (found : ℕ) × HasNoted by (Took found) k.pairs k'.pairs
+
+-- ---- before the step
+-- a hart that has not entered: it finds no start that is armed for it, or enters by that start and then takes what is pending
+abbrev pub EntersOwn : ℕ → Known → Known → Ready → Type 0
+EntersOwn by k k' readies.Idle = FindsNone by k.harts k'.harts × (k'.pairs ≡ k.pairs)
+EntersOwn by k k' (readies.Enters a o) = (mid : Known) × EntersAs by k.harts a o mid.harts × (mid.pairs ≡ k.pairs) × TakesOwn by mid k'
+EntersOwn by k k' readies.Woke = ⊥
+EntersOwn by k k' (readies.Steps pending) = ⊥
+
+-- a suspended one: it looks, and wakes in one step more where something is pending
+abbrev pub WakesOwn : ℕ → Known → Known → Ready → Type 0
+WakesOwn by k k' readies.Idle = LooksOwn by k k' false
+WakesOwn by k k' readies.Woke = (mid : Known) × LooksOwn by k mid true × (found : ℕ) × OneStep by Running (Woke found) mid k'
+WakesOwn by k k' (readies.Enters a o) = ⊥
+WakesOwn by k k' (readies.Steps pending) = ⊥
+
+abbrev pub GoesOwn : ℕ → Code → Known → Known → Ready → Type 0
+GoesOwn by codes.Started k k' ready = (pending : Bool) × LooksOwn by k k' pending × (ready ≡ readies.Steps pending)
+GoesOwn by codes.Suspended k k' ready = WakesOwn by k k' ready
+GoesOwn by codes.Stopped k k' ready = EntersOwn by k k' ready
+GoesOwn by codes.StartPending k k' ready = EntersOwn by k k' ready
+
+-- one look at its own state, and what follows by that
+abbrev pub BeginsOwn : ℕ → Known → Known → Ready → Type 0
+BeginsOwn by k k' ready = (found : ℕ) × (mid : Known) × OneStep by (stage_of by k.harts) (Looked found) k mid × GoesOwn by (state_of by found) mid k' ready
+
+-- ---- after the step
+abbrev pub FinishesOwn : Size → Outcome → State → State → Known → Known → Turned → Type 0
+FinishesOwn size outcomes.Next u v k k' word = (k' ≡ k) × (v ≡ u) × (word ≡ words.Next)
+FinishesOwn size outcomes.TakePending u v k k' word = TakesOwn u.id k k' × (v ≡ u) × (word ≡ words.Next)
+FinishesOwn size outcomes.Ecall u v k k' word = (after : After) × Calls size u v k k' after × (word ≡ turned_by after)
+
+-- ---- a whole turn
+abbrev pub TurnAsOwn : Size → Ready → State → List ℕ → State → List ℕ → Known → Known → Turned → Type 0
+TurnAsOwn size readies.Idle s m t n k k' word = (t ≡ s) × (n ≡ m) × (k' ≡ k) × (word ≡ words.Idle)
+TurnAsOwn size readies.Woke s m t n k k' word = (t ≡ s) × (n ≡ m) × (k' ≡ k) × (word ≡ words.Woke)
+TurnAsOwn size (readies.Enters a o) s m t n k k' word = (t ≡ fresh s.id a o) × (n ≡ m) × (k' ≡ k) × (word ≡ words.Entered)
+TurnAsOwn size (readies.Steps pending) s m t n k k' word = (u : State) × (outcome : Outcome) × Steps pending s m u n outcome × FinishesOwn size outcome u t k k' word
+
+abbrev pub TurnOwn : Size → State → List ℕ → State → List ℕ → Known → Known → Turned → Type 0
+TurnOwn size s m t n k k' word = (ready : Ready) × (mid : Known) × BeginsOwn s.id k mid ready × TurnAsOwn size ready s m t n mid k' word
