@@ -1,11 +1,11 @@
 -- What a life that ends leaves on its disk.
 use Rattle.std.proofs.Common.{◌≡◌, ◌⊎◌, ℕ, inl, inr, List, [], ◌∷◌, ◌++◌, Option, None, Some, refl, sym, ◌∙◌, ap, subst}
-use Rattle.board_model.specs.Durable.{State, Change, formatted, after}
+use Rattle.board_model.specs.Durable.{State, Change, formatted, refusal_of, after}
 use Rattle.board_model.specs.Kept.{Kept, MayFind, TakesIn, found_of}
 use Rattle.board_model.specs.Shapes.{Size}
 use Rattle.disk.specs.Facts.{Facts, Content, IsLeft}
 use Rattle.store.specs.Leaves.{Leaves, IsKept, LeavesOnly, LeavesEither}
-use Rattle.store.specs.Stores.{Stands, Doubts}
+use Rattle.store.specs.Stores.{Stands, Doubts, now_state, doubt_of}
 use Rattle.simdisk.specs.declared.SimDisk.{SimDisk}
 use Rattle.bench_report.specs.Below.{facts, Store, Board, store_in, IsAs, store_size}
 use Rattle.bench_report.specs.Bench.{Medium, Blank, Unknown, Formatted, Life}
@@ -16,6 +16,10 @@ use Rattle.bench_report.proofs.KeptDisks.{GoesOn, LeavesLess}
 pub found_more : (cs : List Change) (c : Change) (now : State) → now ≡ found_of cs → after now c ≡ found_of (cs ++ c ∷ [])
 found_more cs c now e = ap (λ s. after s c) e ∙ sym (grows formatted cs c)
 
+-- the table does not refuse the command that a store has in doubt
+abbrev pub IsAllowed : Store → Type 0
+IsAllowed store = (c : Change) → doubt_of store ≡ Some c → refusal_of (now_state store) c ≡ None
+
 -- what a crash leaves of the disk of a store that was up, and of one that was down
 abbrev pub LeftUp : Store → Facts → Type 0
 LeftUp store disk = (s : State) → Stands store s → LeavesOnly disk (store_size store) s
@@ -23,11 +27,12 @@ LeftUp store disk = (s : State) → Stands store s → LeavesOnly disk (store_si
 abbrev pub LeftDown : Store → Facts → Type 0
 LeftDown store disk = (s t : State) → Doubts store s t → LeavesEither disk (store_size store) s t
 
-with_doubt : (k : Kept) (c : Change) (now u : State) → k.doubt ≡ Some c → now ≡ found_of k.changes → (u ≡ now) ⊎ (u ≡ after now c) → MayFind k u
-with_doubt k c now u doubt same (inl e) = (k.changes, inl refl, e ∙ same)
-with_doubt k c now u doubt same (inr e) =
+with_doubt : (k : Kept) (c : Change) (now u : State) → k.doubt ≡ Some c → now ≡ found_of k.changes → refusal_of now c ≡ None → (u ≡ now) ⊎ (u ≡ after now c) → MayFind k u
+with_doubt k c now u doubt same allowed (inl e) = (k.changes, inl refl, e ∙ same)
+with_doubt k c now u doubt same allowed (inr e) =
+    let Q : State → Type 0 = λ s. refusal_of s c ≡ None in
     let P : Option Change → Type 0 = λ d. TakesIn d k.changes (k.changes ++ c ∷ []) in
-    (k.changes ++ c ∷ [], inr (subst P (sym doubt) refl), e ∙ found_more k.changes c now same)
+    (k.changes ++ c ∷ [], inr (subst P (sym doubt) (subst Q same allowed, refl)), e ∙ found_more k.changes c now same)
 
 -- a crash leaves the state that the commands kept make, or that with the one in doubt
 pub left_only : (size z : Size) (k : Kept) (now : State) (disk : Facts) → now ≡ found_of k.changes → z ≡ size → LeavesOnly disk z now → DiskIs size Formatted k disk
@@ -35,25 +40,30 @@ left_only size z k now disk same sized l =
     let P : Size → Type 0 = λ y. IsKept disk y × ((s : State) → Leaves disk y s → MayFind k s) in
     subst P sized (l.kept, λ s h. (k.changes, inl refl, (l.only z s h).1 ∙ same))
 
-pub left_either : (size z : Size) (k : Kept) (c : Change) (now : State) (disk : Facts) → k.doubt ≡ Some c → now ≡ found_of k.changes → z ≡ size → LeavesEither disk z now (after now c) → DiskIs size Formatted k disk
-left_either size z k c now disk doubt same sized l =
+pub left_either : (size z : Size) (k : Kept) (c : Change) (now : State) (disk : Facts) → k.doubt ≡ Some c → now ≡ found_of k.changes → refusal_of now c ≡ None → z ≡ size → LeavesEither disk z now (after now c)
+    → DiskIs size Formatted k disk
+left_either size z k c now disk doubt same allowed sized l =
     let P : Size → Type 0 = λ y. IsKept disk y × ((s : State) → Leaves disk y s → MayFind k s) in
-    subst P sized (l.kept, λ s h. with_doubt k c now s doubt same (l.only z s h).1)
+    subst P sized (l.kept, λ s h. with_doubt k c now s doubt same allowed (l.only z s h).1)
 
 left : (size : Size) (k : Kept) (now : State) (count : ℕ) (doubt : Option Change) (store : Store) (disk : Facts) → k.doubt ≡ doubt → now ≡ found_of k.changes → store_size store ≡ size
-    → IsAs store now count doubt → LeftUp store disk → LeftDown store disk → DiskIs size Formatted k disk
-left size k now count None store disk doubt same sized is up down = left_only size (store_size store) k now disk same sized (up now (is.2, sym is.0))
-left size k now count (Some c) store disk doubt same sized is up down = left_either size (store_size store) k c now disk doubt same sized (down now (after now c) (c, is.2, sym is.0, refl))
+    → IsAs store now count doubt → LeftUp store disk → LeftDown store disk → IsAllowed store → DiskIs size Formatted k disk
+left size k now count None store disk doubt same sized is up down allowed = left_only size (store_size store) k now disk same sized (up now (is.2, sym is.0))
+left size k now count (Some c) store disk doubt same sized is up down allowed =
+    let P : State → Type 0 = λ s. refusal_of s c ≡ None in
+    left_either size (store_size store) k c now disk doubt same (subst P is.0 (allowed c is.2)) sized (down now (after now c) (c, is.2, sym is.0, refl))
 
-pub ended : (size : Size) (m : Medium) (k : Kept) (life : Life) (store : Store) (disk : Facts) → StoreIs size m k life store → LeftUp store disk → LeftDown store disk → DiskIs size m k disk
-ended size Blank k life store disk was up down = absurd was.0
-ended size Unknown k life store disk was up down = tt
-ended size Formatted k life store disk was up down =
-    left size k life.now life.receipts life.doubt store disk was.0.0 was.0.1 was.0.2 was.1 up down
+pub ended : (size : Size) (m : Medium) (k : Kept) (life : Life) (store : Store) (disk : Facts) → StoreIs size m k life store → LeftUp store disk → LeftDown store disk → IsAllowed store
+    → DiskIs size m k disk
+ended size Blank k life store disk was up down allowed = absurd was.0
+ended size Unknown k life store disk was up down allowed = tt
+ended size Formatted k life store disk was up down allowed =
+    left size k life.now life.receipts life.doubt store disk was.0.0 was.0.1 was.0.2 was.1 up down allowed
 
-pub board_ended : (size : Size) (m : Medium) (k : Kept) (p : Option Life) (board : Board) (disk : Facts) → BoardIs size m k p board → LeftUp (store_in board) disk → LeftDown (store_in board) disk → DiskIs size m k disk
-board_ended size m k None board disk was up down = absurd was
-board_ended size m k (Some life) board disk was up down = ended size m k life (store_in board) disk was.0 up down
+pub board_ended : (size : Size) (m : Medium) (k : Kept) (p : Option Life) (board : Board) (disk : Facts) → BoardIs size m k p board → LeftUp (store_in board) disk → LeftDown (store_in board) disk
+    → IsAllowed (store_in board) → DiskIs size m k disk
+board_ended size m k None board disk was up down allowed = absurd was
+board_ended size m k (Some life) board disk was up down allowed = ended size m k life (store_in board) disk was.0 up down allowed
 
 -- where no other content may be left than before, the medium is the same
 pub left_on : GoesOn → (size : Size) (m : Medium) (k : Kept) (old new : SimDisk) → DiskIs size m k (facts old) → LeavesLess old new → DiskIs size m k (facts new)

@@ -99,7 +99,7 @@ module _ (c : Change) (life : Life) (b : Bench) (o : Result ℕ ℕ) (new : Benc
     where
       either : (t : State) → MayFind (record b.kept { doubt = Some c }) t → TakesSome (c ∷ []) life.now t
       either t (changes, inl e, is) = inl (is ∙ ap found_of e ∙ sym follow.1)
-      either t (changes, inr e, is) = inr (table, is ∙ ap found_of e ∙ grows formatted b.kept.changes c ∙ ap (λ s. after s c) (sym follow.1))
+      either t (changes, inr e, is) = inr (table, is ∙ ap found_of e.1 ∙ grows formatted b.kept.changes c ∙ ap (λ s. after s c) (sym follow.1))
 
   issued_by : (d : Option Change) → life.doubt ≡ d → IssuedBy d c life b o new → Does c (is_up b.power) b o new
   issued_by (Some d) is i = by_eqs (Err 6) b i.0 i.1 (sound, λ t found. (t, found, inr (inl (refl, refl, up_as (Some d) is, up_as (Some d) is))))

@@ -53,10 +53,11 @@ kept_only size z Blank k s disk follows l = absurd follows
 kept_only size z Unknown k s disk follows l = tt
 kept_only size z Formatted k s disk follows l = left_only size z k s disk follows.1 follows.2 l
 
-kept_either : (size z : Size) (m : Medium) (k : Kept) (s : State) (disk : Facts) → Follows size m k (begun s z) z → LeavesEither disk z s (after s Discard) → DiskIs size m (record k { doubt = Some Discard }) disk
-kept_either size z Blank k s disk follows l = absurd follows
-kept_either size z Unknown k s disk follows l = tt
-kept_either size z Formatted k s disk follows l = left_either size z (record k { doubt = Some Discard }) Discard s disk refl follows.1 follows.2 l
+kept_either : (size z : Size) (m : Medium) (k : Kept) (s : State) (disk : Facts) → Follows size m k (begun s z) z → refusal_of s Discard ≡ None → LeavesEither disk z s (after s Discard)
+    → DiskIs size m (record k { doubt = Some Discard }) disk
+kept_either size z Blank k s disk follows allowed l = absurd follows
+kept_either size z Unknown k s disk follows allowed l = tt
+kept_either size z Formatted k s disk follows allowed l = left_either size z (record k { doubt = Some Discard }) Discard s disk refl follows.1 allowed follows.2 l
 
 -- an open that found a state
 opened : KeptLaw → BlankLaw → (size : Size) (b : Bench) (old : SimDisk) (z : Size) (s : State) → OffIs size b old → Leaves (facts old) z s → (k : Kept) × Opens size b.medium b s z (record b { kept = k }) × Follows size b.medium k (begun s z) z
@@ -149,7 +150,7 @@ module _ (size : Size) (b : Bench) (old new : SimDisk) (z : Size) (s : State) (p
       let mid = failed (mishaps new) c in
       let P : BootMode → Type 0 = λ y. Boots None y z s b line (off mid) in
       let Q : BootMode → Type 0 = λ y. boot_refusal s y ≡ None in
-      (off mid, subst P (sym why.1) (fails 6 mid (subst Q why.1 allowed) (inr (inr (refl, did.0))) h), (refl, kept_either size z b.medium b.kept s (facts new) follows left, did.1), refl)
+      (off mid, subst P (sym why.1) (fails 6 mid (subst Q why.1 allowed) (inr (inr (refl, did.0))) h), (refl, kept_either size z b.medium b.kept s (facts new) follows (subst Q why.1 allowed) left, did.1), refl)
   late mode BadImage allowed h why left cause counts =
       let P : BootMode → Type 0 = λ y. Boots None y z s b line b in
       (b, subst P (sym why.1) (inl (h, refl)), quiet BadImage (λ f. (let no : ⊥ = cc in no)) (λ f. (let no : ⊥ = cc in no)) cause left, refl)

@@ -1,8 +1,7 @@
 -- Which commands a disk keeps, and what an open finds.
 -- Source: docs/DURABLE.md, "What an open finds".
-use Rattle.std.specs.Prelude.{◌≡◌, List, [], ◌∷◌, ◌++◌, Option, None, Some}
-use Rattle.std.specs.Prelude.{◌⊎◌}
-use Rattle.board_model.specs.Durable.{State, Change, formatted, fold}
+use Rattle.std.specs.Prelude.{◌≡◌, ◌⊎◌, List, [], ◌∷◌, ◌++◌, Option, None, Some}
+use Rattle.board_model.specs.Durable.{State, Change, formatted, refusal_of, fold}
 
 -- The commands acknowledged since the format, in order, and the one command
 -- in doubt: it answered 6 after it reached the disk, or was under way when power failed.
@@ -13,18 +12,18 @@ pub record Kept : Type 0 where
 abbrev pub nothing_kept : Kept
 nothing_kept = record { changes = []; doubt = None }
 
--- The list with the command in doubt at its end.
+-- The prefix law: what an open finds is the state after the commands that are kept.
+abbrev pub found_of : List Change → State
+found_of changes = fold formatted changes
+
+-- The list with the command in doubt at its end, which the table does not refuse there.
 abbrev pub TakesIn : Option Change → List Change → List Change → Type 0
 TakesIn None old changes = ⊥
-TakesIn (Some c) old changes = changes ≡ old ++ c ∷ []
+TakesIn (Some c) old changes = (refusal_of (found_of old) c ≡ None) × (changes ≡ old ++ c ∷ [])
 
 -- What the next open may keep: the list as it stands, or with the command in doubt.
 abbrev pub MayKeep : Kept → List Change → Type 0
 MayKeep kept changes = (changes ≡ kept.changes) ⊎ TakesIn kept.doubt kept.changes changes
-
--- The prefix law: what an open finds is the state after the commands that are kept.
-abbrev pub found_of : List Change → State
-found_of changes = fold formatted changes
 
 -- The states that the next open may find.
 abbrev pub MayFind : Kept → State → Type 0

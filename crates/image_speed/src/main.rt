@@ -8,7 +8,7 @@ mod work;
 ghost use Rattle.std.specs.Prelude.{◌≡◌, ◌≤◌, ◌<◌, length, IfOk, IfSome};
 ghost use Rattle.board_model.specs.Shapes.{ram_bytes_of, sectors_of};
 
-use crate::work::{copies, loans, reads, writes};
+use crate::work::{copies, loans, new_copies, reads, writes};
 use board_model::{Addr, HartId, ImageHead, Refusal, Shape};
 use crew::{Crew, Threads, Turns};
 use layout::{Saved, Side};
@@ -88,7 +88,7 @@ fn measure<C: Crew>(
     Ok(())
 }
 
-/// What a copy of an area's sectors takes, and what the disk's record does.
+/// What a copy of an area's sectors takes, over the same place and into new memory, and what the disk's record does.
 fn compare(rt: &HostRuntime, count: NonZeroU32) -> anyhow::Result<()> {
     let alloc = rt.alloc();
     let shape = Shape::new(1, PAGES, 4)?;
@@ -99,9 +99,16 @@ fn compare(rt: &HostRuntime, count: NonZeroU32) -> anyhow::Result<()> {
     copies(&from, &mut to, count.get());
     let copy = each_took(rt, &start, count)?;
     let start = Instant::now(rt)?;
+    let kept = new_copies(alloc, &from, count.get())?;
+    let new_copy = each_took(rt, &start, count)?;
+    let start = Instant::now(rt)?;
     loans(&mut disk, &shape, count.get())?;
     let loan = each_took(rt, &start, count)?;
-    println!(rt; "copy {copy} us, split, join and sync {loan} us")?;
+    println!(rt;
+        "copy {copy} us, copy into new memory {new_copy} us ({} kept)",
+        kept.len()
+    )?;
+    println!(rt; "split, join and sync {loan} us")?;
     Ok(())
 }
 

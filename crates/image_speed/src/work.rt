@@ -10,7 +10,7 @@ use image::{read_area, write_area};
 use layout::{Saved, Side, area_start};
 use ram::Ram;
 use savers::LaneCounts;
-use std::alloc::Global;
+use std::alloc::{AllocError, Global};
 
 /// Copies the sectors.
 pub fn copies(from: &[Sector], to: &mut [Sector], count: u32)
@@ -20,6 +20,20 @@ pub fn copies(from: &[Sector], to: &mut [Sector], count: u32)
     for _ in 0..count {
         to.copy_from_slice(from);
     }
+}
+
+/// Copies the sectors so often, each time into new memory, as the record of a disk in memory keeps them. All copies are
+/// answered.
+pub fn new_copies(
+    alloc: Global,
+    from: &[Sector],
+    count: u32,
+) -> Result<Vec<Vec<Sector>>, AllocError> {
+    let mut kept = Vec::new(alloc);
+    for _ in 0..count {
+        kept.push(Vec::from_slice(alloc, from)?)?;
+    }
+    Ok(kept)
 }
 
 /// Writes the memory into area 0, under serial 7. `Ok` has the counts of the last time.

@@ -1,3 +1,4 @@
+pub mod Epochs
 pub mod Notes
 pub mod Pieces
 pub mod Ranges

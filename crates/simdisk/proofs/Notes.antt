@@ -6,18 +6,27 @@ use Rattle.std.proofs.lemmas.List.{map-append, map-set, set-get_or, get_or_appen
 use Rattle.std.proofs.lemmas.Bool.{cases_lt}
 use Rattle.disk.specs.Facts.{Content, Lent, Torn, Apart, IsFresh, nothing, sector}
 use Rattle.simdisk.specs.declared.patch.Patch.{Patch}
-use Rattle.simdisk.specs.Record.{Piece, Record, range, ranges, more_written, more_synced, lent_piece, new_record, replay, filled, sim_facts, Untouched, Agrees, Fits}
+use Rattle.simdisk.specs.Record.{Piece, Record, put, newest, synced, range, ranges, more_written, more_synced, lent_piece, new_record, replay, filled, sim_facts, Untouched, Agrees, Fits}
 use Rattle.simdisk.specs.Views.{piece, pieces}
 use Rattle.simdisk.specs.Loans.{Noted, IsLast}
 use Rattle.simdisk.specs.Choices.{left_by}
 use Rattle.simdisk.specs.declared.choice.Choice.{Choice}
 use Rattle.simdisk.specs.declared.choice.Choice.TheVariants.{Byte, Old, New}
-use Rattle.simdisk.proofs.Pieces.{agrees_replay, ranges_filled}
+use Rattle.simdisk.proofs.Pieces.{agrees_replay, ranges_filled, replay_push, put_same}
 use Rattle.simdisk.proofs.Ranges.{durable, agrees_all, untouched_at, agrees_torn}
 use Rattle.simdisk.proofs.Walks.{read_piece}
 
 pub ranges_written : (r r' : Record) (p : Piece) → r' ≡ more_written p r → ranges r'.written ≡ ranges r.written ++ range p ∷ []
 ranges_written r r' p more = ap (λ (q : Record). ranges q.written) more ∙ map-append range r.written (p ∷ [])
+
+-- what was written last, with a piece more
+pub newest_more : (r r' : Record) (p : Piece) (now new : Content) → r' ≡ more_written p r → newest r ≡ now → new ≡ put p now → newest r' ≡ new
+newest_more r r' p now new more is laid = ap (λ (q : Record). newest q) more ∙ replay_push r.written p (synced r) ∙ ap (λ (c : Content). put p c) is ∙ sym laid
+
+-- and after a sync: what stands
+pub newest_synced : (l : Lent) (r r' : Record) (now : Content) → r' ≡ more_synced now (lent_piece l now ∷ []) r → synced r' ≡ now → l.first + l.lanes * l.each ≤ length now → newest r' ≡ now
+newest_synced l r r' now more is within =
+    ap (λ (q : Record). replay q.written (synced r')) more ∙ ap (λ (c : Content). put (lent_piece l now) c) is ∙ put_same l.first (l.lanes * l.each) now within
 
 -- a range more, which leaves the one at that place alone
 pub last_push : (rs : List (ℕ × ℕ)) (x r : ℕ × ℕ) (i : ℕ) → (x.0 + x.1 ≤ r.0) ⊎ (r.0 + r.1 ≤ x.0) → IsLast rs i r → IsLast (rs ++ x ∷ []) i r

@@ -1,5 +1,5 @@
 -- Pieces laid over a content.
-use Rattle.std.proofs.Common.{◌≡◌, ◌∙◌, inl, inr, refl, ℕ, ◌+◌, ◌-◌, ◌<◌, ◌≤◌, suc, List, [], ◌∷◌, ◌++◌, length, get_or, drop, map, replicate, sym, ap, subst, arith, rules, length-append, length-drop}
+use Rattle.std.proofs.Common.{◌≡◌, ◌∙◌, inl, inr, refl, ℕ, ◌+◌, ◌-◌, ◌<◌, ◌≤◌, suc, List, [], ◌∷◌, ◌++◌, length, get_or, take, drop, map, replicate, sym, ap, subst, arith, rules, length-append, length-drop}
 use Rattle.std.proofs.Math.ListN.{get_or-map}
 use Rattle.std.proofs.lemmas.List.{places, get_or_append_left, get_or_push, ext_get_or, length-map, length-replicate, length-take-le}
 use Rattle.std.proofs.lemmas.Bool.{cases_lt}
@@ -18,6 +18,30 @@ module _ (first : ℕ) (s c : Content) (within : first + length s ≤ length c) 
 
   pub put_high : (k : ℕ) → first + length s ≤ k → sector (put (first, s) c) k ≡ sector c k
   put_high k high = search (rules, places)
+
+-- what stands in a range, laid over it
+pub put_same : (first n : ℕ) (c : Content) → first + n ≤ length c → put (first, take n (drop first c)) c ≡ c
+put_same first n c within = ext_get_or [] (put (first, take n (drop first c)) c) c (length-put first (take n (drop first c)) c inside) (λ k lt. elim (cases_lt k first) [
+  | inl low ↦ put_low first (take n (drop first c)) c inside k low
+  | inr le ↦ elim (cases_lt k (first + n)) [
+    | inl less ↦ put_mid first (take n (drop first c)) c inside k le (rw size less) ∙ middle k le less
+    | inr high ↦ put_high first (take n (drop first c)) c inside k (rw size high)
+  ]
+])
+  where
+    size : length (take n (drop first c)) ≡ n
+    size = length-take-le n (drop first c) (omega (arith, within, length-drop first c))
+
+    inside : first + length (take n (drop first c)) ≤ length c
+    inside = rw size within
+
+    middle : (k : ℕ) → first ≤ k → k < first + n → sector (take n (drop first c)) (k - first) ≡ sector c k
+    middle k le less = search (rules, places)
+
+-- a piece more
+pub replay_push : (ps : List Piece) (p : Piece) (c : Content) → replay (ps ++ p ∷ []) c ≡ put p (replay ps c)
+replay_push [] p c = refl
+replay_push (q ∷ ps) p c = replay_push ps p (put q c)
 
 fits_here : (n : ℕ) (p : Piece) (ps : List Piece) → Fits n (ranges (p ∷ ps)) → p.0 + length p.1 ≤ n
 fits_here n p ps fits = fits 0 (omega arith)

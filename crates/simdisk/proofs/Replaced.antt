@@ -1,10 +1,10 @@
 -- A piece of the record with other bytes.
 use Rattle.std.proofs.Common.{◌≡◌, ◌⊎◌, ◌∙◌, inl, inr, ⊎_elim, refl, zero, suc, ℕ, ◌+◌, ◌*◌, ◌-◌, ◌<◌, ◌≤◌, List, [], ◌∷◌, length, get_or, set, sym, ap, subst, arith}
 use Rattle.std.proofs.lemmas.Bool.{cases_lt}
-use Rattle.std.proofs.lemmas.List.{map-set, set-get_or, length-map}
+use Rattle.std.proofs.lemmas.List.{map-set, set-get_or, length-map, ext_get_or}
 use Rattle.std.proofs.lemmas.Nat.{row_fits}
 use Rattle.disk.specs.Facts.{Content, LaneFacts, Lent, Joined, Torn, lane_at, sector}
-use Rattle.simdisk.specs.Record.{Piece, put, replay, range, ranges, Untouched, Fits, range_at}
+use Rattle.simdisk.specs.Record.{Piece, put, replay, range, ranges, Untouched, Agrees, Fits, range_at}
 use Rattle.simdisk.specs.Loans.{IsLast}
 use Rattle.simdisk.specs.declared.patch.Patch.{Patch}
 use Rattle.simdisk.specs.Views.{piece, pieces}
@@ -17,11 +17,13 @@ fits_here n p ps fits = fits 0 (omega arith)
 fits_rest : (n : ℕ) (p : Piece) (ps : List Piece) → Fits n (ranges (p ∷ ps)) → Fits n (ranges ps)
 fits_rest n p ps fits i lt = fits (suc i) (omega arith)
 
--- two contents with the same in a sector have the same there after the same pieces
-replay_same : (ps : List Piece) (c d : Content) (k : ℕ) → length d ≡ length c → Fits (length c) (ranges ps) → sector d k ≡ sector c k → sector (replay ps d) k ≡ sector (replay ps c) k
-replay_same [] c d k long fits same = same
-replay_same (p ∷ ps) c d k long fits same =
-    replay_same ps (put p c) (put p d) k (length-put p.0 p.1 d inside ∙ long ∙ sym (length-put p.0 p.1 c within)) (subst (λ (n : ℕ). Fits n (ranges ps)) (sym (length-put p.0 p.1 c within)) (fits_rest (length c) p ps fits)) here
+-- two contents with the same in a sector, if it is outside of these pieces, have the same there after them
+replay_outside_same : (ps : List Piece) (c d : Content) (k : ℕ) → length d ≡ length c → Fits (length c) (ranges ps) → (Untouched (ranges ps) k → sector d k ≡ sector c k)
+    → sector (replay ps d) k ≡ sector (replay ps c) k
+replay_outside_same [] c d k long fits same = same tt
+replay_outside_same (p ∷ ps) c d k long fits same =
+    replay_outside_same ps (put p c) (put p d) k (length-put p.0 p.1 d inside ∙ long ∙ sym (length-put p.0 p.1 c within))
+    (subst (λ (n : ℕ). Fits n (ranges ps)) (sym (length-put p.0 p.1 c within)) (fits_rest (length c) p ps fits)) here
   where
     within : p.0 + length p.1 ≤ length c
     within = fits_here (length c) p ps fits
@@ -29,14 +31,23 @@ replay_same (p ∷ ps) c d k long fits same =
     inside : p.0 + length p.1 ≤ length d
     inside = omega (arith, within, long)
 
-    here : sector (put p d) k ≡ sector (put p c) k
-    here = elim (cases_lt k p.0) [
-      | inl low ↦ put_low p.0 p.1 d inside k low ∙ same ∙ sym (put_low p.0 p.1 c within k low)
+    here : Untouched (ranges ps) k → sector (put p d) k ≡ sector (put p c) k
+    here u = elim (cases_lt k p.0) [
+      | inl low ↦ put_low p.0 p.1 d inside k low ∙ same (inl low, u) ∙ sym (put_low p.0 p.1 c within k low)
       | inr le ↦ elim (cases_lt k (p.0 + length p.1)) [
         | inl lt ↦ put_mid p.0 p.1 d inside k le lt ∙ sym (put_mid p.0 p.1 c within k le lt)
-        | inr high ↦ put_high p.0 p.1 d inside k high ∙ same ∙ sym (put_high p.0 p.1 c within k high)
+        | inr high ↦ put_high p.0 p.1 d inside k high ∙ same (inr high, u) ∙ sym (put_high p.0 p.1 c within k high)
       ]
     ]
+
+replay_same : (ps : List Piece) (c d : Content) (k : ℕ) → length d ≡ length c → Fits (length c) (ranges ps) → sector d k ≡ sector c k → sector (replay ps d) k ≡ sector (replay ps c) k
+replay_same ps c d k long fits same = replay_outside_same ps c d k long fits (λ u. same)
+
+-- a content that agrees with what stood outside these pieces gives the same with them
+pub replay_agrees : (ps : List Piece) (stood c : Content) → Agrees stood (ranges ps) c → Fits (length stood) (ranges ps) → replay ps c ≡ replay ps stood
+replay_agrees ps stood c a fits =
+    ext_get_or [] (replay ps c) (replay ps stood) (length_replay ps c (subst (λ (n : ℕ). Fits n (ranges ps)) (sym a.as_long) fits) ∙ a.as_long ∙ sym (length_replay ps stood fits))
+    (λ k lt. replay_outside_same ps stood c k a.as_long fits (λ u. a.same k u))
 
 -- the sectors that later ranges leave alone
 later : (rs : List (ℕ × ℕ)) (r : ℕ × ℕ) (k : ℕ) → ((j : ℕ) → j < length rs → r.0 < (range_at rs j).0 + (range_at rs j).1 → r.0 + r.1 ≤ (range_at rs j).0) → r.0 ≤ k → k < r.0 + r.1 → Untouched rs k

@@ -3,6 +3,7 @@ pub mod Choices
 pub mod History
 pub mod LaneRecords
 pub mod Lanes
+pub mod Lasts
 pub mod Laws
 pub mod Loans
 pub mod Record

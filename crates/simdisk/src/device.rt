@@ -9,7 +9,7 @@ ghost use Rattle.simdisk.specs.Record.{more_written, more_synced, lent_piece, ne
 
 use crate::laid::overwrite;
 use crate::lane::{Bytes, SimLane};
-use crate::lending::{failures_of, lay_row, lend};
+use crate::lending::{failures_of, lay_row, stays_in_step};
 use crate::loan::Loan;
 use crate::recorded::{Recorded, RecordedLane};
 use crate::sim::SimDisk;
@@ -22,7 +22,7 @@ impl Disk for SimDisk {
     ghost use Rattle.simdisk.specs.History.{record_of};
     ghost use Rattle.simdisk.specs.Loans.{lent_of};
     ghost use Rattle.simdisk.specs.Armings.{mishaps_of};
-    ghost use Rattle.simdisk.specs.Record.{ranges, Agrees};
+    ghost use Rattle.simdisk.specs.Record.{ranges, synced, Agrees};
     ghost use Rattle.simdisk.specs.Views.{pieces, epochs};
     ghost use Rattle.simdisk.specs.Laws.{only_the_last, below};
     ghost use Rattle.std.specs.Prelude.{◌≡◌, ◌⊎◌, length, take, Some};
@@ -31,7 +31,7 @@ impl Disk for SimDisk {
 
     type Lane = SimLane;
 
-    ghost facts = { λ d. sim_facts d.content.items d.history.synced.items (record_of d.history) d.failures d.calls (lent_of d.loan) };
+    ghost facts = { λ d. sim_facts d.content.items (synced (record_of d.history)) (record_of d.history) d.failures d.calls (lent_of d.loan) };
 
     ghost mishaps = { λ d. mishaps_of d.faults d.refused };
 
@@ -79,6 +79,7 @@ impl Disk for SimDisk {
             return Err(failed(&mut self.failures));
         };
         if self.faults.strikes() {
+            self.in_step = false;
             return Err(failed(&mut self.failures));
         }
         overwrite(&mut self.content, first, sectors);
@@ -103,6 +104,7 @@ impl Disk for SimDisk {
             self.refused = self.refused.saturating_add(1);
             return Err(failed(&mut self.failures));
         };
+        self.in_step = true;
         self.loan.patch = 0;
         Ok(())
     }
@@ -123,23 +125,15 @@ impl Disk for SimDisk {
         ensures armed { ⟦<SimDisk as Recorded>⟧.armed self.new ≡ ⟦<SimDisk as Recorded>⟧.armed self.old }
         ensures lanes { IfOk result (λ out. AreLent (record { first = first; lanes = lanes; each = each }) (newest (⟦<SimDisk as Recorded>⟧.record self.old)) (⟦<SimDisk as Recorded>⟧.armed self.old) (⟦<SimDisk as Disk>⟧.mishaps self.old).struck (map ⟦<SimLane as RecordedLane>⟧.record out.items)) }
     {
-        let newest = self.history.newest(self.alloc)?;
-        let out = lend(
-            self.alloc,
-            &self.content,
-            &newest,
-            self.faults,
-            first,
-            lanes,
-            each,
-        )?;
         let loan = Loan {
             first,
             lanes,
             each,
             patch: self.history.written.len(),
         };
-        self.history.note_loan(self.alloc, &newest, loan)?;
+        let out = self
+            .history
+            .lend(self.alloc, &self.content, self.in_step, self.faults, loan)?;
         self.loan = loan;
         Ok(out)
     }
@@ -168,6 +162,7 @@ impl Disk for SimDisk {
             Bytes::Read,
         );
         self.history.take_newest(loan, &lanes);
+        self.in_step = stays_in_step(self.in_step, &lanes);
         self.loan = Loan::nothing();
         self.failures = self.failures.saturating_add(failures);
         let own = self.faults.come_back(&lanes, failures);
@@ -196,7 +191,7 @@ impl Disk for SimDisk {
 
     ghost counts_now = { λ d t c le now. inl now };
 
-    ghost only_now = { λ d c left. only_the_last (synced_after (take (length (epochs d.history.past.items)) (epochs d.history.past.items)) d.history.began.items) (epochs d.history.past.items) c (Agrees d.history.synced.items (ranges (pieces d.history.written.items)) c) left };
+    ghost only_now = { λ d c left. only_the_last (synced_after (take (length (epochs d.history.past.items)) (epochs d.history.past.items)) d.history.began.items) (epochs d.history.past.items) c (Agrees (synced (record_of d.history)) (ranges (pieces d.history.written.items)) c) left };
 
     ghost bounded = { λ d. below d.failures d.few };
 

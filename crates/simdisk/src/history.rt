@@ -1,6 +1,6 @@
 //! The record of a disk's writes and syncs.
-ghost use Rattle.std.specs.Prelude.{◌≡◌, length};
-ghost use Rattle.simdisk.specs.Record.{synced_after, ranges, Fits};
+ghost use Rattle.std.specs.Prelude.{length};
+ghost use Rattle.simdisk.specs.Record.{ranges, Fits, FitAll};
 ghost use Rattle.simdisk.specs.Views.{pieces, epochs};
 
 use crate::patch::{Epoch, Patch};
@@ -11,11 +11,8 @@ use disk::Sector;
 #[derive(Drop)]
 pub(crate) struct History {
     pub(crate) began: Vec<Sector>,
-    /// What stood at the last sync, which the syncs give.
-    pub(crate) synced: Vec<Sector>,
     pub(crate) past: Vec<Epoch>,
     pub(crate) written: Vec<Patch>,
-    ghost as_long: { length began.items ≡ length synced.items },
-    ghost replayed: { synced_after (epochs past.items) began.items ≡ synced.items },
-    ghost fits: { Fits (length synced.items) (ranges (pieces written.items)) },
+    ghost past_fits: { FitAll (length began.items) (epochs past.items) },
+    ghost fits: { Fits (length began.items) (ranges (pieces written.items)) },
 }

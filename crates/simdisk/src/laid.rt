@@ -1,10 +1,10 @@
 //! Patches laid over a content.
 ghost use Rattle.std.specs.Prelude.{◌≡◌, ◌≤◌, ◌<◌, ◌+◌, length, map};
 ghost use Rattle.disk.specs.Facts.{Written};
-ghost use Rattle.simdisk.specs.Record.{put, replay, settled, filled, ranges, Agrees, Fits};
-ghost use Rattle.simdisk.specs.Views.{pieces};
+ghost use Rattle.simdisk.specs.Record.{put, replay, synced_after, settled, filled, ranges, Fits, FitAll};
+ghost use Rattle.simdisk.specs.Views.{pieces, epochs};
 
-use crate::patch::Patch;
+use crate::patch::{Epoch, Patch};
 use disk::Sector;
 
 // Writes these sectors over those from that place on.
@@ -25,6 +25,18 @@ pub(crate) fn replay_on(content: &mut Vec<Sector>, patches: &[Patch])
 {
     for patch in patches {
         overwrite(content, patch.first, &patch.sectors);
+    }
+}
+
+// Lays over the content what each sync made durable, one after the other.
+#[tactic(auto, using(crate::proofs::Epochs::length_synced))]
+pub(crate) fn replay_all(content: &mut Vec<Sector>, past: &[Epoch])
+    requires { FitAll (length content.old.items) (epochs past.now) }
+    ensures content { content.new.items ≡ synced_after (epochs past.now) content.old.items }
+    ensures as_long { length content.new.items ≡ length content.old.items }
+{
+    for epoch in past {
+        replay_on(content, &epoch.patches);
     }
 }
 
@@ -49,18 +61,4 @@ pub(crate) fn fill(patches: &mut [Patch], byte: u8)
     for patch in patches.iter_mut() {
         patch.fill(byte);
     }
-}
-
-// Gives each patch what stands in its sectors, and lays them over what stood before: that is what
-// stands now.
-#[tactic(auto, using(crate::proofs::Pieces::replay_settled))]
-pub(crate) fn settle_on(synced: &mut Vec<Sector>, patches: &mut Vec<Patch>, content: &[Sector])
-    requires agrees { Agrees synced.old.items (ranges (pieces patches.old.items)) content.now }
-    requires fits { Fits (length synced.old.items) (ranges (pieces patches.old.items)) }
-    ensures settled { pieces patches.new.items ≡ map (settled content.now) (pieces patches.old.items) }
-    ensures synced { synced.new.items ≡ content.now }
-    ensures replayed { synced.new.items ≡ replay (pieces patches.new.items) synced.old.items }
-{
-    settle(patches, content);
-    replay_on(synced, patches);
 }

@@ -1,8 +1,9 @@
 //! A lane, which owns its sectors.
-ghost use Rattle.std.specs.Prelude.{◌≡◌, ◌≤◌, ◌+◌, length, OnOk, OnErr};
+ghost use Rattle.std.specs.Prelude.{◌≡◌, ◌≤◌, ◌+◌, length, None, false, OnOk, OnErr};
 ghost use Rattle.disk.specs.Facts.{Torn, Written, Found, Counts};
 ghost use Rattle.simdisk.specs.LaneRecords.{LaneCalled};
 ghost use Rattle.simdisk.specs.Record.{put};
+ghost use Rattle.simdisk.specs.Lasts.{last_of, IsAsRead};
 
 use crate::faults::Faults;
 use crate::laid::overwrite;
@@ -15,11 +16,37 @@ use disk::{Fault, Lane, Sector};
 pub struct SimLane {
     pub(crate) first: usize,
     pub(crate) sectors: Vec<Sector>,
-    /// What would stand had each failed write gone through.
-    pub(crate) newest: Vec<Sector>,
+    pub(crate) last: Last,
     pub(crate) failures: u64,
     pub(crate) faults: Faults,
-    ghost as_long: { length newest.items ≡ length sectors.items },
+    ghost as_long: { length (last_of last sectors.items) ≡ length sectors.items },
+    ghost calm: { IsAsRead last → (faults.armed ≡ None) × (faults.cut ≡ false) },
+}
+
+/// What would stand in a lane had each failed write gone through.
+#[derive(Drop)]
+pub(crate) enum Last {
+    /// What a read gives, since no write has failed and none can.
+    AsRead,
+    /// These sectors.
+    Apart(Vec<Sector>),
+}
+
+impl Last {
+    ghost use Rattle.simdisk.specs.Lasts.{HasRoom};
+    ghost use Rattle.disk.specs.Facts.{Content};
+
+    // Takes over a write of these sectors from that one on.
+    fn write(&mut self, first: usize, sectors: &[Sector])
+        requires { HasRoom (first + length sectors.now) self.old }
+        ensures written { (c : Content) → last_of self.new (put (first, sectors.now) c) ≡ put (first, sectors.now) (last_of self.old c) }
+        ensures as_read { IsAsRead self.new → IsAsRead self.old }
+    {
+        match self {
+            Last::AsRead => {}
+            Last::Apart(newest) => overwrite(newest, first, sectors),
+        }
+    }
 }
 
 /// Which bytes of a lane are meant.
@@ -39,7 +66,10 @@ impl SimLane {
     {
         match bytes {
             Bytes::Read => &self.sectors,
-            Bytes::Written => &self.newest,
+            Bytes::Written => match &self.last {
+                Last::AsRead => &self.sectors,
+                Last::Apart(newest) => newest,
+            },
         }
     }
 }
@@ -75,7 +105,7 @@ impl Lane for SimLane {
         ensures newest { (⟦<SimLane as RecordedLane>⟧.record self.new).newest ≡ put (first, sectors.now) (⟦<SimLane as RecordedLane>⟧.record self.old).newest }
         ensures called { LaneCalled (⟦<SimLane as RecordedLane>⟧.record self.old) (⟦<SimLane as RecordedLane>⟧.record self.new) result }
     {
-        overwrite(&mut self.newest, first, sectors);
+        self.last.write(first, sectors);
         if self.faults.strikes() {
             return Err(failed(&mut self.failures));
         }

@@ -1,21 +1,24 @@
 //! How sectors are lent and taken back.
-ghost use Rattle.std.specs.Prelude.{◌≡◌, ◌≤◌, ◌<◌, ◌+◌, ◌*◌, ℕ, length, map, IfOk};
-ghost use Rattle.disk.specs.Facts.{Handed, Joined, counted, lane_failures, lane_at};
-ghost use Rattle.simdisk.specs.Lanes.{lane_view, lane_record, view_of};
+ghost use Rattle.std.specs.Prelude.{◌≡◌, ◌≤◌, ◌<◌, ◌+◌, ◌*◌, ℕ, length, map, true, IsTrue, IfOk};
+ghost use Rattle.disk.specs.Facts.{Content, Handed, Joined, counted, lane_failures, lane_at};
+ghost use Rattle.simdisk.specs.Lanes.{lane_view, newest_view, lane_record, view_of};
+ghost use Rattle.simdisk.specs.Lasts.{last_of, IsAsRead};
 ghost use Rattle.simdisk.specs.LaneRecords.{AreLent};
 
 use crate::faults::Faults;
 use crate::laid::overwrite;
-use crate::lane::{Bytes, SimLane};
+use crate::lane::{Bytes, Last, SimLane};
 use crate::patch::copy_of;
 use disk::Sector;
 use std::alloc::{AllocError, Global};
 
-// Lanes over these sectors, in a row. Of the two contents, the second has failed writes too.
+// Lanes over these sectors, in a row. Of the two contents, the second has failed writes too; where
+// they are in step there is none.
 pub(crate) fn lend(
     alloc: Global,
     content: &Vec<Sector>,
     newest: &Vec<Sector>,
+    in_step: bool,
     faults: Faults,
     first: usize,
     lanes: usize,
@@ -24,21 +27,56 @@ pub(crate) fn lend(
     requires few { lanes ≤ 4 }
     requires within { first + lanes * each ≤ length content.now.items }
     requires as_long { length newest.now.items ≡ length content.now.items }
+    requires in_step { in_step ≡ true → newest.now.items ≡ content.now.items }
     ensures handed { IfOk result (λ out. Handed (record { first = first; lanes = lanes; each = each }) content.now.items (map lane_view out.items)) }
     ensures lent { IfOk result (λ out. AreLent (record { first = first; lanes = lanes; each = each }) newest.now.items faults.armed faults.cut (map lane_record out.items)) }
 {
     let mut out = Vec::new(alloc);
     for lane in 0..lanes {
         let start = first + lane * each;
+        let faults = faults.of_lane(lane);
+        let as_read = faults.stays_in_step(in_step);
         out.push(SimLane {
             first: start,
             sectors: copy_of(alloc, &content[start..start + each])?,
-            newest: copy_of(alloc, &newest[start..start + each])?,
+            last: last_in(alloc, &newest[start..start + each], as_read)?,
             failures: 0,
-            faults: faults.of_lane(lane),
+            faults,
         })?;
     }
     Ok(out)
+}
+
+// What was written last in a lane: these sectors, which are kept apart unless a read gives them.
+fn last_in(alloc: Global, newest: &[Sector], as_read: bool) -> Result<Last, AllocError>
+    ensures value { IfOk result (λ last. (c : Content) → (as_read ≡ true → newest.now ≡ c) → last_of last c ≡ newest.now) }
+    ensures as_read { IfOk result (λ last. IsAsRead last → as_read ≡ true) }
+{
+    if as_read {
+        return Ok(Last::AsRead);
+    }
+    Ok(Last::Apart(copy_of(alloc, newest)?))
+}
+
+// Whether a disk is in step once these lanes came back: it was, and so is each of them.
+pub(crate) fn stays_in_step(in_step: bool, lanes: &[SimLane]) -> bool
+    ensures now { IsTrue result → in_step ≡ true }
+    ensures lanes { IsTrue result → map newest_view lanes.now ≡ map lane_view lanes.now }
+{
+    in_step && as_read(lanes)
+}
+
+// Whether what was written last in each of these lanes is what a read gives.
+fn as_read(lanes: &[SimLane]) -> bool
+    ensures { IsTrue result → map newest_view lanes.now ≡ map lane_view lanes.now }
+{
+    match lanes.split_first() {
+        None => true,
+        Some((first, rest)) => match &first.last {
+            Last::AsRead => as_read(rest),
+            Last::Apart(_) => false,
+        },
+    }
 }
 
 // How often these lanes failed.

@@ -59,6 +59,7 @@ impl SimDisk {
             alloc,
             content,
             history,
+            in_step: true,
             failures: 0,
             calls: 0,
             refused: 0,
@@ -77,11 +78,12 @@ impl SimDisk {
     {
         let history = self.history.left(self.alloc, choice);
         let mut content = self.content;
-        content.copy_from_slice(&history.synced);
+        content.copy_from_slice(&history.began);
         SimDisk {
             alloc: self.alloc,
             content,
             history,
+            in_step: true,
             failures: self.failures,
             calls: self.calls,
             refused: self.refused,

@@ -1,15 +1,17 @@
 //! How the record of writes and syncs grows.
-ghost use Rattle.std.specs.Prelude.{◌≡◌, ◌≤◌, ◌<◌, ◌+◌, ◌*◌, ℕ, [], ◌∷◌, length, map, OnOk, OnErr, IfOk};
-ghost use Rattle.disk.specs.Facts.{Joined, lane_at};
+ghost use Rattle.std.specs.Prelude.{◌≡◌, ◌≤◌, ◌<◌, ◌+◌, ◌*◌, ℕ, [], ◌∷◌, length, map, true, OnOk, OnErr, IfOk};
+ghost use Rattle.disk.specs.Facts.{Handed, Joined, lane_at};
 ghost use Rattle.simdisk.specs.Loans.{IsLast};
-ghost use Rattle.simdisk.specs.Record.{new_record, more_written, more_synced, lent_piece, newest, replay, ranges, Agrees, Fits};
+ghost use Rattle.simdisk.specs.Record.{new_record, more_written, more_synced, lent_piece, newest, synced, ranges, Agrees, Fits};
 ghost use Rattle.simdisk.specs.Choices.{left_by};
 ghost use Rattle.simdisk.specs.Views.{pieces};
 
 use crate::choice::Choice;
+use crate::faults::Faults;
 use crate::history::History;
-use crate::laid::{fill, replay_on, settle_on};
+use crate::laid::{fill, replay_all, replay_on, settle};
 use crate::lane::SimLane;
+use crate::lending::lend;
 use crate::loan::Loan;
 use crate::patch::{Epoch, Patch, copy_of};
 use disk::Sector;
@@ -19,15 +21,15 @@ use std::mem::replace;
 impl History {
     ghost use Rattle.simdisk.specs.History.{record_of};
     ghost use Rattle.simdisk.specs.Loans.{lent_of};
-    ghost use Rattle.simdisk.specs.Lanes.{newest_view};
+    ghost use Rattle.simdisk.specs.Lanes.{lane_view, newest_view, lane_record};
+    ghost use Rattle.simdisk.specs.LaneRecords.{AreLent};
 
     // The record of a disk that begins with these sectors.
     pub(crate) fn begun(alloc: Global, sectors: &[Sector]) -> Result<History, AllocError>
-        ensures { IfOk result (λ h. (record_of h ≡ new_record sectors.now) × (h.synced.items ≡ sectors.now)) }
+        ensures { IfOk result (λ h. record_of h ≡ new_record sectors.now) }
     {
         Ok(History {
             began: copy_of(alloc, sectors)?,
-            synced: copy_of(alloc, sectors)?,
             past: Vec::new(alloc),
             written: Vec::new(alloc),
         })
@@ -40,10 +42,10 @@ impl History {
         first: usize,
         sectors: &[Sector],
     ) -> Result<(), AllocError>
-        requires { first + length sectors.now ≤ length self.old.synced.items }
+        requires { first + length sectors.now ≤ length (synced (record_of self.old)) }
         ensures noted { OnOk result (record_of self.new ≡ more_written (first, sectors.now) (record_of self.old)) }
         ensures refused { OnErr result (record_of self.new ≡ record_of self.old) }
-        ensures synced { self.new.synced.items ≡ self.old.synced.items }
+        ensures synced { synced (record_of self.new) ≡ synced (record_of self.old) }
     {
         let sectors = copy_of(alloc, sectors)?;
         self.written.reserve(1)?;
@@ -54,15 +56,15 @@ impl History {
     // Notes a sync of that content. From now on these patches are written. At `Err` nothing has
     // changed.
     pub(crate) fn sync(&mut self, content: &[Sector], next: Vec<Patch>) -> Result<(), AllocError>
-        requires agrees { Agrees self.old.synced.items (ranges (pieces self.old.written.items)) content.now }
-        requires fits { Fits (length self.old.synced.items) (ranges (pieces next.items)) }
+        requires agrees { Agrees (synced (record_of self.old)) (ranges (pieces self.old.written.items)) content.now }
+        requires fits { Fits (length (synced (record_of self.old))) (ranges (pieces next.items)) }
         ensures noted { OnOk result (record_of self.new ≡ more_synced content.now (pieces next.items) (record_of self.old)) }
-        ensures synced { OnOk result (self.new.synced.items ≡ content.now) }
-        ensures refused { OnErr result ((record_of self.new ≡ record_of self.old) × (self.new.synced.items ≡ self.old.synced.items)) }
+        ensures synced { OnOk result (synced (record_of self.new) ≡ content.now) }
+        ensures refused { OnErr result ((record_of self.new ≡ record_of self.old) × (synced (record_of self.new) ≡ synced (record_of self.old))) }
     {
         self.past.reserve(1)?;
         let mut patches = replace(&mut self.written, next);
-        settle_on(&mut self.synced, &mut patches, content);
+        settle(&mut patches, content);
         self.past.push_reserved(Epoch { patches });
         Ok(())
     }
@@ -74,11 +76,11 @@ impl History {
         content: &Vec<Sector>,
         loan: Loan,
     ) -> Result<(), AllocError>
-        requires agrees { Agrees self.old.synced.items (ranges (pieces self.old.written.items)) content.now.items }
+        requires agrees { Agrees (synced (record_of self.old)) (ranges (pieces self.old.written.items)) content.now.items }
         requires within { loan.first + loan.lanes * loan.each ≤ length content.now.items }
         ensures noted { OnOk result (record_of self.new ≡ more_synced content.now.items (lent_piece (lent_of loan) content.now.items ∷ []) (record_of self.old)) }
-        ensures synced { OnOk result (self.new.synced.items ≡ content.now.items) }
-        ensures refused { OnErr result ((record_of self.new ≡ record_of self.old) × (self.new.synced.items ≡ self.old.synced.items)) }
+        ensures synced { OnOk result (synced (record_of self.new) ≡ content.now.items) }
+        ensures refused { OnErr result ((record_of self.new ≡ record_of self.old) × (synced (record_of self.new) ≡ synced (record_of self.old))) }
     {
         let end = loan.first + loan.lanes * loan.each;
         let sectors = copy_of(alloc, &content[loan.first..end])?;
@@ -90,22 +92,60 @@ impl History {
         self.sync(content, next)
     }
 
-    // Notes that these lanes are lent, of a disk where that would stand had each failed write gone
-    // through. At `Err` nothing has changed.
-    pub(crate) fn note_loan(
+    // Lends the lanes of that loan, of a disk with that content, and notes it. Where they are in step,
+    // what was written last is what a read gives. At `Err` nothing has changed.
+    pub(crate) fn lend(
         &mut self,
         alloc: Global,
-        newest: &Vec<Sector>,
+        content: &Vec<Sector>,
+        in_step: bool,
+        faults: Faults,
         loan: Loan,
-    ) -> Result<(), AllocError>
-        requires within { loan.first + loan.lanes * loan.each ≤ length newest.now.items }
-        requires as_long { length newest.now.items ≡ length self.old.synced.items }
+    ) -> Result<Vec<SimLane>, AllocError>
+        requires few { loan.lanes ≤ 4 }
+        requires within { loan.first + loan.lanes * loan.each ≤ length content.now.items }
+        requires agrees { Agrees (synced (record_of self.old)) (ranges (pieces self.old.written.items)) content.now.items }
+        requires in_step { in_step ≡ true → newest (record_of self.old) ≡ content.now.items }
+        ensures handed { IfOk result (λ out. Handed (lent_of loan) content.now.items (map lane_view out.items)) }
+        ensures lent { IfOk result (λ out. AreLent (lent_of loan) (newest (record_of self.old)) faults.armed faults.cut (map lane_record out.items)) }
+        ensures noted { OnOk result (record_of self.new ≡ more_written (lent_piece (lent_of loan) (newest (record_of self.old))) (record_of self.old)) }
+        ensures refused { OnErr result (record_of self.new ≡ record_of self.old) }
+        ensures synced { synced (record_of self.new) ≡ synced (record_of self.old) }
+    {
+        if in_step {
+            return self.lend_over(alloc, content, content, true, faults, loan);
+        }
+        let newest = self.newest(alloc, content)?;
+        self.lend_over(alloc, content, &newest, false, faults, loan)
+    }
+
+    // The same, where the second content would stand had each failed write gone through.
+    fn lend_over(
+        &mut self,
+        alloc: Global,
+        content: &Vec<Sector>,
+        newest: &Vec<Sector>,
+        in_step: bool,
+        faults: Faults,
+        loan: Loan,
+    ) -> Result<Vec<SimLane>, AllocError>
+        requires few { loan.lanes ≤ 4 }
+        requires within { loan.first + loan.lanes * loan.each ≤ length content.now.items }
+        requires as_long { length newest.now.items ≡ length content.now.items }
+        requires in_step { in_step ≡ true → newest.now.items ≡ content.now.items }
+        requires long { length content.now.items ≡ length (synced (record_of self.old)) }
+        ensures handed { IfOk result (λ out. Handed (lent_of loan) content.now.items (map lane_view out.items)) }
+        ensures lent { IfOk result (λ out. AreLent (lent_of loan) newest.now.items faults.armed faults.cut (map lane_record out.items)) }
         ensures noted { OnOk result (record_of self.new ≡ more_written (lent_piece (lent_of loan) newest.now.items) (record_of self.old)) }
         ensures refused { OnErr result (record_of self.new ≡ record_of self.old) }
-        ensures synced { self.new.synced.items ≡ self.old.synced.items }
+        ensures synced { synced (record_of self.new) ≡ synced (record_of self.old) }
     {
+        let out = lend(
+            alloc, content, newest, in_step, faults, loan.first, loan.lanes, loan.each,
+        )?;
         let end = loan.first + loan.lanes * loan.each;
-        self.note(alloc, loan.first, &newest[loan.first..end])
+        self.note(alloc, loan.first, &newest[loan.first..end])?;
+        Ok(out)
     }
 
     // Takes over what was written last in the lanes of that loan, which come back.
@@ -116,7 +156,7 @@ impl History {
         ensures ranges { ranges (pieces self.new.written.items) ≡ ranges (pieces self.old.written.items) }
         ensures past { self.new.past ≡ self.old.past }
         ensures began { self.new.began ≡ self.old.began }
-        ensures synced { self.new.synced ≡ self.old.synced }
+        ensures synced { synced (record_of self.new) ≡ synced (record_of self.old) }
         ensures newest { Joined (lent_of loan) (map newest_view lanes.now) (newest (record_of self.old)) (newest (record_of self.new)) }
     {
         if loan.lanes == 0 {
@@ -125,37 +165,40 @@ impl History {
         self.written[loan.patch].take_newest(loan, lanes);
     }
 
-    // What stands where each write, also one that failed, had gone through.
-    pub(crate) fn newest(&self, alloc: Global) -> Result<Vec<Sector>, AllocError>
-        ensures newest { IfOk result (λ content. content.items ≡ replay (pieces self.now.written.items) self.now.synced.items) }
-        ensures as_long { IfOk result (λ content. length content.items ≡ length self.now.synced.items) }
+    // What would stand had each write gone through, where that is what a read gives.
+    pub(crate) fn newest(
+        &self,
+        alloc: Global,
+        content: &[Sector],
+    ) -> Result<Vec<Sector>, AllocError>
+        requires { Agrees (synced (record_of self.now)) (ranges (pieces self.now.written.items)) content.now }
+        ensures newest { IfOk result (λ all. all.items ≡ newest (record_of self.now)) }
+        ensures as_long { IfOk result (λ all. length all.items ≡ length (synced (record_of self.now))) }
     {
-        let mut content = copy_of(alloc, &self.synced)?;
-        replay_on(&mut content, &self.written);
-        Ok(content)
+        let mut all = copy_of(alloc, content)?;
+        replay_on(&mut all, &self.written);
+        Ok(all)
     }
 
     // The record of the disk that a crash leaves by that choice.
     pub(crate) fn left(self, alloc: Global, choice: Choice) -> History
-        ensures record { record_of result ≡ new_record (left_by choice self.synced.items (pieces self.written.items)) }
-        ensures synced { result.synced.items ≡ left_by choice self.synced.items (pieces self.written.items) }
-        ensures as_long { length result.synced.items ≡ length self.synced.items }
+        ensures record { record_of result ≡ new_record (left_by choice (synced (record_of self)) (pieces self.written.items)) }
+        ensures content { result.began.items ≡ left_by choice (synced (record_of self)) (pieces self.written.items) }
+        ensures as_long { length result.began.items ≡ length (synced (record_of self)) }
     {
-        let mut began = self.began;
-        let mut synced = self.synced;
+        let mut content = self.began;
         let mut written = self.written;
+        replay_all(&mut content, &self.past);
         match choice {
             Choice::Byte(byte) => {
                 fill(&mut written, byte);
-                replay_on(&mut synced, &written);
+                replay_on(&mut content, &written);
             }
             Choice::Old => {}
-            Choice::New => replay_on(&mut synced, &written),
+            Choice::New => replay_on(&mut content, &written),
         }
-        began.copy_from_slice(&synced);
         History {
-            began,
-            synced,
+            began: content,
             past: Vec::new(alloc),
             written: Vec::new(alloc),
         }

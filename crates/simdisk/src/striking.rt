@@ -28,6 +28,15 @@ impl Faults {
         }
     }
 
+    /// Whether what was written last in a lane stays what a read gives: it is so now, and no call of
+    /// the lane can fail.
+    pub(crate) fn stays_in_step(&self, in_step: bool) -> bool
+        ensures now { IsTrue result → in_step ≡ true }
+        ensures calm { IsTrue result → (self.now.armed ≡ None) × (self.now.cut ≡ false) }
+    {
+        in_step && self.armed.is_none() && !self.cut
+    }
+
     /// Whether the next call of the disk, or of the lane whose faults these are, fails. It counts
     /// that call.
     pub(crate) fn strikes(&mut self) -> bool

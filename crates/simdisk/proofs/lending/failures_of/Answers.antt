@@ -1,4 +1,4 @@
-use Rattle.std.proofs.Common.{◌≡◌, ◌∙◌, ◌+◌, ◌<◌, ℕ, length, map, take, sym, ap, rules}
+use Rattle.std.proofs.Common.{◌≡◌, ◌∙◌, ◌+◌, ◌<◌, ℕ, length, map, take, sym, ap}
 use Rattle.std.proofs.lemmas.List.{length-map}
 use Rattle.disk.specs.Facts.{LaneFacts, lane_at, lane_failures, counted}
 use Rattle.simdisk.specs.Lanes.{lane_view}

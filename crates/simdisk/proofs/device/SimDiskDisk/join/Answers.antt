@@ -1,15 +1,15 @@
-use Rattle.std.proofs.Common.{◌≡◌, ◌∙◌, ℕ, List, length, map, ap, subst, arith, rules}
-use Rattle.disk.specs.Facts.{Lent, Joined, counted, lane_at, lane_failures}
+use Rattle.std.proofs.Common.{◌≡◌, ◌∙◌, ℕ, List, length, map, ap, sym, subst, arith, rules, true}
+use Rattle.disk.specs.Facts.{Content, Lent, LaneFacts, Joined, counted, lane_at, lane_failures}
 use Rattle.simdisk.specs.Lanes.{lane_view, newest_view, lane_record}
 use Rattle.simdisk.specs.LaneRecords.{CameBack}
 use Rattle.simdisk.specs.declared.lane.SimLane.{SimLane}
 use Rattle.simdisk.specs.Views.{epochs}
 use Rattle.simdisk.specs.History.{record_of}
 use Rattle.simdisk.specs.Loans.{lent_of}
-use Rattle.simdisk.specs.Record.{newest, ranges}
+use Rattle.simdisk.specs.Record.{newest, ranges, synced}
 use Rattle.simdisk.specs.Views.{pieces}
 use Rattle.simdisk.proofs.Notes.{agrees_join}
-use Rattle.simdisk.proofs.Rows.{newest_long, written_back}
+use Rattle.simdisk.proofs.Rows.{newest_long, written_back, joined_same}
 use Rattle.simdisk.proofs.Stretches.{passes_ranges}
 use Rattle.simdisk.proofs.device.SimDiskDisk.join.Goals as goal
 
@@ -17,8 +17,17 @@ pub invariant_of-self : goal.invariant_of-self
 invariant_of-self c =
     let s = c.args.self.now in
     let all = c.take_newest.ensures in
+    let lanes = c.args.lanes.items in
+    let read : Joined (lent_of s.loan) (map lane_view lanes) s.content.items c.lay_row.new.content.items =
+    subst (λ (ls : List SimLane). Joined (lent_of s.loan) (map lane_view ls) s.content.items c.lay_row.new.content.items) c.deref-2.ensures.value c.lay_row.ensures in
+    let last : c.stays_in_step-self.result ≡ true → Joined (lent_of s.loan) (map lane_view lanes) s.content.items (newest (record_of c.take_newest.new.self)) =
+    λ is. subst (λ (k : Content). Joined (lent_of s.loan) (map lane_view lanes) k (newest (record_of c.take_newest.new.self))) (s.newest (c.stays_in_step-self.ensures.now is))
+    (subst (λ (fs : List LaneFacts). Joined (lent_of s.loan) fs (newest (record_of s.history)) (newest (record_of c.take_newest.new.self)))
+    (ap (λ (ls : List SimLane). map newest_view ls) (c.deref-3.ensures.value ∙ sym c.deref-4.ensures.value) ∙ c.stays_in_step-self.ensures.lanes is ∙ ap (λ (ls : List SimLane). map lane_view ls) c.deref-4.ensures.value)
+    all.newest) in
     record {
-      agrees = rw (all.ranges, all.synced) (agrees_join (lent_of s.loan) s.history.synced.items (ranges (pieces s.history.written.items)) s.loan.patch s.content.items c.lay_row.new.content.items (λ lt. (s.noted lt).noted) s.agrees c.lay_row.ensures.elsewhere);
+      newest = λ is. joined_same (lent_of s.loan) (map lane_view lanes) s.content.items (newest (record_of c.take_newest.new.self)) c.lay_row.new.content.items (last is) read;
+      agrees = rw (all.ranges, all.synced) (agrees_join (lent_of s.loan) (synced (record_of s.history)) (ranges (pieces s.history.written.items)) s.loan.patch s.content.items c.lay_row.new.content.items (λ lt. (s.noted lt).noted) s.agrees c.lay_row.ensures.elsewhere);
       few = search rules;
       few_calls = s.few_calls;
       within = search rules;
@@ -29,8 +38,8 @@ pub returns-clause-crash : goal.returns-clause-crash
 returns-clause-crash c =
     let s = c.args.self.now in
     let all = c.take_newest.ensures in
-    passes_ranges s.content.items _ s.history.synced.items c.take_newest.new.self.synced.items (record_of s.history) (record_of c.take_newest.new.self) _ _ _ _ _ _ all.ranges
-    (ap (λ past. epochs past.items) all.past) (ap (λ began. began.items) all.began) (ap (λ synced. synced.items) all.synced)
+    passes_ranges s.content.items _ (synced (record_of s.history)) (synced (record_of c.take_newest.new.self)) (record_of s.history) (record_of c.take_newest.new.self) _ _ _ _ _ _ all.ranges
+    (ap (λ past. epochs past.items) all.past) (ap (λ began. began.items) all.began) all.synced
 
 pub returns-clause-newest : goal.returns-clause-newest
 returns-clause-newest c =

@@ -1,26 +1,31 @@
 use Rattle.std.proofs.Common.{◌≡◌, ◌∙◌, ◌++◌, ◌∷◌, [], ℕ, ◌*◌, length, ap, sym, rules}
 use Rattle.std.proofs.lemmas.List.{length-map}
-use Rattle.disk.specs.Facts.{Lent, Torn, Passes}
-use Rattle.simdisk.specs.Record.{range, ranges, lent_piece, sim_facts}
+use Rattle.disk.specs.Facts.{Content, Lent, Torn, Passes}
+use Rattle.simdisk.specs.Record.{put, range, ranges, synced, newest, lent_piece, sim_facts}
 use Rattle.simdisk.specs.Views.{piece, pieces}
 use Rattle.simdisk.specs.History.{record_of}
 use Rattle.simdisk.proofs.Ranges.{agrees_push}
-use Rattle.simdisk.proofs.Notes.{ranges_written, last_last, range_lent}
+use Rattle.simdisk.proofs.Epochs.{length_newest}
+use Rattle.simdisk.proofs.Notes.{newest_more, ranges_written, last_last, range_lent}
+use Rattle.simdisk.proofs.Pieces.{put_same}
 use Rattle.simdisk.proofs.Stretches.{passes_range}
 use Rattle.simdisk.proofs.device.SimDiskDisk.split.Goals as goal
 
-pub invariant_of-self-3 : goal.invariant_of-self-3
-invariant_of-self-3 c =
+pub invariant_of-self-2 : goal.invariant_of-self-2
+invariant_of-self-2 c =
     let s = c.args.self.now in
     let l : Lent = record { first = c.args.first; lanes = c.args.lanes; each = c.args.each } in
-    let newest = c.in_ok-newest.newest.items in
+    let last = newest (record_of s.history) in
     let rs = ranges (pieces s.history.written.items) in
     let r : ℕ × ℕ = (c.args.first, c.args.lanes * c.args.each) in
-    let long : length newest ≡ length s.content.items = c.in_ok-newest.ensures.as_long ∙ sym s.agrees.as_long in
-    let more : ranges (pieces c.note_loan.new.self.written.items) ≡ rs ++ r ∷ [] =
-    ranges_written (record_of s.history) (record_of c.note_loan.new.self) (lent_piece l newest) c.in_ok-note_loan.ensures.noted ∙ ap (λ (x : ℕ × ℕ). rs ++ x ∷ []) (range_lent l newest (rw long c.requires.within)) in
+    let long : length last ≡ length s.content.items = length_newest s.history ∙ sym s.agrees.as_long in
+    let more : ranges (pieces c.lend.new.self.written.items) ≡ rs ++ r ∷ [] =
+    ranges_written (record_of s.history) (record_of c.lend.new.self) (lent_piece l last) c.in_ok-out.ensures.noted ∙ ap (λ (x : ℕ × ℕ). rs ++ x ∷ []) (range_lent l last (rw long c.requires.within)) in
+    let same : (k : Content) → k ≡ s.content.items → s.content.items ≡ put (lent_piece l k) s.content.items =
+    λ k is. sym (ap (λ (k : Content). put (lent_piece l k) s.content.items) is ∙ put_same c.args.first (c.args.lanes * c.args.each) s.content.items c.requires.within) in
     record {
-      agrees = rw (c.in_ok-note_loan.ensures.synced, more) (agrees_push s.history.synced.items rs r s.content.items s.agrees);
+      newest = λ is. newest_more (record_of s.history) (record_of c.lend.new.self) (lent_piece l last) s.content.items s.content.items c.in_ok-out.ensures.noted (s.newest is) (same last (s.newest is));
+      agrees = rw (c.in_ok-out.ensures.synced, more) (agrees_push (synced (record_of s.history)) rs r s.content.items s.agrees);
       few = s.few;
       few_calls = s.few_calls;
       within = c.requires.within;
@@ -31,10 +36,10 @@ pub returns-clause-crash : goal.returns-clause-crash
 returns-clause-crash c =
     let s = c.args.self.now in
     let l : Lent = record { first = c.args.first; lanes = c.args.lanes; each = c.args.each } in
-    let newest = c.in_ok-newest.newest.items in
-    let long : length newest ≡ length s.content.items = c.in_ok-newest.ensures.as_long ∙ sym s.agrees.as_long in
-    let size : length (lent_piece l newest).1 ≡ c.args.lanes * c.args.each = ap (λ (x : ℕ × ℕ). x.1) (range_lent l newest (rw long c.requires.within)) in
-    let all : Passes (sim_facts s.content.items s.history.synced.items (record_of s.history) s.failures s.calls _) (sim_facts s.content.items c.note_loan.new.self.synced.items (record_of c.note_loan.new.self) s.failures s.calls l) (Torn c.args.first (length (lent_piece l newest).1)) =
-    passes_range s.content.items s.content.items s.history.synced.items c.note_loan.new.self.synced.items (record_of s.history) (record_of c.note_loan.new.self) _ _ _ _ _ _ (lent_piece l newest) c.in_ok-note_loan.ensures.noted c.in_ok-note_loan.ensures.synced
+    let last = newest (record_of s.history) in
+    let long : length last ≡ length s.content.items = length_newest s.history ∙ sym s.agrees.as_long in
+    let size : length (lent_piece l last).1 ≡ c.args.lanes * c.args.each = ap (λ (x : ℕ × ℕ). x.1) (range_lent l last (rw long c.requires.within)) in
+    let all : Passes (sim_facts s.content.items (synced (record_of s.history)) (record_of s.history) s.failures s.calls _) (sim_facts s.content.items (synced (record_of c.lend.new.self)) (record_of c.lend.new.self) s.failures s.calls l) (Torn c.args.first (length (lent_piece l last).1)) =
+    passes_range s.content.items s.content.items (synced (record_of s.history)) (synced (record_of c.lend.new.self)) (record_of s.history) (record_of c.lend.new.self) _ _ _ _ _ _ (lent_piece l last) c.in_ok-out.ensures.noted c.in_ok-out.ensures.synced
     (rw (size, ← s.agrees.as_long) c.requires.within) in
     rw (← size) all

@@ -1,10 +1,10 @@
 use Rattle.std.proofs.Common.{◌≡◌, ◌++◌, ◌∷◌, [], ℕ, ◌*◌, length, rules}
-use Rattle.simdisk.specs.Record.{ranges}
+use Rattle.simdisk.specs.Record.{ranges, synced}
 use Rattle.simdisk.specs.Views.{pieces}
 use Rattle.simdisk.specs.History.{record_of}
 use Rattle.simdisk.specs.Loans.{lent_of}
 use Rattle.simdisk.proofs.Ranges.{agrees_write, agrees_push}
-use Rattle.simdisk.proofs.Notes.{ranges_written, last_push, apart_lent}
+use Rattle.simdisk.proofs.Notes.{newest_more, ranges_written, last_push, apart_lent}
 use Rattle.simdisk.proofs.Stretches.{passes_range}
 use Rattle.simdisk.proofs.device.SimDiskDisk.write.Goals as goal
 
@@ -15,7 +15,8 @@ invariant_of-self-then-strikes c =
     let r : ℕ × ℕ = (c.args.first, length c.args.sectors.now) in
     let more : ranges (pieces c.note.new.self.written.items) ≡ rs ++ r ∷ [] = ranges_written (record_of s.history) (record_of c.note.new.self) (c.args.first, c.args.sectors.now) c.in-Ok.ensures.noted in
     record {
-      agrees = rw (c.in-Ok.ensures.synced, more) (agrees_push s.history.synced.items rs r s.content.items s.agrees);
+      newest = λ is. search rules;
+      agrees = rw (c.in-Ok.ensures.synced, more) (agrees_push (synced (record_of s.history)) rs r s.content.items s.agrees);
       few = search rules;
       few_calls = search rules;
       within = s.within;
@@ -27,7 +28,7 @@ returns-then-strikes-clause-called c =
     let s = c.args.self.now in
     record {
       content = search rules;
-      crash = passes_range s.content.items _ s.history.synced.items c.note.new.self.synced.items (record_of s.history) (record_of c.note.new.self) _ _ _ _ _ _ (c.args.first, c.args.sectors.now) c.in-Ok.ensures.noted c.in-Ok.ensures.synced
+      crash = passes_range s.content.items _ (synced (record_of s.history)) (synced (record_of c.note.new.self)) (record_of s.history) (record_of c.note.new.self) _ _ _ _ _ _ (c.args.first, c.args.sectors.now) c.in-Ok.ensures.noted c.in-Ok.ensures.synced
           (rw (← s.agrees.as_long) c.requires.within);
       lent = search rules;
       calls = search rules;
@@ -44,7 +45,8 @@ invariant_of-self-2 c =
     let more : ranges (pieces c.note.new.self.written.items) ≡ rs ++ r ∷ [] = ranges_written (record_of s.history) (record_of c.note.new.self) (c.args.first, c.args.sectors.now) c.in-Ok.ensures.noted in
     let torn = c.overwrite.ensures.written.elsewhere in
     record {
-      agrees = rw (c.in-Ok.ensures.synced, more) (agrees_write s.history.synced.items rs c.args.first (length c.args.sectors.now) s.content.items c.overwrite.new.content.items s.agrees torn);
+      newest = λ is. newest_more (record_of s.history) (record_of c.note.new.self) (c.args.first, c.args.sectors.now) s.content.items c.overwrite.new.content.items c.in-Ok.ensures.noted (s.newest is) c.overwrite.ensures.put;
+      agrees = rw (c.in-Ok.ensures.synced, more) (agrees_write (synced (record_of s.history)) rs c.args.first (length c.args.sectors.now) s.content.items c.overwrite.new.content.items s.agrees torn);
       few = s.few;
       few_calls = search rules;
       within = rw torn.as_long s.within;
@@ -56,7 +58,7 @@ returns-clause-called c =
     let s = c.args.self.now in
     record {
       content = search rules;
-      crash = passes_range s.content.items _ s.history.synced.items c.note.new.self.synced.items (record_of s.history) (record_of c.note.new.self) _ _ _ _ _ _ (c.args.first, c.args.sectors.now) c.in-Ok.ensures.noted c.in-Ok.ensures.synced
+      crash = passes_range s.content.items _ (synced (record_of s.history)) (synced (record_of c.note.new.self)) (record_of s.history) (record_of c.note.new.self) _ _ _ _ _ _ (c.args.first, c.args.sectors.now) c.in-Ok.ensures.noted c.in-Ok.ensures.synced
           (rw (← s.agrees.as_long) c.requires.within);
       lent = search rules;
       calls = search rules;

@@ -1,11 +1,13 @@
-use Rattle.std.proofs.Common.{◌≡◌, ◌*◌, ◌<◌, ℕ, length, map, set, ap, arith, rules}
+use Rattle.std.proofs.Common.{◌≡◌, ◌*◌, ◌<◌, ℕ, length, map, set, refl, ap, arith}
 use Rattle.std.proofs.lemmas.List.{length-map}
 use Rattle.simdisk.specs.Lanes.{newest_view}
 use Rattle.simdisk.specs.Loans.{IsLast, lent_of}
-use Rattle.simdisk.specs.Record.{range, ranges, synced_after}
-use Rattle.simdisk.specs.Views.{piece, pieces, epochs}
+use Rattle.simdisk.specs.History.{record_of}
+use Rattle.simdisk.specs.Record.{range, ranges, synced}
+use Rattle.simdisk.specs.Views.{piece, pieces}
+use Rattle.simdisk.proofs.Epochs.{fits_synced}
 use Rattle.simdisk.proofs.Notes.{ranges_set}
-use Rattle.simdisk.proofs.Replaced.{newest_joined, joined_nothing, range_kept}
+use Rattle.simdisk.proofs.Replaced.{newest_joined, range_kept}
 use Rattle.simdisk.proofs.Walks.{range_read}
 use Rattle.simdisk.proofs.history.History.take_newest.Goals as goal
 
@@ -27,7 +29,7 @@ invariant_of-self c =
     let less : c.args.loan.patch < length s.written.items = omega (arith, (c.requires.noted some).noted.0, length-map (pieces s.written.items) range, length-map s.written.items piece) in
     let same : ranges (pieces (set s.written.items c.args.loan.patch new)) ≡ ranges (pieces s.written.items) =
     ranges_set s.written.items c.args.loan.patch x new less c.index_mut.ensures.value (range_kept x new c.take_newest.ensures.first c.take_newest.ensures.joined.elsewhere.as_long) in
-    record { as_long = s.as_long; replayed = s.replayed; fits = rw same s.fits }
+    record { past_fits = s.past_fits; fits = rw same s.fits }
 
 pub returns-clause-ranges : goal.returns-clause-ranges
 returns-clause-ranges c =
@@ -44,5 +46,5 @@ returns-clause-newest c =
     let some : 0 < c.args.loan.lanes = omega arith in
     let last = c.requires.noted some in
     let less : c.args.loan.patch < length s.written.items = omega (arith, last.noted.0, length-map (pieces s.written.items) range, length-map s.written.items piece) in
-    newest_joined s.written.items c.args.loan.patch c.index_mut.result.now c.take_newest.new.self (lent_of c.args.loan) (map newest_view c.args.lanes.now) (synced_after (epochs s.past.items) s.began.items) s.synced.items
-    less c.index_mut.ensures.value s.fits s.replayed last c.take_newest.ensures.first c.take_newest.ensures.joined
+    newest_joined s.written.items c.args.loan.patch c.index_mut.result.now c.take_newest.new.self (lent_of c.args.loan) (map newest_view c.args.lanes.now) (synced (record_of s)) (synced (record_of s))
+    less c.index_mut.ensures.value (fits_synced s) refl last c.take_newest.ensures.first c.take_newest.ensures.joined
