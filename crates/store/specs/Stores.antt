@@ -14,6 +14,10 @@ use Rattle.store.specs.Views.{StoreView}
 use Rattle.store.specs.declared.stores.Store.{Store}
 
 module _ {D L : Type 0} {g : Ghosts D L} {l : Lanes L} where
+  -- the disk that it holds
+  abbrev pub device_of : Store D L g l → D
+  device_of store = store.disk
+
   -- the facts of its disk, and why that failed
   abbrev pub disk_of : Store D L g l → Facts
   disk_of store = g.facts store.disk

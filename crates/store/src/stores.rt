@@ -60,7 +60,7 @@ impl<D: Disk + Drop> Store<D> {
     ghost use Rattle.disk.specs.Facts.{LeavesSince, Unchanged, Passes, Stays, counted};
     ghost use Rattle.disk.specs.Mishaps.{armed_by};
     ghost use Rattle.store.specs.Standing.{StandsFor, selected};
-    ghost use Rattle.store.specs.Stores.{disk_of, mishaps_of, arms_of, size_of_store, life_of, found_state, journal_of, now_state, receipts, doubt_of, failures_at_open, view_of, Stands, Doubts};
+    ghost use Rattle.store.specs.Stores.{device_of, disk_of, mishaps_of, arms_of, size_of_store, life_of, found_state, journal_of, now_state, receipts, doubt_of, failures_at_open, view_of, Stands, Doubts};
 
     /// Opens a disk, and so begins a life. What the last life left in doubt is settled by a sync. Each crash since the
     /// call's start, after a refusal too, leaves a content that a crash just before could have left, and after `Ok` only
@@ -354,8 +354,10 @@ impl<D: Disk + Drop> Store<D> {
         ensures allowed { (c : Change) → doubt_of self.now ≡ Some c → refusal_of (now_state self.now) c ≡ None }
     {}
 
-    /// Ends the life, and gives the disk back: a crash leaves the state now, or with a command in doubt one of two.
+    /// Ends the life, and gives back the disk that the store held, as it is: a crash leaves the state now, or with a command in
+    /// doubt one of two.
     pub fn into_disk(self) -> D
+        ensures disk { result ≡ device_of self }
         ensures up { (s : State) → Stands self s → LeavesOnly (D.facts result) (size_of_store self) s }
         ensures down { (s t : State) → Doubts self s t → LeavesEither (D.facts result) (size_of_store self) s t }
         ensures allowed { (c : Change) → doubt_of self ≡ Some c → refusal_of (now_state self) c ≡ None }

@@ -1,14 +1,15 @@
 -- An image was loaded, and then its consumption asked: together, from the state before the load.
-use Rattle.std.proofs.Common.{◌≡◌, ◌-◌, ℕ, Ok, Err, Result, OnOk, ap, ◌∙◌, subst, inl}
+use Rattle.std.proofs.Common.{◌≡◌, ◌⊎◌, ◌-◌, ℕ, List, Ok, Err, Result, OnOk, Some, None, ap, ◌∙◌, subst, inl, inr, arith}
 use Rattle.std.specs.Result.{MatchResult}
-use Rattle.board_model.specs.Durable.{State, Change, after}
+use Rattle.board_model.specs.Durable.{State, Change, Consume, after, refusal_of}
 use Rattle.board_model.specs.Shapes.{Size}
 use Rattle.board_model.specs.declared.refusal.Refusal.{Refusal}
-use Rattle.disk.specs.Facts.{Content, Facts, LeavesSince}
+use Rattle.board_model.specs.declared.refusal.Refusal.TheVariants.{Device, Down, NoImage}
+use Rattle.disk.specs.Facts.{Content, Facts, LeavesSince, Failed}
 use Rattle.disk.specs.Mishaps.{Mishaps}
 use Rattle.disk.specs.Moments.{leaves_then, leaves_weaker}
 use Rattle.store.specs.Leaves.{Leaves, IsKept, LeavesOnly, StandsForEither, WroteACommand}
-use Rattle.store.specs.Lives.{Life, now_of, Applied}
+use Rattle.store.specs.Lives.{Life, now_of, Applied, Reaches, Refused, LoadRefused}
 use Rattle.store.specs.Opens.{CausedRefusal}
 use Rattle.store.specs.Standing.{selected, StandsFor}
 use Rattle.store.specs.Views.{StoreView, GoesTo, CountedRefusal, Answered}
@@ -49,3 +50,42 @@ answered_on old mid new c result life sized calm counted content first only did 
       cause = subst (λ (m : Mishaps). MatchResult result (λ n. new.mishaps ≡ m) (λ e. CausedRefusal m e new.mishaps)) calm did.cause;
       counts = subst (λ (k : ℕ). MatchResult result (λ n. new.disk.failures ≡ k) (λ e. CountedRefusal k e new.disk.failures)) counted did.counts;
     }
+
+-- the state now is one that a crash may leave
+pub left_now : (disk : Facts) (size : Size) (s : State) → disk.may_leave disk.content → LeavesOnly disk size s → Leaves disk size s
+unfolding Leaves
+left_now disk size s may_keep only = (disk.content, may_keep, stands_so disk size s only disk.content may_keep)
+
+-- where a Consume is not refused, an image stands
+there : (s : State) → refusal_of s Consume ≡ None → s.image ≡ None → ⊥
+there s allowed none =
+    let refused : Some 8 ≡ None = rw none at allowed in
+    cc
+
+pub unloaded : (size : Size) (s : State) (memory : List ℕ) (old : Facts) (m : Mishaps) (e : Refusal) (new : Facts) (n : Mishaps) → refusal_of s Consume ≡ None
+    → (e ≡ Device) ⊎ ((e ≡ NoImage) × (s.image ≡ None)) → LoadRefused size s memory old m e new n → ((e ≡ Device) ⊎ (e ≡ Down)) × Failed old.failures new.failures
+unloaded size s memory old m e new n allowed (inl device) why =
+    let was : LoadRefused size s memory old m Device new n = rw device at why in
+    (inl device, was.1)
+unloaded size s memory old m e new n allowed (inr none) why = absurd (there s allowed none.1)
+
+-- a Consume that goes to the disk is refused only where that failed
+refused_by : (old : Life) (e : Refusal) (new : Life) (a b : ℕ) → Reaches old Consume → Refused old Consume e new → CountedRefusal a e b → ((e ≡ Device) ⊎ (e ≡ Down)) × Failed a b
+refused_by old e new a b reaches (inl device) counts =
+    let failed : CountedRefusal a Device b = rw device.0 at counts in
+    (inl device.0, failed)
+refused_by old e new a b reaches (inr (inl down)) counts =
+    let failed : CountedRefusal a Down b = rw down.0 at counts in
+    (inr down.0, failed)
+refused_by old e new a b reaches (inr (inr (inl over))) counts =
+    let ended = over.1 in
+    let going = reaches.0 in
+    absurd (let n : ⊥ = cc in n)
+refused_by old e new a b reaches (inr (inr (inr (inl full)))) counts = absurd (omega (arith, full.2, reaches.1))
+refused_by old e new a b reaches (inr (inr (inr (inr table)))) counts =
+    let refused = table.0 in
+    let allowed = reaches.2 in
+    absurd (let n : ⊥ = cc in n)
+
+pub unconsumed : (old new : StoreView) (e : Refusal) → Reaches old.life Consume → Answered Applied old Consume (Err e) new → ((e ≡ Device) ⊎ (e ≡ Down)) × Failed old.disk.failures new.disk.failures
+unconsumed old new e reaches did = refused_by old.life e new.life old.disk.failures new.disk.failures reaches did.life did.counts

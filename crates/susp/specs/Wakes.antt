@@ -1,13 +1,14 @@
 -- A board wakes from its image. Source: SBI specification 2.0, chapter 13; docs/SBI.md.
-use Rattle.std.specs.Prelude.{◌≡◌, ℕ, List, Result, Err, Some, None}
-use Rattle.board_model.specs.Durable.{State, Image, Change, Consume}
+use Rattle.std.specs.Prelude.{◌≡◌, ◌⊎◌, ℕ, List, Result, Err, Some, None, length}
+use Rattle.board_model.specs.Durable.{State, Image, Change, Consume, IsWhole}
+use Rattle.board_model.specs.Shapes.{ram_bytes_of}
 use Rattle.board_model.specs.declared.refusal.Refusal.{Refusal}
-use Rattle.board_model.specs.declared.refusal.Refusal.TheVariants.{Down}
+use Rattle.board_model.specs.declared.refusal.Refusal.TheVariants.{Device, Down}
 use Rattle.disk.specs.declared.device.Disk.{Ghosts}
 use Rattle.disk.specs.declared.device.Lane.{Ghosts as Lanes}
-use Rattle.disk.specs.Facts.{Passes, Stays}
+use Rattle.disk.specs.Facts.{Passes, Stays, Failed}
 use Rattle.hart.specs.State.{State as HartState, started}
-use Rattle.store.specs.Lives.{Applied, LoadRefused}
+use Rattle.store.specs.Lives.{Applied, Reaches, LoadRefused}
 use Rattle.store.specs.Views.{Answered}
 use Rattle.store.specs.Stores.{disk_of, mishaps_of, size_of_store, life_of, now_state, doubt_of, view_of}
 use Rattle.store.specs.declared.stores.Store.{Store}
@@ -31,3 +32,15 @@ module _ {D L : Type 0} {g : Ghosts D L} {l : Lanes L} where
   pub record IsConsumed (old : Store D L g l) (r : Result ℕ Refusal) (new : Store D L g l) : Type 0 where
     pub answered : doubt_of old ≡ None → Answered Applied (view_of old) Consume r (view_of new)
     pub down : (c : Change) → doubt_of old ≡ Some c → (r ≡ Err Down) × IsLeft old new
+
+  -- Nothing stands against a wake: no command is in doubt, a Consume goes to the disk (so the life is not over, and an image stands),
+  -- the image has the memory of its board, and the memory that is lent is of its size.
+  pub record IsWakeable (store : Store D L g l) (memory : List ℕ) : Type 0 where
+    pub up : doubt_of store ≡ None
+    pub reaches : Reaches (life_of store) Consume
+    pub whole : IsWhole (size_of_store store) (now_state store)
+    pub fits : length memory ≡ ram_bytes_of (size_of_store store)
+
+  -- refused, 5 or 6, because the disk failed in this call
+  abbrev pub DiskFailed : Store D L g l → Refusal → Store D L g l → Type 0
+  DiskFailed old e new = ((e ≡ Device) ⊎ (e ≡ Down)) × Failed (disk_of old).failures (disk_of new).failures

@@ -3,26 +3,30 @@
 ghost use Rattle.std.specs.Prelude.{◌≡◌, ◌⊎◌, ℕ, length, Ok, Err, IfOk, IfErr, OnOk};
 ghost use Rattle.store.specs.Stores.{now_state, view_of};
 ghost use Rattle.store.specs.Views.{StaysOpen};
-ghost use Rattle.susp.specs.Wakes.{IsWoken, IsUnloaded, IsConsumed};
+ghost use Rattle.susp.specs.Wakes.{IsWoken, IsUnloaded, IsConsumed, IsWakeable, DiskFailed};
 
 use board_model::{Command, Refusal};
 use disk::Disk;
 use hart::Hart;
 use ram::Ram;
-use store::Store;
+use store::{Store, kept_disks, whole_images_load};
 
 /// Wakes a board from the image that stands: loads its memory, then consumes the image, and only then answers its hart, as
 /// one that starts at the image's address with its opaque value (SBI specification 2.0, chapter 13).
 ///
 /// Refused as `Store::load_image` says, and then as `Store::apply` says of Consume. After each refusal but `Down` a crash
-/// leaves the state before, with the image; the memory is of use only after `Ok`.
+/// leaves the state before, with the image; the memory is of use only after `Ok`. Where an image stands with its whole memory,
+/// and the store takes a command, only a disk that failed in this call stops the wake.
 pub fn wake_image<D: Disk + Drop>(store: &mut Store<D>, ram: &mut Ram) -> Result<Hart, Refusal>
     ensures woken { IfOk result (λ hart. IsWoken (now_state store.old) ram.new hart) }
     ensures consumed { OnOk result ((n : ℕ) × IsConsumed store.old (Ok n) store.new) }
     ensures refused { IfErr result (λ e. IsUnloaded store.old ram.old e store.new ⊎ IsConsumed store.old (Err e) store.new) }
+    ensures answers { IsWakeable store.old ram.old → IfErr result (λ e. DiskFailed store.old e store.new) }
     ensures stays { StaysOpen (view_of store.old) (view_of store.new) }
     ensures length { length ram.new ≡ length ram.old }
 {
+    kept_disks::<D>();
+    whole_images_load::<D>();
     store.stands();
     let image = store.now().image;
     store.load_image(ram)?;

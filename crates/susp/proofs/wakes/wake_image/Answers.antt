@@ -3,9 +3,9 @@ use Rattle.std.proofs.lemmas.Result.{err_from_is_err_and}
 use Rattle.board_model.specs.Durable.{Consume}
 use Rattle.disk.specs.Facts.{LeavesSince}
 use Rattle.store.specs.Lives.{Life}
-use Rattle.store.specs.Stores.{view_of}
+use Rattle.store.specs.Stores.{now_state, view_of}
 use Rattle.susp.specs.Wakes.{IsLeft}
-use Rattle.susp.proofs.Woken.{answered_on}
+use Rattle.susp.proofs.Woken.{answered_on, left_now, unloaded, unconsumed}
 use Rattle.susp.proofs.wakes.wake_image.Goals as goal
 
 pub returns-in_err-apply-clause-refused : goal.returns-in_err-apply-clause-refused
@@ -39,3 +39,27 @@ returns-clause-consumed g c =
         down = λ d is. let b = a.down d (ap (λ (x : Life). x.doubt) e.life ∙ is) in absurd (let n : ⊥ = cc in n);
       },
     )
+
+pub returns-in_err-load_image-clause-answers : goal.returns-in_err-load_image-clause-answers
+returns-in_err-load_image-clause-answers g c wakes =
+    let p = err_from_is_err_and c.from_residual.result c.from_residual.ensures.1 in
+    let old = c.args.store.now in
+    let mid = c.load_image.new.self in
+    let why = c.in_err-load_image.ensures.refused in
+    let left = left_now (g.D.Disk.facts old.disk) old.shape (now_state old) (g.met.D.Disk.may_keep _) (c.stands.ensures.up _ (wakes.up, refl)) in
+    let size = c.kept_disks.ensures.sized old.disk old.shape (now_state old) left in
+    rw (p.1, p.2)
+    (unloaded old.shape (now_state old) c.args.ram.now (g.D.Disk.facts old.disk) (g.D.Disk.mishaps old.disk) _ (g.D.Disk.facts mid.disk) (g.D.Disk.mishaps mid.disk) wakes.reaches.2
+    (c.whole_images_load.ensures old.disk mid.disk old.shape (now_state old) c.args.ram.now _ size wakes.whole wakes.fits why) why)
+
+pub returns-in_err-apply-clause-answers : goal.returns-in_err-apply-clause-answers
+returns-in_err-apply-clause-answers g c wakes =
+    let p = err_from_is_err_and c.from_residual-in_err-apply.result c.from_residual-in_err-apply.ensures.1 in
+    let old = c.args.store.now in
+    let mid = c.load_image.new.self in
+    let e = c.in_ok-load_image.ensures in
+    let a = c.in_err-apply.ensures in
+    rw (p.1, p.2)
+    (unconsumed (view_of old) (view_of c.apply.new.self) _ wakes.reaches
+    (answered_on (view_of old) (view_of mid) (view_of c.apply.new.self) Consume _ e.life e.stays.board e.no_failure.1 e.no_failure.0 e.reads_alone.content e.reads_alone.any_moment
+    (c.stands.ensures.up _ (wakes.up, refl)) (a.answered (ap (λ (x : Life). x.doubt) e.life ∙ wakes.up))))
