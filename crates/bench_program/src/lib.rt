@@ -18,12 +18,14 @@ ghost use Rattle.bench_report.specs.declared.printed.Answer.{Answer};
 
 use crate::fault::{Fault, status_of};
 use crate::pipe::Pipe;
-use crate::usage::{Wish, asked};
+use crate::usage::{Savers, Wish, asked};
 use bench_report::run;
 use board_model::{MAX_LINE_BYTES, MAX_SCRIPT_LINES, Refusal};
+use crew::{Crew, Turns};
 use std::alloc::Global;
 use std::io::{self, BufWriter, ErrorKind, IsTerminal, Read, Write};
 use std::process::ExitCode;
+use std::thread::Threads;
 
 /// How many bytes of a report are written at once into a pipe or a file. A terminal gets each as it is made.
 const WRITTEN_AT_ONCE: usize = 65_536;
@@ -49,9 +51,10 @@ fn read_script<R: Read + Drop>(alloc: Global, input: R) -> Result<Vec<u8>, Fault
 }
 
 /// Runs the script, and writes its report to the end.
-fn report_to<W: Write + Drop>(
+fn report_to<C: Crew, W: Write + Drop>(
     alloc: Global,
     script: &[u8],
+    crew: &C,
     out: &mut BufWriter<W>,
 ) -> Result<(), Refusal>
     // What was written is a report of the script, and nothing else.
@@ -64,12 +67,12 @@ fn report_to<W: Write + Drop>(
     // A script with a fault writes nothing.
     ensures nothing { (e : Refusal) → script_of script.now ≡ Err e → (writer_contents W.contents out.new ≡ writer_contents W.contents out.old) × ((result ≡ Err e) ⊎ (result ≡ Err Refusal.Memory)) }
 {
-    run(alloc, script, out)?;
+    run(alloc, script, crew, out)?;
     out.flush().map_err(|_| Refusal::Output)
 }
 
 /// Writes the report of the script to the standard output.
-fn write_report(rt: &HostRuntime, script: &[u8]) -> Result<(), Fault> {
+fn write_report<C: Crew>(rt: &HostRuntime, script: &[u8], crew: &C) -> Result<(), Fault> {
     let at_once = if rt.stdout().is_terminal() {
         0
     } else {
@@ -79,28 +82,38 @@ fn write_report(rt: &HostRuntime, script: &[u8]) -> Result<(), Fault> {
     let Ok(mut out) = BufWriter::with_capacity(rt.alloc(), at_once, pipe) else {
         return Err(Fault::Refused(Refusal::Memory));
     };
-    match report_to(rt.alloc(), script, &mut out) {
+    match report_to(rt.alloc(), script, crew, &mut out) {
         Ok(()) => Ok(()),
         Err(_) if out.get_ref().is_closed() => Err(Fault::Closed),
         Err(e) => Err(Fault::Refused(e)),
     }
 }
 
-/// Does what the command line asks for.
-fn reported(rt: &HostRuntime) -> Result<(), Fault> {
-    match asked(rt)? {
-        Wish::Shown => Ok(()),
-        Wish::Report => {
-            let script = read_script(rt.alloc(), rt.reader())?;
-            write_report(rt, &script)
+/// Reads the script, and writes its report.
+fn report<R: Threads + Sync>(rt: &HostRuntime, threads: &R, savers: Savers) -> Result<(), Fault> {
+    let script = read_script(rt.alloc(), rt.reader())?;
+    match savers {
+        Savers::Threads => write_report(rt, &script, &crew::Threads::new(threads)),
+        Savers::Turns => {
+            let crew = Turns::<R>::new([0, 1, 2, 3]).map_err(Fault::Refused)?;
+            write_report(rt, &script, &crew)
         }
     }
 }
 
+/// Does what the command line asks for.
+fn reported<R: Threads + Sync>(rt: &HostRuntime, threads: &R) -> Result<(), Fault> {
+    match asked(rt)? {
+        Wish::Shown => Ok(()),
+        Wish::Report(savers) => report(rt, threads, savers),
+    }
+}
+
 /// The whole program: reads a script from standard input and writes its report to standard output (docs/SCRIPT.md), or says
-/// why not on standard error. Answers the status that README.md, "The program", has.
-pub fn bench(rt: &HostRuntime) -> ExitCode {
-    let done = reported(rt);
+/// why not on standard error. Answers the status that README.md, "The program", has. The second handle makes the threads of
+/// lanes, where the command line asks for these.
+pub fn bench<R: Threads + Sync>(rt: &HostRuntime, threads: &R) -> ExitCode {
+    let done = reported(rt, threads);
     if let Err(fault) = &done {
         let _told = eprint!(rt; "{fault}");
     }

@@ -3,14 +3,14 @@
 use crate::fault::Fault;
 use board_model::Refusal;
 use clap::error::ErrorKind;
-use clap::{Command, Error};
-use std::alloc::Global;
+use clap::{Arg, ArgAction, ArgMatches, Command, Error};
+use std::alloc::{AllocError, Global};
 use std::{env, io};
 
 /// The version of the firmware.
 const VERSION: &str = "1";
 
-const USAGE: &str = "sbibench < SCRIPT";
+const USAGE: &str = "sbibench [--crew CREW] < SCRIPT";
 
 const ABOUT: &str = "\
 Runs a script of programs, commands and power cuts on a modelled RISC-V board.
@@ -57,21 +57,56 @@ A first script:
 docs/SCRIPT.md of the source has the language, docs/REFUSALS.md the refusals,
 and crates/examples/data more scripts, each with its report.";
 
+/// The option that chooses the crew.
+const CREW: &str = "crew";
+
+/// The word for lanes that are written each by a thread of its own.
+const THREADS: &str = "threads";
+
+/// The word for lanes that are written one after another.
+const TURNS: &str = "turns";
+
+/// Who writes the lanes of an image. The report is the same.
+#[derive(Clone, Copy, Debug, Drop)]
+pub enum Savers {
+    /// One thread, one lane after another in rising order.
+    Turns,
+    /// For each lane a thread of its own.
+    Threads,
+}
+
 /// What the words of the command line ask for.
 #[derive(Clone, Copy, Debug, Drop)]
 pub enum Wish {
     /// The report of the script.
-    Report,
+    Report(Savers),
     /// Nothing more: the help or the version was shown.
     Shown,
 }
 
-fn command<'a>(alloc: Global) -> Command<'a> {
+fn command<'a>(alloc: Global) -> Result<Command<'a>, AllocError> {
+    let crew = Arg::new(alloc, CREW)
+        .long(CREW)
+        .value_name("CREW")
+        .value_parser([TURNS, THREADS].as_slice())
+        .default_value(TURNS)
+        .action(ArgAction::Set)
+        .help("Who writes the lanes of an image: one after another, or a thread each");
     Command::new(alloc, "sbibench")
         .version(VERSION)
         .override_usage(USAGE)
         .about(ABOUT)
         .after_help(NUMBERS)
+        .arg(crew)
+}
+
+/// The crew that was chosen.
+fn chosen(matches: &ArgMatches<'_>) -> Savers {
+    if matches.get_str(CREW) == Some(THREADS) {
+        Savers::Threads
+    } else {
+        Savers::Turns
+    }
 }
 
 /// The words of the command line, the program's name first.
@@ -96,7 +131,11 @@ fn show(rt: &HostRuntime, text: &Error) -> Result<Wish, Fault> {
 /// A fault of the command line: a word that is no text.
 fn no_text(rt: &HostRuntime) -> Result<Wish, Fault> {
     let message = "invalid UTF-8 was detected in one or more arguments";
-    match command(rt.alloc()).error(ErrorKind::InvalidValue, message) {
+    let text = command(rt.alloc()).and_then(|mut command| command.error(
+        ErrorKind::InvalidValue,
+        message,
+    ));
+    match text {
         Ok(text) => show(rt, &text),
         Err(_) => Err(Fault::Refused(Refusal::Memory)),
     }
@@ -109,8 +148,11 @@ pub fn asked(rt: &HostRuntime) -> Result<Wish, Fault> {
         Err(e) if e.kind() == io::ErrorKind::InvalidData => return no_text(rt),
         Err(_) => return Err(Fault::Refused(Refusal::Memory)),
     };
-    match command(rt.alloc()).try_get_matches_from(words.as_slice()) {
-        Ok(_) => Ok(Wish::Report),
+    let Ok(command) = command(rt.alloc()) else {
+        return Err(Fault::Refused(Refusal::Memory));
+    };
+    match command.try_get_matches_from(words.as_slice()) {
+        Ok(matches) => Ok(Wish::Report(chosen(&matches))),
         Err(text) => show(rt, &text),
     }
 }

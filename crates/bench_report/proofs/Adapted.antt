@@ -61,6 +61,15 @@ module _ (now : State) (count : ℕ) (c : Change) (old new : Life) (is : IsLife 
       let after_it : IsLife next (after now c) (count + 1) None = (grows old.found old.journal c ∙ ap (λ s. after s c) is.0, long, is.2, goes) in
       (reaches h.0.1 h.0.2, h.1 ∙ ap (λ k. k + 1) is.1, subst P (sym h.2) after_it)
 
+  -- the same of a command that may end the life
+  pub ended : (n : ℕ) → Applied old c (Ok n) new → Reaches now count c × (n ≡ count + 1) × (now_of new ≡ after now c) × (new.doubt ≡ None)
+  ended n h =
+      let next : Life = record old { journal = old.journal ++ c ∷ []; over = ends_life c } in
+      let P : Life → Type 0 = λ l. (now_of l ≡ after now c) × (l.doubt ≡ None) in
+      let is_next : (now_of next ≡ after now c) × (next.doubt ≡ None) = (grows old.found old.journal c ∙ ap (λ s. after s c) is.0, is.2) in
+      let did = subst P (sym h.2) is_next in
+      (reaches h.0.1 h.0.2, h.1 ∙ ap (λ k. k + 1) is.1, did.0, did.1)
+
   pub refused : (e : Refusal) → Refused old c e new → Refuses now count c e new
   refused e (inl h) = inl (h.0, reaches h.1.1 h.1.2, again h.2)
   refused e (inr (inl h)) =

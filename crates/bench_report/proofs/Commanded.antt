@@ -1,6 +1,6 @@
 -- What a command answers on a board that is on.
 use Rattle.std.proofs.Common.{◌≡◌, ◌≤◌, ℕ, ◌+◌, [], ◌∷◌, ◌++◌, inl, inr, Option, None, Some, Result, Ok, Err, false, refl, sym, ◌∙◌, ap, subst}
-use Rattle.board_model.specs.Durable.{Change, after, ends_life}
+use Rattle.board_model.specs.Durable.{Change, State, after, ends_life}
 use Rattle.board_model.specs.Kept.{Kept}
 use Rattle.board_model.specs.Shapes.{Size}
 use Rattle.board_model.specs.Shown.{number_of}
@@ -9,132 +9,181 @@ use Rattle.board_model.specs.declared.refusal.Refusal.TheVariants.{Device, Down,
 use Rattle.disk.specs.Facts.{Failed}
 use Rattle.machine.specs.Machine.{Machine}
 use Rattle.store.specs.Leaves.{SameLength}
-use Rattle.store.specs.Lives.{Applied}
+use Rattle.store.specs.Lives.{Life as Told, Applied, Refused}
 use Rattle.store.specs.Opens.{CausedRefusal}
 use Rattle.store.specs.Stores.{life_of, doubt_of}
 use Rattle.store.specs.Views.{CountedRefusal}
-use Rattle.bench_report.specs.Below.{Store, Board, store_in, machine_in, IsAs, store_size, store_mishaps, store_facts}
+use Rattle.bench_report.specs.Below.{Store, Board, store_in, machine_in, IsLife, IsAs, store_size, store_now, store_doubt, store_mishaps, store_facts}
 use Rattle.bench_report.specs.Bench.{Medium, Blank, Unknown, Formatted, Life, Bench}
 use Rattle.bench_report.specs.Steps.{failed, acknowledged, in_doubt, Writes, IssuedBy, Issued}
-use Rattle.bench_report.specs.Agree.{BoardIs, Follows, DeviceIs, OnIs}
-use Rattle.bench_report.proofs.Adapted.{Acknowledges, Refuses, acknowledged as acknowledges, refused, struck, downed, calm as untouched}
+use Rattle.bench_report.specs.Agree.{StoreIs, BoardIs, Follows, DeviceIs, OnIs, IsOver}
+use Rattle.bench_report.proofs.Adapted.{Reaches, Acknowledges, Refuses, acknowledged as acknowledges, ended, refused, struck, downed, calm as untouched}
 use Rattle.bench_report.proofs.Devices.{hindered, stays}
 use Rattle.bench_report.proofs.Ended.{found_more}
 use Rattle.bench_report.proofs.Formats.{same_error}
 use Rattle.bench_report.proofs.Table.{not_device, not_down}
 
+-- a board that is on, by its machine and its store
+abbrev pub Running : Size → Bench → Machine → Store → Type 0
+Running size b m store = (life : Life) × (b.power ≡ Some life) × StoreIs size b.medium b.kept life store × (m ≡ life.machine) × DeviceIs size b (store_mishaps store) (store_facts store)
+
+pub running_on : (size : Size) (b : Bench) (board : Board) → Running size b (machine_in board) (store_in board) → OnIs size b board
+running_on size b board (life, on, store, machine, device) =
+    let P : Option Life → Type 0 = λ p. BoardIs size b.medium b.kept p board in
+    (subst P (sym on) (store, machine), device)
+
+-- a board with that machine
+pub goes_on : (size : Size) (b : Bench) (m : Machine) (board : Board) → Running size b m (store_in board) → machine_in board ≡ m → OnIs size b board
+goes_on size b m board is same = let P : Machine → Type 0 = λ n. Running size b n (store_in board) in running_on size b board (subst P (sym same) is)
+
 pub follows_more : (size : Size) (m : Medium) (k : Kept) (c : Change) (life : Life) (z : Size) → Follows size m k life z → Follows size m (record k { changes = k.changes ++ c ∷ [] }) (record life { now = after life.now c; receipts = life.receipts + 1 }) z
 follows_more size Blank k c life z h = h
-follows_more size Unknown k c life z h = tt
-follows_more size Formatted k c life z h = (h.0, found_more k.changes c life.now h.1, h.2)
+follows_more size Unknown k c life z h = h
+follows_more size Formatted k c life z h = (h.0, found_more k.changes c life.now h.1, h.2, h.3)
 
 follows_doubt : (size : Size) (m : Medium) (k : Kept) (c : Change) (life : Life) (z : Size) → Follows size m k life z → Follows size m (record k { doubt = Some c }) (record life { doubt = Some c }) z
 follows_doubt size Blank k c life z h = h
-follows_doubt size Unknown k c life z h = tt
-follows_doubt size Formatted k c life z h = (refl, h.1, h.2)
+follows_doubt size Unknown k c life z h = h
+follows_doubt size Formatted k c life z h = (refl, h.1, h.2, h.3)
 
 -- a life goes on from what the disk keeps, whatever its memory and harts are
-pub follows_with : (size : Size) (m : Medium) (k : Kept) (life : Life) (machine : Machine) (z : Size) → Follows size m k life z → Follows size m k (record life { machine = machine }) z
-follows_with size Blank k life machine z h = h
-follows_with size Unknown k life machine z h = tt
-follows_with size Formatted k life machine z h = h
+pub follows_with : (size : Size) (m : Medium) (k : Kept) (life : Life) (machine : Machine) (z : Size) → machine.size ≡ life.machine.size → Follows size m k life z → Follows size m k (record life { machine = machine }) z
+follows_with size Blank k life machine z same h = h
+follows_with size Unknown k life machine z same h = same ∙ h
+follows_with size Formatted k life machine z same h = (h.0, h.1, h.2, same ∙ h.3)
+
+-- its memory is that of the board of its store
+pub sized_for : (size : Size) (m : Medium) (k : Kept) (life : Life) (z : Size) → Follows size m k life z → life.machine.size ≡ z
+sized_for size Blank k life z h = absurd h
+sized_for size Unknown k life z h = h
+sized_for size Formatted k life z h = h.3
 
 sized : (size : Size) (m : Medium) (k : Kept) (life : Life) (z y : Size) → y ≡ z → Follows size m k life z → Follows size m k life y
 sized size m k life z y same h = let P : Size → Type 0 = λ x. Follows size m k life x in subst P (sym same) h
 
--- a command on a board whose life has this command in doubt, or none
-module _ (size : Size) (b : Bench) (life : Life) (c : Change) (old new : Board)
-    (on : b.power ≡ Some life) (was : BoardIs size b.medium b.kept (Some life) old) (device : DeviceIs size b (store_mishaps (store_in old)) (store_facts (store_in old))) (machine : machine_in new ≡ machine_in old)
-    (same_size : store_size (store_in new) ≡ store_size (store_in old)) (fits : SameLength (store_facts (store_in old)) (store_facts (store_in new)))
-    (no_fewer : (store_facts (store_in old)).failures ≤ (store_facts (store_in new)).failures) where
+over_more : (size : Size) (m : Medium) (k : Kept) (c : Change) (life : Life) (store : Store) → Follows size m k life (store_size store) → life.doubt ≡ None → store_now store ≡ after life.now c → store_doubt store ≡ None
+    → IsOver size m (record k { changes = k.changes ++ c ∷ [] }) store
+over_more size Blank k c life store h calm now doubt = h
+over_more size Unknown k c life store h calm now doubt = tt
+over_more size Formatted k c life store h calm now doubt = (h.0 ∙ calm, now ∙ found_more k.changes c life.now h.1, h.2, doubt)
+
+-- A command on a board whose life has a command in doubt, or none. Where none is, the store's life is seen so when it is asked.
+module _ (size : Size) (b : Bench) (life : Life) (c : Change) (old new : Store) (seen : Told)
+    (on : b.power ≡ Some life) (was : StoreIs size b.medium b.kept life old) (device : DeviceIs size b (store_mishaps old) (store_facts old))
+    (same_size : store_size new ≡ store_size old) (fits : SameLength (store_facts old) (store_facts new)) (no_fewer : (store_facts old).failures ≤ (store_facts new).failures) where
   -- the command is answered so, and the board is on
-  abbrev pub Told : Result ℕ ℕ → Type 0
-  Told o = (x : Bench) × Issued c life b o x × OnIs size x new × (x.payloads ≡ b.payloads)
+  abbrev pub Goes : Result ℕ ℕ → Type 0
+  Goes o = (x : Bench) × Issued c life b o x × Running size x life.machine new × (x.payloads ≡ b.payloads)
 
-  here : Follows size b.medium b.kept life (store_size (store_in new))
-  here = sized size b.medium b.kept life (store_size (store_in old)) (store_size (store_in new)) same_size was.0.0
+  here : Follows size b.medium b.kept life (store_size new)
+  here = sized size b.medium b.kept life (store_size old) (store_size new) same_size was.0
 
-  keeps_machine : machine_in new ≡ life.machine
-  keeps_machine = machine ∙ was.1
+  -- the life is as it was
+  pub again : (x : Bench) → x.medium ≡ b.medium → x.kept ≡ b.kept → x.power ≡ b.power → life.doubt ≡ None → IsAs new life.now life.receipts None → DeviceIs size x (store_mishaps new) (store_facts new) → Running size x life.machine new
+  again x medium kept power calm is now =
+      let P : Option Change → Type 0 = λ d. IsAs new life.now life.receipts d in
+      let M : Medium → Type 0 = λ m. StoreIs size m x.kept life new in
+      let K : Kept → Type 0 = λ k. StoreIs size b.medium k life new in
+      (life, power ∙ on, subst M (sym medium) (subst K (sym kept) (here, subst P (sym calm) is)), refl, now)
 
-  again : life.doubt ≡ None → IsAs (store_in new) life.now life.receipts None → BoardIs size b.medium b.kept b.power new
-  again calm is =
-      let P : Option Change → Type 0 = λ d. IsAs (store_in new) life.now life.receipts d in
-      let Q : Option Life → Type 0 = λ p. BoardIs size b.medium b.kept p new in
-      subst Q (sym on) ((here, subst P (sym calm) is), keeps_machine)
-
-  calm_device : store_mishaps (store_in new) ≡ store_mishaps (store_in old) → DeviceIs size b (store_mishaps (store_in new)) (store_facts (store_in new))
-  calm_device same = stays size b (store_mishaps (store_in old)) (store_mishaps (store_in new)) (store_facts (store_in old)) (store_facts (store_in new)) device same no_fewer fits
+  pub calm_device : (x : Bench) → x.mishaps ≡ b.mishaps → x.failures ≡ b.failures → store_mishaps new ≡ store_mishaps old → DeviceIs size x (store_mishaps new) (store_facts new)
+  calm_device x mishaps failures same =
+      let still = stays size b (store_mishaps old) (store_mishaps new) (store_facts old) (store_facts new) device same no_fewer fits in
+      let P : ℕ → Type 0 = λ n. n ≤ (store_facts new).failures in
+      (mishaps ∙ still.0, subst P (sym failures) still.1, still.2)
 
   with_none : life.doubt ≡ None → (o : Result ℕ ℕ) (x : Bench) → IssuedBy None c life b o x → Issued c life b o x
   with_none calm o x i = let P : Option Change → Type 0 = λ d. IssuedBy d c life b o x in subst P (sym calm) i
 
-  up_ok : life.doubt ≡ None → (n : ℕ) → Acknowledges life.now life.receipts c n (life_of (store_in new)) → DeviceIs size b (store_mishaps (store_in new)) (store_facts (store_in new)) → Told (Ok n)
+  issued_ok : life.doubt ≡ None → (n : ℕ) → Reaches life.now life.receipts c → n ≡ life.receipts + 1 → Issued c life b (Ok n) (acknowledged c life b)
+  issued_ok calm n reaches is =
+      let x = acknowledged c life b in
+      let Q : Option ℕ → Type 0 = λ r. Writes r c life b (Ok n) x in
+      with_none calm (Ok n) x (inr (reaches.0, subst Q (sym reaches.1) (inl (ap (λ k. Ok k) is, refl))))
+
+  up_ok : life.doubt ≡ None → (n : ℕ) → Acknowledges life.now life.receipts c n (life_of new) → DeviceIs size b (store_mishaps new) (store_facts new) → Goes (Ok n)
   up_ok calm n did now =
       let x = acknowledged c life b in
-      let P : Option Change → Type 0 = λ d. IsAs (store_in new) (after life.now c) (life.receipts + 1) d in
-      let Q : Option ℕ → Type 0 = λ r. Writes r c life b (Ok n) x in (
+      let P : Option Change → Type 0 = λ d. IsAs new (after life.now c) (life.receipts + 1) d in (
         x,
-        with_none calm (Ok n) x (inr (did.0.0, subst Q (sym did.0.1) (inl (ap (λ k. Ok k) did.1, refl)))),
-        (((follows_more size b.medium b.kept c life (store_size (store_in new)) here, subst P (sym calm) did.2), keeps_machine), now),
+        issued_ok calm n did.0 did.1,
+        (record life { now = after life.now c; receipts = life.receipts + 1 }, refl, (follows_more size b.medium b.kept c life (store_size new) here, subst P (sym calm) did.2), refl, now),
         refl,
       )
 
   number : (e f : Refusal) → e ≡ f → ◌≡◌ {A = Result ℕ ℕ} (Err (number_of e)) (Err (number_of f))
   number e f is = ap (λ x. Err (number_of x)) is
 
-  up_err : life.doubt ≡ None → (e : Refusal) → Refuses life.now life.receipts c e (life_of (store_in new)) → CausedRefusal (store_mishaps (store_in old)) e (store_mishaps (store_in new))
-      → (e ≡ Device → Failed (store_facts (store_in old)).failures (store_facts (store_in new)).failures) → (e ≡ Down → Failed (store_facts (store_in old)).failures (store_facts (store_in new)).failures)
-      → Told (Err (number_of e))
+  up_err : life.doubt ≡ None → (e : Refusal) → Refuses life.now life.receipts c e (life_of new) → CausedRefusal (store_mishaps old) e (store_mishaps new)
+      → (e ≡ Device → Failed (store_facts old).failures (store_facts new).failures) → (e ≡ Down → Failed (store_facts old).failures (store_facts new).failures)
+      → Goes (Err (number_of e))
   up_err calm e (inl did) cause fails downs =
-      let x =
-      hindered size b (store_mishaps (store_in old)) (store_mishaps (store_in new)) (store_facts (store_in old)) (store_facts (store_in new)) device (struck e (store_mishaps (store_in old)) (store_mishaps (store_in new)) cause did.0) (fails did.0) fits in
-      let y = failed (store_mishaps (store_in new)) b in
+      let x = hindered size b (store_mishaps old) (store_mishaps new) (store_facts old) (store_facts new) device (struck e (store_mishaps old) (store_mishaps new) cause did.0) (fails did.0) fits in
+      let y = failed (store_mishaps new) b in
       let Q : Option ℕ → Type 0 = λ r. Writes r c life b (Err (number_of e)) y in
-      (y, with_none calm (Err (number_of e)) y (inr (did.1.0, subst Q (sym did.1.1) (inr (inl (number e Device did.0, x.0))))), (again calm did.2, x.1), refl)
+      (y, with_none calm (Err (number_of e)) y (inr (did.1.0, subst Q (sym did.1.1) (inr (inl (number e Device did.0, x.0))))), again y refl refl refl calm did.2 x.1, refl)
   up_err calm e (inr (inl did)) cause fails downs =
       let d = in_doubt c life b in
-      let x =
-      hindered size d (store_mishaps (store_in old)) (store_mishaps (store_in new)) (store_facts (store_in old)) (store_facts (store_in new)) device (downed e (store_mishaps (store_in old)) (store_mishaps (store_in new)) cause did.0) (downs did.0) fits in
-      let y = failed (store_mishaps (store_in new)) d in
+      let x = hindered size d (store_mishaps old) (store_mishaps new) (store_facts old) (store_facts new) device (downed e (store_mishaps old) (store_mishaps new) cause did.0) (downs did.0) fits in
+      let y = failed (store_mishaps new) d in
       let Q : Option ℕ → Type 0 = λ r. Writes r c life b (Err (number_of e)) y in (
         y,
         with_none calm (Err (number_of e)) y (inr (did.1.0, subst Q (sym did.1.1) (inr (inr (number e Down did.0, x.0))))),
-        (((follows_doubt size b.medium b.kept c life (store_size (store_in new)) here, did.2), keeps_machine), x.1),
+        (record life { doubt = Some c }, refl, (follows_doubt size b.medium b.kept c life (store_size new) here, did.2), refl, x.1),
         refl,
       )
   up_err calm e (inr (inr (inl did))) cause fails downs =
-      let same = untouched e (store_mishaps (store_in old)) (store_mishaps (store_in new)) cause (λ f. (let no : ⊥ = cc in no)) (λ f. (let no : ⊥ = cc in no)) in
-      (b, with_none calm (Err (number_of e)) b (inl (did.1, number e JournalFull did.0, refl)), (again calm did.2, calm_device same), refl)
+      let same = untouched e (store_mishaps old) (store_mishaps new) cause (λ f. (let no : ⊥ = cc in no)) (λ f. (let no : ⊥ = cc in no)) in
+      (b, with_none calm (Err (number_of e)) b (inl (did.1, number e JournalFull did.0, refl)), again b refl refl refl calm did.2 (calm_device b refl refl same), refl)
   up_err calm e (inr (inr (inr did))) cause fails downs =
-      let same = untouched e (store_mishaps (store_in old)) (store_mishaps (store_in new)) cause (not_down life.now c e did.0) (not_device life.now c e did.0) in
+      let same = untouched e (store_mishaps old) (store_mishaps new) cause (not_down life.now c e did.0) (not_device life.now c e did.0) in
       let Q : Option ℕ → Type 0 = λ r. Writes r c life b (Err (number_of e)) b in
-      (b, with_none calm (Err (number_of e)) b (inr (did.1, subst Q (sym did.0) (refl, refl))), (again calm did.2, calm_device same), refl)
+      (b, with_none calm (Err (number_of e)) b (inr (did.1, subst Q (sym did.0) (refl, refl))), again b refl refl refl calm did.2 (calm_device b refl refl same), refl)
 
-  nothing : life.doubt ≡ None → IsAs (store_in old) life.now life.receipts None
-  nothing calm = let P : Option Change → Type 0 = λ d. IsAs (store_in old) life.now life.receipts d in subst P calm was.0.1
-
-  pub told_ok : ends_life c ≡ false → (doubt : Option Change) → life.doubt ≡ doubt → (n : ℕ)
-      → (doubt_of (store_in old) ≡ None → Applied (life_of (store_in old)) c (Ok n) (life_of (store_in new))) → ((d : Change) → doubt_of (store_in old) ≡ Some d → (◌≡◌ {A = Result ℕ Refusal} (Ok n) (Err Down)) × (store_in new ≡ store_in old))
-      → (doubt_of (store_in old) ≡ None → store_mishaps (store_in new) ≡ store_mishaps (store_in old)) → Told (Ok n)
-  told_ok goes None calm n up down unmoved =
-      let did = acknowledges life.now life.receipts c (life_of (store_in old)) (life_of (store_in new)) (nothing calm) goes n (up (was.0.1.2 ∙ calm)) in
-      up_ok calm n did (calm_device (unmoved (was.0.1.2 ∙ calm)))
-  told_ok goes (Some d) calm n up down unmoved = absurd (let e = (down d (was.0.1.2 ∙ calm)).0 in let no : ⊥ = cc in no)
-
-  pub told_err : (doubt : Option Change) → life.doubt ≡ doubt → (e : Refusal)
-      → (doubt_of (store_in old) ≡ None → Applied (life_of (store_in old)) c (Err e) (life_of (store_in new))) → ((d : Change) → doubt_of (store_in old) ≡ Some d → (◌≡◌ {A = Result ℕ Refusal} (Err e) (Err Down)) × (store_in new ≡ store_in old))
-      → (doubt_of (store_in old) ≡ None → CausedRefusal (store_mishaps (store_in old)) e (store_mishaps (store_in new)))
-      → (doubt_of (store_in old) ≡ None → CountedRefusal (store_facts (store_in old)).failures e (store_facts (store_in new)).failures) → Told (Err (number_of e))
-  told_err None calm e up down cause counts =
-      let none = was.0.1.2 ∙ calm in
-      let did = refused life.now life.receipts c (life_of (store_in old)) (life_of (store_in new)) (nothing calm) e (up none) in
-      let P : Refusal → Type 0 = λ f. CountedRefusal (store_facts (store_in old)).failures f (store_facts (store_in new)).failures in
-      up_err calm e did (cause none) (λ is. subst P is (counts none)) (λ is. subst P is (counts none))
-  told_err (Some d) calm e up down cause counts =
-      let did = down d (was.0.1.2 ∙ calm) in
-      let P : Option Change → Type 0 = λ d. IssuedBy d c life b (Err (number_of e)) b in
-      let Q : Store → Type 0 = λ store. Follows size b.medium b.kept life (store_size store) × IsAs store life.now life.receipts life.doubt in
-      let R : Option Life → Type 0 = λ p. BoardIs size b.medium b.kept p new in
+  -- the store as it was
+  pub unmoved : new ≡ old → Running size b life.machine new
+  unmoved same =
+      let Q : Store → Type 0 = λ store. StoreIs size b.medium b.kept life store in
       let S : Store → Type 0 = λ store. DeviceIs size b (store_mishaps store) (store_facts store) in
-      (b, subst P (sym calm) (number e Down (same_error did.0), refl), (subst R (sym on) (subst Q (sym did.1) was.0, keeps_machine), subst S (sym did.1) device), refl)
+      (life, on, subst Q (sym same) was, refl, subst S (sym same) device)
+
+  module _ (is : life.doubt ≡ None → IsLife seen life.now life.receipts None) where
+    never_ok : {A : Type 0} (d : Change) → life.doubt ≡ Some d → (n : ℕ) → ((d : Change) → doubt_of old ≡ Some d → (◌≡◌ {A = Result ℕ Refusal} (Ok n) (Err Down)) × (new ≡ old)) → A
+    never_ok d calm n down = absurd (let e = (down d (was.1.2 ∙ calm)).0 in let no : ⊥ = cc in no)
+
+    pub told_ok : ends_life c ≡ false → (doubt : Option Change) → life.doubt ≡ doubt → (n : ℕ)
+        → (doubt_of old ≡ None → Applied seen c (Ok n) (life_of new)) → ((d : Change) → doubt_of old ≡ Some d → (◌≡◌ {A = Result ℕ Refusal} (Ok n) (Err Down)) × (new ≡ old))
+        → (doubt_of old ≡ None → store_mishaps new ≡ store_mishaps old) → Goes (Ok n)
+    told_ok goes None calm n up down unmoved =
+        let did = acknowledges life.now life.receipts c seen (life_of new) (is calm) goes n (up (was.1.2 ∙ calm)) in
+        up_ok calm n did (calm_device b refl refl (unmoved (was.1.2 ∙ calm)))
+    told_ok goes (Some d) calm n up down unmoved = never_ok d calm n down
+
+    -- a command that ended the life
+    pub told_end : (doubt : Option Change) → life.doubt ≡ doubt → (n : ℕ)
+        → (doubt_of old ≡ None → Applied seen c (Ok n) (life_of new)) → ((d : Change) → doubt_of old ≡ Some d → (◌≡◌ {A = Result ℕ Refusal} (Ok n) (Err Down)) × (new ≡ old))
+        → (doubt_of old ≡ None → store_mishaps new ≡ store_mishaps old)
+        → Issued c life b (Ok n) (acknowledged c life b) × IsOver size b.medium (acknowledged c life b).kept new × DeviceIs size b (store_mishaps new) (store_facts new)
+    told_end None calm n up down unmoved =
+        let did = ended life.now life.receipts c seen (life_of new) (is calm) n (up (was.1.2 ∙ calm)) in
+        (issued_ok calm n did.0 did.1, over_more size b.medium b.kept c life new here calm did.2 did.3, calm_device b refl refl (unmoved (was.1.2 ∙ calm)))
+    told_end (Some d) calm n up down unmoved = never_ok d calm n down
+
+    pub told_up : life.doubt ≡ None → (e : Refusal) → Refused seen c e (life_of new) → CausedRefusal (store_mishaps old) e (store_mishaps new) → CountedRefusal (store_facts old).failures e (store_facts new).failures
+        → Goes (Err (number_of e))
+    told_up calm e up cause counts =
+        let did = refused life.now life.receipts c seen (life_of new) (is calm) e up in
+        let P : Refusal → Type 0 = λ f. CountedRefusal (store_facts old).failures f (store_facts new).failures in
+        up_err calm e did cause (λ is. subst P is counts) (λ is. subst P is counts)
+
+    pub told_down : (d : Change) → life.doubt ≡ Some d → (e : Refusal) → ((◌≡◌ {A = Result ℕ Refusal} (Err e) (Err Down)) × (new ≡ old)) → Goes (Err (number_of e))
+    told_down d calm e did =
+        let P : Option Change → Type 0 = λ d. IssuedBy d c life b (Err (number_of e)) b in
+        (b, subst P (sym calm) (number e Down (same_error did.0), refl), unmoved did.1, refl)
+
+    pub told_err : (doubt : Option Change) → life.doubt ≡ doubt → (e : Refusal)
+        → (doubt_of old ≡ None → Refused seen c e (life_of new)) → ((d : Change) → doubt_of old ≡ Some d → (◌≡◌ {A = Result ℕ Refusal} (Err e) (Err Down)) × (new ≡ old))
+        → (doubt_of old ≡ None → CausedRefusal (store_mishaps old) e (store_mishaps new))
+        → (doubt_of old ≡ None → CountedRefusal (store_facts old).failures e (store_facts new).failures) → Goes (Err (number_of e))
+    told_err None calm e up down cause counts = let none = was.1.2 ∙ calm in told_up calm e (up none) (cause none) (counts none)
+    told_err (Some d) calm e up down cause counts = told_down d calm e (down d (was.1.2 ∙ calm))

@@ -9,7 +9,7 @@ use Rattle.store.specs.Stores.{Stands, Doubts, now_state, doubt_of}
 use Rattle.simdisk.specs.declared.SimDisk.{SimDisk}
 use Rattle.bench_report.specs.Below.{facts, Store, Board, store_in, IsAs, store_size}
 use Rattle.bench_report.specs.Bench.{Medium, Blank, Unknown, Formatted, Life}
-use Rattle.bench_report.specs.Agree.{StoreIs, BoardIs, DiskIs}
+use Rattle.bench_report.specs.Agree.{StoreIs, BoardIs, DiskIs, IsOver}
 use Rattle.bench_report.proofs.Adapted.{grows}
 use Rattle.bench_report.proofs.KeptDisks.{GoesOn, LeavesLess}
 
@@ -59,6 +59,12 @@ ended size Blank k life store disk was up down allowed = absurd was.0
 ended size Unknown k life store disk was up down allowed = tt
 ended size Formatted k life store disk was up down allowed =
     left size k life.now life.receipts life.doubt store disk was.0.0 was.0.1 was.0.2 was.1 up down allowed
+
+-- that of a life which its own command ended
+pub over_ended : (size : Size) (m : Medium) (k : Kept) (store : Store) (disk : Facts) → IsOver size m k store → LeftUp store disk → DiskIs size m k disk
+over_ended size Blank k store disk was up = absurd was
+over_ended size Unknown k store disk was up = tt
+over_ended size Formatted k store disk was up = left_only size (store_size store) k (now_state store) disk was.1 was.2 (up (now_state store) (was.3, refl))
 
 pub board_ended : (size : Size) (m : Medium) (k : Kept) (p : Option Life) (board : Board) (disk : Facts) → BoardIs size m k p board → LeftUp (store_in board) disk → LeftDown (store_in board) disk
     → IsAllowed (store_in board) → DiskIs size m k disk

@@ -11,10 +11,13 @@ pub mod Written
 pub mod Told
 pub mod Determined
 pub mod Smooth
+pub mod Guests
 pub mod Single
+pub mod Unsaid
 pub mod Prefixed
 pub mod Issues
 pub mod PlainRun
 pub mod Started
+pub mod Came
 pub mod Lines
 pub mod RunLines

@@ -1,9 +1,17 @@
 -- Lines that speak of memory and harts, or keep a payload, by what the code's board did.
-use Rattle.std.proofs.Common.{◌≡◌, slice_set, ℕ, List, length, Option, None, Some, refl, sym, ◌∙◌, ap, subst}
+use Rattle.std.proofs.Common.{◌≡◌, ◌≤◌, inl, inr, zero, suc, Bool, true, false, arith, slice_set, ℕ, List, length, Option, None, Some, refl, sym, ◌∙◌, ap, subst}
 use Rattle.board_model.specs.declared.boot_mode.BootMode.{BootMode}
 use Rattle.board_model.specs.Shapes.{Size}
 use Rattle.simdisk.specs.declared.SimDisk.{SimDisk}
-use Rattle.machine.specs.Machine.{Machine}
+use Rattle.std.proofs.lemmas.Bool.{cases_lt}
+use Rattle.machine.specs.Machine.{Machine, hart_at}
+use Rattle.machine.specs.Turns.{Calls}
+use Rattle.machine.specs.declared.parts.Word.{Word}
+use Rattle.machine.specs.declared.parts.Word.TheVariants as words
+use Rattle.board.specs.Turns as boards
+use Rattle.machine.specs.declared.parts.Called.{Called}
+use Rattle.machine.specs.declared.parts.Called.TheVariants.{NotStarted, Made}
+use Rattle.machine_lines.specs.Shows.{Has, own_line, made_line, called_line}
 use Rattle.machine_lines.specs.declared.line.MachineLine.{MachineLine}
 use Rattle.machine_lines.specs.declared.line.MachineLine.TheVariants as shown
 use Rattle.bench_report.specs.declared.power.Power.{Power}
@@ -11,9 +19,10 @@ use Rattle.bench_report.specs.declared.power.Power.TheVariants.{Off, On}
 use Rattle.bench_report.specs.declared.printed.Answer.{Answer}
 use Rattle.bench_report.specs.Below.{Store, Board, store_in, machine_in, store_size, store_facts, store_mishaps, IsAs}
 use Rattle.bench_report.specs.Bench.{Life, Bench}
-use Rattle.bench_report.specs.Steps.{shows, on_with, has_machine, FormatsOn, FormatStep, PowersOn, OnStep, PayloadStep, GuestStep, ReadStep}
-use Rattle.bench_report.proofs.Commanded.{follows_with}
-use Rattle.bench_report.specs.Agree.{Follows, StoreIs, BoardIs, DeviceIs, OffIs, OnIs, Agrees, IsBench, Goes}
+use Rattle.bench_report.specs.Steps.{shows, on_with, has_machine, FormatsOn, FormatStep, PowersOn, OnStep, PayloadStep, CallTold, GuestCall, TurnStep, CallStep, ReadStep}
+use Rattle.bench_report.proofs.Commanded.{Running, running_on}
+use Rattle.bench_report.proofs.Came.{Stands, has_other, comes, turns}
+use Rattle.bench_report.specs.Agree.{StoreIs, BoardIs, DeviceIs, OffIs, OnIs, StandsBy, Agrees, IsBench, Matches, Goes}
 
 -- a board that is off
 pub off_formats : (size : Size) (b : Bench) (a : Answer) (after : Power) → b.power ≡ None → Goes size b after (FormatsOn b.medium b a) → Goes size b after (FormatStep b.power b a)
@@ -37,37 +46,99 @@ on_reads size b board says_so line was so = by b.power was.0
     by None is = absurd is
     by (Some life) is = let P : Machine → Type 0 = λ m. says_so m line in (line, subst P is.1 so, refl, refl)
 
-pub on_guest : (size : Size) (b : Bench) (old new : Board) (does : Machine → Machine → MachineLine → Type 0) (line : MachineLine) → OnIs size b old → does (machine_in old) (machine_in new) line → store_in new ≡ store_in old
-    → Goes size b (On new) (GuestStep b.power does b (shows line))
-on_guest size b old new does line was did same = by b.power was.0
-  where
-    by : (p : Option Life) → BoardIs size b.medium b.kept p old → Goes size b (On new) (GuestStep p does b (shows line))
-    by None is = absurd is
-    by (Some life) is =
-        let P : Machine → Type 0 = λ m. does m (machine_in new) line in
-        let Q : Store → Type 0 = λ store. Follows size b.medium b.kept life (store_size store) × IsAs store life.now life.receipts life.doubt in
-        let R : Store → Type 0 = λ store. DeviceIs size b (store_mishaps store) (store_facts store) in
-        let store = subst Q (sym same) is.0 in (
-          on_with (has_machine (machine_in new) life) b,
-          (line, machine_in new, subst P is.1 did, refl, refl),
-          (((follows_with size b.medium b.kept life (machine_in new) (store_size (store_in new)) store.0, store.1), refl), subst R (sym same) was.1),
-          refl,
-        )
-
--- a look that leaves the board as it was
-pub on_looks : (size : Size) (b : Bench) (old new : Board) (says_so : Machine → MachineLine → Type 0) (line : MachineLine) → OnIs size b old → says_so (machine_in old) line → machine_in new ≡ machine_in old → store_in new ≡ store_in old
-    → Goes size b (On new) (ReadStep b.power says_so b (shows line))
-on_looks size b old new says_so line was so still same =
+-- a board of which nothing changed
+as_it_was : (size : Size) (b : Bench) (old new : Board) → OnIs size b old → machine_in new ≡ machine_in old → store_in new ≡ store_in old → OnIs size b new
+as_it_was size b old new was still same =
     let R : Store → Type 0 = λ store. DeviceIs size b (store_mishaps store) (store_facts store) in
-    (b, on_reads size b old says_so line was so, (by b.power was.0, subst R (sym same) was.1), refl)
+    (by b.power was.0, subst R (sym same) was.1)
   where
     by : (p : Option Life) → BoardIs size b.medium b.kept p old → BoardIs size b.medium b.kept p new
     by None is = absurd is
     by (Some life) is = let Q : Store → Type 0 = λ store. StoreIs size b.medium b.kept life store in (subst Q (sym same) is.0, still ∙ is.1)
 
+-- a board by what is said of it, and by its machine and its store
+on_runs : (size : Size) (b : Bench) (life : Life) (board : Board) → b.power ≡ Some life → BoardIs size b.medium b.kept (Some life) board → DeviceIs size b (store_mishaps (store_in board)) (store_facts (store_in board))
+    → Running size b (machine_in board) (store_in board)
+on_runs size b life board on is device = (life, on, is.0, is.1, device)
+
+stands_by : (size : Size) (word : Word) (b : Bench) (board : Board) → Stands size word b (machine_in board) (store_in board) → StandsBy size word b board
+stands_by size (words.Own did) b board is = running_on size b board is
+stands_by size words.Asleep b board is = is
+stands_by size (words.Reset kind) b board is = is
+
+-- a line of turns, by what the board did
+pub on_turns : (size : Size) (b : Bench) (old new : Board) (h n made : ℕ) (word : Word) (after : Power) → OnIs size b old → Has (machine_in old) h
+    → boards.TurnsMany h n (machine_in old) (machine_in new) (store_in old) (store_in new) made word → ((x : Bench) → StandsBy size word x new → Agrees size x after)
+    → Goes size b after (TurnStep b.power h n b (shows (shown.Turn h made word)))
+on_turns size b old new h n made word after was has turned agrees = by b.power was.0 refl
+  where
+    by : (p : Option Life) → BoardIs size b.medium b.kept p old → b.power ≡ p → Goes size b after (TurnStep p h n b (shows (shown.Turn h made word)))
+    by None is on = absurd is
+    by (Some life) is on =
+        let P : Machine → Type 0 = λ m. Has m h in
+        let did = turns size h n b (machine_in old) (machine_in new) (store_in old) (store_in new) made word (on_runs size b life old on is was.1) turned in
+        (did.0, inl (subst P is.1 has, made, word, did.1, refl), agrees did.0 (stands_by size word did.0 new did.2), did.3)
+
+-- a line whose hart the board lacks
+lacks : (size : Size) (b : Bench) (board : Board) (h : ℕ) (p : Option Life) → BoardIs size b.medium b.kept p board → (Has (machine_in board) h → ⊥) → (step : Option Life → Type 0) → ((life : Life) → (Has life.machine h → ⊥) → step (Some life)) → step p
+lacks size b board h None is not step then = absurd is
+lacks size b board h (Some life) is not step then = let P : Machine → Type 0 = λ m. Has m h → ⊥ in then life (subst P is.1 not)
+
+pub turns_off : (size : Size) (b : Bench) (board : Board) (h n : ℕ) → OnIs size b board → (Has (machine_in board) h → ⊥) → Goes size b (On board) (TurnStep b.power h n b (shows shown.Off))
+turns_off size b board h n was not = (b, lacks size b board h b.power was.0 not (λ p. TurnStep p h n b (shows shown.Off) b) (λ life no. inr (no, refl, refl)), was, refl)
+
+pub calls_off : (size : Size) (b : Bench) (board : Board) (h e f x y z : ℕ) → OnIs size b board → (Has (machine_in board) h → ⊥) → Goes size b (On board) (CallStep b.power h e f x y z b (shows shown.Off))
+calls_off size b board h e f x y z was not = (b, lacks size b board h b.power was.0 not (λ p. CallStep p h e f x y z b (shows shown.Off) b) (λ life no. inr (no, refl, refl)), was, refl)
+
+-- a line of a call, by what the board did
+told_as : (size : Size) (h : ℕ) (word : Word) (b : Bench) (n : Machine) (store : Store) (line : MachineLine) → Stands size word b n store → line ≡ made_line h (hart_at n h) word → CallTold h word b (shows line)
+told_as size h (words.Own did) b n store line (life, on, is, same, device) e = (life, on, ap shows (e ∙ ap (λ m. own_line h (hart_at m h) did) same))
+told_as size h words.Asleep b n store line is e = ap shows e
+told_as size h (words.Reset kind) b n store line is e = ap shows e
+
+module _ (size : Size) (b : Bench) (old new : Board) (h e f x y z : ℕ) (said : Option Word) (line : MachineLine) (after : Power) (was : OnIs size b old) (has : Has (machine_in old) h) (shows_it : line ≡ called_line h (hart_at (machine_in new) h) said) where
+  -- what the board is, where a word was said and where none was
+  abbrev pub Follows : Option Word → Type 0
+  Follows None = (w : Bench) → OnIs size w new → Agrees size w after
+  Follows (Some word) = (w : Bench) → StandsBy size word w new → Agrees size w after
+
+  came : (life : Life) (m : Machine) (called : Called) → b.power ≡ Some life → BoardIs size b.medium b.kept (Some life) old → m.size ≡ life.machine.size
+      → boards.ComesOf called h m (machine_in new) (store_in old) (store_in new) said → Follows said
+      → (w : Bench) × GuestCall called h (has_machine m life) (on_with (has_machine m life) b) (shows line) w × Agrees size w after × (w.payloads ≡ b.payloads)
+  came life m NotStarted on is sized (same, still, none) follows =
+      let x : Bench = on_with (has_machine m life) b in
+      let Q : Store → Type 0 = λ store. StoreIs size b.medium b.kept (has_machine m life) store in
+      let S : Store → Type 0 = λ store. DeviceIs size b (store_mishaps store) (store_facts store) in
+      let F : Option Word → Type 0 = Follows in
+      let on_new : OnIs size x new = ((subst Q (sym still) (has_other size b life m (store_in old) sized is.0), same), subst S (sym still) was.1) in
+      (x, (ap shows (shows_it ∙ ap (called_line h (hart_at (machine_in new) h)) none), refl), subst F none follows x on_new, refl)
+  came life m (Made did) on is sized (word, made, some) follows =
+      let x : Bench = on_with (has_machine m life) b in
+      let F : Option Word → Type 0 = Follows in
+      let did_so = comes size x (has_machine m life) h (machine_in new) (store_in old) (store_in new) refl (has_other size b life m (store_in old) sized is.0) was.1 did word made in
+      let told = told_as size h word did_so.0 (machine_in new) (store_in new) line did_so.2 (shows_it ∙ ap (called_line h (hart_at (machine_in new) h)) some) in
+      (did_so.0, (word, did_so.1, told), subst F some follows did_so.0 (stands_by size word did_so.0 new did_so.2), did_so.3)
+
+  pub on_calls : boards.Calls h e f x y z (machine_in old) (machine_in new) (store_in old) (store_in new) said → Follows said → Goes size b after (CallStep b.power h e f x y z b (shows line))
+  on_calls (m, called, call, comes_of) follows = by b.power was.0 refl
+    where
+      by : (p : Option Life) → BoardIs size b.medium b.kept p old → b.power ≡ p → Goes size b after (CallStep p h e f x y z b (shows line))
+      by None is on = absurd is
+      by (Some life) is on =
+          let P : Machine → Type 0 = λ k. Has k h in
+          let C : Machine → Type 0 = λ k. Calls h e f x y z k m called in
+          let sized : m.size ≡ life.machine.size = ap (λ (k : Machine). k.size) call.2 ∙ ap (λ (k : Machine). k.size) is.1 in
+          let did = came life m called on is sized comes_of follows in
+          (did.0, inl (subst P is.1 has, m, called, subst C is.1 call, did.1), did.2, did.3)
+
+-- a look that leaves the board as it was
+pub on_looks : (size : Size) (b : Bench) (old new : Board) (says_so : Machine → MachineLine → Type 0) (line : MachineLine) → OnIs size b old → says_so (machine_in old) line → machine_in new ≡ machine_in old → store_in new ≡ store_in old
+    → Goes size b (On new) (ReadStep b.power says_so b (shows line))
+on_looks size b old new says_so line was so still same = (b, on_reads size b old says_so line was so, as_it_was size b old new was still same, refl)
+
 -- a payload
 abbrev pub Keeps : Size → Bench → Power → ℕ → List ℕ → MachineLine → List (List ℕ) → Type 0
-Keeps size b power slot bytes line payloads = (new : Bench) × PayloadStep b.power slot bytes b (shows line) new × IsBench size new power payloads
+Keeps size b power slot bytes line payloads = (new : Bench) × PayloadStep b.power slot bytes b (shows line) new × Matches size new power payloads
 
 pub keeps_off : (size : Size) (b : Bench) (power : Power) (disk : SimDisk) (slot : ℕ) (bytes : List ℕ) (old new : List (List ℕ)) → power ≡ Off disk → IsBench size b power old → new ≡ slice_set old slot bytes
     → Keeps size b power slot bytes (shown.Payload slot (length bytes)) new
@@ -81,9 +152,9 @@ keeps_off size b power disk slot bytes old new at was set =
     (next, subst P (sym off.0) (refl, refl), (subst R (sym at) next_off, set ∙ ap (λ ps. slice_set ps slot bytes) was.1))
 
 busy_on : (size : Size) (b : Bench) (power : Power) (board : Board) (p : Option Life) (slot : ℕ) (bytes : List ℕ) (old : List (List ℕ)) → BoardIs size b.medium b.kept p board → IsBench size b power old
-    → (new : Bench) × PayloadStep p slot bytes b (shows shown.Busy) new × IsBench size new power old
+    → (new : Bench) × PayloadStep p slot bytes b (shows shown.Busy) new × Matches size new power old
 busy_on size b power board None slot bytes old is was = absurd is
-busy_on size b power board (Some life) slot bytes old is was = (b, (refl, refl), was)
+busy_on size b power board (Some life) slot bytes old is was = (b, (refl, refl), (was.0, was.1))
 
 pub keeps_on : (size : Size) (b : Bench) (power : Power) (board : Board) (slot : ℕ) (bytes : List ℕ) (old : List (List ℕ)) → power ≡ On board → IsBench size b power old → Keeps size b power slot bytes shown.Busy old
 keeps_on size b power board slot bytes old at was = let Q : Power → Type 0 = λ p. Agrees size b p in let on : OnIs size b board = subst Q at was.0 in busy_on size b power board b.power slot bytes old on.0 was

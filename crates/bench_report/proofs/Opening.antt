@@ -26,11 +26,11 @@ use Rattle.bench_report.proofs.Ended.{left_on}
 pub opens : (size : Size) (m : Medium) (b : Bench) (disk : Facts) (z : Size) (s : State) → DiskIs size m b.kept disk → Leaves disk z s → (IsBlank disk → ⊥) → ((y : Size) → IsKept disk y → y ≡ z)
     → (k : Kept) × Opens size m b s z (record b { kept = k }) × Follows size m k (begun s z) z
 opens size Blank b disk z s was leaves formatted one = absurd (formatted was)
-opens size Unknown b disk z s was leaves formatted one = (b.kept, refl, tt)
+opens size Unknown b disk z s was leaves formatted one = (b.kept, refl, refl)
 opens size Formatted b disk z s was leaves formatted one =
     let P : Size → Type 0 = λ y. Leaves disk y s in
     let found : MayFind b.kept s = was.1 s (subst P (sym (one size was.0)) leaves) in
-    (record { changes = found.0; doubt = None }, (found.0, found.1, found.2, sym (one size was.0), refl), (refl, found.2, sym (one size was.0)))
+    (record { changes = found.0; doubt = None }, (found.0, found.1, found.2, sym (one size was.0), refl), (refl, found.2, sym (one size was.0), refl))
 
 -- an open that was refused, of a board that is off
 module _ (kept : KeptLaw) (blank : BlankLaw) (size : Size) (mode : BootMode) (b : Bench) (old new : SimDisk) (a : Answer) (e : Refusal) (off : b.power ≡ None) (device : DeviceIs size b (mishaps old) (facts old))

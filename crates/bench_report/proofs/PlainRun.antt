@@ -18,7 +18,8 @@ use Rattle.bench_report.specs.Reports.{IsReport}
 use Rattle.bench_report.specs.Plain.{plain_written, plain_issued, plain_format, plain_mode, plain_boot, plain_on, plain_at, plain, plain_answers, plain_report, IsPlain, ArePlain}
 use Rattle.bench_report.proofs.Determined.{CalmDisk}
 use Rattle.bench_report.proofs.Smooth.{AsMany, many_then}
-use Rattle.bench_report.proofs.Single.{IsOneTurns, IsOneCall, IsOneCsr, one_report}
+use Rattle.bench_report.proofs.Single.{IsOneCall, IsOneCsr, one_report}
+use Rattle.bench_report.proofs.Guests.{IsOneTurn}
 
 -- nothing is in doubt, and a life has room for its receipts
 abbrev CalmPower : Option Life → Type 0
@@ -160,7 +161,7 @@ runs size (l ∷ ls) b are good =
     let rest = runs size ls (plain size l b).1 are.1 one.1 in
     (rest.0, ((plain size l b).1, inl (one.0, one.1.2), rest.1), many_then b (plain size l b).1 rest.0 one.2 rest.2)
 
-pub plain_alone : IsOneTurns → IsOneCall → IsOneCsr → (script : Script) (answers : List Answer) (end : Bench) → IsReport script answers end → IsUnspoilt end → ArePlain script.lines → answers ≡ plain_report script
+pub plain_alone : IsOneTurn → IsOneCall → IsOneCsr → (script : Script) (answers : List Answer) (end : Bench) → IsReport script answers end → IsUnspoilt end → ArePlain script.lines → answers ≡ plain_report script
 plain_alone turns call csr script answers end h unspoilt plain =
     let run = runs script.size script.lines blank_bench plain (tt, tt, refl) in
     (one_report turns call csr script answers (plain_report script) end run.0 h (refl, run.1) unspoilt run.2).0

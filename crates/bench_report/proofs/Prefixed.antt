@@ -13,16 +13,26 @@ use Rattle.board.specs.Boots.{boot_refusal, BootsSlot}
 use Rattle.script_lang.specs.Scripts.{Script}
 use Rattle.script_lang.specs.declared.line.Line.{Line}
 use Rattle.script_lang.specs.declared.line.Line.TheVariants as lines
-use Rattle.machine.specs.Machine.{Machine}
+use Rattle.machine.specs.Machine.{Machine, hart_at}
+use Rattle.machine_lines.specs.Shows.{own_line}
+use Rattle.machine.specs.declared.parts.Called.{Called}
+use Rattle.machine.specs.declared.parts.Called.TheVariants.{NotStarted, Made}
+use Rattle.hart.specs.State.{State as HartState}
+use Rattle.turns.specs.declared.words.Turned.{Turned}
+use Rattle.turns.specs.declared.words.Turned.TheVariants as dids
+use Rattle.machine.specs.declared.parts.Word.{Word}
+use Rattle.machine.specs.declared.parts.Word.TheVariants as words
 use Rattle.machine_lines.specs.declared.line.MachineLine.{MachineLine}
+use Rattle.machine_lines.specs.declared.line.MachineLine.TheVariants as shown_lines
 use Rattle.bench_report.specs.declared.printed.Printed.{Printed}
 use Rattle.bench_report.specs.declared.printed.Printed.TheVariants as printed
 use Rattle.disk.specs.Mishaps.{FaultArmed, CutArmed}
 use Rattle.bench_report.specs.declared.printed.Answer.{Answer}
 use Rattle.bench_report.specs.Bench.{Medium, Blank, Unknown, Formatted, Life, Bench, blank_bench}
-use Rattle.bench_report.specs.Steps.{says, shows, starved, failed, on_with, unpowered, armed_with, formatted_anew, settled, has_machine, begun, commands_of, slot_told, IsOn, Starts, Begins, Boots, Opens, ShowsFound, IsOpenRefusal, PowersOn, FormatsOn, FormatStep, OnStep, SlotStep, PayloadStep, GuestStep, ReadStep, Step, Moves, Run}
+use Rattle.bench_report.specs.Steps.{says, shows, starved, failed, on_with, unpowered, armed_with, formatted_anew, settled, has_machine, begun, commands_of, slot_told, IsOn, Starts, Begins, Boots, Opens, ShowsFound, IsOpenRefusal, PowersOn, FormatsOn, FormatStep, OnStep, SlotStep, PayloadStep, CallTold, GuestCall, GuestTurns, TurnStep, CallStep, ReadStep, Step, Moves, Run}
 use Rattle.bench_report.specs.Reports.{IsReport}
-use Rattle.bench_report.specs.Prefix.{Asked, Boot, Command, Nothing, asked_by, Refused, Lost, Tells, ShowsIts, IsPrefixed, resumed, resumes, RisesFrom, is_format_ok, IsFoundByPrefix, KeepsPrefixLaw}
+use Rattle.bench_report.specs.Prefix.{Asked, Boot, Command, Guest, Nothing, IsOfHarts, Hides, TellsWord, TellsLine, asked_by, Refused, Lost, Tells, ShowsIts, IsPrefixed, resumed, resumes, RisesFrom, is_format_ok, IsFoundByPrefix, KeepsPrefixLaw}
+use Rattle.bench_report.proofs.Unsaid.{GoesBy, comes_back, turns_back}
 use Rattle.bench_report.proofs.Issues.{takes_more, is_up, GoesOn, IsSound, Back, joined, said, Went, Does, issued_back, AllWent, all_back}
 
 -- ---- lost power
@@ -58,6 +68,30 @@ lost_command c (printed.On m) s t up now h = absurd h
 lost_command c printed.PowerLost s t up now h = h.0
 lost_command c x s t up now h = inl h.0
 
+-- what power lost in a line of turns or a call may leave
+abbrev LostGuest : State → Bool → State → Type 0
+LostGuest s up t = (t ≡ s) ⊎ ((up ≡ true) × (c : Change) × IsOfHarts c × TakesSome (c ∷ []) s t)
+
+lost_hides : (s t : State) (up now : Bool) → Hides s up t now → LostGuest s up t
+lost_hides s t up now (inl h) = inl h.0
+lost_hides s t up now (inr h) = inr (h.0, h.2, h.3, h.4)
+
+lost_word : (word : Word) (s t : State) (up now : Bool) → TellsWord word s up t now → LostGuest s up t
+lost_word (words.Own did) s t up now h = lost_hides s t up now h
+lost_word words.Asleep s t up now h = inr (h.0, h.2, inr h.3, all_some (h.2 ∷ []) s t h.4)
+lost_word (words.Reset kind) s t up now h = inr (h.0, h.2, inl h.3, all_some (h.2 ∷ []) s t h.4)
+
+lost_line : (line : MachineLine) (s t : State) (up now : Bool) → TellsLine line s up t now → LostGuest s up t
+lost_line (shown_lines.Turn h made word) s t up now x = lost_word word s t up now x
+lost_line (shown_lines.Called h word) s t up now x = lost_word word s t up now x
+lost_line line s t up now x = lost_hides s t up now x
+
+lost_guest : (x : Printed) (s t : State) (up now : Bool) → Tells Guest x s up t now → LostGuest s up t
+lost_guest (printed.Shown line) s t up now h = lost_line line s t up now h
+lost_guest (printed.On m) s t up now h = absurd h
+lost_guest printed.PowerLost s t up now h = h.0
+lost_guest x s t up now h = inl h.0
+
 lost_nothing : (x : Printed) (s t : State) (up now : Bool) → Tells Nothing x s up t now → t ≡ s
 lost_nothing (printed.On m) s t up now h = absurd h
 lost_nothing x s t up now h = h.0
@@ -65,6 +99,7 @@ lost_nothing x s t up now h = h.0
 lost : (asked : Asked) (x : Printed) (s t : State) (up now : Bool) → Tells asked x s up t now → Lost asked s up t
 lost (Boot mode) x s t up now h = lost_boot mode x s t up now h
 lost (Command c) x s t up now h = lost_command c x s t up now h
+lost Guest x s t up now h = lost_guest x s t up now h
 lost Nothing x s t up now h = lost_nothing x s t up now h
 
 -- ---- a line that leaves what the disk stands for
@@ -225,11 +260,48 @@ payload_at : (p : Option Life) (slot : ℕ) (bytes : List ℕ) (b : Bench) (a : 
 payload_at (Some life) slot bytes b a new sound h = shows_on _ b a new sound h.0 h.1
 payload_at None slot bytes b a new sound h = same Nothing b a _ new _ h.0 h.1 refl refl refl sound.1 sound (λ s t e. (e, refl))
 
-guest_at : (p : Option Life) (does : Machine → Machine → MachineLine → Type 0) (b : Bench) (a : Answer) (new : Bench) → IsSound b → b.power ≡ p → GuestStep p does b a new → Tell Nothing b a new
-guest_at None does b a new sound on x = shows_on _ b a new sound x.0 x.1
-guest_at (Some life) does b a new sound on (line, m, did, e, f) =
+-- turns and calls
+turn_says : (word : Word) (h made : ℕ) (b : Bench) (a : Answer) (new : Bench) → GoesBy word b new → a ≡ shows (shown_lines.Turn h made word) → Tell Guest b a new
+turn_says word h made b a new back e =
+    by_eqs Guest b a _ new new e refl (said b new (λ s t. TellsWord word s (is_up b.power) t (is_up new.power)) (λ s t. Told Guest (shows (shown_lines.Turn h made word)) (is_up b.power) (is_up new.power) s t) back (λ s t w. (tt, w)))
+
+line_says : (word : Word) (line : MachineLine) (b : Bench) (a : Answer) (new : Bench) → GoesBy word b new → a ≡ shows line → ((s t : State) → TellsWord word s (is_up b.power) t (is_up new.power) → TellsLine line s (is_up b.power) t (is_up new.power)) → Tell Guest b a new
+line_says word line b a new back e tells =
+    by_eqs Guest b a _ new new e refl (said b new (λ s t. TellsWord word s (is_up b.power) t (is_up new.power)) (λ s t. Told Guest (shows line) (is_up b.power) (is_up new.power) s t) back (λ s t w. (tt, tells s t w)))
+
+own_tells : (h : ℕ) (hart : HartState) (did : Turned) (s t : State) (up now : Bool) → Hides s up t now → TellsLine (own_line h hart did) s up t now
+own_tells h hart dids.Next s t up now w = w
+own_tells h hart dids.Idle s t up now w = w
+own_tells h hart dids.Entered s t up now w = w
+own_tells h hart dids.Woke s t up now w = w
+own_tells h hart dids.Suspended s t up now w = w
+own_tells h hart dids.Stopped s t up now w = w
+own_tells h hart dids.Durable s t up now w = w
+
+call_says : (word : Word) (h : ℕ) (b : Bench) (a : Answer) (new : Bench) → GoesBy word b new → CallTold h word new a → Tell Guest b a new
+call_says (words.Own did) h b a new back (life, on, e) =
+    line_says (words.Own did) (own_line h (hart_at life.machine h) did) b a new back e (λ s t w. own_tells h (hart_at life.machine h) did s t (is_up b.power) (is_up new.power) w)
+call_says words.Asleep h b a new back e = line_says words.Asleep (shown_lines.Called h words.Asleep) b a new back e (λ s t w. w)
+call_says (words.Reset kind) h b a new back e = line_says (words.Reset kind) (shown_lines.Called h (words.Reset kind)) b a new back e (λ s t w. w)
+
+stays_off : (b : Bench) (a : Answer) (new : Bench) → IsSound b → a ≡ shows shown_lines.Off → new ≡ b → Tell Guest b a new
+stays_off b a new sound e f = stays Guest b a (printed.Shown shown_lines.Off) new e f sound (λ s t e. inl (e, refl))
+
+turn_at : (p : Option Life) (h n : ℕ) (b : Bench) (a : Answer) (new : Bench) → IsSound b → TurnStep p h n b a new → Tell Guest b a new
+turn_at None h n b a new sound x = stays_off b a new sound x.0 x.1
+turn_at (Some life) h n b a new sound (inl (has, made, word, x, e)) = turn_says word h made b a new (turns_back h n b made word new sound x) e
+turn_at (Some life) h n b a new sound (inr x) = stays_off b a new sound x.1 x.2
+
+called_at : (called : Called) (h : ℕ) (m : Machine) (life : Life) (b : Bench) (a : Answer) (new : Bench) → IsSound b → b.power ≡ Some life → GuestCall called h (has_machine m life) (on_with (has_machine m life) b) a new → Tell Guest b a new
+called_at NotStarted h m life b a new sound on x =
     let F : Option Life → Type 0 = λ p. GoesOn b.kept p in
-    same Nothing b a (printed.Shown line) new (on_with (has_machine m life) b) e f refl refl (sym (ap is_up on)) (subst F on sound.1) sound (λ s t e. (e, refl))
+    same Guest b a (printed.Shown (shown_lines.NotStarted h)) new (on_with (has_machine m life) b) x.0 x.1 refl refl (sym (ap is_up on)) (subst F on sound.1) sound (λ s t e. inl (e, refl))
+called_at (Made did) h m life b a new sound on (word, x, e) = call_says word h b a new (comes_back did h life (has_machine m life) b word new sound on refl refl x) e
+
+call_at : (p : Option Life) (h e f x y z : ℕ) (b : Bench) (a : Answer) (new : Bench) → IsSound b → b.power ≡ p → CallStep p h e f x y z b a new → Tell Guest b a new
+call_at None h e f x y z b a new sound on g = stays_off b a new sound g.0 g.1
+call_at (Some life) h e f x y z b a new sound on (inl (has, m, called, did, g)) = called_at called h m life b a new sound on g
+call_at (Some life) h e f x y z b a new sound on (inr g) = stays_off b a new sound g.1 g.2
 
 read_at : (p : Option Life) (says_so : Machine → MachineLine → Type 0) (b : Bench) (a : Answer) (new : Bench) → IsSound b → ReadStep p says_so b a new → Tell Nothing b a new
 read_at None says_so b a new sound x = shows_on _ b a new sound x.0 x.1
@@ -244,8 +316,8 @@ steps size lines.Format b a new sound h = format_at b.power b a new sound h
 steps size (lines.On mode) b a new sound h = on_at size b.power mode b a new sound refl h
 steps size (lines.Slot n) b a new sound h = slots b.power n b a new sound refl h
 steps size lines.Discard b a new sound h = not_built b a new sound h.0 h.1
-steps size (lines.Turn x y) b a new sound h = guest_at b.power _ b a new sound refl h
-steps size (lines.Call x y z u v w) b a new sound h = guest_at b.power _ b a new sound refl h
+steps size (lines.Turn x y) b a new sound h = turn_at b.power x y b a new sound h
+steps size (lines.Call x y z u v w) b a new sound h = call_at b.power x y z u v w b a new sound refl h
 steps size (lines.Reg x y) b a new sound h = read_at b.power _ b a new sound h
 steps size (lines.Pc x) b a new sound h = read_at b.power _ b a new sound h
 steps size (lines.Csr x y) b a new sound h = read_at b.power _ b a new sound h
@@ -261,6 +333,7 @@ steps size (lines.Poke x y z) b a new sound h = not_built b a new sound h.0 h.1
 lost_tells : (asked : Asked) (s t : State) (up : Bool) → Lost asked s up t → Tells asked printed.PowerLost s up t false
 lost_tells (Boot mode) s t up h = (h, refl)
 lost_tells (Command c) s t up h = (h, refl)
+lost_tells Guest s t up h = (h, refl)
 lost_tells Nothing s t up h = (h, refl)
 
 moves : (size : Size) (line : Line) (b : Bench) (a : Answer) (new : Bench) → IsSound b → Moves size line b a new → Tell (asked_by line) b a new
@@ -285,6 +358,7 @@ not_resumed : (asked : Asked) (x : Printed) (found : Option Durable) (s t : Stat
 not_resumed asked x None s t up now rest h = refl
 not_resumed (Boot m) (printed.On modes.Resume) (Some d) s t up now rest h = absurd h.1
 not_resumed (Command c) (printed.On modes.Resume) (Some d) s t up now rest h = absurd h
+not_resumed Guest (printed.On modes.Resume) (Some d) s t up now rest h = absurd h
 not_resumed Nothing (printed.On modes.Resume) (Some d) s t up now rest h = absurd h
 not_resumed asked (printed.On modes.Fresh) (Some d) s t up now rest h = refl
 not_resumed asked (printed.On modes.Keep) (Some d) s t up now rest h = refl
@@ -358,9 +432,24 @@ payload_no : {T : Type 0} (p : Option Life) (slot : ℕ) (bytes : List ℕ) (b :
 payload_no None slot bytes b a new h ok = other a _ h.0 refl ok
 payload_no (Some life) slot bytes b a new h ok = other a _ h.0 refl ok
 
-guest_no : {T : Type 0} (p : Option Life) (does : Machine → Machine → MachineLine → Type 0) (b : Bench) (a : Answer) (new : Bench) → GuestStep p does b a new → is_format_ok a.line ≡ true → T
-guest_no None does b a new x ok = other a _ x.0 refl ok
-guest_no (Some life) does b a new x ok = other a _ x.3 refl ok
+turn_no : {T : Type 0} (p : Option Life) (h n : ℕ) (b : Bench) (a : Answer) (new : Bench) → TurnStep p h n b a new → is_format_ok a.line ≡ true → T
+turn_no None h n b a new x ok = other a _ x.0 refl ok
+turn_no (Some life) h n b a new (inl (has, made, word, x, e)) ok = other a _ e refl ok
+turn_no (Some life) h n b a new (inr x) ok = other a _ x.1 refl ok
+
+call_word_no : {T : Type 0} (word : Word) (h : ℕ) (new : Bench) (a : Answer) → CallTold h word new a → is_format_ok a.line ≡ true → T
+call_word_no (words.Own did) h new a (life, on, e) ok = other a _ e refl ok
+call_word_no words.Asleep h new a e ok = other a _ e refl ok
+call_word_no (words.Reset kind) h new a e ok = other a _ e refl ok
+
+called_no : {T : Type 0} (called : Called) (h : ℕ) (life : Life) (b : Bench) (a : Answer) (new : Bench) → GuestCall called h life b a new → is_format_ok a.line ≡ true → T
+called_no NotStarted h life b a new x ok = other a _ x.0 refl ok
+called_no (Made did) h life b a new (word, x, e) ok = call_word_no word h new a e ok
+
+call_no : {T : Type 0} (p : Option Life) (h e f x y z : ℕ) (b : Bench) (a : Answer) (new : Bench) → CallStep p h e f x y z b a new → is_format_ok a.line ≡ true → T
+call_no None h e f x y z b a new g ok = other a _ g.0 refl ok
+call_no (Some life) h e f x y z b a new (inl (has, m, called, did, g)) ok = called_no called h (has_machine m life) (on_with (has_machine m life) b) a new g ok
+call_no (Some life) h e f x y z b a new (inr g) ok = other a _ g.1 refl ok
 
 read_no : {T : Type 0} (p : Option Life) (says_so : Machine → MachineLine → Type 0) (b : Bench) (a : Answer) (new : Bench) → ReadStep p says_so b a new → is_format_ok a.line ≡ true → T
 read_no None says_so b a new x ok = other a _ x.0 refl ok
@@ -372,8 +461,8 @@ step_formats size lines.Format b a new h ok = formatted_at b.power b a new refl 
 step_formats size (lines.On mode) b a new h ok = powers_no size b.power mode b a new h ok
 step_formats size (lines.Slot n) b a new h ok = slots_no b.power n b a new h ok
 step_formats size lines.Discard b a new h ok = other a _ h.0 refl ok
-step_formats size (lines.Turn x y) b a new h ok = guest_no b.power _ b a new h ok
-step_formats size (lines.Call x y z u v w) b a new h ok = guest_no b.power _ b a new h ok
+step_formats size (lines.Turn x y) b a new h ok = turn_no b.power x y b a new h ok
+step_formats size (lines.Call x y z u v w) b a new h ok = call_no b.power x y z u v w b a new h ok
 step_formats size (lines.Reg x y) b a new h ok = read_no b.power _ b a new h ok
 step_formats size (lines.Pc x) b a new h ok = read_no b.power _ b a new h ok
 step_formats size (lines.Csr x y) b a new h ok = read_no b.power _ b a new h ok

@@ -4,24 +4,29 @@ use Rattle.board_model.specs.Durable.{Slot}
 use Rattle.board_model.specs.Shapes.{Size}
 use Rattle.board_model.specs.declared.boot_mode.BootMode.{BootMode}
 use Rattle.disk.specs.Mishaps.{FaultArmed, CutArmed}
-use Rattle.machine.specs.Machine.{Machine}
+use Rattle.machine.specs.Machine.{Machine, hart_at}
+use Rattle.machine_lines.specs.Shows.{own_line}
 use Rattle.machine_lines.specs.declared.line.MachineLine.{MachineLine}
-use Rattle.machine_lines.specs.Shows.{TurnsLine, CallLine, CsrLine}
+use Rattle.machine_lines.specs.declared.line.MachineLine.TheVariants as shown_lines
+use Rattle.machine_lines.specs.Shows.{Has, CsrLine}
+use Rattle.machine.specs.Turns.{Calls}
+use Rattle.machine.specs.declared.parts.Word.{Word}
+use Rattle.machine.specs.declared.parts.Word.TheVariants as words
+use Rattle.machine.specs.declared.parts.Called.{Called}
+use Rattle.machine.specs.declared.parts.Called.TheVariants.{NotStarted, Made}
 use Rattle.script_lang.specs.Scripts.{Script}
 use Rattle.script_lang.specs.declared.line.Line.{Line}
 use Rattle.script_lang.specs.declared.line.Line.TheVariants as lines
 use Rattle.bench_report.specs.declared.printed.Answer.{Answer}
 use Rattle.bench_report.specs.Bench.{Life, Bench, IsUnspoilt, blank_bench}
-use Rattle.bench_report.specs.Steps.{shows, unpowered, armed_with, on_with, has_machine, slot_told, FormatStep, OnStep, SlotStep, PayloadStep, GuestStep, ReadStep, Step, Moves, Run}
+use Rattle.bench_report.specs.Steps.{shows, unpowered, armed_with, on_with, has_machine, slot_told, FormatStep, OnStep, SlotStep, PayloadStep, CallTold, GuestCall, GuestTurns, TurnStep, CallStep, ReadStep, Step, Moves, Run}
 use Rattle.bench_report.specs.Reports.{IsReport}
-use Rattle.bench_report.proofs.Determined.{IsSpoilt, IsCalm, Fair, fair_to, unmoved, issued_fair, Agree, same, issued, formats_fair, formats, powers_fair, powers}
+use Rattle.bench_report.proofs.Guests.{IsOneTurn, Row, row, comes_fair, comes_one, turns_fair, turns_one}
+use Rattle.bench_report.proofs.Determined.{some_inj, IsSpoilt, IsCalm, Fair, fair_to, unmoved, issued_fair, Agree, same, issued, formats_fair, formats, powers_fair, powers}
 
 -- what the lines leave nothing open of
-abbrev pub IsOneTurns : Type 0
-IsOneTurns = (h n : ℕ) (old new other : Machine) (line also : MachineLine) → TurnsLine h n old new line → TurnsLine h n old other also → (new ≡ other) × (line ≡ also)
-
 abbrev pub IsOneCall : Type 0
-IsOneCall = (h eid fid a0 a1 a2 : ℕ) (old new other : Machine) (line also : MachineLine) → CallLine h eid fid a0 a1 a2 old new line → CallLine h eid fid a0 a1 a2 old other also → (new ≡ other) × (line ≡ also)
+IsOneCall = (h eid fid a0 a1 a2 : ℕ) (old new other : Machine) (called also : Called) → Calls h eid fid a0 a1 a2 old new called → Calls h eid fid a0 a1 a2 old other also → (new ≡ other) × (called ≡ also)
 
 abbrev pub IsOneCsr : Type 0
 IsOneCsr = (h n : ℕ) (m : Machine) (line also : MachineLine) → CsrLine h n m line → CsrLine h n m also → line ≡ also
@@ -43,9 +48,20 @@ payload_fair : (p : Option Life) (slot : ℕ) (bytes : List ℕ) (b : Bench) (a 
 payload_fair None slot bytes b a new h = fair_to b new _ h.1 (λ s. s, λ c. inr c)
 payload_fair (Some life) slot bytes b a new h = unmoved b new h.1
 
-guest_fair : (p : Option Life) (does : Machine → Machine → MachineLine → Type 0) (b : Bench) (a : Answer) (new : Bench) → GuestStep p does b a new → Fair b new
-guest_fair None does b a new x = unmoved b new x.1
-guest_fair (Some life) does b a new x = fair_to b new (on_with (has_machine x.1 life) b) x.4 (λ s. s, λ c. inr c)
+turn_fair : (p : Option Life) (h n : ℕ) (b : Bench) (a : Answer) (new : Bench) → TurnStep p h n b a new → Fair b new
+turn_fair None h n b a new x = unmoved b new x.1
+turn_fair (Some life) h n b a new (inl (has, made, word, x, e)) = turns_fair h n b made word new x
+turn_fair (Some life) h n b a new (inr x) = unmoved b new x.2
+
+called_fair : (called : Called) (h : ℕ) (life : Life) (b : Bench) (a : Answer) (new : Bench) → GuestCall called h life b a new → Fair b new
+called_fair NotStarted h life b a new x = unmoved b new x.1
+called_fair (Made did) h life b a new (word, x, e) = comes_fair did h life b word new x
+
+call_fair : (p : Option Life) (h e f x y z : ℕ) (b : Bench) (a : Answer) (new : Bench) → CallStep p h e f x y z b a new → Fair b new
+call_fair None h e f x y z b a new g = unmoved b new g.1
+call_fair (Some life) h e f x y z b a new (inl (has, m, called, did, g)) =
+    let rest = called_fair called h (has_machine m life) (on_with (has_machine m life) b) a new g in (λ s. rest.0 s, λ c. rest.1 c)
+call_fair (Some life) h e f x y z b a new (inr g) = unmoved b new g.2
 
 read_fair : (p : Option Life) (says_so : Machine → MachineLine → Type 0) (b : Bench) (a : Answer) (new : Bench) → ReadStep p says_so b a new → Fair b new
 read_fair None says_so b a new x = unmoved b new x.1
@@ -57,8 +73,8 @@ step_fair size lines.Format b a new h = format_fair b.power b a new h
 step_fair size (lines.On mode) b a new h = on_fair size b.power mode b a new h
 step_fair size (lines.Slot n) b a new h = slot_fair b.power n b a new h
 step_fair size lines.Discard b a new h = unmoved b new h.1
-step_fair size (lines.Turn x y) b a new h = guest_fair b.power _ b a new h
-step_fair size (lines.Call x y z u v w) b a new h = guest_fair b.power _ b a new h
+step_fair size (lines.Turn x y) b a new h = turn_fair b.power x y b a new h
+step_fair size (lines.Call x y z u v w) b a new h = call_fair b.power x y z u v w b a new h
 step_fair size (lines.Reg x y) b a new h = read_fair b.power _ b a new h
 step_fair size (lines.Pc x) b a new h = read_fair b.power _ b a new h
 step_fair size (lines.Csr x y) b a new h = read_fair b.power _ b a new h
@@ -106,12 +122,43 @@ payload_at : (p : Option Life) (slot : ℕ) (bytes : List ℕ) (b : Bench) (a z 
 payload_at None slot bytes b a z new last x y = same a z _ new last _ x.0 y.0 x.1 y.1
 payload_at (Some life) slot bytes b a z new last x y = same a z _ new last b x.0 y.0 x.1 y.1
 
-guest_at : (does : Machine → Machine → MachineLine → Type 0) → ((old new other : Machine) (line also : MachineLine) → does old new line → does old other also → (new ≡ other) × (line ≡ also)) → (p : Option Life) (b : Bench) (a z : Answer)
-    (new last : Bench) → GuestStep p does b a new → GuestStep p does b z last → Agree a z new last
-guest_at does one None b a z new last x y = same a z _ new last b x.0 y.0 x.1 y.1
-guest_at does one (Some life) b a z new last (line, m, did, e, f) (also, other, did2, e2, f2) =
-    let is = one life.machine m other line also did did2 in
-    inr (inr (e ∙ ap shows is.1 ∙ sym e2, f ∙ ap (λ x. on_with (has_machine x life) b) is.0 ∙ sym f2))
+turn_at : IsOneTurn → (p : Option Life) (h n : ℕ) (b : Bench) (a z : Answer) (new last : Bench) → TurnStep p h n b a new → TurnStep p h n b z last → Agree a z new last
+turn_at one None h n b a z new last x y = same a z _ new last b x.0 y.0 x.1 y.1
+turn_at one (Some life) h n b a z new last (inl (has, made, word, x, e)) (inl (has2, other, also, y, e2)) =
+    by_word (λ (r : Row). shows (shown_lines.Turn h r.made r.word)) (row made word) (row other also) a z new last e e2 (turns_one one h n b made other word also new last x y)
+turn_at one (Some life) h n b a z new last (inl x) (inr y) = absurd (y.0 x.0)
+turn_at one (Some life) h n b a z new last (inr x) (inl y) = absurd (x.0 y.0)
+turn_at one (Some life) h n b a z new last (inr x) (inr y) = same a z _ new last b x.1 y.1 x.2 y.2
+
+told_at : (h : ℕ) (word : Word) (new : Bench) (a z : Answer) → CallTold h word new a → CallTold h word new z → a ≡ z
+told_at h (words.Own did) new a z (life, on, e) (life2, on2, e2) =
+    let P : Life → Type 0 = λ l. z ≡ shows (own_line h (hart_at l.machine h) did) in
+    e ∙ sym (subst P (some_inj life life2 new.power on on2) e2)
+told_at h words.Asleep new a z e e2 = e ∙ sym e2
+told_at h (words.Reset kind) new a z e e2 = e ∙ sym e2
+
+told_one : (h : ℕ) (word also : Word) (a z : Answer) (new last : Bench) → Agree word also new last → CallTold h word new a → CallTold h also last z → Agree a z new last
+told_one h word also a z new last (inl s) x y = inl s
+told_one h word also a z new last (inr (inl s)) x y = inr (inl s)
+told_one h word also a z new last (inr (inr e)) x y =
+    let P : Word → Type 0 = λ w. CallTold h w last z in
+    let Q : Bench → Type 0 = λ m. CallTold h word m z in
+    inr (inr (told_at h word new a z x (subst Q (sym e.1) (subst P (sym e.0) y)), e.1))
+
+called_at : (called : Called) (h : ℕ) (life : Life) (b : Bench) (a z : Answer) (new last : Bench) → GuestCall called h life b a new → GuestCall called h life b z last → Agree a z new last
+called_at NotStarted h life b a z new last x y = same a z _ new last b x.0 y.0 x.1 y.1
+called_at (Made did) h life b a z new last (word, x, e) (also, y, e2) = told_one h word also a z new last (comes_one did h life b word also new last x y) e e2
+
+call_at : IsOneCall → (p : Option Life) (h e f u v w : ℕ) (b : Bench) (a z : Answer) (new last : Bench) → CallStep p h e f u v w b a new → CallStep p h e f u v w b z last → Agree a z new last
+call_at one None h e f u v w b a z new last x y = same a z _ new last b x.0 y.0 x.1 y.1
+call_at one (Some life) h e f u v w b a z new last (inl (has, m, called, did, x)) (inl (has2, other, also, did2, y)) =
+    let is = one h e f u v w life.machine m other called also did did2 in
+    let P : Machine → Type 0 = λ k. GuestCall also h (has_machine k life) (on_with (has_machine k life) b) z last in
+    let Q : Called → Type 0 = λ c. GuestCall c h (has_machine m life) (on_with (has_machine m life) b) z last in
+    called_at called h (has_machine m life) (on_with (has_machine m life) b) a z new last x (subst Q (sym is.1) (subst P (sym is.0) y))
+call_at one (Some life) h e f u v w b a z new last (inl x) (inr y) = absurd (y.0 x.0)
+call_at one (Some life) h e f u v w b a z new last (inr x) (inl y) = absurd (x.0 y.0)
+call_at one (Some life) h e f u v w b a z new last (inr x) (inr y) = same a z _ new last b x.1 y.1 x.2 y.2
 
 read_at : (says_so : Machine → MachineLine → Type 0) → ((m : Machine) (line also : MachineLine) → says_so m line → says_so m also → line ≡ also) → (p : Option Life) (b : Bench) (a z : Answer) (new last : Bench)
     → ReadStep p says_so b a new → ReadStep p says_so b z last → Agree a z new last
@@ -121,14 +168,14 @@ read_at says_so one (Some life) b a z new last (line, so, e, f) (also, so2, e2, 
 not_built : (b : Bench) (a z x : Answer) (new last : Bench) → (a ≡ x) × (new ≡ b) → (z ≡ x) × (last ≡ b) → Agree a z new last
 not_built b a z x new last h k = same a z x new last b h.0 k.0 h.1 k.1
 
-steps : IsOneTurns → IsOneCall → IsOneCsr → (size : Size) (line : Line) (b : Bench) (a z : Answer) (new last : Bench) → IsCalm b → Step size line b a new → Step size line b z last → Agree a z new last
+steps : IsOneTurn → IsOneCall → IsOneCsr → (size : Size) (line : Line) (b : Bench) (a z : Answer) (new last : Bench) → IsCalm b → Step size line b a new → Step size line b z last → Agree a z new last
 steps turns call csr size (lines.Payload s bytes) b a z new last calm x y = payload_at b.power s bytes b a z new last x y
 steps turns call csr size lines.Format b a z new last calm x y = format_at b.power b a z new last calm x y
 steps turns call csr size (lines.On mode) b a z new last calm x y = on_at size b.power mode b a z new last calm x y
 steps turns call csr size (lines.Slot n) b a z new last calm x y = slot_at b.power n b a z new last x y
 steps turns call csr size lines.Discard b a z new last calm x y = not_built b a z _ new last x y
-steps turns call csr size (lines.Turn h n) b a z new last calm x y = guest_at (λ old m line. TurnsLine h n old m line) (turns h n) b.power b a z new last x y
-steps turns call csr size (lines.Call h e f u v w) b a z new last calm x y = guest_at (λ old m line. CallLine h e f u v w old m line) (call h e f u v w) b.power b a z new last x y
+steps turns call csr size (lines.Turn h n) b a z new last calm x y = turn_at turns b.power h n b a z new last x y
+steps turns call csr size (lines.Call h e f u v w) b a z new last calm x y = call_at call b.power h e f u v w b a z new last x y
 steps turns call csr size (lines.Reg h r) b a z new last calm x y = read_at _ (λ m line also p q. p ∙ sym q) b.power b a z new last x y
 steps turns call csr size (lines.Pc h) b a z new last calm x y = read_at _ (λ m line also p q. p ∙ sym q) b.power b a z new last x y
 steps turns call csr size (lines.Csr h n) b a z new last calm x y = read_at (λ m line. CsrLine h n m line) (csr h n) b.power b a z new last x y
@@ -145,7 +192,7 @@ true_false : {A : Type 0} (x y : Bool) → x ≡ y → x ≡ true → y ≡ fals
 true_false x y e f g = let h : y ≡ true = sym e ∙ f in absurd (let no : ⊥ = cc in no)
 
 -- an armed cut that struck in one of them alone would have been answered there
-moves : IsOneTurns → IsOneCall → IsOneCsr → (size : Size) (line : Line) (b : Bench) (a z : Answer) (new last : Bench) → IsCalm b → Moves size line b a new → Moves size line b z last → Agree a z new last
+moves : IsOneTurn → IsOneCall → IsOneCsr → (size : Size) (line : Line) (b : Bench) (a z : Answer) (new last : Bench) → IsCalm b → Moves size line b a new → Moves size line b z last → Agree a z new last
 moves turns call csr size line b a z new last calm (inl x) (inl y) = steps turns call csr size line b a z new last calm x.0 y.0
 moves turns call csr size line b a z new last calm (inl x) (inr (would, mid, y, struck, e, is)) = apart (steps turns call csr size line b a would new mid calm x.0 y)
   where
@@ -170,7 +217,7 @@ clean : {A : Type 0} (end : Bench) → IsUnspoilt end → IsSpoilt end → A
 clean end u (inl s) = absurd (omega (arith, u.0, s))
 clean end u (inr s) = absurd (omega (arith, u.1, s))
 
-runs : IsOneTurns → IsOneCall → IsOneCsr → (size : Size) (ls : List Line) (b : Bench) (answers others : List Answer) (end last : Bench) → IsCalm b → IsUnspoilt end → IsUnspoilt last → Run size b ls answers end → Run size b ls others last
+runs : IsOneTurn → IsOneCall → IsOneCsr → (size : Size) (ls : List Line) (b : Bench) (answers others : List Answer) (end last : Bench) → IsCalm b → IsUnspoilt end → IsUnspoilt last → Run size b ls answers end → Run size b ls others last
     → (answers ≡ others) × (end ≡ last)
 runs turns call csr size [] b [] [] end last calm u v x y = (refl, x ∙ sym y)
 runs turns call csr size (l ∷ ls) b (a ∷ answers) (z ∷ others) end last calm u v x y =
@@ -187,7 +234,7 @@ runs turns call csr size [] b [] (z ∷ others) end last calm u v x y = absurd y
 runs turns call csr size (l ∷ ls) b [] others end last calm u v x y = absurd x
 runs turns call csr size (l ∷ ls) b (a ∷ answers) [] end last calm u v x y = absurd y
 
-pub one_report : IsOneTurns → IsOneCall → IsOneCsr → (script : Script) (answers others : List Answer) (end last : Bench) → IsReport script answers end → IsReport script others last → IsUnspoilt end → IsUnspoilt last → (answers ≡ others) × (end ≡ last)
+pub one_report : IsOneTurn → IsOneCall → IsOneCsr → (script : Script) (answers others : List Answer) (end last : Bench) → IsReport script answers end → IsReport script others last → IsUnspoilt end → IsUnspoilt last → (answers ≡ others) × (end ≡ last)
 one_report turns call csr script [] others end last x y u v = absurd x
 one_report turns call csr script (b ∷ answers) [] end last x y u v = absurd y
 one_report turns call csr script (b ∷ answers) (d ∷ others) end last x y u v =

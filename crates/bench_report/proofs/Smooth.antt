@@ -1,13 +1,29 @@
 -- A report whose lines are smooth: no power-on was refused memory, and no failure was answered.
-use Rattle.std.proofs.Common.{◌≡◌, ◌≢◌, ℕ, inl, inr, List, [], ◌∷◌, Option, None, Some, Result, Ok, Err, refl, ◌∙◌, ap, subst}
+use Rattle.std.proofs.Common.{◌≡◌, ◌≢◌, ℕ, zero, suc, arith, sym, inl, inr, List, [], ◌∷◌, Option, None, Some, Result, Ok, Err, refl, ◌∙◌, ap, subst}
 use Rattle.std.specs.Bool.{⊤}
-use Rattle.board_model.specs.Durable.{State, Change, Slot, refusal_of}
+use Rattle.board_model.specs.Durable.{State, Change, Slot, Reset, refusal_of}
 use Rattle.board_model.specs.Shapes.{Size}
 use Rattle.board.specs.Boots.{boot_refusal}
 use Rattle.board_model.specs.declared.boot_mode.BootMode.{BootMode}
 use Rattle.board_model.specs.declared.boot_mode.BootMode.TheVariants as modes
 use Rattle.machine.specs.Machine.{Machine}
 use Rattle.machine_lines.specs.declared.line.MachineLine.{MachineLine}
+use Rattle.machine_lines.specs.declared.line.MachineLine.TheVariants as shown
+use Rattle.machine.specs.Machine.{hart_at}
+use Rattle.machine.specs.declared.parts.Word.{Word}
+use Rattle.machine.specs.declared.parts.Word.TheVariants as words
+use Rattle.machine.specs.declared.parts.Called.{Called}
+use Rattle.machine.specs.declared.parts.Called.TheVariants.{NotStarted, Made}
+use Rattle.turns.specs.declared.words.Turned.{Turned}
+use Rattle.turns.specs.declared.words.Turned.TheVariants.{Next, Durable}
+use Rattle.sbi_abi.specs.Calls.{call_of}
+use Rattle.sbi_abi.specs.declared.call.Call.{Call}
+use Rattle.sbi_abi.specs.declared.call.Call.TheVariants as calls
+use Rattle.sbi_abi.specs.declared.ret.SbiError.{SbiError}
+use Rattle.sbi_abi.specs.declared.ret.SbiError.TheVariants.{Failed, NotSupported, Denied}
+use Rattle.sbi.specs.declared.resets.ResetType.{ResetType}
+use Rattle.sbi.specs.Resets.{reset_of}
+use Rattle.board_model.specs.declared.durable.Reason.{Reason}
 use Rattle.script_lang.specs.Scripts.{Script}
 use Rattle.script_lang.specs.declared.line.Line.{Line}
 use Rattle.script_lang.specs.declared.line.Line.TheVariants as lines
@@ -16,9 +32,9 @@ use Rattle.bench_report.specs.declared.printed.Printed.TheVariants as printed
 use Rattle.disk.specs.Mishaps.{FaultArmed, CutArmed}
 use Rattle.bench_report.specs.declared.printed.Answer.{Answer}
 use Rattle.bench_report.specs.Bench.{Medium, Blank, Unknown, Formatted, Life, Bench, IsUnspoilt, blank_bench}
-use Rattle.bench_report.specs.Steps.{says, off, on_with, unpowered, armed_with, formatted_anew, settled, has_machine, acknowledged, begun, commands_of, slot_told, Writes, IssuedBy, IssuesAll, FormatsOn, IsOn, Starts, Begins, Boots, Opens, PowersOn, FormatStep, OnStep, SlotStep, PayloadStep, GuestStep, ReadStep, Step, Moves, Run}
+use Rattle.bench_report.specs.Steps.{says, off, on_with, unpowered, armed_with, formatted_anew, settled, has_machine, acknowledged, begun, commands_of, slot_told, Writes, IssuedBy, IssuesAll, FormatsOn, IsOn, Starts, Begins, Boots, Opens, PowersOn, FormatStep, OnStep, SlotStep, PayloadStep, ReadStep, Issued, Refuses, Held, Resets, Suspends, SleepsBy, MakesCall, Comes, GuestTurn, GuestTurns, TurnStep, CallTold, GuestCall, CallStep, Step, Moves, Run}
 use Rattle.bench_report.specs.Reports.{IsReport}
-use Rattle.bench_report.specs.Plain.{IsSmooth, AreSmooth}
+use Rattle.bench_report.specs.Plain.{IsSmoothLine, IsSmooth, AreSmooth}
 
 -- as many growths were refused and failures answered as before
 abbrev pub AsMany : Bench → Bench → Type 0
@@ -129,13 +145,95 @@ payload_at : (p : Option Life) (slot : ℕ) (bytes : List ℕ) (b : Bench) (a : 
 payload_at None slot bytes b a new h = as_many b _ new refl refl h.1
 payload_at (Some life) slot bytes b a new h = as_many b b new refl refl h.1
 
-guest_at : (p : Option Life) (does : Machine → Machine → MachineLine → Type 0) (b : Bench) (a : Answer) (new : Bench) → GuestStep p does b a new → AsMany b new
-guest_at None does b a new x = as_many b b new refl refl x.1
-guest_at (Some life) does b a new x = as_many b (on_with (has_machine x.1 life) b) new refl refl x.4
-
 read_at : (p : Option Life) (says_so : Machine → MachineLine → Type 0) (b : Bench) (a : Answer) (new : Bench) → ReadStep p says_so b a new → AsMany b new
 read_at None says_so b a new x = as_many b b new refl refl x.1
 read_at (Some life) says_so b a new x = as_many b b new refl refl x.3
+
+-- ---- turns and calls
+-- a word that shows that no command was refused
+abbrev IsFree : Word → Type 0
+IsFree word = word ≢ words.Own Next
+
+refuses_free : {A : Type 0} (e : SbiError) (h : ℕ) (life : Life) (b : Bench) (word : Word) (new : Bench) → Refuses e h life b word new → IsFree word → A
+refuses_free e h life b word new x free = absurd (free x.0)
+
+held_free : (c : Change) (o : Result ℕ ℕ) (said : Word) (h : ℕ) (life : Life) (b mid : Bench) (word : Word) (new : Bench) → Issued c life b o mid → Held o said h mid word new → IsFree word → AsMany b new
+held_free c (Ok n) said h life b mid word new i x free = many_then b mid new (issued_smooth life.doubt c life b (Ok n) mid i tt) (as_many mid (off mid) new refl refl x.1)
+held_free c (Err n) said h life b mid word new i (at, on, x) free = refuses_free Failed h at mid word new x free
+
+resets_free : (asked : Result (ResetType × Reason) SbiError) (h : ℕ) (life : Life) (b : Bench) (word : Word) (new : Bench) → Resets asked h life b word new → IsFree word → AsMany b new
+resets_free (Err e) h life b word new x free = refuses_free e h life b word new x free
+resets_free (Ok reset) h life b word new (o, mid, i, x) free = held_free (Reset reset.1) o (words.Reset reset.0) h life b mid word new i x free
+
+refused_held : {A : Type 0} (n : ℕ) (o : Result ℕ ℕ) (h : ℕ) (b : Bench) (word : Word) (new : Bench) → o ≡ Err n → Held o words.Asleep h b word new → IsFree word → A
+refused_held n o h b word new e x free =
+    let P : Result ℕ ℕ → Type 0 = λ r. Held r words.Asleep h b word new in
+    let at = subst P e x in
+    refuses_free Failed h at.0 b word new at.2 free
+
+sleeps_held : (Fits : Type 0) (c : Change) (o : Result ℕ ℕ) (h : ℕ) (life : Life) (b mid : Bench) (word : Word) (new : Bench) → Suspends Fits c life b o mid → Held o words.Asleep h mid word new → IsFree word → AsMany b new
+sleeps_held Fits c o h life b mid word new (inl i) x free = held_free c o words.Asleep h life b mid word new i.1 x free
+sleeps_held Fits c o h life b mid word new (inr (inl i)) x free = refused_held 11 o h mid word new i.1 x free
+sleeps_held Fits c o h life b mid word new (inr (inr i)) x free = refused_held 3 o h mid word new i.1 x free
+
+by_free : (asked : Result ℕ SbiError) (opaque h : ℕ) (life : Life) (b : Bench) (word : Word) (new : Bench) → SleepsBy asked opaque h life b word new → IsFree word → AsMany b new
+by_free (Err e) opaque h life b word new x free = refuses_free e h life b word new x free
+by_free (Ok site) opaque h life b word new (inl x) free = refuses_free Denied h life b word new x.1 free
+by_free (Ok site) opaque h life b word new (inr (alone, o, mid, i, x)) free = sleeps_held _ _ o h life b mid word new i x free
+
+makes_free : (call : Call) (h : ℕ) (life : Life) (b : Bench) (word : Word) (new : Bench) → MakesCall call h life b word new → IsFree word → AsMany b new
+makes_free (calls.SystemReset kind reason) h life b word new x free = resets_free (reset_of kind reason) h life b word new x free
+makes_free (calls.SystemSuspend kind address opaque) h life b word new (asked, checked, x) free = by_free asked opaque h life b word new x free
+makes_free call h life b word new x free = refuses_free NotSupported h life b word new x free
+
+comes_free : (did : Turned) (h : ℕ) (life : Life) (b : Bench) (word : Word) (new : Bench) → Comes did h life b word new → IsFree word → AsMany b new
+comes_free Durable h life b word new x free = makes_free (call_of (hart_at life.machine h)) h life b word new x free
+comes_free did h life b word new x free = as_many b b new refl refl x.1
+
+turn_free : (h : ℕ) (life : Life) (b : Bench) (word : Word) (new : Bench) → GuestTurn h life b word new → IsFree word → AsMany b new
+turn_free h life b word new (m, did, turned, x) free = let rest = comes_free did h (has_machine m life) (on_with (has_machine m life) b) word new x free in (rest.0, rest.1)
+
+none_made : {A : Type 0} (h n : ℕ) (b : Bench) (word : Word) (new : Bench) → GuestTurns h n b 0 word new → A
+none_made h zero b word new x = absurd x
+none_made h (suc n) b word new (life, on, said, mid, turned, inl x) = absurd (let e : 0 ≡ 1 = x.1 in let no : ⊥ = cc in no)
+none_made h (suc n) b word new (life, on, said, mid, turned, inr x) = absurd (omega (arith, x.3))
+
+-- one turn
+turns_free : (h n : ℕ) (b : Bench) (made : ℕ) (word : Word) (new : Bench) → GuestTurns h n b made word new → made ≡ 1 → IsFree word → AsMany b new
+turns_free h zero b made word new x one free = absurd x
+turns_free h (suc n) b made word new (life, on, said, mid, turned, inl x) one free =
+    let P : Word → Type 0 = λ w. w ≢ words.Own Next in
+    many_then b mid new (turn_free h life b said mid turned (subst P x.2 free)) (as_many mid mid new refl refl x.3)
+turns_free h (suc n) b made word new (life, on, said, mid, turned, inr x) one free =
+    let P : ℕ → Type 0 = λ k. GuestTurns h n mid k word new in
+    none_made h n mid word new (subst P (less x.2 made x.3 one) x.4)
+  where
+    less : (rest made : ℕ) → made ≡ suc rest → made ≡ 1 → rest ≡ 0
+    less rest made e f = omega (arith, e, f)
+
+turn_at : (p : Option Life) (h n : ℕ) (b : Bench) (a : Answer) (new : Bench) → TurnStep p h n b a new → IsSmooth a.line → AsMany b new
+turn_at None h n b a new x smooth = as_many b b new refl refl x.1
+turn_at (Some life) h n b a new (inl (has, made, word, x, e)) smooth =
+    let is = of_answer a (printed.Shown (shown.Turn h made word)) e smooth in
+    turns_free h n b made word new x is.0 is.1
+turn_at (Some life) h n b a new (inr x) smooth = as_many b b new refl refl x.2
+
+-- the answer of a call that may have been refused is not smooth
+call_free : (h : ℕ) (word : Word) (new : Bench) (a : Answer) → CallTold h word new a → IsSmooth a.line → IsFree word
+call_free h word new a told smooth e =
+    let P : Word → Type 0 = λ w. CallTold h w new a in
+    let at = subst P e told in
+    of_answer a (printed.Shown (shown.Answered h _ _)) at.2 smooth
+
+called_at : (called : Called) (h : ℕ) (life : Life) (b : Bench) (a : Answer) (new : Bench) → GuestCall called h life b a new → IsSmooth a.line → AsMany b new
+called_at NotStarted h life b a new x smooth = as_many b b new refl refl x.1
+called_at (Made did) h life b a new (word, x, told) smooth = comes_free did h life b word new x (call_free h word new a told smooth)
+
+call_at : (p : Option Life) (h e f x y z : ℕ) (b : Bench) (a : Answer) (new : Bench) → CallStep p h e f x y z b a new → IsSmooth a.line → AsMany b new
+call_at None h e f x y z b a new g smooth = as_many b b new refl refl g.1
+call_at (Some life) h e f x y z b a new (inl (has, m, called, did, g)) smooth =
+    let rest = called_at called h (has_machine m life) (on_with (has_machine m life) b) a new g smooth in (rest.0, rest.1)
+call_at (Some life) h e f x y z b a new (inr g) smooth = as_many b b new refl refl g.2
 
 step_smooth : (size : Size) (line : Line) (b : Bench) (a : Answer) (new : Bench) → Step size line b a new → IsSmooth a.line → AsMany b new
 step_smooth size (lines.Payload x y) b a new h smooth = payload_at b.power x y b a new h
@@ -143,8 +241,8 @@ step_smooth size lines.Format b a new h smooth = format_at b.power b a new h smo
 step_smooth size (lines.On mode) b a new h smooth = on_at size b.power mode b a new h smooth
 step_smooth size (lines.Slot n) b a new h smooth = slot_at b.power n b a new h smooth
 step_smooth size lines.Discard b a new h smooth = as_many b b new refl refl h.1
-step_smooth size (lines.Turn x y) b a new h smooth = guest_at b.power _ b a new h
-step_smooth size (lines.Call x y z u v w) b a new h smooth = guest_at b.power _ b a new h
+step_smooth size (lines.Turn x y) b a new h smooth = turn_at b.power x y b a new h smooth
+step_smooth size (lines.Call x y z u v w) b a new h smooth = call_at b.power x y z u v w b a new h smooth
 step_smooth size (lines.Reg x y) b a new h smooth = read_at b.power _ b a new h
 step_smooth size (lines.Pc x) b a new h smooth = read_at b.power _ b a new h
 step_smooth size (lines.Csr x y) b a new h smooth = read_at b.power _ b a new h

@@ -79,12 +79,12 @@ on_begun modes.Fresh size b payloads s board line follows device same boots life
     let z = store_size (store_in board) in
     let is = as_begun (store_in board) s life in
     let start = on_with (begun s z) b in
-    (on_with (record (begun s z) { machine = booted b.payloads s z }) b, (Ok 0, start, (refl, refl), (begun s z, refl, h, refl)), (((follows_with size b.medium b.kept (begun s z) (booted b.payloads s z) z follows, is), boots_as payloads b.payloads board s z same boots is.0), device), refl)
+    (on_with (record (begun s z) { machine = booted b.payloads s z }) b, (Ok 0, start, (refl, refl), (begun s z, refl, h, refl)), (((follows_with size b.medium b.kept (begun s z) (booted b.payloads s z) z refl follows, is), boots_as payloads b.payloads board s z same boots is.0), device), refl)
 on_begun modes.Keep size b payloads s board line follows device same boots life allowed goes h =
     let z = store_size (store_in board) in
     let is = as_begun (store_in board) s life in
     let start = on_with (begun s z) b in
-    (on_with (record (begun s z) { machine = booted b.payloads s z }) b, (Ok 0, start, (refl, refl), (begun s z, refl, h, refl)), (((follows_with size b.medium b.kept (begun s z) (booted b.payloads s z) z follows, is), boots_as payloads b.payloads board s z same boots is.0), device), refl)
+    (on_with (record (begun s z) { machine = booted b.payloads s z }) b, (Ok 0, start, (refl, refl), (begun s z, refl, h, refl)), (((follows_with size b.medium b.kept (begun s z) (booted b.payloads s z) z refl follows, is), boots_as payloads b.payloads board s z same boots is.0), device), refl)
 on_begun modes.Discard size b payloads s board line follows device same boots life allowed goes h =
     let z = store_size (store_in board) in
     let is = as_discarded (store_in board) s life in
@@ -95,7 +95,7 @@ on_begun modes.Discard size b payloads s board line follows device same boots li
     let begins : Life = record (begun s z) { now = after s Discard; receipts = 1 } in (
       on_with (record begins { machine = booted b.payloads (after s Discard) z }) mid,
       (Ok 0, mid, (begun s z, refl, Ok 1, mid, one, inl (1, refl, (refl, refl))), (begins, refl, h, refl)),
-      (((follows_with size b.medium mid.kept begins (booted b.payloads (after s Discard) z) z (follows_more size b.medium b.kept Discard (begun s z) z follows), is), boots_as payloads b.payloads board (after s Discard) z same boots is.0), device),
+      (((follows_with size b.medium mid.kept begins (booted b.payloads (after s Discard) z) z refl (follows_more size b.medium b.kept Discard (begun s z) z follows), is), boots_as payloads b.payloads board (after s Discard) z same boots is.0), device),
       refl,
     )
 on_begun modes.Resume size b payloads s board line follows device same boots life allowed goes h = absurd goes

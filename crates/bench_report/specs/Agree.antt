@@ -1,5 +1,5 @@
 -- How the code's disk and board stand for the bench of the model.
-use Rattle.std.specs.Prelude.{◌≡◌, ◌⊎◌, true, false, ℕ, List, All, ◌≤◌, Option, Some, None, length, ⊤}
+use Rattle.std.specs.Prelude.{◌≡◌, false, ◌⊎◌, true, false, ℕ, List, All, ◌≤◌, Option, Some, None, length, ⊤}
 use Rattle.board_model.specs.Durable.{State}
 use Rattle.board_model.specs.Kept.{Kept, MayFind, found_of}
 use Rattle.board_model.specs.Shapes.{Size, sectors_of}
@@ -17,9 +17,11 @@ use Rattle.script_lang.specs.declared.line.Fill.TheVariants as fills
 use Rattle.script_lang.specs.declared.line.Line.{Line}
 use Rattle.script_lang.specs.declared.line.Line.TheVariants as lines
 use Rattle.store.specs.Leaves.{Leaves, IsBlank, IsKept, IsIdle}
+use Rattle.machine.specs.declared.parts.Word.{Word}
+use Rattle.machine.specs.declared.parts.Word.TheVariants as words
 use Rattle.bench_report.specs.declared.power.Power.{Power}
 use Rattle.bench_report.specs.declared.power.Power.TheVariants.{Off, On}
-use Rattle.bench_report.specs.Below.{Store, Board, store_in, machine_in, facts, arms, store_arms, record_of, mishaps, store_facts, store_mishaps, store_size, IsAs}
+use Rattle.bench_report.specs.Below.{Store, Board, store_in, machine_in, facts, arms, store_arms, record_of, mishaps, store_facts, store_mishaps, store_size, store_now, store_doubt, IsAs}
 use Rattle.bench_report.specs.Bench.{Medium, Blank, Unknown, Formatted, Life, Bench}
 use Rattle.bench_report.specs.Steps.{Step}
 use Rattle.bench_report.specs.declared.printed.Answer.{Answer}
@@ -33,8 +35,8 @@ DiskIs size Formatted kept disk = IsKept disk size × ((s : State) → Leaves di
 -- a life over a disk, by a store for a board of size z
 abbrev pub Follows : Size → Medium → Kept → Life → Size → Type 0
 Follows size Blank kept life z = ⊥
-Follows size Unknown kept life z = ⊤
-Follows size Formatted kept life z = (kept.doubt ≡ life.doubt) × (life.now ≡ found_of kept.changes) × (z ≡ size)
+Follows size Unknown kept life z = life.machine.size ≡ z
+Follows size Formatted kept life z = (kept.doubt ≡ life.doubt) × (life.now ≡ found_of kept.changes) × (z ≡ size) × (life.machine.size ≡ z)
 
 -- a store that goes on with a life
 abbrev pub StoreIs : Size → Medium → Kept → Life → Store → Type 0
@@ -55,13 +57,32 @@ OffIs size b disk = (b.power ≡ None) × DiskIs size b.medium b.kept (facts dis
 abbrev pub OnIs : Size → Bench → Board → Type 0
 OnIs size b board = BoardIs size b.medium b.kept b.power board × DeviceIs size b (store_mishaps (store_in board)) (store_facts (store_in board))
 
+-- the store of a life that its own command ended, over a disk that keeps that command
+abbrev pub IsOver : Size → Medium → Kept → Store → Type 0
+IsOver size Blank kept store = ⊥
+IsOver size Unknown kept store = ⊤
+IsOver size Formatted kept store = (kept.doubt ≡ None) × (store_now store ≡ found_of kept.changes) × (store_size store ≡ size) × (store_doubt store ≡ None)
+
+abbrev pub OverIs : Size → Bench → Board → Type 0
+OverIs size b board = (b.power ≡ None) × IsOver size b.medium b.kept (store_in board) × DeviceIs size b (store_mishaps (store_in board)) (store_facts (store_in board))
+
+-- a board after what is said of a turn or a call
+abbrev pub StandsBy : Size → Word → Bench → Board → Type 0
+StandsBy size (words.Own did) b board = OnIs size b board
+StandsBy size words.Asleep b board = OverIs size b board
+StandsBy size (words.Reset kind) b board = OverIs size b board
+
 abbrev pub Agrees : Size → Bench → Power → Type 0
 Agrees size b (Off disk) = OffIs size b disk
 Agrees size b (On board) = OnIs size b board
 
--- the code's board and payloads stand for the bench
+-- the code's board and payloads stand for the bench, within a line
+abbrev pub Matches : Size → Bench → Power → List (List ℕ) → Type 0
+Matches size b power payloads = Agrees size b power × (payloads ≡ b.payloads)
+
+-- and between two lines, where no cut that struck is untold
 abbrev pub IsBench : Size → Bench → Power → List (List ℕ) → Type 0
-IsBench size b power payloads = Agrees size b power × (payloads ≡ b.payloads)
+IsBench size b power payloads = Agrees size b power × (payloads ≡ b.payloads) × (b.mishaps.struck ≡ false)
 
 -- what a cut leaves of what was written since the last sync, by a script's fill
 abbrev pub choice_by : Fill → Choice
@@ -101,6 +122,11 @@ abbrev pub EndsBy : Size → Line → Fill → Bench → Answer → Power → Ty
 EndsBy size line fill b answer left =
     ((new : Bench) × Step size line b answer new × (new.mishaps.struck ≡ false))
     ⊎ ((would : Answer) × (mid : Bench) × (after : Power) × (disk : SimDisk) × Step size line b would mid × (mid.mishaps.struck ≡ true) × Agrees size mid after × HasDisk after disk × IsCutBy fill disk left)
+
+-- no armed cut has struck the disk of a board that is on
+abbrev pub IsUnstruck : Power → Type 0
+IsUnstruck (Off disk) = ⊤
+IsUnstruck (On board) = (store_mishaps (store_in board)).struck ≡ false
 
 -- nothing of a disk that no store holds is lent
 abbrev pub IsResting : Power → Type 0

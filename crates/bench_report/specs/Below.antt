@@ -62,6 +62,13 @@ store_arms store fault = stores.arms_of store fault
 abbrev pub store_size : Store → Size
 store_size store = stores.size_of_store store
 
+-- the durable state now, without a command in doubt, and the command in doubt
+abbrev pub store_now : Store → State
+store_now store = stores.now_state store
+
+abbrev pub store_doubt : Store → Option Change
+store_doubt store = stores.doubt_of store
+
 -- a life that goes on: the durable state with what was acknowledged, how many commands that were, and the one in doubt
 abbrev pub IsLife : Life → State → ℕ → Option Change → Type 0
 IsLife life s count doubt = (now_of life ≡ s) × (length life.journal ≡ count) × (life.doubt ≡ doubt) × (life.over ≡ false)

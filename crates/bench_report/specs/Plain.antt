@@ -1,6 +1,6 @@
 -- The report of a script where memory was never refused and the disk never failed, computed: for scripts whose lines neither
 -- move harts nor show memory or harts.
-use Rattle.std.specs.Prelude.{◌≢◌, ℕ, ◌+◌, ◌==◌, List, [], ◌∷◌, Option, Some, None, Result, Ok, Err, length, slice_set, if◌then◌else◌, ⊤}
+use Rattle.std.specs.Prelude.{◌≡◌, ◌≢◌, ℕ, ◌+◌, ◌==◌, List, [], ◌∷◌, Option, Some, None, Result, Ok, Err, length, slice_set, if◌then◌else◌, ⊤}
 use Rattle.board_model.specs.Durable.{State, Change, Slot, Discard, refusal_of, after}
 use Rattle.board_model.specs.Kept.{found_of}
 use Rattle.board_model.specs.Shapes.{Size}
@@ -13,6 +13,9 @@ use Rattle.board_model.specs.declared.boot_mode.BootMode.{BootMode}
 use Rattle.board_model.specs.declared.boot_mode.BootMode.TheVariants as modes
 use Rattle.script_lang.specs.declared.line.Line.{Line}
 use Rattle.script_lang.specs.declared.line.Line.TheVariants as lines
+use Rattle.machine.specs.declared.parts.Word.TheVariants as words
+use Rattle.turns.specs.declared.words.Turned.TheVariants.{Next}
+use Rattle.machine_lines.specs.declared.line.MachineLine.{MachineLine}
 use Rattle.machine_lines.specs.declared.line.MachineLine.TheVariants as shown
 use Rattle.bench_report.specs.declared.printed.Answer.{Answer}
 use Rattle.bench_report.specs.declared.printed.Printed.{Printed}
@@ -107,6 +110,13 @@ abbrev pub ArePlain : List Line → Type 0
 ArePlain [] = ⊤
 ArePlain (line ∷ more) = IsPlain line × ArePlain more
 
+-- A line that shows that no hart's command was refused for its disk or for memory: one turn, after which the hart did not just go
+-- on, or a call that was not answered. (A refused command is answered, and the hart goes on.)
+abbrev pub IsSmoothLine : MachineLine → Type 0
+IsSmoothLine (shown.Turn h made word) = (made ≡ 1) × (word ≢ words.Own Next)
+IsSmoothLine (shown.Answered h e v) = ⊥
+IsSmoothLine line = ⊤
+
 -- a line by which no memory was refused (11), no call of the disk failed (5, and 6 where it leaves a command in doubt) and no
 -- armed cut struck
 abbrev pub IsSmooth : Printed → Type 0
@@ -114,6 +124,7 @@ IsSmooth (printed.FormatRefused n) = n ≢ 5
 IsSmooth (printed.OnRefused n) = (n ≢ 5) × (n ≢ 6) × (n ≢ 11)
 IsSmooth (printed.SlotRefused n) = (n ≢ 5) × (n ≢ 6)
 IsSmooth printed.PowerLost = ⊥
+IsSmooth (printed.Shown line) = IsSmoothLine line
 IsSmooth line = ⊤
 
 -- so is each line

@@ -4,14 +4,19 @@
 -- was refused 6 or lost power, some first of them. A life takes commands from its power-on to its first command in doubt, its
 -- end or a cut.
 use Rattle.std.specs.Prelude.{◌≡◌, ◌≢◌, ◌⊎◌, ℕ, ◌+◌, ◌≤◌, Bool, true, false, List, [], ◌∷◌, Option, Some, None, MatchBool, ⊤}
-use Rattle.board_model.specs.Durable.{State, Change, Slot, formatted}
+use Rattle.board_model.specs.Durable.{State, Change, Slot, Reset, Suspend, formatted}
 use Rattle.bench_report.specs.Taken.{Takes, TakesSome, TakesFewer}
 use Rattle.board_model.specs.Shown.{durable_of}
 use Rattle.board_model.specs.declared.durable.Durable.{Durable}
+use Rattle.board_model.specs.declared.durable.Reason.{Reason}
 use Rattle.board_model.specs.declared.durable.ImageHead.{ImageHead}
 use Rattle.board_model.specs.declared.boot_mode.BootMode.{BootMode}
 use Rattle.board_model.specs.declared.boot_mode.BootMode.TheVariants as modes
 use Rattle.board.specs.Boots.{BootsSlot}
+use Rattle.machine.specs.declared.parts.Word.{Word}
+use Rattle.machine.specs.declared.parts.Word.TheVariants as words
+use Rattle.machine_lines.specs.declared.line.MachineLine.{MachineLine}
+use Rattle.machine_lines.specs.declared.line.MachineLine.TheVariants as shown
 use Rattle.script_lang.specs.declared.line.Line.{Line}
 use Rattle.script_lang.specs.declared.line.Line.TheVariants as lines
 use Rattle.bench_report.specs.declared.printed.Answer.{Answer}
@@ -19,15 +24,18 @@ use Rattle.bench_report.specs.declared.printed.Printed.{Printed}
 use Rattle.bench_report.specs.declared.printed.Printed.TheVariants as printed
 use Rattle.bench_report.specs.Steps.{commands_of}
 
--- what a line asks of the disk: a boot with its commands, one command of the console, or none
+-- what a line asks of the disk: a boot with its commands, one command of the console, at most one that a hart makes, or none
 pub data Asked : Type 0 where
   Boot : BootMode → Asked
   Command : Change → Asked
+  Guest : Asked
   Nothing : Asked
 
 abbrev pub asked_by : Line → Asked
 asked_by (lines.On mode) = Boot mode
 asked_by (lines.Slot n) = Command (Slot n)
+asked_by (lines.Turn h n) = Guest
+asked_by (lines.Call h e f x y z) = Guest
 asked_by line = Nothing
 
 -- A command was refused: by 6 it may have taken effect, and the life takes no more (up: whether it took commands before; now:
@@ -37,10 +45,43 @@ Refused n c s up t now =
     ((n ≢ 6) × (t ≡ s) × (now ≡ up))
     ⊎ ((n ≡ 6) × (now ≡ false) × ((t ≡ s) ⊎ ((up ≡ true) × TakesSome (c ∷ []) s t)))
 
+-- the commands of harts
+abbrev pub IsReset : Change → Type 0
+IsReset c = (r : Reason) × (c ≡ Reset r)
+
+abbrev pub IsSuspension : Change → Type 0
+IsSuspension c = (hart address opaque : ℕ) × (memory : List ℕ) × (c ≡ Suspend hart address opaque memory)
+
+abbrev pub IsOfHarts : Change → Type 0
+IsOfHarts c = IsReset c ⊎ IsSuspension c
+
+-- a hart's command of this kind ended the life
+abbrev pub Ends : (Change → Type 0) → State → Bool → State → Bool → Type 0
+Ends Is s up t now = (up ≡ true) × (now ≡ false) × (c : Change) × Is c × Takes (c ∷ []) s t
+
+-- Harts went on: none of them made a durable command; or one is in doubt, of which the report does not tell, and the life takes
+-- no more.
+abbrev pub Hides : State → Bool → State → Bool → Type 0
+Hides s up t now =
+    ((t ≡ s) × (now ≡ up))
+    ⊎ ((up ≡ true) × (now ≡ false) × (c : Change) × IsOfHarts c × TakesSome (c ∷ []) s t)
+
+-- what the word of a turn or a call tells
+abbrev pub TellsWord : Word → State → Bool → State → Bool → Type 0
+TellsWord (words.Own did) s up t now = Hides s up t now
+TellsWord words.Asleep s up t now = Ends IsSuspension s up t now
+TellsWord (words.Reset kind) s up t now = Ends IsReset s up t now
+
+abbrev pub TellsLine : MachineLine → State → Bool → State → Bool → Type 0
+TellsLine (shown.Turn h made word) s up t now = TellsWord word s up t now
+TellsLine (shown.Called h word) s up t now = TellsWord word s up t now
+TellsLine line s up t now = Hides s up t now
+
 -- power was lost within the line: some first of its commands took effect, of which a board takes none that is off or in doubt
 abbrev pub Lost : Asked → State → Bool → State → Type 0
 Lost (Boot mode) s up t = TakesSome (commands_of mode) s t
 Lost (Command c) s up t = (t ≡ s) ⊎ ((up ≡ true) × TakesSome (c ∷ []) s t)
+Lost Guest s up t = (t ≡ s) ⊎ ((up ≡ true) × (c : Change) × IsOfHarts c × TakesSome (c ∷ []) s t)
 Lost Nothing s up t = t ≡ s
 
 -- The state s before a line and t after it, and whether a board that is on takes commands before and after, by what the line
@@ -51,7 +92,9 @@ Tells (Boot mode) (printed.OnRefused n) s up t now =
     (up ≡ false) × (now ≡ false) × ((t ≡ s) ⊎ TakesFewer (commands_of mode) s t ⊎ ((n ≡ 6) × TakesSome (commands_of mode) s t))
 Tells (Command c) (printed.Slot k) s up t now = (up ≡ true) × Takes (c ∷ []) s t × (now ≡ true)
 Tells (Command c) (printed.SlotRefused n) s up t now = Refused n c s up t now
+Tells Guest (printed.Shown line) s up t now = TellsLine line s up t now
 Tells Nothing (printed.On mode) s up t now = ⊥
+Tells Guest (printed.On mode) s up t now = ⊥
 Tells (Command c) (printed.On mode) s up t now = ⊥
 Tells asked printed.Cut s up t now = (t ≡ s) × (now ≡ false)
 Tells asked printed.PowerLost s up t now = Lost asked s up t × (now ≡ false)

@@ -1,7 +1,7 @@
 -- What a line of a script may answer, and what the bench then is. Source: docs/SCRIPT.md.
-use Rattle.std.specs.Prelude.{◌≡◌, ◌≢◌, ℕ, ◌+◌, ◌<◌, ◌⊎◌, ⊤, true, false, List, [], ◌∷◌, ◌++◌, Option, Some, None, Result, Ok, Err, length, slice_set}
+use Rattle.std.specs.Prelude.{◌≡◌, ◌≢◌, ℕ, zero, suc, Bool, ◌+◌, ◌<◌, ◌⊎◌, ⊤, true, false, List, [], ◌∷◌, ◌++◌, Option, Some, None, Result, Ok, Err, length, slice_set}
 use Rattle.std.specs.Option.{option_to_list}
-use Rattle.board_model.specs.Durable.{State, Change, Slot, refusal_of, after}
+use Rattle.board_model.specs.Durable.{State, Change, Slot, Reset, Suspend, refusal_of, after}
 use Rattle.board_model.specs.Kept.{nothing_kept, MayKeep, found_of}
 use Rattle.board_model.specs.Shapes.{Size}
 use Rattle.board_model.specs.Shown.{durable_of}
@@ -12,10 +12,32 @@ use Rattle.board_model.specs.declared.boot_mode.BootMode.{BootMode}
 use Rattle.board_model.specs.declared.boot_mode.BootMode.TheVariants as modes
 use Rattle.board.specs.Boots.{boot_refusal, booted}
 use Rattle.board.specs.Moments.{issued_by}
-use Rattle.machine.specs.Machine.{Machine, resting}
+use Rattle.machine.specs.Machine.{Machine, hart_at, resting}
 use Rattle.script_lang.specs.declared.line.Line.{Line}
 use Rattle.script_lang.specs.declared.line.Line.TheVariants as lines
-use Rattle.machine_lines.specs.Shows.{TurnsLine, CallLine, reg_line, pc_line, CsrLine, pending_line, mem_line}
+use Rattle.machine_lines.specs.Shows.{Has, own_line, reg_line, pc_line, CsrLine, pending_line, mem_line}
+use Rattle.machine.specs.Turns.{Turns, Calls}
+use Rattle.machine.specs.Words.{ends}
+use Rattle.machine.specs.declared.parts.Word.{Word}
+use Rattle.machine.specs.declared.parts.Word.TheVariants as words
+use Rattle.machine.specs.declared.parts.Called.{Called}
+use Rattle.machine.specs.declared.parts.Called.TheVariants.{NotStarted, Made}
+use Rattle.turns.specs.declared.words.Turned.{Turned}
+use Rattle.turns.specs.declared.words.Turned.TheVariants as dids
+use Rattle.hart.specs.State.{answered}
+use Rattle.sbi_abi.specs.Answers.{error_of}
+use Rattle.sbi_abi.specs.Calls.{call_of}
+use Rattle.sbi_abi.specs.declared.call.Call.{Call}
+use Rattle.sbi_abi.specs.declared.call.Call.TheVariants as calls
+use Rattle.sbi_abi.specs.declared.ret.SbiError.{SbiError}
+use Rattle.sbi_abi.specs.declared.ret.SbiError.TheVariants.{Failed, NotSupported, Denied}
+use Rattle.hsm.specs.Seen.{listed}
+use Rattle.store.specs.Follows.{FitsBoard}
+use Rattle.susp.specs.Checks.{IsChecked}
+use Rattle.susp.specs.Sleeps.{AreStopped}
+use Rattle.sbi.specs.declared.resets.ResetType.{ResetType}
+use Rattle.sbi.specs.Resets.{reset_of}
+use Rattle.board_model.specs.declared.durable.Reason.{Reason}
 use Rattle.machine_lines.specs.declared.line.MachineLine.{MachineLine}
 use Rattle.machine_lines.specs.declared.line.MachineLine.TheVariants as shown
 use Rattle.bench_report.specs.declared.printed.Printed.{Printed}
@@ -113,6 +135,76 @@ abbrev pub IssuesAll : List Change → Bench → Result ℕ ℕ → Bench → Ty
 IssuesAll [] b o new = (o ≡ Ok 0) × (new ≡ b)
 IssuesAll (c ∷ cs) b o new = (life : Life) × (b.power ≡ Some life) × (first : Result ℕ ℕ) × (mid : Bench) × Issued c life b first mid
     × (((n : ℕ) × (first ≡ Ok n) × IssuesAll cs mid o new) ⊎ ((n : ℕ) × (first ≡ Err n) × (o ≡ Err n) × (new ≡ mid)))
+
+-- ---- turns and calls of harts
+
+-- the hart is answered with the error, and goes on behind its call
+abbrev pub refused : ℕ → SbiError → Life → Life
+refused h e life = has_machine (record life.machine { harts = slice_set life.machine.harts h (answered (hart_at life.machine h) (error_of (Err e)) 0) }) life
+
+abbrev pub Refuses : SbiError → ℕ → Life → Bench → Word → Bench → Type 0
+Refuses e h life b word new = (word ≡ words.Own dids.Next) × (new ≡ on_with (refused h e life) b)
+
+-- the command of a hart, by its receipt or number: acknowledged, it ends the life as it says, and the board is off; refused, it is
+-- answered -1
+abbrev pub Held : Result ℕ ℕ → Word → ℕ → Bench → Word → Bench → Type 0
+Held (Ok n) said h b word new = (word ≡ said) × (new ≡ off b)
+Held (Err n) said h b word new = (life : Life) × (b.power ≡ Some life) × Refuses Failed h life b word new
+
+-- a reset, by what its arguments say
+abbrev pub Resets : Result (ResetType × Reason) SbiError → ℕ → Life → Bench → Word → Bench → Type 0
+Resets (Err e) h life b word new = Refuses e h life b word new
+Resets (Ok reset) h life b word new = (o : Result ℕ ℕ) × (mid : Bench) × Issued (Reset reset.1) life b o mid × Held o (words.Reset reset.0) h mid word new
+
+-- the command of a suspension, where it fits the board or not: as other commands; or it is refused for want of memory (11), or for
+-- what is not of the board (3)
+abbrev pub Suspends : Type 0 → Change → Life → Bench → Result ℕ ℕ → Bench → Type 0
+Suspends Fits c life b o new =
+    (Fits × Issued c life b o new)
+    ⊎ (Fits × (o ≡ Err 11) × (new ≡ starved b))
+    ⊎ ((Fits → ⊥) × (o ≡ Err 3) × (new ≡ b))
+
+-- every hart but that one is STOPPED
+abbrev pub IsAlone : ℕ → Machine → Type 0
+IsAlone id m = AreStopped m.size.harts id (listed m.table.states)
+
+-- a suspension, whose arguments were checked: by a hart beside which another is not STOPPED it is denied; else the image has the
+-- memory of this moment
+abbrev pub Sleeps : ℕ → ℕ → ℕ → Life → Bench → Word → Bench → Type 0
+Sleeps site opaque h life b word new =
+    ((IsAlone (hart_at life.machine h).id life.machine → ⊥) × Refuses Denied h life b word new)
+    ⊎ (IsAlone (hart_at life.machine h).id life.machine × (o : Result ℕ ℕ) × (mid : Bench)
+    × Suspends (FitsBoard life.machine.size life.machine.memory (hart_at life.machine h).id site) (Suspend (hart_at life.machine h).id site opaque life.machine.memory) life b o mid × Held o words.Asleep h mid word new)
+
+abbrev pub SleepsBy : Result ℕ SbiError → ℕ → ℕ → Life → Bench → Word → Bench → Type 0
+SleepsBy (Err e) opaque h life b word new = Refuses e h life b word new
+SleepsBy (Ok site) opaque h life b word new = Sleeps site opaque h life b word new
+
+-- the durable call at which the hart stands
+abbrev pub MakesCall : Call → ℕ → Life → Bench → Word → Bench → Type 0
+MakesCall (calls.SystemReset kind reason) h life b word new = Resets (reset_of kind reason) h life b word new
+MakesCall (calls.SystemSuspend kind address opaque) h life b word new = (asked : Result ℕ SbiError) × IsChecked life.machine.size kind address asked × SleepsBy asked opaque h life b word new
+MakesCall call h life b word new = Refuses NotSupported h life b word new
+
+-- What comes of what hart h did, once the life has the machine: it stands at a durable call, which is made; or that is its word.
+abbrev pub Comes : Turned → ℕ → Life → Bench → Word → Bench → Type 0
+Comes dids.Durable h life b word new = MakesCall (call_of (hart_at life.machine h)) h life b word new
+Comes did h life b word new = (word ≡ words.Own did) × (new ≡ b)
+
+abbrev pub GuestTurn : ℕ → Life → Bench → Word → Bench → Type 0
+GuestTurn h life b word new = (m : Machine) × (did : Turned) × Turns h life.machine m did × Comes did h (has_machine m life) (on_with (has_machine m life) b) word new
+
+-- the turn is the last of its line, with so many that might follow: it ends the line, none is left, or a cut struck in it
+abbrev pub IsLastTurn : Word → ℕ → Bench → Type 0
+IsLastTurn word left new = (ends word ≡ true) ⊎ (left ≡ 0) ⊎ (new.mishaps.struck ≡ true)
+
+-- at most n turns of a hart, of which so many were made, and the word of the last
+abbrev pub GuestTurns : ℕ → ℕ → Bench → ℕ → Word → Bench → Type 0
+GuestTurns h zero b made word new = ⊥
+GuestTurns h (suc n) b made word new =
+    (life : Life) × (b.power ≡ Some life) × (said : Word) × (mid : Bench) × GuestTurn h life b said mid
+    × ((IsLastTurn said n mid × (made ≡ 1) × (word ≡ said) × (new ≡ mid))
+    ⊎ ((ends said ≡ false) × (mid.mishaps.struck ≡ false) × (rest : ℕ) × (made ≡ suc rest) × GuestTurns h n mid rest word new))
 
 -- ---- format
 
@@ -214,11 +306,29 @@ abbrev pub PayloadStep : Option Life → ℕ → List ℕ → Bench → Answer �
 PayloadStep (Some life) slot bytes b answer new = (answer ≡ shows shown.Busy) × (new ≡ b)
 PayloadStep None slot bytes b answer new = (answer ≡ shows (shown.Payload slot (length bytes))) × (new ≡ record b { payloads = slice_set b.payloads slot bytes })
 
--- a line by which a hart does something: turns, or a call that is made in its place
-abbrev pub GuestStep : Option Life → (Machine → Machine → MachineLine → Type 0) → Bench → Answer → Bench → Type 0
-GuestStep None does b answer new = (answer ≡ shows shown.Off) × (new ≡ b)
-GuestStep (Some life) does b answer new =
-    (line : MachineLine) × (m : Machine) × does life.machine m line × (answer ≡ shows line) × (new ≡ on_with (has_machine m life) b)
+abbrev pub TurnStep : Option Life → ℕ → ℕ → Bench → Answer → Bench → Type 0
+TurnStep None h n b answer new = (answer ≡ shows shown.Off) × (new ≡ b)
+TurnStep (Some life) h n b answer new =
+    (Has life.machine h × (made : ℕ) × (word : Word) × GuestTurns h n b made word new × (answer ≡ shows (shown.Turn h made word)))
+    ⊎ ((Has life.machine h → ⊥) × (answer ≡ shows shown.Off) × (new ≡ b))
+
+-- what a line of a call says of its hart, on the bench after it
+abbrev pub CallTold : ℕ → Word → Bench → Answer → Type 0
+CallTold h (words.Own did) new answer = (life : Life) × (new.power ≡ Some life) × (answer ≡ shows (own_line h (hart_at life.machine h) did))
+CallTold h words.Asleep new answer = answer ≡ shows (shown.Called h words.Asleep)
+CallTold h (words.Reset kind) new answer = answer ≡ shows (shown.Called h (words.Reset kind))
+
+-- a call that the machine made in the place of hart h, once the life has the machine
+abbrev pub GuestCall : Called → ℕ → Life → Bench → Answer → Bench → Type 0
+GuestCall NotStarted h life b answer new = (answer ≡ shows (shown.NotStarted h)) × (new ≡ b)
+GuestCall (Made did) h life b answer new = (word : Word) × Comes did h life b word new × CallTold h word new answer
+
+abbrev pub CallStep : Option Life → ℕ → ℕ → ℕ → ℕ → ℕ → ℕ → Bench → Answer → Bench → Type 0
+CallStep None h e f x y z b answer new = (answer ≡ shows shown.Off) × (new ≡ b)
+CallStep (Some life) h e f x y z b answer new =
+    (Has life.machine h × (m : Machine) × (called : Called) × Calls h e f x y z life.machine m called
+    × GuestCall called h (has_machine m life) (on_with (has_machine m life) b) answer new)
+    ⊎ ((Has life.machine h → ⊥) × (answer ≡ shows shown.Off) × (new ≡ b))
 
 -- a line that shows something of memory and harts
 abbrev pub ReadStep : Option Life → (Machine → MachineLine → Type 0) → Bench → Answer → Bench → Type 0
@@ -240,8 +350,8 @@ Step size lines.Format b answer new = FormatStep b.power b answer new
 Step size (lines.On mode) b answer new = OnStep size b.power mode b answer new
 Step size (lines.Slot n) b answer new = SlotStep b.power n b answer new
 Step size lines.Discard b answer new = NotBuilt b answer new
-Step size (lines.Turn h n) b answer new = GuestStep b.power (λ old m line. TurnsLine h n old m line) b answer new
-Step size (lines.Call h e f x y z) b answer new = GuestStep b.power (λ old m line. CallLine h e f x y z old m line) b answer new
+Step size (lines.Turn h n) b answer new = TurnStep b.power h n b answer new
+Step size (lines.Call h e f x y z) b answer new = CallStep b.power h e f x y z b answer new
 Step size (lines.Reg h r) b answer new = ReadStep b.power (λ m line. line ≡ reg_line h r m) b answer new
 Step size (lines.Pc h) b answer new = ReadStep b.power (λ m line. line ≡ pc_line h m) b answer new
 Step size (lines.Csr h c) b answer new = ReadStep b.power (λ m line. CsrLine h c m line) b answer new

@@ -11,14 +11,16 @@ ghost use Rattle.bench_report.specs.declared.printed.Answer.{Answer};
 
 /// There is one report of a script where memory was never refused and no failure of the disk was answered, so that no
 /// armed cut struck: any two such runs of it wrote the same and left the same. For lines that neither make turns nor show
-/// memory or harts it is computed by the plain report. A report shows that it is one by its lines, where they are smooth:
-/// none says that memory was refused, that the disk failed or that power was lost.
+/// memory or harts it is computed by the plain report. A report shows that it is one by its lines, where they are smooth: none
+/// says that memory was refused, that the disk failed or that power was lost, and none of turns or of a call may hide that a
+/// hart's command was refused so.
 pub fn one_report()
     ensures one { (script : Script) (answers others : List Answer) (end last : Bench) → IsReport script answers end → IsReport script others last → IsUnspoilt end → IsUnspoilt last
         → (answers ≡ others) × (end ≡ last) }
     ensures smooth { (script : Script) (answers : List Answer) (end : Bench) → IsReport script answers end → AreSmooth answers → IsUnspoilt end }
     ensures plain { (script : Script) (answers : List Answer) (end : Bench) → IsReport script answers end → IsUnspoilt end → ArePlain script.lines → answers ≡ plain_report script }
 {
+    machine::one_turn();
     machine_lines::one_line();
 }
 

@@ -11,7 +11,7 @@ ghost use Rattle.bench_report.specs.Reports.{answer_text, IsReport, IsCutShort};
 ghost use Rattle.bench_report.specs.Counts.{Adds, Reported};
 ghost use Rattle.bench_report.specs.Bench.{Bench, blank_bench};
 ghost use Rattle.bench_report.specs.Below.{facts};
-ghost use Rattle.bench_report.specs.Agree.{Agrees, IsResting, OffIs, AreShort, IsBench};
+ghost use Rattle.bench_report.specs.Agree.{Agrees, IsResting, OffIs, AreShort, IsBench, IsUnstruck};
 ghost use Rattle.bench_report.specs.declared.printed.Answer.{Answer};
 ghost use Rattle.board_model.specs.declared.refusal.Refusal.{Refusal};
 ghost use Rattle.bench_report.specs.Steps.{off, Moves, Run};
@@ -21,6 +21,7 @@ use crate::printed::{Answer, FoundLine, Printed};
 use crate::steps::{disk_left, moves};
 use board::Payloads;
 use board_model::{Durable, Refusal, Shape};
+use crew::Crew;
 use script_lang::{Fill, Line, Script, parse_script};
 use simdisk::SimDisk;
 use std::alloc::{AllocError, Global};
@@ -119,8 +120,9 @@ impl From<AllocError> for Stopped {
 }
 
 /// Runs one line of a script. Where it is refused the line may have been run.
-fn run_line<W: Write>(
+fn run_line<C: Crew, W: Write>(
     alloc: Global,
+    crew: &C,
     shape: &Shape,
     line: &Line,
     power: Power,
@@ -132,17 +134,19 @@ fn run_line<W: Write>(
     requires few { report.old.lines < 2 ^ 40 }
     requires range { IsInRange shape.now line.now }
     requires resting { IsResting power }
+    requires calm { IsUnstruck power }
     requires short { AreShort payloads.old }
     ensures resting { IsResting result.0 }
     ensures short { AreShort payloads.new }
     ensures ok { OnOk result.1 ((b : Bench) → IsBench shape.now b power payloads.old → (answer : Answer) × (new : Bench) × Moves shape.now line.now b answer new
         × IsBench shape.now new result.0 payloads.new × Adds (W.contents out.old) (W.contents out.new) report.old report.new answer) }
     ensures few { OnOk result.1 (report.new.lines ≤ report.old.lines + 2) }
+    ensures calm { OnOk result.1 (IsUnstruck result.0) }
     ensures stopped { OnErr result.1 ((b : Bench) → IsBench shape.now b power payloads.old → Agrees shape.now b result.0
         ⊎ ((answer : Answer) × (new : Bench) × Moves shape.now line.now b answer new × Agrees shape.now new result.0)) }
     ensures err { IfErr result.1 (λ e. (e ≡ Refusal.Output) ⊎ (e ≡ Refusal.Memory)) }
 {
-    let (after, answer) = moves(alloc, shape, line, power, payloads, fill);
+    let (after, answer) = moves(alloc, crew, shape, line, power, payloads, fill);
     match answer {
         Ok(answer) => {
             let added = add(out, report, &answer);
@@ -153,8 +157,9 @@ fn run_line<W: Write>(
 }
 
 /// Runs the lines after the board line, up to the first that is refused.
-fn run_lines<W: Write>(
+fn run_lines<C: Crew, W: Write>(
     alloc: Global,
+    crew: &C,
     shape: &Shape,
     lines: &[Line],
     power: Power,
@@ -167,6 +172,7 @@ fn run_lines<W: Write>(
     requires ranges { All (IsInRange shape.now) lines.now }
     requires first { report.old.lines ≤ 1 }
     requires resting { IsResting power }
+    requires calm { IsUnstruck power }
     requires short { AreShort payloads.old }
     ensures resting { IsResting result.0 }
     ensures ok { OnOk result.1 ((b : Bench) → IsBench shape.now b power payloads.old → (answers : List Answer) × (new : Bench) × Run shape.now b lines.now answers new × Agrees shape.now new result.0
@@ -177,7 +183,7 @@ fn run_lines<W: Write>(
 {
     let mut power = power;
     for line in lines {
-        let (after, ran) = run_line(alloc, shape, line, power, payloads, fill, out, report);
+        let (after, ran) = run_line(alloc, crew, shape, line, power, payloads, fill, out, report);
         if let Err(refusal) = ran {
             return (after, Err(refusal));
         }
@@ -187,9 +193,10 @@ fn run_lines<W: Write>(
 }
 
 /// Runs a script over a blank disk of the size that its board needs.
-fn run_script<W: Write>(
+fn run_script<C: Crew, W: Write>(
     alloc: Global,
     script: &Script,
+    crew: &C,
     disk: SimDisk,
     out: &mut W,
 ) -> (SimDisk, Result<Report, Refusal>)
@@ -219,6 +226,7 @@ fn run_script<W: Write>(
     let mut fill = Fill::Old;
     let (power, ran) = run_lines(
         alloc,
+        crew,
         &shape,
         &script.lines,
         Power::Off(disk),
@@ -240,9 +248,10 @@ fn run_script<W: Write>(
 ///
 /// Refused as `run` is. Where a board was made its disk is given back, as the lines left it that ran: some first of the
 /// script's.
-pub fn run_left<W: Write>(
+pub fn run_left<C: Crew, W: Write>(
     alloc: Global,
     script: &[u8],
+    crew: &C,
     out: &mut W,
 ) -> Result<(Report, SimDisk), Stopped>
     // What was written is a report of the script, and so are the count and the states; the disk is the one of its end.
@@ -262,7 +271,7 @@ pub fn run_left<W: Write>(
     let script = parse_script(alloc, script)?;
     blank_disks::<SimDisk>();
     let disk = SimDisk::blank(alloc, script.shape.sectors())?;
-    match run_script(alloc, &script, disk, out) {
+    match run_script(alloc, &script, crew, disk, out) {
         (left, Ok(report)) => Ok((report, left)),
         (left, Err(refusal)) => Err(Stopped {
             refusal,
@@ -271,12 +280,18 @@ pub fn run_left<W: Write>(
     }
 }
 
-/// Runs a script (docs/SCRIPT.md) and writes its report.
+/// Runs a script (docs/SCRIPT.md) and writes its report. The crew writes the lanes of an image; what comes of it is the same for
+/// each.
 ///
 /// Refused `BadShape` or `BadScript` where the script has a fault, and then nothing ran and nothing is written; `Memory`
 /// where memory was refused; `Output` where the writer failed. After the last two any part of the report may stand in
 /// the writer.
-pub fn run<W: Write>(alloc: Global, script: &[u8], out: &mut W) -> Result<Report, Refusal>
+pub fn run<C: Crew, W: Write>(
+    alloc: Global,
+    script: &[u8],
+    crew: &C,
+    out: &mut W,
+) -> Result<Report, Refusal>
     // What was written is a report of the script, and so are the count and the states.
     ensures report { IfOk result (λ report. (said : Said) × (answers : List Answer) × (end : Bench)
         × (script_of script.now ≡ Ok said) × IsReport said answers end × Reported (W.contents out.old) (W.contents out.new) report answers) }
@@ -285,7 +300,7 @@ pub fn run<W: Write>(alloc: Global, script: &[u8], out: &mut W) -> Result<Report
     // A script with a fault runs nothing.
     ensures nothing { (e : Refusal) → script_of script.now ≡ Err e → (W.contents out.new ≡ W.contents out.old) × ((result ≡ Err e) ⊎ (result ≡ Err Refusal.Memory)) }
 {
-    match run_left(alloc, script, out) {
+    match run_left(alloc, script, crew, out) {
         Ok((report, _disk)) => Ok(report),
         Err(stopped) => Err(stopped.refusal),
     }

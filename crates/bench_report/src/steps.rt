@@ -1,17 +1,17 @@
 //! One line of a script.
 
-ghost use Rattle.std.specs.Prelude.{◌≡◌, ◌<◌, ◌≤◌, ◌+◌, ◌*◌, ◌^◌, if◌then◌else◌, ℕ, List, length, Some, None, Ok, Err, IfOk, OnOk, OnErr, true, IsTrue, ◌↔◌, MatchResult};
+ghost use Rattle.std.specs.Prelude.{◌≡◌, false, ◌<◌, ◌≤◌, ◌+◌, ◌*◌, ◌^◌, if◌then◌else◌, ℕ, List, length, Some, None, Ok, Err, IfOk, OnOk, OnErr, true, IsTrue, ◌↔◌, MatchResult};
 ghost use Rattle.board_model.specs.Durable.{Slot};
 ghost use Rattle.board_model.specs.Shapes.{Size};
 ghost use Rattle.script_lang.specs.Ranges.{IsInRange};
 ghost use Rattle.store.specs.Leaves.{IsIdle};
-ghost use Rattle.bench_report.specs.Below.{store_in, machine_in, facts};
+ghost use Rattle.bench_report.specs.Below.{store_in, machine_in, facts, store_mishaps};
 ghost use Rattle.bench_report.specs.Bench.{Bench, Life};
-ghost use Rattle.bench_report.specs.Steps.{FormatsOn, PowersOn, FormatStep, OnStep, SlotStep, PayloadStep, GuestStep, ReadStep, Step, Moves, off, unpowered, armed_with, says, shows};
+ghost use Rattle.bench_report.specs.Steps.{FormatsOn, PowersOn, FormatStep, OnStep, SlotStep, PayloadStep, TurnStep, CallStep, ReadStep, Step, Moves, off, unpowered, armed_with, says, shows};
 ghost use Rattle.disk.specs.Mishaps.{armed_by};
 ghost use Rattle.simdisk.specs.declared.SimDisk.{SimDisk};
-ghost use Rattle.bench_report.specs.Agree.{choice_by, HasDisk, IsCutBy, Arms, ArmsIts, fill_after, EndsBy, Agrees, IsResting, OffIs, OnIs, AreShort, IsBench, Goes};
-ghost use Rattle.machine_lines.specs.Shows.{TurnsLine, CallLine, waits, reg_line, pc_line, CsrLine, pending_line, mem_line};
+ghost use Rattle.bench_report.specs.Agree.{choice_by, HasDisk, IsCutBy, Arms, ArmsIts, fill_after, EndsBy, Agrees, IsResting, OffIs, OnIs, StandsBy, AreShort, IsBench, IsUnstruck, Matches, Goes};
+ghost use Rattle.machine_lines.specs.Shows.{waits, reg_line, pc_line, CsrLine, pending_line, mem_line};
 ghost use Rattle.machine.specs.Machine.{Machine};
 ghost use Rattle.board_model.specs.declared.refusal.Refusal.TheVariants.{Memory};
 
@@ -19,7 +19,9 @@ use crate::power::Power;
 use crate::printed::{Answer, Printed};
 use board::{Board, Payloads};
 use board_model::{BootMode, Command, HartId, Refusal, Shape};
+use crew::Crew;
 use disk::{ArmedFault, Disk};
+use machine::Word;
 use machine_lines::MachineLine;
 use script_lang::{Bytes, Fill, Line};
 use simdisk::{Choice, SimDisk};
@@ -114,6 +116,7 @@ fn cut(power: Power, fill: Fill) -> Power
     ensures told { (size : Size) (b : Bench) → Agrees size b power → Agrees size (unpowered b) result }
     ensures exact { (disk : SimDisk) × HasDisk power disk × IsCutBy fill disk result }
     ensures resting { IsResting result }
+    ensures calm { IsUnstruck result }
 {
     kept_disks::<SimDisk>();
     Power::Off(disk_left(power).after_cut(choice(fill)))
@@ -151,7 +154,8 @@ fn newest_fill(line: &Line, fill: Fill) -> Fill
 
 /// Whether an armed cut has struck.
 fn struck(power: &Power) -> bool
-    ensures { (size : Size) (b : Bench) → Agrees size b power.now → result ≡ b.mishaps.struck }
+    ensures told { (size : Size) (b : Bench) → Agrees size b power.now → result ≡ b.mishaps.struck }
+    ensures calm { result ≡ false → IsUnstruck power.now }
 {
     match power {
         Power::Off(disk) => disk.struck(),
@@ -207,7 +211,7 @@ fn payload_line(
     requires bytes { length bytes.now ≤ 1024 }
     requires short { AreShort payloads.old }
     ensures told { IfOk result (λ line. (size : Size) (b : Bench) → IsBench size b power.now payloads.old
-        → (new : Bench) × PayloadStep b.power slot bytes.now b (shows line) new × IsBench size new power.now payloads.new) }
+        → (new : Bench) × PayloadStep b.power slot bytes.now b (shows line) new × Matches size new power.now payloads.new) }
     ensures short { OnOk result (AreShort payloads.new) }
     ensures refused { OnErr result ((result ≡ Err Memory) × (payloads.new ≡ payloads.old)) }
 {
@@ -223,56 +227,86 @@ fn payload_line(
     }
 }
 
-/// Turns of a hart of a board that is on.
-fn turn(board: &mut Board<SimDisk>, hart: HartId, count: u32) -> MachineLine
-    requires { 0 < count }
-    ensures told { TurnsLine hart count (machine_in board.old) (machine_in board.new) result }
-    ensures store { store_in board.new ≡ store_in board.old }
+/// A board after what is said of a turn or a call of a hart: off where that ended the life.
+fn after(board: Board<SimDisk>, word: Word) -> Power
+    ensures told { (size : Size) (b : Bench) → StandsBy size word b board → Agrees size b result }
+    ensures resting { IsResting result }
 {
-    if !board.machine().has(hart) {
-        return MachineLine::Off;
+    match word {
+        Word::Own(_) => Power::On(board),
+        Word::Asleep => Power::Off(board.into_disk()),
+        Word::Reset(_) => Power::Off(board.into_disk()),
     }
-    let (made, turned) = board.turns(hart, count);
-    MachineLine::Turn(hart, made, turned)
 }
 
-fn turn_line(hart: HartId, count: u32, power: Power) -> (Power, MachineLine)
+/// Turns of a hart of a board that is on.
+fn turn<C: Crew>(
+    alloc: Global,
+    crew: &C,
+    mut board: Board<SimDisk>,
+    hart: HartId,
+    count: u32,
+) -> (Power, MachineLine)
+    requires some { 0 < count }
+    requires calm { (store_mishaps (store_in board)).struck ≡ false }
+    ensures told { (size : Size) (b : Bench) → OnIs size b board → Goes size b result.0 (TurnStep b.power hart count b (shows result.1)) }
+    ensures resting { IsResting result.0 }
+{
+    if !board.machine().has(hart) {
+        return (Power::On(board), MachineLine::Off);
+    }
+    let (made, word) = board.turns(alloc, crew, hart, count);
+    (after(board, word), MachineLine::Turn(hart, made, word))
+}
+
+fn turn_line<C: Crew>(
+    alloc: Global,
+    crew: &C,
+    hart: HartId,
+    count: u32,
+    power: Power,
+) -> (Power, MachineLine)
     requires some { 0 < count }
     requires resting { IsResting power }
-    ensures told { (size : Size) (b : Bench) → Agrees size b power
-        → Goes size b result.0 (GuestStep b.power (λ old m line. TurnsLine hart count old m line) b (shows result.1)) }
+    requires calm { IsUnstruck power }
+    ensures told { (size : Size) (b : Bench) → Agrees size b power → Goes size b result.0 (TurnStep b.power hart count b (shows result.1)) }
     ensures resting { IsResting result.0 }
 {
     match power {
         Power::Off(disk) => (Power::Off(disk), MachineLine::Off),
-        Power::On(mut board) => {
-            let line = turn(&mut board, hart, count);
-            (Power::On(board), line)
-        }
+        Power::On(board) => turn(alloc, crew, board, hart, count),
     }
 }
 
 /// A call that is made in the place of a hart of a board that is on.
-fn call(
-    board: &mut Board<SimDisk>,
+fn call<C: Crew>(
+    alloc: Global,
+    crew: &C,
+    mut board: Board<SimDisk>,
     hart: HartId,
     eid: u64,
     fid: u64,
     a0: u64,
     a1: u64,
     a2: u64,
-) -> MachineLine
-    ensures told { CallLine hart eid fid a0 a1 a2 (machine_in board.old) (machine_in board.new) result }
-    ensures store { store_in board.new ≡ store_in board.old }
+) -> (Power, MachineLine)
+    ensures told { (size : Size) (b : Bench) → OnIs size b board → Goes size b result.0 (CallStep b.power hart eid fid a0 a1 a2 b (shows result.1)) }
+    ensures resting { IsResting result.0 }
 {
     if !board.machine().has(hart) {
-        return MachineLine::Off;
+        return (Power::On(board), MachineLine::Off);
     }
-    let called = board.call(hart, eid, fid, a0, a1, a2);
-    machine_lines::called(board.machine(), hart, called)
+    let said = board.call(alloc, crew, hart, eid, fid, a0, a1, a2);
+    let line = machine_lines::called(board.machine(), hart, said);
+    match said {
+        None => (Power::On(board), line),
+        Some(word) => (after(board, word), line),
+    }
 }
 
-fn call_line(
+fn call_line<C: Crew>(
+    alloc: Global,
+    crew: &C,
     hart: HartId,
     eid: u64,
     fid: u64,
@@ -283,15 +317,12 @@ fn call_line(
 ) -> (Power, MachineLine)
     requires { IsResting power }
     ensures told { (size : Size) (b : Bench) → Agrees size b power
-        → Goes size b result.0 (GuestStep b.power (λ old m line. CallLine hart eid fid a0 a1 a2 old m line) b (shows result.1)) }
+        → Goes size b result.0 (CallStep b.power hart eid fid a0 a1 a2 b (shows result.1)) }
     ensures resting { IsResting result.0 }
 {
     match power {
         Power::Off(disk) => (Power::Off(disk), MachineLine::Off),
-        Power::On(mut board) => {
-            let line = call(&mut board, hart, eid, fid, a0, a1, a2);
-            (Power::On(board), line)
-        }
+        Power::On(board) => call(alloc, crew, board, hart, eid, fid, a0, a1, a2),
     }
 }
 
@@ -423,8 +454,9 @@ fn shown(did: (Power, MachineLine)) -> (Power, Result<Answer, Refusal>)
 
 /// One line of a script, as far as no armed cut strikes. Refused only where there is no memory for a payload, and then the
 /// bench is as it was.
-fn step(
+fn step<C: Crew>(
     alloc: Global,
+    crew: &C,
     shape: &Shape,
     line: &Line,
     power: Power,
@@ -432,9 +464,10 @@ fn step(
 ) -> (Power, Result<Answer, Refusal>)
     requires range { IsInRange shape.now line.now }
     requires resting { IsResting power }
+    requires calm { IsUnstruck power }
     requires short { AreShort payloads.old }
     ensures told { (b : Bench) → IsBench shape.now b power payloads.old → MatchResult result.1
-        (λ answer. (new : Bench) × Step shape.now line.now b answer new × IsBench shape.now new result.0 payloads.new) (λ e. (e ≡ Memory) × IsBench shape.now b result.0 payloads.new) }
+        (λ answer. (new : Bench) × Step shape.now line.now b answer new × Matches shape.now new result.0 payloads.new) (λ e. (e ≡ Memory) × Matches shape.now b result.0 payloads.new) }
     ensures arms { ArmsIts line.now result.0 }
     ensures resting { IsResting result.0 }
     ensures short { AreShort payloads.new }
@@ -451,9 +484,9 @@ fn step(
                 Err(refusal) => (power, Err(refusal)),
             }
         }
-        Line::Turn(hart, count) => shown(turn_line(*hart, *count, power)),
+        Line::Turn(hart, count) => shown(turn_line(alloc, crew, *hart, *count, power)),
         Line::Call(hart, eid, fid, a0, a1, a2) => {
-            shown(call_line(*hart, *eid, *fid, *a0, *a1, *a2, power))
+            shown(call_line(alloc, crew, *hart, *eid, *fid, *a0, *a1, *a2, power))
         }
         Line::Reg(hart, register) => {
             let shown = reg_line(*hart, *register, &power);
@@ -486,8 +519,9 @@ fn step(
 
 /// One line of a script. Where an armed cut struck within it, its report is `power lost`, and what was written since the last
 /// sync holds what the newest armed cut is to leave. Refused as [`step`] is.
-pub fn moves(
+pub fn moves<C: Crew>(
     alloc: Global,
+    crew: &C,
     shape: &Shape,
     line: &Line,
     power: Power,
@@ -496,17 +530,19 @@ pub fn moves(
 ) -> (Power, Result<Answer, Refusal>)
     requires range { IsInRange shape.now line.now }
     requires resting { IsResting power }
+    requires calm { IsUnstruck power }
     requires short { AreShort payloads.old }
     ensures told { (b : Bench) → IsBench shape.now b power payloads.old → MatchResult result.1
-        (λ answer. (new : Bench) × Moves shape.now line.now b answer new × IsBench shape.now new result.0 payloads.new) (λ e. (e ≡ Memory) × IsBench shape.now b result.0 payloads.new) }
+        (λ answer. (new : Bench) × Moves shape.now line.now b answer new × IsBench shape.now new result.0 payloads.new) (λ e. (e ≡ Memory) × Matches shape.now b result.0 payloads.new) }
     ensures fill { fill.new ≡ fill_after line.now fill.old }
     ensures exact { (b : Bench) → IsBench shape.now b power payloads.old → IfOk result.1 (λ answer. EndsBy shape.now line.now fill.new b answer result.0) }
     ensures resting { IsResting result.0 }
+    ensures calm { OnOk result.1 (IsUnstruck result.0) }
     ensures short { AreShort payloads.new }
     ensures refused { OnErr result.1 (result.1 ≡ Err Memory) }
 {
     *fill = newest_fill(line, *fill);
-    let (after, answer) = step(alloc, shape, line, power, payloads);
+    let (after, answer) = step(alloc, crew, shape, line, power, payloads);
     let Ok(answer) = answer else {
         return (after, answer);
     };

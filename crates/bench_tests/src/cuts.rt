@@ -5,6 +5,7 @@ use crate::told::{START, STARTED, reports};
 use std::alloc::{AllocError, Global};
 use std::process::Abort;
 use std::test::*;
+use std::thread::Threads;
 
 /// A fill of a script.
 struct Torn {
@@ -102,14 +103,24 @@ fn joined(alloc: Global, parts: &[&[u8]]) -> Result<Vec<u8>, AllocError> {
 }
 
 /// The report of a script, both in pieces.
-fn told(rt: &impl Abort, alloc: Global, script: &[&[u8]], report: &[&[u8]]) -> Result<(), Fail> {
+fn told(
+    rt: &(impl Abort + Threads + Sync),
+    alloc: Global,
+    script: &[&[u8]],
+    report: &[&[u8]],
+) -> Result<(), Fail> {
     let script = joined(alloc, script)?;
     let report = joined(alloc, report)?;
     reports(rt, alloc, &script, &report)
 }
 
 /// A slot is record, sync, gate, sync: from the gate's write on the fill settles which record is selected.
-fn slot_is_cut(rt: &impl Abort, alloc: Global, call: &Call, torn: &Torn) -> Result<(), Fail> {
+fn slot_is_cut(
+    rt: &(impl Abort + Threads + Sync),
+    alloc: Global,
+    call: &Call,
+    torn: &Torn,
+) -> Result<(), Fail> {
     let found = if call.number >= 3 {
         settled(torn)
     } else {
@@ -131,7 +142,12 @@ fn slot_is_cut(rt: &impl Abort, alloc: Global, call: &Call, torn: &Torn) -> Resu
 }
 
 /// A format is read, record, gate, sync, superblock, sync: only a superblock that stands makes the disk a formatted one.
-fn format_is_cut(rt: &impl Abort, alloc: Global, call: &Call, torn: &Torn) -> Result<(), Fail> {
+fn format_is_cut(
+    rt: &(impl Abort + Threads + Sync),
+    alloc: Global,
+    call: &Call,
+    torn: &Torn,
+) -> Result<(), Fail> {
     let again: &[u8] = if call.number >= 5 && torn.is_formatted {
         b"format refused 2\n"
     } else {
@@ -153,7 +169,12 @@ fn format_is_cut(rt: &impl Abort, alloc: Global, call: &Call, torn: &Torn) -> Re
 }
 
 /// An open writes nothing, so whenever it is cut the next one finds what stood.
-fn on_is_cut(rt: &impl Abort, alloc: Global, call: &Call, torn: &Torn) -> Result<(), Fail> {
+fn on_is_cut(
+    rt: &(impl Abort + Threads + Sync),
+    alloc: Global,
+    call: &Call,
+    torn: &Torn,
+) -> Result<(), Fail> {
     told(
         rt,
         alloc,
@@ -171,7 +192,12 @@ fn on_is_cut(rt: &impl Abort, alloc: Global, call: &Call, torn: &Torn) -> Result
 
 /// A slot that fails before the gate is written is refused 5, and the next one is made; from the gate on it is refused 6, and so
 /// is the next, until the fill settles it.
-fn slot_fails(rt: &impl Abort, alloc: Global, call: &Call, torn: &Torn) -> Result<(), Fail> {
+fn slot_fails(
+    rt: &(impl Abort + Threads + Sync),
+    alloc: Global,
+    call: &Call,
+    torn: &Torn,
+) -> Result<(), Fail> {
     let lines: [&[u8]; 5] = [
         START,
         b"failat ",
@@ -198,7 +224,11 @@ fn slot_fails(rt: &impl Abort, alloc: Global, call: &Call, torn: &Torn) -> Resul
 
 /// A format that fails is refused 5. The failed write of the superblock reads as before; where only its sync failed it reads as
 /// written.
-fn format_fails(rt: &impl Abort, alloc: Global, call: &Call) -> Result<(), Fail> {
+fn format_fails(
+    rt: &(impl Abort + Threads + Sync),
+    alloc: Global,
+    call: &Call,
+) -> Result<(), Fail> {
     let again: &[u8] = if call.number == 6 {
         b"armed\nformat refused 5\nformat refused 2\n"
     } else {
@@ -218,7 +248,7 @@ fn format_fails(rt: &impl Abort, alloc: Global, call: &Call) -> Result<(), Fail>
 }
 
 /// An open that fails is refused 5, and the next one finds what stood.
-fn on_fails(rt: &impl Abort, alloc: Global, call: &Call) -> Result<(), Fail> {
+fn on_fails(rt: &(impl Abort + Threads + Sync), alloc: Global, call: &Call) -> Result<(), Fail> {
     told(
         rt,
         alloc,

@@ -1,6 +1,6 @@
 //! Worked scripts with their reports.
 
-use crate::told::{goes_on, refused, reports, with_slot};
+use crate::told::{goes_on, in_turn, refused, reports, with_slot};
 use bench_report::run;
 use board_model::Refusal;
 use std::test::*;
@@ -36,14 +36,15 @@ fn formats_once(rt: HostRuntime) -> Result<(), Fail> {
 }
 
 #[test]
-fn a_script_with_a_fault_runs_nothing(rt: HostRuntime) {
-    refused(&rt, rt.alloc(), b"", Refusal::BadScript(1));
+fn a_script_with_a_fault_runs_nothing(rt: HostRuntime) -> Result<(), Fail> {
+    refused(&rt, rt.alloc(), b"", Refusal::BadScript(1))?;
     refused(
         &rt,
         rt.alloc(),
         b"board 1 1 1\nslot\n",
         Refusal::BadScript(2),
-    );
+    )?;
+    Ok(())
 }
 
 #[test]
@@ -51,7 +52,8 @@ fn the_report_has_the_states_found(rt: HostRuntime) -> Result<(), Fail> {
     let mut out = Vec::new(rt.alloc());
     let script: &[u8] =
         b"board 1 1 1\non fresh\nformat\non resume\non fresh\nslot 2\ncut ff\non keep\n";
-    let report = run(rt.alloc(), script, &mut out)
+    let crew = in_turn(&rt)?;
+    let report = run(rt.alloc(), script, &crew, &mut out)
         .ok()
         .ok_or("the script runs")?;
     let found = [with_slot(0)?, with_slot(0)?, with_slot(2)?];

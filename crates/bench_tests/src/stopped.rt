@@ -1,6 +1,6 @@
 //! Runs that stop before the end of their script, and the disk that they give back.
 
-use crate::told::{START, Short};
+use crate::told::{START, Short, in_turn};
 use bench_report::run_left;
 use board::{Board, Payloads};
 use board_model::{BootMode, Refusal};
@@ -13,9 +13,10 @@ fn the_disk_of_a_writer_that_failed_powers_on(rt: HostRuntime) -> Result<(), Fai
     let mut script = Vec::new(alloc);
     script.extend_from_slice(START)?;
     script.extend_from_slice(b"slot 2\ncut new\non fresh\nslot 3\n")?;
+    let crew = in_turn(&rt)?;
     let mut out = Short { room: 95 };
     let payloads = Payloads::new(alloc);
-    match run_left(alloc, &script, &mut out) {
+    match run_left(alloc, &script, &crew, &mut out) {
         Ok(_) => assert!(rt; false, "the report has more bytes"),
         Err(stopped) => {
             assert_eq!(rt; stopped.refusal, Refusal::Output);
@@ -33,9 +34,10 @@ fn the_disk_of_a_writer_that_failed_powers_on(rt: HostRuntime) -> Result<(), Fai
 #[test]
 fn the_disk_of_a_run_out_of_memory_powers_on(rt: HostRuntime) -> Result<(), Fail> {
     let alloc = rt.alloc();
+    let crew = in_turn(&rt)?;
     let mut out = Short { room: 1000 };
     let payloads = Payloads::new(alloc);
-    match run_left(alloc, START, &mut out) {
+    match run_left(alloc, START, &crew, &mut out) {
         Ok((report, _disk)) => assert_eq!(rt; report.lines, 4),
         Err(stopped) => {
             assert_eq!(rt; stopped.refusal, Refusal::Memory);

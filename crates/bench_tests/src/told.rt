@@ -2,10 +2,12 @@
 
 use bench_report::{run, run_left};
 use board_model::{Durable, Reason, Refusal, Slot};
+use crew::Turns;
 use std::alloc::Global;
 use std::io::{self, ErrorKind, Write};
 use std::process::Abort;
 use std::test::*;
+use std::thread::Threads;
 
 /// The lines that lead to a board that is on, and their report.
 pub const START: &[u8] = b"board 1 1 1\nformat\non fresh\n";
@@ -13,10 +15,24 @@ pub const START: &[u8] = b"board 1 1 1\nformat\non fresh\n";
 pub const STARTED: &[u8] =
     b"board 1/1/1 sectors 26\nformat ok\nfound slot 0 reason 0 image none next 0\non fresh\n";
 
+/// One lane after another.
+pub fn in_turn<R: Threads + Sync>(_rt: &R) -> Result<Turns<R>, Fail> {
+    let crew = Turns::new([0, 1, 2, 3])
+        .ok()
+        .ok_or("each lane is there once")?;
+    Ok(crew)
+}
+
 /// The report of a script is this text, its count that of the text's lines, and the disk that is left never failed.
-pub fn reports(rt: &impl Abort, alloc: Global, script: &[u8], text: &[u8]) -> Result<(), Fail> {
+pub fn reports<R: Abort + Threads + Sync>(
+    rt: &R,
+    alloc: Global,
+    script: &[u8],
+    text: &[u8],
+) -> Result<(), Fail> {
+    let crew = in_turn(rt)?;
     let mut out = Vec::new(alloc);
-    let (report, disk) = run_left(alloc, script, &mut out)
+    let (report, disk) = run_left(alloc, script, &crew, &mut out)
         .ok()
         .ok_or("the script runs")?;
     assert_eq!(rt; out.as_slice(), text);
@@ -27,7 +43,12 @@ pub fn reports(rt: &impl Abort, alloc: Global, script: &[u8], text: &[u8]) -> Re
 }
 
 /// The report of these lines after those that start a board.
-pub fn goes_on(rt: &impl Abort, alloc: Global, lines: &[u8], text: &[u8]) -> Result<(), Fail> {
+pub fn goes_on<R: Abort + Threads + Sync>(
+    rt: &R,
+    alloc: Global,
+    lines: &[u8],
+    text: &[u8],
+) -> Result<(), Fail> {
     let mut script = Vec::new(alloc);
     script.extend_from_slice(START)?;
     script.extend_from_slice(lines)?;
@@ -38,13 +59,20 @@ pub fn goes_on(rt: &impl Abort, alloc: Global, lines: &[u8], text: &[u8]) -> Res
 }
 
 /// The script is refused so, and nothing is written.
-pub fn refused(rt: &impl Abort, alloc: Global, script: &[u8], want: Refusal) {
+pub fn refused<R: Abort + Threads + Sync>(
+    rt: &R,
+    alloc: Global,
+    script: &[u8],
+    want: Refusal,
+) -> Result<(), Fail> {
+    let crew = in_turn(rt)?;
     let mut out = Vec::new(alloc);
-    match run(alloc, script, &mut out) {
+    match run(alloc, script, &crew, &mut out) {
         Ok(_) => assert!(rt; false, "the script has a fault"),
         Err(e) => assert_eq!(rt; e, want),
     }
     assert!(rt; out.is_empty());
+    Ok(())
 }
 
 /// A writer that takes so many bytes, and then fails.

@@ -2,3 +2,4 @@ mod Mapped
 mod Doubted
 mod Refused
 mod Moments
+pub mod Rows

@@ -3,9 +3,10 @@
 use crate::payloads::Payloads;
 use crate::ready::ready;
 use board_model::{BootMode, Command, Durable, HartId, Refusal, Shape};
+use crew::Crew;
 use disk::{ArmedFault, Disk};
 use hart::Hart;
-use machine::{Called, Machine, Turned};
+use machine::{Called, Machine, Turned, Word, ends, word_by};
 use ram::Ram;
 use sbi_calls::{Seats, Tables};
 use std::alloc::Global;
@@ -47,7 +48,7 @@ pub struct Parts<D: Disk + Drop> {
 }
 
 impl<D: Disk + Drop> Board<D> {
-    ghost use Rattle.std.specs.Prelude.{◌≡◌, ◌⊎◌, ◌<◌, ◌≤◌, length, Some, None, Err, IfSome, OnOk, IfOk, IfErr, IsErrOf, MatchResult};
+    ghost use Rattle.std.specs.Prelude.{◌≡◌, ◌⊎◌, ◌<◌, ◌≤◌, false, length, Some, None, Err, IfSome, OnOk, IfOk, IfErr, IsErrOf, MatchResult};
     ghost use Rattle.board_model.specs.Durable.{State, Change, refusal_of};
     ghost use Rattle.board_model.specs.Shapes.{Size};
     ghost use Rattle.board_model.specs.Shown.{durable_of, change_of};
@@ -61,11 +62,13 @@ impl<D: Disk + Drop> Board<D> {
     ghost use Rattle.store.specs.Views.{Answered, StaysOpen};
     ghost use Rattle.store.specs.Stores.{disk_of, mishaps_of, arms_of, size_of_store, life_of, found_state, now_state, doubt_of, failures_at_open, view_of, Stands, Doubts};
     ghost use Rattle.machine.specs.Machine.{hart_at};
-    ghost use Rattle.machine.specs.Turns.{Turns, TurnsMany, Calls};
+    ghost use Rattle.machine.specs.Durables.{IsStarted};
+    ghost use Rattle.turns.specs.declared.words.Turned.TheVariants as did;
     ghost use Rattle.machine.specs.Held.{shown_by, IsHeld};
     ghost use Rattle.turns.specs.Turns.{is_pending};
     ghost use Rattle.board.specs.Boots.{IsConsoleCommand, life_after, boot_refusal, BootsSlot, Fits, booted};
     ghost use Rattle.board.specs.Boards.{store_of, machine_of};
+    ghost use Rattle.board.specs.Turns.{Comes, Turns, Rows, TurnsMany, Calls};
     ghost use Rattle.board.specs.Moments.{issued_by, gone_before, MayLeave};
     ghost use Rattle.board.specs.Unbooted.{IsBootRefusal, doubt_after, LeavesLife, CountsRefusal, IsNowAfter};
 
@@ -170,15 +173,39 @@ impl<D: Disk + Drop> Board<D> {
         self.store.struck()
     }
 
-    /// One turn of a hart of this board.
-    #[inline(always)]
-    pub fn turn(&mut self, hart: HartId) -> Turned
-        requires { hart < length (machine_of self.old).harts }
-        ensures turns { Turns hart (machine_of self.old) (machine_of self.new) result }
+    /// What comes of what a hart did: where it stands at a durable call, that call is made with the store.
+    fn settle<C: Crew>(&mut self, alloc: Global, crew: &C, hart: HartId, turned: Turned) -> Word
+        requires hart { hart < length (machine_of self.old).harts }
+        requires asks { turned ≡ did.Durable → IsStarted hart (machine_of self.old) }
+        ensures comes { Comes turned hart (machine_of self.old) (machine_of self.new) (store_of self.old) (store_of self.new) result }
         ensures harts { length (machine_of self.new).harts ≡ length (machine_of self.old).harts }
-        ensures store { store_of self.new ≡ store_of self.old }
     {
-        self.machine.turn(hart)
+        match turned {
+            Turned::Durable => {
+                let held = self.machine.make_call(alloc, hart, &mut self.store, crew);
+                word_by(held)
+            }
+            Turned::Idle
+            | Turned::Entered
+            | Turned::Woke
+            | Turned::Next
+            | Turned::Suspended
+            | Turned::Stopped => Word::Own(turned),
+        }
+    }
+
+    /// One turn of a hart of this board, and the command that it may make of the store: a system reset, or a system suspend
+    /// with the memory of this turn. `Asleep` and `Reset` end the life, once that command was acknowledged; no hart makes a
+    /// turn after them. Where the store refuses, the hart is answered -1, and that is `Next`. Memory is taken for a suspend
+    /// alone.
+    #[inline(always)]
+    pub fn turn<C: Crew>(&mut self, alloc: Global, crew: &C, hart: HartId) -> Word
+        requires { hart < length (machine_of self.old).harts }
+        ensures turns { Turns hart (machine_of self.old) (machine_of self.new) (store_of self.old) (store_of self.new) result }
+        ensures harts { length (machine_of self.new).harts ≡ length (machine_of self.old).harts }
+    {
+        let turned = self.machine.turn(hart);
+        self.settle(alloc, crew, hart, turned)
     }
 
     /// The durable state that the open found.
@@ -217,26 +244,68 @@ impl<D: Disk + Drop> Board<D> {
         self.machine.hart(hart)
     }
 
-    /// At most so many turns of a hart of this board, one after another: how many were made, and what the last one did. One
-    /// that stops the hart is the last.
-    pub fn turns(&mut self, hart: HartId, count: u32) -> (u32, Turned)
+    /// Turns of a hart in a row, `most` of them at most, of which the last alone may have asked the store: how many were
+    /// made, and what is said of the last.
+    fn row<C: Crew>(&mut self, alloc: Global, crew: &C, hart: HartId, most: u32) -> (u32, Word)
         requires hart { hart < length (machine_of self.old).harts }
-        requires some { 1 ≤ count }
-        ensures turns { TurnsMany hart count (machine_of self.old) (machine_of self.new) result.0 result.1 }
+        requires some { 1 ≤ most }
+        ensures row { Rows hart most (machine_of self.old) (machine_of self.new) (store_of self.old) (store_of self.new) result.0 result.1 }
+        ensures range { (1 ≤ result.0) × (result.0 ≤ most) }
         ensures harts { length (machine_of self.new).harts ≡ length (machine_of self.old).harts }
-        ensures store { store_of self.new ≡ store_of self.old }
     {
-        self.machine.turns(hart, count)
+        let (made, turned) = self.machine.turns(hart, most);
+        let word = self.settle(alloc, crew, hart, turned);
+        (made, word)
     }
 
-    /// An SBI call that is made in the place of a hart of this board, as `Machine::call` says.
-    pub fn call(&mut self, hart: HartId, eid: u64, fid: u64, a0: u64, a1: u64, a2: u64) -> Called
-        requires { hart < length (machine_of self.old).harts }
-        ensures calls { Calls hart eid fid a0 a1 a2 (machine_of self.old) (machine_of self.new) result }
+    /// At most so many turns of a hart of this board, one after another, as `turn` makes each: how many were made, and what
+    /// is said of the last one. One that stops the hart is the last, and so is one that ends the life, and one in which an
+    /// armed cut struck. None may have struck before it.
+    pub fn turns<C: Crew>(
+        &mut self,
+        alloc: Global,
+        crew: &C,
+        hart: HartId,
+        count: u32,
+    ) -> (u32, Word)
+        requires hart { hart < length (machine_of self.old).harts }
+        requires some { 1 ≤ count }
+        requires calm { (mishaps_of (store_of self.old)).struck ≡ false }
+        ensures turns { TurnsMany hart count (machine_of self.old) (machine_of self.new) (store_of self.old) (store_of self.new) result.0 result.1 }
         ensures harts { length (machine_of self.new).harts ≡ length (machine_of self.old).harts }
-        ensures store { store_of self.new ≡ store_of self.old }
     {
-        self.machine.call(hart, eid, fid, a0, a1, a2)
+        let (first, said) = self.row(alloc, crew, hart, count);
+        let mut made = first;
+        let mut word = said;
+        while made < count && !ends(word) && !self.store.struck() {
+            let (more, next) = self.row(alloc, crew, hart, count - made);
+            made += more;
+            word = next;
+        }
+        (made, word)
+    }
+
+    /// An SBI call that is made in the place of a hart of this board, as `Machine::call` says, and the command that it may
+    /// make of the store, as in `turn`. None where the hart is not STARTED; then nothing was done.
+    pub fn call<C: Crew>(
+        &mut self,
+        alloc: Global,
+        crew: &C,
+        hart: HartId,
+        eid: u64,
+        fid: u64,
+        a0: u64,
+        a1: u64,
+        a2: u64,
+    ) -> Option<Word>
+        requires { hart < length (machine_of self.old).harts }
+        ensures calls { Calls hart eid fid a0 a1 a2 (machine_of self.old) (machine_of self.new) (store_of self.old) (store_of self.new) result }
+        ensures harts { length (machine_of self.new).harts ≡ length (machine_of self.old).harts }
+    {
+        match self.machine.call(hart, eid, fid, a0, a1, a2) {
+            Called::NotStarted => None,
+            Called::Made(turned) => Some(self.settle(alloc, crew, hart, turned)),
+        }
     }
 
     /// Whether an interrupt is pending for a hart of this board, which stays as it was.

@@ -1,20 +1,17 @@
 //! Boots and turns (docs/BOARD.md). Programs are words of the RISC-V Unprivileged ISA 20191213, chapter 24.
-ghost use Rattle.std.specs.Prelude.{◌≡◌, IfOk};
 
 use crate::fixtures::{
-    booted, call, discard, formatted, imaged, numbers, one_payload, pending, powered, same, set,
-    set_slot, shown, slot, turn, turns,
+    ENTERED, NEXT, booted, call, discard, imaged, numbers, one_payload, pending, powered, same,
+    set, set_slot, shown, slot, turn, turns,
 };
 use board::{Board, Payloads};
-use board_model::{BootMode, Command, RAM_BASE, Reason, Refusal, Shape};
-use disk::Disk;
-use machine::{Called, Turned};
+use board_model::{BootMode, RAM_BASE, Reason, Refusal, Shape};
 use ram::{Ram, Width};
 use simdisk::SimDisk;
 use std::alloc::Global;
 use std::process::Abort;
 use std::test::Fail;
-use store::Store;
+use std::thread::Threads;
 
 // ADDI x10, x0, 1
 const ONE: [u8; 4] = [0x13, 0x05, 0x10, 0x00];
@@ -29,11 +26,16 @@ fn two_payloads(alloc: Global) -> Result<Payloads, Fail> {
 }
 
 // The board boots a slot whose payload is one addition of that number.
-fn adds(rt: &impl Abort, board: &mut Board<SimDisk>, slot: u32, number: u64) {
+fn adds<R: AllocGlobal + Threads + Sync + Abort>(
+    rt: &R,
+    board: &mut Board<SimDisk>,
+    slot: u32,
+    number: u64,
+) {
     same(rt, board.found().slot.number(), slot);
     same(rt, board.now(), board.found());
     same(rt, shown(board, 0), Some((0, 0, RAM_BASE)));
-    same(rt, turns(board, 0, 1), Some((1, Turned::Next)));
+    same(rt, turns(rt, board, 0, 1), Some((1, NEXT)));
     same(rt, shown(board, 0), Some((number, 0, RAM_BASE + 4)));
 }
 
@@ -69,60 +71,25 @@ fn a_boot_leaves_the_payload_and_zeros(rt: HostRuntime) -> Result<(), Fail> {
     Ok(())
 }
 
-// A formatted disk, of which a life ended by a system failure.
-fn failed(rt: &impl Abort, alloc: Global) -> Result<SimDisk, Fail>
-    ensures { IfOk result (λ disk. (⟦<SimDisk as Disk>⟧.facts disk).lent.lanes ≡ 0) }
-{
-    let Ok(mut store) = Store::open(alloc, formatted(alloc, 1)?) else {
-        return Err(Fail::new("the open failed"));
-    };
-    let receipt = store.apply(Command::Reset(Reason::SystemFailure))?;
-    same(rt, receipt.number(), 1);
-    Ok(store.into_disk())
-}
-
-// A1 is the reset reason, which a system failure makes 1.
-#[test]
-fn a1_is_the_reset_reason(rt: HostRuntime) -> Result<(), Fail> {
-    let payloads = Payloads::new(rt.alloc());
-    let disk = failed(&rt, rt.alloc())?;
-    let board = powered(rt.alloc(), disk, BootMode::Fresh, &payloads)?;
-    same(&rt, board.found().reason, Reason::SystemFailure);
-    same(&rt, shown(&board, 0), Some((0, 1, RAM_BASE)));
-    Ok(())
-}
-
-#[test]
-fn a_stopped_hart_is_idle(rt: HostRuntime) -> Result<(), Fail> {
-    let payloads = one_payload(rt.alloc(), 0, &ONE)?;
-    let mut board = booted(rt.alloc(), 2, BootMode::Fresh, &payloads)?;
-    same(&rt, turn(&mut board, 1), Some(Turned::Idle));
-    same(&rt, turns(&mut board, 1, 5), Some((5, Turned::Idle)));
-    same(&rt, shown(&board, 1), Some((0, 0, 0)));
-    same(&rt, shown(&board, 0), Some((0, 0, RAM_BASE)));
-    same(&rt, shown(&board, 2), None);
-    Ok(())
-}
-
 // Hart 0 starts hart 1 and sends it an interrupt, which hart 1 takes as it enters (SBI specification 2.0, chapters 7 and 9).
 #[test]
 fn calls_reach_another_hart(rt: HostRuntime) -> Result<(), Fail> {
     let payloads = Payloads::new(rt.alloc());
     let mut board = booted(rt.alloc(), 2, BootMode::Fresh, &payloads)?;
-    let answered = Some(Called::Made(Turned::Next));
+    let answered = Some(NEXT);
     same(
         &rt,
-        call(&mut board, 0, [0x48_534d, 0, 1, RAM_BASE, 7]),
+        call(&rt, &mut board, 0, [0x48_534d, 0, 1, RAM_BASE, 7]),
         answered,
     );
-    same(&rt, call(&mut board, 0, [0x73_5049, 0, 1, 1, 0]), answered);
-    same(&rt, pending(&mut board, 1), Some(true));
     same(
         &rt,
-        call(&mut board, 1, [0x10, 0, 0, 0, 0]),
-        Some(Called::NotStarted),
+        call(&rt, &mut board, 0, [0x73_5049, 0, 1, 1, 0]),
+        answered,
     );
-    same(&rt, turn(&mut board, 1), Some(Turned::Entered));
+    same(&rt, pending(&mut board, 1), Some(true));
+    same(&rt, call(&rt, &mut board, 1, [0x10, 0, 0, 0, 0]), None);
+    same(&rt, turn(&rt, &mut board, 1), Some(ENTERED));
     same(&rt, pending(&mut board, 1), Some(false));
     same(&rt, shown(&board, 1), Some((1, 7, RAM_BASE)));
     let parts = board.into_parts();
@@ -131,17 +98,6 @@ fn calls_reach_another_hart(rt: HostRuntime) -> Result<(), Fail> {
         (parts.tables.harts.harts(), parts.tables.pending.harts()),
         (2, 2),
     );
-    Ok(())
-}
-
-// ADDI x10, x10, 1 and JAL x0, -4
-#[test]
-fn turns_are_made_one_after_another(rt: HostRuntime) -> Result<(), Fail> {
-    let program = [0x13, 0x05, 0x15, 0x00, 0x6f, 0xf0, 0xdf, 0xff];
-    let payloads = one_payload(rt.alloc(), 0, &program)?;
-    let mut board = booted(rt.alloc(), 1, BootMode::Fresh, &payloads)?;
-    same(&rt, turns(&mut board, 0, 5), Some((5, Turned::Next)));
-    same(&rt, shown(&board, 0), Some((3, 0, RAM_BASE + 4)));
     Ok(())
 }
 
@@ -174,7 +130,7 @@ fn discard_drops_the_image_and_boots_the_slot(rt: HostRuntime) -> Result<(), Fai
     let reason = Reason::SystemFailure;
     same(&rt, numbers(board.found()), (Some((4, 7)), 3, reason, 5));
     same(&rt, numbers(board.now()), (None, 3, reason, 5));
-    same(&rt, turns(&mut board, 0, 1), Some((1, Turned::Next)));
+    same(&rt, turns(&rt, &mut board, 0, 1), Some((1, NEXT)));
     same(&rt, shown(&board, 0), Some((2, 1, RAM_BASE + 4)));
     same(&rt, set_slot(&mut board, 0), Ok(2));
     Ok(())

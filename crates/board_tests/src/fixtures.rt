@@ -5,15 +5,17 @@ use board::{Board, Payloads, Unpowered};
 use board_model::{
     Addr, BootMode, Command, Durable, HartId, ImageHead, RAM_BASE, Reason, Refusal, Shape, Slot,
 };
+use crew::Turns;
 use disk::Disk;
 use layout::{Record, Saved, Side, gate_bytes, record_bytes, superblock_bytes};
-use machine::{Called, Turned};
+use machine::{Turned, Word};
 use rv_decode::Reg;
 use simdisk::SimDisk;
 use std::alloc::Global;
 use std::fmt::Debug;
 use std::process::Abort;
 use std::test::Fail;
+use std::thread::Threads;
 use store::format;
 
 /// A disk that was formatted for a board of that shape, and has just the sectors that it needs.
@@ -155,22 +157,49 @@ pub fn discard(board: &mut Board<SimDisk>) -> Result<u32, Refusal> {
     Ok(board.console(Command::Discard)?.number())
 }
 
-/// So many turns of a hart that the board has: how many were made, and what the last one did.
-pub fn turns(board: &mut Board<SimDisk>, number: u64, count: u32) -> Option<(u32, Turned)> {
+pub const IDLE: Word = Word::Own(Turned::Idle);
+
+pub const ENTERED: Word = Word::Own(Turned::Entered);
+
+pub const NEXT: Word = Word::Own(Turned::Next);
+
+// One lane after another.
+fn in_turn<R: Threads + Sync>(_rt: &R) -> Option<Turns<R>> {
+    match Turns::new([0, 1, 2, 3]) {
+        Ok(crew) => Some(crew),
+        Err(_) => None,
+    }
+}
+
+/// So many turns of a hart that the board has, where no cut has struck: how many were made, and what is said of the last one.
+pub fn turns<R: AllocGlobal + Threads + Sync>(
+    rt: &R,
+    board: &mut Board<SimDisk>,
+    number: u64,
+    count: u32,
+) -> Option<(u32, Word)> {
+    let crew = in_turn(rt)?;
     let id = HartId::new(number)?;
-    if board.machine().has(id) && 1 <= count {
-        Some(board.turns(id, count))
+    if board.machine().has(id) && 1 <= count && !board.struck() {
+        Some(board.turns(rt.alloc(), &crew, id, count))
     } else {
         None
     }
 }
 
-/// What a call made of a hart that the board has: the extension, the function and three arguments.
-pub fn call(board: &mut Board<SimDisk>, number: u64, asked: [u64; 5]) -> Option<Called> {
+/// What is said of a call in the place of a hart that the board has, and that is STARTED: the extension, the function and three
+/// arguments.
+pub fn call<R: AllocGlobal + Threads + Sync>(
+    rt: &R,
+    board: &mut Board<SimDisk>,
+    number: u64,
+    asked: [u64; 5],
+) -> Option<Word> {
+    let crew = in_turn(rt)?;
     let id = HartId::new(number)?;
     let [eid, fid, a0, a1, a2] = asked;
     if board.machine().has(id) {
-        Some(board.call(id, eid, fid, a0, a1, a2))
+        board.call(rt.alloc(), &crew, id, eid, fid, a0, a1, a2)
     } else {
         None
     }
@@ -187,10 +216,15 @@ pub fn pending(board: &mut Board<SimDisk>, number: u64) -> Option<bool> {
 }
 
 /// One turn of a hart that the board has.
-pub fn turn(board: &mut Board<SimDisk>, number: u64) -> Option<Turned> {
+pub fn turn<R: AllocGlobal + Threads + Sync>(
+    rt: &R,
+    board: &mut Board<SimDisk>,
+    number: u64,
+) -> Option<Word> {
+    let crew = in_turn(rt)?;
     let id = HartId::new(number)?;
     if board.machine().has(id) {
-        Some(board.turn(id))
+        Some(board.turn(rt.alloc(), &crew, id))
     } else {
         None
     }

@@ -1,13 +1,13 @@
 //! The largest board: 8 harts, 256 pages, 4 lanes, and a payload of 1,024 bytes in each slot.
 
-use crate::fixtures::{formatted_for, powered, same, set, shown, turns};
+use crate::fixtures::{IDLE, NEXT, formatted_for, powered, same, set, shown, turns};
 use board::{Board, Payloads};
 use board_model::{BootMode, RAM_BASE, Shape};
-use machine::Turned;
 use simdisk::SimDisk;
 use std::alloc::Global;
 use std::process::Abort;
 use std::test::Fail;
+use std::thread::Threads;
 
 // ADDI x10, x10, 1, 256 times
 fn payload() -> [u8; 1024] {
@@ -36,14 +36,10 @@ fn largest(alloc: Global) -> Result<Board<SimDisk>, Fail> {
 }
 
 // Hart 0 runs its payload to the end, and hart 7 was never started.
-fn runs(rt: &impl Abort, board: &mut Board<SimDisk>) {
-    same(rt, turns(board, 0, 256), Some((256, Turned::Next)));
+fn runs<R: AllocGlobal + Threads + Sync + Abort>(rt: &R, board: &mut Board<SimDisk>) {
+    same(rt, turns(rt, board, 0, 256), Some((256, NEXT)));
     same(rt, shown(board, 0), Some((256, 0, RAM_BASE + 1024)));
-    same(
-        rt,
-        turns(board, 7, 1_000_000),
-        Some((1_000_000, Turned::Idle)),
-    );
+    same(rt, turns(rt, board, 7, 1_000_000), Some((1_000_000, IDLE)));
     same(rt, shown(board, 7), Some((0, 0, 0)));
 }
 

@@ -83,18 +83,6 @@ fn an_image_comes_before_the_payloads(rt: HostRuntime) -> Result<(), Fail> {
     Ok(())
 }
 
-#[test]
-fn modes_that_the_state_refuses(rt: HostRuntime) -> Result<(), Fail> {
-    let payloads = one_payload(rt.alloc(), 0, &[0; 4096])?;
-    for mode in [BootMode::Discard, BootMode::Resume] {
-        let refusal = without_image(&rt, rt.alloc(), mode, &payloads)?;
-        same(&rt, refusal, Refusal::NoImage);
-    }
-    let refusal = over_image(&rt, rt.alloc(), BootMode::Fresh, &payloads)?;
-    same(&rt, refusal, Refusal::ImageThere);
-    Ok(())
-}
-
 // No image can be loaded yet.
 #[test]
 fn an_image_is_not_resumed_yet(rt: HostRuntime) -> Result<(), Fail> {

@@ -6,6 +6,7 @@
 mod reported;
 
 use crate::reported::{AsReported, Fault, compare_report};
+use crew::{Crew, Turns};
 use std::path::Path;
 use std::process::ExitCode;
 use std::{env, fs, io};
@@ -37,10 +38,15 @@ fn file_of(rt: &HostRuntime, folder: &str, name: &str, ending: &str) -> io::Resu
 }
 
 /// Compares what the script writes with the report beside it.
-fn compare<'a>(rt: &HostRuntime, folder: &str, name: &'a str) -> Result<AsReported<'a>, Fault> {
+fn compare<'a, C: Crew>(
+    rt: &HostRuntime,
+    crew: &C,
+    folder: &str,
+    name: &'a str,
+) -> Result<AsReported<'a>, Fault> {
     let script = file_of(rt, folder, name, SCRIPT).map_err(Fault::Unread)?;
     let report = file_of(rt, folder, name, REPORT).map_err(Fault::Unread)?;
-    compare_report(rt.alloc(), name, &script, &report)
+    compare_report(rt.alloc(), name, &script, crew, &report)
 }
 
 /// Says that the script is as reported.
@@ -49,14 +55,14 @@ fn say(rt: &HostRuntime, compared: &AsReported<'_>) -> io::Result<()> {
 }
 
 /// Compares all scripts of the folder, up to the first that is not as reported.
-fn compare_all(rt: &HostRuntime, folder: &str) -> io::Result<ExitCode> {
+fn compare_all<C: Crew>(rt: &HostRuntime, crew: &C, folder: &str) -> io::Result<ExitCode> {
     let names = names_in(rt, folder)?;
     if names.is_empty() {
         eprintln!(rt; "examples: no script in {folder}")?;
         return Ok(ExitCode::FAILURE);
     }
     for name in &names {
-        match compare(rt, folder, name.as_str()) {
+        match compare(rt, crew, folder, name.as_str()) {
             Ok(compared) => say(rt, &compared)?,
             Err(fault) => {
                 eprintln!(rt; "examples: {name}{SCRIPT}: {fault}")?;
@@ -67,10 +73,10 @@ fn compare_all(rt: &HostRuntime, folder: &str) -> io::Result<ExitCode> {
     Ok(ExitCode::SUCCESS)
 }
 
-fn main(rt: HostRuntime) -> io::Result<ExitCode> {
+fn main(rt: HostRuntime) -> anyhow::Result<ExitCode> {
     let words: Vec<String> = env::args(&rt)?.collect(rt.alloc())?;
-    match words.get(1) {
-        Some(folder) => compare_all(&rt, folder.as_str()),
-        None => compare_all(&rt, "."),
-    }
+    let crew = Turns::<HostRuntime>::new([0, 1, 2, 3])?;
+    let folder = words.get(1).map_or(".", String::as_str);
+    let code = compare_all(&rt, &crew, folder)?;
+    Ok(code)
 }

@@ -7,6 +7,7 @@ ghost use Rattle.bench_report.specs.declared.printed.Answer.{Answer};
 
 use bench_report::run;
 use board_model::Refusal;
+use crew::Crew;
 use std::alloc::Global;
 use std::{fmt, io};
 use thiserror::Error;
@@ -39,17 +40,18 @@ pub enum Fault {
 /// Runs the script of that name. `Ok` where it writes just this report, which is then one that the script may have. By the
 /// law `bench_report::one_report` it is the only such one, where none of its lines says that memory was refused, that the
 /// disk failed or that power was lost.
-pub fn compare_report<'a>(
+pub fn compare_report<'a, C: Crew>(
     alloc: Global,
     name: &'a str,
     script: &[u8],
+    crew: &C,
     report: &[u8],
 ) -> Result<AsReported<'a>, Fault>
     ensures { OnOk result ((said : Said) × (answers : List Answer) × (end : Bench) × (script_of script.now ≡ Ok said)
         × IsReport said answers end × (report.now ≡ report_text answers)) }
 {
     let mut out = Vec::new(alloc);
-    run(alloc, script, &mut out).map_err(Fault::Refused)?;
+    run(alloc, script, crew, &mut out).map_err(Fault::Refused)?;
     if out.as_slice() != report {
         return Err(Fault::Differs(first_line_apart(out.as_slice(), report)));
     }

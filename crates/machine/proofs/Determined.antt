@@ -9,7 +9,7 @@ use Rattle.hsm_rule.specs.States.{HartState, stopped, start_pending, started, su
 use Rattle.hsm.specs.Seen.{listed}
 use Rattle.sbi_abi.specs.Calls.{call_of}
 use Rattle.sbi_calls.specs.declared.endings.Ending.{Ending}
-use Rattle.sbi_calls.specs.declared.endings.Ending.TheVariants.{Answers, Stops, Suspends, SuspendsAfresh}
+use Rattle.sbi_calls.specs.declared.endings.Ending.TheVariants.{Answers, Stops, Suspends, SuspendsAfresh, Defers}
 use Rattle.sbi_calls.specs.declared.endings.After.{After}
 use Rattle.sbi_calls.specs.Both.{TableState}
 use Rattle.sbi_calls.specs.Answers.{Ends, answer}
@@ -31,6 +31,7 @@ one_end (Answers x) s t u a b p q = (p.0 ∙ sym q.0, p.1 ∙ sym q.1)
 one_end Stops s t u a b p q = (p.0 ∙ sym q.0, p.1 ∙ sym q.1)
 one_end Suspends s t u a b p q = (p.0 ∙ sym q.0, p.1 ∙ sym q.1)
 one_end (SuspendsAfresh x y) s t u a b p q = (p.0 ∙ sym q.0, p.1 ∙ sym q.1)
+one_end Defers s t u a b p q = (p.0 ∙ sym q.0, p.1 ∙ sym q.1)
 
 one_finish : (size : Size) (o : Outcome) (x : TableState) (u : State) (y z : TableState) (v w : State) (word also : Turned) → Finishes size o x u y v word → Finishes size o x u z w also → (y ≡ z) × (v ≡ w) × (word ≡ also)
 one_finish size outcomes.Next x u y z v w word also p q = (p.0 ∙ sym q.0, p.1 ∙ sym q.1, p.2 ∙ sym q.2)
@@ -85,7 +86,7 @@ one_row step h (suc n) k l old new other word also p q =
     ]
 
 -- ---- a call
-is_decided : (y : HartState) → (y ≡ started) ⊎ (y ≡ started → ⊥)
+pub is_decided : (y : HartState) → (y ≡ started) ⊎ (y ≡ started → ⊥)
 is_decided stopped = inr (λ e. cc)
 is_decided (start_pending a o) = inr (λ e. cc)
 is_decided started = inl refl

@@ -8,7 +8,7 @@ use Rattle.hsm.specs.Seen.{listed}
 use Rattle.sbi_calls.specs.declared.tables.Seats.{Seats}
 use Rattle.sbi_calls.specs.Both.{TableState, IsTable}
 use Rattle.turns.specs.declared.words.Turned.{Turned}
-use Rattle.turns.specs.declared.words.Turned.TheVariants.{Idle, Entered, Woke, Next, Suspended, Stopped}
+use Rattle.turns.specs.declared.words.Turned.TheVariants.{Idle, Entered, Woke, Next, Suspended, Stopped, Durable}
 use Rattle.turns.specs.Turns.{Moment, moment, TurnOf, Finishes}
 use Rattle.turns.specs.Many.{RowOf}
 use Rattle.machine.specs.declared.parts.Called.{Called}
@@ -35,7 +35,7 @@ Turns h old new word = DoneBy (λ a b. TurnOf old.size a b word) h old new
 abbrev pub Rows : ℕ → ℕ → Machine → Machine → Turned → Type 0
 Rows h count old new word = DoneBy (λ a b. RowOf old.size count a b word) h old new
 
--- a turn after which no other follows in a row: the hart stopped
+-- a turn after which no other follows in a row: the hart stopped, or stands at a durable call
 abbrev pub ends_row : Turned → Bool
 ends_row Stopped = true
 ends_row Idle = false
@@ -43,6 +43,7 @@ ends_row Entered = false
 ends_row Woke = false
 ends_row Next = false
 ends_row Suspended = false
+ends_row Durable = true
 
 -- the turn is the last of a row, with so many that might follow
 abbrev pub IsLast : Turned → ℕ → Type 0

@@ -1,13 +1,16 @@
-//! A board's memory, harts and tables on one thread: what a boot leaves, and what a turn or a call of a hart does.
+//! A board's memory, harts and tables on one thread: what a boot leaves, what a turn or a call of a hart does, and how a call
+//! that comes to a durable command is made with a store.
 //! docs/BOARD.md has it in plain words.
 #![tactic(auto)]
 
 mod calls;
+mod holds;
 mod laws;
 mod machine;
 mod parts;
 
 pub use laws::one_turn;
 pub use machine::Machine;
-pub use parts::{Called, Parts};
+pub use parts::{Called, Parts, Word, ends, word_by};
+pub use sbi::{Held, ResetType};
 pub use turns::Turned;

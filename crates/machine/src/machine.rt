@@ -4,20 +4,28 @@ ghost use Rattle.std.specs.Prelude.{◌≡◌, ◌≤◌, ◌<◌, ℕ, length, 
 ghost use Rattle.board_model.specs.Shapes.{ram_bytes_of};
 ghost use Rattle.board_model.specs.declared.refusal.Refusal.TheVariants.{Memory};
 ghost use Rattle.turns.specs.Turns.{is_pending};
+ghost use Rattle.turns.specs.declared.words.Turned.TheVariants.{Durable};
+ghost use Rattle.machine.specs.declared.parts.Called.TheVariants.{Made};
 ghost use Rattle.machine.specs.Machine.{hart_at, stopped_harts, resting, begun};
 ghost use Rattle.machine.specs.Turns.{Turns, Rows, TurnsMany, Calls};
 ghost use Rattle.machine.specs.Held.{IsHeld, shown_by};
+ghost use Rattle.machine.specs.Durables.{IsStarted, MakesCall};
 
 use crate::calls::{Registers, make_call};
+use crate::holds::make_held;
 use crate::parts::{Called, Parts, ends_row};
 use board_model::{HartId, RAM_BASE, Reason, Refusal, Shape};
+use crew::Crew;
+use disk::Disk;
 use hart::Hart;
 use hsm::HartTable;
 use ipi::PendingTable;
 use ram::Ram;
+use sbi::Held;
 use sbi_calls::{Seats, Tables};
 use std::alloc::Global;
 use std::marker::Model;
+use store::Store;
 use turns::Turned;
 
 /// A board's memory, harts and tables, which contracts see as the record `Machine` of specs/. The seats are out of their
@@ -138,6 +146,7 @@ impl Machine {
     pub fn turn(&mut self, id: HartId) -> Turned
         requires { id < length self.old.harts }
         ensures turns { Turns id self.old self.new result }
+        ensures asks { result ≡ Durable → IsStarted id self.new }
         ensures harts { length self.new.harts ≡ length self.old.harts }
     {
         let seats = self.seats.take().unwrap();
@@ -148,6 +157,7 @@ impl Machine {
             &mut self.ram,
             &self.shape,
         );
+        hart::one_number();
         hsm::one_table();
         ipi::one_set();
         self.seats = Some(seats);
@@ -179,13 +189,15 @@ impl Machine {
     }
 
     /// At most so many turns of a hart, one after another: how many were made, and what the last one did. One that stops
-    /// the hart is the last.
+    /// the hart is the last, and so is one that leaves it at a durable call.
     pub fn turns(&mut self, id: HartId, count: u32) -> (u32, Turned)
         requires hart { id < length self.old.harts }
         requires some { 1 ≤ count }
         ensures turns { TurnsMany id count self.old self.new result.0 result.1 }
+        ensures asks { result.1 ≡ Durable → IsStarted id self.new }
         ensures harts { length self.new.harts ≡ length self.old.harts }
     {
+        hart::one_number();
         let (first, said) = self.row(id, count);
         let mut made = first;
         let mut turned = said;
@@ -202,6 +214,7 @@ impl Machine {
     pub fn call(&mut self, id: HartId, eid: u64, fid: u64, a0: u64, a1: u64, a2: u64) -> Called
         requires { id < length self.old.harts }
         ensures calls { Calls id eid fid a0 a1 a2 self.old self.new result }
+        ensures asks { result ≡ Made Durable → IsStarted id self.new }
         ensures harts { length self.new.harts ≡ length self.old.harts }
     {
         let call = Registers {
@@ -223,6 +236,37 @@ impl Machine {
         ipi::one_set();
         self.seats = Some(seats);
         called
+    }
+
+    /// Makes the durable call at which a hart stands, as `sbi::dispatch_held` says, with a store and this memory: a turn or
+    /// a call told `Durable`. A reset and a suspend end the life, and no hart makes a turn after them.
+    pub fn make_call<D: Disk + Drop, C: Crew>(
+        &mut self,
+        alloc: Global,
+        id: HartId,
+        store: &mut Store<D>,
+        crew: &C,
+    ) -> Held
+        requires hart { id < length self.old.harts }
+        requires started { IsStarted id self.old }
+        ensures makes { MakesCall id self.old self.new store.old store.new result }
+        ensures harts { length self.new.harts ≡ length self.old.harts }
+    {
+        let seats = self.seats.take().unwrap();
+        let (seats, held) = make_held(
+            alloc,
+            &mut self.harts[id.index()],
+            seats,
+            &self.tables,
+            &self.shape,
+            &self.ram,
+            store,
+            crew,
+        );
+        hsm::one_table();
+        ipi::one_set();
+        self.seats = Some(seats);
+        held
     }
 
     /// The parts of the machine, with the seat of all harts, by which `split` makes one for each.

@@ -2,9 +2,11 @@
 
 ghost use Rattle.std.specs.Prelude.{◌≡◌};
 ghost use Rattle.machine.specs.Turns.{ends_row};
+ghost use Rattle.machine.specs.Words.{stops, ends, word_by};
 
 use hart::Hart;
 use ram::Ram;
+use sbi::{Held, ResetType};
 use sbi_calls::{Seats, Tables};
 use turns::Turned;
 
@@ -15,6 +17,17 @@ pub enum Called {
     NotStarted,
     /// The call was made, and the hart then did this: after `Next` it was answered.
     Made(Turned),
+}
+
+/// What is said of a turn or a call of a hart, where the store is at hand (docs/BOARD.md).
+#[derive(Clone, Copy, Debug, PartialEq, Eq, Drop)]
+pub enum Word {
+    /// What the hart did. It is not left standing at a durable call.
+    Own(Turned),
+    /// The life ended: the board sleeps.
+    Asleep,
+    /// The life ended: the board is reset.
+    Reset(ResetType),
 }
 
 /// What a machine consists of.
@@ -35,7 +48,42 @@ pub(crate) fn ends_row(turned: Turned) -> bool
     ensures { result ≡ ends_row turned }
 {
     match turned {
-        Turned::Stopped => true,
+        Turned::Stopped | Turned::Durable => true,
         Turned::Idle | Turned::Entered | Turned::Woke | Turned::Next | Turned::Suspended => false,
+    }
+}
+
+fn stops(turned: Turned) -> bool
+    ensures { result ≡ stops turned }
+{
+    match turned {
+        Turned::Stopped => true,
+        Turned::Idle
+        | Turned::Entered
+        | Turned::Woke
+        | Turned::Next
+        | Turned::Suspended
+        | Turned::Durable => false,
+    }
+}
+
+/// Whether no turn of the hart follows in a line: it stopped, or the life ended.
+pub fn ends(word: Word) -> bool
+    ensures { result ≡ ends word }
+{
+    match word {
+        Word::Own(turned) => stops(turned),
+        Word::Asleep | Word::Reset(_) => true,
+    }
+}
+
+/// What is said of a durable call that was made: a hart that was answered goes on.
+pub fn word_by(held: Held) -> Word
+    ensures { result ≡ word_by held }
+{
+    match held {
+        Held::Goes => Word::Own(Turned::Next),
+        Held::Asleep => Word::Asleep,
+        Held::Reset(kind) => Word::Reset(kind),
     }
 }

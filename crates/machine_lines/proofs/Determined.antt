@@ -8,7 +8,8 @@ use Rattle.machine.specs.Machine.{Machine, hart_at}
 use Rattle.machine.specs.Turns.{TurnsMany, Calls}
 use Rattle.machine.specs.declared.parts.Called.{Called}
 use Rattle.turns.specs.declared.words.Turned.{Turned}
-use Rattle.machine_lines.specs.Shows.{Has, TurnsLine, CallLine, CsrLine, called_line}
+use Rattle.machine.specs.declared.parts.Word.TheVariants.{Own}
+use Rattle.machine_lines.specs.Shows.{Has, TurnsLine, CallLine, CsrLine, called_line, word_of}
 use Rattle.machine_lines.specs.declared.line.MachineLine.{MachineLine}
 use Rattle.machine_lines.specs.declared.line.MachineLine.TheVariants as lines
 
@@ -24,7 +25,7 @@ made row h n old new other line also has some x y =
     let a = x.made has some in
     let b = y.made has some in
     let same = row h n a.0 b.0 old new other a.1 b.1 a.2 b.2 in
-    (same.0, a.3 ∙ (ap (λ (k : ℕ). lines.Turn h k a.1) same.1 ∙ (ap (lines.Turn h b.0) same.2 ∙ sym b.3)))
+    (same.0, a.3 ∙ (ap (λ (k : ℕ). lines.Turn h k (Own a.1)) same.1 ∙ (ap (λ (w : Turned). lines.Turn h b.0 (Own w)) same.2 ∙ sym b.3)))
 
 pub one_line : IsOneRow → (h n : ℕ) (old new other : Machine) (line also : MachineLine) → TurnsLine h n old new line → TurnsLine h n old other also → (new ≡ other) × (line ≡ also)
 one_line row h n old new other line also x y =
@@ -44,7 +45,7 @@ one_call call h eid fid a0 a1 a2 old new other line also x y =
           let a = x.made has in
           let b = y.made has in
           let same = call h eid fid a0 a1 a2 old new other a.0 b.0 a.1 b.1 in
-          (same.0, a.2 ∙ (ap (λ (m : Machine). called_line h (hart_at m h) a.0) same.0 ∙ (ap (called_line h (hart_at other h)) same.1 ∙ sym b.2))))
+          (same.0, a.2 ∙ (ap (λ (m : Machine). called_line h (hart_at m h) (word_of a.0)) same.0 ∙ (ap (λ (c : Called). called_line h (hart_at other h) (word_of c)) same.1 ∙ sym b.2))))
       | inr past ↦ (let lacks : Has old h → ⊥ = λ has. omega (arith, has, past) in
           ((x.lacks lacks).0 ∙ sym (y.lacks lacks).0, (x.lacks lacks).1 ∙ sym (y.lacks lacks).1))
     ]

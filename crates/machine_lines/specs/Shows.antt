@@ -1,6 +1,6 @@
 -- What the lines that show a board's memory and harts say, and what a line of turns makes of them. A line whose hart or whose
 -- bytes the board lacks says `off`, and does nothing. Source: docs/SCRIPT.md.
-use Rattle.std.specs.Prelude.{◌≡◌, ◌≢◌, ℕ, zero, suc, ◌+◌, ◌-◌, ◌^◌, ◌<◌, ◌≤◌, ◌++◌, Bool, length, replicate, slice_range, nat_lt, nat_le, ◌&&◌, if◌then◌else◌}
+use Rattle.std.specs.Prelude.{◌≡◌, ◌≢◌, ℕ, zero, suc, ◌+◌, ◌-◌, ◌^◌, ◌<◌, ◌≤◌, ◌++◌, Bool, Option, Some, None, length, replicate, slice_range, nat_lt, nat_le, ◌&&◌, if◌then◌else◌}
 use Rattle.hart.specs.State.{State, reg}
 use Rattle.hart.specs.Csrs.{csr_number, csr_read}
 use Rattle.hart.specs.declared.csr.Csr.{Csr}
@@ -10,35 +10,49 @@ use Rattle.machine.specs.Turns.{TurnsMany, Calls}
 use Rattle.machine.specs.declared.parts.Called.{Called}
 use Rattle.machine.specs.declared.parts.Called.TheVariants.{NotStarted, Made}
 use Rattle.turns.specs.declared.words.Turned.{Turned}
-use Rattle.turns.specs.declared.words.Turned.TheVariants.{Idle, Entered, Woke, Next, Suspended, Stopped}
+use Rattle.turns.specs.declared.words.Turned.TheVariants.{Idle, Entered, Woke, Next, Suspended, Stopped, Durable}
+use Rattle.machine.specs.declared.parts.Word.{Word}
+use Rattle.machine.specs.declared.parts.Word.TheVariants.{Own, Asleep, Reset}
 use Rattle.machine_lines.specs.declared.line.MachineLine.{MachineLine}
 use Rattle.machine_lines.specs.declared.line.MachineLine.TheVariants as lines
 
 abbrev pub Has : Machine → ℕ → Type 0
 Has m h = h < length m.harts
 
--- `turn H N`, with N at least 1
+-- `turn H N`, with N at least 1, of a machine without a store
 pub record TurnsLine (h n : ℕ) (old new : Machine) (line : MachineLine) : Type 0 where
-  pub made : Has old h → 1 ≤ n → (k : ℕ) × (word : Turned) × TurnsMany h n old new k word × (line ≡ lines.Turn h k word)
+  pub made : Has old h → 1 ≤ n → (k : ℕ) × (word : Turned) × TurnsMany h n old new k word × (line ≡ lines.Turn h k (Own word))
   pub lacks : (Has old h → ⊥) → (new ≡ old) × (line ≡ lines.Off)
   pub none : n ≡ 0 → (new ≡ old) × (line ≡ lines.Off)
 
--- what a call that was made says of its hart
-abbrev pub made_line : ℕ → State → Turned → MachineLine
-made_line h s Next = lines.Answered h (reg s 10) (reg s 11)
-made_line h s Idle = lines.Called h Idle
-made_line h s Entered = lines.Called h Entered
-made_line h s Woke = lines.Called h Woke
-made_line h s Suspended = lines.Called h Suspended
-made_line h s Stopped = lines.Called h Stopped
+-- what a call that was made says of its hart: one that was answered shows the answer
+abbrev pub own_line : ℕ → State → Turned → MachineLine
+own_line h s Next = lines.Answered h (reg s 10) (reg s 11)
+own_line h s Idle = lines.Called h (Own Idle)
+own_line h s Entered = lines.Called h (Own Entered)
+own_line h s Woke = lines.Called h (Own Woke)
+own_line h s Suspended = lines.Called h (Own Suspended)
+own_line h s Stopped = lines.Called h (Own Stopped)
+own_line h s Durable = lines.Called h (Own Durable)
 
-abbrev pub called_line : ℕ → State → Called → MachineLine
-called_line h s NotStarted = lines.NotStarted h
-called_line h s (Made word) = made_line h s word
+abbrev pub made_line : ℕ → State → Word → MachineLine
+made_line h s (Own did) = own_line h s did
+made_line h s Asleep = lines.Called h Asleep
+made_line h s (Reset kind) = lines.Called h (Reset kind)
 
--- `call H EID FID A0 A1 A2`
+-- none was made where the hart is not STARTED
+abbrev pub called_line : ℕ → State → Option Word → MachineLine
+called_line h s None = lines.NotStarted h
+called_line h s (Some word) = made_line h s word
+
+-- what a machine without a store made of a call
+abbrev pub word_of : Called → Option Word
+word_of NotStarted = None
+word_of (Made did) = Some (Own did)
+
+-- `call H EID FID A0 A1 A2`, of a machine without a store
 pub record CallLine (h eid fid a0 a1 a2 : ℕ) (old new : Machine) (line : MachineLine) : Type 0 where
-  pub made : Has old h → (called : Called) × Calls h eid fid a0 a1 a2 old new called × (line ≡ called_line h (hart_at new h) called)
+  pub made : Has old h → (called : Called) × Calls h eid fid a0 a1 a2 old new called × (line ≡ called_line h (hart_at new h) (word_of called))
   pub lacks : (Has old h → ⊥) → (new ≡ old) × (line ≡ lines.Off)
 
 -- the board has the hart, and an interrupt is pending for it

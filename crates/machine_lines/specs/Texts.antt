@@ -4,7 +4,11 @@ use Rattle.std.specs.Fmt.{decimal, digits, signed_decimal}
 use Rattle.std.specs.Int.{cast_signed, w64}
 use Rattle.std.specs.List.{flat_map}
 use Rattle.turns.specs.declared.words.Turned.{Turned}
-use Rattle.turns.specs.declared.words.Turned.TheVariants.{Idle, Entered, Woke, Next, Suspended, Stopped}
+use Rattle.turns.specs.declared.words.Turned.TheVariants.{Idle, Entered, Woke, Next, Suspended, Stopped, Durable}
+use Rattle.sbi.specs.declared.resets.ResetType.{ResetType}
+use Rattle.sbi.specs.declared.resets.ResetType.TheVariants.{Shutdown, ColdReboot}
+use Rattle.machine.specs.declared.parts.Word.{Word}
+use Rattle.machine.specs.declared.parts.Word.TheVariants.{Own, Asleep, Reset}
 use Rattle.machine_lines.specs.declared.line.MachineLine.{MachineLine}
 use Rattle.machine_lines.specs.declared.line.MachineLine.TheVariants as lines
 use lib.Chars.{codes}
@@ -16,13 +20,24 @@ hex_text width n = replicate (width - length (digits 16 false n)) 48 ++ digits 1
 abbrev pub bytes_text : List ℕ → List ℕ
 bytes_text bytes = flat_map (hex_text 2) bytes
 
-abbrev pub word_text : Turned → List ℕ
-word_text Idle = codes "idle"
-word_text Entered = codes "entered"
-word_text Woke = codes "woke"
-word_text Next = codes "next"
-word_text Suspended = codes "suspended"
-word_text Stopped = codes "stopped"
+-- what a hart did; a board does not leave it at a durable call
+abbrev pub turned_text : Turned → List ℕ
+turned_text Idle = codes "idle"
+turned_text Entered = codes "entered"
+turned_text Woke = codes "woke"
+turned_text Next = codes "next"
+turned_text Suspended = codes "suspended"
+turned_text Stopped = codes "stopped"
+turned_text Durable = codes "durable"
+
+abbrev pub reset_text : ResetType → List ℕ
+reset_text Shutdown = codes "shutdown"
+reset_text ColdReboot = codes "reboot"
+
+abbrev pub word_text : Word → List ℕ
+word_text (Own did) = turned_text did
+word_text Asleep = codes "asleep"
+word_text (Reset kind) = reset_text kind
 
 abbrev pub machine_line_text : MachineLine → List ℕ
 machine_line_text (lines.Turn h k word) = codes "turn " ++ decimal h ++ codes " " ++ decimal k ++ codes " " ++ word_text word

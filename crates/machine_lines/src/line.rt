@@ -1,10 +1,10 @@
 //! The lines, and their texts.
 
 ghost use Rattle.std.specs.Prelude.{◌≡◌, ◌++◌, ◌≤◌, Some, take};
-ghost use Rattle.machine_lines.specs.Texts.{word_text, hex_text, bytes_text, machine_line_text};
+ghost use Rattle.machine_lines.specs.Texts.{turned_text, reset_text, word_text, hex_text, bytes_text, machine_line_text};
 
 use board_model::{HartId, Slot};
-use machine::Turned;
+use machine::{ResetType, Turned, Word};
 use std::fmt;
 
 /// Up to 64 bytes of memory.
@@ -19,12 +19,12 @@ pub struct MemBytes {
 /// What a line that shows memory or harts says.
 #[derive(Clone, Copy, Debug, PartialEq, Eq)]
 pub enum MachineLine {
-    /// `turn H K WORD`: K turns were made, and what the last one did.
-    Turn(HartId, u32, Turned),
+    /// `turn H K WORD`: K turns were made, and what is said of the last one.
+    Turn(HartId, u32, Word),
     /// `call H error E value V`: the call was answered so; the error is signed, as a0 holds it.
     Answered(HartId, u64, u64),
     /// `call H WORD`: the call was made, and no answer came.
-    Called(HartId, Turned),
+    Called(HartId, Word),
     /// `call H not started`: the hart is not STARTED, and nothing was done.
     NotStarted(HartId),
     /// `reg H R V`
@@ -46,10 +46,10 @@ pub enum MachineLine {
 }
 
 #[derive(Drop)]
-struct Word(Turned);
+struct TurnedName(Turned);
 
-impl fmt::Display for Word {
-    ghost output = { λ w. Some (word_text w.0) };
+impl fmt::Display for TurnedName {
+    ghost output = { λ t. Some (turned_text t.0) };
 
     fn fmt<W: fmt::Write>(&self, f: &mut fmt::Formatter<W>) -> fmt::Result {
         match self.0 {
@@ -59,6 +59,42 @@ impl fmt::Display for Word {
             Turned::Next => write!(f, "next"),
             Turned::Suspended => write!(f, "suspended"),
             Turned::Stopped => write!(f, "stopped"),
+            Turned::Durable => write!(f, "durable"),
+        }
+    }
+}
+
+#[derive(Drop)]
+struct ResetName(ResetType);
+
+impl fmt::Display for ResetName {
+    ghost output = { λ k. Some (reset_text k.0) };
+
+    fn fmt<W: fmt::Write>(&self, f: &mut fmt::Formatter<W>) -> fmt::Result {
+        match self.0 {
+            ResetType::Shutdown => write!(f, "shutdown"),
+            ResetType::ColdReboot => write!(f, "reboot"),
+        }
+    }
+}
+
+#[derive(Drop)]
+struct WordText(Word);
+
+impl fmt::Display for WordText {
+    ghost output = { λ w. Some (word_text w.0) };
+
+    fn fmt<W: fmt::Write>(&self, f: &mut fmt::Formatter<W>) -> fmt::Result {
+        match self.0 {
+            Word::Own(turned) => {
+                let text = TurnedName(turned);
+                write!(f, "{text}")
+            }
+            Word::Asleep => write!(f, "asleep"),
+            Word::Reset(kind) => {
+                let text = ResetName(kind);
+                write!(f, "{text}")
+            }
         }
     }
 }
@@ -148,9 +184,9 @@ impl fmt::Display for MachineLine {
 
     fn fmt<W: fmt::Write>(&self, f: &mut fmt::Formatter<W>) -> fmt::Result {
         match *self {
-            MachineLine::Turn(hart, count, turned) => {
+            MachineLine::Turn(hart, count, said) => {
                 let number = hart.number();
-                let word = Word(turned);
+                let word = WordText(said);
                 write!(f, "turn {number} {count} {word}")
             }
             MachineLine::Answered(hart, error, value) => {
@@ -159,9 +195,9 @@ impl fmt::Display for MachineLine {
                 let text = Value(value);
                 write!(f, "call {number} error {error} value 0x{text}")
             }
-            MachineLine::Called(hart, turned) => {
+            MachineLine::Called(hart, said) => {
                 let number = hart.number();
-                let word = Word(turned);
+                let word = WordText(said);
                 write!(f, "call {number} {word}")
             }
             MachineLine::NotStarted(hart) => {

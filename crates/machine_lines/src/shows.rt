@@ -2,11 +2,11 @@
 
 ghost use Rattle.std.specs.Prelude.{◌≡◌, ◌<◌, ◌≤◌, ◌++◌, ◌-◌, length, replicate};
 ghost use Rattle.machine.specs.Machine.{hart_at};
-ghost use Rattle.machine_lines.specs.Shows.{TurnsLine, CallLine, called_line, waits, pending_line, reg_line, pc_line, CsrLine, mem_line};
+ghost use Rattle.machine_lines.specs.Shows.{TurnsLine, CallLine, own_line, made_line, called_line, word_of, waits, pending_line, reg_line, pc_line, CsrLine, mem_line};
 
 use crate::line::{MachineLine, MemBytes};
 use board_model::{HartId, RAM_BASE};
-use machine::{Called, Machine, Turned};
+use machine::{Called, Machine, Turned, Word};
 use rv_decode::{CsrNumber, Reg};
 
 /// `reg H R`: a register, 0 to 31.
@@ -30,7 +30,8 @@ pub fn pc(machine: &Machine, hart: HartId) -> MachineLine
     MachineLine::Pc(hart, machine.hart(hart).pc())
 }
 
-/// `turn H N`: at most so many turns of a hart, one after another.
+/// `turn H N` of a machine without a store: at most so many turns of a hart, one after another. One that leaves the hart at a
+/// durable call is the last.
 pub fn turn(machine: &mut Machine, hart: HartId, count: u32) -> MachineLine
     ensures { TurnsLine hart count machine.old machine.new result }
 {
@@ -38,10 +39,19 @@ pub fn turn(machine: &mut Machine, hart: HartId, count: u32) -> MachineLine
         return MachineLine::Off;
     }
     let (made, turned) = machine.turns(hart, count);
-    MachineLine::Turn(hart, made, turned)
+    MachineLine::Turn(hart, made, Word::Own(turned))
 }
 
-/// `call H EID FID A0 A1 A2`: a call that is made in the place of a hart.
+fn word_of(called: Called) -> Option<Word>
+    ensures { result ≡ word_of called }
+{
+    match called {
+        Called::NotStarted => None,
+        Called::Made(turned) => Some(Word::Own(turned)),
+    }
+}
+
+/// `call H EID FID A0 A1 A2` of a machine without a store: a call that is made in the place of a hart.
 pub fn call(
     machine: &mut Machine,
     hart: HartId,
@@ -57,21 +67,46 @@ pub fn call(
         return MachineLine::Off;
     }
     let made = machine.call(hart, eid, fid, a0, a1, a2);
-    called(machine, hart, made)
+    called(machine, hart, word_of(made))
 }
 
-/// What `call H EID FID A0 A1 A2` says of a call that was made in the place of a hart.
-pub fn called(machine: &Machine, hart: HartId, called: Called) -> MachineLine
+fn own(machine: &Machine, hart: HartId, turned: Turned) -> MachineLine
     requires { hart < length machine.now.harts }
-    ensures { result ≡ called_line hart (hart_at machine.now hart) called }
+    ensures { result ≡ own_line hart (hart_at machine.now hart) turned }
 {
-    match called {
-        Called::NotStarted => MachineLine::NotStarted(hart),
-        Called::Made(Turned::Next) => {
+    match turned {
+        Turned::Next => {
             let state = machine.hart(hart);
             MachineLine::Answered(hart, state.reg(Reg::new(10)), state.reg(Reg::new(11)))
         }
-        Called::Made(turned) => MachineLine::Called(hart, turned),
+        Turned::Idle
+        | Turned::Entered
+        | Turned::Woke
+        | Turned::Suspended
+        | Turned::Stopped
+        | Turned::Durable => MachineLine::Called(hart, Word::Own(turned)),
+    }
+}
+
+fn made(machine: &Machine, hart: HartId, word: Word) -> MachineLine
+    requires { hart < length machine.now.harts }
+    ensures { result ≡ made_line hart (hart_at machine.now hart) word }
+{
+    match word {
+        Word::Own(turned) => own(machine, hart, turned),
+        Word::Asleep | Word::Reset(_) => MachineLine::Called(hart, word),
+    }
+}
+
+/// What `call H EID FID A0 A1 A2` says of a call that is made in the place of a hart, by what is said of it; none was made
+/// where the hart is not STARTED.
+pub fn called(machine: &Machine, hart: HartId, word: Option<Word>) -> MachineLine
+    requires { hart < length machine.now.harts }
+    ensures { result ≡ called_line hart (hart_at machine.now hart) word }
+{
+    match word {
+        None => MachineLine::NotStarted(hart),
+        Some(said) => made(machine, hart, said),
     }
 }
 

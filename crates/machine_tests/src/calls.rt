@@ -3,7 +3,7 @@
 
 use crate::fixtures::{all_say, booted};
 use board_model::{HartId, Reason};
-use machine::Machine;
+use machine::{Machine, ResetType, Word};
 use machine_lines::{MachineLine, call, csr, pc, pending, reg, turn};
 use std::alloc::Global;
 use std::process::Abort;
@@ -16,6 +16,8 @@ const HSM: u64 = 0x48_534d;
 const IPI: u64 = 0x73_5049;
 
 const RAM: u64 = 0x8000_0000;
+
+const SRST: u64 = 0x5352_5354;
 
 // What a script asks of a board.
 #[derive(Clone, Copy, Drop)]
@@ -173,5 +175,34 @@ fn a_hart_that_stopped_is_not_started(rt: HostRuntime) -> Result<(), Fail> {
         1,
         &asked,
         "call 0 error 0 value 0x0000000002000000\ncall 0 error -2 value 0x0000000000000000\ncall 0 error -2 value 0x0000000000000000\ncall 0 stopped\nturn 0 5 idle\ncall 0 not started\n",
+    )
+}
+
+// Without a store a durable call is left as it is, and the line of turns ends there; on a board it is one of these words.
+#[test]
+fn a_durable_call_is_left_to_what_has_the_store(rt: HostRuntime) -> Result<(), Fail> {
+    let asked = [
+        Asks::Call(0, [SRST, 0, 0, 0, 0]),
+        Asks::Pc(0),
+        Asks::Reg(0, 10),
+    ];
+    all_asked(
+        &rt,
+        rt.alloc(),
+        1,
+        &asked,
+        "call 0 durable\npc 0 0x0000000080000000\nreg 0 10 0x0000000000000000\n",
+    )?;
+    let id = hart(0)?;
+    let lines = [
+        MachineLine::Turn(id, 8, Word::Asleep),
+        MachineLine::Called(id, Word::Reset(ResetType::ColdReboot)),
+        MachineLine::Called(id, Word::Reset(ResetType::Shutdown)),
+    ];
+    all_say(
+        &rt,
+        rt.alloc(),
+        &lines,
+        "turn 0 8 asleep\ncall 0 reboot\ncall 0 shutdown\n",
     )
 }

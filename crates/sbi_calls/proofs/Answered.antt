@@ -8,7 +8,7 @@ use Rattle.hsm.specs.Calls.{code_of, named}
 use Rattle.hsm.specs.Seen.{listed}
 use Rattle.sbi_abi.specs.declared.ret.SbiError.{SbiError}
 use Rattle.sbi_abi.specs.declared.ret.SbiError.TheVariants.{InvalidParam, InvalidAddress}
-use Rattle.sbi_calls.specs.declared.requests.Request.TheVariants.{Value, Start, Stop, Status, Suspend, SuspendAfresh, Send}
+use Rattle.sbi_calls.specs.declared.requests.Request.TheVariants.{Value, Start, Stop, Status, Suspend, SuspendAfresh, Send, Command}
 use Rattle.sbi_calls.specs.declared.endings.Ending.{Ending}
 use Rattle.sbi_calls.specs.declared.endings.Ending.TheVariants.{Answers}
 use Rattle.sbi_calls.specs.Requests.{Checked, request_of, checked}
@@ -35,6 +35,7 @@ row_refused by (Ok (Status h)) t e end = refl
 row_refused by (Ok Suspend) t e end = absurd (cc)
 row_refused by (Ok (SuspendAfresh a o)) t e end = absurd (cc)
 row_refused by (Ok (Send targets)) t e end = absurd (cc)
+row_refused by (Ok Command) t e end = refl
 
 pub errors_change_nothing : ErrorsChangeNothing
 errors_change_nothing size by call t e end = row_refused by (request_of size call) t e end

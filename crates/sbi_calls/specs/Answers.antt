@@ -15,9 +15,9 @@ use Rattle.sbi_abi.specs.Answers.{Answer, error_of, value_of}
 use Rattle.sbi_abi.specs.Calls.{call_of}
 use Rattle.sbi_abi.specs.declared.call.Call.{Call}
 use Rattle.sbi_abi.specs.declared.ret.SbiError.TheVariants.{AlreadyAvailable}
-use Rattle.sbi_calls.specs.declared.requests.Request.TheVariants.{Value, Start, Stop, Status, Suspend, SuspendAfresh, Send}
+use Rattle.sbi_calls.specs.declared.requests.Request.TheVariants.{Value, Start, Stop, Status, Suspend, SuspendAfresh, Send, Command}
 use Rattle.sbi_calls.specs.declared.endings.Ending.{Ending}
-use Rattle.sbi_calls.specs.declared.endings.Ending.TheVariants.{Answers, Stops, Suspends, SuspendsAfresh}
+use Rattle.sbi_calls.specs.declared.endings.Ending.TheVariants.{Answers, Stops, Suspends, SuspendsAfresh, Defers}
 use Rattle.sbi_calls.specs.declared.endings.After.{After}
 use Rattle.sbi_calls.specs.declared.endings.After.TheVariants as afters
 use Rattle.sbi_calls.specs.Requests.{Checked, request_of}
@@ -58,6 +58,7 @@ row by (Ok (Status h)) t = record { ending = Answers (Ok (code_of (named (listed
 row by (Ok Suspend) t = record { ending = Suspends; table = with_state t by suspended }
 row by (Ok (SuspendAfresh a o)) t = record { ending = SuspendsAfresh a o; table = with_state t by suspended }
 row by (Ok (Send targets)) t = record { ending = Answers (Ok 0); table = record t { pairs = pairs_sent by targets t.pairs } }
+row by (Ok Command) t = record { ending = Defers; table = t }
 
 -- the table of answers: what a call of the hart `by` ends with on a board of that size, and what the tables then are
 abbrev pub answer : Size → ℕ → Call → TableState → Row
@@ -69,6 +70,7 @@ Ends (Answers a) old new after = (new ≡ answered old (error_of a) (value_of a)
 Ends Stops old new after = (new ≡ old) × (after ≡ afters.Stopped)
 Ends Suspends old new after = (new ≡ answered old 0 0) × (after ≡ afters.Suspended)
 Ends (SuspendsAfresh a o) old new after = (new ≡ fresh old.id a o) × (after ≡ afters.Suspended)
+Ends Defers old new after = (new ≡ old) × (after ≡ afters.Durable)
 
 -- where the hart then stands in the hart table
 abbrev pub stage_of_ending : Ending → Stage
@@ -76,11 +78,13 @@ stage_of_ending (Answers a) = Running
 stage_of_ending Stops = Out
 stage_of_ending Suspends = Asleep
 stage_of_ending (SuspendsAfresh a o) = Asleep
+stage_of_ending Defers = Running
 
 abbrev pub stage_by : After → Stage
 stage_by afters.Goes = Running
 stage_by afters.Stopped = Out
 stage_by afters.Suspended = Asleep
+stage_by afters.Durable = Running
 
 -- ---- with the one seat of all harts
 -- whatever the tables are, the request ends by its row

@@ -4,13 +4,12 @@ use Rattle.board_model.specs.Shapes.{Size, ram_bytes_of}
 use Rattle.sbi_abi.specs.Calls.{extension_at}
 use Rattle.sbi_abi.specs.Masks.{targets_of}
 use Rattle.sbi_abi.specs.declared.call.Extension.{Extension}
-use Rattle.sbi_abi.specs.declared.call.Extension.TheVariants.{Base, Hsm, Ipi, Srst, Susp}
 use Rattle.sbi_abi.specs.declared.call.Call.{Call}
 use Rattle.sbi_abi.specs.declared.call.Call.TheVariants as calls
 use Rattle.sbi_abi.specs.declared.ret.SbiError.{SbiError}
 use Rattle.sbi_abi.specs.declared.ret.SbiError.TheVariants.{NotSupported, InvalidParam, InvalidAddress}
 use Rattle.sbi_calls.specs.declared.requests.Request.{Request}
-use Rattle.sbi_calls.specs.declared.requests.Request.TheVariants.{Value, Start, Stop, Status, Suspend, SuspendAfresh, Send}
+use Rattle.sbi_calls.specs.declared.requests.Request.TheVariants.{Value, Start, Stop, Status, Suspend, SuspendAfresh, Send, Command}
 
 abbrev pub Checked : Type 0
 Checked = Result Request SbiError
@@ -26,11 +25,7 @@ address_in size a = if nat_le 0x80000000 a && (nat_lt a (0x80000000 + ram_bytes_
 -- 1 for an extension that has calls, else 0
 abbrev pub has_calls : Option Extension → ℕ
 has_calls None = 0
-has_calls (Some Base) = 1
-has_calls (Some Hsm) = 1
-has_calls (Some Ipi) = 1
-has_calls (Some Srst) = 0
-has_calls (Some Susp) = 0
+has_calls (Some extension) = 1
 
 abbrev pub probed : ℕ → ℕ
 probed extension = has_calls (extension_at extension)
@@ -59,8 +54,8 @@ request_of size calls.HartStop = Ok Stop
 request_of size (calls.HartStatus h) = checked (hart_in size h) (λ hart. Ok (Status hart))
 request_of size (calls.HartSuspend kind a o) = suspend_of (kind == 0) (kind == 0x80000000) size a o
 request_of size (calls.SendIpi mask base) = checked (targets_of mask base size.harts) (λ targets. Ok (Send targets))
-request_of size (calls.SystemReset kind reason) = Err NotSupported
-request_of size (calls.SystemSuspend kind a o) = Err NotSupported
+request_of size (calls.SystemReset kind reason) = Ok Command
+request_of size (calls.SystemSuspend kind a o) = Ok Command
 request_of size calls.Unknown = Err NotSupported
 
 -- a request names harts of the board alone
@@ -73,3 +68,4 @@ IsWithin harts (Ok (Status h)) = h < harts
 IsWithin harts (Ok Suspend) = Unit {0}
 IsWithin harts (Ok (SuspendAfresh a o)) = Unit {0}
 IsWithin harts (Ok (Send targets)) = Unit {0}
+IsWithin harts (Ok Command) = Unit {0}

@@ -13,9 +13,9 @@ use Rattle.ipi.specs.declared.view.Diary.{Diary}
 use Rattle.ipi.specs.declared.view.Deed.TheVariants.{Raised}
 use Rattle.sbi_abi.specs.Calls.{call_of}
 use Rattle.sbi_abi.specs.Masks.{Has}
-use Rattle.sbi_calls.specs.declared.requests.Request.TheVariants.{Value, Start, Stop, Status, Suspend, SuspendAfresh, Send}
+use Rattle.sbi_calls.specs.declared.requests.Request.TheVariants.{Value, Start, Stop, Status, Suspend, SuspendAfresh, Send, Command}
 use Rattle.sbi_calls.specs.declared.endings.Ending.{Ending}
-use Rattle.sbi_calls.specs.declared.endings.Ending.TheVariants.{Answers, Stops, Suspends, SuspendsAfresh}
+use Rattle.sbi_calls.specs.declared.endings.Ending.TheVariants.{Answers, Stops, Suspends, SuspendsAfresh, Defers}
 use Rattle.sbi_calls.specs.declared.endings.After.{After}
 use Rattle.sbi_calls.specs.Both.{Known}
 use Rattle.sbi_calls.specs.Requests.{Checked, request_of}
@@ -46,6 +46,7 @@ Does harts by (Ok (Status h)) k k' end = (found : ℕ) × OneStep by (stage_of b
 Does harts by (Ok Suspend) k k' end = (found : ℕ) × OneStep by Asleep (DidSuspend found) k k' × (end ≡ Suspends)
 Does harts by (Ok (SuspendAfresh a o)) k k' end = (found : ℕ) × OneStep by Asleep (DidSuspend found) k k' × (end ≡ SuspendsAfresh a o)
 Does harts by (Ok (Send targets)) k k' end = (k'.harts ≡ k.harts) × Sends by targets harts k.pairs k'.pairs × (end ≡ Answers (Ok 0))
+Does harts by (Ok Command) k k' end = (k' ≡ k) × (end ≡ Defers)
 
 -- the call at which the hart stood made its own steps, and ended by what they found
 abbrev pub Calls : Size → State → State → Known → Known → After → Type 0

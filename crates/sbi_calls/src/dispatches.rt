@@ -35,6 +35,7 @@ fn do_request(seats: Seats, tables: &Tables, by: HartId, request: Request) -> (S
         Request::Suspend => suspend(seats, tables, by),
         Request::SuspendAfresh(site, opaque) => suspend_afresh(seats, tables, by, site, opaque),
         Request::Send(targets) => send(seats, tables, by, targets),
+        Request::Command => (seats, Ending::Defers),
     }
 }
 
@@ -61,7 +62,7 @@ fn serve(
 }
 
 /// Answers the SBI call at which a hart stands, by the tables (docs/SBI.md). The hart is STARTED and not quiet, and is
-/// one of the seats.
+/// one of the seats. A call that comes to a durable command is told so, with nothing changed.
 pub fn dispatch(hart: &mut Hart, seats: Seats, tables: &Tables, shape: &Shape) -> (Seats, After)
     requires tables { AreTablesOf shape.now tables.now }
     requires seats { AreSeatsOf tables.now seats }

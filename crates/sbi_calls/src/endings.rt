@@ -16,6 +16,8 @@ pub enum After {
     Stopped,
     /// The hart is suspended.
     Suspended,
+    /// The call comes to a durable command. Nothing was done, and the hart still stands at it.
+    Durable,
 }
 
 /// How a call ends.
@@ -29,6 +31,8 @@ pub enum Ending {
     Suspends,
     /// The hart is suspended, and wakes as one that starts at the address with the opaque value.
     SuspendsAfresh(Addr, u64),
+    /// It is left as it is, for what has the store at hand.
+    Defers,
 }
 
 /// Gives the hart what the call ends with. What a suspended hart finds when it wakes is put at once.
@@ -50,5 +54,6 @@ pub(crate) fn end(hart: &mut Hart, ending: Ending) -> After
             *hart = Hart::fresh(hart.id(), site.value(), opaque);
             After::Suspended
         }
+        Ending::Defers => After::Durable,
     }
 }

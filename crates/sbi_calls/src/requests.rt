@@ -25,6 +25,8 @@ pub enum Request {
     SuspendAfresh(Addr, u64),
     /// An interrupt from the calling hart to each of these.
     Send(HartSet),
+    /// A durable command, if the arguments, the tables and the store allow it: what asks the store checks them.
+    Command,
 }
 
 /// The version of the specification: the major number 2 in bits 24 to 30, the minor number 0 below.
@@ -75,8 +77,8 @@ fn probed(extension: u64) -> u64
     ensures { result ≡ probed extension }
 {
     match Extension::at(extension) {
-        Some(Extension::Base) | Some(Extension::Hsm) | Some(Extension::Ipi) => 1,
-        _ => 0,
+        Some(_) => 1,
+        None => 0,
     }
 }
 
@@ -140,6 +142,8 @@ pub fn request_of(call: Call, shape: &Shape) -> Result<Request, SbiError>
             Call::HartStatus { hart } => status(shape, hart),
             Call::HartSuspend { kind, address, opaque } => suspend(shape, kind, address, opaque),
             Call::SendIpi { mask, base } => send(shape, mask, base),
+            Call::SystemReset { .. } => Ok(Request::Command),
+            Call::SystemSuspend { .. } => Ok(Request::Command),
         }
     )
 }

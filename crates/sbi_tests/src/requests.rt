@@ -67,8 +67,8 @@ fn probe_is_1_for_what_is_there(rt: HostRuntime) {
         (0x10, 1),
         (0x48534d, 1),
         (0x735049, 1),
-        (0x53525354, 0),
-        (0x53555350, 0),
+        (0x53525354, 1),
+        (0x53555350, 1),
         (0x54494d45, 0),
         (0x1_0000_0010, 0),
     ] {
@@ -121,17 +121,19 @@ fn a_suspend_has_two_types(rt: HostRuntime) {
     }
 }
 
+// Its arguments are checked by what asks the store.
 #[test]
-fn what_is_not_built_is_not_supported(rt: HostRuntime) {
-    let reset = Call::SystemReset { kind: 0, reason: 0 };
+fn a_durable_command_is_left_as_it_is(rt: HostRuntime) {
+    let reset = Call::SystemReset { kind: 9, reason: 9 };
     let sleep = Call::SystemSuspend {
-        kind: 0x8000_0001,
-        address: RAM,
+        kind: 9,
+        address: 1,
         opaque: 0,
     };
-    for call in [Call::Unknown, reset, sleep] {
-        same(&rt, asked(&rt, call), Err(SbiError::NotSupported));
+    for call in [reset, sleep] {
+        same(&rt, asked(&rt, call), Ok(Request::Command));
     }
+    same(&rt, asked(&rt, Call::Unknown), Err(SbiError::NotSupported));
 }
 
 // A mask that names a hart past the board is refused, an empty one is not.

@@ -6,5 +6,5 @@ use bench_program::bench;
 use std::process::ExitCode;
 
 fn main(rt: HostRuntime) -> ExitCode {
-    bench(&rt)
+    bench(&rt, &rt)
 }

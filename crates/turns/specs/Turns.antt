@@ -97,6 +97,7 @@ abbrev pub turned_by : After → Turned
 turned_by afters.Goes = words.Next
 turned_by afters.Stopped = words.Stopped
 turned_by afters.Suspended = words.Suspended
+turned_by afters.Durable = words.Durable
 
 -- the hart u and the tables x, once the step answered that, become v and y
 abbrev pub Finishes : Size → Outcome → TableState → State → TableState → State → Turned → Type 0

@@ -19,6 +19,7 @@ fn told(after: After) -> Turned
         After::Goes => Turned::Next,
         After::Stopped => Turned::Stopped,
         After::Suspended => Turned::Suspended,
+        After::Durable => Turned::Durable,
     }
 }
 

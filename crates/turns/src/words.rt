@@ -17,6 +17,8 @@ pub enum Turned {
     Suspended,
     /// It stopped.
     Stopped,
+    /// It stands at a call that comes to a durable command, of which nothing was done.
+    Durable,
 }
 
 /// What a turn comes to, by the tables.

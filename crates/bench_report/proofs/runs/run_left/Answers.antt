@@ -3,7 +3,7 @@ use Rattle.std.proofs.lemmas.List.{length-replicate}
 use Rattle.bench_report.proofs.runs.run_left.Goals as goal
 
 pub run_script-requires-clause-blank : goal.run_script-requires-clause-blank
-run_script-requires-clause-blank g c =
+run_script-requires-clause-blank g c κs within =
     let made = c.in_ok-disk.ensures in
     let long = ap length made.fresh.reads ∙ length-replicate c.sectors.result (replicate 512 0) in
     (refl, c.blank_disks.ensures.zeros c.sectors.result c.in_ok-disk.disk made.fresh, (sym made.no_mishap, omega arith, omega (arith, long, c.sectors.ensures.value)))

@@ -10,6 +10,7 @@ pub loop-line-init : goal.loop-line-init
 loop-line-init g c = record {
   few = omega arith;
   resting = c.requires.resting;
+  calm = c.requires.calm;
   short = c.requires.short;
   told = λ b h. ([], b, refl, h, λ before start r. rw append-nil r);
 }
@@ -18,6 +19,7 @@ pub loop-line-preserved : goal.loop-line-preserved
 loop-line-preserved g c = record {
   few = (let few = rw c.in_default.is at c.run_line-after.ensures.few in omega (arith, few, c.loop-line.invariant.few));
   resting = c.run_line-after.ensures.resting;
+  calm = rw c.in_default.is at c.run_line-after.ensures.calm;
   short = c.run_line-after.ensures.short;
   told = λ b h.
       let was = c.loop-line.invariant.told b h in

@@ -23,7 +23,7 @@ returns-in-Ok-clause-report g c =
     let is_board : board ≡ board_answer size = rw (c.harts.ensures.value, c.pages.ensures.value, c.lanes.ensures.value, c.sectors.ensures.value) refl in
     let first = reported_more start start _ _ _ [] board (record { text = unwritten start; lines = refl; found = c.new.ensures.items }) c.in_default.ensures.ok in
     let ok = rw c.in-Ok.is at c.run_lines-power.ensures.ok in
-    let ran = ok blank_bench (c.requires.blank, c.new-payloads.ensures) in
+    let ran = ok blank_bench (c.requires.blank, c.new-payloads.ensures, refl) in
     let P : List Line → Type 0 = λ ls. Run size blank_bench ls ran.0 ran.1 in
     (board ∷ ran.0, ran.1, (is_board, subst P c.deref.ensures.value ran.2), ran.4 (board ∷ []) start first, c.disk_left-left.ensures.told size ran.1 ran.3)
 
@@ -33,6 +33,6 @@ returns-in-Err-ran-clause-stopped g c =
     let board : Answer = record { found = None; line = printed.Board c.harts.result c.pages.result c.lanes.result c.sectors.result } in
     let is_board : board ≡ board_answer size = rw (c.harts.ensures.value, c.pages.ensures.value, c.lanes.ensures.value, c.sectors.ensures.value) refl in
     let stopped = rw c.in-Err-ran.is at c.run_lines-power.ensures.stopped in
-    let ran = stopped blank_bench (c.requires.blank, c.new-payloads.ensures) in
+    let ran = stopped blank_bench (c.requires.blank, c.new-payloads.ensures, refl) in
     let P : List Line → Type 0 = λ ls. Run size blank_bench (take ran.0 ls) ran.1 ran.2 in
     (board ∷ ran.1, ran.2, (ran.0, (is_board, subst P c.deref.ensures.value ran.3)), c.disk_left-left.ensures.told size ran.2 ran.4)

@@ -4,57 +4,57 @@ use Rattle.bench_report.specs.Steps.{unpowered, armed_with}
 use Rattle.bench_report.proofs.steps.step.Goals as goal
 
 pub returns-in-Format-clause-told : goal.returns-in-Format-clause-told
-returns-in-Format-clause-told c = λ b h.
+returns-in-Format-clause-told g c = λ b h.
     let did = c.format_line.ensures.told b h.0 in
     rw c.answered.ensures.answer (rw c.answered.ensures.power (rw c.in-Format.is (did.0, did.1, (did.2, h.1 ∙ sym did.3))))
 
 pub returns-in-On-clause-told : goal.returns-in-On-clause-told
-returns-in-On-clause-told c = λ b h.
+returns-in-On-clause-told g c = λ b h.
     let did = c.on_line.ensures.told c.args.shape.now b h in
     rw c.answered-in-On.ensures.answer (rw c.answered-in-On.ensures.power (rw c.in-On.is (did.0, did.1, (did.2, h.1 ∙ sym did.3))))
 
 pub returns-in-Slot-clause-told : goal.returns-in-Slot-clause-told
-returns-in-Slot-clause-told c = λ b h.
+returns-in-Slot-clause-told g c = λ b h.
     let did = c.slot_line.ensures.told c.args.shape.now b h.0 in
     rw c.answered-in-Slot.ensures.answer (rw c.answered-in-Slot.ensures.power (rw c.in-Slot.is (did.0, did.1, (did.2, h.1 ∙ sym did.3))))
 
 pub returns-in-Cut-clause-told : goal.returns-in-Cut-clause-told
-returns-in-Cut-clause-told c = λ b h. rw c.in-Cut.is (unpowered b, (c.says.ensures, refl), (c.cut.ensures.told c.args.shape.now b h.0, h.1))
+returns-in-Cut-clause-told g c = λ b h. rw c.in-Cut.is (unpowered b, (c.says.ensures, refl), (c.cut.ensures.told c.args.shape.now b h.0, h.1))
 
 pub returns-in-Ok-clause-told : goal.returns-in-Ok-clause-told
-returns-in-Ok-clause-told c = λ b h. rw c.in-Payload.is (rw c.says-in-Ok.ensures (c.in-Ok.ensures.told c.args.shape.now b h))
+returns-in-Ok-clause-told g c = λ b h. rw c.in-Payload.is (rw c.says-in-Ok.ensures (c.in-Ok.ensures.told c.args.shape.now b h))
 
 pub returns-in-Turn-clause-told : goal.returns-in-Turn-clause-told
-returns-in-Turn-clause-told c = λ b h.
+returns-in-Turn-clause-told g c = λ b h.
     let did = c.turn_line.ensures.told c.args.shape.now b h.0 in
     rw c.shown.ensures.answer (rw c.shown.ensures.power (rw c.in-Turn.is (did.0, did.1, (did.2, h.1 ∙ sym did.3))))
 
 pub returns-in-Call-clause-told : goal.returns-in-Call-clause-told
-returns-in-Call-clause-told c = λ b h.
+returns-in-Call-clause-told g c = λ b h.
     let did = c.call_line.ensures.told c.args.shape.now b h.0 in
     rw c.shown-in-Call.ensures.answer (rw c.shown-in-Call.ensures.power (rw c.in-Call.is (did.0, did.1, (did.2, h.1 ∙ sym did.3))))
 
 pub returns-in-Reg-clause-told : goal.returns-in-Reg-clause-told
-returns-in-Reg-clause-told c = λ b h. rw c.in-Reg.is (rw c.says-in-Reg.ensures (b, c.reg_line-shown.ensures c.args.shape.now b h.0, h))
+returns-in-Reg-clause-told g c = λ b h. rw c.in-Reg.is (rw c.says-in-Reg.ensures (b, c.reg_line-shown.ensures c.args.shape.now b h.0, (h.0, h.1)))
 
 pub returns-in-Pc-clause-told : goal.returns-in-Pc-clause-told
-returns-in-Pc-clause-told c = λ b h. rw c.in-Pc.is (rw c.says-in-Pc.ensures (b, c.pc_line-shown.ensures c.args.shape.now b h.0, h))
+returns-in-Pc-clause-told g c = λ b h. rw c.in-Pc.is (rw c.says-in-Pc.ensures (b, c.pc_line-shown.ensures c.args.shape.now b h.0, (h.0, h.1)))
 
 pub returns-in-Csr-clause-told : goal.returns-in-Csr-clause-told
-returns-in-Csr-clause-told c = λ b h.
+returns-in-Csr-clause-told g c = λ b h.
     let did = c.csr_line.ensures.told c.args.shape.now b h.0 in
     rw c.shown-in-Csr.ensures.answer (rw c.shown-in-Csr.ensures.power (rw c.in-Csr.is (did.0, did.1, (did.2, h.1 ∙ sym did.3))))
 
 pub returns-in-Pending-clause-told : goal.returns-in-Pending-clause-told
-returns-in-Pending-clause-told c = λ b h.
+returns-in-Pending-clause-told g c = λ b h.
     let did = c.pending_line.ensures.told c.args.shape.now b h.0 in
     rw c.shown-in-Pending.ensures.answer (rw c.shown-in-Pending.ensures.power (rw c.in-Pending.is (did.0, did.1, (did.2, h.1 ∙ sym did.3))))
 
 pub returns-in-Mem-clause-told : goal.returns-in-Mem-clause-told
-returns-in-Mem-clause-told c = λ b h. rw c.in-Mem.is (rw c.says-in-Mem.ensures (b, c.mem_line-shown.ensures c.args.shape.now b h.0, h))
+returns-in-Mem-clause-told g c = λ b h. rw c.in-Mem.is (rw c.says-in-Mem.ensures (b, c.mem_line-shown.ensures c.args.shape.now b h.0, (h.0, h.1)))
 
 pub returns-in-CutAt-clause-told : goal.returns-in-CutAt-clause-told
-returns-in-CutAt-clause-told c = λ b h. rw c.in-CutAt.is (armed_with CutArmed b, (c.says-in-CutAt.ensures, refl), (c.arm-after.ensures.told c.args.shape.now b h.0, h.1))
+returns-in-CutAt-clause-told g c = λ b h. rw c.in-CutAt.is (armed_with CutArmed b, (c.says-in-CutAt.ensures, refl), (c.arm-after.ensures.told c.args.shape.now b h.0, h.1))
 
 pub returns-in-FailAt-clause-told : goal.returns-in-FailAt-clause-told
-returns-in-FailAt-clause-told c = λ b h. rw c.in-FailAt.is (armed_with FaultArmed b, (c.says-in-FailAt.ensures, refl), (c.arm-after-in-FailAt.ensures.told c.args.shape.now b h.0, h.1))
+returns-in-FailAt-clause-told g c = λ b h. rw c.in-FailAt.is (armed_with FaultArmed b, (c.says-in-FailAt.ensures, refl), (c.arm-after-in-FailAt.ensures.told c.args.shape.now b h.0, h.1))

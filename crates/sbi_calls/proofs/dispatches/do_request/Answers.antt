@@ -21,3 +21,6 @@ returns-in-SuspendAfresh-clause-alone c = λ t are. rw c.in-SuspendAfresh.is (c.
 
 pub returns-in-Send-clause-alone : goal.returns-in-Send-clause-alone
 returns-in-Send-clause-alone c = λ t are. rw c.in-Send.is (c.send.ensures.alone t are)
+
+pub returns-in-Command-clause-alone : goal.returns-in-Command-clause-alone
+returns-in-Command-clause-alone c = λ t are. rw c.in-Command.is (refl, are)

@@ -4,6 +4,7 @@ use Rattle.machine.specs.Machine.{Machine}
 use Rattle.machine.specs.Turns.{CallOf, calling, Calls}
 use Rattle.machine.specs.Held.{shown_by}
 use Rattle.machine.proofs.Holding.{read_at, seat_rests, made, held_after}
+use Rattle.machine.proofs.Asking.{call_asks}
 use Rattle.machine.proofs.machine.Machine.call.Goals as goal
 
 pub make_call-seats-requires-clause-rests : goal.make_call-seats-requires-clause-rests
@@ -33,3 +34,6 @@ returns-clause-calls c =
     (made i.shape i.harts.items i.tables i.seats c.unwrap-seats.result c.make_call-seats.result.0 c.index.result c.args.id c.index_mut.result.now c.make_call-seats.new.hart i.ram i.ram
     (λ a b. CallOf i.shape (calling a.hart c.args.eid c.args.fid c.args.a0 c.args.a1 c.args.a2) a b c.make_call-seats.result.1)
     c.one_table.ensures.list c.one_set.ensures.list c.self.invariant (sym c.take.ensures.value ∙ c.unwrap-seats.ensures) c.index.ensures.value lt read (c.make_call-seats.ensures.alone i.ram))
+
+pub returns-clause-asks : goal.returns-clause-asks
+returns-clause-asks c = call_asks c.args.id c.args.eid c.args.fid c.args.a0 c.args.a1 c.args.a2 _ _ _ c.requires (returns-clause-calls c)

@@ -5,6 +5,7 @@ use Rattle.turns.specs.Turns.{TurnOf}
 use Rattle.machine.specs.Turns.{Turns}
 use Rattle.machine.specs.Held.{shown_by}
 use Rattle.machine.proofs.Holding.{read_at, seat_rests, made, held_after}
+use Rattle.machine.proofs.Asking.{turn_asks}
 use Rattle.machine.proofs.machine.Machine.turn.Goals as goal
 
 pub turn-seats-requires-clause-rests : goal.turn-seats-requires-clause-rests
@@ -34,3 +35,6 @@ returns-clause-turns c =
     (made i.shape i.harts.items i.tables i.seats c.unwrap-seats.result c.turn-seats.result.0 c.index.result c.args.id c.index_mut.result.now c.turn-seats.new.hart i.ram c.turn-seats.new.ram
     (λ a b. TurnOf i.shape a b c.turn-seats.result.1)
     c.one_table.ensures.list c.one_set.ensures.list c.self.invariant (sym c.take.ensures.value ∙ c.unwrap-seats.ensures) c.index.ensures.value lt read c.turn-seats.ensures.alone)
+
+pub returns-clause-asks : goal.returns-clause-asks
+returns-clause-asks c = turn_asks c.one_number.ensures c.args.id _ _ _ c.requires (returns-clause-turns c)

@@ -2,6 +2,7 @@ use Rattle.std.proofs.Common.{◌≡◌, ℕ, ◌<◌, true, false, inl, inr, sy
 use Rattle.std.specs.Prelude.{length}
 use Rattle.machine.specs.Turns.{ends_row}
 use Rattle.machine.proofs.Rows.{first_row, more_row, all_made}
+use Rattle.machine.proofs.Asking.{row_asks}
 use Rattle.machine.proofs.machine.Machine.turns.Goals as goal
 
 pub loop-made-init : goal.loop-made-init
@@ -34,3 +35,9 @@ returns-else-not-ends_row-clause-turns c =
     let i = c.loop-made.invariant in
     let last : ends_row c.loop-made.turned ≡ true = cc in
     all_made c.args.id c.args.count c.loop-made.made c.args.self.now c.loop-made.self c.loop-made.turned i.range (inl last) i.made
+
+pub returns-after-loop-made-clause-asks : goal.returns-after-loop-made-clause-asks
+returns-after-loop-made-clause-asks c = row_asks c.one_number.ensures c.args.id c.args.count _ _ _ _ c.requires.hart (returns-after-loop-made-clause-turns c)
+
+pub returns-else-not-ends_row-clause-asks : goal.returns-else-not-ends_row-clause-asks
+returns-else-not-ends_row-clause-asks c = row_asks c.one_number.ensures c.args.id c.args.count _ _ _ _ c.requires.hart (returns-else-not-ends_row-clause-turns c)

@@ -1,0 +1,338 @@
+-- What comes of turns and calls of harts on a board, in the words of the bench.
+use Rattle.std.proofs.Common.{◌≡◌, ◌⊎◌, ◌<◌, ℕ, zero, suc, inl, inr, List, Bool, true, false, Option, None, Some, Result, Ok, Err, length, slice_set, refl, sym, ◌∙◌, ap, subst, arith}
+use Rattle.std.proofs.lemmas.Bool.{cases_lt}
+use Rattle.board_model.specs.Durable.{Change, Reset, Suspend}
+use Rattle.board_model.specs.Shapes.{Size, IsValidAddress, ram_bytes_of}
+use Rattle.board_model.specs.Shown.{number_of}
+use Rattle.board_model.specs.declared.durable.Reason.{Reason}
+use Rattle.board_model.specs.declared.refusal.Refusal.{Refusal}
+use Rattle.board_model.specs.declared.refusal.Refusal.TheVariants.{Device, Down, Memory, BadShape, JournalFull, Over}
+use Rattle.hart.specs.State.{State, answered}
+use Rattle.hsm.specs.Seen.{listed}
+use Rattle.store.specs.Lives.{Life as Told, Applied, Refused, Suspended, SuspendRefused}
+use Rattle.store.specs.Follows.{FitsBoard}
+use Rattle.store.specs.Opens.{CausedRefusal}
+use Rattle.store.specs.Stores.{life_of, doubt_of}
+use Rattle.store.specs.Views.{CountedRefusal}
+use Rattle.susp.specs.Asked.{Asked}
+use Rattle.susp.specs.Checks.{IsChecked}
+use Rattle.susp.specs.Sleeps.{SleepsBy as StoreSleeps, Answers}
+use Rattle.sbi_abi.specs.Answers.{error_of}
+use Rattle.sbi_abi.specs.Calls.{call_of}
+use Rattle.sbi_abi.specs.declared.call.Call.{Call}
+use Rattle.sbi_abi.specs.declared.call.Call.TheVariants as calls
+use Rattle.sbi_abi.specs.declared.ret.SbiError.{SbiError}
+use Rattle.sbi_abi.specs.declared.ret.SbiError.TheVariants.{Failed, NotSupported, Denied}
+use Rattle.sbi.specs.declared.resets.ResetType.{ResetType}
+use Rattle.sbi.specs.declared.dispatches.Held.{Held as Made}
+use Rattle.sbi.specs.declared.dispatches.Held.TheVariants as helds
+use Rattle.sbi.specs.Resets.{reset_of}
+use Rattle.sbi.specs.Helds.{Refuses as Refused_to, EndsReset, EndsSleep, MakesReset, SleepsIn, HeldIn}
+use Rattle.turns.specs.declared.words.Turned.{Turned}
+use Rattle.turns.specs.declared.words.Turned.TheVariants.{Next, Durable}
+use Rattle.turns.specs.Turns.{Moment}
+use Rattle.machine.specs.Machine.{Machine, hart_at}
+use Rattle.machine.specs.Turns.{with_moment, moment_of}
+use Rattle.machine.specs.Words.{ends, word_by}
+use Rattle.machine.specs.Durables.{MakesCall as MachineCall}
+use Rattle.machine.specs.declared.parts.Word.{Word}
+use Rattle.machine.specs.declared.parts.Word.TheVariants as words
+use Rattle.board.specs.Turns as boards
+use Rattle.bench_report.specs.Below.{Store, IsLife, IsAs, store_size, store_mishaps, store_facts}
+use Rattle.bench_report.specs.Bench.{Life, Bench}
+use Rattle.bench_report.specs.Steps.{starved, off, on_with, has_machine, acknowledged, Issued, refused, Refuses, Held, Resets, Suspends, IsAlone, Sleeps, SleepsBy, MakesCall, Comes, GuestTurn, IsLastTurn, GuestTurns}
+use Rattle.bench_report.specs.Agree.{StoreIs, DeviceIs, IsOver}
+use Rattle.bench_report.proofs.Adapted.{calm as untouched}
+use Rattle.bench_report.proofs.Commanded.{Running, follows_with, sized_for, told_ok, told_end, told_err, told_up, told_down, again, calm_device, unmoved}
+
+-- the store of a life that its own command ended
+abbrev pub IsEnded : Size → Bench → Store → Type 0
+IsEnded size b store = (b.power ≡ None) × IsOver size b.medium b.kept store × DeviceIs size b (store_mishaps store) (store_facts store)
+
+-- a board after what is said of a turn or a call
+abbrev pub Stands : Size → Word → Bench → Machine → Store → Type 0
+Stands size (words.Own did) b m store = Running size b m store
+Stands size words.Asleep b m store = IsEnded size b store
+Stands size (words.Reset kind) b m store = IsEnded size b store
+
+-- the machine whose hart h is answered with the error
+abbrev answering : ℕ → SbiError → Machine → Machine
+answering h e m = record m { harts = slice_set m.harts h (answered (hart_at m h) (error_of (Err e)) 0) }
+
+-- a command of hart h, which the store was asked for on a board that is on
+module _ (size : Size) (b : Bench) (life : Life) (h : ℕ) (n : Machine) (old new : Store) (on : b.power ≡ Some life) (was : StoreIs size b.medium b.kept life old) (device : DeviceIs size b (store_mishaps old) (store_facts old))
+    (t : State) (made : n ≡ record life.machine { harts = slice_set life.machine.harts h t }) where
+  -- it came to that
+  abbrev pub Came : (Word → Bench → Type 0) → Made → Type 0
+  Came step held = (x : Bench) × step (word_by held) x × Stands size (word_by held) x n new × (x.payloads ≡ b.payloads)
+
+  by_held : (step : Word → Bench → Type 0) (held told : Made) → held ≡ told → Came step told → Came step held
+  by_held step held told e came = let P : Made → Type 0 = Came step in subst P (sym e) came
+
+  -- the hart was answered so, and goes on
+  goes : (e : SbiError) (mid : Bench) → Running size mid life.machine new → t ≡ answered (hart_at life.machine h) (error_of (Err e)) 0
+      → (next : Life) × (mid.power ≡ Some next) × Running size (on_with (refused h e next) mid) n new
+  goes e mid (next, at, store, same, now) is =
+      let F : State → Machine = λ s. record life.machine { harts = slice_set life.machine.harts h s } in
+      (next, at, (refused h e next, refl, (follows_with size mid.medium mid.kept next (answering h e next.machine) (store_size new) refl store.0, store.1), made ∙ ap F is ∙ ap (answering h e) same, now))
+
+  -- it was refused by its arguments
+  refuses : (e : SbiError) (held : Made) → Refused_to e (hart_at life.machine h) t held → new ≡ old → Came (λ word x. Refuses e h life b word x) held
+  refuses e held (is, at) same =
+      let Q : Store → Type 0 = λ store. StoreIs size b.medium b.kept life store in
+      let S : Store → Type 0 = λ store. DeviceIs size b (store_mishaps store) (store_facts store) in
+      let did = goes e b (life, on, subst Q (sym same) was, refl, subst S (sym same) device) is in
+      let next : did.0 ≡ life = one did.0 did.1 in
+      let P : Life → Type 0 = λ l. Running size (on_with (refused h e l) b) n new in
+      by_held (λ word x. Refuses e h life b word x) held helds.Goes at (on_with (refused h e life) b, (refl, refl), subst P next did.2, refl)
+    where
+      one : (l : Life) → b.power ≡ Some l → l ≡ life
+      one l f = let g : Some l ≡ Some life = sym f ∙ on in let i : l ≡ life = cc in i
+
+  -- its command was refused by the store
+  fails : (n : ℕ) (said : Word) (mid : Bench) (held : Made) → Running size mid life.machine new → mid.payloads ≡ b.payloads → Refused_to Failed (hart_at life.machine h) t held
+      → Came (λ word x. Held (Err n) said h mid word x) held
+  fails n said mid held is payloads (at, e) =
+      let did = goes Failed mid is at in
+      by_held (λ word x. Held (Err n) said h mid word x) held helds.Goes e (on_with (refused h Failed did.0) mid, (did.0, did.1, (refl, refl)), did.2, payloads)
+
+  calm_life : life.doubt ≡ None → IsLife (life_of old) life.now life.receipts None
+  calm_life none = let Q : Option Change → Type 0 = λ d. IsAs old life.now life.receipts d in subst Q none was.1
+
+  -- ---- a reset
+  resets_ok : (kind : ResetType) (r : Reason) (k : ℕ) (held : Made) → Asked Applied old (Reset r) (Ok k) new → held ≡ helds.Reset kind → Came (λ word x. Resets (Ok (kind, r)) h life b word x) held
+  resets_ok kind r k held asked e =
+      let did = told_end size b life (Reset r) old new (life_of old) on was device asked.stays.board asked.stays.length asked.stays.no_fewer calm_life life.doubt refl k
+      (λ none. (asked.answered none).life) asked.down (λ none. (asked.answered none).cause) in
+      let mid = acknowledged (Reset r) life b in
+      by_held (λ word x. Resets (Ok (kind, r)) h life b word x) held (helds.Reset kind) e (off mid, (Ok k, mid, did.0, (refl, refl)), (refl, did.1, did.2), refl)
+
+  resets_err : (kind : ResetType) (r : Reason) (e : Refusal) (held : Made) → Asked Applied old (Reset r) (Err e) new → Refused_to Failed (hart_at life.machine h) t held → Came (λ word x. Resets (Ok (kind, r)) h life b word x) held
+  resets_err kind r e held asked refused =
+      let did = told_err size b life (Reset r) old new (life_of old) on was device asked.stays.board asked.stays.length asked.stays.no_fewer calm_life life.doubt refl e
+      (λ none. (asked.answered none).life) asked.down (λ none. (asked.answered none).cause) (λ none. (asked.answered none).counts) in
+      let last = fails (number_of e) (words.Reset kind) did.0 held did.2 did.3 refused in
+      (last.0, (Err (number_of e), did.0, did.1, last.1), last.2, last.3)
+
+  resets_by : (kind : ResetType) (r : Reason) (o : Result ℕ Refusal) (held : Made) → Asked Applied old (Reset r) o new → EndsReset kind o (hart_at life.machine h) t held → Came (λ word x. Resets (Ok (kind, r)) h life b word x) held
+  resets_by kind r (Ok k) held asked ended = resets_ok kind r k held asked ended.1
+  resets_by kind r (Err e) held asked ended = resets_err kind r e held asked ended
+
+  resets : (asked : Result (ResetType × Reason) SbiError) (held : Made) → MakesReset asked (hart_at life.machine h) t old new held → Came (λ word x. Resets asked h life b word x) held
+  resets (Err e) held x = refuses e held x.0 x.1
+  resets (Ok reset) held (o, asked, ended) = resets_by reset.0 reset.1 o held asked ended
+
+  -- ---- a suspension
+  module _ (id site opaque : ℕ) (memory : List ℕ) (address : IsValidAddress life.machine.size site) where
+    abbrev Fits : Type 0
+    Fits = FitsBoard life.machine.size memory id site
+
+    abbrev command : Change
+    command = Suspend id site opaque memory
+
+    fits_or_not : Fits ⊎ (Fits → ⊥)
+    fits_or_not = elim (cases_lt id life.machine.size.harts) [
+      | inl lt ↦ elim (cases_lt (length memory) (ram_bytes_of life.machine.size)) [
+        | inl less ↦ inr (λ fits. omega (arith, fits.0, less))
+        | inr more ↦ elim (cases_lt (ram_bytes_of life.machine.size) (length memory)) [
+          | inl less ↦ inr (λ fits. omega (arith, fits.0, less))
+          | inr few ↦ inl (omega (arith, more, few), lt, address)
+        ]
+      ]
+      | inr past ↦ inr (λ fits. omega (arith, fits.1, past))
+    ]
+
+    -- the command was refused so, and the life goes on
+    abbrev Suspending : ℕ → Type 0
+    Suspending k = (x : Bench) × Suspends Fits command life b (Err k) x × Running size x life.machine new × (x.payloads ≡ b.payloads)
+
+    module _ (r : Result ℕ Refusal) (asked : Asked (Suspended Fits) old command r new) where
+      abbrev seen : Told
+      seen = record (life_of old) { found = (life_of new).found }
+
+      none_of : life.doubt ≡ None → doubt_of old ≡ None
+      none_of none = was.1.2 ∙ none
+
+      seen_as : life.doubt ≡ None → IsLife seen life.now life.receipts None
+      seen_as none = let is = calm_life none in ((asked.answered (none_of none)).life.reseen.now ∙ is.0, is.1, is.2, is.3)
+
+      as_it_was : life.doubt ≡ None → (e : Refusal) → (e ≡ Down → ⊥) → (e ≡ Device → ⊥) → CausedRefusal (store_mishaps old) e (store_mishaps new) → life_of new ≡ seen → (x : Bench) → x.medium ≡ b.medium → x.kept ≡ b.kept → x.power ≡ b.power
+          → x.mishaps ≡ b.mishaps → x.failures ≡ b.failures → Running size x life.machine new
+      as_it_was none e up is cause same x medium kept power mishaps failures =
+          let P : Told → Type 0 = λ l. IsLife l life.now life.receipts None in
+          again size b life command old new seen on was device asked.stays.board asked.stays.length asked.stays.no_fewer x medium kept power none (subst P (sym same) (seen_as none))
+          (calm_device size b life command old new seen on was device asked.stays.board asked.stays.length asked.stays.no_fewer x mishaps failures (untouched e (store_mishaps old) (store_mishaps new) cause up is))
+
+      unfit : life.doubt ≡ None → (Fits → ⊥) → (e : Refusal) → (e ≡ Down → ⊥) → (e ≡ Device → ⊥) → CausedRefusal (store_mishaps old) e (store_mishaps new) → life_of new ≡ seen → Suspending 3
+      unfit none not e up is cause same = (b, inr (inr (not, refl, refl)), as_it_was none e up is cause same b refl refl refl refl refl, refl)
+
+      issued : Fits → (e : Refusal) → ((x : Bench) × Issued command life b (Err (number_of e)) x × Running size x life.machine new × (x.payloads ≡ b.payloads)) → (k : ℕ) × Suspending k
+      issued fits e did = (number_of e, (did.0, inl (fits, did.1), did.2, did.3))
+
+      goes_up : life.doubt ≡ None → Fits → (e : Refusal) → Refused seen command e (life_of new) → CausedRefusal (store_mishaps old) e (store_mishaps new) → CountedRefusal (store_facts old).failures e (store_facts new).failures → (k : ℕ) × Suspending k
+      goes_up none fits e up cause counts = issued fits e (told_up size b life command old new seen on was device asked.stays.board asked.stays.length asked.stays.no_fewer seen_as none e up cause counts)
+
+      fit_err : life.doubt ≡ None → Fits → (e : Refusal) → SuspendRefused Fits seen command e (life_of new) → CausedRefusal (store_mishaps old) e (store_mishaps new) → CountedRefusal (store_facts old).failures e (store_facts new).failures
+          → (k : ℕ) × Suspending k
+      fit_err none fits e (inl x) cause counts = goes_up none fits e x.1 cause counts
+      fit_err none fits e (inr (inl x)) cause counts = absurd (x.1 fits)
+      fit_err none fits e (inr (inr (inl x))) cause counts =
+          let up : e ≡ Down → ⊥ = λ f. (let g : Memory ≡ Down = sym x.0 ∙ f in let no : ⊥ = cc in no) in
+          let is : e ≡ Device → ⊥ = λ f. (let g : Memory ≡ Device = sym x.0 ∙ f in let no : ⊥ = cc in no) in
+          (11, (starved b, inr (inl (fits, refl, refl)), as_it_was none e up is cause x.3 (starved b) refl refl refl refl refl, refl))
+      fit_err none fits e (inr (inr (inr (inl x)))) cause counts = absurd (let g : true ≡ false = sym x.1 ∙ (seen_as none).3 in let no : ⊥ = cc in no)
+      fit_err none fits e (inr (inr (inr (inr x)))) cause counts = goes_up none fits e (inr (inr (inr (inl (x.0, x.1, x.2, x.3))))) cause counts
+
+      unfit_err : life.doubt ≡ None → (Fits → ⊥) → (e : Refusal) → SuspendRefused Fits seen command e (life_of new) → CausedRefusal (store_mishaps old) e (store_mishaps new) → (k : ℕ) × Suspending k
+      unfit_err none not e (inl x) cause = absurd (not x.0)
+      unfit_err none not e (inr (inl x)) cause =
+          let up : e ≡ Down → ⊥ = λ f. (let g : BadShape ≡ Down = sym x.0 ∙ f in let no : ⊥ = cc in no) in
+          let is : e ≡ Device → ⊥ = λ f. (let g : BadShape ≡ Device = sym x.0 ∙ f in let no : ⊥ = cc in no) in
+          (3, unfit none not e up is cause x.4)
+      unfit_err none not e (inr (inr (inl x))) cause = absurd (not x.1)
+      unfit_err none not e (inr (inr (inr (inl x)))) cause = absurd (let g : true ≡ false = sym x.1 ∙ (seen_as none).3 in let no : ⊥ = cc in no)
+      unfit_err none not e (inr (inr (inr (inr x)))) cause =
+          let up : e ≡ Down → ⊥ = λ f. (let g : JournalFull ≡ Down = sym x.0 ∙ f in let no : ⊥ = cc in no) in
+          let is : e ≡ Device → ⊥ = λ f. (let g : JournalFull ≡ Device = sym x.0 ∙ f in let no : ⊥ = cc in no) in
+          (3, unfit none not e up is cause x.3)
+
+    -- refused by the store
+    suspend_err : (e : Refusal) → Asked (Suspended Fits) old command (Err e) new → (k : ℕ) × Suspending k
+    suspend_err e asked = by life.doubt refl fits_or_not
+      where
+        by : (doubt : Option Change) → life.doubt ≡ doubt → Fits ⊎ (Fits → ⊥) → (k : ℕ) × Suspending k
+        by None none (inl fits) = let did = asked.answered (was.1.2 ∙ none) in fit_err (Err e) asked none fits e did.life.told did.cause did.counts
+        by None none (inr not) = let did = asked.answered (was.1.2 ∙ none) in unfit_err (Err e) asked none not e did.life.told did.cause
+        by (Some d) at (inl fits) =
+            issued (Err e) asked fits e (told_down size b life command old new (life_of old) on was device asked.stays.board asked.stays.length asked.stays.no_fewer calm_life d at e (asked.down d (was.1.2 ∙ at)))
+        by (Some d) at (inr not) =
+            (3, (b, inr (inr (not, refl, refl)), unmoved size b life command old new (life_of old) on was device asked.stays.board asked.stays.length asked.stays.no_fewer (asked.down d (was.1.2 ∙ at)).1, refl))
+
+    -- acknowledged
+    suspend_ok : (k : ℕ) → Asked (Suspended Fits) old command (Ok k) new → (x : Bench) × Suspends Fits command life b (Ok k) x × (x ≡ acknowledged command life b) × IsEnded size (off x) new
+    suspend_ok k asked =
+        let did = told_end size b life command old new (seen (Ok k) asked) on was device asked.stays.board asked.stays.length asked.stays.no_fewer (seen_as (Ok k) asked) life.doubt refl k
+        (λ none. (asked.answered none).life.told.1) asked.down (λ none. (asked.answered none).cause) in
+        (acknowledged command life b, inl (fits life.doubt refl, did.0), refl, (refl, did.1, did.2))
+      where
+        fits : (doubt : Option Change) → life.doubt ≡ doubt → Fits
+        fits None none = (asked.answered (was.1.2 ∙ none)).life.told.0
+        fits (Some d) at = absurd (let e = (asked.down d (was.1.2 ∙ at)).0 in let no : ⊥ = cc in no)
+
+  abbrev the_hart : State
+  the_hart = hart_at life.machine h
+
+  -- once every other hart is STOPPED
+  sleeps_by : (site opaque : ℕ) (r : Result ℕ Refusal) (error : Option SbiError) (held : Made) → IsValidAddress life.machine.size site → IsAlone the_hart.id life.machine
+      → Asked (Suspended (FitsBoard life.machine.size life.machine.memory the_hart.id site)) old (Suspend the_hart.id site opaque life.machine.memory) r new
+      → Answers r error → EndsSleep error the_hart t held → Came (λ word x. Sleeps site opaque h life b word x) held
+  sleeps_by site opaque (Ok k) error held address alone asked e ended =
+      let P : Option SbiError → Type 0 = λ o. EndsSleep o the_hart t held in
+      let did = suspend_ok the_hart.id site opaque life.machine.memory address k asked in
+      by_held (λ word x. Sleeps site opaque h life b word x) held helds.Asleep (subst P e ended).1 (off did.0, inr (alone, Ok k, did.0, did.1, (refl, refl)), did.3, ap (λ (y : Bench). y.payloads) did.2)
+  sleeps_by site opaque (Err f) error held address alone asked e ended =
+      let P : Option SbiError → Type 0 = λ o. EndsSleep o the_hart t held in
+      let did = suspend_err the_hart.id site opaque life.machine.memory address f asked in
+      let last = fails did.0 words.Asleep did.1.0 held did.1.2 did.1.3 (subst P e ended) in
+      (last.0, inr (alone, Err did.0, did.1.0, did.1.1, last.1), last.2, last.3)
+
+  sleeps : (kind address opaque : ℕ) (asked : Result ℕ SbiError) (error : Option SbiError) (held : Made) → IsChecked life.machine.size kind address asked
+      → StoreSleeps life.machine.size.harts the_hart.id asked opaque life.machine.memory (listed life.machine.table.states) old error new → life.machine.size ≡ store_size old → EndsSleep error the_hart t held
+      → Came (λ word x. SleepsBy asked opaque h life b word x) held
+  sleeps kind address opaque (Err e) error held checked (is, same) sized ended =
+      let P : Option SbiError → Type 0 = λ o. EndsSleep o the_hart t held in refuses e held (subst P is ended) same
+  sleeps kind address opaque (Ok site) error held checked (inl (busy, is, same)) sized ended =
+      let P : Option SbiError → Type 0 = λ o. EndsSleep o the_hart t held in
+      let did = refuses Denied held (subst P is ended) same in
+      (did.0, inl (busy, did.1), did.2, did.3)
+  sleeps kind address opaque (Ok site) error held checked (inr (alone, (r, asked, answers))) sized ended =
+      let P : Size → Type 0 = λ z. Asked (Suspended (FitsBoard z life.machine.memory the_hart.id site)) old (Suspend the_hart.id site opaque life.machine.memory) r new in
+      let Q : ℕ → Type 0 = λ a. IsValidAddress life.machine.size a in
+      sleeps_by site opaque r error held (subst Q (sym checked.1) (valid checked)) alone (subst P (sym sized) asked) answers ended
+    where
+      valid : IsChecked life.machine.size kind address (Ok site) → IsValidAddress life.machine.size address
+      valid x = x.2
+
+  -- ---- the call
+  suspends : (kind address opaque : ℕ) (held : Made) → SleepsIn life.machine.size.harts life.machine.memory kind address opaque the_hart t life.machine.table old new held → life.machine.size ≡ store_size old
+      → Came (λ word x. (asked : Result ℕ SbiError) × IsChecked life.machine.size kind address asked × SleepsBy asked opaque h life b word x) held
+  suspends kind address opaque held (error, alone, ended) sized =
+      let P : Size → Type 0 = λ z. IsChecked z kind address alone.asked in
+      let checked = subst P (sym sized) alone.checked in
+      let did = sleeps kind address opaque alone.asked error held checked alone.slept sized ended in
+      (did.0, (alone.asked, checked, did.1), did.2, did.3)
+
+  makes : (call : Call) (held : Made) → HeldIn life.machine.size.harts life.machine.memory call the_hart t life.machine.table old new held → life.machine.size ≡ store_size old → Came (λ word x. MakesCall call h life b word x) held
+  makes (calls.SystemReset kind reason) held x sized = resets (reset_of kind reason) held x
+  makes (calls.SystemSuspend kind address opaque) held x sized = suspends kind address opaque held x sized
+  makes call held x sized = refuses NotSupported held x.0 x.1
+
+-- ---- what comes of what a hart did
+abbrev Comes_so : Size → (Word → Bench → Type 0) → Bench → Word → Machine → Store → Type 0
+Comes_so size step b word n new = (x : Bench) × step word x × Stands size word x n new × (x.payloads ≡ b.payloads)
+
+module _ (size : Size) (b : Bench) (life : Life) (h : ℕ) (n : Machine) (old new : Store) (on : b.power ≡ Some life) (was : StoreIs size b.medium b.kept life old) (device : DeviceIs size b (store_mishaps old) (store_facts old)) where
+  called : (held : Made) → MachineCall h life.machine n old new held → Comes_so size (λ word x. Comes Durable h life b word x) b (word_by held) n new
+  called held (after, is, e) =
+      let F : Machine = record life.machine { harts = slice_set life.machine.harts h after.hart } in
+      let made : n ≡ F = e ∙ ap (λ x. record { size = life.machine.size; memory = after.memory; harts = slice_set life.machine.harts h after.hart; table = x }) is.1
+      ∙ ap (λ y. record { size = life.machine.size; memory = y; harts = slice_set life.machine.harts h after.hart; table = life.machine.table }) is.2 in
+      makes size b life h n old new on was device after.hart made (call_of (hart_at life.machine h)) held is.0 (sized_for size b.medium b.kept life (store_size old) was.0)
+
+  pub comes : (did : Turned) (word : Word) → boards.Comes did h life.machine n old new word → Comes_so size (λ word x. Comes did h life b word x) b word n new
+  comes Durable word (held, made, e) =
+      let P : Word → Type 0 = λ w. Comes_so size (λ word x. Comes Durable h life b word x) b w n new in
+      subst P (sym e) (called held made)
+  comes did word (same, still, e) =
+      let P : Word → Type 0 = λ w. Comes_so size (λ word x. Comes did h life b word x) b w n new in
+      let Q : Store → Type 0 = λ store. StoreIs size b.medium b.kept life store in
+      let S : Store → Type 0 = λ store. DeviceIs size b (store_mishaps store) (store_facts store) in
+      subst P (sym e) (b, (refl, refl), (life, on, subst Q (sym still) was, same, subst S (sym still) device), refl)
+
+-- ---- turns
+-- the board with another machine of its size
+pub has_other : (size : Size) (b : Bench) (life : Life) (m : Machine) (store : Store) → m.size ≡ life.machine.size → StoreIs size b.medium b.kept life store → StoreIs size b.medium b.kept (has_machine m life) store
+has_other size b life m store same is = (follows_with size b.medium b.kept life m (store_size store) same is.0, is.1)
+
+turn : (size : Size) (h : ℕ) (b : Bench) (life : Life) (n : Machine) (old new : Store) (word : Word) → b.power ≡ Some life → StoreIs size b.medium b.kept life old → DeviceIs size b (store_mishaps old) (store_facts old)
+    → boards.Turns h life.machine n old new word → Comes_so size (λ word x. GuestTurn h life b word x) b word n new
+turn size h b life n old new word on was device (m, did, turned, came) =
+    let same : m.size ≡ life.machine.size = ap (λ (k : Machine). k.size) turned.2 in
+    let rest = comes size (on_with (has_machine m life) b) (has_machine m life) h n old new refl (has_other size b life m old same was) device did word came in
+    (rest.0, (m, did, turned, rest.1), rest.2, rest.3)
+
+struck_as : (size : Size) (word : Word) (b : Bench) (m : Machine) (store : Store) → Stands size word b m store → b.mishaps.struck ≡ (store_mishaps store).struck
+struck_as size (words.Own did) b m store (life, on, is, same, device) = ap (λ x. x.struck) device.0
+struck_as size words.Asleep b m store (off, is, device) = ap (λ x. x.struck) device.0
+struck_as size (words.Reset kind) b m store (off, is, device) = ap (λ x. x.struck) device.0
+
+runs : (size : Size) (word : Word) (b : Bench) (m : Machine) (store : Store) → ends word ≡ false → Stands size word b m store → Running size b m store
+runs size (words.Own did) b m store e is = is
+runs size words.Asleep b m store e is = absurd (let no : ⊥ = cc in no)
+runs size (words.Reset kind) b m store e is = absurd (let no : ⊥ = cc in no)
+
+pub turns : (size : Size) (h count : ℕ) (b : Bench) (m n : Machine) (old new : Store) (made : ℕ) (word : Word) → Running size b m old → boards.TurnsMany h count m n old new made word
+    → Comes_so size (λ word x. GuestTurns h count b made word x) b word n new
+turns size h zero b m n old new made word is x = absurd x
+turns size h (suc count) b m n old new made word (life, on, was, same, device) (mid, store, first, turned, more) =
+    let P : Machine → Type 0 = λ k. boards.Turns h k mid old store first in
+    let one = turn size h b life mid old store first on was device (subst P same turned) in
+    go one more (λ x rest runs_on after. turns size h count x mid n store new rest word runs_on after)
+  where
+    go : Comes_so size (λ word x. GuestTurn h life b word x) b first mid store
+        → ((boards.IsLast first count store × (n ≡ mid) × (new ≡ store) × (made ≡ 1) × (word ≡ first)) ⊎ ((ends first ≡ false) × ((store_mishaps store).struck ≡ false) × (rest : ℕ) × (made ≡ suc rest) × boards.TurnsMany h count mid n store new rest word))
+        → ((x : Bench) (rest : ℕ) → Running size x mid store → boards.TurnsMany h count mid n store new rest word → Comes_so size (λ word y. GuestTurns h count x rest word y) x word n new)
+        → Comes_so size (λ word x. GuestTurns h (suc count) b made word x) b word n new
+    go (x, did, stands, payloads) (inl (last, e, f, k, w)) others =
+        let M : Machine → Type 0 = λ y. Stands size first x y new in
+        let S : Store → Type 0 = λ y. Stands size first x mid y in
+        let W : Word → Type 0 = λ y. Stands size y x n new in
+        (x, (life, on, first, x, did, inl (is_last last, k, w, refl)), subst W (sym w) (subst M (sym e) (subst S (sym f) stands)), payloads)
+      where
+        is_last : boards.IsLast first count store → IsLastTurn first count x
+        is_last (inl t) = inl t
+        is_last (inr (inl z)) = inr (inl z)
+        is_last (inr (inr s)) = inr (inr (struck_as size first x mid store stands ∙ s))
+    go (x, did, stands, payloads) (inr (still, calm, rest, k, more)) others =
+        let last = others x rest (runs size first x mid store still stands) more in
+        (last.0, (life, on, first, x, did, inr (still, struck_as size first x mid store stands ∙ calm, rest, k, last.1)), last.2, last.3 ∙ payloads)

@@ -1,0 +1,166 @@
+-- What turns and calls of harts make of the state that the disk stands for, read backwards.
+use Rattle.std.proofs.Common.{◌≡◌, ◌≢◌, ◌⊎◌, ℕ, zero, suc, inl, inr, [], ◌∷◌, Bool, true, false, Option, None, Some, Result, Ok, Err, refl, sym, ◌∙◌, ap, subst, arith}
+use Rattle.std.specs.Bool.{⊤}
+use Rattle.board_model.specs.Durable.{State, Change, Reset, Suspend}
+use Rattle.board_model.specs.Kept.{Kept, MayFind}
+use Rattle.board_model.specs.declared.durable.Reason.{Reason}
+use Rattle.machine.specs.Machine.{hart_at}
+use Rattle.machine.specs.Words.{ends}
+use Rattle.machine.specs.declared.parts.Word.{Word}
+use Rattle.machine.specs.declared.parts.Word.TheVariants as words
+use Rattle.turns.specs.declared.words.Turned.{Turned}
+use Rattle.turns.specs.declared.words.Turned.TheVariants.{Next, Durable}
+use Rattle.sbi_abi.specs.Calls.{call_of}
+use Rattle.sbi_abi.specs.declared.call.Call.{Call}
+use Rattle.sbi_abi.specs.declared.call.Call.TheVariants as calls
+use Rattle.sbi_abi.specs.declared.ret.SbiError.{SbiError}
+use Rattle.sbi_abi.specs.declared.ret.SbiError.TheVariants.{Failed, NotSupported, Denied}
+use Rattle.sbi.specs.declared.resets.ResetType.{ResetType}
+use Rattle.sbi.specs.Resets.{reset_of}
+use Rattle.bench_report.specs.Taken.{Takes, TakesSome}
+use Rattle.bench_report.specs.Bench.{Life, Bench}
+use Rattle.bench_report.specs.Prefix.{IsReset, IsSuspension, IsOfHarts, Ends, Hides, TellsWord}
+use Rattle.bench_report.specs.Steps.{starved, off, on_with, has_machine, refused, Refuses, Held, Resets, Suspends, Sleeps, SleepsBy, MakesCall, Comes, GuestTurn, GuestTurns}
+use Rattle.bench_report.proofs.Issues.{takes_more, is_up, GoesOn, IsSound, Back, joined, said, Went, issued_back}
+
+-- the state before and after, by the word
+abbrev pub GoesBy : Word → Bench → Bench → Type 0
+GoesBy word b new = Back b new (λ s t. TellsWord word s (is_up b.power) t (is_up new.power))
+
+by_eqs : (word told : Word) (b new n : Bench) → word ≡ told → new ≡ n → GoesBy told b n → GoesBy word b new
+by_eqs word told b new n e f x =
+    let P : Word → Type 0 = λ w. GoesBy w b new in
+    let Q : Bench → Type 0 = λ m. GoesBy told b m in
+    subst P (sym e) (subst Q (sym f) x)
+
+-- the life goes on with another machine
+same_life : (life : Life) (b : Bench) → IsSound b → b.power ≡ Some life → (other : Life) → other.now ≡ life.now → other.doubt ≡ life.doubt → IsSound (on_with other b)
+same_life life b sound on other now doubt =
+    let F : Option Life → Type 0 = λ p. GoesOn b.kept p in
+    let was = subst F on sound.1 in
+    (sound.0, (was.0 ∙ sym doubt, now ∙ was.1))
+
+stays : (did : Word) (life : Life) (b : Bench) (other : Life) → IsSound b → b.power ≡ Some life → other.now ≡ life.now → other.doubt ≡ life.doubt
+    → Back b (on_with other b) (λ s t. Hides s (is_up b.power) t (is_up (on_with other b).power))
+stays did life b other sound on now doubt =
+    (same_life life b sound on other now doubt, λ t found. (t, found, inl (refl, ap takes_more doubt ∙ sym (ap is_up on))))
+
+-- ---- a command
+-- the command by which a word ends a life
+abbrev OfWord : Word → Change → Type 0
+OfWord (words.Own did) c = ⊥
+OfWord words.Asleep c = IsSuspension c
+OfWord (words.Reset kind) c = IsReset c
+
+of_harts : (word : Word) (c : Change) → OfWord word c → IsOfHarts c
+of_harts (words.Own did) c is = absurd is
+of_harts words.Asleep c is = inr is
+of_harts (words.Reset kind) c is = inl is
+
+tells_end : (word : Word) (c : Change) → OfWord word c → (up : Bool) (s t : State) → up ≡ true → Takes (c ∷ []) s t → TellsWord word s up t false
+tells_end (words.Own did) c is up s t on takes = absurd is
+tells_end words.Asleep c is up s t on takes = (on, refl, c, is, takes)
+tells_end (words.Reset kind) c is up s t on takes = (on, refl, c, is, takes)
+
+refuses_back : (e : SbiError) (h : ℕ) (life : Life) (b : Bench) (word : Word) (new : Bench) → IsSound b → b.power ≡ Some life → Refuses e h life b word new → GoesBy word b new
+refuses_back e h life b word new sound on x = by_eqs word (words.Own Next) b new (on_with (refused h e life) b) x.0 x.1 (stays (words.Own Next) life b (refused h e life) sound on refl refl)
+
+held_back : (o : Result ℕ ℕ) (told : Word) (c : Change) → OfWord told c → (h : ℕ) (b mid : Bench) (word : Word) (new : Bench) → Back b mid (Went o c (is_up b.power) (is_up mid.power)) → Held o told h mid word new → GoesBy word b new
+held_back (Ok n) told c is h b mid word new back x =
+    by_eqs word told b new (off mid) x.0 x.1
+    ((back.0.0, tt), λ t found. (let s = back.1 t found in (s.0, s.1, tells_end told c is (is_up b.power) s.0 t s.2.0 (s.2.1, s.2.2))))
+held_back (Err n) told c is h b mid word new back (life, on, (e, f)) =
+    by_eqs word (words.Own Next) b new (on_with (refused h Failed life) mid) e f
+    (same_life life mid back.0 on (refused h Failed life) refl refl, λ t found. (let s = back.1 t found in (s.0, s.1, went s.0 t s.2)))
+  where
+    went : (s t : State) → Went (Err n) c (is_up b.power) (is_up mid.power) s t → Hides s (is_up b.power) t (takes_more life.doubt)
+    went s t (inl w) = inl (w.1, sym (ap is_up on) ∙ w.2)
+    went s t (inr (inl w)) = inl (w.1, sym (ap is_up on) ∙ w.3 ∙ sym w.2)
+    went s t (inr (inr w)) = inr (w.1, sym (ap is_up on) ∙ w.2, c, of_harts told c is, w.3)
+
+resets_back : (asked : Result (ResetType × Reason) SbiError) (h : ℕ) (life : Life) (b : Bench) (word : Word) (new : Bench) → IsSound b → b.power ≡ Some life → Resets asked h life b word new → GoesBy word b new
+resets_back (Err e) h life b word new sound on x = refuses_back e h life b word new sound on x
+resets_back (Ok reset) h life b word new sound on (o, mid, i, x) =
+    held_back o (words.Reset reset.0) (Reset reset.1) (reset.1, refl) h b mid word new (issued_back (Reset reset.1) life b o mid sound on i) x
+
+-- where there was no memory, or the command did not fit, nothing went to the disk
+none_went : (n : ℕ) (c : Change) (b mid : Bench) → IsSound b → n ≢ 6 → mid.medium ≡ b.medium → mid.kept ≡ b.kept → mid.power ≡ b.power → Back b mid (Went (Err n) c (is_up b.power) (is_up mid.power))
+none_went n c b mid sound differs medium kept power =
+    let F : Kept → Type 0 = λ k. GoesOn k mid.power in
+    let G : Option Life → Type 0 = λ p. GoesOn b.kept p in
+    let K : Kept → State → Type 0 = λ k t. MayFind k t in
+    ((medium ∙ sound.0, subst F (sym kept) (subst G (sym power) sound.1)), λ t found. (t, (let R : Kept → Type 0 = λ k. MayFind k t in subst R kept found), inl (differs, refl, ap is_up power)))
+
+suspends_back : (Fits : Type 0) (c : Change) (life : Life) (b : Bench) (o : Result ℕ ℕ) (mid : Bench) → IsSound b → b.power ≡ Some life → Suspends Fits c life b o mid → Back b mid (Went o c (is_up b.power) (is_up mid.power))
+suspends_back Fits c life b o mid sound on (inl x) = issued_back c life b o mid sound on x.1
+suspends_back Fits c life b o mid sound on (inr (inl x)) = at 11 (starved b) x.1 x.2 (none_went 11 c b (starved b) sound (λ f. omega (arith, f)) refl refl refl)
+  where
+    at : (n : ℕ) (y : Bench) → o ≡ Err n → mid ≡ y → Back b y (Went (Err n) c (is_up b.power) (is_up y.power)) → Back b mid (Went o c (is_up b.power) (is_up mid.power))
+    at n y e f back =
+        let P : Result ℕ ℕ → Type 0 = λ r. Back b mid (Went r c (is_up b.power) (is_up mid.power)) in
+        let Q : Bench → Type 0 = λ m. Back b m (Went (Err n) c (is_up b.power) (is_up m.power)) in
+        subst P (sym e) (subst Q (sym f) back)
+suspends_back Fits c life b o mid sound on (inr (inr x)) = at 3 b x.1 x.2 (none_went 3 c b b sound (λ f. omega (arith, f)) refl refl refl)
+  where
+    at : (n : ℕ) (y : Bench) → o ≡ Err n → mid ≡ y → Back b y (Went (Err n) c (is_up b.power) (is_up y.power)) → Back b mid (Went o c (is_up b.power) (is_up mid.power))
+    at n y e f back =
+        let P : Result ℕ ℕ → Type 0 = λ r. Back b mid (Went r c (is_up b.power) (is_up mid.power)) in
+        let Q : Bench → Type 0 = λ m. Back b m (Went (Err n) c (is_up b.power) (is_up m.power)) in
+        subst P (sym e) (subst Q (sym f) back)
+
+sleeps_back : (site opaque h : ℕ) (life : Life) (b : Bench) (word : Word) (new : Bench) → IsSound b → b.power ≡ Some life → Sleeps site opaque h life b word new → GoesBy word b new
+sleeps_back site opaque h life b word new sound on (inl x) = refuses_back Denied h life b word new sound on x.1
+sleeps_back site opaque h life b word new sound on (inr (alone, o, mid, i, x)) =
+    let hart = (hart_at life.machine h).id in
+    held_back o words.Asleep (Suspend hart site opaque life.machine.memory) (hart, site, opaque, life.machine.memory, refl) h b mid word new
+    (suspends_back _ (Suspend hart site opaque life.machine.memory) life b o mid sound on i) x
+
+by_back : (asked : Result ℕ SbiError) (opaque h : ℕ) (life : Life) (b : Bench) (word : Word) (new : Bench) → IsSound b → b.power ≡ Some life → SleepsBy asked opaque h life b word new → GoesBy word b new
+by_back (Err e) opaque h life b word new sound on x = refuses_back e h life b word new sound on x
+by_back (Ok site) opaque h life b word new sound on x = sleeps_back site opaque h life b word new sound on x
+
+makes_back : (call : Call) (h : ℕ) (life : Life) (b : Bench) (word : Word) (new : Bench) → IsSound b → b.power ≡ Some life → MakesCall call h life b word new → GoesBy word b new
+makes_back (calls.SystemReset kind reason) h life b word new sound on x = resets_back (reset_of kind reason) h life b word new sound on x
+makes_back (calls.SystemSuspend kind address opaque) h life b word new sound on (asked, checked, x) = by_back asked opaque h life b word new sound on x
+makes_back call h life b word new sound on x = refuses_back NotSupported h life b word new sound on x
+
+-- what comes of what the machine did, from the bench before it
+pub comes_back : (did : Turned) (h : ℕ) (life other : Life) (b : Bench) (word : Word) (new : Bench) → IsSound b → b.power ≡ Some life → other.now ≡ life.now → other.doubt ≡ life.doubt → Comes did h other (on_with other b) word new → GoesBy word b new
+comes_back Durable h life other b word new sound on now doubt x =
+    let start : Bench = on_with other b in
+    let back : GoesBy word start new = makes_back (call_of (hart_at other.machine h)) h other start word new (same_life life b sound on other now doubt) refl x in
+    let up : is_up start.power ≡ is_up b.power = ap takes_more doubt ∙ sym (ap is_up on) in
+    let P : Bool → Type 0 = λ u. (t : State) → MayFind new.kept t → (s : State) × MayFind b.kept s × TellsWord word s u t (is_up new.power) in
+    (back.0, subst P up back.1)
+comes_back did h life other b word new sound on now doubt x = by_eqs word (words.Own did) b new (on_with other b) x.0 x.1 (stays word life b other sound on now doubt)
+
+turn_back : (h : ℕ) (life : Life) (b : Bench) (word : Word) (new : Bench) → IsSound b → b.power ≡ Some life → GuestTurn h life b word new → GoesBy word b new
+turn_back h life b word new sound on (m, did, turn, x) = comes_back did h life (has_machine m life) b word new sound on refl refl x
+
+-- a turn after which others follow, and those
+followed : (word : Word) (up mid now : Bool) (s u t : State) → Hides s up u mid → TellsWord word u mid t now → TellsWord word s up t now
+followed word up mid now s u t (inl x) y =
+    let P : State → Type 0 = λ v. TellsWord word v up t now in
+    let Q : Bool → Type 0 = λ m. TellsWord word u m t now in
+    subst P x.0 (subst Q x.1 y)
+followed (words.Own did) up mid now s u t (inr x) (inl y) =
+    let P : State → Type 0 = TakesSome (x.2 ∷ []) s in
+    inr (x.0, y.1 ∙ x.1, x.2, x.3, subst P (sym y.0) x.4)
+followed (words.Own did) up mid now s u t (inr x) (inr y) = absurd (let e : true ≡ false = sym y.0 ∙ x.1 in let no : ⊥ = cc in no)
+followed words.Asleep up mid now s u t (inr x) y = absurd (let e : true ≡ false = sym y.0 ∙ x.1 in let no : ⊥ = cc in no)
+followed (words.Reset kind) up mid now s u t (inr x) y = absurd (let e : true ≡ false = sym y.0 ∙ x.1 in let no : ⊥ = cc in no)
+
+-- a word that does not end a line tells no end of a life
+hides : (word : Word) (up now : Bool) (s t : State) → ends word ≡ false → TellsWord word s up t now → Hides s up t now
+hides (words.Own did) up now s t e x = x
+hides words.Asleep up now s t e x = absurd (let no : ⊥ = cc in no)
+hides (words.Reset kind) up now s t e x = absurd (let no : ⊥ = cc in no)
+
+pub turns_back : (h n : ℕ) (b : Bench) (made : ℕ) (word : Word) (new : Bench) → IsSound b → GuestTurns h n b made word new → GoesBy word b new
+turns_back h zero b made word new sound x = absurd x
+turns_back h (suc n) b made word new sound (life, on, told, mid, turn, inl x) = by_eqs word told b new mid x.2 x.3 (turn_back h life b told mid sound on turn)
+turns_back h (suc n) b made word new sound (life, on, told, mid, turn, inr x) =
+    let first : GoesBy told b mid = turn_back h life b told mid sound on turn in
+    let rest : GoesBy word mid new = turns_back h n mid x.2 word new first.0 x.4 in
+    joined b mid new (λ s t. TellsWord told s (is_up b.power) t (is_up mid.power)) (λ s t. TellsWord word s (is_up mid.power) t (is_up new.power)) (λ s t. TellsWord word s (is_up b.power) t (is_up new.power)) first rest
+    (λ s u t p q. followed word (is_up b.power) (is_up mid.power) (is_up new.power) s u t (hides told (is_up b.power) (is_up mid.power) s u x.0 p) q)

@@ -1,0 +1,25 @@
+use Rattle.std.proofs.Common.{refl, subst, ap, arith, length}
+use Rattle.machine.specs.declared.parts.Word.{Word}
+use Rattle.bench_report.specs.Below.{store_in, facts, mishaps, store_facts, store_mishaps}
+use Rattle.bench_report.specs.Agree.{StandsBy}
+use Rattle.bench_report.proofs.Devices.{stays}
+use Rattle.bench_report.proofs.Ended.{over_ended}
+use Rattle.bench_report.proofs.steps.after.Goals as goal
+
+pub returns-in-Asleep-clause-told : goal.returns-in-Asleep-clause-told
+returns-in-Asleep-clause-told c = λ size b h.
+    let P : Word → Type 0 = λ w. StandsBy size w b c.args.board in
+    let was = subst P c.in-Asleep.is h in
+    let store = store_in c.args.board in
+    let left = c.into_disk.result in
+    (was.0, over_ended size b.medium b.kept store (facts left) was.1 c.into_disk.ensures.up,
+    stays size b (store_mishaps store) (mishaps left) (store_facts store) (facts left) was.2 c.into_disk.ensures.mishaps (omega (arith, c.into_disk.ensures.failures)) (ap length c.into_disk.ensures.content))
+
+pub returns-in-Reset-clause-told : goal.returns-in-Reset-clause-told
+returns-in-Reset-clause-told c = λ size b h.
+    let P : Word → Type 0 = λ w. StandsBy size w b c.args.board in
+    let was = subst P c.in-Reset.is h in
+    let store = store_in c.args.board in
+    let left = c.into_disk-in-Reset.result in
+    (was.0, over_ended size b.medium b.kept store (facts left) was.1 c.into_disk-in-Reset.ensures.up,
+    stays size b (store_mishaps store) (mishaps left) (store_facts store) (facts left) was.2 c.into_disk-in-Reset.ensures.mishaps (omega (arith, c.into_disk-in-Reset.ensures.failures)) (ap length c.into_disk-in-Reset.ensures.content))

@@ -1,0 +1,55 @@
+-- Turns and calls of a board's harts: what the machine makes of them, and the command that one of them may make of the store.
+-- Source: docs/BOARD.md; SBI specification 2.0, chapters 10 and 13.
+use Rattle.std.specs.Prelude.{◌≡◌, ◌⊎◌, ℕ, zero, suc, true, false, Option, Some, None}
+use Rattle.disk.specs.declared.device.Disk.{Ghosts}
+use Rattle.disk.specs.declared.device.Lane.{Ghosts as Lanes}
+use Rattle.store.specs.declared.stores.Store.{Store}
+use Rattle.store.specs.Stores.{mishaps_of}
+use Rattle.sbi.specs.declared.dispatches.Held.{Held}
+use Rattle.turns.specs.declared.words.Turned.{Turned}
+use Rattle.turns.specs.declared.words.Turned.TheVariants.{Durable}
+use Rattle.machine.specs.Machine.{Machine}
+use Rattle.machine.specs.Turns as machines
+use Rattle.machine.specs.Words.{ends, word_by}
+use Rattle.machine.specs.Durables.{MakesCall}
+use Rattle.machine.specs.declared.parts.Called.{Called}
+use Rattle.machine.specs.declared.parts.Called.TheVariants.{NotStarted, Made}
+use Rattle.machine.specs.declared.parts.Word.{Word}
+use Rattle.machine.specs.declared.parts.Word.TheVariants.{Own}
+
+module _ {D L : Type 0} {g : Ghosts D L} {l : Lanes L} where
+  -- What comes of what hart h did, on a board whose machine then is m: it stands at a durable call, which is made with the
+  -- store; or that is its word, and the store is not asked.
+  abbrev pub Comes : Turned → ℕ → Machine → Machine → Store D L g l → Store D L g l → Word → Type 0
+  Comes Durable h m n old new word = (held : Held) × MakesCall h m n old new held × (word ≡ word_by held)
+  Comes did h m n old new word = (n ≡ m) × (new ≡ old) × (word ≡ Own did)
+
+  -- a turn of hart h
+  abbrev pub Turns : ℕ → Machine → Machine → Store D L g l → Store D L g l → Word → Type 0
+  Turns h m n old new word = (mid : Machine) × (did : Turned) × machines.Turns h m mid did × Comes did h mid n old new word
+
+  -- the turn is the last of a line, with so many that might follow: it ends the line, none is left, or a cut struck in it
+  abbrev pub IsLast : Word → ℕ → Store D L g l → Type 0
+  IsLast word left store = (ends word ≡ true) ⊎ ((left ≡ 0) ⊎ ((mishaps_of store).struck ≡ true))
+
+  -- at most n turns of hart h in a line, of which so many were made, and the word of the last
+  abbrev pub TurnsMany : ℕ → ℕ → Machine → Machine → Store D L g l → Store D L g l → ℕ → Word → Type 0
+  TurnsMany h zero m n old new made word = ⊥
+  TurnsMany h (suc count) m n old new made word = (mid : Machine) × (store : Store D L g l) × (first : Word) × Turns h m mid old store first
+      × ((IsLast first count store × (n ≡ mid) × (new ≡ store) × (made ≡ 1) × (word ≡ first))
+      ⊎ ((ends first ≡ false) × ((mishaps_of store).struck ≡ false) × (rest : ℕ) × (made ≡ suc rest) × TurnsMany h count mid n store new rest word))
+
+  -- what comes of a call that the machine made in the place of hart h, or did not
+  abbrev pub ComesOf : Called → ℕ → Machine → Machine → Store D L g l → Store D L g l → Option Word → Type 0
+  ComesOf NotStarted h m n old new said = (n ≡ m) × (new ≡ old) × (said ≡ None)
+  ComesOf (Made did) h m n old new said = (word : Word) × Comes did h m n old new word × (said ≡ Some word)
+
+  -- a call in the place of hart h with these registers
+  abbrev pub Calls : ℕ → ℕ → ℕ → ℕ → ℕ → ℕ → Machine → Machine → Store D L g l → Store D L g l → Option Word → Type 0
+  Calls h eid fid a0 a1 a2 m n old new said =
+      (mid : Machine) × (called : Called) × machines.Calls h eid fid a0 a1 a2 m mid called × ComesOf called h mid n old new said
+
+  -- ---- a row within a line
+  -- turns of which the last alone may ask the store
+  abbrev pub Rows : ℕ → ℕ → Machine → Machine → Store D L g l → Store D L g l → ℕ → Word → Type 0
+  Rows h count m n old new made word = (mid : Machine) × (did : Turned) × machines.TurnsMany h count m mid made did × Comes did h mid n old new word

@@ -1,0 +1,117 @@
+-- A hart that is told to stand at a durable call is STARTED.
+use Rattle.std.proofs.Common.{◌≡◌, ◌≢◌, ℕ, zero, suc, ◌<◌, Bool, true, false, List, Ok, Err, refl, sym, ap, ◌∙◌, subst, inl, inr}
+use Rattle.std.specs.Prelude.{length, get_or, slice_set}
+use Rattle.std.proofs.lemmas.List.{get_or-set_same, length-set}
+use Rattle.board_model.specs.Shapes.{Size}
+use Rattle.hart.specs.State.{State, never_started}
+use Rattle.hart.specs.Means.{Steps}
+use Rattle.hart.specs.declared.Outcome.{Outcome}
+use Rattle.hart.specs.declared.Outcome.TheVariants as outcomes
+use Rattle.hsm_rule.specs.States.{HartState, stopped, start_pending, started, suspended}
+use Rattle.hsm.specs.Seen.{listed}
+use Rattle.sbi_abi.specs.Calls.{call_of}
+use Rattle.sbi_calls.specs.declared.requests.Request.TheVariants.{Value, Start, Stop, Status, Suspend, SuspendAfresh, Send, Command}
+use Rattle.sbi_calls.specs.declared.endings.After.{After}
+use Rattle.sbi_calls.specs.declared.endings.After.TheVariants as afters
+use Rattle.sbi_calls.specs.Both.{TableState}
+use Rattle.sbi_calls.specs.Requests.{Checked, request_of}
+use Rattle.sbi_calls.specs.Answers.{row, Ends}
+use Rattle.turns.specs.declared.words.Turned.{Turned}
+use Rattle.turns.specs.declared.words.Turned.TheVariants.{Idle, Entered, Woke, Next, Suspended, Stopped, Durable}
+use Rattle.turns.specs.Turns.{Moment, is_pending, woken, begun_by, turned_by, Finishes, TurnAs, TurnOf}
+use Rattle.machine.specs.declared.parts.Called.{Called}
+use Rattle.machine.specs.declared.parts.Called.TheVariants.{NotStarted, Made}
+use Rattle.machine.specs.Machine.{Machine, hart_at}
+use Rattle.machine.specs.Turns.{moment_of, with_moment, Turns, TurnsMany, Calls, calling}
+use Rattle.machine.specs.Durables.{IsStarted}
+use Rattle.machine.proofs.Determined.{is_decided}
+
+-- a step leaves the hart's number
+abbrev pub IsOneNumber : Type 0
+IsOneNumber = (p : Bool) (s t : State) (m n : List ℕ) (o : Outcome) → Steps p s m t n o → t.id ≡ s.id
+
+-- ---- a call that is told durable leaves the tables and the hart
+not_goes : (after : After) → after ≡ afters.Goes → Durable ≡ turned_by after → ⊥
+not_goes after e w = let z : Durable ≡ Next = w ∙ ap turned_by e in let n : ⊥ = cc in n
+
+not_stopped : (after : After) → after ≡ afters.Stopped → Durable ≡ turned_by after → ⊥
+not_stopped after e w = let z : Durable ≡ Stopped = w ∙ ap turned_by e in let n : ⊥ = cc in n
+
+not_suspended : (after : After) → after ≡ afters.Suspended → Durable ≡ turned_by after → ⊥
+not_suspended after e w = let z : Durable ≡ Suspended = w ∙ ap turned_by e in let n : ⊥ = cc in n
+
+defers : (by : ℕ) (asked : Checked) (t : TableState) (u v : State) (after : After) → Ends (row by asked t).ending u v after → Durable ≡ turned_by after → ((row by asked t).table ≡ t) × (v ≡ u)
+defers by (Err e) t u v after p w = absurd (not_goes after p.1 w)
+defers by (Ok (Value n)) t u v after p w = absurd (not_goes after p.1 w)
+defers by (Ok (Start h a o)) t u v after p w = absurd (not_goes after p.1 w)
+defers by (Ok Stop) t u v after p w = absurd (not_stopped after p.1 w)
+defers by (Ok (Status h)) t u v after p w = absurd (not_goes after p.1 w)
+defers by (Ok Suspend) t u v after p w = absurd (not_suspended after p.1 w)
+defers by (Ok (SuspendAfresh a o)) t u v after p w = absurd (not_suspended after p.1 w)
+defers by (Ok (Send targets)) t u v after p w = absurd (not_goes after p.1 w)
+defers by (Ok Command) t u v after p w = (refl, p.0)
+
+finished : (size : Size) (o : Outcome) (x y : TableState) (u v : State) → Finishes size o x u y v Durable → (y ≡ x) × (v ≡ u)
+finished size outcomes.Next x y u v p = absurd (let z : Durable ≡ Next = p.2 in let n : ⊥ = cc in n)
+finished size outcomes.TakePending x y u v p = absurd (let z : Durable ≡ Next = p.2 in let n : ⊥ = cc in n)
+finished size outcomes.Ecall x y u v p = let d = defers u.id (request_of size (call_of u)) x u v p.0 p.1 p.3 in (p.2 ∙ d.0, d.1)
+
+-- ---- a turn
+stays_asleep : (size : Size) (w : Bool) (by : ℕ) (t : TableState) (a b : Moment) → TurnAs size (woken w by t).ready (woken w by t).table a b Durable → ⊥
+stays_asleep size true by t a b p = let z : Durable ≡ Woke = p.1 in let n : ⊥ = cc in n
+stays_asleep size false by t a b p = let z : Durable ≡ Idle = p.1 in let n : ⊥ = cc in n
+
+-- as the table and the hart stood, so they stand
+same_state : (x y : TableState) (u v : State) → y ≡ x → v.id ≡ u.id → listed y.states v.id ≡ listed x.states u.id
+same_state x y u v e f = ap (λ (t : TableState). listed t.states v.id) e ∙ ap (λ (k : ℕ). listed x.states k) f
+
+stood : IsOneNumber → (size : Size) (a b : Moment) (s : HartState) → s ≡ listed a.table.states a.hart.id → TurnAs size (begun_by a.hart.id a.table s).ready (begun_by a.hart.id a.table s).table a b Durable
+    → listed b.table.states b.hart.id ≡ started
+stood number size a b stopped is p = absurd (let z : Durable ≡ Idle = p.1 in let n : ⊥ = cc in n)
+stood number size a b (start_pending site opaque) is p = absurd (let z : Durable ≡ Entered = p.1 in let n : ⊥ = cc in n)
+stood number size a b started is p =
+    let f = finished size p.1 a.table b.table p.0 b.hart p.3 in
+    let id : b.hart.id ≡ a.hart.id = ap (λ (s : State). s.id) f.1 ∙ number (is_pending a.hart.id a.table.pairs) a.hart p.0 a.memory b.memory p.1 p.2 in
+    same_state a.table b.table a.hart b.hart f.0 id ∙ sym is
+stood number size a b suspended is p = absurd (stays_asleep size (is_pending a.hart.id a.table.pairs) a.hart.id a.table a b p)
+
+-- a hart that stands so is read so
+at_once : (h : ℕ) (old new : Machine) (a : Moment) → h < length old.harts → new ≡ with_moment h old a → listed a.table.states a.hart.id ≡ started → IsStarted h new
+at_once h old new a lt e is =
+    let read : hart_at (with_moment h old a) h ≡ a.hart = get_or-set_same old.harts h a.hart (never_started h) lt in
+    subst (λ (m : Machine). IsStarted h m) (sym e) (subst (λ (s : State). listed a.table.states s.id ≡ started) (sym read) is)
+
+pub turn_asks : IsOneNumber → (h : ℕ) (old new : Machine) (word : Turned) → h < length old.harts → Turns h old new word → word ≡ Durable → IsStarted h new
+turn_asks number h old new word lt p is =
+    let a = moment_of h old in
+    let did : TurnOf old.size a p.0 Durable = subst (λ (w : Turned). TurnOf old.size a p.0 w) is p.1 in
+    at_once h old new p.0 lt p.2 (stood number old.size a p.0 (listed a.table.states a.hart.id) refl did)
+
+-- ---- in a row
+as_many : (h : ℕ) (old mid : Machine) (word : Turned) → Turns h old mid word → length mid.harts ≡ length old.harts
+as_many h old mid word p = ap (λ (m : Machine). length m.harts) p.2 ∙ length-set old.harts h p.0.hart
+
+pub row_asks : IsOneNumber → (h n k : ℕ) (old new : Machine) (word : Turned) → h < length old.harts → TurnsMany h n old new k word → word ≡ Durable → IsStarted h new
+row_asks number h zero k old new word lt p is = absurd p
+row_asks number h (suc n) k old new word lt p is =
+    let has : h < length p.0.harts = subst (λ (j : ℕ). h < j) (sym (as_many h old p.0 p.1 p.2)) lt in
+    elim p.3 [
+      | inl x ↦ subst (λ (m : Machine). IsStarted h m) (sym x.1) (turn_asks number h old p.0 p.1 lt p.2 (sym x.3 ∙ is))
+      | inr x ↦ row_asks number h n x.1 p.0 new word has x.3 is
+    ]
+
+-- ---- a call
+pub call_asks : (h eid fid a0 a1 a2 : ℕ) (old new : Machine) (called : Called) → h < length old.harts → Calls h eid fid a0 a1 a2 old new called → called ≡ Made Durable → IsStarted h new
+call_asks h eid fid a0 a1 a2 old new called lt p is =
+    let a = moment_of h old in
+    let u = calling a.hart eid fid a0 a1 a2 in
+    elim (is_decided (listed a.table.states a.hart.id)) [
+      | inl at ↦ (
+          let d = p.1.made at in
+          let e : Made d.0 ≡ Made Durable = sym d.3 ∙ is in
+          let w : d.0 ≡ Durable = cc in
+          let f = finished old.size outcomes.Ecall a.table p.0.table u p.0.hart (subst (λ (t : Turned). Finishes old.size outcomes.Ecall a.table u p.0.table p.0.hart t) w d.1) in
+          let id : p.0.hart.id ≡ a.hart.id = ap (λ (s : State). s.id) f.1 in
+          at_once h old new p.0 lt p.2 (same_state a.table p.0.table a.hart p.0.hart f.0 id ∙ at))
+      | inr none ↦ absurd (let e : NotStarted ≡ Made Durable = sym (p.1.not_started none).1 ∙ is in let n : ⊥ = cc in n)
+    ]

@@ -1,0 +1,78 @@
+-- A durable call as something that a hart of a machine did.
+use Rattle.std.proofs.Common.{◌≡◌, ℕ, ◌<◌, true≢false, List, [], ◌∷◌, Option, Some, refl, sym, ap, ◌∙◌, subst, ⊎_elim, inl, inr}
+use Rattle.std.specs.Prelude.{length, get_or}
+use Rattle.disk.specs.declared.device.Disk.{Ghosts}
+use Rattle.disk.specs.declared.device.Lane.{Ghosts as Lanes}
+use Rattle.board_model.specs.Shapes.{Size}
+use Rattle.hart.specs.State.{State, never_started}
+use Rattle.hsm_words.specs.declared.view.Crew.{Crew}
+use Rattle.hsm_words.specs.declared.view.HartView.{HartView}
+use Rattle.hsm_words.specs.declared.view.Stage.{Stage}
+use Rattle.hsm_words.specs.declared.view.Stage.TheVariants.{Out, Running, Asleep}
+use Rattle.hsm_rule.specs.Rule.{stands}
+use Rattle.hsm_rule.specs.States.{HartState, started, is_running, IsIn}
+use Rattle.hsm.specs.Calls.{KeepsOthers}
+use Rattle.hsm.specs.Seen.{listed}
+use Rattle.store.specs.declared.stores.Store.{Store}
+use Rattle.sbi_abi.specs.Calls.{call_of}
+use Rattle.sbi_abi.specs.declared.call.Call.{Call}
+use Rattle.sbi_calls.specs.declared.tables.Tables.{Tables}
+use Rattle.sbi_calls.specs.declared.tables.Seats.{Seats}
+use Rattle.sbi_calls.specs.Both.{TableState, IsTable, GivesBack, Acts, views, crew}
+use Rattle.sbi.specs.declared.dispatches.Held.{Held}
+use Rattle.sbi.specs.Helds.{HeldAlone}
+use Rattle.turns.specs.Turns.{RestsAt}
+use Rattle.machine.specs.Held.{table_of, shown_by, IsHeld}
+use Rattle.machine.specs.Durables.{HeldOf}
+use Rattle.machine.proofs.Holding.{all_seats, numbered_at, seat_rests, DoneAlone}
+
+-- ---- one call after another
+others_then : (h : ℕ) (a b c : List HartView) → KeepsOthers h a b → KeepsOthers h b c → KeepsOthers h a c
+others_then h a b c p q = record { harts = q.harts ∙ p.harts; stages = λ k st ne s. q.stages k st ne (p.stages k st ne s) }
+
+pub gives_then : {t : Tables} (h : ℕ) (a b c : Seats) → GivesBack t h a b → GivesBack t h b c → GivesBack t h a c
+gives_then h a b c p q = record {
+  seats = q.seats;
+  others = others_then h (views a) (views b) (views c) p.others q.others;
+  pairs = record { harts = q.pairs.harts ∙ p.pairs.harts; each = λ k. q.pairs.each k ∙ p.pairs.each k };
+}
+
+-- ---- a STARTED hart at rest has nothing in flight
+one_stage : (h : ℕ) (vs : List HartView) (a b : Stage) → stands h a vs → stands h b vs → a ≡ b
+one_stage h [] a b x y = absurd x
+one_stage h (v ∷ vs) a b (inl p) (inl q) = sym p.1 ∙ q.1
+one_stage h (v ∷ vs) a b (inl p) (inr q) = absurd (q.0 p.0)
+one_stage h (v ∷ vs) a b (inr p) (inl q) = absurd (p.0 q.0)
+one_stage h (v ∷ vs) a b (inr p) (inr q) = one_stage h vs a b p.1 q.1
+
+runs_at : (h : ℕ) (c : Crew) → IsIn c h started → RestsAt h c.harts → stands h Running c.harts
+runs_at h c is rests =
+    ⊎_elim
+    (λ (o : stands h Out c.harts). absurd (true≢false (sym is.2 ∙ ap is_running (one_stage h c.harts is.0 Out is.1 o))))
+    (⊎_elim
+    (λ (o : stands h Running c.harts). o)
+    (λ (o : stands h Asleep c.harts). absurd (true≢false (sym is.2 ∙ ap is_running (one_stage h c.harts is.0 Asleep is.1 o)))))
+    rests
+
+pub started_acts : (size : Size) (harts : List State) (t : Tables) (os : Option Seats) (s : Seats) (id : ℕ) (x : State) → IsHeld size harts t os → os ≡ Some s → id < length harts → x ≡ get_or harts id (never_started id)
+    → listed (table_of size.harts os).states (get_or harts id (never_started id)).id ≡ started → Acts x.id Running s
+started_acts size harts t os s id x held e lt read is =
+    let a = all_seats size harts t os s held e in
+    let rests = seat_rests size harts t os s id x held e lt read in
+    let low : x.id < size.harts = subst (λ (n : ℕ). x.id < n) held.long (subst (λ (k : ℕ). k < length harts) (sym (numbered_at harts id x held.numbered lt read)) lt) in
+    let at_x : listed (table_of size.harts os).states x.id ≡ started = subst (λ (z : State). listed (table_of size.harts os).states z.id ≡ started) (sym read) is in
+    let at : listed (shown_by size.harts s).states x.id ≡ started = subst (λ (o : Option Seats). listed (table_of size.harts o).states x.id ≡ started) e at_x in
+    let shown : IsIn (crew s) x.id started = subst (λ (y : HartState). IsIn (crew s) x.id y) at (a.shows.0.1 x.id low) in
+    (runs_at x.id (crew s) shown rests.0, rests.1)
+
+-- ---- with a store
+module _ {D L : Type 0} {g : Ghosts D L} {l : Lanes L} where
+  -- after the call the tables show what they showed
+  pub held_then : (n m : ℕ) (memory : List ℕ) (call : Call) (s t : State) (a b c : Seats) (old new : Store D L g l) (held : Held) → n ≡ m → HeldAlone n memory call s t a b old new held
+      → ((x : TableState) → IsTable n b x → IsTable n c x) → HeldAlone m memory call s t a c old new held
+  held_then n m memory call s t a b c old new held e did still =
+      subst (λ (k : ℕ). HeldAlone k memory call s t a c old new held) e (λ x are. let r = did x are in (r.0, still x r.1))
+
+  pub held_deed : (size : Size) (memory : List ℕ) (s t : State) (a b : Seats) (old new : Store D L g l) (held : Held) → HeldAlone size.harts memory (call_of s) s t a b old new held
+      → DoneAlone (λ x y. HeldOf size x y old new held) size.harts s memory t memory a b
+  held_deed size memory s t a b old new held did x are = let r = did x are in (x, (r.0, refl, refl), r.1)
