@@ -89,6 +89,16 @@ const FOUND_1: &[u8] = b"found slot 1 reason 0 image none next 0\non fresh\n";
 
 const FOUND_2: &[u8] = b"found slot 2 reason 0 image none next 0\non fresh\n";
 
+/// A guest that asks for a cold reboot with reason 1 in its sixth instruction, writes 7 into x5 where that is answered, and then
+/// jumps to itself.
+const GUEST: &[u8] =
+    b"board 1 1 1\npayload 0 b75852539388483513080000130510009305100073000000930270006f000000\nformat\non fresh\n";
+
+const GUEST_STARTED: &[u8] =
+    b"board 1/1/1 sectors 26\npayload 0 32\nformat ok\nfound slot 0 reason 0 image none next 0\non fresh\n";
+
+const FOUND_REASON_1: &[u8] = b"found slot 0 reason 1 image none next 0\non fresh\n";
+
 /// What is found after a slot 1 whose gate is torn so.
 fn settled(torn: &Torn) -> &'static [u8] {
     if torn.selects_new { FOUND_1 } else { FOUND_0 }
@@ -262,12 +272,71 @@ fn on_fails(rt: &(impl Abort + Threads + Sync), alloc: Global, call: &Call) -> R
     )
 }
 
+/// A guest's reset is a command as a slot is, in the middle of its line of turns: it is not told, and no turn follows.
+fn reset_is_cut(
+    rt: &(impl Abort + Threads + Sync),
+    alloc: Global,
+    call: &Call,
+    torn: &Torn,
+) -> Result<(), Fail> {
+    let found = if call.number >= 3 && torn.selects_new {
+        FOUND_REASON_1
+    } else {
+        FOUND_0
+    };
+    told(
+        rt,
+        alloc,
+        &[
+            GUEST,
+            b"cutat ",
+            call.word,
+            b" ",
+            torn.word,
+            b"turn 0 20\npc 0\non fresh\n",
+        ],
+        &[GUEST_STARTED, b"armed\npower lost\noff\n", found],
+    )
+}
+
+/// A reset that the disk refuses is answered -1, and the guest goes on: 20 turns are made.
+fn reset_fails(
+    rt: &(impl Abort + Threads + Sync),
+    alloc: Global,
+    call: &Call,
+    torn: &Torn,
+) -> Result<(), Fail> {
+    let found = if call.number >= 3 && torn.selects_new {
+        FOUND_REASON_1
+    } else {
+        FOUND_0
+    };
+    told(
+        rt,
+        alloc,
+        &[
+            GUEST,
+            b"failat ",
+            call.word,
+            b"\nturn 0 20\nreg 0 10\nreg 0 5\ncut ",
+            torn.word,
+            b"on fresh\n",
+        ],
+        &[
+            GUEST_STARTED,
+            b"armed\nturn 0 20 next\nreg 0 10 0xffffffffffffffff\nreg 0 5 0x0000000000000007\ncut\n",
+            found,
+        ],
+    )
+}
+
 #[test]
 fn a_cut_at_each_call_finds_what_the_rules_allow(rt: HostRuntime) -> Result<(), Fail> {
     let alloc = rt.alloc();
     for torn in &FILLS {
         for call in &FOUR {
             slot_is_cut(&rt, alloc, call, torn)?;
+            reset_is_cut(&rt, alloc, call, torn)?;
             on_is_cut(&rt, alloc, call, torn)?;
             format_is_cut(&rt, alloc, call, torn)?;
         }
@@ -284,6 +353,7 @@ fn a_failure_at_each_call_is_answered(rt: HostRuntime) -> Result<(), Fail> {
     for call in &FOUR {
         for torn in &FILLS {
             slot_fails(&rt, alloc, call, torn)?;
+            reset_fails(&rt, alloc, call, torn)?;
         }
         format_fails(&rt, alloc, call)?;
         on_fails(&rt, alloc, call)?;

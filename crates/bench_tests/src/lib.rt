@@ -12,6 +12,8 @@ mod lines;
 #[cfg(test)]
 mod programs;
 #[cfg(test)]
+mod resets;
+#[cfg(test)]
 mod rows;
 #[cfg(test)]
 mod stopped;
