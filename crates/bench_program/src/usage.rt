@@ -131,11 +131,10 @@ fn show(rt: &HostRuntime, text: &Error) -> Result<Wish, Fault> {
 /// A fault of the command line: a word that is no text.
 fn no_text(rt: &HostRuntime) -> Result<Wish, Fault> {
     let message = "invalid UTF-8 was detected in one or more arguments";
-    let text = command(rt.alloc()).and_then(|mut command| command.error(
-        ErrorKind::InvalidValue,
-        message,
-    ));
-    match text {
+    let Ok(mut command) = command(rt.alloc()) else {
+        return Err(Fault::Refused(Refusal::Memory));
+    };
+    match command.error(ErrorKind::InvalidValue, message) {
         Ok(text) => show(rt, &text),
         Err(_) => Err(Fault::Refused(Refusal::Memory)),
     }
