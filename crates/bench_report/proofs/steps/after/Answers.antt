@@ -11,15 +11,19 @@ returns-in-Asleep-clause-told c = λ size b h.
     let P : Word → Type 0 = λ w. StandsBy size w b c.args.board in
     let was = subst P c.in-Asleep.is h in
     let store = store_in c.args.board in
-    let left = c.into_disk.result in
-    (was.0, over_ended size b.medium b.kept store (facts left) was.1 c.into_disk.ensures.up,
-    stays size b (store_mishaps store) (mishaps left) (store_facts store) (facts left) was.2 c.into_disk.ensures.mishaps (omega (arith, c.into_disk.ensures.failures)) (ap length c.into_disk.ensures.content))
+    let left = c.into_disk.result in (
+      was.0,
+      over_ended size b.medium b.kept store (facts left) was.1 c.into_disk.ensures.up,
+      stays size b (store_mishaps store) (mishaps left) (store_facts store) (facts left) was.2 c.into_disk.ensures.mishaps (omega (arith, c.into_disk.ensures.failures)) (ap length c.into_disk.ensures.content),
+    )
 
 pub returns-in-Reset-clause-told : goal.returns-in-Reset-clause-told
 returns-in-Reset-clause-told c = λ size b h.
     let P : Word → Type 0 = λ w. StandsBy size w b c.args.board in
     let was = subst P c.in-Reset.is h in
     let store = store_in c.args.board in
-    let left = c.into_disk-in-Reset.result in
-    (was.0, over_ended size b.medium b.kept store (facts left) was.1 c.into_disk-in-Reset.ensures.up,
-    stays size b (store_mishaps store) (mishaps left) (store_facts store) (facts left) was.2 c.into_disk-in-Reset.ensures.mishaps (omega (arith, c.into_disk-in-Reset.ensures.failures)) (ap length c.into_disk-in-Reset.ensures.content))
+    let left = c.into_disk-in-Reset.result in (
+      was.0,
+      over_ended size b.medium b.kept store (facts left) was.1 c.into_disk-in-Reset.ensures.up,
+      stays size b (store_mishaps store) (mishaps left) (store_facts store) (facts left) was.2 c.into_disk-in-Reset.ensures.mishaps (omega (arith, c.into_disk-in-Reset.ensures.failures)) (ap length c.into_disk-in-Reset.ensures.content),
+    )
