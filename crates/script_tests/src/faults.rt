@@ -135,6 +135,59 @@ tries 1\n\
 good\n\
 cutat 1 alt";
 
+// Scripts, between bars, of which a number of the board line is out of its range.
+const BAD_SHAPES: &[u8] = b"\
+board 0 1 1|\
+board 9 1 1|\
+board 1 0 1|\
+board 1 257 1|\
+board 1 1 0|\
+board 1 1 5|\
+board 18446744073709551615 1 1|\
+board 4294967297 1 1|\
+board 1 0xffffffffffffffff 1|\
+board 9 1 1\nslot|\
+\n#\nboard 9 1 1";
+
+// Scripts, between bars, of which the board line is malformed and the first line.
+const BAD_BOARDS: &[u8] = b"\
+board 9 x 1|\
+board 18446744073709551616 1 1|\
+board 1 1|\
+board 1 1 1 1|\
+board|\
+board  1 1 1|\
+boards 1 1 1|\
+board 1 1 1\r\nformat\r\n";
+
+// Scripts, between bars, whose first fault is line 1: the first of them is empty.
+const FIRST_LINES: &[u8] = b"\
+|\
+\n|\
+\n\n\n|\
+# a comment\n# another|\
+format|\
+\xef\xbb\xbfboard 1 1 1\n|\
+\0";
+
+// Scripts, between bars, whose first fault is line 2.
+const SECOND_LINES: &[u8] = b"\
+board 1 1 1\nslot|\
+board 1 1 1\nslot\nformat x\n|\
+board 1 1 1\nboard 1 1 1\n|\
+board 1 1 1\nboard 9 1 1\n|\
+board 1 1 1\nturn 1 1\n";
+
+// Scripts, between bars, whose first fault is line 3.
+const THIRD_LINES: &[u8] = b"\
+\n#\nboard 9 1|\
+\n# a comment\nformat\nboard 1 1 1\n";
+
+// Scripts, between bars, whose first fault is line 4.
+const FOURTH_LINES: &[u8] = b"\
+board 1 1 1\nformat\n\nslot x\nslot\n|\
+board 1 1 1\n\n\nboard x\n";
+
 /// Each line of the table is a fault where it stands alone after the board line.
 fn each_malformed(rt: &impl Abort, alloc: Global, table: &[u8]) -> Result<(), Fail> {
     for text in table.split(|b| *b == b'\n') {
@@ -163,65 +216,32 @@ fn other_keywords_are_malformed(rt: HostRuntime) -> Result<(), Fail> {
     each_malformed(&rt, rt.alloc(), OTHER_KEYWORDS)
 }
 
-#[test]
-fn board_lines(rt: HostRuntime) -> Result<(), Fail> {
-    let cases: [(&[u8], Refusal); 20] = [
-        (b"board 0 1 1", Refusal::BadShape),
-        (b"board 9 1 1", Refusal::BadShape),
-        (b"board 1 0 1", Refusal::BadShape),
-        (b"board 1 257 1", Refusal::BadShape),
-        (b"board 1 1 0", Refusal::BadShape),
-        (b"board 1 1 5", Refusal::BadShape),
-        (b"board 18446744073709551615 1 1", Refusal::BadShape),
-        (b"board 4294967297 1 1", Refusal::BadShape),
-        (b"board 1 0xffffffffffffffff 1", Refusal::BadShape),
-        (b"board 9 1 1\nslot", Refusal::BadShape),
-        (b"board 9 x 1", Refusal::BadScript(1)),
-        (b"board 18446744073709551616 1 1", Refusal::BadScript(1)),
-        (b"board 1 1", Refusal::BadScript(1)),
-        (b"board 1 1 1 1", Refusal::BadScript(1)),
-        (b"board", Refusal::BadScript(1)),
-        (b"board  1 1 1", Refusal::BadScript(1)),
-        (b"boards 1 1 1", Refusal::BadScript(1)),
-        (b"board 1 1 1\r\nformat\r\n", Refusal::BadScript(1)),
-        (b"\n#\nboard 9 1 1", Refusal::BadShape),
-        (b"\n#\nboard 9 1", Refusal::BadScript(3)),
-    ];
-    for (script, refusal) in cases {
-        refused(&rt, rt.alloc(), script, refusal)?;
+/// Each script of the table is refused so.
+fn each_refused(
+    rt: &impl Abort,
+    alloc: Global,
+    table: &[u8],
+    refusal: Refusal,
+) -> Result<(), Fail> {
+    for script in table.split(|b| *b == b'|') {
+        refused(rt, alloc, script, refusal)?;
     }
     Ok(())
 }
 
 #[test]
+fn board_lines(rt: HostRuntime) -> Result<(), Fail> {
+    each_refused(&rt, rt.alloc(), BAD_SHAPES, Refusal::BadShape)?;
+    each_refused(&rt, rt.alloc(), BAD_BOARDS, Refusal::BadScript(1))
+}
+
+#[test]
 fn the_first_fault_answers(rt: HostRuntime) -> Result<(), Fail> {
-    let cases: [(&[u8], Refusal); 15] = [
-        (b"", Refusal::BadScript(1)),
-        (b"\n", Refusal::BadScript(1)),
-        (b"\n\n\n", Refusal::BadScript(1)),
-        (b"# a comment\n# another", Refusal::BadScript(1)),
-        (b"format", Refusal::BadScript(1)),
-        (
-            b"\n# a comment\nformat\nboard 1 1 1\n",
-            Refusal::BadScript(3),
-        ),
-        (b"board 1 1 1\nslot", Refusal::BadScript(2)),
-        (b"board 1 1 1\nslot\nformat x\n", Refusal::BadScript(2)),
-        (
-            b"board 1 1 1\nformat\n\nslot x\nslot\n",
-            Refusal::BadScript(4),
-        ),
-        (b"board 1 1 1\nboard 1 1 1\n", Refusal::BadScript(2)),
-        (b"board 1 1 1\nboard 9 1 1\n", Refusal::BadScript(2)),
-        (b"board 1 1 1\n\n\nboard x\n", Refusal::BadScript(4)),
-        (b"board 1 1 1\nturn 1 1\n", Refusal::BadScript(2)),
-        (b"\xef\xbb\xbfboard 1 1 1\n", Refusal::BadScript(1)),
-        (b"\0", Refusal::BadScript(1)),
-    ];
-    for (script, refusal) in cases {
-        refused(&rt, rt.alloc(), script, refusal)?;
-    }
-    Ok(())
+    let alloc = rt.alloc();
+    each_refused(&rt, alloc, FIRST_LINES, Refusal::BadScript(1))?;
+    each_refused(&rt, alloc, SECOND_LINES, Refusal::BadScript(2))?;
+    each_refused(&rt, alloc, THIRD_LINES, Refusal::BadScript(3))?;
+    each_refused(&rt, alloc, FOURTH_LINES, Refusal::BadScript(4))
 }
 
 #[test]
