@@ -4,7 +4,7 @@ use Rattle.std.proofs.Math.ListN.{get_or-map}
 use Rattle.std.proofs.lemmas.List.{places, drop_more, drop_all, take_all, take_more, set_at, map-set, map-append, length-map, length-take-le, get_or_at, get_or_default, append_assoc, append-nil}
 use Rattle.disk.specs.Facts.{Content}
 use Rattle.simdisk.specs.declared.patch.Patch.{Patch}
-use Rattle.simdisk.specs.Record.{Piece, put, replay, range, ranges, range_at, Fits}
+use Rattle.simdisk.specs.Record.{Piece, put, replay, settled, range, ranges, range_at, Fits}
 use Rattle.simdisk.specs.Views.{piece, pieces}
 
 -- what was read at that place, as a piece
@@ -26,6 +26,16 @@ pub replay_more : (patches : List Patch) (i : ℕ) (x : Patch) (c new all : Cont
     → replay (drop i (pieces patches)) c ≡ all → new ≡ put (piece x) c → replay (drop (i + 1) (pieces patches)) new ≡ all
 replay_more patches i x c new all lt is so_far laid =
     ap (λ (k : Content). replay (drop (i + 1) (pieces patches)) k) laid ∙ sym (ap (λ (ps : List Piece). replay ps c) (rest_pieces patches i x lt is)) ∙ so_far
+
+-- the same, where each takes what stands in a content
+pub settle_more : (now : Content) (patches : List Patch) (i : ℕ) (x : Patch) (c new all : Content) → i < length patches → x ≡ get_or patches i x
+    → replay (drop i (map (settled now) (pieces patches))) c ≡ all → new ≡ put (settled now (piece x)) c → replay (drop (i + 1) (map (settled now) (pieces patches))) new ≡ all
+settle_more now patches i x c new all lt is so_far laid =
+    ap (λ (k : Content). replay (drop (i + 1) (map (settled now) (pieces patches))) k) laid ∙ sym (ap (λ (ps : List Piece). replay ps c) rest) ∙ so_far
+  where
+    rest : drop i (map (settled now) (pieces patches)) ≡ settled now (piece x) ∷ drop (i + 1) (map (settled now) (pieces patches))
+    rest = drop_more (map (settled now) (pieces patches)) i (settled now (piece x)) (omega (arith, lt, length-map (pieces patches) (settled now), length-map patches piece))
+        ∙ ap (λ (p : Piece). p ∷ drop (i + 1) (map (settled now) (pieces patches))) (get_or-map (settled now) (pieces patches) i (piece x) ∙ ap (settled now) (read_piece patches i x lt is (piece x)))
 
 pub fits_read : (n : ℕ) (patches : List Patch) (i : ℕ) (x : Patch) → i < length patches → x ≡ get_or patches i x → Fits n (ranges (pieces patches)) → x.first + length x.sectors.items ≤ n
 fits_read n patches i x lt is fits = subst (λ (r : ℕ × ℕ). r.0 + r.1 ≤ n) (get_or-map range (pieces patches) i (0, []) ∙ ap range (read_piece patches i x lt is (0, []))) (fits i (omega (arith, lt, length-map (pieces patches) range, length-map patches piece)))

@@ -1,7 +1,6 @@
--- What patches and epochs are to a contract.
+-- What patches are to a contract.
 use Rattle.std.specs.Prelude.{List, map}
 use Rattle.simdisk.specs.declared.patch.Patch.{Patch}
-use Rattle.simdisk.specs.declared.patch.Epoch.{Epoch}
 use Rattle.simdisk.specs.Record.{Piece}
 
 abbrev pub piece : Patch → Piece
@@ -9,6 +8,3 @@ piece patch = (patch.first, patch.sectors.items)
 
 abbrev pub pieces : List Patch → List Piece
 pieces patches = map piece patches
-
-abbrev pub epochs : List Epoch → List (List Piece)
-epochs past = map (λ epoch. map piece epoch.patches.items) past

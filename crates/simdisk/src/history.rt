@@ -1,18 +1,19 @@
 //! The record of a disk's writes and syncs.
-ghost use Rattle.std.specs.Prelude.{length};
-ghost use Rattle.simdisk.specs.Record.{ranges, Fits, FitAll};
-ghost use Rattle.simdisk.specs.Views.{pieces, epochs};
+ghost use Rattle.std.specs.Prelude.{◌≡◌, length};
+ghost use Rattle.simdisk.specs.Record.{ranges, synced_after, Fits};
+ghost use Rattle.simdisk.specs.Views.{pieces};
 
-use crate::patch::{Epoch, Patch};
+use crate::past::Past;
+use crate::patch::Patch;
 use disk::Sector;
 
-/// What a disk keeps of its writes and syncs: what stood when it was made, what each sync made
-/// durable, and what was written since the last one. It grows by the sectors written.
+/// What a disk keeps of its writes and syncs: what stood at the last sync, and what was written
+/// since. What was before is for contracts alone.
 #[derive(Drop)]
 pub(crate) struct History {
-    pub(crate) began: Vec<Sector>,
-    pub(crate) past: Vec<Epoch>,
+    pub(crate) stood: Vec<Sector>,
     pub(crate) written: Vec<Patch>,
-    ghost past_fits: { FitAll (length began.items) (epochs past.items) },
-    ghost fits: { Fits (length began.items) (ranges (pieces written.items)) },
+    pub(crate) past: Past,
+    ghost stood_so: { synced_after past.epochs past.began ≡ stood.items },
+    ghost fits: { Fits (length stood.items) (ranges (pieces written.items)) },
 }

@@ -1,10 +1,10 @@
 //! Patches laid over a content.
 ghost use Rattle.std.specs.Prelude.{◌≡◌, ◌≤◌, ◌<◌, ◌+◌, length, map};
 ghost use Rattle.disk.specs.Facts.{Written};
-ghost use Rattle.simdisk.specs.Record.{put, replay, synced_after, settled, filled, ranges, Fits, FitAll};
-ghost use Rattle.simdisk.specs.Views.{pieces, epochs};
+ghost use Rattle.simdisk.specs.Record.{put, replay, settled, filled, ranges, Fits};
+ghost use Rattle.simdisk.specs.Views.{pieces};
 
-use crate::patch::{Epoch, Patch};
+use crate::patch::Patch;
 use disk::Sector;
 
 // Writes these sectors over those from that place on.
@@ -28,27 +28,15 @@ pub(crate) fn replay_on(content: &mut Vec<Sector>, patches: &[Patch])
     }
 }
 
-// Lays over the content what each sync made durable, one after the other.
-#[tactic(auto, using(crate::proofs::Epochs::length_synced))]
-pub(crate) fn replay_all(content: &mut Vec<Sector>, past: &[Epoch])
-    requires { FitAll (length content.old.items) (epochs past.now) }
-    ensures content { content.new.items ≡ synced_after (epochs past.now) content.old.items }
-    ensures as_long { length content.new.items ≡ length content.old.items }
+// Takes over from the content what stands in the sectors of these patches.
+#[tactic(auto, using(crate::proofs::Pieces::length_replay))]
+pub(crate) fn settle(stood: &mut Vec<Sector>, patches: &[Patch], content: &[Sector])
+    requires as_long { length content.now ≡ length stood.old.items }
+    requires fits { Fits (length stood.old.items) (ranges (pieces patches.now)) }
+    ensures { stood.new.items ≡ replay (map (settled content.now) (pieces patches.now)) stood.old.items }
 {
-    for epoch in past {
-        replay_on(content, &epoch.patches);
-    }
-}
-
-// Gives each patch what stands in its sectors.
-#[tactic(auto, using(crate::proofs::Pieces::ranges_settled))]
-pub(crate) fn settle(patches: &mut [Patch], content: &[Sector])
-    requires { Fits (length content.now) (ranges (pieces patches.old)) }
-    ensures settled { pieces patches.new ≡ map (settled content.now) (pieces patches.old) }
-    ensures ranges { ranges (pieces patches.new) ≡ ranges (pieces patches.old) }
-{
-    for patch in patches.iter_mut() {
-        patch.settle(content);
+    for patch in patches {
+        patch.settle(stood, content);
     }
 }
 

@@ -13,6 +13,7 @@ mod lending;
 mod letter;
 mod loan;
 mod made;
+mod past;
 mod patch;
 mod recorded;
 mod recording;

@@ -78,7 +78,7 @@ impl SimDisk {
     {
         let history = self.history.left(self.alloc, choice);
         let mut content = self.content;
-        content.copy_from_slice(&history.began);
+        content.copy_from_slice(&history.stood);
         SimDisk {
             alloc: self.alloc,
             content,

@@ -1,6 +1,7 @@
 //! Sectors in a row, and how they are laid over a content.
 ghost use Rattle.std.specs.Prelude.{◌≡◌, length, IfOk};
 
+use crate::laid::overwrite;
 use crate::lane::{Bytes, SimLane};
 use crate::lending::lay_row;
 use crate::loan::Loan;
@@ -14,26 +15,22 @@ pub(crate) struct Patch {
     pub(crate) sectors: Vec<Sector>,
 }
 
-/// What was written between two syncs, as it stood at the second.
-#[derive(Drop)]
-pub(crate) struct Epoch {
-    pub(crate) patches: Vec<Patch>,
-}
-
 impl Patch {
     ghost use Rattle.std.specs.Prelude.{◌≡◌, ◌≤◌, ◌<◌, ◌+◌, ◌*◌, ℕ, length, map};
     ghost use Rattle.disk.specs.Facts.{Joined, lane_at};
     ghost use Rattle.simdisk.specs.Lanes.{newest_view};
-    ghost use Rattle.simdisk.specs.Record.{settled, filled};
+    ghost use Rattle.simdisk.specs.Record.{put, settled, filled};
     ghost use Rattle.simdisk.specs.Views.{piece};
 
-    // Takes what stands in its sectors.
-    pub(crate) fn settle(&mut self, content: &[Sector])
-        requires { self.old.first + length self.old.sectors.items ≤ length content.now }
-        ensures { piece self.new ≡ settled content.now (piece self.old) }
+    // Takes over from that content what stands in its sectors.
+    pub(crate) fn settle(&self, stood: &mut Vec<Sector>, content: &[Sector])
+        requires as_long { length content.now ≡ length stood.old.items }
+        requires within { self.now.first + length self.now.sectors.items ≤ length content.now }
+        ensures put { stood.new.items ≡ put (settled content.now (piece self.now)) stood.old.items }
+        ensures as_long { length stood.new.items ≡ length stood.old.items }
     {
         let end = self.first + self.sectors.len();
-        self.sectors.copy_from_slice(&content[self.first..end]);
+        overwrite(stood, self.first, &content[self.first..end]);
     }
 
     // Takes what was written last in the lanes of that loan.

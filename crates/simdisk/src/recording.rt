@@ -9,14 +9,14 @@ ghost use Rattle.simdisk.specs.Views.{pieces};
 use crate::choice::Choice;
 use crate::faults::Faults;
 use crate::history::History;
-use crate::laid::{fill, replay_all, replay_on, settle};
+use crate::laid::{fill, replay_on, settle};
 use crate::lane::SimLane;
 use crate::lending::lend;
 use crate::loan::Loan;
-use crate::patch::{Epoch, Patch, copy_of};
+use crate::past::Past;
+use crate::patch::{Patch, copy_of};
 use disk::Sector;
 use std::alloc::{AllocError, Global};
-use std::mem::replace;
 
 impl History {
     ghost use Rattle.simdisk.specs.History.{record_of};
@@ -29,9 +29,9 @@ impl History {
         ensures { IfOk result (λ h. record_of h ≡ new_record sectors.now) }
     {
         Ok(History {
-            began: copy_of(alloc, sectors)?,
-            past: Vec::new(alloc),
+            stood: copy_of(alloc, sectors)?,
             written: Vec::new(alloc),
+            past: Past::begun(sectors),
         })
     }
 
@@ -53,20 +53,16 @@ impl History {
         Ok(())
     }
 
-    // Notes a sync of that content. From now on these patches are written. At `Err` nothing has
-    // changed.
-    pub(crate) fn sync(&mut self, content: &[Sector], next: Vec<Patch>) -> Result<(), AllocError>
+    // Notes a sync of that content. From now on these patches are written.
+    pub(crate) fn sync(&mut self, content: &[Sector], next: Vec<Patch>)
         requires agrees { Agrees (synced (record_of self.old)) (ranges (pieces self.old.written.items)) content.now }
         requires fits { Fits (length (synced (record_of self.old))) (ranges (pieces next.items)) }
-        ensures noted { OnOk result (record_of self.new ≡ more_synced content.now (pieces next.items) (record_of self.old)) }
-        ensures synced { OnOk result (synced (record_of self.new) ≡ content.now) }
-        ensures refused { OnErr result ((record_of self.new ≡ record_of self.old) × (synced (record_of self.new) ≡ synced (record_of self.old))) }
+        ensures noted { record_of self.new ≡ more_synced content.now (pieces next.items) (record_of self.old) }
+        ensures synced { synced (record_of self.new) ≡ content.now }
     {
-        self.past.reserve(1)?;
-        let mut patches = replace(&mut self.written, next);
-        settle(&mut patches, content);
-        self.past.push_reserved(Epoch { patches });
-        Ok(())
+        self.past.sync(&self.written, content);
+        settle(&mut self.stood, &self.written, content);
+        self.written = next;
     }
 
     // The same, where that is lent: it stays written.
@@ -89,7 +85,8 @@ impl History {
             sectors,
         };
         let next = vec![in alloc; lent]?;
-        self.sync(content, next)
+        self.sync(content, next);
+        Ok(())
     }
 
     // Lends the lanes of that loan, of a disk with that content, and notes it. Where they are in step,
@@ -154,8 +151,8 @@ impl History {
         requires each { (i : ℕ) → i < loan.lanes → length (lane_at (map newest_view lanes.now) i).content ≡ loan.each }
         requires noted { 0 < loan.lanes → IsLast (ranges (pieces self.old.written.items)) loan.patch (loan.first, loan.lanes * loan.each) }
         ensures ranges { ranges (pieces self.new.written.items) ≡ ranges (pieces self.old.written.items) }
-        ensures past { self.new.past ≡ self.old.past }
-        ensures began { self.new.began ≡ self.old.began }
+        ensures past { (record_of self.new).past ≡ (record_of self.old).past }
+        ensures began { (record_of self.new).began ≡ (record_of self.old).began }
         ensures synced { synced (record_of self.new) ≡ synced (record_of self.old) }
         ensures newest { Joined (lent_of loan) (map newest_view lanes.now) (newest (record_of self.old)) (newest (record_of self.new)) }
     {
@@ -183,12 +180,11 @@ impl History {
     // The record of the disk that a crash leaves by that choice.
     pub(crate) fn left(self, alloc: Global, choice: Choice) -> History
         ensures record { record_of result ≡ new_record (left_by choice (synced (record_of self)) (pieces self.written.items)) }
-        ensures content { result.began.items ≡ left_by choice (synced (record_of self)) (pieces self.written.items) }
-        ensures as_long { length result.began.items ≡ length (synced (record_of self)) }
+        ensures content { result.stood.items ≡ left_by choice (synced (record_of self)) (pieces self.written.items) }
+        ensures as_long { length result.stood.items ≡ length (synced (record_of self)) }
     {
-        let mut content = self.began;
+        let mut content = self.stood;
         let mut written = self.written;
-        replay_all(&mut content, &self.past);
         match choice {
             Choice::Byte(byte) => {
                 fill(&mut written, byte);
@@ -197,10 +193,11 @@ impl History {
             Choice::Old => {}
             Choice::New => replay_on(&mut content, &written),
         }
+        let past = Past::begun(&content);
         History {
-            began: content,
-            past: Vec::new(alloc),
+            stood: content,
             written: Vec::new(alloc),
+            past,
         }
     }
 }

@@ -1,7 +1,10 @@
-use Rattle.simdisk.specs.Record.{settled}
+use Rattle.std.proofs.Common.{◌≡◌, drop, length, map}
+use Rattle.simdisk.specs.Record.{replay, settled}
 use Rattle.simdisk.specs.Views.{pieces}
-use Rattle.simdisk.proofs.Walks.{Walked}
 use Rattle.simdisk.proofs.laid.settle.Given as goal
 
 abbrev pub invariant-loop-patch : goal.invariant-loop-patch
-invariant-loop-patch l = Walked (settled l.content) (pieces l.initial.patches) l.patch-index l.patches
+invariant-loop-patch l = record {
+  rest : replay (drop l.patch-index (map (settled l.content) (pieces l.patches))) l.stood.items ≡ replay (map (settled l.content) (pieces l.patches)) l.initial.stood.items;
+  as_long : length l.stood.items ≡ length l.initial.stood.items;
+}

@@ -3,7 +3,6 @@ use Rattle.disk.specs.Facts.{Content, Lent, LaneFacts, Joined, counted, lane_at,
 use Rattle.simdisk.specs.Lanes.{lane_view, newest_view, lane_record}
 use Rattle.simdisk.specs.LaneRecords.{CameBack}
 use Rattle.simdisk.specs.declared.lane.SimLane.{SimLane}
-use Rattle.simdisk.specs.Views.{epochs}
 use Rattle.simdisk.specs.History.{record_of}
 use Rattle.simdisk.specs.Loans.{lent_of}
 use Rattle.simdisk.specs.Record.{newest, ranges, synced}
@@ -39,7 +38,7 @@ returns-clause-crash c =
     let s = c.args.self.now in
     let all = c.take_newest.ensures in
     passes_ranges s.content.items _ (synced (record_of s.history)) (synced (record_of c.take_newest.new.self)) (record_of s.history) (record_of c.take_newest.new.self) _ _ _ _ _ _ all.ranges
-    (ap (λ past. epochs past.items) all.past) (ap (λ began. began.items) all.began) all.synced
+    all.past all.began all.synced
 
 pub returns-clause-newest : goal.returns-clause-newest
 returns-clause-newest c =

@@ -1,8 +1,9 @@
-use Rattle.std.proofs.Common.{◌≡◌, ◌∙◌, length, rules}
+use Rattle.std.proofs.Common.{◌≡◌, ◌∙◌, length, ap, rules}
 use Rattle.simdisk.specs.History.{record_of}
 use Rattle.simdisk.specs.Record.{replay, synced}
-use Rattle.simdisk.specs.Views.{pieces, epochs}
-use Rattle.simdisk.proofs.Epochs.{length_synced, fits_synced}
+use Rattle.disk.specs.Facts.{Content}
+use Rattle.simdisk.specs.Views.{pieces}
+use Rattle.simdisk.proofs.Epochs.{fits_synced}
 use Rattle.simdisk.proofs.Replaced.{replay_agrees}
 use Rattle.simdisk.proofs.history.History.newest.Goals as goal
 
@@ -11,7 +12,7 @@ replay_on-requires c =
     let s = c.args.self.now in
     let all : c.in_ok-all.all.items ≡ c.args.content.now = search rules in
     let patches : c.deref.result.now ≡ s.written.items = search rules in
-    let long : length c.args.content.now ≡ length s.began.items = c.requires.as_long ∙ length_synced (epochs s.past.items) s.began.items s.past_fits in
+    let long : length c.args.content.now ≡ length s.stood.items = c.requires.as_long ∙ ap (λ (k : Content). length k) s.stood_so in
     rw (patches, all, long) s.fits
 
 pub returns-clause-newest : goal.returns-clause-newest

@@ -1,49 +1,43 @@
-use Rattle.std.proofs.Common.{◌≡◌, ◌∙◌, ◌++◌, ◌∷◌, ℕ, List, [], length, map, ap, subst, rules}
-use Rattle.std.proofs.lemmas.List.{take_at}
-use Rattle.simdisk.specs.declared.patch.Epoch.{Epoch}
-use Rattle.simdisk.specs.declared.patch.Patch.{Patch}
+use Rattle.std.proofs.Common.{◌≡◌, ◌∙◌, ◌++◌, ◌∷◌, [], List, length, map, refl, sym, ap}
+use Rattle.disk.specs.Facts.{Content}
 use Rattle.simdisk.specs.History.{record_of}
-use Rattle.simdisk.specs.Record.{Piece, Fits, settled, synced, synced_after, ranges}
-use Rattle.simdisk.specs.Views.{pieces, epochs}
-use Rattle.simdisk.proofs.Epochs.{length_synced, fit_all_push, epochs_push, fits_synced}
-use Rattle.simdisk.proofs.Pieces.{synced_push, replay_settled, ranges_settled}
+use Rattle.simdisk.specs.Record.{Piece, settled, replay, synced, synced_after}
+use Rattle.simdisk.specs.Views.{pieces}
+use Rattle.simdisk.proofs.Epochs.{fits_synced}
+use Rattle.simdisk.proofs.Pieces.{synced_push, replay_settled}
 use Rattle.simdisk.proofs.history.History.sync.Goals as goal
 
-pushed : (past mid new : List Epoch) (e : Epoch) (patches : List Patch) (ps : List Piece) → new ≡ mid ++ e ∷ [] → mid ≡ past → e.patches.items ≡ patches → pieces patches ≡ ps → epochs new ≡ epochs past ++ ps ∷ []
-pushed past mid new e patches ps is was whole same =
-    ap epochs (is ∙ ap (λ (es : List Epoch). es ++ e ∷ []) was) ∙ epochs_push past e ∙ ap (λ (qs : List Piece). epochs past ++ qs ∷ []) (ap pieces whole ∙ same)
+-- what stands after an epoch more
+epoch_more : (past past' : List (List Piece)) (began began' stood : Content) (epoch : List Piece) → began' ≡ began → past' ≡ past ++ epoch ∷ [] → synced_after past began ≡ stood → synced_after past' began' ≡ replay epoch stood
+epoch_more past past' began began' stood epoch same more is =
+    ap (λ (c : Content). synced_after past' c) same ∙ ap (λ (es : List (List Piece)). synced_after es began) more ∙ synced_push past epoch began ∙ ap (λ (c : Content). replay epoch c) is
 
-pub settle-requires : goal.settle-requires
-settle-requires c =
-    let s = c.args.self.now in
-    let patches : c.deref_mut.result.now ≡ s.written.items = search rules in
-    let long : length c.args.content.now ≡ length s.began.items = c.requires.agrees.as_long ∙ length_synced (epochs s.past.items) s.began.items s.past_fits in
-    rw (patches, long) s.fits
+pub settle-requires-clause-as_long : goal.settle-requires-clause-as_long
+settle-requires-clause-as_long c =
+    c.requires.agrees.as_long ∙ ap (λ (k : Content). length k) c.args.self.now.stood_so
 
-pub invariant_of-self-2 : goal.invariant_of-self-2
-invariant_of-self-2 c =
+pub settle-requires-clause-fits : goal.settle-requires-clause-fits
+settle-requires-clause-fits c =
+    rw c.deref-2.ensures.value c.args.self.now.fits
+
+pub invariant_of-self : goal.invariant_of-self
+invariant_of-self c =
     let s = c.args.self.now in
     let now = c.args.content.now in
-    let was : c.deref_mut.result.now ≡ s.written.items = search rules in
-    let long : length now ≡ length s.began.items = c.requires.agrees.as_long ∙ length_synced (epochs s.past.items) s.began.items s.past_fits in
-    let patches : pieces c.settle.new.patches ≡ map (settled now) (pieces s.written.items) = c.settle.ensures.settled ∙ ap (λ (ps : List Patch). map (settled now) (pieces ps)) was in
-    let past : epochs c.push_reserved.new.self.items ≡ epochs s.past.items ++ map (settled now) (pieces s.written.items) ∷ [] =
-    pushed s.past.items c.reserve.new.self.items c.push_reserved.new.self.items _ c.settle.new.patches (map (settled now) (pieces s.written.items)) c.push_reserved.ensures.items c.in_ok-reserve.ensures.items
-    (take_at c.settle.new.patches _ c.replace-patches.result.len (c.settle.auto.patches ∙ c.deref_mut.ensures.len)) patches in
-    let same : ranges (map (settled now) (pieces s.written.items)) ≡ ranges (pieces s.written.items) = ranges_settled now (pieces s.written.items) (rw long s.fits) in
+    let past = c.sync.ensures in
+    let epoch = map (settled now) (pieces s.written.items) in
+    let laid : c.settle.new.stood.items ≡ replay epoch s.stood.items = rw (← c.deref-2.ensures.value) c.settle.ensures in
+    let all : replay epoch s.stood.items ≡ now = ap (λ (k : Content). replay epoch k) (sym s.stood_so) ∙ replay_settled (synced (record_of s)) now (pieces s.written.items) c.requires.agrees (fits_synced s) in
     record {
-      past_fits = rw past (fit_all_push (length s.began.items) (epochs s.past.items) (map (settled now) (pieces s.written.items)) s.past_fits (rw same s.fits));
-      fits = rw c.replace-patches.ensures.after (subst (λ (n : ℕ). Fits n (ranges (pieces c.args.next.items))) (length_synced (epochs s.past.items) s.began.items s.past_fits) c.requires.fits);
+      stood_so = epoch_more s.past.epochs c.sync.new.self.epochs s.past.began c.sync.new.self.began s.stood.items epoch past.0 (rw (← c.deref.ensures.value) past.1) s.stood_so ∙ sym laid;
+      fits = rw (laid ∙ all, c.requires.agrees.as_long) c.requires.fits;
     }
 
 pub returns-clause-synced : goal.returns-clause-synced
 returns-clause-synced c =
     let s = c.args.self.now in
     let now = c.args.content.now in
-    let was : c.deref_mut.result.now ≡ s.written.items = search rules in
-    let patches : pieces c.settle.new.patches ≡ map (settled now) (pieces s.written.items) = c.settle.ensures.settled ∙ ap (λ (ps : List Patch). map (settled now) (pieces ps)) was in
-    let past : epochs c.push_reserved.new.self.items ≡ epochs s.past.items ++ map (settled now) (pieces s.written.items) ∷ [] =
-    pushed s.past.items c.reserve.new.self.items c.push_reserved.new.self.items _ c.settle.new.patches (map (settled now) (pieces s.written.items)) c.push_reserved.ensures.items c.in_ok-reserve.ensures.items
-    (take_at c.settle.new.patches _ c.replace-patches.result.len (c.settle.auto.patches ∙ c.deref_mut.ensures.len)) patches in
-    ap (λ (es : List (List Piece)). synced_after es s.began.items) past ∙ synced_push (epochs s.past.items) (map (settled now) (pieces s.written.items)) s.began.items
+    let past = c.sync.ensures in
+    let epoch = map (settled now) (pieces s.written.items) in
+    epoch_more s.past.epochs c.sync.new.self.epochs s.past.began c.sync.new.self.began (synced (record_of s)) epoch past.0 (rw (← c.deref.ensures.value) past.1) refl
     ∙ replay_settled (synced (record_of s)) now (pieces s.written.items) c.requires.agrees (fits_synced s)

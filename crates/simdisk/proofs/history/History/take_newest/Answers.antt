@@ -29,7 +29,7 @@ invariant_of-self c =
     let less : c.args.loan.patch < length s.written.items = omega (arith, (c.requires.noted some).noted.0, length-map (pieces s.written.items) range, length-map s.written.items piece) in
     let same : ranges (pieces (set s.written.items c.args.loan.patch new)) ≡ ranges (pieces s.written.items) =
     ranges_set s.written.items c.args.loan.patch x new less c.index_mut.ensures.value (range_kept x new c.take_newest.ensures.first c.take_newest.ensures.joined.elsewhere.as_long) in
-    record { past_fits = s.past_fits; fits = rw same s.fits }
+    record { stood_so = s.stood_so; fits = rw same s.fits }
 
 pub returns-clause-ranges : goal.returns-clause-ranges
 returns-clause-ranges c =
