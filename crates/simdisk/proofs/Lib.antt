@@ -1,5 +1,6 @@
 pub mod Epochs
 pub mod Notes
+pub mod Parts
 pub mod Pieces
 pub mod Ranges
 pub mod Replaced

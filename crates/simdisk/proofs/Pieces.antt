@@ -43,10 +43,10 @@ pub replay_push : (ps : List Piece) (p : Piece) (c : Content) → replay (ps ++ 
 replay_push [] p c = refl
 replay_push (q ∷ ps) p c = replay_push ps p (put q c)
 
-fits_here : (n : ℕ) (p : Piece) (ps : List Piece) → Fits n (ranges (p ∷ ps)) → p.0 + length p.1 ≤ n
+pub fits_here : (n : ℕ) (p : Piece) (ps : List Piece) → Fits n (ranges (p ∷ ps)) → p.0 + length p.1 ≤ n
 fits_here n p ps fits = fits 0 (omega arith)
 
-fits_rest : (n : ℕ) (p : Piece) (ps : List Piece) → Fits n (ranges (p ∷ ps)) → Fits n (ranges ps)
+pub fits_rest : (n : ℕ) (p : Piece) (ps : List Piece) → Fits n (ranges (p ∷ ps)) → Fits n (ranges ps)
 fits_rest n p ps fits i lt = fits (suc i) (omega arith)
 
 -- what is laid over a content leaves the rest of it

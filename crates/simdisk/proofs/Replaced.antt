@@ -3,19 +3,13 @@ use Rattle.std.proofs.Common.{◌≡◌, ◌⊎◌, ◌∙◌, inl, inr, ⊎_eli
 use Rattle.std.proofs.lemmas.Bool.{cases_lt}
 use Rattle.std.proofs.lemmas.List.{map-set, set-get_or, length-map, ext_get_or}
 use Rattle.std.proofs.lemmas.Nat.{row_fits}
-use Rattle.disk.specs.Facts.{Content, LaneFacts, Lent, Joined, Torn, lane_at, sector}
+use Rattle.disk.specs.Facts.{Content, LaneFacts, Lent, Joined, sector}
 use Rattle.simdisk.specs.Record.{Piece, put, replay, range, ranges, Untouched, Agrees, Fits, range_at}
 use Rattle.simdisk.specs.Loans.{IsLast}
 use Rattle.simdisk.specs.declared.patch.Patch.{Patch}
 use Rattle.simdisk.specs.Views.{piece, pieces}
 use Rattle.simdisk.proofs.Walks.{range_read}
-use Rattle.simdisk.proofs.Pieces.{length-put, put_low, put_mid, put_high, length_replay, replay_outside}
-
-fits_here : (n : ℕ) (p : Piece) (ps : List Piece) → Fits n (ranges (p ∷ ps)) → p.0 + length p.1 ≤ n
-fits_here n p ps fits = fits 0 (omega arith)
-
-fits_rest : (n : ℕ) (p : Piece) (ps : List Piece) → Fits n (ranges (p ∷ ps)) → Fits n (ranges ps)
-fits_rest n p ps fits i lt = fits (suc i) (omega arith)
+use Rattle.simdisk.proofs.Pieces.{length-put, put_low, put_mid, put_high, fits_here, fits_rest, length_replay, replay_outside}
 
 -- two contents with the same in a sector, if it is outside of these pieces, have the same there after them
 replay_outside_same : (ps : List Piece) (c d : Content) (k : ℕ) → length d ≡ length c → Fits (length c) (ranges ps) → (Untouched (ranges ps) k → sector d k ≡ sector c k)

@@ -6,5 +6,6 @@ pub mod Lanes
 pub mod Lasts
 pub mod Laws
 pub mod Loans
+pub mod Pokes
 pub mod Record
 pub mod Views

@@ -15,6 +15,7 @@ mod loan;
 mod made;
 mod past;
 mod patch;
+mod poked;
 mod recorded;
 mod recording;
 mod sim;

@@ -10,3 +10,5 @@ mod fixtures;
 mod lanes;
 #[cfg(test)]
 mod largest;
+#[cfg(test)]
+mod pokes;

@@ -1,0 +1,7 @@
+use Rattle.simdisk.specs.Views.{pieces}
+use Rattle.simdisk.proofs.Parts.{parts_more}
+use Rattle.simdisk.proofs.poked.parts_of.Goals as goal
+
+pub loop-patch-preserved : goal.loop-patch-preserved
+loop-patch-preserved c =
+    parts_more c.args.sector c.args.patches.now c.loop-patch.patch-index c.patch-item.result (pieces c.loop-patch.out.items) (pieces c.push_parts.new.out.items) c.loop-patch-test.true c.patch-item.is c.loop-patch.invariant c.in_ok-push_parts.ensures

@@ -1,0 +1,8 @@
+use Rattle.std.proofs.Common.{◌≡◌, take}
+use Rattle.std.specs.List.{flat_map}
+use Rattle.simdisk.specs.Pokes.{parted}
+use Rattle.simdisk.specs.Views.{pieces}
+use Rattle.simdisk.proofs.poked.parts_of.Given as goal
+
+abbrev pub invariant-loop-patch : goal.invariant-loop-patch
+invariant-loop-patch l = pieces l.out.items ≡ flat_map (parted l.sector) (take l.patch-index (pieces l.patches))

@@ -1,0 +1,57 @@
+use Rattle.std.proofs.Common.{◌≡◌, ◌∙◌, ◌<◌, ◌∷◌, [], List, ℕ, length, get_or, ap, sym, arith, rules}
+use Rattle.std.proofs.lemmas.List.{get_or_default}
+use Rattle.disk.specs.Facts.{Content}
+use Rattle.simdisk.specs.declared.choice.Choice.TheVariants.{New}
+use Rattle.simdisk.specs.History.{record_of}
+use Rattle.simdisk.specs.Pokes.{bytes_put, poked, poked_record}
+use Rattle.simdisk.specs.Record.{put, synced}
+use Rattle.simdisk.proofs.Epochs.{fits_synced}
+use Rattle.simdisk.proofs.Parts.{choices_poked, agrees_poked, crash_poked}
+use Rattle.simdisk.proofs.sim.SimDisk.poke.Goals as goal
+
+-- what the sector holds, which was read from the content
+read_so : (content : Content) (k offset : ℕ) (bytes read bytes' : List ℕ) → k < length content → read ≡ get_or content k read → bytes' ≡ bytes_put offset bytes read → bytes' ≡ poked k offset bytes content
+read_so content k offset bytes read bytes' lt is stands = stands ∙ ap (λ (old : List ℕ). bytes_put offset bytes old) (is ∙ sym (get_or_default content k [] read lt))
+
+pub invariant_of-self-2 : goal.invariant_of-self-2
+invariant_of-self-2 c =
+    let s = c.args.self.now in
+    let k = c.args.sector in
+    let v = c.put_bytes.new.sector in
+    let r = record_of s.history in
+    let r' = record_of c.set_sector.new.self in
+    let anew : r' ≡ poked_record k v r = c.in_ok-set_sector.ensures.record in
+    let lt : k < length s.content.items = search rules in
+    let old : k < length (synced r) = rw (← s.agrees.as_long) lt in
+    let laid : c.overwrite.new.content.items ≡ put (k, v ∷ []) s.content.items = c.overwrite.ensures.put in
+    record {
+      agrees = agrees_poked k v r r' anew old s.content.items c.overwrite.new.content.items s.agrees laid;
+      newest = λ on. choices_poked k v r r' anew old (fits_synced s.history) New ∙ ap (λ (x : Content). put (k, v ∷ []) x) (s.newest on) ∙ sym laid;
+      few = s.few;
+      few_calls = s.few_calls;
+      within = rw c.overwrite.ensures.written.elsewhere.as_long s.within;
+      noted = λ some. absurd (omega (arith, some, c.requires));
+    }
+
+pub returns-clause-stands : goal.returns-clause-stands
+returns-clause-stands c within =
+    let s = c.args.self.now in
+    let k = c.args.sector in
+    let r = record_of s.history in
+    let r' = record_of c.set_sector.new.self in
+    let is : c.put_bytes.new.sector ≡ poked k c.args.offset c.args.bytes.now s.content.items = read_so s.content.items k c.args.offset c.args.bytes.now c.index.result.now c.put_bytes.new.sector within.0 c.index.ensures c.put_bytes.ensures in
+    let anew : r' ≡ poked_record k (poked k c.args.offset c.args.bytes.now s.content.items) r = rw (← is) c.in_ok-set_sector.ensures.record in
+    record {
+      content = rw (← is) c.overwrite.ensures.put;
+      crash = crash_poked k (poked k c.args.offset c.args.bytes.now s.content.items) r r' anew (rw (← s.agrees.as_long) within.0);
+    }
+
+pub returns-clause-choices : goal.returns-clause-choices
+returns-clause-choices c within =
+    let s = c.args.self.now in
+    let k = c.args.sector in
+    let r = record_of s.history in
+    let r' = record_of c.set_sector.new.self in
+    let is : c.put_bytes.new.sector ≡ poked k c.args.offset c.args.bytes.now s.content.items = read_so s.content.items k c.args.offset c.args.bytes.now c.index.result.now c.put_bytes.new.sector within.0 c.index.ensures c.put_bytes.ensures in
+    let anew : r' ≡ poked_record k (poked k c.args.offset c.args.bytes.now s.content.items) r = rw (← is) c.in_ok-set_sector.ensures.record in
+    choices_poked k (poked k c.args.offset c.args.bytes.now s.content.items) r r' anew (rw (← s.agrees.as_long) within.0) (fits_synced s.history)

@@ -1,0 +1,123 @@
+//! A disk that somebody writes past the firmware.
+ghost use Rattle.std.specs.Prelude.{◌≡◌, ◌≤◌, ◌<◌, ◌+◌, ◌-◌, ◌^◌, ◌++◌, [], ◌∷◌, length, IsOk, OnOk, OnErr, IfOk};
+ghost use Rattle.std.specs.List.{flat_map};
+ghost use Rattle.disk.specs.Calls.{NoCall};
+ghost use Rattle.disk.specs.Facts.{Unchanged};
+ghost use Rattle.simdisk.specs.Pokes.{bytes_put, poked, parted, poked_record, IsWithin, StandsSo, StandsByEach};
+ghost use Rattle.simdisk.specs.Record.{synced};
+ghost use Rattle.simdisk.specs.Views.{piece, pieces};
+
+use crate::history::History;
+use crate::laid::overwrite;
+use crate::past::Past;
+use crate::patch::{Patch, copy_of};
+use crate::recorded::Recorded;
+use crate::sim::SimDisk;
+use disk::{Disk, Sector};
+use std::alloc::{AllocError, Global};
+
+// Puts these bytes into the sector, from that one on.
+fn put_bytes(sector: &mut Sector, offset: usize, bytes: &[u8])
+    requires { offset + length bytes.now ≤ 512 }
+    ensures { sector.new ≡ bytes_put offset bytes.now sector.old }
+{
+    sector[offset..offset + bytes.len()].copy_from_slice(bytes);
+}
+
+// Adds a copy of these sectors, from that place on.
+fn push_copy(
+    alloc: Global,
+    out: &mut Vec<Patch>,
+    first: usize,
+    sectors: &[Sector],
+) -> Result<(), AllocError>
+    ensures { OnOk result (pieces out.new.items ≡ pieces out.old.items ++ (first, sectors.now) ∷ []) }
+{
+    let sectors = copy_of(alloc, sectors)?;
+    out.push(Patch { first, sectors })?;
+    Ok(())
+}
+
+impl Patch {
+    // Adds copies of its sectors but that one.
+    fn push_parts(
+        &self,
+        alloc: Global,
+        sector: usize,
+        out: &mut Vec<Patch>,
+    ) -> Result<(), AllocError>
+        requires { sector < 2 ^ 64 - 1 }
+        ensures { OnOk result (pieces out.new.items ≡ pieces out.old.items ++ parted sector (piece self.now)) }
+    {
+        if sector < self.first || self.sectors.len() <= sector - self.first {
+            return push_copy(alloc, out, self.first, &self.sectors);
+        }
+        let at = sector - self.first;
+        push_copy(alloc, out, self.first, &self.sectors[..at])?;
+        push_copy(alloc, out, sector + 1, &self.sectors[at + 1..])
+    }
+}
+
+// Copies of the patches without that sector.
+fn parts_of(alloc: Global, patches: &[Patch], sector: usize) -> Result<Vec<Patch>, AllocError>
+    requires { sector < 2 ^ 64 - 1 }
+    ensures { IfOk result (λ out. pieces out.items ≡ flat_map (parted sector) (pieces patches.now)) }
+{
+    let mut out = Vec::new(alloc);
+    for patch in patches {
+        patch.push_parts(alloc, sector, &mut out)?;
+    }
+    Ok(out)
+}
+
+impl History {
+    ghost use Rattle.simdisk.specs.History.{record_of};
+
+    // The record begins anew, with these bytes in that sector, and without what was written to it
+    // since the last sync. At `Err` nothing has changed.
+    fn set_sector(&mut self, alloc: Global, sector: usize, bytes: Sector) -> Result<(), AllocError>
+        requires { sector < length (synced (record_of self.old)) }
+        ensures record { OnOk result (record_of self.new ≡ poked_record sector bytes (record_of self.old)) }
+        ensures refused { OnErr result (record_of self.new ≡ record_of self.old) }
+    {
+        let written = parts_of(alloc, &self.written, sector)?;
+        overwrite(&mut self.stood, sector, &[bytes]);
+        self.written = written;
+        self.past = Past::begun(&self.stood);
+        Ok(())
+    }
+}
+
+impl SimDisk {
+    /// Puts these bytes into a sector, from that byte of it on, past the firmware. A read then gives
+    /// them, and the sector stands as it then reads, whatever a cut leaves of the others. It is no
+    /// call of the disk, and what is armed stays. The record begins anew.
+    ///
+    /// Nothing changes where the bytes don't end in a sector that the disk has, nor where memory is
+    /// refused.
+    pub fn poke(&mut self, sector: usize, offset: usize, bytes: &[u8]) -> Result<(), AllocError>
+        requires { (⟦<SimDisk as Disk>⟧.facts self.old).lent.lanes ≡ 0 }
+        ensures stands { OnOk result (IsWithin sector offset bytes.now (⟦<SimDisk as Disk>⟧.facts self.old).content
+            → StandsSo sector (poked sector offset bytes.now (⟦<SimDisk as Disk>⟧.facts self.old).content) (⟦<SimDisk as Disk>⟧.facts self.old) (⟦<SimDisk as Disk>⟧.facts self.new)) }
+        ensures choices { OnOk result (IsWithin sector offset bytes.now (⟦<SimDisk as Disk>⟧.facts self.old).content
+            → StandsByEach sector (poked sector offset bytes.now (⟦<SimDisk as Disk>⟧.facts self.old).content) (⟦<SimDisk as Recorded>⟧.record self.old) (⟦<SimDisk as Recorded>⟧.record self.new)) }
+        ensures record { OnOk result (IsWithin sector offset bytes.now (⟦<SimDisk as Disk>⟧.facts self.old).content
+            → ⟦<SimDisk as Recorded>⟧.record self.new ≡ poked_record sector (poked sector offset bytes.now (⟦<SimDisk as Disk>⟧.facts self.old).content) (⟦<SimDisk as Recorded>⟧.record self.old)) }
+        ensures outside { (IsWithin sector offset bytes.now (⟦<SimDisk as Disk>⟧.facts self.old).content → ⊥)
+            → IsOk result × Unchanged (⟦<SimDisk as Disk>⟧.facts self.old) (⟦<SimDisk as Disk>⟧.facts self.new) × (⟦<SimDisk as Recorded>⟧.record self.new ≡ ⟦<SimDisk as Recorded>⟧.record self.old) }
+        ensures refused { OnErr result (Unchanged (⟦<SimDisk as Disk>⟧.facts self.old) (⟦<SimDisk as Disk>⟧.facts self.new) × (⟦<SimDisk as Recorded>⟧.record self.new ≡ ⟦<SimDisk as Recorded>⟧.record self.old)) }
+        ensures no_call { NoCall (⟦<SimDisk as Disk>⟧.facts self.old) (⟦<SimDisk as Disk>⟧.facts self.new) (⟦<SimDisk as Disk>⟧.mishaps self.old) (⟦<SimDisk as Disk>⟧.mishaps self.new) }
+        ensures lent { (⟦<SimDisk as Disk>⟧.facts self.new).lent ≡ (⟦<SimDisk as Disk>⟧.facts self.old).lent }
+        ensures as_long { length (⟦<SimDisk as Disk>⟧.facts self.new).content ≡ length (⟦<SimDisk as Disk>⟧.facts self.old).content }
+        ensures armed { ⟦<SimDisk as Recorded>⟧.armed self.new ≡ ⟦<SimDisk as Recorded>⟧.armed self.old }
+    {
+        if self.content.len() <= sector || 512 < offset || 512 - offset < bytes.len() {
+            return Ok(());
+        }
+        let mut stands = self.content[sector];
+        put_bytes(&mut stands, offset, bytes);
+        self.history.set_sector(self.alloc, sector, stands)?;
+        overwrite(&mut self.content, sector, &[stands]);
+        Ok(())
+    }
+}
