@@ -3,9 +3,12 @@ use Rattle.std.proofs.Common.{◌≡◌, ◌≤◌, ℕ, ◌+◌, [], ◌∷◌,
 use Rattle.board_model.specs.Durable.{Change, State, after, ends_life}
 use Rattle.board_model.specs.Kept.{Kept}
 use Rattle.board_model.specs.Shapes.{Size}
-use Rattle.board_model.specs.Shown.{number_of}
+use Rattle.board_model.specs.Shown.{number_of, change_of}
+use Rattle.board_model.specs.declared.durable.Command.{Command}
+use Rattle.board_model.specs.declared.durable.Command.TheVariants as commands
 use Rattle.board_model.specs.declared.refusal.Refusal.{Refusal}
 use Rattle.board_model.specs.declared.refusal.Refusal.TheVariants.{Device, Down, JournalFull}
+use Rattle.board.specs.Boots.{IsConsoleCommand}
 use Rattle.disk.specs.Facts.{Failed}
 use Rattle.machine.specs.Machine.{Machine}
 use Rattle.store.specs.Leaves.{SameLength}
@@ -22,6 +25,13 @@ use Rattle.bench_report.proofs.Devices.{hindered, stays}
 use Rattle.bench_report.proofs.Ended.{found_more}
 use Rattle.bench_report.proofs.Formats.{same_error}
 use Rattle.bench_report.proofs.Table.{not_device, not_down}
+
+-- a command of the console ends no life
+pub console_goes_on : (command : Command) → IsConsoleCommand command → ends_life (change_of command) ≡ false
+console_goes_on (commands.Slot n) is = refl
+console_goes_on (commands.Reset r) is = absurd is
+console_goes_on commands.Consume is = absurd is
+console_goes_on commands.Discard is = refl
 
 -- a board that is on, by its machine and its store
 abbrev pub Running : Size → Bench → Machine → Store → Type 0

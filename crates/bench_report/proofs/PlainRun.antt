@@ -11,11 +11,13 @@ use Rattle.script_lang.specs.Scripts.{Script}
 use Rattle.script_lang.specs.declared.line.Line.{Line}
 use Rattle.script_lang.specs.declared.line.Line.TheVariants as lines
 use Rattle.disk.specs.Mishaps.{FaultArmed, CutArmed}
+use Rattle.bench_report.specs.declared.printed.ConsoleWord.{ConsoleWord}
+use Rattle.bench_report.specs.declared.printed.ConsoleWord.TheVariants as names
 use Rattle.bench_report.specs.declared.printed.Answer.{Answer}
 use Rattle.bench_report.specs.Bench.{Medium, Blank, Unknown, Formatted, Life, Bench, IsUnspoilt, blank_bench}
-use Rattle.bench_report.specs.Steps.{on_with, settled, acknowledged, begun, Writes, Issued, IssuedBy, ShowsFound, NotBuilt, ArmStep, FormatsOn, Boots, Begins, Opens, IsOpenRefusal, PowersOn, FormatStep, OnStep, SlotStep, PayloadStep, Step, Run}
+use Rattle.bench_report.specs.Steps.{on_with, settled, acknowledged, begun, Writes, Issued, IssuedBy, ShowsFound, NotBuilt, ArmStep, FormatsOn, Boots, Begins, Opens, IsOpenRefusal, PowersOn, FormatStep, OnStep, ConsoleStep, PayloadStep, Step, Run}
 use Rattle.bench_report.specs.Reports.{IsReport}
-use Rattle.bench_report.specs.Plain.{plain_written, plain_issued, plain_format, plain_mode, plain_boot, plain_on, plain_at, plain, plain_answers, plain_report, IsPlain, ArePlain}
+use Rattle.bench_report.specs.Plain.{plain_written, plain_issued, plain_console, plain_format, plain_mode, plain_boot, plain_on, plain_at, plain, plain_answers, plain_report, IsPlain, ArePlain}
 use Rattle.bench_report.proofs.Determined.{CalmDisk}
 use Rattle.bench_report.proofs.Smooth.{AsMany, many_then}
 use Rattle.bench_report.proofs.Single.{IsOneCall, IsOneCsr, one_report}
@@ -65,11 +67,11 @@ issued false c life b at calm few good =
     less : (n : ℕ) → (n == 4096) ≡ false → n ≤ 4096 → n < 4096
     less n h few = grind (arith, h, few)
 
-slot_at : (size : Size) (p : Option Life) (n : ℕ) (b : Bench) → CalmPower p → IsGood b → Well b (SlotStep p n b) (plain_at size p (lines.Slot n) b)
-slot_at size None n b calm good = still b (SlotStep None n b) (plain_at size None (lines.Slot n) b) (refl, refl) refl good
-slot_at size (Some life) n b calm good =
-    let told = plain_issued (Slot n) life b in
-    let did = issued (life.receipts == 4096) (Slot n) life b refl calm.0 calm.1 good in
+console_at : (word : ConsoleWord) (c : Change) (p : Option Life) (b : Bench) → CalmPower p → IsGood b → Well b (ConsoleStep word c p b) (plain_console word c p b)
+console_at word c None b calm good = still b (ConsoleStep word c None b) (plain_console word c None b) (refl, refl) refl good
+console_at word c (Some life) b calm good =
+    let told = plain_issued c life b in
+    let did = issued (life.receipts == 4096) c life b refl calm.0 calm.1 good in
     ((told.0, did.0, refl), did.1, did.2)
 
 -- ---- format
@@ -136,12 +138,16 @@ steps : (size : Size) (line : Line) (b : Bench) → IsPlain line → IsGood b �
 steps size (lines.Payload x y) b plain good = payload_at size b.power x y b good
 steps size lines.Format b plain good = format_at size b.power b good
 steps size (lines.On mode) b plain good = on_at size b.power mode b good
-steps size (lines.Slot n) b plain good = slot_at size b.power n b good.1 good
-steps size lines.Discard b plain good = by_power b.power (λ p. Well b (NotBuilt b) (plain_at size p lines.Discard b)) ((refl, refl), good, (refl, refl)) (λ life. ((refl, refl), good, (refl, refl)))
+steps size (lines.Slot n) b plain good =
+    by_power b.power (λ p. CalmPower p → Well b (ConsoleStep names.Slot (Slot n) p b) (plain_at size p (lines.Slot n) b))
+    (λ calm. console_at names.Slot (Slot n) None b calm good) (λ life calm. console_at names.Slot (Slot n) (Some life) b calm good) good.1
+steps size lines.Discard b plain good =
+    by_power b.power (λ p. CalmPower p → Well b (ConsoleStep names.Discard Discard p b) (plain_at size p lines.Discard b))
+    (λ calm. console_at names.Discard Discard None b calm good) (λ life calm. console_at names.Discard Discard (Some life) b calm good) good.1
 steps size (lines.CutAt x y) b plain good = by_power b.power (λ p. Well b (ArmStep CutArmed b) (plain_at size p (lines.CutAt x y) b)) ((refl, refl), good, (refl, refl)) (λ life. ((refl, refl), good, (refl, refl)))
-steps size (lines.CutLane x y z) b plain good = by_power b.power (λ p. Well b (NotBuilt b) (plain_at size p (lines.CutLane x y z) b)) ((refl, refl), good, (refl, refl)) (λ life. ((refl, refl), good, (refl, refl)))
+steps size (lines.CutLane x y z) b plain good = by_power b.power (λ p. Well b (ArmStep CutArmed b) (plain_at size p (lines.CutLane x y z) b)) ((refl, refl), good, (refl, refl)) (λ life. ((refl, refl), good, (refl, refl)))
 steps size (lines.FailAt x) b plain good = by_power b.power (λ p. Well b (ArmStep FaultArmed b) (plain_at size p (lines.FailAt x) b)) ((refl, refl), good, (refl, refl)) (λ life. ((refl, refl), good, (refl, refl)))
-steps size (lines.FailLane x y) b plain good = by_power b.power (λ p. Well b (NotBuilt b) (plain_at size p (lines.FailLane x y) b)) ((refl, refl), good, (refl, refl)) (λ life. ((refl, refl), good, (refl, refl)))
+steps size (lines.FailLane x y) b plain good = by_power b.power (λ p. Well b (ArmStep FaultArmed b) (plain_at size p (lines.FailLane x y) b)) ((refl, refl), good, (refl, refl)) (λ life. ((refl, refl), good, (refl, refl)))
 steps size (lines.Poke x y z) b plain good = by_power b.power (λ p. Well b (NotBuilt b) (plain_at size p (lines.Poke x y z) b)) ((refl, refl), good, (refl, refl)) (λ life. ((refl, refl), good, (refl, refl)))
 steps size (lines.Cut fill) b plain good =
     by_power b.power (λ p. Well b (Step size (lines.Cut fill) b) (plain_at size p (lines.Cut fill) b)) ((refl, refl), (good.0, tt, refl), (refl, refl)) (λ life. ((refl, refl), (good.0, tt, refl), (refl, refl)))

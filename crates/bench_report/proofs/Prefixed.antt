@@ -1,7 +1,7 @@
 -- The prefix law, one induction over the lines, backwards: the state before a line comes of the one after it, so that the fate of a
 -- command in doubt is told by the open that settles it.
 use Rattle.std.proofs.Common.{◌≡◌, ◌⊎◌, ℕ, inl, inr, List, [], ◌∷◌, Option, None, Some, Result, Ok, Err, refl, sym, ◌∙◌, ap, subst, Bool, true, false, MatchBool}
-use Rattle.board_model.specs.Durable.{State, Change, Slot, formatted, after}
+use Rattle.board_model.specs.Durable.{State, Change, Slot, Discard, formatted, after}
 use Rattle.board_model.specs.Kept.{Kept, nothing_kept, found_of, MayKeep, MayFind}
 use Rattle.bench_report.specs.Taken.{Takes, TakesSome, TakesFewer}
 use Rattle.board_model.specs.Shapes.{Size}
@@ -24,12 +24,14 @@ use Rattle.machine.specs.declared.parts.Word.{Word}
 use Rattle.machine.specs.declared.parts.Word.TheVariants as words
 use Rattle.machine_lines.specs.declared.line.MachineLine.{MachineLine}
 use Rattle.machine_lines.specs.declared.line.MachineLine.TheVariants as shown_lines
+use Rattle.bench_report.specs.declared.printed.ConsoleWord.{ConsoleWord}
+use Rattle.bench_report.specs.declared.printed.ConsoleWord.TheVariants as names
 use Rattle.bench_report.specs.declared.printed.Printed.{Printed}
 use Rattle.bench_report.specs.declared.printed.Printed.TheVariants as printed
 use Rattle.disk.specs.Mishaps.{FaultArmed, CutArmed}
 use Rattle.bench_report.specs.declared.printed.Answer.{Answer}
 use Rattle.bench_report.specs.Bench.{Medium, Blank, Unknown, Formatted, Life, Bench, blank_bench}
-use Rattle.bench_report.specs.Steps.{says, shows, starved, failed, on_with, unpowered, armed_with, formatted_anew, settled, has_machine, begun, commands_of, slot_told, IsOn, Starts, Begins, Boots, Opens, ShowsFound, IsOpenRefusal, PowersOn, FormatsOn, FormatStep, OnStep, SlotStep, PayloadStep, CallTold, GuestCall, GuestTurns, TurnStep, CallStep, ReadStep, Step, Moves, Run}
+use Rattle.bench_report.specs.Steps.{says, shows, starved, failed, on_with, unpowered, armed_with, formatted_anew, settled, has_machine, begun, commands_of, console_told, IsOn, Starts, Begins, Boots, Opens, ShowsFound, IsOpenRefusal, PowersOn, FormatsOn, FormatStep, OnStep, ConsoleStep, PayloadStep, CallTold, GuestCall, GuestTurns, TurnStep, CallStep, ReadStep, Step, Moves, Run}
 use Rattle.bench_report.specs.Reports.{IsReport}
 use Rattle.bench_report.specs.Prefix.{Asked, Boot, Command, Guest, Nothing, IsOfHarts, Hides, TellsWord, TellsLine, asked_by, Refused, Lost, Tells, ShowsIts, IsPrefixed, resumed, resumes, RisesFrom, is_format_ok, IsFoundByPrefix, KeepsPrefixLaw}
 use Rattle.bench_report.proofs.Unsaid.{GoesBy, comes_back, turns_back}
@@ -62,8 +64,8 @@ lost_boot mode printed.PowerLost s t up now h = h.0
 lost_boot mode x s t up now h = none_some (commands_of mode) s t h.0
 
 lost_command : (c : Change) (x : Printed) (s t : State) (up now : Bool) → Tells (Command c) x s up t now → (t ≡ s) ⊎ ((up ≡ true) × TakesSome (c ∷ []) s t)
-lost_command c (printed.Slot k) s t up now h = inr (h.0, all_some (c ∷ []) s t h.1)
-lost_command c (printed.SlotRefused n) s t up now h = lost_refused n c s t up now h
+lost_command c (printed.Acknowledged word k) s t up now h = inr (h.0, all_some (c ∷ []) s t h.1)
+lost_command c (printed.CommandRefused word n) s t up now h = lost_refused n c s t up now h
 lost_command c (printed.On m) s t up now h = absurd h
 lost_command c printed.PowerLost s t up now h = h.0
 lost_command c x s t up now h = inl h.0
@@ -224,20 +226,20 @@ powers size mode b a new sound on (inr (inr (inl h))) = same (Boot mode) b a (pr
 powers size mode b a new sound on (inr (inr (inr h))) = same (Boot mode) b a (printed.OnRefused 5) new (failed h.1.0 b) h.0 h.1.2 refl refl refl sound.1 sound (λ s t e. (ap is_up on, ap is_up on, inl e))
 
 -- ---- the other lines
-slot_says : (o : Result ℕ ℕ) (n : ℕ) (b : Bench) (a : Answer) (new : Bench) → Does (Slot n) (is_up b.power) b o new → a ≡ slot_told o → Tell (Command (Slot n)) b a new
-slot_says (Ok k) n b a new one e =
-    by_eqs (Command (Slot n)) b a _ new new e refl (said b new (Went (Ok k) (Slot n) (is_up b.power) (is_up new.power)) (λ s t. Told (Command (Slot n)) (says (printed.Slot k)) (is_up b.power) (is_up new.power) s t) one (λ s t w. (tt, (w.0, (w.1, w.2), w.3))))
-slot_says (Err k) n b a new one e =
-    by_eqs (Command (Slot n)) b a _ new new e refl (said b new (Went (Err k) (Slot n) (is_up b.power) (is_up new.power)) (λ s t. Told (Command (Slot n)) (says (printed.SlotRefused k)) (is_up b.power) (is_up new.power) s t) one (λ s t w. (tt, down s t w)))
+console_says : (word : ConsoleWord) (c : Change) (o : Result ℕ ℕ) (b : Bench) (a : Answer) (new : Bench) → Does c (is_up b.power) b o new → a ≡ console_told word o → Tell (Command c) b a new
+console_says word c (Ok k) b a new one e =
+    by_eqs (Command c) b a _ new new e refl (said b new (Went (Ok k) c (is_up b.power) (is_up new.power)) (λ s t. Told (Command c) (says (printed.Acknowledged word k)) (is_up b.power) (is_up new.power) s t) one (λ s t w. (tt, (w.0, (w.1, w.2), w.3))))
+console_says word c (Err k) b a new one e =
+    by_eqs (Command c) b a _ new new e refl (said b new (Went (Err k) c (is_up b.power) (is_up new.power)) (λ s t. Told (Command c) (says (printed.CommandRefused word k)) (is_up b.power) (is_up new.power) s t) one (λ s t w. (tt, down s t w)))
   where
-    down : (s t : State) → Went (Err k) (Slot n) (is_up b.power) (is_up new.power) s t → Refused k (Slot n) s (is_up b.power) t (is_up new.power)
+    down : (s t : State) → Went (Err k) c (is_up b.power) (is_up new.power) s t → Refused k c s (is_up b.power) t (is_up new.power)
     down s t (inl w) = inl w
     down s t (inr (inl w)) = inr (w.0, w.3, inl w.1)
     down s t (inr (inr w)) = inr (w.0, w.2, inr (w.1, w.3))
 
-slots : (p : Option Life) (n : ℕ) (b : Bench) (a : Answer) (new : Bench) → IsSound b → b.power ≡ p → SlotStep p n b a new → Tell (Command (Slot n)) b a new
-slots None n b a new sound on h = stays (Command (Slot n)) b a printed.Off new h.0 h.1 sound (λ s t e. (e, refl))
-slots (Some life) n b a new sound on (o, issued, e) = slot_says o n b a new (issued_back (Slot n) life b o new sound on issued) e
+consoles : (word : ConsoleWord) (c : Change) (p : Option Life) (b : Bench) (a : Answer) (new : Bench) → IsSound b → b.power ≡ p → ConsoleStep word c p b a new → Tell (Command c) b a new
+consoles word c None b a new sound on h = stays (Command c) b a printed.Off new h.0 h.1 sound (λ s t e. (e, refl))
+consoles word c (Some life) b a new sound on (o, issued, e) = console_says word c o b a new (issued_back c life b o new sound on issued) e
 
 formats : (m : Medium) (b : Bench) (a : Answer) (new : Bench) → IsSound b → b.medium ≡ m → FormatsOn m b a new → Tell Nothing b a new
 formats Blank b a new sound at h = absurd (let e : Blank ≡ Formatted = sym at ∙ sound.0 in let no : ⊥ = cc in no)
@@ -314,8 +316,8 @@ steps : (size : Size) (line : Line) (b : Bench) (a : Answer) (new : Bench) → I
 steps size (lines.Payload x y) b a new sound h = payload_at b.power x y b a new sound h
 steps size lines.Format b a new sound h = format_at b.power b a new sound h
 steps size (lines.On mode) b a new sound h = on_at size b.power mode b a new sound refl h
-steps size (lines.Slot n) b a new sound h = slots b.power n b a new sound refl h
-steps size lines.Discard b a new sound h = not_built b a new sound h.0 h.1
+steps size (lines.Slot n) b a new sound h = consoles names.Slot (Slot n) b.power b a new sound refl h
+steps size lines.Discard b a new sound h = consoles names.Discard Discard b.power b a new sound refl h
 steps size (lines.Turn x y) b a new sound h = turn_at b.power x y b a new sound h
 steps size (lines.Call x y z u v w) b a new sound h = call_at b.power x y z u v w b a new sound refl h
 steps size (lines.Reg x y) b a new sound h = read_at b.power _ b a new sound h
@@ -324,9 +326,9 @@ steps size (lines.Csr x y) b a new sound h = read_at b.power _ b a new sound h
 steps size lines.Pending b a new sound h = read_at b.power _ b a new sound h
 steps size (lines.Mem x y) b a new sound h = read_at b.power _ b a new sound h
 steps size (lines.CutAt x y) b a new sound h = same Nothing b a _ new (armed_with CutArmed b) h.0 h.1 refl refl refl sound.1 sound (λ s t e. (e, refl))
-steps size (lines.CutLane x y z) b a new sound h = not_built b a new sound h.0 h.1
+steps size (lines.CutLane x y z) b a new sound h = same Nothing b a _ new (armed_with CutArmed b) h.0 h.1 refl refl refl sound.1 sound (λ s t e. (e, refl))
 steps size (lines.FailAt x) b a new sound h = same Nothing b a _ new (armed_with FaultArmed b) h.0 h.1 refl refl refl sound.1 sound (λ s t e. (e, refl))
-steps size (lines.FailLane x y) b a new sound h = not_built b a new sound h.0 h.1
+steps size (lines.FailLane x y) b a new sound h = same Nothing b a _ new (armed_with FaultArmed b) h.0 h.1 refl refl refl sound.1 sound (λ s t e. (e, refl))
 steps size (lines.Cut fill) b a new sound h = by_eqs Nothing b a _ new (unpowered b) h.0 h.1 ((sound.0, tt), λ t f. (t, f, (tt, (refl, refl))))
 steps size (lines.Poke x y z) b a new sound h = not_built b a new sound h.0 h.1
 
@@ -420,13 +422,13 @@ powers_no size None mode b a new (inr (inl h)) ok = other a _ h.2 refl ok
 powers_no size None mode b a new (inr (inr (inl h))) ok = other a _ h.1 refl ok
 powers_no size None mode b a new (inr (inr (inr h))) ok = other a _ h.0 refl ok
 
-told_no : {T : Type 0} (o : Result ℕ ℕ) (a : Answer) → a ≡ slot_told o → is_format_ok a.line ≡ true → T
-told_no (Ok n) a e ok = other a _ e refl ok
-told_no (Err n) a e ok = other a _ e refl ok
+told_no : {T : Type 0} (word : ConsoleWord) (o : Result ℕ ℕ) (a : Answer) → a ≡ console_told word o → is_format_ok a.line ≡ true → T
+told_no word (Ok n) a e ok = other a _ e refl ok
+told_no word (Err n) a e ok = other a _ e refl ok
 
-slots_no : {T : Type 0} (p : Option Life) (n : ℕ) (b : Bench) (a : Answer) (new : Bench) → SlotStep p n b a new → is_format_ok a.line ≡ true → T
-slots_no None n b a new h ok = other a _ h.0 refl ok
-slots_no (Some life) n b a new h ok = told_no h.0 a h.2 ok
+console_no : {T : Type 0} (word : ConsoleWord) (c : Change) (p : Option Life) (b : Bench) (a : Answer) (new : Bench) → ConsoleStep word c p b a new → is_format_ok a.line ≡ true → T
+console_no word c None b a new h ok = other a _ h.0 refl ok
+console_no word c (Some life) b a new h ok = told_no word h.0 a h.2 ok
 
 payload_no : {T : Type 0} (p : Option Life) (slot : ℕ) (bytes : List ℕ) (b : Bench) (a : Answer) (new : Bench) → PayloadStep p slot bytes b a new → is_format_ok a.line ≡ true → T
 payload_no None slot bytes b a new h ok = other a _ h.0 refl ok
@@ -459,8 +461,8 @@ step_formats : (size : Size) (line : Line) (b : Bench) (a : Answer) (new : Bench
 step_formats size (lines.Payload x y) b a new h ok = payload_no b.power x y b a new h ok
 step_formats size lines.Format b a new h ok = formatted_at b.power b a new refl h ok
 step_formats size (lines.On mode) b a new h ok = powers_no size b.power mode b a new h ok
-step_formats size (lines.Slot n) b a new h ok = slots_no b.power n b a new h ok
-step_formats size lines.Discard b a new h ok = other a _ h.0 refl ok
+step_formats size (lines.Slot n) b a new h ok = console_no names.Slot (Slot n) b.power b a new h ok
+step_formats size lines.Discard b a new h ok = console_no names.Discard Discard b.power b a new h ok
 step_formats size (lines.Turn x y) b a new h ok = turn_no b.power x y b a new h ok
 step_formats size (lines.Call x y z u v w) b a new h ok = call_no b.power x y z u v w b a new h ok
 step_formats size (lines.Reg x y) b a new h ok = read_no b.power _ b a new h ok

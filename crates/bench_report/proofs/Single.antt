@@ -1,6 +1,6 @@
 -- One report: the lines, and the one induction over them.
 use Rattle.std.proofs.Common.{◌≡◌, ◌⊎◌, ℕ, inl, inr, List, [], ◌∷◌, Option, None, Some, refl, sym, ◌∙◌, ap, subst, arith, Bool, true, false}
-use Rattle.board_model.specs.Durable.{Slot}
+use Rattle.board_model.specs.Durable.{Change, Slot, Discard}
 use Rattle.board_model.specs.Shapes.{Size}
 use Rattle.board_model.specs.declared.boot_mode.BootMode.{BootMode}
 use Rattle.disk.specs.Mishaps.{FaultArmed, CutArmed}
@@ -17,9 +17,11 @@ use Rattle.machine.specs.declared.parts.Called.TheVariants.{NotStarted, Made}
 use Rattle.script_lang.specs.Scripts.{Script}
 use Rattle.script_lang.specs.declared.line.Line.{Line}
 use Rattle.script_lang.specs.declared.line.Line.TheVariants as lines
+use Rattle.bench_report.specs.declared.printed.ConsoleWord.{ConsoleWord}
+use Rattle.bench_report.specs.declared.printed.ConsoleWord.TheVariants as names
 use Rattle.bench_report.specs.declared.printed.Answer.{Answer}
 use Rattle.bench_report.specs.Bench.{Life, Bench, IsUnspoilt, blank_bench}
-use Rattle.bench_report.specs.Steps.{shows, unpowered, armed_with, on_with, has_machine, slot_told, FormatStep, OnStep, SlotStep, PayloadStep, CallTold, GuestCall, GuestTurns, TurnStep, CallStep, ReadStep, Step, Moves, Run}
+use Rattle.bench_report.specs.Steps.{shows, unpowered, armed_with, on_with, has_machine, console_told, FormatStep, OnStep, ConsoleStep, PayloadStep, CallTold, GuestCall, GuestTurns, TurnStep, CallStep, ReadStep, Step, Moves, Run}
 use Rattle.bench_report.specs.Reports.{IsReport}
 use Rattle.bench_report.proofs.Guests.{IsOneTurn, Row, row, comes_fair, comes_one, turns_fair, turns_one}
 use Rattle.bench_report.proofs.Determined.{some_inj, IsSpoilt, IsCalm, Fair, fair_to, unmoved, issued_fair, Agree, same, issued, formats_fair, formats, powers_fair, powers}
@@ -40,9 +42,9 @@ on_fair : (size : Size) (p : Option Life) (mode : BootMode) (b : Bench) (a : Ans
 on_fair size None mode b a new h = powers_fair size mode b a new h
 on_fair size (Some life) mode b a new h = unmoved b new h.1
 
-slot_fair : (p : Option Life) (n : ℕ) (b : Bench) (a : Answer) (new : Bench) → SlotStep p n b a new → Fair b new
-slot_fair None n b a new h = unmoved b new h.1
-slot_fair (Some life) n b a new h = issued_fair (Slot n) life b h.0 new h.1
+console_fair : (word : ConsoleWord) (c : Change) (p : Option Life) (b : Bench) (a : Answer) (new : Bench) → ConsoleStep word c p b a new → Fair b new
+console_fair word c None b a new h = unmoved b new h.1
+console_fair word c (Some life) b a new h = issued_fair c life b h.0 new h.1
 
 payload_fair : (p : Option Life) (slot : ℕ) (bytes : List ℕ) (b : Bench) (a : Answer) (new : Bench) → PayloadStep p slot bytes b a new → Fair b new
 payload_fair None slot bytes b a new h = fair_to b new _ h.1 (λ s. s, λ c. inr c)
@@ -71,8 +73,8 @@ step_fair : (size : Size) (line : Line) (b : Bench) (a : Answer) (new : Bench) �
 step_fair size (lines.Payload x y) b a new h = payload_fair b.power x y b a new h
 step_fair size lines.Format b a new h = format_fair b.power b a new h
 step_fair size (lines.On mode) b a new h = on_fair size b.power mode b a new h
-step_fair size (lines.Slot n) b a new h = slot_fair b.power n b a new h
-step_fair size lines.Discard b a new h = unmoved b new h.1
+step_fair size (lines.Slot n) b a new h = console_fair names.Slot (Slot n) b.power b a new h
+step_fair size lines.Discard b a new h = console_fair names.Discard Discard b.power b a new h
 step_fair size (lines.Turn x y) b a new h = turn_fair b.power x y b a new h
 step_fair size (lines.Call x y z u v w) b a new h = call_fair b.power x y z u v w b a new h
 step_fair size (lines.Reg x y) b a new h = read_fair b.power _ b a new h
@@ -81,9 +83,9 @@ step_fair size (lines.Csr x y) b a new h = read_fair b.power _ b a new h
 step_fair size lines.Pending b a new h = read_fair b.power _ b a new h
 step_fair size (lines.Mem x y) b a new h = read_fair b.power _ b a new h
 step_fair size (lines.CutAt x y) b a new h = fair_to b new (armed_with CutArmed b) h.1 (λ s. s, λ c. inr c)
-step_fair size (lines.CutLane x y z) b a new h = unmoved b new h.1
+step_fair size (lines.CutLane x y z) b a new h = fair_to b new (armed_with CutArmed b) h.1 (λ s. s, λ c. inr c)
 step_fair size (lines.FailAt x) b a new h = fair_to b new (armed_with FaultArmed b) h.1 (λ s. s, λ c. inr c)
-step_fair size (lines.FailLane x y) b a new h = unmoved b new h.1
+step_fair size (lines.FailLane x y) b a new h = fair_to b new (armed_with FaultArmed b) h.1 (λ s. s, λ c. inr c)
 step_fair size (lines.Cut fill) b a new h = fair_to b new (unpowered b) h.1 (λ s. s, λ c. inr c)
 step_fair size (lines.Poke x y z) b a new h = unmoved b new h.1
 
@@ -114,9 +116,9 @@ on_at : (size : Size) (p : Option Life) (mode : BootMode) (b : Bench) (a z : Ans
 on_at size None mode b a z new last calm x y = powers size mode b a z new last calm x y
 on_at size (Some life) mode b a z new last calm x y = same a z _ new last b x.0 y.0 x.1 y.1
 
-slot_at : (p : Option Life) (n : ℕ) (b : Bench) (a z : Answer) (new last : Bench) → SlotStep p n b a new → SlotStep p n b z last → Agree a z new last
-slot_at None n b a z new last x y = same a z _ new last b x.0 y.0 x.1 y.1
-slot_at (Some life) n b a z new last x y = by_word (λ o. slot_told o) x.0 y.0 a z new last x.2 y.2 (issued (Slot n) life b x.0 y.0 new last x.1 y.1)
+console_at : (word : ConsoleWord) (c : Change) (p : Option Life) (b : Bench) (a z : Answer) (new last : Bench) → ConsoleStep word c p b a new → ConsoleStep word c p b z last → Agree a z new last
+console_at word c None b a z new last x y = same a z _ new last b x.0 y.0 x.1 y.1
+console_at word c (Some life) b a z new last x y = by_word (λ o. console_told word o) x.0 y.0 a z new last x.2 y.2 (issued c life b x.0 y.0 new last x.1 y.1)
 
 payload_at : (p : Option Life) (slot : ℕ) (bytes : List ℕ) (b : Bench) (a z : Answer) (new last : Bench) → PayloadStep p slot bytes b a new → PayloadStep p slot bytes b z last → Agree a z new last
 payload_at None slot bytes b a z new last x y = same a z _ new last _ x.0 y.0 x.1 y.1
@@ -172,8 +174,8 @@ steps : IsOneTurn → IsOneCall → IsOneCsr → (size : Size) (line : Line) (b 
 steps turns call csr size (lines.Payload s bytes) b a z new last calm x y = payload_at b.power s bytes b a z new last x y
 steps turns call csr size lines.Format b a z new last calm x y = format_at b.power b a z new last calm x y
 steps turns call csr size (lines.On mode) b a z new last calm x y = on_at size b.power mode b a z new last calm x y
-steps turns call csr size (lines.Slot n) b a z new last calm x y = slot_at b.power n b a z new last x y
-steps turns call csr size lines.Discard b a z new last calm x y = not_built b a z _ new last x y
+steps turns call csr size (lines.Slot n) b a z new last calm x y = console_at names.Slot (Slot n) b.power b a z new last x y
+steps turns call csr size lines.Discard b a z new last calm x y = console_at names.Discard Discard b.power b a z new last x y
 steps turns call csr size (lines.Turn h n) b a z new last calm x y = turn_at turns b.power h n b a z new last x y
 steps turns call csr size (lines.Call h e f u v w) b a z new last calm x y = call_at call b.power h e f u v w b a z new last x y
 steps turns call csr size (lines.Reg h r) b a z new last calm x y = read_at _ (λ m line also p q. p ∙ sym q) b.power b a z new last x y
@@ -182,9 +184,9 @@ steps turns call csr size (lines.Csr h n) b a z new last calm x y = read_at (λ 
 steps turns call csr size lines.Pending b a z new last calm x y = read_at _ (λ m line also p q. p ∙ sym q) b.power b a z new last x y
 steps turns call csr size (lines.Mem i n) b a z new last calm x y = read_at _ (λ m line also p q. p ∙ sym q) b.power b a z new last x y
 steps turns call csr size (lines.CutAt n fill) b a z new last calm x y = same a z _ new last _ x.0 y.0 x.1 y.1
-steps turns call csr size (lines.CutLane i n fill) b a z new last calm x y = not_built b a z _ new last x y
+steps turns call csr size (lines.CutLane i n fill) b a z new last calm x y = same a z _ new last _ x.0 y.0 x.1 y.1
 steps turns call csr size (lines.FailAt n) b a z new last calm x y = same a z _ new last _ x.0 y.0 x.1 y.1
-steps turns call csr size (lines.FailLane i n) b a z new last calm x y = not_built b a z _ new last x y
+steps turns call csr size (lines.FailLane i n) b a z new last calm x y = same a z _ new last _ x.0 y.0 x.1 y.1
 steps turns call csr size (lines.Cut fill) b a z new last calm x y = same a z _ new last _ x.0 y.0 x.1 y.1
 steps turns call csr size (lines.Poke k n bytes) b a z new last calm x y = not_built b a z _ new last x y
 

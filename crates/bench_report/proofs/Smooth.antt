@@ -1,7 +1,7 @@
 -- A report whose lines are smooth: no power-on was refused memory, and no failure was answered.
 use Rattle.std.proofs.Common.{◌≡◌, ◌≢◌, ℕ, zero, suc, arith, sym, inl, inr, List, [], ◌∷◌, Option, None, Some, Result, Ok, Err, refl, ◌∙◌, ap, subst}
 use Rattle.std.specs.Bool.{⊤}
-use Rattle.board_model.specs.Durable.{State, Change, Slot, Reset, refusal_of}
+use Rattle.board_model.specs.Durable.{State, Change, Slot, Reset, Discard, refusal_of}
 use Rattle.board_model.specs.Shapes.{Size}
 use Rattle.board.specs.Boots.{boot_refusal}
 use Rattle.board_model.specs.declared.boot_mode.BootMode.{BootMode}
@@ -27,12 +27,14 @@ use Rattle.board_model.specs.declared.durable.Reason.{Reason}
 use Rattle.script_lang.specs.Scripts.{Script}
 use Rattle.script_lang.specs.declared.line.Line.{Line}
 use Rattle.script_lang.specs.declared.line.Line.TheVariants as lines
+use Rattle.bench_report.specs.declared.printed.ConsoleWord.{ConsoleWord}
+use Rattle.bench_report.specs.declared.printed.ConsoleWord.TheVariants as names
 use Rattle.bench_report.specs.declared.printed.Printed.{Printed}
 use Rattle.bench_report.specs.declared.printed.Printed.TheVariants as printed
 use Rattle.disk.specs.Mishaps.{FaultArmed, CutArmed}
 use Rattle.bench_report.specs.declared.printed.Answer.{Answer}
 use Rattle.bench_report.specs.Bench.{Medium, Blank, Unknown, Formatted, Life, Bench, IsUnspoilt, blank_bench}
-use Rattle.bench_report.specs.Steps.{says, off, on_with, unpowered, armed_with, formatted_anew, settled, has_machine, acknowledged, begun, commands_of, slot_told, Writes, IssuedBy, IssuesAll, FormatsOn, IsOn, Starts, Begins, Boots, Opens, PowersOn, FormatStep, OnStep, SlotStep, PayloadStep, ReadStep, Issued, Refuses, Held, Resets, Suspends, SleepsBy, MakesCall, Comes, GuestTurn, GuestTurns, TurnStep, CallTold, GuestCall, CallStep, Step, Moves, Run}
+use Rattle.bench_report.specs.Steps.{says, off, on_with, unpowered, armed_with, formatted_anew, settled, has_machine, acknowledged, begun, commands_of, console_told, Writes, IssuedBy, IssuesAll, FormatsOn, IsOn, Starts, Begins, Boots, Opens, PowersOn, FormatStep, OnStep, ConsoleStep, PayloadStep, ReadStep, Issued, Refuses, Held, Resets, Suspends, SleepsBy, MakesCall, Comes, GuestTurn, GuestTurns, TurnStep, CallTold, GuestCall, CallStep, Step, Moves, Run}
 use Rattle.bench_report.specs.Reports.{IsReport}
 use Rattle.bench_report.specs.Plain.{IsSmoothLine, IsSmooth, AreSmooth}
 
@@ -133,13 +135,13 @@ on_at : (size : Size) (p : Option Life) (mode : BootMode) (b : Bench) (a : Answe
 on_at size None mode b a new h smooth = powers_smooth size mode b a new h smooth
 on_at size (Some life) mode b a new h smooth = as_many b b new refl refl h.1
 
-told_smooth : (o : Result ℕ ℕ) (a : Answer) → a ≡ slot_told o → IsSmooth a.line → IsSmoothResult o
-told_smooth (Ok n) a e smooth = tt
-told_smooth (Err n) a e smooth = of_answer a (printed.SlotRefused n) e smooth
+told_smooth : (word : ConsoleWord) (o : Result ℕ ℕ) (a : Answer) → a ≡ console_told word o → IsSmooth a.line → IsSmoothResult o
+told_smooth word (Ok n) a e smooth = tt
+told_smooth word (Err n) a e smooth = of_answer a (printed.CommandRefused word n) e smooth
 
-slot_at : (p : Option Life) (n : ℕ) (b : Bench) (a : Answer) (new : Bench) → SlotStep p n b a new → IsSmooth a.line → AsMany b new
-slot_at None n b a new h smooth = as_many b b new refl refl h.1
-slot_at (Some life) n b a new h smooth = issued_smooth life.doubt (Slot n) life b h.0 new h.1 (told_smooth h.0 a h.2 smooth)
+console_at : (word : ConsoleWord) (c : Change) (p : Option Life) (b : Bench) (a : Answer) (new : Bench) → ConsoleStep word c p b a new → IsSmooth a.line → AsMany b new
+console_at word c None b a new h smooth = as_many b b new refl refl h.1
+console_at word c (Some life) b a new h smooth = issued_smooth life.doubt c life b h.0 new h.1 (told_smooth word h.0 a h.2 smooth)
 
 payload_at : (p : Option Life) (slot : ℕ) (bytes : List ℕ) (b : Bench) (a : Answer) (new : Bench) → PayloadStep p slot bytes b a new → AsMany b new
 payload_at None slot bytes b a new h = as_many b _ new refl refl h.1
@@ -239,8 +241,8 @@ step_smooth : (size : Size) (line : Line) (b : Bench) (a : Answer) (new : Bench)
 step_smooth size (lines.Payload x y) b a new h smooth = payload_at b.power x y b a new h
 step_smooth size lines.Format b a new h smooth = format_at b.power b a new h smooth
 step_smooth size (lines.On mode) b a new h smooth = on_at size b.power mode b a new h smooth
-step_smooth size (lines.Slot n) b a new h smooth = slot_at b.power n b a new h smooth
-step_smooth size lines.Discard b a new h smooth = as_many b b new refl refl h.1
+step_smooth size (lines.Slot n) b a new h smooth = console_at names.Slot (Slot n) b.power b a new h smooth
+step_smooth size lines.Discard b a new h smooth = console_at names.Discard Discard b.power b a new h smooth
 step_smooth size (lines.Turn x y) b a new h smooth = turn_at b.power x y b a new h smooth
 step_smooth size (lines.Call x y z u v w) b a new h smooth = call_at b.power x y z u v w b a new h smooth
 step_smooth size (lines.Reg x y) b a new h smooth = read_at b.power _ b a new h
@@ -249,9 +251,9 @@ step_smooth size (lines.Csr x y) b a new h smooth = read_at b.power _ b a new h
 step_smooth size lines.Pending b a new h smooth = read_at b.power _ b a new h
 step_smooth size (lines.Mem x y) b a new h smooth = read_at b.power _ b a new h
 step_smooth size (lines.CutAt x y) b a new h smooth = as_many b (armed_with CutArmed b) new refl refl h.1
-step_smooth size (lines.CutLane x y z) b a new h smooth = as_many b b new refl refl h.1
+step_smooth size (lines.CutLane x y z) b a new h smooth = as_many b (armed_with CutArmed b) new refl refl h.1
 step_smooth size (lines.FailAt x) b a new h smooth = as_many b (armed_with FaultArmed b) new refl refl h.1
-step_smooth size (lines.FailLane x y) b a new h smooth = as_many b b new refl refl h.1
+step_smooth size (lines.FailLane x y) b a new h smooth = as_many b (armed_with FaultArmed b) new refl refl h.1
 step_smooth size (lines.Cut fill) b a new h smooth = as_many b (unpowered b) new refl refl h.1
 step_smooth size (lines.Poke x y z) b a new h smooth = as_many b b new refl refl h.1
 

@@ -108,12 +108,15 @@ Arms fault (On board) = store_arms (store_in board) fault
 -- what a line arms
 abbrev pub ArmsIts : Line → Power → Type 0
 ArmsIts (lines.CutAt n fill) power = Arms (faults.CutAt n) power
+ArmsIts (lines.CutLane i n fill) power = Arms (faults.CutLane i n) power
 ArmsIts (lines.FailAt n) power = Arms (faults.FailAt n) power
+ArmsIts (lines.FailLane i n) power = Arms (faults.FailLane i n) power
 ArmsIts line power = ⊤
 
 -- what an armed cut is to leave after a line: as the line says that armed the newest one
 abbrev pub fill_after : Line → Fill → Fill
 fill_after (lines.CutAt n newest) fill = newest
+fill_after (lines.CutLane i n newest) fill = newest
 fill_after line fill = fill
 
 -- A line was run to its end; or an armed cut struck within it, and then power was cut by the fill, whatever the line would have

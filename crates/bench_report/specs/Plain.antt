@@ -18,10 +18,12 @@ use Rattle.turns.specs.declared.words.Turned.TheVariants.{Next}
 use Rattle.machine_lines.specs.declared.line.MachineLine.{MachineLine}
 use Rattle.machine_lines.specs.declared.line.MachineLine.TheVariants as shown
 use Rattle.bench_report.specs.declared.printed.Answer.{Answer}
+use Rattle.bench_report.specs.declared.printed.ConsoleWord.{ConsoleWord}
+use Rattle.bench_report.specs.declared.printed.ConsoleWord.TheVariants as names
 use Rattle.bench_report.specs.declared.printed.Printed.{Printed}
 use Rattle.bench_report.specs.declared.printed.Printed.TheVariants as printed
 use Rattle.bench_report.specs.Bench.{Medium, Blank, Unknown, Formatted, Life, Bench, blank_bench}
-use Rattle.bench_report.specs.Steps.{says, shows, on_with, unpowered, armed_with, formatted_anew, settled, has_machine, acknowledged, begun, slot_told}
+use Rattle.bench_report.specs.Steps.{says, shows, on_with, unpowered, armed_with, formatted_anew, settled, has_machine, acknowledged, begun, console_told}
 use Rattle.bench_report.specs.Reports.{board_answer, report_text}
 
 -- a command's receipt or number, and the bench after it, by the number with which the table refuses it
@@ -31,6 +33,11 @@ plain_written None c life b = (Ok (life.receipts + 1), acknowledged c life b)
 
 abbrev pub plain_issued : Change → Life → Bench → Result ℕ ℕ × Bench
 plain_issued c life b = if life.receipts == 4096 then (Err 10, b) else plain_written (refusal_of life.now c) c life b
+
+-- a command of the console, which a line names by that word
+abbrev pub plain_console : ConsoleWord → Change → Option Life → Bench → Answer × Bench
+plain_console word c None b = (says printed.Off, b)
+plain_console word c (Some life) b = (console_told word (plain_issued c life b).0, (plain_issued c life b).1)
 
 abbrev pub plain_format : Medium → Bench → Answer × Bench
 plain_format Blank b = (says printed.Formatted, formatted_anew b)
@@ -75,11 +82,13 @@ plain_at size None lines.Format b = plain_format b.medium b
 plain_at size (Some life) lines.Format b = (says printed.Busy, b)
 plain_at size None (lines.On mode) b = plain_on size b.medium mode b
 plain_at size (Some life) (lines.On mode) b = (says printed.Busy, b)
-plain_at size None (lines.Slot n) b = (says printed.Off, b)
-plain_at size (Some life) (lines.Slot n) b = (slot_told (plain_issued (Slot n) life b).0, (plain_issued (Slot n) life b).1)
+plain_at size p (lines.Slot n) b = plain_console names.Slot (Slot n) p b
+plain_at size p lines.Discard b = plain_console names.Discard Discard p b
 plain_at size p (lines.Cut fill) b = (says printed.Cut, unpowered b)
 plain_at size p (lines.CutAt n fill) b = (says printed.Armed, armed_with CutArmed b)
+plain_at size p (lines.CutLane i n fill) b = (says printed.Armed, armed_with CutArmed b)
 plain_at size p (lines.FailAt n) b = (says printed.Armed, armed_with FaultArmed b)
+plain_at size p (lines.FailLane i n) b = (says printed.Armed, armed_with FaultArmed b)
 plain_at size None (lines.Payload s bytes) b = (shows (shown.Payload s (length bytes)), record b { payloads = slice_set b.payloads s bytes })
 plain_at size (Some life) (lines.Payload s bytes) b = (shows shown.Busy, b)
 plain_at size p line b = (says printed.NotBuilt, b)
@@ -122,7 +131,7 @@ IsSmoothLine line = ⊤
 abbrev pub IsSmooth : Printed → Type 0
 IsSmooth (printed.FormatRefused n) = n ≢ 5
 IsSmooth (printed.OnRefused n) = (n ≢ 5) × (n ≢ 6) × (n ≢ 11)
-IsSmooth (printed.SlotRefused n) = (n ≢ 5) × (n ≢ 6)
+IsSmooth (printed.CommandRefused word n) = (n ≢ 5) × (n ≢ 6)
 IsSmooth printed.PowerLost = ⊥
 IsSmooth (printed.Shown line) = IsSmoothLine line
 IsSmooth line = ⊤

@@ -4,7 +4,7 @@
 -- was refused 6 or lost power, some first of them. A life takes commands from its power-on to its first command in doubt, its
 -- end or a cut.
 use Rattle.std.specs.Prelude.{◌≡◌, ◌≢◌, ◌⊎◌, ℕ, ◌+◌, ◌≤◌, Bool, true, false, List, [], ◌∷◌, Option, Some, None, MatchBool, ⊤}
-use Rattle.board_model.specs.Durable.{State, Change, Slot, Reset, Suspend, formatted}
+use Rattle.board_model.specs.Durable.{State, Change, Slot, Reset, Suspend, Discard, formatted}
 use Rattle.bench_report.specs.Taken.{Takes, TakesSome, TakesFewer}
 use Rattle.board_model.specs.Shown.{durable_of}
 use Rattle.board_model.specs.declared.durable.Durable.{Durable}
@@ -34,6 +34,7 @@ pub data Asked : Type 0 where
 abbrev pub asked_by : Line → Asked
 asked_by (lines.On mode) = Boot mode
 asked_by (lines.Slot n) = Command (Slot n)
+asked_by lines.Discard = Command Discard
 asked_by (lines.Turn h n) = Guest
 asked_by (lines.Call h e f x y z) = Guest
 asked_by line = Nothing
@@ -90,8 +91,8 @@ abbrev pub Tells : Asked → Printed → State → Bool → State → Bool → T
 Tells (Boot asked) (printed.On mode) s up t now = (mode ≡ asked) × BootsSlot mode × (up ≡ false) × Takes (commands_of asked) s t × (now ≡ true)
 Tells (Boot mode) (printed.OnRefused n) s up t now =
     (up ≡ false) × (now ≡ false) × ((t ≡ s) ⊎ TakesFewer (commands_of mode) s t ⊎ ((n ≡ 6) × TakesSome (commands_of mode) s t))
-Tells (Command c) (printed.Slot k) s up t now = (up ≡ true) × Takes (c ∷ []) s t × (now ≡ true)
-Tells (Command c) (printed.SlotRefused n) s up t now = Refused n c s up t now
+Tells (Command c) (printed.Acknowledged word k) s up t now = (up ≡ true) × Takes (c ∷ []) s t × (now ≡ true)
+Tells (Command c) (printed.CommandRefused word n) s up t now = Refused n c s up t now
 Tells Guest (printed.Shown line) s up t now = TellsLine line s up t now
 Tells Nothing (printed.On mode) s up t now = ⊥
 Tells Guest (printed.On mode) s up t now = ⊥

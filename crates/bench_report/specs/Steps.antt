@@ -1,7 +1,7 @@
 -- What a line of a script may answer, and what the bench then is. Source: docs/SCRIPT.md.
 use Rattle.std.specs.Prelude.{◌≡◌, ◌≢◌, ℕ, zero, suc, Bool, ◌+◌, ◌<◌, ◌⊎◌, ⊤, true, false, List, [], ◌∷◌, ◌++◌, Option, Some, None, Result, Ok, Err, length, slice_set}
 use Rattle.std.specs.Option.{option_to_list}
-use Rattle.board_model.specs.Durable.{State, Change, Slot, Reset, Suspend, refusal_of, after}
+use Rattle.board_model.specs.Durable.{State, Change, Slot, Reset, Suspend, Discard, refusal_of, after}
 use Rattle.board_model.specs.Kept.{nothing_kept, MayKeep, found_of}
 use Rattle.board_model.specs.Shapes.{Size}
 use Rattle.board_model.specs.Shown.{durable_of}
@@ -40,6 +40,8 @@ use Rattle.sbi.specs.Resets.{reset_of}
 use Rattle.board_model.specs.declared.durable.Reason.{Reason}
 use Rattle.machine_lines.specs.declared.line.MachineLine.{MachineLine}
 use Rattle.machine_lines.specs.declared.line.MachineLine.TheVariants as shown
+use Rattle.bench_report.specs.declared.printed.ConsoleWord.{ConsoleWord}
+use Rattle.bench_report.specs.declared.printed.ConsoleWord.TheVariants as names
 use Rattle.bench_report.specs.declared.printed.Printed.{Printed}
 use Rattle.bench_report.specs.declared.printed.Printed.TheVariants as printed
 use Rattle.bench_report.specs.declared.printed.Answer.{Answer}
@@ -292,14 +294,15 @@ abbrev pub OnStep : Size → Option Life → BootMode → Bench → Answer → B
 OnStep size (Some life) mode b answer new = (answer ≡ says printed.Busy) × (new ≡ b)
 OnStep size None mode b answer new = PowersOn size mode b answer new
 
--- what a line of `slot` says of its command
-abbrev pub slot_told : Result ℕ ℕ → Answer
-slot_told (Ok n) = says (printed.Slot n)
-slot_told (Err n) = says (printed.SlotRefused n)
+-- what a line of the console says of its command, which it names by that word
+abbrev pub console_told : ConsoleWord → Result ℕ ℕ → Answer
+console_told word (Ok n) = says (printed.Acknowledged word n)
+console_told word (Err n) = says (printed.CommandRefused word n)
 
-abbrev pub SlotStep : Option Life → ℕ → Bench → Answer → Bench → Type 0
-SlotStep None n b answer new = (answer ≡ says printed.Off) × (new ≡ b)
-SlotStep (Some life) n b answer new = (o : Result ℕ ℕ) × Issued (Slot n) life b o new × (answer ≡ slot_told o)
+-- a command of the console, which a line names by that word
+abbrev pub ConsoleStep : ConsoleWord → Change → Option Life → Bench → Answer → Bench → Type 0
+ConsoleStep word c None b answer new = (answer ≡ says printed.Off) × (new ≡ b)
+ConsoleStep word c (Some life) b answer new = (o : Result ℕ ℕ) × Issued c life b o new × (answer ≡ console_told word o)
 
 -- a payload is kept while the board is off
 abbrev pub PayloadStep : Option Life → ℕ → List ℕ → Bench → Answer → Bench → Type 0
@@ -335,7 +338,7 @@ abbrev pub ReadStep : Option Life → (Machine → MachineLine → Type 0) → B
 ReadStep None says_so b answer new = (answer ≡ shows shown.Off) × (new ≡ b)
 ReadStep (Some life) says_so b answer new = (line : MachineLine) × says_so life.machine line × (answer ≡ shows line) × (new ≡ b)
 
--- a line that arms a cut or a failure, with the board on or off
+-- a line that arms a cut or a failure, of the disk or of one of its lanes, with the board on or off
 abbrev pub ArmStep : Armed → Bench → Answer → Bench → Type 0
 ArmStep armed b answer new = (answer ≡ says printed.Armed) × (new ≡ armed_with armed b)
 
@@ -348,8 +351,8 @@ abbrev pub Step : Size → Line → Bench → Answer → Bench → Type 0
 Step size (lines.Payload slot bytes) b answer new = PayloadStep b.power slot bytes b answer new
 Step size lines.Format b answer new = FormatStep b.power b answer new
 Step size (lines.On mode) b answer new = OnStep size b.power mode b answer new
-Step size (lines.Slot n) b answer new = SlotStep b.power n b answer new
-Step size lines.Discard b answer new = NotBuilt b answer new
+Step size (lines.Slot n) b answer new = ConsoleStep names.Slot (Slot n) b.power b answer new
+Step size lines.Discard b answer new = ConsoleStep names.Discard Discard b.power b answer new
 Step size (lines.Turn h n) b answer new = TurnStep b.power h n b answer new
 Step size (lines.Call h e f x y z) b answer new = CallStep b.power h e f x y z b answer new
 Step size (lines.Reg h r) b answer new = ReadStep b.power (λ m line. line ≡ reg_line h r m) b answer new
@@ -358,9 +361,9 @@ Step size (lines.Csr h c) b answer new = ReadStep b.power (λ m line. CsrLine h 
 Step size lines.Pending b answer new = ReadStep b.power (λ m line. line ≡ pending_line m) b answer new
 Step size (lines.Mem a n) b answer new = ReadStep b.power (λ m line. line ≡ mem_line a n m) b answer new
 Step size (lines.CutAt n fill) b answer new = ArmStep CutArmed b answer new
-Step size (lines.CutLane i n fill) b answer new = NotBuilt b answer new
+Step size (lines.CutLane i n fill) b answer new = ArmStep CutArmed b answer new
 Step size (lines.FailAt n) b answer new = ArmStep FaultArmed b answer new
-Step size (lines.FailLane i n) b answer new = NotBuilt b answer new
+Step size (lines.FailLane i n) b answer new = ArmStep FaultArmed b answer new
 Step size (lines.Cut fill) b answer new = (answer ≡ says printed.Cut) × (new ≡ unpowered b)
 Step size (lines.Poke k n bytes) b answer new = NotBuilt b answer new
 

@@ -7,6 +7,8 @@ use Rattle.board_model.specs.declared.durable.ImageHead.{ImageHead}
 use Rattle.board_model.specs.declared.boot_mode.BootMode.{BootMode}
 use Rattle.board_model.specs.declared.boot_mode.BootMode.TheVariants.{Fresh, Keep, Discard, Resume}
 use Rattle.machine_lines.specs.Texts.{machine_line_text}
+use Rattle.bench_report.specs.declared.printed.ConsoleWord.{ConsoleWord}
+use Rattle.bench_report.specs.declared.printed.ConsoleWord.TheVariants as names
 use Rattle.bench_report.specs.declared.printed.Printed.{Printed}
 use Rattle.bench_report.specs.declared.printed.Printed.TheVariants as printed
 use lib.Chars.{codes}
@@ -17,14 +19,18 @@ mode_text Keep = codes "keep"
 mode_text Discard = codes "discard"
 mode_text Resume = codes "resume"
 
+abbrev pub console_text : ConsoleWord → List ℕ
+console_text names.Slot = codes "slot"
+console_text names.Discard = codes "discard"
+
 abbrev pub line_text : Printed → List ℕ
 line_text (printed.Board harts pages lanes sectors) = codes "board " ++ decimal harts ++ codes "/" ++ decimal pages ++ codes "/" ++ decimal lanes ++ codes " sectors " ++ decimal sectors
 line_text printed.Formatted = codes "format ok"
 line_text (printed.FormatRefused n) = codes "format refused " ++ decimal n
 line_text (printed.On mode) = codes "on " ++ mode_text mode
 line_text (printed.OnRefused n) = codes "on refused " ++ decimal n
-line_text (printed.Slot n) = codes "slot ok " ++ decimal n
-line_text (printed.SlotRefused n) = codes "slot refused " ++ decimal n
+line_text (printed.Acknowledged word n) = console_text word ++ codes " ok " ++ decimal n
+line_text (printed.CommandRefused word n) = console_text word ++ codes " refused " ++ decimal n
 line_text printed.Cut = codes "cut"
 line_text printed.Armed = codes "armed"
 line_text printed.PowerLost = codes "power lost"

@@ -9,5 +9,5 @@ mod runs;
 mod steps;
 
 pub use laws::{one_report, prefix_law, worked_scripts};
-pub use printed::{Answer, Printed};
+pub use printed::{Answer, ConsoleWord, Printed};
 pub use runs::{Report, Stopped, run, run_left};

@@ -1,11 +1,18 @@
 //! The lines of a report.
 
 ghost use Rattle.std.specs.Prelude.{◌≡◌, ◌++◌, Some, IfOk};
-ghost use Rattle.bench_report.specs.Texts.{line_text, found_text, mode_text, image_text};
+ghost use Rattle.bench_report.specs.Texts.{line_text, found_text, mode_text, console_text, image_text};
 
 use board_model::{BootMode, Durable, ImageHead};
 use machine_lines::MachineLine;
 use std::fmt;
+
+/// The word by which a line names a command of the console.
+#[derive(Clone, Copy, Debug, PartialEq, Eq)]
+pub enum ConsoleWord {
+    Slot,
+    Discard,
+}
 
 /// The last line that a line of a script makes, or the line of its board.
 #[derive(Clone, Copy, Debug, PartialEq, Eq)]
@@ -20,10 +27,10 @@ pub enum Printed {
     On(BootMode),
     /// `on refused N`
     OnRefused(u32),
-    /// `slot ok N`: the command's place among those of this life.
-    Slot(u32),
-    /// `slot refused N`
-    SlotRefused(u32),
+    /// `slot ok N`, `discard ok N`: the command's place among those of this life.
+    Acknowledged(ConsoleWord, u32),
+    /// `slot refused N`, `discard refused N`
+    CommandRefused(ConsoleWord, u32),
     /// `cut`
     Cut,
     /// `armed`: a cut or a failure is armed.
@@ -64,6 +71,17 @@ impl fmt::Display for ModeName {
     }
 }
 
+impl fmt::Display for ConsoleWord {
+    ghost output = { λ word. Some (console_text word) };
+
+    fn fmt<W: fmt::Write>(&self, f: &mut fmt::Formatter<W>) -> fmt::Result {
+        match *self {
+            ConsoleWord::Slot => f.write_str("slot"),
+            ConsoleWord::Discard => f.write_str("discard"),
+        }
+    }
+}
+
 impl fmt::Display for Printed {
     ghost output = { λ p. Some (line_text p) };
 
@@ -79,8 +97,8 @@ impl fmt::Display for Printed {
                 write!(f, "on {name}")
             }
             Printed::OnRefused(n) => write!(f, "on refused {n}"),
-            Printed::Slot(n) => write!(f, "slot ok {n}"),
-            Printed::SlotRefused(n) => write!(f, "slot refused {n}"),
+            Printed::Acknowledged(word, n) => write!(f, "{word} ok {n}"),
+            Printed::CommandRefused(word, n) => write!(f, "{word} refused {n}"),
             Printed::Cut => f.write_str("cut"),
             Printed::Armed => f.write_str("armed"),
             Printed::PowerLost => f.write_str("power lost"),

@@ -1,13 +1,14 @@
 //! One line of a script.
 
 ghost use Rattle.std.specs.Prelude.{◌≡◌, false, ◌<◌, ◌≤◌, ◌+◌, ◌*◌, ◌^◌, if◌then◌else◌, ℕ, List, length, Some, None, Ok, Err, IfOk, OnOk, OnErr, true, IsTrue, ◌↔◌, MatchResult};
-ghost use Rattle.board_model.specs.Durable.{Slot};
 ghost use Rattle.board_model.specs.Shapes.{Size};
+ghost use Rattle.board_model.specs.Shown.{change_of};
+ghost use Rattle.board.specs.Boots.{IsConsoleCommand};
 ghost use Rattle.script_lang.specs.Ranges.{IsInRange};
 ghost use Rattle.store.specs.Leaves.{IsIdle};
 ghost use Rattle.bench_report.specs.Below.{store_in, machine_in, facts, store_mishaps};
 ghost use Rattle.bench_report.specs.Bench.{Bench, Life};
-ghost use Rattle.bench_report.specs.Steps.{FormatsOn, PowersOn, FormatStep, OnStep, SlotStep, PayloadStep, TurnStep, CallStep, ReadStep, Step, Moves, off, unpowered, armed_with, says, shows};
+ghost use Rattle.bench_report.specs.Steps.{FormatsOn, PowersOn, FormatStep, OnStep, ConsoleStep, PayloadStep, TurnStep, CallStep, ReadStep, ArmStep, Step, Moves, off, unpowered, says, shows};
 ghost use Rattle.disk.specs.Mishaps.{armed_by};
 ghost use Rattle.simdisk.specs.declared.SimDisk.{SimDisk};
 ghost use Rattle.bench_report.specs.Agree.{choice_by, HasDisk, IsCutBy, Arms, ArmsIts, fill_after, EndsBy, Agrees, IsResting, OffIs, OnIs, StandsBy, AreShort, IsBench, IsUnstruck, Matches, Goes};
@@ -16,7 +17,7 @@ ghost use Rattle.machine.specs.Machine.{Machine};
 ghost use Rattle.board_model.specs.declared.refusal.Refusal.TheVariants.{Memory};
 
 use crate::power::Power;
-use crate::printed::{Answer, Printed};
+use crate::printed::{Answer, ConsoleWord, Printed};
 use board::{Board, Payloads};
 use board_model::{BootMode, Command, HartId, Refusal, Shape};
 use crew::Crew;
@@ -75,14 +76,15 @@ fn power_on(alloc: Global, mode: BootMode, disk: SimDisk, payloads: &Payloads) -
     }
 }
 
-/// Issues the command Slot on a board that is on.
-fn slot(board: &mut Board<SimDisk>, n: u32) -> Answer
+/// Issues a command of the console on a board that is on.
+fn issue(board: &mut Board<SimDisk>, word: ConsoleWord, command: Command) -> Answer
+    requires { IsConsoleCommand command }
     ensures { (size : Size) (b : Bench) (life : Life) → b.power ≡ Some life → OnIs size b board.old
-        → (new : Bench) × SlotStep (Some life) n b result new × OnIs size new board.new × (new.payloads ≡ b.payloads) }
+        → (new : Bench) × ConsoleStep word (change_of command) (Some life) b result new × OnIs size new board.new × (new.payloads ≡ b.payloads) }
 {
-    match board.console(Command::Slot(n)) {
-        Ok(receipt) => says(Printed::Slot(receipt.number())),
-        Err(e) => says(Printed::SlotRefused(e.code())),
+    match board.console(command) {
+        Ok(receipt) => says(Printed::Acknowledged(word, receipt.number())),
+        Err(e) => says(Printed::CommandRefused(word, e.code())),
     }
 }
 
@@ -122,22 +124,22 @@ fn cut(power: Power, fill: Fill) -> Power
     Power::Off(disk_left(power).after_cut(choice(fill)))
 }
 
-/// Arms a cut or a failure of the disk in the place of an older one, with the board on or off.
-fn arm(power: Power, fault: ArmedFault) -> Power
+/// Arms a cut or a failure of the disk, or of one of its lanes, in the place of an older one, with the board on or off.
+fn arm(power: Power, fault: ArmedFault) -> (Power, Answer)
     requires { IsResting power }
-    ensures told { (size : Size) (b : Bench) → Agrees size b power → Agrees size (armed_with (armed_by fault) b) result }
-    ensures arms { Arms fault result }
-    ensures resting { IsResting result }
+    ensures told { (size : Size) (b : Bench) → Agrees size b power → Goes size b result.0 (ArmStep (armed_by fault) b result.1) }
+    ensures arms { Arms fault result.0 }
+    ensures resting { IsResting result.0 }
 {
     kept_disks::<SimDisk>();
     match power {
         Power::Off(mut disk) => {
             disk.arm(fault);
-            Power::Off(disk)
+            (Power::Off(disk), says(Printed::Armed))
         }
         Power::On(mut board) => {
             board.arm(fault);
-            Power::On(board)
+            (Power::On(board), says(Printed::Armed))
         }
     }
 }
@@ -148,6 +150,7 @@ fn newest_fill(line: &Line, fill: Fill) -> Fill
 {
     match line {
         Line::CutAt(_, newest) => *newest,
+        Line::CutLane(_, _, newest) => *newest,
         _ => fill,
     }
 }
@@ -186,15 +189,16 @@ fn on_line(alloc: Global, mode: BootMode, power: Power, payloads: &Payloads) -> 
     }
 }
 
-fn slot_line(n: u32, power: Power) -> (Power, Answer)
-    requires { IsResting power }
-    ensures told { (size : Size) (b : Bench) → Agrees size b power → Goes size b result.0 (SlotStep b.power n b result.1) }
+fn console_line(word: ConsoleWord, command: Command, power: Power) -> (Power, Answer)
+    requires command { IsConsoleCommand command }
+    requires resting { IsResting power }
+    ensures told { (size : Size) (b : Bench) → Agrees size b power → Goes size b result.0 (ConsoleStep word (change_of command) b.power b result.1) }
     ensures resting { IsResting result.0 }
 {
     match power {
         Power::Off(disk) => (Power::Off(disk), says(Printed::Off)),
         Power::On(mut board) => {
-            let answer = slot(&mut board, n);
+            let answer = issue(&mut board, word, command);
             (Power::On(board), answer)
         }
     }
@@ -476,7 +480,8 @@ fn step<C: Crew>(
     match line {
         Line::Format => answered(format_line(shape, power)),
         Line::On(mode) => answered(on_line(alloc, *mode, power, payloads)),
-        Line::Slot(n) => answered(slot_line(*n, power)),
+        Line::Slot(n) => answered(console_line(ConsoleWord::Slot, Command::Slot(*n), power)),
+        Line::Discard => answered(console_line(ConsoleWord::Discard, Command::Discard, power)),
         Line::Cut(fill) => (cut(power, *fill), Ok(says(Printed::Cut))),
         Line::Payload(slot, bytes) => {
             match payload_line(alloc, *slot, bytes, &power, payloads) {
@@ -502,17 +507,17 @@ fn step<C: Crew>(
             let shown = mem_line(*address, *count, &power);
             (power, Ok(says(Printed::Shown(shown))))
         }
-        Line::Discard => (power, Ok(says(Printed::NotBuilt))),
-        Line::CutAt(call, _) => {
-            let after = arm(power, ArmedFault::CutAt(u64::from(*call)));
-            (after, Ok(says(Printed::Armed)))
+        Line::CutAt(call, _) => answered(arm(power, ArmedFault::CutAt(u64::from(*call)))),
+        Line::CutLane(lane, call, _) => {
+            answered(arm(power, ArmedFault::CutLane(*lane as usize, u64::from(*call))))
         }
-        Line::CutLane(_, _, _) => (power, Ok(says(Printed::NotBuilt))),
-        Line::FailAt(call) => {
-            let after = arm(power, ArmedFault::FailAt(u64::from(*call)));
-            (after, Ok(says(Printed::Armed)))
+        Line::FailAt(call) => answered(arm(power, ArmedFault::FailAt(u64::from(*call)))),
+        Line::FailLane(lane, call) => {
+            answered(arm(
+                power,
+                ArmedFault::FailLane(*lane as usize, u64::from(*call)),
+            ))
         }
-        Line::FailLane(_, _) => (power, Ok(says(Printed::NotBuilt))),
         Line::Poke(_, _, _) => (power, Ok(says(Printed::NotBuilt))),
     }
 }

@@ -8,34 +8,40 @@ use std::test::*;
 use std::thread::Threads;
 
 /// A fill of a script.
-struct Torn {
-    word: &'static [u8],
+pub struct Torn {
+    pub word: &'static [u8],
     /// Whether the gate then selects the new record: by the parity of its bytes, which were 0 at the last sync and 1 in the
     /// last write.
-    selects_new: bool,
+    pub selects_new: bool,
+    /// The same of the next commit, at whose last sync they were 1 and in whose last write 0.
+    pub selects_next: bool,
     /// Whether a superblock then stands that was written since the last sync, over zeros.
     is_formatted: bool,
 }
 
-const FILLS: [Torn; 4] = [
+pub const FILLS: [Torn; 4] = [
     Torn {
         word: b"00\n",
         selects_new: false,
+        selects_next: true,
         is_formatted: false,
     },
     Torn {
         word: b"ff\n",
         selects_new: true,
+        selects_next: false,
         is_formatted: false,
     },
     Torn {
         word: b"old\n",
         selects_new: false,
+        selects_next: false,
         is_formatted: false,
     },
     Torn {
         word: b"new\n",
         selects_new: true,
+        selects_next: true,
         is_formatted: true,
     },
 ];
@@ -113,7 +119,7 @@ fn joined(alloc: Global, parts: &[&[u8]]) -> Result<Vec<u8>, AllocError> {
 }
 
 /// The report of a script, both in pieces.
-fn told(
+pub fn told(
     rt: &(impl Abort + Threads + Sync),
     alloc: Global,
     script: &[&[u8]],

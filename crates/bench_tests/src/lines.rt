@@ -28,8 +28,8 @@ fn a_board_that_is_off_takes_no_command(rt: HostRuntime) -> Result<(), Fail> {
     goes_on(
         &rt,
         rt.alloc(),
-        b"cut old\nslot 1\nslot 9\ncut new\non fresh\n",
-        b"cut\noff\noff\ncut\nfound slot 0 reason 0 image none next 0\non fresh\n",
+        b"cut old\nslot 1\nslot 9\ndiscard\ncut new\non fresh\n",
+        b"cut\noff\noff\noff\ncut\nfound slot 0 reason 0 image none next 0\non fresh\n",
     )
 }
 
@@ -53,30 +53,12 @@ fn a_cut_before_the_format_leaves_a_blank_disk(rt: HostRuntime) -> Result<(), Fa
     )
 }
 
-const OTHERS: &[u8] = b"\
-discard\n\
-cutlane 0 1 00\n\
-faillane 0 1\n\
-poke 0 0 00\n";
-
-const NOT_BUILT: &[u8] = b"\
-not built\n\
-not built\n\
-not built\n\
-not built\n";
-
 #[test]
-fn the_other_lines_are_not_built_and_do_nothing(rt: HostRuntime) -> Result<(), Fail> {
-    let alloc = rt.alloc();
-    let mut lines = Vec::new(alloc);
-    lines.extend_from_slice(OTHERS)?;
-    lines.extend_from_slice(b"slot 1\ncut 00\n")?;
-    lines.extend_from_slice(OTHERS)?;
-    lines.extend_from_slice(b"on fresh\n")?;
-    let mut text = Vec::new(alloc);
-    text.extend_from_slice(NOT_BUILT)?;
-    text.extend_from_slice(b"slot ok 1\ncut\n")?;
-    text.extend_from_slice(NOT_BUILT)?;
-    text.extend_from_slice(b"found slot 1 reason 0 image none next 0\non fresh\n")?;
-    goes_on(&rt, alloc, &lines, &text)
+fn a_poke_is_not_built_and_does_nothing(rt: HostRuntime) -> Result<(), Fail> {
+    goes_on(
+        &rt,
+        rt.alloc(),
+        b"poke 0 0 00\nslot 1\ncut 00\npoke 0 0 00\non fresh\n",
+        b"not built\nslot ok 1\ncut\nnot built\nfound slot 1 reason 0 image none next 0\non fresh\n",
+    )
 }

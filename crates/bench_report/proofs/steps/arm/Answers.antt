@@ -1,6 +1,7 @@
-use Rattle.std.proofs.Common.{subst}
+use Rattle.std.proofs.Common.{refl, subst}
 use Rattle.disk.specs.Mishaps.{armed_by}
 use Rattle.bench_report.specs.declared.power.Power.{Power}
+use Rattle.bench_report.specs.Steps.{armed_with}
 use Rattle.bench_report.specs.Agree.{Agrees}
 use Rattle.bench_report.proofs.Armings.{armed_off, armed_on}
 use Rattle.bench_report.proofs.steps.arm.Goals as goal
@@ -8,10 +9,12 @@ use Rattle.bench_report.proofs.steps.arm.Goals as goal
 pub returns-in-Off-clause-told : goal.returns-in-Off-clause-told
 returns-in-Off-clause-told c = λ size b h.
     let P : Power → Type 0 = λ p. Agrees size b p in
-    armed_off c.kept_disks.ensures.goes_on size b (armed_by c.args.fault) c.in-Off.disk c.arm.new.self (subst P c.in-Off.is h) c.arm.ensures.facts c.arm.ensures.armed
+    let armed = armed_by c.args.fault in
+    (armed_with armed b, (c.says.ensures, refl), armed_off c.kept_disks.ensures.goes_on size b armed c.in-Off.disk c.arm.new.self (subst P c.in-Off.is h) c.arm.ensures.facts c.arm.ensures.armed, refl)
 
 pub returns-in-On-clause-told : goal.returns-in-On-clause-told
 returns-in-On-clause-told c = λ size b h.
     let P : Power → Type 0 = λ p. Agrees size b p in
+    let armed = armed_by c.args.fault in
     let did = c.arm-in-On.ensures in
-    armed_on size b (armed_by c.args.fault) c.in-On.board c.arm-in-On.new.self (subst P c.in-On.is h) did.machine did.life did.board did.facts did.armed
+    (armed_with armed b, (c.says-in-On.ensures, refl), armed_on size b armed c.in-On.board c.arm-in-On.new.self (subst P c.in-On.is h) did.machine did.life did.board did.facts did.armed, refl)

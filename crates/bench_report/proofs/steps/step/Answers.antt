@@ -1,6 +1,5 @@
 use Rattle.std.proofs.Common.{refl, sym, ◌∙◌}
-use Rattle.disk.specs.Mishaps.{FaultArmed, CutArmed}
-use Rattle.bench_report.specs.Steps.{unpowered, armed_with}
+use Rattle.bench_report.specs.Steps.{unpowered}
 use Rattle.bench_report.proofs.steps.step.Goals as goal
 
 pub returns-in-Format-clause-told : goal.returns-in-Format-clause-told
@@ -15,8 +14,13 @@ returns-in-On-clause-told g c = λ b h.
 
 pub returns-in-Slot-clause-told : goal.returns-in-Slot-clause-told
 returns-in-Slot-clause-told g c = λ b h.
-    let did = c.slot_line.ensures.told c.args.shape.now b h.0 in
+    let did = c.console_line.ensures.told c.args.shape.now b h.0 in
     rw c.answered-in-Slot.ensures.answer (rw c.answered-in-Slot.ensures.power (rw c.in-Slot.is (did.0, did.1, (did.2, h.1 ∙ sym did.3))))
+
+pub returns-in-Discard-clause-told : goal.returns-in-Discard-clause-told
+returns-in-Discard-clause-told g c = λ b h.
+    let did = c.console_line-in-Discard.ensures.told c.args.shape.now b h.0 in
+    rw c.answered-in-Discard.ensures.answer (rw c.answered-in-Discard.ensures.power (rw c.in-Discard.is (did.0, did.1, (did.2, h.1 ∙ sym did.3))))
 
 pub returns-in-Cut-clause-told : goal.returns-in-Cut-clause-told
 returns-in-Cut-clause-told g c = λ b h. rw c.in-Cut.is (unpowered b, (c.says.ensures, refl), (c.cut.ensures.told c.args.shape.now b h.0, h.1))
@@ -54,7 +58,21 @@ pub returns-in-Mem-clause-told : goal.returns-in-Mem-clause-told
 returns-in-Mem-clause-told g c = λ b h. rw c.in-Mem.is (rw c.says-in-Mem.ensures (b, c.mem_line-shown.ensures c.args.shape.now b h.0, (h.0, h.1)))
 
 pub returns-in-CutAt-clause-told : goal.returns-in-CutAt-clause-told
-returns-in-CutAt-clause-told g c = λ b h. rw c.in-CutAt.is (armed_with CutArmed b, (c.says-in-CutAt.ensures, refl), (c.arm-after.ensures.told c.args.shape.now b h.0, h.1))
+returns-in-CutAt-clause-told g c = λ b h.
+    let did = c.arm.ensures.told c.args.shape.now b h.0 in
+    rw c.answered-in-CutAt.ensures.answer (rw c.answered-in-CutAt.ensures.power (rw c.in-CutAt.is (did.0, did.1, (did.2, h.1 ∙ sym did.3))))
+
+pub returns-in-CutLane-clause-told : goal.returns-in-CutLane-clause-told
+returns-in-CutLane-clause-told g c = λ b h.
+    let did = c.arm-in-CutLane.ensures.told c.args.shape.now b h.0 in
+    rw c.answered-in-CutLane.ensures.answer (rw c.answered-in-CutLane.ensures.power (rw c.in-CutLane.is (did.0, did.1, (did.2, h.1 ∙ sym did.3))))
 
 pub returns-in-FailAt-clause-told : goal.returns-in-FailAt-clause-told
-returns-in-FailAt-clause-told g c = λ b h. rw c.in-FailAt.is (armed_with FaultArmed b, (c.says-in-FailAt.ensures, refl), (c.arm-after-in-FailAt.ensures.told c.args.shape.now b h.0, h.1))
+returns-in-FailAt-clause-told g c = λ b h.
+    let did = c.arm-in-FailAt.ensures.told c.args.shape.now b h.0 in
+    rw c.answered-in-FailAt.ensures.answer (rw c.answered-in-FailAt.ensures.power (rw c.in-FailAt.is (did.0, did.1, (did.2, h.1 ∙ sym did.3))))
+
+pub returns-in-FailLane-clause-told : goal.returns-in-FailLane-clause-told
+returns-in-FailLane-clause-told g c = λ b h.
+    let did = c.arm-in-FailLane.ensures.told c.args.shape.now b h.0 in
+    rw c.answered-in-FailLane.ensures.answer (rw c.answered-in-FailLane.ensures.power (rw c.in-FailLane.is (did.0, did.1, (did.2, h.1 ∙ sym did.3))))

@@ -1,17 +1,18 @@
 use Rattle.std.proofs.Common.{Option, sym, subst}
+use Rattle.board_model.specs.Shown.{change_of}
 use Rattle.bench_report.specs.declared.power.Power.{Power}
 use Rattle.bench_report.specs.Bench.{Life}
-use Rattle.bench_report.specs.Steps.{SlotStep}
+use Rattle.bench_report.specs.Steps.{ConsoleStep}
 use Rattle.bench_report.specs.Agree.{Agrees}
 use Rattle.bench_report.proofs.Lines.{on_life}
-use Rattle.bench_report.proofs.steps.slot_line.Goals as goal
+use Rattle.bench_report.proofs.steps.console_line.Goals as goal
 
 pub returns-in-On-clause-told : goal.returns-in-On-clause-told
 returns-in-On-clause-told c = λ size b h.
     let P : Power → Type 0 = λ p. Agrees size b p in
     let was = subst P c.in-On.is h in
     on_life size b c.in-On.board was (λ life on. (
-    let did = c.slot-answer.ensures size b life on was in
-    let Q : Option Life → Type 0 = λ p. SlotStep p c.args.n b c.slot-answer.result did.0 in
+    let did = c.issue-answer.ensures size b life on was in
+    let Q : Option Life → Type 0 = λ p. ConsoleStep c.args.word (change_of c.args.command) p b c.issue-answer.result did.0 in
     (did.0, subst Q (sym on) did.1, did.2, did.3)
     ))
