@@ -37,10 +37,10 @@ const IMAGE_1: &[u8] = b"found slot 0 reason 0 image 1 next 2\non keep\n";
 fn first_is_cut(
     rt: &(impl Abort + Threads + Sync),
     alloc: Global,
-    arming: &[u8],
-    call: &[u8],
+    arming: &'static [u8],
+    call: &'static [u8],
     torn: &Torn,
-    found: &[u8],
+    found: &'static [u8],
 ) -> Result<(), Fail> {
     told(
         rt,
@@ -61,10 +61,10 @@ fn first_is_cut(
 fn second_is_cut(
     rt: &(impl Abort + Threads + Sync),
     alloc: Global,
-    arming: &[u8],
-    call: &[u8],
+    arming: &'static [u8],
+    call: &'static [u8],
     torn: &Torn,
-    found: &[u8],
+    found: &'static [u8],
 ) -> Result<(), Fail> {
     told(
         rt,
@@ -92,8 +92,8 @@ fn second_is_cut(
 fn fails_early(
     rt: &(impl Abort + Threads + Sync),
     alloc: Global,
-    arming: &[u8],
-    call: &[u8],
+    arming: &'static [u8],
+    call: &'static [u8],
 ) -> Result<(), Fail> {
     told(
         rt,
@@ -116,7 +116,7 @@ fn fails_early(
 fn fails_late(
     rt: &(impl Abort + Threads + Sync),
     alloc: Global,
-    call: &[u8],
+    call: &'static [u8],
     torn: &Torn,
 ) -> Result<(), Fail> {
     let found = if torn.selects_new { IMAGE_0 } else { NO_IMAGE };
@@ -184,4 +184,23 @@ fn a_failure_at_each_call_is_answered_to_the_guest(rt: HostRuntime) -> Result<()
         }
     }
     Ok(())
+}
+
+#[test]
+fn the_calls_of_a_lane_are_counted_over_suspensions(rt: HostRuntime) -> Result<(), Fail> {
+    told(
+        &rt,
+        rt.alloc(),
+        &[
+            GUEST,
+            b"cutlane 1 3 00\nturn 0 20\non keep\nturn 0 20\non keep\n",
+        ],
+        &[
+            GUEST_STARTED,
+            b"armed\nturn 0 8 asleep\n",
+            IMAGE_0,
+            b"power lost\n",
+            IMAGE_0,
+        ],
+    )
 }
