@@ -1,5 +1,8 @@
 mod Mapped
 mod Doubted
-mod Refused
 mod Moments
+mod Refused
+mod Issued
+mod Seated
+mod Together
 pub mod Rows

@@ -1,39 +1,42 @@
 -- What a crash may leave from an open to the end of a power-on.
-use Rattle.std.proofs.Common.{◌≡◌, inl, inr, Option, None, Some, refl}
-use Rattle.disk.specs.Facts.{Content, Facts, LeavesSince, Unchanged}
-use Rattle.disk.specs.Moments.{passes_unchanged, leaves_stays, leaves_then, leaves_weaker}
+use Rattle.std.proofs.Common.{◌≡◌, inl, inr, Option, None, Some, sym, subst}
+use Rattle.disk.specs.Facts.{Content, Facts, LeavesSince, Passes, Stays, Unchanged}
+use Rattle.disk.specs.Moments.{passes_unchanged, leaves_none, leaves_stays, leaves_then, leaves_weaker}
 use Rattle.board_model.specs.Durable.{State, Change, after}
 use Rattle.board_model.specs.Shapes.{Size}
 use Rattle.store.specs.Leaves.{StandsForEither}
-use Rattle.board.specs.Moments.{GoesOn, MayLeave}
+use Rattle.board.specs.Moments.{MayLeave}
 
--- nothing was done
-pub unchanged_here : (a : Facts) → Unchanged a a
-unchanged_here a = record {
-  content = refl;
-  moment = refl;
-  failures = refl;
-  calls = refl;
-  lent = refl;
-  now = λ c. (λ left. left, λ left. left);
-  since = λ t c. (λ left. left, λ left. left);
-}
+-- what is asked of a disk: that moment is now
+abbrev pub IsNow : Facts → Type 0
+IsNow a = (c : Content) → a.since a.moment c → a.may_leave c
 
-pub stays_here : (a : Facts) (size : Size) (s : State) (gone : Option Change) → gone ≡ None → GoesOn a a size s gone
-stays_here a size s None none = unchanged_here a
-stays_here a size s (Some c) none = cc
+before_it : (a : Facts) (size : Size) (s : State) (sent : Option Change) (c : Content) → a.may_leave c → MayLeave a size s sent c
+before_it a size s None c left = left
+before_it a size s (Some change) c left = inl left
+
+-- no command went to the disk
+pub untouched_moments : (a b : Facts) (size : Size) (s : State) (sent : Option Change) → IsNow a → Passes a b Stays → LeavesSince a b (MayLeave a size s sent)
+untouched_moments a b size s sent now passes =
+    let P : Content → Type 0 = MayLeave a size s sent in
+    leaves_stays a a b P (leaves_none a P now (before_it a size s sent)) passes
+
+-- a command went to the disk
+pub gone_moments : (a b : Facts) (size : Size) (s : State) (sent : Option Change) (c : Change) → sent ≡ Some c → LeavesSince a b (StandsForEither size s (after s c)) → LeavesSince a b (MayLeave a size s sent)
+gone_moments a b size s sent c is went =
+    subst (λ (o : Option Change). LeavesSince a b (MayLeave a size s o)) (sym is) (leaves_weaker a b (StandsForEither size s (after s c)) (MayLeave a size s (Some c)) went (λ x stands. inr stands))
 
 -- an open, and then what a boot does
-meanwhile : (a b c : Facts) (size : Size) (s : State) (gone : Option Change) → LeavesSince a b a.may_leave → GoesOn b c size s gone → LeavesSince a c (MayLeave a size s gone)
-meanwhile a b c size s None opened on = leaves_stays a b c a.may_leave opened (passes_unchanged b c on)
-meanwhile a b c size s (Some change) opened on =
-    let P : Content → Type 0 = MayLeave a size s (Some change) in
-    leaves_then a b c P (leaves_weaker a b a.may_leave P opened (λ x left. inl left)) (leaves_weaker b c (StandsForEither size s (after s change)) P on (λ x stands. inr stands))
+pub meanwhile : (a b c : Facts) (size : Size) (s : State) (sent : Option Change) → LeavesSince a b a.may_leave → LeavesSince b c (MayLeave b size s sent) → LeavesSince a c (MayLeave a size s sent)
+meanwhile a b c size s sent opened on =
+    let P : Content → Type 0 = MayLeave a size s sent in
+    leaves_then a b c P (leaves_weaker a b a.may_leave P opened (before_it a size s sent)) (leaves_weaker b c (MayLeave b size s sent) P on (earlier sent))
+  where
+    earlier : (sent : Option Change) (x : Content) → MayLeave b size s sent x → MayLeave a size s sent x
+    earlier None x left = opened.now x left
+    earlier (Some change) x (inl left) = inl (opened.now x left)
+    earlier (Some change) x (inr stands) = inr stands
 
 -- and then the disk is given back as it is
-pub kept_meanwhile : (a b c d : Facts) (size : Size) (s : State) (gone : Option Change) → LeavesSince a b a.may_leave → GoesOn b c size s gone → Unchanged c d → LeavesSince a d (MayLeave a size s gone)
-kept_meanwhile a b c d size s gone opened on same = leaves_stays a c d (MayLeave a size s gone) (meanwhile a b c size s gone opened on) (passes_unchanged c d same)
-
--- and then the board is on
-pub on_meanwhile : (a b c : Facts) (size z : Size) (s t : State) (gone : Option Change) → LeavesSince a b a.may_leave → GoesOn b c size s gone → z ≡ size → t ≡ s → LeavesSince a c (MayLeave a z t gone)
-on_meanwhile a b c size z s t gone opened on same found = rw same (rw found (meanwhile a b c size s gone opened on))
+pub kept_meanwhile : (a b c d : Facts) (size : Size) (s : State) (sent : Option Change) → LeavesSince a b a.may_leave → LeavesSince b c (MayLeave b size s sent) → Unchanged c d → LeavesSince a d (MayLeave a size s sent)
+kept_meanwhile a b c d size s sent opened on same = leaves_stays a c d (MayLeave a size s sent) (meanwhile a b c size s sent opened on) (passes_unchanged c d same)

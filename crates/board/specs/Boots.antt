@@ -1,7 +1,8 @@
 -- Power on by mode: which modes are refused, what is issued, and what is booted.
 -- Source: docs/BOARD.md.
-use Rattle.std.specs.Prelude.{ℕ, List, [], ◌∷◌, ◌≤◌, length, Option, None, Some, is_some, if◌then◌else◌, All, get_or}
-use Rattle.board_model.specs.Durable.{State, Discard}
+use Rattle.std.specs.Prelude.{ℕ, List, [], ◌≤◌, length, Option, None, Some, is_some, if◌then◌else◌, All, get_or}
+use Rattle.std.specs.Option.{option_to_list}
+use Rattle.board_model.specs.Durable.{State}
 use Rattle.board_model.specs.Shapes.{Size, ram_bytes_of}
 use Rattle.board_model.specs.declared.boot_mode.BootMode.{BootMode}
 use Rattle.board_model.specs.declared.boot_mode.BootMode.TheVariants as modes
@@ -9,6 +10,7 @@ use Rattle.board_model.specs.declared.durable.Command.{Command}
 use Rattle.board_model.specs.declared.durable.Command.TheVariants as commands
 use Rattle.machine.specs.Machine.{Machine, begun as begun_machine}
 use Rattle.store.specs.Lives.{Life, begun}
+use Rattle.board.specs.Moments.{issued_by}
 
 -- the number with which a mode is refused in a state
 abbrev pub boot_refusal : State → BootMode → Option ℕ
@@ -17,19 +19,9 @@ boot_refusal s modes.Keep = None
 boot_refusal s modes.Discard = if is_some s.image then None else Some 8
 boot_refusal s modes.Resume = if is_some s.image then None else Some 8
 
--- the modes that boot the slot: one that goes on with an image is never on, until images can be loaded
-abbrev pub BootsSlot : BootMode → Type 0
-BootsSlot modes.Fresh = Unit {0}
-BootsSlot modes.Keep = Unit {0}
-BootsSlot modes.Discard = Unit {0}
-BootsSlot modes.Resume = ⊥
-
 -- the life that a boot begins in a state: with the command that the mode issues
 abbrev pub life_after : BootMode → State → Life
-life_after modes.Fresh s = begun s
-life_after modes.Keep s = begun s
-life_after modes.Discard s = record (begun s) { journal = Discard ∷ [] }
-life_after modes.Resume s = begun s
+life_after mode s = record (begun s) { journal = option_to_list (issued_by mode) }
 
 -- the commands that the console may issue: the others are the guest's and the boot's
 abbrev pub IsConsoleCommand : Command → Type 0

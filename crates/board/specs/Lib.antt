@@ -1,5 +1,8 @@
 pub mod Boots
 pub mod Boards
-pub mod Unbooted
 pub mod Moments
+pub mod Unbooted
+pub mod Begins
+pub mod Readies
+pub mod PowersOn
 pub mod Turns

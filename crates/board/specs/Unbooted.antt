@@ -2,17 +2,17 @@
 -- Source: docs/BOARD.md.
 use Rattle.std.specs.Prelude.{◌≡◌, ◌⊎◌, ◌≤◌, ℕ, List, Option, None, Some}
 use Rattle.disk.specs.Facts.{Facts, Failed}
-use Rattle.board_model.specs.Durable.{State, Change, Discard, after}
+use Rattle.board_model.specs.Durable.{State, Change, after}
 use Rattle.board_model.specs.Shapes.{Size}
 use Rattle.board_model.specs.Shown.{number_of, durable_of}
 use Rattle.board_model.specs.declared.durable.Durable.{Durable}
 use Rattle.board_model.specs.declared.boot_mode.BootMode.{BootMode}
-use Rattle.board_model.specs.declared.boot_mode.BootMode.TheVariants as modes
 use Rattle.board_model.specs.declared.refusal.Refusal.{Refusal}
-use Rattle.board_model.specs.declared.refusal.Refusal.TheVariants.{BadShape, Memory, Device, Down, NoImage, BadImage, ImageThere}
+use Rattle.board_model.specs.declared.refusal.Refusal.TheVariants.{BadShape, Memory, Device, Down, NoImage, ImageThere}
 use Rattle.store.specs.Leaves.{LeavesOnly, LeavesEither}
 use Rattle.store.specs.Lives.{Life, begun, now_of}
 use Rattle.board.specs.Boots.{Fits}
+use Rattle.board.specs.Moments.{issued_by}
 
 -- of a store that is open: a payload that does not fit, or memory
 abbrev pub IsStartRefusal : Size → List (List ℕ) → Refusal → Type 0
@@ -20,40 +20,18 @@ IsStartRefusal size payloads BadShape = Fits size payloads → ⊥
 IsStartRefusal size payloads Memory = Fits size payloads
 IsStartRefusal size payloads e = ⊥
 
--- of a mode that the state allows, in this order: a payload that does not fit, memory, the command that the mode issues, or
--- an image, which cannot be loaded yet
-abbrev pub IsLateRefusal : Size → BootMode → List (List ℕ) → Refusal → Type 0
-IsLateRefusal size mode payloads BadShape = Fits size payloads → ⊥
-IsLateRefusal size mode payloads Memory = Fits size payloads
-IsLateRefusal size mode payloads Device = Fits size payloads × (mode ≡ modes.Discard)
-IsLateRefusal size mode payloads Down = Fits size payloads × (mode ≡ modes.Discard)
-IsLateRefusal size mode payloads BadImage = Fits size payloads × (mode ≡ modes.Resume)
-IsLateRefusal size mode payloads e = ⊥
-
--- by the number with which the state refuses the mode, where it does
-abbrev pub IsBootRefusal : Option ℕ → Size → BootMode → List (List ℕ) → Refusal → Type 0
-IsBootRefusal (Some n) size mode payloads e = number_of e ≡ n
-IsBootRefusal None size mode payloads e = IsLateRefusal size mode payloads e
-
 -- the life after a refusal: the command that the mode issues may be in doubt
-abbrev pub doubt_after : Refusal → Option Change
-doubt_after Down = Some Discard
-doubt_after e = None
+abbrev pub doubt_after : BootMode → Refusal → Option Change
+doubt_after mode Down = issued_by mode
+doubt_after mode e = None
 
-abbrev pub life_refused : Refusal → State → Life
-life_refused e s = record (begun s) { doubt = doubt_after e }
+abbrev pub life_refused : BootMode → Refusal → State → Life
+life_refused mode e s = record (begun s) { doubt = doubt_after mode e }
 
 -- the state now of a board that is not on, by the state found: that of the life which the refusal left
-abbrev pub IsNowAfter : Refusal → Option Durable → Option Durable → Type 0
-IsNowAfter e None now = now ≡ None
-IsNowAfter e (Some found) now = (s : State) × (found ≡ durable_of s) × (now ≡ Some (durable_of (now_of (life_refused e s))))
-
--- the refusals of what a mode issues
-abbrev pub IsIssueRefusal : BootMode → Refusal → Type 0
-IsIssueRefusal mode Device = mode ≡ modes.Discard
-IsIssueRefusal mode Down = mode ≡ modes.Discard
-IsIssueRefusal mode BadImage = mode ≡ modes.Resume
-IsIssueRefusal mode e = ⊥
+abbrev pub IsNowAfter : BootMode → Refusal → Option Durable → Option Durable → Type 0
+IsNowAfter mode e None now = now ≡ None
+IsNowAfter mode e (Some found) now = (s : State) × (found ≡ durable_of s) × (now ≡ Some (durable_of (now_of (life_refused mode e s))))
 
 -- the refusal of that number, or none
 abbrev pub RefusesMode : Option ℕ → Option Refusal → Type 0

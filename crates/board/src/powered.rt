@@ -66,18 +66,21 @@ impl<D: Disk + Drop> Board<D> {
     ghost use Rattle.turns.specs.declared.words.Turned.TheVariants as did;
     ghost use Rattle.machine.specs.Held.{shown_by, IsHeld};
     ghost use Rattle.turns.specs.Turns.{is_pending};
-    ghost use Rattle.board.specs.Boots.{IsConsoleCommand, life_after, boot_refusal, BootsSlot, Fits, booted};
+    ghost use Rattle.board.specs.Boots.{IsConsoleCommand};
     ghost use Rattle.board.specs.Boards.{store_of, machine_of};
     ghost use Rattle.board.specs.Turns.{Comes, Turns, Rows, TurnsMany, Calls};
-    ghost use Rattle.board.specs.Moments.{issued_by, gone_before, MayLeave};
-    ghost use Rattle.board.specs.Unbooted.{IsBootRefusal, doubt_after, LeavesLife, CountsRefusal, IsNowAfter};
+    ghost use Rattle.board.specs.PowersOn.{IsOn, IsUnpowered, KeepsDisk, GivesDisk};
+    ghost use Rattle.board.specs.Unbooted.{IsNowAfter};
 
-    /// Powers a board on: opens the disk, and boots by the mode (docs/BOARD.md, "Power on").
+    /// Powers a board on: opens the disk, and begins by the mode (docs/BOARD.md, "Power on"). Fresh, keep and discard boot the
+    /// slot, discard once the image is dropped. Resume goes on with the image: its memory is loaded, then the image is
+    /// consumed, and only then its hart stands at its address.
     ///
     /// Refused as `Store::open` says; then `ImageThere` for fresh where an image stands, `NoImage` for discard and resume
     /// where none does; then `BadShape` where any of the four payloads is longer than RAM, in every mode; then `Memory`;
-    /// then for discard `Device` and `Down`, and for resume `BadImage`, until images can be loaded. A refusal gives the
-    /// disk back. After each the durable state is the one found, but after `Down` it may be the one without the image.
+    /// then for resume `Device` and `BadImage` as `Store::load_image` says; then for discard and resume `Device` and `Down` for
+    /// the command. A refusal gives the disk back. After each the durable state is the one found, but after `Down` it may be
+    /// the one without the image.
     pub fn power_on(
         alloc: Global,
         disk: D,
@@ -85,43 +88,16 @@ impl<D: Disk + Drop> Board<D> {
         payloads: &Payloads,
     ) -> Result<Board<D>, Unpowered<D>>
         requires { IsIdle (D.facts disk) }
-        // Where the board is on, the life begins in the state found, with the command that the mode issues.
-        ensures reads { IfOk result (λ board. StandsFor (D.facts disk).content (size_of_store (store_of board)) (found_state (store_of board))) }
-        ensures found { IfOk result (λ board. Leaves (D.facts disk) (size_of_store (store_of board)) (found_state (store_of board))) }
-        ensures life { IfOk result (λ board. life_of (store_of board) ≡ life_after mode (found_state (store_of board))) }
-        ensures only { IfOk result (λ board. LeavesOnly (disk_of (store_of board)) (size_of_store (store_of board)) (now_state (store_of board))) }
+        ensures on { IfOk result (λ board. IsOn mode payloads.now (D.facts disk) (view_of (store_of board)) (machine_of board)) }
+        ensures off { IfErr result (λ e. IsUnpowered mode payloads.now e.found (D.facts disk) e.refusal (D.facts e.disk)) }
+        ensures now { IfErr result (λ e. IsNowAfter mode e.refusal e.found e.now) }
 
-        // Each crash since the call's start leaves what a crash just before could have left, or, where the mode issues a
-        // command, the state found before or after it.
-        ensures any_moment { IfOk result (λ board. LeavesSince (D.facts disk) (disk_of (store_of board))
-            (MayLeave (D.facts disk) (size_of_store (store_of board)) (found_state (store_of board)) (issued_by mode))) }
-
-        // It boots the slot, where the mode is allowed and the payloads fit.
-        ensures allowed { IfOk result (λ board. (boot_refusal (found_state (store_of board)) mode ≡ None) × BootsSlot mode × Fits (size_of_store (store_of board)) payloads.now) }
-        ensures boots { IfOk result (λ board. machine_of board ≡ booted payloads.now (now_state (store_of board)) (size_of_store (store_of board))) }
-
-        // A refusal after the open leaves the state found, but for a command in doubt; and at each moment since the call's
-        // start a crash leaves what one just before could have left, or where a command went to the disk the state found
-        // before or after it.
-        ensures refused { IfErr result (λ e. IfSome e.found (λ d. (size : Size) × (s : State) × (d ≡ durable_of s) × StandsFor (D.facts disk).content size s × Leaves (D.facts disk) size s
-            × IsBootRefusal (boot_refusal s mode) size mode payloads.now e.refusal × LeavesLife (doubt_after e.refusal) (D.facts e.disk) size s
-            × LeavesSince (D.facts disk) (D.facts e.disk) (MayLeave (D.facts disk) size s (gone_before e.refusal)))) }
-        ensures now { IfErr result (λ e. IsNowAfter e.refusal e.found e.now) }
-
-        // A disk that reads as no state is refused so, or for its failure, one without sectors before any call of it; and since
-        // the start of a refused open a crash leaves what it could have left just before.
+        // A disk that reads as no state is refused so, or for its failure; one without sectors before any call of it.
         ensures refuses { (e : Refusal) → ReadsAs (D.facts disk).content e → MatchResult result (λ board. ⊥) (λ f. (f.found ≡ None) × ((f.refusal ≡ e) ⊎ (f.refusal ≡ Refusal.Device))) }
         ensures no_sectors { length (D.facts disk).content ≡ 0 → MatchResult result (λ board. ⊥) (λ f. (f.refusal ≡ Refusal.BadShape) × (f.found ≡ None) × (f.disk ≡ disk)) }
-        ensures unopened { IfErr result (λ e. e.found ≡ None → OpenRefused (D.facts disk) e.refusal (D.facts e.disk)) }
-        ensures unopened_moments { IfErr result (λ e. e.found ≡ None → LeavesSince (D.facts disk) (D.facts e.disk) (D.facts disk).may_leave) }
 
-        // The disk stays as long, nothing of it is lent, and each refusal by its failure has a cause and is counted.
-        ensures length { MatchResult result (λ board. SameLength (D.facts disk) (disk_of (store_of board))) (λ e. SameLength (D.facts disk) (D.facts e.disk)) }
-        ensures none_out { MatchResult result (λ board. IsIdle (disk_of (store_of board))) (λ e. IsIdle (D.facts e.disk)) }
-        ensures cause { MatchResult result (λ board. mishaps_of (store_of board) ≡ D.mishaps disk) (λ e. CausedRefusal (D.mishaps disk) e.refusal (D.mishaps e.disk)) }
-        ensures counts { MatchResult result (λ board. (D.facts disk).failures ≤ (disk_of (store_of board)).failures) (λ e. CountsRefusal (D.facts disk).failures e.refusal (D.facts e.disk).failures) }
-        ensures no_fewer { IfErr result (λ e. (D.facts disk).failures ≤ (D.facts e.disk).failures) }
-        ensures opened { IfOk result (λ board. failures_at_open (store_of board) ≡ (D.facts disk).failures) }
+        ensures keeps { MatchResult result (λ board. KeepsDisk (D.facts disk) (D.mishaps disk) (disk_of (store_of board)) (mishaps_of (store_of board)))
+            (λ e. GivesDisk (D.facts disk) (D.mishaps disk) e.refusal (D.facts e.disk) (D.mishaps e.disk)) }
     {
         let mut store = match Store::open(alloc, disk) {
             Ok(store) => store,

@@ -1,22 +1,18 @@
-//! From an opened store to a board that stands at its first instruction.
+//! From an opened store to a board that stands at its first instruction, or goes on with its image.
 
-ghost use Rattle.std.specs.Prelude.{◌≡◌, ◌≤◌, ℕ, OnOk, OnErr, IfOk, IfErr, MatchResult, None, Some, [], false};
+ghost use Rattle.std.specs.Prelude.{◌≡◌, ◌≤◌, ◌<◌, ℕ, OnOk, IfOk, IfErr, None};
 ghost use Rattle.board_model.specs.Durable.{State};
 ghost use Rattle.board_model.specs.Shapes.{ram_bytes_of};
 ghost use Rattle.board_model.specs.Shown.{durable_of};
-ghost use Rattle.disk.specs.Facts.{LeavesSince};
-ghost use Rattle.store.specs.Leaves.{LeavesOnly, LeavesEither, SameLength, IsIdle};
-ghost use Rattle.store.specs.Opens.{CausedRefusal};
-ghost use Rattle.store.specs.Lives.{begun};
-ghost use Rattle.store.specs.Stores.{disk_of, mishaps_of, size_of_store, life_of, found_state, now_state, doubt_of, failures_at_open};
+ghost use Rattle.store.specs.Stores.{size_of_store, found_state, now_state, view_of};
 ghost use Rattle.machine.specs.Machine.{resting};
-ghost use Rattle.board.specs.Boots.{life_after, boot_refusal, BootsSlot, Fits, booted};
-ghost use Rattle.board.specs.Moments.{issued_by, gone_before, GoesOn};
-ghost use Rattle.board.specs.Unbooted.{IsStartRefusal, IsBootRefusal, IsIssueRefusal, RefusesMode, life_refused, CountsRefusal};
-ghost use Rattle.board_model.specs.declared.boot_mode.BootMode.TheVariants as modes;
+ghost use Rattle.board.specs.Begins.{HasItsHart, first_of, IsBegun, IsLateRefusal, IsRefused};
+ghost use Rattle.board.specs.Boots.{boot_refusal, Fits, booted};
+ghost use Rattle.board.specs.Readies.{IsOpen, IsIssued, IsUnissued};
+ghost use Rattle.board.specs.Unbooted.{IsStartRefusal, RefusesMode};
 
 use crate::payloads::Payloads;
-use board_model::{BootMode, Command, Durable, Refusal};
+use board_model::{BootMode, Command, Durable, HartId, Refusal};
 use disk::Disk;
 use machine::Machine;
 use std::alloc::Global;
@@ -39,53 +35,40 @@ fn mode_refusal(mode: BootMode, found: &Durable) -> Option<Refusal>
     }
 }
 
-/// Issues what the mode asks for. An image cannot be loaded yet.
-fn issue<D: Disk + Drop>(store: &mut Store<D>, mode: BootMode) -> Result<(), Refusal>
-    requires begins { life_of store.old ≡ begun (found_state store.old) }
-    requires allowed { boot_refusal (found_state store.old) mode ≡ None }
-    requires only { LeavesOnly (disk_of store.old) (size_of_store store.old) (found_state store.old) }
-    ensures size { size_of_store store.new ≡ size_of_store store.old }
-    ensures life { OnOk result (life_of store.new ≡ life_after mode (found_state store.old)) }
-    ensures only { OnOk result (LeavesOnly (disk_of store.new) (size_of_store store.new) (now_state store.new)) }
-    ensures boots { OnOk result (BootsSlot mode) }
-    ensures refused { IfErr result (λ e. IsIssueRefusal mode e) }
-    ensures left { IfErr result (λ e. life_of store.new ≡ life_refused e (found_state store.old)) }
-    ensures any_moment { MatchResult result
-        (λ _. GoesOn (disk_of store.old) (disk_of store.new) (size_of_store store.old) (found_state store.old) (issued_by mode))
-        (λ e. GoesOn (disk_of store.old) (disk_of store.new) (size_of_store store.old) (found_state store.old) (gone_before e)) }
-    ensures opened { failures_at_open store.new ≡ failures_at_open store.old }
-    ensures length { SameLength (disk_of store.old) (disk_of store.new) }
-    ensures no_fewer { (disk_of store.old).failures ≤ (disk_of store.new).failures }
-    ensures cause { MatchResult result (λ _. mishaps_of store.new ≡ mishaps_of store.old) (λ e. CausedRefusal (mishaps_of store.old) e (mishaps_of store.new)) }
-    ensures counts { IfErr result (λ e. CountsRefusal (disk_of store.old).failures e (disk_of store.new).failures) }
+/// The hart that begins: hart 0, or on a resume the image's.
+fn first_hart<D: Disk + Drop>(store: &Store<D>, mode: BootMode) -> HartId
+    requires { HasItsHart (size_of_store store.now) (found_state store.now) }
+    ensures first { result ≡ first_of mode (found_state store.now) }
+    ensures range { result < (size_of_store store.now).harts }
 {
+    let zero = store.shape().hart(0).unwrap();
     match mode {
-        BootMode::Fresh => Ok(()),
-        BootMode::Keep => Ok(()),
-        BootMode::Discard => match store.apply(Command::Discard) {
-            Ok(_) => Ok(()),
-            Err(refusal) => Err(refusal),
+        BootMode::Fresh | BootMode::Keep | BootMode::Discard => zero,
+        BootMode::Resume => match store.found().image {
+            Some(head) => head.hart,
+            None => zero,
         },
-        BootMode::Resume => Err(Refusal::BadImage),
     }
 }
 
-/// The board of an open store before a boot. Refused 3 where a payload does not fit, else 11 for want of memory.
+/// The board of an open store before a boot by the mode. Refused 3 where a payload does not fit, else 11 for want of memory.
 fn resting<D: Disk + Drop>(
     alloc: Global,
     store: &Store<D>,
+    mode: BootMode,
     payloads: &Payloads,
 ) -> Result<Machine, Refusal>
+    requires { HasItsHart (size_of_store store.now) (found_state store.now) }
     ensures fits { OnOk result (Fits (size_of_store store.now) payloads.now) }
     ensures least { 4096 ≤ ram_bytes_of (size_of_store store.now) }
-    ensures machine { IfOk result (λ m. m ≡ resting (size_of_store store.now) 0) }
+    ensures machine { IfOk result (λ m. m ≡ resting (size_of_store store.now) (first_of mode (found_state store.now))) }
     ensures refused { IfErr result (λ e. IsStartRefusal (size_of_store store.now) payloads.now e) }
 {
     let shape = store.shape();
     if !payloads.fit(&shape) {
         return Err(Refusal::BadShape);
     }
-    let first = shape.hart(0).unwrap();
+    let first = first_hart(store, mode);
     let machine = Machine::new(alloc, &shape, first)?;
     Ok(machine)
 }
@@ -100,36 +83,56 @@ fn boot_slot<D: Disk + Drop>(machine: &mut Machine, store: &Store<D>, payloads: 
     machine.boot(&store.shape(), payloads.get(now.slot), now.reason);
 }
 
-/// Makes the board of a store that was just opened, and boots it. The checks come in the order of docs/BOARD.md.
+/// Begins what the mode asks for, on a board that was just made: boots the slot, after discard once its command was
+/// acknowledged; or goes on with the image.
+fn begin<D: Disk + Drop>(
+    machine: &mut Machine,
+    store: &mut Store<D>,
+    mode: BootMode,
+    payloads: &Payloads,
+) -> Result<(), Refusal>
+    requires opened { IsOpen (view_of store.old) }
+    requires allowed { boot_refusal (found_state store.old) mode ≡ None }
+    requires resting { machine.old ≡ resting (size_of_store store.old) (first_of mode (found_state store.old)) }
+    requires least { 4096 ≤ ram_bytes_of (size_of_store store.old) }
+    requires fits { Fits (size_of_store store.old) payloads.now }
+    ensures issued { OnOk result (IsIssued mode (view_of store.old) (view_of store.new)) }
+    ensures begun { OnOk result (IsBegun mode (size_of_store store.old) payloads.now (found_state store.old) machine.new) }
+    ensures refused { IfErr result (λ e. IsLateRefusal mode (size_of_store store.old) payloads.now (found_state store.old) e) }
+    ensures unissued { IfErr result (λ e. IsUnissued mode (view_of store.old) e (view_of store.new)) }
+{
+    match mode {
+        BootMode::Fresh => boot_slot(machine, store, payloads),
+        BootMode::Keep => boot_slot(machine, store, payloads),
+        BootMode::Discard => {
+            store.apply(Command::Discard)?;
+            boot_slot(machine, store, payloads);
+        }
+        BootMode::Resume => machine.wake(store)?,
+    }
+    Ok(())
+}
+
+/// Makes the board of a store that was just opened, and begins what the mode asks for. The checks come in the order of
+/// docs/BOARD.md; all memory is taken before a command is issued.
 pub fn ready<D: Disk + Drop>(
     alloc: Global,
     store: &mut Store<D>,
     mode: BootMode,
     payloads: &Payloads,
 ) -> Result<Machine, Refusal>
-    requires begins { life_of store.old ≡ begun (found_state store.old) }
-    requires only { LeavesOnly (disk_of store.old) (size_of_store store.old) (found_state store.old) }
-    ensures size { size_of_store store.new ≡ size_of_store store.old }
-    ensures life { OnOk result (life_of store.new ≡ life_after mode (found_state store.old)) }
-    ensures only { OnOk result (LeavesOnly (disk_of store.new) (size_of_store store.new) (now_state store.new)) }
-    ensures allowed { OnOk result ((boot_refusal (found_state store.old) mode ≡ None) × BootsSlot mode × Fits (size_of_store store.old) payloads.now) }
-    ensures machine { IfOk result (λ m. m ≡ booted payloads.now (now_state store.new) (size_of_store store.new)) }
-    ensures refused { IfErr result (λ e. IsBootRefusal (boot_refusal (found_state store.old) mode) (size_of_store store.old) mode payloads.now e) }
-    ensures left { IfErr result (λ e. life_of store.new ≡ life_refused e (found_state store.old)) }
-    ensures any_moment { MatchResult result
-        (λ _. GoesOn (disk_of store.old) (disk_of store.new) (size_of_store store.old) (found_state store.old) (issued_by mode))
-        (λ e. GoesOn (disk_of store.old) (disk_of store.new) (size_of_store store.old) (found_state store.old) (gone_before e)) }
-    ensures opened { failures_at_open store.new ≡ failures_at_open store.old }
-    ensures length { SameLength (disk_of store.old) (disk_of store.new) }
-    ensures no_fewer { (disk_of store.old).failures ≤ (disk_of store.new).failures }
-    ensures cause { MatchResult result (λ _. mishaps_of store.new ≡ mishaps_of store.old) (λ e. CausedRefusal (mishaps_of store.old) e (mishaps_of store.new)) }
-    ensures counts { IfErr result (λ e. CountsRefusal (disk_of store.old).failures e (disk_of store.new).failures) }
+    requires { IsOpen (view_of store.old) }
+    ensures allowed { OnOk result (boot_refusal (found_state store.old) mode ≡ None) }
+    ensures fits { OnOk result (Fits (size_of_store store.old) payloads.now) }
+    ensures issued { OnOk result (IsIssued mode (view_of store.old) (view_of store.new)) }
+    ensures begun { IfOk result (λ m. IsBegun mode (size_of_store store.old) payloads.now (found_state store.old) m) }
+    ensures refused { IfErr result (λ e. IsRefused mode (size_of_store store.old) payloads.now (found_state store.old) e) }
+    ensures unissued { IfErr result (λ e. IsUnissued mode (view_of store.old) e (view_of store.new)) }
 {
     if let Some(refusal) = mode_refusal(mode, &store.found()) {
         return Err(refusal);
     }
-    let mut machine = resting(alloc, store, payloads)?;
-    issue(store, mode)?;
-    boot_slot(&mut machine, store, payloads);
+    let mut machine = resting(alloc, store, mode, payloads)?;
+    begin(&mut machine, store, mode, payloads)?;
     Ok(machine)
 }

@@ -5,7 +5,7 @@ use board::{Board, Payloads, Unpowered};
 use board_model::{
     Addr, BootMode, Command, Durable, HartId, ImageHead, RAM_BASE, Reason, Refusal, Shape, Slot,
 };
-use crew::Turns;
+use crew::{Crew, Turns};
 use disk::Disk;
 use layout::{Record, Saved, Side, gate_bytes, record_bytes, superblock_bytes};
 use machine::{Turned, Word};
@@ -163,8 +163,8 @@ pub const ENTERED: Word = Word::Own(Turned::Entered);
 
 pub const NEXT: Word = Word::Own(Turned::Next);
 
-// One lane after another.
-fn in_turn<R: Threads + Sync>(_rt: &R) -> Option<Turns<R>> {
+/// One lane after another.
+pub fn in_turn<R: Threads + Sync>(_rt: &R) -> Option<Turns<R>> {
     match Turns::new([0, 1, 2, 3]) {
         Ok(crew) => Some(crew),
         Err(_) => None,
@@ -178,10 +178,20 @@ pub fn turns<R: AllocGlobal + Threads + Sync>(
     number: u64,
     count: u32,
 ) -> Option<(u32, Word)> {
-    let crew = in_turn(rt)?;
+    turns_by(rt, &in_turn(rt)?, board, number, count)
+}
+
+/// The same, by that crew.
+pub fn turns_by<R: AllocGlobal, C: Crew>(
+    rt: &R,
+    crew: &C,
+    board: &mut Board<SimDisk>,
+    number: u64,
+    count: u32,
+) -> Option<(u32, Word)> {
     let id = HartId::new(number)?;
     if board.machine().has(id) && 1 <= count && !board.struck() {
-        Some(board.turns(rt.alloc(), &crew, id, count))
+        Some(board.turns(rt.alloc(), crew, id, count))
     } else {
         None
     }

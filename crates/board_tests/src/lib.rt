@@ -13,3 +13,5 @@ mod fixtures;
 mod largest;
 #[cfg(test)]
 mod refusals;
+#[cfg(test)]
+mod resumes;

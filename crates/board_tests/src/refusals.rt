@@ -83,9 +83,9 @@ fn an_image_comes_before_the_payloads(rt: HostRuntime) -> Result<(), Fail> {
     Ok(())
 }
 
-// No image can be loaded yet.
+// The area of this image has no places that are in form: it reads as no memory.
 #[test]
-fn an_image_is_not_resumed_yet(rt: HostRuntime) -> Result<(), Fail> {
+fn an_image_without_its_memory_is_refused(rt: HostRuntime) -> Result<(), Fail> {
     let payloads = Payloads::new(rt.alloc());
     let refusal = over_image(&rt, rt.alloc(), BootMode::Resume, &payloads)?;
     same(&rt, refusal, Refusal::BadImage);

@@ -1,5 +1,6 @@
 -- The board as a model: its memory, its harts, and both tables. Source: SBI specification 2.0, chapters 7 and 9; docs/BOARD.md.
 use Rattle.std.specs.Prelude.{ℕ, zero, suc, Bool, false, List, [], ◌∷◌, ◌++◌, ◌-◌, length, replicate, get_or, slice_set}
+use Rattle.board_model.specs.Durable.{Image}
 use Rattle.board_model.specs.Shapes.{Size, ram_bytes_of}
 use Rattle.board_model.specs.Shown.{reason_number}
 use Rattle.board_model.specs.declared.durable.Reason.{Reason}
@@ -45,3 +46,9 @@ resting size first =
 abbrev pub begun : List ℕ → Reason → Size → Machine
 begun payload reason size =
     record (resting size 0) { memory = payload ++ replicate (ram_bytes_of size - length payload) 0; harts = slice_set (stopped_harts size.harts) 0 (fresh 0 0x80000000 (reason_number reason)) }
+
+-- What a resume leaves: the memory is the image's, its hart stands at its address with its number in a0 and its opaque value in a1,
+-- all else of it is 0, no other hart ever ran, and no interrupt is pending.
+abbrev pub woken : Image → Size → Machine
+woken i size =
+    record (resting size i.hart) { memory = i.memory; harts = slice_set (stopped_harts size.harts) i.hart (fresh i.hart i.address i.opaque) }

@@ -1,12 +1,16 @@
 //! The memory, the harts, and both tables with the one seat of all harts.
 
-ghost use Rattle.std.specs.Prelude.{◌≡◌, ◌≤◌, ◌<◌, ℕ, length, IfOk, OnErr, Err, Some, IsTrue, ◌↔◌};
+ghost use Rattle.std.specs.Prelude.{◌≡◌, ◌⊎◌, ◌≤◌, ◌<◌, ℕ, length, IfOk, IfErr, OnOk, OnErr, Ok, Err, Some, IsTrue, ◌↔◌};
+ghost use Rattle.board_model.specs.Durable.{Image};
 ghost use Rattle.board_model.specs.Shapes.{ram_bytes_of};
 ghost use Rattle.board_model.specs.declared.refusal.Refusal.TheVariants.{Memory};
 ghost use Rattle.turns.specs.Turns.{is_pending};
 ghost use Rattle.turns.specs.declared.words.Turned.TheVariants.{Durable};
 ghost use Rattle.machine.specs.declared.parts.Called.TheVariants.{Made};
-ghost use Rattle.machine.specs.Machine.{hart_at, stopped_harts, resting, begun};
+ghost use Rattle.store.specs.Stores.{size_of_store, now_state, view_of};
+ghost use Rattle.store.specs.Views.{StaysOpen};
+ghost use Rattle.susp.specs.Wakes.{IsUnloaded, IsConsumed};
+ghost use Rattle.machine.specs.Machine.{hart_at, stopped_harts, resting, begun, woken};
 ghost use Rattle.machine.specs.Turns.{Turns, Rows, TurnsMany, Calls};
 ghost use Rattle.machine.specs.Held.{IsHeld, shown_by};
 ghost use Rattle.machine.specs.Durables.{IsStarted, MakesCall};
@@ -26,6 +30,7 @@ use sbi_calls::{Seats, Tables};
 use std::alloc::Global;
 use std::marker::Model;
 use store::Store;
+use susp::wake_image;
 use turns::Turned;
 
 /// A board's memory, harts and tables, which contracts see as the record `Machine` of specs/. The seats are out of their
@@ -103,6 +108,22 @@ impl Machine {
         if let Some(first) = shape.hart(0) {
             self.harts[0] = Hart::fresh(first, RAM_BASE, u64::from(reason.number()));
         }
+    }
+
+    /// Wakes a board that was just made, whose first hart is that of the image that stands, as `susp::wake_image` has it: the
+    /// memory of the image is loaded, then the image is consumed, and only then its hart stands at its address. No memory is
+    /// taken. After a refusal the machine is of no use.
+    pub fn wake<D: Disk + Drop>(&mut self, store: &mut Store<D>) -> Result<(), Refusal>
+        requires resting { (i : Image) → (now_state store.old).image ≡ Some i → (self.old ≡ resting (size_of_store store.old) i.hart) × (i.hart < (size_of_store store.old).harts) }
+        ensures woken { OnOk result ((i : Image) × ((now_state store.old).image ≡ Some i) × (self.new ≡ woken i (size_of_store store.old)) × (length i.memory ≡ length self.old.memory)) }
+        ensures consumed { OnOk result ((n : ℕ) × IsConsumed store.old (Ok n) store.new) }
+        ensures refused { IfErr result (λ e. IsUnloaded store.old self.old.memory e store.new ⊎ IsConsumed store.old (Err e) store.new) }
+        ensures stays { StaysOpen (view_of store.old) (view_of store.new) }
+    {
+        let hart = wake_image(store, &mut self.ram)?;
+        let place = hart.id().index();
+        self.harts[place] = hart;
+        Ok(())
     }
 
     /// Whether the board has a hart of that number.

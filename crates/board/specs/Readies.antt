@@ -1,0 +1,44 @@
+-- How an open store becomes a board: what a boot by the mode makes of it, as it succeeds and as it is refused.
+-- Source: docs/BOARD.md, "Power on".
+use Rattle.std.specs.Prelude.{◌≡◌, ◌≤◌}
+use Rattle.board_model.specs.declared.boot_mode.BootMode.{BootMode}
+use Rattle.board_model.specs.declared.refusal.Refusal.{Refusal}
+use Rattle.disk.specs.Facts.{LeavesSince}
+use Rattle.store.specs.Leaves.{IsIdle, LeavesOnly, SameLength}
+use Rattle.store.specs.Lives.{begun, now_of}
+use Rattle.store.specs.Opens.{CausedRefusal}
+use Rattle.store.specs.Views.{StoreView}
+use Rattle.board.specs.Boots.{life_after}
+use Rattle.board.specs.Begins.{HasItsHart}
+use Rattle.board.specs.Moments.{issued_by, gone_before, MayLeave}
+use Rattle.board.specs.Unbooted.{life_refused, CountsRefusal}
+
+-- it was just opened
+pub record IsOpen (store : StoreView) : Type 0 where
+  pub begins : store.life ≡ begun store.life.found
+  pub only : LeavesOnly store.disk store.size store.life.found
+  pub none_out : IsIdle store.disk
+  pub has : HasItsHart store.size store.life.found
+
+-- the store of a boot by the mode, once its command was acknowledged
+pub record IsIssued (mode : BootMode) (old new : StoreView) : Type 0 where
+  pub size : new.size ≡ old.size
+  pub life : new.life ≡ life_after mode old.life.found
+  pub only : LeavesOnly new.disk new.size (now_of new.life)
+  pub any_moment : LeavesSince old.disk new.disk (MayLeave old.disk old.size old.life.found (issued_by mode))
+  pub opened : new.failures_at_open ≡ old.failures_at_open
+  pub length : SameLength old.disk new.disk
+  pub none_out : IsIdle new.disk
+  pub cause : new.mishaps ≡ old.mishaps
+  pub no_failure : new.disk.failures ≡ old.disk.failures
+
+-- the store of a boot by the mode that was refused so
+pub record IsUnissued (mode : BootMode) (old : StoreView) (e : Refusal) (new : StoreView) : Type 0 where
+  pub size : new.size ≡ old.size
+  pub life : new.life ≡ life_refused mode e old.life.found
+  pub any_moment : LeavesSince old.disk new.disk (MayLeave old.disk old.size old.life.found (gone_before mode e))
+  pub opened : new.failures_at_open ≡ old.failures_at_open
+  pub length : SameLength old.disk new.disk
+  pub no_fewer : old.disk.failures ≤ new.disk.failures
+  pub cause : CausedRefusal old.mishaps e new.mishaps
+  pub counts : CountsRefusal old.disk.failures e new.disk.failures
