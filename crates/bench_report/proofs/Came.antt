@@ -1,12 +1,12 @@
 -- What comes of turns and calls of harts on a board, in the words of the bench.
-use Rattle.std.proofs.Common.{◌≡◌, ◌⊎◌, ◌<◌, ℕ, zero, suc, inl, inr, List, Bool, true, false, Option, None, Some, Result, Ok, Err, length, slice_set, refl, sym, ◌∙◌, ap, subst, arith}
+use Rattle.std.proofs.Common.{◌≡◌, ◌⊎◌, ℕ, zero, suc, inl, inr, List, true, false, Option, None, Some, Result, Ok, Err, length, slice_set, refl, sym, ◌∙◌, ap, subst, arith}
 use Rattle.std.proofs.lemmas.Bool.{cases_lt}
 use Rattle.board_model.specs.Durable.{Change, Reset, Suspend}
 use Rattle.board_model.specs.Shapes.{Size, IsValidAddress, ram_bytes_of}
 use Rattle.board_model.specs.Shown.{number_of}
 use Rattle.board_model.specs.declared.durable.Reason.{Reason}
 use Rattle.board_model.specs.declared.refusal.Refusal.{Refusal}
-use Rattle.board_model.specs.declared.refusal.Refusal.TheVariants.{Device, Down, Memory, BadShape, JournalFull, Over}
+use Rattle.board_model.specs.declared.refusal.Refusal.TheVariants.{Device, Down, Memory, BadShape, JournalFull}
 use Rattle.hart.specs.State.{State, answered}
 use Rattle.hsm.specs.Seen.{listed}
 use Rattle.store.specs.Lives.{Life as Told, Applied, Refused, Suspended, SuspendRefused}
@@ -29,10 +29,8 @@ use Rattle.sbi.specs.declared.dispatches.Held.TheVariants as helds
 use Rattle.sbi.specs.Resets.{reset_of}
 use Rattle.sbi.specs.Helds.{Refuses as Refused_to, EndsReset, EndsSleep, MakesReset, SleepsIn, HeldIn}
 use Rattle.turns.specs.declared.words.Turned.{Turned}
-use Rattle.turns.specs.declared.words.Turned.TheVariants.{Next, Durable}
-use Rattle.turns.specs.Turns.{Moment}
+use Rattle.turns.specs.declared.words.Turned.TheVariants.{Durable}
 use Rattle.machine.specs.Machine.{Machine, hart_at}
-use Rattle.machine.specs.Turns.{with_moment, moment_of}
 use Rattle.machine.specs.Words.{ends, word_by}
 use Rattle.machine.specs.Durables.{MakesCall as MachineCall}
 use Rattle.machine.specs.declared.parts.Word.{Word}
@@ -43,7 +41,7 @@ use Rattle.bench_report.specs.Bench.{Life, Bench}
 use Rattle.bench_report.specs.Steps.{starved, off, on_with, has_machine, acknowledged, Issued, refused, Refuses, Held, Resets, Suspends, IsAlone, Sleeps, SleepsBy, MakesCall, Comes, GuestTurn, IsLastTurn, GuestTurns}
 use Rattle.bench_report.specs.Agree.{StoreIs, DeviceIs, IsOver}
 use Rattle.bench_report.proofs.Adapted.{calm as untouched}
-use Rattle.bench_report.proofs.Commanded.{Running, follows_with, sized_for, told_ok, told_end, told_err, told_up, told_down, again, calm_device, unmoved}
+use Rattle.bench_report.proofs.Commanded.{Running, follows_with, sized_for, told_end, told_err, told_up, told_down, again, calm_device, unmoved}
 
 -- the store of a life that its own command ended
 abbrev pub IsEnded : Size → Bench → Store → Type 0

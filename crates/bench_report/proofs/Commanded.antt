@@ -1,6 +1,6 @@
 -- What a command answers on a board that is on.
 use Rattle.std.proofs.Common.{◌≡◌, ◌≤◌, ℕ, ◌+◌, [], ◌∷◌, ◌++◌, inl, inr, Option, None, Some, Result, Ok, Err, false, refl, sym, ◌∙◌, ap, subst}
-use Rattle.board_model.specs.Durable.{Change, State, after, ends_life}
+use Rattle.board_model.specs.Durable.{Change, after, ends_life}
 use Rattle.board_model.specs.Kept.{Kept}
 use Rattle.board_model.specs.Shapes.{Size}
 use Rattle.board_model.specs.Shown.{number_of, change_of}

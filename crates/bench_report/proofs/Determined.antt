@@ -1,20 +1,22 @@
 -- Where memory was never refused and no failure was answered, two runs of the same lines answer the same: commands and power on.
-use Rattle.std.proofs.Common.{◌≡◌, ◌⊎◌, ℕ, ◌+◌, ◌<◌, inl, inr, List, [], ◌∷◌, Option, None, Some, Result, Ok, Err, refl, sym, ◌∙◌, ap, subst, arith}
+use Rattle.std.proofs.Common.{◌≡◌, ◌⊎◌, ℕ, ◌+◌, ◌<◌, inl, inr, List, [], ◌∷◌, Option, None, Some, IfSome, Result, Ok, Err, length, refl, sym, ◌∙◌, ap, subst, arith}
 use Rattle.std.specs.Bool.{⊤}
-use Rattle.board_model.specs.Durable.{State, Change, refusal_of}
+use Rattle.board_model.specs.Durable.{State, Image, Change, Consume, IsWhole, refusal_of}
 use Rattle.board_model.specs.Kept.{Kept, found_of, MayKeep, TakesIn}
-use Rattle.board_model.specs.Shapes.{Size}
+use Rattle.board_model.specs.Shapes.{Size, ram_bytes_of}
 use Rattle.board_model.specs.Shown.{durable_of}
 use Rattle.board_model.specs.declared.durable.Durable.{Durable}
 use Rattle.board_model.specs.declared.boot_mode.BootMode.{BootMode}
 use Rattle.board_model.specs.declared.boot_mode.BootMode.TheVariants as modes
-use Rattle.board.specs.Boots.{boot_refusal, booted}
+use Rattle.machine.specs.Machine.{Machine, woken}
+use Rattle.board.specs.Boots.{boot_refusal}
+use Rattle.board.specs.Begins.{IsResumed, IsBegun}
 use Rattle.disk.specs.Facts.{counted}
 use Rattle.bench_report.specs.declared.printed.Printed.{Printed}
 use Rattle.bench_report.specs.declared.printed.Printed.TheVariants as printed
 use Rattle.bench_report.specs.declared.printed.Answer.{Answer}
 use Rattle.bench_report.specs.Bench.{Medium, Blank, Unknown, Formatted, Life, Bench}
-use Rattle.bench_report.specs.Steps.{says, starved, IsHindered, off, on_with, formatted_anew, unknown, settled, has_machine, acknowledged, in_doubt, begun, commands_of, Writes, IssuedBy, Issued, IssuesAll, FormatsOn, IsOn, Starts, Begins, Boots, Opens, ShowsFound, IsOpenRefusal, PowersOn}
+use Rattle.bench_report.specs.Steps.{says, starved, IsHindered, off, on_with, formatted_anew, unknown, settled, has_machine, acknowledged, in_doubt, begun, commands_of, Writes, IssuedBy, Issued, IssuesAll, FormatsOn, IsOn, Starts, Resumes, Begins, Boots, Opens, ShowsFound, IsOpenRefusal, PowersOn}
 
 abbrev pub IsSpoilt : Bench → Type 0
 IsSpoilt b = (0 < b.growths) ⊎ (0 < b.failures)
@@ -149,21 +151,25 @@ formats Formatted b a z new last calm (inr h) k = inl (hinders b new h.1)
 formats Formatted b a z new last calm (inl h) (inr k) = inr (inl (hinders b last k.1))
 
 -- ---- power on
-on_fair : (o : Result ℕ ℕ) (mode : BootMode) (z : Size) (b : Bench) (line : Printed) (new : Bench) → IsOn o mode z b line new → Fair b new
-on_fair (Ok n) mode z b line new (life, on, said, e) = fair_to b new _ e (λ s. s, λ c. inr c)
-on_fair (Err n) mode z b line new x = fair_to b new (off b) x.1 (λ s. s, λ c. inr c)
+on_fair : (o : Result ℕ ℕ) (mode : BootMode) (z : Size) (s : State) (b : Bench) (line : Printed) (new : Bench) → IsOn o mode z s b line new → Fair b new
+on_fair (Ok n) mode z s b line new (life, on, said, m, boots, e) = fair_to b new (on_with (has_machine m life) b) e (λ s. s, λ c. inr c)
+on_fair (Err n) mode z s b line new x = fair_to b new (off b) x.1 (λ s. s, λ c. inr c)
 
 slot_fair : (mode : BootMode) (z : Size) (s : State) (b : Bench) (line : Printed) (new : Bench) → Starts mode z s b line new → Fair b new
 slot_fair mode z s b line new (o, mid, h, on) =
     let start : Bench = on_with (begun s z) b in
-    let one : Fair start new = fair_then start mid new (all_fair (commands_of mode) start o mid h) (on_fair o mode z mid line new on) in
+    let one : Fair start new = fair_then start mid new (all_fair (commands_of mode) start o mid h) (on_fair o mode z s mid line new on) in
     (λ s. one.0 s, λ c. one.1 c)
+
+resumes_fair : (z : Size) (s : State) (b : Bench) (line : Printed) (new : Bench) → Resumes z s b line new → Fair b new
+resumes_fair z s b line new (inl h) = slot_fair modes.Resume z s b line new h
+resumes_fair z s b line new (inr h) = unmoved b new h.2
 
 begins_fair : (mode : BootMode) (z : Size) (s : State) (b : Bench) (line : Printed) (new : Bench) → Begins mode z s b line new → Fair b new
 begins_fair modes.Fresh z s b line new h = slot_fair modes.Fresh z s b line new h
 begins_fair modes.Keep z s b line new h = slot_fair modes.Keep z s b line new h
 begins_fair modes.Discard z s b line new h = slot_fair modes.Discard z s b line new h
-begins_fair modes.Resume z s b line new h = unmoved b new h.1
+begins_fair modes.Resume z s b line new h = resumes_fair z s b line new h
 
 boots_fair : (r : Option ℕ) (mode : BootMode) (z : Size) (s : State) (b : Bench) (line : Printed) (new : Bench) → Boots r mode z s b line new → Fair b new
 boots_fair (Some n) mode z s b line new x = unmoved b new x.1
@@ -186,34 +192,89 @@ powers_fair size mode b a new (inr (inl x)) = unmoved b new x.3
 powers_fair size mode b a new (inr (inr (inl x))) = spoils b new (starves b new x.2)
 powers_fair size mode b a new (inr (inr (inr x))) = spoils b new (hinders b new x.1)
 
-is_on : (o p : Result ℕ ℕ) (mode : BootMode) (z : Size) (b d : Bench) (line said : Printed) (new last : Bench) → Agree o p b d → IsOn o mode z b line new → IsOn p mode z d said last → Agree line said new last
-is_on o p mode z b d line said new last (inl f) x y = inl ((on_fair o mode z b line new x).0 f)
-is_on o p mode z b d line said new last (inr (inl f)) x y = inr (inl ((on_fair p mode z d said last y).0 f))
-is_on o p mode z b d line said new last (inr (inr e)) x y =
-    let P : Result ℕ ℕ → Type 0 = λ r. IsOn r mode z d said last in
-    let Q : Bench → Type 0 = λ m. IsOn o mode z m said last in
+-- the machine that the mode begins is of the board's size
+pub begun_size : (mode : BootMode) (z : Size) (payloads : List (List ℕ)) (s : State) (m : Machine) → IsBegun mode z payloads s m → m.size ≡ z
+begun_size modes.Fresh z payloads s m is = ap (λ (k : Machine). k.size) is
+begun_size modes.Keep z payloads s m is = ap (λ (k : Machine). k.size) is
+begun_size modes.Discard z payloads s m is = ap (λ (k : Machine). k.size) is
+begun_size modes.Resume z payloads s m is = ap (λ (k : Machine). k.size) is.is
+
+-- a boot makes one board
+one_image : (i j : Image) (o : Option Image) → o ≡ Some i → o ≡ Some j → j ≡ i
+one_image i j o e f = let g : Some j ≡ Some i = sym f ∙ e in let h : j ≡ i = cc in h
+
+one_boot : (mode : BootMode) (z : Size) (payloads : List (List ℕ)) (s : State) (m n : Machine) → IsBegun mode z payloads s m → IsBegun mode z payloads s n → n ≡ m
+one_boot modes.Fresh z payloads s m n x y = y ∙ sym x
+one_boot modes.Keep z payloads s m n x y = y ∙ sym x
+one_boot modes.Discard z payloads s m n x y = y ∙ sym x
+one_boot modes.Resume z payloads s m n x y = y.is ∙ ap (λ (k : Image). woken k z) (one_image x.image y.image s.image x.stands y.stands) ∙ sym x.is
+
+is_on : (o p : Result ℕ ℕ) (mode : BootMode) (z : Size) (s : State) (b d : Bench) (line said : Printed) (new last : Bench) → Agree o p b d → IsOn o mode z s b line new → IsOn p mode z s d said last → Agree line said new last
+is_on o p mode z s b d line said new last (inl f) x y = inl ((on_fair o mode z s b line new x).0 f)
+is_on o p mode z s b d line said new last (inr (inl f)) x y = inr (inl ((on_fair p mode z s d said last y).0 f))
+is_on o p mode z s b d line said new last (inr (inr e)) x y =
+    let P : Result ℕ ℕ → Type 0 = λ r. IsOn r mode z s d said last in
+    let Q : Bench → Type 0 = λ m. IsOn o mode z s m said last in
     alike o x (subst Q (sym e.1) (subst P (sym e.0) y))
   where
-    alike : (o : Result ℕ ℕ) → IsOn o mode z b line new → IsOn o mode z b said last → Agree line said new last
+    alike : (o : Result ℕ ℕ) → IsOn o mode z s b line new → IsOn o mode z s b said last → Agree line said new last
     alike (Ok n) x y =
-        let P : Life → Type 0 = λ l. last ≡ on_with (has_machine (booted b.payloads l.now z) l) b in
-        same line said (printed.On mode) new last _ x.2 y.2 x.3 (subst P (some_inj x.0 y.0 b.power x.1 y.1) y.3)
+        let P : Life → Type 0 = λ l. last ≡ on_with (has_machine y.3 l) b in
+        let one : y.3 ≡ x.3 = one_boot mode z b.payloads s x.3 y.3 x.4 y.4 in
+        same line said (printed.On mode) new last (on_with (has_machine x.3 x.0) b) x.2 y.2 x.5 (subst P (some_inj x.0 y.0 b.power x.1 y.1) y.5 ∙ ap (λ (k : Machine). on_with (has_machine k x.0) b) one)
     alike (Err n) x y = same line said (printed.OnRefused n) new last (off b) x.0 y.0 x.1 y.1
 
 slot_boots : (mode : BootMode) (z : Size) (s : State) (b : Bench) (line said : Printed) (new last : Bench) → Starts mode z s b line new → Starts mode z s b said last → Agree line said new last
-slot_boots mode z s b line said new last (o, mid, h, x) (p, mid2, k, y) = is_on o p mode z mid mid2 line said new last (all (commands_of mode) (on_with (begun s z) b) o p mid mid2 h k) x y
+slot_boots mode z s b line said new last (o, mid, h, x) (p, mid2, k, y) = is_on o p mode z s mid mid2 line said new last (all (commands_of mode) (on_with (begun s z) b) o p mid mid2 h k) x y
 
-begins : (mode : BootMode) (z : Size) (s : State) (b : Bench) (line said : Printed) (new last : Bench) → Begins mode z s b line new → Begins mode z s b said last → Agree line said new last
-begins modes.Fresh z s b line said new last x y = slot_boots modes.Fresh z s b line said new last x y
-begins modes.Keep z s b line said new last x y = slot_boots modes.Keep z s b line said new last x y
-begins modes.Discard z s b line said new last x y = slot_boots modes.Discard z s b line said new last x y
-begins modes.Resume z s b line said new last x y = same line said (printed.OnRefused 13) new last b x.0 y.0 x.1 y.1
+-- a resume whose command was not refused for its disk goes on with an image that has the memory of its board
+whole_image : (z : Size) (s : State) (m : Machine) → IsResumed z s m → IsWhole z s
+whole_image z s m is = let P : Option Image → Type 0 = λ o. IfSome o (λ (i : Image). length i.memory ≡ ram_bytes_of z) in subst P (sym is.stands) is.whole
 
-boots : (r : Option ℕ) (mode : BootMode) (z : Size) (s : State) (b : Bench) (line said : Printed) (new last : Bench) → Boots r mode z s b line new → Boots r mode z s b said last → Agree line said new last
-boots (Some n) mode z s b line said new last x y = same line said (printed.OnRefused n) new last b x.0 y.0 x.1 y.1
-boots None mode z s b line said new last (inr x) y = inl (starves b new x.1)
-boots None mode z s b line said new last (inl x) (inr y) = inr (inl (starves b last y.1))
-boots None mode z s b line said new last (inl x) (inl y) = begins mode z s b line said new last x y
+off_spoilt : (mid new : Bench) → new ≡ off mid → IsSpoilt mid → IsSpoilt new
+off_spoilt mid new e f = let P : Bench → Type 0 = IsSpoilt in subst P (sym e) f
+
+not_both : {A : Type 0} (n k : ℕ) (o : Result ℕ ℕ) → o ≡ Ok n → o ≡ Err k → A
+not_both n k o e f = ok_err n k o o refl e f
+
+writes_err : (c : Change) (life : Life) (b : Bench) (o : Result ℕ ℕ) (new : Bench) (n : ℕ) → o ≡ Err n → Writes None c life b o new → IsSpoilt new
+writes_err c life b o new n e (inl w) = not_both (life.receipts + 1) n o w.0 e
+writes_err c life b o new n e (inr (inl w)) = hinders b new w.1
+writes_err c life b o new n e (inr (inr w)) = hinders (in_doubt c life b) new w.1
+
+issued_err : (c : Change) (s : State) (z : Size) (b : Bench) (o : Result ℕ ℕ) (new : Bench) (n : ℕ) → refusal_of s c ≡ None → o ≡ Err n → Issued c (begun s z) b o new → IsSpoilt new
+issued_err c s z b o new n allowed e (inl i) = absurd (let no : 0 ≡ 4096 = i.0 in omega (arith, no))
+issued_err c s z b o new n allowed e (inr i) = let P : Option ℕ → Type 0 = λ r. Writes r c (begun s z) b o new in writes_err c (begun s z) b o new n e (subst P allowed i.1)
+
+one_err : (c : Change) (s : State) (z : Size) (b : Bench) (n : ℕ) (mid : Bench) → refusal_of s c ≡ None → IssuesAll (c ∷ []) (on_with (begun s z) b) (Err n) mid → IsSpoilt mid
+one_err c s z b n mid allowed (life, on, first, last, i, inl (k, ok, rest)) = not_both 0 n (Err n) rest.0 refl
+one_err c s z b n mid allowed (life, on, first, last, i, inr (k, err, same_err, e)) =
+    let start : Bench = on_with (begun s z) b in
+    let L : Life → Type 0 = λ l. Issued c l start first last in
+    let P : Bench → Type 0 = IsSpoilt in
+    subst P (sym e) (issued_err c s z start first last k allowed err (subst L (some_inj (begun s z) life start.power refl on) i))
+
+resumed_whole : (z : Size) (s : State) (b : Bench) (line : Printed) (new : Bench) → refusal_of s Consume ≡ None → Starts modes.Resume z s b line new → IsSpoilt new ⊎ IsWhole z s
+resumed_whole z s b line new allowed (Ok n, mid, all, (life, on, said, m, is, e)) = inr (whole_image z s m is)
+resumed_whole z s b line new allowed (Err n, mid, all, (said, e)) = inl (off_spoilt mid new e (one_err Consume s z b n mid allowed all))
+
+resumes : (z : Size) (s : State) (b : Bench) (line said : Printed) (new last : Bench) → refusal_of s Consume ≡ None → Resumes z s b line new → Resumes z s b said last → Agree line said new last
+resumes z s b line said new last allowed (inl x) (inl y) = slot_boots modes.Resume z s b line said new last x y
+resumes z s b line said new last allowed (inl x) (inr y) = elim (resumed_whole z s b line new allowed x) [ inl f ↦ inl f | inr whole ↦ absurd (y.0 whole) ]
+resumes z s b line said new last allowed (inr x) (inl y) = elim (resumed_whole z s b said last allowed y) [ inl f ↦ inr (inl f) | inr whole ↦ absurd (x.0 whole) ]
+resumes z s b line said new last allowed (inr x) (inr y) = same line said (printed.OnRefused 13) new last b x.1 y.1 x.2 y.2
+
+begins : (mode : BootMode) (z : Size) (s : State) (b : Bench) (line said : Printed) (new last : Bench) → boot_refusal s mode ≡ None → Begins mode z s b line new → Begins mode z s b said last → Agree line said new last
+begins modes.Fresh z s b line said new last allowed x y = slot_boots modes.Fresh z s b line said new last x y
+begins modes.Keep z s b line said new last allowed x y = slot_boots modes.Keep z s b line said new last x y
+begins modes.Discard z s b line said new last allowed x y = slot_boots modes.Discard z s b line said new last x y
+begins modes.Resume z s b line said new last allowed x y = resumes z s b line said new last allowed x y
+
+boots : (r : Option ℕ) (mode : BootMode) (z : Size) (s : State) (b : Bench) (line said : Printed) (new last : Bench) → boot_refusal s mode ≡ r → Boots r mode z s b line new → Boots r mode z s b said last → Agree line said new last
+boots (Some n) mode z s b line said new last at x y = same line said (printed.OnRefused n) new last b x.0 y.0 x.1 y.1
+boots None mode z s b line said new last at (inr x) y = inl (starves b new x.1)
+boots None mode z s b line said new last at (inl x) (inr y) = inr (inl (starves b last y.1))
+boots None mode z s b line said new last at (inl x) (inl y) = begins mode z s b line said new last at x y
 
 kept_as : (k : Kept) (changes : List Change) → k.doubt ≡ None → MayKeep k changes → k.changes ≡ changes
 kept_as k changes calm (inl e) = sym e
@@ -266,4 +327,4 @@ powers size mode b a c new last calm (inl (s, z, mid, found, shows, x)) (inl (t,
     let Q : Size → Type 0 = λ u. Boots (boot_refusal s mode) mode u s other c.line last in
     let R : Bench → Type 0 = λ u. Boots (boot_refusal s mode) mode z s u c.line last in
     let again = subst P one.0 (shows2, y) in
-    with_found (Some (durable_of s)) a c new last (found_as a.found s shows) (found_as c.found s again.0) (boots (boot_refusal s mode) mode z s mid a.line c.line new last x (subst R one.2 (subst Q one.1 again.1)))
+    with_found (Some (durable_of s)) a c new last (found_as a.found s shows) (found_as c.found s again.0) (boots (boot_refusal s mode) mode z s mid a.line c.line new last refl x (subst R one.2 (subst Q one.1 again.1)))

@@ -14,6 +14,10 @@ pub mod Smooth
 pub mod Guests
 pub mod Single
 pub mod Unsaid
+pub mod Lost
+pub mod Serials
+pub mod Wholes
+pub mod Resumed
 pub mod Prefixed
 pub mod Issues
 pub mod PlainRun

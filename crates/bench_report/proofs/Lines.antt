@@ -1,9 +1,8 @@
 -- Lines that speak of memory and harts, or keep a payload, by what the code's board did.
-use Rattle.std.proofs.Common.{◌≡◌, ◌≤◌, inl, inr, zero, suc, Bool, true, false, arith, slice_set, ℕ, List, length, Option, None, Some, refl, sym, ◌∙◌, ap, subst}
+use Rattle.std.proofs.Common.{◌≡◌, inl, inr, slice_set, ℕ, List, length, Option, None, Some, refl, sym, ◌∙◌, ap, subst}
 use Rattle.board_model.specs.declared.boot_mode.BootMode.{BootMode}
 use Rattle.board_model.specs.Shapes.{Size}
 use Rattle.simdisk.specs.declared.SimDisk.{SimDisk}
-use Rattle.std.proofs.lemmas.Bool.{cases_lt}
 use Rattle.machine.specs.Machine.{Machine, hart_at}
 use Rattle.machine.specs.Turns.{Calls}
 use Rattle.machine.specs.declared.parts.Word.{Word}
@@ -17,7 +16,7 @@ use Rattle.machine_lines.specs.declared.line.MachineLine.TheVariants as shown
 use Rattle.bench_report.specs.declared.power.Power.{Power}
 use Rattle.bench_report.specs.declared.power.Power.TheVariants.{Off, On}
 use Rattle.bench_report.specs.declared.printed.Answer.{Answer}
-use Rattle.bench_report.specs.Below.{Store, Board, store_in, machine_in, store_size, store_facts, store_mishaps, IsAs}
+use Rattle.bench_report.specs.Below.{Store, Board, store_in, machine_in, store_facts, store_mishaps}
 use Rattle.bench_report.specs.Bench.{Life, Bench}
 use Rattle.bench_report.specs.Steps.{shows, on_with, has_machine, FormatsOn, FormatStep, PowersOn, OnStep, PayloadStep, CallTold, GuestCall, TurnStep, CallStep, ReadStep}
 use Rattle.bench_report.proofs.Commanded.{Running, running_on}

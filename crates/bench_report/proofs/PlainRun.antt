@@ -1,10 +1,10 @@
 -- The plain report is one, of a run in which memory was never refused and no failure was answered.
-use Rattle.std.proofs.Common.{◌≡◌, ℕ, ◌+◌, ◌<◌, ◌≤◌, inl, inr, List, [], ◌∷◌, Option, None, Some, Result, Ok, Err, refl, sym, subst, arith, Bool, true, false, ◌==◌, cond, eqb→eq, T, lit<, lit≤}
+use Rattle.std.proofs.Common.{◌≡◌, ℕ, ◌+◌, ◌<◌, ◌≤◌, inl, inr, List, [], ◌∷◌, Option, None, Some, Result, Ok, Err, refl, sym, subst, arith, Bool, true, false, ◌==◌, cond, eqb→eq, T, lit≤, is_some, if◌then◌else◌, ap, ◌∙◌}
 use Rattle.std.specs.Bool.{⊤}
-use Rattle.board_model.specs.Durable.{State, Change, Slot, Discard, refusal_of, after}
+use Rattle.board_model.specs.Durable.{State, Image, Change, Slot, Discard, formatted, refusal_of, after}
 use Rattle.board_model.specs.Kept.{found_of}
 use Rattle.board_model.specs.Shapes.{Size}
-use Rattle.board.specs.Boots.{boot_refusal}
+use Rattle.board.specs.Boots.{boot_refusal, booted}
 use Rattle.board_model.specs.declared.boot_mode.BootMode.{BootMode}
 use Rattle.board_model.specs.declared.boot_mode.BootMode.TheVariants as modes
 use Rattle.script_lang.specs.Scripts.{Script}
@@ -17,7 +17,8 @@ use Rattle.bench_report.specs.declared.printed.Answer.{Answer}
 use Rattle.bench_report.specs.Bench.{Medium, Blank, Unknown, Formatted, Life, Bench, IsUnspoilt, blank_bench}
 use Rattle.bench_report.specs.Steps.{on_with, settled, acknowledged, begun, Writes, Issued, IssuedBy, ShowsFound, NotBuilt, ArmStep, FormatsOn, Boots, Begins, Opens, IsOpenRefusal, PowersOn, FormatStep, OnStep, ConsoleStep, PayloadStep, Step, Run}
 use Rattle.bench_report.specs.Reports.{IsReport}
-use Rattle.bench_report.specs.Plain.{plain_written, plain_issued, plain_console, plain_format, plain_mode, plain_boot, plain_on, plain_at, plain, plain_answers, plain_report, IsPlain, ArePlain}
+use Rattle.bench_report.specs.Plain.{plain_written, plain_issued, plain_console, plain_format, plain_slot, plain_boot, plain_on, plain_at, plain, plain_answers, plain_report, IsPlain, ArePlain}
+use Rattle.bench_report.proofs.Adapted.{grows}
 use Rattle.bench_report.proofs.Determined.{CalmDisk}
 use Rattle.bench_report.proofs.Smooth.{AsMany, many_then}
 use Rattle.bench_report.proofs.Single.{IsOneCall, IsOneCsr, one_report}
@@ -28,8 +29,9 @@ abbrev CalmPower : Option Life → Type 0
 CalmPower None = ⊤
 CalmPower (Some life) = (life.doubt ≡ None) × (life.receipts ≤ 4096)
 
+-- the commands kept leave no image
 abbrev IsGood : Bench → Type 0
-IsGood b = CalmDisk b.medium b.kept.doubt × CalmPower b.power × (b.mishaps.struck ≡ false)
+IsGood b = CalmDisk b.medium b.kept.doubt × CalmPower b.power × (b.mishaps.struck ≡ false) × ((found_of b.kept.changes).image ≡ None)
 
 -- what a line says, and the bench after it, are allowed, and leave the bench good
 abbrev Well : Bench → (Answer → Bench → Type 0) → Answer × Bench → Type 0
@@ -39,44 +41,48 @@ still : (b : Bench) (step : Answer → Bench → Type 0) (told : Answer × Bench
 still b step told h e good = let P : Bench → Type 0 = λ x. IsGood x × AsMany b x in let rest = subst P (sym e) (good, (refl, refl)) in (h, rest.0, rest.1)
 
 -- ---- a command
+-- it makes no image
+abbrev MakesNone : Change → Type 0
+MakesNone c = (s : State) → s.image ≡ None → (after s c).image ≡ None
+
 abbrev WellIssued : Change → Life → Bench → Result ℕ ℕ × Bench → Type 0
 WellIssued c life b told = Issued c life b told.0 told.1 × IsGood told.1 × AsMany b told.1
 
-written : (r : Option ℕ) (c : Change) (life : Life) (b : Bench) → refusal_of life.now c ≡ r → life.doubt ≡ None → life.receipts < 4096 → IsGood b → WellIssued c life b (plain_written r c life b)
-written (Some n) c life b at calm few good =
+written : (r : Option ℕ) (c : Change) (life : Life) (b : Bench) → MakesNone c → refusal_of life.now c ≡ r → life.doubt ≡ None → life.receipts < 4096 → IsGood b → WellIssued c life b (plain_written r c life b)
+written (Some n) c life b none at calm few good =
     let P : Option Change → Type 0 = λ d. IssuedBy d c life b (Err n) b in
     let Q : Option ℕ → Type 0 = λ r. Writes r c life b (Err n) b in
     (subst P (sym calm) (inr (few, subst Q (sym at) (refl, refl))), good, (refl, refl))
-written None c life b at calm few good =
+written None c life b none at calm few good =
     let P : Option Change → Type 0 = λ d. IssuedBy d c life b (Ok (life.receipts + 1)) (acknowledged c life b) in
     let Q : Option ℕ → Type 0 = λ r. Writes r c life b (Ok (life.receipts + 1)) (acknowledged c life b) in
-    (subst P (sym calm) (inr (few, subst Q (sym at) (inl (refl, refl)))), (good.0, (calm, omega (arith, few)), good.2), (refl, refl))
+    (subst P (sym calm) (inr (few, subst Q (sym at) (inl (refl, refl)))), (good.0, (calm, omega (arith, few)), good.2, ap (λ (s : State). s.image) (grows formatted b.kept.changes c) ∙ none (found_of b.kept.changes) good.3), (refl, refl))
 
-issued : (full : Bool) (c : Change) (life : Life) (b : Bench) → (life.receipts == 4096) ≡ full → life.doubt ≡ None → life.receipts ≤ 4096 → IsGood b → WellIssued c life b (plain_issued c life b)
-issued true c life b at calm few good =
+issued : (full : Bool) (c : Change) (life : Life) (b : Bench) → MakesNone c → (life.receipts == 4096) ≡ full → life.doubt ≡ None → life.receipts ≤ 4096 → IsGood b → WellIssued c life b (plain_issued c life b)
+issued true c life b none at calm few good =
     let P : Bool → Type 0 = λ t. WellIssued c life b (cond t (Err 10, b) (plain_written (refusal_of life.now c) c life b)) in
     let Q : Option Change → Type 0 = λ d. IssuedBy d c life b (Err 10) b in
     subst P (sym at) (subst Q (sym calm) (inl (equal life.receipts at, refl, refl)), good, (refl, refl))
   where
     equal : (n : ℕ) → (n == 4096) ≡ true → n ≡ 4096
     equal n h = let P : Bool → Type 0 = T in eqb→eq n 4096 (subst P (sym h) tt)
-issued false c life b at calm few good =
+issued false c life b none at calm few good =
     let P : Bool → Type 0 = λ t. WellIssued c life b (cond t (Err 10, b) (plain_written (refusal_of life.now c) c life b)) in
-    subst P (sym at) (written (refusal_of life.now c) c life b refl calm (less life.receipts at few) good)
+    subst P (sym at) (written (refusal_of life.now c) c life b none refl calm (less life.receipts at few) good)
   where
     less : (n : ℕ) → (n == 4096) ≡ false → n ≤ 4096 → n < 4096
     less n h few = grind (arith, h, few)
 
-console_at : (word : ConsoleWord) (c : Change) (p : Option Life) (b : Bench) → CalmPower p → IsGood b → Well b (ConsoleStep word c p b) (plain_console word c p b)
-console_at word c None b calm good = still b (ConsoleStep word c None b) (plain_console word c None b) (refl, refl) refl good
-console_at word c (Some life) b calm good =
+console_at : (word : ConsoleWord) (c : Change) (p : Option Life) (b : Bench) → MakesNone c → CalmPower p → IsGood b → Well b (ConsoleStep word c p b) (plain_console word c p b)
+console_at word c None b none calm good = still b (ConsoleStep word c None b) (plain_console word c None b) (refl, refl) refl good
+console_at word c (Some life) b none calm good =
     let told = plain_issued c life b in
-    let did = issued (life.receipts == 4096) c life b refl calm.0 calm.1 good in
+    let did = issued (life.receipts == 4096) c life b none refl calm.0 calm.1 good in
     ((told.0, did.0, refl), did.1, did.2)
 
 -- ---- format
 formats : (m : Medium) (b : Bench) → CalmDisk m b.kept.doubt → IsGood b → Well b (FormatsOn m b) (plain_format m b)
-formats Blank b calm good = (inl (refl, refl), (refl, good.1, good.2), (refl, refl))
+formats Blank b calm good = (inl (refl, refl), (refl, good.1, good.2, refl), (refl, refl))
 formats Unknown b calm good = absurd calm
 formats Formatted b calm good = (inl (refl, refl), good, (refl, refl))
 
@@ -85,28 +91,25 @@ format_at size None b good = formats b.medium b good.0 good
 format_at size (Some life) b good = ((refl, refl), good, (refl, refl))
 
 -- ---- power on
-begins : (mode : BootMode) (z : Size) (s : State) (b : Bench) → boot_refusal s mode ≡ None → IsGood b → Well b (λ a new. Begins mode z s b a.line new) (plain_mode mode z s b)
-begins modes.Fresh z s b allowed good = ((Ok 0, on_with (begun s z) b, (refl, refl), (begun s z, refl, refl, refl)), (good.0, (refl, lit≤ tt), good.2), (refl, refl))
-begins modes.Keep z s b allowed good = ((Ok 0, on_with (begun s z) b, (refl, refl), (begun s z, refl, refl, refl)), (good.0, (refl, lit≤ tt), good.2), (refl, refl))
-begins modes.Discard z s b allowed good =
-    let start : Bench = on_with (begun s z) b in
-    let mid : Bench = acknowledged Discard (begun s z) start in
-    let P : Option ℕ → Type 0 = λ r. Writes r Discard (begun s z) start (Ok 1) mid in
-    let one : Issued Discard (begun s z) start (Ok 1) mid = inr (lit< tt, subst P (sym allowed) (inl (refl, refl))) in
-    let life : Life = record (begun s z) { now = after s Discard; receipts = 1 } in
-    ((Ok 0, mid, (begun s z, refl, Ok 1, mid, one, inl (1, refl, (refl, refl))), (life, refl, refl, refl)), (good.0, (refl, lit≤ tt), good.2), (refl, refl))
-begins modes.Resume z s b allowed good = ((refl, refl), good, (refl, refl))
+-- without an image neither discard nor resume goes on
+never_on : {A : Type 0} (o : Option Image) → o ≡ None → ◌≡◌ {A = Option ℕ} (if is_some o then None else Some 8) None → A
+never_on o none allowed =
+    let P : Option Image → Type 0 = λ x. ◌≡◌ {A = Option ℕ} (if is_some x then None else Some 8) None in
+    absurd (let e : ◌≡◌ {A = Option ℕ} (Some 8) None = subst P none allowed in let no : ⊥ = cc in no)
 
-boots : (r : Option ℕ) (mode : BootMode) (z : Size) (s : State) (b : Bench) → boot_refusal s mode ≡ r → IsGood b → Well b (λ a new. Boots r mode z s b a.line new) (plain_boot r mode z s b)
-boots (Some n) mode z s b at good = ((refl, refl), good, (refl, refl))
-boots None mode z s b at good = let did = begins mode z s b at good in (inl did.0, did.1, did.2)
+begins : (mode : BootMode) (z : Size) (s : State) (b : Bench) → s.image ≡ None → boot_refusal s mode ≡ None → IsGood b → Well b (λ a new. Begins mode z s b a.line new) (plain_slot mode z s b)
+begins modes.Fresh z s b none allowed good = ((Ok 0, on_with (begun s z) b, (refl, refl), (begun s z, refl, refl, booted b.payloads s z, refl, refl)), (good.0, (refl, lit≤ tt), good.2, good.3), (refl, refl))
+begins modes.Keep z s b none allowed good = ((Ok 0, on_with (begun s z) b, (refl, refl), (begun s z, refl, refl, booted b.payloads s z, refl, refl)), (good.0, (refl, lit≤ tt), good.2, good.3), (refl, refl))
+begins modes.Discard z s b none allowed good = never_on s.image none allowed
+begins modes.Resume z s b none allowed good = never_on s.image none allowed
+
+boots : (r : Option ℕ) (mode : BootMode) (z : Size) (s : State) (b : Bench) → s.image ≡ None → boot_refusal s mode ≡ r → IsGood b → Well b (λ a new. Boots r mode z s b a.line new) (plain_boot r mode z s b)
+boots (Some n) mode z s b none at good = ((refl, refl), good, (refl, refl))
+boots None mode z s b none at good = let did = begins mode z s b none at good in (inl did.0, did.1, did.2)
 
 found_line : (r : Option ℕ) (mode : BootMode) (z : Size) (s : State) (b : Bench) → ShowsFound (plain_boot r mode z s b).0.found s
 found_line (Some n) mode z s b = refl
-found_line None modes.Fresh z s b = refl
-found_line None modes.Keep z s b = refl
-found_line None modes.Discard z s b = refl
-found_line None modes.Resume z s b = refl
+found_line None mode z s b = refl
 
 powers : (size : Size) (m : Medium) (mode : BootMode) (b : Bench) → b.medium ≡ m → CalmDisk m b.kept.doubt → IsGood b → Well b (PowersOn size mode b) (plain_on size m mode b)
 powers size Blank mode b at calm good =
@@ -118,7 +121,7 @@ powers size Formatted mode b at calm good =
     let mid : Bench = settled b.kept.changes b in
     let P : Medium → Type 0 = λ m. Opens size m b s size mid in
     let Q : Medium → Type 0 = λ m. CalmDisk m None in
-    let did = boots (boot_refusal s mode) mode size s mid refl (subst Q (sym at) refl, good.1, good.2) in
+    let did = boots (boot_refusal s mode) mode size s mid good.3 refl (subst Q (sym at) refl, good.1, good.2, good.3) in
     (inl (s, size, mid, subst P (sym at) (b.kept.changes, inl refl, refl, refl, refl), found_line (boot_refusal s mode) mode size s mid, did.0), did.1, did.2)
 
 on_at : (size : Size) (p : Option Life) (mode : BootMode) (b : Bench) → IsGood b → Well b (OnStep size p mode b) (plain_at size p (lines.On mode) b)
@@ -140,17 +143,17 @@ steps size lines.Format b plain good = format_at size b.power b good
 steps size (lines.On mode) b plain good = on_at size b.power mode b good
 steps size (lines.Slot n) b plain good =
     by_power b.power (λ p. CalmPower p → Well b (ConsoleStep names.Slot (Slot n) p b) (plain_at size p (lines.Slot n) b))
-    (λ calm. console_at names.Slot (Slot n) None b calm good) (λ life calm. console_at names.Slot (Slot n) (Some life) b calm good) good.1
+    (λ calm. console_at names.Slot (Slot n) None b (λ s e. e) calm good) (λ life calm. console_at names.Slot (Slot n) (Some life) b (λ s e. e) calm good) good.1
 steps size lines.Discard b plain good =
     by_power b.power (λ p. CalmPower p → Well b (ConsoleStep names.Discard Discard p b) (plain_at size p lines.Discard b))
-    (λ calm. console_at names.Discard Discard None b calm good) (λ life calm. console_at names.Discard Discard (Some life) b calm good) good.1
+    (λ calm. console_at names.Discard Discard None b (λ s e. refl) calm good) (λ life calm. console_at names.Discard Discard (Some life) b (λ s e. refl) calm good) good.1
 steps size (lines.CutAt x y) b plain good = by_power b.power (λ p. Well b (ArmStep CutArmed b) (plain_at size p (lines.CutAt x y) b)) ((refl, refl), good, (refl, refl)) (λ life. ((refl, refl), good, (refl, refl)))
 steps size (lines.CutLane x y z) b plain good = by_power b.power (λ p. Well b (ArmStep CutArmed b) (plain_at size p (lines.CutLane x y z) b)) ((refl, refl), good, (refl, refl)) (λ life. ((refl, refl), good, (refl, refl)))
 steps size (lines.FailAt x) b plain good = by_power b.power (λ p. Well b (ArmStep FaultArmed b) (plain_at size p (lines.FailAt x) b)) ((refl, refl), good, (refl, refl)) (λ life. ((refl, refl), good, (refl, refl)))
 steps size (lines.FailLane x y) b plain good = by_power b.power (λ p. Well b (ArmStep FaultArmed b) (plain_at size p (lines.FailLane x y) b)) ((refl, refl), good, (refl, refl)) (λ life. ((refl, refl), good, (refl, refl)))
 steps size (lines.Poke x y z) b plain good = by_power b.power (λ p. Well b (NotBuilt b) (plain_at size p (lines.Poke x y z) b)) ((refl, refl), good, (refl, refl)) (λ life. ((refl, refl), good, (refl, refl)))
 steps size (lines.Cut fill) b plain good =
-    by_power b.power (λ p. Well b (Step size (lines.Cut fill) b) (plain_at size p (lines.Cut fill) b)) ((refl, refl), (good.0, tt, refl), (refl, refl)) (λ life. ((refl, refl), (good.0, tt, refl), (refl, refl)))
+    by_power b.power (λ p. Well b (Step size (lines.Cut fill) b) (plain_at size p (lines.Cut fill) b)) ((refl, refl), (good.0, tt, refl, good.3), (refl, refl)) (λ life. ((refl, refl), (good.0, tt, refl, good.3), (refl, refl)))
 steps size (lines.Turn x y) b plain good = absurd plain
 steps size (lines.Call x y z u v w) b plain good = absurd plain
 steps size (lines.Reg x y) b plain good = absurd plain
@@ -169,5 +172,5 @@ runs size (l ∷ ls) b are good =
 
 pub plain_alone : IsOneTurn → IsOneCall → IsOneCsr → (script : Script) (answers : List Answer) (end : Bench) → IsReport script answers end → IsUnspoilt end → ArePlain script.lines → answers ≡ plain_report script
 plain_alone turns call csr script answers end h unspoilt plain =
-    let run = runs script.size script.lines blank_bench plain (tt, tt, refl) in
+    let run = runs script.size script.lines blank_bench plain (tt, tt, refl, refl) in
     (one_report turns call csr script answers (plain_report script) end run.0 h (refl, run.1) unspoilt run.2).0

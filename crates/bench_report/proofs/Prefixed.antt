@@ -1,15 +1,14 @@
 -- The prefix law, one induction over the lines, backwards: the state before a line comes of the one after it, so that the fate of a
 -- command in doubt is told by the open that settles it.
-use Rattle.std.proofs.Common.{◌≡◌, ◌⊎◌, ℕ, inl, inr, List, [], ◌∷◌, Option, None, Some, Result, Ok, Err, refl, sym, ◌∙◌, ap, subst, Bool, true, false, MatchBool}
-use Rattle.board_model.specs.Durable.{State, Change, Slot, Discard, formatted, after}
+use Rattle.std.proofs.Common.{◌≡◌, ℕ, inl, inr, List, [], ◌∷◌, Option, None, Some, Result, Ok, Err, refl, sym, ◌∙◌, ap, subst, Bool, true, false, MatchBool}
+use Rattle.board_model.specs.Durable.{State, Change, Slot, Discard, formatted}
 use Rattle.board_model.specs.Kept.{Kept, nothing_kept, found_of, MayKeep, MayFind}
-use Rattle.bench_report.specs.Taken.{Takes, TakesSome, TakesFewer}
 use Rattle.board_model.specs.Shapes.{Size}
 use Rattle.board_model.specs.Shown.{durable_of}
 use Rattle.board_model.specs.declared.durable.Durable.{Durable}
 use Rattle.board_model.specs.declared.boot_mode.BootMode.{BootMode}
 use Rattle.board_model.specs.declared.boot_mode.BootMode.TheVariants as modes
-use Rattle.board.specs.Boots.{boot_refusal, BootsSlot}
+use Rattle.board.specs.Boots.{boot_refusal}
 use Rattle.script_lang.specs.Scripts.{Script}
 use Rattle.script_lang.specs.declared.line.Line.{Line}
 use Rattle.script_lang.specs.declared.line.Line.TheVariants as lines
@@ -31,78 +30,14 @@ use Rattle.bench_report.specs.declared.printed.Printed.TheVariants as printed
 use Rattle.disk.specs.Mishaps.{FaultArmed, CutArmed}
 use Rattle.bench_report.specs.declared.printed.Answer.{Answer}
 use Rattle.bench_report.specs.Bench.{Medium, Blank, Unknown, Formatted, Life, Bench, blank_bench}
-use Rattle.bench_report.specs.Steps.{says, shows, starved, failed, on_with, unpowered, armed_with, formatted_anew, settled, has_machine, begun, commands_of, console_told, IsOn, Starts, Begins, Boots, Opens, ShowsFound, IsOpenRefusal, PowersOn, FormatsOn, FormatStep, OnStep, ConsoleStep, PayloadStep, CallTold, GuestCall, GuestTurns, TurnStep, CallStep, ReadStep, Step, Moves, Run}
+use Rattle.bench_report.specs.Steps.{says, shows, starved, failed, on_with, unpowered, armed_with, formatted_anew, settled, has_machine, begun, commands_of, console_told, IsOn, Starts, Resumes, Begins, Boots, Opens, ShowsFound, IsOpenRefusal, PowersOn, FormatsOn, FormatStep, OnStep, ConsoleStep, PayloadStep, CallTold, GuestCall, TurnStep, CallStep, ReadStep, Step, Moves, Run}
 use Rattle.bench_report.specs.Reports.{IsReport}
-use Rattle.bench_report.specs.Prefix.{Asked, Boot, Command, Guest, Nothing, IsOfHarts, Hides, TellsWord, TellsLine, asked_by, Refused, Lost, Tells, ShowsIts, IsPrefixed, resumed, resumes, RisesFrom, is_format_ok, IsFoundByPrefix, KeepsPrefixLaw}
+use Rattle.bench_report.specs.Prefix.{Asked, Boot, Command, Guest, Nothing, Hides, TellsWord, TellsLine, asked_by, Refused, Lost, Tells, ShowsIts, IsPrefixed, resumes, RisesFrom, AreLoaded, is_format_ok, IsFoundByPrefix, KeepsPrefixLaw}
 use Rattle.bench_report.proofs.Unsaid.{GoesBy, comes_back, turns_back}
+use Rattle.bench_report.proofs.Lost.{lost}
+use Rattle.bench_report.proofs.Serials.{serials_rise}
+use Rattle.bench_report.proofs.Wholes.{IsKeptWhole, all_loaded}
 use Rattle.bench_report.proofs.Issues.{takes_more, is_up, GoesOn, IsSound, Back, joined, said, Went, Does, issued_back, AllWent, all_back}
-
--- ---- lost power
-none_some : (cs : List Change) (s t : State) → t ≡ s → TakesSome cs s t
-none_some [] s t e = e
-none_some (c ∷ cs) s t e = inl e
-
-all_some : (cs : List Change) (s t : State) → Takes cs s t → TakesSome cs s t
-all_some [] s t e = e
-all_some (c ∷ cs) s t h = inr (h.0, all_some cs (after s c) t h.1)
-
-fewer_some : (cs : List Change) (s t : State) → TakesFewer cs s t → TakesSome cs s t
-fewer_some [] s t h = absurd h
-fewer_some (c ∷ cs) s t (inl e) = inl e
-fewer_some (c ∷ cs) s t (inr h) = inr (h.0, fewer_some cs (after s c) t h.1)
-
-lost_refused : (n : ℕ) (c : Change) (s t : State) (up now : Bool) → Refused n c s up t now → (t ≡ s) ⊎ ((up ≡ true) × TakesSome (c ∷ []) s t)
-lost_refused n c s t up now (inl h) = inl h.1
-lost_refused n c s t up now (inr h) = h.2
-
-lost_boot : (mode : BootMode) (x : Printed) (s t : State) (up now : Bool) → Tells (Boot mode) x s up t now → TakesSome (commands_of mode) s t
-lost_boot mode (printed.On m) s t up now h = all_some (commands_of mode) s t h.3
-lost_boot mode (printed.OnRefused n) s t up now (a, b, inl e) = none_some (commands_of mode) s t e
-lost_boot mode (printed.OnRefused n) s t up now (a, b, inr (inl h)) = fewer_some (commands_of mode) s t h
-lost_boot mode (printed.OnRefused n) s t up now (a, b, inr (inr h)) = h.1
-lost_boot mode printed.PowerLost s t up now h = h.0
-lost_boot mode x s t up now h = none_some (commands_of mode) s t h.0
-
-lost_command : (c : Change) (x : Printed) (s t : State) (up now : Bool) → Tells (Command c) x s up t now → (t ≡ s) ⊎ ((up ≡ true) × TakesSome (c ∷ []) s t)
-lost_command c (printed.Acknowledged word k) s t up now h = inr (h.0, all_some (c ∷ []) s t h.1)
-lost_command c (printed.CommandRefused word n) s t up now h = lost_refused n c s t up now h
-lost_command c (printed.On m) s t up now h = absurd h
-lost_command c printed.PowerLost s t up now h = h.0
-lost_command c x s t up now h = inl h.0
-
--- what power lost in a line of turns or a call may leave
-abbrev LostGuest : State → Bool → State → Type 0
-LostGuest s up t = (t ≡ s) ⊎ ((up ≡ true) × (c : Change) × IsOfHarts c × TakesSome (c ∷ []) s t)
-
-lost_hides : (s t : State) (up now : Bool) → Hides s up t now → LostGuest s up t
-lost_hides s t up now (inl h) = inl h.0
-lost_hides s t up now (inr h) = inr (h.0, h.2, h.3, h.4)
-
-lost_word : (word : Word) (s t : State) (up now : Bool) → TellsWord word s up t now → LostGuest s up t
-lost_word (words.Own did) s t up now h = lost_hides s t up now h
-lost_word words.Asleep s t up now h = inr (h.0, h.2, inr h.3, all_some (h.2 ∷ []) s t h.4)
-lost_word (words.Reset kind) s t up now h = inr (h.0, h.2, inl h.3, all_some (h.2 ∷ []) s t h.4)
-
-lost_line : (line : MachineLine) (s t : State) (up now : Bool) → TellsLine line s up t now → LostGuest s up t
-lost_line (shown_lines.Turn h made word) s t up now x = lost_word word s t up now x
-lost_line (shown_lines.Called h word) s t up now x = lost_word word s t up now x
-lost_line line s t up now x = lost_hides s t up now x
-
-lost_guest : (x : Printed) (s t : State) (up now : Bool) → Tells Guest x s up t now → LostGuest s up t
-lost_guest (printed.Shown line) s t up now h = lost_line line s t up now h
-lost_guest (printed.On m) s t up now h = absurd h
-lost_guest printed.PowerLost s t up now h = h.0
-lost_guest x s t up now h = inl h.0
-
-lost_nothing : (x : Printed) (s t : State) (up now : Bool) → Tells Nothing x s up t now → t ≡ s
-lost_nothing (printed.On m) s t up now h = absurd h
-lost_nothing x s t up now h = h.0
-
-lost : (asked : Asked) (x : Printed) (s t : State) (up now : Bool) → Tells asked x s up t now → Lost asked s up t
-lost (Boot mode) x s t up now h = lost_boot mode x s t up now h
-lost (Command c) x s t up now h = lost_command c x s t up now h
-lost Guest x s t up now h = lost_guest x s t up now h
-lost Nothing x s t up now h = lost_nothing x s t up now h
 
 -- ---- a line that leaves what the disk stands for
 abbrev pub Told : Asked → Answer → Bool → Bool → State → State → Type 0
@@ -166,9 +101,9 @@ module _ (b : Bench) (changes : List Change) (may : MayKeep b.kept changes) (med
       subst Q (sym e) (said b x (λ s t. (t ≡ s) × (s ≡ found_of changes)) (λ s t. Told (Boot mode) a (is_up b.power) (is_up x.power) s t) back
       (λ s t h. by_parts mode a _ (printed.OnRefused n) (is_up b.power) (is_up x.power) s t found line (shown s h.1) (off_now, ap is_up same_power ∙ off_now, inl h.0)))
 
-  is_on : (o : Result ℕ ℕ) (mode : BootMode) (z : Size) (a : Answer) (mid new : Bench) → BootsSlot mode → a.found ≡ Some (durable_of (found_of changes))
-      → Back b mid (λ s t. (s ≡ found_of changes) × AllWent o (commands_of mode) (is_up mid.power) s t) → IsOn o mode z mid a.line new → Tell (Boot mode) b a new
-  is_on (Ok n) mode z a mid new loads found back (life, at, line, e) =
+  is_on : (o : Result ℕ ℕ) (mode : BootMode) (z : Size) (a : Answer) (mid new : Bench) → a.found ≡ Some (durable_of (found_of changes))
+      → Back b mid (λ s t. (s ≡ found_of changes) × AllWent o (commands_of mode) (is_up mid.power) s t) → IsOn o mode z (found_of changes) mid a.line new → Tell (Boot mode) b a new
+  is_on (Ok n) mode z a mid new found back (life, at, line, m, boots, e) =
       let Q : Bench → Type 0 = λ m. Tell (Boot mode) b a m in
       let F : Option Life → Type 0 = λ p. GoesOn mid.kept p in
       subst Q (sym e) (
@@ -177,19 +112,19 @@ module _ (b : Bench) (changes : List Change) (may : MayKeep b.kept changes) (med
             let s = back.1 t f in (
               s.0,
               s.1,
-              by_parts mode a _ (printed.On mode) (is_up b.power) (takes_more life.doubt) s.0 t found line (shown s.0 s.2.0) (refl, loads, off_now, s.2.1.0, sym (ap is_up at) ∙ s.2.1.1),
+              by_parts mode a _ (printed.On mode) (is_up b.power) (takes_more life.doubt) s.0 t found line (shown s.0 s.2.0) (refl, off_now, s.2.1.0, sym (ap is_up at) ∙ s.2.1.1),
             )
             ),
       )
-  is_on (Err n) mode z a mid new loads found back (line, e) =
+  is_on (Err n) mode z a mid new found back (line, e) =
       let Q : Bench → Type 0 = λ m. Tell (Boot mode) b a m in
       subst Q (sym e) (
         (back.0.0, tt),
         λ t f. (let s = back.1 t f in (s.0, s.1, by_parts mode a _ (printed.OnRefused n) (is_up b.power) false s.0 t found line (shown s.0 s.2.0) (off_now, refl, inr s.2.1))),
       )
 
-  boots_slot : (mode : BootMode) (z : Size) (a : Answer) (new : Bench) → BootsSlot mode → a.found ≡ Some (durable_of (found_of changes)) → Starts mode z (found_of changes) (settled changes b) a.line new → Tell (Boot mode) b a new
-  boots_slot mode z a new loads found (o, mid, all, on_h) =
+  starts : (mode : BootMode) (z : Size) (a : Answer) (new : Bench) → a.found ≡ Some (durable_of (found_of changes)) → Starts mode z (found_of changes) (settled changes b) a.line new → Tell (Boot mode) b a new
+  starts mode z a new found (o, mid, all, on_h) =
       let start : Bench = on_with (begun (found_of changes) z) (settled changes b) in
       let sound : IsSound start = (medium, (refl, refl)) in
       let rest : Back start mid (AllWent o (commands_of mode) (is_up mid.power)) = all_back (commands_of mode) start o mid sound refl all in
@@ -197,13 +132,17 @@ module _ (b : Bench) (changes : List Change) (may : MayKeep b.kept changes) (med
       joined b start mid (λ s t. (t ≡ s) × (s ≡ found_of changes)) (AllWent o (commands_of mode) (is_up mid.power)) (λ s t. (s ≡ found_of changes) × AllWent o (commands_of mode) (is_up mid.power) s t)
       (opened start refl sound) rest
       (λ s u t x w. (x.1, (let R : State → Type 0 = λ v. AllWent o (commands_of mode) (is_up mid.power) v t in subst R x.0 w))) in
-      is_on o mode z a mid new loads found whole on_h
+      is_on o mode z a mid new found whole on_h
+
+  resumes_at : (z : Size) (a : Answer) (new : Bench) → a.found ≡ Some (durable_of (found_of changes)) → Resumes z (found_of changes) (settled changes b) a.line new → Tell (Boot modes.Resume) b a new
+  resumes_at z a new found (inl h) = starts modes.Resume z a new found h
+  resumes_at z a new found (inr h) = refused_boot 13 modes.Resume a (settled changes b) new found h.1 h.2 refl refl refl
 
   begins : (mode : BootMode) (z : Size) (a : Answer) (new : Bench) → a.found ≡ Some (durable_of (found_of changes)) → Begins mode z (found_of changes) (settled changes b) a.line new → Tell (Boot mode) b a new
-  begins modes.Fresh z a new found h = boots_slot modes.Fresh z a new tt found h
-  begins modes.Keep z a new found h = boots_slot modes.Keep z a new tt found h
-  begins modes.Discard z a new found h = boots_slot modes.Discard z a new tt found h
-  begins modes.Resume z a new found h = refused_boot 13 modes.Resume a (settled changes b) new found h.0 h.1 refl refl refl
+  begins modes.Fresh z a new found h = starts modes.Fresh z a new found h
+  begins modes.Keep z a new found h = starts modes.Keep z a new found h
+  begins modes.Discard z a new found h = starts modes.Discard z a new found h
+  begins modes.Resume z a new found h = resumes_at z a new found h
 
   boots : (r : Option ℕ) (mode : BootMode) (z : Size) (a : Answer) (new : Bench) → a.found ≡ Some (durable_of (found_of changes)) → Boots r mode z (found_of changes) (settled changes b) a.line new → Tell (Boot mode) b a new
   boots (Some n) mode z a new found h = refused_boot n mode a (settled changes b) new found h.0 h.1 refl refl refl
@@ -355,24 +294,6 @@ prefixed size (l ∷ ls) b (a ∷ answers) end sound run =
 prefixed size [] b (a ∷ answers) end sound run = absurd run
 prefixed size (l ∷ ls) b [] end sound run = absurd run
 
--- no image is resumed, since none can be loaded yet
-not_resumed : (asked : Asked) (x : Printed) (found : Option Durable) (s t : State) (up now : Bool) (rest : List ℕ) → Tells asked x s up t now → resumed found x rest ≡ rest
-not_resumed asked x None s t up now rest h = refl
-not_resumed (Boot m) (printed.On modes.Resume) (Some d) s t up now rest h = absurd h.1
-not_resumed (Command c) (printed.On modes.Resume) (Some d) s t up now rest h = absurd h
-not_resumed Guest (printed.On modes.Resume) (Some d) s t up now rest h = absurd h
-not_resumed Nothing (printed.On modes.Resume) (Some d) s t up now rest h = absurd h
-not_resumed asked (printed.On modes.Fresh) (Some d) s t up now rest h = refl
-not_resumed asked (printed.On modes.Keep) (Some d) s t up now rest h = refl
-not_resumed asked (printed.On modes.Discard) (Some d) s t up now rest h = refl
-not_resumed asked x (Some d) s t up now rest h = refl
-
-none_resumed : (ls : List Line) (answers : List Answer) (s : State) (up : Bool) → IsPrefixed s up ls answers → resumes answers ≡ []
-none_resumed [] [] s up h = refl
-none_resumed (l ∷ ls) (a ∷ answers) s up h = not_resumed (asked_by l) a.line a.found s h.1 up h.2 (resumes answers) h.3 ∙ none_resumed ls answers h.1 h.2 h.4
-none_resumed [] (a ∷ answers) s up h = absurd h
-none_resumed (l ∷ ls) [] s up h = absurd h
-
 -- ---- from the first format that answered Ok on
 other : {T : Type 0} (a : Answer) (x : Printed) → a ≡ says x → is_format_ok x ≡ false → is_format_ok a.line ≡ true → T
 other a x e differs ok = let P : Answer → Type 0 = λ y. is_format_ok y.line ≡ true in absurd (let never : true ≡ false = sym (subst P e ok) ∙ differs in let bad : ⊥ = cc in bad)
@@ -400,15 +321,19 @@ formatted_at : (p : Option Life) (b : Bench) (a : Answer) (new : Bench) → b.po
 formatted_at None b a new on h ok = formatted_on b.medium b a new on h ok
 formatted_at (Some life) b a new on h ok = other a _ h.0 refl ok
 
-is_on_no : {T : Type 0} (o : Result ℕ ℕ) (mode : BootMode) (z : Size) (b : Bench) (x : Printed) (new : Bench) → IsOn o mode z b x new → is_format_ok x ≡ true → T
-is_on_no (Ok n) mode z b x new h ok = by_line x _ h.2 refl ok
-is_on_no (Err n) mode z b x new h ok = by_line x _ h.0 refl ok
+is_on_no : {T : Type 0} (o : Result ℕ ℕ) (mode : BootMode) (z : Size) (s : State) (b : Bench) (x : Printed) (new : Bench) → IsOn o mode z s b x new → is_format_ok x ≡ true → T
+is_on_no (Ok n) mode z s b x new h ok = by_line x _ h.2 refl ok
+is_on_no (Err n) mode z s b x new h ok = by_line x _ h.0 refl ok
+
+resumes_no : {T : Type 0} (z : Size) (s : State) (b : Bench) (x : Printed) (new : Bench) → Resumes z s b x new → is_format_ok x ≡ true → T
+resumes_no z s b x new (inl h) ok = is_on_no h.0 modes.Resume z s h.1 x new h.3 ok
+resumes_no z s b x new (inr h) ok = by_line x _ h.1 refl ok
 
 begins_no : {T : Type 0} (mode : BootMode) (z : Size) (s : State) (b : Bench) (x : Printed) (new : Bench) → Begins mode z s b x new → is_format_ok x ≡ true → T
-begins_no modes.Fresh z s b x new h ok = is_on_no h.0 modes.Fresh z h.1 x new h.3 ok
-begins_no modes.Keep z s b x new h ok = is_on_no h.0 modes.Keep z h.1 x new h.3 ok
-begins_no modes.Discard z s b x new h ok = is_on_no h.0 modes.Discard z h.1 x new h.3 ok
-begins_no modes.Resume z s b x new h ok = by_line x _ h.0 refl ok
+begins_no modes.Fresh z s b x new h ok = is_on_no h.0 modes.Fresh z s h.1 x new h.3 ok
+begins_no modes.Keep z s b x new h ok = is_on_no h.0 modes.Keep z s h.1 x new h.3 ok
+begins_no modes.Discard z s b x new h ok = is_on_no h.0 modes.Discard z s h.1 x new h.3 ok
+begins_no modes.Resume z s b x new h ok = resumes_no z s b x new h ok
 
 boots_no : {T : Type 0} (r : Option ℕ) (mode : BootMode) (z : Size) (s : State) (b : Bench) (x : Printed) (new : Bench) → Boots r mode z s b x new → is_format_ok x ≡ true → T
 boots_no None mode z s b x new (inl h) ok = begins_no mode z s b x new h ok
@@ -482,7 +407,7 @@ moves_format size line b a new (inl h) ok = step_formats size line b a new h.0 o
 moves_format size line b a new (inr h) ok = other a _ h.4 refl ok
 
 -- what is found on a disk that was just formatted
-anew : (size : Size) (ls : List Line) (b : Bench) (answers : List Answer) (end : Bench) → IsFresh b → Run size b ls answers end → IsPrefixed formatted false ls answers × RisesFrom 0 (resumes answers)
+anew : (size : Size) (ls : List Line) (b : Bench) (answers : List Answer) (end : Bench) → IsFresh b → Run size b ls answers end → IsPrefixed formatted false ls answers × RisesFrom 0 (resumes answers) × AreLoaded ls answers
 anew size ls b answers end (medium, kept, on) run =
     let F : Option Life → Type 0 = λ p. GoesOn b.kept p in
     let told = prefixed size ls b answers end (medium, subst F (sym on) tt) run in
@@ -490,9 +415,14 @@ anew size ls b answers end (medium, kept, on) run =
     let Q : Bool → Type 0 = λ up. IsPrefixed formatted up ls answers in
     let R : Kept → Type 0 = λ k. MayFind k told.0 in
     let law = subst Q (ap is_up on) (subst P (first told.0 (subst R kept told.1)) told.2) in
-    let S : List ℕ → Type 0 = RisesFrom 0 in
-    (law, subst S (sym (none_resumed ls answers formatted false law)) tt)
+    (law, serials_rise ls answers law, all_loaded size ls b answers end (whole_anew b.kept b.power kept on) run)
   where
+    whole_anew : (k : Kept) (p : Option Life) → k ≡ nothing_kept → p ≡ None → IsKeptWhole size (record b { kept = k; power = p })
+    whole_anew k p e f =
+        let P : Kept → Type 0 = λ k. IsKeptWhole size (record b { kept = k; power = p }) in
+        let Q : Option Life → Type 0 = λ p. IsKeptWhole size (record b { kept = nothing_kept; power = p }) in
+        subst P (sym e) (subst Q (sym f) (medium, tt, tt, tt))
+
     first : (s : State) → MayFind nothing_kept s → s ≡ formatted
     first s (cs, inl e, is) = is ∙ ap found_of e
     first s (cs, inr e, is) = absurd e
@@ -505,7 +435,7 @@ by_prefix : (size : Size) (ls : List Line) (b : Bench) (answers : List Answer) (
 by_prefix size [] b answers end run = tt
 by_prefix size (l ∷ ls) b [] end run = absurd run
 by_prefix size (l ∷ ls) b (a ∷ answers) end run =
-    either (is_format_ok a.line) (IsPrefixed formatted false ls answers × RisesFrom 0 (resumes answers)) (IsFoundByPrefix ls answers)
+    either (is_format_ok a.line) (IsPrefixed formatted false ls answers × RisesFrom 0 (resumes answers) × AreLoaded ls answers) (IsFoundByPrefix ls answers)
     (λ ok. anew size ls run.0 answers end (moves_format size l b a run.0 run.1 ok) run.2) (by_prefix size ls run.0 answers end run.2)
 
 pub prefix_law : (script : Script) (answers : List Answer) (end : Bench) → IsReport script answers end → KeepsPrefixLaw script.lines answers

@@ -8,7 +8,7 @@ use Rattle.machine.specs.Machine.{Machine, hart_at}
 use Rattle.machine_lines.specs.Shows.{own_line}
 use Rattle.machine_lines.specs.declared.line.MachineLine.{MachineLine}
 use Rattle.machine_lines.specs.declared.line.MachineLine.TheVariants as shown_lines
-use Rattle.machine_lines.specs.Shows.{Has, CsrLine}
+use Rattle.machine_lines.specs.Shows.{CsrLine}
 use Rattle.machine.specs.Turns.{Calls}
 use Rattle.machine.specs.declared.parts.Word.{Word}
 use Rattle.machine.specs.declared.parts.Word.TheVariants as words
@@ -21,10 +21,10 @@ use Rattle.bench_report.specs.declared.printed.ConsoleWord.{ConsoleWord}
 use Rattle.bench_report.specs.declared.printed.ConsoleWord.TheVariants as names
 use Rattle.bench_report.specs.declared.printed.Answer.{Answer}
 use Rattle.bench_report.specs.Bench.{Life, Bench, IsUnspoilt, blank_bench}
-use Rattle.bench_report.specs.Steps.{shows, unpowered, armed_with, on_with, has_machine, console_told, FormatStep, OnStep, ConsoleStep, PayloadStep, CallTold, GuestCall, GuestTurns, TurnStep, CallStep, ReadStep, Step, Moves, Run}
+use Rattle.bench_report.specs.Steps.{shows, unpowered, armed_with, on_with, has_machine, console_told, FormatStep, OnStep, ConsoleStep, PayloadStep, CallTold, GuestCall, TurnStep, CallStep, ReadStep, Step, Moves, Run}
 use Rattle.bench_report.specs.Reports.{IsReport}
 use Rattle.bench_report.proofs.Guests.{IsOneTurn, Row, row, comes_fair, comes_one, turns_fair, turns_one}
-use Rattle.bench_report.proofs.Determined.{some_inj, IsSpoilt, IsCalm, Fair, fair_to, unmoved, issued_fair, Agree, same, issued, formats_fair, formats, powers_fair, powers}
+use Rattle.bench_report.proofs.Determined.{some_inj, IsSpoilt, IsCalm, Fair, fair_to, fair_then, unmoved, issued_fair, Agree, same, issued, formats_fair, formats, powers_fair, powers}
 
 -- what the lines leave nothing open of
 abbrev pub IsOneCall : Type 0
@@ -89,18 +89,21 @@ step_fair size (lines.FailLane x y) b a new h = fair_to b new (armed_with FaultA
 step_fair size (lines.Cut fill) b a new h = fair_to b new (unpowered b) h.1 (λ s. s, λ c. inr c)
 step_fair size (lines.Poke x y z) b a new h = unmoved b new h.1
 
-moves_fair : (size : Size) (line : Line) (b : Bench) (a : Answer) (new : Bench) → Moves size line b a new → Fair b new
+pub moves_fair : (size : Size) (line : Line) (b : Bench) (a : Answer) (new : Bench) → Moves size line b a new → Fair b new
 moves_fair size line b a new (inl x) = step_fair size line b a new x.0
 moves_fair size line b a new (inr (would, mid, x, struck, e, is)) = let one = step_fair size line b would mid x in fair_to b new (unpowered mid) is (λ s. one.0 s, λ c. one.1 c)
 
 spoilt_as : (x y : Bench) → x ≡ y → IsSpoilt y → IsSpoilt x
 spoilt_as x y e s = let P : Bench → Type 0 = IsSpoilt in subst P (sym e) s
 
+pub run_fair : (size : Size) (ls : List Line) (b : Bench) (answers : List Answer) (end : Bench) → Run size b ls answers end → Fair b end
+run_fair size [] b [] end run = unmoved b end run
+run_fair size (l ∷ ls) b (a ∷ answers) end run = fair_then b run.0 end (moves_fair size l b a run.0 run.1) (run_fair size ls run.0 answers end run.2)
+run_fair size [] b (a ∷ answers) end run = absurd run
+run_fair size (l ∷ ls) b [] end run = absurd run
+
 run_spoilt : (size : Size) (ls : List Line) (b : Bench) (answers : List Answer) (end : Bench) → Run size b ls answers end → IsSpoilt b → IsSpoilt end
-run_spoilt size [] b [] end run s = spoilt_as end b run s
-run_spoilt size (l ∷ ls) b (a ∷ answers) end run s = run_spoilt size ls run.0 answers end run.2 ((moves_fair size l b a run.0 run.1).0 s)
-run_spoilt size [] b (a ∷ answers) end run s = absurd run
-run_spoilt size (l ∷ ls) b [] end run s = absurd run
+run_spoilt size ls b answers end run s = (run_fair size ls b answers end run).0 s
 
 -- ---- the same
 by_word : {A : Type 0} (f : A → Answer) (o p : A) (a z : Answer) (new last : Bench) → a ≡ f o → z ≡ f p → Agree o p new last → Agree a z new last
@@ -215,7 +218,7 @@ moves turns call csr size line b a z new last calm (inr (would, mid, x, struck, 
     apart (inr (inl s)) = inr (inl (spoilt_as last (unpowered mid2) is2 s))
     apart (inr (inr h)) = inr (inr (e ∙ sym e2, is ∙ ap unpowered h.1 ∙ sym is2))
 
-clean : {A : Type 0} (end : Bench) → IsUnspoilt end → IsSpoilt end → A
+pub clean : {A : Type 0} (end : Bench) → IsUnspoilt end → IsSpoilt end → A
 clean end u (inl s) = absurd (omega (arith, u.0, s))
 clean end u (inr s) = absurd (omega (arith, u.1, s))
 

@@ -1,5 +1,5 @@
 -- A report whose lines are smooth: no power-on was refused memory, and no failure was answered.
-use Rattle.std.proofs.Common.{◌≡◌, ◌≢◌, ℕ, zero, suc, arith, sym, inl, inr, List, [], ◌∷◌, Option, None, Some, Result, Ok, Err, refl, ◌∙◌, ap, subst}
+use Rattle.std.proofs.Common.{◌≡◌, ◌≢◌, ℕ, zero, suc, arith, inl, inr, List, [], ◌∷◌, Option, None, Some, Result, Ok, Err, refl, ◌∙◌, ap, subst}
 use Rattle.std.specs.Bool.{⊤}
 use Rattle.board_model.specs.Durable.{State, Change, Slot, Reset, Discard, refusal_of}
 use Rattle.board_model.specs.Shapes.{Size}
@@ -34,9 +34,9 @@ use Rattle.bench_report.specs.declared.printed.Printed.TheVariants as printed
 use Rattle.disk.specs.Mishaps.{FaultArmed, CutArmed}
 use Rattle.bench_report.specs.declared.printed.Answer.{Answer}
 use Rattle.bench_report.specs.Bench.{Medium, Blank, Unknown, Formatted, Life, Bench, IsUnspoilt, blank_bench}
-use Rattle.bench_report.specs.Steps.{says, off, on_with, unpowered, armed_with, formatted_anew, settled, has_machine, acknowledged, begun, commands_of, console_told, Writes, IssuedBy, IssuesAll, FormatsOn, IsOn, Starts, Begins, Boots, Opens, PowersOn, FormatStep, OnStep, ConsoleStep, PayloadStep, ReadStep, Issued, Refuses, Held, Resets, Suspends, SleepsBy, MakesCall, Comes, GuestTurn, GuestTurns, TurnStep, CallTold, GuestCall, CallStep, Step, Moves, Run}
+use Rattle.bench_report.specs.Steps.{says, off, on_with, unpowered, armed_with, formatted_anew, settled, has_machine, acknowledged, begun, commands_of, console_told, Writes, IssuedBy, IssuesAll, FormatsOn, IsOn, Starts, Resumes, Begins, Boots, Opens, PowersOn, FormatStep, OnStep, ConsoleStep, PayloadStep, ReadStep, Issued, Refuses, Held, Resets, Suspends, SleepsBy, MakesCall, Comes, GuestTurn, GuestTurns, TurnStep, CallTold, GuestCall, CallStep, Step, Moves, Run}
 use Rattle.bench_report.specs.Reports.{IsReport}
-use Rattle.bench_report.specs.Plain.{IsSmoothLine, IsSmooth, AreSmooth}
+use Rattle.bench_report.specs.Plain.{IsSmooth, AreSmooth}
 
 -- as many growths were refused and failures answered as before
 abbrev pub AsMany : Bench → Bench → Type 0
@@ -95,21 +95,25 @@ formats_smooth Unknown b a new (inr (inr h)) smooth = as_many b b new refl refl 
 formats_smooth Formatted b a new (inl h) smooth = as_many b b new refl refl h.1
 formats_smooth Formatted b a new (inr h) smooth = absurd (of_answer a (printed.FormatRefused 5) h.0 smooth refl)
 
-is_on_smooth : (o : Result ℕ ℕ) (mode : BootMode) (z : Size) (b : Bench) (line : Printed) (new : Bench) → IsOn o mode z b line new → IsSmooth line → IsSmoothResult o × AsMany b new
-is_on_smooth (Ok n) mode z b line new h smooth = (tt, as_many b _ new refl refl h.3)
-is_on_smooth (Err n) mode z b line new h smooth = let told = of_line line (printed.OnRefused n) h.0 smooth in ((told.0, told.1), as_many b (off b) new refl refl h.1)
+is_on_smooth : (o : Result ℕ ℕ) (mode : BootMode) (z : Size) (s : State) (b : Bench) (line : Printed) (new : Bench) → IsOn o mode z s b line new → IsSmooth line → IsSmoothResult o × AsMany b new
+is_on_smooth (Ok n) mode z s b line new (life, on, said, m, boots, e) smooth = (tt, as_many b (on_with (has_machine m life) b) new refl refl e)
+is_on_smooth (Err n) mode z s b line new h smooth = let told = of_line line (printed.OnRefused n) h.0 smooth in ((told.0, told.1), as_many b (off b) new refl refl h.1)
 
 slot_smooth : (mode : BootMode) (z : Size) (s : State) (b : Bench) (line : Printed) (new : Bench) → Starts mode z s b line new → IsSmooth line → AsMany b new
 slot_smooth mode z s b line new (o, mid, h, on) smooth =
-    let last = is_on_smooth o mode z mid line new on smooth in
+    let last = is_on_smooth o mode z s mid line new on smooth in
     let start : Bench = on_with (begun s z) b in
     many_then b mid new (let first = all_smooth (commands_of mode) start o mid h last.0 in (first.0, first.1)) last.1
+
+resumes_smooth : (z : Size) (s : State) (b : Bench) (line : Printed) (new : Bench) → Resumes z s b line new → IsSmooth line → AsMany b new
+resumes_smooth z s b line new (inl h) smooth = slot_smooth modes.Resume z s b line new h smooth
+resumes_smooth z s b line new (inr h) smooth = as_many b b new refl refl h.2
 
 begins_smooth : (mode : BootMode) (z : Size) (s : State) (b : Bench) (line : Printed) (new : Bench) → Begins mode z s b line new → IsSmooth line → AsMany b new
 begins_smooth modes.Fresh z s b line new h smooth = slot_smooth modes.Fresh z s b line new h smooth
 begins_smooth modes.Keep z s b line new h smooth = slot_smooth modes.Keep z s b line new h smooth
 begins_smooth modes.Discard z s b line new h smooth = slot_smooth modes.Discard z s b line new h smooth
-begins_smooth modes.Resume z s b line new h smooth = as_many b b new refl refl h.1
+begins_smooth modes.Resume z s b line new h smooth = resumes_smooth z s b line new h smooth
 
 boots_smooth : (r : Option ℕ) (mode : BootMode) (z : Size) (s : State) (b : Bench) (line : Printed) (new : Bench) → Boots r mode z s b line new → IsSmooth line → AsMany b new
 boots_smooth None mode z s b line new (inl h) smooth = begins_smooth mode z s b line new h smooth

@@ -48,6 +48,9 @@ not_down s c e h is = differs 6 (number_of e) (λ f. omega (arith, f)) (λ f. om
 pub table_not_six : (s : State) (c : Change) (n : ℕ) → refusal_of s c ≡ Some n → n ≢ 6
 table_not_six s c n h = differs 6 n (λ f. omega (arith, f)) (λ f. omega (arith, f)) (λ f. omega (arith, f)) (of_table s c n h)
 
+pub table_not_thirteen : (s : State) (c : Change) (n : ℕ) → refusal_of s c ≡ Some n → n ≢ 13
+table_not_thirteen s c n h = differs 13 n (λ f. omega (arith, f)) (λ f. omega (arith, f)) (λ f. omega (arith, f)) (of_table s c n h)
+
 abbrev pub IsOfModes : ℕ → Type 0
 IsOfModes n = (15 ≡ n) ⊎ (8 ≡ n)
 
@@ -61,6 +64,9 @@ of_modes s modes.Resume n h = elim (one_of (is_some s.image) None (Some 8) n h) 
 -- a refusal of a mode is none of the disk
 pub mode_not_device : (s : State) (mode : BootMode) (n : ℕ) (e : Refusal) → boot_refusal s mode ≡ Some n → number_of e ≡ n → e ≢ Device
 mode_not_device s mode n e h at is = elim (of_modes s mode n h) [ inl f ↦ omega (arith, f, at, ap number_of is) | inr f ↦ omega (arith, f, at, ap number_of is) ]
+
+pub mode_not_thirteen : (s : State) (mode : BootMode) (n : ℕ) → boot_refusal s mode ≡ Some n → n ≢ 13
+mode_not_thirteen s mode n h is = elim (of_modes s mode n h) [ inl f ↦ omega (arith, f, is) | inr f ↦ omega (arith, f, is) ]
 
 pub mode_not_down : (s : State) (mode : BootMode) (n : ℕ) (e : Refusal) → boot_refusal s mode ≡ Some n → number_of e ≡ n → e ≢ Down
 mode_not_down s mode n e h at is = elim (of_modes s mode n h) [ inl f ↦ omega (arith, f, at, ap number_of is) | inr f ↦ omega (arith, f, at, ap number_of is) ]

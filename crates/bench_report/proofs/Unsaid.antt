@@ -1,6 +1,5 @@
 -- What turns and calls of harts make of the state that the disk stands for, read backwards.
-use Rattle.std.proofs.Common.{◌≡◌, ◌≢◌, ◌⊎◌, ℕ, zero, suc, inl, inr, [], ◌∷◌, Bool, true, false, Option, None, Some, Result, Ok, Err, refl, sym, ◌∙◌, ap, subst, arith}
-use Rattle.std.specs.Bool.{⊤}
+use Rattle.std.proofs.Common.{◌≡◌, ◌≢◌, ℕ, zero, suc, inl, inr, [], ◌∷◌, Bool, true, false, Option, Some, Result, Ok, Err, refl, sym, ◌∙◌, ap, subst, arith}
 use Rattle.board_model.specs.Durable.{State, Change, Reset, Suspend}
 use Rattle.board_model.specs.Kept.{Kept, MayFind}
 use Rattle.board_model.specs.declared.durable.Reason.{Reason}
@@ -19,9 +18,9 @@ use Rattle.sbi.specs.declared.resets.ResetType.{ResetType}
 use Rattle.sbi.specs.Resets.{reset_of}
 use Rattle.bench_report.specs.Taken.{Takes, TakesSome}
 use Rattle.bench_report.specs.Bench.{Life, Bench}
-use Rattle.bench_report.specs.Prefix.{IsReset, IsSuspension, IsOfHarts, Ends, Hides, TellsWord}
+use Rattle.bench_report.specs.Prefix.{IsReset, IsSuspension, IsOfHarts, Hides, TellsWord}
 use Rattle.bench_report.specs.Steps.{starved, off, on_with, has_machine, refused, Refuses, Held, Resets, Suspends, Sleeps, SleepsBy, MakesCall, Comes, GuestTurn, GuestTurns}
-use Rattle.bench_report.proofs.Issues.{takes_more, is_up, GoesOn, IsSound, Back, joined, said, Went, issued_back}
+use Rattle.bench_report.proofs.Issues.{takes_more, is_up, GoesOn, IsSound, Back, joined, Went, issued_back}
 
 -- the state before and after, by the word
 abbrev pub GoesBy : Word → Bench → Bench → Type 0

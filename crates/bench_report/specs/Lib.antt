@@ -13,6 +13,8 @@ pub mod Plain
 pub mod Taken
 -- The prefix law, in the words of the report alone.
 pub mod Prefix
+-- A power-on at any point of a run, and the board that goes on with an image.
+pub mod Resumed
 -- What the layers below say of a disk in memory and of a board over it.
 pub mod Below
 -- How the code's disk and board stand for the bench of the model.

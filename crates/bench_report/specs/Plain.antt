@@ -1,7 +1,7 @@
 -- The report of a script where memory was never refused and the disk never failed, computed: for scripts whose lines neither
--- move harts nor show memory or harts.
+-- move harts nor show memory or harts, so that no image is ever made.
 use Rattle.std.specs.Prelude.{◌≡◌, ◌≢◌, ℕ, ◌+◌, ◌==◌, List, [], ◌∷◌, Option, Some, None, Result, Ok, Err, length, slice_set, if◌then◌else◌, ⊤}
-use Rattle.board_model.specs.Durable.{State, Change, Slot, Discard, refusal_of, after}
+use Rattle.board_model.specs.Durable.{State, Change, Slot, Discard, refusal_of}
 use Rattle.board_model.specs.Kept.{found_of}
 use Rattle.board_model.specs.Shapes.{Size}
 use Rattle.board_model.specs.Shown.{durable_of}
@@ -10,7 +10,6 @@ use Rattle.board_model.specs.declared.refusal.Refusal.{Refusal}
 use Rattle.script_lang.specs.Scripts.{Script, script_of, ◌>>>◌}
 use Rattle.board.specs.Boots.{boot_refusal, booted}
 use Rattle.board_model.specs.declared.boot_mode.BootMode.{BootMode}
-use Rattle.board_model.specs.declared.boot_mode.BootMode.TheVariants as modes
 use Rattle.script_lang.specs.declared.line.Line.{Line}
 use Rattle.script_lang.specs.declared.line.Line.TheVariants as lines
 use Rattle.machine.specs.declared.parts.Word.TheVariants as words
@@ -47,28 +46,13 @@ plain_format Formatted b = (says (printed.FormatRefused 2), b)
 abbrev pub found_then : State → Printed → Answer
 found_then s line = record { found = Some (durable_of s); line = line }
 
--- a boot of the slot: by `discard` with that command acknowledged
-abbrev pub plain_life : BootMode → Size → State → Life
-plain_life modes.Discard z s = record (begun s z) { now = after s Discard; receipts = 1 }
-plain_life mode z s = begun s z
-
-abbrev pub plain_kept : BootMode → Size → State → Bench → Bench
-plain_kept modes.Discard z s b = acknowledged Discard (begun s z) b
-plain_kept mode z s b = b
-
+-- a boot of the slot: no image stands in such a run, so a mode that goes on with one or drops it is refused
 abbrev pub plain_slot : BootMode → Size → State → Bench → Answer × Bench
-plain_slot mode z s b = (found_then s (printed.On mode), on_with (has_machine (booted b.payloads (plain_life mode z s).now z) (plain_life mode z s)) (plain_kept mode z s b))
-
--- a boot by the mode; an image cannot be loaded yet
-abbrev pub plain_mode : BootMode → Size → State → Bench → Answer × Bench
-plain_mode modes.Fresh z s b = plain_slot modes.Fresh z s b
-plain_mode modes.Keep z s b = plain_slot modes.Keep z s b
-plain_mode modes.Discard z s b = plain_slot modes.Discard z s b
-plain_mode modes.Resume z s b = (found_then s (printed.OnRefused 13), b)
+plain_slot mode z s b = (found_then s (printed.On mode), on_with (has_machine (booted b.payloads s z) (begun s z)) b)
 
 -- by the number with which the state refuses the mode
 abbrev pub plain_boot : Option ℕ → BootMode → Size → State → Bench → Answer × Bench
-plain_boot None mode z s b = plain_mode mode z s b
+plain_boot None mode z s b = plain_slot mode z s b
 plain_boot (Some n) mode z s b = (found_then s (printed.OnRefused n), b)
 
 -- a power-on finds the fold of the acknowledged commands

@@ -12,7 +12,6 @@ use Rattle.board_model.specs.declared.durable.Reason.{Reason}
 use Rattle.board_model.specs.declared.durable.ImageHead.{ImageHead}
 use Rattle.board_model.specs.declared.boot_mode.BootMode.{BootMode}
 use Rattle.board_model.specs.declared.boot_mode.BootMode.TheVariants as modes
-use Rattle.board.specs.Boots.{BootsSlot}
 use Rattle.machine.specs.declared.parts.Word.{Word}
 use Rattle.machine.specs.declared.parts.Word.TheVariants as words
 use Rattle.machine_lines.specs.declared.line.MachineLine.{MachineLine}
@@ -86,9 +85,9 @@ Lost Guest s up t = (t ≡ s) ⊎ ((up ≡ true) × (c : Change) × IsOfHarts c 
 Lost Nothing s up t = t ≡ s
 
 -- The state s before a line and t after it, and whether a board that is on takes commands before and after, by what the line
--- asked and what it says. A board that is on booted its slot, since no image can be loaded yet.
+-- asked and what it says.
 abbrev pub Tells : Asked → Printed → State → Bool → State → Bool → Type 0
-Tells (Boot asked) (printed.On mode) s up t now = (mode ≡ asked) × BootsSlot mode × (up ≡ false) × Takes (commands_of asked) s t × (now ≡ true)
+Tells (Boot asked) (printed.On mode) s up t now = (mode ≡ asked) × (up ≡ false) × Takes (commands_of asked) s t × (now ≡ true)
 Tells (Boot mode) (printed.OnRefused n) s up t now =
     (up ≡ false) × (now ≡ false) × ((t ≡ s) ⊎ TakesFewer (commands_of mode) s t ⊎ ((n ≡ 6) × TakesSome (commands_of mode) s t))
 Tells (Command c) (printed.Acknowledged word k) s up t now = (up ≡ true) × Takes (c ∷ []) s t × (now ≡ true)
@@ -131,6 +130,17 @@ abbrev pub RisesFrom : ℕ → List ℕ → Type 0
 RisesFrom n [] = ⊤
 RisesFrom n (x ∷ xs) = (n ≤ x) × RisesFrom (x + 1) xs
 
+-- a power-on was not refused 13: each image that stands has the memory of its board
+abbrev pub IsLoaded : Line → Answer → Type 0
+IsLoaded (lines.On mode) a = a.line ≢ printed.OnRefused 13
+IsLoaded line a = ⊤
+
+abbrev pub AreLoaded : List Line → List Answer → Type 0
+AreLoaded [] [] = ⊤
+AreLoaded (line ∷ more) (a ∷ answers) = IsLoaded line a × AreLoaded more answers
+AreLoaded [] (a ∷ answers) = ⊥
+AreLoaded (line ∷ more) [] = ⊥
+
 abbrev pub is_format_ok : Printed → Bool
 is_format_ok printed.Formatted = true
 is_format_ok line = false
@@ -140,7 +150,7 @@ abbrev pub IsFoundByPrefix : List Line → List Answer → Type 0
 IsFoundByPrefix [] answers = ⊤
 IsFoundByPrefix (line ∷ more) [] = ⊥
 IsFoundByPrefix (line ∷ more) (answer ∷ answers) =
-    MatchBool (is_format_ok answer.line) (IsPrefixed formatted false more answers × RisesFrom 0 (resumes answers)) (IsFoundByPrefix more answers)
+    MatchBool (is_format_ok answer.line) (IsPrefixed formatted false more answers × RisesFrom 0 (resumes answers) × AreLoaded more answers) (IsFoundByPrefix more answers)
 
 -- a report: the first answer is the board line's
 abbrev pub KeepsPrefixLaw : List Line → List Answer → Type 0

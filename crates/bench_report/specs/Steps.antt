@@ -1,7 +1,7 @@
 -- What a line of a script may answer, and what the bench then is. Source: docs/SCRIPT.md.
-use Rattle.std.specs.Prelude.{◌≡◌, ◌≢◌, ℕ, zero, suc, Bool, ◌+◌, ◌<◌, ◌⊎◌, ⊤, true, false, List, [], ◌∷◌, ◌++◌, Option, Some, None, Result, Ok, Err, length, slice_set}
+use Rattle.std.specs.Prelude.{◌≡◌, ◌≢◌, ℕ, zero, suc, ◌+◌, ◌<◌, ◌⊎◌, ⊤, true, false, List, [], ◌∷◌, ◌++◌, Option, Some, None, Result, Ok, Err, length, slice_set}
 use Rattle.std.specs.Option.{option_to_list}
-use Rattle.board_model.specs.Durable.{State, Change, Slot, Reset, Suspend, Discard, refusal_of, after}
+use Rattle.board_model.specs.Durable.{State, Change, Slot, Reset, Suspend, Discard, IsWhole, refusal_of, after}
 use Rattle.board_model.specs.Kept.{nothing_kept, MayKeep, found_of}
 use Rattle.board_model.specs.Shapes.{Size}
 use Rattle.board_model.specs.Shown.{durable_of}
@@ -10,7 +10,8 @@ use Rattle.disk.specs.Facts.{counted}
 use Rattle.disk.specs.Mishaps.{Armed, FaultArmed, CutArmed, Mishaps, Cause, mishaps_left}
 use Rattle.board_model.specs.declared.boot_mode.BootMode.{BootMode}
 use Rattle.board_model.specs.declared.boot_mode.BootMode.TheVariants as modes
-use Rattle.board.specs.Boots.{boot_refusal, booted}
+use Rattle.board.specs.Boots.{boot_refusal}
+use Rattle.board.specs.Begins.{IsBegun}
 use Rattle.board.specs.Moments.{issued_by}
 use Rattle.machine.specs.Machine.{Machine, hart_at, resting}
 use Rattle.script_lang.specs.declared.line.Line.{Line}
@@ -232,21 +233,26 @@ commands_of mode = option_to_list (issued_by mode)
 abbrev pub begun : State → Size → Life
 begun s z = record { now = s; receipts = 0; doubt = None; machine = resting z 0 }
 
--- the boot of a board of that size, once its commands were issued
-abbrev pub IsOn : Result ℕ ℕ → BootMode → Size → Bench → Printed → Bench → Type 0
-IsOn (Ok n) mode z b line new = (life : Life) × (b.power ≡ Some life) × (line ≡ printed.On mode) × (new ≡ on_with (has_machine (booted b.payloads life.now z) life) b)
-IsOn (Err n) mode z b line new = (line ≡ printed.OnRefused n) × (new ≡ off b)
+-- the boot by the mode of a board of that size, from the state found, once its commands were issued
+abbrev pub IsOn : Result ℕ ℕ → BootMode → Size → State → Bench → Printed → Bench → Type 0
+IsOn (Ok n) mode z s b line new =
+    (life : Life) × (b.power ≡ Some life) × (line ≡ printed.On mode) × (m : Machine) × IsBegun mode z b.payloads s m × (new ≡ on_with (has_machine m life) b)
+IsOn (Err n) mode z s b line new = (line ≡ printed.OnRefused n) × (new ≡ off b)
 
--- the boot of the slot, after the commands of the mode
 abbrev pub Starts : BootMode → Size → State → Bench → Printed → Bench → Type 0
-Starts mode z s b line new = (o : Result ℕ ℕ) × (mid : Bench) × IssuesAll (commands_of mode) (on_with (begun s z) b) o mid × IsOn o mode z mid line new
+Starts mode z s b line new = (o : Result ℕ ℕ) × (mid : Bench) × IssuesAll (commands_of mode) (on_with (begun s z) b) o mid × IsOn o mode z s mid line new
 
--- the boot by a mode that is allowed, once there is memory for the board: an image cannot be loaded yet
+-- The image is loaded and consumed, and the board goes on with it; a failure of the disk in the load is told as one that kept the
+-- command from the disk (5). Or the image has not the memory of its board.
+abbrev pub Resumes : Size → State → Bench → Printed → Bench → Type 0
+Resumes z s b line new = Starts modes.Resume z s b line new ⊎ ((IsWhole z s → ⊥) × (line ≡ printed.OnRefused 13) × (new ≡ b))
+
+-- the boot by a mode that is allowed, once there is memory for the board
 abbrev pub Begins : BootMode → Size → State → Bench → Printed → Bench → Type 0
 Begins modes.Fresh z s b line new = Starts modes.Fresh z s b line new
 Begins modes.Keep z s b line new = Starts modes.Keep z s b line new
 Begins modes.Discard z s b line new = Starts modes.Discard z s b line new
-Begins modes.Resume z s b line new = (line ≡ printed.OnRefused 13) × (new ≡ b)
+Begins modes.Resume z s b line new = Resumes z s b line new
 
 -- the boot after an open that found a state, by the number with which that refuses the mode; there may be no memory
 abbrev pub Boots : Option ℕ → BootMode → Size → State → Bench → Printed → Bench → Type 0

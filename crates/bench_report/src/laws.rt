@@ -1,13 +1,23 @@
 //! Laws of the reports, each the contract of a function that does nothing.
 
-ghost use Rattle.std.specs.Prelude.{◌≡◌, List, Ok, Err, codes};
+ghost use Rattle.std.specs.Prelude.{◌≡◌, ◌≢◌, List, Ok, Err, None, Some, codes};
+ghost use Rattle.board_model.specs.Durable.{State};
+ghost use Rattle.board_model.specs.Kept.{MayFind, found_of};
+ghost use Rattle.board_model.specs.Shown.{durable_of};
+ghost use Rattle.board_model.specs.declared.boot_mode.BootMode.{BootMode};
+ghost use Rattle.board_model.specs.declared.boot_mode.BootMode.TheVariants as modes;
+ghost use Rattle.board_model.specs.declared.durable.Durable.{Durable};
 ghost use Rattle.board_model.specs.declared.refusal.Refusal.TheVariants.{BadScript};
 ghost use Rattle.script_lang.specs.Scripts.{Script};
-ghost use Rattle.bench_report.specs.Bench.{Bench, IsUnspoilt};
+ghost use Rattle.script_lang.specs.declared.line.Line.TheVariants as lines;
+ghost use Rattle.bench_report.specs.Bench.{Bench, Formatted, IsUnspoilt};
 ghost use Rattle.bench_report.specs.Plain.{ArePlain, AreSmooth, plain_report, plain_text};
 ghost use Rattle.bench_report.specs.Prefix.{KeepsPrefixLaw};
 ghost use Rattle.bench_report.specs.Reports.{IsReport};
+ghost use Rattle.bench_report.specs.Resumed.{IsResumedFrom};
+ghost use Rattle.bench_report.specs.Steps.{Moves};
 ghost use Rattle.bench_report.specs.declared.printed.Answer.{Answer};
+ghost use Rattle.bench_report.specs.declared.printed.Printed.TheVariants as printed;
 
 /// There is one report of a script where memory was never refused and no failure of the disk was answered, so that no
 /// armed cut struck: any two such runs of it wrote the same and left the same. For lines that neither make turns nor show
@@ -27,9 +37,28 @@ pub fn one_report()
 /// The prefix law, over each whole run: whatever memory was refused, whatever failed and wherever power was cut, from
 /// the first `format ok` on each power-on finds what the one before it found, with each command that was acknowledged
 /// since, in order, and after them at most the one in doubt of each life since, and of that life's commands none after it.
-/// No command takes effect that the table of commands refuses. The serials of the images that are resumed rise strictly.
+/// No command takes effect that the table of commands refuses. The serials of the images that are resumed rise strictly, so an
+/// image whose consumption was acknowledged is never resumed again; and no power-on is refused 13, since each image that
+/// stands has the memory of its board.
 pub fn prefix_law()
     ensures { (script : Script) (answers : List Answer) (end : Bench) → IsReport script answers end → KeepsPrefixLaw script.lines answers }
+{}
+
+/// Each power-on over a formatted disk, at any point of a run: `b` is the bench that some first lines of a script left, and the next
+/// line is an `on`.
+///
+/// What the found line tells is a state that the commands kept let an open find: those acknowledged since the format, in order,
+/// with the one in doubt or without it (`finds`). Where memory was never refused and no failure answered, none is in doubt
+/// (`sure`), and a board that is off finds the fold of all acknowledged commands (`all`). A board that is resumed has the
+/// memory of the suspension that made its image, byte for byte, and of its harts the image's alone runs (`resumes`).
+pub fn power_ons()
+    ensures finds { (script : Script) (answers : List Answer) (b : Bench) → IsReport script answers b → b.medium ≡ Formatted → (mode : BootMode) (a : Answer) (new : Bench) (d : Durable) → Moves script.size (lines.On mode) b a new
+        → a.found ≡ Some d → (s : State) × MayFind b.kept s × (d ≡ durable_of s) }
+    ensures sure { (script : Script) (answers : List Answer) (b : Bench) → IsReport script answers b → IsUnspoilt b → b.medium ≡ Formatted → b.kept.doubt ≡ None }
+    ensures all { (script : Script) (answers : List Answer) (b : Bench) → IsReport script answers b → b.medium ≡ Formatted → b.power ≡ None → (mode : BootMode) (a : Answer) (new : Bench) → Moves script.size (lines.On mode) b a new
+        → a.line ≢ printed.PowerLost → IsUnspoilt new → a.found ≡ Some (durable_of (found_of b.kept.changes)) }
+    ensures resumes { (script : Script) (answers : List Answer) (b : Bench) → IsReport script answers b → b.medium ≡ Formatted → (a : Answer) (new : Bench) → Moves script.size (lines.On modes.Resume) b a new
+        → a.line ≡ printed.On modes.Resume → IsResumedFrom script.size b a new }
 {}
 
 /// Worked scripts: what is written for a script where memory is ample and nothing fails.

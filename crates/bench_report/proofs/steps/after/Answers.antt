@@ -1,4 +1,4 @@
-use Rattle.std.proofs.Common.{refl, subst, ap, arith, length}
+use Rattle.std.proofs.Common.{subst, ap, arith, length}
 use Rattle.machine.specs.declared.parts.Word.{Word}
 use Rattle.bench_report.specs.Below.{store_in, facts, mishaps, store_facts, store_mishaps}
 use Rattle.bench_report.specs.Agree.{StandsBy}

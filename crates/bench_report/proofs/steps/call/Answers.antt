@@ -1,4 +1,4 @@
-use Rattle.std.proofs.Common.{arith, ◌≡◌, ◌<◌, length, Option, None, Some, refl, sym, subst}
+use Rattle.std.proofs.Common.{◌≡◌, Option, refl, sym, subst}
 use Rattle.machine.specs.Machine.{Machine, hart_at}
 use Rattle.machine.specs.declared.parts.Word.{Word}
 use Rattle.bench_report.specs.declared.power.Power.TheVariants.{On}

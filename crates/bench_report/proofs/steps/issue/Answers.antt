@@ -1,9 +1,9 @@
-use Rattle.std.proofs.Common.{refl, ◌∙◌, ap, subst, Option, Ok, Err, None}
+use Rattle.std.proofs.Common.{refl, ◌∙◌, ap, subst, Option, Ok, Err}
 use Rattle.board_model.specs.Durable.{Change}
 use Rattle.board_model.specs.Shown.{number_of, change_of}
 use Rattle.store.specs.Stores.{life_of}
 use Rattle.bench_report.specs.Bench.{Life}
-use Rattle.bench_report.specs.Below.{store_in, machine_in, IsAs}
+use Rattle.bench_report.specs.Below.{store_in, IsAs}
 use Rattle.bench_report.specs.Steps.{says}
 use Rattle.bench_report.specs.Agree.{BoardIs}
 use Rattle.bench_report.specs.declared.printed.Printed.TheVariants as printed

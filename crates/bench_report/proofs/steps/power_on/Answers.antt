@@ -1,9 +1,7 @@
 use Rattle.std.proofs.Common.{Some, refl}
 use Rattle.bench_report.specs.declared.printed.Printed.TheVariants as printed
-use Rattle.bench_report.specs.Below.{store_in}
 use Rattle.bench_report.proofs.KeptDisks.{KeptLaw, BlankLaw}
 use Rattle.bench_report.proofs.Started.{power_ok, unpowered}
-use Rattle.store.specs.Stores.{found_state}
 use Rattle.bench_report.proofs.steps.power_on.Goals as goal
 
 pub returns-in-Ok-clause-told : goal.returns-in-Ok-clause-told
@@ -13,8 +11,7 @@ returns-in-Ok-clause-told c = λ size b h same.
     let n = c.blank_disks.ensures in
     let kept : KeptLaw = record { goes_on = k.goes_on; marked = k.marked; one_size = k.one_size; sized = k.sized; opens = k.opens; formats = k.formats } in
     let blank : BlankLaw = record { unmarked = n.unmarked; stands = n.stands; opens = n.opens; formats = n.formats } in
-    let store = store_in c.in-Ok.board in
-    power_ok kept blank size c.args.mode b c.args.payloads.now c.args.disk c.in-Ok.board (found_state store) (record { found = Some c.found.result; line = printed.On c.args.mode }) h same did.found c.found.ensures refl did.boots did.life did.allowed.0 did.allowed.1 did.cause did.counts did.length
+    power_ok kept blank size c.args.mode b c.args.payloads.now c.args.disk c.in-Ok.board (record { found = Some c.found.result; line = printed.On c.args.mode }) h same did.on did.keeps c.found.ensures refl
 
 pub returns-in-Err-clause-told : goal.returns-in-Err-clause-told
 returns-in-Err-clause-told c = λ size b h same.
@@ -24,4 +21,4 @@ returns-in-Err-clause-told c = λ size b h same.
     let kept : KeptLaw = record { goes_on = k.goes_on; marked = k.marked; one_size = k.one_size; sized = k.sized; opens = k.opens; formats = k.formats } in
     let blank : BlankLaw = record { unmarked = n.unmarked; stands = n.stands; opens = n.opens; formats = n.formats } in
     let e = c.in-Err.unpowered in
-    unpowered kept blank size c.args.mode b c.args.disk e.disk c.args.payloads.now e.refusal c.code.result e.found h c.requires.short c.code.ensures did.refused did.unopened did.unopened_moments did.cause did.counts did.no_fewer did.length
+    unpowered kept blank size c.args.mode b c.args.disk e.disk c.args.payloads.now e.refusal c.code.result e.found h c.requires.short c.code.ensures did.off did.keeps

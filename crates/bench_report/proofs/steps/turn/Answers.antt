@@ -1,4 +1,4 @@
-use Rattle.std.proofs.Common.{arith, ◌<◌, length, refl, sym, subst}
+use Rattle.std.proofs.Common.{refl, subst}
 use Rattle.machine.specs.Machine.{Machine}
 use Rattle.bench_report.specs.Below.{machine_in}
 use Rattle.machine_lines.specs.Shows.{Has}

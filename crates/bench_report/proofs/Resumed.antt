@@ -1,0 +1,203 @@
+-- Power-ons at any point of a run.
+use Rattle.std.proofs.Common.{◌≡◌, ◌≢◌, ◌⊎◌, ℕ, zero, suc, inl, inr, List, [], ◌∷◌, ◌++◌, Option, None, Some, Result, Ok, Err, refl, sym, ◌∙◌, ap, subst, arith}
+use Rattle.board_model.specs.Durable.{State, Image, Change, Slot, Reset, Suspend, Consume, Discard, formatted, refusal_of, after, fold}
+use Rattle.board_model.specs.Kept.{Kept, MayKeep, MayFind, TakesIn, found_of}
+use Rattle.board_model.specs.Shapes.{Size}
+use Rattle.board_model.specs.Shown.{durable_of}
+use Rattle.board_model.specs.declared.durable.Durable.{Durable}
+use Rattle.board_model.specs.declared.boot_mode.BootMode.{BootMode}
+use Rattle.board_model.specs.declared.boot_mode.BootMode.TheVariants as modes
+use Rattle.board.specs.Boots.{boot_refusal}
+use Rattle.script_lang.specs.Scripts.{Script}
+use Rattle.script_lang.specs.declared.line.Line.TheVariants as lines
+use Rattle.bench_report.specs.declared.printed.Answer.{Answer}
+use Rattle.bench_report.specs.declared.printed.Printed.{Printed}
+use Rattle.bench_report.specs.declared.printed.Printed.TheVariants as printed
+use Rattle.bench_report.specs.Bench.{Medium, Blank, Unknown, Formatted, Life, Bench, IsUnspoilt, blank_bench}
+use Rattle.bench_report.specs.Steps.{says, on_with, settled, has_machine, acknowledged, begun, Writes, Issued, IssuesAll, ShowsFound, IsOn, Starts, Resumes, Boots, Opens, IsOpenRefusal, PowersOn, OnStep, Moves}
+use Rattle.bench_report.specs.Reports.{IsReport}
+use Rattle.bench_report.specs.Resumed.{IsMadeIn, IsResumedFrom}
+use Rattle.bench_report.proofs.Determined.{IsSpoilt, CalmDisk, starves, hinders, some_inj}
+use Rattle.bench_report.proofs.Single.{run_fair, clean, moves_fair}
+
+-- ---- the suspension that made an image
+abbrev MadeSince : State → List Change → Image → Type 0
+MadeSince s cs i = (before later : List Change) × (cs ≡ before ++ Suspend i.hart i.address i.opaque i.memory ∷ later) × (i.serial ≡ (fold s before).next)
+
+made_at : (s : State) (c : Change) (cs : List Change) (i : Image) → (after s c).image ≡ Some i → (s.image ≡ Some i) ⊎ MadeSince s (c ∷ cs) i
+made_at s (Slot n) cs i e = inl e
+made_at s (Reset r) cs i e = inl e
+made_at s (Suspend h a o m) cs i e =
+    let it : Image = record { serial = s.next; hart = h; address = a; opaque = o; memory = m } in
+    let same : i ≡ it = (let f : i ≡ it = cc in f) in
+    let P : Image → Type 0 = λ j. (◌≡◌ {A = List Change} (Suspend h a o m ∷ cs) (Suspend j.hart j.address j.opaque j.memory ∷ cs)) × (j.serial ≡ s.next) in
+    let at : P i = subst P (sym same) (refl, refl) in
+    inr ([], cs, at.0, at.1)
+made_at s Consume cs i e = absurd (let no : ⊥ = cc in no)
+made_at s Discard cs i e = absurd (let no : ⊥ = cc in no)
+
+made_since : (s : State) (cs : List Change) (i : Image) → (fold s cs).image ≡ Some i → (s.image ≡ Some i) ⊎ MadeSince s cs i
+made_since s [] i e = inl e
+made_since s (c ∷ cs) i e = by_rest (made_since (after s c) cs i e)
+  where
+    by_rest : ((after s c).image ≡ Some i) ⊎ MadeSince (after s c) cs i → (s.image ≡ Some i) ⊎ MadeSince s (c ∷ cs) i
+    by_rest (inl first) = made_at s c cs i first
+    by_rest (inr (before, later, is, serial)) = inr (c ∷ before, later, ap (λ xs. c ∷ xs) is, serial)
+
+made_in : (changes : List Change) (i : Image) → (found_of changes).image ≡ Some i → IsMadeIn i changes
+made_in changes i e = by_made (made_since formatted changes i e)
+  where
+    by_made : (formatted.image ≡ Some i) ⊎ MadeSince formatted changes i → IsMadeIn i changes
+    by_made (inl no_image) = absurd (let no : ⊥ = cc in no)
+    by_made (inr (before, later, is, serial)) = record { before = before; later = later; suspended = is; serial = serial }
+
+-- ---- a line that says another word than `on resume`
+other : {A : Type 0} (x y : Printed) → x ≡ y → y ≢ printed.On modes.Resume → x ≡ printed.On modes.Resume → A
+other x y e differs is = absurd (differs (sym e ∙ is))
+
+said : {A : Type 0} (a : Answer) (y : Printed) → a ≡ says y → y ≢ printed.On modes.Resume → a.line ≡ printed.On modes.Resume → A
+said a y e differs is = other a.line y (ap (λ (x : Answer). x.line) e) differs is
+
+found_as : (o : Option Durable) (s : State) → ShowsFound o s → o ≡ Some (durable_of s)
+found_as None s h = absurd h
+found_as (Some d) s h = ap Some h
+
+-- ---- the command of the resume
+one_writes : (c : Change) (life : Life) (b : Bench) (o : Result ℕ ℕ) (new : Bench) (n : ℕ) → o ≡ Ok n → (r : Option ℕ) → Writes r c life b o new → new ≡ acknowledged c life b
+one_writes c life b o new n ok (Some k) w = absurd (let g : ◌≡◌ {A = Result ℕ ℕ} (Ok n) (Err k) = sym ok ∙ w.0 in let no : ⊥ = cc in no)
+one_writes c life b o new n ok None (inl w) = w.1
+one_writes c life b o new n ok None (inr (inl w)) = absurd (let g : ◌≡◌ {A = Result ℕ ℕ} (Ok n) (Err 5) = sym ok ∙ w.0 in let no : ⊥ = cc in no)
+one_writes c life b o new n ok None (inr (inr w)) = absurd (let g : ◌≡◌ {A = Result ℕ ℕ} (Ok n) (Err 6) = sym ok ∙ w.0 in let no : ⊥ = cc in no)
+
+one_issued : (c : Change) (s : State) (z : Size) (b : Bench) (o : Result ℕ ℕ) (new : Bench) (n : ℕ) → o ≡ Ok n → Issued c (begun s z) b o new → new ≡ acknowledged c (begun s z) b
+one_issued c s z b o new n ok (inl i) = absurd (let g : ◌≡◌ {A = Result ℕ ℕ} (Ok n) (Err 10) = sym ok ∙ i.1 in let no : ⊥ = cc in no)
+one_issued c s z b o new n ok (inr i) = one_writes c (begun s z) b o new n ok (refusal_of s c) i.1
+
+one_command : (c : Change) (s : State) (z : Size) (b : Bench) (n : ℕ) (mid : Bench) → IssuesAll (c ∷ []) (on_with (begun s z) b) (Ok n) mid → mid ≡ acknowledged c (begun s z) (on_with (begun s z) b)
+one_command c s z b n mid (life, on, first, last, i, inl (k, ok, rest)) =
+    let start : Bench = on_with (begun s z) b in
+    let L : Life → Type 0 = λ l. Issued c l start first last in
+    rest.1 ∙ one_issued c s z start first last k ok (subst L (some_inj (begun s z) life start.power refl on) i)
+one_command c s z b n mid (life, on, first, last, i, inr (k, err, same, e)) = absurd (let no : ⊥ = cc in no)
+
+-- ---- the board that is resumed
+module _ (size : Size) (b : Bench) (a : Answer) (new : Bench) (changes : List Change) (may : MayKeep b.kept changes) (found : a.found ≡ Some (durable_of (found_of changes))) where
+  resumes_ok : (n : ℕ) (mid : Bench) → mid ≡ acknowledged Consume (begun (found_of changes) size) (on_with (begun (found_of changes) size) (settled changes b)) → IsOn (Ok n) modes.Resume size (found_of changes) mid a.line new
+      → IsResumedFrom size b a new
+  resumes_ok n mid e (life, on, line, m, is, made) = record {
+    changes = changes;
+    may = may;
+    found = found;
+    image = is.image;
+    stands = is.stands;
+    made = made_in changes is.image is.stands;
+    hart = is.hart;
+    life = has_machine m life;
+    on = ap (λ (x : Bench). x.power) made;
+    machine = is.is;
+    consumed = ap (λ (x : Bench). x.kept) made ∙ ap (λ (x : Bench). x.kept) e;
+  }
+
+  starts : a.line ≡ printed.On modes.Resume → Starts modes.Resume size (found_of changes) (settled changes b) a.line new → IsResumedFrom size b a new
+  starts line (Ok n, mid, all, on) = resumes_ok n mid (one_command Consume (found_of changes) size (settled changes b) n mid all) on
+  starts line (Err n, mid, all, on) = other a.line (printed.OnRefused n) on.0 (λ f. (let no : ⊥ = cc in no)) line
+
+  resumes : a.line ≡ printed.On modes.Resume → Resumes size (found_of changes) (settled changes b) a.line new → IsResumedFrom size b a new
+  resumes line (inl x) = starts line x
+  resumes line (inr x) = other a.line (printed.OnRefused 13) x.1 (λ f. (let no : ⊥ = cc in no)) line
+
+  boots : (r : Option ℕ) → a.line ≡ printed.On modes.Resume → Boots r modes.Resume size (found_of changes) (settled changes b) a.line new → IsResumedFrom size b a new
+  boots None line (inl x) = resumes line x
+  boots None line (inr x) = other a.line (printed.OnRefused 11) x.0 (λ f. (let no : ⊥ = cc in no)) line
+  boots (Some n) line x = other a.line (printed.OnRefused n) x.0 (λ f. (let no : ⊥ = cc in no)) line
+
+opens : (size : Size) (m : Medium) (b : Bench) (a : Answer) (new mid : Bench) (s : State) (z : Size) → b.medium ≡ m → b.medium ≡ Formatted → Opens size m b s z mid → ShowsFound a.found s → a.line ≡ printed.On modes.Resume
+    → Boots (boot_refusal s modes.Resume) modes.Resume z s mid a.line new → IsResumedFrom size b a new
+opens size Blank b a new mid s z at medium h shows line boot = absurd h
+opens size Unknown b a new mid s z at medium h shows line boot = absurd (let e : Unknown ≡ Formatted = sym at ∙ medium in let no : ⊥ = cc in no)
+opens size Formatted b a new mid s z at medium (changes, may, is, sized, e) shows line boot =
+    let P : State → Type 0 = λ x. Boots (boot_refusal x modes.Resume) modes.Resume z x mid a.line new in
+    let Z : Size → Type 0 = λ y. Boots (boot_refusal (found_of changes) modes.Resume) modes.Resume y (found_of changes) mid a.line new in
+    let Q : Bench → Type 0 = λ x. Boots (boot_refusal (found_of changes) modes.Resume) modes.Resume size (found_of changes) x a.line new in
+    boots size b a new changes may (found_as a.found s shows ∙ ap (λ x. Some (durable_of x)) is) (boot_refusal (found_of changes) modes.Resume) line (subst Q e (subst Z sized (subst P is boot)))
+
+powers : (size : Size) (b : Bench) (a : Answer) (new : Bench) → b.medium ≡ Formatted → a.line ≡ printed.On modes.Resume → PowersOn size modes.Resume b a new → IsResumedFrom size b a new
+powers size b a new medium line (inl (s, z, mid, found, shows, boot)) = opens size b.medium b a new mid s z refl medium found shows line boot
+powers size b a new medium line (inr (inl h)) = said a (printed.OnRefused h.0) h.2 (λ f. (let no : ⊥ = cc in no)) line
+powers size b a new medium line (inr (inr (inl h))) = said a (printed.OnRefused 11) h.1 (λ f. (let no : ⊥ = cc in no)) line
+powers size b a new medium line (inr (inr (inr h))) = said a (printed.OnRefused 5) h.0 (λ f. (let no : ⊥ = cc in no)) line
+
+on_at : (size : Size) (p : Option Life) (b : Bench) (a : Answer) (new : Bench) → b.medium ≡ Formatted → a.line ≡ printed.On modes.Resume → OnStep size p modes.Resume b a new → IsResumedFrom size b a new
+on_at size None b a new medium line h = powers size b a new medium line h
+on_at size (Some life) b a new medium line h = said a printed.Busy h.0 (λ f. (let no : ⊥ = cc in no)) line
+
+pub resumed_from : (size : Size) (b : Bench) (a : Answer) (new : Bench) → b.medium ≡ Formatted → Moves size (lines.On modes.Resume) b a new → a.line ≡ printed.On modes.Resume → IsResumedFrom size b a new
+resumed_from size b a new medium (inl h) line = on_at size b.power b a new medium line h.0
+resumed_from size b a new medium (inr (would, mid, h, struck, e, is)) line = said a printed.PowerLost e (λ f. (let no : ⊥ = cc in no)) line
+
+-- ---- without failures
+-- nothing is in doubt on the formatted disk of a run in which memory was never refused and no failure was answered
+pub sure : (script : Script) (answers : List Answer) (b : Bench) → IsReport script answers b → IsUnspoilt b → b.medium ≡ Formatted → b.kept.doubt ≡ None
+sure script [] b h unspoilt medium = absurd h
+sure script (board ∷ answers) b h unspoilt medium =
+    let P : Medium → Type 0 = λ m. CalmDisk m b.kept.doubt in
+    elim ((run_fair script.size script.lines blank_bench answers b h.1).1 tt) [ inl spoilt ↦ clean b unspoilt spoilt | inr calm ↦ subst P medium calm ]
+
+kept_as : (k : Kept) (changes : List Change) → k.doubt ≡ None → MayKeep k changes → changes ≡ k.changes
+kept_as k changes calm (inl e) = e
+kept_as k changes calm (inr t) = let P : Option Change → Type 0 = λ d. TakesIn d k.changes changes in absurd (subst P calm t)
+
+opens_sure : (size : Size) (m : Medium) (b : Bench) (s : State) (z : Size) (mid : Bench) → b.medium ≡ m → b.medium ≡ Formatted → b.kept.doubt ≡ None → Opens size m b s z mid → s ≡ found_of b.kept.changes
+opens_sure size Blank b s z mid at medium calm h = absurd h
+opens_sure size Unknown b s z mid at medium calm h = absurd (let e : Unknown ≡ Formatted = sym at ∙ medium in let no : ⊥ = cc in no)
+opens_sure size Formatted b s z mid at medium calm (changes, may, is, sized, e) = is ∙ ap found_of (kept_as b.kept changes calm may)
+
+powers_sure : (size : Size) (mode : BootMode) (b : Bench) (a : Answer) (new : Bench) → b.medium ≡ Formatted → b.kept.doubt ≡ None → IsUnspoilt new → PowersOn size mode b a new → a.found ≡ Some (durable_of (found_of b.kept.changes))
+powers_sure size mode b a new medium calm unspoilt (inl (s, z, mid, found, shows, boot)) = found_as a.found s shows ∙ ap (λ x. Some (durable_of x)) (opens_sure size b.medium b s z mid refl medium calm found)
+powers_sure size mode b a new medium calm unspoilt (inr (inl h)) = let P : Medium → Type 0 = λ m. IsOpenRefusal m h.0 in absurd (subst P medium h.1)
+powers_sure size mode b a new medium calm unspoilt (inr (inr (inl h))) = clean new unspoilt (starves b new h.2)
+powers_sure size mode b a new medium calm unspoilt (inr (inr (inr h))) = clean new unspoilt (hinders b new h.1)
+
+spoilt_before : (b : Bench) → IsUnspoilt b ⊎ IsSpoilt b
+spoilt_before b = by_counts b.growths b.failures refl refl
+  where
+    by_counts : (g f : ℕ) → b.growths ≡ g → b.failures ≡ f → IsUnspoilt b ⊎ IsSpoilt b
+    by_counts zero zero e h = inl (e, h)
+    by_counts (suc n) f e h = inr (inl (omega (arith, e)))
+    by_counts zero (suc n) e h = inr (inr (omega (arith, h)))
+
+pub finds_all : (script : Script) (answers : List Answer) (b : Bench) (mode : BootMode) (a : Answer) (new : Bench) → IsReport script answers b → b.medium ≡ Formatted → b.power ≡ None → Moves script.size (lines.On mode) b a new
+    → a.line ≢ printed.PowerLost → IsUnspoilt new → a.found ≡ Some (durable_of (found_of b.kept.changes))
+finds_all script answers b mode a new h medium none (inl move) lost unspoilt =
+    let P : Option Life → Type 0 = λ p. OnStep script.size p mode b a new in
+    elim (spoilt_before b) [
+      | inl was ↦ powers_sure script.size mode b a new medium (sure script answers b h was medium) unspoilt (subst P none move.0)
+      | inr spoilt ↦ clean new unspoilt ((moves_fair script.size (lines.On mode) b a new (inl move)).0 spoilt)
+    ]
+finds_all script answers b mode a new h medium none (inr (would, mid, step, struck, e, is)) lost unspoilt = absurd (lost (ap (λ (x : Answer). x.line) e))
+
+-- ---- what any open finds
+untold : {A : Type 0} (a : Answer) (line : Printed) (d : Durable) → a ≡ says line → a.found ≡ Some d → A
+untold a line d e told = let g : ◌≡◌ {A = Option Durable} None (Some d) = ap (λ (x : Answer). x.found) (sym e) ∙ told in absurd (let no : ⊥ = cc in no)
+
+powers_find : (size : Size) (mode : BootMode) (b : Bench) (a : Answer) (new : Bench) (d : Durable) → b.medium ≡ Formatted → PowersOn size mode b a new → a.found ≡ Some d → (s : State) × MayFind b.kept s × (d ≡ durable_of s)
+powers_find size mode b a new d medium (inl (s, z, mid, found, shows, boot)) told = (s, opens_find b.medium refl found, shown (found_as a.found s shows))
+  where
+    opens_find : (m : Medium) → b.medium ≡ m → Opens size m b s z mid → MayFind b.kept s
+    opens_find Blank at h = absurd h
+    opens_find Unknown at h = absurd (let e : Unknown ≡ Formatted = sym at ∙ medium in let no : ⊥ = cc in no)
+    opens_find Formatted at (changes, may, is, sized, e) = (changes, may, is)
+
+    shown : a.found ≡ Some (durable_of s) → d ≡ durable_of s
+    shown e = let g : Some d ≡ Some (durable_of s) = sym told ∙ e in let h : d ≡ durable_of s = cc in h
+powers_find size mode b a new d medium (inr (inl h)) told = untold a (printed.OnRefused h.0) d h.2 told
+powers_find size mode b a new d medium (inr (inr (inl h))) told = untold a (printed.OnRefused 11) d h.1 told
+powers_find size mode b a new d medium (inr (inr (inr h))) told = untold a (printed.OnRefused 5) d h.0 told
+
+on_find : (size : Size) (p : Option Life) (mode : BootMode) (b : Bench) (a : Answer) (new : Bench) (d : Durable) → b.medium ≡ Formatted → OnStep size p mode b a new → a.found ≡ Some d → (s : State) × MayFind b.kept s × (d ≡ durable_of s)
+on_find size None mode b a new d medium h told = powers_find size mode b a new d medium h told
+on_find size (Some life) mode b a new d medium h told = untold a printed.Busy d h.0 told
+
+pub finds : (size : Size) (mode : BootMode) (b : Bench) (a : Answer) (new : Bench) (d : Durable) → b.medium ≡ Formatted → Moves size (lines.On mode) b a new → a.found ≡ Some d → (s : State) × MayFind b.kept s × (d ≡ durable_of s)
+finds size mode b a new d medium (inl move) told = on_find size b.power mode b a new d medium move.0 told
+finds size mode b a new d medium (inr (would, mid, step, struck, e, is)) told = untold a printed.PowerLost d e told

@@ -1,0 +1,358 @@
+-- Each image that stands has the memory of its board, through whole runs: a suspension carries that memory, and no other command makes
+-- an image. So no power-on is refused 13.
+use Rattle.std.proofs.Common.{◌≡◌, ◌≢◌, ◌+◌, ℕ, zero, suc, inl, inr, List, [], ◌∷◌, ◌++◌, Option, None, Some, Result, Ok, Err, refl, sym, ◌∙◌, ap, subst, arith}
+use Rattle.std.specs.Bool.{⊤}
+use Rattle.board_model.specs.Durable.{State, Change, Slot, Reset, Suspend, Consume, Discard, formatted, refusal_of, after, IsWhole, CarriesWhole}
+use Rattle.board_model.specs.Kept.{Kept, found_of, MayKeep, TakesIn}
+use Rattle.board_model.specs.Shapes.{Size, ram_bytes_of}
+use Rattle.board_model.specs.declared.boot_mode.BootMode.{BootMode}
+use Rattle.board_model.specs.declared.boot_mode.BootMode.TheVariants as modes
+use Rattle.board_model.specs.declared.durable.Reason.{Reason}
+use Rattle.board.specs.Boots.{boot_refusal}
+use Rattle.machine.specs.Machine.{Machine, hart_at}
+use Rattle.machine.specs.declared.parts.Word.{Word}
+use Rattle.machine.specs.declared.parts.Called.{Called}
+use Rattle.machine.specs.declared.parts.Called.TheVariants.{NotStarted, Made}
+use Rattle.machine_lines.specs.declared.line.MachineLine.{MachineLine}
+use Rattle.script_lang.specs.declared.line.Line.{Line}
+use Rattle.script_lang.specs.declared.line.Line.TheVariants as lines
+use Rattle.sbi.specs.declared.resets.ResetType.{ResetType}
+use Rattle.sbi.specs.Resets.{reset_of}
+use Rattle.sbi_abi.specs.Calls.{call_of}
+use Rattle.sbi_abi.specs.declared.call.Call.{Call}
+use Rattle.sbi_abi.specs.declared.call.Call.TheVariants as calls
+use Rattle.sbi_abi.specs.declared.ret.SbiError.{SbiError}
+use Rattle.sbi_abi.specs.declared.ret.SbiError.TheVariants.{Failed, NotSupported, Denied}
+use Rattle.store.specs.Follows.{FitsBoard}
+use Rattle.turns.specs.declared.words.Turned.{Turned}
+use Rattle.turns.specs.declared.words.Turned.TheVariants.{Durable}
+use Rattle.disk.specs.Mishaps.{FaultArmed, CutArmed}
+use Rattle.bench_report.specs.declared.printed.Answer.{Answer}
+use Rattle.bench_report.specs.declared.printed.ConsoleWord.{ConsoleWord}
+use Rattle.bench_report.specs.declared.printed.ConsoleWord.TheVariants as names
+use Rattle.bench_report.specs.declared.printed.Printed.{Printed}
+use Rattle.bench_report.specs.declared.printed.Printed.TheVariants as printed
+use Rattle.bench_report.specs.Bench.{Medium, Blank, Unknown, Formatted, Life, Bench}
+use Rattle.bench_report.specs.Prefix.{IsLoaded, AreLoaded}
+use Rattle.bench_report.specs.Steps.{starved, failed, off, on_with, unpowered, armed_with, settled, has_machine, acknowledged, in_doubt, begun, commands_of, Writes, IssuedBy, Issued, IssuesAll, refused, Refuses, Held, Resets, Suspends, Sleeps, SleepsBy, MakesCall, Comes, GuestTurn, GuestTurns, FormatsOn, IsOn, Starts, Begins, Boots, Opens, IsOpenRefusal, PowersOn, FormatStep, OnStep, ConsoleStep, PayloadStep, GuestCall, TurnStep, CallStep, ReadStep, Step, Moves, Run}
+use Rattle.bench_report.proofs.Adapted.{grows}
+use Rattle.bench_report.proofs.Determined.{begun_size}
+use Rattle.bench_report.proofs.Table.{table_not_thirteen, mode_not_thirteen}
+
+-- ---- the states that an open may find
+abbrev DoubtWhole : Size → Option Change → Type 0
+DoubtWhole size None = ⊤
+DoubtWhole size (Some c) = CarriesWhole size c
+
+abbrev IsSized : Size → Option Life → Type 0
+IsSized size None = ⊤
+IsSized size (Some life) = life.machine.size ≡ size
+
+-- a formatted disk keeps commands that make whole images alone, and a board that is on is of the script's size
+abbrev pub IsKeptWhole : Size → Bench → Type 0
+IsKeptWhole size b = (b.medium ≡ Formatted) × IsWhole size (found_of b.kept.changes) × DoubtWhole size b.kept.doubt × IsSized size b.power
+
+whole_after : (size : Size) (s : State) (c : Change) → IsWhole size s → CarriesWhole size c → IsWhole size (after s c)
+whole_after size s (Slot n) w carries = w
+whole_after size s (Reset r) w carries = w
+whole_after size s (Suspend h a o m) w carries = carries
+whole_after size s Consume w carries = tt
+whole_after size s Discard w carries = tt
+
+more_whole : (size : Size) (changes : List Change) (c : Change) → IsWhole size (found_of changes) → CarriesWhole size c → IsWhole size (found_of (changes ++ c ∷ []))
+more_whole size changes c w carries = let P : State → Type 0 = IsWhole size in subst P (sym (grows formatted changes c)) (whole_after size (found_of changes) c w carries)
+
+may_whole : (size : Size) (k : Kept) (d : Option Change) (changes : List Change) → k.doubt ≡ d → IsWhole size (found_of k.changes) → DoubtWhole size d → MayKeep k changes → IsWhole size (found_of changes)
+may_whole size k d changes at w carries (inl e) = let P : List Change → Type 0 = λ cs. IsWhole size (found_of cs) in subst P (sym e) w
+may_whole size k None changes at w carries (inr t) = let P : Option Change → Type 0 = λ d. TakesIn d k.changes changes in absurd (subst P at t)
+may_whole size k (Some c) changes at w carries (inr t) =
+    let P : Option Change → Type 0 = λ d. TakesIn d k.changes changes in
+    let Q : List Change → Type 0 = λ cs. IsWhole size (found_of cs) in
+    subst Q (sym (subst P at t).1) (more_whole size k.changes c w carries)
+
+module _ (size : Size) where
+  same_as : (b new : Bench) → new ≡ b → IsKeptWhole size b → IsKeptWhole size new
+  same_as b new e h = let P : Bench → Type 0 = IsKeptWhole size in subst P (sym e) h
+
+  sized : (life : Life) (b : Bench) → b.power ≡ Some life → IsKeptWhole size b → life.machine.size ≡ size
+  sized life b on h = let P : Option Life → Type 0 = IsSized size in subst P on h.3
+
+  -- ---- commands
+  writes : (r : Option ℕ) (c : Change) (life : Life) (b : Bench) (o : Result ℕ ℕ) (new : Bench) → CarriesWhole size c → b.power ≡ Some life → IsKeptWhole size b → Writes r c life b o new → IsKeptWhole size new
+  writes (Some n) c life b o new carries on h w = same_as b new w.1 h
+  writes None c life b o new carries on h (inl w) = same_as (acknowledged c life b) new w.1 (h.0, more_whole size b.kept.changes c h.1 carries, h.2, sized life b on h)
+  writes None c life b o new carries on h (inr (inl w)) = same_as (failed w.1.0 b) new w.1.2 h
+  writes None c life b o new carries on h (inr (inr w)) = same_as (failed w.1.0 (in_doubt c life b)) new w.1.2 (h.0, h.1, carries, sized life b on h)
+
+  by_doubt : (d : Option Change) (c : Change) (life : Life) (b : Bench) (o : Result ℕ ℕ) (new : Bench) → CarriesWhole size c → b.power ≡ Some life → IsKeptWhole size b → IssuedBy d c life b o new → IsKeptWhole size new
+  by_doubt (Some d) c life b o new carries on h i = same_as b new i.1 h
+  by_doubt None c life b o new carries on h (inl i) = same_as b new i.2 h
+  by_doubt None c life b o new carries on h (inr i) = writes (refusal_of life.now c) c life b o new carries on h i.1
+
+  issued : (c : Change) (life : Life) (b : Bench) (o : Result ℕ ℕ) (new : Bench) → CarriesWhole size c → b.power ≡ Some life → IsKeptWhole size b → Issued c life b o new → IsKeptWhole size new
+  issued c life b o new carries on h i = by_doubt life.doubt c life b o new carries on h i
+
+  abbrev AllCarry : List Change → Type 0
+  AllCarry [] = ⊤
+  AllCarry (c ∷ cs) = CarriesWhole size c × AllCarry cs
+
+  all : (cs : List Change) (b : Bench) (o : Result ℕ ℕ) (new : Bench) → AllCarry cs → IsKeptWhole size b → IssuesAll cs b o new → IsKeptWhole size new
+  all [] b o new carry h x = same_as b new x.1 h
+  all (c ∷ cs) b o new carry h (life, on, first, mid, i, inl x) = all cs mid o new carry.1 (issued c life b first mid carry.0 on h i) x.2
+  all (c ∷ cs) b o new carry h (life, on, first, mid, i, inr x) = same_as mid new x.3 (issued c life b first mid carry.0 on h i)
+
+  -- ---- turns and calls of harts
+  refuses : (e : SbiError) (h : ℕ) (life : Life) (b : Bench) (word : Word) (new : Bench) → b.power ≡ Some life → IsKeptWhole size b → Refuses e h life b word new → IsKeptWhole size new
+  refuses e h life b word new on k x = same_as (on_with (refused h e life) b) new x.1 (k.0, k.1, k.2, sized life b on k)
+
+  held : (o : Result ℕ ℕ) (said : Word) (h : ℕ) (b : Bench) (word : Word) (new : Bench) → IsKeptWhole size b → Held o said h b word new → IsKeptWhole size new
+  held (Ok n) said h b word new k x = same_as (off b) new x.1 (k.0, k.1, k.2, tt)
+  held (Err n) said h b word new k (life, on, x) = refuses Failed h life b word new on k x
+
+  resets : (asked : Result (ResetType × Reason) SbiError) (h : ℕ) (life : Life) (b : Bench) (word : Word) (new : Bench) → b.power ≡ Some life → IsKeptWhole size b → Resets asked h life b word new → IsKeptWhole size new
+  resets (Err e) h life b word new on k x = refuses e h life b word new on k x
+  resets (Ok reset) h life b word new on k (o, mid, i, x) = held o _ h mid word new (issued (Reset reset.1) life b o mid tt on k i) x
+
+  suspends : (Fits : Type 0) (c : Change) (life : Life) (b : Bench) (o : Result ℕ ℕ) (new : Bench) → (Fits → CarriesWhole size c) → b.power ≡ Some life → IsKeptWhole size b → Suspends Fits c life b o new → IsKeptWhole size new
+  suspends Fits c life b o new carries on k (inl x) = issued c life b o new (carries x.0) on k x.1
+  suspends Fits c life b o new carries on k (inr (inl x)) = same_as (starved b) new x.2 k
+  suspends Fits c life b o new carries on k (inr (inr x)) = same_as b new x.2 k
+
+  fits_whole : (life : Life) (id site opaque : ℕ) → life.machine.size ≡ size → FitsBoard life.machine.size life.machine.memory id site → CarriesWhole size (Suspend id site opaque life.machine.memory)
+  fits_whole life id site opaque e fits = fits.0 ∙ ap ram_bytes_of e
+
+  sleeps : (site opaque h : ℕ) (life : Life) (b : Bench) (word : Word) (new : Bench) → b.power ≡ Some life → IsKeptWhole size b → Sleeps site opaque h life b word new → IsKeptWhole size new
+  sleeps site opaque h life b word new on k (inl x) = refuses Denied h life b word new on k x.1
+  sleeps site opaque h life b word new on k (inr (alone, o, mid, i, x)) =
+      let id = (hart_at life.machine h).id in
+      held o _ h mid word new (suspends _ (Suspend id site opaque life.machine.memory) life b o mid (λ fits. fits_whole life id site opaque (sized life b on k) fits) on k i) x
+
+  by_check : (asked : Result ℕ SbiError) (opaque h : ℕ) (life : Life) (b : Bench) (word : Word) (new : Bench) → b.power ≡ Some life → IsKeptWhole size b → SleepsBy asked opaque h life b word new → IsKeptWhole size new
+  by_check (Err e) opaque h life b word new on k x = refuses e h life b word new on k x
+  by_check (Ok site) opaque h life b word new on k x = sleeps site opaque h life b word new on k x
+
+  makes : (call : Call) (h : ℕ) (life : Life) (b : Bench) (word : Word) (new : Bench) → b.power ≡ Some life → IsKeptWhole size b → MakesCall call h life b word new → IsKeptWhole size new
+  makes (calls.SystemReset kind reason) h life b word new on k x = resets (reset_of kind reason) h life b word new on k x
+  makes (calls.SystemSuspend kind address opaque) h life b word new on k (asked, checked, x) = by_check asked opaque h life b word new on k x
+  makes call h life b word new on k x = refuses NotSupported h life b word new on k x
+
+  comes : (did : Turned) (h : ℕ) (life : Life) (b : Bench) (word : Word) (new : Bench) → b.power ≡ Some life → IsKeptWhole size b → Comes did h life b word new → IsKeptWhole size new
+  comes Durable h life b word new on k x = makes (call_of (hart_at life.machine h)) h life b word new on k x
+  comes did h life b word new on k x = same_as b new x.1 k
+
+  -- the life goes on with another machine of its size
+  goes_on : (m : Machine) (life : Life) (b : Bench) → m.size ≡ life.machine.size → b.power ≡ Some life → IsKeptWhole size b → IsKeptWhole size (on_with (has_machine m life) b)
+  goes_on m life b same on k = (k.0, k.1, k.2, same ∙ sized life b on k)
+
+  turn : (h : ℕ) (life : Life) (b : Bench) (word : Word) (new : Bench) → b.power ≡ Some life → IsKeptWhole size b → GuestTurn h life b word new → IsKeptWhole size new
+  turn h life b word new on k (m, did, turned, x) =
+      comes did h (has_machine m life) (on_with (has_machine m life) b) word new refl (goes_on m life b (ap (λ (n : Machine). n.size) turned.2) on k) x
+
+  turns : (h n : ℕ) (b : Bench) (made : ℕ) (word : Word) (new : Bench) → IsKeptWhole size b → GuestTurns h n b made word new → IsKeptWhole size new
+  turns h zero b made word new k x = absurd x
+  turns h (suc n) b made word new k (life, on, said, mid, one, inl x) = same_as mid new x.3 (turn h life b said mid on k one)
+  turns h (suc n) b made word new k (life, on, said, mid, one, inr x) = turns h n mid x.2 word new (turn h life b said mid on k one) x.4
+
+  turn_line : (p : Option Life) (h n : ℕ) (b : Bench) (a : Answer) (new : Bench) → IsKeptWhole size b → TurnStep p h n b a new → IsKeptWhole size new
+  turn_line None h n b a new k x = same_as b new x.1 k
+  turn_line (Some life) h n b a new k (inl (has, made, word, x, e)) = turns h n b made word new k x
+  turn_line (Some life) h n b a new k (inr x) = same_as b new x.2 k
+
+  called : (did : Called) (h : ℕ) (life : Life) (b : Bench) (a : Answer) (new : Bench) → b.power ≡ Some life → IsKeptWhole size b → GuestCall did h life b a new → IsKeptWhole size new
+  called NotStarted h life b a new on k x = same_as b new x.1 k
+  called (Made did) h life b a new on k (word, x, e) = comes did h life b word new on k x
+
+  call_line : (p : Option Life) (h e f x y z : ℕ) (b : Bench) (a : Answer) (new : Bench) → b.power ≡ p → IsKeptWhole size b → CallStep p h e f x y z b a new → IsKeptWhole size new
+  call_line None h e f x y z b a new on k g = same_as b new g.1 k
+  call_line (Some life) h e f x y z b a new on k (inl (has, m, did, call, g)) =
+      called did h (has_machine m life) (on_with (has_machine m life) b) a new refl (goes_on m life b (ap (λ (n : Machine). n.size) call.2) on k) g
+  call_line (Some life) h e f x y z b a new on k (inr g) = same_as b new g.2 k
+
+  -- ---- power on
+  each_carries : (mode : BootMode) → AllCarry (commands_of mode)
+  each_carries modes.Fresh = tt
+  each_carries modes.Keep = tt
+  each_carries modes.Discard = (tt, tt)
+  each_carries modes.Resume = (tt, tt)
+
+  is_on : (o : Result ℕ ℕ) (mode : BootMode) (z : Size) (s : State) (b : Bench) (line : Printed) (new : Bench) → z ≡ size → IsKeptWhole size b → IsOn o mode z s b line new → IsKeptWhole size new
+  is_on (Ok n) mode z s b line new same k (life, on, said, m, is, e) = same_as (on_with (has_machine m life) b) new e (k.0, k.1, k.2, begun_size mode z b.payloads s m is ∙ same)
+  is_on (Err n) mode z s b line new same k x = same_as (off b) new x.1 (k.0, k.1, k.2, tt)
+
+  starts : (mode : BootMode) (z : Size) (s : State) (b : Bench) (line : Printed) (new : Bench) → z ≡ size → IsKeptWhole size b → Starts mode z s b line new → IsKeptWhole size new
+  starts mode z s b line new same k (o, mid, x, on) = is_on o mode z s mid line new same (all (commands_of mode) (on_with (begun s z) b) o mid (each_carries mode) (k.0, k.1, k.2, same) x) on
+
+  begins : (mode : BootMode) (z : Size) (s : State) (b : Bench) (line : Printed) (new : Bench) → z ≡ size → IsKeptWhole size b → Begins mode z s b line new → IsKeptWhole size new
+  begins modes.Fresh z s b line new same k x = starts modes.Fresh z s b line new same k x
+  begins modes.Keep z s b line new same k x = starts modes.Keep z s b line new same k x
+  begins modes.Discard z s b line new same k x = starts modes.Discard z s b line new same k x
+  begins modes.Resume z s b line new same k (inl x) = starts modes.Resume z s b line new same k x
+  begins modes.Resume z s b line new same k (inr x) = same_as b new x.2 k
+
+  boots : (r : Option ℕ) (mode : BootMode) (z : Size) (s : State) (b : Bench) (line : Printed) (new : Bench) → z ≡ size → IsKeptWhole size b → Boots r mode z s b line new → IsKeptWhole size new
+  boots (Some n) mode z s b line new same k x = same_as b new x.1 k
+  boots None mode z s b line new same k (inl x) = begins mode z s b line new same k x
+  boots None mode z s b line new same k (inr x) = same_as (starved b) new x.1 k
+
+  -- an open finds a state whose image is whole, for a board of the script's size
+  opens : (m : Medium) (b : Bench) (s : State) (z : Size) (mid : Bench) → b.medium ≡ m → b.power ≡ None → IsKeptWhole size b → Opens size m b s z mid → IsWhole size s × (z ≡ size) × IsKeptWhole size mid
+  opens Blank b s z mid at off k x = absurd x
+  opens Unknown b s z mid at off k x = absurd (let e : Unknown ≡ Formatted = sym at ∙ k.0 in let no : ⊥ = cc in no)
+  opens Formatted b s z mid at off k (changes, may, is, same, e) =
+      let P : State → Type 0 = IsWhole size in
+      let whole : IsWhole size (found_of changes) = may_whole size b.kept b.kept.doubt changes refl k.1 k.2 may in
+      (subst P (sym is) whole, same, same_as (settled changes b) mid e (k.0, whole, tt, k.3))
+
+  powers : (mode : BootMode) (b : Bench) (a : Answer) (new : Bench) → b.power ≡ None → IsKeptWhole size b → PowersOn size mode b a new → IsKeptWhole size new
+  powers mode b a new none k (inl (s, z, mid, found, shows, x)) =
+      let at = opens b.medium b s z mid refl none k found in
+      boots (boot_refusal s mode) mode z s mid a.line new at.1 at.2 x
+  powers mode b a new none k (inr (inl x)) = same_as b new x.3 k
+  powers mode b a new none k (inr (inr (inl x))) = same_as (starved b) new x.2 k
+  powers mode b a new none k (inr (inr (inr x))) = same_as (failed x.1.0 b) new x.1.2 k
+
+  -- ---- lines
+  on_line : (p : Option Life) (mode : BootMode) (b : Bench) (a : Answer) (new : Bench) → b.power ≡ p → IsKeptWhole size b → OnStep size p mode b a new → IsKeptWhole size new
+  on_line None mode b a new none k x = powers mode b a new none k x
+  on_line (Some life) mode b a new on k x = same_as b new x.1 k
+
+  formats : (m : Medium) (b : Bench) (a : Answer) (new : Bench) → b.medium ≡ m → IsKeptWhole size b → FormatsOn m b a new → IsKeptWhole size new
+  formats Blank b a new at k x = absurd (let e : Blank ≡ Formatted = sym at ∙ k.0 in let no : ⊥ = cc in no)
+  formats Unknown b a new at k x = absurd (let e : Unknown ≡ Formatted = sym at ∙ k.0 in let no : ⊥ = cc in no)
+  formats Formatted b a new at k (inl x) = same_as b new x.1 k
+  formats Formatted b a new at k (inr x) = same_as (failed x.1.0 b) new x.1.2 k
+
+  format_line : (p : Option Life) (b : Bench) (a : Answer) (new : Bench) → IsKeptWhole size b → FormatStep p b a new → IsKeptWhole size new
+  format_line None b a new k x = formats b.medium b a new refl k x
+  format_line (Some life) b a new k x = same_as b new x.1 k
+
+  console : (word : ConsoleWord) (c : Change) (p : Option Life) (b : Bench) (a : Answer) (new : Bench) → CarriesWhole size c → b.power ≡ p → IsKeptWhole size b → ConsoleStep word c p b a new → IsKeptWhole size new
+  console word c None b a new carries on k x = same_as b new x.1 k
+  console word c (Some life) b a new carries on k (o, i, e) = issued c life b o new carries on k i
+
+  payload : (p : Option Life) (slot : ℕ) (bytes : List ℕ) (b : Bench) (a : Answer) (new : Bench) → IsKeptWhole size b → PayloadStep p slot bytes b a new → IsKeptWhole size new
+  payload None slot bytes b a new k x = same_as _ new x.1 k
+  payload (Some life) slot bytes b a new k x = same_as b new x.1 k
+
+  reads : (p : Option Life) (says_so : Machine → MachineLine → Type 0) (b : Bench) (a : Answer) (new : Bench) → IsKeptWhole size b → ReadStep p says_so b a new → IsKeptWhole size new
+  reads None says_so b a new k x = same_as b new x.1 k
+  reads (Some life) says_so b a new k x = same_as b new x.3 k
+
+  step : (line : Line) (b : Bench) (a : Answer) (new : Bench) → IsKeptWhole size b → Step size line b a new → IsKeptWhole size new
+  step (lines.Payload x y) b a new k h = payload b.power x y b a new k h
+  step lines.Format b a new k h = format_line b.power b a new k h
+  step (lines.On mode) b a new k h = on_line b.power mode b a new refl k h
+  step (lines.Slot n) b a new k h = console names.Slot (Slot n) b.power b a new tt refl k h
+  step lines.Discard b a new k h = console names.Discard Discard b.power b a new tt refl k h
+  step (lines.Turn x y) b a new k h = turn_line b.power x y b a new k h
+  step (lines.Call x y z u v w) b a new k h = call_line b.power x y z u v w b a new refl k h
+  step (lines.Reg x y) b a new k h = reads b.power _ b a new k h
+  step (lines.Pc x) b a new k h = reads b.power _ b a new k h
+  step (lines.Csr x y) b a new k h = reads b.power _ b a new k h
+  step lines.Pending b a new k h = reads b.power _ b a new k h
+  step (lines.Mem x y) b a new k h = reads b.power _ b a new k h
+  step (lines.CutAt x y) b a new k h = same_as (armed_with CutArmed b) new h.1 k
+  step (lines.CutLane x y z) b a new k h = same_as (armed_with CutArmed b) new h.1 k
+  step (lines.FailAt x) b a new k h = same_as (armed_with FaultArmed b) new h.1 k
+  step (lines.FailLane x y) b a new k h = same_as (armed_with FaultArmed b) new h.1 k
+  step (lines.Cut fill) b a new k h = same_as (unpowered b) new h.1 (k.0, k.1, k.2, tt)
+  step (lines.Poke x y z) b a new k h = same_as b new h.1 k
+
+  moves : (line : Line) (b : Bench) (a : Answer) (new : Bench) → IsKeptWhole size b → Moves size line b a new → IsKeptWhole size new
+  moves line b a new k (inl h) = step line b a new k h.0
+  moves line b a new k (inr (would, mid, h, struck, e, is)) = let at = step line b would mid k h in same_as (unpowered mid) new is (at.0, at.1, at.2, tt)
+
+  -- ---- no power-on is refused 13
+  abbrev NotThirteen : Printed → Type 0
+  NotThirteen line = line ≢ printed.OnRefused 13
+
+  number : (line : Printed) (n : ℕ) → line ≡ printed.OnRefused n → n ≢ 13 → NotThirteen line
+  number line n e differs f = let g : printed.OnRefused n ≡ printed.OnRefused 13 = sym e ∙ f in differs (let h : n ≡ 13 = cc in h)
+
+  answered : (a : Answer) (line : Printed) → a ≡ record { found = None; line = line } → NotThirteen line → NotThirteen a.line
+  answered a line e not f = not (ap (λ (x : Answer). x.line) (sym e) ∙ f)
+
+  err_as : (o : Result ℕ ℕ) (n k : ℕ) → o ≡ Err n → o ≡ Err k → n ≡ k
+  err_as o n k e f = let g : ◌≡◌ {A = Result ℕ ℕ} (Err n) (Err k) = sym e ∙ f in let h : n ≡ k = cc in h
+
+  ok_not : {A : Type 0} (o : Result ℕ ℕ) (n k : ℕ) → o ≡ Ok n → o ≡ Err k → A
+  ok_not o n k e f = let g : ◌≡◌ {A = Result ℕ ℕ} (Ok n) (Err k) = sym e ∙ f in absurd (let no : ⊥ = cc in no)
+
+  writes_not : (r : Option ℕ) (c : Change) (life : Life) (b : Bench) (o : Result ℕ ℕ) (new : Bench) → refusal_of life.now c ≡ r → Writes r c life b o new → o ≢ Err 13
+  writes_not (Some n) c life b o new table w f = table_not_thirteen life.now c n table (err_as o n 13 w.0 f)
+  writes_not None c life b o new table (inl w) f = ok_not o (life.receipts + 1) 13 w.0 f
+  writes_not None c life b o new table (inr (inl w)) f = let e : 5 ≡ 13 = err_as o 5 13 w.0 f in omega (arith, e)
+  writes_not None c life b o new table (inr (inr w)) f = let e : 6 ≡ 13 = err_as o 6 13 w.0 f in omega (arith, e)
+
+  by_not : (d : Option Change) (c : Change) (life : Life) (b : Bench) (o : Result ℕ ℕ) (new : Bench) → IssuedBy d c life b o new → o ≢ Err 13
+  by_not (Some d) c life b o new i f = let e : 6 ≡ 13 = err_as o 6 13 i.0 f in omega (arith, e)
+  by_not None c life b o new (inl i) f = let e : 10 ≡ 13 = err_as o 10 13 i.1 f in omega (arith, e)
+  by_not None c life b o new (inr i) f = writes_not (refusal_of life.now c) c life b o new refl i.1 f
+
+  all_not : (cs : List Change) (b : Bench) (o : Result ℕ ℕ) (new : Bench) → IssuesAll cs b o new → o ≢ Err 13
+  all_not [] b o new x f = ok_not o 0 13 x.0 f
+  all_not (c ∷ cs) b o new (life, on, first, mid, i, inl x) f = all_not cs mid o new x.2 f
+  all_not (c ∷ cs) b o new (life, on, first, mid, i, inr (n, err, same, e)) f =
+      by_not life.doubt c life b first mid i (err ∙ ap (λ k. Err k) (err_as o n 13 same f))
+
+  is_on_not : (o : Result ℕ ℕ) (mode : BootMode) (z : Size) (s : State) (b : Bench) (line : Printed) (new : Bench) → o ≢ Err 13 → IsOn o mode z s b line new → NotThirteen line
+  is_on_not (Ok n) mode z s b line new differs (life, on, said, m, is, e) = λ f. (let g : printed.On mode ≡ printed.OnRefused 13 = sym said ∙ f in let no : ⊥ = cc in no)
+  is_on_not (Err n) mode z s b line new differs x = number line n x.0 (λ e. differs (ap (λ k. Err k) e))
+
+  starts_not : (mode : BootMode) (z : Size) (s : State) (b : Bench) (line : Printed) (new : Bench) → Starts mode z s b line new → NotThirteen line
+  starts_not mode z s b line new (o, mid, x, on) = is_on_not o mode z s mid line new (all_not (commands_of mode) (on_with (begun s z) b) o mid x) on
+
+  begins_not : (mode : BootMode) (z : Size) (s : State) (b : Bench) (line : Printed) (new : Bench) → IsWhole z s → Begins mode z s b line new → NotThirteen line
+  begins_not modes.Fresh z s b line new whole x = starts_not modes.Fresh z s b line new x
+  begins_not modes.Keep z s b line new whole x = starts_not modes.Keep z s b line new x
+  begins_not modes.Discard z s b line new whole x = starts_not modes.Discard z s b line new x
+  begins_not modes.Resume z s b line new whole (inl x) = starts_not modes.Resume z s b line new x
+  begins_not modes.Resume z s b line new whole (inr x) = absurd (x.0 whole)
+
+  boots_not : (r : Option ℕ) (mode : BootMode) (z : Size) (s : State) (b : Bench) (line : Printed) (new : Bench) → boot_refusal s mode ≡ r → IsWhole z s → Boots r mode z s b line new → NotThirteen line
+  boots_not (Some n) mode z s b line new table whole x = number line n x.0 (mode_not_thirteen s mode n table)
+  boots_not None mode z s b line new table whole (inl x) = begins_not mode z s b line new whole x
+  boots_not None mode z s b line new table whole (inr x) = number line 11 x.0 (λ e. omega (arith, e))
+
+  powers_not : (mode : BootMode) (b : Bench) (a : Answer) (new : Bench) → b.power ≡ None → IsKeptWhole size b → PowersOn size mode b a new → NotThirteen a.line
+  powers_not mode b a new none k (inl (s, z, mid, found, shows, x)) =
+      let at = opens b.medium b s z mid refl none k found in
+      let P : Size → Type 0 = λ y. IsWhole y s in
+      boots_not (boot_refusal s mode) mode z s mid a.line new refl (subst P (sym at.1) at.0) x
+  powers_not mode b a new none k (inr (inl x)) = let P : Medium → Type 0 = λ m. IsOpenRefusal m x.0 in absurd (subst P k.0 x.1)
+  powers_not mode b a new none k (inr (inr (inl x))) = answered a (printed.OnRefused 11) x.1 (number (printed.OnRefused 11) 11 refl (λ e. omega (arith, e)))
+  powers_not mode b a new none k (inr (inr (inr x))) = answered a (printed.OnRefused 5) x.0 (number (printed.OnRefused 5) 5 refl (λ e. omega (arith, e)))
+
+  on_not : (p : Option Life) (mode : BootMode) (b : Bench) (a : Answer) (new : Bench) → b.power ≡ p → IsKeptWhole size b → OnStep size p mode b a new → NotThirteen a.line
+  on_not None mode b a new none k x = powers_not mode b a new none k x
+  on_not (Some life) mode b a new on k x = answered a printed.Busy x.0 (λ f. (let no : ⊥ = cc in no))
+
+  pub loaded_on : (mode : BootMode) (b : Bench) (a : Answer) (new : Bench) → IsKeptWhole size b → Moves size (lines.On mode) b a new → NotThirteen a.line
+  loaded_on mode b a new k (inl h) = on_not b.power mode b a new refl k h.0
+  loaded_on mode b a new k (inr (would, mid, h, struck, e, is)) = answered a printed.PowerLost e (λ f. (let no : ⊥ = cc in no))
+
+  loaded : (line : Line) (b : Bench) (a : Answer) (new : Bench) → IsKeptWhole size b → Moves size line b a new → IsLoaded line a
+  loaded (lines.On mode) b a new k h = loaded_on mode b a new k h
+  loaded (lines.Payload x y) b a new k h = tt
+  loaded lines.Format b a new k h = tt
+  loaded (lines.Slot n) b a new k h = tt
+  loaded lines.Discard b a new k h = tt
+  loaded (lines.Turn x y) b a new k h = tt
+  loaded (lines.Call x y z u v w) b a new k h = tt
+  loaded (lines.Reg x y) b a new k h = tt
+  loaded (lines.Pc x) b a new k h = tt
+  loaded (lines.Csr x y) b a new k h = tt
+  loaded lines.Pending b a new k h = tt
+  loaded (lines.Mem x y) b a new k h = tt
+  loaded (lines.CutAt x y) b a new k h = tt
+  loaded (lines.CutLane x y z) b a new k h = tt
+  loaded (lines.FailAt x) b a new k h = tt
+  loaded (lines.FailLane x y) b a new k h = tt
+  loaded (lines.Cut fill) b a new k h = tt
+  loaded (lines.Poke x y z) b a new k h = tt
+
+  pub all_loaded : (ls : List Line) (b : Bench) (answers : List Answer) (end : Bench) → IsKeptWhole size b → Run size b ls answers end → AreLoaded ls answers
+  all_loaded [] b [] end k run = tt
+  all_loaded (l ∷ ls) b (a ∷ answers) end k run = (loaded l b a run.0 k run.1, all_loaded ls run.0 answers end (moves l b a run.0 k run.1) run.2)
+  all_loaded [] b (a ∷ answers) end k run = absurd run
+  all_loaded (l ∷ ls) b [] end k run = absurd run
