@@ -2,7 +2,6 @@ mod Mapped
 mod Doubted
 mod Moments
 mod Refused
-mod Issued
-mod Seated
-mod Together
+mod Unmoved
+mod Off
 pub mod Rows

@@ -1,10 +1,9 @@
 -- What a crash may leave from an open to the end of a power-on.
-use Rattle.std.proofs.Common.{◌≡◌, inl, inr, Option, None, Some, sym, subst}
+use Rattle.std.proofs.Common.{inl, inr, Option, None, Some}
 use Rattle.disk.specs.Facts.{Content, Facts, LeavesSince, Passes, Stays, Unchanged}
 use Rattle.disk.specs.Moments.{passes_unchanged, leaves_none, leaves_stays, leaves_then, leaves_weaker}
-use Rattle.board_model.specs.Durable.{State, Change, after}
+use Rattle.board_model.specs.Durable.{State, Change}
 use Rattle.board_model.specs.Shapes.{Size}
-use Rattle.store.specs.Leaves.{StandsForEither}
 use Rattle.board.specs.Moments.{MayLeave}
 
 -- what is asked of a disk: that moment is now
@@ -21,13 +20,8 @@ untouched_moments a b size s sent now passes =
     let P : Content → Type 0 = MayLeave a size s sent in
     leaves_stays a a b P (leaves_none a P now (before_it a size s sent)) passes
 
--- a command went to the disk
-pub gone_moments : (a b : Facts) (size : Size) (s : State) (sent : Option Change) (c : Change) → sent ≡ Some c → LeavesSince a b (StandsForEither size s (after s c)) → LeavesSince a b (MayLeave a size s sent)
-gone_moments a b size s sent c is went =
-    subst (λ (o : Option Change). LeavesSince a b (MayLeave a size s o)) (sym is) (leaves_weaker a b (StandsForEither size s (after s c)) (MayLeave a size s (Some c)) went (λ x stands. inr stands))
-
 -- an open, and then what a boot does
-pub meanwhile : (a b c : Facts) (size : Size) (s : State) (sent : Option Change) → LeavesSince a b a.may_leave → LeavesSince b c (MayLeave b size s sent) → LeavesSince a c (MayLeave a size s sent)
+meanwhile : (a b c : Facts) (size : Size) (s : State) (sent : Option Change) → LeavesSince a b a.may_leave → LeavesSince b c (MayLeave b size s sent) → LeavesSince a c (MayLeave a size s sent)
 meanwhile a b c size s sent opened on =
     let P : Content → Type 0 = MayLeave a size s sent in
     leaves_then a b c P (leaves_weaker a b a.may_leave P opened (before_it a size s sent)) (leaves_weaker b c (MayLeave b size s sent) P on (earlier sent))
