@@ -4,6 +4,7 @@ pub mod Devices
 pub mod Adapted
 pub mod Formats
 pub mod Armings
+pub mod Pokes
 pub mod Opening
 pub mod Commanded
 pub mod Ended

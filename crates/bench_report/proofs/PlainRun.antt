@@ -15,8 +15,8 @@ use Rattle.bench_report.specs.declared.printed.ConsoleWord.{ConsoleWord}
 use Rattle.bench_report.specs.declared.printed.ConsoleWord.TheVariants as names
 use Rattle.bench_report.specs.declared.printed.Answer.{Answer}
 use Rattle.bench_report.specs.Bench.{Medium, Blank, Unknown, Formatted, Life, Bench, IsUnspoilt, blank_bench}
-use Rattle.bench_report.specs.Steps.{on_with, settled, acknowledged, begun, Writes, Issued, IssuedBy, ShowsFound, NotBuilt, ArmStep, FormatsOn, Boots, Begins, Opens, IsOpenRefusal, PowersOn, FormatStep, OnStep, ConsoleStep, PayloadStep, Step, Run}
-use Rattle.bench_report.specs.Reports.{IsReport}
+use Rattle.bench_report.specs.Steps.{on_with, settled, acknowledged, begun, Writes, Issued, IssuedBy, ShowsFound, ArmStep, FormatsOn, Boots, Begins, Opens, IsOpenRefusal, PowersOn, FormatStep, OnStep, ConsoleStep, PayloadStep, Step, Run}
+use Rattle.bench_report.specs.Reports.{IsByFirmware, AreByFirmware, IsReport}
 use Rattle.bench_report.specs.Plain.{plain_written, plain_issued, plain_console, plain_format, plain_slot, plain_boot, plain_on, plain_at, plain, plain_answers, plain_report, IsPlain, ArePlain}
 use Rattle.bench_report.proofs.Adapted.{grows}
 use Rattle.bench_report.proofs.Determined.{CalmDisk}
@@ -151,7 +151,7 @@ steps size (lines.CutAt x y) b plain good = by_power b.power (λ p. Well b (ArmS
 steps size (lines.CutLane x y z) b plain good = by_power b.power (λ p. Well b (ArmStep CutArmed b) (plain_at size p (lines.CutLane x y z) b)) ((refl, refl), good, (refl, refl)) (λ life. ((refl, refl), good, (refl, refl)))
 steps size (lines.FailAt x) b plain good = by_power b.power (λ p. Well b (ArmStep FaultArmed b) (plain_at size p (lines.FailAt x) b)) ((refl, refl), good, (refl, refl)) (λ life. ((refl, refl), good, (refl, refl)))
 steps size (lines.FailLane x y) b plain good = by_power b.power (λ p. Well b (ArmStep FaultArmed b) (plain_at size p (lines.FailLane x y) b)) ((refl, refl), good, (refl, refl)) (λ life. ((refl, refl), good, (refl, refl)))
-steps size (lines.Poke x y z) b plain good = by_power b.power (λ p. Well b (NotBuilt b) (plain_at size p (lines.Poke x y z) b)) ((refl, refl), good, (refl, refl)) (λ life. ((refl, refl), good, (refl, refl)))
+steps size (lines.Poke x y z) b plain good = absurd plain
 steps size (lines.Cut fill) b plain good =
     by_power b.power (λ p. Well b (Step size (lines.Cut fill) b) (plain_at size p (lines.Cut fill) b)) ((refl, refl), (good.0, tt, refl, good.3), (refl, refl)) (λ life. ((refl, refl), (good.0, tt, refl, good.3), (refl, refl)))
 steps size (lines.Turn x y) b plain good = absurd plain
@@ -170,7 +170,16 @@ runs size (l ∷ ls) b are good =
     let rest = runs size ls (plain size l b).1 are.1 one.1 in
     (rest.0, ((plain size l b).1, inl (one.0, one.1.2), rest.1), many_then b (plain size l b).1 rest.0 one.2 rest.2)
 
+-- a plain line writes no disk past the firmware
+plain_by : (line : Line) → IsPlain line → IsByFirmware line
+plain_by (lines.Poke x y z) plain = absurd plain
+plain_by line plain = tt
+
+are_by : (ls : List Line) → ArePlain ls → AreByFirmware ls
+are_by [] are = tt
+are_by (l ∷ ls) are = (plain_by l are.0, are_by ls are.1)
+
 pub plain_alone : IsOneTurn → IsOneCall → IsOneCsr → (script : Script) (answers : List Answer) (end : Bench) → IsReport script answers end → IsUnspoilt end → ArePlain script.lines → answers ≡ plain_report script
 plain_alone turns call csr script answers end h unspoilt plain =
     let run = runs script.size script.lines blank_bench plain (tt, tt, refl, refl) in
-    (one_report turns call csr script answers (plain_report script) end run.0 h (refl, run.1) unspoilt run.2).0
+    (one_report turns call csr script answers (plain_report script) end run.0 (are_by script.lines plain) h (refl, run.1) unspoilt run.2).0

@@ -30,8 +30,8 @@ use Rattle.bench_report.specs.declared.printed.Printed.TheVariants as printed
 use Rattle.disk.specs.Mishaps.{FaultArmed, CutArmed}
 use Rattle.bench_report.specs.declared.printed.Answer.{Answer}
 use Rattle.bench_report.specs.Bench.{Medium, Blank, Unknown, Formatted, Life, Bench, blank_bench}
-use Rattle.bench_report.specs.Steps.{says, shows, starved, failed, on_with, unpowered, armed_with, formatted_anew, settled, has_machine, begun, commands_of, console_told, IsOn, Starts, Resumes, Begins, Boots, Opens, ShowsFound, IsOpenRefusal, PowersOn, FormatsOn, FormatStep, OnStep, ConsoleStep, PayloadStep, CallTold, GuestCall, TurnStep, CallStep, ReadStep, Step, Moves, Run}
-use Rattle.bench_report.specs.Reports.{IsReport}
+use Rattle.bench_report.specs.Steps.{says, shows, starved, failed, on_with, unpowered, armed_with, formatted_anew, settled, has_machine, begun, commands_of, console_told, IsOn, Starts, Resumes, Begins, Boots, Opens, ShowsFound, IsOpenRefusal, PowersOn, FormatsOn, FormatStep, OnStep, ConsoleStep, PayloadStep, CallTold, GuestCall, TurnStep, CallStep, ReadStep, PokeStep, Step, Moves, Run}
+use Rattle.bench_report.specs.Reports.{IsByFirmware, AreByFirmware, IsReport}
 use Rattle.bench_report.specs.Prefix.{Asked, Boot, Command, Guest, Nothing, Hides, TellsWord, TellsLine, asked_by, Refused, Lost, Tells, ShowsIts, IsPrefixed, resumes, RisesFrom, AreLoaded, is_format_ok, IsFoundByPrefix, KeepsPrefixLaw}
 use Rattle.bench_report.proofs.Unsaid.{GoesBy, comes_back, turns_back}
 use Rattle.bench_report.proofs.Lost.{lost}
@@ -248,28 +248,25 @@ read_at : (p : Option Life) (says_so : Machine → MachineLine → Type 0) (b : 
 read_at None says_so b a new sound x = shows_on _ b a new sound x.0 x.1
 read_at (Some life) says_so b a new sound x = shows_on x.0 b a new sound x.2 x.3
 
-not_built : (b : Bench) (a : Answer) (new : Bench) → IsSound b → a ≡ says printed.NotBuilt → new ≡ b → Tell Nothing b a new
-not_built b a new sound e f = stays Nothing b a printed.NotBuilt new e f sound (λ s t e. (e, refl))
-
-steps : (size : Size) (line : Line) (b : Bench) (a : Answer) (new : Bench) → IsSound b → Step size line b a new → Tell (asked_by line) b a new
-steps size (lines.Payload x y) b a new sound h = payload_at b.power x y b a new sound h
-steps size lines.Format b a new sound h = format_at b.power b a new sound h
-steps size (lines.On mode) b a new sound h = on_at size b.power mode b a new sound refl h
-steps size (lines.Slot n) b a new sound h = consoles names.Slot (Slot n) b.power b a new sound refl h
-steps size lines.Discard b a new sound h = consoles names.Discard Discard b.power b a new sound refl h
-steps size (lines.Turn x y) b a new sound h = turn_at b.power x y b a new sound h
-steps size (lines.Call x y z u v w) b a new sound h = call_at b.power x y z u v w b a new sound refl h
-steps size (lines.Reg x y) b a new sound h = read_at b.power _ b a new sound h
-steps size (lines.Pc x) b a new sound h = read_at b.power _ b a new sound h
-steps size (lines.Csr x y) b a new sound h = read_at b.power _ b a new sound h
-steps size lines.Pending b a new sound h = read_at b.power _ b a new sound h
-steps size (lines.Mem x y) b a new sound h = read_at b.power _ b a new sound h
-steps size (lines.CutAt x y) b a new sound h = same Nothing b a _ new (armed_with CutArmed b) h.0 h.1 refl refl refl sound.1 sound (λ s t e. (e, refl))
-steps size (lines.CutLane x y z) b a new sound h = same Nothing b a _ new (armed_with CutArmed b) h.0 h.1 refl refl refl sound.1 sound (λ s t e. (e, refl))
-steps size (lines.FailAt x) b a new sound h = same Nothing b a _ new (armed_with FaultArmed b) h.0 h.1 refl refl refl sound.1 sound (λ s t e. (e, refl))
-steps size (lines.FailLane x y) b a new sound h = same Nothing b a _ new (armed_with FaultArmed b) h.0 h.1 refl refl refl sound.1 sound (λ s t e. (e, refl))
-steps size (lines.Cut fill) b a new sound h = by_eqs Nothing b a _ new (unpowered b) h.0 h.1 ((sound.0, tt), λ t f. (t, f, (tt, (refl, refl))))
-steps size (lines.Poke x y z) b a new sound h = not_built b a new sound h.0 h.1
+steps : (size : Size) (line : Line) (b : Bench) (a : Answer) (new : Bench) → IsByFirmware line → IsSound b → Step size line b a new → Tell (asked_by line) b a new
+steps size (lines.Payload x y) b a new by sound h = payload_at b.power x y b a new sound h
+steps size lines.Format b a new by sound h = format_at b.power b a new sound h
+steps size (lines.On mode) b a new by sound h = on_at size b.power mode b a new sound refl h
+steps size (lines.Slot n) b a new by sound h = consoles names.Slot (Slot n) b.power b a new sound refl h
+steps size lines.Discard b a new by sound h = consoles names.Discard Discard b.power b a new sound refl h
+steps size (lines.Turn x y) b a new by sound h = turn_at b.power x y b a new sound h
+steps size (lines.Call x y z u v w) b a new by sound h = call_at b.power x y z u v w b a new sound refl h
+steps size (lines.Reg x y) b a new by sound h = read_at b.power _ b a new sound h
+steps size (lines.Pc x) b a new by sound h = read_at b.power _ b a new sound h
+steps size (lines.Csr x y) b a new by sound h = read_at b.power _ b a new sound h
+steps size lines.Pending b a new by sound h = read_at b.power _ b a new sound h
+steps size (lines.Mem x y) b a new by sound h = read_at b.power _ b a new sound h
+steps size (lines.CutAt x y) b a new by sound h = same Nothing b a _ new (armed_with CutArmed b) h.0 h.1 refl refl refl sound.1 sound (λ s t e. (e, refl))
+steps size (lines.CutLane x y z) b a new by sound h = same Nothing b a _ new (armed_with CutArmed b) h.0 h.1 refl refl refl sound.1 sound (λ s t e. (e, refl))
+steps size (lines.FailAt x) b a new by sound h = same Nothing b a _ new (armed_with FaultArmed b) h.0 h.1 refl refl refl sound.1 sound (λ s t e. (e, refl))
+steps size (lines.FailLane x y) b a new by sound h = same Nothing b a _ new (armed_with FaultArmed b) h.0 h.1 refl refl refl sound.1 sound (λ s t e. (e, refl))
+steps size (lines.Cut fill) b a new by sound h = by_eqs Nothing b a _ new (unpowered b) h.0 h.1 ((sound.0, tt), λ t f. (t, f, (tt, (refl, refl))))
+steps size (lines.Poke x y z) b a new by sound h = absurd by
 
 lost_tells : (asked : Asked) (s t : State) (up : Bool) → Lost asked s up t → Tells asked printed.PowerLost s up t false
 lost_tells (Boot mode) s t up h = (h, refl)
@@ -277,22 +274,22 @@ lost_tells (Command c) s t up h = (h, refl)
 lost_tells Guest s t up h = (h, refl)
 lost_tells Nothing s t up h = (h, refl)
 
-moves : (size : Size) (line : Line) (b : Bench) (a : Answer) (new : Bench) → IsSound b → Moves size line b a new → Tell (asked_by line) b a new
-moves size line b a new sound (inl h) = steps size line b a new sound h.0
-moves size line b a new sound (inr (would, mid, step, struck, e, is)) =
-    let told : Tell (asked_by line) b would mid = steps size line b would mid sound step in
+moves : (size : Size) (line : Line) (b : Bench) (a : Answer) (new : Bench) → IsByFirmware line → IsSound b → Moves size line b a new → Tell (asked_by line) b a new
+moves size line b a new by sound (inl h) = steps size line b a new by sound h.0
+moves size line b a new by sound (inr (would, mid, step, struck, e, is)) =
+    let told : Tell (asked_by line) b would mid = steps size line b would mid by sound step in
     by_eqs (asked_by line) b a _ new (unpowered mid) e is
     ((told.0.0, tt), λ t f. (let s = told.1 t f in (s.0, s.1, (tt, lost_tells (asked_by line) s.0 t (is_up b.power) (lost (asked_by line) would.line s.0 t (is_up b.power) (is_up mid.power) s.2.1)))))
 
-prefixed : (size : Size) (ls : List Line) (b : Bench) (answers : List Answer) (end : Bench) → IsSound b → Run size b ls answers end → (s : State) × MayFind b.kept s × IsPrefixed s (is_up b.power) ls answers
-prefixed size [] b [] end sound run = (found_of b.kept.changes, (b.kept.changes, inl refl, refl), tt)
-prefixed size (l ∷ ls) b (a ∷ answers) end sound run =
-    let told : Tell (asked_by l) b a run.0 = moves size l b a run.0 sound run.1 in
-    let rest = prefixed size ls run.0 answers end told.0 run.2 in
+prefixed : (size : Size) (ls : List Line) (b : Bench) (answers : List Answer) (end : Bench) → AreByFirmware ls → IsSound b → Run size b ls answers end → (s : State) × MayFind b.kept s × IsPrefixed s (is_up b.power) ls answers
+prefixed size [] b [] end by sound run = (found_of b.kept.changes, (b.kept.changes, inl refl, refl), tt)
+prefixed size (l ∷ ls) b (a ∷ answers) end by sound run =
+    let told : Tell (asked_by l) b a run.0 = moves size l b a run.0 by.0 sound run.1 in
+    let rest = prefixed size ls run.0 answers end by.1 told.0 run.2 in
     let s = told.1 rest.0 rest.1 in
     (s.0, s.1, (s.2.0, rest.0, is_up run.0.power, s.2.1, rest.2))
-prefixed size [] b (a ∷ answers) end sound run = absurd run
-prefixed size (l ∷ ls) b [] end sound run = absurd run
+prefixed size [] b (a ∷ answers) end by sound run = absurd run
+prefixed size (l ∷ ls) b [] end by sound run = absurd run
 
 -- ---- from the first format that answered Ok on
 other : {T : Type 0} (a : Answer) (x : Printed) → a ≡ says x → is_format_ok x ≡ false → is_format_ok a.line ≡ true → T
@@ -382,6 +379,10 @@ read_no : {T : Type 0} (p : Option Life) (says_so : Machine → MachineLine → 
 read_no None says_so b a new x ok = other a _ x.0 refl ok
 read_no (Some life) says_so b a new x ok = other a _ x.2 refl ok
 
+poke_no : {T : Type 0} (p : Option Life) (b : Bench) (a : Answer) (new : Bench) → PokeStep p b a new → is_format_ok a.line ≡ true → T
+poke_no None b a new x ok = other a _ x.0 refl ok
+poke_no (Some life) b a new x ok = other a _ x.0 refl ok
+
 step_formats : (size : Size) (line : Line) (b : Bench) (a : Answer) (new : Bench) → Step size line b a new → is_format_ok a.line ≡ true → IsFresh new
 step_formats size (lines.Payload x y) b a new h ok = payload_no b.power x y b a new h ok
 step_formats size lines.Format b a new h ok = formatted_at b.power b a new refl h ok
@@ -400,22 +401,22 @@ step_formats size (lines.CutLane x y z) b a new h ok = other a _ h.0 refl ok
 step_formats size (lines.FailAt x) b a new h ok = other a _ h.0 refl ok
 step_formats size (lines.FailLane x y) b a new h ok = other a _ h.0 refl ok
 step_formats size (lines.Cut x) b a new h ok = other a _ h.0 refl ok
-step_formats size (lines.Poke x y z) b a new h ok = other a _ h.0 refl ok
+step_formats size (lines.Poke x y z) b a new h ok = poke_no b.power b a new h ok
 
 moves_format : (size : Size) (line : Line) (b : Bench) (a : Answer) (new : Bench) → Moves size line b a new → is_format_ok a.line ≡ true → IsFresh new
 moves_format size line b a new (inl h) ok = step_formats size line b a new h.0 ok
 moves_format size line b a new (inr h) ok = other a _ h.4 refl ok
 
 -- what is found on a disk that was just formatted
-anew : (size : Size) (ls : List Line) (b : Bench) (answers : List Answer) (end : Bench) → IsFresh b → Run size b ls answers end → IsPrefixed formatted false ls answers × RisesFrom 0 (resumes answers) × AreLoaded ls answers
-anew size ls b answers end (medium, kept, on) run =
+anew : (size : Size) (ls : List Line) (b : Bench) (answers : List Answer) (end : Bench) → AreByFirmware ls → IsFresh b → Run size b ls answers end → IsPrefixed formatted false ls answers × RisesFrom 0 (resumes answers) × AreLoaded ls answers
+anew size ls b answers end by (medium, kept, on) run =
     let F : Option Life → Type 0 = λ p. GoesOn b.kept p in
-    let told = prefixed size ls b answers end (medium, subst F (sym on) tt) run in
+    let told = prefixed size ls b answers end by (medium, subst F (sym on) tt) run in
     let P : State → Type 0 = λ s. IsPrefixed s (is_up b.power) ls answers in
     let Q : Bool → Type 0 = λ up. IsPrefixed formatted up ls answers in
     let R : Kept → Type 0 = λ k. MayFind k told.0 in
     let law = subst Q (ap is_up on) (subst P (first told.0 (subst R kept told.1)) told.2) in
-    (law, serials_rise ls answers law, all_loaded size ls b answers end (whole_anew b.kept b.power kept on) run)
+    (law, serials_rise ls answers law, all_loaded size ls b answers end by (whole_anew b.kept b.power kept on) run)
   where
     whole_anew : (k : Kept) (p : Option Life) → k ≡ nothing_kept → p ≡ None → IsKeptWhole size (record b { kept = k; power = p })
     whole_anew k p e f =
@@ -431,13 +432,13 @@ either : (t : Bool) (P Q : Type 0) → (t ≡ true → P) → Q → MatchBool t 
 either true P Q p q = p refl
 either false P Q p q = q
 
-by_prefix : (size : Size) (ls : List Line) (b : Bench) (answers : List Answer) (end : Bench) → Run size b ls answers end → IsFoundByPrefix ls answers
-by_prefix size [] b answers end run = tt
-by_prefix size (l ∷ ls) b [] end run = absurd run
-by_prefix size (l ∷ ls) b (a ∷ answers) end run =
+by_prefix : (size : Size) (ls : List Line) (b : Bench) (answers : List Answer) (end : Bench) → AreByFirmware ls → Run size b ls answers end → IsFoundByPrefix ls answers
+by_prefix size [] b answers end by run = tt
+by_prefix size (l ∷ ls) b [] end by run = absurd run
+by_prefix size (l ∷ ls) b (a ∷ answers) end by run =
     either (is_format_ok a.line) (IsPrefixed formatted false ls answers × RisesFrom 0 (resumes answers) × AreLoaded ls answers) (IsFoundByPrefix ls answers)
-    (λ ok. anew size ls run.0 answers end (moves_format size l b a run.0 run.1 ok) run.2) (by_prefix size ls run.0 answers end run.2)
+    (λ ok. anew size ls run.0 answers end by.1 (moves_format size l b a run.0 run.1 ok) run.2) (by_prefix size ls run.0 answers end by.1 run.2)
 
-pub prefix_law : (script : Script) (answers : List Answer) (end : Bench) → IsReport script answers end → KeepsPrefixLaw script.lines answers
-prefix_law script [] end h = absurd h
-prefix_law script (board ∷ answers) end h = by_prefix script.size script.lines blank_bench answers end h.1
+pub prefix_law : (script : Script) (answers : List Answer) (end : Bench) → AreByFirmware script.lines → IsReport script answers end → KeepsPrefixLaw script.lines answers
+prefix_law script [] end by h = absurd h
+prefix_law script (board ∷ answers) end by h = by_prefix script.size script.lines blank_bench answers end by h.1

@@ -15,7 +15,7 @@ use Rattle.bench_report.specs.declared.printed.Printed.{Printed}
 use Rattle.bench_report.specs.declared.printed.Printed.TheVariants as printed
 use Rattle.bench_report.specs.Bench.{Medium, Blank, Unknown, Formatted, Life, Bench, IsUnspoilt, blank_bench}
 use Rattle.bench_report.specs.Steps.{says, on_with, settled, has_machine, acknowledged, begun, Writes, Issued, IssuesAll, ShowsFound, IsOn, Starts, Resumes, Boots, Opens, IsOpenRefusal, PowersOn, OnStep, Moves}
-use Rattle.bench_report.specs.Reports.{IsReport}
+use Rattle.bench_report.specs.Reports.{AreByFirmware, IsReport}
 use Rattle.bench_report.specs.Resumed.{IsMadeIn, IsResumedFrom}
 use Rattle.bench_report.proofs.Determined.{IsSpoilt, CalmDisk, starves, hinders, some_inj}
 use Rattle.bench_report.proofs.Single.{run_fair, clean, moves_fair}
@@ -137,11 +137,11 @@ resumed_from size b a new medium (inr (would, mid, h, struck, e, is)) line = sai
 
 -- ---- without failures
 -- nothing is in doubt on the formatted disk of a run in which memory was never refused and no failure was answered
-pub sure : (script : Script) (answers : List Answer) (b : Bench) → IsReport script answers b → IsUnspoilt b → b.medium ≡ Formatted → b.kept.doubt ≡ None
-sure script [] b h unspoilt medium = absurd h
-sure script (board ∷ answers) b h unspoilt medium =
+pub sure : (script : Script) (answers : List Answer) (b : Bench) → AreByFirmware script.lines → IsReport script answers b → IsUnspoilt b → b.medium ≡ Formatted → b.kept.doubt ≡ None
+sure script [] b by h unspoilt medium = absurd h
+sure script (board ∷ answers) b by h unspoilt medium =
     let P : Medium → Type 0 = λ m. CalmDisk m b.kept.doubt in
-    elim ((run_fair script.size script.lines blank_bench answers b h.1).1 tt) [ inl spoilt ↦ clean b unspoilt spoilt | inr calm ↦ subst P medium calm ]
+    elim ((run_fair script.size script.lines blank_bench answers b by h.1).1 tt) [ inl spoilt ↦ clean b unspoilt spoilt | inr calm ↦ subst P medium calm ]
 
 kept_as : (k : Kept) (changes : List Change) → k.doubt ≡ None → MayKeep k changes → changes ≡ k.changes
 kept_as k changes calm (inl e) = e
@@ -166,15 +166,15 @@ spoilt_before b = by_counts b.growths b.failures refl refl
     by_counts (suc n) f e h = inr (inl (omega (arith, e)))
     by_counts zero (suc n) e h = inr (inr (omega (arith, h)))
 
-pub finds_all : (script : Script) (answers : List Answer) (b : Bench) (mode : BootMode) (a : Answer) (new : Bench) → IsReport script answers b → b.medium ≡ Formatted → b.power ≡ None → Moves script.size (lines.On mode) b a new
+pub finds_all : (script : Script) (answers : List Answer) (b : Bench) (mode : BootMode) (a : Answer) (new : Bench) → AreByFirmware script.lines → IsReport script answers b → b.medium ≡ Formatted → b.power ≡ None → Moves script.size (lines.On mode) b a new
     → a.line ≢ printed.PowerLost → IsUnspoilt new → a.found ≡ Some (durable_of (found_of b.kept.changes))
-finds_all script answers b mode a new h medium none (inl move) lost unspoilt =
+finds_all script answers b mode a new by h medium none (inl move) lost unspoilt =
     let P : Option Life → Type 0 = λ p. OnStep script.size p mode b a new in
     elim (spoilt_before b) [
-      | inl was ↦ powers_sure script.size mode b a new medium (sure script answers b h was medium) unspoilt (subst P none move.0)
-      | inr spoilt ↦ clean new unspoilt ((moves_fair script.size (lines.On mode) b a new (inl move)).0 spoilt)
+      | inl was ↦ powers_sure script.size mode b a new medium (sure script answers b by h was medium) unspoilt (subst P none move.0)
+      | inr spoilt ↦ clean new unspoilt ((moves_fair script.size (lines.On mode) b a new tt (inl move)).0 spoilt)
     ]
-finds_all script answers b mode a new h medium none (inr (would, mid, step, struck, e, is)) lost unspoilt = absurd (lost (ap (λ (x : Answer). x.line) e))
+finds_all script answers b mode a new by h medium none (inr (would, mid, step, struck, e, is)) lost unspoilt = absurd (lost (ap (λ (x : Answer). x.line) e))
 
 -- ---- what any open finds
 untold : {A : Type 0} (a : Answer) (line : Printed) (d : Durable) → a ≡ says line → a.found ≡ Some d → A

@@ -21,8 +21,8 @@ use Rattle.bench_report.specs.declared.printed.ConsoleWord.{ConsoleWord}
 use Rattle.bench_report.specs.declared.printed.ConsoleWord.TheVariants as names
 use Rattle.bench_report.specs.declared.printed.Answer.{Answer}
 use Rattle.bench_report.specs.Bench.{Life, Bench, IsUnspoilt, blank_bench}
-use Rattle.bench_report.specs.Steps.{shows, unpowered, armed_with, on_with, has_machine, console_told, FormatStep, OnStep, ConsoleStep, PayloadStep, CallTold, GuestCall, TurnStep, CallStep, ReadStep, Step, Moves, Run}
-use Rattle.bench_report.specs.Reports.{IsReport}
+use Rattle.bench_report.specs.Steps.{shows, unpowered, unknown, armed_with, on_with, has_machine, console_told, FormatStep, OnStep, ConsoleStep, PayloadStep, CallTold, GuestCall, TurnStep, CallStep, ReadStep, PokeStep, Step, Moves, Run}
+use Rattle.bench_report.specs.Reports.{IsByFirmware, AreByFirmware, IsReport}
 use Rattle.bench_report.proofs.Guests.{IsOneTurn, Row, row, comes_fair, comes_one, turns_fair, turns_one}
 use Rattle.bench_report.proofs.Determined.{some_inj, IsSpoilt, IsCalm, Fair, fair_to, fair_then, unmoved, issued_fair, Agree, same, issued, formats_fair, formats, powers_fair, powers}
 
@@ -69,41 +69,41 @@ read_fair : (p : Option Life) (says_so : Machine → MachineLine → Type 0) (b 
 read_fair None says_so b a new x = unmoved b new x.1
 read_fair (Some life) says_so b a new x = unmoved b new x.3
 
-step_fair : (size : Size) (line : Line) (b : Bench) (a : Answer) (new : Bench) → Step size line b a new → Fair b new
-step_fair size (lines.Payload x y) b a new h = payload_fair b.power x y b a new h
-step_fair size lines.Format b a new h = format_fair b.power b a new h
-step_fair size (lines.On mode) b a new h = on_fair size b.power mode b a new h
-step_fair size (lines.Slot n) b a new h = console_fair names.Slot (Slot n) b.power b a new h
-step_fair size lines.Discard b a new h = console_fair names.Discard Discard b.power b a new h
-step_fair size (lines.Turn x y) b a new h = turn_fair b.power x y b a new h
-step_fair size (lines.Call x y z u v w) b a new h = call_fair b.power x y z u v w b a new h
-step_fair size (lines.Reg x y) b a new h = read_fair b.power _ b a new h
-step_fair size (lines.Pc x) b a new h = read_fair b.power _ b a new h
-step_fair size (lines.Csr x y) b a new h = read_fair b.power _ b a new h
-step_fair size lines.Pending b a new h = read_fair b.power _ b a new h
-step_fair size (lines.Mem x y) b a new h = read_fair b.power _ b a new h
-step_fair size (lines.CutAt x y) b a new h = fair_to b new (armed_with CutArmed b) h.1 (λ s. s, λ c. inr c)
-step_fair size (lines.CutLane x y z) b a new h = fair_to b new (armed_with CutArmed b) h.1 (λ s. s, λ c. inr c)
-step_fair size (lines.FailAt x) b a new h = fair_to b new (armed_with FaultArmed b) h.1 (λ s. s, λ c. inr c)
-step_fair size (lines.FailLane x y) b a new h = fair_to b new (armed_with FaultArmed b) h.1 (λ s. s, λ c. inr c)
-step_fair size (lines.Cut fill) b a new h = fair_to b new (unpowered b) h.1 (λ s. s, λ c. inr c)
-step_fair size (lines.Poke x y z) b a new h = unmoved b new h.1
+step_fair : (size : Size) (line : Line) (b : Bench) (a : Answer) (new : Bench) → IsByFirmware line → Step size line b a new → Fair b new
+step_fair size (lines.Payload x y) b a new by h = payload_fair b.power x y b a new h
+step_fair size lines.Format b a new by h = format_fair b.power b a new h
+step_fair size (lines.On mode) b a new by h = on_fair size b.power mode b a new h
+step_fair size (lines.Slot n) b a new by h = console_fair names.Slot (Slot n) b.power b a new h
+step_fair size lines.Discard b a new by h = console_fair names.Discard Discard b.power b a new h
+step_fair size (lines.Turn x y) b a new by h = turn_fair b.power x y b a new h
+step_fair size (lines.Call x y z u v w) b a new by h = call_fair b.power x y z u v w b a new h
+step_fair size (lines.Reg x y) b a new by h = read_fair b.power _ b a new h
+step_fair size (lines.Pc x) b a new by h = read_fair b.power _ b a new h
+step_fair size (lines.Csr x y) b a new by h = read_fair b.power _ b a new h
+step_fair size lines.Pending b a new by h = read_fair b.power _ b a new h
+step_fair size (lines.Mem x y) b a new by h = read_fair b.power _ b a new h
+step_fair size (lines.CutAt x y) b a new by h = fair_to b new (armed_with CutArmed b) h.1 (λ s. s, λ c. inr c)
+step_fair size (lines.CutLane x y z) b a new by h = fair_to b new (armed_with CutArmed b) h.1 (λ s. s, λ c. inr c)
+step_fair size (lines.FailAt x) b a new by h = fair_to b new (armed_with FaultArmed b) h.1 (λ s. s, λ c. inr c)
+step_fair size (lines.FailLane x y) b a new by h = fair_to b new (armed_with FaultArmed b) h.1 (λ s. s, λ c. inr c)
+step_fair size (lines.Cut fill) b a new by h = fair_to b new (unpowered b) h.1 (λ s. s, λ c. inr c)
+step_fair size (lines.Poke x y z) b a new by h = absurd by
 
-pub moves_fair : (size : Size) (line : Line) (b : Bench) (a : Answer) (new : Bench) → Moves size line b a new → Fair b new
-moves_fair size line b a new (inl x) = step_fair size line b a new x.0
-moves_fair size line b a new (inr (would, mid, x, struck, e, is)) = let one = step_fair size line b would mid x in fair_to b new (unpowered mid) is (λ s. one.0 s, λ c. one.1 c)
+pub moves_fair : (size : Size) (line : Line) (b : Bench) (a : Answer) (new : Bench) → IsByFirmware line → Moves size line b a new → Fair b new
+moves_fair size line b a new by (inl x) = step_fair size line b a new by x.0
+moves_fair size line b a new by (inr (would, mid, x, struck, e, is)) = let one = step_fair size line b would mid by x in fair_to b new (unpowered mid) is (λ s. one.0 s, λ c. one.1 c)
 
 spoilt_as : (x y : Bench) → x ≡ y → IsSpoilt y → IsSpoilt x
 spoilt_as x y e s = let P : Bench → Type 0 = IsSpoilt in subst P (sym e) s
 
-pub run_fair : (size : Size) (ls : List Line) (b : Bench) (answers : List Answer) (end : Bench) → Run size b ls answers end → Fair b end
-run_fair size [] b [] end run = unmoved b end run
-run_fair size (l ∷ ls) b (a ∷ answers) end run = fair_then b run.0 end (moves_fair size l b a run.0 run.1) (run_fair size ls run.0 answers end run.2)
-run_fair size [] b (a ∷ answers) end run = absurd run
-run_fair size (l ∷ ls) b [] end run = absurd run
+pub run_fair : (size : Size) (ls : List Line) (b : Bench) (answers : List Answer) (end : Bench) → AreByFirmware ls → Run size b ls answers end → Fair b end
+run_fair size [] b [] end by run = unmoved b end run
+run_fair size (l ∷ ls) b (a ∷ answers) end by run = fair_then b run.0 end (moves_fair size l b a run.0 by.0 run.1) (run_fair size ls run.0 answers end by.1 run.2)
+run_fair size [] b (a ∷ answers) end by run = absurd run
+run_fair size (l ∷ ls) b [] end by run = absurd run
 
-run_spoilt : (size : Size) (ls : List Line) (b : Bench) (answers : List Answer) (end : Bench) → Run size b ls answers end → IsSpoilt b → IsSpoilt end
-run_spoilt size ls b answers end run s = (run_fair size ls b answers end run).0 s
+run_spoilt : (size : Size) (ls : List Line) (b : Bench) (answers : List Answer) (end : Bench) → AreByFirmware ls → Run size b ls answers end → IsSpoilt b → IsSpoilt end
+run_spoilt size ls b answers end by run s = (run_fair size ls b answers end by run).0 s
 
 -- ---- the same
 by_word : {A : Type 0} (f : A → Answer) (o p : A) (a z : Answer) (new last : Bench) → a ≡ f o → z ≡ f p → Agree o p new last → Agree a z new last
@@ -170,8 +170,9 @@ read_at : (says_so : Machine → MachineLine → Type 0) → ((m : Machine) (lin
 read_at says_so one None b a z new last x y = same a z _ new last b x.0 y.0 x.1 y.1
 read_at says_so one (Some life) b a z new last (line, so, e, f) (also, so2, e2, f2) = inr (inr (e ∙ ap shows (one life.machine line also so so2) ∙ sym e2, f ∙ sym f2))
 
-not_built : (b : Bench) (a z x : Answer) (new last : Bench) → (a ≡ x) × (new ≡ b) → (z ≡ x) × (last ≡ b) → Agree a z new last
-not_built b a z x new last h k = same a z x new last b h.0 k.0 h.1 k.1
+poke_at : (p : Option Life) (b : Bench) (a z : Answer) (new last : Bench) → PokeStep p b a new → PokeStep p b z last → Agree a z new last
+poke_at None b a z new last x y = same a z _ new last (unknown b) x.0 y.0 x.1 y.1
+poke_at (Some life) b a z new last x y = same a z _ new last b x.0 y.0 x.1 y.1
 
 steps : IsOneTurn → IsOneCall → IsOneCsr → (size : Size) (line : Line) (b : Bench) (a z : Answer) (new last : Bench) → IsCalm b → Step size line b a new → Step size line b z last → Agree a z new last
 steps turns call csr size (lines.Payload s bytes) b a z new last calm x y = payload_at b.power s bytes b a z new last x y
@@ -191,7 +192,7 @@ steps turns call csr size (lines.CutLane i n fill) b a z new last calm x y = sam
 steps turns call csr size (lines.FailAt n) b a z new last calm x y = same a z _ new last _ x.0 y.0 x.1 y.1
 steps turns call csr size (lines.FailLane i n) b a z new last calm x y = same a z _ new last _ x.0 y.0 x.1 y.1
 steps turns call csr size (lines.Cut fill) b a z new last calm x y = same a z _ new last _ x.0 y.0 x.1 y.1
-steps turns call csr size (lines.Poke k n bytes) b a z new last calm x y = not_built b a z _ new last x y
+steps turns call csr size (lines.Poke k n bytes) b a z new last calm x y = poke_at b.power b a z new last x y
 
 true_false : {A : Type 0} (x y : Bool) → x ≡ y → x ≡ true → y ≡ false → A
 true_false x y e f g = let h : y ≡ true = sym e ∙ f in absurd (let no : ⊥ = cc in no)
@@ -222,26 +223,26 @@ pub clean : {A : Type 0} (end : Bench) → IsUnspoilt end → IsSpoilt end → A
 clean end u (inl s) = absurd (omega (arith, u.0, s))
 clean end u (inr s) = absurd (omega (arith, u.1, s))
 
-runs : IsOneTurn → IsOneCall → IsOneCsr → (size : Size) (ls : List Line) (b : Bench) (answers others : List Answer) (end last : Bench) → IsCalm b → IsUnspoilt end → IsUnspoilt last → Run size b ls answers end → Run size b ls others last
+runs : IsOneTurn → IsOneCall → IsOneCsr → (size : Size) (ls : List Line) (b : Bench) (answers others : List Answer) (end last : Bench) → AreByFirmware ls → IsCalm b → IsUnspoilt end → IsUnspoilt last → Run size b ls answers end → Run size b ls others last
     → (answers ≡ others) × (end ≡ last)
-runs turns call csr size [] b [] [] end last calm u v x y = (refl, x ∙ sym y)
-runs turns call csr size (l ∷ ls) b (a ∷ answers) (z ∷ others) end last calm u v x y =
-    go (moves turns call csr size l b a z x.0 y.0 calm x.1 y.1) ((moves_fair size l b a x.0 x.1).1 calm)
-    (λ calm e. (let M : Bench → Type 0 = λ m. Run size m ls others last in runs turns call csr size ls x.0 answers others end last calm u v x.2 (subst M (sym e) y.2)))
+runs turns call csr size [] b [] [] end last by calm u v x y = (refl, x ∙ sym y)
+runs turns call csr size (l ∷ ls) b (a ∷ answers) (z ∷ others) end last by calm u v x y =
+    go (moves turns call csr size l b a z x.0 y.0 calm x.1 y.1) ((moves_fair size l b a x.0 by.0 x.1).1 calm)
+    (λ calm e. (let M : Bench → Type 0 = λ m. Run size m ls others last in runs turns call csr size ls x.0 answers others end last by.1 calm u v x.2 (subst M (sym e) y.2)))
   where
     go : Agree a z x.0 y.0 → IsSpoilt x.0 ⊎ IsCalm x.0 → (IsCalm x.0 → x.0 ≡ y.0 → (answers ≡ others) × (end ≡ last)) → ((a ∷ answers) ≡ (z ∷ others)) × (end ≡ last)
-    go (inl s) c more = clean end u (run_spoilt size ls x.0 answers end x.2 s)
-    go (inr (inl s)) c more = clean last v (run_spoilt size ls y.0 others last y.2 s)
-    go (inr (inr e)) (inl s) more = clean end u (run_spoilt size ls x.0 answers end x.2 s)
+    go (inl s) c more = clean end u (run_spoilt size ls x.0 answers end by.1 x.2 s)
+    go (inr (inl s)) c more = clean last v (run_spoilt size ls y.0 others last by.1 y.2 s)
+    go (inr (inr e)) (inl s) more = clean end u (run_spoilt size ls x.0 answers end by.1 x.2 s)
     go (inr (inr e)) (inr c) more = let rest = more c e.1 in (ap (λ h. h ∷ answers) e.0 ∙ ap (λ t. z ∷ t) rest.0, rest.1)
-runs turns call csr size [] b (a ∷ answers) others end last calm u v x y = absurd x
-runs turns call csr size [] b [] (z ∷ others) end last calm u v x y = absurd y
-runs turns call csr size (l ∷ ls) b [] others end last calm u v x y = absurd x
-runs turns call csr size (l ∷ ls) b (a ∷ answers) [] end last calm u v x y = absurd y
+runs turns call csr size [] b (a ∷ answers) others end last by calm u v x y = absurd x
+runs turns call csr size [] b [] (z ∷ others) end last by calm u v x y = absurd y
+runs turns call csr size (l ∷ ls) b [] others end last by calm u v x y = absurd x
+runs turns call csr size (l ∷ ls) b (a ∷ answers) [] end last by calm u v x y = absurd y
 
-pub one_report : IsOneTurn → IsOneCall → IsOneCsr → (script : Script) (answers others : List Answer) (end last : Bench) → IsReport script answers end → IsReport script others last → IsUnspoilt end → IsUnspoilt last → (answers ≡ others) × (end ≡ last)
-one_report turns call csr script [] others end last x y u v = absurd x
-one_report turns call csr script (b ∷ answers) [] end last x y u v = absurd y
-one_report turns call csr script (b ∷ answers) (d ∷ others) end last x y u v =
-    let rest = runs turns call csr script.size script.lines blank_bench answers others end last tt u v x.1 y.1 in
+pub one_report : IsOneTurn → IsOneCall → IsOneCsr → (script : Script) (answers others : List Answer) (end last : Bench) → AreByFirmware script.lines → IsReport script answers end → IsReport script others last → IsUnspoilt end → IsUnspoilt last → (answers ≡ others) × (end ≡ last)
+one_report turns call csr script [] others end last by x y u v = absurd x
+one_report turns call csr script (b ∷ answers) [] end last by x y u v = absurd y
+one_report turns call csr script (b ∷ answers) (d ∷ others) end last by x y u v =
+    let rest = runs turns call csr script.size script.lines blank_bench answers others end last by tt u v x.1 y.1 in
     (ap (λ q. q ∷ answers) (x.0 ∙ sym y.0) ∙ ap (λ qs. d ∷ qs) rest.0, rest.1)

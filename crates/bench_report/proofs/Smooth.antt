@@ -34,7 +34,7 @@ use Rattle.bench_report.specs.declared.printed.Printed.TheVariants as printed
 use Rattle.disk.specs.Mishaps.{FaultArmed, CutArmed}
 use Rattle.bench_report.specs.declared.printed.Answer.{Answer}
 use Rattle.bench_report.specs.Bench.{Medium, Blank, Unknown, Formatted, Life, Bench, IsUnspoilt, blank_bench}
-use Rattle.bench_report.specs.Steps.{says, off, on_with, unpowered, armed_with, formatted_anew, settled, has_machine, acknowledged, begun, commands_of, console_told, Writes, IssuedBy, IssuesAll, FormatsOn, IsOn, Starts, Resumes, Begins, Boots, Opens, PowersOn, FormatStep, OnStep, ConsoleStep, PayloadStep, ReadStep, Issued, Refuses, Held, Resets, Suspends, SleepsBy, MakesCall, Comes, GuestTurn, GuestTurns, TurnStep, CallTold, GuestCall, CallStep, Step, Moves, Run}
+use Rattle.bench_report.specs.Steps.{says, off, on_with, unpowered, unknown, armed_with, formatted_anew, settled, has_machine, acknowledged, begun, commands_of, console_told, Writes, IssuedBy, IssuesAll, FormatsOn, IsOn, Starts, Resumes, Begins, Boots, Opens, PowersOn, FormatStep, OnStep, ConsoleStep, PayloadStep, ReadStep, PokeStep, Issued, Refuses, Held, Resets, Suspends, SleepsBy, MakesCall, Comes, GuestTurn, GuestTurns, TurnStep, CallTold, GuestCall, CallStep, Step, Moves, Run}
 use Rattle.bench_report.specs.Reports.{IsReport}
 use Rattle.bench_report.specs.Plain.{IsSmooth, AreSmooth}
 
@@ -241,6 +241,10 @@ call_at (Some life) h e f x y z b a new (inl (has, m, called, did, g)) smooth =
     let rest = called_at called h (has_machine m life) (on_with (has_machine m life) b) a new g smooth in (rest.0, rest.1)
 call_at (Some life) h e f x y z b a new (inr g) smooth = as_many b b new refl refl g.2
 
+poke_at : (p : Option Life) (b : Bench) (a : Answer) (new : Bench) → PokeStep p b a new → AsMany b new
+poke_at None b a new h = as_many b (unknown b) new refl refl h.1
+poke_at (Some life) b a new h = as_many b b new refl refl h.1
+
 step_smooth : (size : Size) (line : Line) (b : Bench) (a : Answer) (new : Bench) → Step size line b a new → IsSmooth a.line → AsMany b new
 step_smooth size (lines.Payload x y) b a new h smooth = payload_at b.power x y b a new h
 step_smooth size lines.Format b a new h smooth = format_at b.power b a new h smooth
@@ -259,7 +263,7 @@ step_smooth size (lines.CutLane x y z) b a new h smooth = as_many b (armed_with 
 step_smooth size (lines.FailAt x) b a new h smooth = as_many b (armed_with FaultArmed b) new refl refl h.1
 step_smooth size (lines.FailLane x y) b a new h smooth = as_many b (armed_with FaultArmed b) new refl refl h.1
 step_smooth size (lines.Cut fill) b a new h smooth = as_many b (unpowered b) new refl refl h.1
-step_smooth size (lines.Poke x y z) b a new h smooth = as_many b b new refl refl h.1
+step_smooth size (lines.Poke x y z) b a new h smooth = poke_at b.power b a new h
 
 -- within a smooth line no cut struck
 moves_smooth : (size : Size) (line : Line) (b : Bench) (a : Answer) (new : Bench) → Moves size line b a new → IsSmooth a.line → AsMany b new

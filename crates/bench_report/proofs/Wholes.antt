@@ -34,6 +34,7 @@ use Rattle.bench_report.specs.declared.printed.Printed.{Printed}
 use Rattle.bench_report.specs.declared.printed.Printed.TheVariants as printed
 use Rattle.bench_report.specs.Bench.{Medium, Blank, Unknown, Formatted, Life, Bench}
 use Rattle.bench_report.specs.Prefix.{IsLoaded, AreLoaded}
+use Rattle.bench_report.specs.Reports.{IsByFirmware, AreByFirmware}
 use Rattle.bench_report.specs.Steps.{starved, failed, off, on_with, unpowered, armed_with, settled, has_machine, acknowledged, in_doubt, begun, commands_of, Writes, IssuedBy, Issued, IssuesAll, refused, Refuses, Held, Resets, Suspends, Sleeps, SleepsBy, MakesCall, Comes, GuestTurn, GuestTurns, FormatsOn, IsOn, Starts, Begins, Boots, Opens, IsOpenRefusal, PowersOn, FormatStep, OnStep, ConsoleStep, PayloadStep, GuestCall, TurnStep, CallStep, ReadStep, Step, Moves, Run}
 use Rattle.bench_report.proofs.Adapted.{grows}
 use Rattle.bench_report.proofs.Determined.{begun_size}
@@ -238,29 +239,29 @@ module _ (size : Size) where
   reads None says_so b a new k x = same_as b new x.1 k
   reads (Some life) says_so b a new k x = same_as b new x.3 k
 
-  step : (line : Line) (b : Bench) (a : Answer) (new : Bench) → IsKeptWhole size b → Step size line b a new → IsKeptWhole size new
-  step (lines.Payload x y) b a new k h = payload b.power x y b a new k h
-  step lines.Format b a new k h = format_line b.power b a new k h
-  step (lines.On mode) b a new k h = on_line b.power mode b a new refl k h
-  step (lines.Slot n) b a new k h = console names.Slot (Slot n) b.power b a new tt refl k h
-  step lines.Discard b a new k h = console names.Discard Discard b.power b a new tt refl k h
-  step (lines.Turn x y) b a new k h = turn_line b.power x y b a new k h
-  step (lines.Call x y z u v w) b a new k h = call_line b.power x y z u v w b a new refl k h
-  step (lines.Reg x y) b a new k h = reads b.power _ b a new k h
-  step (lines.Pc x) b a new k h = reads b.power _ b a new k h
-  step (lines.Csr x y) b a new k h = reads b.power _ b a new k h
-  step lines.Pending b a new k h = reads b.power _ b a new k h
-  step (lines.Mem x y) b a new k h = reads b.power _ b a new k h
-  step (lines.CutAt x y) b a new k h = same_as (armed_with CutArmed b) new h.1 k
-  step (lines.CutLane x y z) b a new k h = same_as (armed_with CutArmed b) new h.1 k
-  step (lines.FailAt x) b a new k h = same_as (armed_with FaultArmed b) new h.1 k
-  step (lines.FailLane x y) b a new k h = same_as (armed_with FaultArmed b) new h.1 k
-  step (lines.Cut fill) b a new k h = same_as (unpowered b) new h.1 (k.0, k.1, k.2, tt)
-  step (lines.Poke x y z) b a new k h = same_as b new h.1 k
+  step : (line : Line) (b : Bench) (a : Answer) (new : Bench) → IsByFirmware line → IsKeptWhole size b → Step size line b a new → IsKeptWhole size new
+  step (lines.Payload x y) b a new by k h = payload b.power x y b a new k h
+  step lines.Format b a new by k h = format_line b.power b a new k h
+  step (lines.On mode) b a new by k h = on_line b.power mode b a new refl k h
+  step (lines.Slot n) b a new by k h = console names.Slot (Slot n) b.power b a new tt refl k h
+  step lines.Discard b a new by k h = console names.Discard Discard b.power b a new tt refl k h
+  step (lines.Turn x y) b a new by k h = turn_line b.power x y b a new k h
+  step (lines.Call x y z u v w) b a new by k h = call_line b.power x y z u v w b a new refl k h
+  step (lines.Reg x y) b a new by k h = reads b.power _ b a new k h
+  step (lines.Pc x) b a new by k h = reads b.power _ b a new k h
+  step (lines.Csr x y) b a new by k h = reads b.power _ b a new k h
+  step lines.Pending b a new by k h = reads b.power _ b a new k h
+  step (lines.Mem x y) b a new by k h = reads b.power _ b a new k h
+  step (lines.CutAt x y) b a new by k h = same_as (armed_with CutArmed b) new h.1 k
+  step (lines.CutLane x y z) b a new by k h = same_as (armed_with CutArmed b) new h.1 k
+  step (lines.FailAt x) b a new by k h = same_as (armed_with FaultArmed b) new h.1 k
+  step (lines.FailLane x y) b a new by k h = same_as (armed_with FaultArmed b) new h.1 k
+  step (lines.Cut fill) b a new by k h = same_as (unpowered b) new h.1 (k.0, k.1, k.2, tt)
+  step (lines.Poke x y z) b a new by k h = absurd by
 
-  moves : (line : Line) (b : Bench) (a : Answer) (new : Bench) → IsKeptWhole size b → Moves size line b a new → IsKeptWhole size new
-  moves line b a new k (inl h) = step line b a new k h.0
-  moves line b a new k (inr (would, mid, h, struck, e, is)) = let at = step line b would mid k h in same_as (unpowered mid) new is (at.0, at.1, at.2, tt)
+  moves : (line : Line) (b : Bench) (a : Answer) (new : Bench) → IsByFirmware line → IsKeptWhole size b → Moves size line b a new → IsKeptWhole size new
+  moves line b a new by k (inl h) = step line b a new by k h.0
+  moves line b a new by k (inr (would, mid, h, struck, e, is)) = let at = step line b would mid by k h in same_as (unpowered mid) new is (at.0, at.1, at.2, tt)
 
   -- ---- no power-on is refused 13
   abbrev NotThirteen : Printed → Type 0
@@ -351,8 +352,8 @@ module _ (size : Size) where
   loaded (lines.Cut fill) b a new k h = tt
   loaded (lines.Poke x y z) b a new k h = tt
 
-  pub all_loaded : (ls : List Line) (b : Bench) (answers : List Answer) (end : Bench) → IsKeptWhole size b → Run size b ls answers end → AreLoaded ls answers
-  all_loaded [] b [] end k run = tt
-  all_loaded (l ∷ ls) b (a ∷ answers) end k run = (loaded l b a run.0 k run.1, all_loaded ls run.0 answers end (moves l b a run.0 k run.1) run.2)
-  all_loaded [] b (a ∷ answers) end k run = absurd run
-  all_loaded (l ∷ ls) b [] end k run = absurd run
+  pub all_loaded : (ls : List Line) (b : Bench) (answers : List Answer) (end : Bench) → AreByFirmware ls → IsKeptWhole size b → Run size b ls answers end → AreLoaded ls answers
+  all_loaded [] b [] end by k run = tt
+  all_loaded (l ∷ ls) b (a ∷ answers) end by k run = (loaded l b a run.0 k run.1, all_loaded ls run.0 answers end by.1 (moves l b a run.0 by.0 k run.1) run.2)
+  all_loaded [] b (a ∷ answers) end by k run = absurd run
+  all_loaded (l ∷ ls) b [] end by k run = absurd run

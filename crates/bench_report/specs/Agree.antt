@@ -1,8 +1,9 @@
 -- How the code's disk and board stand for the bench of the model.
-use Rattle.std.specs.Prelude.{◌≡◌, false, ◌⊎◌, true, false, ℕ, List, All, ◌≤◌, Option, Some, None, length, ⊤}
+use Rattle.std.specs.Prelude.{◌≡◌, false, ◌⊎◌, true, false, ℕ, List, All, ◌≤◌, Option, Some, None, Result, OnOk, length, ⊤}
 use Rattle.board_model.specs.Durable.{State}
 use Rattle.board_model.specs.Kept.{Kept, MayFind, found_of}
 use Rattle.board_model.specs.Shapes.{Size, sectors_of}
+use Rattle.board_model.specs.declared.refusal.Refusal.{Refusal}
 use Rattle.disk.specs.Facts.{Facts}
 use Rattle.disk.specs.Mishaps.{Mishaps}
 use Rattle.disk.specs.declared.device.ArmedFault.{ArmedFault}
@@ -12,6 +13,7 @@ use Rattle.simdisk.specs.declared.choice.Choice.{Choice}
 use Rattle.simdisk.specs.declared.choice.Choice.TheVariants as choices
 use Rattle.simdisk.specs.Choices.{left_by}
 use Rattle.simdisk.specs.Record.{synced}
+use Rattle.simdisk.specs.Pokes.{IsWithin, StandsSo, poked}
 use Rattle.script_lang.specs.declared.line.Fill.{Fill}
 use Rattle.script_lang.specs.declared.line.Fill.TheVariants as fills
 use Rattle.script_lang.specs.declared.line.Line.{Line}
@@ -112,6 +114,17 @@ ArmsIts (lines.CutLane i n fill) power = Arms (faults.CutLane i n) power
 ArmsIts (lines.FailAt n) power = Arms (faults.FailAt n) power
 ArmsIts (lines.FailLane i n) power = Arms (faults.FailLane i n) power
 ArmsIts line power = ⊤
+
+-- That sector of the disk of a board that is off stands with these bytes in it, from that one on, and nothing else has changed.
+abbrev pub Pokes : ℕ → ℕ → List ℕ → Power → Power → Type 0
+Pokes k offset bytes (Off old) (Off new) = IsWithin k offset bytes (facts old).content → StandsSo k (poked k offset bytes (facts old).content) (facts old) (facts new)
+Pokes k offset bytes (Off old) (On board) = ⊥
+Pokes k offset bytes (On board) after = ⊤
+
+-- what a line pokes, where it is not refused
+abbrev pub PokesIts : Line → Power → Result Answer Refusal → Power → Type 0
+PokesIts (lines.Poke k offset bytes) before did after = OnOk did (Pokes k offset bytes before after)
+PokesIts line before did after = ⊤
 
 -- what an armed cut is to leave after a line: as the line says that armed the newest one
 abbrev pub fill_after : Line → Fill → Fill

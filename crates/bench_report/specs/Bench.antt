@@ -5,8 +5,8 @@ use Rattle.board_model.specs.Kept.{Kept, nothing_kept}
 use Rattle.disk.specs.Mishaps.{Mishaps, no_mishap}
 use Rattle.machine.specs.Machine.{Machine}
 
--- A disk that was never written; one of which nothing is known, since a format was refused 5 or cut and none has
--- answered Ok since; one that was formatted.
+-- A disk that was never written; one of which nothing is known, since a format was refused 5 or cut, or it was written past the
+-- firmware, and no format has answered Ok since; one that was formatted.
 pub data Medium : Type 0 where
   Blank : Medium
   Unknown : Medium

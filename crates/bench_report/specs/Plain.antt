@@ -75,7 +75,7 @@ plain_at size p (lines.FailAt n) b = (says printed.Armed, armed_with FaultArmed 
 plain_at size p (lines.FailLane i n) b = (says printed.Armed, armed_with FaultArmed b)
 plain_at size None (lines.Payload s bytes) b = (shows (shown.Payload s (length bytes)), record b { payloads = slice_set b.payloads s bytes })
 plain_at size (Some life) (lines.Payload s bytes) b = (shows shown.Busy, b)
-plain_at size p line b = (says printed.NotBuilt, b)
+plain_at size p line b = (says printed.Off, b)
 
 -- what a line answers, and the bench after it
 abbrev pub plain : Size → Line → Bench → Answer × Bench
@@ -88,7 +88,7 @@ plain_answers size (line ∷ more) b = (plain size line b).0 ∷ plain_answers s
 abbrev pub plain_report : Script → List Answer
 plain_report script = board_answer script.size ∷ plain_answers script.size script.lines blank_bench
 
--- a line that neither moves a hart nor shows memory or harts
+-- a line that neither moves a hart, nor shows memory or harts, nor writes the disk past the firmware
 abbrev pub IsPlain : Line → Type 0
 IsPlain (lines.Turn h n) = ⊥
 IsPlain (lines.Call h e f x y z) = ⊥
@@ -97,6 +97,7 @@ IsPlain (lines.Pc h) = ⊥
 IsPlain (lines.Csr h c) = ⊥
 IsPlain lines.Pending = ⊥
 IsPlain (lines.Mem a n) = ⊥
+IsPlain (lines.Poke k n bytes) = ⊥
 IsPlain line = ⊤
 
 abbrev pub ArePlain : List Line → Type 0

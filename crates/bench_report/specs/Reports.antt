@@ -1,9 +1,11 @@
 -- The reports of a script.
-use Rattle.std.specs.Prelude.{◌≡◌, ℕ, ◌+◌, List, [], ◌∷◌, ◌++◌, take}
+use Rattle.std.specs.Prelude.{◌≡◌, ℕ, ◌+◌, List, [], ◌∷◌, ◌++◌, take, ⊤}
 use Rattle.std.specs.List.{flat_map, sum_by, filter_map}
 use Rattle.board_model.specs.Shapes.{Size, sectors_of}
 use Rattle.board_model.specs.declared.durable.Durable.{Durable}
 use Rattle.script_lang.specs.Scripts.{Script}
+use Rattle.script_lang.specs.declared.line.Line.{Line}
+use Rattle.script_lang.specs.declared.line.Line.TheVariants as lines
 use Rattle.bench_report.specs.declared.printed.Printed.TheVariants as printed
 use Rattle.bench_report.specs.declared.printed.Answer.{Answer}
 use Rattle.bench_report.specs.Texts.{found_line, line_text, found_count}
@@ -27,6 +29,16 @@ found_states answers = filter_map (λ (a : Answer). a.found) answers
 -- what the board line answers
 abbrev pub board_answer : Size → Answer
 board_answer size = says (printed.Board size.harts size.pages size.lanes (sectors_of size))
+
+-- a line that does not write the disk past the firmware
+abbrev pub IsByFirmware : Line → Type 0
+IsByFirmware (lines.Poke k n bytes) = ⊥
+IsByFirmware line = ⊤
+
+-- nobody but the firmware writes the disk
+abbrev pub AreByFirmware : List Line → Type 0
+AreByFirmware [] = ⊤
+AreByFirmware (line ∷ more) = IsByFirmware line × AreByFirmware more
 
 -- these answers are a report of the script, and leave this bench
 abbrev pub IsReport : Script → List Answer → Bench → Type 0

@@ -348,9 +348,10 @@ ReadStep (Some life) says_so b answer new = (line : MachineLine) × says_so life
 abbrev pub ArmStep : Armed → Bench → Answer → Bench → Type 0
 ArmStep armed b answer new = (answer ≡ says printed.Armed) × (new ≡ armed_with armed b)
 
--- a line that is well formed and not built yet does nothing
-abbrev pub NotBuilt : Bench → Answer → Bench → Type 0
-NotBuilt b answer new = (answer ≡ says printed.NotBuilt) × (new ≡ b)
+-- a line that writes the disk past the firmware, while the board is off: nothing is known of the disk then
+abbrev pub PokeStep : Option Life → Bench → Answer → Bench → Type 0
+PokeStep (Some life) b answer new = (answer ≡ says printed.Busy) × (new ≡ b)
+PokeStep None b answer new = (answer ≡ says printed.Poked) × (new ≡ unknown b)
 
 -- what a line may answer on a bench, and what the bench then is, as far as no armed cut strikes
 abbrev pub Step : Size → Line → Bench → Answer → Bench → Type 0
@@ -371,7 +372,7 @@ Step size (lines.CutLane i n fill) b answer new = ArmStep CutArmed b answer new
 Step size (lines.FailAt n) b answer new = ArmStep FaultArmed b answer new
 Step size (lines.FailLane i n) b answer new = ArmStep FaultArmed b answer new
 Step size (lines.Cut fill) b answer new = (answer ≡ says printed.Cut) × (new ≡ unpowered b)
-Step size (lines.Poke k n bytes) b answer new = NotBuilt b answer new
+Step size (lines.Poke k n bytes) b answer new = PokeStep b.power b answer new
 
 -- the same, where an armed cut that struck within the line makes its whole report `power lost`
 abbrev pub Moves : Size → Line → Bench → Answer → Bench → Type 0

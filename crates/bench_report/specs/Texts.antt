@@ -37,7 +37,7 @@ line_text printed.PowerLost = codes "power lost"
 line_text printed.Busy = codes "busy"
 line_text printed.Off = codes "off"
 line_text (printed.Shown shown) = machine_line_text shown
-line_text printed.NotBuilt = codes "not built"
+line_text printed.Poked = codes "poked"
 
 abbrev pub image_text : Option ImageHead → List ℕ
 image_text None = codes "none"

@@ -43,8 +43,8 @@ pub enum Printed {
     Off,
     /// What a line shows of memory and harts, or of the payloads.
     Shown(MachineLine),
-    /// `not built`: a well-formed line that this program does not run yet.
-    NotBuilt,
+    /// `poked`: the disk was written past the firmware.
+    Poked,
 }
 
 /// All lines that a line of a script makes.
@@ -105,7 +105,7 @@ impl fmt::Display for Printed {
             Printed::Busy => f.write_str("busy"),
             Printed::Off => f.write_str("off"),
             Printed::Shown(shown) => write!(f, "{shown}"),
-            Printed::NotBuilt => f.write_str("not built"),
+            Printed::Poked => f.write_str("poked"),
         }
     }
 }

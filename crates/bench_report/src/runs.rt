@@ -7,7 +7,7 @@ ghost use Rattle.script_lang.specs.Scripts.{script_of, Script as Said};
 ghost use Rattle.script_lang.specs.Seen.{view};
 ghost use Rattle.store.specs.Leaves.{IsIdle};
 ghost use Rattle.bench_report.specs.Texts.{found_line, line_text};
-ghost use Rattle.bench_report.specs.Reports.{answer_text, IsReport, IsCutShort};
+ghost use Rattle.bench_report.specs.Reports.{answer_text, AreByFirmware, IsReport, IsCutShort};
 ghost use Rattle.bench_report.specs.Counts.{Adds, Reported};
 ghost use Rattle.bench_report.specs.Prefix.{KeepsPrefixLaw};
 ghost use Rattle.bench_report.specs.Bench.{Bench, blank_bench};
@@ -296,8 +296,8 @@ pub fn run<C: Crew, W: Write>(
     // What was written is a report of the script, and so are the count and the states.
     ensures report { IfOk result (λ report. (said : Said) × (answers : List Answer) × (end : Bench)
         × (script_of script.now ≡ Ok said) × IsReport said answers end × Reported (W.contents out.old) (W.contents out.new) report answers) }
-    // From the script's bytes to those of the report: what was written keeps the prefix law.
-    ensures law { IfOk result (λ report. (said : Said) × (answers : List Answer) × (script_of script.now ≡ Ok said) × KeepsPrefixLaw said.lines answers
+    // From the script's bytes to those of the report: what was written keeps the prefix law, where no line is a poke.
+    ensures law { IfOk result (λ report. (said : Said) × (answers : List Answer) × (script_of script.now ≡ Ok said) × (AreByFirmware said.lines → KeepsPrefixLaw said.lines answers)
         × Reported (W.contents out.old) (W.contents out.new) report answers) }
     // A refusal is the script's fault, or want of memory, or the writer's.
     ensures refused { IfErr result (λ e. (e ≡ Refusal.Memory) ⊎ (e ≡ Refusal.Output) ⊎ (script_of script.now ≡ Err e)) }

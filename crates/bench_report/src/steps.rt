@@ -8,10 +8,10 @@ ghost use Rattle.script_lang.specs.Ranges.{IsInRange};
 ghost use Rattle.store.specs.Leaves.{IsIdle};
 ghost use Rattle.bench_report.specs.Below.{store_in, machine_in, facts, store_mishaps};
 ghost use Rattle.bench_report.specs.Bench.{Bench, Life};
-ghost use Rattle.bench_report.specs.Steps.{FormatsOn, PowersOn, FormatStep, OnStep, ConsoleStep, PayloadStep, TurnStep, CallStep, ReadStep, ArmStep, Step, Moves, off, unpowered, says, shows};
+ghost use Rattle.bench_report.specs.Steps.{FormatsOn, PowersOn, FormatStep, OnStep, ConsoleStep, PayloadStep, TurnStep, CallStep, ReadStep, ArmStep, PokeStep, Step, Moves, off, unpowered, says, shows};
 ghost use Rattle.disk.specs.Mishaps.{armed_by};
 ghost use Rattle.simdisk.specs.declared.SimDisk.{SimDisk};
-ghost use Rattle.bench_report.specs.Agree.{choice_by, HasDisk, IsCutBy, Arms, ArmsIts, fill_after, EndsBy, Agrees, IsResting, OffIs, OnIs, StandsBy, AreShort, IsBench, IsUnstruck, Matches, Goes};
+ghost use Rattle.bench_report.specs.Agree.{choice_by, HasDisk, IsCutBy, Arms, ArmsIts, Pokes, PokesIts, fill_after, EndsBy, Agrees, IsResting, OffIs, OnIs, StandsBy, AreShort, IsBench, IsUnstruck, Matches, Goes};
 ghost use Rattle.machine_lines.specs.Shows.{waits, reg_line, pc_line, CsrLine, pending_line, mem_line};
 ghost use Rattle.machine.specs.Machine.{Machine};
 ghost use Rattle.board_model.specs.declared.refusal.Refusal.TheVariants.{Memory};
@@ -438,6 +438,33 @@ fn mem_line(address: u64, count: u32, power: &Power) -> MachineLine
     }
 }
 
+/// Writes bytes into a sector past the firmware, while the board is off. Refused where there is no memory for it, and then the
+/// bench is as it was.
+fn poke_line(
+    sector: u32,
+    offset: u32,
+    bytes: &Bytes,
+    power: Power,
+) -> (Power, Result<Answer, Refusal>)
+    requires { IsResting power }
+    ensures told { (size : Size) (b : Bench) → Agrees size b power → MatchResult result.1
+        (λ answer. Goes size b result.0 (PokeStep b.power b answer)) (λ e. (e ≡ Memory) × Agrees size b result.0) }
+    ensures pokes { OnOk result.1 (Pokes sector offset bytes.now power result.0) }
+    ensures resting { IsResting result.0 }
+    ensures refused { OnErr result.1 (result.1 ≡ Err Memory) }
+{
+    kept_disks::<SimDisk>();
+    match power {
+        Power::On(board) => (Power::On(board), Ok(says(Printed::Busy))),
+        Power::Off(mut disk) => {
+            match disk.poke(sector as usize, offset as usize, bytes.as_slice()) {
+                Ok(()) => (Power::Off(disk), Ok(says(Printed::Poked))),
+                Err(_refused) => (Power::Off(disk), Err(Refusal::Memory)),
+            }
+        }
+    }
+}
+
 /// A line that is never refused.
 fn answered(did: (Power, Answer)) -> (Power, Result<Answer, Refusal>)
     ensures power { result.0 ≡ did.0 }
@@ -456,8 +483,8 @@ fn shown(did: (Power, MachineLine)) -> (Power, Result<Answer, Refusal>)
     (after, Ok(says(Printed::Shown(line))))
 }
 
-/// One line of a script, as far as no armed cut strikes. Refused only where there is no memory for a payload, and then the
-/// bench is as it was.
+/// One line of a script, as far as no armed cut strikes. Refused only where there is no memory for a payload or a poke, and
+/// then the bench is as it was.
 fn step<C: Crew>(
     alloc: Global,
     crew: &C,
@@ -473,6 +500,7 @@ fn step<C: Crew>(
     ensures told { (b : Bench) → IsBench shape.now b power payloads.old → MatchResult result.1
         (λ answer. (new : Bench) × Step shape.now line.now b answer new × Matches shape.now new result.0 payloads.new) (λ e. (e ≡ Memory) × Matches shape.now b result.0 payloads.new) }
     ensures arms { ArmsIts line.now result.0 }
+    ensures pokes { PokesIts line.now power result.1 result.0 }
     ensures resting { IsResting result.0 }
     ensures short { AreShort payloads.new }
     ensures refused { OnErr result.1 (result.1 ≡ Err Memory) }
@@ -518,7 +546,7 @@ fn step<C: Crew>(
                 ArmedFault::FailLane(*lane as usize, u64::from(*call)),
             ))
         }
-        Line::Poke(_, _, _) => (power, Ok(says(Printed::NotBuilt))),
+        Line::Poke(sector, offset, bytes) => poke_line(*sector, *offset, bytes, power),
     }
 }
 

@@ -12,6 +12,8 @@ mod large;
 #[cfg(test)]
 mod lines;
 #[cfg(test)]
+mod pokes;
+#[cfg(test)]
 mod programs;
 #[cfg(test)]
 mod resets;

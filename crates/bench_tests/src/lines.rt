@@ -52,13 +52,3 @@ fn a_cut_before_the_format_leaves_a_blank_disk(rt: HostRuntime) -> Result<(), Fa
         b"board 1/1/1 sectors 26\ncut\non refused 1\nformat ok\nfound slot 0 reason 0 image none next 0\non keep\n",
     )
 }
-
-#[test]
-fn a_poke_is_not_built_and_does_nothing(rt: HostRuntime) -> Result<(), Fail> {
-    goes_on(
-        &rt,
-        rt.alloc(),
-        b"poke 0 0 00\nslot 1\ncut 00\npoke 0 0 00\non fresh\n",
-        b"not built\nslot ok 1\ncut\nnot built\nfound slot 1 reason 0 image none next 0\non fresh\n",
-    )
-}

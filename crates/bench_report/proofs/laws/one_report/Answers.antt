@@ -4,7 +4,7 @@ use Rattle.bench_report.proofs.PlainRun.{plain_alone}
 use Rattle.bench_report.proofs.laws.one_report.Goals as goal
 
 pub returns-clause-one : goal.returns-clause-one
-returns-clause-one c = λ script answers others end last x y u v. one_report c.one_turn.ensures.turn c.one_turn.ensures.call c.one_line.ensures.csr script answers others end last x y u v
+returns-clause-one c = λ script answers others end last by x y u v. one_report c.one_turn.ensures.turn c.one_turn.ensures.call c.one_line.ensures.csr script answers others end last by x y u v
 
 pub returns-clause-smooth : goal.returns-clause-smooth
 returns-clause-smooth c = unspoilt

@@ -1,5 +1,6 @@
 use Rattle.std.proofs.Common.{refl, sym, ◌∙◌}
 use Rattle.bench_report.specs.Steps.{unpowered}
+use Rattle.bench_report.proofs.Pokes.{poke_matches}
 use Rattle.bench_report.proofs.steps.step.Goals as goal
 
 pub returns-in-Format-clause-told : goal.returns-in-Format-clause-told
@@ -76,3 +77,7 @@ pub returns-in-FailLane-clause-told : goal.returns-in-FailLane-clause-told
 returns-in-FailLane-clause-told g c = λ b h.
     let did = c.arm-in-FailLane.ensures.told c.args.shape.now b h.0 in
     rw c.answered-in-FailLane.ensures.answer (rw c.answered-in-FailLane.ensures.power (rw c.in-FailLane.is (did.0, did.1, (did.2, h.1 ∙ sym did.3))))
+
+pub returns-in-Poke-clause-told : goal.returns-in-Poke-clause-told
+returns-in-Poke-clause-told g c = λ b h.
+    rw c.in-Poke.is (poke_matches c.args.shape.now b c.poke_line.result.1 c.poke_line.result.0 _ h.1 (c.poke_line.ensures.told c.args.shape.now b h.0))
