@@ -18,6 +18,8 @@ mod programs;
 #[cfg(test)]
 mod resets;
 #[cfg(test)]
+mod resume;
+#[cfg(test)]
 mod rows;
 #[cfg(test)]
 mod stopped;
