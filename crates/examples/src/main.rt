@@ -1,4 +1,5 @@
-//! `examples`: runs each script of a folder, and compares what it writes with the report beside it (README.md).
+//! `examples`: runs each script of a folder, once with each crew, and compares what it writes with the report beside it
+//! (README.md).
 //! Status 0 where each is as reported; else 1, and standard error names the first that is not. The folder is the word on
 //! the command line, or the one that the program runs in.
 #![tactic(auto)]
@@ -6,7 +7,7 @@
 mod reported;
 
 use crate::reported::{AsReported, Fault, compare_report};
-use crew::{Crew, Turns};
+use crew::{Crew, Threads, Turns};
 use std::path::Path;
 use std::process::ExitCode;
 use std::{env, fs, io};
@@ -37,16 +38,18 @@ fn file_of(rt: &HostRuntime, folder: &str, name: &str, ending: &str) -> io::Resu
     fs::read(rt, path)
 }
 
-/// Compares what the script writes with the report beside it.
-fn compare<'a, C: Crew>(
+/// Compares what the script writes, with savers that take turns and with one thread for each, with the report beside it.
+fn compare<'a, A: Crew, B: Crew>(
     rt: &HostRuntime,
-    crew: &C,
+    turns: &A,
+    threads: &B,
     folder: &str,
     name: &'a str,
 ) -> Result<AsReported<'a>, Fault> {
     let script = file_of(rt, folder, name, SCRIPT).map_err(Fault::Unread)?;
     let report = file_of(rt, folder, name, REPORT).map_err(Fault::Unread)?;
-    compare_report(rt.alloc(), name, &script, crew, &report)
+    compare_report(rt.alloc(), name, &script, turns, &report)?;
+    compare_report(rt.alloc(), name, &script, threads, &report)
 }
 
 /// Says that the script is as reported.
@@ -55,14 +58,19 @@ fn say(rt: &HostRuntime, compared: &AsReported<'_>) -> io::Result<()> {
 }
 
 /// Compares all scripts of the folder, up to the first that is not as reported.
-fn compare_all<C: Crew>(rt: &HostRuntime, crew: &C, folder: &str) -> io::Result<ExitCode> {
+fn compare_all<A: Crew, B: Crew>(
+    rt: &HostRuntime,
+    turns: &A,
+    threads: &B,
+    folder: &str,
+) -> io::Result<ExitCode> {
     let names = names_in(rt, folder)?;
     if names.is_empty() {
         eprintln!(rt; "examples: no script in {folder}")?;
         return Ok(ExitCode::FAILURE);
     }
     for name in &names {
-        match compare(rt, crew, folder, name.as_str()) {
+        match compare(rt, turns, threads, folder, name.as_str()) {
             Ok(compared) => say(rt, &compared)?,
             Err(fault) => {
                 eprintln!(rt; "examples: {name}{SCRIPT}: {fault}")?;
@@ -75,8 +83,8 @@ fn compare_all<C: Crew>(rt: &HostRuntime, crew: &C, folder: &str) -> io::Result<
 
 fn main(rt: HostRuntime) -> anyhow::Result<ExitCode> {
     let words: Vec<String> = env::args(&rt)?.collect(rt.alloc())?;
-    let crew = Turns::<HostRuntime>::new([0, 1, 2, 3])?;
+    let turns = Turns::<HostRuntime>::new([0, 1, 2, 3])?;
     let folder = words.get(1).map_or(".", String::as_str);
-    let code = compare_all(&rt, &crew, folder)?;
+    let code = compare_all(&rt, &turns, &Threads::new(&rt), folder)?;
     Ok(code)
 }
