@@ -1,5 +1,5 @@
 -- What was written since the last sync, beside what stood at it.
-use Rattle.std.proofs.Common.{◌≡◌, ℕ, length, sym, subst}
+use Rattle.std.proofs.Common.{◌≡◌, length, sym, subst}
 use Rattle.disk.specs.Facts.{Content}
 use Rattle.simdisk.specs.declared.history.History.{History}
 use Rattle.simdisk.specs.History.{record_of}

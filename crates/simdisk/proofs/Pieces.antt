@@ -72,7 +72,7 @@ ranges_filled byte [] = refl
 ranges_filled byte (p ∷ ps) =
     ap (λ (n : ℕ). (p.0, n) ∷ ranges (map (filled byte) ps)) (length-replicate (length p.1) (replicate 512 byte)) ∙ ap (λ (rs : List (ℕ × ℕ)). (p.0, length p.1) ∷ rs) (ranges_filled byte ps)
 
-length-settled : (now : Content) (p : Piece) → p.0 + length p.1 ≤ length now → length (settled now p).1 ≡ length p.1
+pub length-settled : (now : Content) (p : Piece) → p.0 + length p.1 ≤ length now → length (settled now p).1 ≡ length p.1
 length-settled now p within = length-take-le (length p.1) (drop p.0 now) (omega (arith, within, length-drop p.0 now))
 
 pub ranges_settled : (now : Content) (ps : List Piece) → Fits (length now) (ranges ps) → ranges (map (settled now) ps) ≡ ranges ps

@@ -1,15 +1,14 @@
 -- A piece of the record with other bytes.
-use Rattle.std.proofs.Common.{◌≡◌, ◌⊎◌, ◌∙◌, inl, inr, ⊎_elim, refl, zero, suc, ℕ, ◌+◌, ◌*◌, ◌-◌, ◌<◌, ◌≤◌, List, [], ◌∷◌, length, get_or, set, sym, ap, subst, arith}
+use Rattle.std.proofs.Common.{◌≡◌, ◌⊎◌, ◌∙◌, inl, inr, ⊎_elim, zero, suc, ℕ, ◌+◌, ◌-◌, ◌<◌, ◌≤◌, List, [], ◌∷◌, length, get_or, set, take, drop, sym, ap, subst, arith, rules, length-drop}
 use Rattle.std.proofs.lemmas.Bool.{cases_lt}
-use Rattle.std.proofs.lemmas.List.{map-set, set-get_or, length-map, ext_get_or}
-use Rattle.std.proofs.lemmas.Nat.{row_fits}
-use Rattle.disk.specs.Facts.{Content, LaneFacts, Lent, Joined, sector}
-use Rattle.simdisk.specs.Record.{Piece, put, replay, range, ranges, Untouched, Agrees, Fits, range_at}
+use Rattle.std.proofs.lemmas.List.{places, map-set, set-get_or, length-map, length-take-le, ext_get_or}
+use Rattle.disk.specs.Facts.{Content, Torn, sector}
+use Rattle.simdisk.specs.Record.{Piece, put, replay, settled, range, ranges, Untouched, Fits, range_at}
 use Rattle.simdisk.specs.Loans.{IsLast}
 use Rattle.simdisk.specs.declared.patch.Patch.{Patch}
 use Rattle.simdisk.specs.Views.{piece, pieces}
 use Rattle.simdisk.proofs.Walks.{range_read}
-use Rattle.simdisk.proofs.Pieces.{length-put, put_low, put_mid, put_high, fits_here, fits_rest, length_replay, replay_outside}
+use Rattle.simdisk.proofs.Pieces.{length-put, put_low, put_mid, put_high, fits_here, fits_rest, length_replay, length-settled, replay_outside}
 
 -- two contents with the same in a sector, if it is outside of these pieces, have the same there after them
 replay_outside_same : (ps : List Piece) (c d : Content) (k : ℕ) → length d ≡ length c → Fits (length c) (ranges ps) → (Untouched (ranges ps) k → sector d k ≡ sector c k)
@@ -36,12 +35,6 @@ replay_outside_same (p ∷ ps) c d k long fits same =
 
 replay_same : (ps : List Piece) (c d : Content) (k : ℕ) → length d ≡ length c → Fits (length c) (ranges ps) → sector d k ≡ sector c k → sector (replay ps d) k ≡ sector (replay ps c) k
 replay_same ps c d k long fits same = replay_outside_same ps c d k long fits (λ u. same)
-
--- a content that agrees with what stood outside these pieces gives the same with them
-pub replay_agrees : (ps : List Piece) (stood c : Content) → Agrees stood (ranges ps) c → Fits (length stood) (ranges ps) → replay ps c ≡ replay ps stood
-replay_agrees ps stood c a fits =
-    ext_get_or [] (replay ps c) (replay ps stood) (length_replay ps c (subst (λ (n : ℕ). Fits n (ranges ps)) (sym a.as_long) fits) ∙ a.as_long ∙ sym (length_replay ps stood fits))
-    (λ k lt. replay_outside_same ps stood c k a.as_long fits (λ u. a.same k u))
 
 -- the sectors that later ranges leave alone
 later : (rs : List (ℕ × ℕ)) (r : ℕ × ℕ) (k : ℕ) → ((j : ℕ) → j < length rs → r.0 < (range_at rs j).0 + (range_at rs j).1 → r.0 + r.1 ≤ (range_at rs j).0) → r.0 ≤ k → k < r.0 + r.1 → Untouched rs k
@@ -91,60 +84,59 @@ replaced_inside (p ∷ ps) (suc i) new c k fits last le lt =
     replaced_inside ps i new (put p c) k (subst (λ (n : ℕ). Fits n (ranges ps)) (sym (length-put p.0 p.1 c (fits_here (length c) p ps fits))) (fits_rest (length c) p ps fits))
     (record { noted = (omega (arith, last.noted.0), last.noted.1); apart = λ j more less. last.apart (suc j) (omega (arith, more)) (omega (arith, less)) }) le lt
 
--- the lent piece, with what the lanes wrote last
-pub replaced_joined : (ps : List Piece) (i : ℕ) (old new : Content) (l : Lent) (lanes : List LaneFacts) (c : Content) → Fits (length c) (ranges ps)
-    → IsLast (ranges ps) i (l.first, l.lanes * l.each) → length old ≡ l.lanes * l.each
-    → Joined (record { first = 0; lanes = l.lanes; each = l.each }) lanes old new → Joined l lanes (replay ps c) (replay (set ps i (l.first, new)) c)
-replaced_joined ps i old new l lanes c fits last size j = record {
-  elsewhere = record {
-    as_long = length_replay (set ps i (l.first, new)) c still ∙ sym (length_replay ps c fits);
-    before = λ k low. replaced_outside ps i (l.first, new) c k less fits is (inl low);
-    after = λ k high. replaced_outside ps i (l.first, new) c k less fits is (inr (omega (arith, high, long)));
-  };
-  there = λ m n lt less. j.there m n lt less ∙ sym (at m n lt less);
-}
+-- the last piece of its range, with what stands there in a content that is torn there alone: then that content is what all give
+pub replaced_torn : (ps : List Piece) (i first n : ℕ) (c now : Content) → Fits (length c) (ranges ps) → IsLast (ranges ps) i (first, n) → Torn first n (replay ps c) now
+    → replay (set ps i (first, take n (drop first now))) c ≡ now
+replaced_torn ps i first n c now fits last torn =
+    ext_get_or [] (replay (set ps i new) c) now (length_replay (set ps i new) c still ∙ sym long) (λ k lt. elim (cases_lt k first) [
+      | inl low ↦ replaced_outside ps i new c k less fits is (inl low) ∙ sym (torn.before k low)
+      | inr le ↦ elim (cases_lt k (first + n)) [
+        | inl lt ↦ replaced_inside ps i new c k fits (subst (λ (r : ℕ × ℕ). IsLast (ranges ps) i r) (ap (λ (x : ℕ). (first, x)) (sym size)) last) le (rw size lt) ∙ middle k le lt
+        | inr high ↦ replaced_outside ps i new c k less fits is (inr (rw size high)) ∙ sym (torn.after k high)
+      ]
+    ])
   where
-    long : length new ≡ l.lanes * l.each
-    long = j.elsewhere.as_long ∙ size
+    long : length now ≡ length c
+    long = torn.as_long ∙ length_replay ps c fits
+
+    within : first + n ≤ length now
+    within = rw long (subst (λ (r : ℕ × ℕ). r.0 + r.1 ≤ length c) last.noted.1 (fits i last.noted.0))
+
+    size : length (take n (drop first now)) ≡ n
+    size = length-take-le n (drop first now) (omega (arith, within, length-drop first now))
+
+    new : Piece
+    new = (first, take n (drop first now))
 
     less : i < length ps
     less = omega (arith, last.noted.0, length-map ps range)
 
-    is : range_at (ranges ps) i ≡ (l.first, length new)
-    is = last.noted.1 ∙ ap (λ (n : ℕ). (l.first, n)) (sym long)
+    is : range_at (ranges ps) i ≡ range new
+    is = last.noted.1 ∙ ap (λ (x : ℕ). (first, x)) (sym size)
 
-    still : Fits (length c) (ranges (set ps i (l.first, new)))
-    still = subst (λ (rs : List (ℕ × ℕ)). Fits (length c) rs) (sym (map-set range ps i (l.first, new) ∙ ap (λ (r : ℕ × ℕ). set (ranges ps) i r) (sym is) ∙ set-get_or (ranges ps) i (0, 0))) fits
+    still : Fits (length c) (ranges (set ps i new))
+    still = subst (λ (rs : List (ℕ × ℕ)). Fits (length c) rs) (sym (map-set range ps i new ∙ ap (λ (r : ℕ × ℕ). set (ranges ps) i r) (sym is) ∙ set-get_or (ranges ps) i (0, 0))) fits
 
-    at : (m n : ℕ) → m < l.lanes → n < l.each → sector (replay (set ps i (l.first, new)) c) (l.first + m * l.each + n) ≡ sector new (0 + m * l.each + n)
-    at m n lt less =
-        replaced_inside ps i (l.first, new) c (l.first + m * l.each + n) fits (subst (λ (r : ℕ × ℕ). IsLast (ranges ps) i r) (ap (λ (x : ℕ). (l.first, x)) (sym long)) last)
-        (omega arith) (omega (arith, row_fits m l.each l.lanes l.each lt (omega arith), less, long))
-        ∙ ap (λ (x : ℕ). sector new x) (omega arith)
+    middle : (k : ℕ) → first ≤ k → k < first + n → sector (take n (drop first now)) (k - first) ≡ sector now k
+    middle k le lt = search (rules, places)
 
--- where nothing is lent, nothing comes back
-pub joined_nothing : (l : Lent) (lanes : List LaneFacts) (c : Content) → l.lanes ≡ 0 → Joined l lanes c c
-joined_nothing l lanes c none = record {
-  elsewhere = record { as_long = refl; before = λ k lt. refl; after = λ k le. refl };
-  there = λ i j lt. absurd (omega (arith, lt, none));
-}
+-- where nothing is lent, nothing changes
+pub torn_nothing : (first n : ℕ) (c now : Content) → n ≡ 0 → Torn first n c now → now ≡ c
+torn_nothing first n c now none torn = ext_get_or [] now c torn.as_long (λ k lt. elim (cases_lt k first) [
+  | inl low ↦ torn.before k low
+  | inr le ↦ torn.after k (omega (arith, le, none))
+])
 
-pub range_kept : (x new : Patch) → new.first ≡ x.first → length new.sectors.items ≡ length x.sectors.items → range (piece new) ≡ range (piece x)
-range_kept x new first long = ap (λ (n : ℕ). (n, length new.sectors.items)) first ∙ ap (λ (n : ℕ). (x.first, n)) long
+pub range_settled : (now : Content) (x new : Patch) → piece new ≡ settled now (piece x) → x.first + x.count ≤ length now → range (piece new) ≡ range (piece x)
+range_settled now x new is within = ap range is ∙ ap (λ (n : ℕ). (x.first, n)) (length-settled now (piece x) (rw x.long within))
 
--- the patch at that place, whose range is what was lent
-pub newest_joined : (patches : List Patch) (i : ℕ) (x new : Patch) (l : Lent) (lanes : List LaneFacts) (c s : Content) → i < length patches → x ≡ get_or patches i x → Fits (length s) (ranges (pieces patches)) → c ≡ s
-    → IsLast (ranges (pieces patches)) i (l.first, l.lanes * l.each) → new.first ≡ x.first → Joined (record { first = 0; lanes = l.lanes; each = l.each }) lanes x.sectors.items new.sectors.items
-    → Joined l lanes (replay (pieces patches) c) (replay (pieces (set patches i new)) c)
-newest_joined patches i x new l lanes c s lt is fits same last first j =
-    subst (λ (k : Content). Joined l lanes (replay (pieces patches) k) (replay (pieces (set patches i new)) k)) (sym same)
-    (subst (λ (ps : List Piece). Joined l lanes (replay (pieces patches) s) (replay ps s)) (sym set_is) (replaced_joined (pieces patches) i x.sectors.items new.sectors.items l lanes s fits last size j))
+-- the patch at that place, as it stands in that content
+pub newest_retaken : (patches : List Patch) (i : ℕ) (x new : Patch) (first n : ℕ) (s now : Content) → i < length patches → x ≡ get_or patches i x → Fits (length s) (ranges (pieces patches))
+    → IsLast (ranges (pieces patches)) i (first, n) → piece new ≡ settled now (piece x) → Torn first n (replay (pieces patches) s) now → replay (pieces (set patches i new)) s ≡ now
+newest_retaken patches i x new first n s now lt is fits last changed torn = ap (λ (ps : List Piece). replay ps s) set_is ∙ replaced_torn (pieces patches) i first n s now fits last torn
   where
-    at : range (piece x) ≡ (l.first, l.lanes * l.each)
-    at = range_read patches i x (l.first, l.lanes * l.each) lt is last.noted.1
+    at : range (piece x) ≡ (first, n)
+    at = range_read patches i x (first, n) lt is last.noted.1
 
-    size : length x.sectors.items ≡ l.lanes * l.each
-    size = ap (λ (r : ℕ × ℕ). r.1) at
-
-    set_is : pieces (set patches i new) ≡ set (pieces patches) i (l.first, new.sectors.items)
-    set_is = map-set piece patches i new ∙ ap (λ (f : ℕ). set (pieces patches) i (f, new.sectors.items)) (first ∙ ap (λ (r : ℕ × ℕ). r.0) at)
+    set_is : pieces (set patches i new) ≡ set (pieces patches) i (first, take n (drop first now))
+    set_is = map-set piece patches i new ∙ ap (λ (p : Piece). set (pieces patches) i p) (changed ∙ ap (λ (r : ℕ × ℕ). (r.0, take r.1 (drop r.0 now))) at)

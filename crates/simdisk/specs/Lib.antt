@@ -4,7 +4,9 @@ pub mod History
 pub mod LaneRecords
 pub mod Lanes
 pub mod Lasts
+pub mod Latest
 pub mod Laws
+pub mod Lendings
 pub mod Loans
 pub mod Pokes
 pub mod Record

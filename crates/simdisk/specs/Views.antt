@@ -4,7 +4,7 @@ use Rattle.simdisk.specs.declared.patch.Patch.{Patch}
 use Rattle.simdisk.specs.Record.{Piece}
 
 abbrev pub piece : Patch → Piece
-piece patch = (patch.first, patch.sectors.items)
+piece patch = (patch.first, patch.bytes.sectors)
 
 abbrev pub pieces : List Patch → List Piece
 pieces patches = map piece patches

@@ -4,12 +4,12 @@ ghost use Rattle.disk.specs.Facts.{Content, Torn, Written, Passes, Stays, Only, 
 ghost use Rattle.disk.specs.Mishaps.{CausedInLanes, armed_by};
 ghost use Rattle.disk.specs.Calls.{Called, NoCall};
 ghost use Rattle.simdisk.specs.Armings.{FailsNext, one_call_on};
-ghost use Rattle.simdisk.specs.LaneRecords.{AreLent, WrittenBack, CameBack};
-ghost use Rattle.simdisk.specs.Record.{more_written, more_synced, lent_piece, newest, NotedOrRefused, SameRanges};
+ghost use Rattle.simdisk.specs.Lendings.{Lends, TakesBack};
+ghost use Rattle.simdisk.specs.Record.{more_written, more_synced, lent_piece, NotedOrRefused};
 
 use crate::laid::overwrite;
 use crate::lane::{Bytes, SimLane};
-use crate::lending::{failures_of, lay_row, stays_in_step};
+use crate::lending::{failures_of, lay_row};
 use crate::loan::Loan;
 use crate::recorded::{Recorded, RecordedLane};
 use crate::sim::SimDisk;
@@ -73,16 +73,17 @@ impl Disk for SimDisk {
         ensures counts { (FailsNext (⟦<SimDisk as Disk>⟧.mishaps self.old).struck (⟦<SimDisk as Recorded>⟧.armed self.old) → ⊥) → ⟦<SimDisk as Recorded>⟧.armed self.new ≡ one_call_on (⟦<SimDisk as Recorded>⟧.armed self.old) }
     {
         self.calls = self.calls.saturating_add(1);
-        let Ok(()) = self.history.note(self.alloc, first, sectors) else {
+        let Ok(()) = self.history.note(first, sectors) else {
             self.faults.pass();
             self.refused = self.refused.saturating_add(1);
             return Err(failed(&mut self.failures));
         };
         if self.faults.strikes() {
-            self.in_step = false;
+            self.latest.write_failed(&self.content, first, sectors);
             return Err(failed(&mut self.failures));
         }
         overwrite(&mut self.content, first, sectors);
+        self.latest.write(first, sectors);
         Ok(())
     }
 
@@ -104,7 +105,7 @@ impl Disk for SimDisk {
             self.refused = self.refused.saturating_add(1);
             return Err(failed(&mut self.failures));
         };
-        self.in_step = true;
+        self.latest.as_read = true;
         self.loan.patch = 0;
         Ok(())
     }
@@ -120,10 +121,8 @@ impl Disk for SimDisk {
         ensures crash { Passes (⟦<SimDisk as Disk>⟧.facts self.old) (⟦<SimDisk as Disk>⟧.facts self.new) (Torn first (lanes * each)) }
         ensures crash_refused { OnErr result (Passes (⟦<SimDisk as Disk>⟧.facts self.old) (⟦<SimDisk as Disk>⟧.facts self.new) Stays) }
         ensures no_call { NoCall (⟦<SimDisk as Disk>⟧.facts self.old) (⟦<SimDisk as Disk>⟧.facts self.new) (⟦<SimDisk as Disk>⟧.mishaps self.old) (⟦<SimDisk as Disk>⟧.mishaps self.new) }
-        ensures record { OnOk result (⟦<SimDisk as Recorded>⟧.record self.new ≡ more_written (lent_piece (record { first = first; lanes = lanes; each = each }) (newest (⟦<SimDisk as Recorded>⟧.record self.old))) (⟦<SimDisk as Recorded>⟧.record self.old)) }
-        ensures record_refused { OnErr result (⟦<SimDisk as Recorded>⟧.record self.new ≡ ⟦<SimDisk as Recorded>⟧.record self.old) }
-        ensures armed { ⟦<SimDisk as Recorded>⟧.armed self.new ≡ ⟦<SimDisk as Recorded>⟧.armed self.old }
-        ensures lanes { IfOk result (λ out. AreLent (record { first = first; lanes = lanes; each = each }) (newest (⟦<SimDisk as Recorded>⟧.record self.old)) (⟦<SimDisk as Recorded>⟧.armed self.old) (⟦<SimDisk as Disk>⟧.mishaps self.old).struck (map ⟦<SimLane as RecordedLane>⟧.record out.items)) }
+        ensures lends { Lends (λ out. map ⟦<SimLane as RecordedLane>⟧.record out.items) (record { first = first; lanes = lanes; each = each }) (⟦<SimDisk as Recorded>⟧.record self.old) (⟦<SimDisk as Recorded>⟧.record self.new)
+            (⟦<SimDisk as Recorded>⟧.armed self.old) (⟦<SimDisk as Recorded>⟧.armed self.new) (⟦<SimDisk as Disk>⟧.mishaps self.old).struck result }
     {
         let loan = Loan {
             first,
@@ -131,9 +130,13 @@ impl Disk for SimDisk {
             each,
             patch: self.history.written.len(),
         };
+        let alloc = self.alloc;
+        let in_step = self.latest.as_read;
+        let faults = self.faults;
+        let last = self.latest.over(&self.content);
         let out = self
             .history
-            .lend(self.alloc, &self.content, self.in_step, self.faults, loan)?;
+            .lend(alloc, &self.content, last, in_step, faults, loan)?;
         self.loan = loan;
         Ok(out)
     }
@@ -146,13 +149,12 @@ impl Disk for SimDisk {
         ensures failures { (⟦<SimDisk as Disk>⟧.facts self.new).failures ≡ counted (⟦<SimDisk as Disk>⟧.facts self.old).failures (lane_failures (map ⟦<SimLane as Lane>⟧.lane_facts lanes.items)) }
         ensures calls { (⟦<SimDisk as Disk>⟧.facts self.new).calls ≡ (⟦<SimDisk as Disk>⟧.facts self.old).calls }
         ensures cause { CausedInLanes (⟦<SimDisk as Disk>⟧.mishaps self.old) (⟦<SimDisk as Disk>⟧.mishaps self.new) (lane_failures (map ⟦<SimLane as Lane>⟧.lane_facts lanes.items)) }
-        ensures record { SameRanges (⟦<SimDisk as Recorded>⟧.record self.old) (⟦<SimDisk as Recorded>⟧.record self.new) }
-        ensures newest { WrittenBack (⟦<SimDisk as Disk>⟧.facts self.old).lent (map ⟦<SimLane as RecordedLane>⟧.record lanes.items) (newest (⟦<SimDisk as Recorded>⟧.record self.old)) (newest (⟦<SimDisk as Recorded>⟧.record self.new)) }
-        ensures came_back { (own : ℕ) × ((⟦<SimDisk as Disk>⟧.mishaps self.new).own ≡ counted (⟦<SimDisk as Disk>⟧.mishaps self.old).own own)
-            × CameBack (⟦<SimDisk as Recorded>⟧.armed self.old) (⟦<SimDisk as Disk>⟧.mishaps self.old).struck (map ⟦<SimLane as RecordedLane>⟧.record lanes.items) (counted 0 (lane_failures (map ⟦<SimLane as Lane>⟧.lane_facts lanes.items))) (⟦<SimDisk as Recorded>⟧.armed self.new) (⟦<SimDisk as Disk>⟧.mishaps self.new).struck own }
+        ensures takes_back { TakesBack (⟦<SimDisk as Disk>⟧.facts self.old).lent (map ⟦<SimLane as RecordedLane>⟧.record lanes.items) (lane_failures (map ⟦<SimLane as Lane>⟧.lane_facts lanes.items)) (⟦<SimDisk as Recorded>⟧.record self.old) (⟦<SimDisk as Recorded>⟧.record self.new)
+            (⟦<SimDisk as Recorded>⟧.armed self.old) (⟦<SimDisk as Recorded>⟧.armed self.new) (⟦<SimDisk as Disk>⟧.mishaps self.old) (⟦<SimDisk as Disk>⟧.mishaps self.new) }
     {
         let loan = self.loan;
         let failures = failures_of(&lanes);
+        self.latest.join(&self.content, loan, &lanes);
         lay_row(
             &mut self.content,
             loan.first,
@@ -161,8 +163,8 @@ impl Disk for SimDisk {
             &lanes,
             Bytes::Read,
         );
-        self.history.take_newest(loan, &lanes);
-        self.in_step = stays_in_step(self.in_step, &lanes);
+        let last = self.latest.over(&self.content);
+        self.history.take_newest(loan, last);
         self.loan = Loan::nothing();
         self.failures = self.failures.saturating_add(failures);
         let own = self.faults.come_back(&lanes, failures);

@@ -1,5 +1,5 @@
 //! Patches laid over a content.
-ghost use Rattle.std.specs.Prelude.{◌≡◌, ◌≤◌, ◌<◌, ◌+◌, length, map};
+ghost use Rattle.std.specs.Prelude.{◌≡◌, ◌≤◌, ◌<◌, ◌+◌, length, map, replicate};
 ghost use Rattle.disk.specs.Facts.{Written};
 ghost use Rattle.simdisk.specs.Record.{put, replay, settled, filled, ranges, Fits};
 ghost use Rattle.simdisk.specs.Views.{pieces};
@@ -16,18 +16,6 @@ pub(crate) fn overwrite(content: &mut Vec<Sector>, first: usize, sectors: &[Sect
     content[first..first + sectors.len()].copy_from_slice(sectors);
 }
 
-// Lays the patches over the content, one after the other.
-#[tactic(auto, using(crate::proofs::Pieces::length_replay))]
-pub(crate) fn replay_on(content: &mut Vec<Sector>, patches: &[Patch])
-    requires { Fits (length content.old.items) (ranges (pieces patches.now)) }
-    ensures content { content.new.items ≡ replay (pieces patches.now) content.old.items }
-    ensures as_long { length content.new.items ≡ length content.old.items }
-{
-    for patch in patches {
-        overwrite(content, patch.first, &patch.sectors);
-    }
-}
-
 // Takes over from the content what stands in the sectors of these patches.
 #[tactic(auto, using(crate::proofs::Pieces::length_replay))]
 pub(crate) fn settle(stood: &mut Vec<Sector>, patches: &[Patch], content: &[Sector])
@@ -40,13 +28,31 @@ pub(crate) fn settle(stood: &mut Vec<Sector>, patches: &[Patch], content: &[Sect
     }
 }
 
-// Fills each patch with that byte.
-#[tactic(auto, using(crate::proofs::Pieces::ranges_filled))]
-pub(crate) fn fill(patches: &mut [Patch], byte: u8)
-    ensures filled { pieces patches.new ≡ map (filled byte) (pieces patches.old) }
-    ensures ranges { ranges (pieces patches.new) ≡ ranges (pieces patches.old) }
+// Fills the sectors of these patches with that byte.
+#[tactic(auto, using(crate::proofs::Pieces::length_replay))]
+pub(crate) fn fill(content: &mut Vec<Sector>, patches: &[Patch], byte: u8)
+    requires { Fits (length content.old.items) (ranges (pieces patches.now)) }
+    ensures content { content.new.items ≡ replay (map (filled byte) (pieces patches.now)) content.old.items }
+    ensures as_long { length content.new.items ≡ length content.old.items }
 {
-    for patch in patches.iter_mut() {
-        patch.fill(byte);
+    for patch in patches {
+        patch.fill(content, byte);
+    }
+}
+
+// Fills so many sectors from that one on with that byte.
+pub(crate) fn fill_range(content: &mut Vec<Sector>, first: usize, count: usize, byte: u8)
+    requires { first + count ≤ length content.old.items }
+    ensures { content.new.items ≡ put (first, replicate count (replicate 512 byte)) content.old.items }
+{
+    fill_all(&mut content[first..first + count], byte);
+}
+
+// Fills all these sectors with that byte.
+fn fill_all(sectors: &mut [Sector], byte: u8)
+    ensures { sectors.new ≡ replicate (length sectors.old) (replicate 512 byte) }
+{
+    for sector in sectors.iter_mut() {
+        *sector = [byte; 512];
     }
 }

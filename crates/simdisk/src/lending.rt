@@ -16,8 +16,8 @@ use std::alloc::{AllocError, Global};
 // they are in step there is none.
 pub(crate) fn lend(
     alloc: Global,
-    content: &Vec<Sector>,
-    newest: &Vec<Sector>,
+    content: &[Sector],
+    newest: &[Sector],
     in_step: bool,
     faults: Faults,
     first: usize,
@@ -25,11 +25,11 @@ pub(crate) fn lend(
     each: usize,
 ) -> Result<Vec<SimLane>, AllocError>
     requires few { lanes ≤ 4 }
-    requires within { first + lanes * each ≤ length content.now.items }
-    requires as_long { length newest.now.items ≡ length content.now.items }
-    requires in_step { in_step ≡ true → newest.now.items ≡ content.now.items }
-    ensures handed { IfOk result (λ out. Handed (record { first = first; lanes = lanes; each = each }) content.now.items (map lane_view out.items)) }
-    ensures lent { IfOk result (λ out. AreLent (record { first = first; lanes = lanes; each = each }) newest.now.items faults.armed faults.cut (map lane_record out.items)) }
+    requires within { first + lanes * each ≤ length content.now }
+    requires as_long { length newest.now ≡ length content.now }
+    requires in_step { in_step ≡ true → newest.now ≡ content.now }
+    ensures handed { IfOk result (λ out. Handed (record { first = first; lanes = lanes; each = each }) content.now (map lane_view out.items)) }
+    ensures lent { IfOk result (λ out. AreLent (record { first = first; lanes = lanes; each = each }) newest.now faults.armed faults.cut (map lane_record out.items)) }
 {
     let mut out = Vec::new(alloc);
     for lane in 0..lanes {

@@ -9,6 +9,7 @@ mod faults;
 mod history;
 mod laid;
 mod lane;
+mod latest;
 mod lending;
 mod letter;
 mod loan;
@@ -18,6 +19,7 @@ mod patch;
 mod poked;
 mod recorded;
 mod recording;
+mod remembered;
 mod sim;
 mod striking;
 

@@ -9,6 +9,7 @@ ghost use Rattle.simdisk.specs.Choices.{left_by};
 use crate::choice::Choice;
 use crate::faults::Faults;
 use crate::history::History;
+use crate::latest::Latest;
 use crate::loan::Loan;
 use crate::patch::copy_of;
 use crate::recorded::Recorded;
@@ -55,11 +56,12 @@ impl SimDisk {
         ensures no_mishap { IfOk result (λ disk. ⟦<SimDisk as Disk>⟧.mishaps disk ≡ no_mishap) }
     {
         let history = History::begun(alloc, &content)?;
+        let latest = Latest::begun(alloc, &content)?;
         Ok(SimDisk {
             alloc,
             content,
             history,
-            in_step: true,
+            latest,
             failures: 0,
             calls: 0,
             refused: 0,
@@ -76,14 +78,17 @@ impl SimDisk {
         ensures record { ⟦<SimDisk as Recorded>⟧.record result ≡ new_record (⟦<SimDisk as Disk>⟧.facts result).content }
         ensures mishaps { ⟦<SimDisk as Disk>⟧.mishaps result ≡ mishaps_left (⟦<SimDisk as Disk>⟧.mishaps self) }
     {
-        let history = self.history.left(self.alloc, choice);
         let mut content = self.content;
+        let mut latest = self.latest;
+        let last = latest.over(&content);
+        let history = self.history.left(self.alloc, choice, last);
+        latest.as_read = true;
         content.copy_from_slice(&history.stood);
         SimDisk {
             alloc: self.alloc,
             content,
             history,
-            in_step: true,
+            latest,
             failures: self.failures,
             calls: self.calls,
             refused: self.refused,

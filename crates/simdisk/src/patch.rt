@@ -1,63 +1,90 @@
 //! Sectors in a row, and how they are laid over a content.
 ghost use Rattle.std.specs.Prelude.{◌≡◌, length, IfOk};
 
-use crate::laid::overwrite;
-use crate::lane::{Bytes, SimLane};
-use crate::lending::lay_row;
-use crate::loan::Loan;
+use crate::laid::{fill_range, overwrite};
+use crate::remembered::Remembered;
 use disk::Sector;
 use std::alloc::{AllocError, Global};
 
-/// Sectors in a row, from the first that it names on.
+/// Sectors in a row that were written, from the first that it names on. Which bytes were written is
+/// for contracts alone: what stands, and what was written last, are kept for the whole disk.
 #[derive(Drop)]
 pub(crate) struct Patch {
     pub(crate) first: usize,
-    pub(crate) sectors: Vec<Sector>,
+    pub(crate) count: usize,
+    pub(crate) bytes: Remembered,
+    ghost long: { length bytes.sectors ≡ count },
 }
 
 impl Patch {
-    ghost use Rattle.std.specs.Prelude.{◌≡◌, ◌≤◌, ◌<◌, ◌+◌, ◌*◌, ℕ, length, map};
-    ghost use Rattle.disk.specs.Facts.{Joined, lane_at};
-    ghost use Rattle.simdisk.specs.Lanes.{newest_view};
+    ghost use Rattle.std.specs.Prelude.{◌≡◌, ◌≤◌, ◌<◌, ◌+◌, ◌^◌, length, take, drop};
     ghost use Rattle.simdisk.specs.Record.{put, settled, filled};
     ghost use Rattle.simdisk.specs.Views.{piece};
+
+    // These sectors, from that one on.
+    pub(crate) fn of(first: usize, sectors: &[Sector]) -> Patch
+        ensures { piece result ≡ (first, sectors.now) }
+    {
+        Patch {
+            first,
+            count: sectors.len(),
+            bytes: Remembered::of(sectors),
+        }
+    }
 
     // Takes over from that content what stands in its sectors.
     pub(crate) fn settle(&self, stood: &mut Vec<Sector>, content: &[Sector])
         requires as_long { length content.now ≡ length stood.old.items }
-        requires within { self.now.first + length self.now.sectors.items ≤ length content.now }
+        requires within { self.now.first + self.now.count ≤ length content.now }
         ensures put { stood.new.items ≡ put (settled content.now (piece self.now)) stood.old.items }
         ensures as_long { length stood.new.items ≡ length stood.old.items }
     {
-        let end = self.first + self.sectors.len();
+        let end = self.first + self.count;
         overwrite(stood, self.first, &content[self.first..end]);
     }
 
-    // Takes what was written last in the lanes of that loan.
-    pub(crate) fn take_newest(&mut self, loan: Loan, lanes: &[SimLane])
-        requires long { length self.old.sectors.items ≡ loan.lanes * loan.each }
-        requires count { length lanes.now ≡ loan.lanes }
-        requires each { (i : ℕ) → i < loan.lanes → length (lane_at (map newest_view lanes.now) i).content ≡ loan.each }
-        ensures first { self.new.first ≡ self.old.first }
-        ensures joined { Joined (record { first = 0; lanes = loan.lanes; each = loan.each }) (map newest_view lanes.now) self.old.sectors.items self.new.sectors.items }
+    // Fills its sectors of that content with a byte.
+    pub(crate) fn fill(&self, content: &mut Vec<Sector>, byte: u8)
+        requires { self.now.first + self.now.count ≤ length content.old.items }
+        ensures put { content.new.items ≡ put (filled byte (piece self.now)) content.old.items }
+        ensures as_long { length content.new.items ≡ length content.old.items }
     {
-        lay_row(
-            &mut self.sectors,
-            0,
-            loan.lanes,
-            loan.each,
-            lanes,
-            Bytes::Written,
-        );
+        fill_range(content, self.first, self.count, byte);
     }
 
-    // Takes that byte throughout.
-    pub(crate) fn fill(&mut self, byte: u8)
-        ensures { piece self.new ≡ filled byte (piece self.old) }
+    // Its sectors before that one of them.
+    pub(crate) fn before(&self, at: usize) -> Patch
+        requires { at ≤ self.now.count }
+        ensures { piece result ≡ (self.now.first, take at (piece self.now).1) }
     {
-        for sector in self.sectors.iter_mut() {
-            *sector = [byte; 512];
+        Patch {
+            first: self.first,
+            count: at,
+            bytes: self.bytes.part(0, at),
         }
+    }
+
+    // Its sectors from that one of them on.
+    pub(crate) fn behind(&self, at: usize) -> Patch
+        requires within { at ≤ self.now.count }
+        requires first { self.now.first + at < 2 ^ 64 }
+        ensures { piece result ≡ (self.now.first + at, drop at (piece self.now).1) }
+    {
+        let count = self.count - at;
+        Patch {
+            first: self.first + at,
+            count,
+            bytes: self.bytes.part(at, count),
+        }
+    }
+
+    // Its sectors as they stand in that content.
+    pub(crate) fn retake(&mut self, content: &[Sector])
+        requires { self.old.first + self.old.count ≤ length content.now }
+        ensures { piece self.new ≡ settled content.now (piece self.old) }
+    {
+        let end = self.first + self.count;
+        *self = Patch::of(self.first, &content[self.first..end]);
     }
 }
 

@@ -10,7 +10,7 @@ ghost use Rattle.simdisk.specs.Views.{piece, pieces};
 use crate::history::History;
 use crate::laid::overwrite;
 use crate::past::Past;
-use crate::patch::{Patch, copy_of};
+use crate::patch::Patch;
 use crate::recorded::Recorded;
 use crate::sim::SimDisk;
 use disk::{Disk, Sector};
@@ -24,48 +24,37 @@ fn put_bytes(sector: &mut Sector, offset: usize, bytes: &[u8])
     sector[offset..offset + bytes.len()].copy_from_slice(bytes);
 }
 
-// Adds a copy of these sectors, from that place on.
-fn push_copy(
-    alloc: Global,
-    out: &mut Vec<Patch>,
-    first: usize,
-    sectors: &[Sector],
-) -> Result<(), AllocError>
-    ensures { OnOk result (pieces out.new.items ≡ pieces out.old.items ++ (first, sectors.now) ∷ []) }
-{
-    let sectors = copy_of(alloc, sectors)?;
-    out.push(Patch { first, sectors })?;
-    Ok(())
-}
-
 impl Patch {
-    // Adds copies of its sectors but that one.
-    fn push_parts(
-        &self,
-        alloc: Global,
-        sector: usize,
-        out: &mut Vec<Patch>,
-    ) -> Result<(), AllocError>
+    // Adds its sectors but that one.
+    fn push_parts(&self, sector: usize, out: &mut Vec<Patch>) -> Result<(), AllocError>
         requires { sector < 2 ^ 64 - 1 }
         ensures { OnOk result (pieces out.new.items ≡ pieces out.old.items ++ parted sector (piece self.now)) }
     {
-        if sector < self.first || self.sectors.len() <= sector - self.first {
-            return push_copy(alloc, out, self.first, &self.sectors);
+        if sector < self.first || self.count <= sector - self.first {
+            return push_to(out, self.behind(0));
         }
         let at = sector - self.first;
-        push_copy(alloc, out, self.first, &self.sectors[..at])?;
-        push_copy(alloc, out, sector + 1, &self.sectors[at + 1..])
+        push_to(out, self.before(at))?;
+        push_to(out, self.behind(at + 1))
     }
 }
 
-// Copies of the patches without that sector.
+// Adds a patch.
+fn push_to(out: &mut Vec<Patch>, patch: Patch) -> Result<(), AllocError>
+    ensures { OnOk result (pieces out.new.items ≡ pieces out.old.items ++ piece patch ∷ []) }
+{
+    out.push(patch)?;
+    Ok(())
+}
+
+// The patches without that sector.
 fn parts_of(alloc: Global, patches: &[Patch], sector: usize) -> Result<Vec<Patch>, AllocError>
     requires { sector < 2 ^ 64 - 1 }
     ensures { IfOk result (λ out. pieces out.items ≡ flat_map (parted sector) (pieces patches.now)) }
 {
     let mut out = Vec::new(alloc);
     for patch in patches {
-        patch.push_parts(alloc, sector, &mut out)?;
+        patch.push_parts(sector, &mut out)?;
     }
     Ok(out)
 }
@@ -118,6 +107,7 @@ impl SimDisk {
         put_bytes(&mut stands, offset, bytes);
         self.history.set_sector(self.alloc, sector, stands)?;
         overwrite(&mut self.content, sector, &[stands]);
+        self.latest.write(sector, &[stands]);
         Ok(())
     }
 }

@@ -1,6 +1,6 @@
 //! How the record of writes and syncs grows.
 ghost use Rattle.std.specs.Prelude.{◌≡◌, ◌≤◌, ◌<◌, ◌+◌, ◌*◌, ℕ, [], ◌∷◌, length, map, true, OnOk, OnErr, IfOk};
-ghost use Rattle.disk.specs.Facts.{Handed, Joined, lane_at};
+ghost use Rattle.disk.specs.Facts.{Handed, Torn};
 ghost use Rattle.simdisk.specs.Loans.{IsLast};
 ghost use Rattle.simdisk.specs.Record.{new_record, more_written, more_synced, lent_piece, newest, synced, ranges, Agrees, Fits};
 ghost use Rattle.simdisk.specs.Choices.{left_by};
@@ -9,7 +9,7 @@ ghost use Rattle.simdisk.specs.Views.{pieces};
 use crate::choice::Choice;
 use crate::faults::Faults;
 use crate::history::History;
-use crate::laid::{fill, replay_on, settle};
+use crate::laid::{fill, settle};
 use crate::lane::SimLane;
 use crate::lending::lend;
 use crate::loan::Loan;
@@ -21,7 +21,7 @@ use std::alloc::{AllocError, Global};
 impl History {
     ghost use Rattle.simdisk.specs.History.{record_of};
     ghost use Rattle.simdisk.specs.Loans.{lent_of};
-    ghost use Rattle.simdisk.specs.Lanes.{lane_view, newest_view, lane_record};
+    ghost use Rattle.simdisk.specs.Lanes.{lane_view, lane_record};
     ghost use Rattle.simdisk.specs.LaneRecords.{AreLent};
 
     // The record of a disk that begins with these sectors.
@@ -36,20 +36,14 @@ impl History {
     }
 
     // Notes a write of these sectors. At `Err` nothing has changed.
-    pub(crate) fn note(
-        &mut self,
-        alloc: Global,
-        first: usize,
-        sectors: &[Sector],
-    ) -> Result<(), AllocError>
+    pub(crate) fn note(&mut self, first: usize, sectors: &[Sector]) -> Result<(), AllocError>
         requires { first + length sectors.now ≤ length (synced (record_of self.old)) }
         ensures noted { OnOk result (record_of self.new ≡ more_written (first, sectors.now) (record_of self.old)) }
         ensures refused { OnErr result (record_of self.new ≡ record_of self.old) }
         ensures synced { synced (record_of self.new) ≡ synced (record_of self.old) }
     {
-        let sectors = copy_of(alloc, sectors)?;
         self.written.reserve(1)?;
-        self.written.push_reserved(Patch { first, sectors });
+        self.written.push_reserved(Patch::of(first, sectors));
         Ok(())
     }
 
@@ -79,119 +73,73 @@ impl History {
         ensures refused { OnErr result ((record_of self.new ≡ record_of self.old) × (synced (record_of self.new) ≡ synced (record_of self.old))) }
     {
         let end = loan.first + loan.lanes * loan.each;
-        let sectors = copy_of(alloc, &content[loan.first..end])?;
-        let lent = Patch {
-            first: loan.first,
-            sectors,
-        };
+        let lent = Patch::of(loan.first, &content[loan.first..end]);
         let next = vec![in alloc; lent]?;
         self.sync(content, next);
         Ok(())
     }
 
-    // Lends the lanes of that loan, of a disk with that content, and notes it. Where they are in step,
-    // what was written last is what a read gives. At `Err` nothing has changed.
+    // Lends the lanes of that loan, of a disk with that content, and notes it. The second content would
+    // stand had each failed write gone through; where they are in step, it is the first. At `Err`
+    // nothing has changed.
     pub(crate) fn lend(
         &mut self,
         alloc: Global,
-        content: &Vec<Sector>,
+        content: &[Sector],
+        last: &[Sector],
         in_step: bool,
         faults: Faults,
         loan: Loan,
     ) -> Result<Vec<SimLane>, AllocError>
         requires few { loan.lanes ≤ 4 }
-        requires within { loan.first + loan.lanes * loan.each ≤ length content.now.items }
-        requires agrees { Agrees (synced (record_of self.old)) (ranges (pieces self.old.written.items)) content.now.items }
-        requires in_step { in_step ≡ true → newest (record_of self.old) ≡ content.now.items }
-        ensures handed { IfOk result (λ out. Handed (lent_of loan) content.now.items (map lane_view out.items)) }
-        ensures lent { IfOk result (λ out. AreLent (lent_of loan) (newest (record_of self.old)) faults.armed faults.cut (map lane_record out.items)) }
-        ensures noted { OnOk result (record_of self.new ≡ more_written (lent_piece (lent_of loan) (newest (record_of self.old))) (record_of self.old)) }
-        ensures refused { OnErr result (record_of self.new ≡ record_of self.old) }
-        ensures synced { synced (record_of self.new) ≡ synced (record_of self.old) }
-    {
-        if in_step {
-            return self.lend_over(alloc, content, content, true, faults, loan);
-        }
-        let newest = self.newest(alloc, content)?;
-        self.lend_over(alloc, content, &newest, false, faults, loan)
-    }
-
-    // The same, where the second content would stand had each failed write gone through.
-    fn lend_over(
-        &mut self,
-        alloc: Global,
-        content: &Vec<Sector>,
-        newest: &Vec<Sector>,
-        in_step: bool,
-        faults: Faults,
-        loan: Loan,
-    ) -> Result<Vec<SimLane>, AllocError>
-        requires few { loan.lanes ≤ 4 }
-        requires within { loan.first + loan.lanes * loan.each ≤ length content.now.items }
-        requires as_long { length newest.now.items ≡ length content.now.items }
-        requires in_step { in_step ≡ true → newest.now.items ≡ content.now.items }
-        requires long { length content.now.items ≡ length (synced (record_of self.old)) }
-        ensures handed { IfOk result (λ out. Handed (lent_of loan) content.now.items (map lane_view out.items)) }
-        ensures lent { IfOk result (λ out. AreLent (lent_of loan) newest.now.items faults.armed faults.cut (map lane_record out.items)) }
-        ensures noted { OnOk result (record_of self.new ≡ more_written (lent_piece (lent_of loan) newest.now.items) (record_of self.old)) }
+        requires within { loan.first + loan.lanes * loan.each ≤ length content.now }
+        requires as_long { length last.now ≡ length content.now }
+        requires in_step { in_step ≡ true → last.now ≡ content.now }
+        requires long { length content.now ≡ length (synced (record_of self.old)) }
+        ensures handed { IfOk result (λ out. Handed (lent_of loan) content.now (map lane_view out.items)) }
+        ensures lent { IfOk result (λ out. AreLent (lent_of loan) last.now faults.armed faults.cut (map lane_record out.items)) }
+        ensures noted { OnOk result (record_of self.new ≡ more_written (lent_piece (lent_of loan) last.now) (record_of self.old)) }
         ensures refused { OnErr result (record_of self.new ≡ record_of self.old) }
         ensures synced { synced (record_of self.new) ≡ synced (record_of self.old) }
     {
         let out = lend(
-            alloc, content, newest, in_step, faults, loan.first, loan.lanes, loan.each,
+            alloc, content, last, in_step, faults, loan.first, loan.lanes, loan.each,
         )?;
         let end = loan.first + loan.lanes * loan.each;
-        self.note(alloc, loan.first, &newest[loan.first..end])?;
+        self.note(loan.first, &last[loan.first..end])?;
         Ok(out)
     }
 
-    // Takes over what was written last in the lanes of that loan, which come back.
-    pub(crate) fn take_newest(&mut self, loan: Loan, lanes: &[SimLane])
-        requires count { length lanes.now ≡ loan.lanes }
-        requires each { (i : ℕ) → i < loan.lanes → length (lane_at (map newest_view lanes.now) i).content ≡ loan.each }
+    // Takes over what would stand now, had each failed write gone through, after the lanes of that loan
+    // came back.
+    pub(crate) fn take_newest(&mut self, loan: Loan, last: &[Sector])
+        requires torn { Torn loan.first (loan.lanes * loan.each) (newest (record_of self.old)) last.now }
         requires noted { 0 < loan.lanes → IsLast (ranges (pieces self.old.written.items)) loan.patch (loan.first, loan.lanes * loan.each) }
         ensures ranges { ranges (pieces self.new.written.items) ≡ ranges (pieces self.old.written.items) }
         ensures past { (record_of self.new).past ≡ (record_of self.old).past }
         ensures began { (record_of self.new).began ≡ (record_of self.old).began }
         ensures synced { synced (record_of self.new) ≡ synced (record_of self.old) }
-        ensures newest { Joined (lent_of loan) (map newest_view lanes.now) (newest (record_of self.old)) (newest (record_of self.new)) }
+        ensures newest { newest (record_of self.new) ≡ last.now }
     {
         if loan.lanes == 0 {
             return;
         }
-        self.written[loan.patch].take_newest(loan, lanes);
+        self.written[loan.patch].retake(last);
     }
 
-    // What would stand had each write gone through, where that is what a read gives.
-    pub(crate) fn newest(
-        &self,
-        alloc: Global,
-        content: &[Sector],
-    ) -> Result<Vec<Sector>, AllocError>
-        requires { Agrees (synced (record_of self.now)) (ranges (pieces self.now.written.items)) content.now }
-        ensures newest { IfOk result (λ all. all.items ≡ newest (record_of self.now)) }
-        ensures as_long { IfOk result (λ all. length all.items ≡ length (synced (record_of self.now))) }
-    {
-        let mut all = copy_of(alloc, content)?;
-        replay_on(&mut all, &self.written);
-        Ok(all)
-    }
-
-    // The record of the disk that a crash leaves by that choice.
-    pub(crate) fn left(self, alloc: Global, choice: Choice) -> History
+    // The record of the disk that a crash leaves by that choice, where those sectors would stand had each
+    // write gone through.
+    pub(crate) fn left(self, alloc: Global, choice: Choice, last: &[Sector]) -> History
+        requires { last.now ≡ newest (record_of self) }
         ensures record { record_of result ≡ new_record (left_by choice (synced (record_of self)) (pieces self.written.items)) }
         ensures content { result.stood.items ≡ left_by choice (synced (record_of self)) (pieces self.written.items) }
         ensures as_long { length result.stood.items ≡ length (synced (record_of self)) }
     {
         let mut content = self.stood;
-        let mut written = self.written;
         match choice {
-            Choice::Byte(byte) => {
-                fill(&mut written, byte);
-                replay_on(&mut content, &written);
-            }
+            Choice::Byte(byte) => fill(&mut content, &self.written, byte),
             Choice::Old => {}
-            Choice::New => replay_on(&mut content, &written),
+            Choice::New => content.copy_from_slice(last),
         }
         let past = Past::begun(&content);
         History {

@@ -1,12 +1,14 @@
 //! The disk in memory.
-ghost use Rattle.std.specs.Prelude.{◌≡◌, ◌≤◌, ◌<◌, ◌+◌, ◌*◌, ◌^◌, length, true};
+ghost use Rattle.std.specs.Prelude.{◌≡◌, ◌≤◌, ◌<◌, ◌+◌, ◌*◌, ◌^◌, length};
 ghost use Rattle.simdisk.specs.Record.{ranges, synced, newest, Agrees};
 ghost use Rattle.simdisk.specs.History.{record_of};
+ghost use Rattle.simdisk.specs.Latest.{latest_of};
 ghost use Rattle.simdisk.specs.Views.{pieces};
 ghost use Rattle.simdisk.specs.Loans.{IsLast};
 
 use crate::faults::Faults;
 use crate::history::History;
+use crate::latest::Latest;
 use crate::loan::Loan;
 use disk::Sector;
 use std::alloc::Global;
@@ -17,15 +19,15 @@ pub struct SimDisk {
     pub(crate) alloc: Global,
     pub(crate) content: Vec<Sector>,
     pub(crate) history: History,
-    /// Whether no write since the last sync has failed: what was written last is what a read gives.
-    pub(crate) in_step: bool,
+    pub(crate) latest: Latest,
     pub(crate) failures: u64,
     pub(crate) calls: u64,
     pub(crate) refused: u64,
     pub(crate) loan: Loan,
     pub(crate) faults: Faults,
     ghost agrees: { Agrees (synced (record_of history)) (ranges (pieces history.written.items)) content.items },
-    ghost newest: { in_step ≡ true → newest (record_of history) ≡ content.items },
+    ghost newest: { newest (record_of history) ≡ latest_of latest content.items },
+    ghost room: { length latest.sectors.items ≡ length content.items },
     ghost few: { failures < 2 ^ 64 },
     ghost few_calls: { calls < 2 ^ 64 },
     ghost within: { loan.first + loan.lanes * loan.each ≤ length content.items },

@@ -1,16 +1,15 @@
-use Rattle.std.proofs.Common.{◌∙◌, ap, rules}
-use Rattle.std.proofs.lemmas.List.{places}
-use Rattle.simdisk.specs.Record.{filled, ranges}
-use Rattle.simdisk.specs.Views.{pieces}
-use Rattle.simdisk.proofs.Pieces.{ranges_filled}
-use Rattle.simdisk.proofs.Walks.{walk_all, walk_more}
+use Rattle.std.proofs.Common.{◌∙◌, length}
+use Rattle.simdisk.specs.Record.{filled}
+use Rattle.simdisk.proofs.Walks.{laid_more, fits_read}
 use Rattle.simdisk.proofs.laid.fill.Goals as goal
+
+pub fill-requires : goal.fill-requires
+fill-requires c =
+    rw c.loop-patch.invariant.as_long (fits_read (length c.args.content.now.items) c.args.patches.now c.loop-patch.patch-index c.patch-item.result c.loop-patch-test.true c.patch-item.is c.requires)
 
 pub loop-patch-preserved : goal.loop-patch-preserved
 loop-patch-preserved c =
-    walk_more (filled c.args.byte) (pieces c.args.patches.now) c.loop-patch.patch-index c.loop-patch.patches c.patch-item.result c.fill.new.self c.loop-patch.invariant (rw c.loop-patch.auto.patches c.loop-patch-test.true) c.patch-item.is (rw c.patch-item.is c.fill.ensures)
-
-pub returns-clause-ranges : goal.returns-clause-ranges
-returns-clause-ranges c =
-    let all = walk_all (filled c.args.byte) (pieces c.args.patches.now) c.loop-patch.patch-index c.loop-patch.patches c.loop-patch.invariant (search (rules, places)) in
-    ap ranges all ∙ ranges_filled c.args.byte (pieces c.args.patches.now)
+    record {
+      rest = laid_more (filled c.args.byte) c.args.patches.now c.loop-patch.patch-index c.patch-item.result c.loop-patch.content.items c.fill.new.content.items _ c.loop-patch-test.true c.patch-item.is c.loop-patch.invariant.rest c.fill.ensures.put;
+      as_long = c.fill.ensures.as_long ∙ c.loop-patch.invariant.as_long;
+    }

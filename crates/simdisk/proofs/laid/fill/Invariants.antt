@@ -1,7 +1,10 @@
-use Rattle.simdisk.specs.Record.{filled}
+use Rattle.std.proofs.Common.{◌≡◌, drop, length, map}
+use Rattle.simdisk.specs.Record.{replay, filled}
 use Rattle.simdisk.specs.Views.{pieces}
-use Rattle.simdisk.proofs.Walks.{Walked}
 use Rattle.simdisk.proofs.laid.fill.Given as goal
 
 abbrev pub invariant-loop-patch : goal.invariant-loop-patch
-invariant-loop-patch l = Walked (filled l.byte) (pieces l.initial.patches) l.patch-index l.patches
+invariant-loop-patch l = record {
+  rest : replay (drop l.patch-index (map (filled l.byte) (pieces l.patches))) l.content.items ≡ replay (map (filled l.byte) (pieces l.patches)) l.initial.content.items;
+  as_long : length l.content.items ≡ length l.initial.content.items;
+}

@@ -6,6 +6,6 @@ use Rattle.simdisk.proofs.lending.lend.Given as goal
 
 abbrev pub invariant-loop-lane : goal.invariant-loop-lane
 invariant-loop-lane l = record {
-  handed : Handed (record { first = l.first; lanes = l.lane; each = l.each }) l.content.items (map lane_view l.out.items);
-  lent : AreLent (record { first = l.first; lanes = l.lane; each = l.each }) l.newest.items l.faults.armed l.faults.cut (map lane_record l.out.items);
+  handed : Handed (record { first = l.first; lanes = l.lane; each = l.each }) l.content (map lane_view l.out.items);
+  lent : AreLent (record { first = l.first; lanes = l.lane; each = l.each }) l.newest l.faults.armed l.faults.cut (map lane_record l.out.items);
 }

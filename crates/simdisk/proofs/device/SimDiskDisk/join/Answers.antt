@@ -1,31 +1,39 @@
-use Rattle.std.proofs.Common.{◌≡◌, ◌∙◌, ℕ, List, length, map, ap, sym, subst, arith, rules, true}
-use Rattle.disk.specs.Facts.{Content, Lent, LaneFacts, Joined, counted, lane_at, lane_failures}
+use Rattle.std.proofs.Common.{◌≡◌, ◌∙◌, ℕ, List, length, map, ap, subst, arith, rules}
+use Rattle.disk.specs.Facts.{Content, Lent, Joined, counted, lane_at, lane_failures}
 use Rattle.simdisk.specs.Lanes.{lane_view, newest_view, lane_record}
 use Rattle.simdisk.specs.LaneRecords.{CameBack}
 use Rattle.simdisk.specs.declared.lane.SimLane.{SimLane}
 use Rattle.simdisk.specs.History.{record_of}
+use Rattle.simdisk.specs.Latest.{latest_of}
 use Rattle.simdisk.specs.Loans.{lent_of}
 use Rattle.simdisk.specs.Record.{newest, ranges, synced}
 use Rattle.simdisk.specs.Views.{pieces}
 use Rattle.simdisk.proofs.Notes.{agrees_join}
-use Rattle.simdisk.proofs.Rows.{newest_long, written_back, joined_same}
+use Rattle.simdisk.proofs.Rows.{newest_long, written_back}
 use Rattle.simdisk.proofs.Stretches.{passes_ranges}
 use Rattle.simdisk.proofs.device.SimDiskDisk.join.Goals as goal
+
+pub join-requires-clause-each : goal.join-requires-clause-each
+join-requires-clause-each c i lt =
+    ap (λ (ls : List SimLane). length (lane_at (map newest_view ls) i).content) c.deref-3.ensures.value ∙ newest_long c.args.lanes.items i ∙ c.requires.each i lt
+
+pub take_newest-requires-clause-torn : goal.take_newest-requires-clause-torn
+take_newest-requires-clause-torn c =
+    let s = c.args.self.now in
+    let lanes = c.args.lanes.items in
+    let read : Joined (lent_of s.loan) (map lane_view lanes) s.content.items c.lay_row.new.content.items =
+    subst (λ (ls : List SimLane). Joined (lent_of s.loan) (map lane_view ls) s.content.items c.lay_row.new.content.items) c.deref-4.ensures.value c.lay_row.ensures in
+    let last : Joined (lent_of s.loan) (map newest_view lanes) (latest_of s.latest s.content.items) (latest_of c.join.new.self c.lay_row.new.content.items) =
+    rw (← c.deref-3.ensures.value, ← c.deref-2.ensures.value) (c.join.ensures.joined c.lay_row.new.content.items (rw (c.deref-3.ensures.value, c.deref-2.ensures.value) read)) in
+    rw (s.newest, c.over-last.ensures, c.deref-5.ensures.value) last.elsewhere
 
 pub invariant_of-self : goal.invariant_of-self
 invariant_of-self c =
     let s = c.args.self.now in
     let all = c.take_newest.ensures in
-    let lanes = c.args.lanes.items in
-    let read : Joined (lent_of s.loan) (map lane_view lanes) s.content.items c.lay_row.new.content.items =
-    subst (λ (ls : List SimLane). Joined (lent_of s.loan) (map lane_view ls) s.content.items c.lay_row.new.content.items) c.deref-2.ensures.value c.lay_row.ensures in
-    let last : c.stays_in_step-self.result ≡ true → Joined (lent_of s.loan) (map lane_view lanes) s.content.items (newest (record_of c.take_newest.new.self)) =
-    λ is. subst (λ (k : Content). Joined (lent_of s.loan) (map lane_view lanes) k (newest (record_of c.take_newest.new.self))) (s.newest (c.stays_in_step-self.ensures.now is))
-    (subst (λ (fs : List LaneFacts). Joined (lent_of s.loan) fs (newest (record_of s.history)) (newest (record_of c.take_newest.new.self)))
-    (ap (λ (ls : List SimLane). map newest_view ls) (c.deref-3.ensures.value ∙ sym c.deref-4.ensures.value) ∙ c.stays_in_step-self.ensures.lanes is ∙ ap (λ (ls : List SimLane). map lane_view ls) c.deref-4.ensures.value)
-    all.newest) in
     record {
-      newest = λ is. joined_same (lent_of s.loan) (map lane_view lanes) s.content.items (newest (record_of c.take_newest.new.self)) c.lay_row.new.content.items (last is) read;
+      newest = all.newest ∙ c.over-last.ensures ∙ ap (λ (k : Content). latest_of c.join.new.self k) c.deref-5.ensures.value;
+      room = search rules;
       agrees = rw (all.ranges, all.synced) (agrees_join (lent_of s.loan) (synced (record_of s.history)) (ranges (pieces s.history.written.items)) s.loan.patch s.content.items c.lay_row.new.content.items (λ lt. (s.noted lt).noted) s.agrees c.lay_row.ensures.elsewhere);
       few = search rules;
       few_calls = s.few_calls;
@@ -40,22 +48,21 @@ returns-clause-crash c =
     passes_ranges s.content.items _ (synced (record_of s.history)) (synced (record_of c.take_newest.new.self)) (record_of s.history) (record_of c.take_newest.new.self) _ _ _ _ _ _ all.ranges
     all.past all.began all.synced
 
-pub returns-clause-newest : goal.returns-clause-newest
-returns-clause-newest c =
-    let s = c.args.self.now in
-    written_back (lent_of s.loan) c.args.lanes.items (newest (record_of s.history)) (newest (record_of c.take_newest.new.self))
-    (subst (λ (ls : List SimLane). Joined (lent_of s.loan) (map newest_view ls) (newest (record_of s.history)) (newest (record_of c.take_newest.new.self))) c.deref-3.ensures.value c.take_newest.ensures.newest)
-
-pub take_newest-requires-clause-each : goal.take_newest-requires-clause-each
-take_newest-requires-clause-each c i lt =
-    ap (λ (ls : List SimLane). length (lane_at (map newest_view ls) i).content) c.deref-3.ensures.value ∙ newest_long c.args.lanes.items i ∙ c.requires.each i lt
-
-pub returns-clause-came_back : goal.returns-clause-came_back
-returns-clause-came_back c =
+pub returns-clause-takes_back : goal.returns-clause-takes_back
+returns-clause-takes_back c =
     let s = c.args.self.now in
     let lanes = c.args.lanes.items in
+    let all = c.take_newest.ensures in
+    let read : Joined (lent_of s.loan) (map lane_view lanes) s.content.items c.lay_row.new.content.items =
+    subst (λ (ls : List SimLane). Joined (lent_of s.loan) (map lane_view ls) s.content.items c.lay_row.new.content.items) c.deref-4.ensures.value c.lay_row.ensures in
+    let last : Joined (lent_of s.loan) (map newest_view lanes) (latest_of s.latest s.content.items) (latest_of c.join.new.self c.lay_row.new.content.items) =
+    rw (← c.deref-3.ensures.value, ← c.deref-2.ensures.value) (c.join.ensures.joined c.lay_row.new.content.items (rw (c.deref-3.ensures.value, c.deref-2.ensures.value) read)) in
     let more = c.come_back-own.result in
     let failed : c.failures_of-failures.result ≡ counted 0 (lane_failures (map lane_view lanes)) = search rules in
     let own : c.saturating_add-self-2.result ≡ counted s.refused more = search rules in
     let back : CameBack s.faults.armed s.faults.cut (map lane_record lanes) c.failures_of-failures.result c.come_back-own.new.self.armed c.come_back-own.new.self.cut more = search rules in
-    (more, own, subst (λ (n : ℕ). CameBack s.faults.armed s.faults.cut (map lane_record lanes) n c.come_back-own.new.self.armed c.come_back-own.new.self.cut more) failed back)
+    record {
+      ranges = record { began = all.began; past = all.past; written = all.ranges };
+      written = written_back (lent_of s.loan) lanes (newest (record_of s.history)) (newest (record_of c.take_newest.new.self)) (rw (s.newest, all.newest, c.over-last.ensures, c.deref-5.ensures.value) last);
+      faults = (more, own, subst (λ (n : ℕ). CameBack s.faults.armed s.faults.cut (map lane_record lanes) n c.come_back-own.new.self.armed c.come_back-own.new.self.cut more) failed back);
+    }

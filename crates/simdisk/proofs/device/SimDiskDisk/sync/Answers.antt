@@ -8,7 +8,7 @@ use Rattle.simdisk.proofs.Notes.{newest_synced, durable_then, lent_fewer}
 use Rattle.simdisk.proofs.device.SimDiskDisk.sync.Goals as goal
 
 pub invariant_of-self-2-clause-newest : goal.invariant_of-self-2-clause-newest
-invariant_of-self-2-clause-newest c is =
+invariant_of-self-2-clause-newest c =
     let s = c.args.self.now in
     newest_synced (lent_of s.loan) (record_of s.history) (record_of c.end_epoch.new.self) s.content.items c.in-Ok.ensures.noted c.in-Ok.ensures.synced s.within
 

@@ -1,7 +1,9 @@
-use Rattle.std.proofs.Common.{◌≡◌, ◌++◌, ◌∷◌, [], ℕ, ◌*◌, length, rules}
+use Rattle.std.proofs.Common.{◌≡◌, ◌∙◌, ◌++◌, ◌∷◌, [], ℕ, ◌*◌, length, ap, sym, rules}
+use Rattle.disk.specs.Facts.{Content}
 use Rattle.simdisk.specs.Record.{ranges, synced}
 use Rattle.simdisk.specs.Views.{pieces}
 use Rattle.simdisk.specs.History.{record_of}
+use Rattle.simdisk.specs.Latest.{latest_of}
 use Rattle.simdisk.specs.Loans.{lent_of}
 use Rattle.simdisk.proofs.Ranges.{agrees_write, agrees_push}
 use Rattle.simdisk.proofs.Notes.{newest_more, ranges_written, last_push, apart_lent}
@@ -15,7 +17,9 @@ invariant_of-self-then-strikes c =
     let r : ℕ × ℕ = (c.args.first, length c.args.sectors.now) in
     let more : ranges (pieces c.note.new.self.written.items) ≡ rs ++ r ∷ [] = ranges_written (record_of s.history) (record_of c.note.new.self) (c.args.first, c.args.sectors.now) c.in-Ok.ensures.noted in
     record {
-      newest = λ is. search rules;
+      newest = newest_more (record_of s.history) (record_of c.note.new.self) (c.args.first, c.args.sectors.now) (latest_of s.latest s.content.items) (latest_of c.write_failed.new.self s.content.items) c.in-Ok.ensures.noted s.newest
+          (rw (← c.deref.ensures.value) c.write_failed.ensures.written);
+      room = c.write_failed.ensures.as_long ∙ s.room;
       agrees = rw (c.in-Ok.ensures.synced, more) (agrees_push (synced (record_of s.history)) rs r s.content.items s.agrees);
       few = search rules;
       few_calls = search rules;
@@ -45,7 +49,9 @@ invariant_of-self-2 c =
     let more : ranges (pieces c.note.new.self.written.items) ≡ rs ++ r ∷ [] = ranges_written (record_of s.history) (record_of c.note.new.self) (c.args.first, c.args.sectors.now) c.in-Ok.ensures.noted in
     let torn = c.overwrite.ensures.written.elsewhere in
     record {
-      newest = λ is. newest_more (record_of s.history) (record_of c.note.new.self) (c.args.first, c.args.sectors.now) s.content.items c.overwrite.new.content.items c.in-Ok.ensures.noted (s.newest is) c.overwrite.ensures.put;
+      newest = newest_more (record_of s.history) (record_of c.note.new.self) (c.args.first, c.args.sectors.now) (latest_of s.latest s.content.items) (latest_of c.write.new.self c.overwrite.new.content.items) c.in-Ok.ensures.noted s.newest
+          (ap (λ (k : Content). latest_of c.write.new.self k) c.overwrite.ensures.put ∙ c.write.ensures.written s.content.items);
+      room = c.write.ensures.as_long ∙ s.room ∙ sym torn.as_long;
       agrees = rw (c.in-Ok.ensures.synced, more) (agrees_write (synced (record_of s.history)) rs c.args.first (length c.args.sectors.now) s.content.items c.overwrite.new.content.items s.agrees torn);
       few = s.few;
       few_calls = search rules;

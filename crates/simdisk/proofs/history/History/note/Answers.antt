@@ -8,9 +8,8 @@ use Rattle.simdisk.proofs.history.History.note.Goals as goal
 pub invariant_of-self-2 : goal.invariant_of-self-2
 invariant_of-self-2 c =
     let s = c.args.self.now in
-    let copied : c.in_ok-sectors.sectors.items ≡ c.args.sectors.now = search rules in
-    let pushed : pieces c.push_reserved.new.self.items ≡ pieces s.written.items ++ (c.args.first, c.in_ok-sectors.sectors.items) ∷ [] = search (rules, map-append) in
+    let pushed : pieces c.push_reserved.new.self.items ≡ pieces s.written.items ++ (c.args.first, c.args.sectors.now) ∷ [] = search (rules, map-append) in
     record {
       stood_so = s.stood_so;
-      fits = rw (pushed, copied) (fits_push (length s.stood.items) (pieces s.written.items) (c.args.first, c.args.sectors.now) s.fits (omega (arith, c.requires, ap (λ (k : Content). length k) s.stood_so)));
+      fits = rw pushed (fits_push (length s.stood.items) (pieces s.written.items) (c.args.first, c.args.sectors.now) s.fits (omega (arith, c.requires, ap (λ (k : Content). length k) s.stood_so)));
     }

@@ -3,6 +3,7 @@ use Rattle.std.proofs.lemmas.List.{get_or_default}
 use Rattle.disk.specs.Facts.{Content}
 use Rattle.simdisk.specs.declared.choice.Choice.TheVariants.{New}
 use Rattle.simdisk.specs.History.{record_of}
+use Rattle.simdisk.specs.Latest.{latest_of}
 use Rattle.simdisk.specs.Pokes.{bytes_put, poked, poked_record}
 use Rattle.simdisk.specs.Record.{put, synced}
 use Rattle.simdisk.proofs.Epochs.{fits_synced}
@@ -26,7 +27,9 @@ invariant_of-self-2 c =
     let laid : c.overwrite.new.content.items ≡ put (k, v ∷ []) s.content.items = c.overwrite.ensures.put in
     record {
       agrees = agrees_poked k v r r' anew old s.content.items c.overwrite.new.content.items s.agrees laid;
-      newest = λ on. choices_poked k v r r' anew old (fits_synced s.history) New ∙ ap (λ (x : Content). put (k, v ∷ []) x) (s.newest on) ∙ sym laid;
+      newest = choices_poked k v r r' anew old (fits_synced s.history) New ∙ ap (λ (x : Content). put (k, v ∷ []) x) s.newest
+          ∙ sym (c.write.ensures.written s.content.items) ∙ ap (λ (x : Content). latest_of c.write.new.self x) (sym laid);
+      room = c.write.ensures.as_long ∙ s.room ∙ sym c.overwrite.ensures.written.elsewhere.as_long;
       few = s.few;
       few_calls = s.few_calls;
       within = rw c.overwrite.ensures.written.elsewhere.as_long s.within;
