@@ -12,6 +12,26 @@ use std::process::Abort;
 use std::test::Fail;
 use store::Store;
 
+// This memory is suspended as the command of that place in its life, and found at the next open, where that many serials
+// have been given out.
+fn suspended_and_found<C: Crew>(
+    rt: &impl Abort,
+    alloc: Global,
+    store: Store<SimDisk>,
+    ram: &Ram,
+    crew: &C,
+    place: u32,
+    serials: u64,
+) -> Result<Store<SimDisk>, Fail> {
+    let mut store = store;
+    same(rt, suspend(alloc, &mut store, ram, crew), Ok(place));
+    same(rt, holds(alloc, &mut store, ram)?, true);
+    let mut store = reopened(alloc, store)?;
+    same(rt, store.found().next, serials);
+    same(rt, holds(alloc, &mut store, ram)?, true);
+    Ok(store)
+}
+
 // A memory that is suspended is found at the next open, and a second one beside it.
 fn found_and_loaded<C: Crew>(
     rt: &impl Abort,
@@ -21,16 +41,9 @@ fn found_and_loaded<C: Crew>(
 ) -> Result<(), Fail> {
     let first = memory(alloc, shape, 9)?;
     let second = memory(alloc, shape, 100)?;
-    let mut store = opened(alloc, shape)?;
-    same(rt, suspend(alloc, &mut store, &first, crew), Ok(1));
-    same(rt, holds(alloc, &mut store, &first)?, true);
-    let mut store = reopened(alloc, store)?;
-    same(rt, store.found().next, 1);
-    same(rt, holds(alloc, &mut store, &first)?, true);
-    same(rt, suspend(alloc, &mut store, &second, crew), Ok(1));
-    let mut store = reopened(alloc, store)?;
-    same(rt, store.found().next, 2);
-    same(rt, holds(alloc, &mut store, &second)?, true);
+    let store = opened(alloc, shape)?;
+    let store = suspended_and_found(rt, alloc, store, &first, crew, 1, 1)?;
+    suspended_and_found(rt, alloc, store, &second, crew, 1, 2)?;
     Ok(())
 }
 
@@ -122,11 +135,7 @@ fn failed_and_again<C: Crew>(
     let before = store.now();
     same(rt, suspend(alloc, &mut store, &ram, crew), device);
     same(rt, store.now(), before);
-    same(rt, suspend(alloc, &mut store, &ram, crew), Ok(place));
-    same(rt, holds(alloc, &mut store, &ram)?, true);
-    let mut store = reopened(alloc, store)?;
-    same(rt, holds(alloc, &mut store, &ram)?, true);
-    same(rt, store.found().next, 2);
+    suspended_and_found(rt, alloc, store, &ram, crew, place, 2)?;
     Ok(())
 }
 
