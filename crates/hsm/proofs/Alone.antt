@@ -109,9 +109,21 @@ module _ (harts h : ℕ) (st st' : Stage) (x : Deed) (c c' : Crew) (is : HasNote
       ))
       (λ k a o ne. no_claim k a o ∙ sym (no_entry k a o))
 
--- one step after another
-pub keeps_then : (h : ℕ) (a b c : List HartView) → KeepsOthers h a b → KeepsOthers h b c → KeepsOthers h a c
-keeps_then h a b c p q = record { harts = q.harts ∙ p.harts; stages = λ k st ne s. q.stages k st ne (p.stages k st ne s) }
+-- ---- one step after another
+-- after some of its steps the hart is at this stage, and the others of its seat stand as they did
+pub record Goes (h : ℕ) (st : Stage) (c c' : Crew) : Type 0 where
+  pub own : stands h st c'.harts
+  pub others : KeepsOthers h c.harts c'.harts
+
+pub goes : (harts h : ℕ) (st st' : Stage) (x : Deed) (c c' : Crew) → HasNoted h st' x c.harts c'.harts → stands h st c.harts → Goes h st' c c'
+goes harts h st st' x c c' is stood = record { own = stands_after h st st' x c c' is stood; others = keeps harts h st st' x c c' is stood }
+
+pub goes_on : (harts h : ℕ) (st st' : Stage) (x : Deed) (c c' c'' : Crew) → Goes h st c c' → HasNoted h st' x c'.harts c''.harts → Goes h st' c c''
+goes_on harts h st st' x c c' c'' gone is =
+    let next = goes harts h st st' x c' c'' is gone.own in record {
+      own = next.own;
+      others = record { harts = next.others.harts ∙ gone.others.harts; stages = λ k sk ne s. next.others.stages k sk ne (gone.others.stages k sk ne s) };
+    }
 
 -- ---- states and stages
 pub runs_settled : (z : HartState) → IsAt z Running → (a o : ℕ) → awaits z a o ≡ 0

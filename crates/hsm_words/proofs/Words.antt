@@ -1,11 +1,11 @@
 -- What a step on a word leaves of the bits and of the argument words.
-use Rattle.std.proofs.Common.{◌≡◌, ◌≢◌, ℕ, ◌+◌, ◌*◌, ◌%◌, ◌^◌, ◌<◌, min, List, length, sym, ap, ◌∙◌, arith, w64, get_or-set_same, get_or-set_other}
+use Rattle.std.proofs.Common.{◌≡◌, ◌≢◌, ℕ, ◌+◌, ◌*◌, ◌%◌, ◌^◌, ◌<◌, ◌≤◌, min, List, length, sym, ap, ◌∙◌, arith, w64, get_or-set_same, get_or-set_other}
 use Rattle.std.specs.Prelude.{slice_index, slice_set, bit_or, bit_and}
 use Rattle.std.specs.Int.{bit_at, bit_not}
 use Rattle.std.proofs.lemmas.Nat.Bits.{bit_at_set_same, bit_at_set_other, bit_at_clear_same, bit_at_clear_other, bit_at-lt, bit_at-zero, bit_at_or, bit_at_and, bit_at_not}
 use mathlib.Core.Logic.{dite}
 use native.Mathlib.Decide.{ℕ_discrete}
-use Rattle.hsm_words.specs.Words.{board_of, Same}
+use Rattle.hsm_words.specs.Words.{Board, board_of, Same}
 
 abbrev pub mask : ℕ → ℕ
 mask i = 1 * 2 ^ i % 2 ^ 64
@@ -34,6 +34,52 @@ module _ (ws : List ℕ) (short : 0 < length ws) (n : ℕ) where
 
   pub arg_after : (j : ℕ) → 0 < j → slice_index (slice_set ws 0 n) j ≡ slice_index ws j
   arg_after j pos = get_or-set_other ws 0 j n 0 (λ e. omega arith)
+
+-- ---- what a step leaves as it was
+-- of any hart, and of any but one
+abbrev pub Any : ℕ → Type 0
+Any k = Unit {0}
+
+abbrev pub But : ℕ → ℕ → Type 0
+But t k = k ≢ t
+
+-- each of the six things that the words say of a hart, of the harts that are named for it
+pub record Leaves (harts : ℕ) (cl ar en su ad op : ℕ → Type 0) (m m' : Board) : Type 0 where
+  pub claimed : (k : ℕ) → k < harts → cl k → m'.claimed k ≡ m.claimed k
+  pub armed : (k : ℕ) → k < harts → ar k → m'.armed k ≡ m.armed k
+  pub entered : (k : ℕ) → k < harts → en k → m'.entered k ≡ m.entered k
+  pub suspended : (k : ℕ) → k < harts → su k → m'.suspended k ≡ m.suspended k
+  pub address : (k : ℕ) → k < harts → ad k → m'.address k ≡ m.address k
+  pub opaque : (k : ℕ) → k < harts → op k → m'.opaque k ≡ m.opaque k
+
+module _ (harts : ℕ) (ws : List ℕ) (n : ℕ) where
+  -- word 0 changes, and the bits that are away from the change stay
+  pub leaves_bits : (cl ar en su Away : ℕ → Type 0) → 0 < length ws → harts ≤ 8 → ((i : ℕ) → i < 64 → Away i → bit_at (slice_index (slice_set ws 0 n) 0) i ≡ bit_at (slice_index ws 0) i)
+      → ((k : ℕ) → k < harts → cl k → Away k) → ((k : ℕ) → k < harts → ar k → Away (8 + k)) → ((k : ℕ) → k < harts → en k → Away (16 + k)) → ((k : ℕ) → k < harts → su k → Away (24 + k))
+      → Leaves harts cl ar en su Any Any (board_of ws) (board_of (slice_set ws 0 n))
+  leaves_bits cl ar en su Away short small same c a e s = record {
+    claimed = λ k lt z. same k (omega arith) (c k lt z);
+    armed = λ k lt z. same (8 + k) (omega arith) (a k lt z);
+    entered = λ k lt z. same (16 + k) (omega arith) (e k lt z);
+    suspended = λ k lt z. same (24 + k) (omega arith) (s k lt z);
+    address = λ k lt z. arg_after ws short n (1 + 2 * k) (omega arith);
+    opaque = λ k lt z. arg_after ws short n (2 + 2 * k) (omega arith);
+  }
+
+  -- an argument word of the hart t changes
+  pub leaves_arguments : (t i : ℕ) → 0 < i → ((k : ℕ) → k ≢ t → 1 + 2 * k ≢ i) → ((k : ℕ) → k ≢ t → 2 + 2 * k ≢ i)
+      → Leaves harts Any Any Any Any (But t) (But t) (board_of ws) (board_of (slice_set ws i n))
+  leaves_arguments t i pos a o =
+      let same : (j : ℕ) → j ≢ i → slice_index (slice_set ws i n) j ≡ slice_index ws j = λ j ne. get_or-set_other ws i j n 0 ne in
+      let bits : (j : ℕ) → bit_at (slice_index (slice_set ws i n) 0) j ≡ bit_at (slice_index ws 0) j = λ j. ap (λ (k : ℕ). bit_at k j) (same 0 (λ e. omega arith)) in
+      record {
+        claimed = λ k lt z. bits k;
+        armed = λ k lt z. bits (8 + k);
+        entered = λ k lt z. bits (16 + k);
+        suspended = λ k lt z. bits (24 + k);
+        address = λ k lt z. same (1 + 2 * k) (a k z);
+        opaque = λ k lt z. same (2 + 2 * k) (o k z);
+      }
 
 module _ (ws : List ℕ) (short : 0 < length ws) (i : ℕ) (small : i < 64) where
   pub set_here : bit_at (slice_index (slice_set ws 0 (bit_or (slice_index ws 0) (mask i))) 0) i ≡ 1

@@ -3,174 +3,103 @@ use Rattle.std.specs.Int.{bit_at}
 use Rattle.std.proofs.lemmas.Nat.Bits.{shr_and_one}
 use Rattle.hsm_words.specs.declared.view.Stage.TheVariants.{Claiming, Half, Stored, Running}
 use Rattle.hsm_words.specs.declared.view.Deed.TheVariants.{Claimed, Wrote, Armed}
-use Rattle.hsm.proofs.Stand.{stands_after}
-use Rattle.hsm.proofs.Alone.{keeps, keeps_then, stays_running, claims_it, start_refused, start_granted}
+use Rattle.hsm_rule.specs.Rule.{HasNoted}
+use Rattle.hsm.proofs.Alone.{Goes, goes, goes_on, stays_running, claims_it, start_refused, start_granted}
+use Rattle.hsm.proofs.calls.start.Goals.{Then-found-bit-ne0, Else-found-bit-ne0, After-put_address, After-put_opaque, After-arm}
 use Rattle.hsm.proofs.calls.start.Goals as goal
 
+-- ---- the claim found the target claimed
+taken : (c : Then-found-bit-ne0) → bit_at c.claim-found.result c.args.target ≢ 0
+taken c = λ z. let found = c.claim-found.result in c.if-found-bit-ne0.true (shr_and_one found c.number-bit.result ∙ (ap (bit_at found) c.number-bit.ensures.value ∙ z))
+
+refused : (c : Then-found-bit-ne0) → HasNoted c.args.by Running (Claimed c.args.target c.value-site.result c.args.opaque c.claim-found.result) c.args.seat.me.0.harts c.claim-found.new.seat.me.0.harts
+refused c =
+    stays_running c.args.by c.args.target c.value-site.result c.args.opaque c.claim-found.result c.args.seat.me.0 c.claim-found.new.seat.me.0 c.claim-found.ensures.told (taken c)
+
+stays : (c : Then-found-bit-ne0) → Goes c.args.by Running c.args.seat.me.0 c.claim-found.new.seat.me.0
+stays c =
+    goes c.args.table.now.table.shared.key.harts c.args.by Running Running (Claimed c.args.target c.value-site.result c.args.opaque c.claim-found.result) c.args.seat.me.0 c.claim-found.new.seat.me.0 (refused c) c.requires.acts
+
 pub returns-then-found-bit-ne0-clause-stands : goal.returns-then-found-bit-ne0-clause-stands
-returns-then-found-bit-ne0-clause-stands c =
-    let h = c.args.by in
-    let t = c.args.target in
-    let a = c.value-site.result in
-    let o = c.args.opaque in
-    let found = c.claim-found.result in
-    let c0 = c.args.seat.me.0 in
-    let c1 = c.claim-found.new.seat.me.0 in
-    let taken : bit_at found t ≢ 0 = λ z. c.if-found-bit-ne0.true (shr_and_one found c.number-bit.result ∙ (ap (bit_at found) c.number-bit.ensures.value ∙ z)) in
-    let is = stays_running h t a o found c0 c1 c.claim-found.ensures.told taken in
-    stands_after h Running Running (Claimed t a o found) c0 c1 is c.requires.acts
+returns-then-found-bit-ne0-clause-stands c = (stays (goal.at.returns-then-found-bit-ne0-clause-stands c).Then-found-bit-ne0).own
 
 pub returns-then-found-bit-ne0-clause-others : goal.returns-then-found-bit-ne0-clause-others
-returns-then-found-bit-ne0-clause-others c =
-    let h = c.args.by in
-    let t = c.args.target in
-    let a = c.value-site.result in
-    let o = c.args.opaque in
-    let found = c.claim-found.result in
-    let c0 = c.args.seat.me.0 in
-    let c1 = c.claim-found.new.seat.me.0 in
-    let taken : bit_at found t ≢ 0 = λ z. c.if-found-bit-ne0.true (shr_and_one found c.number-bit.result ∙ (ap (bit_at found) c.number-bit.ensures.value ∙ z)) in
-    let is = stays_running h t a o found c0 c1 c.claim-found.ensures.told taken in
-    keeps c.args.table.now.table.shared.key.harts h Running Running (Claimed t a o found) c0 c1 is c.requires.acts
+returns-then-found-bit-ne0-clause-others c = (stays (goal.at.returns-then-found-bit-ne0-clause-others c).Then-found-bit-ne0).others
 
 pub returns-then-found-bit-ne0-clause-steps : goal.returns-then-found-bit-ne0-clause-steps
 returns-then-found-bit-ne0-clause-steps c =
-    let h = c.args.by in
-    let t = c.args.target in
-    let a = c.value-site.result in
-    let o = c.args.opaque in
-    let found = c.claim-found.result in
-    let c0 = c.args.seat.me.0 in
-    let c1 = c.claim-found.new.seat.me.0 in
-    let taken : bit_at found t ≢ 0 = λ z. c.if-found-bit-ne0.true (shr_and_one found c.number-bit.result ∙ (ap (bit_at found) c.number-bit.ensures.value ∙ z)) in
-    rw (← c.value-site.ensures.value) (found, sym (ne_eqb (bit_at found t) 0 taken), stays_running h t a o found c0 c1 c.claim-found.ensures.told taken)
+    let at = (goal.at.returns-then-found-bit-ne0-clause-steps c).Then-found-bit-ne0 in
+    rw (← c.value-site.ensures.value) (c.claim-found.result, sym (ne_eqb (bit_at c.claim-found.result c.args.target) 0 (taken at)), refused at)
 
 pub returns-then-found-bit-ne0-clause-alone : goal.returns-then-found-bit-ne0-clause-alone
 returns-then-found-bit-ne0-clause-alone c = λ states shown.
-    let h = c.args.by in
+    let at = (goal.at.returns-then-found-bit-ne0-clause-alone c).Then-found-bit-ne0 in
+    rw (← c.value-site.ensures.value)
+    (start_refused c.args.table.now.table.shared.key.harts c.args.by c.args.target c.value-site.result c.args.opaque c.claim-found.result c.args.seat.me.0 c.claim-found.new.seat.me.0
+    c.claim-found.ensures.told (taken at) c.requires.acts c.requires.target c.claim-found.ensures.tells states shown)
+
+-- ---- it found it unclaimed: two stores, and the target is armed
+clear : (c : Else-found-bit-ne0) → bit_at c.claim-found.result c.args.target ≡ 0
+clear c = let found = c.claim-found.result in sym (ap (bit_at found) c.number-bit.ensures.value) ∙ (sym (shr_and_one found c.number-bit.result) ∙ c.if-found-bit-ne0.false)
+
+granted : (c : Else-found-bit-ne0) → HasNoted c.args.by (Claiming c.args.target c.value-site.result c.args.opaque) (Claimed c.args.target c.value-site.result c.args.opaque c.claim-found.result) c.args.seat.me.0.harts c.claim-found.new.seat.me.0.harts
+granted c =
+    claims_it c.args.by c.args.target c.value-site.result c.args.opaque c.claim-found.result c.args.seat.me.0 c.claim-found.new.seat.me.0 c.claim-found.ensures.told (clear c)
+
+claims : (c : Else-found-bit-ne0) → Goes c.args.by (Claiming c.args.target c.value-site.result c.args.opaque) c.args.seat.me.0 c.claim-found.new.seat.me.0
+claims c =
     let t = c.args.target in
     let a = c.value-site.result in
     let o = c.args.opaque in
-    let found = c.claim-found.result in
-    let c0 = c.args.seat.me.0 in
-    let c1 = c.claim-found.new.seat.me.0 in
-    let taken : bit_at found t ≢ 0 = λ z. c.if-found-bit-ne0.true (shr_and_one found c.number-bit.result ∙ (ap (bit_at found) c.number-bit.ensures.value ∙ z)) in
-    let is = stays_running h t a o found c0 c1 c.claim-found.ensures.told taken in
-    rw (← c.value-site.ensures.value)
-    (start_refused c.args.table.now.table.shared.key.harts h t a o found c0 c1 c.claim-found.ensures.told taken c.requires.acts c.requires.target c.claim-found.ensures.tells states shown)
+    goes c.args.table.now.table.shared.key.harts c.args.by Running (Claiming t a o) (Claimed t a o c.claim-found.result) c.args.seat.me.0 c.claim-found.new.seat.me.0 (granted c) c.requires.acts
+
+addresses : (c : After-put_address) → Goes c.args.by (Claiming c.args.target c.value-site.result c.args.opaque) c.args.seat.me.0 c.claim-found.new.seat.me.0
+    → Goes c.args.by (Half c.args.target c.value-site.result c.args.opaque) c.args.seat.me.0 c.put_address.new.seat.me.0
+addresses c gone =
+    let t = c.args.target in
+    let a = c.value-site.result in
+    let o = c.args.opaque in
+    goes_on c.args.table.now.table.shared.key.harts c.args.by (Claiming t a o) (Half t a o) (Wrote (1 + 2 * t) a) c.args.seat.me.0 c.claim-found.new.seat.me.0 c.put_address.new.seat.me.0 gone c.put_address.ensures.told
+
+stores : (c : After-put_opaque) → Goes c.args.by (Half c.args.target c.value-site.result c.args.opaque) c.args.seat.me.0 c.put_address.new.seat.me.0
+    → Goes c.args.by (Stored c.args.target c.value-site.result c.args.opaque) c.args.seat.me.0 c.put_opaque.new.seat.me.0
+stores c gone =
+    let t = c.args.target in
+    let a = c.value-site.result in
+    let o = c.args.opaque in
+    goes_on c.args.table.now.table.shared.key.harts c.args.by (Half t a o) (Stored t a o) (Wrote (2 + 2 * t) o) c.args.seat.me.0 c.put_address.new.seat.me.0 c.put_opaque.new.seat.me.0 gone c.put_opaque.ensures.told
+
+arms : (c : After-arm) → Goes c.args.by (Stored c.args.target c.value-site.result c.args.opaque) c.args.seat.me.0 c.put_opaque.new.seat.me.0 → Goes c.args.by Running c.args.seat.me.0 c.arm.new.seat.me.0
+arms c gone =
+    goes_on c.args.table.now.table.shared.key.harts c.args.by (Stored c.args.target c.value-site.result c.args.opaque) Running (Armed c.args.target) c.args.seat.me.0 c.put_opaque.new.seat.me.0 c.arm.new.seat.me.0 gone c.arm.ensures.told
 
 pub put_address-requires-clause-acts : goal.put_address-requires-clause-acts
-put_address-requires-clause-acts c =
-    let h = c.args.by in
-    let t = c.args.target in
-    let a = c.value-site.result in
-    let o = c.args.opaque in
-    let found = c.claim-found.result in
-    let c0 = c.args.seat.me.0 in
-    let c1 = c.claim-found.new.seat.me.0 in
-    let clear : bit_at found t ≡ 0 = sym (ap (bit_at found) c.number-bit.ensures.value) ∙ (sym (shr_and_one found c.number-bit.result) ∙ c.if-found-bit-ne0.false) in
-    let is1 = claims_it h t a o found c0 c1 c.claim-found.ensures.told clear in
-    let s1 = stands_after h Running (Claiming t a o) (Claimed t a o found) c0 c1 is1 c.requires.acts in
-    s1
+put_address-requires-clause-acts c = (claims (goal.at.put_address-requires-clause-acts c).Else-found-bit-ne0).own
 
 pub put_opaque-requires-clause-acts : goal.put_opaque-requires-clause-acts
-put_opaque-requires-clause-acts c =
-    let h = c.args.by in
-    let t = c.args.target in
-    let a = c.value-site.result in
-    let o = c.args.opaque in
-    let found = c.claim-found.result in
-    let c0 = c.args.seat.me.0 in
-    let c1 = c.claim-found.new.seat.me.0 in
-    let clear : bit_at found t ≡ 0 = sym (ap (bit_at found) c.number-bit.ensures.value) ∙ (sym (shr_and_one found c.number-bit.result) ∙ c.if-found-bit-ne0.false) in
-    let is1 = claims_it h t a o found c0 c1 c.claim-found.ensures.told clear in
-    let s1 = stands_after h Running (Claiming t a o) (Claimed t a o found) c0 c1 is1 c.requires.acts in
-    let c2 = c.put_address.new.seat.me.0 in
-    let s2 = stands_after h (Claiming t a o) (Half t a o) (Wrote (1 + 2 * t) a) c1 c2 c.put_address.ensures.told s1 in
-    s2
+put_opaque-requires-clause-acts c = let at = goal.at.put_opaque-requires-clause-acts c in (addresses at.After-put_address (claims at.Else-found-bit-ne0)).own
 
 pub arm-requires-clause-acts : goal.arm-requires-clause-acts
-arm-requires-clause-acts c =
-    let h = c.args.by in
-    let t = c.args.target in
-    let a = c.value-site.result in
-    let o = c.args.opaque in
-    let found = c.claim-found.result in
-    let c0 = c.args.seat.me.0 in
-    let c1 = c.claim-found.new.seat.me.0 in
-    let clear : bit_at found t ≡ 0 = sym (ap (bit_at found) c.number-bit.ensures.value) ∙ (sym (shr_and_one found c.number-bit.result) ∙ c.if-found-bit-ne0.false) in
-    let is1 = claims_it h t a o found c0 c1 c.claim-found.ensures.told clear in
-    let s1 = stands_after h Running (Claiming t a o) (Claimed t a o found) c0 c1 is1 c.requires.acts in
-    let c2 = c.put_address.new.seat.me.0 in
-    let s2 = stands_after h (Claiming t a o) (Half t a o) (Wrote (1 + 2 * t) a) c1 c2 c.put_address.ensures.told s1 in
-    let c3 = c.put_opaque.new.seat.me.0 in
-    let s3 = stands_after h (Half t a o) (Stored t a o) (Wrote (2 + 2 * t) o) c2 c3 c.put_opaque.ensures.told s2 in
-    s3
+arm-requires-clause-acts c = let at = goal.at.arm-requires-clause-acts c in (stores at.After-put_opaque (addresses at.After-put_address (claims at.Else-found-bit-ne0))).own
 
 pub returns-clause-stands : goal.returns-clause-stands
-returns-clause-stands c =
-    let h = c.args.by in
-    let t = c.args.target in
-    let a = c.value-site.result in
-    let o = c.args.opaque in
-    let found = c.claim-found.result in
-    let c0 = c.args.seat.me.0 in
-    let c1 = c.claim-found.new.seat.me.0 in
-    let clear : bit_at found t ≡ 0 = sym (ap (bit_at found) c.number-bit.ensures.value) ∙ (sym (shr_and_one found c.number-bit.result) ∙ c.if-found-bit-ne0.false) in
-    let is1 = claims_it h t a o found c0 c1 c.claim-found.ensures.told clear in
-    let s1 = stands_after h Running (Claiming t a o) (Claimed t a o found) c0 c1 is1 c.requires.acts in
-    let c2 = c.put_address.new.seat.me.0 in
-    let s2 = stands_after h (Claiming t a o) (Half t a o) (Wrote (1 + 2 * t) a) c1 c2 c.put_address.ensures.told s1 in
-    let c3 = c.put_opaque.new.seat.me.0 in
-    let s3 = stands_after h (Half t a o) (Stored t a o) (Wrote (2 + 2 * t) o) c2 c3 c.put_opaque.ensures.told s2 in
-    let c4 = c.arm.new.seat.me.0 in
-    stands_after h (Stored t a o) Running (Armed t) c3 c4 c.arm.ensures.told s3
+returns-clause-stands c = let at = goal.at.returns-clause-stands c in (arms at.After-arm (stores at.After-put_opaque (addresses at.After-put_address (claims at.Else-found-bit-ne0)))).own
 
 pub returns-clause-others : goal.returns-clause-others
-returns-clause-others c =
-    let h = c.args.by in
-    let t = c.args.target in
-    let a = c.value-site.result in
-    let o = c.args.opaque in
-    let found = c.claim-found.result in
-    let c0 = c.args.seat.me.0 in
-    let c1 = c.claim-found.new.seat.me.0 in
-    let clear : bit_at found t ≡ 0 = sym (ap (bit_at found) c.number-bit.ensures.value) ∙ (sym (shr_and_one found c.number-bit.result) ∙ c.if-found-bit-ne0.false) in
-    let is1 = claims_it h t a o found c0 c1 c.claim-found.ensures.told clear in
-    let s1 = stands_after h Running (Claiming t a o) (Claimed t a o found) c0 c1 is1 c.requires.acts in
-    let c2 = c.put_address.new.seat.me.0 in
-    let s2 = stands_after h (Claiming t a o) (Half t a o) (Wrote (1 + 2 * t) a) c1 c2 c.put_address.ensures.told s1 in
-    let c3 = c.put_opaque.new.seat.me.0 in
-    let s3 = stands_after h (Half t a o) (Stored t a o) (Wrote (2 + 2 * t) o) c2 c3 c.put_opaque.ensures.told s2 in
-    let c4 = c.arm.new.seat.me.0 in
-    let n = c.args.table.now.table.shared.key.harts in
-    keeps_then h c0.harts c3.harts c4.harts
-    (keeps_then h c0.harts c2.harts c3.harts
-    (keeps_then h c0.harts c1.harts c2.harts
-    (keeps n h Running (Claiming t a o) (Claimed t a o found) c0 c1 is1 c.requires.acts)
-    (keeps n h (Claiming t a o) (Half t a o) (Wrote (1 + 2 * t) a) c1 c2 c.put_address.ensures.told s1))
-    (keeps n h (Half t a o) (Stored t a o) (Wrote (2 + 2 * t) o) c2 c3 c.put_opaque.ensures.told s2))
-    (keeps n h (Stored t a o) Running (Armed t) c3 c4 c.arm.ensures.told s3)
+returns-clause-others c = let at = goal.at.returns-clause-others c in (arms at.After-arm (stores at.After-put_opaque (addresses at.After-put_address (claims at.Else-found-bit-ne0)))).others
 
 pub returns-clause-steps : goal.returns-clause-steps
 returns-clause-steps c =
-    let h = c.args.by in
-    let t = c.args.target in
-    let a = c.value-site.result in
-    let o = c.args.opaque in
-    let found = c.claim-found.result in
-    let c0 = c.args.seat.me.0 in
-    let c1 = c.claim-found.new.seat.me.0 in
-    let c2 = c.put_address.new.seat.me.0 in
-    let c3 = c.put_opaque.new.seat.me.0 in
-    let clear : bit_at found t ≡ 0 = sym (ap (bit_at found) c.number-bit.ensures.value) ∙ (sym (shr_and_one found c.number-bit.result) ∙ c.if-found-bit-ne0.false) in
-    rw (← c.value-site.ensures.value)
-    (found, sym (eq-eqb (bit_at found t) 0 clear), (c1.harts, c2.harts, c3.harts, claims_it h t a o found c0 c1 c.claim-found.ensures.told clear, c.put_address.ensures.told, c.put_opaque.ensures.told, c.arm.ensures.told))
+    let at = (goal.at.returns-clause-steps c).Else-found-bit-ne0 in
+    rw (← c.value-site.ensures.value) (
+      c.claim-found.result,
+      sym (eq-eqb (bit_at c.claim-found.result c.args.target) 0 (clear at)),
+      (c.claim-found.new.seat.me.0.harts, c.put_address.new.seat.me.0.harts, c.put_opaque.new.seat.me.0.harts, granted at, c.put_address.ensures.told, c.put_opaque.ensures.told, c.arm.ensures.told),
+    )
 
 pub returns-clause-alone : goal.returns-clause-alone
 returns-clause-alone c = λ states shown.
-    let found = c.claim-found.result in
-    let clear : bit_at found c.args.target ≡ 0 = sym (ap (bit_at found) c.number-bit.ensures.value) ∙ (sym (shr_and_one found c.number-bit.result) ∙ c.if-found-bit-ne0.false) in
+    let at = (goal.at.returns-clause-alone c).Else-found-bit-ne0 in
     rw (← c.value-site.ensures.value)
-    (start_granted c.args.table.now.table.shared.key.harts c.args.by c.args.target c.value-site.result c.args.opaque found c.args.seat.me.0 c.claim-found.new.seat.me.0 c.put_address.new.seat.me.0 c.put_opaque.new.seat.me.0 c.arm.new.seat.me.0
-    c.claim-found.ensures.told c.put_address.ensures.told c.put_opaque.ensures.told c.arm.ensures.told clear c.requires.acts c.requires.target c.claim-found.ensures.tells states shown)
+    (start_granted c.args.table.now.table.shared.key.harts c.args.by c.args.target c.value-site.result c.args.opaque c.claim-found.result c.args.seat.me.0 c.claim-found.new.seat.me.0 c.put_address.new.seat.me.0 c.put_opaque.new.seat.me.0 c.arm.new.seat.me.0
+    c.claim-found.ensures.told c.put_address.ensures.told c.put_opaque.ensures.told c.arm.ensures.told (clear at) c.requires.acts c.requires.target c.claim-found.ensures.tells states shown)

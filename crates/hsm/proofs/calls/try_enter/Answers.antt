@@ -1,178 +1,112 @@
-use Rattle.std.proofs.Common.{◌≡◌, ◌+◌, ◌*◌, sym, ap, ◌∙◌}
+use Rattle.std.proofs.Common.{◌≡◌, ℕ, ◌+◌, ◌*◌, false, None, sym, ap, ◌∙◌}
 use Rattle.std.specs.Int.{bit_at}
 use Rattle.std.proofs.lemmas.Nat.Bits.{shr_and_one}
 use Rattle.hsm_words.specs.declared.view.Stage.TheVariants.{Out, Ready, Addressed, Loaded, Running}
 use Rattle.hsm_words.specs.declared.view.Deed.TheVariants.{Looked, Read, Entered}
-use Rattle.hsm.proofs.Stand.{stands_after}
-use Rattle.hsm.proofs.Alone.{keeps, keeps_then, unarmed, gone_in, stays_out, gets_ready, enters_none, enters_some}
+use Rattle.hsm_rule.specs.Rule.{HasNoted}
+use Rattle.hsm_rule.specs.States.{HartState, Shows, change_at, entry, begin}
+use Rattle.hsm.specs.Calls.{is_ready}
+use Rattle.hsm.proofs.Alone.{Goes, goes, goes_on, unarmed, gone_in, stays_out, gets_ready, enters_none, enters_some}
+use Rattle.hsm.proofs.calls.try_enter.Goals.{After-look_out-found, Then-found-hart-ne1, Then-found-hart-ne0, Else-found-hart-ne0, After-read_address-site, After-read_opaque-opaque, After-enter}
 use Rattle.hsm.proofs.calls.try_enter.Goals as goal
 
-pub returns-then-found-hart-ne1-clause-stands : goal.returns-then-found-hart-ne1-clause-stands
-returns-then-found-hart-ne1-clause-stands c =
+-- ---- the look did not find the hart ready
+not_armed : (c : Then-found-hart-ne1) → is_ready c.args.by c.look_out-found.result ≡ false
+not_armed c =
+    let found = c.look_out-found.result in
+    unarmed c.args.by found (λ e. c.if-found-hart-ne1.true (shr_and_one found (8 + c.number-hart.result) ∙ (ap (λ n. bit_at found (8 + n)) c.number-hart.ensures.value ∙ e)))
+
+entered : (c : Then-found-hart-ne0) → is_ready c.args.by c.look_out-found.result ≡ false
+entered c =
+    let found = c.look_out-found.result in
+    gone_in c.args.by found (λ e. c.if-found-hart-ne0.true (shr_and_one found (16 + c.number-hart.result) ∙ (ap (λ n. bit_at found (16 + n)) c.number-hart.ensures.value ∙ e)))
+
+waits : (c : After-look_out-found) → is_ready c.args.by c.look_out-found.result ≡ false → Goes c.args.by Out c.args.seat.me.0 c.look_out-found.new.seat.me.0
+waits c z =
     let h = c.args.by in
     let found = c.look_out-found.result in
     let c0 = c.args.seat.me.0 in
     let c1 = c.look_out-found.new.seat.me.0 in
-    let z = unarmed h found (λ e. c.if-found-hart-ne1.true (shr_and_one found (8 + c.number-hart.result) ∙ (ap (λ n. bit_at found (8 + n)) c.number-hart.ensures.value ∙ e))) in
-    let is = stays_out h found c0 c1 c.look_out-found.ensures.told z in
-    stands_after h Out Out (Looked found) c0 c1 is c.requires.acts
+    goes c.args.table.now.table.shared.key.harts h Out Out (Looked found) c0 c1 (stays_out h found c0 c1 c.look_out-found.ensures.told z) c.requires.acts
+
+waits_alone : (c : After-look_out-found) → is_ready c.args.by c.look_out-found.result ≡ false
+    → (states : ℕ → HartState) → Shows c.args.table.now.table.shared.key.harts c.args.seat.me.0 states
+    → (None ≡ entry (states c.args.by)) × Shows c.args.table.now.table.shared.key.harts c.look_out-found.new.seat.me.0 (change_at c.args.by begin states)
+waits_alone c z states shown =
+    enters_none c.args.table.now.table.shared.key.harts c.args.by c.look_out-found.result c.args.seat.me.0 c.look_out-found.new.seat.me.0 c.look_out-found.ensures.told z c.requires.acts c.requires.by c.look_out-found.ensures.tells states shown
+
+pub returns-then-found-hart-ne1-clause-stands : goal.returns-then-found-hart-ne1-clause-stands
+returns-then-found-hart-ne1-clause-stands c = let at = goal.at.returns-then-found-hart-ne1-clause-stands c in (waits at.After-look_out-found (not_armed at.Then-found-hart-ne1)).own
 
 pub returns-then-found-hart-ne1-clause-others : goal.returns-then-found-hart-ne1-clause-others
-returns-then-found-hart-ne1-clause-others c =
-    let h = c.args.by in
-    let found = c.look_out-found.result in
-    let c0 = c.args.seat.me.0 in
-    let c1 = c.look_out-found.new.seat.me.0 in
-    let z = unarmed h found (λ e. c.if-found-hart-ne1.true (shr_and_one found (8 + c.number-hart.result) ∙ (ap (λ n. bit_at found (8 + n)) c.number-hart.ensures.value ∙ e))) in
-    let is = stays_out h found c0 c1 c.look_out-found.ensures.told z in
-    keeps c.args.table.now.table.shared.key.harts h Out Out (Looked found) c0 c1 is c.requires.acts
+returns-then-found-hart-ne1-clause-others c = let at = goal.at.returns-then-found-hart-ne1-clause-others c in (waits at.After-look_out-found (not_armed at.Then-found-hart-ne1)).others
 
 pub returns-then-found-hart-ne1-clause-alone : goal.returns-then-found-hart-ne1-clause-alone
-returns-then-found-hart-ne1-clause-alone c = λ states shown.
-    let h = c.args.by in
-    let found = c.look_out-found.result in
-    let c0 = c.args.seat.me.0 in
-    let c1 = c.look_out-found.new.seat.me.0 in
-    let z = unarmed h found (λ e. c.if-found-hart-ne1.true (shr_and_one found (8 + c.number-hart.result) ∙ (ap (λ n. bit_at found (8 + n)) c.number-hart.ensures.value ∙ e))) in
-    let is = stays_out h found c0 c1 c.look_out-found.ensures.told z in
-    enters_none c.args.table.now.table.shared.key.harts h found c0 c1 c.look_out-found.ensures.told z c.requires.acts c.requires.by c.look_out-found.ensures.tells states shown
+returns-then-found-hart-ne1-clause-alone c = let at = goal.at.returns-then-found-hart-ne1-clause-alone c in waits_alone at.After-look_out-found (not_armed at.Then-found-hart-ne1)
 
 pub returns-then-found-hart-ne0-clause-stands : goal.returns-then-found-hart-ne0-clause-stands
-returns-then-found-hart-ne0-clause-stands c =
-    let h = c.args.by in
-    let found = c.look_out-found.result in
-    let c0 = c.args.seat.me.0 in
-    let c1 = c.look_out-found.new.seat.me.0 in
-    let z = gone_in h found (λ e. c.if-found-hart-ne0.true (shr_and_one found (16 + c.number-hart.result) ∙ (ap (λ n. bit_at found (16 + n)) c.number-hart.ensures.value ∙ e))) in
-    let is = stays_out h found c0 c1 c.look_out-found.ensures.told z in
-    stands_after h Out Out (Looked found) c0 c1 is c.requires.acts
+returns-then-found-hart-ne0-clause-stands c = let at = goal.at.returns-then-found-hart-ne0-clause-stands c in (waits at.After-look_out-found (entered at.Then-found-hart-ne0)).own
 
 pub returns-then-found-hart-ne0-clause-others : goal.returns-then-found-hart-ne0-clause-others
-returns-then-found-hart-ne0-clause-others c =
-    let h = c.args.by in
-    let found = c.look_out-found.result in
-    let c0 = c.args.seat.me.0 in
-    let c1 = c.look_out-found.new.seat.me.0 in
-    let z = gone_in h found (λ e. c.if-found-hart-ne0.true (shr_and_one found (16 + c.number-hart.result) ∙ (ap (λ n. bit_at found (16 + n)) c.number-hart.ensures.value ∙ e))) in
-    let is = stays_out h found c0 c1 c.look_out-found.ensures.told z in
-    keeps c.args.table.now.table.shared.key.harts h Out Out (Looked found) c0 c1 is c.requires.acts
+returns-then-found-hart-ne0-clause-others c = let at = goal.at.returns-then-found-hart-ne0-clause-others c in (waits at.After-look_out-found (entered at.Then-found-hart-ne0)).others
 
 pub returns-then-found-hart-ne0-clause-alone : goal.returns-then-found-hart-ne0-clause-alone
-returns-then-found-hart-ne0-clause-alone c = λ states shown.
-    let h = c.args.by in
-    let found = c.look_out-found.result in
-    let c0 = c.args.seat.me.0 in
-    let c1 = c.look_out-found.new.seat.me.0 in
-    let z = gone_in h found (λ e. c.if-found-hart-ne0.true (shr_and_one found (16 + c.number-hart.result) ∙ (ap (λ n. bit_at found (16 + n)) c.number-hart.ensures.value ∙ e))) in
-    let is = stays_out h found c0 c1 c.look_out-found.ensures.told z in
-    enters_none c.args.table.now.table.shared.key.harts h found c0 c1 c.look_out-found.ensures.told z c.requires.acts c.requires.by c.look_out-found.ensures.tells states shown
+returns-then-found-hart-ne0-clause-alone c = let at = goal.at.returns-then-found-hart-ne0-clause-alone c in waits_alone at.After-look_out-found (entered at.Then-found-hart-ne0)
 
-pub read_address-site-requires-clause-acts : goal.read_address-site-requires-clause-acts
-read_address-site-requires-clause-acts c =
+-- ---- it did: two loads and the entry
+looked : (c : Else-found-hart-ne0) → HasNoted c.args.by Ready (Looked c.look_out-found.result) c.args.seat.me.0.harts c.look_out-found.new.seat.me.0.harts
+looked c =
     let h = c.args.by in
     let found = c.look_out-found.result in
-    let c0 = c.args.seat.me.0 in
-    let c1 = c.look_out-found.new.seat.me.0 in
     let armed : bit_at found (8 + h) ≡ 1 = sym (ap (λ n. bit_at found (8 + n)) c.number-hart.ensures.value) ∙ (sym (shr_and_one found (8 + c.number-hart.result)) ∙ c.if-found-hart-ne1.false) in
     let out : bit_at found (16 + h) ≡ 0 = sym (ap (λ n. bit_at found (16 + n)) c.number-hart.ensures.value) ∙ (sym (shr_and_one found (16 + c.number-hart.result)) ∙ c.if-found-hart-ne0.false) in
-    let is1 = gets_ready h found c0 c1 c.look_out-found.ensures.told armed out in
-    let s1 = stands_after h Out Ready (Looked found) c0 c1 is1 c.requires.acts in
-    s1
+    gets_ready h found c.args.seat.me.0 c.look_out-found.new.seat.me.0 c.look_out-found.ensures.told armed out
+
+ready : (c : Else-found-hart-ne0) → Goes c.args.by Ready c.args.seat.me.0 c.look_out-found.new.seat.me.0
+ready c = goes c.args.table.now.table.shared.key.harts c.args.by Out Ready (Looked c.look_out-found.result) c.args.seat.me.0 c.look_out-found.new.seat.me.0 (looked c) c.requires.acts
+
+addressed : (c : After-read_address-site) → Goes c.args.by Ready c.args.seat.me.0 c.look_out-found.new.seat.me.0 → Goes c.args.by (Addressed c.read_address-site.result) c.args.seat.me.0 c.read_address-site.new.seat.me.0
+addressed c gone =
+    let a = c.read_address-site.result in
+    goes_on c.args.table.now.table.shared.key.harts c.args.by Ready (Addressed a) (Read (1 + 2 * c.args.by) a) c.args.seat.me.0 c.look_out-found.new.seat.me.0 c.read_address-site.new.seat.me.0 gone c.read_address-site.ensures.told
+
+loaded : (c : After-read_opaque-opaque) → Goes c.args.by (Addressed c.read_address-site.result) c.args.seat.me.0 c.read_address-site.new.seat.me.0
+    → Goes c.args.by (Loaded c.read_address-site.result c.read_opaque-opaque.result) c.args.seat.me.0 c.read_opaque-opaque.new.seat.me.0
+loaded c gone =
+    let a = c.read_address-site.result in
+    let o = c.read_opaque-opaque.result in
+    goes_on c.args.table.now.table.shared.key.harts c.args.by (Addressed a) (Loaded a o) (Read (2 + 2 * c.args.by) o) c.args.seat.me.0 c.read_address-site.new.seat.me.0 c.read_opaque-opaque.new.seat.me.0 gone c.read_opaque-opaque.ensures.told
+
+enters : (c : After-enter) → Goes c.args.by (Loaded c.read_address-site.result c.read_opaque-opaque.result) c.args.seat.me.0 c.read_opaque-opaque.new.seat.me.0 → Goes c.args.by Running c.args.seat.me.0 c.enter.new.seat.me.0
+enters c gone =
+    let a = c.read_address-site.result in
+    let o = c.read_opaque-opaque.result in
+    goes_on c.args.table.now.table.shared.key.harts c.args.by (Loaded a o) Running (Entered c.args.by a o) c.args.seat.me.0 c.read_opaque-opaque.new.seat.me.0 c.enter.new.seat.me.0 gone c.enter.ensures.told
+
+pub read_address-site-requires-clause-acts : goal.read_address-site-requires-clause-acts
+read_address-site-requires-clause-acts c = (ready (goal.at.read_address-site-requires-clause-acts c).Else-found-hart-ne0).own
 
 pub read_opaque-opaque-requires-clause-acts : goal.read_opaque-opaque-requires-clause-acts
 read_opaque-opaque-requires-clause-acts c =
-    let h = c.args.by in
-    let found = c.look_out-found.result in
-    let c0 = c.args.seat.me.0 in
-    let c1 = c.look_out-found.new.seat.me.0 in
-    let armed : bit_at found (8 + h) ≡ 1 = sym (ap (λ n. bit_at found (8 + n)) c.number-hart.ensures.value) ∙ (sym (shr_and_one found (8 + c.number-hart.result)) ∙ c.if-found-hart-ne1.false) in
-    let out : bit_at found (16 + h) ≡ 0 = sym (ap (λ n. bit_at found (16 + n)) c.number-hart.ensures.value) ∙ (sym (shr_and_one found (16 + c.number-hart.result)) ∙ c.if-found-hart-ne0.false) in
-    let is1 = gets_ready h found c0 c1 c.look_out-found.ensures.told armed out in
-    let s1 = stands_after h Out Ready (Looked found) c0 c1 is1 c.requires.acts in
-    let a = c.read_address-site.result in
-    let c2 = c.read_address-site.new.seat.me.0 in
-    let s2 = stands_after h Ready (Addressed a) (Read (1 + 2 * h) a) c1 c2 c.read_address-site.ensures.told s1 in
-    s2
+    let at = goal.at.read_opaque-opaque-requires-clause-acts c in (addressed at.After-read_address-site (ready at.Else-found-hart-ne0)).own
 
 pub enter-requires-clause-acts : goal.enter-requires-clause-acts
 enter-requires-clause-acts c =
-    let h = c.args.by in
-    let found = c.look_out-found.result in
-    let c0 = c.args.seat.me.0 in
-    let c1 = c.look_out-found.new.seat.me.0 in
-    let armed : bit_at found (8 + h) ≡ 1 = sym (ap (λ n. bit_at found (8 + n)) c.number-hart.ensures.value) ∙ (sym (shr_and_one found (8 + c.number-hart.result)) ∙ c.if-found-hart-ne1.false) in
-    let out : bit_at found (16 + h) ≡ 0 = sym (ap (λ n. bit_at found (16 + n)) c.number-hart.ensures.value) ∙ (sym (shr_and_one found (16 + c.number-hart.result)) ∙ c.if-found-hart-ne0.false) in
-    let is1 = gets_ready h found c0 c1 c.look_out-found.ensures.told armed out in
-    let s1 = stands_after h Out Ready (Looked found) c0 c1 is1 c.requires.acts in
-    let a = c.read_address-site.result in
-    let c2 = c.read_address-site.new.seat.me.0 in
-    let s2 = stands_after h Ready (Addressed a) (Read (1 + 2 * h) a) c1 c2 c.read_address-site.ensures.told s1 in
-    let o = c.read_opaque-opaque.result in
-    let c3 = c.read_opaque-opaque.new.seat.me.0 in
-    let s3 = stands_after h (Addressed a) (Loaded a o) (Read (2 + 2 * h) o) c2 c3 c.read_opaque-opaque.ensures.told s2 in
-    s3
+    let at = goal.at.enter-requires-clause-acts c in (loaded at.After-read_opaque-opaque (addressed at.After-read_address-site (ready at.Else-found-hart-ne0))).own
 
 pub returns-clause-stands : goal.returns-clause-stands
 returns-clause-stands c =
-    let h = c.args.by in
-    let found = c.look_out-found.result in
-    let c0 = c.args.seat.me.0 in
-    let c1 = c.look_out-found.new.seat.me.0 in
-    let armed : bit_at found (8 + h) ≡ 1 = sym (ap (λ n. bit_at found (8 + n)) c.number-hart.ensures.value) ∙ (sym (shr_and_one found (8 + c.number-hart.result)) ∙ c.if-found-hart-ne1.false) in
-    let out : bit_at found (16 + h) ≡ 0 = sym (ap (λ n. bit_at found (16 + n)) c.number-hart.ensures.value) ∙ (sym (shr_and_one found (16 + c.number-hart.result)) ∙ c.if-found-hart-ne0.false) in
-    let is1 = gets_ready h found c0 c1 c.look_out-found.ensures.told armed out in
-    let s1 = stands_after h Out Ready (Looked found) c0 c1 is1 c.requires.acts in
-    let a = c.read_address-site.result in
-    let c2 = c.read_address-site.new.seat.me.0 in
-    let s2 = stands_after h Ready (Addressed a) (Read (1 + 2 * h) a) c1 c2 c.read_address-site.ensures.told s1 in
-    let o = c.read_opaque-opaque.result in
-    let c3 = c.read_opaque-opaque.new.seat.me.0 in
-    let s3 = stands_after h (Addressed a) (Loaded a o) (Read (2 + 2 * h) o) c2 c3 c.read_opaque-opaque.ensures.told s2 in
-    let c4 = c.enter.new.seat.me.0 in
-    stands_after h (Loaded a o) Running (Entered h a o) c3 c4 c.enter.ensures.told s3
+    let at = goal.at.returns-clause-stands c in (enters at.After-enter (loaded at.After-read_opaque-opaque (addressed at.After-read_address-site (ready at.Else-found-hart-ne0)))).own
 
 pub returns-clause-others : goal.returns-clause-others
 returns-clause-others c =
-    let h = c.args.by in
-    let found = c.look_out-found.result in
-    let c0 = c.args.seat.me.0 in
-    let c1 = c.look_out-found.new.seat.me.0 in
-    let armed : bit_at found (8 + h) ≡ 1 = sym (ap (λ n. bit_at found (8 + n)) c.number-hart.ensures.value) ∙ (sym (shr_and_one found (8 + c.number-hart.result)) ∙ c.if-found-hart-ne1.false) in
-    let out : bit_at found (16 + h) ≡ 0 = sym (ap (λ n. bit_at found (16 + n)) c.number-hart.ensures.value) ∙ (sym (shr_and_one found (16 + c.number-hart.result)) ∙ c.if-found-hart-ne0.false) in
-    let is1 = gets_ready h found c0 c1 c.look_out-found.ensures.told armed out in
-    let s1 = stands_after h Out Ready (Looked found) c0 c1 is1 c.requires.acts in
-    let a = c.read_address-site.result in
-    let c2 = c.read_address-site.new.seat.me.0 in
-    let s2 = stands_after h Ready (Addressed a) (Read (1 + 2 * h) a) c1 c2 c.read_address-site.ensures.told s1 in
-    let o = c.read_opaque-opaque.result in
-    let c3 = c.read_opaque-opaque.new.seat.me.0 in
-    let s3 = stands_after h (Addressed a) (Loaded a o) (Read (2 + 2 * h) o) c2 c3 c.read_opaque-opaque.ensures.told s2 in
-    let c4 = c.enter.new.seat.me.0 in
-    let n = c.args.table.now.table.shared.key.harts in
-    keeps_then h c0.harts c3.harts c4.harts
-    (keeps_then h c0.harts c2.harts c3.harts
-    (keeps_then h c0.harts c1.harts c2.harts
-    (keeps n h Out Ready (Looked found) c0 c1 is1 c.requires.acts)
-    (keeps n h Ready (Addressed a) (Read (1 + 2 * h) a) c1 c2 c.read_address-site.ensures.told s1))
-    (keeps n h (Addressed a) (Loaded a o) (Read (2 + 2 * h) o) c2 c3 c.read_opaque-opaque.ensures.told s2))
-    (keeps n h (Loaded a o) Running (Entered h a o) c3 c4 c.enter.ensures.told s3)
+    let at = goal.at.returns-clause-others c in (enters at.After-enter (loaded at.After-read_opaque-opaque (addressed at.After-read_address-site (ready at.Else-found-hart-ne0)))).others
 
 pub returns-clause-alone : goal.returns-clause-alone
 returns-clause-alone c = λ states shown.
-    let h = c.args.by in
-    let found = c.look_out-found.result in
-    let c0 = c.args.seat.me.0 in
-    let c1 = c.look_out-found.new.seat.me.0 in
-    let armed : bit_at found (8 + h) ≡ 1 = sym (ap (λ n. bit_at found (8 + n)) c.number-hart.ensures.value) ∙ (sym (shr_and_one found (8 + c.number-hart.result)) ∙ c.if-found-hart-ne1.false) in
-    let out : bit_at found (16 + h) ≡ 0 = sym (ap (λ n. bit_at found (16 + n)) c.number-hart.ensures.value) ∙ (sym (shr_and_one found (16 + c.number-hart.result)) ∙ c.if-found-hart-ne0.false) in
-    let is1 = gets_ready h found c0 c1 c.look_out-found.ensures.told armed out in
-    let s1 = stands_after h Out Ready (Looked found) c0 c1 is1 c.requires.acts in
+    let at = goal.at.returns-clause-alone c in
     let a = c.read_address-site.result in
-    let c2 = c.read_address-site.new.seat.me.0 in
-    let s2 = stands_after h Ready (Addressed a) (Read (1 + 2 * h) a) c1 c2 c.read_address-site.ensures.told s1 in
-    let o = c.read_opaque-opaque.result in
-    let c3 = c.read_opaque-opaque.new.seat.me.0 in
-    let s3 = stands_after h (Addressed a) (Loaded a o) (Read (2 + 2 * h) o) c2 c3 c.read_opaque-opaque.ensures.told s2 in
-    let c4 = c.enter.new.seat.me.0 in
     let same : c.unwrap-address.result ≡ a = (rw c.unwrap-address.ensures at c.new.ensures.some).0 in
-    rw same (enters_some c.args.table.now.table.shared.key.harts h found a o c0 c1 c2 c3 c4 is1 c.read_address-site.ensures.told c.read_opaque-opaque.ensures.told c.enter.ensures.told c.requires.acts c.enter.ensures.open states shown)
+    rw same
+    (enters_some c.args.table.now.table.shared.key.harts c.args.by c.look_out-found.result a c.read_opaque-opaque.result c.args.seat.me.0 c.look_out-found.new.seat.me.0 c.read_address-site.new.seat.me.0 c.read_opaque-opaque.new.seat.me.0 c.enter.new.seat.me.0
+    (looked at.Else-found-hart-ne0) c.read_address-site.ensures.told c.read_opaque-opaque.ensures.told c.enter.ensures.told c.requires.acts c.enter.ensures.open states shown)
