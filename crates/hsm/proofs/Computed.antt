@@ -141,27 +141,14 @@ at_running st start e = rw e refl
 
 at_asleep : (st : Stage) (start : Option (ℕ × ℕ)) → is_asleep st ≡ true → state_at st start ≡ suspended
 at_asleep Asleep start e = refl
-at_asleep Out start e = absurd (cc)
-at_asleep Ready start e = absurd (cc)
-at_asleep (Addressed a) start e = absurd (cc)
-at_asleep (Loaded a o) start e = absurd (cc)
-at_asleep Running start e = absurd (cc)
-at_asleep (Claiming t a o) start e = absurd (cc)
-at_asleep (Half t a o) start e = absurd (cc)
-at_asleep (Stored t a o) start e = absurd (cc)
-at_asleep Quiet start e = absurd (cc)
+at_asleep st start e = absurd (cc)
 
 at_outside : (st : Stage) (start : Option (ℕ × ℕ)) → is_outside st ≡ true → state_at st start ≡ outside start
 at_outside Out start e = refl
 at_outside Ready start e = refl
 at_outside (Addressed a) start e = refl
 at_outside (Loaded a o) start e = refl
-at_outside Asleep start e = absurd (cc)
-at_outside Running start e = absurd (cc)
-at_outside (Claiming t a o) start e = absurd (cc)
-at_outside (Half t a o) start e = absurd (cc)
-at_outside (Stored t a o) start e = absurd (cc)
-at_outside Quiet start e = absurd (cc)
+at_outside st start e = absurd (cc)
 
 -- the state that a view tells is the one that is computed of it
 pub state_is : (c : Crew) (h : ℕ) (x : HartState) → IsIn c h x → state_in c h ≡ x

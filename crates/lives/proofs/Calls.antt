@@ -2,7 +2,7 @@
 use Rattle.std.proofs.Common.{◌≡◌, ◌∙◌, ◌⊎◌, inl, inr, ℕ, List, [], ◌∷◌, ◌++◌, Option, Some, None, Result, Ok, Err, Bool, true, false, nat_lt, is_some, if◌then◌else◌, refl, sym, ap, subst}
 use Rattle.board_model.specs.Durable.{State, Change, Slot, Reset, Suspend, Consume, Discard, refusal_of, after, fold, ends_life}
 use Rattle.board_model.specs.declared.refusal.Refusal.{Refusal}
-use Rattle.board_model.specs.declared.refusal.Refusal.TheVariants.{NotFormatted, AlreadyFormatted, BadShape, BadRecord, Device, Down, Over, NoImage, BadSlot, JournalFull, Memory, SerialsSpent, BadImage, BadScript, ImageThere, Output}
+use Rattle.board_model.specs.declared.refusal.Refusal.TheVariants.{BadShape, Device, Down, Over, JournalFull, Memory}
 use Rattle.store.specs.Lives.{Life, now_of, begun, Reaches, Refused, Applied, SuspendRefused, SuspendApplied, Suspended}
 use Rattle.lives.specs.Events.{World, WasOpened, WasAcknowledged, WasDoubtful, Finds, Goes, Happens, dropped_by, goes_on, goes_with, event_of, IsLived, Leads}
 
@@ -98,21 +98,7 @@ others old new c e (inr (inr (inr (inr did)))) not = did.3
 by_refusal : (w : World) (old new : Life) (c : Change) (e : Refusal) → IsLived w old → old.doubt ≡ None → (e ≡ Down → Reaches old c × (new ≡ record old { doubt = Some c })) → ((e ≡ Down → ⊥) → new ≡ old)
     → Leads w (event_of c (Err e)) new
 by_refusal w old new c Down lived calm up same = let did = up refl in doubtful w old new c lived calm did.0 did.1
-by_refusal w old new c NotFormatted lived calm up same = (w, refl, still w old new lived (same (λ is. cc)))
-by_refusal w old new c AlreadyFormatted lived calm up same = (w, refl, still w old new lived (same (λ is. cc)))
-by_refusal w old new c BadShape lived calm up same = (w, refl, still w old new lived (same (λ is. cc)))
-by_refusal w old new c BadRecord lived calm up same = (w, refl, still w old new lived (same (λ is. cc)))
-by_refusal w old new c Device lived calm up same = (w, refl, still w old new lived (same (λ is. cc)))
-by_refusal w old new c Over lived calm up same = (w, refl, still w old new lived (same (λ is. cc)))
-by_refusal w old new c NoImage lived calm up same = (w, refl, still w old new lived (same (λ is. cc)))
-by_refusal w old new c BadSlot lived calm up same = (w, refl, still w old new lived (same (λ is. cc)))
-by_refusal w old new c JournalFull lived calm up same = (w, refl, still w old new lived (same (λ is. cc)))
-by_refusal w old new c Memory lived calm up same = (w, refl, still w old new lived (same (λ is. cc)))
-by_refusal w old new c SerialsSpent lived calm up same = (w, refl, still w old new lived (same (λ is. cc)))
-by_refusal w old new c BadImage lived calm up same = (w, refl, still w old new lived (same (λ is. cc)))
-by_refusal w old new c (BadScript line) lived calm up same = (w, refl, still w old new lived (same (λ is. cc)))
-by_refusal w old new c ImageThere lived calm up same = (w, refl, still w old new lived (same (λ is. cc)))
-by_refusal w old new c Output lived calm up same = (w, refl, still w old new lived (same (λ is. cc)))
+by_refusal w old new c e lived calm up same = (w, refl, still w old new lived (same (λ is. cc)))
 
 at_down : (old new : Life) (c : Change) (e : Refusal) → Refused old c e new → e ≡ Down → Reaches old c × (new ≡ record old { doubt = Some c })
 at_down old new c e did is = down old new c (subst (λ (f : Refusal). Refused old c f new) is did)

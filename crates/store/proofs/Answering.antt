@@ -4,7 +4,7 @@ use Rattle.std.specs.Result.{MatchResult}
 use Rattle.board_model.specs.Durable.{State, Change, after, refusal_of}
 use Rattle.board_model.specs.Shapes.{Size}
 use Rattle.board_model.specs.declared.refusal.Refusal.{Refusal}
-use Rattle.board_model.specs.declared.refusal.Refusal.TheVariants.{NotFormatted, AlreadyFormatted, BadShape, BadRecord, Device, Down, Over, NoImage, BadSlot, JournalFull, Memory, SerialsSpent, BadImage, BadScript, ImageThere, Output}
+use Rattle.board_model.specs.declared.refusal.Refusal.TheVariants.{Device, Down, Memory}
 use Rattle.disk.specs.Facts.{Facts, LeavesSince}
 use Rattle.disk.specs.Mishaps.{Mishaps}
 use Rattle.disk.specs.Moments.{leaves_then, leaves_weaker}
@@ -25,41 +25,10 @@ unfolding WroteACommand
 wrote_later old mid new same wrote = wrote ∙ ap (λ (k : ℕ). 1 - k) same
 
 -- a refusal but 5 and 6 has no cause, and the disk did not fail
-pub no_cause : (m : Mishaps) (e : Refusal) → (e ≡ Device → ⊥) → (e ≡ Down → ⊥) → CausedRefusal m e m
-no_cause m NotFormatted not_device not_down = refl
-no_cause m AlreadyFormatted not_device not_down = refl
-no_cause m BadShape not_device not_down = refl
-no_cause m BadRecord not_device not_down = refl
-no_cause m Device not_device not_down = absurd (not_device refl)
-no_cause m Down not_device not_down = absurd (not_down refl)
-no_cause m Over not_device not_down = refl
-no_cause m NoImage not_device not_down = refl
-no_cause m BadSlot not_device not_down = refl
-no_cause m JournalFull not_device not_down = refl
-no_cause m Memory not_device not_down = refl
-no_cause m SerialsSpent not_device not_down = refl
-no_cause m BadImage not_device not_down = refl
-no_cause m (BadScript line) not_device not_down = refl
-no_cause m ImageThere not_device not_down = refl
-no_cause m Output not_device not_down = refl
-
-pub no_count : (n : ℕ) (e : Refusal) → (e ≡ Device → ⊥) → (e ≡ Down → ⊥) → CountedRefusal n e n
-no_count n NotFormatted not_device not_down = refl
-no_count n AlreadyFormatted not_device not_down = refl
-no_count n BadShape not_device not_down = refl
-no_count n BadRecord not_device not_down = refl
-no_count n Device not_device not_down = absurd (not_device refl)
-no_count n Down not_device not_down = absurd (not_down refl)
-no_count n Over not_device not_down = refl
-no_count n NoImage not_device not_down = refl
-no_count n BadSlot not_device not_down = refl
-no_count n JournalFull not_device not_down = refl
-no_count n Memory not_device not_down = refl
-no_count n SerialsSpent not_device not_down = refl
-no_count n BadImage not_device not_down = refl
-no_count n (BadScript line) not_device not_down = refl
-no_count n ImageThere not_device not_down = refl
-no_count n Output not_device not_down = refl
+nothing_failed : (m : Mishaps) (n : ℕ) (e : Refusal) → (e ≡ Device → ⊥) → (e ≡ Down → ⊥) → CausedRefusal m e m × CountedRefusal n e n
+nothing_failed m n Device not_device not_down = absurd (not_device refl)
+nothing_failed m n Down not_device not_down = absurd (not_down refl)
+nothing_failed m n e not_device not_down = (refl, refl)
 
 -- refused before the disk was asked
 pub refused_still : (Does : Life → Change → Result ℕ Refusal → Life → Type 0) (v : StoreView) (c : Change) (e : Refusal) → Does v.life c (Err e) v.life
@@ -69,8 +38,8 @@ refused_still Does v c e did moment only not_device not_down = record {
   life = did;
   leaves = record { any_moment = moment; acknowledged = tt; unchanged = λ _. only; in_doubt = λ is. absurd (not_down (one is)) };
   written = tt;
-  cause = no_cause v.mishaps e not_device not_down;
-  counts = no_count v.disk.failures e not_device not_down;
+  cause = (nothing_failed v.mishaps v.disk.failures e not_device not_down).0;
+  counts = (nothing_failed v.mishaps v.disk.failures e not_device not_down).1;
 }
   where
     one : ◌≡◌ {A = Result ℕ Refusal} (Err e) (Err Down) → e ≡ Down

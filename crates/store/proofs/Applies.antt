@@ -64,24 +64,45 @@ still_stands a size side current now then only_now up is =
     leaves_none a (StandsForEither size now then) only_now
     (λ x left. inl (subst (StandsFor x size) (sym is) (stands_for size side current a.content x (up x left))))
 
+-- the state of a life, by the disk as a read gives it
+abbrev pub now_by : Facts → Size → Record → Record → List Entry → State
+now_by a size opened current journal = fold (state_of size opened a.content) (told (memory_in size current a.content) journal)
+
+-- What a commit of an entry leaves of a life, whether it was done, was left undone or is in doubt.
+pub record Issues (a b : Facts) (size : Size) (side : ℕ) (opened current next : Record) (journal : List Entry) (entry : Entry) : Type 0 where
+  pub found : state_of size opened b.content ≡ state_of size opened a.content
+  pub journal_still : told (memory_in size current b.content) journal ≡ told (memory_in size current a.content) journal
+  change_still : change_in entry (memory_in size next b.content) ≡ change_in entry (memory_in size next a.content)
+  pub folded : fold (state_of size opened b.content) (told (memory_in size current b.content) journal) ≡ state_of size current b.content
+  pub allowed : refusal_of (now_by a size opened current journal) (change_in entry (memory_in size next a.content)) ≡ None → refusal_of (state_of size current b.content) (change_in entry (memory_in size next b.content)) ≡ None
+  pub journal_with : are_plain journal ≡ true
+      → told (memory_in size next b.content) (journal ++ entry ∷ []) ≡ told (memory_in size current a.content) journal ++ change_in entry (memory_in size next a.content) ∷ []
+  pub folded_with : are_plain journal ≡ true → fold (state_of size opened b.content) (told (memory_in size next b.content) (journal ++ entry ∷ [])) ≡ state_of size next b.content
+  pub any_moment : LeavesSince a b (SelectsEither size side current next a.content)
+      → LeavesSince a b (StandsForEither size (now_by a size opened current journal) (after (now_by a size opened current journal) (change_in entry (memory_in size next a.content))))
+  pub done : IsUp b size (1 - side) next → LeavesOnly b size (after (now_by a size opened current journal) (change_in entry (memory_in size next a.content)))
+  pub undone : IsUp b size side current → LeavesOnly b size (now_by a size opened current journal)
+  pub either : side < 2 → IsInDoubt b size side current next
+      → LeavesEither b size (now_by a size opened current journal) (after (now_by a size opened current journal) (change_in entry (memory_in size next a.content)))
+
 module _ (a b : Facts) (size : Size) (side : ℕ) (opened current next : Record) (journal : List Entry) (entry : Entry) (follows : Follows size current entry next)
     (areas : SameAreas a.content b.content) (folded : fold (state_of size opened a.content) (told (memory_in size current a.content) journal) ≡ state_of size current a.content) where
   abbrev now : State
-  now = fold (state_of size opened a.content) (told (memory_in size current a.content) journal)
+  now = now_by a size opened current journal
 
   abbrev change : Change
   change = change_in entry (memory_in size next a.content)
 
-  pub found_still : state_of size opened b.content ≡ state_of size opened a.content
+  found_still : state_of size opened b.content ≡ state_of size opened a.content
   found_still = state_same size opened a.content b.content (of_areas size opened.image a.content b.content areas)
 
   current_memory : memory_in size current b.content ≡ memory_in size current a.content
   current_memory = memory_same size current a.content b.content (of_areas size current.image a.content b.content areas)
 
-  pub next_memory : memory_in size next b.content ≡ memory_in size next a.content
+  next_memory : memory_in size next b.content ≡ memory_in size next a.content
   next_memory = memory_same size next a.content b.content (of_areas size next.image a.content b.content areas)
 
-  pub told_still : told (memory_in size current b.content) journal ≡ told (memory_in size current a.content) journal
+  told_still : told (memory_in size current b.content) journal ≡ told (memory_in size current a.content) journal
   told_still = ap (λ (m : List ℕ). told m journal) current_memory
 
   pub change_still : change_in entry (memory_in size next b.content) ≡ change
@@ -91,41 +112,41 @@ module _ (a b : Facts) (size : Size) (side : ℕ) (opened current next : Record)
   now_still = state_same size current a.content b.content (of_areas size current.image a.content b.content areas) ∙ sym folded
 
   -- a command that the table does not refuse is not refused then
-  pub allowed_still : refusal_of now change ≡ None → refusal_of (state_of size current b.content) (change_in entry (memory_in size next b.content)) ≡ None
+  allowed_still : refusal_of now change ≡ None → refusal_of (state_of size current b.content) (change_in entry (memory_in size next b.content)) ≡ None
   allowed_still allowed = ap (λ (s : State). refusal_of s (change_in entry (memory_in size next b.content))) now_still ∙ ap (λ (c : Change). refusal_of now c) change_still ∙ allowed
 
   next_is : state_of size next b.content ≡ after now change
   next_is = follows.state b.content ∙ ap (after (state_of size current b.content)) change_still ∙ ap (λ (s : State). after s change) now_still
 
-  pub folded_still : fold (state_of size opened b.content) (told (memory_in size current b.content) journal) ≡ state_of size current b.content
+  folded_still : fold (state_of size opened b.content) (told (memory_in size current b.content) journal) ≡ state_of size current b.content
   folded_still = ap (fold (state_of size opened b.content)) told_still ∙ ap (λ (s : State). fold s (told (memory_in size current a.content) journal)) found_still ∙ sym now_still
 
   -- the journal with the command
-  pub told_next : are_plain journal ≡ true → told (memory_in size next b.content) (journal ++ entry ∷ []) ≡ told (memory_in size current a.content) journal ++ change ∷ []
+  told_next : are_plain journal ≡ true → told (memory_in size next b.content) (journal ++ entry ∷ []) ≡ told (memory_in size current a.content) journal ++ change ∷ []
   told_next plain =
       told_more (memory_in size next b.content) journal entry
       ∙ ap (λ (cs : List Change). cs ++ change_in entry (memory_in size next b.content) ∷ []) (plain_told (memory_in size next b.content) (memory_in size current a.content) journal plain)
       ∙ ap (λ (c : Change). told (memory_in size current a.content) journal ++ c ∷ []) change_still
 
-  pub folded_more : are_plain journal ≡ true → fold (state_of size opened b.content) (told (memory_in size next b.content) (journal ++ entry ∷ [])) ≡ state_of size next b.content
+  folded_more : are_plain journal ≡ true → fold (state_of size opened b.content) (told (memory_in size next b.content) (journal ++ entry ∷ [])) ≡ state_of size next b.content
   folded_more plain =
       ap (fold (state_of size opened b.content)) (told_next plain)
       ∙ ap (λ (s : State). fold s (told (memory_in size current a.content) journal ++ change ∷ [])) found_still
       ∙ one_more (state_of size opened a.content) (told (memory_in size current a.content) journal) change
       ∙ sym next_is
 
-  pub leaves_next : IsUp b size (1 - side) next → LeavesOnly b size (after now change)
+  leaves_next : IsUp b size (1 - side) next → LeavesOnly b size (after now change)
   leaves_next up = subst (LeavesOnly b size) next_is (up_leaves b size (1 - side) next up)
 
-  pub leaves_before : IsUp b size side current → LeavesOnly b size now
+  leaves_before : IsUp b size side current → LeavesOnly b size now
   leaves_before up = subst (LeavesOnly b size) now_still (up_leaves b size side current up)
 
-  pub leaves_one : side < 2 → IsInDoubt b size side current next → LeavesEither b size now (after now change)
+  leaves_one : side < 2 → IsInDoubt b size side current next → LeavesEither b size now (after now change)
   leaves_one known doubt =
       subst (λ (s : State). LeavesEither b size s (after now change)) now_still
       (subst (λ (s : State). LeavesEither b size (state_of size current b.content) s) next_is (doubt_leaves b size side current next known doubt))
 
-  pub either_moment : LeavesSince a b (SelectsEither size side current next a.content) → LeavesSince a b (StandsForEither size now (after now change))
+  either_moment : LeavesSince a b (SelectsEither size side current next a.content) → LeavesSince a b (StandsForEither size now (after now change))
   either_moment only =
       leaves_weaker a b (SelectsEither size side current next a.content) (StandsForEither size now (after now change)) only
       (λ x either.
@@ -133,3 +154,18 @@ module _ (a b : Facts) (size : Size) (side : ℕ) (opened current next : Record)
       (λ old. inl (subst (StandsFor x size) (sym folded) old))
       (λ new. inr (subst (StandsFor x size) (follows.state a.content ∙ ap (λ (s : State). after s change) (sym folded)) new))
       (either_stands size side current next a.content x either))
+
+  pub issues : Issues a b size side opened current next journal entry
+  issues = record {
+    found = found_still;
+    journal_still = told_still;
+    change = change_still;
+    folded = folded_still;
+    allowed = allowed_still;
+    journal_with = told_next;
+    folded_with = folded_more;
+    any_moment = either_moment;
+    done = leaves_next;
+    undone = leaves_before;
+    either = leaves_one;
+  }

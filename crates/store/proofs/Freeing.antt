@@ -18,7 +18,7 @@ use Rattle.store.specs.Standing.{image_of, state_of, memory_in, Selects, StandsF
 use Rattle.store.specs.Commits.{SameImage, IsUp}
 use Rattle.board_model.specs.declared.durable.Entry.{Entry}
 use Rattle.board_model.specs.declared.durable.Entry.TheVariants as entries
-use Rattle.store.proofs.Applies.{told}
+use Rattle.store.proofs.Applies.{told, now_by}
 use Rattle.store.proofs.Following.{durable_same}
 use Rattle.store.proofs.States.{image_then, state_same, memory_same, stands_for}
 
@@ -47,6 +47,13 @@ forget m (entries.Suspend h a o ∷ journal) slot reason next x y drops = refl
 
 image_back : (size : Size) (image : Option Saved) (c d : Content) → SameImage size image c d → SameImage size image d c
 image_back size image c d same = record { as_long = sym same.as_long; same = λ saved is k from below. sym (same.same saved is k from below) }
+
+-- what a write of the area that the live image does not use leaves of a life
+pub record Frees (a b : Facts) (size : Size) (opened current : Record) (journal : List Entry) : Type 0 where
+  pub journal_still : told (memory_in size current b.content) journal ≡ told (memory_in size current a.content) journal
+  pub heads : durable_of (state_of size opened b.content) ≡ durable_of (state_of size opened a.content)
+  pub now : fold (state_of size opened b.content) (told (memory_in size current a.content) journal) ≡ now_by a size opened current journal
+  pub any_moment : LeavesSince a b (λ c. StandsFor c size (now_by a size opened current journal))
 
 module _ (a b : Facts) (size : Size) (side : ℕ) (opened current : Record) (journal : List Entry) (area : ℕ) (known : side < 2) (two : area < 2)
     (free : (saved : Saved) → current.image ≡ Some saved → (area ≡ 0 → saved.area ≡ 0 → ⊥) × (area ≡ 1 → saved.area ≡ 1 → ⊥))
@@ -84,14 +91,14 @@ module _ (a b : Facts) (size : Size) (side : ℕ) (opened current : Record) (jou
   pub free_memory : memory_in size current b.content ≡ memory_in size current a.content
   free_memory = memory_same size current a.content b.content here
 
-  pub free_told : told (memory_in size current b.content) journal ≡ told (memory_in size current a.content) journal
+  free_told : told (memory_in size current b.content) journal ≡ told (memory_in size current a.content) journal
   free_told = ap (λ (m : List ℕ). told m journal) free_memory
 
-  pub free_heads : durable_of (state_of size opened b.content) ≡ durable_of (state_of size opened a.content)
+  free_heads : durable_of (state_of size opened b.content) ≡ durable_of (state_of size opened a.content)
   free_heads = durable_same size opened b.content ∙ sym (durable_same size opened a.content)
 
   module _ (same : drop_image journal ≡ false → current.image ≡ opened.image) where
-    pub free_fold : fold (state_of size opened b.content) (told (memory_in size current a.content) journal) ≡ fold (state_of size opened a.content) (told (memory_in size current a.content) journal)
+    free_fold : fold (state_of size opened b.content) (told (memory_in size current a.content) journal) ≡ now_by a size opened current journal
     free_fold =
         ⊎_elim
         (λ drops. forget (memory_in size current a.content) journal opened.slot opened.reason opened.next (image_of size opened.image b.content) (image_of size opened.image a.content) drops)
@@ -107,9 +114,9 @@ module _ (a b : Facts) (size : Size) (side : ℕ) (opened current : Record) (jou
           ∙ sym (state_same size current a.content b.content here)
 
       -- at each moment
-      pub free_moment : ((x : Content) → a.since a.moment x → a.may_leave x) → LeavesSince a b (λ c. StandsFor c size (fold (state_of size opened a.content) (told (memory_in size current a.content) journal)))
+      free_moment : ((x : Content) → a.since a.moment x → a.may_leave x) → LeavesSince a b (λ c. StandsFor c size (now_by a size opened current journal))
       free_moment only_now =
-          let now = fold (state_of size opened a.content) (told (memory_in size current a.content) journal) in
+          let now = now_by a size opened current journal in
           let P : Content → Type 0 = λ c. StandsFor c size now in
           leaves_more a a b P (Torn (area_start size area) (area_sectors_of size))
           (leaves_none a P only_now (λ x left. subst (StandsFor x size) (sym folded) (stands_for size side current a.content x (up x left))))
@@ -118,3 +125,6 @@ module _ (a b : Facts) (size : Size) (side : ℕ) (opened current : Record) (jou
           let chosen = up x left in
           subst (StandsFor y size) (sym folded)
           (stands_for size side current a.content y (record { selects = still_selects x y torn chosen.selects; image = image_then size current.image a.content x y chosen.image (clear x y torn) })))
+
+      pub frees : ((x : Content) → a.since a.moment x → a.may_leave x) → Frees a b size opened current journal
+      frees only_now = record { journal_still = free_told; heads = free_heads; now = free_fold; any_moment = free_moment only_now }
