@@ -63,8 +63,8 @@ pub fn payload(alloc: Global, words: &[&[u8]]) -> Result<Option<Line>, AllocErro
     Ok(Some(Line::Payload(slot, bytes)))
 }
 
-/// A way to power on, by its name.
-fn mode(word: &[u8]) -> Option<BootMode>
+/// A way to power on, by its name: `fresh`, `keep`, `discard` or `resume`.
+pub fn mode(word: &[u8]) -> Option<BootMode>
     ensures { result ≡ mode_of word.now }
 {
     if word == b"fresh".as_slice() {

@@ -1,0 +1,43 @@
+-- What the console makes of a line, with the store at hand. Source: docs/CONSOLE.md, "The console"; docs/DURABLE.md.
+use Rattle.std.specs.Prelude.{◌≡◌, ℕ, Result, Ok, Err}
+use Rattle.board_model.specs.Durable.{Slot, Discard}
+use Rattle.board_model.specs.Shown.{durable_of}
+use Rattle.board_model.specs.declared.durable.Durable.{Durable}
+use Rattle.board_model.specs.declared.refusal.Refusal.{Refusal}
+use Rattle.disk.specs.declared.device.Disk.{Ghosts}
+use Rattle.disk.specs.declared.device.Lane.{Ghosts as Lanes}
+use Rattle.store.specs.Lives.{Applied}
+use Rattle.store.specs.Stores.{now_state}
+use Rattle.store.specs.declared.stores.Store.{Store}
+use Rattle.susp.specs.Asked.{Asked}
+use Rattle.board_console.specs.declared.words.Said.{Said}
+use Rattle.board_console.specs.declared.words.Said.TheVariants as saids
+use Rattle.board_console.specs.declared.answer.Answer.{Answer}
+use Rattle.board_console.specs.declared.answer.Answer.TheVariants as answers
+
+-- the answers to commands: the receipt of one that was acknowledged, the number of one that was refused
+abbrev pub slot_answer : Result ℕ Refusal → Answer
+slot_answer (Ok n) = answers.SlotOk n
+slot_answer (Err e) = answers.SlotRefused e
+
+abbrev pub discard_answer : Result ℕ Refusal → Answer
+discard_answer (Ok n) = answers.DiscardOk n
+discard_answer (Err e) = answers.DiscardRefused e
+
+-- what a line may be answered, whatever the store is
+abbrev pub IsAnswerTo : Said → Answer → Type 0
+IsAnswerTo (saids.Slot n) answer = (r : Result ℕ Refusal) × (answer ≡ slot_answer r)
+IsAnswerTo saids.Discard answer = (r : Result ℕ Refusal) × (answer ≡ discard_answer r)
+IsAnswerTo saids.State answer = (d : Durable) × (answer ≡ answers.State d)
+IsAnswerTo saids.Quit answer = answer ≡ answers.Quit
+IsAnswerTo saids.Other answer = answer ≡ answers.Unknown
+
+module _ {D L : Type 0} {g : Ghosts D L} {l : Lanes L} where
+  -- A line with a command asks the store once, and no other line asks it; `state` is the state now, without a command
+  -- in doubt.
+  abbrev pub Answers : Said → Store D L g l → Store D L g l → Answer → Type 0
+  Answers (saids.Slot n) old new answer = (r : Result ℕ Refusal) × Asked Applied old (Slot n) r new × (answer ≡ slot_answer r)
+  Answers saids.Discard old new answer = (r : Result ℕ Refusal) × Asked Applied old Discard r new × (answer ≡ discard_answer r)
+  Answers saids.State old new answer = (new ≡ old) × (answer ≡ answers.State (durable_of (now_state old)))
+  Answers saids.Quit old new answer = (new ≡ old) × (answer ≡ answers.Quit)
+  Answers saids.Other old new answer = (new ≡ old) × (answer ≡ answers.Unknown)

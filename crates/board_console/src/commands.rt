@@ -1,0 +1,32 @@
+//! What the console makes of a line.
+
+ghost use Rattle.std.specs.Prelude.{◌≡◌};
+ghost use Rattle.board_console.specs.Commands.{Answers, IsAnswerTo};
+
+use crate::answer::Answer;
+use crate::words::Said;
+use board_model::Command;
+use disk::Disk;
+use store::Store;
+
+/// Does what a line says, with the store that it is lent for this one moment: on a board of threads, under the store's
+/// lock. A command that was acknowledged is durable, and its receipt is its place in the journal of this life
+/// (`Store::entry` has it there from then on); after a refusal what stands is what `Store::apply` says.
+pub fn obey<D: Disk + Drop>(store: &mut Store<D>, said: Said) -> Answer
+    ensures asks { Answers said store.old store.new result }
+    ensures fits { IsAnswerTo said result }
+{
+    match said {
+        Said::Slot(slot) => match store.apply(Command::Slot(slot)) {
+            Ok(receipt) => Answer::SlotOk(receipt.number()),
+            Err(refusal) => Answer::SlotRefused(refusal),
+        },
+        Said::Discard => match store.apply(Command::Discard) {
+            Ok(receipt) => Answer::DiscardOk(receipt.number()),
+            Err(refusal) => Answer::DiscardRefused(refusal),
+        },
+        Said::State => Answer::State(store.now()),
+        Said::Quit => Answer::Quit,
+        Said::Other => Answer::Unknown,
+    }
+}

@@ -1,0 +1,74 @@
+//! The console's lines and their answers.
+
+ghost use Rattle.std.specs.Prelude.{◌≡◌, ◌++◌, ◌∷◌, [], OnOk, IfErr};
+ghost use Rattle.std.specs.Io.KnownBytes.{Appends};
+ghost use Rattle.board_model.specs.declared.refusal.Refusal.TheVariants.{Output};
+ghost use Rattle.board_console.specs.Dialogues.{Talks, ends, is_quit};
+ghost use Rattle.board_console.specs.Texts.{answer_text};
+
+use crate::answer::Answer;
+use crate::commands::obey;
+use crate::lines::next_line;
+use crate::words::{Said, line_said};
+use arrayvec::ArrayVec;
+use board_model::Refusal;
+use disk::Disk;
+use std::io::{Read, Write};
+use std::sync::{Mutex, Wait};
+use store::Store;
+
+/// Why the console left.
+#[derive(Clone, Copy, Debug, PartialEq, Eq, Drop)]
+pub enum Left {
+    /// A line said so.
+    Quit,
+    /// No line was left, or the input failed.
+    EndOfInput,
+    /// An answer could not be written.
+    Unwritten,
+}
+
+fn is_quit(said: Said) -> bool
+    ensures { result ≡ is_quit said }
+{
+    match said {
+        Said::Quit => true,
+        Said::Slot(_) | Said::Discard | Said::State | Said::Other => false,
+    }
+}
+
+/// Writes an answer as a line, so that it is seen at once.
+fn write_answer<W: Write>(out: &mut W, answer: Answer) -> Result<(), Refusal>
+    ensures written { OnOk result (Appends (W.contents out.old) (W.contents out.new) (answer_text answer ++ 10 ∷ [])) }
+    ensures refused { IfErr result (λ e. e ≡ Output) }
+{
+    writeln!(out, "{answer}").map_err(|_| Refusal::Output)?;
+    out.flush().map_err(|_| Refusal::Output)
+}
+
+/// Takes one line after another from the input, obeys each in one hold of the store, and writes its answer with no lock
+/// held. It leaves after `quit`, at the end of input, and where an answer could not be written.
+pub fn console<R: Wait, D: Disk + Drop, I: Read, W: Write>(
+    rt: &R,
+    store: &Mutex<Store<D>>,
+    input: &mut I,
+    out: &mut W,
+) -> Left
+    ensures { Talks result (ends (I.remaining input.old) (W.contents out.old)) (ends (I.remaining input.new) (W.contents out.new)) }
+{
+    let mut line = ArrayVec::new();
+    for _ in rt.forever() {
+        if !next_line(input, &mut line) {
+            return Left::EndOfInput;
+        }
+        let said = line_said(line.as_slice());
+        let answer = obey(&mut store.lock(rt), said);
+        let Ok(()) = write_answer(out, answer) else {
+            return Left::Unwritten;
+        };
+        if is_quit(said) {
+            return Left::Quit;
+        }
+    }
+    unreachable!()
+}

@@ -1,0 +1,137 @@
+//! The command, its options, and what `--help` says.
+
+use clap::builder::ValueParser;
+use clap::{Arg, ArgAction, Command};
+use std::alloc::{AllocError, Global};
+
+/// The version of the firmware.
+const VERSION: &str = "1";
+
+const USAGE: &str = "sbiboard --disk PATH --mode MODE [--new] [OPTIONS]";
+
+const ABOUT: &str = "\
+Runs a modelled RISC-V board, each hart on a thread of its own, and takes the
+operator's commands from standard input.
+
+The disk is a file: it is read at the start, or made with --new, and written at
+the end.";
+
+const NUMBERS: &str = "\
+Console, a line each:
+  slot S   sets the boot slot: 'slot ok N' or 'slot refused N'
+  discard  drops the image: 'discard ok N' or 'discard refused N'
+  state    'state slot S reason R image X next N'
+  quit     ends the harts after their turn, and the program
+Anything else answers '?'. At the end of input the harts run out their turns.
+
+Status:
+  0  the board was run, and the disk's file was written
+  1  standard error has 'sbiboard: refusal N', or 'sbiboard: file' where a file
+     could not be read or written
+  2  a fault of the command line
+
+Refusals:
+   1  the disk is not formatted
+   2  the disk is formatted already
+   3  the disk's file is not whole sectors or too small for its board, or a
+      payload is longer than RAM
+   4  the selected record is not in its form
+   5  the device failed, and the durable state is unchanged
+   6  the fate of a command is in doubt until the disk is opened again
+   7  this life has ended by a reset or a suspension
+   8  no image stands
+   9  the boot slot is above 3
+  10  the journal of this life is full
+  11  memory was refused, or a thread
+  12  every serial has been given out
+  13  a place of the image is not in its form
+  15  an image stands, and a fresh boot would leave it behind
+  16  an answer could not be written
+
+A first session:
+  printf 'slot 1\\nstate\\nquit\\n' | sbiboard --disk board.disk --mode fresh --new
+
+docs/CONSOLE.md of the source has the rest.";
+
+pub const DISK: &str = "disk";
+
+pub const MODE: &str = "mode";
+
+pub const NEW: &str = "new";
+
+pub const HARTS: &str = "harts";
+
+pub const PAGES: &str = "pages";
+
+pub const LANES: &str = "lanes";
+
+pub const TURNS: &str = "turns";
+
+/// The options of the payload files, by slot.
+pub const PAYLOADS: [&str; 4] = ["p0", "p1", "p2", "p3"];
+
+/// The most turns of a hart.
+pub const MOST_TURNS: u64 = 1_000_000_000;
+
+/// An option with a number from 1 to `most`.
+fn number<'a>(alloc: Global, id: &'a str, most: u64, default: &'a str, help: &'a str) -> Arg<'a> {
+    Arg::new(alloc, id)
+        .long(id)
+        .value_name("N")
+        .value_parser(ValueParser::unsigned(1, most))
+        .default_value(default)
+        .action(ArgAction::Set)
+        .help(help)
+}
+
+/// An option with a path.
+fn path<'a>(alloc: Global, id: &'a str, help: &'a str) -> Arg<'a> {
+    Arg::new(alloc, id)
+        .long(id)
+        .value_name("PATH")
+        .value_parser(ValueParser::NonEmptyString)
+        .action(ArgAction::Set)
+        .help(help)
+}
+
+/// The command without its payload files.
+fn board<'a>(alloc: Global) -> Result<Command<'a>, AllocError> {
+    let mode = Arg::new(alloc, MODE)
+        .long(MODE)
+        .value_name("MODE")
+        .value_parser(["fresh", "keep", "discard", "resume"].as_slice())
+        .required(true)
+        .action(ArgAction::Set)
+        .help("How the board is powered on");
+    let new = Arg::new(alloc, NEW)
+        .long(NEW)
+        .action(ArgAction::SetTrue)
+        .help("Makes a blank disk of the shape below, and formats it");
+    Command::new(alloc, "sbiboard")
+        .version(VERSION)
+        .override_usage(USAGE)
+        .about(ABOUT)
+        .after_help(NUMBERS)
+        .arg(path(alloc, DISK, "The disk's file").required(true))?
+        .arg(mode)?
+        .arg(new)
+}
+
+/// The command.
+pub fn command<'a>(alloc: Global) -> Result<Command<'a>, AllocError> {
+    board(alloc)?
+        .arg(number(alloc, HARTS, 8, "1", "Harts of a new disk's board, 1 to 8"))?
+        .arg(number(alloc, PAGES, 256, "1", "Its pages of RAM, 1 to 256"))?
+        .arg(number(alloc, LANES, 4, "1", "Its saver lanes, 1 to 4"))?
+        .arg(path(alloc, PAYLOADS[0], "What boot slot 0 boots"))?
+        .arg(path(alloc, PAYLOADS[1], "What boot slot 1 boots"))?
+        .arg(path(alloc, PAYLOADS[2], "What boot slot 2 boots"))?
+        .arg(path(alloc, PAYLOADS[3], "What boot slot 3 boots"))?
+        .arg(number(
+            alloc,
+            TURNS,
+            MOST_TURNS,
+            "1000000",
+            "Turns that each hart makes at most, 1 to 1000000000",
+        ))
+}

@@ -1,0 +1,24 @@
+-- The text and the status of each fault with which the program ends. Source: docs/CONSOLE.md, "Statuses and faults".
+use Rattle.std.specs.Prelude.{ℕ, List, [], ◌++◌, Result, Ok, Err}
+use Rattle.std.specs.Fmt.{decimal}
+use Rattle.board_model.specs.Shown.{number_of}
+use Rattle.board_program.specs.declared.fault.Fault.{Fault}
+use Rattle.board_program.specs.declared.fault.Fault.TheVariants.{Usage, Refused, File}
+use lib.Chars.{codes}
+
+abbrev pub fault_text : Fault → List ℕ
+fault_text Usage = []
+fault_text (Refused e) = codes "sbiboard: refusal " ++ decimal (number_of e) ++ codes "\n"
+fault_text File = codes "sbiboard: file\n"
+
+-- the status with which the program ends
+abbrev pub status_after : {A : Type 0} → Result A Fault → ℕ
+status_after (Ok done) = 0
+status_after (Err Usage) = 2
+status_after (Err (Refused e)) = 1
+status_after (Err File) = 1
+
+-- of two faults the first is told
+abbrev pub first_fault : {A : Type 0} → Result A Fault → Result A Fault → Result A Fault
+first_fault (Err fault) later = Err fault
+first_fault (Ok done) later = later

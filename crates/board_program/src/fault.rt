@@ -1,0 +1,54 @@
+//! Why the program ends with a fault: the status for it, and the text that says so.
+
+ghost use Rattle.std.specs.Prelude.{◌≡◌, Some};
+ghost use Rattle.board_program.specs.Faults.{fault_text, first_fault, status_after};
+
+use board_model::Refusal;
+use std::fmt;
+
+/// Why the program ends with a fault. It prints as a whole line, or as nothing.
+#[derive(Clone, Copy, Debug, Drop)]
+pub enum Fault {
+    /// The command line has a fault, which was told by the command line's own text.
+    Usage,
+    /// A refusal of the disk's file, of the format, the open or the boot, of a thread, or of the output.
+    Refused(Refusal),
+    /// A file could not be read or written.
+    File,
+}
+
+impl fmt::Display for Fault {
+    ghost output = { λ fault. Some (fault_text fault) };
+
+    fn fmt<W: fmt::Write>(&self, f: &mut fmt::Formatter<W>) -> fmt::Result {
+        match *self {
+            Fault::Usage => Ok(()),
+            Fault::Refused(refusal) => {
+                let code = refusal.code();
+                writeln!(f, "sbiboard: refusal {code}")
+            }
+            Fault::File => f.write_str("sbiboard: file\n"),
+        }
+    }
+}
+
+/// The program's status: 0 where it did what it was asked, 2 for a fault of the command line, and 1 for any other.
+pub fn status_of(done: &Result<(), Fault>) -> u8
+    ensures { result ≡ status_after done.now }
+{
+    match done {
+        Ok(()) => 0,
+        Err(Fault::Usage) => 2,
+        Err(_) => 1,
+    }
+}
+
+/// The first fault of two.
+pub fn first_fault(ran: Result<(), Fault>, written: Result<(), Fault>) -> Result<(), Fault>
+    ensures { result ≡ first_fault ran written }
+{
+    match ran {
+        Err(fault) => Err(fault),
+        Ok(()) => written,
+    }
+}

@@ -1,0 +1,69 @@
+//! A guest in C on two harts (crates/examples/data/counters.c), from its boot to the image that it leaves.
+
+use crate::runs::ran;
+use board::Payloads;
+use board_model::{Shape, Slot};
+use simdisk::SimDisk;
+use std::test::*;
+
+const COUNTERS: &str = "\
+3711008013110102135101026f008001371100801311010213510102130101c06f004012130101ff23348100970600009386\
+46fe375548001b07d534130e1000930e2000370508001b051500131fc500375573009b079504930f400697020000938242fa\
+375555531b0305351315fe019303150013051000130600001308000093080700938506007300000013082000130510001306\
+0000930807009305000073000000e384d5ff1304000003350f80130515002330af8013051000930510001306000013080000\
+93880700730000001308300013060000930807001305000093050000730000007325401413752500e30005fe130414007370\
+4114e318f4fb130820001305100013060000930807009305000073000000e394c5ff03350f81130515002338af8013060000\
+13080000930803001385030093850200730000006ff05ff39307000013153500b70508009b8515009395c50093850580b302\
+b500375548009b06d534375573001b0795041303400613083000130600009388060013050000930500007300000073254014\
+13752500e30005fe7370411403b502001305150023b0a2001305100013060000130800009308070093050000730000009387\
+1700e39867fa375548009b08d534130810001306000013050000930500007300000067800000000800800000000010080080\
+00000000";
+
+const BOOTED: [&str; 10] = [
+    "sbiboard",
+    "--disk",
+    "D",
+    "--mode",
+    "fresh",
+    "--new",
+    "--harts",
+    "2",
+    "--turns",
+    "1000000000",
+];
+
+const RESUMED: [&str; 7] = [
+    "sbiboard",
+    "--disk",
+    "D",
+    "--mode",
+    "resume",
+    "--turns",
+    "1000000000",
+];
+
+const KEPT: [&str; 7] = ["sbiboard", "--disk", "D", "--mode", "keep", "--turns", "1"];
+
+#[test]
+fn a_guest_suspends_its_board_is_resumed_and_its_image_dropped(
+    rt: HostRuntime,
+) -> Result<(), Fail> {
+    let alloc = rt.alloc();
+    let mut payloads = Payloads::new(alloc);
+    let counters = hex::decode(alloc, COUNTERS).ok().ok_or("the guest")?;
+    payloads.set(Slot::new(0).ok_or("the slot")?, counters);
+    let disk = SimDisk::blank(alloc, Shape::new(2, 1, 1)?.sectors())?;
+    let (out, ended, disk) = ran(&rt, alloc, BOOTED.as_slice(), disk, &payloads, b"")?;
+    assert!(&rt; out.is_empty());
+    assert_eq!(&rt; ended, Ok(()));
+    let (out, ended, disk) = ran(&rt, alloc, RESUMED.as_slice(), disk, &payloads, b"")?;
+    assert!(&rt; out.is_empty());
+    assert_eq!(&rt; ended, Ok(()));
+    let lines = b"state\ndiscard\nstate\n";
+    let (out, ended, _disk) = ran(&rt, alloc, KEPT.as_slice(), disk, &payloads, lines)?;
+    let told =
+        b"state slot 0 reason 0 image 1 next 2\ndiscard ok 1\nstate slot 0 reason 0 image none next 2\n";
+    assert_eq!(&rt; out.as_slice(), told.as_slice());
+    assert_eq!(&rt; ended, Ok(()));
+    Ok(())
+}

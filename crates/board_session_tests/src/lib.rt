@@ -1,0 +1,7 @@
+//! Whole sessions over memory (docs/CONSOLE.md).
+#![tactic(auto)]
+
+#[cfg(test)]
+mod guest;
+#[cfg(test)]
+mod runs;

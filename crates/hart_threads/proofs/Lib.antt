@@ -1,0 +1,4 @@
+pub mod Asking
+pub mod Holding
+pub mod Looping
+pub mod Parting

@@ -1,0 +1,49 @@
+use Rattle.std.proofs.Common.{ℕ, refl, sym, ◌∙◌, subst}
+use Rattle.sbi_calls.specs.Both.{GivesBack, known}
+use Rattle.turns.proofs.Begun.{gives_then}
+use Rattle.hart_threads.specs.Seated.{IsSeated, StandsBy, StandsAfter}
+use Rattle.hart_threads.specs.Threads.{seated}
+use Rattle.hart_threads.specs.declared.loops.Why.TheVariants as whys
+use Rattle.hart_threads.proofs.Looping.{gives_none, rests_on, stands_over, one_more, ended_life}
+use Rattle.hart_threads.proofs.loops.hart_loop.Goals as goal
+
+pub loop-made-init : goal.loop-made-init
+loop-made-init g c = record {
+  gives = gives_none c.args.tables.now c.args.hart.id c.args.seats c.requires.seated.0;
+  rests = c.requires.seated.2;
+  id = refl;
+  turns = refl;
+}
+
+pub loop-made-preserved : goal.loop-made-preserved
+loop-made-preserved g c =
+    let i = c.loop-made.invariant in let by = c.args.hart.id in let t = c.whole_turn-next in
+    let on = sym c.goes_on.ensures ∙ c.if-not-goes_on.false in
+    record {
+      gives = gives_then c.args.tables.now by c.args.seats c.loop-made.seats t.result.0 i.gives (subst (λ (k : ℕ). GivesBack c.args.tables.now k c.loop-made.seats t.result.0) i.id t.ensures.gives);
+      rests = rests_on by t.result.0 t.result.1 on (subst (λ (k : ℕ). StandsBy t.result.1 k t.result.0) i.id t.ensures.stands);
+      id = t.ensures.id ∙ i.id;
+      turns = one_more c.args.shape.now c.loop-made.made (seated c.args.hart (known c.args.seats)) (seated c.loop-made.hart (known c.loop-made.seats)) (seated t.new.hart (known t.result.0)) t.result.1 i.turns t.ensures.once on;
+    }
+
+pub returns-then-not-goes_on-clause-once : goal.returns-then-not-goes_on-clause-once
+returns-then-not-goes_on-clause-once g c =
+    let i = c.loop-made.invariant in let t = c.whole_turn-next in
+    let off = sym c.goes_on.ensures ∙ c.if-not-goes_on.true in
+    ended_life c.args.shape.now c.args.turns c.loop-made.made (seated c.args.hart (known c.args.seats)) (seated c.loop-made.hart (known c.loop-made.seats)) (seated t.new.hart (known t.result.0)) t.result.1 i.turns t.ensures.once off
+
+pub whole_turn-next-requires-clause-seated : goal.whole_turn-next-requires-clause-seated
+whole_turn-next-requires-clause-seated g c κs within =
+    let i = c.loop-made.invariant in
+    subst (λ (k : ℕ). IsSeated c.args.tables.now k c.loop-made.seats) (sym i.id) (i.gives.seats, c.requires.seated.1, i.rests)
+
+pub returns-then-not-goes_on-clause-gives : goal.returns-then-not-goes_on-clause-gives
+returns-then-not-goes_on-clause-gives g c =
+    let i = c.loop-made.invariant in let by = c.args.hart.id in let t = c.whole_turn-next in
+    gives_then c.args.tables.now by c.args.seats c.loop-made.seats t.result.0 i.gives (subst (λ (k : ℕ). GivesBack c.args.tables.now k c.loop-made.seats t.result.0) i.id t.ensures.gives)
+
+pub returns-then-not-goes_on-clause-stands : goal.returns-then-not-goes_on-clause-stands
+returns-then-not-goes_on-clause-stands g c =
+    let i = c.loop-made.invariant in let t = c.whole_turn-next in
+    let off = sym c.goes_on.ensures ∙ c.if-not-goes_on.true in
+    subst (λ (k : ℕ). StandsAfter whys.Life k t.result.0) i.id (stands_over c.loop-made.hart.id t.result.0 t.result.1 off t.ensures.stands)

@@ -1,0 +1,45 @@
+use Rattle.std.proofs.Common.{ℕ, ◌<◌, sym, ◌∙◌, subst}
+use Rattle.hsm_words.specs.declared.view.Stage.TheVariants.{Running}
+use Rattle.sbi_calls.specs.Both.{GivesBack, Acts, known}
+use Rattle.sbi.specs.Helds.{stage_by}
+use Rattle.machine.specs.declared.parts.Word.{Word}
+use Rattle.turns.proofs.Begun.{gives_then}
+use Rattle.hart_threads.specs.Seated.{StandsBy}
+use Rattle.hart_threads.specs.Threads.{seated}
+use Rattle.hart_threads.proofs.Looping.{stands_by_held, own_once, held_turn, not_durable}
+use Rattle.hart_threads.proofs.loops.whole_turn.Goals as goal
+
+pub make_held-seats-requires-clause-acts : goal.make_held-seats-requires-clause-acts
+make_held-seats-requires-clause-acts g c κs within = subst (λ (k : ℕ). Acts k Running c.turn-seats.result.0) (sym c.turn-seats.ensures.id) (c.turn-seats.ensures.asks c.in-Durable.is)
+
+pub returns-in-Durable-clause-gives : goal.returns-in-Durable-clause-gives
+returns-in-Durable-clause-gives g c =
+    let t = c.args.tables.now in let s = c.args.seats in let s1 = c.turn-seats.result.0 in let s2 = c.make_held-seats.result.0 in
+    gives_then t c.args.hart.now.id s s1 s2 c.turn-seats.ensures.gives (subst (λ (k : ℕ). GivesBack t k s1 s2) c.turn-seats.ensures.id c.make_held-seats.ensures.gives)
+
+pub returns-in-Durable-clause-stands : goal.returns-in-Durable-clause-stands
+returns-in-Durable-clause-stands g c =
+    let by = c.args.hart.now.id in let s = c.make_held-seats.result.0 in let held = c.make_held-seats.result.1 in
+    let acts = subst (λ (k : ℕ). Acts k (stage_by held) s) c.turn-seats.ensures.id c.make_held-seats.ensures.acts in
+    subst (λ (w : Word). StandsBy w by s) (sym c.word_by.ensures) (stands_by_held by s held acts)
+
+pub returns-in-Durable-clause-id : goal.returns-in-Durable-clause-id
+returns-in-Durable-clause-id g c = c.make_held-seats.ensures.id ∙ c.turn-seats.ensures.id
+
+pub returns-in-Durable-clause-once : goal.returns-in-Durable-clause-once
+returns-in-Durable-clause-once g c =
+    let own = c.turn-seats.ensures.own in
+    held_turn c.args.shape.now (seated c.args.hart.now (known c.args.seats)) (seated c.turn-seats.new.hart (known c.turn-seats.result.0)) (seated c.make_held-seats.new.hart (known c.make_held-seats.result.0))
+    own.0 own.1 c.turn-seats.result.1 c.make_held-seats.result.1 c.word_by.result c.in-Durable.is own.2 c.make_held-seats.ensures.once c.word_by.ensures
+
+pub returns-in-Idle-clause-once : goal.returns-in-Idle-clause-once
+returns-in-Idle-clause-once g c =
+    let own = c.turn-seats.ensures.own in
+    own_once c.args.shape.now (seated c.args.hart.now (known c.args.seats)) (seated c.turn-seats.new.hart (known c.turn-seats.result.0)) own.0 own.1 c.turn-seats.result.1 (not_durable c.turn-seats.result.1 c.in-Idle.is) own.2
+
+pub turn-seats-requires-clause-hart : goal.turn-seats-requires-clause-hart
+turn-seats-requires-clause-hart g c = subst (λ (n : ℕ). c.args.hart.now.id < n) c.requires.tables c.requires.seated.1
+
+pub make_held-seats-requires-clause-hart : goal.make_held-seats-requires-clause-hart
+make_held-seats-requires-clause-hart g c κs within =
+    subst (λ (k : ℕ). k < c.args.shape.now.harts) (sym c.turn-seats.ensures.id) (subst (λ (n : ℕ). c.args.hart.now.id < n) c.requires.tables c.requires.seated.1)

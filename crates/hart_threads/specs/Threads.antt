@@ -1,0 +1,96 @@
+-- A hart's turns on a thread of its own: each turn's own steps on the tables and what came of it, whatever the other
+-- threads do between two of them. Source: docs/THREADS.md; docs/BOARD.md, "A turn of a hart".
+use Rattle.std.specs.Prelude.{◌≡◌, ◌⊎◌, ◌<◌, ℕ, zero, suc, Bool, true, false, List, Ok, Err}
+use Rattle.board_model.specs.Durable.{Change, Reset, Suspend}
+use Rattle.board_model.specs.Shapes.{Size}
+use Rattle.board_model.specs.declared.durable.Reason.{Reason}
+use Rattle.hart.specs.State.{State, answered}
+use Rattle.hsm_words.specs.declared.view.HartView.{HartView}
+use Rattle.hsm_words.specs.declared.view.Stage.TheVariants.{Running}
+use Rattle.hsm_words.specs.declared.view.Deed.TheVariants.{Quieted, Unquieted}
+use Rattle.hsm_rule.specs.Rule.{HasNoted}
+use Rattle.hsm_steps.specs.Told.{after_quiet}
+use Rattle.sbi_abi.specs.Answers.{error_of}
+use Rattle.sbi_abi.specs.declared.ret.SbiError.{SbiError}
+use Rattle.sbi_calls.specs.Both.{Known}
+use Rattle.store.specs.Lives.{Life, Applied}
+use Rattle.susp.specs.Sleeps.{AreUnclaimed}
+use Rattle.sbi.specs.declared.dispatches.Held.{Held}
+use Rattle.sbi.specs.declared.dispatches.Held.TheVariants as helds
+use Rattle.turns.specs.Own.{TurnOwn}
+use Rattle.turns.specs.declared.words.Turned.{Turned}
+use Rattle.turns.specs.declared.words.Turned.TheVariants as words
+use Rattle.machine.specs.Words.{word_by}
+use Rattle.machine.specs.declared.parts.Word.{Word}
+use Rattle.machine.specs.declared.parts.Word.TheVariants.{Own, Asleep, Reset as ResetBy}
+use Rattle.hart_threads.specs.declared.loops.Why.{Why}
+use Rattle.hart_threads.specs.declared.loops.Why.TheVariants as whys
+
+-- ---- the store, in one hold of its lock
+-- It acknowledged the command: a life took it at the end of its journal, with that receipt. Which life that was, and what else
+-- came before it, the other threads decide.
+abbrev pub Acknowledges : Change → Type 0
+Acknowledges c = (old : Life) × (new : Life) × (n : ℕ) × Applied old c (Ok n) new
+
+-- ---- a call that comes to a durable command, made in one hold of the memory and of the store
+-- what a suspend that was refused did on the hart table: nothing, or one look, and where the store was asked the end of the quiet
+abbrev pub LooksForQuiet : ℕ → ℕ → List HartView → List HartView → Type 0
+LooksForQuiet harts by vs vs' = (vs' ≡ vs)
+    ⊎ ((found : ℕ) × (mid : List HartView) × HasNoted by (after_quiet harts by found) (Quieted found) vs mid
+    × ((vs' ≡ mid) ⊎ ((later : ℕ) × HasNoted by Running (Unquieted later) mid vs')))
+
+-- What it came to, by what was told of it: the hart found an error and goes on; or it stands where it stood, and its
+-- command was acknowledged. A suspend was so with every other hart STOPPED at its one look, and keeps that hart quiet.
+abbrev pub HeldOnce : Size → State → State → Known → Known → Held → Type 0
+HeldOnce size s t k k' helds.Goes =
+    (e : SbiError) × (t ≡ answered s (error_of (Err e)) 0)
+    × LooksForQuiet size.harts s.id k.harts k'.harts × (k'.pairs ≡ k.pairs)
+HeldOnce size s t k k' (helds.Reset kind) = (reason : Reason) × Acknowledges (Reset reason) × (t ≡ s) × (k' ≡ k)
+HeldOnce size s t k k' helds.Asleep =
+    (site : ℕ) × (opaque : ℕ) × (memory : List ℕ) × (found : ℕ)
+    × Acknowledges (Suspend s.id site opaque memory) × AreUnclaimed size.harts s.id found
+    × HasNoted s.id (after_quiet size.harts s.id found) (Quieted found) k.harts k'.harts
+    × (t ≡ s) × (k'.pairs ≡ k.pairs)
+
+-- ---- a turn
+-- a hart, and what its seats know, between two of its turns
+pub record Seated : Type 0 where
+  pub hart : State
+  pub known : Known
+
+abbrev pub seated : State → Known → Seated
+seated s k = record { hart = s; known = k }
+
+-- what comes of what the hart did: a durable call is made, anything else is the turn's word
+abbrev pub ComesOnce : Size → Turned → Seated → Seated → Word → Type 0
+ComesOnce size words.Durable a b word =
+    (held : Held) × HeldOnce size a.hart b.hart a.known b.known held × (word ≡ word_by held)
+ComesOnce size did a b word = (b ≡ a) × (word ≡ Own did)
+
+-- one turn of the hart, with the memory as its one hold of the bus found it and as it left it
+abbrev pub TurnOnce : Size → Seated → Seated → Word → Type 0
+TurnOnce size a b word =
+    (found : List ℕ) × (left : List ℕ) × (did : Turned) × (mid : Seated)
+    × TurnOwn size a.hart found mid.hart left a.known mid.known did × ComesOnce size did mid b word
+
+-- ---- the turns of a loop
+-- the life goes on after it
+abbrev pub goes_on : Word → Bool
+goes_on (Own did) = true
+goes_on Asleep = false
+goes_on (ResetBy kind) = false
+
+-- so many turns, after each of which the life went on
+abbrev pub TurnsOn : Size → ℕ → Seated → Seated → Type 0
+TurnsOn size zero a b = b ≡ a
+TurnsOn size (suc n) a b =
+    (mid : Seated) × (word : Word) × TurnsOn size n a mid × TurnOnce size mid b word × (goes_on word ≡ true)
+
+-- A loop of at most so many turns made that many, and ended so: by the life's end, which its last turn told; by the
+-- gate, before it had made all; or with the last of them.
+abbrev pub LoopOnce : Size → ℕ → ℕ → Seated → Seated → Why → Type 0
+LoopOnce size turns made a b whys.Life =
+    (n : ℕ) × (mid : Seated) × (word : Word) × (made ≡ suc n)
+    × TurnsOn size n a mid × TurnOnce size mid b word × (goes_on word ≡ false)
+LoopOnce size turns made a b whys.Gate = TurnsOn size made a b × (made < turns)
+LoopOnce size turns made a b whys.Turns = TurnsOn size made a b × (made ≡ turns)
