@@ -1,2 +1,4 @@
 pub mod Limits
 pub mod Modes
+pub mod Lines
+pub mod Reads

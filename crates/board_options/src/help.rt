@@ -1,5 +1,10 @@
 //! The command, its options, and what `--help` says.
 
+ghost use Rattle.std.specs.Prelude.{◌≡◌, false, IfOk};
+ghost use Rattle.clap.specs.Words.{app_of, rule_of};
+ghost use Rattle.clap.specs.declared.builder.value_parser.ValueParser.{ValueParser as Parser};
+ghost use Rattle.board_options.specs.Lines.{path_rule, number_rule, board_line, sbiboard};
+
 use clap::builder::ValueParser;
 use clap::{Arg, ArgAction, Command};
 use std::alloc::{AllocError, Global};
@@ -74,7 +79,10 @@ pub const PAYLOADS: [&str; 4] = ["p0", "p1", "p2", "p3"];
 pub const MOST_TURNS: u64 = 1_000_000_000;
 
 /// An option with a number from 1 to `most`.
-fn number<'a>(alloc: Global, id: &'a str, most: u64, default: &'a str, help: &'a str) -> Arg<'a> {
+fn number<'a>(alloc: Global, id: &'a str, most: u64, default: &'a str, help: &'a str) -> Arg<'a>
+    ensures rule { rule_of result ≡ number_rule id.entry.now most default.entry.now }
+    ensures local { result.global ≡ false }
+{
     Arg::new(alloc, id)
         .long(id)
         .value_name("N")
@@ -85,7 +93,10 @@ fn number<'a>(alloc: Global, id: &'a str, most: u64, default: &'a str, help: &'a
 }
 
 /// An option with a path.
-fn path<'a>(alloc: Global, id: &'a str, help: &'a str) -> Arg<'a> {
+fn path<'a>(alloc: Global, id: &'a str, help: &'a str) -> Arg<'a>
+    ensures rule { rule_of result ≡ path_rule id.entry.now }
+    ensures local { result.global ≡ false }
+{
     Arg::new(alloc, id)
         .long(id)
         .value_name("PATH")
@@ -95,7 +106,9 @@ fn path<'a>(alloc: Global, id: &'a str, help: &'a str) -> Arg<'a> {
 }
 
 /// The command without its payload files.
-fn board<'a>(alloc: Global) -> Result<Command<'a>, AllocError> {
+fn board<'a>(alloc: Global) -> Result<Command<'a>, AllocError>
+    ensures { IfOk result (λ c. (modes : Parser) × (app_of c ≡ board_line modes)) }
+{
     let mode = Arg::new(alloc, MODE)
         .long(MODE)
         .value_name("MODE")
@@ -118,7 +131,9 @@ fn board<'a>(alloc: Global) -> Result<Command<'a>, AllocError> {
 }
 
 /// The command.
-pub fn command<'a>(alloc: Global) -> Result<Command<'a>, AllocError> {
+pub fn command<'a>(alloc: Global) -> Result<Command<'a>, AllocError>
+    ensures { IfOk result (λ c. (modes : Parser) × (app_of c ≡ sbiboard modes)) }
+{
     board(alloc)?
         .arg(number(alloc, HARTS, 8, "1", "Harts of a new disk's board, 1 to 8"))?
         .arg(number(alloc, PAGES, 256, "1", "Its pages of RAM, 1 to 256"))?

@@ -1,23 +1,29 @@
 //! From words to options.
 
-ghost use Rattle.std.specs.Prelude.{◌≡◌, ◌<◌, string_len, codes, IfOk, IfSome};
+ghost use Rattle.std.specs.Prelude.{◌≡◌, ◌<◌, [], ◌∷◌, map, string_bytes, string_len, codes, Some, IfOk, IfSome};
+ghost use Rattle.std.specs.Option.{option_map};
 ghost use Rattle.board_model.specs.Shapes.{IsSize};
-ghost use Rattle.clap.specs.Words.{first_value, found_of};
+ghost use Rattle.clap.specs.Words.{first_value, found_of, rows_of, matches_of};
+ghost use Rattle.clap.specs.declared.builder.value_parser.ValueParser.{ValueParser};
+ghost use Rattle.clap.specs.declared.parser.matches.Found.{Found};
 ghost use Rattle.board_options.specs.Limits.{AreTurns};
+ghost use Rattle.board_options.specs.Lines.{sbiboard};
 ghost use Rattle.board_options.specs.Modes.{mode_named};
+ghost use Rattle.board_options.specs.Reads.{Reads, path_named, number_named};
 
 use crate::given::Options;
 use crate::help::{DISK, HARTS, LANES, MODE, MOST_TURNS, NEW, PAGES, PAYLOADS, TURNS, command};
 use board_model::{BootMode, Shape};
 use clap::error::ErrorKind;
 use clap::{ArgMatches, Error};
-use script_lang::mode;
+use script_lang::{mode, number as number_of};
 use std::alloc::{AllocError, Global};
 use std::convert::AsStr;
 
 /// A path that was given; none that is empty.
 fn path(alloc: Global, matches: &ArgMatches<'_>, id: &str) -> Result<Option<String>, AllocError>
-    ensures { IfOk result (λ path. IfSome path (λ text. 0 < string_len text)) }
+    ensures some { IfOk result (λ path. IfSome path (λ text. 0 < string_len text)) }
+    ensures named { IfOk result (λ path. option_map string_bytes path ≡ path_named (first_value (found_of matches.now) id.now)) }
 {
     match matches.get_str(id) {
         Some(text) if !text.is_empty() => Ok(Some(text.to_string(alloc)?)),
@@ -26,7 +32,11 @@ fn path(alloc: Global, matches: &ArgMatches<'_>, id: &str) -> Result<Option<Stri
 }
 
 /// The payload files, by slot.
-fn payloads(alloc: Global, matches: &ArgMatches<'_>) -> Result<[Option<String>; 4], AllocError> {
+fn payloads(alloc: Global, matches: &ArgMatches<'_>) -> Result<[Option<String>; 4], AllocError>
+    ensures { IfOk result (λ paths. map (option_map string_bytes) paths
+        ≡ path_named (first_value (found_of matches.now) (codes "p0")) ∷ path_named (first_value (found_of matches.now) (codes "p1"))
+        ∷ path_named (first_value (found_of matches.now) (codes "p2")) ∷ path_named (first_value (found_of matches.now) (codes "p3")) ∷ []) }
+{
     Ok([
         path(alloc, matches, PAYLOADS[0])?,
         path(alloc, matches, PAYLOADS[1])?,
@@ -42,19 +52,31 @@ fn boot_mode(matches: &ArgMatches<'_>) -> Option<BootMode>
     mode(matches.get_str(MODE)?.as_bytes())
 }
 
+/// A number that was given, in decimal digits.
+fn number(matches: &ArgMatches<'_>, id: &str) -> Option<u64>
+    ensures { result ≡ number_named (first_value (found_of matches.now) id.now) }
+{
+    number_of(matches.get_str(id)?.as_bytes())
+}
+
 /// The shape of a new disk.
-fn shape(matches: &ArgMatches<'_>) -> Option<Shape> {
-    let harts = matches.get_one::<u64>(HARTS)?;
-    let pages = matches.get_one::<u64>(PAGES)?;
-    let lanes = matches.get_one::<u64>(LANES)?;
+fn shape(matches: &ArgMatches<'_>) -> Option<Shape>
+    ensures harts { IfSome result (λ size. number_named (first_value (found_of matches.now) (codes "harts")) ≡ Some size.harts) }
+    ensures pages { IfSome result (λ size. number_named (first_value (found_of matches.now) (codes "pages")) ≡ Some size.pages) }
+    ensures lanes { IfSome result (λ size. number_named (first_value (found_of matches.now) (codes "lanes")) ≡ Some size.lanes) }
+{
+    let harts = number(matches, HARTS)?;
+    let pages = number(matches, PAGES)?;
+    let lanes = number(matches, LANES)?;
     Shape::new(harts, pages, lanes).ok()
 }
 
 /// How many turns a hart makes at most.
 fn turns(matches: &ArgMatches<'_>) -> Option<u64>
-    ensures { IfSome result AreTurns }
+    ensures range { IfSome result AreTurns }
+    ensures named { IfSome result (λ turns. number_named (first_value (found_of matches.now) (codes "turns")) ≡ Some turns) }
 {
-    let turns = matches.get_one::<u64>(TURNS)?;
+    let turns = number(matches, TURNS)?;
     if turns < 1 || MOST_TURNS < turns {
         return None;
     }
@@ -63,7 +85,9 @@ fn turns(matches: &ArgMatches<'_>) -> Option<u64>
 
 /// The options of a command line that was parsed. None where something that the command asks for is not there, which
 /// its own checks rule out.
-fn options_of(alloc: Global, matches: &ArgMatches<'_>) -> Result<Option<Options>, AllocError> {
+fn options_of(alloc: Global, matches: &ArgMatches<'_>) -> Result<Option<Options>, AllocError>
+    ensures { IfOk result (λ found. IfSome found (Reads (found_of matches.now))) }
+{
     let Some(disk) = path(alloc, matches, DISK)? else {
         return Ok(None);
     };
@@ -91,7 +115,9 @@ fn options_of(alloc: Global, matches: &ArgMatches<'_>) -> Result<Option<Options>
 /// and each number is within its limit. The error is the command line's own text, which is the help or the version too,
 /// or says that memory was refused.
 pub fn read_options<'a, S: AsStr>(alloc: Global, words: &'a [S]) -> Result<Options, Error>
-    ensures { IfOk result (λ o. (0 < string_len o.disk) × IsSize o.shape × AreTurns o.turns) }
+    ensures limits { IfOk result (λ o. (0 < string_len o.disk) × IsSize o.shape × AreTurns o.turns) }
+    // And each option is what the words say, as the command line's parser reads them.
+    ensures reads { IfOk result (λ o. (modes : ValueParser) × (f : Found) × (rows_of f ≡ matches_of (sbiboard modes) (map S.text words.now)) × Reads f o) }
 {
     let matches = command(alloc)?.try_get_matches_from(words)?;
     match options_of(alloc, &matches)? {

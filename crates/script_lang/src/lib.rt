@@ -14,4 +14,4 @@ pub use laws::{lines_read_as_spelled, lines_read_in_order, scripts_read_as_writt
 pub use line::{Fill, Line};
 pub use rows::mode;
 pub use scripts::{Script, parse_script};
-pub use words::in_range;
+pub use words::{in_range, number};

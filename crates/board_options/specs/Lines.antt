@@ -1,0 +1,45 @@
+-- The command as its parser reads it. Source: docs/CONSOLE.md, "The command line".
+use Rattle.std.specs.Prelude.{ℕ, List, [], ◌∷◌, Option, Some, true}
+use Rattle.clap.specs.Words.{App, Rule, Text, new_app, new_rule, with_rule}
+use Rattle.clap.specs.declared.builder.action.ArgAction.TheVariants.{Set, SetTrue}
+use Rattle.clap.specs.declared.builder.value_parser.ValueParser.{ValueParser}
+use Rattle.clap.specs.declared.builder.value_parser.ValueParser.TheVariants.{NonEmptyString, Unsigned}
+use lib.Chars.{codes}
+
+-- an option with one value
+abbrev pub value_rule : Text → ValueParser → Rule
+value_rule id parser = record (new_rule id) { long = Some id; action = Some Set; value_names = 1; parser = Some parser }
+
+abbrev pub path_rule : Text → Rule
+path_rule id = value_rule id NonEmptyString
+
+abbrev pub number_rule : Text → ℕ → Text → Rule
+number_rule id most default = record (value_rule id (Unsigned 1 most)) { defaults = default ∷ [] }
+
+abbrev pub required : Rule → Rule
+required r = record r { required = true }
+
+abbrev pub new_flag : Rule
+new_flag = record (new_rule (codes "new")) { long = Some (codes "new"); action = Some SetTrue }
+
+-- the command by its name alone, with a version
+abbrev pub named : App
+named = record (new_app (codes "sbiboard")) { top = record (new_app (codes "sbiboard")).top { has_version = true } }
+
+-- with the disk, the mode and whether it is new
+abbrev pub board_line : ValueParser → App
+board_line modes =
+    with_rule (with_rule (with_rule named (required (path_rule (codes "disk")))) (required (value_rule (codes "mode") modes))) new_flag
+
+-- and all else
+abbrev pub sbiboard : ValueParser → App
+sbiboard modes =
+    with_rule (with_rule (with_rule (with_rule (with_rule (with_rule (with_rule (with_rule (board_line modes)
+    (number_rule (codes "harts") 8 (codes "1")))
+    (number_rule (codes "pages") 256 (codes "1")))
+    (number_rule (codes "lanes") 4 (codes "1")))
+    (path_rule (codes "p0")))
+    (path_rule (codes "p1")))
+    (path_rule (codes "p2")))
+    (path_rule (codes "p3")))
+    (number_rule (codes "turns") 1000000000 (codes "1000000"))

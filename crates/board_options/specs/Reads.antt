@@ -1,0 +1,33 @@
+-- The options that the values of a command line give. Source: docs/CONSOLE.md, "The command line".
+use Rattle.std.specs.Prelude.{◌≡◌, ℕ, Bool, true, false, List, [], ◌∷◌, map, Option, Some, None, string_bytes}
+use Rattle.std.specs.Option.{option_map}
+use Rattle.clap.specs.Words.{first_value, one_text}
+use Rattle.clap.specs.declared.parser.matches.Found.{Found}
+use Rattle.script_lang.specs.Words.{number_of}
+use Rattle.board_options.specs.Modes.{mode_named}
+use Rattle.board_options.specs.declared.given.Options.{Options}
+use lib.Chars.{codes}
+
+-- a path that is not empty
+abbrev pub path_named : Option (List ℕ) → Option (List ℕ)
+path_named None = None
+path_named (Some []) = None
+path_named (Some (b ∷ bs)) = Some (b ∷ bs)
+
+abbrev pub number_named : Option (List ℕ) → Option ℕ
+number_named None = None
+number_named (Some text) = number_of text
+
+-- each option is what the value of its name says
+pub record Reads (f : Found) (o : Options) : Type 0 where
+  pub disk : path_named (first_value f (codes "disk")) ≡ Some (string_bytes o.disk)
+  pub mode : mode_named (first_value f (codes "mode")) ≡ Some o.mode
+  pub new : one_text f (codes "new") ≡ Some (codes "true") → o.new ≡ true
+  pub old : one_text f (codes "new") ≡ Some (codes "false") → o.new ≡ false
+  pub harts : number_named (first_value f (codes "harts")) ≡ Some o.shape.harts
+  pub pages : number_named (first_value f (codes "pages")) ≡ Some o.shape.pages
+  pub lanes : number_named (first_value f (codes "lanes")) ≡ Some o.shape.lanes
+  pub turns : number_named (first_value f (codes "turns")) ≡ Some o.turns
+  pub payloads : map (option_map string_bytes) o.payloads
+      ≡ path_named (first_value f (codes "p0")) ∷ path_named (first_value f (codes "p1"))
+      ∷ path_named (first_value f (codes "p2")) ∷ path_named (first_value f (codes "p3")) ∷ []
