@@ -6,6 +6,7 @@ use crate::fixtures::{
 };
 use board::{Board, Payloads};
 use board_model::{BootMode, RAM_BASE, Reason, Refusal, Shape};
+use hsm::SeatTable;
 use ram::{Ram, Width};
 use simdisk::SimDisk;
 use std::alloc::Global;

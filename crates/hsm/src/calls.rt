@@ -12,7 +12,7 @@ ghost use Rattle.hsm.specs.Calls.{stage_of, Sits, KeepsAll, KeepsOthers, IsOwnSt
 
 use crate::state::{State, state_in};
 use board_model::{Addr, HartId};
-use hsm_steps::{HartSeat, HartTable};
+use hsm_steps::{HartSeat, HartTable, SeatTable};
 use std::marker::Brand;
 
 /// Starts the target at the address with the opaque value, if it is STOPPED, and says whether it was. The claim of the

@@ -12,3 +12,4 @@ pub use steps::{
     stop, suspend, unquiet, wake,
 };
 pub use table::{Acting, HartSeat, HartTable, Law, Seats, Setup};
+pub use tallies::SeatTable;

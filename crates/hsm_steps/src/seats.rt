@@ -4,17 +4,47 @@ ghost use Rattle.std.specs.Prelude.{◌≡◌, ◌≢◌, ℕ, ◌<◌, ◌≤�
 ghost use Rattle.hsm_rule.specs.Rule.{stands};
 ghost use Rattle.hsm_rule.specs.States.{HartState, IsSettled, Shows};
 ghost use Rattle.hsm_words.specs.declared.view.Stage.TheVariants.{Out, Running};
-ghost use Rattle.hsm_steps.specs.Told.{opening_states, opening_crew, first_hart, other_harts, together};
+ghost use Rattle.hsm_steps.specs.Told.{opening_states, opening_crew};
 ghost use Rattle.hsm_steps.specs.Seating.{IsSeatOf, harts_of, crew_of, harts_in, IsOfAll, AreInOrder, StandAsIn, StandTogether, AreSeatsOf, harts_by_seat, all_harts, one_by_one};
 ghost use Rattle.arrayvec.specs.ArrayVec.{array_vec_len};
 ghost use Rattle.board_model.specs.declared.refusal.Refusal.TheVariants.{Memory};
 
 use crate::steps::see;
-use crate::table::{ByHart, HartSeat, HartTable, Seats, Setup};
+use crate::table::{HartSeat, HartTable, Seats, Setup};
 use atomic_table::Table;
 use board_model::{HartId, Refusal, Shape};
+use hsm_words::Crew;
 use std::alloc::Global;
 use std::marker::Brand;
+use tallies::{ByHart, SeatTable};
+
+impl SeatTable for HartTable {
+    type View = Crew;
+
+    type Seat = HartSeat;
+
+    ghost is_seat = { IsSeatOf };
+
+    ghost count = { harts_of };
+
+    ghost known = { crew_of };
+
+    fn harts(&self) -> u32 {
+        ((self.table.word_count() - 1) / 2) as u32
+    }
+
+    fn split_first(&self, seat: HartSeat) -> (HartSeat, HartSeat) {
+        let mut seat = seat;
+        let others = self.table.shared.split_seat::<ByHart>(&mut seat);
+        (seat, others)
+    }
+
+    fn join_two(&self, seat: HartSeat, others: HartSeat) -> HartSeat {
+        let mut seat = seat;
+        self.table.shared.join_seat::<ByHart>(&mut seat, others);
+        seat
+    }
+}
 
 impl HartTable {
     /// The table of a board of that shape, with the hart `started` alone STARTED and every other hart STOPPED, and one
@@ -45,37 +75,6 @@ impl HartTable {
         Ok((HartTable { table }, seat))
     }
 
-    /// The number of harts, 1 to 8.
-    pub fn harts(&self) -> u32
-        ensures value { result ≡ harts_of self.now }
-        ensures range { (1 ≤ result) × (result ≤ 8) }
-    {
-        ((self.table.word_count() - 1) / 2) as u32
-    }
-
-    /// The first hart of a seat by itself, and the others.
-    pub fn split_first(&self, seat: HartSeat) -> (HartSeat, HartSeat)
-        requires { IsSeatOf self.now seat }
-        ensures first { IsSeatOf self.now result.0 × (crew_of result.0 ≡ first_hart (crew_of seat)) }
-        ensures others { IsSeatOf self.now result.1 × (crew_of result.1 ≡ other_harts (crew_of seat)) }
-    {
-        let mut seat = seat;
-        let others = self.table.shared.split_seat::<ByHart>(&mut seat);
-        (seat, others)
-    }
-
-    /// Two seats in one, which has the harts of the first before those of the other.
-    pub fn join_two(&self, seat: HartSeat, others: HartSeat) -> HartSeat
-        requires seat { IsSeatOf self.now seat }
-        requires others { IsSeatOf self.now others }
-        ensures seat { IsSeatOf self.now result }
-        ensures both { crew_of result ≡ together (crew_of seat) (crew_of others) }
-    {
-        let mut seat = seat;
-        self.table.shared.join_seat::<ByHart>(&mut seat, others);
-        seat
-    }
-
     /// A seat for each hart of a seat of all harts, in the order of their numbers.
     pub fn split(&self, seat: HartSeat) -> Seats
         requires seat { IsSeatOf self.now seat }
@@ -86,15 +85,7 @@ impl HartTable {
         ensures apart { harts_by_seat result.items ≡ one_by_one (harts_in seat) }
         ensures harts { all_harts result.items ≡ harts_in seat }
     {
-        let mut seats = Seats::new();
-        let mut rest = seat;
-        for place in 0..self.harts() as usize {
-            prove!(seats.len() == place);
-            let (one, others) = self.split_first(rest);
-            seats.push(Some(one));
-            rest = others;
-        }
-        seats
+        tallies::split(self, seat)
     }
 
     /// The seats of a list in one, which has their harts in the order of the list. It undoes `split`: a seat for each hart, in
@@ -108,12 +99,7 @@ impl HartTable {
         ensures stands { AreInOrder seats.items → StandTogether seats.items (harts_in result) }
         ensures shows { ((h : ℕ) → h < harts_of self.now → IsSettled h (harts_in result)) → (states : ℕ → HartState) × Shows (harts_of self.now) (crew_of result) states }
     {
-        let mut seats = seats;
-        let last = seats.pop().unwrap();
-        let mut whole = last.unwrap();
-        while let Some(before) = seats.pop() {
-            whole = self.join_two(before.unwrap(), whole);
-        }
+        let mut whole = tallies::join(self, seats);
         see::<Brand>(self, &mut whole);
         whole
     }

@@ -15,4 +15,5 @@ pub use pairs::laws;
 pub use seen::one_set;
 pub use senders::SenderSet;
 pub use table::{IpiSeat, Ledger, PendingTable, Seats};
+pub use tallies::SeatTable;
 pub use view::{Crew, Deed, Diary};

@@ -2,16 +2,46 @@
 
 ghost use Rattle.std.specs.Prelude.{◌≡◌, ℕ, ◌<◌, ◌≤◌, false, IfOk, IfErr};
 ghost use Rattle.arrayvec.specs.ArrayVec.{array_vec_len};
-ghost use Rattle.ipi.specs.Ledger.{opening_crew, first_hart, other_harts, together};
+ghost use Rattle.ipi.specs.Ledger.{opening_crew};
 ghost use Rattle.ipi.specs.Pairs.{Sits, Shows};
 ghost use Rattle.ipi.specs.Seen.{pair_in};
 ghost use Rattle.ipi.specs.Seating.{IsSeatOf, harts_of, crew_of, diaries_in, IsOfAll, AreInOrder, AreSeated, AreSeatsOf, diaries_by_seat, all_diaries, one_by_one};
 ghost use Rattle.board_model.specs.declared.refusal.Refusal.TheVariants.{Memory};
 
-use crate::table::{ByHart, IpiSeat, PendingTable, Seats};
+use crate::table::{IpiSeat, PendingTable, Seats};
+use crate::view::Crew;
 use atomic_table::Table;
 use board_model::{Refusal, Shape};
 use std::alloc::Global;
+use tallies::{ByHart, SeatTable};
+
+impl SeatTable for PendingTable {
+    type View = Crew;
+
+    type Seat = IpiSeat;
+
+    ghost is_seat = { IsSeatOf };
+
+    ghost count = { harts_of };
+
+    ghost known = { crew_of };
+
+    fn harts(&self) -> u32 {
+        self.table.word_count() as u32
+    }
+
+    fn split_first(&self, seat: IpiSeat) -> (IpiSeat, IpiSeat) {
+        let mut seat = seat;
+        let others = self.table.shared.split_seat::<ByHart>(&mut seat);
+        (seat, others)
+    }
+
+    fn join_two(&self, seat: IpiSeat, others: IpiSeat) -> IpiSeat {
+        let mut seat = seat;
+        self.table.shared.join_seat::<ByHart>(&mut seat, others);
+        seat
+    }
+}
 
 impl PendingTable {
     /// The table of a board of that shape, with nothing pending, and one seat of all harts. Refused `Memory` where the
@@ -31,37 +61,6 @@ impl PendingTable {
         Ok((PendingTable { table }, seat))
     }
 
-    /// The number of harts, 1 to 8.
-    pub fn harts(&self) -> u32
-        ensures value { result ≡ harts_of self.now }
-        ensures range { (1 ≤ result) × (result ≤ 8) }
-    {
-        self.table.word_count() as u32
-    }
-
-    /// The first hart of a seat by itself, and the others.
-    pub fn split_first(&self, seat: IpiSeat) -> (IpiSeat, IpiSeat)
-        requires { IsSeatOf self.now seat }
-        ensures first { IsSeatOf self.now result.0 × (crew_of result.0 ≡ first_hart (crew_of seat)) }
-        ensures others { IsSeatOf self.now result.1 × (crew_of result.1 ≡ other_harts (crew_of seat)) }
-    {
-        let mut seat = seat;
-        let others = self.table.shared.split_seat::<ByHart>(&mut seat);
-        (seat, others)
-    }
-
-    /// Two seats in one, which has the harts of the first before those of the other.
-    pub fn join_two(&self, seat: IpiSeat, others: IpiSeat) -> IpiSeat
-        requires seat { IsSeatOf self.now seat }
-        requires others { IsSeatOf self.now others }
-        ensures seat { IsSeatOf self.now result }
-        ensures both { crew_of result ≡ together (crew_of seat) (crew_of others) }
-    {
-        let mut seat = seat;
-        self.table.shared.join_seat::<ByHart>(&mut seat, others);
-        seat
-    }
-
     /// A seat for each hart of a seat of all harts, in the order of their numbers.
     pub fn split(&self, seat: IpiSeat) -> Seats
         requires seat { IsSeatOf self.now seat }
@@ -72,15 +71,7 @@ impl PendingTable {
         ensures apart { diaries_by_seat result.items ≡ one_by_one (diaries_in seat) }
         ensures harts { all_diaries result.items ≡ diaries_in seat }
     {
-        let mut seats = Seats::new();
-        let mut rest = seat;
-        for place in 0..self.harts() as usize {
-            prove!(seats.len() == place);
-            let (one, others) = self.split_first(rest);
-            seats.push(Some(one));
-            rest = others;
-        }
-        seats
+        tallies::split(self, seat)
     }
 
     /// The seats of a list in one, which has their harts in the order of the list. It undoes `split`: a seat for each hart, in
@@ -93,12 +84,6 @@ impl PendingTable {
         ensures all { AreInOrder seats.items → array_vec_len seats ≡ harts_of self.now → IsOfAll self.now result }
         ensures shows { AreInOrder seats.items → array_vec_len seats ≡ harts_of self.now → Shows (harts_of self.now) (crew_of result) (pair_in (crew_of result)) }
     {
-        let mut seats = seats;
-        let last = seats.pop().unwrap();
-        let mut whole = last.unwrap();
-        while let Some(before) = seats.pop() {
-            whole = self.join_two(before.unwrap(), whole);
-        }
-        whole
+        tallies::join(self, seats)
     }
 }

@@ -1,11 +1,11 @@
 //! The table, one word a hart with a bit for each sender, its rule, and the types of its seats.
 
 ghost use Rattle.std.specs.Prelude.{◌≡◌, ℕ, ◌<◌, ◌≤◌};
-ghost use Rattle.ipi.specs.Ledger.{Kept, opening_crew, first_hart, other_harts, together, nobody};
+ghost use Rattle.ipi.specs.Ledger.{Kept, opening_crew};
 
 use crate::view::Crew;
 use arrayvec::ArrayVec;
-use atomic_table::{Join, Seat, Split, Table, TableRule};
+use atomic_table::{Seat, Table, TableRule};
 use std::alloc::Global;
 use std::marker::Brand;
 
@@ -30,20 +30,6 @@ impl Acting for Brand {
     ghost harts = { 0 };
 
     ghost by = { 0 };
-}
-
-pub(crate) struct ByHart;
-
-impl Split<Crew> for ByHart {
-    ghost left = { first_hart };
-
-    ghost right = { other_harts };
-}
-
-impl Join<Crew> for ByHart {
-    ghost both = { together };
-
-    ghost spent = { nobody };
 }
 
 /// A seat of some of the harts: the right to act as them. It takes no bytes, and may go to another thread.

@@ -2,6 +2,7 @@ ghost use Rattle.std.specs.Prelude.{◌≤◌, length};
 
 use crate::fixtures::{booted as booted_for, same};
 use board_model::{HartId, Reason};
+use hsm::SeatTable;
 use machine::{Machine, Turned};
 use ram::Width;
 use rv_decode::{CsrNumber, Reg};

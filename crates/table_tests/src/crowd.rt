@@ -7,7 +7,7 @@ ghost use Rattle.ipi.specs.Seating.{IsSeatOf, harts_of, crew_of, diaries_in};
 ghost use Rattle.table_tests.specs.Crowd.{AreFrom};
 
 use board_model::HartId;
-use ipi::{IpiSeat, PendingTable, SenderSet};
+use ipi::{IpiSeat, PendingTable, SeatTable, SenderSet};
 use std::thread::{Threads, join};
 
 /// How many pairs were newly set, and how many senders were taken.

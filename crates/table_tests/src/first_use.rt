@@ -10,7 +10,7 @@ ghost use Rattle.ipi.specs.Pairs.{Sits};
 ghost use Rattle.ipi.specs.Seating.{IsSeatOf as IsPairSeatOf, harts_of as targets_of, crew_of as pairs_of};
 
 use board_model::{Addr, HartId};
-use hsm::{HartSeat, HartTable, State, start, status, try_enter};
+use hsm::{HartSeat, HartTable, SeatTable, State, start, status, try_enter};
 use ipi::{IpiSeat, PendingTable, SenderSet};
 use std::thread::{Threads, join};
 

@@ -9,7 +9,7 @@ ghost use Rattle.ipi.specs.Seating.{IsSeatOf, harts_of, crew_of};
 ghost use Rattle.table_tests.specs.Known.{IsTeam};
 
 use board_model::{Addr, HartId};
-use hsm::{HartSeat, HartTable, start, stop, try_enter};
+use hsm::{HartSeat, HartTable, SeatTable, start, stop, try_enter};
 use ipi::{IpiSeat, PendingTable};
 use std::thread::{Threads, join};
 

@@ -8,7 +8,7 @@ ghost use Rattle.hsm_words.specs.declared.view.Stage.TheVariants.{Running};
 ghost use Rattle.table_tests.specs.Race.{AreReady};
 
 use board_model::{Addr, HartId, Refusal, Shape};
-use hsm::{HartSeat, HartTable, start, stop, try_enter};
+use hsm::{HartSeat, HartTable, SeatTable, start, stop, try_enter};
 use std::alloc::Global;
 use std::thread::{Threads, join};
 

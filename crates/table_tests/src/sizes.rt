@@ -3,7 +3,7 @@
 ghost use Rattle.std.specs.Prelude.{◌≡◌, ◌<◌, ◌≤◌, IfOk};
 
 use board_model::{HartId, Refusal, Shape};
-use hsm::HartTable;
+use hsm::{HartTable, SeatTable};
 use ipi::PendingTable;
 use std::alloc::Global;
 

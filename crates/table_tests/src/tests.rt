@@ -5,7 +5,7 @@ use crate::known::{lost, refused};
 use crate::race::{Plan, ready_racers, rounds};
 use crate::sizes::all_sizes;
 use board_model::{Addr, HartId, Shape};
-use hsm::{HartTable, State};
+use hsm::{HartTable, SeatTable, State};
 use ipi::PendingTable;
 use std::test::Fail;
 

@@ -1,6 +1,6 @@
 use Rattle.std.proofs.Common.{arith}
 use Rattle.ipi.proofs.Keeps.{splits}
-use Rattle.ipi.proofs.table.PendingTable.split_first.Goals as goal
+use Rattle.ipi.proofs.seats.PendingTableSeatTable.split_first.Goals as goal
 
 pub split_seat-others-requires : goal.split_seat-others-requires
 split_seat-others-requires c =

@@ -1,6 +1,6 @@
 use Rattle.std.proofs.Common.{arith}
 use Rattle.ipi.proofs.Keeps.{joins}
-use Rattle.ipi.proofs.table.PendingTable.join_two.Goals as goal
+use Rattle.ipi.proofs.seats.PendingTableSeatTable.join_two.Goals as goal
 
 pub join_seat-requires : goal.join_seat-requires
 join_seat-requires c =
