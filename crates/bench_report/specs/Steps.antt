@@ -64,7 +64,7 @@ shows line = says (printed.Shown line)
 abbrev pub starved : Bench → Bench
 starved b = record b { growths = b.growths + 1 }
 
--- a failure of the disk was answered, which has these mishaps since
+-- a failure of the disk was answered, after which its fault state is this
 abbrev pub failed : Mishaps → Bench → Bench
 failed m b = record b { failures = counted b.failures 1; mishaps = m }
 
