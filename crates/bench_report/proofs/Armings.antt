@@ -6,7 +6,7 @@ use Rattle.disk.specs.Mishaps.{Armed, Mishaps}
 use Rattle.simdisk.specs.declared.SimDisk.{SimDisk}
 use Rattle.store.specs.Lives.{Life as Told}
 use Rattle.store.specs.Stores.{life_of}
-use Rattle.bench_report.specs.Below.{Board, store_in, machine_in, facts, mishaps, store_size, store_facts, store_mishaps, IsLife}
+use Rattle.bench_report.specs.Below.{Board, store_in, machine_in, facts, fault_state, store_size, store_facts, store_fault_state, IsLife}
 use Rattle.bench_report.specs.Bench.{Life, Bench}
 use Rattle.bench_report.specs.Steps.{armed_with}
 use Rattle.bench_report.specs.Agree.{Follows, BoardIs, DeviceIs, OffIs, OnIs}
@@ -18,16 +18,16 @@ device size b a m n old new was same is =
     let P : ℕ → Type 0 = λ k. b.failures ≤ k in
     (ap (λ (x : Mishaps). let y : Mishaps = record x { armed = a } in y) was.0 ∙ sym is, subst P (sym same.failures) was.1, ap length same.content ∙ was.2)
 
-pub armed_off : GoesOn → (size : Size) (b : Bench) (a : Armed) (old new : SimDisk) → OffIs size b old → Unchanged (facts old) (facts new) → mishaps new ≡ record (mishaps old) { armed = a }
+pub armed_off : GoesOn → (size : Size) (b : Bench) (a : Armed) (old new : SimDisk) → OffIs size b old → Unchanged (facts old) (facts new) → fault_state new ≡ record (fault_state old) { armed = a }
     → OffIs size (armed_with a b) new
 armed_off goes_on size b a old new was same is =
-    (was.0, left_on goes_on size b.medium b.kept old new was.1 (λ c l. (same.now c).0 l), device size b a (mishaps old) (mishaps new) (facts old) (facts new) was.2 same is)
+    (was.0, left_on goes_on size b.medium b.kept old new was.1 (λ c l. (same.now c).0 l), device size b a (fault_state old) (fault_state new) (facts old) (facts new) was.2 same is)
 
 pub armed_on : (size : Size) (b : Bench) (a : Armed) (old new : Board) → OnIs size b old → machine_in new ≡ machine_in old → life_of (store_in new) ≡ life_of (store_in old)
-    → store_size (store_in new) ≡ store_size (store_in old) → Unchanged (store_facts (store_in old)) (store_facts (store_in new)) → store_mishaps (store_in new) ≡ record (store_mishaps (store_in old)) { armed = a }
+    → store_size (store_in new) ≡ store_size (store_in old) → Unchanged (store_facts (store_in old)) (store_facts (store_in new)) → store_fault_state (store_in new) ≡ record (store_fault_state (store_in old)) { armed = a }
     → OnIs size (armed_with a b) new
 armed_on size b a old new was machine life board same is =
-    (by b.power was.0, device size b a (store_mishaps (store_in old)) (store_mishaps (store_in new)) (store_facts (store_in old)) (store_facts (store_in new)) was.1 same is)
+    (by b.power was.0, device size b a (store_fault_state (store_in old)) (store_fault_state (store_in new)) (store_facts (store_in old)) (store_facts (store_in new)) was.1 same is)
   where
     by : (p : Option Life) → BoardIs size b.medium b.kept p old → BoardIs size b.medium b.kept p new
     by None on = absurd on

@@ -36,7 +36,7 @@ use Rattle.machine.specs.Durables.{MakesCall as MachineCall}
 use Rattle.machine.specs.declared.parts.Word.{Word}
 use Rattle.machine.specs.declared.parts.Word.TheVariants as words
 use Rattle.board.specs.Turns as boards
-use Rattle.bench_report.specs.Below.{Store, IsLife, IsAs, store_size, store_mishaps, store_facts}
+use Rattle.bench_report.specs.Below.{Store, IsLife, IsAs, store_size, store_fault_state, store_facts}
 use Rattle.bench_report.specs.Bench.{Life, Bench}
 use Rattle.bench_report.specs.Steps.{starved, off, on_with, has_machine, acknowledged, Issued, refused, Refuses, Held, Resets, Suspends, IsAlone, Sleeps, SleepsBy, MakesCall, Comes, GuestTurn, IsLastTurn, GuestTurns}
 use Rattle.bench_report.specs.Agree.{StoreIs, DeviceIs, IsOver}
@@ -45,7 +45,7 @@ use Rattle.bench_report.proofs.Commanded.{Running, follows_with, sized_for, told
 
 -- the store of a life that its own command ended
 abbrev pub IsEnded : Size → Bench → Store → Type 0
-IsEnded size b store = (b.power ≡ None) × IsOver size b.medium b.kept store × DeviceIs size b (store_mishaps store) (store_facts store)
+IsEnded size b store = (b.power ≡ None) × IsOver size b.medium b.kept store × DeviceIs size b (store_fault_state store) (store_facts store)
 
 -- a board after what is said of a turn or a call
 abbrev pub Stands : Size → Word → Bench → Machine → Store → Type 0
@@ -58,7 +58,7 @@ abbrev answering : ℕ → SbiError → Machine → Machine
 answering h e m = record m { harts = slice_set m.harts h (answered (hart_at m h) (error_of (Err e)) 0) }
 
 -- a command of hart h, which the store was asked for on a board that is on
-module _ (size : Size) (b : Bench) (life : Life) (h : ℕ) (n : Machine) (old new : Store) (on : b.power ≡ Some life) (was : StoreIs size b.medium b.kept life old) (device : DeviceIs size b (store_mishaps old) (store_facts old))
+module _ (size : Size) (b : Bench) (life : Life) (h : ℕ) (n : Machine) (old new : Store) (on : b.power ≡ Some life) (was : StoreIs size b.medium b.kept life old) (device : DeviceIs size b (store_fault_state old) (store_facts old))
     (t : State) (made : n ≡ record life.machine { harts = slice_set life.machine.harts h t }) where
   -- it came to that
   abbrev pub Came : (Word → Bench → Type 0) → Made → Type 0
@@ -78,7 +78,7 @@ module _ (size : Size) (b : Bench) (life : Life) (h : ℕ) (n : Machine) (old ne
   refuses : (e : SbiError) (held : Made) → Refused_to e (hart_at life.machine h) t held → new ≡ old → Came (λ word x. Refuses e h life b word x) held
   refuses e held (is, at) same =
       let Q : Store → Type 0 = λ store. StoreIs size b.medium b.kept life store in
-      let S : Store → Type 0 = λ store. DeviceIs size b (store_mishaps store) (store_facts store) in
+      let S : Store → Type 0 = λ store. DeviceIs size b (store_fault_state store) (store_facts store) in
       let did = goes e b (life, on, subst Q (sym same) was, refl, subst S (sym same) device) is in
       let next : did.0 ≡ life = one did.0 did.1 in
       let P : Life → Type 0 = λ l. Running size (on_with (refused h e l) b) n new in
@@ -154,23 +154,23 @@ module _ (size : Size) (b : Bench) (life : Life) (h : ℕ) (n : Machine) (old ne
       seen_as : life.doubt ≡ None → IsLife seen life.now life.receipts None
       seen_as none = let is = calm_life none in ((asked.answered (none_of none)).life.reseen.now ∙ is.0, is.1, is.2, is.3)
 
-      as_it_was : life.doubt ≡ None → (e : Refusal) → (e ≡ Down → ⊥) → (e ≡ Device → ⊥) → CausedRefusal (store_mishaps old) e (store_mishaps new) → life_of new ≡ seen → (x : Bench) → x.medium ≡ b.medium → x.kept ≡ b.kept → x.power ≡ b.power
-          → x.mishaps ≡ b.mishaps → x.failures ≡ b.failures → Running size x life.machine new
-      as_it_was none e up is cause same x medium kept power mishaps failures =
+      as_it_was : life.doubt ≡ None → (e : Refusal) → (e ≡ Down → ⊥) → (e ≡ Device → ⊥) → CausedRefusal (store_fault_state old) e (store_fault_state new) → life_of new ≡ seen → (x : Bench) → x.medium ≡ b.medium → x.kept ≡ b.kept → x.power ≡ b.power
+          → x.fault_state ≡ b.fault_state → x.failures ≡ b.failures → Running size x life.machine new
+      as_it_was none e up is cause same x medium kept power fault_state failures =
           let P : Told → Type 0 = λ l. IsLife l life.now life.receipts None in
           again size b life command old new seen on was device asked.stays.board asked.stays.length asked.stays.no_fewer x medium kept power none (subst P (sym same) (seen_as none))
-          (calm_device size b life command old new seen on was device asked.stays.board asked.stays.length asked.stays.no_fewer x mishaps failures (untouched e (store_mishaps old) (store_mishaps new) cause up is))
+          (calm_device size b life command old new seen on was device asked.stays.board asked.stays.length asked.stays.no_fewer x fault_state failures (untouched e (store_fault_state old) (store_fault_state new) cause up is))
 
-      unfit : life.doubt ≡ None → (Fits → ⊥) → (e : Refusal) → (e ≡ Down → ⊥) → (e ≡ Device → ⊥) → CausedRefusal (store_mishaps old) e (store_mishaps new) → life_of new ≡ seen → Suspending 3
+      unfit : life.doubt ≡ None → (Fits → ⊥) → (e : Refusal) → (e ≡ Down → ⊥) → (e ≡ Device → ⊥) → CausedRefusal (store_fault_state old) e (store_fault_state new) → life_of new ≡ seen → Suspending 3
       unfit none not e up is cause same = (b, inr (inr (not, refl, refl)), as_it_was none e up is cause same b refl refl refl refl refl, refl)
 
       issued : Fits → (e : Refusal) → ((x : Bench) × Issued command life b (Err (number_of e)) x × Running size x life.machine new × (x.payloads ≡ b.payloads)) → (k : ℕ) × Suspending k
       issued fits e did = (number_of e, (did.0, inl (fits, did.1), did.2, did.3))
 
-      goes_up : life.doubt ≡ None → Fits → (e : Refusal) → Refused seen command e (life_of new) → CausedRefusal (store_mishaps old) e (store_mishaps new) → CountedRefusal (store_facts old).failures e (store_facts new).failures → (k : ℕ) × Suspending k
+      goes_up : life.doubt ≡ None → Fits → (e : Refusal) → Refused seen command e (life_of new) → CausedRefusal (store_fault_state old) e (store_fault_state new) → CountedRefusal (store_facts old).failures e (store_facts new).failures → (k : ℕ) × Suspending k
       goes_up none fits e up cause counts = issued fits e (told_up size b life command old new seen on was device asked.stays.board asked.stays.length asked.stays.no_fewer seen_as none e up cause counts)
 
-      fit_err : life.doubt ≡ None → Fits → (e : Refusal) → SuspendRefused Fits seen command e (life_of new) → CausedRefusal (store_mishaps old) e (store_mishaps new) → CountedRefusal (store_facts old).failures e (store_facts new).failures
+      fit_err : life.doubt ≡ None → Fits → (e : Refusal) → SuspendRefused Fits seen command e (life_of new) → CausedRefusal (store_fault_state old) e (store_fault_state new) → CountedRefusal (store_facts old).failures e (store_facts new).failures
           → (k : ℕ) × Suspending k
       fit_err none fits e (inl x) cause counts = goes_up none fits e x.1 cause counts
       fit_err none fits e (inr (inl x)) cause counts = absurd (x.1 fits)
@@ -181,7 +181,7 @@ module _ (size : Size) (b : Bench) (life : Life) (h : ℕ) (n : Machine) (old ne
       fit_err none fits e (inr (inr (inr (inl x)))) cause counts = absurd (let g : true ≡ false = sym x.1 ∙ (seen_as none).3 in let no : ⊥ = cc in no)
       fit_err none fits e (inr (inr (inr (inr x)))) cause counts = goes_up none fits e (inr (inr (inr (inl (x.0, x.1, x.2, x.3))))) cause counts
 
-      unfit_err : life.doubt ≡ None → (Fits → ⊥) → (e : Refusal) → SuspendRefused Fits seen command e (life_of new) → CausedRefusal (store_mishaps old) e (store_mishaps new) → (k : ℕ) × Suspending k
+      unfit_err : life.doubt ≡ None → (Fits → ⊥) → (e : Refusal) → SuspendRefused Fits seen command e (life_of new) → CausedRefusal (store_fault_state old) e (store_fault_state new) → (k : ℕ) × Suspending k
       unfit_err none not e (inl x) cause = absurd (not x.0)
       unfit_err none not e (inr (inl x)) cause =
           let up : e ≡ Down → ⊥ = λ f. (let g : BadShape ≡ Down = sym x.0 ∙ f in let no : ⊥ = cc in no) in
@@ -269,7 +269,7 @@ module _ (size : Size) (b : Bench) (life : Life) (h : ℕ) (n : Machine) (old ne
 abbrev Comes_so : Size → (Word → Bench → Type 0) → Bench → Word → Machine → Store → Type 0
 Comes_so size step b word n new = (x : Bench) × step word x × Stands size word x n new × (x.payloads ≡ b.payloads)
 
-module _ (size : Size) (b : Bench) (life : Life) (h : ℕ) (n : Machine) (old new : Store) (on : b.power ≡ Some life) (was : StoreIs size b.medium b.kept life old) (device : DeviceIs size b (store_mishaps old) (store_facts old)) where
+module _ (size : Size) (b : Bench) (life : Life) (h : ℕ) (n : Machine) (old new : Store) (on : b.power ≡ Some life) (was : StoreIs size b.medium b.kept life old) (device : DeviceIs size b (store_fault_state old) (store_facts old)) where
   called : (held : Made) → MachineCall h life.machine n old new held → Comes_so size (λ word x. Comes Durable h life b word x) b (word_by held) n new
   called held (after, is, e) =
       let F : Machine = record life.machine { harts = slice_set life.machine.harts h after.hart } in
@@ -284,7 +284,7 @@ module _ (size : Size) (b : Bench) (life : Life) (h : ℕ) (n : Machine) (old ne
   comes did word (same, still, e) =
       let P : Word → Type 0 = λ w. Comes_so size (λ word x. Comes did h life b word x) b w n new in
       let Q : Store → Type 0 = λ store. StoreIs size b.medium b.kept life store in
-      let S : Store → Type 0 = λ store. DeviceIs size b (store_mishaps store) (store_facts store) in
+      let S : Store → Type 0 = λ store. DeviceIs size b (store_fault_state store) (store_facts store) in
       subst P (sym e) (b, (refl, refl), (life, on, subst Q (sym still) was, same, subst S (sym still) device), refl)
 
 -- ---- turns
@@ -292,14 +292,14 @@ module _ (size : Size) (b : Bench) (life : Life) (h : ℕ) (n : Machine) (old ne
 pub has_other : (size : Size) (b : Bench) (life : Life) (m : Machine) (store : Store) → m.size ≡ life.machine.size → StoreIs size b.medium b.kept life store → StoreIs size b.medium b.kept (has_machine m life) store
 has_other size b life m store same is = (follows_with size b.medium b.kept life m (store_size store) same is.0, is.1)
 
-turn : (size : Size) (h : ℕ) (b : Bench) (life : Life) (n : Machine) (old new : Store) (word : Word) → b.power ≡ Some life → StoreIs size b.medium b.kept life old → DeviceIs size b (store_mishaps old) (store_facts old)
+turn : (size : Size) (h : ℕ) (b : Bench) (life : Life) (n : Machine) (old new : Store) (word : Word) → b.power ≡ Some life → StoreIs size b.medium b.kept life old → DeviceIs size b (store_fault_state old) (store_facts old)
     → boards.Turns h life.machine n old new word → Comes_so size (λ word x. GuestTurn h life b word x) b word n new
 turn size h b life n old new word on was device (m, did, turned, came) =
     let same : m.size ≡ life.machine.size = ap (λ (k : Machine). k.size) turned.2 in
     let rest = comes size (on_with (has_machine m life) b) (has_machine m life) h n old new refl (has_other size b life m old same was) device did word came in
     (rest.0, (m, did, turned, rest.1), rest.2, rest.3)
 
-struck_as : (size : Size) (word : Word) (b : Bench) (m : Machine) (store : Store) → Stands size word b m store → b.mishaps.struck ≡ (store_mishaps store).struck
+struck_as : (size : Size) (word : Word) (b : Bench) (m : Machine) (store : Store) → Stands size word b m store → b.fault_state.struck ≡ (store_fault_state store).struck
 struck_as size (words.Own did) b m store (life, on, is, same, device) = ap (λ x. x.struck) device.0
 struck_as size words.Asleep b m store (off, is, device) = ap (λ x. x.struck) device.0
 struck_as size (words.Reset kind) b m store (off, is, device) = ap (λ x. x.struck) device.0
@@ -318,7 +318,7 @@ turns size h (suc count) b m n old new made word (life, on, was, same, device) (
     go one more (λ x rest runs_on after. turns size h count x mid n store new rest word runs_on after)
   where
     go : Comes_so size (λ word x. GuestTurn h life b word x) b first mid store
-        → ((boards.IsLast first count store × (n ≡ mid) × (new ≡ store) × (made ≡ 1) × (word ≡ first)) ⊎ ((ends first ≡ false) × ((store_mishaps store).struck ≡ false) × (rest : ℕ) × (made ≡ suc rest) × boards.TurnsMany h count mid n store new rest word))
+        → ((boards.IsLast first count store × (n ≡ mid) × (new ≡ store) × (made ≡ 1) × (word ≡ first)) ⊎ ((ends first ≡ false) × ((store_fault_state store).struck ≡ false) × (rest : ℕ) × (made ≡ suc rest) × boards.TurnsMany h count mid n store new rest word))
         → ((x : Bench) (rest : ℕ) → Running size x mid store → boards.TurnsMany h count mid n store new rest word → Comes_so size (λ word y. GuestTurns h count x rest word y) x word n new)
         → Comes_so size (λ word x. GuestTurns h (suc count) b made word x) b word n new
     go (x, did, stands, payloads) (inl (last, e, f, k, w)) others =

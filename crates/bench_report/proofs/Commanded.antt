@@ -16,7 +16,7 @@ use Rattle.store.specs.Lives.{Life as Told, Applied, Refused}
 use Rattle.store.specs.Opens.{CausedRefusal}
 use Rattle.store.specs.Stores.{life_of, doubt_of}
 use Rattle.store.specs.Views.{CountedRefusal}
-use Rattle.bench_report.specs.Below.{Store, Board, store_in, machine_in, IsLife, IsAs, store_size, store_now, store_doubt, store_mishaps, store_facts}
+use Rattle.bench_report.specs.Below.{Store, Board, store_in, machine_in, IsLife, IsAs, store_size, store_now, store_doubt, store_fault_state, store_facts}
 use Rattle.bench_report.specs.Bench.{Medium, Blank, Unknown, Formatted, Life, Bench}
 use Rattle.bench_report.specs.Steps.{failed, acknowledged, in_doubt, Writes, IssuedBy, Issued}
 use Rattle.bench_report.specs.Agree.{StoreIs, BoardIs, Follows, DeviceIs, OnIs, IsOver}
@@ -35,7 +35,7 @@ console_goes_on commands.Discard is = refl
 
 -- a board that is on, by its machine and its store
 abbrev pub Running : Size → Bench → Machine → Store → Type 0
-Running size b m store = (life : Life) × (b.power ≡ Some life) × StoreIs size b.medium b.kept life store × (m ≡ life.machine) × DeviceIs size b (store_mishaps store) (store_facts store)
+Running size b m store = (life : Life) × (b.power ≡ Some life) × StoreIs size b.medium b.kept life store × (m ≡ life.machine) × DeviceIs size b (store_fault_state store) (store_facts store)
 
 pub running_on : (size : Size) (b : Bench) (board : Board) → Running size b (machine_in board) (store_in board) → OnIs size b board
 running_on size b board (life, on, store, machine, device) =
@@ -79,7 +79,7 @@ over_more size Formatted k c life store h calm now doubt = (h.0 ∙ calm, now �
 
 -- A command on a board whose life has a command in doubt, or none. Where none is, the store's life is seen so when it is asked.
 module _ (size : Size) (b : Bench) (life : Life) (c : Change) (old new : Store) (seen : Told)
-    (on : b.power ≡ Some life) (was : StoreIs size b.medium b.kept life old) (device : DeviceIs size b (store_mishaps old) (store_facts old))
+    (on : b.power ≡ Some life) (was : StoreIs size b.medium b.kept life old) (device : DeviceIs size b (store_fault_state old) (store_facts old))
     (same_size : store_size new ≡ store_size old) (fits : SameLength (store_facts old) (store_facts new)) (no_fewer : (store_facts old).failures ≤ (store_facts new).failures) where
   -- the command is answered so, and the board is on
   abbrev pub Goes : Result ℕ ℕ → Type 0
@@ -89,18 +89,18 @@ module _ (size : Size) (b : Bench) (life : Life) (c : Change) (old new : Store) 
   here = sized size b.medium b.kept life (store_size old) (store_size new) same_size was.0
 
   -- the life is as it was
-  pub again : (x : Bench) → x.medium ≡ b.medium → x.kept ≡ b.kept → x.power ≡ b.power → life.doubt ≡ None → IsAs new life.now life.receipts None → DeviceIs size x (store_mishaps new) (store_facts new) → Running size x life.machine new
+  pub again : (x : Bench) → x.medium ≡ b.medium → x.kept ≡ b.kept → x.power ≡ b.power → life.doubt ≡ None → IsAs new life.now life.receipts None → DeviceIs size x (store_fault_state new) (store_facts new) → Running size x life.machine new
   again x medium kept power calm is now =
       let P : Option Change → Type 0 = λ d. IsAs new life.now life.receipts d in
       let M : Medium → Type 0 = λ m. StoreIs size m x.kept life new in
       let K : Kept → Type 0 = λ k. StoreIs size b.medium k life new in
       (life, power ∙ on, subst M (sym medium) (subst K (sym kept) (here, subst P (sym calm) is)), refl, now)
 
-  pub calm_device : (x : Bench) → x.mishaps ≡ b.mishaps → x.failures ≡ b.failures → store_mishaps new ≡ store_mishaps old → DeviceIs size x (store_mishaps new) (store_facts new)
-  calm_device x mishaps failures same =
-      let still = stays size b (store_mishaps old) (store_mishaps new) (store_facts old) (store_facts new) device same no_fewer fits in
+  pub calm_device : (x : Bench) → x.fault_state ≡ b.fault_state → x.failures ≡ b.failures → store_fault_state new ≡ store_fault_state old → DeviceIs size x (store_fault_state new) (store_facts new)
+  calm_device x fault_state failures same =
+      let still = stays size b (store_fault_state old) (store_fault_state new) (store_facts old) (store_facts new) device same no_fewer fits in
       let P : ℕ → Type 0 = λ n. n ≤ (store_facts new).failures in
-      (mishaps ∙ still.0, subst P (sym failures) still.1, still.2)
+      (fault_state ∙ still.0, subst P (sym failures) still.1, still.2)
 
   with_none : life.doubt ≡ None → (o : Result ℕ ℕ) (x : Bench) → IssuedBy None c life b o x → Issued c life b o x
   with_none calm o x i = let P : Option Change → Type 0 = λ d. IssuedBy d c life b o x in subst P (sym calm) i
@@ -111,7 +111,7 @@ module _ (size : Size) (b : Bench) (life : Life) (c : Change) (old new : Store) 
       let Q : Option ℕ → Type 0 = λ r. Writes r c life b (Ok n) x in
       with_none calm (Ok n) x (inr (reaches.0, subst Q (sym reaches.1) (inl (ap (λ k. Ok k) is, refl))))
 
-  up_ok : life.doubt ≡ None → (n : ℕ) → Acknowledges life.now life.receipts c n (life_of new) → DeviceIs size b (store_mishaps new) (store_facts new) → Goes (Ok n)
+  up_ok : life.doubt ≡ None → (n : ℕ) → Acknowledges life.now life.receipts c n (life_of new) → DeviceIs size b (store_fault_state new) (store_facts new) → Goes (Ok n)
   up_ok calm n did now =
       let x = acknowledged c life b in
       let P : Option Change → Type 0 = λ d. IsAs new (after life.now c) (life.receipts + 1) d in (
@@ -124,18 +124,18 @@ module _ (size : Size) (b : Bench) (life : Life) (c : Change) (old new : Store) 
   number : (e f : Refusal) → e ≡ f → ◌≡◌ {A = Result ℕ ℕ} (Err (number_of e)) (Err (number_of f))
   number e f is = ap (λ x. Err (number_of x)) is
 
-  up_err : life.doubt ≡ None → (e : Refusal) → Refuses life.now life.receipts c e (life_of new) → CausedRefusal (store_mishaps old) e (store_mishaps new)
+  up_err : life.doubt ≡ None → (e : Refusal) → Refuses life.now life.receipts c e (life_of new) → CausedRefusal (store_fault_state old) e (store_fault_state new)
       → (e ≡ Device → Failed (store_facts old).failures (store_facts new).failures) → (e ≡ Down → Failed (store_facts old).failures (store_facts new).failures)
       → Goes (Err (number_of e))
   up_err calm e (inl did) cause fails downs =
-      let x = hindered size b (store_mishaps old) (store_mishaps new) (store_facts old) (store_facts new) device (struck e (store_mishaps old) (store_mishaps new) cause did.0) (fails did.0) fits in
-      let y = failed (store_mishaps new) b in
+      let x = hindered size b (store_fault_state old) (store_fault_state new) (store_facts old) (store_facts new) device (struck e (store_fault_state old) (store_fault_state new) cause did.0) (fails did.0) fits in
+      let y = failed (store_fault_state new) b in
       let Q : Option ℕ → Type 0 = λ r. Writes r c life b (Err (number_of e)) y in
       (y, with_none calm (Err (number_of e)) y (inr (did.1.0, subst Q (sym did.1.1) (inr (inl (number e Device did.0, x.0))))), again y refl refl refl calm did.2 x.1, refl)
   up_err calm e (inr (inl did)) cause fails downs =
       let d = in_doubt c life b in
-      let x = hindered size d (store_mishaps old) (store_mishaps new) (store_facts old) (store_facts new) device (downed e (store_mishaps old) (store_mishaps new) cause did.0) (downs did.0) fits in
-      let y = failed (store_mishaps new) d in
+      let x = hindered size d (store_fault_state old) (store_fault_state new) (store_facts old) (store_facts new) device (downed e (store_fault_state old) (store_fault_state new) cause did.0) (downs did.0) fits in
+      let y = failed (store_fault_state new) d in
       let Q : Option ℕ → Type 0 = λ r. Writes r c life b (Err (number_of e)) y in (
         y,
         with_none calm (Err (number_of e)) y (inr (did.1.0, subst Q (sym did.1.1) (inr (inr (number e Down did.0, x.0))))),
@@ -143,10 +143,10 @@ module _ (size : Size) (b : Bench) (life : Life) (c : Change) (old new : Store) 
         refl,
       )
   up_err calm e (inr (inr (inl did))) cause fails downs =
-      let same = untouched e (store_mishaps old) (store_mishaps new) cause (λ f. (let no : ⊥ = cc in no)) (λ f. (let no : ⊥ = cc in no)) in
+      let same = untouched e (store_fault_state old) (store_fault_state new) cause (λ f. (let no : ⊥ = cc in no)) (λ f. (let no : ⊥ = cc in no)) in
       (b, with_none calm (Err (number_of e)) b (inl (did.1, number e JournalFull did.0, refl)), again b refl refl refl calm did.2 (calm_device b refl refl same), refl)
   up_err calm e (inr (inr (inr did))) cause fails downs =
-      let same = untouched e (store_mishaps old) (store_mishaps new) cause (not_down life.now c e did.0) (not_device life.now c e did.0) in
+      let same = untouched e (store_fault_state old) (store_fault_state new) cause (not_down life.now c e did.0) (not_device life.now c e did.0) in
       let Q : Option ℕ → Type 0 = λ r. Writes r c life b (Err (number_of e)) b in
       (b, with_none calm (Err (number_of e)) b (inr (did.1, subst Q (sym did.0) (refl, refl))), again b refl refl refl calm did.2 (calm_device b refl refl same), refl)
 
@@ -154,7 +154,7 @@ module _ (size : Size) (b : Bench) (life : Life) (c : Change) (old new : Store) 
   pub unmoved : new ≡ old → Running size b life.machine new
   unmoved same =
       let Q : Store → Type 0 = λ store. StoreIs size b.medium b.kept life store in
-      let S : Store → Type 0 = λ store. DeviceIs size b (store_mishaps store) (store_facts store) in
+      let S : Store → Type 0 = λ store. DeviceIs size b (store_fault_state store) (store_facts store) in
       (life, on, subst Q (sym same) was, refl, subst S (sym same) device)
 
   module _ (is : life.doubt ≡ None → IsLife seen life.now life.receipts None) where
@@ -163,7 +163,7 @@ module _ (size : Size) (b : Bench) (life : Life) (c : Change) (old new : Store) 
 
     pub told_ok : ends_life c ≡ false → (doubt : Option Change) → life.doubt ≡ doubt → (n : ℕ)
         → (doubt_of old ≡ None → Applied seen c (Ok n) (life_of new)) → ((d : Change) → doubt_of old ≡ Some d → (◌≡◌ {A = Result ℕ Refusal} (Ok n) (Err Down)) × (new ≡ old))
-        → (doubt_of old ≡ None → store_mishaps new ≡ store_mishaps old) → Goes (Ok n)
+        → (doubt_of old ≡ None → store_fault_state new ≡ store_fault_state old) → Goes (Ok n)
     told_ok goes None calm n up down unmoved =
         let did = acknowledges life.now life.receipts c seen (life_of new) (is calm) goes n (up (was.1.2 ∙ calm)) in
         up_ok calm n did (calm_device b refl refl (unmoved (was.1.2 ∙ calm)))
@@ -172,14 +172,14 @@ module _ (size : Size) (b : Bench) (life : Life) (c : Change) (old new : Store) 
     -- a command that ended the life
     pub told_end : (doubt : Option Change) → life.doubt ≡ doubt → (n : ℕ)
         → (doubt_of old ≡ None → Applied seen c (Ok n) (life_of new)) → ((d : Change) → doubt_of old ≡ Some d → (◌≡◌ {A = Result ℕ Refusal} (Ok n) (Err Down)) × (new ≡ old))
-        → (doubt_of old ≡ None → store_mishaps new ≡ store_mishaps old)
-        → Issued c life b (Ok n) (acknowledged c life b) × IsOver size b.medium (acknowledged c life b).kept new × DeviceIs size b (store_mishaps new) (store_facts new)
+        → (doubt_of old ≡ None → store_fault_state new ≡ store_fault_state old)
+        → Issued c life b (Ok n) (acknowledged c life b) × IsOver size b.medium (acknowledged c life b).kept new × DeviceIs size b (store_fault_state new) (store_facts new)
     told_end None calm n up down unmoved =
         let did = ended life.now life.receipts c seen (life_of new) (is calm) n (up (was.1.2 ∙ calm)) in
         (issued_ok calm n did.0 did.1, over_more size b.medium b.kept c life new here calm did.2 did.3, calm_device b refl refl (unmoved (was.1.2 ∙ calm)))
     told_end (Some d) calm n up down unmoved = never_ok d calm n down
 
-    pub told_up : life.doubt ≡ None → (e : Refusal) → Refused seen c e (life_of new) → CausedRefusal (store_mishaps old) e (store_mishaps new) → CountedRefusal (store_facts old).failures e (store_facts new).failures
+    pub told_up : life.doubt ≡ None → (e : Refusal) → Refused seen c e (life_of new) → CausedRefusal (store_fault_state old) e (store_fault_state new) → CountedRefusal (store_facts old).failures e (store_facts new).failures
         → Goes (Err (number_of e))
     told_up calm e up cause counts =
         let did = refused life.now life.receipts c seen (life_of new) (is calm) e up in
@@ -193,7 +193,7 @@ module _ (size : Size) (b : Bench) (life : Life) (c : Change) (old new : Store) 
 
     pub told_err : (doubt : Option Change) → life.doubt ≡ doubt → (e : Refusal)
         → (doubt_of old ≡ None → Refused seen c e (life_of new)) → ((d : Change) → doubt_of old ≡ Some d → (◌≡◌ {A = Result ℕ Refusal} (Err e) (Err Down)) × (new ≡ old))
-        → (doubt_of old ≡ None → CausedRefusal (store_mishaps old) e (store_mishaps new))
+        → (doubt_of old ≡ None → CausedRefusal (store_fault_state old) e (store_fault_state new))
         → (doubt_of old ≡ None → CountedRefusal (store_facts old).failures e (store_facts new).failures) → Goes (Err (number_of e))
     told_err None calm e up down cause counts = let none = was.1.2 ∙ calm in told_up calm e (up none) (cause none) (counts none)
     told_err (Some d) calm e up down cause counts = told_down d calm e (down d (was.1.2 ∙ calm))

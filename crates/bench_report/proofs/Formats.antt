@@ -13,7 +13,7 @@ use Rattle.store.specs.Leaves.{IsMarked, LeavesOnly, SameLength}
 use Rattle.store.specs.Opens.{CausedRefusal, FormatRefused}
 use Rattle.bench_report.specs.declared.printed.Answer.{Answer}
 use Rattle.bench_report.specs.declared.printed.Printed.TheVariants as printed
-use Rattle.bench_report.specs.Below.{facts, mishaps}
+use Rattle.bench_report.specs.Below.{facts, fault_state}
 use Rattle.bench_report.specs.Bench.{Medium, Blank, Unknown, Formatted, Bench}
 use Rattle.bench_report.specs.Steps.{says, failed, formatted_anew, unknown, FormatsOn}
 use Rattle.bench_report.specs.Agree.{DiskIs, DeviceIs, OffIs}
@@ -36,7 +36,7 @@ fresh size new h = (h.kept, λ s l. ([], inl refl, (h.only size s l).1))
 abbrev Formats : Size → Medium → Bench → Answer → SimDisk → Type 0
 Formats size m b a new = (x : Bench) × FormatsOn m b a x × OffIs size x new × (x.payloads ≡ b.payloads)
 
-pub formats_ok : KeptLaw → (size : Size) (m : Medium) (b : Bench) (old new : SimDisk) (a : Answer) → b.power ≡ None → DiskIs size m b.kept (facts old) → DeviceIs size b (mishaps new) (facts new) → a ≡ says printed.Formatted
+pub formats_ok : KeptLaw → (size : Size) (m : Medium) (b : Bench) (old new : SimDisk) (a : Answer) → b.power ≡ None → DiskIs size m b.kept (facts old) → DeviceIs size b (fault_state new) (facts new) → a ≡ says printed.Formatted
     → LeavesOnly (facts new) size formatted → (IsMarked (facts old).content → ⊥) → Formats size m b a new
 formats_ok law size Blank b old new a off was device e ok unmarked = (formatted_anew b, inl (e, refl), (off, fresh size (facts new) ok, device), refl)
 formats_ok law size Unknown b old new a off was device e ok unmarked = (formatted_anew b, inl (e, refl), (off, fresh size (facts new) ok, device), refl)
@@ -46,18 +46,18 @@ refused : (a : Answer) (e f : Refusal) → a ≡ says (printed.FormatRefused (nu
 refused a e f h g = h ∙ ap (λ x. says (printed.FormatRefused (number_of x))) g
 
 -- a refused format of a board that is off
-module _ (kept : KeptLaw) (blank : BlankLaw) (size : Size) (b : Bench) (old new : SimDisk) (a : Answer) (e : Refusal) (off : b.power ≡ None) (device : DeviceIs size b (mishaps old) (facts old))
-    (refusal : FormatRefused (facts old) size e (facts new)) (marked : MarkedClause old new) (cause : CausedRefusal (mishaps old) e (mishaps new)) (no_fewer : (facts old).failures ≤ (facts new).failures)
+module _ (kept : KeptLaw) (blank : BlankLaw) (size : Size) (b : Bench) (old new : SimDisk) (a : Answer) (e : Refusal) (off : b.power ≡ None) (device : DeviceIs size b (fault_state old) (facts old))
+    (refusal : FormatRefused (facts old) size e (facts new)) (marked : MarkedClause old new) (cause : CausedRefusal (fault_state old) e (fault_state new)) (no_fewer : (facts old).failures ≤ (facts new).failures)
     (fits : SameLength (facts old) (facts new)) (h : a ≡ says (printed.FormatRefused (number_of e))) where
-  hinders : (c : Bench) → c.mishaps ≡ b.mishaps → c.failures ≡ b.failures → c.power ≡ None → DiskIs size c.medium c.kept (facts new) → e ≡ Device
-      → (x : Bench) × ((a ≡ says (printed.FormatRefused 5)) × ((n : Mishaps) × Cause c.mishaps n × (x ≡ failed n c))) × OffIs size x new
+  hinders : (c : Bench) → c.fault_state ≡ b.fault_state → c.failures ≡ b.failures → c.power ≡ None → DiskIs size c.medium c.kept (facts new) → e ≡ Device
+      → (x : Bench) × ((a ≡ says (printed.FormatRefused 5)) × ((n : Mishaps) × Cause c.fault_state n × (x ≡ failed n c))) × OffIs size x new
   hinders c same count off disk is =
-      let its : DeviceIs size c (mishaps old) (facts old) = (same ∙ device.0, rw count device.1, device.2) in
-      let x = hindered size c (mishaps old) (mishaps new) (facts old) (facts new) its (struck e (mishaps old) (mishaps new) cause is) (failed_format (facts old) size e (facts new) refusal is) fits in
-      (failed (mishaps new) c, (refused a e Device h is, x.0), (off, disk, x.1))
+      let its : DeviceIs size c (fault_state old) (facts old) = (same ∙ device.0, rw count device.1, device.2) in
+      let x = hindered size c (fault_state old) (fault_state new) (facts old) (facts new) its (struck e (fault_state old) (fault_state new) cause is) (failed_format (facts old) size e (facts new) refusal is) fits in
+      (failed (fault_state new) c, (refused a e Device h is, x.0), (off, disk, x.1))
 
-  keeps : e ≢ Device → DeviceIs size b (mishaps new) (facts new)
-  keeps is = stays size b (mishaps old) (mishaps new) (facts old) (facts new) device (calm e (mishaps old) (mishaps new) cause (no_down (facts old) size e (facts new) refusal) is) no_fewer fits
+  keeps : e ≢ Device → DeviceIs size b (fault_state new) (facts new)
+  keeps is = stays size b (fault_state old) (fault_state new) (facts old) (facts new) device (calm e (fault_state old) (fault_state new) cause (no_down (facts old) size e (facts new) refusal) is) no_fewer fits
 
   large : sectors_of size ≤ length (facts old).content
   large = omega (arith, device.2)

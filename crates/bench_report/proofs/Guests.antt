@@ -159,17 +159,17 @@ truth : {A : Type 0} (x y : Bool) → x ≡ y → x ≡ true → y ≡ false →
 truth x y e f g = let h : y ≡ true = sym e ∙ f in absurd (let no : ⊥ = cc in no)
 
 -- a turn that was the last of its row, and one after which another followed
-apart : {A : Type 0} (h n : ℕ) (said also : Word) (mid other : Bench) (rest : ℕ) (word : Word) (last : Bench) → said ≡ also → mid ≡ other → IsLastTurn said n mid → ends also ≡ false → other.mishaps.struck ≡ false
+apart : {A : Type 0} (h n : ℕ) (said also : Word) (mid other : Bench) (rest : ℕ) (word : Word) (last : Bench) → said ≡ also → mid ≡ other → IsLastTurn said n mid → ends also ≡ false → other.fault_state.struck ≡ false
     → GuestTurns h n other rest word last → A
 apart h n said also mid other rest word last e f (inl x) still calm more = truth (ends said) (ends also) (ap ends e) x still
 apart h n said also mid other rest word last e f (inr (inl x)) still calm more = let P : ℕ → Type 0 = λ k. GuestTurns h k other rest word last in absurd (subst P x more)
-apart h n said also mid other rest word last e f (inr (inr x)) still calm more = truth mid.mishaps.struck other.mishaps.struck (ap (λ (b : Bench). b.mishaps.struck) f) x calm
+apart h n said also mid other rest word last e f (inr (inr x)) still calm more = truth mid.fault_state.struck other.fault_state.struck (ap (λ (b : Bench). b.fault_state.struck) f) x calm
 
 -- what follows a turn, by whether it is the last
 abbrev After : ℕ → ℕ → Word → Bench → ℕ → Word → Bench → Type 0
 After h n said mid made word new =
     (IsLastTurn said n mid × (made ≡ 1) × (word ≡ said) × (new ≡ mid))
-    ⊎ ((ends said ≡ false) × (mid.mishaps.struck ≡ false) × (rest : ℕ) × (made ≡ suc rest) × GuestTurns h n mid rest word new)
+    ⊎ ((ends said ≡ false) × (mid.fault_state.struck ≡ false) × (rest : ℕ) × (made ≡ suc rest) × GuestTurns h n mid rest word new)
 
 after_fair : (h n : ℕ) (said : Word) (mid : Bench) (made : ℕ) (word : Word) (new : Bench) → After h n said mid made word new → Fair mid new
 after_fair h n said mid made word new (inl x) = unmoved mid new x.3

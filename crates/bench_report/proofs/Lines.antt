@@ -16,7 +16,7 @@ use Rattle.machine_lines.specs.declared.line.MachineLine.TheVariants as shown
 use Rattle.bench_report.specs.declared.power.Power.{Power}
 use Rattle.bench_report.specs.declared.power.Power.TheVariants.{Off, On}
 use Rattle.bench_report.specs.declared.printed.Answer.{Answer}
-use Rattle.bench_report.specs.Below.{Store, Board, store_in, machine_in, store_facts, store_mishaps}
+use Rattle.bench_report.specs.Below.{Store, Board, store_in, machine_in, store_facts, store_fault_state}
 use Rattle.bench_report.specs.Bench.{Life, Bench}
 use Rattle.bench_report.specs.Steps.{shows, on_with, has_machine, FormatsOn, FormatStep, PowersOn, OnStep, PayloadStep, CallTold, GuestCall, TurnStep, CallStep, ReadStep}
 use Rattle.bench_report.proofs.Commanded.{Running, running_on}
@@ -48,7 +48,7 @@ on_reads size b board says_so line was so = by b.power was.0
 -- a board of which nothing changed
 as_it_was : (size : Size) (b : Bench) (old new : Board) → OnIs size b old → machine_in new ≡ machine_in old → store_in new ≡ store_in old → OnIs size b new
 as_it_was size b old new was still same =
-    let R : Store → Type 0 = λ store. DeviceIs size b (store_mishaps store) (store_facts store) in
+    let R : Store → Type 0 = λ store. DeviceIs size b (store_fault_state store) (store_facts store) in
     (by b.power was.0, subst R (sym same) was.1)
   where
     by : (p : Option Life) → BoardIs size b.medium b.kept p old → BoardIs size b.medium b.kept p new
@@ -56,7 +56,7 @@ as_it_was size b old new was still same =
     by (Some life) is = let Q : Store → Type 0 = λ store. StoreIs size b.medium b.kept life store in (subst Q (sym same) is.0, still ∙ is.1)
 
 -- a board by what is said of it, and by its machine and its store
-on_runs : (size : Size) (b : Bench) (life : Life) (board : Board) → b.power ≡ Some life → BoardIs size b.medium b.kept (Some life) board → DeviceIs size b (store_mishaps (store_in board)) (store_facts (store_in board))
+on_runs : (size : Size) (b : Bench) (life : Life) (board : Board) → b.power ≡ Some life → BoardIs size b.medium b.kept (Some life) board → DeviceIs size b (store_fault_state (store_in board)) (store_facts (store_in board))
     → Running size b (machine_in board) (store_in board)
 on_runs size b life board on is device = (life, on, is.0, is.1, device)
 
@@ -107,7 +107,7 @@ module _ (size : Size) (b : Bench) (old new : Board) (h e f x y z : ℕ) (said :
   came life m NotStarted on is sized (same, still, none) follows =
       let x : Bench = on_with (has_machine m life) b in
       let Q : Store → Type 0 = λ store. StoreIs size b.medium b.kept (has_machine m life) store in
-      let S : Store → Type 0 = λ store. DeviceIs size b (store_mishaps store) (store_facts store) in
+      let S : Store → Type 0 = λ store. DeviceIs size b (store_fault_state store) (store_facts store) in
       let F : Option Word → Type 0 = Follows in
       let on_new : OnIs size x new = ((subst Q (sym still) (has_other size b life m (store_in old) sized is.0), same), subst S (sym still) was.1) in
       (x, (ap shows (shows_it ∙ ap (called_line h (hart_at (machine_in new) h)) none), refl), subst F none follows x on_new, refl)

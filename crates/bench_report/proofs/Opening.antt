@@ -13,7 +13,7 @@ use Rattle.store.specs.Opens.{CausedRefusal, OpenRefused}
 use Rattle.board_model.specs.declared.boot_mode.BootMode.{BootMode}
 use Rattle.bench_report.specs.declared.printed.Answer.{Answer}
 use Rattle.bench_report.specs.declared.printed.Printed.TheVariants as printed
-use Rattle.bench_report.specs.Below.{facts, mishaps}
+use Rattle.bench_report.specs.Below.{facts, fault_state}
 use Rattle.bench_report.specs.Bench.{Medium, Blank, Unknown, Formatted, Bench}
 use Rattle.bench_report.specs.Steps.{says, starved, failed, begun, MayStand, Opens, PowersOn}
 use Rattle.bench_report.specs.Agree.{DiskIs, DeviceIs, Follows, OffIs}
@@ -33,8 +33,8 @@ opens size Formatted b disk z s was leaves formatted one =
     (record { changes = found.0; doubt = None }, (found.0, found.1, found.2, sym (one size was.0), refl), (refl, found.2, sym (one size was.0), refl))
 
 -- an open that was refused, of a board that is off
-module _ (kept : KeptLaw) (blank : BlankLaw) (size : Size) (mode : BootMode) (b : Bench) (old new : SimDisk) (a : Answer) (e : Refusal) (off : b.power ≡ None) (device : DeviceIs size b (mishaps old) (facts old))
-    (refusal : OpenRefused (facts old) e (facts new)) (cause : CausedRefusal (mishaps old) e (mishaps new)) (no_fewer : (facts old).failures ≤ (facts new).failures)
+module _ (kept : KeptLaw) (blank : BlankLaw) (size : Size) (mode : BootMode) (b : Bench) (old new : SimDisk) (a : Answer) (e : Refusal) (off : b.power ≡ None) (device : DeviceIs size b (fault_state old) (facts old))
+    (refusal : OpenRefused (facts old) e (facts new)) (cause : CausedRefusal (fault_state old) e (fault_state new)) (no_fewer : (facts old).failures ≤ (facts new).failures)
     (fits : SameLength (facts old) (facts new)) (left : LeavesLess old new) (h : a ≡ says (printed.OnRefused (number_of e))) where
   abbrev Stays : Type 0
   Stays = (x : Bench) × PowersOn size mode b a x × OffIs size x new × (x.payloads ≡ b.payloads)
@@ -44,11 +44,11 @@ module _ (kept : KeptLaw) (blank : BlankLaw) (size : Size) (mode : BootMode) (b 
 
   hinders : DiskIs size b.medium b.kept (facts new) → e ≡ Device → Stays
   hinders disk is =
-      let x = hindered size b (mishaps old) (mishaps new) (facts old) (facts new) device (struck e (mishaps old) (mishaps new) cause is) (failed_open (facts old) e (facts new) refusal is) fits in
-      (failed (mishaps new) b, inr (inr (inr (refused Device is, x.0))), (off, disk, x.1), refl)
+      let x = hindered size b (fault_state old) (fault_state new) (facts old) (facts new) device (struck e (fault_state old) (fault_state new) cause is) (failed_open (facts old) e (facts new) refusal is) fits in
+      (failed (fault_state new) b, inr (inr (inr (refused Device is, x.0))), (off, disk, x.1), refl)
 
-  keeps : e ≢ Device → DeviceIs size b (mishaps new) (facts new)
-  keeps is = stays size b (mishaps old) (mishaps new) (facts old) (facts new) device (calm e (mishaps old) (mishaps new) cause (never_down (facts old) e (facts new) refusal) is) no_fewer fits
+  keeps : e ≢ Device → DeviceIs size b (fault_state new) (facts new)
+  keeps is = stays size b (fault_state old) (fault_state new) (facts old) (facts new) device (calm e (fault_state old) (fault_state new) cause (never_down (facts old) e (facts new) refusal) is) no_fewer fits
 
   starves : MayStand b.medium → DiskIs size b.medium b.kept (facts new) → e ≡ Memory → Stays
   starves stands disk is = (starved b, inr (inr (inl (stands, refused Memory is, refl))), (off, disk, keeps (λ d. (let no : ⊥ = cc in no))), refl)

@@ -31,7 +31,7 @@ CalmPower (Some life) = (life.doubt ≡ None) × (life.receipts ≤ 4096)
 
 -- the commands kept leave no image
 abbrev IsGood : Bench → Type 0
-IsGood b = CalmDisk b.medium b.kept.doubt × CalmPower b.power × (b.mishaps.struck ≡ false) × ((found_of b.kept.changes).image ≡ None)
+IsGood b = CalmDisk b.medium b.kept.doubt × CalmPower b.power × (b.fault_state.struck ≡ false) × ((found_of b.kept.changes).image ≡ None)
 
 -- what a line says, and the bench after it, are allowed, and leave the bench good
 abbrev Well : Bench → (Answer → Bench → Type 0) → Answer × Bench → Type 0

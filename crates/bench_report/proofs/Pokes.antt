@@ -11,7 +11,7 @@ use Rattle.bench_report.specs.declared.power.Power.{Power}
 use Rattle.bench_report.specs.declared.power.Power.TheVariants.{Off}
 use Rattle.bench_report.specs.declared.printed.Answer.{Answer}
 use Rattle.bench_report.specs.declared.printed.Printed.TheVariants as printed
-use Rattle.bench_report.specs.Below.{facts, mishaps}
+use Rattle.bench_report.specs.Below.{facts, fault_state}
 use Rattle.bench_report.specs.Bench.{Life, Bench}
 use Rattle.bench_report.specs.Steps.{says, unknown, PokeStep}
 use Rattle.bench_report.specs.Agree.{DeviceIs, OffIs, Agrees, Matches, Goes}
@@ -19,18 +19,18 @@ use Rattle.bench_report.proofs.Devices.{stays}
 use Rattle.bench_report.proofs.Ended.{left_on}
 use Rattle.bench_report.proofs.KeptDisks.{GoesOn}
 
-device : (size : Size) (b : Bench) (old new : SimDisk) → DeviceIs size b (mishaps old) (facts old) → NoCall (facts old) (facts new) (mishaps old) (mishaps new) → SameLength (facts old) (facts new)
-    → DeviceIs size b (mishaps new) (facts new)
-device size b old new was same long = stays size b (mishaps old) (mishaps new) (facts old) (facts new) was same.cause (omega (arith, same.failures)) long
+device : (size : Size) (b : Bench) (old new : SimDisk) → DeviceIs size b (fault_state old) (facts old) → NoCall (facts old) (facts new) (fault_state old) (fault_state new) → SameLength (facts old) (facts new)
+    → DeviceIs size b (fault_state new) (facts new)
+device size b old new was same long = stays size b (fault_state old) (fault_state new) (facts old) (facts new) was same.cause (omega (arith, same.failures)) long
 
-pub poked_off : (size : Size) (b : Bench) (old new : SimDisk) (a : Answer) → OffIs size b old → NoCall (facts old) (facts new) (mishaps old) (mishaps new) → SameLength (facts old) (facts new)
+pub poked_off : (size : Size) (b : Bench) (old new : SimDisk) (a : Answer) → OffIs size b old → NoCall (facts old) (facts new) (fault_state old) (fault_state new) → SameLength (facts old) (facts new)
     → a ≡ says printed.Poked → Goes size b (Off new) (PokeStep b.power b a)
 poked_off size b old new a was same long e =
     let P : Option Life → Type 0 = λ p. PokeStep p b a (unknown b) in
     (unknown b, subst P (sym was.0) (e, refl), (was.0, tt, device size b old new was.2 same long), refl)
 
 -- a poke that was refused memory
-pub not_poked : GoesOn → (size : Size) (b : Bench) (old new : SimDisk) → OffIs size b old → NoCall (facts old) (facts new) (mishaps old) (mishaps new) → SameLength (facts old) (facts new)
+pub not_poked : GoesOn → (size : Size) (b : Bench) (old new : SimDisk) → OffIs size b old → NoCall (facts old) (facts new) (fault_state old) (fault_state new) → SameLength (facts old) (facts new)
     → Unchanged (facts old) (facts new) → OffIs size b new
 not_poked goes_on size b old new was same long still =
     (was.0, left_on goes_on size b.medium b.kept old new was.1 (λ c l. (still.now c).0 l), device size b old new was.2 same long)

@@ -205,13 +205,13 @@ moves turns call csr size line b a z new last calm (inl x) (inr (would, mid, y, 
     apart : Agree a would new mid → Agree a z new last
     apart (inl s) = inl s
     apart (inr (inl s)) = inr (inl (spoilt_as last (unpowered mid) is s))
-    apart (inr (inr h)) = true_false mid.mishaps.struck new.mishaps.struck (ap (λ (b : Bench). b.mishaps.struck) (sym h.1)) struck x.1
+    apart (inr (inr h)) = true_false mid.fault_state.struck new.fault_state.struck (ap (λ (b : Bench). b.fault_state.struck) (sym h.1)) struck x.1
 moves turns call csr size line b a z new last calm (inr (would, mid, x, struck, e, is)) (inl y) = apart (steps turns call csr size line b would z mid last calm x y.0)
   where
     apart : Agree would z mid last → Agree a z new last
     apart (inl s) = inl (spoilt_as new (unpowered mid) is s)
     apart (inr (inl s)) = inr (inl s)
-    apart (inr (inr h)) = true_false mid.mishaps.struck last.mishaps.struck (ap (λ (b : Bench). b.mishaps.struck) h.1) struck y.1
+    apart (inr (inr h)) = true_false mid.fault_state.struck last.fault_state.struck (ap (λ (b : Bench). b.fault_state.struck) h.1) struck y.1
 moves turns call csr size line b a z new last calm (inr (would, mid, x, struck, e, is)) (inr (would2, mid2, y, struck2, e2, is2)) = apart (steps turns call csr size line b would would2 mid mid2 calm x y)
   where
     apart : Agree would would2 mid mid2 → Agree a z new last

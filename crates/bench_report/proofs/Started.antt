@@ -23,7 +23,7 @@ use Rattle.board.specs.Unbooted.{doubt_after, LeavesLife, CountsRefusal}
 use Rattle.bench_report.specs.declared.printed.Answer.{Answer}
 use Rattle.bench_report.specs.declared.printed.Printed.{Printed}
 use Rattle.bench_report.specs.declared.printed.Printed.TheVariants as printed
-use Rattle.bench_report.specs.Below.{Store, Board, store_in, machine_in, facts, mishaps, store_size, store_facts, store_mishaps, IsLife, IsAs}
+use Rattle.bench_report.specs.Below.{Store, Board, store_in, machine_in, facts, fault_state, store_size, store_facts, store_fault_state, IsLife, IsAs}
 use Rattle.bench_report.specs.Bench.{Medium, Blank, Unknown, Formatted, Life, Bench}
 use Rattle.bench_report.specs.Steps.{says, starved, failed, off, on_with, has_machine, begun, acknowledged, in_doubt, commands_of, Writes, Issued, IssuesAll, ShowsFound, Opens, Starts, Begins, Boots, PowersOn}
 use Rattle.bench_report.specs.Agree.{AreShort, DiskIs, DeviceIs, Follows, OffIs, OnIs}
@@ -73,7 +73,7 @@ abbrev BoardOn : Size → BootMode → Size → State → Bench → Printed → 
 BoardOn size mode z s b line board = (x : Bench) × Begins mode z s b line x × OnIs size x board × (x.payloads ≡ b.payloads)
 
 module _ (size : Size) (b : Bench) (s : State) (board : Board) (line : Printed) (follows : Follows size b.medium b.kept (begun s (store_size (store_in board))) (store_size (store_in board)))
-    (device : DeviceIs size b (store_mishaps (store_in board)) (store_facts (store_in board))) where
+    (device : DeviceIs size b (store_fault_state (store_in board)) (store_facts (store_in board))) where
   abbrev z : Size
   z = store_size (store_in board)
 
@@ -116,29 +116,29 @@ module _ (size : Size) (b : Bench) (s : State) (board : Board) (line : Printed) 
   on_begun modes.Resume begins life allowed h = let did = by_one modes.Resume Consume refl allowed begins life h in (did.0, inl did.1, did.2, did.3)
 
 pub power_ok : KeptLaw → BlankLaw → (size : Size) (mode : BootMode) (b : Bench) (payloads : List (List ℕ)) (old : SimDisk) (board : Board) (a : Answer) → OffIs size b old → payloads ≡ b.payloads
-    → IsOn mode payloads (facts old) (view_of (store_in board)) (machine_in board) → KeepsDisk (facts old) (mishaps old) (store_facts (store_in board)) (store_mishaps (store_in board))
+    → IsOn mode payloads (facts old) (view_of (store_in board)) (machine_in board) → KeepsDisk (facts old) (fault_state old) (store_facts (store_in board)) (store_fault_state (store_in board))
     → ShowsFound a.found (life_of (store_in board)).found → a.line ≡ printed.On mode → (x : Bench) × PowersOn size mode b a x × OnIs size x board × (x.payloads ≡ b.payloads)
 power_ok kept blank size mode b payloads old board a off same on keeps shows h =
     let z = store_size (store_in board) in
     let s : State = (life_of (store_in board)).found in
     let m = opened kept blank size b old z s off on.found in
     let c : Bench = record b { kept = m.0 } in
-    let device = stays size c (mishaps old) (store_mishaps (store_in board)) (facts old) (store_facts (store_in board)) off.2 keeps.cause (omega (arith, keeps.no_failure)) keeps.length in
+    let device = stays size c (fault_state old) (store_fault_state (store_in board)) (facts old) (store_facts (store_in board)) off.2 keeps.cause (omega (arith, keeps.no_failure)) keeps.length in
     let Q : List (List ℕ) → Type 0 = λ ps. IsBegun mode z ps s (machine_in board) in
     let did = on_begun size c s board a.line m.2 device mode (subst Q same on.begun) on.life on.allowed h in
     let P : Option ℕ → Type 0 = λ o. Boots o mode z s c a.line did.0 in
     (did.0, inl (s, z, c, m.1, shows, subst P (sym on.allowed) (inl did.1)), did.2, did.3)
 
 -- ---- the board is off, after an open that left this bench
-module _ (size : Size) (b : Bench) (old new : SimDisk) (z : Size) (s : State) (payloads : List (List ℕ)) (line : Printed) (none : b.power ≡ None) (device : DeviceIs size b (mishaps old) (facts old))
+module _ (size : Size) (b : Bench) (old new : SimDisk) (z : Size) (s : State) (payloads : List (List ℕ)) (line : Printed) (none : b.power ≡ None) (device : DeviceIs size b (fault_state old) (facts old))
     (follows : Follows size b.medium b.kept (begun s z) z) (fits : Fits z payloads) (no_fewer : (facts old).failures ≤ (facts new).failures) (long : SameLength (facts old) (facts new)) where
   abbrev Left : Option ℕ → BootMode → Type 0
   Left o mode = (x : Bench) × Boots o mode z s b line x × OffIs size x new × (x.payloads ≡ b.payloads)
 
-  quiet : (mode : BootMode) (e : Refusal) → e ≢ Down → e ≢ Device → CausedRefusal (mishaps old) e (mishaps new) → LeavesLife (doubt_after mode e) (facts new) z s → OffIs size b new
+  quiet : (mode : BootMode) (e : Refusal) → e ≢ Down → e ≢ Device → CausedRefusal (fault_state old) e (fault_state new) → LeavesLife (doubt_after mode e) (facts new) z s → OffIs size b new
   quiet mode e up is cause left =
       let P : Option Change → Type 0 = λ d. LeavesLife d (facts new) z s in
-      (none, kept_only size z b.medium b.kept s (facts new) follows (subst P (no_doubt mode e up) left), stays size b (mishaps old) (mishaps new) (facts old) (facts new) device (calm e (mishaps old) (mishaps new) cause up is) no_fewer long)
+      (none, kept_only size z b.medium b.kept s (facts new) follows (subst P (no_doubt mode e up) left), stays size b (fault_state old) (fault_state new) (facts old) (facts new) device (calm e (fault_state old) (fault_state new) cause up is) no_fewer long)
 
   -- by a mode with that command, which the disk refused
   refuses_it : (mode : BootMode) (c : Change) (o : ℕ) (mid : Bench) → commands_of mode ≡ c ∷ [] → refusal_of s c ≡ None → Writes None c (begun s z) (on_with (begun s z) b) (Err o) mid → line ≡ printed.OnRefused o
@@ -155,38 +155,38 @@ module _ (size : Size) (b : Bench) (old new : SimDisk) (z : Size) (s : State) (p
   StartsOff mode = (x : Bench) × Starts mode z s b line x × OffIs size x new × (x.payloads ≡ b.payloads)
 
   -- the disk failed before the command could take effect
-  failed_at : (mode : BootMode) (c : Change) → commands_of mode ≡ c ∷ [] → refusal_of s c ≡ None → line ≡ printed.OnRefused 5 → LeavesOnly (facts new) z s → CausedRefusal (mishaps old) Device (mishaps new)
+  failed_at : (mode : BootMode) (c : Change) → commands_of mode ≡ c ∷ [] → refusal_of s c ≡ None → line ≡ printed.OnRefused 5 → LeavesOnly (facts new) z s → CausedRefusal (fault_state old) Device (fault_state new)
       → CountsRefusal (facts old).failures Device (facts new).failures → StartsOff mode
   failed_at mode c only allowed h left cause counts =
       let first : Bench = on_with (begun s z) b in
-      let did = hindered size first (mishaps old) (mishaps new) (facts old) (facts new) device cause counts long in
-      let mid = failed (mishaps new) first in
+      let did = hindered size first (fault_state old) (fault_state new) (facts old) (facts new) device cause counts long in
+      let mid = failed (fault_state new) first in
       (off mid, refuses_it mode c 5 mid only allowed (inr (inl (refl, did.0))) h, (refl, kept_only size z b.medium b.kept s (facts new) follows left, did.1), refl)
 
   -- it failed where the command may have taken effect
-  doubted_at : (mode : BootMode) (c : Change) → commands_of mode ≡ c ∷ [] → refusal_of s c ≡ None → line ≡ printed.OnRefused 6 → LeavesEither (facts new) z s (after s c) → CausedRefusal (mishaps old) Down (mishaps new)
+  doubted_at : (mode : BootMode) (c : Change) → commands_of mode ≡ c ∷ [] → refusal_of s c ≡ None → line ≡ printed.OnRefused 6 → LeavesEither (facts new) z s (after s c) → CausedRefusal (fault_state old) Down (fault_state new)
       → CountsRefusal (facts old).failures Down (facts new).failures → StartsOff mode
   doubted_at mode c only allowed h left cause counts =
       let d : Bench = in_doubt c (begun s z) (on_with (begun s z) b) in
-      let did = hindered size d (mishaps old) (mishaps new) (facts old) (facts new) device cause counts long in
-      let mid = failed (mishaps new) d in
+      let did = hindered size d (fault_state old) (fault_state new) (facts old) (facts new) device cause counts long in
+      let mid = failed (fault_state new) d in
       (off mid, refuses_it mode c 6 mid only allowed (inr (inr (refl, did.0))) h, (refl, kept_either size z b.medium b.kept s c (facts new) follows allowed left, did.1), refl)
 
-  late_device : (mode : BootMode) → boot_refusal s mode ≡ None → line ≡ printed.OnRefused 5 → Issues mode → LeavesOnly (facts new) z s → CausedRefusal (mishaps old) Device (mishaps new)
+  late_device : (mode : BootMode) → boot_refusal s mode ≡ None → line ≡ printed.OnRefused 5 → Issues mode → LeavesOnly (facts new) z s → CausedRefusal (fault_state old) Device (fault_state new)
       → CountsRefusal (facts old).failures Device (facts new).failures → Left None mode
   late_device modes.Fresh allowed h issues left cause counts = absurd (let no : ⊥ = cc in no)
   late_device modes.Keep allowed h issues left cause counts = absurd (let no : ⊥ = cc in no)
   late_device modes.Discard allowed h issues left cause counts = let did = failed_at modes.Discard Discard refl allowed h left cause counts in (did.0, inl did.1, did.2, did.3)
   late_device modes.Resume allowed h issues left cause counts = let did = failed_at modes.Resume Consume refl allowed h left cause counts in (did.0, inl (inl did.1), did.2, did.3)
 
-  late_down : (mode : BootMode) → boot_refusal s mode ≡ None → line ≡ printed.OnRefused 6 → Issues mode → LeavesLife (doubt_after mode Down) (facts new) z s → CausedRefusal (mishaps old) Down (mishaps new)
+  late_down : (mode : BootMode) → boot_refusal s mode ≡ None → line ≡ printed.OnRefused 6 → Issues mode → LeavesLife (doubt_after mode Down) (facts new) z s → CausedRefusal (fault_state old) Down (fault_state new)
       → CountsRefusal (facts old).failures Down (facts new).failures → Left None mode
   late_down modes.Fresh allowed h issues left cause counts = absurd (let no : ⊥ = cc in no)
   late_down modes.Keep allowed h issues left cause counts = absurd (let no : ⊥ = cc in no)
   late_down modes.Discard allowed h issues left cause counts = let did = doubted_at modes.Discard Discard refl allowed h left cause counts in (did.0, inl did.1, did.2, did.3)
   late_down modes.Resume allowed h issues left cause counts = let did = doubted_at modes.Resume Consume refl allowed h left cause counts in (did.0, inl (inl did.1), did.2, did.3)
 
-  late : (mode : BootMode) (e : Refusal) → boot_refusal s mode ≡ None → line ≡ printed.OnRefused (number_of e) → IsLateRefusal mode z payloads s e → LeavesLife (doubt_after mode e) (facts new) z s → CausedRefusal (mishaps old) e (mishaps new)
+  late : (mode : BootMode) (e : Refusal) → boot_refusal s mode ≡ None → line ≡ printed.OnRefused (number_of e) → IsLateRefusal mode z payloads s e → LeavesLife (doubt_after mode e) (facts new) z s → CausedRefusal (fault_state old) e (fault_state new)
       → CountsRefusal (facts old).failures e (facts new).failures → Left None mode
   late mode BadShape allowed h why left cause counts = absurd (why fits)
   late mode Memory allowed h why left cause counts = (starved b, inr (h, refl), quiet mode Memory (λ f. (let no : ⊥ = cc in no)) (λ f. (let no : ⊥ = cc in no)) cause left, refl)
@@ -198,7 +198,7 @@ module _ (size : Size) (b : Bench) (old new : SimDisk) (z : Size) (s : State) (p
   late mode e allowed h why left cause counts = absurd why
 
   refused : (mode : BootMode) (o : Option ℕ) (e : Refusal) → boot_refusal s mode ≡ o → line ≡ printed.OnRefused (number_of e) → IsBootRefusal o mode z payloads s e → LeavesLife (doubt_after mode e) (facts new) z s
-      → CausedRefusal (mishaps old) e (mishaps new) → CountsRefusal (facts old).failures e (facts new).failures → Left o mode
+      → CausedRefusal (fault_state old) e (fault_state new) → CountsRefusal (facts old).failures e (facts new).failures → Left o mode
   refused mode None e at h why left cause counts = late mode e at h why left cause counts
   refused mode (Some n) e at h why left cause counts =
       (b, (h ∙ ap (λ k. printed.OnRefused k) why, refl), quiet mode e (mode_not_down s mode n e at why) (mode_not_device s mode n e at why) cause left, refl)
@@ -209,7 +209,7 @@ Unpowered size mode b a new = (x : Bench) × PowersOn size mode b a x × OffIs s
 
 -- the board stays off, whether the open found a state or not
 pub unpowered : KeptLaw → BlankLaw → (size : Size) (mode : BootMode) (b : Bench) (old new : SimDisk) (payloads : List (List ℕ)) (e : Refusal) (n : ℕ) (o : Option Durable) → OffIs size b old → AreShort payloads → n ≡ number_of e
-    → IsUnpowered mode payloads o (facts old) e (facts new) → GivesDisk (facts old) (mishaps old) e (facts new) (mishaps new) → Unpowered size mode b (record { found = o; line = printed.OnRefused n }) new
+    → IsUnpowered mode payloads o (facts old) e (facts new) → GivesDisk (facts old) (fault_state old) e (facts new) (fault_state new) → Unpowered size mode b (record { found = o; line = printed.OnRefused n }) new
 unpowered kept blank size mode b old new payloads e n None off short code is gives =
     open_err kept blank size mode b old new (says (printed.OnRefused n)) e off.0 off.2 is.why gives.cause gives.no_fewer gives.length is.any_moment.now (ap (λ k. says (printed.OnRefused k)) code) off.1
 unpowered kept blank size mode b old new payloads e n (Some d) off short code is gives =

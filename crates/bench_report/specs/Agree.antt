@@ -23,7 +23,7 @@ use Rattle.machine.specs.declared.parts.Word.{Word}
 use Rattle.machine.specs.declared.parts.Word.TheVariants as words
 use Rattle.bench_report.specs.declared.power.Power.{Power}
 use Rattle.bench_report.specs.declared.power.Power.TheVariants.{Off, On}
-use Rattle.bench_report.specs.Below.{Store, Board, store_in, machine_in, facts, arms, store_arms, record_of, mishaps, store_facts, store_mishaps, store_size, store_now, store_doubt, IsAs}
+use Rattle.bench_report.specs.Below.{Store, Board, store_in, machine_in, facts, arms, store_arms, record_of, fault_state, store_facts, store_fault_state, store_size, store_now, store_doubt, IsAs}
 use Rattle.bench_report.specs.Bench.{Medium, Blank, Unknown, Formatted, Life, Bench}
 use Rattle.bench_report.specs.Steps.{Step}
 use Rattle.bench_report.specs.declared.printed.Answer.{Answer}
@@ -49,15 +49,15 @@ abbrev pub BoardIs : Size → Medium → Kept → Option Life → Board → Type
 BoardIs size medium kept None board = ⊥
 BoardIs size medium kept (Some life) board = StoreIs size medium kept life (store_in board) × (machine_in board ≡ life.machine)
 
--- the device below has the bench's mishaps, counted each failure that was answered, and is of exactly the size needed
+-- the device below has the bench's fault state, counted each failure that was answered, and is of exactly the size needed
 abbrev pub DeviceIs : Size → Bench → Mishaps → Facts → Type 0
-DeviceIs size b m disk = (b.mishaps ≡ m) × (b.failures ≤ disk.failures) × (length disk.content ≡ sectors_of size)
+DeviceIs size b m disk = (b.fault_state ≡ m) × (b.failures ≤ disk.failures) × (length disk.content ≡ sectors_of size)
 
 abbrev pub OffIs : Size → Bench → SimDisk → Type 0
-OffIs size b disk = (b.power ≡ None) × DiskIs size b.medium b.kept (facts disk) × DeviceIs size b (mishaps disk) (facts disk)
+OffIs size b disk = (b.power ≡ None) × DiskIs size b.medium b.kept (facts disk) × DeviceIs size b (fault_state disk) (facts disk)
 
 abbrev pub OnIs : Size → Bench → Board → Type 0
-OnIs size b board = BoardIs size b.medium b.kept b.power board × DeviceIs size b (store_mishaps (store_in board)) (store_facts (store_in board))
+OnIs size b board = BoardIs size b.medium b.kept b.power board × DeviceIs size b (store_fault_state (store_in board)) (store_facts (store_in board))
 
 -- the store of a life that its own command ended, over a disk that keeps that command
 abbrev pub IsOver : Size → Medium → Kept → Store → Type 0
@@ -66,7 +66,7 @@ IsOver size Unknown kept store = ⊤
 IsOver size Formatted kept store = (kept.doubt ≡ None) × (store_now store ≡ found_of kept.changes) × (store_size store ≡ size) × (store_doubt store ≡ None)
 
 abbrev pub OverIs : Size → Bench → Board → Type 0
-OverIs size b board = (b.power ≡ None) × IsOver size b.medium b.kept (store_in board) × DeviceIs size b (store_mishaps (store_in board)) (store_facts (store_in board))
+OverIs size b board = (b.power ≡ None) × IsOver size b.medium b.kept (store_in board) × DeviceIs size b (store_fault_state (store_in board)) (store_facts (store_in board))
 
 -- a board after what is said of a turn or a call
 abbrev pub StandsBy : Size → Word → Bench → Board → Type 0
@@ -84,7 +84,7 @@ Matches size b power payloads = Agrees size b power × (payloads ≡ b.payloads)
 
 -- and between two lines, where no cut that struck is untold
 abbrev pub IsBench : Size → Bench → Power → List (List ℕ) → Type 0
-IsBench size b power payloads = Agrees size b power × (payloads ≡ b.payloads) × (b.mishaps.struck ≡ false)
+IsBench size b power payloads = Agrees size b power × (payloads ≡ b.payloads) × (b.fault_state.struck ≡ false)
 
 -- what a cut leaves of what was written since the last sync, by a script's fill
 abbrev pub choice_by : Fill → Choice
@@ -136,13 +136,13 @@ fill_after line fill = fill
 -- answered and left.
 abbrev pub EndsBy : Size → Line → Fill → Bench → Answer → Power → Type 0
 EndsBy size line fill b answer left =
-    ((new : Bench) × Step size line b answer new × (new.mishaps.struck ≡ false))
-    ⊎ ((would : Answer) × (mid : Bench) × (after : Power) × (disk : SimDisk) × Step size line b would mid × (mid.mishaps.struck ≡ true) × Agrees size mid after × HasDisk after disk × IsCutBy fill disk left)
+    ((new : Bench) × Step size line b answer new × (new.fault_state.struck ≡ false))
+    ⊎ ((would : Answer) × (mid : Bench) × (after : Power) × (disk : SimDisk) × Step size line b would mid × (mid.fault_state.struck ≡ true) × Agrees size mid after × HasDisk after disk × IsCutBy fill disk left)
 
 -- no armed cut has struck the disk of a board that is on
 abbrev pub IsUnstruck : Power → Type 0
 IsUnstruck (Off disk) = ⊤
-IsUnstruck (On board) = (store_mishaps (store_in board)).struck ≡ false
+IsUnstruck (On board) = (store_fault_state (store_in board)).struck ≡ false
 
 -- nothing of a disk that no store holds is lent
 abbrev pub IsResting : Power → Type 0

@@ -37,8 +37,8 @@ machine_in board = words.machine_of board
 abbrev pub facts : SimDisk → Facts
 facts disk = sim_disk.ghosts.facts disk
 
-abbrev pub mishaps : SimDisk → Mishaps
-mishaps disk = sim_disk.ghosts.mishaps disk
+abbrev pub fault_state : SimDisk → Mishaps
+fault_state disk = sim_disk.ghosts.fault_state disk
 
 -- that fault is armed on it, and each call of it is still to come
 abbrev pub arms : SimDisk → ArmedFault → Type 0
@@ -52,8 +52,8 @@ record_of disk = sim_record.ghosts.record disk
 abbrev pub store_facts : Store → Facts
 store_facts store = stores.disk_of store
 
-abbrev pub store_mishaps : Store → Mishaps
-store_mishaps store = stores.mishaps_of store
+abbrev pub store_fault_state : Store → Mishaps
+store_fault_state store = stores.fault_state_of store
 
 abbrev pub store_arms : Store → ArmedFault → Type 0
 store_arms store fault = stores.arms_of store fault

@@ -22,7 +22,7 @@ pub record Life : Type 0 where
 
 -- The disk and, once it was formatted, the commands that it keeps; the board where it is on; what the slots boot; how
 -- often a power-on was refused memory (11), how often a failure of the disk was answered (each 5, and each 6 that begins
--- a doubt), and the mishaps of the disk: what is armed, whether an armed cut has struck, and how often it failed by itself.
+-- a doubt), and the fault state of the disk: what is armed, whether an armed cut has struck, and how often it failed by itself.
 pub record Bench : Type 0 where
   pub medium : Medium
   pub kept : Kept
@@ -30,7 +30,7 @@ pub record Bench : Type 0 where
   pub payloads : List (List ℕ)
   pub growths : ℕ
   pub failures : ℕ
-  pub mishaps : Mishaps
+  pub fault_state : Mishaps
 
 -- memory was never refused, and no failure of the disk was answered; so no armed cut has struck
 abbrev pub IsUnspoilt : Bench → Type 0
@@ -41,4 +41,4 @@ no_payloads = [] ∷ [] ∷ [] ∷ [] ∷ []
 
 -- the bench after the board line
 abbrev pub blank_bench : Bench
-blank_bench = record { medium = Blank; kept = nothing_kept; power = None; payloads = no_payloads; growths = 0; failures = 0; mishaps = no_mishap }
+blank_bench = record { medium = Blank; kept = nothing_kept; power = None; payloads = no_payloads; growths = 0; failures = 0; fault_state = no_mishap }

@@ -1,5 +1,5 @@
 -- In reading order.
--- The bench as a model: disk, board, payloads, mishaps.
+-- The bench as a model: disk, board, payloads, fault state.
 pub mod Bench
 -- What each line of a script may answer, and the bench after it; whole runs.
 pub mod Steps

@@ -7,7 +7,7 @@ use Rattle.board_model.specs.Shapes.{Size}
 use Rattle.board_model.specs.Shown.{durable_of}
 use Rattle.board_model.specs.declared.durable.Durable.{Durable}
 use Rattle.disk.specs.Facts.{counted}
-use Rattle.disk.specs.Mishaps.{Armed, FaultArmed, CutArmed, Mishaps, Cause, mishaps_left}
+use Rattle.disk.specs.Mishaps.{Armed, FaultArmed, CutArmed, Mishaps, Cause, fault_state_left}
 use Rattle.board_model.specs.declared.boot_mode.BootMode.{BootMode}
 use Rattle.board_model.specs.declared.boot_mode.BootMode.TheVariants as modes
 use Rattle.board.specs.Boots.{boot_refusal}
@@ -66,11 +66,11 @@ starved b = record b { growths = b.growths + 1 }
 
 -- a failure of the disk was answered, after which its fault state is this
 abbrev pub failed : Mishaps → Bench → Bench
-failed m b = record b { failures = counted b.failures 1; mishaps = m }
+failed m b = record b { failures = counted b.failures 1; fault_state = m }
 
 -- a call of the disk failed, for one of the causes that a disk has
 abbrev pub IsHindered : Bench → Bench → Type 0
-IsHindered b new = (m : Mishaps) × Cause b.mishaps m × (new ≡ failed m b)
+IsHindered b new = (m : Mishaps) × Cause b.fault_state m × (new ≡ failed m b)
 
 abbrev pub off : Bench → Bench
 off b = record b { power = None }
@@ -80,11 +80,11 @@ on_with life b = record b { power = Some life }
 
 -- power was cut
 abbrev pub unpowered : Bench → Bench
-unpowered b = record b { power = None; mishaps = mishaps_left b.mishaps }
+unpowered b = record b { power = None; fault_state = fault_state_left b.fault_state }
 
 -- a cut or a failure is armed, in the place of an older one
 abbrev pub armed_with : Armed → Bench → Bench
-armed_with armed b = record b { mishaps = record b.mishaps { armed = armed } }
+armed_with armed b = record b { fault_state = record b.fault_state { armed = armed } }
 
 -- nothing is known of the disk any more
 abbrev pub unknown : Bench → Bench
@@ -199,7 +199,7 @@ GuestTurn h life b word new = (m : Machine) × (did : Turned) × Turns h life.ma
 
 -- the turn is the last of its line, with so many that might follow: it ends the line, none is left, or a cut struck in it
 abbrev pub IsLastTurn : Word → ℕ → Bench → Type 0
-IsLastTurn word left new = (ends word ≡ true) ⊎ (left ≡ 0) ⊎ (new.mishaps.struck ≡ true)
+IsLastTurn word left new = (ends word ≡ true) ⊎ (left ≡ 0) ⊎ (new.fault_state.struck ≡ true)
 
 -- at most n turns of a hart, of which so many were made, and the word of the last
 abbrev pub GuestTurns : ℕ → ℕ → Bench → ℕ → Word → Bench → Type 0
@@ -207,7 +207,7 @@ GuestTurns h zero b made word new = ⊥
 GuestTurns h (suc n) b made word new =
     (life : Life) × (b.power ≡ Some life) × (said : Word) × (mid : Bench) × GuestTurn h life b said mid
     × ((IsLastTurn said n mid × (made ≡ 1) × (word ≡ said) × (new ≡ mid))
-    ⊎ ((ends said ≡ false) × (mid.mishaps.struck ≡ false) × (rest : ℕ) × (made ≡ suc rest) × GuestTurns h n mid rest word new))
+    ⊎ ((ends said ≡ false) × (mid.fault_state.struck ≡ false) × (rest : ℕ) × (made ≡ suc rest) × GuestTurns h n mid rest word new))
 
 -- ---- format
 
@@ -377,8 +377,8 @@ Step size (lines.Poke k n bytes) b answer new = PokeStep b.power b answer new
 -- the same, where an armed cut that struck within the line makes its whole report `power lost`
 abbrev pub Moves : Size → Line → Bench → Answer → Bench → Type 0
 Moves size line b answer new =
-    (Step size line b answer new × (new.mishaps.struck ≡ false))
-    ⊎ ((would : Answer) × (mid : Bench) × Step size line b would mid × (mid.mishaps.struck ≡ true) × (answer ≡ says printed.PowerLost) × (new ≡ unpowered mid))
+    (Step size line b answer new × (new.fault_state.struck ≡ false))
+    ⊎ ((would : Answer) × (mid : Bench) × Step size line b would mid × (mid.fault_state.struck ≡ true) × (answer ≡ says printed.PowerLost) × (new ≡ unpowered mid))
 
 -- lines that may answer so, one after another
 abbrev pub Run : Size → Bench → List Line → List Answer → Bench → Type 0

@@ -6,7 +6,7 @@ ghost use Rattle.board_model.specs.Shown.{change_of};
 ghost use Rattle.board.specs.Boots.{IsConsoleCommand};
 ghost use Rattle.script_lang.specs.Ranges.{IsInRange};
 ghost use Rattle.store.specs.Leaves.{IsIdle};
-ghost use Rattle.bench_report.specs.Below.{store_in, machine_in, facts, store_mishaps};
+ghost use Rattle.bench_report.specs.Below.{store_in, machine_in, facts, store_fault_state};
 ghost use Rattle.bench_report.specs.Bench.{Bench, Life};
 ghost use Rattle.bench_report.specs.Steps.{FormatsOn, PowersOn, FormatStep, OnStep, ConsoleStep, PayloadStep, TurnStep, CallStep, ReadStep, ArmStep, PokeStep, Step, Moves, off, unpowered, says, shows};
 ghost use Rattle.disk.specs.Mishaps.{armed_by};
@@ -157,7 +157,7 @@ fn newest_fill(line: &Line, fill: Fill) -> Fill
 
 /// Whether an armed cut has struck.
 fn struck(power: &Power) -> bool
-    ensures told { (size : Size) (b : Bench) → Agrees size b power.now → result ≡ b.mishaps.struck }
+    ensures told { (size : Size) (b : Bench) → Agrees size b power.now → result ≡ b.fault_state.struck }
     ensures calm { result ≡ false → IsUnstruck power.now }
 {
     match power {
@@ -252,7 +252,7 @@ fn turn<C: Crew>(
     count: u32,
 ) -> (Power, MachineLine)
     requires some { 0 < count }
-    requires calm { (store_mishaps (store_in board)).struck ≡ false }
+    requires calm { (store_fault_state (store_in board)).struck ≡ false }
     ensures told { (size : Size) (b : Bench) → OnIs size b board → Goes size b result.0 (TurnStep b.power hart count b (shows result.1)) }
     ensures resting { IsResting result.0 }
 {

@@ -3,7 +3,7 @@ use Rattle.std.proofs.Common.{◌≡◌, ℕ, zero, suc, ◌+◌, ◌-◌, ◌�
 use Rattle.disk.specs.declared.device.Disk.{Ghosts}
 use Rattle.disk.specs.declared.device.Lane.{Ghosts as Lanes}
 use Rattle.store.specs.declared.stores.Store.{Store}
-use Rattle.store.specs.Stores.{mishaps_of}
+use Rattle.store.specs.Stores.{fault_state_of}
 use Rattle.turns.specs.declared.words.Turned.{Turned}
 use Rattle.turns.specs.declared.words.Turned.TheVariants.{Idle, Entered, Woke, Next, Suspended, Stopped, Durable}
 use Rattle.machine.specs.Machine.{Machine}
@@ -24,7 +24,7 @@ within h (suc n) k m mid did p = elim p.3 [
 module _ {D L : Type 0} {g : Ghosts D L} {l : Lanes L} where
   -- no cut has struck
   abbrev pub IsCalm : Store D L g l → Type 0
-  IsCalm store = (mishaps_of store).struck ≡ false
+  IsCalm store = (fault_state_of store).struck ≡ false
 
   -- a turn after which the machine goes on asks nothing of the store, and does not end the line
   asks_nothing : (did : Turned) (n h : ℕ) (m : Machine) (s : Store D L g l) → (machines.IsLast did n → ⊥) → Comes did h m m s s (Own did) × (ends (Own did) ≡ false)

@@ -22,6 +22,6 @@ unmoved mode e old now opened quiet = record {
   opened = refl;
   length = refl;
   no_fewer = omega arith;
-  cause = quiet.no_cause old.mishaps;
+  cause = quiet.no_cause old.fault_state;
   counts = quiet.no_failure old.disk.failures;
 }

@@ -29,7 +29,7 @@ pub record IsIssued (mode : BootMode) (old new : StoreView) : Type 0 where
   pub opened : new.failures_at_open ≡ old.failures_at_open
   pub length : SameLength old.disk new.disk
   pub none_out : IsIdle new.disk
-  pub cause : new.mishaps ≡ old.mishaps
+  pub cause : new.fault_state ≡ old.fault_state
   pub no_failure : new.disk.failures ≡ old.disk.failures
 
 -- the store of a boot by the mode that was refused so
@@ -40,5 +40,5 @@ pub record IsUnissued (mode : BootMode) (old : StoreView) (e : Refusal) (new : S
   pub opened : new.failures_at_open ≡ old.failures_at_open
   pub length : SameLength old.disk new.disk
   pub no_fewer : old.disk.failures ≤ new.disk.failures
-  pub cause : CausedRefusal old.mishaps e new.mishaps
+  pub cause : CausedRefusal old.fault_state e new.fault_state
   pub counts : CountsRefusal old.disk.failures e new.disk.failures

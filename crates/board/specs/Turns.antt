@@ -4,7 +4,7 @@ use Rattle.std.specs.Prelude.{◌≡◌, ◌⊎◌, ℕ, zero, suc, true, false,
 use Rattle.disk.specs.declared.device.Disk.{Ghosts}
 use Rattle.disk.specs.declared.device.Lane.{Ghosts as Lanes}
 use Rattle.store.specs.declared.stores.Store.{Store}
-use Rattle.store.specs.Stores.{mishaps_of}
+use Rattle.store.specs.Stores.{fault_state_of}
 use Rattle.sbi.specs.declared.dispatches.Held.{Held}
 use Rattle.turns.specs.declared.words.Turned.{Turned}
 use Rattle.turns.specs.declared.words.Turned.TheVariants.{Durable}
@@ -30,14 +30,14 @@ module _ {D L : Type 0} {g : Ghosts D L} {l : Lanes L} where
 
   -- the turn is the last of a line, with so many that might follow: it ends the line, none is left, or a cut struck in it
   abbrev pub IsLast : Word → ℕ → Store D L g l → Type 0
-  IsLast word left store = (ends word ≡ true) ⊎ ((left ≡ 0) ⊎ ((mishaps_of store).struck ≡ true))
+  IsLast word left store = (ends word ≡ true) ⊎ ((left ≡ 0) ⊎ ((fault_state_of store).struck ≡ true))
 
   -- at most n turns of hart h in a line, of which so many were made, and the word of the last
   abbrev pub TurnsMany : ℕ → ℕ → Machine → Machine → Store D L g l → Store D L g l → ℕ → Word → Type 0
   TurnsMany h zero m n old new made word = ⊥
   TurnsMany h (suc count) m n old new made word = (mid : Machine) × (store : Store D L g l) × (first : Word) × Turns h m mid old store first
       × ((IsLast first count store × (n ≡ mid) × (new ≡ store) × (made ≡ 1) × (word ≡ first))
-      ⊎ ((ends first ≡ false) × ((mishaps_of store).struck ≡ false) × (rest : ℕ) × (made ≡ suc rest) × TurnsMany h count mid n store new rest word))
+      ⊎ ((ends first ≡ false) × ((fault_state_of store).struck ≡ false) × (rest : ℕ) × (made ≡ suc rest) × TurnsMany h count mid n store new rest word))
 
   -- what comes of a call that the machine made in the place of hart h, or did not
   abbrev pub ComesOf : Called → ℕ → Machine → Machine → Store D L g l → Store D L g l → Option Word → Type 0

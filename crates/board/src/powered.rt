@@ -60,7 +60,7 @@ impl<D: Disk + Drop> Board<D> {
     ghost use Rattle.store.specs.Opens.{ReadsAs, OpenRefused, CausedRefusal};
     ghost use Rattle.store.specs.Lives.{Applied};
     ghost use Rattle.store.specs.Views.{Answered, StaysOpen};
-    ghost use Rattle.store.specs.Stores.{disk_of, mishaps_of, arms_of, size_of_store, life_of, found_state, now_state, doubt_of, failures_at_open, view_of, Stands, Doubts};
+    ghost use Rattle.store.specs.Stores.{disk_of, fault_state_of, arms_of, size_of_store, life_of, found_state, now_state, doubt_of, failures_at_open, view_of, Stands, Doubts};
     ghost use Rattle.machine.specs.Machine.{hart_at};
     ghost use Rattle.machine.specs.Durables.{IsStarted};
     ghost use Rattle.turns.specs.declared.words.Turned.TheVariants as did;
@@ -96,8 +96,8 @@ impl<D: Disk + Drop> Board<D> {
         ensures refuses { (e : Refusal) → ReadsAs (D.facts disk).content e → MatchResult result (λ board. ⊥) (λ f. (f.found ≡ None) × ((f.refusal ≡ e) ⊎ (f.refusal ≡ Refusal.Device))) }
         ensures no_sectors { length (D.facts disk).content ≡ 0 → MatchResult result (λ board. ⊥) (λ f. (f.refusal ≡ Refusal.BadShape) × (f.found ≡ None) × (f.disk ≡ disk)) }
 
-        ensures keeps { MatchResult result (λ board. KeepsDisk (D.facts disk) (D.mishaps disk) (disk_of (store_of board)) (mishaps_of (store_of board)))
-            (λ e. GivesDisk (D.facts disk) (D.mishaps disk) e.refusal (D.facts e.disk) (D.mishaps e.disk)) }
+        ensures keeps { MatchResult result (λ board. KeepsDisk (D.facts disk) (D.fault_state disk) (disk_of (store_of board)) (fault_state_of (store_of board)))
+            (λ e. GivesDisk (D.facts disk) (D.fault_state disk) e.refusal (D.facts e.disk) (D.fault_state e.disk)) }
     {
         let mut store = match Store::open(alloc, disk) {
             Ok(store) => store,
@@ -135,7 +135,7 @@ impl<D: Disk + Drop> Board<D> {
         ensures life { life_of (store_of self.new) ≡ life_of (store_of self.old) }
         ensures board { size_of_store (store_of self.new) ≡ size_of_store (store_of self.old) }
         ensures facts { Unchanged (disk_of (store_of self.old)) (disk_of (store_of self.new)) }
-        ensures armed { mishaps_of (store_of self.new) ≡ record (mishaps_of (store_of self.old)) { armed = armed_by fault } }
+        ensures armed { fault_state_of (store_of self.new) ≡ record (fault_state_of (store_of self.old)) { armed = armed_by fault } }
         ensures arms { arms_of (store_of self.new) fault }
         ensures opened { failures_at_open (store_of self.new) ≡ failures_at_open (store_of self.old) }
     {
@@ -144,7 +144,7 @@ impl<D: Disk + Drop> Board<D> {
 
     /// Whether an armed cut has struck the disk.
     pub fn struck(&self) -> bool
-        ensures { result ≡ (mishaps_of (store_of self.now)).struck }
+        ensures { result ≡ (fault_state_of (store_of self.now)).struck }
     {
         self.store.struck()
     }
@@ -246,7 +246,7 @@ impl<D: Disk + Drop> Board<D> {
     ) -> (u32, Word)
         requires hart { hart < length (machine_of self.old).harts }
         requires some { 1 ≤ count }
-        requires calm { (mishaps_of (store_of self.old)).struck ≡ false }
+        requires calm { (fault_state_of (store_of self.old)).struck ≡ false }
         ensures turns { TurnsMany hart count (machine_of self.old) (machine_of self.new) (store_of self.old) (store_of self.new) result.0 result.1 }
         ensures harts { length (machine_of self.new).harts ≡ length (machine_of self.old).harts }
     {
@@ -318,7 +318,7 @@ impl<D: Disk + Drop> Board<D> {
         ensures facts { Unchanged (disk_of (store_of self)) (D.facts result) }
         ensures content { (D.facts result).content ≡ (disk_of (store_of self)).content }
         ensures failures { (D.facts result).failures ≡ (disk_of (store_of self)).failures }
-        ensures mishaps { D.mishaps result ≡ mishaps_of (store_of self) }
+        ensures fault_state { D.fault_state result ≡ fault_state_of (store_of self) }
     {
         let Board { store, machine: _ } = self;
         store.into_disk()

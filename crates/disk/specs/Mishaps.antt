@@ -41,8 +41,8 @@ pub record CausedInLanes (old new : Mishaps) (failures : ℕ) : Type 0 where
   pub some : 0 < failures → Cause old new
 
 -- power was cut: what was armed and has struck is gone, and the count of its own failures goes on
-abbrev pub mishaps_left : Mishaps → Mishaps
-mishaps_left m = record { armed = Unarmed; struck = false; own = m.own }
+abbrev pub fault_state_left : Mishaps → Mishaps
+fault_state_left m = record { armed = Unarmed; struck = false; own = m.own }
 
 abbrev pub no_mishap : Mishaps
 no_mishap = record { armed = Unarmed; struck = false; own = 0 }

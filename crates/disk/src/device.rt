@@ -72,7 +72,7 @@ pub trait Disk {
     ghost facts: { Self → Facts };
 
     /// What is armed, whether an armed cut has struck, and how often the disk failed by itself.
-    ghost mishaps: { Self → Mishaps };
+    ghost fault_state: { Self → Mishaps };
 
     /// That fault is armed, and each call of it is still to come. A disk may ignore what is armed.
     ghost arms: { Self → ArmedFault → Type 0 };
@@ -87,7 +87,7 @@ pub trait Disk {
         requires within { first + length sectors.old ≤ length (facts self.old).content }
         requires apart { Apart first (length sectors.old) (facts self.old).lent }
         ensures found { OnOk result (Found first (facts self.old).content sectors.new) }
-        ensures called { Called 1 Stays (facts self.old) (facts self.new) (mishaps self.old) (mishaps self.new) result };
+        ensures called { Called 1 Stays (facts self.old) (facts self.new) (fault_state self.old) (fault_state self.new) result };
 
     /// Writes these sectors from that one on. Until a sync succeeds, a crash may leave any bytes in
     /// the range, at `Err` as at `Ok`. At `Err` the range reads as any bytes until it is written
@@ -96,14 +96,14 @@ pub trait Disk {
         requires within { first + length sectors.now ≤ length (facts self.old).content }
         requires apart { Apart first (length sectors.now) (facts self.old).lent }
         ensures written { OnOk result (Written first sectors.now (facts self.old).content (facts self.new).content) }
-        ensures called { Called 1 (Torn first (length sectors.now)) (facts self.old) (facts self.new) (mishaps self.old) (mishaps self.new) result };
+        ensures called { Called 1 (Torn first (length sectors.now)) (facts self.old) (facts self.new) (fault_state self.old) (fault_state self.new) result };
 
     /// Makes durable what a read gives: at `Ok` a crash leaves that and nothing else, but for
     /// sectors that are lent. At `Err` it has made nothing durable.
     fn sync(&mut self) -> Result<(), Fault>
         ensures durable { OnOk result ((facts self.old).lent.lanes ≡ 0 → Only (facts self.new).content (facts self.new).may_leave) }
         ensures but_lent { OnOk result ((c : Content) → (facts self.new).may_leave c → Torn (facts self.old).lent.first (lent_sectors (facts self.old).lent) (facts self.new).content c) }
-        ensures called { Called 1 Stays (facts self.old) (facts self.new) (mishaps self.old) (mishaps self.new) result };
+        ensures called { Called 1 Stays (facts self.old) (facts self.new) (fault_state self.old) (fault_state self.new) result };
 
     /// Lends so many lanes, at most 4, of so many sectors each, in a row from the first. From now
     /// until a sync after the join succeeds, a crash may leave any bytes in them. At `Err` memory
@@ -123,7 +123,7 @@ pub trait Disk {
         ensures content { (facts self.new).content ≡ (facts self.old).content }
         ensures crash { Passes (facts self.old) (facts self.new) (Torn first (lanes * each)) }
         ensures crash_refused { OnErr result (Passes (facts self.old) (facts self.new) Stays) }
-        ensures no_call { NoCall (facts self.old) (facts self.new) (mishaps self.old) (mishaps self.new) };
+        ensures no_call { NoCall (facts self.old) (facts self.new) (fault_state self.old) (fault_state self.new) };
 
     /// Takes back all lanes that are lent, in their order, with what they hold and their failures.
     fn join(&mut self, lanes: Vec<Self::Lane>)
@@ -133,7 +133,7 @@ pub trait Disk {
         ensures crash { Passes (facts self.old) (facts self.new) Stays }
         ensures failures { (facts self.new).failures ≡ counted (facts self.old).failures (lane_failures (map Self.Lane.lane_facts lanes.items)) }
         ensures calls { (facts self.new).calls ≡ (facts self.old).calls }
-        ensures cause { CausedInLanes (mishaps self.old) (mishaps self.new) (lane_failures (map Self.Lane.lane_facts lanes.items)) };
+        ensures cause { CausedInLanes (fault_state self.old) (fault_state self.new) (lane_failures (map Self.Lane.lane_facts lanes.items)) };
 
     /// How often a call of the disk has failed, and of the lanes that it took back. At 2^64 - 1 the
     /// count stays, and then each call is held to have counted one.
@@ -144,12 +144,12 @@ pub trait Disk {
     /// A lane's fault goes to that lane at the next split. A disk may ignore what is armed.
     fn arm(&mut self, fault: ArmedFault)
         ensures facts { Unchanged (facts self.old) (facts self.new) }
-        ensures armed { mishaps self.new ≡ record (mishaps self.old) { armed = armed_by fault } }
+        ensures armed { fault_state self.new ≡ record (fault_state self.old) { armed = armed_by fault } }
         ensures arms { arms self.new fault };
 
     /// Whether an armed cut has struck, so that power is gone. It is no call of the disk.
     fn struck(&self) -> bool
-        ensures { result ≡ (mishaps self.now).struck };
+        ensures { result ≡ (fault_state self.now).struck };
 
     /// A crash may leave what a read gives.
     ghost may_keep: { (disk : Self) → (facts disk).may_leave (facts disk).content };

@@ -21,7 +21,7 @@ impl Disk for SimDisk {
     ghost use Rattle.simdisk.specs.Record.{sim_facts};
     ghost use Rattle.simdisk.specs.History.{record_of};
     ghost use Rattle.simdisk.specs.Loans.{lent_of};
-    ghost use Rattle.simdisk.specs.Armings.{mishaps_of};
+    ghost use Rattle.simdisk.specs.Armings.{fault_state_of};
     ghost use Rattle.simdisk.specs.Record.{ranges, synced, Agrees};
     ghost use Rattle.simdisk.specs.Views.{pieces};
     ghost use Rattle.simdisk.specs.Laws.{only_the_last, below};
@@ -33,7 +33,7 @@ impl Disk for SimDisk {
 
     ghost facts = { λ d. sim_facts d.content.items (synced (record_of d.history)) (record_of d.history) d.failures d.calls (lent_of d.loan) };
 
-    ghost mishaps = { λ d. mishaps_of d.faults d.refused };
+    ghost fault_state = { λ d. fault_state_of d.faults d.refused };
 
     ghost arms = { λ d fault. d.faults.armed ≡ Some fault };
 
@@ -45,12 +45,12 @@ impl Disk for SimDisk {
         requires within { first + length sectors.old ≤ length (⟦<SimDisk as Disk>⟧.facts self.old).content }
         requires apart { Apart first (length sectors.old) (⟦<SimDisk as Disk>⟧.facts self.old).lent }
         ensures found { OnOk result (Found first (⟦<SimDisk as Disk>⟧.facts self.old).content sectors.new) }
-        ensures called { Called 1 Stays (⟦<SimDisk as Disk>⟧.facts self.old) (⟦<SimDisk as Disk>⟧.facts self.new) (⟦<SimDisk as Disk>⟧.mishaps self.old) (⟦<SimDisk as Disk>⟧.mishaps self.new) result }
-        ensures not_its_own { (⟦<SimDisk as Disk>⟧.mishaps self.new).own ≡ (⟦<SimDisk as Disk>⟧.mishaps self.old).own }
+        ensures called { Called 1 Stays (⟦<SimDisk as Disk>⟧.facts self.old) (⟦<SimDisk as Disk>⟧.facts self.new) (⟦<SimDisk as Disk>⟧.fault_state self.old) (⟦<SimDisk as Disk>⟧.fault_state self.new) result }
+        ensures not_its_own { (⟦<SimDisk as Disk>⟧.fault_state self.new).own ≡ (⟦<SimDisk as Disk>⟧.fault_state self.old).own }
         ensures record { ⟦<SimDisk as Recorded>⟧.record self.new ≡ ⟦<SimDisk as Recorded>⟧.record self.old }
-        ensures due { OnOk result (FailsNext (⟦<SimDisk as Disk>⟧.mishaps self.old).struck (⟦<SimDisk as Recorded>⟧.armed self.old) → ⊥) }
-        ensures early { OnErr result (FailsNext (⟦<SimDisk as Disk>⟧.mishaps self.old).struck (⟦<SimDisk as Recorded>⟧.armed self.old)) }
-        ensures counts { (FailsNext (⟦<SimDisk as Disk>⟧.mishaps self.old).struck (⟦<SimDisk as Recorded>⟧.armed self.old) → ⊥) → ⟦<SimDisk as Recorded>⟧.armed self.new ≡ one_call_on (⟦<SimDisk as Recorded>⟧.armed self.old) }
+        ensures due { OnOk result (FailsNext (⟦<SimDisk as Disk>⟧.fault_state self.old).struck (⟦<SimDisk as Recorded>⟧.armed self.old) → ⊥) }
+        ensures early { OnErr result (FailsNext (⟦<SimDisk as Disk>⟧.fault_state self.old).struck (⟦<SimDisk as Recorded>⟧.armed self.old)) }
+        ensures counts { (FailsNext (⟦<SimDisk as Disk>⟧.fault_state self.old).struck (⟦<SimDisk as Recorded>⟧.armed self.old) → ⊥) → ⟦<SimDisk as Recorded>⟧.armed self.new ≡ one_call_on (⟦<SimDisk as Recorded>⟧.armed self.old) }
     {
         self.calls = self.calls.saturating_add(1);
         if self.faults.strikes() {
@@ -64,13 +64,13 @@ impl Disk for SimDisk {
         requires within { first + length sectors.now ≤ length (⟦<SimDisk as Disk>⟧.facts self.old).content }
         requires apart { Apart first (length sectors.now) (⟦<SimDisk as Disk>⟧.facts self.old).lent }
         ensures written { OnOk result (Written first sectors.now (⟦<SimDisk as Disk>⟧.facts self.old).content (⟦<SimDisk as Disk>⟧.facts self.new).content) }
-        ensures called { Called 1 (Torn first (length sectors.now)) (⟦<SimDisk as Disk>⟧.facts self.old) (⟦<SimDisk as Disk>⟧.facts self.new) (⟦<SimDisk as Disk>⟧.mishaps self.old) (⟦<SimDisk as Disk>⟧.mishaps self.new) result }
+        ensures called { Called 1 (Torn first (length sectors.now)) (⟦<SimDisk as Disk>⟧.facts self.old) (⟦<SimDisk as Disk>⟧.facts self.new) (⟦<SimDisk as Disk>⟧.fault_state self.old) (⟦<SimDisk as Disk>⟧.fault_state self.new) result }
         ensures stays { OnErr result ((⟦<SimDisk as Disk>⟧.facts self.new).content ≡ (⟦<SimDisk as Disk>⟧.facts self.old).content) }
         ensures record { OnOk result (⟦<SimDisk as Recorded>⟧.record self.new ≡ more_written (first, sectors.now) (⟦<SimDisk as Recorded>⟧.record self.old)) }
-        ensures record_failed { OnErr result (NotedOrRefused (first, sectors.now) (⟦<SimDisk as Recorded>⟧.record self.old) (⟦<SimDisk as Recorded>⟧.record self.new) (⟦<SimDisk as Disk>⟧.mishaps self.old).own (⟦<SimDisk as Disk>⟧.mishaps self.new).own) }
-        ensures due { OnOk result (FailsNext (⟦<SimDisk as Disk>⟧.mishaps self.old).struck (⟦<SimDisk as Recorded>⟧.armed self.old) → ⊥) }
-        ensures early { OnErr result (FailsNext (⟦<SimDisk as Disk>⟧.mishaps self.old).struck (⟦<SimDisk as Recorded>⟧.armed self.old) ⊎ ((⟦<SimDisk as Disk>⟧.mishaps self.new).own ≡ counted (⟦<SimDisk as Disk>⟧.mishaps self.old).own 1)) }
-        ensures counts { (FailsNext (⟦<SimDisk as Disk>⟧.mishaps self.old).struck (⟦<SimDisk as Recorded>⟧.armed self.old) → ⊥) → ⟦<SimDisk as Recorded>⟧.armed self.new ≡ one_call_on (⟦<SimDisk as Recorded>⟧.armed self.old) }
+        ensures record_failed { OnErr result (NotedOrRefused (first, sectors.now) (⟦<SimDisk as Recorded>⟧.record self.old) (⟦<SimDisk as Recorded>⟧.record self.new) (⟦<SimDisk as Disk>⟧.fault_state self.old).own (⟦<SimDisk as Disk>⟧.fault_state self.new).own) }
+        ensures due { OnOk result (FailsNext (⟦<SimDisk as Disk>⟧.fault_state self.old).struck (⟦<SimDisk as Recorded>⟧.armed self.old) → ⊥) }
+        ensures early { OnErr result (FailsNext (⟦<SimDisk as Disk>⟧.fault_state self.old).struck (⟦<SimDisk as Recorded>⟧.armed self.old) ⊎ ((⟦<SimDisk as Disk>⟧.fault_state self.new).own ≡ counted (⟦<SimDisk as Disk>⟧.fault_state self.old).own 1)) }
+        ensures counts { (FailsNext (⟦<SimDisk as Disk>⟧.fault_state self.old).struck (⟦<SimDisk as Recorded>⟧.armed self.old) → ⊥) → ⟦<SimDisk as Recorded>⟧.armed self.new ≡ one_call_on (⟦<SimDisk as Recorded>⟧.armed self.old) }
     {
         self.calls = self.calls.saturating_add(1);
         let Ok(()) = self.history.note(first, sectors) else {
@@ -90,12 +90,12 @@ impl Disk for SimDisk {
     fn sync(&mut self) -> Result<(), Fault>
         ensures durable { OnOk result ((⟦<SimDisk as Disk>⟧.facts self.old).lent.lanes ≡ 0 → Only (⟦<SimDisk as Disk>⟧.facts self.new).content (⟦<SimDisk as Disk>⟧.facts self.new).may_leave) }
         ensures but_lent { OnOk result ((c : Content) → (⟦<SimDisk as Disk>⟧.facts self.new).may_leave c → Torn (⟦<SimDisk as Disk>⟧.facts self.old).lent.first (lent_sectors (⟦<SimDisk as Disk>⟧.facts self.old).lent) (⟦<SimDisk as Disk>⟧.facts self.new).content c) }
-        ensures called { Called 1 Stays (⟦<SimDisk as Disk>⟧.facts self.old) (⟦<SimDisk as Disk>⟧.facts self.new) (⟦<SimDisk as Disk>⟧.mishaps self.old) (⟦<SimDisk as Disk>⟧.mishaps self.new) result }
+        ensures called { Called 1 Stays (⟦<SimDisk as Disk>⟧.facts self.old) (⟦<SimDisk as Disk>⟧.facts self.new) (⟦<SimDisk as Disk>⟧.fault_state self.old) (⟦<SimDisk as Disk>⟧.fault_state self.new) result }
         ensures record { OnOk result (⟦<SimDisk as Recorded>⟧.record self.new ≡ more_synced (⟦<SimDisk as Disk>⟧.facts self.old).content (lent_piece (⟦<SimDisk as Disk>⟧.facts self.old).lent (⟦<SimDisk as Disk>⟧.facts self.old).content ∷ []) (⟦<SimDisk as Recorded>⟧.record self.old)) }
         ensures record_failed { OnErr result (⟦<SimDisk as Recorded>⟧.record self.new ≡ ⟦<SimDisk as Recorded>⟧.record self.old) }
-        ensures due { OnOk result (FailsNext (⟦<SimDisk as Disk>⟧.mishaps self.old).struck (⟦<SimDisk as Recorded>⟧.armed self.old) → ⊥) }
-        ensures early { OnErr result (FailsNext (⟦<SimDisk as Disk>⟧.mishaps self.old).struck (⟦<SimDisk as Recorded>⟧.armed self.old) ⊎ ((⟦<SimDisk as Disk>⟧.mishaps self.new).own ≡ counted (⟦<SimDisk as Disk>⟧.mishaps self.old).own 1)) }
-        ensures counts { (FailsNext (⟦<SimDisk as Disk>⟧.mishaps self.old).struck (⟦<SimDisk as Recorded>⟧.armed self.old) → ⊥) → ⟦<SimDisk as Recorded>⟧.armed self.new ≡ one_call_on (⟦<SimDisk as Recorded>⟧.armed self.old) }
+        ensures due { OnOk result (FailsNext (⟦<SimDisk as Disk>⟧.fault_state self.old).struck (⟦<SimDisk as Recorded>⟧.armed self.old) → ⊥) }
+        ensures early { OnErr result (FailsNext (⟦<SimDisk as Disk>⟧.fault_state self.old).struck (⟦<SimDisk as Recorded>⟧.armed self.old) ⊎ ((⟦<SimDisk as Disk>⟧.fault_state self.new).own ≡ counted (⟦<SimDisk as Disk>⟧.fault_state self.old).own 1)) }
+        ensures counts { (FailsNext (⟦<SimDisk as Disk>⟧.fault_state self.old).struck (⟦<SimDisk as Recorded>⟧.armed self.old) → ⊥) → ⟦<SimDisk as Recorded>⟧.armed self.new ≡ one_call_on (⟦<SimDisk as Recorded>⟧.armed self.old) }
     {
         self.calls = self.calls.saturating_add(1);
         if self.faults.strikes() {
@@ -120,9 +120,9 @@ impl Disk for SimDisk {
         ensures content { (⟦<SimDisk as Disk>⟧.facts self.new).content ≡ (⟦<SimDisk as Disk>⟧.facts self.old).content }
         ensures crash { Passes (⟦<SimDisk as Disk>⟧.facts self.old) (⟦<SimDisk as Disk>⟧.facts self.new) (Torn first (lanes * each)) }
         ensures crash_refused { OnErr result (Passes (⟦<SimDisk as Disk>⟧.facts self.old) (⟦<SimDisk as Disk>⟧.facts self.new) Stays) }
-        ensures no_call { NoCall (⟦<SimDisk as Disk>⟧.facts self.old) (⟦<SimDisk as Disk>⟧.facts self.new) (⟦<SimDisk as Disk>⟧.mishaps self.old) (⟦<SimDisk as Disk>⟧.mishaps self.new) }
+        ensures no_call { NoCall (⟦<SimDisk as Disk>⟧.facts self.old) (⟦<SimDisk as Disk>⟧.facts self.new) (⟦<SimDisk as Disk>⟧.fault_state self.old) (⟦<SimDisk as Disk>⟧.fault_state self.new) }
         ensures lends { Lends (λ out. map ⟦<SimLane as RecordedLane>⟧.record out.items) (record { first = first; lanes = lanes; each = each }) (⟦<SimDisk as Recorded>⟧.record self.old) (⟦<SimDisk as Recorded>⟧.record self.new)
-            (⟦<SimDisk as Recorded>⟧.armed self.old) (⟦<SimDisk as Recorded>⟧.armed self.new) (⟦<SimDisk as Disk>⟧.mishaps self.old).struck result }
+            (⟦<SimDisk as Recorded>⟧.armed self.old) (⟦<SimDisk as Recorded>⟧.armed self.new) (⟦<SimDisk as Disk>⟧.fault_state self.old).struck result }
     {
         let loan = Loan {
             first,
@@ -148,9 +148,9 @@ impl Disk for SimDisk {
         ensures crash { Passes (⟦<SimDisk as Disk>⟧.facts self.old) (⟦<SimDisk as Disk>⟧.facts self.new) Stays }
         ensures failures { (⟦<SimDisk as Disk>⟧.facts self.new).failures ≡ counted (⟦<SimDisk as Disk>⟧.facts self.old).failures (lane_failures (map ⟦<SimLane as Lane>⟧.lane_facts lanes.items)) }
         ensures calls { (⟦<SimDisk as Disk>⟧.facts self.new).calls ≡ (⟦<SimDisk as Disk>⟧.facts self.old).calls }
-        ensures cause { CausedInLanes (⟦<SimDisk as Disk>⟧.mishaps self.old) (⟦<SimDisk as Disk>⟧.mishaps self.new) (lane_failures (map ⟦<SimLane as Lane>⟧.lane_facts lanes.items)) }
+        ensures cause { CausedInLanes (⟦<SimDisk as Disk>⟧.fault_state self.old) (⟦<SimDisk as Disk>⟧.fault_state self.new) (lane_failures (map ⟦<SimLane as Lane>⟧.lane_facts lanes.items)) }
         ensures takes_back { TakesBack (⟦<SimDisk as Disk>⟧.facts self.old).lent (map ⟦<SimLane as RecordedLane>⟧.record lanes.items) (lane_failures (map ⟦<SimLane as Lane>⟧.lane_facts lanes.items)) (⟦<SimDisk as Recorded>⟧.record self.old) (⟦<SimDisk as Recorded>⟧.record self.new)
-            (⟦<SimDisk as Recorded>⟧.armed self.old) (⟦<SimDisk as Recorded>⟧.armed self.new) (⟦<SimDisk as Disk>⟧.mishaps self.old) (⟦<SimDisk as Disk>⟧.mishaps self.new) }
+            (⟦<SimDisk as Recorded>⟧.armed self.old) (⟦<SimDisk as Recorded>⟧.armed self.new) (⟦<SimDisk as Disk>⟧.fault_state self.old) (⟦<SimDisk as Disk>⟧.fault_state self.new) }
     {
         let loan = self.loan;
         let failures = failures_of(&lanes);
@@ -177,7 +177,7 @@ impl Disk for SimDisk {
 
     fn arm(&mut self, fault: ArmedFault)
         ensures facts { Unchanged (⟦<SimDisk as Disk>⟧.facts self.old) (⟦<SimDisk as Disk>⟧.facts self.new) }
-        ensures armed { ⟦<SimDisk as Disk>⟧.mishaps self.new ≡ record (⟦<SimDisk as Disk>⟧.mishaps self.old) { armed = armed_by fault } }
+        ensures armed { ⟦<SimDisk as Disk>⟧.fault_state self.new ≡ record (⟦<SimDisk as Disk>⟧.fault_state self.old) { armed = armed_by fault } }
         ensures arms { ⟦<SimDisk as Disk>⟧.arms self.new fault }
         ensures call { ⟦<SimDisk as Recorded>⟧.armed self.new ≡ Some fault }
         ensures record { ⟦<SimDisk as Recorded>⟧.record self.new ≡ ⟦<SimDisk as Recorded>⟧.record self.old }

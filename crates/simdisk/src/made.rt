@@ -2,7 +2,7 @@
 ghost use Rattle.std.specs.Prelude.{◌≡◌, ◌≢◌, ◌⊎◌, ◌/◌, ◌%◌, ℕ, length, replicate, OnOk, IfOk, IfErr};
 ghost use Rattle.std.specs.Simd.{first_chunks};
 ghost use Rattle.disk.specs.Facts.{IsFresh, IsLeft, Unchanged};
-ghost use Rattle.disk.specs.Mishaps.{FaultArmed, CutArmed, no_mishap, mishaps_left};
+ghost use Rattle.disk.specs.Mishaps.{FaultArmed, CutArmed, no_mishap, fault_state_left};
 ghost use Rattle.simdisk.specs.Record.{synced, new_record};
 ghost use Rattle.simdisk.specs.Choices.{left_by};
 
@@ -25,7 +25,7 @@ impl SimDisk {
         ensures fresh { IfOk result (λ disk. IsFresh (first_chunks 512 (length bytes.now / 512) bytes.now) (⟦<SimDisk as Disk>⟧.facts disk)) }
         ensures record { IfOk result (λ disk. ⟦<SimDisk as Recorded>⟧.record disk ≡ new_record (first_chunks 512 (length bytes.now / 512) bytes.now)) }
         ensures no_call { IfOk result (λ disk. ((⟦<SimDisk as Disk>⟧.facts disk).failures ≡ 0) × ((⟦<SimDisk as Disk>⟧.facts disk).calls ≡ 0)) }
-        ensures no_mishap { IfOk result (λ disk. ⟦<SimDisk as Disk>⟧.mishaps disk ≡ no_mishap) }
+        ensures no_mishap { IfOk result (λ disk. ⟦<SimDisk as Disk>⟧.fault_state disk ≡ no_mishap) }
         ensures whole { OnOk result (length bytes.now % 512 ≡ 0) }
         ensures refused { IfErr result (λ e. ((e ≡ Refusal.BadShape) × (length bytes.now % 512 ≢ 0)) ⊎ ((e ≡ Refusal.Memory) × (length bytes.now % 512 ≡ 0))) }
     {
@@ -42,7 +42,7 @@ impl SimDisk {
         ensures fresh { IfOk result (λ disk. IsFresh (replicate sectors (replicate 512 0)) (⟦<SimDisk as Disk>⟧.facts disk)) }
         ensures record { IfOk result (λ disk. ⟦<SimDisk as Recorded>⟧.record disk ≡ new_record (replicate sectors (replicate 512 0))) }
         ensures no_call { IfOk result (λ disk. ((⟦<SimDisk as Disk>⟧.facts disk).failures ≡ 0) × ((⟦<SimDisk as Disk>⟧.facts disk).calls ≡ 0)) }
-        ensures no_mishap { IfOk result (λ disk. ⟦<SimDisk as Disk>⟧.mishaps disk ≡ no_mishap) }
+        ensures no_mishap { IfOk result (λ disk. ⟦<SimDisk as Disk>⟧.fault_state disk ≡ no_mishap) }
     {
         let content = vec![in alloc; [0; 512]; sectors]?;
         SimDisk::holding(alloc, content)
@@ -53,7 +53,7 @@ impl SimDisk {
         ensures fresh { IfOk result (λ disk. IsFresh content.items (⟦<SimDisk as Disk>⟧.facts disk)) }
         ensures record { IfOk result (λ disk. ⟦<SimDisk as Recorded>⟧.record disk ≡ new_record content.items) }
         ensures no_call { IfOk result (λ disk. ((⟦<SimDisk as Disk>⟧.facts disk).failures ≡ 0) × ((⟦<SimDisk as Disk>⟧.facts disk).calls ≡ 0)) }
-        ensures no_mishap { IfOk result (λ disk. ⟦<SimDisk as Disk>⟧.mishaps disk ≡ no_mishap) }
+        ensures no_mishap { IfOk result (λ disk. ⟦<SimDisk as Disk>⟧.fault_state disk ≡ no_mishap) }
     {
         let history = History::begun(alloc, &content)?;
         let latest = Latest::begun(alloc, &content)?;
@@ -76,7 +76,7 @@ impl SimDisk {
         ensures left { IsLeft (⟦<SimDisk as Disk>⟧.facts self) (⟦<SimDisk as Disk>⟧.facts result) }
         ensures exact { (⟦<SimDisk as Disk>⟧.facts result).content ≡ left_by choice (synced (⟦<SimDisk as Recorded>⟧.record self)) (⟦<SimDisk as Recorded>⟧.record self).written }
         ensures record { ⟦<SimDisk as Recorded>⟧.record result ≡ new_record (⟦<SimDisk as Disk>⟧.facts result).content }
-        ensures mishaps { ⟦<SimDisk as Disk>⟧.mishaps result ≡ mishaps_left (⟦<SimDisk as Disk>⟧.mishaps self) }
+        ensures fault_state { ⟦<SimDisk as Disk>⟧.fault_state result ≡ fault_state_left (⟦<SimDisk as Disk>⟧.fault_state self) }
     {
         let mut content = self.content;
         let mut latest = self.latest;
@@ -100,7 +100,7 @@ impl SimDisk {
     /// The n-th call of this disk from now on fails. It replaces what was armed.
     pub fn fail_at(&mut self, call: u64)
         ensures facts { Unchanged (⟦<SimDisk as Disk>⟧.facts self.old) (⟦<SimDisk as Disk>⟧.facts self.new) }
-        ensures armed { ⟦<SimDisk as Disk>⟧.mishaps self.new ≡ record (⟦<SimDisk as Disk>⟧.mishaps self.old) { armed = FaultArmed } }
+        ensures armed { ⟦<SimDisk as Disk>⟧.fault_state self.new ≡ record (⟦<SimDisk as Disk>⟧.fault_state self.old) { armed = FaultArmed } }
         ensures call { ⟦<SimDisk as Recorded>⟧.armed self.new ≡ Some (ArmedFault.FailAt call) }
     {
         self.arm(ArmedFault::FailAt(call));
@@ -109,7 +109,7 @@ impl SimDisk {
     /// Power is lost within the n-th call of this disk from now on. It replaces what was armed.
     pub fn cut_at(&mut self, call: u64)
         ensures facts { Unchanged (⟦<SimDisk as Disk>⟧.facts self.old) (⟦<SimDisk as Disk>⟧.facts self.new) }
-        ensures armed { ⟦<SimDisk as Disk>⟧.mishaps self.new ≡ record (⟦<SimDisk as Disk>⟧.mishaps self.old) { armed = CutArmed } }
+        ensures armed { ⟦<SimDisk as Disk>⟧.fault_state self.new ≡ record (⟦<SimDisk as Disk>⟧.fault_state self.old) { armed = CutArmed } }
         ensures call { ⟦<SimDisk as Recorded>⟧.armed self.new ≡ Some (ArmedFault.CutAt call) }
     {
         self.arm(ArmedFault::CutAt(call));
@@ -118,7 +118,7 @@ impl SimDisk {
     /// The n-th call from now on of the lane of that number fails. It replaces what was armed.
     pub fn fail_lane(&mut self, lane: usize, call: u64)
         ensures facts { Unchanged (⟦<SimDisk as Disk>⟧.facts self.old) (⟦<SimDisk as Disk>⟧.facts self.new) }
-        ensures armed { ⟦<SimDisk as Disk>⟧.mishaps self.new ≡ record (⟦<SimDisk as Disk>⟧.mishaps self.old) { armed = FaultArmed } }
+        ensures armed { ⟦<SimDisk as Disk>⟧.fault_state self.new ≡ record (⟦<SimDisk as Disk>⟧.fault_state self.old) { armed = FaultArmed } }
         ensures call { ⟦<SimDisk as Recorded>⟧.armed self.new ≡ Some (ArmedFault.FailLane lane call) }
     {
         self.arm(ArmedFault::FailLane(lane, call));
@@ -128,7 +128,7 @@ impl SimDisk {
     /// was armed.
     pub fn cut_lane(&mut self, lane: usize, call: u64)
         ensures facts { Unchanged (⟦<SimDisk as Disk>⟧.facts self.old) (⟦<SimDisk as Disk>⟧.facts self.new) }
-        ensures armed { ⟦<SimDisk as Disk>⟧.mishaps self.new ≡ record (⟦<SimDisk as Disk>⟧.mishaps self.old) { armed = CutArmed } }
+        ensures armed { ⟦<SimDisk as Disk>⟧.fault_state self.new ≡ record (⟦<SimDisk as Disk>⟧.fault_state self.old) { armed = CutArmed } }
         ensures call { ⟦<SimDisk as Recorded>⟧.armed self.new ≡ Some (ArmedFault.CutLane lane call) }
     {
         self.arm(ArmedFault::CutLane(lane, call));
@@ -137,7 +137,7 @@ impl SimDisk {
     /// How often the disk failed by itself, which is where its record was refused memory. A disk
     /// that a crash left goes on counting.
     pub fn refused(&self) -> u64
-        ensures { result ≡ (⟦<SimDisk as Disk>⟧.mishaps self.now).own }
+        ensures { result ≡ (⟦<SimDisk as Disk>⟧.fault_state self.now).own }
     {
         self.refused
     }

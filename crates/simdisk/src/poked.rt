@@ -95,7 +95,7 @@ impl SimDisk {
         ensures outside { (IsWithin sector offset bytes.now (⟦<SimDisk as Disk>⟧.facts self.old).content → ⊥)
             → IsOk result × Unchanged (⟦<SimDisk as Disk>⟧.facts self.old) (⟦<SimDisk as Disk>⟧.facts self.new) × (⟦<SimDisk as Recorded>⟧.record self.new ≡ ⟦<SimDisk as Recorded>⟧.record self.old) }
         ensures refused { OnErr result (Unchanged (⟦<SimDisk as Disk>⟧.facts self.old) (⟦<SimDisk as Disk>⟧.facts self.new) × (⟦<SimDisk as Recorded>⟧.record self.new ≡ ⟦<SimDisk as Recorded>⟧.record self.old)) }
-        ensures no_call { NoCall (⟦<SimDisk as Disk>⟧.facts self.old) (⟦<SimDisk as Disk>⟧.facts self.new) (⟦<SimDisk as Disk>⟧.mishaps self.old) (⟦<SimDisk as Disk>⟧.mishaps self.new) }
+        ensures no_call { NoCall (⟦<SimDisk as Disk>⟧.facts self.old) (⟦<SimDisk as Disk>⟧.facts self.new) (⟦<SimDisk as Disk>⟧.fault_state self.old) (⟦<SimDisk as Disk>⟧.fault_state self.new) }
         ensures lent { (⟦<SimDisk as Disk>⟧.facts self.new).lent ≡ (⟦<SimDisk as Disk>⟧.facts self.old).lent }
         ensures as_long { length (⟦<SimDisk as Disk>⟧.facts self.new).content ≡ length (⟦<SimDisk as Disk>⟧.facts self.old).content }
         ensures armed { ⟦<SimDisk as Recorded>⟧.armed self.new ≡ ⟦<SimDisk as Recorded>⟧.armed self.old }

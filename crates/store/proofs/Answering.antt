@@ -38,8 +38,8 @@ refused_still Does v c e did moment only not_device not_down = record {
   life = did;
   leaves = record { any_moment = moment; acknowledged = tt; unchanged = λ _. only; in_doubt = λ is. absurd (not_down (one is)) };
   written = tt;
-  cause = (nothing_failed v.mishaps v.disk.failures e not_device not_down).0;
-  counts = (nothing_failed v.mishaps v.disk.failures e not_device not_down).1;
+  cause = (nothing_failed v.fault_state v.disk.failures e not_device not_down).0;
+  counts = (nothing_failed v.fault_state v.disk.failures e not_device not_down).1;
 }
   where
     one : ◌≡◌ {A = Result ℕ Refusal} (Err e) (Err Down) → e ≡ Down
@@ -65,7 +65,7 @@ written_on old mid new (Ok n) same wrote = wrote_later old mid new same wrote
 written_on old mid new (Err e) same wrote = tt
 
 pub then_issued : (Fits : Type 0) (old mid new : StoreView) (c : Change) (result : Result ℕ Refusal) → Fits → mid.life ≡ record old.life { found = mid.life.found } → IsReseen old.life mid.life.found
-    → mid.size ≡ old.size → mid.mishaps ≡ old.mishaps → mid.disk.failures ≡ old.disk.failures → selected mid.disk.content ≡ selected old.disk.content
+    → mid.size ≡ old.size → mid.fault_state ≡ old.fault_state → mid.disk.failures ≡ old.disk.failures → selected mid.disk.content ≡ selected old.disk.content
     → LeavesSince old.disk mid.disk (λ c. StandsFor c old.size (now_of old.life)) → Answered Applied mid c result new → Answered (Suspended Fits) old c result new
 then_issued Fits old mid new c result fits life reseen sized calm counted same first did = record {
   life = record {
@@ -74,14 +74,14 @@ then_issued Fits old mid new c result fits life reseen sized calm counted same f
   };
   leaves = goes_on old.disk mid.disk old.size (now_of old.life) first new.disk mid.size (now_of mid.life) c result sized (now_still old.life mid.life mid.life.found life reseen) did.leaves;
   written = written_on old.disk mid.disk new.disk result same did.written;
-  cause = subst (λ (m : Mishaps). MatchResult result (λ n. new.mishaps ≡ m) (λ e. CausedRefusal m e new.mishaps)) calm did.cause;
+  cause = subst (λ (m : Mishaps). MatchResult result (λ n. new.fault_state ≡ m) (λ e. CausedRefusal m e new.fault_state)) calm did.cause;
   counts = subst (λ (k : ℕ). MatchResult result (λ n. new.disk.failures ≡ k) (λ e. CountedRefusal k e new.disk.failures)) counted did.counts;
 }
 
 -- and where the area could not be written
 pub unwritten : (Fits : Type 0) (old mid : StoreView) (c : Change) (e : Refusal) → Fits → mid.life ≡ record old.life { found = mid.life.found } → IsReseen old.life mid.life.found
     → old.life.over ≡ false → length old.life.journal < 4096 → refusal_of (now_of old.life) c ≡ None → LeavesOnly mid.disk old.size (now_of old.life)
-    → LeavesSince old.disk mid.disk (λ c. StandsFor c old.size (now_of old.life)) → WriteRefused old.disk old.mishaps e mid.disk mid.mishaps → Answered (Suspended Fits) old c (Err e) mid
+    → LeavesSince old.disk mid.disk (λ c. StandsFor c old.size (now_of old.life)) → WriteRefused old.disk old.fault_state e mid.disk mid.fault_state → Answered (Suspended Fits) old c (Err e) mid
 unwritten Fits old mid c e fits life reseen going room allowed only first why = by e why
   where
     again : Life
@@ -90,7 +90,7 @@ unwritten Fits old mid c e fits life reseen going room allowed only first why = 
     reaches : Reaches again c
     reaches = (going, room, ap (λ (s : State). refusal_of s c) reseen.now ∙ allowed)
 
-    made : (f : Refusal) → (f ≡ Down → ⊥) → SuspendRefused Fits again c f mid.life → CausedRefusal old.mishaps f mid.mishaps → CountedRefusal old.disk.failures f mid.disk.failures → Answered (Suspended Fits) old c (Err f) mid
+    made : (f : Refusal) → (f ≡ Down → ⊥) → SuspendRefused Fits again c f mid.life → CausedRefusal old.fault_state f mid.fault_state → CountedRefusal old.disk.failures f mid.disk.failures → Answered (Suspended Fits) old c (Err f) mid
     made f up told cause counts = record {
       life = record { reseen = reseen; told = told };
       leaves = record {
@@ -107,7 +107,7 @@ unwritten Fits old mid c e fits life reseen going room allowed only first why = 
         one : (f : Refusal) → ◌≡◌ {A = Result ℕ Refusal} (Err f) (Err Down) → f ≡ Down
         one f is = cc
 
-    by : (f : Refusal) → WriteRefused old.disk old.mishaps f mid.disk mid.mishaps → Answered (Suspended Fits) old c (Err f) mid
+    by : (f : Refusal) → WriteRefused old.disk old.fault_state f mid.disk mid.fault_state → Answered (Suspended Fits) old c (Err f) mid
     by Device why = made Device (λ is. cc) (inl (fits, inl (refl, reaches, life))) why.1 why.0
     by Memory why = made Memory (λ is. cc) (inr (inr (inl (refl, fits, reaches, life)))) why.1 why.0
     by f why = absurd why

@@ -22,8 +22,8 @@ module _ {D L : Type 0} {g : Ghosts D L} {l : Lanes L} where
   abbrev pub disk_of : Store D L g l → Facts
   disk_of store = g.facts store.disk
 
-  abbrev pub mishaps_of : Store D L g l → Mishaps
-  mishaps_of store = g.mishaps store.disk
+  abbrev pub fault_state_of : Store D L g l → Mishaps
+  fault_state_of store = g.fault_state store.disk
 
   -- that fault is armed on its disk, and each call of it is still to come
   abbrev pub arms_of : Store D L g l → ArmedFault → Type 0
@@ -69,4 +69,4 @@ module _ {D L : Type 0} {g : Ghosts D L} {l : Lanes L} where
 
   -- all of it
   abbrev pub view_of : Store D L g l → StoreView
-  view_of store = record { disk = disk_of store; mishaps = mishaps_of store; size = size_of_store store; life = life_of store; failures_at_open = failures_at_open store }
+  view_of store = record { disk = disk_of store; fault_state = fault_state_of store; size = size_of_store store; life = life_of store; failures_at_open = failures_at_open store }

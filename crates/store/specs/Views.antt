@@ -15,7 +15,7 @@ use Rattle.store.specs.Standing.{StandsFor}
 -- what is seen of an open store: its disk, why that failed, the board, the life, and how often the disk had failed at the open
 pub record StoreView : Type 1 where
   pub disk : Facts
-  pub mishaps : Mishaps
+  pub fault_state : Mishaps
   pub size : Size
   pub life : Life
   pub failures_at_open : ℕ
@@ -50,7 +50,7 @@ pub record Answered (Does : Life → Change → Result ℕ Refusal → Life → 
   pub life : Does old.life c result new.life
   pub leaves : GoesTo old.disk new.disk old.size (now_of old.life) (after (now_of old.life) c) result
   pub written : OnOk result (WroteACommand old.disk new.disk)
-  pub cause : MatchResult result (λ n. new.mishaps ≡ old.mishaps) (λ e. CausedRefusal old.mishaps e new.mishaps)
+  pub cause : MatchResult result (λ n. new.fault_state ≡ old.fault_state) (λ e. CausedRefusal old.fault_state e new.fault_state)
   pub counts : MatchResult result (λ n. new.disk.failures ≡ old.disk.failures) (λ e. CountedRefusal old.disk.failures e new.disk.failures)
 
 -- whatever a command answers: the board stays, its disk is as long, nothing of it is lent, and no failure is forgotten

@@ -60,7 +60,7 @@ impl<D: Disk + Drop> Store<D> {
     ghost use Rattle.disk.specs.Facts.{LeavesSince, Unchanged, Passes, Stays, counted};
     ghost use Rattle.disk.specs.Mishaps.{armed_by};
     ghost use Rattle.store.specs.Standing.{StandsFor, selected};
-    ghost use Rattle.store.specs.Stores.{device_of, disk_of, mishaps_of, arms_of, size_of_store, life_of, found_state, journal_of, now_state, receipts, doubt_of, failures_at_open, view_of, Stands, Doubts};
+    ghost use Rattle.store.specs.Stores.{device_of, disk_of, fault_state_of, arms_of, size_of_store, life_of, found_state, journal_of, now_state, receipts, doubt_of, failures_at_open, view_of, Stands, Doubts};
 
     /// Opens a disk, and so begins a life. What the last life left in doubt is settled by a sync. Each crash since the
     /// call's start, after a refusal too, leaves a content that a crash just before could have left, and after `Ok` only
@@ -83,7 +83,7 @@ impl<D: Disk + Drop> Store<D> {
         ensures reads_alone { MatchResult result (λ store. ReadsAlone (D.facts disk) (disk_of store)) (λ e. ReadsAlone (D.facts disk) (D.facts e.0)) }
         ensures calls { 0 < length (D.facts disk).content
             → MatchResult result (λ store. (disk_of store).calls ≡ counted (D.facts disk).calls 4) (λ e. OpenCalls e.1 (D.facts disk).calls (D.facts e.0).calls) }
-        ensures cause { MatchResult result (λ store. mishaps_of store ≡ D.mishaps disk) (λ e. CausedRefusal (D.mishaps disk) e.1 (D.mishaps e.0)) }
+        ensures cause { MatchResult result (λ store. fault_state_of store ≡ D.fault_state disk) (λ e. CausedRefusal (D.fault_state disk) e.1 (D.fault_state e.0)) }
     {
         let found = match find(&mut disk) {
             Ok(found) => found,
@@ -247,9 +247,9 @@ impl<D: Disk + Drop> Store<D> {
         ensures life { life_of self.new ≡ record (life_of self.old) { found = found_state self.new } }
         ensures reseen { IsReseen (life_of self.old) (found_state self.new) }
         ensures any_moment { LeavesSince (disk_of self.old) (disk_of self.new) (λ c. StandsFor c (size_of_store self.old) (now_state self.old)) }
-        ensures refused { IfErr result (λ e. WriteRefused (disk_of self.old) (mishaps_of self.old) e (disk_of self.new) (mishaps_of self.new)) }
+        ensures refused { IfErr result (λ e. WriteRefused (disk_of self.old) (fault_state_of self.old) e (disk_of self.new) (fault_state_of self.new)) }
         ensures no_failure { OnOk result ((disk_of self.new).failures ≡ (disk_of self.old).failures) }
-        ensures unmoved { OnOk result (mishaps_of self.new ≡ mishaps_of self.old) }
+        ensures unmoved { OnOk result (fault_state_of self.new ≡ fault_state_of self.old) }
         ensures calls { OnOk result ((disk_of self.new).calls ≡ counted (disk_of self.old).calls 1) }
         ensures same { (self.new.doubt ≡ self.old.doubt) × (self.new.over ≡ self.old.over) × (self.new.current ≡ self.old.current) × (self.new.shape ≡ self.old.shape) × (self.new.journal ≡ self.old.journal) × (self.new.failures_at_open ≡ self.old.failures_at_open) }
         ensures selected { selected (disk_of self.new).content ≡ selected (disk_of self.old).content }
@@ -309,11 +309,11 @@ impl<D: Disk + Drop> Store<D> {
     /// call, and `BadImage` where the image reads as no memory. After `Device` and `BadImage` the memory is of no use.
     pub fn load_image(&mut self, ram: &mut Ram) -> Result<(), Refusal>
         ensures loads { OnOk result (IsLoaded (now_state self.old) ram.new) }
-        ensures refused { IfErr result (λ e. LoadRefused (size_of_store self.old) (now_state self.old) ram.old (disk_of self.old) (mishaps_of self.old) e (disk_of self.new) (mishaps_of self.new)) }
+        ensures refused { IfErr result (λ e. LoadRefused (size_of_store self.old) (now_state self.old) ram.old (disk_of self.old) (fault_state_of self.old) e (disk_of self.new) (fault_state_of self.new)) }
         ensures length { length ram.new ≡ length ram.old }
         ensures life { life_of self.new ≡ life_of self.old }
         ensures reads_alone { ReadsAlone (disk_of self.old) (disk_of self.new) }
-        ensures no_failure { OnOk result (((disk_of self.new).failures ≡ (disk_of self.old).failures) × (mishaps_of self.new ≡ mishaps_of self.old)) }
+        ensures no_failure { OnOk result (((disk_of self.new).failures ≡ (disk_of self.old).failures) × (fault_state_of self.new ≡ fault_state_of self.old)) }
         ensures calls { OnOk result ((disk_of self.new).calls ≡ counted (disk_of self.old).calls (2 * (size_of_store self.old).pages)) }
         ensures stays { StaysOpen (view_of self.old) (view_of self.new) }
     {
@@ -331,7 +331,7 @@ impl<D: Disk + Drop> Store<D> {
     pub fn arm(&mut self, fault: ArmedFault)
         ensures life { life_of self.new ≡ life_of self.old }
         ensures facts { Unchanged (disk_of self.old) (disk_of self.new) }
-        ensures armed { mishaps_of self.new ≡ record (mishaps_of self.old) { armed = armed_by fault } }
+        ensures armed { fault_state_of self.new ≡ record (fault_state_of self.old) { armed = armed_by fault } }
         ensures arms { arms_of self.new fault }
         ensures board { size_of_store self.new ≡ size_of_store self.old }
         ensures opened { failures_at_open self.new ≡ failures_at_open self.old }
@@ -341,7 +341,7 @@ impl<D: Disk + Drop> Store<D> {
 
     /// Whether an armed cut has struck the disk.
     pub fn struck(&self) -> bool
-        ensures { result ≡ (mishaps_of self.now).struck }
+        ensures { result ≡ (fault_state_of self.now).struck }
     {
         self.disk.struck()
     }
@@ -365,7 +365,7 @@ impl<D: Disk + Drop> Store<D> {
         ensures facts { Unchanged (disk_of self) (D.facts result) }
         ensures content { (D.facts result).content ≡ (disk_of self).content }
         ensures failures { (D.facts result).failures ≡ (disk_of self).failures }
-        ensures mishaps { D.mishaps result ≡ mishaps_of self }
+        ensures fault_state { D.fault_state result ≡ fault_state_of self }
     {
         let Store {
             disk,

@@ -29,7 +29,7 @@ wrote_on : (old mid new : Facts) (result : Result ℕ Refusal) → mid.content �
 wrote_on old mid new (Ok n) same wrote = wrote_later old mid new same wrote
 wrote_on old mid new (Err e) same wrote = tt
 
-pub answered_on : (old mid new : StoreView) (c : Change) (result : Result ℕ Refusal) → mid.life ≡ old.life → mid.size ≡ old.size → mid.mishaps ≡ old.mishaps
+pub answered_on : (old mid new : StoreView) (c : Change) (result : Result ℕ Refusal) → mid.life ≡ old.life → mid.size ≡ old.size → mid.fault_state ≡ old.fault_state
     → mid.disk.failures ≡ old.disk.failures → mid.disk.content ≡ old.disk.content → LeavesSince old.disk mid.disk old.disk.may_leave → LeavesOnly old.disk old.size (now_of old.life)
     → Answered Applied mid c result new → Answered Applied old c result new
 answered_on old mid new c result life sized calm counted content first only did =
@@ -47,7 +47,7 @@ answered_on old mid new c result life sized calm counted content first only did 
         in_doubt = goes.in_doubt;
       };
       written = wrote_on old.disk mid.disk new.disk result content did.written;
-      cause = subst (λ (m : Mishaps). MatchResult result (λ n. new.mishaps ≡ m) (λ e. CausedRefusal m e new.mishaps)) calm did.cause;
+      cause = subst (λ (m : Mishaps). MatchResult result (λ n. new.fault_state ≡ m) (λ e. CausedRefusal m e new.fault_state)) calm did.cause;
       counts = subst (λ (k : ℕ). MatchResult result (λ n. new.disk.failures ≡ k) (λ e. CountedRefusal k e new.disk.failures)) counted did.counts;
     }
 

@@ -10,7 +10,7 @@ use Rattle.disk.specs.Facts.{Passes, Stays, Failed}
 use Rattle.hart.specs.State.{State as HartState, started}
 use Rattle.store.specs.Lives.{Applied, Reaches, LoadRefused}
 use Rattle.store.specs.Views.{Answered}
-use Rattle.store.specs.Stores.{disk_of, mishaps_of, size_of_store, life_of, now_state, doubt_of, view_of}
+use Rattle.store.specs.Stores.{disk_of, fault_state_of, size_of_store, life_of, now_state, doubt_of, view_of}
 use Rattle.store.specs.declared.stores.Store.{Store}
 
 -- The memory is that of the image that stands, and the hart is the image's, as one that starts at its address with its opaque value.
@@ -25,7 +25,7 @@ module _ {D L : Type 0} {g : Ghosts D L} {l : Lanes L} where
 
   -- the image was not loaded into that memory
   pub record IsUnloaded (old : Store D L g l) (memory : List ℕ) (e : Refusal) (new : Store D L g l) : Type 0 where
-    pub why : LoadRefused (size_of_store old) (now_state old) memory (disk_of old) (mishaps_of old) e (disk_of new) (mishaps_of new)
+    pub why : LoadRefused (size_of_store old) (now_state old) memory (disk_of old) (fault_state_of old) e (disk_of new) (fault_state_of new)
     pub left : IsLeft old new
 
   -- the image was loaded, and its consumption asked of the store

@@ -1,6 +1,6 @@
 use Rattle.std.proofs.Common.{subst, ap, arith, length}
 use Rattle.machine.specs.declared.parts.Word.{Word}
-use Rattle.bench_report.specs.Below.{store_in, facts, mishaps, store_facts, store_mishaps}
+use Rattle.bench_report.specs.Below.{store_in, facts, fault_state, store_facts, store_fault_state}
 use Rattle.bench_report.specs.Agree.{StandsBy}
 use Rattle.bench_report.proofs.Devices.{stays}
 use Rattle.bench_report.proofs.Ended.{over_ended}
@@ -14,7 +14,7 @@ returns-in-Asleep-clause-told c = λ size b h.
     let left = c.into_disk.result in (
       was.0,
       over_ended size b.medium b.kept store (facts left) was.1 c.into_disk.ensures.up,
-      stays size b (store_mishaps store) (mishaps left) (store_facts store) (facts left) was.2 c.into_disk.ensures.mishaps (omega (arith, c.into_disk.ensures.failures)) (ap length c.into_disk.ensures.content),
+      stays size b (store_fault_state store) (fault_state left) (store_facts store) (facts left) was.2 c.into_disk.ensures.fault_state (omega (arith, c.into_disk.ensures.failures)) (ap length c.into_disk.ensures.content),
     )
 
 pub returns-in-Reset-clause-told : goal.returns-in-Reset-clause-told
@@ -25,5 +25,5 @@ returns-in-Reset-clause-told c = λ size b h.
     let left = c.into_disk-in-Reset.result in (
       was.0,
       over_ended size b.medium b.kept store (facts left) was.1 c.into_disk-in-Reset.ensures.up,
-      stays size b (store_mishaps store) (mishaps left) (store_facts store) (facts left) was.2 c.into_disk-in-Reset.ensures.mishaps (omega (arith, c.into_disk-in-Reset.ensures.failures)) (ap length c.into_disk-in-Reset.ensures.content),
+      stays size b (store_fault_state store) (fault_state left) (store_facts store) (facts left) was.2 c.into_disk-in-Reset.ensures.fault_state (omega (arith, c.into_disk-in-Reset.ensures.failures)) (ap length c.into_disk-in-Reset.ensures.content),
     )

@@ -1,6 +1,6 @@
 use Rattle.std.proofs.Common.{refl, subst, ap, arith, length}
 use Rattle.bench_report.specs.declared.power.Power.{Power}
-use Rattle.bench_report.specs.Below.{store_in, facts, mishaps, store_facts, store_mishaps}
+use Rattle.bench_report.specs.Below.{store_in, facts, fault_state, store_facts, store_fault_state}
 use Rattle.bench_report.specs.Agree.{Agrees}
 use Rattle.bench_report.proofs.Devices.{stays}
 use Rattle.bench_report.proofs.Ended.{board_ended}
@@ -15,5 +15,5 @@ returns-in-On-clause-told c = λ size b h.
     let was = subst P c.in-On.is h in
     let board = c.in-On.board in
     let left = c.into_disk.result in
-    let device = stays size b (store_mishaps (store_in board)) (mishaps left) (store_facts (store_in board)) (facts left) was.1 c.into_disk.ensures.mishaps (omega (arith, c.into_disk.ensures.failures)) (ap length c.into_disk.ensures.content) in
+    let device = stays size b (store_fault_state (store_in board)) (fault_state left) (store_facts (store_in board)) (facts left) was.1 c.into_disk.ensures.fault_state (omega (arith, c.into_disk.ensures.failures)) (ap length c.into_disk.ensures.content) in
     (refl, board_ended size b.medium b.kept b.power board (facts left) was.0 c.into_disk.ensures.up c.into_disk.ensures.down c.into_disk.ensures.allowed, device)

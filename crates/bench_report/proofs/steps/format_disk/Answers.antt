@@ -1,5 +1,5 @@
 use Rattle.std.proofs.Common.{refl, ◌∙◌, ap}
-use Rattle.bench_report.specs.Below.{facts, mishaps}
+use Rattle.bench_report.specs.Below.{facts, fault_state}
 use Rattle.bench_report.specs.Steps.{says}
 use Rattle.bench_report.specs.declared.printed.Printed.TheVariants as printed
 use Rattle.bench_report.proofs.Devices.{stays}
@@ -12,7 +12,7 @@ returns-in-Ok-clause-told c = λ b h.
     let did = c.in-Ok.ensures in
     let k = c.kept_disks.ensures in
     let kept : KeptLaw = record { goes_on = k.goes_on; marked = k.marked; one_size = k.one_size; sized = k.sized; opens = k.opens; formats = k.formats } in
-    let device = stays c.args.shape.now b (mishaps c.args.disk) (mishaps c.format.new.disk) (facts c.args.disk) (facts c.format.new.disk) h.2 did.cause did.in_order.no_fewer did.in_order.content.head.as_long in
+    let device = stays c.args.shape.now b (fault_state c.args.disk) (fault_state c.format.new.disk) (facts c.args.disk) (facts c.format.new.disk) h.2 did.cause did.in_order.no_fewer did.in_order.content.head.as_long in
     formats_ok kept c.args.shape.now b.medium b c.args.disk c.format.new.disk c.says.result h.0 h.1 device c.says.ensures did.ok did.unmarked
 
 pub returns-in-Err-clause-told : goal.returns-in-Err-clause-told

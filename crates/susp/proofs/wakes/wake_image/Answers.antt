@@ -49,7 +49,7 @@ returns-in_err-load_image-clause-answers g c wakes =
     let left = left_now (g.D.Disk.facts old.disk) old.shape (now_state old) (g.met.D.Disk.may_keep _) (c.stands.ensures.up _ (wakes.up, refl)) in
     let size = c.kept_disks.ensures.sized old.disk old.shape (now_state old) left in
     rw (p.1, p.2)
-    (unloaded old.shape (now_state old) c.args.ram.now (g.D.Disk.facts old.disk) (g.D.Disk.mishaps old.disk) _ (g.D.Disk.facts mid.disk) (g.D.Disk.mishaps mid.disk) wakes.reaches.2
+    (unloaded old.shape (now_state old) c.args.ram.now (g.D.Disk.facts old.disk) (g.D.Disk.fault_state old.disk) _ (g.D.Disk.facts mid.disk) (g.D.Disk.fault_state mid.disk) wakes.reaches.2
     (c.whole_images_load.ensures old.disk mid.disk old.shape (now_state old) c.args.ram.now _ size wakes.whole wakes.fits why) why)
 
 pub returns-in_err-apply-clause-answers : goal.returns-in_err-apply-clause-answers

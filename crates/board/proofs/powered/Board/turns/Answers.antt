@@ -1,5 +1,5 @@
 use Rattle.std.proofs.Common.{rules, ◌≡◌, ◌-◌, true, false, inl, inr, refl, ◌∙◌, arith}
-use Rattle.store.specs.Stores.{mishaps_of}
+use Rattle.store.specs.Stores.{fault_state_of}
 use Rattle.machine.specs.Words.{ends}
 use Rattle.board.specs.Boards.{store_of, machine_of}
 use Rattle.board.proofs.Rows.{first_row, more_row}
@@ -19,7 +19,7 @@ loop-made-preserved g c =
     let r = c.row-more.ensures in
     let range = r.range in
     let on : ends c.loop-made.word ≡ false = search rules in
-    let calm : (mishaps_of (store_of c.loop-made.self)).struck ≡ false = search rules in record {
+    let calm : (fault_state_of (store_of c.loop-made.self)).struck ≡ false = search rules in record {
       reaches = more_row c.args.hart c.args.count c.loop-made.made c.row-more.result.0 (machine_of c.args.self.now) (machine_of c.loop-made.self) (machine_of c.row-more.new.self)
           (store_of c.args.self.now) (store_of c.loop-made.self) (store_of c.row-more.new.self) c.loop-made.word c.row-more.result.1 i.range on calm i.reaches r.row;
       range = omega arith;
@@ -41,5 +41,5 @@ returns-else-not-ends-clause-turns g c =
 pub returns-else-not-struck-clause-turns : goal.returns-else-not-struck-clause-turns
 returns-else-not-struck-clause-turns g c =
     let i = c.loop-made.invariant in
-    let cut : (mishaps_of (store_of c.loop-made.self)).struck ≡ true = search rules in
+    let cut : (fault_state_of (store_of c.loop-made.self)).struck ≡ true = search rules in
     i.reaches.stops (c.args.count - c.loop-made.made) (let low = i.range in omega arith) (inr (inr cut))

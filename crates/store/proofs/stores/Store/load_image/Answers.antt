@@ -48,7 +48,7 @@ returns-in_err-read_area-clause-refused g c =
     let there : s.current.image ≡ Some c.in-Some.saved = search rules in
     let fits : length c.args.ram.now ≡ ram_bytes_of s.shape = search (rules, arith) in
     rw (p.1, p.2)
-    (load_refused s.shape (now_state s) c.args.ram.now (saved_memory s.shape c.in-Some.saved a.content) a (g.D.Disk.mishaps s.disk) c.in_err-read_area.field-0.0 (g.D.Disk.facts c.read_area.new.disk) (g.D.Disk.mishaps c.read_area.new.disk) fits
+    (load_refused s.shape (now_state s) c.args.ram.now (saved_memory s.shape c.in-Some.saved a.content) a (g.D.Disk.fault_state s.disk) c.in_err-read_area.field-0.0 (g.D.Disk.facts c.read_area.new.disk) (g.D.Disk.fault_state c.read_area.new.disk) fits
     (image_now s.shape s.current a.content (now_state s) c.in-Some.saved s.folded there) c.in_err-read_area.ensures.refused)
 
 pub returns-clause-loads : goal.returns-clause-loads
