@@ -7,21 +7,21 @@ use Rattle.board_model.specs.Shown.{number_of}
 use Rattle.board_model.specs.declared.refusal.Refusal.{Refusal}
 use Rattle.board_model.specs.declared.refusal.Refusal.TheVariants.{Device, Down, JournalFull}
 use Rattle.disk.specs.Facts.{Facts, Failed}
-use Rattle.disk.specs.Mishaps.{Mishaps, Cause}
+use Rattle.disk.specs.FaultState.{FaultState, Cause}
 use Rattle.store.specs.Lives.{Life, now_of, Refused, Applied}
 use Rattle.store.specs.Opens.{CausedRefusal, FormatRefused, OpenRefused}
 use Rattle.bench_report.specs.Below.{IsLife}
 
 -- a call that answered 5 failed for a cause, and one that answered neither 5 nor 6 did not
-pub struck : (e : Refusal) (m n : Mishaps) → CausedRefusal m e n → e ≡ Device → Cause m n
+pub struck : (e : Refusal) (m n : FaultState) → CausedRefusal m e n → e ≡ Device → Cause m n
 struck Device m n h is = h
 struck e m n h is = absurd (let no : ⊥ = cc in no)
 
-pub downed : (e : Refusal) (m n : Mishaps) → CausedRefusal m e n → e ≡ Down → Cause m n
+pub downed : (e : Refusal) (m n : FaultState) → CausedRefusal m e n → e ≡ Down → Cause m n
 downed Down m n h is = h
 downed e m n h is = absurd (let no : ⊥ = cc in no)
 
-pub calm : (e : Refusal) (m n : Mishaps) → CausedRefusal m e n → e ≢ Down → e ≢ Device → n ≡ m
+pub calm : (e : Refusal) (m n : FaultState) → CausedRefusal m e n → e ≢ Down → e ≢ Device → n ≡ m
 calm Device m n h up is = absurd (is refl)
 calm Down m n h up is = absurd (up refl)
 calm e m n h up is = h

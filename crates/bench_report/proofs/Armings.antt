@@ -2,7 +2,7 @@
 use Rattle.std.proofs.Common.{◌≡◌, ◌≤◌, ℕ, Option, None, Some, sym, ◌∙◌, ap, subst, length}
 use Rattle.board_model.specs.Shapes.{Size}
 use Rattle.disk.specs.Facts.{Facts, Unchanged}
-use Rattle.disk.specs.Mishaps.{Armed, Mishaps}
+use Rattle.disk.specs.FaultState.{Armed, FaultState}
 use Rattle.simdisk.specs.declared.SimDisk.{SimDisk}
 use Rattle.store.specs.Lives.{Life as Told}
 use Rattle.store.specs.Stores.{life_of}
@@ -13,10 +13,10 @@ use Rattle.bench_report.specs.Agree.{Follows, BoardIs, DeviceIs, OffIs, OnIs}
 use Rattle.bench_report.proofs.Ended.{left_on}
 use Rattle.bench_report.proofs.KeptDisks.{GoesOn}
 
-device : (size : Size) (b : Bench) (a : Armed) (m n : Mishaps) (old new : Facts) → DeviceIs size b m old → Unchanged old new → n ≡ record m { armed = a } → DeviceIs size (armed_with a b) n new
+device : (size : Size) (b : Bench) (a : Armed) (m n : FaultState) (old new : Facts) → DeviceIs size b m old → Unchanged old new → n ≡ record m { armed = a } → DeviceIs size (armed_with a b) n new
 device size b a m n old new was same is =
     let P : ℕ → Type 0 = λ k. b.failures ≤ k in
-    (ap (λ (x : Mishaps). let y : Mishaps = record x { armed = a } in y) was.0 ∙ sym is, subst P (sym same.failures) was.1, ap length same.content ∙ was.2)
+    (ap (λ (x : FaultState). let y : FaultState = record x { armed = a } in y) was.0 ∙ sym is, subst P (sym same.failures) was.1, ap length same.content ∙ was.2)
 
 pub armed_off : GoesOn → (size : Size) (b : Bench) (a : Armed) (old new : SimDisk) → OffIs size b old → Unchanged (facts old) (facts new) → fault_state new ≡ record (fault_state old) { armed = a }
     → OffIs size (armed_with a b) new

@@ -5,7 +5,7 @@ use Rattle.board_model.specs.Shown.{number_of}
 use Rattle.board_model.specs.declared.refusal.Refusal.{Refusal}
 use Rattle.board_model.specs.declared.refusal.Refusal.TheVariants.{Device, Memory}
 use Rattle.disk.specs.Facts.{Facts, counted, Failed}
-use Rattle.disk.specs.Mishaps.{Mishaps, Cause}
+use Rattle.disk.specs.FaultState.{FaultState, Cause}
 use Rattle.store.specs.Leaves.{SameLength}
 use Rattle.bench_report.specs.Bench.{Bench}
 use Rattle.bench_report.specs.Steps.{failed, IsHindered}
@@ -31,12 +31,12 @@ counted_more : (a b : ℕ) → a ≤ b → counted a 1 ≤ counted b 1
 counted_more a b h = omega (arith, h)
 
 -- a call failed, for a cause, and was counted
-pub hindered : (size : Size) (c : Bench) (m n : Mishaps) (old new : Facts) → DeviceIs size c m old → Cause m n → Failed old.failures new.failures → SameLength old new
+pub hindered : (size : Size) (c : Bench) (m n : FaultState) (old new : Facts) → DeviceIs size c m old → Cause m n → Failed old.failures new.failures → SameLength old new
     → IsHindered c (failed n c) × DeviceIs size (failed n c) n new
 hindered size c m n old new is cause more same =
-    let P : Mishaps → Type 0 = λ x. Cause x n in
+    let P : FaultState → Type 0 = λ x. Cause x n in
     ((n, subst P (sym is.0) cause, refl), (refl, omega (arith, counted_more c.failures old.failures is.1, more), omega (arith, is.2, same)))
 
 -- nothing failed that was answered
-pub stays : (size : Size) (c : Bench) (m n : Mishaps) (old new : Facts) → DeviceIs size c m old → n ≡ m → old.failures ≤ new.failures → SameLength old new → DeviceIs size c n new
+pub stays : (size : Size) (c : Bench) (m n : FaultState) (old new : Facts) → DeviceIs size c m old → n ≡ m → old.failures ≤ new.failures → SameLength old new → DeviceIs size c n new
 stays size c m n old new is e more same = (is.0 ∙ sym e, omega (arith, is.1, more), omega (arith, is.2, same))

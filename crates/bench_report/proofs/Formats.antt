@@ -7,7 +7,7 @@ use Rattle.board_model.specs.Shown.{number_of}
 use Rattle.board_model.specs.declared.refusal.Refusal.{Refusal}
 use Rattle.board_model.specs.declared.refusal.Refusal.TheVariants.{AlreadyFormatted, Device}
 use Rattle.disk.specs.Facts.{Facts, Passes, Stays}
-use Rattle.disk.specs.Mishaps.{Mishaps, Cause}
+use Rattle.disk.specs.FaultState.{FaultState, Cause}
 use Rattle.simdisk.specs.declared.SimDisk.{SimDisk}
 use Rattle.store.specs.Leaves.{IsMarked, LeavesOnly, SameLength}
 use Rattle.store.specs.Opens.{CausedRefusal, FormatRefused}
@@ -50,7 +50,7 @@ module _ (kept : KeptLaw) (blank : BlankLaw) (size : Size) (b : Bench) (old new 
     (refusal : FormatRefused (facts old) size e (facts new)) (marked : MarkedClause old new) (cause : CausedRefusal (fault_state old) e (fault_state new)) (no_fewer : (facts old).failures ≤ (facts new).failures)
     (fits : SameLength (facts old) (facts new)) (h : a ≡ says (printed.FormatRefused (number_of e))) where
   hinders : (c : Bench) → c.fault_state ≡ b.fault_state → c.failures ≡ b.failures → c.power ≡ None → DiskIs size c.medium c.kept (facts new) → e ≡ Device
-      → (x : Bench) × ((a ≡ says (printed.FormatRefused 5)) × ((n : Mishaps) × Cause c.fault_state n × (x ≡ failed n c))) × OffIs size x new
+      → (x : Bench) × ((a ≡ says (printed.FormatRefused 5)) × ((n : FaultState) × Cause c.fault_state n × (x ≡ failed n c))) × OffIs size x new
   hinders c same count off disk is =
       let its : DeviceIs size c (fault_state old) (facts old) = (same ∙ device.0, rw count device.1, device.2) in
       let x = hindered size c (fault_state old) (fault_state new) (facts old) (facts new) its (struck e (fault_state old) (fault_state new) cause is) (failed_format (facts old) size e (facts new) refusal is) fits in

@@ -27,7 +27,7 @@ use Rattle.bench_report.specs.declared.printed.ConsoleWord.{ConsoleWord}
 use Rattle.bench_report.specs.declared.printed.ConsoleWord.TheVariants as names
 use Rattle.bench_report.specs.declared.printed.Printed.{Printed}
 use Rattle.bench_report.specs.declared.printed.Printed.TheVariants as printed
-use Rattle.disk.specs.Mishaps.{FaultArmed, CutArmed}
+use Rattle.disk.specs.FaultState.{FaultArmed, CutArmed}
 use Rattle.bench_report.specs.declared.printed.Answer.{Answer}
 use Rattle.bench_report.specs.Bench.{Medium, Blank, Unknown, Formatted, Life, Bench, blank_bench}
 use Rattle.bench_report.specs.Steps.{says, shows, starved, failed, on_with, unpowered, armed_with, formatted_anew, settled, has_machine, begun, commands_of, console_told, IsOn, Starts, Resumes, Begins, Boots, Opens, ShowsFound, IsOpenRefusal, PowersOn, FormatsOn, FormatStep, OnStep, ConsoleStep, PayloadStep, CallTold, GuestCall, TurnStep, CallStep, ReadStep, PokeStep, Step, Moves, Run}

@@ -3,7 +3,7 @@ use Rattle.std.proofs.Common.{◌≡◌, ◌⊎◌, ℕ, inl, inr, List, [], ◌
 use Rattle.board_model.specs.Durable.{Change, Slot, Discard}
 use Rattle.board_model.specs.Shapes.{Size}
 use Rattle.board_model.specs.declared.boot_mode.BootMode.{BootMode}
-use Rattle.disk.specs.Mishaps.{FaultArmed, CutArmed}
+use Rattle.disk.specs.FaultState.{FaultArmed, CutArmed}
 use Rattle.machine.specs.Machine.{Machine, hart_at}
 use Rattle.machine_lines.specs.Shows.{own_line}
 use Rattle.machine_lines.specs.declared.line.MachineLine.{MachineLine}

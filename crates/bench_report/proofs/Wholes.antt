@@ -26,7 +26,7 @@ use Rattle.sbi_abi.specs.declared.ret.SbiError.TheVariants.{Failed, NotSupported
 use Rattle.store.specs.Follows.{FitsBoard}
 use Rattle.turns.specs.declared.words.Turned.{Turned}
 use Rattle.turns.specs.declared.words.Turned.TheVariants.{Durable}
-use Rattle.disk.specs.Mishaps.{FaultArmed, CutArmed}
+use Rattle.disk.specs.FaultState.{FaultArmed, CutArmed}
 use Rattle.bench_report.specs.declared.printed.Answer.{Answer}
 use Rattle.bench_report.specs.declared.printed.ConsoleWord.{ConsoleWord}
 use Rattle.bench_report.specs.declared.printed.ConsoleWord.TheVariants as names

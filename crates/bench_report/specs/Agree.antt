@@ -5,7 +5,7 @@ use Rattle.board_model.specs.Kept.{Kept, MayFind, found_of}
 use Rattle.board_model.specs.Shapes.{Size, sectors_of}
 use Rattle.board_model.specs.declared.refusal.Refusal.{Refusal}
 use Rattle.disk.specs.Facts.{Facts}
-use Rattle.disk.specs.Mishaps.{Mishaps}
+use Rattle.disk.specs.FaultState.{FaultState}
 use Rattle.disk.specs.declared.device.ArmedFault.{ArmedFault}
 use Rattle.disk.specs.declared.device.ArmedFault.TheVariants as faults
 use Rattle.simdisk.specs.declared.SimDisk.{SimDisk}
@@ -50,7 +50,7 @@ BoardIs size medium kept None board = ⊥
 BoardIs size medium kept (Some life) board = StoreIs size medium kept life (store_in board) × (machine_in board ≡ life.machine)
 
 -- the device below has the bench's fault state, counted each failure that was answered, and is of exactly the size needed
-abbrev pub DeviceIs : Size → Bench → Mishaps → Facts → Type 0
+abbrev pub DeviceIs : Size → Bench → FaultState → Facts → Type 0
 DeviceIs size b m disk = (b.fault_state ≡ m) × (b.failures ≤ disk.failures) × (length disk.content ≡ sectors_of size)
 
 abbrev pub OffIs : Size → Bench → SimDisk → Type 0

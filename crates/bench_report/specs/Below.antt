@@ -3,7 +3,7 @@ use Rattle.std.specs.Prelude.{◌≡◌, ℕ, Option, false, length}
 use Rattle.board_model.specs.Durable.{State, Change}
 use Rattle.board_model.specs.Shapes.{Size}
 use Rattle.disk.specs.Facts.{Facts}
-use Rattle.disk.specs.Mishaps.{Mishaps}
+use Rattle.disk.specs.FaultState.{FaultState}
 use Rattle.disk.specs.declared.device.ArmedFault.{ArmedFault}
 use Rattle.simdisk.specs.declared.SimDisk.{SimDisk}
 use Rattle.simdisk.specs.declared.SimLane.{SimLane}
@@ -37,7 +37,7 @@ machine_in board = words.machine_of board
 abbrev pub facts : SimDisk → Facts
 facts disk = sim_disk.ghosts.facts disk
 
-abbrev pub fault_state : SimDisk → Mishaps
+abbrev pub fault_state : SimDisk → FaultState
 fault_state disk = sim_disk.ghosts.fault_state disk
 
 -- that fault is armed on it, and each call of it is still to come
@@ -52,7 +52,7 @@ record_of disk = sim_record.ghosts.record disk
 abbrev pub store_facts : Store → Facts
 store_facts store = stores.disk_of store
 
-abbrev pub store_fault_state : Store → Mishaps
+abbrev pub store_fault_state : Store → FaultState
 store_fault_state store = stores.fault_state_of store
 
 abbrev pub store_arms : Store → ArmedFault → Type 0

@@ -2,7 +2,7 @@
 use Rattle.std.specs.Prelude.{◌≡◌, ℕ, List, [], ◌∷◌, Option, None}
 use Rattle.board_model.specs.Durable.{State, Change}
 use Rattle.board_model.specs.Kept.{Kept, nothing_kept}
-use Rattle.disk.specs.Mishaps.{Mishaps, no_mishap}
+use Rattle.disk.specs.FaultState.{FaultState, no_mishap}
 use Rattle.machine.specs.Machine.{Machine}
 
 -- A disk that was never written; one of which nothing is known, since a format was refused 5 or cut, or it was written past the
@@ -30,7 +30,7 @@ pub record Bench : Type 0 where
   pub payloads : List (List ℕ)
   pub growths : ℕ
   pub failures : ℕ
-  pub fault_state : Mishaps
+  pub fault_state : FaultState
 
 -- memory was never refused, and no failure of the disk was answered; so no armed cut has struck
 abbrev pub IsUnspoilt : Bench → Type 0

@@ -7,7 +7,7 @@ use Rattle.board_model.specs.Shapes.{Size}
 use Rattle.board_model.specs.Shown.{durable_of}
 use Rattle.board_model.specs.declared.durable.Durable.{Durable}
 use Rattle.disk.specs.Facts.{counted}
-use Rattle.disk.specs.Mishaps.{Armed, FaultArmed, CutArmed, Mishaps, Cause, fault_state_left}
+use Rattle.disk.specs.FaultState.{Armed, FaultArmed, CutArmed, FaultState, Cause, fault_state_left}
 use Rattle.board_model.specs.declared.boot_mode.BootMode.{BootMode}
 use Rattle.board_model.specs.declared.boot_mode.BootMode.TheVariants as modes
 use Rattle.board.specs.Boots.{boot_refusal}
@@ -65,12 +65,12 @@ abbrev pub starved : Bench → Bench
 starved b = record b { growths = b.growths + 1 }
 
 -- a failure of the disk was answered, after which its fault state is this
-abbrev pub failed : Mishaps → Bench → Bench
+abbrev pub failed : FaultState → Bench → Bench
 failed m b = record b { failures = counted b.failures 1; fault_state = m }
 
 -- a call of the disk failed, for one of the causes that a disk has
 abbrev pub IsHindered : Bench → Bench → Type 0
-IsHindered b new = (m : Mishaps) × Cause b.fault_state m × (new ≡ failed m b)
+IsHindered b new = (m : FaultState) × Cause b.fault_state m × (new ≡ failed m b)
 
 abbrev pub off : Bench → Bench
 off b = record b { power = None }

@@ -1,6 +1,6 @@
 -- Refusals before anything is done: the disk did not fail, and nothing is in doubt.
 use Rattle.std.proofs.Common.{◌≡◌, ◌⊎◌, inl, inr, ℕ, Option, None, Some, refl, arith}
-use Rattle.disk.specs.Mishaps.{Mishaps}
+use Rattle.disk.specs.FaultState.{FaultState}
 use Rattle.board_model.specs.declared.refusal.Refusal.{Refusal}
 use Rattle.board_model.specs.declared.refusal.Refusal.TheVariants.{NoImage, ImageThere}
 use Rattle.board_model.specs.declared.boot_mode.BootMode.{BootMode}
@@ -10,7 +10,7 @@ use Rattle.board.specs.Unbooted.{RefusesMode, doubt_after, CountsRefusal}
 -- nothing is in doubt after such a refusal, and the disk did not fail
 pub record IsQuiet (mode : BootMode) (e : Refusal) : Type 0 where
   pub no_doubt : doubt_after mode e ≡ None
-  pub no_cause : (m : Mishaps) → CausedRefusal m e m
+  pub no_cause : (m : FaultState) → CausedRefusal m e m
   pub no_failure : (n : ℕ) → CountsRefusal n e n
 
 one_is_quiet : (mode : BootMode) (e : Refusal) → (e ≡ ImageThere) ⊎ (e ≡ NoImage) → IsQuiet mode e

@@ -8,7 +8,7 @@ use Rattle.board_model.specs.declared.durable.Durable.{Durable}
 use Rattle.board_model.specs.declared.boot_mode.BootMode.{BootMode}
 use Rattle.board_model.specs.declared.refusal.Refusal.{Refusal}
 use Rattle.disk.specs.Facts.{Facts, LeavesSince}
-use Rattle.disk.specs.Mishaps.{Mishaps}
+use Rattle.disk.specs.FaultState.{FaultState}
 use Rattle.store.specs.Leaves.{IsIdle, SameLength, Leaves, LeavesOnly}
 use Rattle.store.specs.Lives.{now_of}
 use Rattle.store.specs.Opens.{OpenRefused, CausedRefusal}
@@ -59,14 +59,14 @@ IsUnpowered mode payloads None old e new = IsUnopened old e new
 IsUnpowered mode payloads (Some found) old e new = IsOff mode payloads found old e new
 
 -- The disk of a board that is on: as long, nothing of it is lent, and it did not fail.
-pub record KeepsDisk (old : Facts) (m : Mishaps) (new : Facts) (n : Mishaps) : Type 0 where
+pub record KeepsDisk (old : Facts) (m : FaultState) (new : Facts) (n : FaultState) : Type 0 where
   pub length : SameLength old new
   pub none_out : IsIdle new
   pub cause : n ≡ m
   pub no_failure : new.failures ≡ old.failures
 
 -- The disk that is given back: as long, nothing of it is lent, and a refusal by its failure has a cause and is counted.
-pub record GivesDisk (old : Facts) (m : Mishaps) (e : Refusal) (new : Facts) (n : Mishaps) : Type 0 where
+pub record GivesDisk (old : Facts) (m : FaultState) (e : Refusal) (new : Facts) (n : FaultState) : Type 0 where
   pub length : SameLength old new
   pub none_out : IsIdle new
   pub cause : CausedRefusal m e n

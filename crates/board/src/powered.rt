@@ -54,7 +54,7 @@ impl<D: Disk + Drop> Board<D> {
     ghost use Rattle.board_model.specs.Shown.{durable_of, change_of};
     ghost use Rattle.board_model.specs.declared.refusal.Refusal.{Refusal};
     ghost use Rattle.disk.specs.Facts.{LeavesSince, Failed, Unchanged};
-    ghost use Rattle.disk.specs.Mishaps.{armed_by};
+    ghost use Rattle.disk.specs.FaultState.{armed_by};
     ghost use Rattle.store.specs.Standing.{StandsFor};
     ghost use Rattle.store.specs.Leaves.{IsIdle, SameLength, Leaves, LeavesOnly, LeavesEither};
     ghost use Rattle.store.specs.Opens.{ReadsAs, OpenRefused, CausedRefusal};

@@ -1,4 +1,4 @@
 pub mod Calls
 pub mod Facts
-pub mod Mishaps
+pub mod FaultState
 pub mod Moments

@@ -1,7 +1,7 @@
 -- How runs of calls go on: what the layers above compose their moments by.
 use Rattle.std.proofs.Common.{◌∙◌, ◌+◌, ◌≤◌, inl, inr, ⊎_elim, refl, sym, subst, arith, ℕ, Result, Ok, Err}
 use Rattle.disk.specs.Facts.{Content, Facts, After, Passes, Stays, Torn, Unchanged, LeavesSince}
-use Rattle.disk.specs.Mishaps.{Mishaps, Cause}
+use Rattle.disk.specs.FaultState.{FaultState, Cause}
 use Rattle.disk.specs.Calls.{Called}
 
 -- no call at all
@@ -102,7 +102,7 @@ leaves_lanes a b c d first n P only here has split join sync =
     leaves_more a a d P (Torn first n) (leaves_none a P only here) (passes_lanes a b c d first n split join sync) has
 
 -- calls that all answered Ok, and then some more
-pub called_then : {T E U F : Type 0} (n m : ℕ) (step : Content → Content → Type 0) (a b c : Facts) (x y z : Mishaps) (v : T) (r : Result U F)
+pub called_then : {T E U F : Type 0} (n m : ℕ) (step : Content → Content → Type 0) (a b c : Facts) (x y z : FaultState) (v : T) (r : Result U F)
     → ((p q s : Content) → step p q → step q s → step p s) → Called {T = T} {E = E} n step a b x y (Ok v) → Called {T = U} {E = F} m step b c y z r → Called {T = U} {E = F} (n + m) step a c x z r
 called_then n m step a b c x y z v (Ok w) goes p q = record {
   content = goes a.content b.content c.content p.content q.content;
@@ -119,12 +119,12 @@ called_then n m step a b c x y z v (Err f) goes p q = record {
   lent = q.lent ∙ p.lent;
   calls = record { ok = tt; err = (omega (arith, p.calls.ok, q.calls.err.0), omega (arith, p.calls.ok, q.calls.err.1)) };
   failures = record { ok = tt; err = rw (← p.failures.ok) q.failures.err };
-  cause = record { ok = tt; err = subst (λ (w : Mishaps). Cause w z) p.cause.ok q.cause.err };
+  cause = record { ok = tt; err = subst (λ (w : FaultState). Cause w z) p.cause.ok q.cause.err };
   gone = tt;
 }
 
 -- calls of which one failed, where more would have come
-pub called_fewer : {T E U F : Type 0} (n m : ℕ) (step : Content → Content → Type 0) (a b : Facts) (x y : Mishaps) (e : E) (f : F) → n ≤ m
+pub called_fewer : {T E U F : Type 0} (n m : ℕ) (step : Content → Content → Type 0) (a b : Facts) (x y : FaultState) (e : E) (f : F) → n ≤ m
     → Called {T = T} {E = E} n step a b x y (Err e) → Called {T = U} {E = F} m step a b x y (Err f)
 called_fewer n m step a b x y e f le p = record {
   content = p.content;

@@ -63,7 +63,7 @@ pub trait Lane {
 /// to the contents that a crash may leave, before, during and after it, is its clause `crash`.
 pub trait Disk {
     ghost use Rattle.disk.specs.Facts.{Content, Facts, Torn, Written, Stays, Passes, Only, Apart, Found, Handed, InRow, Joined, Unchanged, counted, most, nothing, lent_sectors, lane_failures};
-    ghost use Rattle.disk.specs.Mishaps.{Mishaps, CausedInLanes, armed_by};
+    ghost use Rattle.disk.specs.FaultState.{FaultState, CausedInLanes, armed_by};
     ghost use Rattle.disk.specs.Calls.{Called, NoCall};
     ghost use Rattle.disk.specs.declared.device.ArmedFault.{ArmedFault};
 
@@ -72,7 +72,7 @@ pub trait Disk {
     ghost facts: { Self → Facts };
 
     /// What is armed, whether an armed cut has struck, and how often the disk failed by itself.
-    ghost fault_state: { Self → Mishaps };
+    ghost fault_state: { Self → FaultState };
 
     /// That fault is armed, and each call of it is still to come. A disk may ignore what is armed.
     ghost arms: { Self → ArmedFault → Type 0 };

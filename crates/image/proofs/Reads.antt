@@ -3,15 +3,15 @@ use Rattle.std.proofs.Common.{◌≡◌, ◌∙◌, Result, Ok, Err, OnOk, IfErr
 use Rattle.board_model.specs.declared.refusal.Refusal.{Refusal}
 use Rattle.board_model.specs.declared.refusal.Refusal.TheVariants.{Device, BadImage}
 use Rattle.disk.specs.Facts.{Facts, Stays}
-use Rattle.disk.specs.Mishaps.{Mishaps, Cause}
+use Rattle.disk.specs.FaultState.{FaultState, Cause}
 use Rattle.disk.specs.Moments.{passes_none, passes_stays}
 use Rattle.image.specs.Refusals.{PlaceRefused, ReadsOn, HasRead}
 
-pub reads_none : (a : Facts) (m : Mishaps) → a.lent.lanes ≡ 0 → HasRead a m a m
+pub reads_none : (a : Facts) (m : FaultState) → a.lent.lanes ≡ 0 → HasRead a m a m
 reads_none a m idle = record { content = refl; crash = passes_none a; none_out = idle; no_fewer = omega arith; no_failure = refl; unmoved = refl; refused = tt }
 
-still_refused : (old : Facts) (m : Mishaps) (mid : Facts) (n : Mishaps) (e : Refusal) (new : Facts) (o : Mishaps) → mid.failures ≡ old.failures → n ≡ m → PlaceRefused mid n e new o → PlaceRefused old m e new o
-still_refused old m mid n Device new o same calm why = (omega (arith, same, why.0), subst (λ (x : Mishaps). Cause x o) calm why.1)
+still_refused : (old : Facts) (m : FaultState) (mid : Facts) (n : FaultState) (e : Refusal) (new : Facts) (o : FaultState) → mid.failures ≡ old.failures → n ≡ m → PlaceRefused mid n e new o → PlaceRefused old m e new o
+still_refused old m mid n Device new o same calm why = (omega (arith, same, why.0), subst (λ (x : FaultState). Cause x o) calm why.1)
 still_refused old m mid n BadImage new o same calm why = (why.0 ∙ same, why.1 ∙ calm)
 still_refused old m mid n e new o same calm why = why
 
@@ -19,7 +19,7 @@ onward : {T A : Type 0} (r : Result T Refusal) (x y z : A) → y ≡ x → OnOk 
 onward (Ok v) x y z was more = more ∙ was
 onward (Err e) x y z was more = tt
 
-pub reads_more : {T : Type 0} (a : Facts) (m : Mishaps) (b : Facts) (n : Mishaps) (r : Result T Refusal) (c : Facts) (o : Mishaps) → HasRead a m b n → ReadsOn b n r c o → ReadsOn a m r c o
+pub reads_more : {T : Type 0} (a : Facts) (m : FaultState) (b : Facts) (n : FaultState) (r : Result T Refusal) (c : Facts) (o : FaultState) → HasRead a m b n → ReadsOn b n r c o → ReadsOn a m r c o
 reads_more a m b n r c o was more = record {
   content = more.content ∙ was.content;
   crash = passes_stays a b c Stays was.crash more.crash;

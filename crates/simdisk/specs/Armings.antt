@@ -2,14 +2,14 @@
 use Rattle.std.specs.Prelude.{◌≡◌, ◌⊎◌, ℕ, ◌-◌, Bool, Option, Some, None, true, false}
 use Rattle.disk.specs.declared.device.ArmedFault.{ArmedFault}
 use Rattle.disk.specs.declared.device.ArmedFault.TheVariants.{FailAt, CutAt, FailLane, CutLane}
-use Rattle.disk.specs.Mishaps.{Armed, Unarmed, FaultArmed, CutArmed, Mishaps, armed_by}
+use Rattle.disk.specs.FaultState.{Armed, Unarmed, FaultArmed, CutArmed, FaultState, armed_by}
 use Rattle.simdisk.specs.declared.faults.Faults.{Faults}
 
 abbrev pub arming : Option ArmedFault → Armed
 arming None = Unarmed
 arming (Some fault) = armed_by fault
 
-abbrev pub fault_state_of : Faults → ℕ → Mishaps
+abbrev pub fault_state_of : Faults → ℕ → FaultState
 fault_state_of faults own = record { armed = arming faults.armed; struck = faults.cut; own = own }
 
 -- what was armed struck, or power was cut before

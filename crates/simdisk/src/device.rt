@@ -1,7 +1,7 @@
 //! The disk in memory as a disk.
 ghost use Rattle.std.specs.Prelude.{◌≡◌, ◌⊎◌, ◌≤◌, ◌+◌, ◌*◌, ℕ, [], ◌∷◌, length, map, OnOk, OnErr, IfOk};
 ghost use Rattle.disk.specs.Facts.{Content, Torn, Written, Passes, Stays, Only, Apart, Found, Handed, InRow, Joined, Unchanged, counted, nothing, lent_sectors, lane_failures};
-ghost use Rattle.disk.specs.Mishaps.{CausedInLanes, armed_by};
+ghost use Rattle.disk.specs.FaultState.{CausedInLanes, armed_by};
 ghost use Rattle.disk.specs.Calls.{Called, NoCall};
 ghost use Rattle.simdisk.specs.Armings.{FailsNext, one_call_on};
 ghost use Rattle.simdisk.specs.Lendings.{Lends, TakesBack};

@@ -2,7 +2,7 @@
 ghost use Rattle.std.specs.Prelude.{◌≡◌, ◌≢◌, ◌⊎◌, ◌/◌, ◌%◌, ℕ, length, replicate, OnOk, IfOk, IfErr};
 ghost use Rattle.std.specs.Simd.{first_chunks};
 ghost use Rattle.disk.specs.Facts.{IsFresh, IsLeft, Unchanged};
-ghost use Rattle.disk.specs.Mishaps.{FaultArmed, CutArmed, no_mishap, fault_state_left};
+ghost use Rattle.disk.specs.FaultState.{FaultArmed, CutArmed, no_mishap, fault_state_left};
 ghost use Rattle.simdisk.specs.Record.{synced, new_record};
 ghost use Rattle.simdisk.specs.Choices.{left_by};
 

@@ -6,7 +6,7 @@ use Rattle.board_model.specs.Shapes.{Size}
 use Rattle.board_model.specs.declared.refusal.Refusal.{Refusal}
 use Rattle.board_model.specs.declared.refusal.Refusal.TheVariants.{Device, Down, Memory}
 use Rattle.disk.specs.Facts.{Facts, LeavesSince}
-use Rattle.disk.specs.Mishaps.{Mishaps}
+use Rattle.disk.specs.FaultState.{FaultState}
 use Rattle.disk.specs.Moments.{leaves_then, leaves_weaker}
 use Rattle.image.specs.Refusals.{WriteRefused}
 use Rattle.store.specs.Leaves.{LeavesOnly, StandsForEither, WroteACommand}
@@ -25,7 +25,7 @@ unfolding WroteACommand
 wrote_later old mid new same wrote = wrote ∙ ap (λ (k : ℕ). 1 - k) same
 
 -- a refusal but 5 and 6 has no cause, and the disk did not fail
-nothing_failed : (m : Mishaps) (n : ℕ) (e : Refusal) → (e ≡ Device → ⊥) → (e ≡ Down → ⊥) → CausedRefusal m e m × CountedRefusal n e n
+nothing_failed : (m : FaultState) (n : ℕ) (e : Refusal) → (e ≡ Device → ⊥) → (e ≡ Down → ⊥) → CausedRefusal m e m × CountedRefusal n e n
 nothing_failed m n Device not_device not_down = absurd (not_device refl)
 nothing_failed m n Down not_device not_down = absurd (not_down refl)
 nothing_failed m n e not_device not_down = (refl, refl)
@@ -74,7 +74,7 @@ then_issued Fits old mid new c result fits life reseen sized calm counted same f
   };
   leaves = goes_on old.disk mid.disk old.size (now_of old.life) first new.disk mid.size (now_of mid.life) c result sized (now_still old.life mid.life mid.life.found life reseen) did.leaves;
   written = written_on old.disk mid.disk new.disk result same did.written;
-  cause = subst (λ (m : Mishaps). MatchResult result (λ n. new.fault_state ≡ m) (λ e. CausedRefusal m e new.fault_state)) calm did.cause;
+  cause = subst (λ (m : FaultState). MatchResult result (λ n. new.fault_state ≡ m) (λ e. CausedRefusal m e new.fault_state)) calm did.cause;
   counts = subst (λ (k : ℕ). MatchResult result (λ n. new.disk.failures ≡ k) (λ e. CountedRefusal k e new.disk.failures)) counted did.counts;
 }
 

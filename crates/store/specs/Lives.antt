@@ -4,7 +4,7 @@ use Rattle.std.specs.Prelude.{◌≡◌, ◌⊎◌, ℕ, ◌+◌, ◌<◌, Bool,
 use Rattle.board_model.specs.Durable.{State, Image, Change, refusal_of, fold, ends_life}
 use Rattle.board_model.specs.Shapes.{Size, ram_bytes_of}
 use Rattle.disk.specs.Facts.{Facts, Failed}
-use Rattle.disk.specs.Mishaps.{Mishaps, Cause}
+use Rattle.disk.specs.FaultState.{FaultState, Cause}
 use Rattle.board_model.specs.Shown.{number_of, durable_of}
 use Rattle.board_model.specs.declared.refusal.Refusal.{Refusal}
 use Rattle.board_model.specs.declared.refusal.Refusal.TheVariants.{BadShape, NoImage, BadImage, Device, Down, Over, JournalFull, Memory}
@@ -79,7 +79,7 @@ IsLoaded s memory = (i : Image) × (s.image ≡ Some i) × (memory ≡ i.memory)
 
 -- why the image is not loaded: 3 for a memory of another size, 8 without an image, 5 where the disk failed in this call, 13 for
 -- an image that reads as no memory
-abbrev pub LoadRefused : Size → State → List ℕ → Facts → Mishaps → Refusal → Facts → Mishaps → Type 0
+abbrev pub LoadRefused : Size → State → List ℕ → Facts → FaultState → Refusal → Facts → FaultState → Type 0
 LoadRefused size s memory old m BadShape new n = (length memory ≡ ram_bytes_of size → ⊥) × (new.failures ≡ old.failures) × (n ≡ m)
 LoadRefused size s memory old m NoImage new n = (length memory ≡ ram_bytes_of size) × (s.image ≡ None) × (new.failures ≡ old.failures) × (n ≡ m)
 LoadRefused size s memory old m Device new n = (length memory ≡ ram_bytes_of size) × Failed old.failures new.failures × Cause m n

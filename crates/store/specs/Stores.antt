@@ -6,7 +6,7 @@ use Rattle.disk.specs.declared.device.ArmedFault.{ArmedFault}
 use Rattle.disk.specs.declared.device.Disk.{Ghosts}
 use Rattle.disk.specs.declared.device.Lane.{Ghosts as Lanes}
 use Rattle.disk.specs.Facts.{Facts}
-use Rattle.disk.specs.Mishaps.{Mishaps}
+use Rattle.disk.specs.FaultState.{FaultState}
 use Rattle.store.specs.Standing.{state_of, memory_in}
 use Rattle.board_model.specs.Shown.{change_in}
 use Rattle.store.specs.Lives.{Life, now_of}
@@ -22,7 +22,7 @@ module _ {D L : Type 0} {g : Ghosts D L} {l : Lanes L} where
   abbrev pub disk_of : Store D L g l → Facts
   disk_of store = g.facts store.disk
 
-  abbrev pub fault_state_of : Store D L g l → Mishaps
+  abbrev pub fault_state_of : Store D L g l → FaultState
   fault_state_of store = g.fault_state store.disk
 
   -- that fault is armed on its disk, and each call of it is still to come

@@ -6,7 +6,7 @@ use Rattle.board_model.specs.Shapes.{Size}
 use Rattle.board_model.specs.declared.refusal.Refusal.{Refusal}
 use Rattle.board_model.specs.declared.refusal.Refusal.TheVariants.{Device, Down}
 use Rattle.disk.specs.Facts.{Facts, LeavesSince, Failed}
-use Rattle.disk.specs.Mishaps.{Mishaps}
+use Rattle.disk.specs.FaultState.{FaultState}
 use Rattle.store.specs.Leaves.{IsIdle, SameLength, Leaves, LeavesOnly, LeavesEither, StandsForEither, WroteACommand}
 use Rattle.store.specs.Lives.{Life, now_of, begun}
 use Rattle.store.specs.Opens.{CausedRefusal}
@@ -15,7 +15,7 @@ use Rattle.store.specs.Standing.{StandsFor}
 -- what is seen of an open store: its disk, why that failed, the board, the life, and how often the disk had failed at the open
 pub record StoreView : Type 1 where
   pub disk : Facts
-  pub fault_state : Mishaps
+  pub fault_state : FaultState
   pub size : Size
   pub life : Life
   pub failures_at_open : ℕ

@@ -58,7 +58,7 @@ impl<D: Disk + Drop> Store<D> {
     ghost use Rattle.store.specs.Lives.{Reaches, TakesNone, Refused, Applied, IsReseen, SuspendRefused, Suspended, IsLoaded, LoadRefused};
     ghost use Rattle.store.specs.Views.{Opened, Answered, StaysOpen};
     ghost use Rattle.disk.specs.Facts.{LeavesSince, Unchanged, Passes, Stays, counted};
-    ghost use Rattle.disk.specs.Mishaps.{armed_by};
+    ghost use Rattle.disk.specs.FaultState.{armed_by};
     ghost use Rattle.store.specs.Standing.{StandsFor, selected};
     ghost use Rattle.store.specs.Stores.{device_of, disk_of, fault_state_of, arms_of, size_of_store, life_of, found_state, journal_of, now_state, receipts, doubt_of, failures_at_open, view_of, Stands, Doubts};
 

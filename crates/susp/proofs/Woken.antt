@@ -6,7 +6,7 @@ use Rattle.board_model.specs.Shapes.{Size}
 use Rattle.board_model.specs.declared.refusal.Refusal.{Refusal}
 use Rattle.board_model.specs.declared.refusal.Refusal.TheVariants.{Device, Down, NoImage}
 use Rattle.disk.specs.Facts.{Content, Facts, LeavesSince, Failed}
-use Rattle.disk.specs.Mishaps.{Mishaps}
+use Rattle.disk.specs.FaultState.{FaultState}
 use Rattle.disk.specs.Moments.{leaves_then, leaves_weaker}
 use Rattle.store.specs.Leaves.{Leaves, IsKept, LeavesOnly, StandsForEither, WroteACommand}
 use Rattle.store.specs.Lives.{Life, now_of, Applied, Reaches, Refused, LoadRefused}
@@ -47,7 +47,7 @@ answered_on old mid new c result life sized calm counted content first only did 
         in_doubt = goes.in_doubt;
       };
       written = wrote_on old.disk mid.disk new.disk result content did.written;
-      cause = subst (λ (m : Mishaps). MatchResult result (λ n. new.fault_state ≡ m) (λ e. CausedRefusal m e new.fault_state)) calm did.cause;
+      cause = subst (λ (m : FaultState). MatchResult result (λ n. new.fault_state ≡ m) (λ e. CausedRefusal m e new.fault_state)) calm did.cause;
       counts = subst (λ (k : ℕ). MatchResult result (λ n. new.disk.failures ≡ k) (λ e. CountedRefusal k e new.disk.failures)) counted did.counts;
     }
 
@@ -62,7 +62,7 @@ there s allowed none =
     let refused : Some 8 ≡ None = rw none at allowed in
     cc
 
-pub unloaded : (size : Size) (s : State) (memory : List ℕ) (old : Facts) (m : Mishaps) (e : Refusal) (new : Facts) (n : Mishaps) → refusal_of s Consume ≡ None
+pub unloaded : (size : Size) (s : State) (memory : List ℕ) (old : Facts) (m : FaultState) (e : Refusal) (new : Facts) (n : FaultState) → refusal_of s Consume ≡ None
     → (e ≡ Device) ⊎ ((e ≡ NoImage) × (s.image ≡ None)) → LoadRefused size s memory old m e new n → ((e ≡ Device) ⊎ (e ≡ Down)) × Failed old.failures new.failures
 unloaded size s memory old m e new n allowed (inl device) why =
     let was : LoadRefused size s memory old m Device new n = rw device at why in

@@ -1,5 +1,5 @@
 use Rattle.std.proofs.Common.{refl, subst}
-use Rattle.disk.specs.Mishaps.{armed_by}
+use Rattle.disk.specs.FaultState.{armed_by}
 use Rattle.bench_report.specs.declared.power.Power.{Power}
 use Rattle.bench_report.specs.Steps.{armed_with}
 use Rattle.bench_report.specs.Agree.{Agrees}

@@ -1,5 +1,5 @@
 use Rattle.std.proofs.Common.{refl, sym, ◌∙◌, ap, arith}
-use Rattle.disk.specs.Mishaps.{fault_state_left}
+use Rattle.disk.specs.FaultState.{fault_state_left}
 use Rattle.bench_report.proofs.Ended.{left_on, cut_leaves}
 use Rattle.bench_report.proofs.steps.cut.Goals as goal
 

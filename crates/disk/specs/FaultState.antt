@@ -17,13 +17,13 @@ armed_by (FailLane lane n) = FaultArmed
 armed_by (CutLane lane n) = CutArmed
 
 -- beside the facts of a disk: what is armed, whether an armed cut has struck, and how often it failed by itself
-pub record Mishaps : Type 0 where
+pub record FaultState : Type 0 where
   pub armed : Armed
   pub struck : Bool
   pub own : ℕ
 
 -- why a call failed: by itself; what was armed struck, and is gone; or the power was cut before
-abbrev pub Cause : Mishaps → Mishaps → Type 0
+abbrev pub Cause : FaultState → FaultState → Type 0
 Cause old new =
     (new ≡ record old { own = counted old.own 1 })
     ⊎ ((old.armed ≡ FaultArmed) × (new ≡ record old { armed = Unarmed }))
@@ -31,18 +31,18 @@ Cause old new =
     ⊎ ((old.struck ≡ true) × (new ≡ old))
 
 -- an error has a cause, and with Ok nothing struck
-pub record Caused {T E : Type 0} (old new : Mishaps) (result : Result T E) : Type 0 where
+pub record Caused {T E : Type 0} (old new : FaultState) (result : Result T E) : Type 0 where
   pub ok : OnOk result (new ≡ old)
   pub err : OnErr result (Cause old new)
 
 -- the same where lanes come back that failed so often
-pub record CausedInLanes (old new : Mishaps) (failures : ℕ) : Type 0 where
+pub record CausedInLanes (old new : FaultState) (failures : ℕ) : Type 0 where
   pub none : failures ≡ 0 → new ≡ old
   pub some : 0 < failures → Cause old new
 
 -- power was cut: what was armed and has struck is gone, and the count of its own failures goes on
-abbrev pub fault_state_left : Mishaps → Mishaps
+abbrev pub fault_state_left : FaultState → FaultState
 fault_state_left m = record { armed = Unarmed; struck = false; own = m.own }
 
-abbrev pub no_mishap : Mishaps
+abbrev pub no_mishap : FaultState
 no_mishap = record { armed = Unarmed; struck = false; own = 0 }
