@@ -2,7 +2,7 @@
 use Rattle.std.specs.Prelude.{◌≡◌, ℕ, List, [], ◌∷◌, Option, None}
 use Rattle.board_model.specs.Durable.{State, Change}
 use Rattle.board_model.specs.Kept.{Kept, nothing_kept}
-use Rattle.disk.specs.FaultState.{FaultState, no_mishap}
+use Rattle.disk.specs.FaultState.{FaultState, no_fault}
 use Rattle.machine.specs.Machine.{Machine}
 
 -- A disk that was never written; one of which nothing is known, since a format was refused 5 or cut, or it was written past the
@@ -41,4 +41,4 @@ no_payloads = [] ∷ [] ∷ [] ∷ [] ∷ []
 
 -- the bench after the board line
 abbrev pub blank_bench : Bench
-blank_bench = record { medium = Blank; kept = nothing_kept; power = None; payloads = no_payloads; growths = 0; failures = 0; fault_state = no_mishap }
+blank_bench = record { medium = Blank; kept = nothing_kept; power = None; payloads = no_payloads; growths = 0; failures = 0; fault_state = no_fault }

@@ -44,5 +44,5 @@ pub record CausedInLanes (old new : FaultState) (failures : ℕ) : Type 0 where
 abbrev pub fault_state_left : FaultState → FaultState
 fault_state_left m = record { armed = Unarmed; struck = false; own = m.own }
 
-abbrev pub no_mishap : FaultState
-no_mishap = record { armed = Unarmed; struck = false; own = 0 }
+abbrev pub no_fault : FaultState
+no_fault = record { armed = Unarmed; struck = false; own = 0 }

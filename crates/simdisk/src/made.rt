@@ -2,7 +2,7 @@
 ghost use Rattle.std.specs.Prelude.{◌≡◌, ◌≢◌, ◌⊎◌, ◌/◌, ◌%◌, ℕ, length, replicate, OnOk, IfOk, IfErr};
 ghost use Rattle.std.specs.Simd.{first_chunks};
 ghost use Rattle.disk.specs.Facts.{IsFresh, IsLeft, Unchanged};
-ghost use Rattle.disk.specs.FaultState.{FaultArmed, CutArmed, no_mishap, fault_state_left};
+ghost use Rattle.disk.specs.FaultState.{FaultArmed, CutArmed, no_fault, fault_state_left};
 ghost use Rattle.simdisk.specs.Record.{synced, new_record};
 ghost use Rattle.simdisk.specs.Choices.{left_by};
 
@@ -25,7 +25,7 @@ impl SimDisk {
         ensures fresh { IfOk result (λ disk. IsFresh (first_chunks 512 (length bytes.now / 512) bytes.now) (⟦<SimDisk as Disk>⟧.facts disk)) }
         ensures record { IfOk result (λ disk. ⟦<SimDisk as Recorded>⟧.record disk ≡ new_record (first_chunks 512 (length bytes.now / 512) bytes.now)) }
         ensures no_call { IfOk result (λ disk. ((⟦<SimDisk as Disk>⟧.facts disk).failures ≡ 0) × ((⟦<SimDisk as Disk>⟧.facts disk).calls ≡ 0)) }
-        ensures no_mishap { IfOk result (λ disk. ⟦<SimDisk as Disk>⟧.fault_state disk ≡ no_mishap) }
+        ensures no_fault { IfOk result (λ disk. ⟦<SimDisk as Disk>⟧.fault_state disk ≡ no_fault) }
         ensures whole { OnOk result (length bytes.now % 512 ≡ 0) }
         ensures refused { IfErr result (λ e. ((e ≡ Refusal.BadShape) × (length bytes.now % 512 ≢ 0)) ⊎ ((e ≡ Refusal.Memory) × (length bytes.now % 512 ≡ 0))) }
     {
@@ -42,7 +42,7 @@ impl SimDisk {
         ensures fresh { IfOk result (λ disk. IsFresh (replicate sectors (replicate 512 0)) (⟦<SimDisk as Disk>⟧.facts disk)) }
         ensures record { IfOk result (λ disk. ⟦<SimDisk as Recorded>⟧.record disk ≡ new_record (replicate sectors (replicate 512 0))) }
         ensures no_call { IfOk result (λ disk. ((⟦<SimDisk as Disk>⟧.facts disk).failures ≡ 0) × ((⟦<SimDisk as Disk>⟧.facts disk).calls ≡ 0)) }
-        ensures no_mishap { IfOk result (λ disk. ⟦<SimDisk as Disk>⟧.fault_state disk ≡ no_mishap) }
+        ensures no_fault { IfOk result (λ disk. ⟦<SimDisk as Disk>⟧.fault_state disk ≡ no_fault) }
     {
         let content = vec![in alloc; [0; 512]; sectors]?;
         SimDisk::holding(alloc, content)
@@ -53,7 +53,7 @@ impl SimDisk {
         ensures fresh { IfOk result (λ disk. IsFresh content.items (⟦<SimDisk as Disk>⟧.facts disk)) }
         ensures record { IfOk result (λ disk. ⟦<SimDisk as Recorded>⟧.record disk ≡ new_record content.items) }
         ensures no_call { IfOk result (λ disk. ((⟦<SimDisk as Disk>⟧.facts disk).failures ≡ 0) × ((⟦<SimDisk as Disk>⟧.facts disk).calls ≡ 0)) }
-        ensures no_mishap { IfOk result (λ disk. ⟦<SimDisk as Disk>⟧.fault_state disk ≡ no_mishap) }
+        ensures no_fault { IfOk result (λ disk. ⟦<SimDisk as Disk>⟧.fault_state disk ≡ no_fault) }
     {
         let history = History::begun(alloc, &content)?;
         let latest = Latest::begun(alloc, &content)?;
