@@ -16,7 +16,7 @@ use Rattle.bench_report.specs.declared.printed.Printed.{Printed}
 use Rattle.bench_report.specs.declared.printed.Printed.TheVariants as printed
 use Rattle.bench_report.specs.declared.printed.Answer.{Answer}
 use Rattle.bench_report.specs.Bench.{Medium, Blank, Unknown, Formatted, Life, Bench}
-use Rattle.bench_report.specs.Steps.{says, starved, IsHindered, off, on_with, formatted_anew, unknown, settled, has_machine, acknowledged, in_doubt, begun, commands_of, Writes, IssuedBy, Issued, IssuesAll, FormatsOn, IsOn, Starts, Resumes, Begins, Boots, Opens, ShowsFound, IsOpenRefusal, PowersOn}
+use Rattle.bench_report.specs.Steps.{says, starved, FailsByFault, off, on_with, formatted_anew, unknown, settled, has_machine, acknowledged, in_doubt, begun, commands_of, Writes, IssuedBy, Issued, IssuesAll, FormatsOn, IsOn, Starts, Resumes, Begins, Boots, Opens, ShowsFound, IsOpenRefusal, PowersOn}
 
 abbrev pub IsSpoilt : Bench → Type 0
 IsSpoilt b = (0 < b.growths) ⊎ (0 < b.failures)
@@ -53,7 +53,7 @@ spoils b new s = (λ h. s, λ c. inl s)
 pub starves : (c new : Bench) → new ≡ starved c → IsSpoilt new
 starves c new e = let g : new.growths ≡ c.growths + 1 = ap (λ x. x.growths) e in inl (omega arith)
 
-pub hinders : (c new : Bench) → IsHindered c new → IsSpoilt new
+pub hinders : (c new : Bench) → FailsByFault c new → IsSpoilt new
 hinders c new h = let g : new.failures ≡ counted c.failures 1 = ap (λ x. x.failures) h.2 in inr (omega (arith, g))
 
 -- ---- fair

@@ -8,7 +8,7 @@ use Rattle.disk.specs.Facts.{Facts, counted, Failed}
 use Rattle.disk.specs.FaultState.{FaultState, Cause}
 use Rattle.store.specs.Leaves.{SameLength}
 use Rattle.bench_report.specs.Bench.{Bench}
-use Rattle.bench_report.specs.Steps.{failed, IsHindered}
+use Rattle.bench_report.specs.Steps.{failed, FailsByFault}
 use Rattle.bench_report.specs.Agree.{DeviceIs}
 
 pub is_device : (e : Refusal) → (e ≡ Device) ⊎ (e ≢ Device)
@@ -32,7 +32,7 @@ counted_more a b h = omega (arith, h)
 
 -- a call failed, for a cause, and was counted
 pub hindered : (size : Size) (c : Bench) (m n : FaultState) (old new : Facts) → DeviceIs size c m old → Cause m n → Failed old.failures new.failures → SameLength old new
-    → IsHindered c (failed n c) × DeviceIs size (failed n c) n new
+    → FailsByFault c (failed n c) × DeviceIs size (failed n c) n new
 hindered size c m n old new is cause more same =
     let P : FaultState → Type 0 = λ x. Cause x n in
     ((n, subst P (sym is.0) cause, refl), (refl, omega (arith, counted_more c.failures old.failures is.1, more), omega (arith, is.2, same)))

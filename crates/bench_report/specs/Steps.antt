@@ -69,8 +69,8 @@ abbrev pub failed : FaultState → Bench → Bench
 failed m b = record b { failures = counted b.failures 1; fault_state = m }
 
 -- a call of the disk failed, for one of the causes that a disk has
-abbrev pub IsHindered : Bench → Bench → Type 0
-IsHindered b new = (m : FaultState) × Cause b.fault_state m × (new ≡ failed m b)
+abbrev pub FailsByFault : Bench → Bench → Type 0
+FailsByFault b new = (m : FaultState) × Cause b.fault_state m × (new ≡ failed m b)
 
 abbrev pub off : Bench → Bench
 off b = record b { power = None }
@@ -120,8 +120,8 @@ abbrev pub Writes : Option ℕ → Change → Life → Bench → Result ℕ ℕ 
 Writes (Some n) c life b o new = (o ≡ Err n) × (new ≡ b)
 Writes None c life b o new =
     ((o ≡ Ok (life.receipts + 1)) × (new ≡ acknowledged c life b))
-    ⊎ ((o ≡ Err 5) × IsHindered b new)
-    ⊎ ((o ≡ Err 6) × IsHindered (in_doubt c life b) new)
+    ⊎ ((o ≡ Err 5) × FailsByFault b new)
+    ⊎ ((o ≡ Err 6) × FailsByFault (in_doubt c life b) new)
 
 -- by the command that is in doubt: after it each is refused 6, and after 4,096 commands each is refused 10
 abbrev pub IssuedBy : Option Change → Change → Life → Bench → Result ℕ ℕ → Bench → Type 0
@@ -214,14 +214,14 @@ GuestTurns h (suc n) b made word new =
 abbrev pub FormatsOn : Medium → Bench → Answer → Bench → Type 0
 FormatsOn Blank b answer new =
     ((answer ≡ says printed.Formatted) × (new ≡ formatted_anew b))
-    ⊎ ((answer ≡ says (printed.FormatRefused 5)) × IsHindered (unknown b) new)
+    ⊎ ((answer ≡ says (printed.FormatRefused 5)) × FailsByFault (unknown b) new)
 FormatsOn Unknown b answer new =
     ((answer ≡ says printed.Formatted) × (new ≡ formatted_anew b))
-    ⊎ ((answer ≡ says (printed.FormatRefused 5)) × IsHindered b new)
+    ⊎ ((answer ≡ says (printed.FormatRefused 5)) × FailsByFault b new)
     ⊎ ((n : ℕ) × (n ≢ 5) × (answer ≡ says (printed.FormatRefused n)) × (new ≡ b))
 FormatsOn Formatted b answer new =
     ((answer ≡ says (printed.FormatRefused 2)) × (new ≡ b))
-    ⊎ ((answer ≡ says (printed.FormatRefused 5)) × IsHindered b new)
+    ⊎ ((answer ≡ says (printed.FormatRefused 5)) × FailsByFault b new)
 
 -- ---- power on
 
@@ -288,7 +288,7 @@ PowersOn size mode b answer new =
     ((s : State) × (z : Size) × (mid : Bench) × Opens size b.medium b s z mid × ShowsFound answer.found s × Boots (boot_refusal s mode) mode z s mid answer.line new)
     ⊎ ((n : ℕ) × IsOpenRefusal b.medium n × (answer ≡ says (printed.OnRefused n)) × (new ≡ b))
     ⊎ (MayStand b.medium × (answer ≡ says (printed.OnRefused 11)) × (new ≡ starved b))
-    ⊎ ((answer ≡ says (printed.OnRefused 5)) × IsHindered b new)
+    ⊎ ((answer ≡ says (printed.OnRefused 5)) × FailsByFault b new)
 
 -- ---- lines, by whether the board is on
 
