@@ -21,7 +21,7 @@ use Rattle.bench_report.specs.Bench.{Medium, Blank, Unknown, Formatted, Life, Be
 use Rattle.bench_report.specs.Steps.{failed, acknowledged, in_doubt, Writes, IssuedBy, Issued}
 use Rattle.bench_report.specs.Agree.{StoreIs, BoardIs, Follows, DeviceIs, OnIs, IsOver}
 use Rattle.bench_report.proofs.Adapted.{Reaches, Acknowledges, Refuses, acknowledged as acknowledges, ended, refused, struck, downed, calm as untouched}
-use Rattle.bench_report.proofs.Devices.{hindered, stays}
+use Rattle.bench_report.proofs.Devices.{fails_by_fault, stays}
 use Rattle.bench_report.proofs.Ended.{found_more}
 use Rattle.bench_report.proofs.Formats.{same_error}
 use Rattle.bench_report.proofs.Table.{not_device, not_down}
@@ -128,13 +128,13 @@ module _ (size : Size) (b : Bench) (life : Life) (c : Change) (old new : Store) 
       → (e ≡ Device → Failed (store_facts old).failures (store_facts new).failures) → (e ≡ Down → Failed (store_facts old).failures (store_facts new).failures)
       → Goes (Err (number_of e))
   up_err calm e (inl did) cause fails downs =
-      let x = hindered size b (store_fault_state old) (store_fault_state new) (store_facts old) (store_facts new) device (struck e (store_fault_state old) (store_fault_state new) cause did.0) (fails did.0) fits in
+      let x = fails_by_fault size b (store_fault_state old) (store_fault_state new) (store_facts old) (store_facts new) device (struck e (store_fault_state old) (store_fault_state new) cause did.0) (fails did.0) fits in
       let y = failed (store_fault_state new) b in
       let Q : Option ℕ → Type 0 = λ r. Writes r c life b (Err (number_of e)) y in
       (y, with_none calm (Err (number_of e)) y (inr (did.1.0, subst Q (sym did.1.1) (inr (inl (number e Device did.0, x.0))))), again y refl refl refl calm did.2 x.1, refl)
   up_err calm e (inr (inl did)) cause fails downs =
       let d = in_doubt c life b in
-      let x = hindered size d (store_fault_state old) (store_fault_state new) (store_facts old) (store_facts new) device (downed e (store_fault_state old) (store_fault_state new) cause did.0) (downs did.0) fits in
+      let x = fails_by_fault size d (store_fault_state old) (store_fault_state new) (store_facts old) (store_facts new) device (downed e (store_fault_state old) (store_fault_state new) cause did.0) (downs did.0) fits in
       let y = failed (store_fault_state new) d in
       let Q : Option ℕ → Type 0 = λ r. Writes r c life b (Err (number_of e)) y in (
         y,

@@ -31,9 +31,9 @@ counted_more : (a b : ℕ) → a ≤ b → counted a 1 ≤ counted b 1
 counted_more a b h = omega (arith, h)
 
 -- a call failed, for a cause, and was counted
-pub hindered : (size : Size) (c : Bench) (m n : FaultState) (old new : Facts) → DeviceIs size c m old → Cause m n → Failed old.failures new.failures → SameLength old new
+pub fails_by_fault : (size : Size) (c : Bench) (m n : FaultState) (old new : Facts) → DeviceIs size c m old → Cause m n → Failed old.failures new.failures → SameLength old new
     → FailsByFault c (failed n c) × DeviceIs size (failed n c) n new
-hindered size c m n old new is cause more same =
+fails_by_fault size c m n old new is cause more same =
     let P : FaultState → Type 0 = λ x. Cause x n in
     ((n, subst P (sym is.0) cause, refl), (refl, omega (arith, counted_more c.failures old.failures is.1, more), omega (arith, is.2, same)))
 

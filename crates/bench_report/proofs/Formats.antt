@@ -17,7 +17,7 @@ use Rattle.bench_report.specs.Below.{facts, fault_state}
 use Rattle.bench_report.specs.Bench.{Medium, Blank, Unknown, Formatted, Bench}
 use Rattle.bench_report.specs.Steps.{says, failed, formatted_anew, unknown, FormatsOn}
 use Rattle.bench_report.specs.Agree.{DiskIs, DeviceIs, OffIs}
-use Rattle.bench_report.proofs.Devices.{is_device, five, hindered, stays}
+use Rattle.bench_report.proofs.Devices.{is_device, five, fails_by_fault, stays}
 use Rattle.bench_report.proofs.Adapted.{struck, calm, failed_format, no_down}
 use Rattle.bench_report.proofs.Ended.{left_on}
 use Rattle.bench_report.proofs.KeptDisks.{KeptLaw, BlankLaw, passed}
@@ -53,7 +53,7 @@ module _ (kept : KeptLaw) (blank : BlankLaw) (size : Size) (b : Bench) (old new 
       → (x : Bench) × ((a ≡ says (printed.FormatRefused 5)) × ((n : FaultState) × Cause c.fault_state n × (x ≡ failed n c))) × OffIs size x new
   hinders c same count off disk is =
       let its : DeviceIs size c (fault_state old) (facts old) = (same ∙ device.0, rw count device.1, device.2) in
-      let x = hindered size c (fault_state old) (fault_state new) (facts old) (facts new) its (struck e (fault_state old) (fault_state new) cause is) (failed_format (facts old) size e (facts new) refusal is) fits in
+      let x = fails_by_fault size c (fault_state old) (fault_state new) (facts old) (facts new) its (struck e (fault_state old) (fault_state new) cause is) (failed_format (facts old) size e (facts new) refusal is) fits in
       (failed (fault_state new) c, (refused a e Device h is, x.0), (off, disk, x.1))
 
   keeps : e ≢ Device → DeviceIs size b (fault_state new) (facts new)

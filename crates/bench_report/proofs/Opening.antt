@@ -17,7 +17,7 @@ use Rattle.bench_report.specs.Below.{facts, fault_state}
 use Rattle.bench_report.specs.Bench.{Medium, Blank, Unknown, Formatted, Bench}
 use Rattle.bench_report.specs.Steps.{says, starved, failed, begun, MayStand, Opens, PowersOn}
 use Rattle.bench_report.specs.Agree.{DiskIs, DeviceIs, Follows, OffIs}
-use Rattle.bench_report.proofs.Devices.{is_device, is_memory, five, eleven, hindered, stays}
+use Rattle.bench_report.proofs.Devices.{is_device, is_memory, five, eleven, fails_by_fault, stays}
 use Rattle.bench_report.proofs.Adapted.{struck, calm, failed_open, never_down}
 use Rattle.bench_report.proofs.KeptDisks.{KeptLaw, BlankLaw, LeavesLess}
 use Rattle.bench_report.proofs.Ended.{left_on}
@@ -44,7 +44,7 @@ module _ (kept : KeptLaw) (blank : BlankLaw) (size : Size) (mode : BootMode) (b 
 
   hinders : DiskIs size b.medium b.kept (facts new) → e ≡ Device → Stays
   hinders disk is =
-      let x = hindered size b (fault_state old) (fault_state new) (facts old) (facts new) device (struck e (fault_state old) (fault_state new) cause is) (failed_open (facts old) e (facts new) refusal is) fits in
+      let x = fails_by_fault size b (fault_state old) (fault_state new) (facts old) (facts new) device (struck e (fault_state old) (fault_state new) cause is) (failed_open (facts old) e (facts new) refusal is) fits in
       (failed (fault_state new) b, inr (inr (inr (refused Device is, x.0))), (off, disk, x.1), refl)
 
   keeps : e ≢ Device → DeviceIs size b (fault_state new) (facts new)

@@ -30,7 +30,7 @@ use Rattle.bench_report.specs.Agree.{AreShort, DiskIs, DeviceIs, Follows, OffIs,
 use Rattle.bench_report.proofs.Adapted.{calm}
 use Rattle.bench_report.proofs.Commanded.{follows_more, follows_with}
 use Rattle.bench_report.proofs.Determined.{begun_size}
-use Rattle.bench_report.proofs.Devices.{hindered, stays}
+use Rattle.bench_report.proofs.Devices.{fails_by_fault, stays}
 use Rattle.bench_report.proofs.Ended.{left_only, left_either}
 use Rattle.bench_report.proofs.KeptDisks.{KeptLaw, BlankLaw}
 use Rattle.bench_report.proofs.Opening.{opens, open_err}
@@ -159,7 +159,7 @@ module _ (size : Size) (b : Bench) (old new : SimDisk) (z : Size) (s : State) (p
       → CountsRefusal (facts old).failures Device (facts new).failures → StartsOff mode
   failed_at mode c only allowed h left cause counts =
       let first : Bench = on_with (begun s z) b in
-      let did = hindered size first (fault_state old) (fault_state new) (facts old) (facts new) device cause counts long in
+      let did = fails_by_fault size first (fault_state old) (fault_state new) (facts old) (facts new) device cause counts long in
       let mid = failed (fault_state new) first in
       (off mid, refuses_it mode c 5 mid only allowed (inr (inl (refl, did.0))) h, (refl, kept_only size z b.medium b.kept s (facts new) follows left, did.1), refl)
 
@@ -168,7 +168,7 @@ module _ (size : Size) (b : Bench) (old new : SimDisk) (z : Size) (s : State) (p
       → CountsRefusal (facts old).failures Down (facts new).failures → StartsOff mode
   doubted_at mode c only allowed h left cause counts =
       let d : Bench = in_doubt c (begun s z) (on_with (begun s z) b) in
-      let did = hindered size d (fault_state old) (fault_state new) (facts old) (facts new) device cause counts long in
+      let did = fails_by_fault size d (fault_state old) (fault_state new) (facts old) (facts new) device cause counts long in
       let mid = failed (fault_state new) d in
       (off mid, refuses_it mode c 6 mid only allowed (inr (inr (refl, did.0))) h, (refl, kept_either size z b.medium b.kept s c (facts new) follows allowed left, did.1), refl)
 
