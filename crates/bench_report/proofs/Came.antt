@@ -38,7 +38,7 @@ use Rattle.machine.specs.declared.parts.Word.TheVariants as words
 use Rattle.board.specs.Turns as boards
 use Rattle.bench_report.specs.Below.{Store, IsLife, IsAs, store_size, store_fault_state, store_facts}
 use Rattle.bench_report.specs.Bench.{Life, Bench}
-use Rattle.bench_report.specs.Steps.{starved, off, on_with, has_machine, acknowledged, Issued, refused, Refuses, Held, Resets, Suspends, IsAlone, Sleeps, SleepsBy, MakesCall, Comes, GuestTurn, IsLastTurn, GuestTurns}
+use Rattle.bench_report.specs.Steps.{out_of_memory, off, on_with, has_machine, acknowledged, Issued, refused, Refuses, Held, Resets, Suspends, IsAlone, Sleeps, SleepsBy, MakesCall, Comes, GuestTurn, IsLastTurn, GuestTurns}
 use Rattle.bench_report.specs.Agree.{StoreIs, DeviceIs, IsOver}
 use Rattle.bench_report.proofs.Adapted.{calm as untouched}
 use Rattle.bench_report.proofs.Commanded.{Running, follows_with, sized_for, told_end, told_err, told_up, told_down, again, calm_device, unmoved}
@@ -177,7 +177,7 @@ module _ (size : Size) (b : Bench) (life : Life) (h : ℕ) (n : Machine) (old ne
       fit_err none fits e (inr (inr (inl x))) cause counts =
           let up : e ≡ Down → ⊥ = λ f. (let g : Memory ≡ Down = sym x.0 ∙ f in let no : ⊥ = cc in no) in
           let is : e ≡ Device → ⊥ = λ f. (let g : Memory ≡ Device = sym x.0 ∙ f in let no : ⊥ = cc in no) in
-          (11, (starved b, inr (inl (fits, refl, refl)), as_it_was none e up is cause x.3 (starved b) refl refl refl refl refl, refl))
+          (11, (out_of_memory b, inr (inl (fits, refl, refl)), as_it_was none e up is cause x.3 (out_of_memory b) refl refl refl refl refl, refl))
       fit_err none fits e (inr (inr (inr (inl x)))) cause counts = absurd (let g : true ≡ false = sym x.1 ∙ (seen_as none).3 in let no : ⊥ = cc in no)
       fit_err none fits e (inr (inr (inr (inr x)))) cause counts = goes_up none fits e (inr (inr (inr (inl (x.0, x.1, x.2, x.3))))) cause counts
 

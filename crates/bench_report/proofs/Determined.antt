@@ -16,7 +16,7 @@ use Rattle.bench_report.specs.declared.printed.Printed.{Printed}
 use Rattle.bench_report.specs.declared.printed.Printed.TheVariants as printed
 use Rattle.bench_report.specs.declared.printed.Answer.{Answer}
 use Rattle.bench_report.specs.Bench.{Medium, Blank, Unknown, Formatted, Life, Bench}
-use Rattle.bench_report.specs.Steps.{says, starved, FailsByFault, off, on_with, formatted_anew, unknown, settled, has_machine, acknowledged, in_doubt, begun, commands_of, Writes, IssuedBy, Issued, IssuesAll, FormatsOn, IsOn, Starts, Resumes, Begins, Boots, Opens, ShowsFound, IsOpenRefusal, PowersOn}
+use Rattle.bench_report.specs.Steps.{says, out_of_memory, FailsByFault, off, on_with, formatted_anew, unknown, settled, has_machine, acknowledged, in_doubt, begun, commands_of, Writes, IssuedBy, Issued, IssuesAll, FormatsOn, IsOn, Starts, Resumes, Begins, Boots, Opens, ShowsFound, IsOpenRefusal, PowersOn}
 
 abbrev pub IsSpoilt : Bench → Type 0
 IsSpoilt b = (0 < b.growths) ⊎ (0 < b.failures)
@@ -50,7 +50,7 @@ unmoved b new e = fair_to b new b e (λ s. s, λ c. inr c)
 pub spoils : (b new : Bench) → IsSpoilt new → Fair b new
 spoils b new s = (λ h. s, λ c. inl s)
 
-pub starves : (c new : Bench) → new ≡ starved c → IsSpoilt new
+pub starves : (c new : Bench) → new ≡ out_of_memory c → IsSpoilt new
 starves c new e = let g : new.growths ≡ c.growths + 1 = ap (λ x. x.growths) e in inl (omega arith)
 
 pub hinders : (c new : Bench) → FailsByFault c new → IsSpoilt new

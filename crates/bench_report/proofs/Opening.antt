@@ -15,7 +15,7 @@ use Rattle.bench_report.specs.declared.printed.Answer.{Answer}
 use Rattle.bench_report.specs.declared.printed.Printed.TheVariants as printed
 use Rattle.bench_report.specs.Below.{facts, fault_state}
 use Rattle.bench_report.specs.Bench.{Medium, Blank, Unknown, Formatted, Bench}
-use Rattle.bench_report.specs.Steps.{says, starved, failed, begun, MayStand, Opens, PowersOn}
+use Rattle.bench_report.specs.Steps.{says, out_of_memory, failed, begun, MayStand, Opens, PowersOn}
 use Rattle.bench_report.specs.Agree.{DiskIs, DeviceIs, Follows, OffIs}
 use Rattle.bench_report.proofs.Devices.{is_device, is_memory, five, eleven, fails_by_fault, stays}
 use Rattle.bench_report.proofs.Adapted.{struck, calm, failed_open, never_down}
@@ -51,7 +51,7 @@ module _ (kept : KeptLaw) (blank : BlankLaw) (size : Size) (mode : BootMode) (b 
   keeps is = stays size b (fault_state old) (fault_state new) (facts old) (facts new) device (calm e (fault_state old) (fault_state new) cause (never_down (facts old) e (facts new) refusal) is) no_fewer fits
 
   starves : MayStand b.medium → DiskIs size b.medium b.kept (facts new) → e ≡ Memory → Stays
-  starves stands disk is = (starved b, inr (inr (inl (stands, refused Memory is, refl))), (off, disk, keeps (λ d. (let no : ⊥ = cc in no))), refl)
+  starves stands disk is = (out_of_memory b, inr (inr (inl (stands, refused Memory is, refl))), (off, disk, keeps (λ d. (let no : ⊥ = cc in no))), refl)
 
   by_medium : (m : Medium) → b.medium ≡ m → DiskIs size m b.kept (facts old) → DiskIs size b.medium b.kept (facts new) → Stays
   by_medium Blank at was disk =

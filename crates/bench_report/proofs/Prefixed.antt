@@ -30,7 +30,7 @@ use Rattle.bench_report.specs.declared.printed.Printed.TheVariants as printed
 use Rattle.disk.specs.FaultState.{FaultArmed, CutArmed}
 use Rattle.bench_report.specs.declared.printed.Answer.{Answer}
 use Rattle.bench_report.specs.Bench.{Medium, Blank, Unknown, Formatted, Life, Bench, blank_bench}
-use Rattle.bench_report.specs.Steps.{says, shows, starved, failed, on_with, unpowered, armed_with, formatted_anew, settled, has_machine, begun, commands_of, console_told, IsOn, Starts, Resumes, Begins, Boots, Opens, ShowsFound, IsOpenRefusal, PowersOn, FormatsOn, FormatStep, OnStep, ConsoleStep, PayloadStep, CallTold, GuestCall, TurnStep, CallStep, ReadStep, PokeStep, Step, Moves, Run}
+use Rattle.bench_report.specs.Steps.{says, shows, out_of_memory, failed, on_with, unpowered, armed_with, formatted_anew, settled, has_machine, begun, commands_of, console_told, IsOn, Starts, Resumes, Begins, Boots, Opens, ShowsFound, IsOpenRefusal, PowersOn, FormatsOn, FormatStep, OnStep, ConsoleStep, PayloadStep, CallTold, GuestCall, TurnStep, CallStep, ReadStep, PokeStep, Step, Moves, Run}
 use Rattle.bench_report.specs.Reports.{IsByFirmware, AreByFirmware, IsReport}
 use Rattle.bench_report.specs.Prefix.{Asked, Boot, Command, Guest, Nothing, Hides, TellsWord, TellsLine, asked_by, Refused, Lost, Tells, ShowsIts, IsPrefixed, resumes, RisesFrom, AreLoaded, is_format_ok, IsFoundByPrefix, KeepsPrefixLaw}
 use Rattle.bench_report.proofs.Unsaid.{GoesBy, comes_back, turns_back}
@@ -147,7 +147,7 @@ module _ (b : Bench) (changes : List Change) (may : MayKeep b.kept changes) (med
   boots : (r : Option ℕ) (mode : BootMode) (z : Size) (a : Answer) (new : Bench) → a.found ≡ Some (durable_of (found_of changes)) → Boots r mode z (found_of changes) (settled changes b) a.line new → Tell (Boot mode) b a new
   boots (Some n) mode z a new found h = refused_boot n mode a (settled changes b) new found h.0 h.1 refl refl refl
   boots None mode z a new found (inl h) = begins mode z a new found h
-  boots None mode z a new found (inr h) = refused_boot 11 mode a (starved (settled changes b)) new found h.0 h.1 refl refl refl
+  boots None mode z a new found (inr h) = refused_boot 11 mode a (out_of_memory (settled changes b)) new found h.0 h.1 refl refl refl
 
 opens : (size : Size) (m : Medium) (mode : BootMode) (b : Bench) (a : Answer) (new mid : Bench) (s : State) (z : Size) → b.medium ≡ m → b.medium ≡ Formatted → b.power ≡ None → Opens size m b s z mid → ShowsFound a.found s
     → Boots (boot_refusal s mode) mode z s mid a.line new → Tell (Boot mode) b a new
@@ -161,7 +161,7 @@ opens size Formatted mode b a new mid s z at medium on (changes, may, is, sized,
 powers : (size : Size) (mode : BootMode) (b : Bench) (a : Answer) (new : Bench) → IsSound b → b.power ≡ None → PowersOn size mode b a new → Tell (Boot mode) b a new
 powers size mode b a new sound on (inl (s, z, mid, found, shows, boot)) = opens size b.medium mode b a new mid s z refl sound.0 on found shows boot
 powers size mode b a new sound on (inr (inl h)) = let P : Medium → Type 0 = λ m. IsOpenRefusal m h.0 in absurd (subst P sound.0 h.1)
-powers size mode b a new sound on (inr (inr (inl h))) = same (Boot mode) b a (printed.OnRefused 11) new (starved b) h.1 h.2 refl refl refl sound.1 sound (λ s t e. (ap is_up on, ap is_up on, inl e))
+powers size mode b a new sound on (inr (inr (inl h))) = same (Boot mode) b a (printed.OnRefused 11) new (out_of_memory b) h.1 h.2 refl refl refl sound.1 sound (λ s t e. (ap is_up on, ap is_up on, inl e))
 powers size mode b a new sound on (inr (inr (inr h))) = same (Boot mode) b a (printed.OnRefused 5) new (failed h.1.0 b) h.0 h.1.2 refl refl refl sound.1 sound (λ s t e. (ap is_up on, ap is_up on, inl e))
 
 -- ---- the other lines

@@ -25,7 +25,7 @@ use Rattle.bench_report.specs.declared.printed.Printed.{Printed}
 use Rattle.bench_report.specs.declared.printed.Printed.TheVariants as printed
 use Rattle.bench_report.specs.Below.{Store, Board, store_in, machine_in, facts, fault_state, store_size, store_facts, store_fault_state, IsLife, IsAs}
 use Rattle.bench_report.specs.Bench.{Medium, Blank, Unknown, Formatted, Life, Bench}
-use Rattle.bench_report.specs.Steps.{says, starved, failed, off, on_with, has_machine, begun, acknowledged, in_doubt, commands_of, Writes, Issued, IssuesAll, ShowsFound, Opens, Starts, Begins, Boots, PowersOn}
+use Rattle.bench_report.specs.Steps.{says, out_of_memory, failed, off, on_with, has_machine, begun, acknowledged, in_doubt, commands_of, Writes, Issued, IssuesAll, ShowsFound, Opens, Starts, Begins, Boots, PowersOn}
 use Rattle.bench_report.specs.Agree.{AreShort, DiskIs, DeviceIs, Follows, OffIs, OnIs}
 use Rattle.bench_report.proofs.Adapted.{calm}
 use Rattle.bench_report.proofs.Commanded.{follows_more, follows_with}
@@ -189,7 +189,7 @@ module _ (size : Size) (b : Bench) (old new : SimDisk) (z : Size) (s : State) (p
   late : (mode : BootMode) (e : Refusal) → boot_refusal s mode ≡ None → line ≡ printed.OnRefused (number_of e) → IsLateRefusal mode z payloads s e → LeavesLife (doubt_after mode e) (facts new) z s → CausedRefusal (fault_state old) e (fault_state new)
       → CountsRefusal (facts old).failures e (facts new).failures → Left None mode
   late mode BadShape allowed h why left cause counts = absurd (why fits)
-  late mode Memory allowed h why left cause counts = (starved b, inr (h, refl), quiet mode Memory (λ f. (let no : ⊥ = cc in no)) (λ f. (let no : ⊥ = cc in no)) cause left, refl)
+  late mode Memory allowed h why left cause counts = (out_of_memory b, inr (h, refl), quiet mode Memory (λ f. (let no : ⊥ = cc in no)) (λ f. (let no : ⊥ = cc in no)) cause left, refl)
   late mode Device allowed h why left cause counts = late_device mode allowed h why.1 left cause counts
   late mode Down allowed h why left cause counts = late_down mode allowed h why.1 left cause counts
   late mode BadImage allowed h why left cause counts =

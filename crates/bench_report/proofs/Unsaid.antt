@@ -19,7 +19,7 @@ use Rattle.sbi.specs.Resets.{reset_of}
 use Rattle.bench_report.specs.Taken.{Takes, TakesSome}
 use Rattle.bench_report.specs.Bench.{Life, Bench}
 use Rattle.bench_report.specs.Prefix.{IsReset, IsSuspension, IsOfHarts, Hides, TellsWord}
-use Rattle.bench_report.specs.Steps.{starved, off, on_with, has_machine, refused, Refuses, Held, Resets, Suspends, Sleeps, SleepsBy, MakesCall, Comes, GuestTurn, GuestTurns}
+use Rattle.bench_report.specs.Steps.{out_of_memory, off, on_with, has_machine, refused, Refuses, Held, Resets, Suspends, Sleeps, SleepsBy, MakesCall, Comes, GuestTurn, GuestTurns}
 use Rattle.bench_report.proofs.Issues.{takes_more, is_up, GoesOn, IsSound, Back, joined, Went, issued_back}
 
 -- the state before and after, by the word
@@ -92,7 +92,7 @@ none_went n c b mid sound differs medium kept power =
 
 suspends_back : (Fits : Type 0) (c : Change) (life : Life) (b : Bench) (o : Result ℕ ℕ) (mid : Bench) → IsSound b → b.power ≡ Some life → Suspends Fits c life b o mid → Back b mid (Went o c (is_up b.power) (is_up mid.power))
 suspends_back Fits c life b o mid sound on (inl x) = issued_back c life b o mid sound on x.1
-suspends_back Fits c life b o mid sound on (inr (inl x)) = at 11 (starved b) x.1 x.2 (none_went 11 c b (starved b) sound (λ f. omega (arith, f)) refl refl refl)
+suspends_back Fits c life b o mid sound on (inr (inl x)) = at 11 (out_of_memory b) x.1 x.2 (none_went 11 c b (out_of_memory b) sound (λ f. omega (arith, f)) refl refl refl)
   where
     at : (n : ℕ) (y : Bench) → o ≡ Err n → mid ≡ y → Back b y (Went (Err n) c (is_up b.power) (is_up y.power)) → Back b mid (Went o c (is_up b.power) (is_up mid.power))
     at n y e f back =

@@ -35,7 +35,7 @@ use Rattle.bench_report.specs.declared.printed.Printed.TheVariants as printed
 use Rattle.bench_report.specs.Bench.{Medium, Blank, Unknown, Formatted, Life, Bench}
 use Rattle.bench_report.specs.Prefix.{IsLoaded, AreLoaded}
 use Rattle.bench_report.specs.Reports.{IsByFirmware, AreByFirmware}
-use Rattle.bench_report.specs.Steps.{starved, failed, off, on_with, unpowered, armed_with, settled, has_machine, acknowledged, in_doubt, begun, commands_of, Writes, IssuedBy, Issued, IssuesAll, refused, Refuses, Held, Resets, Suspends, Sleeps, SleepsBy, MakesCall, Comes, GuestTurn, GuestTurns, FormatsOn, IsOn, Starts, Begins, Boots, Opens, IsOpenRefusal, PowersOn, FormatStep, OnStep, ConsoleStep, PayloadStep, GuestCall, TurnStep, CallStep, ReadStep, Step, Moves, Run}
+use Rattle.bench_report.specs.Steps.{out_of_memory, failed, off, on_with, unpowered, armed_with, settled, has_machine, acknowledged, in_doubt, begun, commands_of, Writes, IssuedBy, Issued, IssuesAll, refused, Refuses, Held, Resets, Suspends, Sleeps, SleepsBy, MakesCall, Comes, GuestTurn, GuestTurns, FormatsOn, IsOn, Starts, Begins, Boots, Opens, IsOpenRefusal, PowersOn, FormatStep, OnStep, ConsoleStep, PayloadStep, GuestCall, TurnStep, CallStep, ReadStep, Step, Moves, Run}
 use Rattle.bench_report.proofs.Adapted.{grows}
 use Rattle.bench_report.proofs.Determined.{begun_size}
 use Rattle.bench_report.proofs.Table.{table_not_thirteen, mode_not_thirteen}
@@ -116,7 +116,7 @@ module _ (size : Size) where
 
   suspends : (Fits : Type 0) (c : Change) (life : Life) (b : Bench) (o : Result ℕ ℕ) (new : Bench) → (Fits → CarriesWhole size c) → b.power ≡ Some life → IsKeptWhole size b → Suspends Fits c life b o new → IsKeptWhole size new
   suspends Fits c life b o new carries on k (inl x) = issued c life b o new (carries x.0) on k x.1
-  suspends Fits c life b o new carries on k (inr (inl x)) = same_as (starved b) new x.2 k
+  suspends Fits c life b o new carries on k (inr (inl x)) = same_as (out_of_memory b) new x.2 k
   suspends Fits c life b o new carries on k (inr (inr x)) = same_as b new x.2 k
 
   fits_whole : (life : Life) (id site opaque : ℕ) → life.machine.size ≡ size → FitsBoard life.machine.size life.machine.memory id site → CarriesWhole size (Suspend id site opaque life.machine.memory)
@@ -193,7 +193,7 @@ module _ (size : Size) where
   boots : (r : Option ℕ) (mode : BootMode) (z : Size) (s : State) (b : Bench) (line : Printed) (new : Bench) → z ≡ size → IsKeptWhole size b → Boots r mode z s b line new → IsKeptWhole size new
   boots (Some n) mode z s b line new same k x = same_as b new x.1 k
   boots None mode z s b line new same k (inl x) = begins mode z s b line new same k x
-  boots None mode z s b line new same k (inr x) = same_as (starved b) new x.1 k
+  boots None mode z s b line new same k (inr x) = same_as (out_of_memory b) new x.1 k
 
   -- an open finds a state whose image is whole, for a board of the script's size
   opens : (m : Medium) (b : Bench) (s : State) (z : Size) (mid : Bench) → b.medium ≡ m → b.power ≡ None → IsKeptWhole size b → Opens size m b s z mid → IsWhole size s × (z ≡ size) × IsKeptWhole size mid
@@ -209,7 +209,7 @@ module _ (size : Size) where
       let at = opens b.medium b s z mid refl none k found in
       boots (boot_refusal s mode) mode z s mid a.line new at.1 at.2 x
   powers mode b a new none k (inr (inl x)) = same_as b new x.3 k
-  powers mode b a new none k (inr (inr (inl x))) = same_as (starved b) new x.2 k
+  powers mode b a new none k (inr (inr (inl x))) = same_as (out_of_memory b) new x.2 k
   powers mode b a new none k (inr (inr (inr x))) = same_as (failed x.1.0 b) new x.1.2 k
 
   -- ---- lines

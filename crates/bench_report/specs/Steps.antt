@@ -61,8 +61,8 @@ shows line = says (printed.Shown line)
 -- ---- the bench after one thing that happened
 
 -- a power-on was refused memory
-abbrev pub starved : Bench → Bench
-starved b = record b { growths = b.growths + 1 }
+abbrev pub out_of_memory : Bench → Bench
+out_of_memory b = record b { growths = b.growths + 1 }
 
 -- a failure of the disk was answered, after which its fault state is this
 abbrev pub failed : FaultState → Bench → Bench
@@ -164,7 +164,7 @@ Resets (Ok reset) h life b word new = (o : Result ℕ ℕ) × (mid : Bench) × I
 abbrev pub Suspends : Type 0 → Change → Life → Bench → Result ℕ ℕ → Bench → Type 0
 Suspends Fits c life b o new =
     (Fits × Issued c life b o new)
-    ⊎ (Fits × (o ≡ Err 11) × (new ≡ starved b))
+    ⊎ (Fits × (o ≡ Err 11) × (new ≡ out_of_memory b))
     ⊎ ((Fits → ⊥) × (o ≡ Err 3) × (new ≡ b))
 
 -- every hart but that one is STOPPED
@@ -257,7 +257,7 @@ Begins modes.Resume z s b line new = Resumes z s b line new
 -- the boot after an open that found a state, by the number with which that refuses the mode; there may be no memory
 abbrev pub Boots : Option ℕ → BootMode → Size → State → Bench → Printed → Bench → Type 0
 Boots (Some n) mode z s b line new = (line ≡ printed.OnRefused n) × (new ≡ b)
-Boots None mode z s b line new = Begins mode z s b line new ⊎ ((line ≡ printed.OnRefused 11) × (new ≡ starved b))
+Boots None mode z s b line new = Begins mode z s b line new ⊎ ((line ≡ printed.OnRefused 11) × (new ≡ out_of_memory b))
 
 -- an open that succeeds finds this state, and its board is of that size: a command in doubt is settled
 abbrev pub Opens : Size → Medium → Bench → State → Size → Bench → Type 0
@@ -287,7 +287,7 @@ abbrev pub PowersOn : Size → BootMode → Bench → Answer → Bench → Type 
 PowersOn size mode b answer new =
     ((s : State) × (z : Size) × (mid : Bench) × Opens size b.medium b s z mid × ShowsFound answer.found s × Boots (boot_refusal s mode) mode z s mid answer.line new)
     ⊎ ((n : ℕ) × IsOpenRefusal b.medium n × (answer ≡ says (printed.OnRefused n)) × (new ≡ b))
-    ⊎ (MayStand b.medium × (answer ≡ says (printed.OnRefused 11)) × (new ≡ starved b))
+    ⊎ (MayStand b.medium × (answer ≡ says (printed.OnRefused 11)) × (new ≡ out_of_memory b))
     ⊎ ((answer ≡ says (printed.OnRefused 5)) × FailsByFault b new)
 
 -- ---- lines, by whether the board is on
