@@ -14,7 +14,7 @@ use Rattle.disk.specs.FaultState.{FaultArmed, CutArmed}
 use Rattle.bench_report.specs.declared.printed.ConsoleWord.{ConsoleWord}
 use Rattle.bench_report.specs.declared.printed.ConsoleWord.TheVariants as names
 use Rattle.bench_report.specs.declared.printed.Answer.{Answer}
-use Rattle.bench_report.specs.Bench.{Medium, Blank, Unknown, Formatted, Life, Bench, IsUnspoilt, blank_bench}
+use Rattle.bench_report.specs.Bench.{Medium, Blank, Unknown, Formatted, Life, Bench, IsFailureFree, blank_bench}
 use Rattle.bench_report.specs.Steps.{on_with, settled, acknowledged, begun, Writes, Issued, IssuedBy, ShowsFound, ArmStep, FormatsOn, Boots, Begins, Opens, IsOpenRefusal, PowersOn, FormatStep, OnStep, ConsoleStep, PayloadStep, Step, Run}
 use Rattle.bench_report.specs.Reports.{IsByFirmware, AreByFirmware, IsReport}
 use Rattle.bench_report.specs.Plain.{plain_written, plain_issued, plain_console, plain_format, plain_slot, plain_boot, plain_on, plain_at, plain, plain_answers, plain_report, IsPlain, ArePlain}
@@ -179,7 +179,7 @@ are_by : (ls : List Line) → ArePlain ls → AreByFirmware ls
 are_by [] are = tt
 are_by (l ∷ ls) are = (plain_by l are.0, are_by ls are.1)
 
-pub plain_alone : IsOneTurn → IsOneCall → IsOneCsr → (script : Script) (answers : List Answer) (end : Bench) → IsReport script answers end → IsUnspoilt end → ArePlain script.lines → answers ≡ plain_report script
+pub plain_alone : IsOneTurn → IsOneCall → IsOneCsr → (script : Script) (answers : List Answer) (end : Bench) → IsReport script answers end → IsFailureFree end → ArePlain script.lines → answers ≡ plain_report script
 plain_alone turns call csr script answers end h unspoilt plain =
     let run = runs script.size script.lines blank_bench plain (tt, tt, refl, refl) in
     (one_report turns call csr script answers (plain_report script) end run.0 (are_by script.lines plain) h (refl, run.1) unspoilt run.2).0

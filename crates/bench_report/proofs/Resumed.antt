@@ -13,7 +13,7 @@ use Rattle.script_lang.specs.declared.line.Line.TheVariants as lines
 use Rattle.bench_report.specs.declared.printed.Answer.{Answer}
 use Rattle.bench_report.specs.declared.printed.Printed.{Printed}
 use Rattle.bench_report.specs.declared.printed.Printed.TheVariants as printed
-use Rattle.bench_report.specs.Bench.{Medium, Blank, Unknown, Formatted, Life, Bench, IsUnspoilt, blank_bench}
+use Rattle.bench_report.specs.Bench.{Medium, Blank, Unknown, Formatted, Life, Bench, IsFailureFree, blank_bench}
 use Rattle.bench_report.specs.Steps.{says, on_with, settled, has_machine, acknowledged, begun, Writes, Issued, IssuesAll, ShowsFound, IsOn, Starts, Resumes, Boots, Opens, IsOpenRefusal, PowersOn, OnStep, Moves}
 use Rattle.bench_report.specs.Reports.{AreByFirmware, IsReport}
 use Rattle.bench_report.specs.Resumed.{IsMadeIn, IsResumedFrom}
@@ -137,7 +137,7 @@ resumed_from size b a new medium (inr (would, mid, h, struck, e, is)) line = sai
 
 -- ---- without failures
 -- nothing is in doubt on the formatted disk of a run in which memory was never refused and no failure was answered
-pub sure : (script : Script) (answers : List Answer) (b : Bench) → AreByFirmware script.lines → IsReport script answers b → IsUnspoilt b → b.medium ≡ Formatted → b.kept.doubt ≡ None
+pub sure : (script : Script) (answers : List Answer) (b : Bench) → AreByFirmware script.lines → IsReport script answers b → IsFailureFree b → b.medium ≡ Formatted → b.kept.doubt ≡ None
 sure script [] b by h unspoilt medium = absurd h
 sure script (board ∷ answers) b by h unspoilt medium =
     let P : Medium → Type 0 = λ m. CalmDisk m b.kept.doubt in
@@ -152,22 +152,22 @@ opens_sure size Blank b s z mid at medium calm h = absurd h
 opens_sure size Unknown b s z mid at medium calm h = absurd (let e : Unknown ≡ Formatted = sym at ∙ medium in let no : ⊥ = cc in no)
 opens_sure size Formatted b s z mid at medium calm (changes, may, is, sized, e) = is ∙ ap found_of (kept_as b.kept changes calm may)
 
-powers_sure : (size : Size) (mode : BootMode) (b : Bench) (a : Answer) (new : Bench) → b.medium ≡ Formatted → b.kept.doubt ≡ None → IsUnspoilt new → PowersOn size mode b a new → a.found ≡ Some (durable_of (found_of b.kept.changes))
+powers_sure : (size : Size) (mode : BootMode) (b : Bench) (a : Answer) (new : Bench) → b.medium ≡ Formatted → b.kept.doubt ≡ None → IsFailureFree new → PowersOn size mode b a new → a.found ≡ Some (durable_of (found_of b.kept.changes))
 powers_sure size mode b a new medium calm unspoilt (inl (s, z, mid, found, shows, boot)) = found_as a.found s shows ∙ ap (λ x. Some (durable_of x)) (opens_sure size b.medium b s z mid refl medium calm found)
 powers_sure size mode b a new medium calm unspoilt (inr (inl h)) = let P : Medium → Type 0 = λ m. IsOpenRefusal m h.0 in absurd (subst P medium h.1)
 powers_sure size mode b a new medium calm unspoilt (inr (inr (inl h))) = clean new unspoilt (starves b new h.2)
 powers_sure size mode b a new medium calm unspoilt (inr (inr (inr h))) = clean new unspoilt (hinders b new h.1)
 
-spoilt_before : (b : Bench) → IsUnspoilt b ⊎ IsSpoilt b
+spoilt_before : (b : Bench) → IsFailureFree b ⊎ IsSpoilt b
 spoilt_before b = by_counts b.growths b.failures refl refl
   where
-    by_counts : (g f : ℕ) → b.growths ≡ g → b.failures ≡ f → IsUnspoilt b ⊎ IsSpoilt b
+    by_counts : (g f : ℕ) → b.growths ≡ g → b.failures ≡ f → IsFailureFree b ⊎ IsSpoilt b
     by_counts zero zero e h = inl (e, h)
     by_counts (suc n) f e h = inr (inl (omega (arith, e)))
     by_counts zero (suc n) e h = inr (inr (omega (arith, h)))
 
 pub finds_all : (script : Script) (answers : List Answer) (b : Bench) (mode : BootMode) (a : Answer) (new : Bench) → AreByFirmware script.lines → IsReport script answers b → b.medium ≡ Formatted → b.power ≡ None → Moves script.size (lines.On mode) b a new
-    → a.line ≢ printed.PowerLost → IsUnspoilt new → a.found ≡ Some (durable_of (found_of b.kept.changes))
+    → a.line ≢ printed.PowerLost → IsFailureFree new → a.found ≡ Some (durable_of (found_of b.kept.changes))
 finds_all script answers b mode a new by h medium none (inl move) lost unspoilt =
     let P : Option Life → Type 0 = λ p. OnStep script.size p mode b a new in
     elim (spoilt_before b) [

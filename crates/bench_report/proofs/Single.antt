@@ -20,7 +20,7 @@ use Rattle.script_lang.specs.declared.line.Line.TheVariants as lines
 use Rattle.bench_report.specs.declared.printed.ConsoleWord.{ConsoleWord}
 use Rattle.bench_report.specs.declared.printed.ConsoleWord.TheVariants as names
 use Rattle.bench_report.specs.declared.printed.Answer.{Answer}
-use Rattle.bench_report.specs.Bench.{Life, Bench, IsUnspoilt, blank_bench}
+use Rattle.bench_report.specs.Bench.{Life, Bench, IsFailureFree, blank_bench}
 use Rattle.bench_report.specs.Steps.{shows, unpowered, unknown, armed_with, on_with, has_machine, console_told, FormatStep, OnStep, ConsoleStep, PayloadStep, CallTold, GuestCall, TurnStep, CallStep, ReadStep, PokeStep, Step, Moves, Run}
 use Rattle.bench_report.specs.Reports.{IsByFirmware, AreByFirmware, IsReport}
 use Rattle.bench_report.proofs.Guests.{IsOneTurn, Row, row, comes_fair, comes_one, turns_fair, turns_one}
@@ -219,11 +219,11 @@ moves turns call csr size line b a z new last calm (inr (would, mid, x, struck, 
     apart (inr (inl s)) = inr (inl (spoilt_as last (unpowered mid2) is2 s))
     apart (inr (inr h)) = inr (inr (e ∙ sym e2, is ∙ ap unpowered h.1 ∙ sym is2))
 
-pub clean : {A : Type 0} (end : Bench) → IsUnspoilt end → IsSpoilt end → A
+pub clean : {A : Type 0} (end : Bench) → IsFailureFree end → IsSpoilt end → A
 clean end u (inl s) = absurd (omega (arith, u.0, s))
 clean end u (inr s) = absurd (omega (arith, u.1, s))
 
-runs : IsOneTurn → IsOneCall → IsOneCsr → (size : Size) (ls : List Line) (b : Bench) (answers others : List Answer) (end last : Bench) → AreByFirmware ls → IsCalm b → IsUnspoilt end → IsUnspoilt last → Run size b ls answers end → Run size b ls others last
+runs : IsOneTurn → IsOneCall → IsOneCsr → (size : Size) (ls : List Line) (b : Bench) (answers others : List Answer) (end last : Bench) → AreByFirmware ls → IsCalm b → IsFailureFree end → IsFailureFree last → Run size b ls answers end → Run size b ls others last
     → (answers ≡ others) × (end ≡ last)
 runs turns call csr size [] b [] [] end last by calm u v x y = (refl, x ∙ sym y)
 runs turns call csr size (l ∷ ls) b (a ∷ answers) (z ∷ others) end last by calm u v x y =
@@ -240,7 +240,7 @@ runs turns call csr size [] b [] (z ∷ others) end last by calm u v x y = absur
 runs turns call csr size (l ∷ ls) b [] others end last by calm u v x y = absurd x
 runs turns call csr size (l ∷ ls) b (a ∷ answers) [] end last by calm u v x y = absurd y
 
-pub one_report : IsOneTurn → IsOneCall → IsOneCsr → (script : Script) (answers others : List Answer) (end last : Bench) → AreByFirmware script.lines → IsReport script answers end → IsReport script others last → IsUnspoilt end → IsUnspoilt last → (answers ≡ others) × (end ≡ last)
+pub one_report : IsOneTurn → IsOneCall → IsOneCsr → (script : Script) (answers others : List Answer) (end last : Bench) → AreByFirmware script.lines → IsReport script answers end → IsReport script others last → IsFailureFree end → IsFailureFree last → (answers ≡ others) × (end ≡ last)
 one_report turns call csr script [] others end last by x y u v = absurd x
 one_report turns call csr script (b ∷ answers) [] end last by x y u v = absurd y
 one_report turns call csr script (b ∷ answers) (d ∷ others) end last by x y u v =

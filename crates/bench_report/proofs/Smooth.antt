@@ -33,7 +33,7 @@ use Rattle.bench_report.specs.declared.printed.Printed.{Printed}
 use Rattle.bench_report.specs.declared.printed.Printed.TheVariants as printed
 use Rattle.disk.specs.FaultState.{FaultArmed, CutArmed}
 use Rattle.bench_report.specs.declared.printed.Answer.{Answer}
-use Rattle.bench_report.specs.Bench.{Medium, Blank, Unknown, Formatted, Life, Bench, IsUnspoilt, blank_bench}
+use Rattle.bench_report.specs.Bench.{Medium, Blank, Unknown, Formatted, Life, Bench, IsFailureFree, blank_bench}
 use Rattle.bench_report.specs.Steps.{says, off, on_with, unpowered, unknown, armed_with, formatted_anew, settled, has_machine, acknowledged, begun, commands_of, console_told, Writes, IssuedBy, IssuesAll, FormatsOn, IsOn, Starts, Resumes, Begins, Boots, Opens, PowersOn, FormatStep, OnStep, ConsoleStep, PayloadStep, ReadStep, PokeStep, Issued, Refuses, Held, Resets, Suspends, SleepsBy, MakesCall, Comes, GuestTurn, GuestTurns, TurnStep, CallTold, GuestCall, CallStep, Step, Moves, Run}
 use Rattle.bench_report.specs.Reports.{IsReport}
 use Rattle.bench_report.specs.Plain.{IsSmooth, AreSmooth}
@@ -277,6 +277,6 @@ run_smooth size (l ∷ ls) b [] end h smooth = absurd h
 run_smooth size (l ∷ ls) b (a ∷ answers) end h smooth =
     many_then b h.0 end (moves_smooth size l b a h.0 h.1 smooth.0) (run_smooth size ls h.0 answers end h.2 smooth.1)
 
-pub unspoilt : (script : Script) (answers : List Answer) (end : Bench) → IsReport script answers end → AreSmooth answers → IsUnspoilt end
+pub unspoilt : (script : Script) (answers : List Answer) (end : Bench) → IsReport script answers end → AreSmooth answers → IsFailureFree end
 unspoilt script [] end h smooth = absurd h
 unspoilt script (board ∷ answers) end h smooth = run_smooth script.size script.lines blank_bench answers end h.1 smooth.1

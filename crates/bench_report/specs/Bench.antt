@@ -33,8 +33,8 @@ pub record Bench : Type 0 where
   pub fault_state : FaultState
 
 -- memory was never refused, and no failure of the disk was answered; so no armed cut has struck
-abbrev pub IsUnspoilt : Bench → Type 0
-IsUnspoilt b = (b.growths ≡ 0) × (b.failures ≡ 0)
+abbrev pub IsFailureFree : Bench → Type 0
+IsFailureFree b = (b.growths ≡ 0) × (b.failures ≡ 0)
 
 abbrev pub no_payloads : List (List ℕ)
 no_payloads = [] ∷ [] ∷ [] ∷ [] ∷ []

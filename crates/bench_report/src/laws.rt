@@ -10,7 +10,7 @@ ghost use Rattle.board_model.specs.declared.durable.Durable.{Durable};
 ghost use Rattle.board_model.specs.declared.refusal.Refusal.TheVariants.{BadScript};
 ghost use Rattle.script_lang.specs.Scripts.{Script};
 ghost use Rattle.script_lang.specs.declared.line.Line.TheVariants as lines;
-ghost use Rattle.bench_report.specs.Bench.{Bench, Formatted, IsUnspoilt};
+ghost use Rattle.bench_report.specs.Bench.{Bench, Formatted, IsFailureFree};
 ghost use Rattle.bench_report.specs.Plain.{ArePlain, AreSmooth, plain_report, plain_text};
 ghost use Rattle.bench_report.specs.Prefix.{KeepsPrefixLaw};
 ghost use Rattle.bench_report.specs.Reports.{AreByFirmware, IsReport};
@@ -25,10 +25,10 @@ ghost use Rattle.bench_report.specs.declared.printed.Printed.TheVariants as prin
 /// lines, where they are smooth: none says that memory was refused, that the disk failed or that power was lost, and none
 /// of turns or of a call may hide that a hart's command was refused so.
 pub fn one_report()
-    ensures one { (script : Script) (answers others : List Answer) (end last : Bench) → AreByFirmware script.lines → IsReport script answers end → IsReport script others last → IsUnspoilt end → IsUnspoilt last
+    ensures one { (script : Script) (answers others : List Answer) (end last : Bench) → AreByFirmware script.lines → IsReport script answers end → IsReport script others last → IsFailureFree end → IsFailureFree last
         → (answers ≡ others) × (end ≡ last) }
-    ensures smooth { (script : Script) (answers : List Answer) (end : Bench) → IsReport script answers end → AreSmooth answers → IsUnspoilt end }
-    ensures plain { (script : Script) (answers : List Answer) (end : Bench) → IsReport script answers end → IsUnspoilt end → ArePlain script.lines → answers ≡ plain_report script }
+    ensures smooth { (script : Script) (answers : List Answer) (end : Bench) → IsReport script answers end → AreSmooth answers → IsFailureFree end }
+    ensures plain { (script : Script) (answers : List Answer) (end : Bench) → IsReport script answers end → IsFailureFree end → ArePlain script.lines → answers ≡ plain_report script }
 {
     machine::one_turn();
     machine_lines::one_line();
@@ -54,9 +54,9 @@ pub fn prefix_law()
 pub fn power_ons()
     ensures finds { (script : Script) (answers : List Answer) (b : Bench) → IsReport script answers b → b.medium ≡ Formatted → (mode : BootMode) (a : Answer) (new : Bench) (d : Durable) → Moves script.size (lines.On mode) b a new
         → a.found ≡ Some d → (s : State) × MayFind b.kept s × (d ≡ durable_of s) }
-    ensures sure { (script : Script) (answers : List Answer) (b : Bench) → AreByFirmware script.lines → IsReport script answers b → IsUnspoilt b → b.medium ≡ Formatted → b.kept.doubt ≡ None }
+    ensures sure { (script : Script) (answers : List Answer) (b : Bench) → AreByFirmware script.lines → IsReport script answers b → IsFailureFree b → b.medium ≡ Formatted → b.kept.doubt ≡ None }
     ensures all { (script : Script) (answers : List Answer) (b : Bench) → AreByFirmware script.lines → IsReport script answers b → b.medium ≡ Formatted → b.power ≡ None → (mode : BootMode) (a : Answer) (new : Bench) → Moves script.size (lines.On mode) b a new
-        → a.line ≢ printed.PowerLost → IsUnspoilt new → a.found ≡ Some (durable_of (found_of b.kept.changes)) }
+        → a.line ≢ printed.PowerLost → IsFailureFree new → a.found ≡ Some (durable_of (found_of b.kept.changes)) }
     ensures resumes { (script : Script) (answers : List Answer) (b : Bench) → IsReport script answers b → b.medium ≡ Formatted → (a : Answer) (new : Bench) → Moves script.size (lines.On modes.Resume) b a new
         → a.line ≡ printed.On modes.Resume → IsResumedFrom script.size b a new }
 {}
