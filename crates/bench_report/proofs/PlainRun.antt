@@ -180,6 +180,6 @@ are_by [] are = tt
 are_by (l ∷ ls) are = (plain_by l are.0, are_by ls are.1)
 
 pub plain_alone : IsOneTurn → IsOneCall → IsOneCsr → (script : Script) (answers : List Answer) (end : Bench) → IsReport script answers end → IsFailureFree end → ArePlain script.lines → answers ≡ plain_report script
-plain_alone turns call csr script answers end h unspoilt plain =
+plain_alone turns call csr script answers end h failure_free_bench plain =
     let run = runs script.size script.lines blank_bench plain (tt, tt, refl, refl) in
-    (one_report turns call csr script answers (plain_report script) end run.0 (are_by script.lines plain) h (refl, run.1) unspoilt run.2).0
+    (one_report turns call csr script answers (plain_report script) end run.0 (are_by script.lines plain) h (refl, run.1) failure_free_bench run.2).0

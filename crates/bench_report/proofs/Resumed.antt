@@ -138,10 +138,10 @@ resumed_from size b a new medium (inr (would, mid, h, struck, e, is)) line = sai
 -- ---- without failures
 -- nothing is in doubt on the formatted disk of a run in which memory was never refused and no failure was answered
 pub sure : (script : Script) (answers : List Answer) (b : Bench) → AreByFirmware script.lines → IsReport script answers b → IsFailureFree b → b.medium ≡ Formatted → b.kept.doubt ≡ None
-sure script [] b by h unspoilt medium = absurd h
-sure script (board ∷ answers) b by h unspoilt medium =
+sure script [] b by h failure_free_bench medium = absurd h
+sure script (board ∷ answers) b by h failure_free_bench medium =
     let P : Medium → Type 0 = λ m. CalmDisk m b.kept.doubt in
-    elim ((run_fair script.size script.lines blank_bench answers b by h.1).1 tt) [ inl spoilt ↦ clean b unspoilt spoilt | inr calm ↦ subst P medium calm ]
+    elim ((run_fair script.size script.lines blank_bench answers b by h.1).1 tt) [ inl spoilt ↦ clean b failure_free_bench spoilt | inr calm ↦ subst P medium calm ]
 
 kept_as : (k : Kept) (changes : List Change) → k.doubt ≡ None → MayKeep k changes → changes ≡ k.changes
 kept_as k changes calm (inl e) = e
@@ -153,10 +153,10 @@ opens_sure size Unknown b s z mid at medium calm h = absurd (let e : Unknown ≡
 opens_sure size Formatted b s z mid at medium calm (changes, may, is, sized, e) = is ∙ ap found_of (kept_as b.kept changes calm may)
 
 powers_sure : (size : Size) (mode : BootMode) (b : Bench) (a : Answer) (new : Bench) → b.medium ≡ Formatted → b.kept.doubt ≡ None → IsFailureFree new → PowersOn size mode b a new → a.found ≡ Some (durable_of (found_of b.kept.changes))
-powers_sure size mode b a new medium calm unspoilt (inl (s, z, mid, found, shows, boot)) = found_as a.found s shows ∙ ap (λ x. Some (durable_of x)) (opens_sure size b.medium b s z mid refl medium calm found)
-powers_sure size mode b a new medium calm unspoilt (inr (inl h)) = let P : Medium → Type 0 = λ m. IsOpenRefusal m h.0 in absurd (subst P medium h.1)
-powers_sure size mode b a new medium calm unspoilt (inr (inr (inl h))) = clean new unspoilt (starves b new h.2)
-powers_sure size mode b a new medium calm unspoilt (inr (inr (inr h))) = clean new unspoilt (hinders b new h.1)
+powers_sure size mode b a new medium calm failure_free_bench (inl (s, z, mid, found, shows, boot)) = found_as a.found s shows ∙ ap (λ x. Some (durable_of x)) (opens_sure size b.medium b s z mid refl medium calm found)
+powers_sure size mode b a new medium calm failure_free_bench (inr (inl h)) = let P : Medium → Type 0 = λ m. IsOpenRefusal m h.0 in absurd (subst P medium h.1)
+powers_sure size mode b a new medium calm failure_free_bench (inr (inr (inl h))) = clean new failure_free_bench (starves b new h.2)
+powers_sure size mode b a new medium calm failure_free_bench (inr (inr (inr h))) = clean new failure_free_bench (hinders b new h.1)
 
 spoilt_before : (b : Bench) → IsFailureFree b ⊎ IsSpoilt b
 spoilt_before b = by_counts b.growths b.failures refl refl
@@ -168,13 +168,13 @@ spoilt_before b = by_counts b.growths b.failures refl refl
 
 pub finds_all : (script : Script) (answers : List Answer) (b : Bench) (mode : BootMode) (a : Answer) (new : Bench) → AreByFirmware script.lines → IsReport script answers b → b.medium ≡ Formatted → b.power ≡ None → Moves script.size (lines.On mode) b a new
     → a.line ≢ printed.PowerLost → IsFailureFree new → a.found ≡ Some (durable_of (found_of b.kept.changes))
-finds_all script answers b mode a new by h medium none (inl move) lost unspoilt =
+finds_all script answers b mode a new by h medium none (inl move) lost failure_free_bench =
     let P : Option Life → Type 0 = λ p. OnStep script.size p mode b a new in
     elim (spoilt_before b) [
-      | inl was ↦ powers_sure script.size mode b a new medium (sure script answers b by h was medium) unspoilt (subst P none move.0)
-      | inr spoilt ↦ clean new unspoilt ((moves_fair script.size (lines.On mode) b a new tt (inl move)).0 spoilt)
+      | inl was ↦ powers_sure script.size mode b a new medium (sure script answers b by h was medium) failure_free_bench (subst P none move.0)
+      | inr spoilt ↦ clean new failure_free_bench ((moves_fair script.size (lines.On mode) b a new tt (inl move)).0 spoilt)
     ]
-finds_all script answers b mode a new by h medium none (inr (would, mid, step, struck, e, is)) lost unspoilt = absurd (lost (ap (λ (x : Answer). x.line) e))
+finds_all script answers b mode a new by h medium none (inr (would, mid, step, struck, e, is)) lost failure_free_bench = absurd (lost (ap (λ (x : Answer). x.line) e))
 
 -- ---- what any open finds
 untold : {A : Type 0} (a : Answer) (line : Printed) (d : Durable) → a ≡ says line → a.found ≡ Some d → A

@@ -277,6 +277,6 @@ run_smooth size (l ∷ ls) b [] end h smooth = absurd h
 run_smooth size (l ∷ ls) b (a ∷ answers) end h smooth =
     many_then b h.0 end (moves_smooth size l b a h.0 h.1 smooth.0) (run_smooth size ls h.0 answers end h.2 smooth.1)
 
-pub unspoilt : (script : Script) (answers : List Answer) (end : Bench) → IsReport script answers end → AreSmooth answers → IsFailureFree end
-unspoilt script [] end h smooth = absurd h
-unspoilt script (board ∷ answers) end h smooth = run_smooth script.size script.lines blank_bench answers end h.1 smooth.1
+pub failure_free_bench : (script : Script) (answers : List Answer) (end : Bench) → IsReport script answers end → AreSmooth answers → IsFailureFree end
+failure_free_bench script [] end h smooth = absurd h
+failure_free_bench script (board ∷ answers) end h smooth = run_smooth script.size script.lines blank_bench answers end h.1 smooth.1

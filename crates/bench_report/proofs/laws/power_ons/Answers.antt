@@ -8,7 +8,7 @@ pub returns-clause-sure : goal.returns-clause-sure
 returns-clause-sure c = sure
 
 pub returns-clause-all : goal.returns-clause-all
-returns-clause-all c = λ script answers b by h medium none mode a new move lost unspoilt. finds_all script answers b mode a new by h medium none move lost unspoilt
+returns-clause-all c = λ script answers b by h medium none mode a new move lost failure_free_bench. finds_all script answers b mode a new by h medium none move lost failure_free_bench
 
 pub returns-clause-resumes : goal.returns-clause-resumes
 returns-clause-resumes c = λ script answers b h medium a new move line. resumed_from script.size b a new medium move line
