@@ -18,8 +18,8 @@ use Rattle.bench_report.specs.declared.printed.Answer.{Answer}
 use Rattle.bench_report.specs.Bench.{Medium, Blank, Unknown, Formatted, Life, Bench}
 use Rattle.bench_report.specs.Steps.{says, out_of_memory, FailsByFault, off, on_with, formatted_anew, unknown, settled, has_machine, acknowledged, in_doubt, begun, commands_of, Writes, IssuedBy, Issued, IssuesAll, FormatsOn, IsOn, Starts, Resumes, Begins, Boots, Opens, ShowsFound, IsOpenRefusal, PowersOn}
 
-abbrev pub IsSpoilt : Bench → Type 0
-IsSpoilt b = (0 < b.growths) ⊎ (0 < b.failures)
+abbrev pub HasFailed : Bench → Type 0
+HasFailed b = (0 < b.growths) ⊎ (0 < b.failures)
 
 -- the disk is known, and nothing is in doubt
 abbrev pub CalmDisk : Medium → Option Change → Type 0
@@ -32,12 +32,12 @@ IsCalm b = CalmDisk b.medium b.kept.doubt
 
 -- what was spoilt stays so; what was calm stays so, or is spoilt
 abbrev pub Fair : Bench → Bench → Type 0
-Fair b new = (IsSpoilt b → IsSpoilt new) × (IsCalm b → IsSpoilt new ⊎ IsCalm new)
+Fair b new = (HasFailed b → HasFailed new) × (IsCalm b → HasFailed new ⊎ IsCalm new)
 
 pub fair_then : (b mid new : Bench) → Fair b mid → Fair mid new → Fair b new
 fair_then b mid new x y = (λ s. y.0 (x.0 s), λ c. on (x.1 c))
   where
-    on : IsSpoilt mid ⊎ IsCalm mid → IsSpoilt new ⊎ IsCalm new
+    on : HasFailed mid ⊎ IsCalm mid → HasFailed new ⊎ IsCalm new
     on (inl s) = inl (y.0 s)
     on (inr c) = y.1 c
 
@@ -47,13 +47,13 @@ fair_to b new x e h = let P : Bench → Type 0 = Fair b in subst P (sym e) h
 pub unmoved : (b new : Bench) → new ≡ b → Fair b new
 unmoved b new e = fair_to b new b e (λ s. s, λ c. inr c)
 
-pub spoils : (b new : Bench) → IsSpoilt new → Fair b new
+pub spoils : (b new : Bench) → HasFailed new → Fair b new
 spoils b new s = (λ h. s, λ c. inl s)
 
-pub starves : (c new : Bench) → new ≡ out_of_memory c → IsSpoilt new
+pub starves : (c new : Bench) → new ≡ out_of_memory c → HasFailed new
 starves c new e = let g : new.growths ≡ c.growths + 1 = ap (λ x. x.growths) e in inl (omega arith)
 
-pub hinders : (c new : Bench) → FailsByFault c new → IsSpoilt new
+pub hinders : (c new : Bench) → FailsByFault c new → HasFailed new
 hinders c new h = let g : new.failures ≡ counted c.failures 1 = ap (λ x. x.failures) h.2 in inr (omega (arith, g))
 
 -- ---- fair
@@ -78,7 +78,7 @@ all_fair (c ∷ cs) b o new (life, on, first, mid, i, inr h) = fair_to b new mid
 
 -- ---- the same answer and the same bench, or one of them is spoilt
 abbrev pub Agree : {A : Type 0} → A → A → Bench → Bench → Type 0
-Agree o p new last = IsSpoilt new ⊎ IsSpoilt last ⊎ ((o ≡ p) × (new ≡ last))
+Agree o p new last = HasFailed new ⊎ HasFailed last ⊎ ((o ≡ p) × (new ≡ last))
 
 pub same : {A : Type 0} (o p x : A) (new last y : Bench) → o ≡ x → p ≡ x → new ≡ y → last ≡ y → Agree o p new last
 same o p x new last y a b c d = inr (inr (a ∙ sym b, c ∙ sym d))
@@ -120,9 +120,9 @@ all (c ∷ cs) b o p new last (life, on, first, mid, i, h) (life2, on2, first2, 
         → (((n : ℕ) × (first2 ≡ Ok n) × IssuesAll cs mid2 p last) ⊎ ((n : ℕ) × (first2 ≡ Err n) × (p ≡ Err n) × (last ≡ mid2)))
         → Agree first first2 mid mid2 → (IssuesAll cs mid o new → IssuesAll cs mid2 p last → mid ≡ mid2 → Agree o p new last) → Agree o p new last
     ended (inl h) k (inl s) more = inl ((all_fair cs mid o new h.2).0 s)
-    ended (inr h) k (inl s) more = let P : Bench → Type 0 = IsSpoilt in inl (subst P (sym h.3) s)
+    ended (inr h) k (inl s) more = let P : Bench → Type 0 = HasFailed in inl (subst P (sym h.3) s)
     ended h (inl k) (inr (inl s)) more = inr (inl ((all_fair cs mid2 p last k.2).0 s))
-    ended h (inr k) (inr (inl s)) more = let P : Bench → Type 0 = IsSpoilt in inr (inl (subst P (sym k.3) s))
+    ended h (inr k) (inr (inl s)) more = let P : Bench → Type 0 = HasFailed in inr (inl (subst P (sym k.3) s))
     ended (inl h) (inl k) (inr (inr e)) more = more h.2 k.2 e.1
     ended (inl h) (inr k) (inr (inr e)) more = ok_err h.0 k.0 first first2 e.0 h.1 k.1
     ended (inr h) (inl k) (inr (inr e)) more = ok_err k.0 h.0 first2 first (sym e.0) k.1 h.1
@@ -231,30 +231,30 @@ slot_boots mode z s b line said new last (o, mid, h, x) (p, mid2, k, y) = is_on 
 whole_image : (z : Size) (s : State) (m : Machine) → IsResumed z s m → IsWhole z s
 whole_image z s m is = let P : Option Image → Type 0 = λ o. IfSome o (λ (i : Image). length i.memory ≡ ram_bytes_of z) in subst P (sym is.stands) is.whole
 
-off_spoilt : (mid new : Bench) → new ≡ off mid → IsSpoilt mid → IsSpoilt new
-off_spoilt mid new e f = let P : Bench → Type 0 = IsSpoilt in subst P (sym e) f
+off_spoilt : (mid new : Bench) → new ≡ off mid → HasFailed mid → HasFailed new
+off_spoilt mid new e f = let P : Bench → Type 0 = HasFailed in subst P (sym e) f
 
 not_both : {A : Type 0} (n k : ℕ) (o : Result ℕ ℕ) → o ≡ Ok n → o ≡ Err k → A
 not_both n k o e f = ok_err n k o o refl e f
 
-writes_err : (c : Change) (life : Life) (b : Bench) (o : Result ℕ ℕ) (new : Bench) (n : ℕ) → o ≡ Err n → Writes None c life b o new → IsSpoilt new
+writes_err : (c : Change) (life : Life) (b : Bench) (o : Result ℕ ℕ) (new : Bench) (n : ℕ) → o ≡ Err n → Writes None c life b o new → HasFailed new
 writes_err c life b o new n e (inl w) = not_both (life.receipts + 1) n o w.0 e
 writes_err c life b o new n e (inr (inl w)) = hinders b new w.1
 writes_err c life b o new n e (inr (inr w)) = hinders (in_doubt c life b) new w.1
 
-issued_err : (c : Change) (s : State) (z : Size) (b : Bench) (o : Result ℕ ℕ) (new : Bench) (n : ℕ) → refusal_of s c ≡ None → o ≡ Err n → Issued c (begun s z) b o new → IsSpoilt new
+issued_err : (c : Change) (s : State) (z : Size) (b : Bench) (o : Result ℕ ℕ) (new : Bench) (n : ℕ) → refusal_of s c ≡ None → o ≡ Err n → Issued c (begun s z) b o new → HasFailed new
 issued_err c s z b o new n allowed e (inl i) = absurd (let no : 0 ≡ 4096 = i.0 in omega (arith, no))
 issued_err c s z b o new n allowed e (inr i) = let P : Option ℕ → Type 0 = λ r. Writes r c (begun s z) b o new in writes_err c (begun s z) b o new n e (subst P allowed i.1)
 
-one_err : (c : Change) (s : State) (z : Size) (b : Bench) (n : ℕ) (mid : Bench) → refusal_of s c ≡ None → IssuesAll (c ∷ []) (on_with (begun s z) b) (Err n) mid → IsSpoilt mid
+one_err : (c : Change) (s : State) (z : Size) (b : Bench) (n : ℕ) (mid : Bench) → refusal_of s c ≡ None → IssuesAll (c ∷ []) (on_with (begun s z) b) (Err n) mid → HasFailed mid
 one_err c s z b n mid allowed (life, on, first, last, i, inl (k, ok, rest)) = not_both 0 n (Err n) rest.0 refl
 one_err c s z b n mid allowed (life, on, first, last, i, inr (k, err, same_err, e)) =
     let start : Bench = on_with (begun s z) b in
     let L : Life → Type 0 = λ l. Issued c l start first last in
-    let P : Bench → Type 0 = IsSpoilt in
+    let P : Bench → Type 0 = HasFailed in
     subst P (sym e) (issued_err c s z start first last k allowed err (subst L (some_inj (begun s z) life start.power refl on) i))
 
-resumed_whole : (z : Size) (s : State) (b : Bench) (line : Printed) (new : Bench) → refusal_of s Consume ≡ None → Starts modes.Resume z s b line new → IsSpoilt new ⊎ IsWhole z s
+resumed_whole : (z : Size) (s : State) (b : Bench) (line : Printed) (new : Bench) → refusal_of s Consume ≡ None → Starts modes.Resume z s b line new → HasFailed new ⊎ IsWhole z s
 resumed_whole z s b line new allowed (Ok n, mid, all, (life, on, said, m, is, e)) = inr (whole_image z s m is)
 resumed_whole z s b line new allowed (Err n, mid, all, (said, e)) = inl (off_spoilt mid new e (one_err Consume s z b n mid allowed all))
 

@@ -17,7 +17,7 @@ use Rattle.bench_report.specs.Bench.{Medium, Blank, Unknown, Formatted, Life, Be
 use Rattle.bench_report.specs.Steps.{says, on_with, settled, has_machine, acknowledged, begun, Writes, Issued, IssuesAll, ShowsFound, IsOn, Starts, Resumes, Boots, Opens, IsOpenRefusal, PowersOn, OnStep, Moves}
 use Rattle.bench_report.specs.Reports.{AreByFirmware, IsReport}
 use Rattle.bench_report.specs.Resumed.{IsMadeIn, IsResumedFrom}
-use Rattle.bench_report.proofs.Determined.{IsSpoilt, CalmDisk, starves, hinders, some_inj}
+use Rattle.bench_report.proofs.Determined.{HasFailed, CalmDisk, starves, hinders, some_inj}
 use Rattle.bench_report.proofs.Single.{run_fair, clean, moves_fair}
 
 -- ---- the suspension that made an image
@@ -158,10 +158,10 @@ powers_sure size mode b a new medium calm failure_free_bench (inr (inl h)) = let
 powers_sure size mode b a new medium calm failure_free_bench (inr (inr (inl h))) = clean new failure_free_bench (starves b new h.2)
 powers_sure size mode b a new medium calm failure_free_bench (inr (inr (inr h))) = clean new failure_free_bench (hinders b new h.1)
 
-spoilt_before : (b : Bench) → IsFailureFree b ⊎ IsSpoilt b
+spoilt_before : (b : Bench) → IsFailureFree b ⊎ HasFailed b
 spoilt_before b = by_counts b.growths b.failures refl refl
   where
-    by_counts : (g f : ℕ) → b.growths ≡ g → b.failures ≡ f → IsFailureFree b ⊎ IsSpoilt b
+    by_counts : (g f : ℕ) → b.growths ≡ g → b.failures ≡ f → IsFailureFree b ⊎ HasFailed b
     by_counts zero zero e h = inl (e, h)
     by_counts (suc n) f e h = inr (inl (omega (arith, e)))
     by_counts zero (suc n) e h = inr (inr (omega (arith, h)))

@@ -24,7 +24,7 @@ use Rattle.bench_report.specs.Bench.{Life, Bench, IsFailureFree, blank_bench}
 use Rattle.bench_report.specs.Steps.{shows, unpowered, unknown, armed_with, on_with, has_machine, console_told, FormatStep, OnStep, ConsoleStep, PayloadStep, CallTold, GuestCall, TurnStep, CallStep, ReadStep, PokeStep, Step, Moves, Run}
 use Rattle.bench_report.specs.Reports.{IsByFirmware, AreByFirmware, IsReport}
 use Rattle.bench_report.proofs.Guests.{IsOneTurn, Row, row, comes_fair, comes_one, turns_fair, turns_one}
-use Rattle.bench_report.proofs.Determined.{some_inj, IsSpoilt, IsCalm, Fair, fair_to, fair_then, unmoved, issued_fair, Agree, same, issued, formats_fair, formats, powers_fair, powers}
+use Rattle.bench_report.proofs.Determined.{some_inj, HasFailed, IsCalm, Fair, fair_to, fair_then, unmoved, issued_fair, Agree, same, issued, formats_fair, formats, powers_fair, powers}
 
 -- what the lines leave nothing open of
 abbrev pub IsOneCall : Type 0
@@ -93,8 +93,8 @@ pub moves_fair : (size : Size) (line : Line) (b : Bench) (a : Answer) (new : Ben
 moves_fair size line b a new by (inl x) = step_fair size line b a new by x.0
 moves_fair size line b a new by (inr (would, mid, x, struck, e, is)) = let one = step_fair size line b would mid by x in fair_to b new (unpowered mid) is (λ s. one.0 s, λ c. one.1 c)
 
-spoilt_as : (x y : Bench) → x ≡ y → IsSpoilt y → IsSpoilt x
-spoilt_as x y e s = let P : Bench → Type 0 = IsSpoilt in subst P (sym e) s
+spoilt_as : (x y : Bench) → x ≡ y → HasFailed y → HasFailed x
+spoilt_as x y e s = let P : Bench → Type 0 = HasFailed in subst P (sym e) s
 
 pub run_fair : (size : Size) (ls : List Line) (b : Bench) (answers : List Answer) (end : Bench) → AreByFirmware ls → Run size b ls answers end → Fair b end
 run_fair size [] b [] end by run = unmoved b end run
@@ -102,7 +102,7 @@ run_fair size (l ∷ ls) b (a ∷ answers) end by run = fair_then b run.0 end (m
 run_fair size [] b (a ∷ answers) end by run = absurd run
 run_fair size (l ∷ ls) b [] end by run = absurd run
 
-run_spoilt : (size : Size) (ls : List Line) (b : Bench) (answers : List Answer) (end : Bench) → AreByFirmware ls → Run size b ls answers end → IsSpoilt b → IsSpoilt end
+run_spoilt : (size : Size) (ls : List Line) (b : Bench) (answers : List Answer) (end : Bench) → AreByFirmware ls → Run size b ls answers end → HasFailed b → HasFailed end
 run_spoilt size ls b answers end by run s = (run_fair size ls b answers end by run).0 s
 
 -- ---- the same
@@ -219,7 +219,7 @@ moves turns call csr size line b a z new last calm (inr (would, mid, x, struck, 
     apart (inr (inl s)) = inr (inl (spoilt_as last (unpowered mid2) is2 s))
     apart (inr (inr h)) = inr (inr (e ∙ sym e2, is ∙ ap unpowered h.1 ∙ sym is2))
 
-pub clean : {A : Type 0} (end : Bench) → IsFailureFree end → IsSpoilt end → A
+pub clean : {A : Type 0} (end : Bench) → IsFailureFree end → HasFailed end → A
 clean end u (inl s) = absurd (omega (arith, u.0, s))
 clean end u (inr s) = absurd (omega (arith, u.1, s))
 
@@ -230,7 +230,7 @@ runs turns call csr size (l ∷ ls) b (a ∷ answers) (z ∷ others) end last by
     go (moves turns call csr size l b a z x.0 y.0 calm x.1 y.1) ((moves_fair size l b a x.0 by.0 x.1).1 calm)
     (λ calm e. (let M : Bench → Type 0 = λ m. Run size m ls others last in runs turns call csr size ls x.0 answers others end last by.1 calm u v x.2 (subst M (sym e) y.2)))
   where
-    go : Agree a z x.0 y.0 → IsSpoilt x.0 ⊎ IsCalm x.0 → (IsCalm x.0 → x.0 ≡ y.0 → (answers ≡ others) × (end ≡ last)) → ((a ∷ answers) ≡ (z ∷ others)) × (end ≡ last)
+    go : Agree a z x.0 y.0 → HasFailed x.0 ⊎ IsCalm x.0 → (IsCalm x.0 → x.0 ≡ y.0 → (answers ≡ others) × (end ≡ last)) → ((a ∷ answers) ≡ (z ∷ others)) × (end ≡ last)
     go (inl s) c more = clean end u (run_spoilt size ls x.0 answers end by.1 x.2 s)
     go (inr (inl s)) c more = clean last v (run_spoilt size ls y.0 others last by.1 y.2 s)
     go (inr (inr e)) (inl s) more = clean end u (run_spoilt size ls x.0 answers end by.1 x.2 s)
