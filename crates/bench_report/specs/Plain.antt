@@ -106,10 +106,10 @@ ArePlain (line ∷ more) = IsPlain line × ArePlain more
 
 -- A line that shows that no hart's command was refused for its disk or for memory: one turn, after which the hart did not just go
 -- on, or a call that was not answered. (A refused command is answered, and the hart goes on.)
-abbrev pub IsSmoothLine : MachineLine → Type 0
-IsSmoothLine (shown.Turn h made word) = (made ≡ 1) × (word ≢ words.Own Next)
-IsSmoothLine (shown.Answered h e v) = ⊥
-IsSmoothLine line = ⊤
+abbrev pub IsFailureFreeLine : MachineLine → Type 0
+IsFailureFreeLine (shown.Turn h made word) = (made ≡ 1) × (word ≢ words.Own Next)
+IsFailureFreeLine (shown.Answered h e v) = ⊥
+IsFailureFreeLine line = ⊤
 
 -- a line by which no memory was refused (11), no call of the disk failed (5, and 6 where it leaves a command in doubt) and no
 -- armed cut struck
@@ -118,7 +118,7 @@ IsSmooth (printed.FormatRefused n) = n ≢ 5
 IsSmooth (printed.OnRefused n) = (n ≢ 5) × (n ≢ 6) × (n ≢ 11)
 IsSmooth (printed.CommandRefused word n) = (n ≢ 5) × (n ≢ 6)
 IsSmooth printed.PowerLost = ⊥
-IsSmooth (printed.Shown line) = IsSmoothLine line
+IsSmooth (printed.Shown line) = IsFailureFreeLine line
 IsSmooth line = ⊤
 
 -- so is each line
