@@ -56,25 +56,25 @@ of_answer : (a : Answer) (told : Printed) → a ≡ says told → IsSmooth a.lin
 of_answer a told e smooth = of_line a.line told (ap (λ (x : Answer). x.line) e) smooth
 
 -- a command that was refused by none of the disk's numbers
-abbrev IsSmoothResult : Result ℕ ℕ → Type 0
-IsSmoothResult (Ok n) = ⊤
-IsSmoothResult (Err n) = (n ≢ 5) × (n ≢ 6)
+abbrev IsFailureFreeResult : Result ℕ ℕ → Type 0
+IsFailureFreeResult (Ok n) = ⊤
+IsFailureFreeResult (Err n) = (n ≢ 5) × (n ≢ 6)
 
-smooth_as : (o p : Result ℕ ℕ) → o ≡ p → IsSmoothResult o → IsSmoothResult p
-smooth_as o p e smooth = let P : Result ℕ ℕ → Type 0 = IsSmoothResult in subst P e smooth
+smooth_as : (o p : Result ℕ ℕ) → o ≡ p → IsFailureFreeResult o → IsFailureFreeResult p
+smooth_as o p e smooth = let P : Result ℕ ℕ → Type 0 = IsFailureFreeResult in subst P e smooth
 
-writes_smooth : (r : Option ℕ) (c : Change) (life : Life) (b : Bench) (o : Result ℕ ℕ) (new : Bench) → Writes r c life b o new → IsSmoothResult o → AsMany b new
+writes_smooth : (r : Option ℕ) (c : Change) (life : Life) (b : Bench) (o : Result ℕ ℕ) (new : Bench) → Writes r c life b o new → IsFailureFreeResult o → AsMany b new
 writes_smooth (Some n) c life b o new h smooth = as_many b b new refl refl h.1
 writes_smooth None c life b o new (inl h) smooth = as_many b (acknowledged c life b) new refl refl h.1
 writes_smooth None c life b o new (inr (inl h)) smooth = absurd ((smooth_as o (Err 5) h.0 smooth).0 refl)
 writes_smooth None c life b o new (inr (inr h)) smooth = absurd ((smooth_as o (Err 6) h.0 smooth).1 refl)
 
-issued_smooth : (d : Option Change) (c : Change) (life : Life) (b : Bench) (o : Result ℕ ℕ) (new : Bench) → IssuedBy d c life b o new → IsSmoothResult o → AsMany b new
+issued_smooth : (d : Option Change) (c : Change) (life : Life) (b : Bench) (o : Result ℕ ℕ) (new : Bench) → IssuedBy d c life b o new → IsFailureFreeResult o → AsMany b new
 issued_smooth (Some d) c life b o new h smooth = as_many b b new refl refl h.1
 issued_smooth None c life b o new (inl h) smooth = as_many b b new refl refl h.2
 issued_smooth None c life b o new (inr h) smooth = writes_smooth (refusal_of life.now c) c life b o new h.1 smooth
 
-all_smooth : (cs : List Change) (b : Bench) (o : Result ℕ ℕ) (new : Bench) → IssuesAll cs b o new → IsSmoothResult o → AsMany b new
+all_smooth : (cs : List Change) (b : Bench) (o : Result ℕ ℕ) (new : Bench) → IssuesAll cs b o new → IsFailureFreeResult o → AsMany b new
 all_smooth [] b o new h smooth = as_many b b new refl refl h.1
 all_smooth (c ∷ cs) b o new (life, on, first, mid, issued, inl h) smooth =
     let P : Result ℕ ℕ → Type 0 = λ r. IssuedBy life.doubt c life b r mid in
@@ -95,7 +95,7 @@ formats_smooth Unknown b a new (inr (inr h)) smooth = as_many b b new refl refl 
 formats_smooth Formatted b a new (inl h) smooth = as_many b b new refl refl h.1
 formats_smooth Formatted b a new (inr h) smooth = absurd (of_answer a (printed.FormatRefused 5) h.0 smooth refl)
 
-is_on_smooth : (o : Result ℕ ℕ) (mode : BootMode) (z : Size) (s : State) (b : Bench) (line : Printed) (new : Bench) → IsOn o mode z s b line new → IsSmooth line → IsSmoothResult o × AsMany b new
+is_on_smooth : (o : Result ℕ ℕ) (mode : BootMode) (z : Size) (s : State) (b : Bench) (line : Printed) (new : Bench) → IsOn o mode z s b line new → IsSmooth line → IsFailureFreeResult o × AsMany b new
 is_on_smooth (Ok n) mode z s b line new (life, on, said, m, boots, e) smooth = (tt, as_many b (on_with (has_machine m life) b) new refl refl e)
 is_on_smooth (Err n) mode z s b line new h smooth = let told = of_line line (printed.OnRefused n) h.0 smooth in ((told.0, told.1), as_many b (off b) new refl refl h.1)
 
@@ -139,7 +139,7 @@ on_at : (size : Size) (p : Option Life) (mode : BootMode) (b : Bench) (a : Answe
 on_at size None mode b a new h smooth = powers_smooth size mode b a new h smooth
 on_at size (Some life) mode b a new h smooth = as_many b b new refl refl h.1
 
-told_smooth : (word : ConsoleWord) (o : Result ℕ ℕ) (a : Answer) → a ≡ console_told word o → IsSmooth a.line → IsSmoothResult o
+told_smooth : (word : ConsoleWord) (o : Result ℕ ℕ) (a : Answer) → a ≡ console_told word o → IsSmooth a.line → IsFailureFreeResult o
 told_smooth word (Ok n) a e smooth = tt
 told_smooth word (Err n) a e smooth = of_answer a (printed.CommandRefused word n) e smooth
 
