@@ -36,7 +36,7 @@ use Rattle.bench_report.specs.declared.printed.Answer.{Answer}
 use Rattle.bench_report.specs.Bench.{Medium, Blank, Unknown, Formatted, Life, Bench, IsFailureFree, blank_bench}
 use Rattle.bench_report.specs.Steps.{says, off, on_with, unpowered, unknown, armed_with, formatted_anew, settled, has_machine, acknowledged, begun, commands_of, console_told, Writes, IssuedBy, IssuesAll, FormatsOn, IsOn, Starts, Resumes, Begins, Boots, Opens, PowersOn, FormatStep, OnStep, ConsoleStep, PayloadStep, ReadStep, PokeStep, Issued, Refuses, Held, Resets, Suspends, SleepsBy, MakesCall, Comes, GuestTurn, GuestTurns, TurnStep, CallTold, GuestCall, CallStep, Step, Moves, Run}
 use Rattle.bench_report.specs.Reports.{IsReport}
-use Rattle.bench_report.specs.Plain.{IsSmooth, AreSmooth}
+use Rattle.bench_report.specs.Plain.{ShowsNoFailure, AreSmooth}
 
 -- as many growths were refused and failures answered as before
 abbrev pub AsMany : Bench → Bench → Type 0
@@ -49,10 +49,10 @@ pub many_then : (b mid new : Bench) → AsMany b mid → AsMany mid new → AsMa
 many_then b mid new x y = (y.0 ∙ x.0, y.1 ∙ x.1)
 
 -- what is smooth by its line
-of_line : (line told : Printed) → line ≡ told → IsSmooth line → IsSmooth told
-of_line line told e smooth = let P : Printed → Type 0 = IsSmooth in subst P e smooth
+of_line : (line told : Printed) → line ≡ told → ShowsNoFailure line → ShowsNoFailure told
+of_line line told e smooth = let P : Printed → Type 0 = ShowsNoFailure in subst P e smooth
 
-of_answer : (a : Answer) (told : Printed) → a ≡ says told → IsSmooth a.line → IsSmooth told
+of_answer : (a : Answer) (told : Printed) → a ≡ says told → ShowsNoFailure a.line → ShowsNoFailure told
 of_answer a told e smooth = of_line a.line told (ap (λ (x : Answer). x.line) e) smooth
 
 -- a command that was refused by none of the disk's numbers
@@ -86,7 +86,7 @@ all_smooth (c ∷ cs) b o new (life, on, first, mid, issued, inr h) smooth =
     many_then b mid new (issued_smooth life.doubt c life b (Err h.0) mid (subst P h.1 issued) (smooth_as o (Err h.0) h.2 smooth)) (as_many mid mid new refl refl h.3)
 
 -- ---- lines
-formats_smooth : (m : Medium) (b : Bench) (a : Answer) (new : Bench) → FormatsOn m b a new → IsSmooth a.line → AsMany b new
+formats_smooth : (m : Medium) (b : Bench) (a : Answer) (new : Bench) → FormatsOn m b a new → ShowsNoFailure a.line → AsMany b new
 formats_smooth Blank b a new (inl h) smooth = as_many b (formatted_anew b) new refl refl h.1
 formats_smooth Blank b a new (inr h) smooth = absurd (of_answer a (printed.FormatRefused 5) h.0 smooth refl)
 formats_smooth Unknown b a new (inl h) smooth = as_many b (formatted_anew b) new refl refl h.1
@@ -95,27 +95,27 @@ formats_smooth Unknown b a new (inr (inr h)) smooth = as_many b b new refl refl 
 formats_smooth Formatted b a new (inl h) smooth = as_many b b new refl refl h.1
 formats_smooth Formatted b a new (inr h) smooth = absurd (of_answer a (printed.FormatRefused 5) h.0 smooth refl)
 
-is_on_smooth : (o : Result ℕ ℕ) (mode : BootMode) (z : Size) (s : State) (b : Bench) (line : Printed) (new : Bench) → IsOn o mode z s b line new → IsSmooth line → IsFailureFreeResult o × AsMany b new
+is_on_smooth : (o : Result ℕ ℕ) (mode : BootMode) (z : Size) (s : State) (b : Bench) (line : Printed) (new : Bench) → IsOn o mode z s b line new → ShowsNoFailure line → IsFailureFreeResult o × AsMany b new
 is_on_smooth (Ok n) mode z s b line new (life, on, said, m, boots, e) smooth = (tt, as_many b (on_with (has_machine m life) b) new refl refl e)
 is_on_smooth (Err n) mode z s b line new h smooth = let told = of_line line (printed.OnRefused n) h.0 smooth in ((told.0, told.1), as_many b (off b) new refl refl h.1)
 
-slot_smooth : (mode : BootMode) (z : Size) (s : State) (b : Bench) (line : Printed) (new : Bench) → Starts mode z s b line new → IsSmooth line → AsMany b new
+slot_smooth : (mode : BootMode) (z : Size) (s : State) (b : Bench) (line : Printed) (new : Bench) → Starts mode z s b line new → ShowsNoFailure line → AsMany b new
 slot_smooth mode z s b line new (o, mid, h, on) smooth =
     let last = is_on_smooth o mode z s mid line new on smooth in
     let start : Bench = on_with (begun s z) b in
     many_then b mid new (let first = all_smooth (commands_of mode) start o mid h last.0 in (first.0, first.1)) last.1
 
-resumes_smooth : (z : Size) (s : State) (b : Bench) (line : Printed) (new : Bench) → Resumes z s b line new → IsSmooth line → AsMany b new
+resumes_smooth : (z : Size) (s : State) (b : Bench) (line : Printed) (new : Bench) → Resumes z s b line new → ShowsNoFailure line → AsMany b new
 resumes_smooth z s b line new (inl h) smooth = slot_smooth modes.Resume z s b line new h smooth
 resumes_smooth z s b line new (inr h) smooth = as_many b b new refl refl h.2
 
-begins_smooth : (mode : BootMode) (z : Size) (s : State) (b : Bench) (line : Printed) (new : Bench) → Begins mode z s b line new → IsSmooth line → AsMany b new
+begins_smooth : (mode : BootMode) (z : Size) (s : State) (b : Bench) (line : Printed) (new : Bench) → Begins mode z s b line new → ShowsNoFailure line → AsMany b new
 begins_smooth modes.Fresh z s b line new h smooth = slot_smooth modes.Fresh z s b line new h smooth
 begins_smooth modes.Keep z s b line new h smooth = slot_smooth modes.Keep z s b line new h smooth
 begins_smooth modes.Discard z s b line new h smooth = slot_smooth modes.Discard z s b line new h smooth
 begins_smooth modes.Resume z s b line new h smooth = resumes_smooth z s b line new h smooth
 
-boots_smooth : (r : Option ℕ) (mode : BootMode) (z : Size) (s : State) (b : Bench) (line : Printed) (new : Bench) → Boots r mode z s b line new → IsSmooth line → AsMany b new
+boots_smooth : (r : Option ℕ) (mode : BootMode) (z : Size) (s : State) (b : Bench) (line : Printed) (new : Bench) → Boots r mode z s b line new → ShowsNoFailure line → AsMany b new
 boots_smooth None mode z s b line new (inl h) smooth = begins_smooth mode z s b line new h smooth
 boots_smooth None mode z s b line new (inr h) smooth = absurd ((of_line line (printed.OnRefused 11) h.0 smooth).2 refl)
 boots_smooth (Some n) mode z s b line new h smooth = as_many b b new refl refl h.1
@@ -125,25 +125,25 @@ opens_many size Blank b s z mid h = absurd h
 opens_many size Unknown b s z mid h = as_many b b mid refl refl h
 opens_many size Formatted b s z mid h = as_many b (settled h.0 b) mid refl refl h.4
 
-powers_smooth : (size : Size) (mode : BootMode) (b : Bench) (a : Answer) (new : Bench) → PowersOn size mode b a new → IsSmooth a.line → AsMany b new
+powers_smooth : (size : Size) (mode : BootMode) (b : Bench) (a : Answer) (new : Bench) → PowersOn size mode b a new → ShowsNoFailure a.line → AsMany b new
 powers_smooth size mode b a new (inl (s, z, mid, found, shows, h)) smooth = many_then b mid new (opens_many size b.medium b s z mid found) (boots_smooth (boot_refusal s mode) mode z s mid a.line new h smooth)
 powers_smooth size mode b a new (inr (inl h)) smooth = as_many b b new refl refl h.3
 powers_smooth size mode b a new (inr (inr (inl h))) smooth = absurd ((of_answer a (printed.OnRefused 11) h.1 smooth).2 refl)
 powers_smooth size mode b a new (inr (inr (inr h))) smooth = absurd ((of_answer a (printed.OnRefused 5) h.0 smooth).0 refl)
 
-format_at : (p : Option Life) (b : Bench) (a : Answer) (new : Bench) → FormatStep p b a new → IsSmooth a.line → AsMany b new
+format_at : (p : Option Life) (b : Bench) (a : Answer) (new : Bench) → FormatStep p b a new → ShowsNoFailure a.line → AsMany b new
 format_at None b a new h smooth = formats_smooth b.medium b a new h smooth
 format_at (Some life) b a new h smooth = as_many b b new refl refl h.1
 
-on_at : (size : Size) (p : Option Life) (mode : BootMode) (b : Bench) (a : Answer) (new : Bench) → OnStep size p mode b a new → IsSmooth a.line → AsMany b new
+on_at : (size : Size) (p : Option Life) (mode : BootMode) (b : Bench) (a : Answer) (new : Bench) → OnStep size p mode b a new → ShowsNoFailure a.line → AsMany b new
 on_at size None mode b a new h smooth = powers_smooth size mode b a new h smooth
 on_at size (Some life) mode b a new h smooth = as_many b b new refl refl h.1
 
-told_smooth : (word : ConsoleWord) (o : Result ℕ ℕ) (a : Answer) → a ≡ console_told word o → IsSmooth a.line → IsFailureFreeResult o
+told_smooth : (word : ConsoleWord) (o : Result ℕ ℕ) (a : Answer) → a ≡ console_told word o → ShowsNoFailure a.line → IsFailureFreeResult o
 told_smooth word (Ok n) a e smooth = tt
 told_smooth word (Err n) a e smooth = of_answer a (printed.CommandRefused word n) e smooth
 
-console_at : (word : ConsoleWord) (c : Change) (p : Option Life) (b : Bench) (a : Answer) (new : Bench) → ConsoleStep word c p b a new → IsSmooth a.line → AsMany b new
+console_at : (word : ConsoleWord) (c : Change) (p : Option Life) (b : Bench) (a : Answer) (new : Bench) → ConsoleStep word c p b a new → ShowsNoFailure a.line → AsMany b new
 console_at word c None b a new h smooth = as_many b b new refl refl h.1
 console_at word c (Some life) b a new h smooth = issued_smooth life.doubt c life b h.0 new h.1 (told_smooth word h.0 a h.2 smooth)
 
@@ -217,7 +217,7 @@ turns_free h (suc n) b made word new (life, on, said, mid, turned, inr x) one fr
     less : (rest made : ℕ) → made ≡ suc rest → made ≡ 1 → rest ≡ 0
     less rest made e f = omega (arith, e, f)
 
-turn_at : (p : Option Life) (h n : ℕ) (b : Bench) (a : Answer) (new : Bench) → TurnStep p h n b a new → IsSmooth a.line → AsMany b new
+turn_at : (p : Option Life) (h n : ℕ) (b : Bench) (a : Answer) (new : Bench) → TurnStep p h n b a new → ShowsNoFailure a.line → AsMany b new
 turn_at None h n b a new x smooth = as_many b b new refl refl x.1
 turn_at (Some life) h n b a new (inl (has, made, word, x, e)) smooth =
     let is = of_answer a (printed.Shown (shown.Turn h made word)) e smooth in
@@ -225,17 +225,17 @@ turn_at (Some life) h n b a new (inl (has, made, word, x, e)) smooth =
 turn_at (Some life) h n b a new (inr x) smooth = as_many b b new refl refl x.2
 
 -- the answer of a call that may have been refused is not smooth
-call_free : (h : ℕ) (word : Word) (new : Bench) (a : Answer) → CallTold h word new a → IsSmooth a.line → IsFree word
+call_free : (h : ℕ) (word : Word) (new : Bench) (a : Answer) → CallTold h word new a → ShowsNoFailure a.line → IsFree word
 call_free h word new a told smooth e =
     let P : Word → Type 0 = λ w. CallTold h w new a in
     let at = subst P e told in
     of_answer a (printed.Shown (shown.Answered h _ _)) at.2 smooth
 
-called_at : (called : Called) (h : ℕ) (life : Life) (b : Bench) (a : Answer) (new : Bench) → GuestCall called h life b a new → IsSmooth a.line → AsMany b new
+called_at : (called : Called) (h : ℕ) (life : Life) (b : Bench) (a : Answer) (new : Bench) → GuestCall called h life b a new → ShowsNoFailure a.line → AsMany b new
 called_at NotStarted h life b a new x smooth = as_many b b new refl refl x.1
 called_at (Made did) h life b a new (word, x, told) smooth = comes_free did h life b word new x (call_free h word new a told smooth)
 
-call_at : (p : Option Life) (h e f x y z : ℕ) (b : Bench) (a : Answer) (new : Bench) → CallStep p h e f x y z b a new → IsSmooth a.line → AsMany b new
+call_at : (p : Option Life) (h e f x y z : ℕ) (b : Bench) (a : Answer) (new : Bench) → CallStep p h e f x y z b a new → ShowsNoFailure a.line → AsMany b new
 call_at None h e f x y z b a new g smooth = as_many b b new refl refl g.1
 call_at (Some life) h e f x y z b a new (inl (has, m, called, did, g)) smooth =
     let rest = called_at called h (has_machine m life) (on_with (has_machine m life) b) a new g smooth in (rest.0, rest.1)
@@ -245,7 +245,7 @@ poke_at : (p : Option Life) (b : Bench) (a : Answer) (new : Bench) → PokeStep 
 poke_at None b a new h = as_many b (unknown b) new refl refl h.1
 poke_at (Some life) b a new h = as_many b b new refl refl h.1
 
-step_smooth : (size : Size) (line : Line) (b : Bench) (a : Answer) (new : Bench) → Step size line b a new → IsSmooth a.line → AsMany b new
+step_smooth : (size : Size) (line : Line) (b : Bench) (a : Answer) (new : Bench) → Step size line b a new → ShowsNoFailure a.line → AsMany b new
 step_smooth size (lines.Payload x y) b a new h smooth = payload_at b.power x y b a new h
 step_smooth size lines.Format b a new h smooth = format_at b.power b a new h smooth
 step_smooth size (lines.On mode) b a new h smooth = on_at size b.power mode b a new h smooth
@@ -266,7 +266,7 @@ step_smooth size (lines.Cut fill) b a new h smooth = as_many b (unpowered b) new
 step_smooth size (lines.Poke x y z) b a new h smooth = poke_at b.power b a new h
 
 -- within a smooth line no cut struck
-moves_smooth : (size : Size) (line : Line) (b : Bench) (a : Answer) (new : Bench) → Moves size line b a new → IsSmooth a.line → AsMany b new
+moves_smooth : (size : Size) (line : Line) (b : Bench) (a : Answer) (new : Bench) → Moves size line b a new → ShowsNoFailure a.line → AsMany b new
 moves_smooth size line b a new (inl h) smooth = step_smooth size line b a new h.0 smooth
 moves_smooth size line b a new (inr h) smooth = absurd (of_answer a printed.PowerLost h.4 smooth)
 

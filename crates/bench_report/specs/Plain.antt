@@ -113,18 +113,18 @@ IsFailureFreeLine line = ⊤
 
 -- a line by which no memory was refused (11), no call of the disk failed (5, and 6 where it leaves a command in doubt) and no
 -- armed cut struck
-abbrev pub IsSmooth : Printed → Type 0
-IsSmooth (printed.FormatRefused n) = n ≢ 5
-IsSmooth (printed.OnRefused n) = (n ≢ 5) × (n ≢ 6) × (n ≢ 11)
-IsSmooth (printed.CommandRefused word n) = (n ≢ 5) × (n ≢ 6)
-IsSmooth printed.PowerLost = ⊥
-IsSmooth (printed.Shown line) = IsFailureFreeLine line
-IsSmooth line = ⊤
+abbrev pub ShowsNoFailure : Printed → Type 0
+ShowsNoFailure (printed.FormatRefused n) = n ≢ 5
+ShowsNoFailure (printed.OnRefused n) = (n ≢ 5) × (n ≢ 6) × (n ≢ 11)
+ShowsNoFailure (printed.CommandRefused word n) = (n ≢ 5) × (n ≢ 6)
+ShowsNoFailure printed.PowerLost = ⊥
+ShowsNoFailure (printed.Shown line) = IsFailureFreeLine line
+ShowsNoFailure line = ⊤
 
 -- so is each line
 abbrev pub AreSmooth : List Answer → Type 0
 AreSmooth [] = ⊤
-AreSmooth (a ∷ answers) = IsSmooth a.line × AreSmooth answers
+AreSmooth (a ∷ answers) = ShowsNoFailure a.line × AreSmooth answers
 
 -- what is written for the bytes of a script, or why nothing runs
 abbrev pub plain_text : List ℕ → Result (List ℕ) Refusal
