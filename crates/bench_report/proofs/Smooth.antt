@@ -36,7 +36,7 @@ use Rattle.bench_report.specs.declared.printed.Answer.{Answer}
 use Rattle.bench_report.specs.Bench.{Medium, Blank, Unknown, Formatted, Life, Bench, IsFailureFree, blank_bench}
 use Rattle.bench_report.specs.Steps.{says, off, on_with, unpowered, unknown, armed_with, formatted_anew, settled, has_machine, acknowledged, begun, commands_of, console_told, Writes, IssuedBy, IssuesAll, FormatsOn, IsOn, Starts, Resumes, Begins, Boots, Opens, PowersOn, FormatStep, OnStep, ConsoleStep, PayloadStep, ReadStep, PokeStep, Issued, Refuses, Held, Resets, Suspends, SleepsBy, MakesCall, Comes, GuestTurn, GuestTurns, TurnStep, CallTold, GuestCall, CallStep, Step, Moves, Run}
 use Rattle.bench_report.specs.Reports.{IsReport}
-use Rattle.bench_report.specs.Plain.{ShowsNoFailure, AreSmooth}
+use Rattle.bench_report.specs.Plain.{ShowsNoFailure, ShowNoFailure}
 
 -- as many growths were refused and failures answered as before
 abbrev pub AsMany : Bench → Bench → Type 0
@@ -270,13 +270,13 @@ moves_smooth : (size : Size) (line : Line) (b : Bench) (a : Answer) (new : Bench
 moves_smooth size line b a new (inl h) smooth = step_smooth size line b a new h.0 smooth
 moves_smooth size line b a new (inr h) smooth = absurd (of_answer a printed.PowerLost h.4 smooth)
 
-run_smooth : (size : Size) (ls : List Line) (b : Bench) (answers : List Answer) (end : Bench) → Run size b ls answers end → AreSmooth answers → AsMany b end
+run_smooth : (size : Size) (ls : List Line) (b : Bench) (answers : List Answer) (end : Bench) → Run size b ls answers end → ShowNoFailure answers → AsMany b end
 run_smooth size [] b [] end h smooth = as_many b b end refl refl h
 run_smooth size [] b (a ∷ answers) end h smooth = absurd h
 run_smooth size (l ∷ ls) b [] end h smooth = absurd h
 run_smooth size (l ∷ ls) b (a ∷ answers) end h smooth =
     many_then b h.0 end (moves_smooth size l b a h.0 h.1 smooth.0) (run_smooth size ls h.0 answers end h.2 smooth.1)
 
-pub failure_free_bench : (script : Script) (answers : List Answer) (end : Bench) → IsReport script answers end → AreSmooth answers → IsFailureFree end
+pub failure_free_bench : (script : Script) (answers : List Answer) (end : Bench) → IsReport script answers end → ShowNoFailure answers → IsFailureFree end
 failure_free_bench script [] end h smooth = absurd h
 failure_free_bench script (board ∷ answers) end h smooth = run_smooth script.size script.lines blank_bench answers end h.1 smooth.1

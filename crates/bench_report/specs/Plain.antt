@@ -122,9 +122,9 @@ ShowsNoFailure (printed.Shown line) = IsFailureFreeLine line
 ShowsNoFailure line = ⊤
 
 -- so is each line
-abbrev pub AreSmooth : List Answer → Type 0
-AreSmooth [] = ⊤
-AreSmooth (a ∷ answers) = ShowsNoFailure a.line × AreSmooth answers
+abbrev pub ShowNoFailure : List Answer → Type 0
+ShowNoFailure [] = ⊤
+ShowNoFailure (a ∷ answers) = ShowsNoFailure a.line × ShowNoFailure answers
 
 -- what is written for the bytes of a script, or why nothing runs
 abbrev pub plain_text : List ℕ → Result (List ℕ) Refusal

@@ -11,7 +11,7 @@ ghost use Rattle.board_model.specs.declared.refusal.Refusal.TheVariants.{BadScri
 ghost use Rattle.script_lang.specs.Scripts.{Script};
 ghost use Rattle.script_lang.specs.declared.line.Line.TheVariants as lines;
 ghost use Rattle.bench_report.specs.Bench.{Bench, Formatted, IsFailureFree};
-ghost use Rattle.bench_report.specs.Plain.{ArePlain, AreSmooth, plain_report, plain_text};
+ghost use Rattle.bench_report.specs.Plain.{ArePlain, ShowNoFailure, plain_report, plain_text};
 ghost use Rattle.bench_report.specs.Prefix.{KeepsPrefixLaw};
 ghost use Rattle.bench_report.specs.Reports.{AreByFirmware, IsReport};
 ghost use Rattle.bench_report.specs.Resumed.{IsResumedFrom};
@@ -27,7 +27,7 @@ ghost use Rattle.bench_report.specs.declared.printed.Printed.TheVariants as prin
 pub fn one_report()
     ensures one { (script : Script) (answers others : List Answer) (end last : Bench) → AreByFirmware script.lines → IsReport script answers end → IsReport script others last → IsFailureFree end → IsFailureFree last
         → (answers ≡ others) × (end ≡ last) }
-    ensures smooth { (script : Script) (answers : List Answer) (end : Bench) → IsReport script answers end → AreSmooth answers → IsFailureFree end }
+    ensures smooth { (script : Script) (answers : List Answer) (end : Bench) → IsReport script answers end → ShowNoFailure answers → IsFailureFree end }
     ensures plain { (script : Script) (answers : List Answer) (end : Bench) → IsReport script answers end → IsFailureFree end → ArePlain script.lines → answers ≡ plain_report script }
 {
     machine::one_turn();
