@@ -1,4 +1,4 @@
--- A report whose lines are smooth: no power-on was refused memory, and no failure was answered.
+-- A report whose lines are failure-free: no power-on was refused memory, and no failure was answered.
 use Rattle.std.proofs.Common.{◌≡◌, ◌≢◌, ℕ, zero, suc, arith, inl, inr, List, [], ◌∷◌, Option, None, Some, Result, Ok, Err, refl, ◌∙◌, ap, subst}
 use Rattle.std.specs.Bool.{⊤}
 use Rattle.board_model.specs.Durable.{State, Change, Slot, Reset, Discard, refusal_of}
@@ -48,104 +48,104 @@ as_many b c new e f g = (ap (λ (x : Bench). x.growths) g ∙ e, ap (λ (x : Ben
 pub many_then : (b mid new : Bench) → AsMany b mid → AsMany mid new → AsMany b new
 many_then b mid new x y = (y.0 ∙ x.0, y.1 ∙ x.1)
 
--- what is smooth by its line
+-- what is failure-free by its line
 of_line : (line told : Printed) → line ≡ told → ShowsNoFailure line → ShowsNoFailure told
-of_line line told e smooth = let P : Printed → Type 0 = ShowsNoFailure in subst P e smooth
+of_line line told e failure_free = let P : Printed → Type 0 = ShowsNoFailure in subst P e failure_free
 
 of_answer : (a : Answer) (told : Printed) → a ≡ says told → ShowsNoFailure a.line → ShowsNoFailure told
-of_answer a told e smooth = of_line a.line told (ap (λ (x : Answer). x.line) e) smooth
+of_answer a told e failure_free = of_line a.line told (ap (λ (x : Answer). x.line) e) failure_free
 
 -- a command that was refused by none of the disk's numbers
 abbrev IsFailureFreeResult : Result ℕ ℕ → Type 0
 IsFailureFreeResult (Ok n) = ⊤
 IsFailureFreeResult (Err n) = (n ≢ 5) × (n ≢ 6)
 
-smooth_as : (o p : Result ℕ ℕ) → o ≡ p → IsFailureFreeResult o → IsFailureFreeResult p
-smooth_as o p e smooth = let P : Result ℕ ℕ → Type 0 = IsFailureFreeResult in subst P e smooth
+failure_free_as : (o p : Result ℕ ℕ) → o ≡ p → IsFailureFreeResult o → IsFailureFreeResult p
+failure_free_as o p e failure_free = let P : Result ℕ ℕ → Type 0 = IsFailureFreeResult in subst P e failure_free
 
-writes_smooth : (r : Option ℕ) (c : Change) (life : Life) (b : Bench) (o : Result ℕ ℕ) (new : Bench) → Writes r c life b o new → IsFailureFreeResult o → AsMany b new
-writes_smooth (Some n) c life b o new h smooth = as_many b b new refl refl h.1
-writes_smooth None c life b o new (inl h) smooth = as_many b (acknowledged c life b) new refl refl h.1
-writes_smooth None c life b o new (inr (inl h)) smooth = absurd ((smooth_as o (Err 5) h.0 smooth).0 refl)
-writes_smooth None c life b o new (inr (inr h)) smooth = absurd ((smooth_as o (Err 6) h.0 smooth).1 refl)
+writes_failure_free : (r : Option ℕ) (c : Change) (life : Life) (b : Bench) (o : Result ℕ ℕ) (new : Bench) → Writes r c life b o new → IsFailureFreeResult o → AsMany b new
+writes_failure_free (Some n) c life b o new h failure_free = as_many b b new refl refl h.1
+writes_failure_free None c life b o new (inl h) failure_free = as_many b (acknowledged c life b) new refl refl h.1
+writes_failure_free None c life b o new (inr (inl h)) failure_free = absurd ((failure_free_as o (Err 5) h.0 failure_free).0 refl)
+writes_failure_free None c life b o new (inr (inr h)) failure_free = absurd ((failure_free_as o (Err 6) h.0 failure_free).1 refl)
 
-issued_smooth : (d : Option Change) (c : Change) (life : Life) (b : Bench) (o : Result ℕ ℕ) (new : Bench) → IssuedBy d c life b o new → IsFailureFreeResult o → AsMany b new
-issued_smooth (Some d) c life b o new h smooth = as_many b b new refl refl h.1
-issued_smooth None c life b o new (inl h) smooth = as_many b b new refl refl h.2
-issued_smooth None c life b o new (inr h) smooth = writes_smooth (refusal_of life.now c) c life b o new h.1 smooth
+issued_failure_free : (d : Option Change) (c : Change) (life : Life) (b : Bench) (o : Result ℕ ℕ) (new : Bench) → IssuedBy d c life b o new → IsFailureFreeResult o → AsMany b new
+issued_failure_free (Some d) c life b o new h failure_free = as_many b b new refl refl h.1
+issued_failure_free None c life b o new (inl h) failure_free = as_many b b new refl refl h.2
+issued_failure_free None c life b o new (inr h) failure_free = writes_failure_free (refusal_of life.now c) c life b o new h.1 failure_free
 
-all_smooth : (cs : List Change) (b : Bench) (o : Result ℕ ℕ) (new : Bench) → IssuesAll cs b o new → IsFailureFreeResult o → AsMany b new
-all_smooth [] b o new h smooth = as_many b b new refl refl h.1
-all_smooth (c ∷ cs) b o new (life, on, first, mid, issued, inl h) smooth =
+all_failure_free : (cs : List Change) (b : Bench) (o : Result ℕ ℕ) (new : Bench) → IssuesAll cs b o new → IsFailureFreeResult o → AsMany b new
+all_failure_free [] b o new h failure_free = as_many b b new refl refl h.1
+all_failure_free (c ∷ cs) b o new (life, on, first, mid, issued, inl h) failure_free =
     let P : Result ℕ ℕ → Type 0 = λ r. IssuedBy life.doubt c life b r mid in
-    many_then b mid new (issued_smooth life.doubt c life b (Ok h.0) mid (subst P h.1 issued) tt) (all_smooth cs mid o new h.2 smooth)
-all_smooth (c ∷ cs) b o new (life, on, first, mid, issued, inr h) smooth =
+    many_then b mid new (issued_failure_free life.doubt c life b (Ok h.0) mid (subst P h.1 issued) tt) (all_failure_free cs mid o new h.2 failure_free)
+all_failure_free (c ∷ cs) b o new (life, on, first, mid, issued, inr h) failure_free =
     let P : Result ℕ ℕ → Type 0 = λ r. IssuedBy life.doubt c life b r mid in
     let Q : Bench → Type 0 = λ m. AsMany b m in
     let R : Bench → Type 0 = λ m. m ≡ mid in
-    many_then b mid new (issued_smooth life.doubt c life b (Err h.0) mid (subst P h.1 issued) (smooth_as o (Err h.0) h.2 smooth)) (as_many mid mid new refl refl h.3)
+    many_then b mid new (issued_failure_free life.doubt c life b (Err h.0) mid (subst P h.1 issued) (failure_free_as o (Err h.0) h.2 failure_free)) (as_many mid mid new refl refl h.3)
 
 -- ---- lines
-formats_smooth : (m : Medium) (b : Bench) (a : Answer) (new : Bench) → FormatsOn m b a new → ShowsNoFailure a.line → AsMany b new
-formats_smooth Blank b a new (inl h) smooth = as_many b (formatted_anew b) new refl refl h.1
-formats_smooth Blank b a new (inr h) smooth = absurd (of_answer a (printed.FormatRefused 5) h.0 smooth refl)
-formats_smooth Unknown b a new (inl h) smooth = as_many b (formatted_anew b) new refl refl h.1
-formats_smooth Unknown b a new (inr (inl h)) smooth = absurd (of_answer a (printed.FormatRefused 5) h.0 smooth refl)
-formats_smooth Unknown b a new (inr (inr h)) smooth = as_many b b new refl refl h.3
-formats_smooth Formatted b a new (inl h) smooth = as_many b b new refl refl h.1
-formats_smooth Formatted b a new (inr h) smooth = absurd (of_answer a (printed.FormatRefused 5) h.0 smooth refl)
+formats_failure_free : (m : Medium) (b : Bench) (a : Answer) (new : Bench) → FormatsOn m b a new → ShowsNoFailure a.line → AsMany b new
+formats_failure_free Blank b a new (inl h) failure_free = as_many b (formatted_anew b) new refl refl h.1
+formats_failure_free Blank b a new (inr h) failure_free = absurd (of_answer a (printed.FormatRefused 5) h.0 failure_free refl)
+formats_failure_free Unknown b a new (inl h) failure_free = as_many b (formatted_anew b) new refl refl h.1
+formats_failure_free Unknown b a new (inr (inl h)) failure_free = absurd (of_answer a (printed.FormatRefused 5) h.0 failure_free refl)
+formats_failure_free Unknown b a new (inr (inr h)) failure_free = as_many b b new refl refl h.3
+formats_failure_free Formatted b a new (inl h) failure_free = as_many b b new refl refl h.1
+formats_failure_free Formatted b a new (inr h) failure_free = absurd (of_answer a (printed.FormatRefused 5) h.0 failure_free refl)
 
-is_on_smooth : (o : Result ℕ ℕ) (mode : BootMode) (z : Size) (s : State) (b : Bench) (line : Printed) (new : Bench) → IsOn o mode z s b line new → ShowsNoFailure line → IsFailureFreeResult o × AsMany b new
-is_on_smooth (Ok n) mode z s b line new (life, on, said, m, boots, e) smooth = (tt, as_many b (on_with (has_machine m life) b) new refl refl e)
-is_on_smooth (Err n) mode z s b line new h smooth = let told = of_line line (printed.OnRefused n) h.0 smooth in ((told.0, told.1), as_many b (off b) new refl refl h.1)
+is_on_failure_free : (o : Result ℕ ℕ) (mode : BootMode) (z : Size) (s : State) (b : Bench) (line : Printed) (new : Bench) → IsOn o mode z s b line new → ShowsNoFailure line → IsFailureFreeResult o × AsMany b new
+is_on_failure_free (Ok n) mode z s b line new (life, on, said, m, boots, e) failure_free = (tt, as_many b (on_with (has_machine m life) b) new refl refl e)
+is_on_failure_free (Err n) mode z s b line new h failure_free = let told = of_line line (printed.OnRefused n) h.0 failure_free in ((told.0, told.1), as_many b (off b) new refl refl h.1)
 
-slot_smooth : (mode : BootMode) (z : Size) (s : State) (b : Bench) (line : Printed) (new : Bench) → Starts mode z s b line new → ShowsNoFailure line → AsMany b new
-slot_smooth mode z s b line new (o, mid, h, on) smooth =
-    let last = is_on_smooth o mode z s mid line new on smooth in
+slot_failure_free : (mode : BootMode) (z : Size) (s : State) (b : Bench) (line : Printed) (new : Bench) → Starts mode z s b line new → ShowsNoFailure line → AsMany b new
+slot_failure_free mode z s b line new (o, mid, h, on) failure_free =
+    let last = is_on_failure_free o mode z s mid line new on failure_free in
     let start : Bench = on_with (begun s z) b in
-    many_then b mid new (let first = all_smooth (commands_of mode) start o mid h last.0 in (first.0, first.1)) last.1
+    many_then b mid new (let first = all_failure_free (commands_of mode) start o mid h last.0 in (first.0, first.1)) last.1
 
-resumes_smooth : (z : Size) (s : State) (b : Bench) (line : Printed) (new : Bench) → Resumes z s b line new → ShowsNoFailure line → AsMany b new
-resumes_smooth z s b line new (inl h) smooth = slot_smooth modes.Resume z s b line new h smooth
-resumes_smooth z s b line new (inr h) smooth = as_many b b new refl refl h.2
+resumes_failure_free : (z : Size) (s : State) (b : Bench) (line : Printed) (new : Bench) → Resumes z s b line new → ShowsNoFailure line → AsMany b new
+resumes_failure_free z s b line new (inl h) failure_free = slot_failure_free modes.Resume z s b line new h failure_free
+resumes_failure_free z s b line new (inr h) failure_free = as_many b b new refl refl h.2
 
-begins_smooth : (mode : BootMode) (z : Size) (s : State) (b : Bench) (line : Printed) (new : Bench) → Begins mode z s b line new → ShowsNoFailure line → AsMany b new
-begins_smooth modes.Fresh z s b line new h smooth = slot_smooth modes.Fresh z s b line new h smooth
-begins_smooth modes.Keep z s b line new h smooth = slot_smooth modes.Keep z s b line new h smooth
-begins_smooth modes.Discard z s b line new h smooth = slot_smooth modes.Discard z s b line new h smooth
-begins_smooth modes.Resume z s b line new h smooth = resumes_smooth z s b line new h smooth
+begins_failure_free : (mode : BootMode) (z : Size) (s : State) (b : Bench) (line : Printed) (new : Bench) → Begins mode z s b line new → ShowsNoFailure line → AsMany b new
+begins_failure_free modes.Fresh z s b line new h failure_free = slot_failure_free modes.Fresh z s b line new h failure_free
+begins_failure_free modes.Keep z s b line new h failure_free = slot_failure_free modes.Keep z s b line new h failure_free
+begins_failure_free modes.Discard z s b line new h failure_free = slot_failure_free modes.Discard z s b line new h failure_free
+begins_failure_free modes.Resume z s b line new h failure_free = resumes_failure_free z s b line new h failure_free
 
-boots_smooth : (r : Option ℕ) (mode : BootMode) (z : Size) (s : State) (b : Bench) (line : Printed) (new : Bench) → Boots r mode z s b line new → ShowsNoFailure line → AsMany b new
-boots_smooth None mode z s b line new (inl h) smooth = begins_smooth mode z s b line new h smooth
-boots_smooth None mode z s b line new (inr h) smooth = absurd ((of_line line (printed.OnRefused 11) h.0 smooth).2 refl)
-boots_smooth (Some n) mode z s b line new h smooth = as_many b b new refl refl h.1
+boots_failure_free : (r : Option ℕ) (mode : BootMode) (z : Size) (s : State) (b : Bench) (line : Printed) (new : Bench) → Boots r mode z s b line new → ShowsNoFailure line → AsMany b new
+boots_failure_free None mode z s b line new (inl h) failure_free = begins_failure_free mode z s b line new h failure_free
+boots_failure_free None mode z s b line new (inr h) failure_free = absurd ((of_line line (printed.OnRefused 11) h.0 failure_free).2 refl)
+boots_failure_free (Some n) mode z s b line new h failure_free = as_many b b new refl refl h.1
 
 opens_many : (size : Size) (m : Medium) (b : Bench) (s : State) (z : Size) (mid : Bench) → Opens size m b s z mid → AsMany b mid
 opens_many size Blank b s z mid h = absurd h
 opens_many size Unknown b s z mid h = as_many b b mid refl refl h
 opens_many size Formatted b s z mid h = as_many b (settled h.0 b) mid refl refl h.4
 
-powers_smooth : (size : Size) (mode : BootMode) (b : Bench) (a : Answer) (new : Bench) → PowersOn size mode b a new → ShowsNoFailure a.line → AsMany b new
-powers_smooth size mode b a new (inl (s, z, mid, found, shows, h)) smooth = many_then b mid new (opens_many size b.medium b s z mid found) (boots_smooth (boot_refusal s mode) mode z s mid a.line new h smooth)
-powers_smooth size mode b a new (inr (inl h)) smooth = as_many b b new refl refl h.3
-powers_smooth size mode b a new (inr (inr (inl h))) smooth = absurd ((of_answer a (printed.OnRefused 11) h.1 smooth).2 refl)
-powers_smooth size mode b a new (inr (inr (inr h))) smooth = absurd ((of_answer a (printed.OnRefused 5) h.0 smooth).0 refl)
+powers_failure_free : (size : Size) (mode : BootMode) (b : Bench) (a : Answer) (new : Bench) → PowersOn size mode b a new → ShowsNoFailure a.line → AsMany b new
+powers_failure_free size mode b a new (inl (s, z, mid, found, shows, h)) failure_free = many_then b mid new (opens_many size b.medium b s z mid found) (boots_failure_free (boot_refusal s mode) mode z s mid a.line new h failure_free)
+powers_failure_free size mode b a new (inr (inl h)) failure_free = as_many b b new refl refl h.3
+powers_failure_free size mode b a new (inr (inr (inl h))) failure_free = absurd ((of_answer a (printed.OnRefused 11) h.1 failure_free).2 refl)
+powers_failure_free size mode b a new (inr (inr (inr h))) failure_free = absurd ((of_answer a (printed.OnRefused 5) h.0 failure_free).0 refl)
 
 format_at : (p : Option Life) (b : Bench) (a : Answer) (new : Bench) → FormatStep p b a new → ShowsNoFailure a.line → AsMany b new
-format_at None b a new h smooth = formats_smooth b.medium b a new h smooth
-format_at (Some life) b a new h smooth = as_many b b new refl refl h.1
+format_at None b a new h failure_free = formats_failure_free b.medium b a new h failure_free
+format_at (Some life) b a new h failure_free = as_many b b new refl refl h.1
 
 on_at : (size : Size) (p : Option Life) (mode : BootMode) (b : Bench) (a : Answer) (new : Bench) → OnStep size p mode b a new → ShowsNoFailure a.line → AsMany b new
-on_at size None mode b a new h smooth = powers_smooth size mode b a new h smooth
-on_at size (Some life) mode b a new h smooth = as_many b b new refl refl h.1
+on_at size None mode b a new h failure_free = powers_failure_free size mode b a new h failure_free
+on_at size (Some life) mode b a new h failure_free = as_many b b new refl refl h.1
 
-told_smooth : (word : ConsoleWord) (o : Result ℕ ℕ) (a : Answer) → a ≡ console_told word o → ShowsNoFailure a.line → IsFailureFreeResult o
-told_smooth word (Ok n) a e smooth = tt
-told_smooth word (Err n) a e smooth = of_answer a (printed.CommandRefused word n) e smooth
+told_failure_free : (word : ConsoleWord) (o : Result ℕ ℕ) (a : Answer) → a ≡ console_told word o → ShowsNoFailure a.line → IsFailureFreeResult o
+told_failure_free word (Ok n) a e failure_free = tt
+told_failure_free word (Err n) a e failure_free = of_answer a (printed.CommandRefused word n) e failure_free
 
 console_at : (word : ConsoleWord) (c : Change) (p : Option Life) (b : Bench) (a : Answer) (new : Bench) → ConsoleStep word c p b a new → ShowsNoFailure a.line → AsMany b new
-console_at word c None b a new h smooth = as_many b b new refl refl h.1
-console_at word c (Some life) b a new h smooth = issued_smooth life.doubt c life b h.0 new h.1 (told_smooth word h.0 a h.2 smooth)
+console_at word c None b a new h failure_free = as_many b b new refl refl h.1
+console_at word c (Some life) b a new h failure_free = issued_failure_free life.doubt c life b h.0 new h.1 (told_failure_free word h.0 a h.2 failure_free)
 
 payload_at : (p : Option Life) (slot : ℕ) (bytes : List ℕ) (b : Bench) (a : Answer) (new : Bench) → PayloadStep p slot bytes b a new → AsMany b new
 payload_at None slot bytes b a new h = as_many b _ new refl refl h.1
@@ -164,7 +164,7 @@ refuses_free : {A : Type 0} (e : SbiError) (h : ℕ) (life : Life) (b : Bench) (
 refuses_free e h life b word new x free = absurd (free x.0)
 
 held_free : (c : Change) (o : Result ℕ ℕ) (said : Word) (h : ℕ) (life : Life) (b mid : Bench) (word : Word) (new : Bench) → Issued c life b o mid → Held o said h mid word new → IsFree word → AsMany b new
-held_free c (Ok n) said h life b mid word new i x free = many_then b mid new (issued_smooth life.doubt c life b (Ok n) mid i tt) (as_many mid (off mid) new refl refl x.1)
+held_free c (Ok n) said h life b mid word new i x free = many_then b mid new (issued_failure_free life.doubt c life b (Ok n) mid i tt) (as_many mid (off mid) new refl refl x.1)
 held_free c (Err n) said h life b mid word new i (at, on, x) free = refuses_free Failed h at mid word new x free
 
 resets_free : (asked : Result (ResetType × Reason) SbiError) (h : ℕ) (life : Life) (b : Bench) (word : Word) (new : Bench) → Resets asked h life b word new → IsFree word → AsMany b new
@@ -218,65 +218,65 @@ turns_free h (suc n) b made word new (life, on, said, mid, turned, inr x) one fr
     less rest made e f = omega (arith, e, f)
 
 turn_at : (p : Option Life) (h n : ℕ) (b : Bench) (a : Answer) (new : Bench) → TurnStep p h n b a new → ShowsNoFailure a.line → AsMany b new
-turn_at None h n b a new x smooth = as_many b b new refl refl x.1
-turn_at (Some life) h n b a new (inl (has, made, word, x, e)) smooth =
-    let is = of_answer a (printed.Shown (shown.Turn h made word)) e smooth in
+turn_at None h n b a new x failure_free = as_many b b new refl refl x.1
+turn_at (Some life) h n b a new (inl (has, made, word, x, e)) failure_free =
+    let is = of_answer a (printed.Shown (shown.Turn h made word)) e failure_free in
     turns_free h n b made word new x is.0 is.1
-turn_at (Some life) h n b a new (inr x) smooth = as_many b b new refl refl x.2
+turn_at (Some life) h n b a new (inr x) failure_free = as_many b b new refl refl x.2
 
--- the answer of a call that may have been refused is not smooth
+-- the answer of a call that may have been refused is not failure-free
 call_free : (h : ℕ) (word : Word) (new : Bench) (a : Answer) → CallTold h word new a → ShowsNoFailure a.line → IsFree word
-call_free h word new a told smooth e =
+call_free h word new a told failure_free e =
     let P : Word → Type 0 = λ w. CallTold h w new a in
     let at = subst P e told in
-    of_answer a (printed.Shown (shown.Answered h _ _)) at.2 smooth
+    of_answer a (printed.Shown (shown.Answered h _ _)) at.2 failure_free
 
 called_at : (called : Called) (h : ℕ) (life : Life) (b : Bench) (a : Answer) (new : Bench) → GuestCall called h life b a new → ShowsNoFailure a.line → AsMany b new
-called_at NotStarted h life b a new x smooth = as_many b b new refl refl x.1
-called_at (Made did) h life b a new (word, x, told) smooth = comes_free did h life b word new x (call_free h word new a told smooth)
+called_at NotStarted h life b a new x failure_free = as_many b b new refl refl x.1
+called_at (Made did) h life b a new (word, x, told) failure_free = comes_free did h life b word new x (call_free h word new a told failure_free)
 
 call_at : (p : Option Life) (h e f x y z : ℕ) (b : Bench) (a : Answer) (new : Bench) → CallStep p h e f x y z b a new → ShowsNoFailure a.line → AsMany b new
-call_at None h e f x y z b a new g smooth = as_many b b new refl refl g.1
-call_at (Some life) h e f x y z b a new (inl (has, m, called, did, g)) smooth =
-    let rest = called_at called h (has_machine m life) (on_with (has_machine m life) b) a new g smooth in (rest.0, rest.1)
-call_at (Some life) h e f x y z b a new (inr g) smooth = as_many b b new refl refl g.2
+call_at None h e f x y z b a new g failure_free = as_many b b new refl refl g.1
+call_at (Some life) h e f x y z b a new (inl (has, m, called, did, g)) failure_free =
+    let rest = called_at called h (has_machine m life) (on_with (has_machine m life) b) a new g failure_free in (rest.0, rest.1)
+call_at (Some life) h e f x y z b a new (inr g) failure_free = as_many b b new refl refl g.2
 
 poke_at : (p : Option Life) (b : Bench) (a : Answer) (new : Bench) → PokeStep p b a new → AsMany b new
 poke_at None b a new h = as_many b (unknown b) new refl refl h.1
 poke_at (Some life) b a new h = as_many b b new refl refl h.1
 
-step_smooth : (size : Size) (line : Line) (b : Bench) (a : Answer) (new : Bench) → Step size line b a new → ShowsNoFailure a.line → AsMany b new
-step_smooth size (lines.Payload x y) b a new h smooth = payload_at b.power x y b a new h
-step_smooth size lines.Format b a new h smooth = format_at b.power b a new h smooth
-step_smooth size (lines.On mode) b a new h smooth = on_at size b.power mode b a new h smooth
-step_smooth size (lines.Slot n) b a new h smooth = console_at names.Slot (Slot n) b.power b a new h smooth
-step_smooth size lines.Discard b a new h smooth = console_at names.Discard Discard b.power b a new h smooth
-step_smooth size (lines.Turn x y) b a new h smooth = turn_at b.power x y b a new h smooth
-step_smooth size (lines.Call x y z u v w) b a new h smooth = call_at b.power x y z u v w b a new h smooth
-step_smooth size (lines.Reg x y) b a new h smooth = read_at b.power _ b a new h
-step_smooth size (lines.Pc x) b a new h smooth = read_at b.power _ b a new h
-step_smooth size (lines.Csr x y) b a new h smooth = read_at b.power _ b a new h
-step_smooth size lines.Pending b a new h smooth = read_at b.power _ b a new h
-step_smooth size (lines.Mem x y) b a new h smooth = read_at b.power _ b a new h
-step_smooth size (lines.CutAt x y) b a new h smooth = as_many b (armed_with CutArmed b) new refl refl h.1
-step_smooth size (lines.CutLane x y z) b a new h smooth = as_many b (armed_with CutArmed b) new refl refl h.1
-step_smooth size (lines.FailAt x) b a new h smooth = as_many b (armed_with FaultArmed b) new refl refl h.1
-step_smooth size (lines.FailLane x y) b a new h smooth = as_many b (armed_with FaultArmed b) new refl refl h.1
-step_smooth size (lines.Cut fill) b a new h smooth = as_many b (unpowered b) new refl refl h.1
-step_smooth size (lines.Poke x y z) b a new h smooth = poke_at b.power b a new h
+step_failure_free : (size : Size) (line : Line) (b : Bench) (a : Answer) (new : Bench) → Step size line b a new → ShowsNoFailure a.line → AsMany b new
+step_failure_free size (lines.Payload x y) b a new h failure_free = payload_at b.power x y b a new h
+step_failure_free size lines.Format b a new h failure_free = format_at b.power b a new h failure_free
+step_failure_free size (lines.On mode) b a new h failure_free = on_at size b.power mode b a new h failure_free
+step_failure_free size (lines.Slot n) b a new h failure_free = console_at names.Slot (Slot n) b.power b a new h failure_free
+step_failure_free size lines.Discard b a new h failure_free = console_at names.Discard Discard b.power b a new h failure_free
+step_failure_free size (lines.Turn x y) b a new h failure_free = turn_at b.power x y b a new h failure_free
+step_failure_free size (lines.Call x y z u v w) b a new h failure_free = call_at b.power x y z u v w b a new h failure_free
+step_failure_free size (lines.Reg x y) b a new h failure_free = read_at b.power _ b a new h
+step_failure_free size (lines.Pc x) b a new h failure_free = read_at b.power _ b a new h
+step_failure_free size (lines.Csr x y) b a new h failure_free = read_at b.power _ b a new h
+step_failure_free size lines.Pending b a new h failure_free = read_at b.power _ b a new h
+step_failure_free size (lines.Mem x y) b a new h failure_free = read_at b.power _ b a new h
+step_failure_free size (lines.CutAt x y) b a new h failure_free = as_many b (armed_with CutArmed b) new refl refl h.1
+step_failure_free size (lines.CutLane x y z) b a new h failure_free = as_many b (armed_with CutArmed b) new refl refl h.1
+step_failure_free size (lines.FailAt x) b a new h failure_free = as_many b (armed_with FaultArmed b) new refl refl h.1
+step_failure_free size (lines.FailLane x y) b a new h failure_free = as_many b (armed_with FaultArmed b) new refl refl h.1
+step_failure_free size (lines.Cut fill) b a new h failure_free = as_many b (unpowered b) new refl refl h.1
+step_failure_free size (lines.Poke x y z) b a new h failure_free = poke_at b.power b a new h
 
--- within a smooth line no cut struck
-moves_smooth : (size : Size) (line : Line) (b : Bench) (a : Answer) (new : Bench) → Moves size line b a new → ShowsNoFailure a.line → AsMany b new
-moves_smooth size line b a new (inl h) smooth = step_smooth size line b a new h.0 smooth
-moves_smooth size line b a new (inr h) smooth = absurd (of_answer a printed.PowerLost h.4 smooth)
+-- within a failure-free line no cut struck
+moves_failure_free : (size : Size) (line : Line) (b : Bench) (a : Answer) (new : Bench) → Moves size line b a new → ShowsNoFailure a.line → AsMany b new
+moves_failure_free size line b a new (inl h) failure_free = step_failure_free size line b a new h.0 failure_free
+moves_failure_free size line b a new (inr h) failure_free = absurd (of_answer a printed.PowerLost h.4 failure_free)
 
-run_smooth : (size : Size) (ls : List Line) (b : Bench) (answers : List Answer) (end : Bench) → Run size b ls answers end → ShowNoFailure answers → AsMany b end
-run_smooth size [] b [] end h smooth = as_many b b end refl refl h
-run_smooth size [] b (a ∷ answers) end h smooth = absurd h
-run_smooth size (l ∷ ls) b [] end h smooth = absurd h
-run_smooth size (l ∷ ls) b (a ∷ answers) end h smooth =
-    many_then b h.0 end (moves_smooth size l b a h.0 h.1 smooth.0) (run_smooth size ls h.0 answers end h.2 smooth.1)
+run_failure_free : (size : Size) (ls : List Line) (b : Bench) (answers : List Answer) (end : Bench) → Run size b ls answers end → ShowNoFailure answers → AsMany b end
+run_failure_free size [] b [] end h failure_free = as_many b b end refl refl h
+run_failure_free size [] b (a ∷ answers) end h failure_free = absurd h
+run_failure_free size (l ∷ ls) b [] end h failure_free = absurd h
+run_failure_free size (l ∷ ls) b (a ∷ answers) end h failure_free =
+    many_then b h.0 end (moves_failure_free size l b a h.0 h.1 failure_free.0) (run_failure_free size ls h.0 answers end h.2 failure_free.1)
 
 pub failure_free_bench : (script : Script) (answers : List Answer) (end : Bench) → IsReport script answers end → ShowNoFailure answers → IsFailureFree end
-failure_free_bench script [] end h smooth = absurd h
-failure_free_bench script (board ∷ answers) end h smooth = run_smooth script.size script.lines blank_bench answers end h.1 smooth.1
+failure_free_bench script [] end h failure_free = absurd h
+failure_free_bench script (board ∷ answers) end h failure_free = run_failure_free script.size script.lines blank_bench answers end h.1 failure_free.1
