@@ -11,7 +11,7 @@ pub mod Ended
 pub mod Written
 pub mod Told
 pub mod Determined
-pub mod Smooth
+pub mod FailureFree
 pub mod Guests
 pub mod Single
 pub mod Unsaid

@@ -20,7 +20,7 @@ use Rattle.bench_report.specs.Reports.{IsByFirmware, AreByFirmware, IsReport}
 use Rattle.bench_report.specs.Plain.{plain_written, plain_issued, plain_console, plain_format, plain_slot, plain_boot, plain_on, plain_at, plain, plain_answers, plain_report, IsPlain, ArePlain}
 use Rattle.bench_report.proofs.Adapted.{grows}
 use Rattle.bench_report.proofs.Determined.{CalmDisk}
-use Rattle.bench_report.proofs.Smooth.{AsMany, many_then}
+use Rattle.bench_report.proofs.FailureFree.{AsMany, many_then}
 use Rattle.bench_report.proofs.Single.{IsOneCall, IsOneCsr, one_report}
 use Rattle.bench_report.proofs.Guests.{IsOneTurn}
 

@@ -1,5 +1,5 @@
 use Rattle.bench_report.proofs.Single.{one_report}
-use Rattle.bench_report.proofs.Smooth.{failure_free_bench}
+use Rattle.bench_report.proofs.FailureFree.{failure_free_bench}
 use Rattle.bench_report.proofs.PlainRun.{plain_alone}
 use Rattle.bench_report.proofs.laws.one_report.Goals as goal
 
