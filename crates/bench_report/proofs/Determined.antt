@@ -15,14 +15,14 @@ use Rattle.disk.specs.Facts.{counted}
 use Rattle.bench_report.specs.declared.printed.Printed.{Printed}
 use Rattle.bench_report.specs.declared.printed.Printed.TheVariants as printed
 use Rattle.bench_report.specs.declared.printed.Answer.{Answer}
-use Rattle.bench_report.specs.Bench.{Medium, Blank, Unknown, Formatted, Life, Bench}
+use Rattle.bench_report.specs.Bench.{DiskState, Blank, Unknown, Formatted, Life, Bench}
 use Rattle.bench_report.specs.Steps.{says, out_of_memory, FailsByFault, off, on_with, formatted_anew, unknown, settled, has_machine, acknowledged, in_doubt, begun, commands_of, Writes, IssuedBy, Issued, IssuesAll, FormatsOn, IsOn, Starts, Resumes, Begins, Boots, Opens, ShowsFound, IsOpenRefusal, PowersOn}
 
 abbrev pub HasFailed : Bench → Type 0
 HasFailed b = (0 < b.growths) ⊎ (0 < b.failures)
 
 -- the disk is known, and nothing is in doubt
-abbrev pub CalmDisk : Medium → Option Change → Type 0
+abbrev pub CalmDisk : DiskState → Option Change → Type 0
 CalmDisk Blank doubt = ⊤
 CalmDisk Unknown doubt = ⊥
 CalmDisk Formatted doubt = doubt ≡ None
@@ -132,7 +132,7 @@ answers_as : (a : Answer) (o : Option Durable) (line : Printed) → a.found ≡ 
 answers_as a o line e f = ap (λ (x : Option Durable). let r : Answer = record { found = x; line = a.line } in r) e ∙ ap (λ (l : Printed). let r : Answer = record { found = o; line = l } in r) f
 
 -- ---- format
-pub formats_fair : (m : Medium) (b : Bench) (a : Answer) (new : Bench) → FormatsOn m b a new → Fair b new
+pub formats_fair : (m : DiskState) (b : Bench) (a : Answer) (new : Bench) → FormatsOn m b a new → Fair b new
 formats_fair Blank b a new (inl h) = fair_to b new (formatted_anew b) h.1 (λ s. s, λ c. inr refl)
 formats_fair Blank b a new (inr h) = spoils b new (hinders (unknown b) new h.1)
 formats_fair Unknown b a new (inl h) = fair_to b new (formatted_anew b) h.1 (λ s. s, λ c. inr refl)
@@ -141,7 +141,7 @@ formats_fair Unknown b a new (inr (inr h)) = unmoved b new h.3
 formats_fair Formatted b a new (inl h) = unmoved b new h.1
 formats_fair Formatted b a new (inr h) = spoils b new (hinders b new h.1)
 
-pub formats : (m : Medium) (b : Bench) (a z : Answer) (new last : Bench) → CalmDisk m b.kept.doubt → FormatsOn m b a new → FormatsOn m b z last → Agree a z new last
+pub formats : (m : DiskState) (b : Bench) (a z : Answer) (new last : Bench) → CalmDisk m b.kept.doubt → FormatsOn m b a new → FormatsOn m b z last → Agree a z new last
 formats Blank b a z new last calm (inl h) (inl k) = same a z _ new last _ h.0 k.0 h.1 k.1
 formats Blank b a z new last calm (inr h) k = inl (hinders (unknown b) new h.1)
 formats Blank b a z new last calm (inl h) (inr k) = inr (inl (hinders (unknown b) last k.1))
@@ -176,12 +176,12 @@ boots_fair (Some n) mode z s b line new x = unmoved b new x.1
 boots_fair None mode z s b line new (inl x) = begins_fair mode z s b line new x
 boots_fair None mode z s b line new (inr x) = spoils b new (starves b new x.1)
 
-settled_fair : (changes : List Change) (m : Medium) (b mid : Bench) → b.medium ≡ m → CalmDisk m None → mid ≡ settled changes b → Fair b mid
+settled_fair : (changes : List Change) (m : DiskState) (b mid : Bench) → b.medium ≡ m → CalmDisk m None → mid ≡ settled changes b → Fair b mid
 settled_fair changes m b mid at calm e =
-    let P : Medium → Type 0 = λ x. CalmDisk x None in
+    let P : DiskState → Type 0 = λ x. CalmDisk x None in
     fair_to b mid (settled changes b) e (λ s. s, λ c. inr (subst P (sym at) calm))
 
-opens_fair : (size : Size) (m : Medium) (b : Bench) (s : State) (z : Size) (mid : Bench) → b.medium ≡ m → Opens size m b s z mid → Fair b mid
+opens_fair : (size : Size) (m : DiskState) (b : Bench) (s : State) (z : Size) (mid : Bench) → b.medium ≡ m → Opens size m b s z mid → Fair b mid
 opens_fair size Blank b s z mid at h = absurd h
 opens_fair size Unknown b s z mid at h = unmoved b mid h
 opens_fair size Formatted b s z mid at h = settled_fair h.0 Formatted b mid at refl h.4
@@ -293,19 +293,19 @@ found_as (Some d) s h = ap Some h
 abbrev IsOneOpen : Bench → State → Size → Bench → State → Size → Bench → Type 0
 IsOneOpen b s z mid t y other = (t ≡ s) × (y ≡ z) × (other ≡ mid)
 
-one_open : (size : Size) (m : Medium) (b : Bench) (s : State) (z : Size) (mid : Bench) (t : State) (y : Size) (other : Bench) → CalmDisk m b.kept.doubt → Opens size m b s z mid → Opens size m b t y other → IsOneOpen b s z mid t y other
+one_open : (size : Size) (m : DiskState) (b : Bench) (s : State) (z : Size) (mid : Bench) (t : State) (y : Size) (other : Bench) → CalmDisk m b.kept.doubt → Opens size m b s z mid → Opens size m b t y other → IsOneOpen b s z mid t y other
 one_open size Blank b s z mid t y other calm h k = absurd h
 one_open size Unknown b s z mid t y other calm h k = absurd calm
 one_open size Formatted b s z mid t y other calm (cs, may, is, sized, e) (ds, may2, is2, sized2, e2) =
     let f : ds ≡ cs = sym (kept_as b.kept ds calm may2) ∙ kept_as b.kept cs calm may in
     (is2 ∙ ap found_of f ∙ sym is, sized2 ∙ sym sized, e2 ∙ ap (λ k. settled k b) f ∙ sym e)
 
-no_open : (size : Size) (m : Medium) (b : Bench) (s : State) (z : Size) (mid : Bench) (n : ℕ) → CalmDisk m b.kept.doubt → Opens size m b s z mid → IsOpenRefusal m n → ⊥
+no_open : (size : Size) (m : DiskState) (b : Bench) (s : State) (z : Size) (mid : Bench) (n : ℕ) → CalmDisk m b.kept.doubt → Opens size m b s z mid → IsOpenRefusal m n → ⊥
 no_open size Blank b s z mid n calm h r = h
 no_open size Unknown b s z mid n calm h r = calm
 no_open size Formatted b s z mid n calm h r = r
 
-one_number : (m : Medium) (b : Bench) (n k : ℕ) → CalmDisk m b.kept.doubt → IsOpenRefusal m n → IsOpenRefusal m k → n ≡ k
+one_number : (m : DiskState) (b : Bench) (n k : ℕ) → CalmDisk m b.kept.doubt → IsOpenRefusal m n → IsOpenRefusal m k → n ≡ k
 one_number Blank b n k calm h r = h ∙ sym r
 one_number Unknown b n k calm h r = absurd calm
 one_number Formatted b n k calm h r = absurd h

@@ -8,7 +8,7 @@ use Rattle.store.specs.Leaves.{Leaves, IsKept, LeavesOnly, LeavesEither}
 use Rattle.store.specs.Stores.{Stands, Doubts, now_state, doubt_of}
 use Rattle.simdisk.specs.declared.SimDisk.{SimDisk}
 use Rattle.bench_report.specs.Below.{facts, Store, Board, store_in, IsAs, store_size}
-use Rattle.bench_report.specs.Bench.{Medium, Blank, Unknown, Formatted, Life}
+use Rattle.bench_report.specs.Bench.{DiskState, Blank, Unknown, Formatted, Life}
 use Rattle.bench_report.specs.Agree.{StoreIs, BoardIs, DiskIs, IsOver}
 use Rattle.bench_report.proofs.Adapted.{grows}
 use Rattle.bench_report.proofs.KeptDisks.{GoesOn, LeavesLess}
@@ -53,7 +53,7 @@ left size k now count (Some c) store disk doubt same sized is up down allowed =
     let P : State → Type 0 = λ s. refusal_of s c ≡ None in
     left_either size (store_size store) k c now disk doubt same (subst P is.0 (allowed c is.2)) sized (down now (after now c) (c, is.2, sym is.0, refl))
 
-pub ended : (size : Size) (m : Medium) (k : Kept) (life : Life) (store : Store) (disk : Facts) → StoreIs size m k life store → LeftUp store disk → LeftDown store disk → IsAllowed store
+pub ended : (size : Size) (m : DiskState) (k : Kept) (life : Life) (store : Store) (disk : Facts) → StoreIs size m k life store → LeftUp store disk → LeftDown store disk → IsAllowed store
     → DiskIs size m k disk
 ended size Blank k life store disk was up down allowed = absurd was.0
 ended size Unknown k life store disk was up down allowed = tt
@@ -61,18 +61,18 @@ ended size Formatted k life store disk was up down allowed =
     left size k life.now life.receipts life.doubt store disk was.0.0 was.0.1 was.0.2 was.1 up down allowed
 
 -- that of a life which its own command ended
-pub over_ended : (size : Size) (m : Medium) (k : Kept) (store : Store) (disk : Facts) → IsOver size m k store → LeftUp store disk → DiskIs size m k disk
+pub over_ended : (size : Size) (m : DiskState) (k : Kept) (store : Store) (disk : Facts) → IsOver size m k store → LeftUp store disk → DiskIs size m k disk
 over_ended size Blank k store disk was up = absurd was
 over_ended size Unknown k store disk was up = tt
 over_ended size Formatted k store disk was up = left_only size (store_size store) k (now_state store) disk was.1 was.2 (up (now_state store) (was.3, refl))
 
-pub board_ended : (size : Size) (m : Medium) (k : Kept) (p : Option Life) (board : Board) (disk : Facts) → BoardIs size m k p board → LeftUp (store_in board) disk → LeftDown (store_in board) disk
+pub board_ended : (size : Size) (m : DiskState) (k : Kept) (p : Option Life) (board : Board) (disk : Facts) → BoardIs size m k p board → LeftUp (store_in board) disk → LeftDown (store_in board) disk
     → IsAllowed (store_in board) → DiskIs size m k disk
 board_ended size m k None board disk was up down allowed = absurd was
 board_ended size m k (Some life) board disk was up down allowed = ended size m k life (store_in board) disk was.0 up down allowed
 
 -- where no other content may be left than before, the medium is the same
-pub left_on : GoesOn → (size : Size) (m : Medium) (k : Kept) (old new : SimDisk) → DiskIs size m k (facts old) → LeavesLess old new → DiskIs size m k (facts new)
+pub left_on : GoesOn → (size : Size) (m : DiskState) (k : Kept) (old new : SimDisk) → DiskIs size m k (facts old) → LeavesLess old new → DiskIs size m k (facts new)
 left_on goes_on size Blank k old new was less = (goes_on old new less).0 was
 left_on goes_on size Unknown k old new was less = tt
 left_on goes_on size Formatted k old new was less = let on = goes_on old new less in (on.1 size was.0, λ s l. was.1 s (on.2 size s l))

@@ -33,7 +33,7 @@ use Rattle.bench_report.specs.declared.printed.Printed.{Printed}
 use Rattle.bench_report.specs.declared.printed.Printed.TheVariants as printed
 use Rattle.disk.specs.FaultState.{FaultArmed, CutArmed}
 use Rattle.bench_report.specs.declared.printed.Answer.{Answer}
-use Rattle.bench_report.specs.Bench.{Medium, Blank, Unknown, Formatted, Life, Bench, IsFailureFree, blank_bench}
+use Rattle.bench_report.specs.Bench.{DiskState, Blank, Unknown, Formatted, Life, Bench, IsFailureFree, blank_bench}
 use Rattle.bench_report.specs.Steps.{says, off, on_with, unpowered, unknown, armed_with, formatted_anew, settled, has_machine, acknowledged, begun, commands_of, console_told, Writes, IssuedBy, IssuesAll, FormatsOn, IsOn, Starts, Resumes, Begins, Boots, Opens, PowersOn, FormatStep, OnStep, ConsoleStep, PayloadStep, ReadStep, PokeStep, Issued, Refuses, Held, Resets, Suspends, SleepsBy, MakesCall, Comes, GuestTurn, GuestTurns, TurnStep, CallTold, GuestCall, CallStep, Step, Moves, Run}
 use Rattle.bench_report.specs.Reports.{IsReport}
 use Rattle.bench_report.specs.Plain.{ShowsNoFailure, ShowNoFailure}
@@ -86,7 +86,7 @@ all_failure_free (c ∷ cs) b o new (life, on, first, mid, issued, inr h) failur
     many_then b mid new (issued_failure_free life.doubt c life b (Err h.0) mid (subst P h.1 issued) (failure_free_as o (Err h.0) h.2 failure_free)) (as_many mid mid new refl refl h.3)
 
 -- ---- lines
-formats_failure_free : (m : Medium) (b : Bench) (a : Answer) (new : Bench) → FormatsOn m b a new → ShowsNoFailure a.line → AsMany b new
+formats_failure_free : (m : DiskState) (b : Bench) (a : Answer) (new : Bench) → FormatsOn m b a new → ShowsNoFailure a.line → AsMany b new
 formats_failure_free Blank b a new (inl h) failure_free = as_many b (formatted_anew b) new refl refl h.1
 formats_failure_free Blank b a new (inr h) failure_free = absurd (of_answer a (printed.FormatRefused 5) h.0 failure_free refl)
 formats_failure_free Unknown b a new (inl h) failure_free = as_many b (formatted_anew b) new refl refl h.1
@@ -120,7 +120,7 @@ boots_failure_free None mode z s b line new (inl h) failure_free = begins_failur
 boots_failure_free None mode z s b line new (inr h) failure_free = absurd ((of_line line (printed.OnRefused 11) h.0 failure_free).2 refl)
 boots_failure_free (Some n) mode z s b line new h failure_free = as_many b b new refl refl h.1
 
-opens_many : (size : Size) (m : Medium) (b : Bench) (s : State) (z : Size) (mid : Bench) → Opens size m b s z mid → AsMany b mid
+opens_many : (size : Size) (m : DiskState) (b : Bench) (s : State) (z : Size) (mid : Bench) → Opens size m b s z mid → AsMany b mid
 opens_many size Blank b s z mid h = absurd h
 opens_many size Unknown b s z mid h = as_many b b mid refl refl h
 opens_many size Formatted b s z mid h = as_many b (settled h.0 b) mid refl refl h.4

@@ -14,7 +14,7 @@ use Rattle.store.specs.Opens.{CausedRefusal, FormatRefused}
 use Rattle.bench_report.specs.declared.printed.Answer.{Answer}
 use Rattle.bench_report.specs.declared.printed.Printed.TheVariants as printed
 use Rattle.bench_report.specs.Below.{facts, fault_state}
-use Rattle.bench_report.specs.Bench.{Medium, Blank, Unknown, Formatted, Bench}
+use Rattle.bench_report.specs.Bench.{DiskState, Blank, Unknown, Formatted, Bench}
 use Rattle.bench_report.specs.Steps.{says, failed, formatted_anew, unknown, FormatsOn}
 use Rattle.bench_report.specs.Agree.{DiskIs, DeviceIs, OffIs}
 use Rattle.bench_report.proofs.Devices.{is_device, five, fails_by_fault, stays}
@@ -33,10 +33,10 @@ fresh : (size : Size) (new : Facts) → LeavesOnly new size formatted → DiskIs
 fresh size new h = (h.kept, λ s l. ([], inl refl, (h.only size s l).1))
 
 -- a bench after a format, which keeps the payloads
-abbrev Formats : Size → Medium → Bench → Answer → SimDisk → Type 0
+abbrev Formats : Size → DiskState → Bench → Answer → SimDisk → Type 0
 Formats size m b a new = (x : Bench) × FormatsOn m b a x × OffIs size x new × (x.payloads ≡ b.payloads)
 
-pub formats_ok : KeptLaw → (size : Size) (m : Medium) (b : Bench) (old new : SimDisk) (a : Answer) → b.power ≡ None → DiskIs size m b.kept (facts old) → DeviceIs size b (fault_state new) (facts new) → a ≡ says printed.Formatted
+pub formats_ok : KeptLaw → (size : Size) (m : DiskState) (b : Bench) (old new : SimDisk) (a : Answer) → b.power ≡ None → DiskIs size m b.kept (facts old) → DeviceIs size b (fault_state new) (facts new) → a ≡ says printed.Formatted
     → LeavesOnly (facts new) size formatted → (IsMarked (facts old).content → ⊥) → Formats size m b a new
 formats_ok law size Blank b old new a off was device e ok unmarked = (formatted_anew b, inl (e, refl), (off, fresh size (facts new) ok, device), refl)
 formats_ok law size Unknown b old new a off was device e ok unmarked = (formatted_anew b, inl (e, refl), (off, fresh size (facts new) ok, device), refl)
@@ -62,17 +62,17 @@ module _ (kept : KeptLaw) (blank : BlankLaw) (size : Size) (b : Bench) (old new 
   large : sectors_of size ≤ length (facts old).content
   large = omega (arith, device.2)
 
-  pub formats_err : (m : Medium) → b.medium ≡ m → DiskIs size m b.kept (facts old) → Formats size m b a new
+  pub formats_err : (m : DiskState) → b.medium ≡ m → DiskIs size m b.kept (facts old) → Formats size m b a new
   formats_err Blank at was =
       let x = hinders (unknown b) refl refl off tt (blank.formats old new size e was large refusal) in (x.0, inr x.1, x.2, ap (λ (y : Bench). y.payloads) x.1.1.2)
   formats_err Unknown at was =
-      let P : Medium → Type 0 = λ m. DiskIs size m b.kept (facts new) in
+      let P : DiskState → Type 0 = λ m. DiskIs size m b.kept (facts new) in
       elim (is_device e) [
         | inl is ↦ (let x = hinders b refl refl off (subst P (sym at) tt) is in (x.0, inr (inl x.1), x.2, ap (λ (y : Bench). y.payloads) x.1.1.2))
         | inr is ↦ (b, inr (inr (number_of e, (λ n. is (five e n)), h, refl)), (off, subst P (sym at) tt, keeps is), refl)
       ]
   formats_err Formatted at was =
-      let P : Medium → Type 0 = λ m. DiskIs size m b.kept (facts new) in
+      let P : DiskState → Type 0 = λ m. DiskIs size m b.kept (facts new) in
       let passes : Passes (facts old) (facts new) Stays = marked (kept.marked old size was.0) in
       let now : DiskIs size Formatted b.kept (facts new) = left_on kept.goes_on size Formatted b.kept old new was (passed old new passes) in
       elim (kept.formats old new size e large refusal) [

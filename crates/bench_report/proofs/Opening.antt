@@ -14,7 +14,7 @@ use Rattle.board_model.specs.declared.boot_mode.BootMode.{BootMode}
 use Rattle.bench_report.specs.declared.printed.Answer.{Answer}
 use Rattle.bench_report.specs.declared.printed.Printed.TheVariants as printed
 use Rattle.bench_report.specs.Below.{facts, fault_state}
-use Rattle.bench_report.specs.Bench.{Medium, Blank, Unknown, Formatted, Bench}
+use Rattle.bench_report.specs.Bench.{DiskState, Blank, Unknown, Formatted, Bench}
 use Rattle.bench_report.specs.Steps.{says, out_of_memory, failed, begun, MayStand, Opens, PowersOn}
 use Rattle.bench_report.specs.Agree.{DiskIs, DeviceIs, Follows, OffIs}
 use Rattle.bench_report.proofs.Devices.{is_device, is_memory, five, eleven, fails_by_fault, stays}
@@ -23,7 +23,7 @@ use Rattle.bench_report.proofs.KeptDisks.{KeptLaw, BlankLaw, LeavesLess}
 use Rattle.bench_report.proofs.Ended.{left_on}
 
 -- what an open finds is one of the states that the commands kept let it find; it keeps the command in doubt or drops it
-pub opens : (size : Size) (m : Medium) (b : Bench) (disk : Facts) (z : Size) (s : State) → DiskIs size m b.kept disk → Leaves disk z s → (IsBlank disk → ⊥) → ((y : Size) → IsKept disk y → y ≡ z)
+pub opens : (size : Size) (m : DiskState) (b : Bench) (disk : Facts) (z : Size) (s : State) → DiskIs size m b.kept disk → Leaves disk z s → (IsBlank disk → ⊥) → ((y : Size) → IsKept disk y → y ≡ z)
     → (k : Kept) × Opens size m b s z (record b { kept = k }) × Follows size m k (begun s z) z
 opens size Blank b disk z s was leaves formatted one = absurd (formatted was)
 opens size Unknown b disk z s was leaves formatted one = (b.kept, refl, refl)
@@ -53,7 +53,7 @@ module _ (kept : KeptLaw) (blank : BlankLaw) (size : Size) (mode : BootMode) (b 
   starves : MayStand b.medium → DiskIs size b.medium b.kept (facts new) → e ≡ Memory → Stays
   starves stands disk is = (out_of_memory b, inr (inr (inl (stands, refused Memory is, refl))), (off, disk, keeps (λ d. (let no : ⊥ = cc in no))), refl)
 
-  by_medium : (m : Medium) → b.medium ≡ m → DiskIs size m b.kept (facts old) → DiskIs size b.medium b.kept (facts new) → Stays
+  by_medium : (m : DiskState) → b.medium ≡ m → DiskIs size m b.kept (facts old) → DiskIs size b.medium b.kept (facts new) → Stays
   by_medium Blank at was disk =
       elim (blank.opens old new e was (omega (arith, device.2)) refusal) [
         | inl f ↦ (b, inr (inl (1, rw at refl, refused NotFormatted f, refl)), (off, disk, keeps (λ d. (let no : ⊥ = cc in no))), refl)

@@ -14,7 +14,7 @@ use Rattle.disk.specs.FaultState.{FaultArmed, CutArmed}
 use Rattle.bench_report.specs.declared.printed.ConsoleWord.{ConsoleWord}
 use Rattle.bench_report.specs.declared.printed.ConsoleWord.TheVariants as names
 use Rattle.bench_report.specs.declared.printed.Answer.{Answer}
-use Rattle.bench_report.specs.Bench.{Medium, Blank, Unknown, Formatted, Life, Bench, IsFailureFree, blank_bench}
+use Rattle.bench_report.specs.Bench.{DiskState, Blank, Unknown, Formatted, Life, Bench, IsFailureFree, blank_bench}
 use Rattle.bench_report.specs.Steps.{on_with, settled, acknowledged, begun, Writes, Issued, IssuedBy, ShowsFound, ArmStep, FormatsOn, Boots, Begins, Opens, IsOpenRefusal, PowersOn, FormatStep, OnStep, ConsoleStep, PayloadStep, Step, Run}
 use Rattle.bench_report.specs.Reports.{IsByFirmware, AreByFirmware, IsReport}
 use Rattle.bench_report.specs.Plain.{plain_written, plain_issued, plain_console, plain_format, plain_slot, plain_boot, plain_on, plain_at, plain, plain_answers, plain_report, IsPlain, ArePlain}
@@ -81,7 +81,7 @@ console_at word c (Some life) b none calm good =
     ((told.0, did.0, refl), did.1, did.2)
 
 -- ---- format
-formats : (m : Medium) (b : Bench) → CalmDisk m b.kept.doubt → IsGood b → Well b (FormatsOn m b) (plain_format m b)
+formats : (m : DiskState) (b : Bench) → CalmDisk m b.kept.doubt → IsGood b → Well b (FormatsOn m b) (plain_format m b)
 formats Blank b calm good = (inl (refl, refl), (refl, good.1, good.2, refl), (refl, refl))
 formats Unknown b calm good = absurd calm
 formats Formatted b calm good = (inl (refl, refl), good, (refl, refl))
@@ -111,16 +111,16 @@ found_line : (r : Option ℕ) (mode : BootMode) (z : Size) (s : State) (b : Benc
 found_line (Some n) mode z s b = refl
 found_line None mode z s b = refl
 
-powers : (size : Size) (m : Medium) (mode : BootMode) (b : Bench) → b.medium ≡ m → CalmDisk m b.kept.doubt → IsGood b → Well b (PowersOn size mode b) (plain_on size m mode b)
+powers : (size : Size) (m : DiskState) (mode : BootMode) (b : Bench) → b.medium ≡ m → CalmDisk m b.kept.doubt → IsGood b → Well b (PowersOn size mode b) (plain_on size m mode b)
 powers size Blank mode b at calm good =
-    let P : Medium → Type 0 = λ m. IsOpenRefusal m 1 in
+    let P : DiskState → Type 0 = λ m. IsOpenRefusal m 1 in
     (inr (inl (1, subst P (sym at) refl, refl, refl)), good, (refl, refl))
 powers size Unknown mode b at calm good = absurd calm
 powers size Formatted mode b at calm good =
     let s : State = found_of b.kept.changes in
     let mid : Bench = settled b.kept.changes b in
-    let P : Medium → Type 0 = λ m. Opens size m b s size mid in
-    let Q : Medium → Type 0 = λ m. CalmDisk m None in
+    let P : DiskState → Type 0 = λ m. Opens size m b s size mid in
+    let Q : DiskState → Type 0 = λ m. CalmDisk m None in
     let did = boots (boot_refusal s mode) mode size s mid good.3 refl (subst Q (sym at) refl, good.1, good.2, good.3) in
     (inl (s, size, mid, subst P (sym at) (b.kept.changes, inl refl, refl, refl, refl), found_line (boot_refusal s mode) mode size s mid, did.0), did.1, did.2)
 

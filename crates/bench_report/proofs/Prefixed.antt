@@ -29,7 +29,7 @@ use Rattle.bench_report.specs.declared.printed.Printed.{Printed}
 use Rattle.bench_report.specs.declared.printed.Printed.TheVariants as printed
 use Rattle.disk.specs.FaultState.{FaultArmed, CutArmed}
 use Rattle.bench_report.specs.declared.printed.Answer.{Answer}
-use Rattle.bench_report.specs.Bench.{Medium, Blank, Unknown, Formatted, Life, Bench, blank_bench}
+use Rattle.bench_report.specs.Bench.{DiskState, Blank, Unknown, Formatted, Life, Bench, blank_bench}
 use Rattle.bench_report.specs.Steps.{says, shows, out_of_memory, failed, on_with, unpowered, armed_with, formatted_anew, settled, has_machine, begun, commands_of, console_told, IsOn, Starts, Resumes, Begins, Boots, Opens, ShowsFound, IsOpenRefusal, PowersOn, FormatsOn, FormatStep, OnStep, ConsoleStep, PayloadStep, CallTold, GuestCall, TurnStep, CallStep, ReadStep, PokeStep, Step, Moves, Run}
 use Rattle.bench_report.specs.Reports.{IsByFirmware, AreByFirmware, IsReport}
 use Rattle.bench_report.specs.Prefix.{Asked, Boot, Command, Guest, Nothing, Hides, TellsWord, TellsLine, asked_by, Refused, Lost, Tells, ShowsIts, IsPrefixed, resumes, RisesFrom, AreLoaded, is_format_ok, IsFoundByPrefix, KeepsPrefixLaw}
@@ -149,7 +149,7 @@ module _ (b : Bench) (changes : List Change) (may : MayKeep b.kept changes) (med
   boots None mode z a new found (inl h) = begins mode z a new found h
   boots None mode z a new found (inr h) = refused_boot 11 mode a (out_of_memory (settled changes b)) new found h.0 h.1 refl refl refl
 
-opens : (size : Size) (m : Medium) (mode : BootMode) (b : Bench) (a : Answer) (new mid : Bench) (s : State) (z : Size) → b.medium ≡ m → b.medium ≡ Formatted → b.power ≡ None → Opens size m b s z mid → ShowsFound a.found s
+opens : (size : Size) (m : DiskState) (mode : BootMode) (b : Bench) (a : Answer) (new mid : Bench) (s : State) (z : Size) → b.medium ≡ m → b.medium ≡ Formatted → b.power ≡ None → Opens size m b s z mid → ShowsFound a.found s
     → Boots (boot_refusal s mode) mode z s mid a.line new → Tell (Boot mode) b a new
 opens size Blank mode b a new mid s z at medium on h shows boot = absurd h
 opens size Unknown mode b a new mid s z at medium on h shows boot = absurd (let e : Unknown ≡ Formatted = sym at ∙ medium in let no : ⊥ = cc in no)
@@ -160,7 +160,7 @@ opens size Formatted mode b a new mid s z at medium on (changes, may, is, sized,
 
 powers : (size : Size) (mode : BootMode) (b : Bench) (a : Answer) (new : Bench) → IsSound b → b.power ≡ None → PowersOn size mode b a new → Tell (Boot mode) b a new
 powers size mode b a new sound on (inl (s, z, mid, found, shows, boot)) = opens size b.medium mode b a new mid s z refl sound.0 on found shows boot
-powers size mode b a new sound on (inr (inl h)) = let P : Medium → Type 0 = λ m. IsOpenRefusal m h.0 in absurd (subst P sound.0 h.1)
+powers size mode b a new sound on (inr (inl h)) = let P : DiskState → Type 0 = λ m. IsOpenRefusal m h.0 in absurd (subst P sound.0 h.1)
 powers size mode b a new sound on (inr (inr (inl h))) = same (Boot mode) b a (printed.OnRefused 11) new (out_of_memory b) h.1 h.2 refl refl refl sound.1 sound (λ s t e. (ap is_up on, ap is_up on, inl e))
 powers size mode b a new sound on (inr (inr (inr h))) = same (Boot mode) b a (printed.OnRefused 5) new (failed h.1.0 b) h.0 h.1.2 refl refl refl sound.1 sound (λ s t e. (ap is_up on, ap is_up on, inl e))
 
@@ -180,7 +180,7 @@ consoles : (word : ConsoleWord) (c : Change) (p : Option Life) (b : Bench) (a : 
 consoles word c None b a new sound on h = stays (Command c) b a printed.Off new h.0 h.1 sound (λ s t e. (e, refl))
 consoles word c (Some life) b a new sound on (o, issued, e) = console_says word c o b a new (issued_back c life b o new sound on issued) e
 
-formats : (m : Medium) (b : Bench) (a : Answer) (new : Bench) → IsSound b → b.medium ≡ m → FormatsOn m b a new → Tell Nothing b a new
+formats : (m : DiskState) (b : Bench) (a : Answer) (new : Bench) → IsSound b → b.medium ≡ m → FormatsOn m b a new → Tell Nothing b a new
 formats Blank b a new sound at h = absurd (let e : Blank ≡ Formatted = sym at ∙ sound.0 in let no : ⊥ = cc in no)
 formats Unknown b a new sound at h = absurd (let e : Unknown ≡ Formatted = sym at ∙ sound.0 in let no : ⊥ = cc in no)
 formats Formatted b a new sound at (inl h) = stays Nothing b a (printed.FormatRefused 2) new h.0 h.1 sound (λ s t e. (e, refl))
@@ -305,7 +305,7 @@ IsFresh new = (new.medium ≡ Formatted) × (new.kept ≡ nothing_kept) × (new.
 fresh : (new b : Bench) → b.power ≡ None → new ≡ formatted_anew b → IsFresh new
 fresh new b on e = let P : Bench → Type 0 = IsFresh in subst P (sym e) (refl, refl, on)
 
-formatted_on : (m : Medium) (b : Bench) (a : Answer) (new : Bench) → b.power ≡ None → FormatsOn m b a new → is_format_ok a.line ≡ true → IsFresh new
+formatted_on : (m : DiskState) (b : Bench) (a : Answer) (new : Bench) → b.power ≡ None → FormatsOn m b a new → is_format_ok a.line ≡ true → IsFresh new
 formatted_on Blank b a new on (inl h) ok = fresh new b on h.1
 formatted_on Blank b a new on (inr h) ok = other a _ h.0 refl ok
 formatted_on Unknown b a new on (inl h) ok = fresh new b on h.1

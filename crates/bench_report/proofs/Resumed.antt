@@ -13,7 +13,7 @@ use Rattle.script_lang.specs.declared.line.Line.TheVariants as lines
 use Rattle.bench_report.specs.declared.printed.Answer.{Answer}
 use Rattle.bench_report.specs.declared.printed.Printed.{Printed}
 use Rattle.bench_report.specs.declared.printed.Printed.TheVariants as printed
-use Rattle.bench_report.specs.Bench.{Medium, Blank, Unknown, Formatted, Life, Bench, IsFailureFree, blank_bench}
+use Rattle.bench_report.specs.Bench.{DiskState, Blank, Unknown, Formatted, Life, Bench, IsFailureFree, blank_bench}
 use Rattle.bench_report.specs.Steps.{says, on_with, settled, has_machine, acknowledged, begun, Writes, Issued, IssuesAll, ShowsFound, IsOn, Starts, Resumes, Boots, Opens, IsOpenRefusal, PowersOn, OnStep, Moves}
 use Rattle.bench_report.specs.Reports.{AreByFirmware, IsReport}
 use Rattle.bench_report.specs.Resumed.{IsMadeIn, IsResumedFrom}
@@ -111,7 +111,7 @@ module _ (size : Size) (b : Bench) (a : Answer) (new : Bench) (changes : List Ch
   boots None line (inr x) = other a.line (printed.OnRefused 11) x.0 (λ f. (let no : ⊥ = cc in no)) line
   boots (Some n) line x = other a.line (printed.OnRefused n) x.0 (λ f. (let no : ⊥ = cc in no)) line
 
-opens : (size : Size) (m : Medium) (b : Bench) (a : Answer) (new mid : Bench) (s : State) (z : Size) → b.medium ≡ m → b.medium ≡ Formatted → Opens size m b s z mid → ShowsFound a.found s → a.line ≡ printed.On modes.Resume
+opens : (size : Size) (m : DiskState) (b : Bench) (a : Answer) (new mid : Bench) (s : State) (z : Size) → b.medium ≡ m → b.medium ≡ Formatted → Opens size m b s z mid → ShowsFound a.found s → a.line ≡ printed.On modes.Resume
     → Boots (boot_refusal s modes.Resume) modes.Resume z s mid a.line new → IsResumedFrom size b a new
 opens size Blank b a new mid s z at medium h shows line boot = absurd h
 opens size Unknown b a new mid s z at medium h shows line boot = absurd (let e : Unknown ≡ Formatted = sym at ∙ medium in let no : ⊥ = cc in no)
@@ -140,21 +140,21 @@ resumed_from size b a new medium (inr (would, mid, h, struck, e, is)) line = sai
 pub sure : (script : Script) (answers : List Answer) (b : Bench) → AreByFirmware script.lines → IsReport script answers b → IsFailureFree b → b.medium ≡ Formatted → b.kept.doubt ≡ None
 sure script [] b by h failure_free_bench medium = absurd h
 sure script (board ∷ answers) b by h failure_free_bench medium =
-    let P : Medium → Type 0 = λ m. CalmDisk m b.kept.doubt in
+    let P : DiskState → Type 0 = λ m. CalmDisk m b.kept.doubt in
     elim ((run_fair script.size script.lines blank_bench answers b by h.1).1 tt) [ inl spoilt ↦ clean b failure_free_bench spoilt | inr calm ↦ subst P medium calm ]
 
 kept_as : (k : Kept) (changes : List Change) → k.doubt ≡ None → MayKeep k changes → changes ≡ k.changes
 kept_as k changes calm (inl e) = e
 kept_as k changes calm (inr t) = let P : Option Change → Type 0 = λ d. TakesIn d k.changes changes in absurd (subst P calm t)
 
-opens_sure : (size : Size) (m : Medium) (b : Bench) (s : State) (z : Size) (mid : Bench) → b.medium ≡ m → b.medium ≡ Formatted → b.kept.doubt ≡ None → Opens size m b s z mid → s ≡ found_of b.kept.changes
+opens_sure : (size : Size) (m : DiskState) (b : Bench) (s : State) (z : Size) (mid : Bench) → b.medium ≡ m → b.medium ≡ Formatted → b.kept.doubt ≡ None → Opens size m b s z mid → s ≡ found_of b.kept.changes
 opens_sure size Blank b s z mid at medium calm h = absurd h
 opens_sure size Unknown b s z mid at medium calm h = absurd (let e : Unknown ≡ Formatted = sym at ∙ medium in let no : ⊥ = cc in no)
 opens_sure size Formatted b s z mid at medium calm (changes, may, is, sized, e) = is ∙ ap found_of (kept_as b.kept changes calm may)
 
 powers_sure : (size : Size) (mode : BootMode) (b : Bench) (a : Answer) (new : Bench) → b.medium ≡ Formatted → b.kept.doubt ≡ None → IsFailureFree new → PowersOn size mode b a new → a.found ≡ Some (durable_of (found_of b.kept.changes))
 powers_sure size mode b a new medium calm failure_free_bench (inl (s, z, mid, found, shows, boot)) = found_as a.found s shows ∙ ap (λ x. Some (durable_of x)) (opens_sure size b.medium b s z mid refl medium calm found)
-powers_sure size mode b a new medium calm failure_free_bench (inr (inl h)) = let P : Medium → Type 0 = λ m. IsOpenRefusal m h.0 in absurd (subst P medium h.1)
+powers_sure size mode b a new medium calm failure_free_bench (inr (inl h)) = let P : DiskState → Type 0 = λ m. IsOpenRefusal m h.0 in absurd (subst P medium h.1)
 powers_sure size mode b a new medium calm failure_free_bench (inr (inr (inl h))) = clean new failure_free_bench (starves b new h.2)
 powers_sure size mode b a new medium calm failure_free_bench (inr (inr (inr h))) = clean new failure_free_bench (hinders b new h.1)
 
@@ -183,7 +183,7 @@ untold a line d e told = let g : ◌≡◌ {A = Option Durable} None (Some d) = 
 powers_find : (size : Size) (mode : BootMode) (b : Bench) (a : Answer) (new : Bench) (d : Durable) → b.medium ≡ Formatted → PowersOn size mode b a new → a.found ≡ Some d → (s : State) × MayFind b.kept s × (d ≡ durable_of s)
 powers_find size mode b a new d medium (inl (s, z, mid, found, shows, boot)) told = (s, opens_find b.medium refl found, shown (found_as a.found s shows))
   where
-    opens_find : (m : Medium) → b.medium ≡ m → Opens size m b s z mid → MayFind b.kept s
+    opens_find : (m : DiskState) → b.medium ≡ m → Opens size m b s z mid → MayFind b.kept s
     opens_find Blank at h = absurd h
     opens_find Unknown at h = absurd (let e : Unknown ≡ Formatted = sym at ∙ medium in let no : ⊥ = cc in no)
     opens_find Formatted at (changes, may, is, sized, e) = (changes, may, is)

@@ -24,7 +24,7 @@ use Rattle.bench_report.specs.declared.printed.Answer.{Answer}
 use Rattle.bench_report.specs.declared.printed.Printed.{Printed}
 use Rattle.bench_report.specs.declared.printed.Printed.TheVariants as printed
 use Rattle.bench_report.specs.Below.{Store, Board, store_in, machine_in, facts, fault_state, store_size, store_facts, store_fault_state, IsLife, IsAs}
-use Rattle.bench_report.specs.Bench.{Medium, Blank, Unknown, Formatted, Life, Bench}
+use Rattle.bench_report.specs.Bench.{DiskState, Blank, Unknown, Formatted, Life, Bench}
 use Rattle.bench_report.specs.Steps.{says, out_of_memory, failed, off, on_with, has_machine, begun, acknowledged, in_doubt, commands_of, Writes, Issued, IssuesAll, ShowsFound, Opens, Starts, Begins, Boots, PowersOn}
 use Rattle.bench_report.specs.Agree.{AreShort, DiskIs, DeviceIs, Follows, OffIs, OnIs}
 use Rattle.bench_report.proofs.Adapted.{calm}
@@ -50,12 +50,12 @@ as_issued : (store : Store) (s : State) (c : Change) → life_of store ≡ recor
 as_issued store s c e = let P : Told → Type 0 = λ life. IsLife life (after s c) 1 None in subst P (sym e) (refl, refl, refl, refl)
 
 -- what a crash leaves of a disk whose life ends with the boot
-kept_only : (size z : Size) (m : Medium) (k : Kept) (s : State) (disk : Facts) → Follows size m k (begun s z) z → LeavesOnly disk z s → DiskIs size m k disk
+kept_only : (size z : Size) (m : DiskState) (k : Kept) (s : State) (disk : Facts) → Follows size m k (begun s z) z → LeavesOnly disk z s → DiskIs size m k disk
 kept_only size z Blank k s disk follows l = absurd follows
 kept_only size z Unknown k s disk follows l = tt
 kept_only size z Formatted k s disk follows l = left_only size z k s disk follows.1 follows.2 l
 
-kept_either : (size z : Size) (m : Medium) (k : Kept) (s : State) (c : Change) (disk : Facts) → Follows size m k (begun s z) z → refusal_of s c ≡ None → LeavesEither disk z s (after s c)
+kept_either : (size z : Size) (m : DiskState) (k : Kept) (s : State) (c : Change) (disk : Facts) → Follows size m k (begun s z) z → refusal_of s c ≡ None → LeavesEither disk z s (after s c)
     → DiskIs size m (record k { doubt = Some c }) disk
 kept_either size z Blank k s c disk follows allowed l = absurd follows
 kept_either size z Unknown k s c disk follows allowed l = tt

@@ -32,7 +32,7 @@ use Rattle.bench_report.specs.declared.printed.ConsoleWord.{ConsoleWord}
 use Rattle.bench_report.specs.declared.printed.ConsoleWord.TheVariants as names
 use Rattle.bench_report.specs.declared.printed.Printed.{Printed}
 use Rattle.bench_report.specs.declared.printed.Printed.TheVariants as printed
-use Rattle.bench_report.specs.Bench.{Medium, Blank, Unknown, Formatted, Life, Bench}
+use Rattle.bench_report.specs.Bench.{DiskState, Blank, Unknown, Formatted, Life, Bench}
 use Rattle.bench_report.specs.Prefix.{IsLoaded, AreLoaded}
 use Rattle.bench_report.specs.Reports.{IsByFirmware, AreByFirmware}
 use Rattle.bench_report.specs.Steps.{out_of_memory, failed, off, on_with, unpowered, armed_with, settled, has_machine, acknowledged, in_doubt, begun, commands_of, Writes, IssuedBy, Issued, IssuesAll, refused, Refuses, Held, Resets, Suspends, Sleeps, SleepsBy, MakesCall, Comes, GuestTurn, GuestTurns, FormatsOn, IsOn, Starts, Begins, Boots, Opens, IsOpenRefusal, PowersOn, FormatStep, OnStep, ConsoleStep, PayloadStep, GuestCall, TurnStep, CallStep, ReadStep, Step, Moves, Run}
@@ -196,7 +196,7 @@ module _ (size : Size) where
   boots None mode z s b line new same k (inr x) = same_as (out_of_memory b) new x.1 k
 
   -- an open finds a state whose image is whole, for a board of the script's size
-  opens : (m : Medium) (b : Bench) (s : State) (z : Size) (mid : Bench) → b.medium ≡ m → b.power ≡ None → IsKeptWhole size b → Opens size m b s z mid → IsWhole size s × (z ≡ size) × IsKeptWhole size mid
+  opens : (m : DiskState) (b : Bench) (s : State) (z : Size) (mid : Bench) → b.medium ≡ m → b.power ≡ None → IsKeptWhole size b → Opens size m b s z mid → IsWhole size s × (z ≡ size) × IsKeptWhole size mid
   opens Blank b s z mid at off k x = absurd x
   opens Unknown b s z mid at off k x = absurd (let e : Unknown ≡ Formatted = sym at ∙ k.0 in let no : ⊥ = cc in no)
   opens Formatted b s z mid at off k (changes, may, is, same, e) =
@@ -217,7 +217,7 @@ module _ (size : Size) where
   on_line None mode b a new none k x = powers mode b a new none k x
   on_line (Some life) mode b a new on k x = same_as b new x.1 k
 
-  formats : (m : Medium) (b : Bench) (a : Answer) (new : Bench) → b.medium ≡ m → IsKeptWhole size b → FormatsOn m b a new → IsKeptWhole size new
+  formats : (m : DiskState) (b : Bench) (a : Answer) (new : Bench) → b.medium ≡ m → IsKeptWhole size b → FormatsOn m b a new → IsKeptWhole size new
   formats Blank b a new at k x = absurd (let e : Blank ≡ Formatted = sym at ∙ k.0 in let no : ⊥ = cc in no)
   formats Unknown b a new at k x = absurd (let e : Unknown ≡ Formatted = sym at ∙ k.0 in let no : ⊥ = cc in no)
   formats Formatted b a new at k (inl x) = same_as b new x.1 k
@@ -320,7 +320,7 @@ module _ (size : Size) where
       let at = opens b.medium b s z mid refl none k found in
       let P : Size → Type 0 = λ y. IsWhole y s in
       boots_not (boot_refusal s mode) mode z s mid a.line new refl (subst P (sym at.1) at.0) x
-  powers_not mode b a new none k (inr (inl x)) = let P : Medium → Type 0 = λ m. IsOpenRefusal m x.0 in absurd (subst P k.0 x.1)
+  powers_not mode b a new none k (inr (inl x)) = let P : DiskState → Type 0 = λ m. IsOpenRefusal m x.0 in absurd (subst P k.0 x.1)
   powers_not mode b a new none k (inr (inr (inl x))) = answered a (printed.OnRefused 11) x.1 (number (printed.OnRefused 11) 11 refl (λ e. omega (arith, e)))
   powers_not mode b a new none k (inr (inr (inr x))) = answered a (printed.OnRefused 5) x.0 (number (printed.OnRefused 5) 5 refl (λ e. omega (arith, e)))
 

@@ -24,28 +24,28 @@ use Rattle.machine.specs.declared.parts.Word.TheVariants as words
 use Rattle.bench_report.specs.declared.power.Power.{Power}
 use Rattle.bench_report.specs.declared.power.Power.TheVariants.{Off, On}
 use Rattle.bench_report.specs.Below.{Store, Board, store_in, machine_in, facts, arms, store_arms, record_of, fault_state, store_facts, store_fault_state, store_size, store_now, store_doubt, IsAs}
-use Rattle.bench_report.specs.Bench.{Medium, Blank, Unknown, Formatted, Life, Bench}
+use Rattle.bench_report.specs.Bench.{DiskState, Blank, Unknown, Formatted, Life, Bench}
 use Rattle.bench_report.specs.Steps.{Step}
 use Rattle.bench_report.specs.declared.printed.Answer.{Answer}
 
 -- what a crash may leave of the disk is what an open may find of the commands that it keeps
-abbrev pub DiskIs : Size → Medium → Kept → Facts → Type 0
+abbrev pub DiskIs : Size → DiskState → Kept → Facts → Type 0
 DiskIs size Blank kept disk = IsBlank disk
 DiskIs size Unknown kept disk = ⊤
 DiskIs size Formatted kept disk = IsKept disk size × ((s : State) → Leaves disk size s → MayFind kept s)
 
 -- a life over a disk, by a store for a board of size z
-abbrev pub Follows : Size → Medium → Kept → Life → Size → Type 0
+abbrev pub Follows : Size → DiskState → Kept → Life → Size → Type 0
 Follows size Blank kept life z = ⊥
 Follows size Unknown kept life z = life.machine.size ≡ z
 Follows size Formatted kept life z = (kept.doubt ≡ life.doubt) × (life.now ≡ found_of kept.changes) × (z ≡ size) × (life.machine.size ≡ z)
 
 -- a store that goes on with a life
-abbrev pub StoreIs : Size → Medium → Kept → Life → Store → Type 0
+abbrev pub StoreIs : Size → DiskState → Kept → Life → Store → Type 0
 StoreIs size medium kept life store = Follows size medium kept life (store_size store) × IsAs store life.now life.receipts life.doubt
 
 -- a board that is on
-abbrev pub BoardIs : Size → Medium → Kept → Option Life → Board → Type 0
+abbrev pub BoardIs : Size → DiskState → Kept → Option Life → Board → Type 0
 BoardIs size medium kept None board = ⊥
 BoardIs size medium kept (Some life) board = StoreIs size medium kept life (store_in board) × (machine_in board ≡ life.machine)
 
@@ -60,7 +60,7 @@ abbrev pub OnIs : Size → Bench → Board → Type 0
 OnIs size b board = BoardIs size b.medium b.kept b.power board × DeviceIs size b (store_fault_state (store_in board)) (store_facts (store_in board))
 
 -- the store of a life that its own command ended, over a disk that keeps that command
-abbrev pub IsOver : Size → Medium → Kept → Store → Type 0
+abbrev pub IsOver : Size → DiskState → Kept → Store → Type 0
 IsOver size Blank kept store = ⊥
 IsOver size Unknown kept store = ⊤
 IsOver size Formatted kept store = (kept.doubt ≡ None) × (store_now store ≡ found_of kept.changes) × (store_size store ≡ size) × (store_doubt store ≡ None)

@@ -7,10 +7,10 @@ use Rattle.machine.specs.Machine.{Machine}
 
 -- A disk that was never written; one of which nothing is known, since a format was refused 5 or cut, or it was written past the
 -- firmware, and no format has answered Ok since; one that was formatted.
-pub data Medium : Type 0 where
-  Blank : Medium
-  Unknown : Medium
-  Formatted : Medium
+pub data DiskState : Type 0 where
+  Blank : DiskState
+  Unknown : DiskState
+  Formatted : DiskState
 
 -- A board that is on: the durable state with what was acknowledged, how many commands that were in this life, the
 -- command in doubt, after which each later one is refused 6, and its memory and harts.
@@ -24,7 +24,7 @@ pub record Life : Type 0 where
 -- often a power-on was refused memory (11), how often a failure of the disk was answered (each 5, and each 6 that begins
 -- a doubt), and the fault state of the disk: what is armed, whether an armed cut has struck, and how often it failed by itself.
 pub record Bench : Type 0 where
-  pub medium : Medium
+  pub medium : DiskState
   pub kept : Kept
   pub power : Option Life
   pub payloads : List (List ℕ)

@@ -21,7 +21,7 @@ use Rattle.bench_report.specs.declared.printed.ConsoleWord.{ConsoleWord}
 use Rattle.bench_report.specs.declared.printed.ConsoleWord.TheVariants as names
 use Rattle.bench_report.specs.declared.printed.Printed.{Printed}
 use Rattle.bench_report.specs.declared.printed.Printed.TheVariants as printed
-use Rattle.bench_report.specs.Bench.{Medium, Blank, Unknown, Formatted, Life, Bench, blank_bench}
+use Rattle.bench_report.specs.Bench.{DiskState, Blank, Unknown, Formatted, Life, Bench, blank_bench}
 use Rattle.bench_report.specs.Steps.{says, shows, on_with, unpowered, armed_with, formatted_anew, settled, has_machine, acknowledged, begun, console_told}
 use Rattle.bench_report.specs.Reports.{board_answer, report_text}
 
@@ -38,7 +38,7 @@ abbrev pub plain_console : ConsoleWord → Change → Option Life → Bench → 
 plain_console word c None b = (says printed.Off, b)
 plain_console word c (Some life) b = (console_told word (plain_issued c life b).0, (plain_issued c life b).1)
 
-abbrev pub plain_format : Medium → Bench → Answer × Bench
+abbrev pub plain_format : DiskState → Bench → Answer × Bench
 plain_format Blank b = (says printed.Formatted, formatted_anew b)
 plain_format Unknown b = (says printed.Formatted, formatted_anew b)
 plain_format Formatted b = (says (printed.FormatRefused 2), b)
@@ -56,7 +56,7 @@ plain_boot None mode z s b = plain_slot mode z s b
 plain_boot (Some n) mode z s b = (found_then s (printed.OnRefused n), b)
 
 -- a power-on finds the fold of the acknowledged commands
-abbrev pub plain_on : Size → Medium → BootMode → Bench → Answer × Bench
+abbrev pub plain_on : Size → DiskState → BootMode → Bench → Answer × Bench
 plain_on size Blank mode b = (says (printed.OnRefused 1), b)
 plain_on size Unknown mode b = (says (printed.OnRefused 1), b)
 plain_on size Formatted mode b = plain_boot (boot_refusal (found_of b.kept.changes) mode) mode size (found_of b.kept.changes) (settled b.kept.changes b)

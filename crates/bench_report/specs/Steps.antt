@@ -46,7 +46,7 @@ use Rattle.bench_report.specs.declared.printed.ConsoleWord.TheVariants as names
 use Rattle.bench_report.specs.declared.printed.Printed.{Printed}
 use Rattle.bench_report.specs.declared.printed.Printed.TheVariants as printed
 use Rattle.bench_report.specs.declared.printed.Answer.{Answer}
-use Rattle.bench_report.specs.Bench.{Medium, Blank, Unknown, Formatted, Life, Bench}
+use Rattle.bench_report.specs.Bench.{DiskState, Blank, Unknown, Formatted, Life, Bench}
 
 -- ---- answers
 
@@ -211,7 +211,7 @@ GuestTurns h (suc n) b made word new =
 
 -- ---- format
 
-abbrev pub FormatsOn : Medium → Bench → Answer → Bench → Type 0
+abbrev pub FormatsOn : DiskState → Bench → Answer → Bench → Type 0
 FormatsOn Blank b answer new =
     ((answer ≡ says printed.Formatted) × (new ≡ formatted_anew b))
     ⊎ ((answer ≡ says (printed.FormatRefused 5)) × FailsByFault (unknown b) new)
@@ -260,7 +260,7 @@ Boots (Some n) mode z s b line new = (line ≡ printed.OnRefused n) × (new ≡ 
 Boots None mode z s b line new = Begins mode z s b line new ⊎ ((line ≡ printed.OnRefused 11) × (new ≡ out_of_memory b))
 
 -- an open that succeeds finds this state, and its board is of that size: a command in doubt is settled
-abbrev pub Opens : Size → Medium → Bench → State → Size → Bench → Type 0
+abbrev pub Opens : Size → DiskState → Bench → State → Size → Bench → Type 0
 Opens size Blank b s z new = ⊥
 Opens size Unknown b s z new = new ≡ b
 Opens size Formatted b s z new = (changes : List Change) × MayKeep b.kept changes × (s ≡ found_of changes) × (z ≡ size) × (new ≡ settled changes b)
@@ -271,13 +271,13 @@ ShowsFound None s = ⊥
 ShowsFound (Some d) s = d ≡ durable_of s
 
 -- the numbers by which an open is refused where neither the disk failed nor memory was refused
-abbrev pub IsOpenRefusal : Medium → ℕ → Type 0
+abbrev pub IsOpenRefusal : DiskState → ℕ → Type 0
 IsOpenRefusal Blank n = n ≡ 1
 IsOpenRefusal Unknown n = (n ≢ 5) × (n ≢ 11)
 IsOpenRefusal Formatted n = ⊥
 
 -- an open may find a state, for which there may be no memory: never on a disk that was not formatted
-abbrev pub MayStand : Medium → Type 0
+abbrev pub MayStand : DiskState → Type 0
 MayStand Blank = ⊥
 MayStand Unknown = ⊤
 MayStand Formatted = ⊤
