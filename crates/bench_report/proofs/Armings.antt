@@ -21,7 +21,7 @@ device size b a m n old new was same is =
 pub armed_off : GoesOn → (size : Size) (b : Bench) (a : Armed) (old new : SimDisk) → OffIs size b old → Unchanged (facts old) (facts new) → fault_state new ≡ record (fault_state old) { armed = a }
     → OffIs size (armed_with a b) new
 armed_off goes_on size b a old new was same is =
-    (was.0, left_on goes_on size b.medium b.kept old new was.1 (λ c l. (same.now c).0 l), device size b a (fault_state old) (fault_state new) (facts old) (facts new) was.2 same is)
+    (was.0, left_on goes_on size b.disk_state b.kept old new was.1 (λ c l. (same.now c).0 l), device size b a (fault_state old) (fault_state new) (facts old) (facts new) was.2 same is)
 
 pub armed_on : (size : Size) (b : Bench) (a : Armed) (old new : Board) → OnIs size b old → machine_in new ≡ machine_in old → life_of (store_in new) ≡ life_of (store_in old)
     → store_size (store_in new) ≡ store_size (store_in old) → Unchanged (store_facts (store_in old)) (store_facts (store_in new)) → store_fault_state (store_in new) ≡ record (store_fault_state (store_in old)) { armed = a }
@@ -29,9 +29,9 @@ pub armed_on : (size : Size) (b : Bench) (a : Armed) (old new : Board) → OnIs 
 armed_on size b a old new was machine life board same is =
     (by b.power was.0, device size b a (store_fault_state (store_in old)) (store_fault_state (store_in new)) (store_facts (store_in old)) (store_facts (store_in new)) was.1 same is)
   where
-    by : (p : Option Life) → BoardIs size b.medium b.kept p old → BoardIs size b.medium b.kept p new
+    by : (p : Option Life) → BoardIs size b.disk_state b.kept p old → BoardIs size b.disk_state b.kept p new
     by None on = absurd on
     by (Some l) on =
-        let P : Size → Type 0 = λ z. Follows size b.medium b.kept l z in
+        let P : Size → Type 0 = λ z. Follows size b.disk_state b.kept l z in
         let Q : Told → Type 0 = λ x. IsLife x l.now l.receipts l.doubt in
         ((subst P (sym board) on.0.0, subst Q (sym life) on.0.1), machine ∙ on.1)

@@ -45,7 +45,7 @@ use Rattle.bench_report.proofs.Commanded.{Running, follows_with, sized_for, told
 
 -- the store of a life that its own command ended
 abbrev pub IsEnded : Size → Bench → Store → Type 0
-IsEnded size b store = (b.power ≡ None) × IsOver size b.medium b.kept store × DeviceIs size b (store_fault_state store) (store_facts store)
+IsEnded size b store = (b.power ≡ None) × IsOver size b.disk_state b.kept store × DeviceIs size b (store_fault_state store) (store_facts store)
 
 -- a board after what is said of a turn or a call
 abbrev pub Stands : Size → Word → Bench → Machine → Store → Type 0
@@ -58,7 +58,7 @@ abbrev answering : ℕ → SbiError → Machine → Machine
 answering h e m = record m { harts = slice_set m.harts h (answered (hart_at m h) (error_of (Err e)) 0) }
 
 -- a command of hart h, which the store was asked for on a board that is on
-module _ (size : Size) (b : Bench) (life : Life) (h : ℕ) (n : Machine) (old new : Store) (on : b.power ≡ Some life) (was : StoreIs size b.medium b.kept life old) (device : DeviceIs size b (store_fault_state old) (store_facts old))
+module _ (size : Size) (b : Bench) (life : Life) (h : ℕ) (n : Machine) (old new : Store) (on : b.power ≡ Some life) (was : StoreIs size b.disk_state b.kept life old) (device : DeviceIs size b (store_fault_state old) (store_facts old))
     (t : State) (made : n ≡ record life.machine { harts = slice_set life.machine.harts h t }) where
   -- it came to that
   abbrev pub Came : (Word → Bench → Type 0) → Made → Type 0
@@ -72,12 +72,12 @@ module _ (size : Size) (b : Bench) (life : Life) (h : ℕ) (n : Machine) (old ne
       → (next : Life) × (mid.power ≡ Some next) × Running size (on_with (refused h e next) mid) n new
   goes e mid (next, at, store, same, now) is =
       let F : State → Machine = λ s. record life.machine { harts = slice_set life.machine.harts h s } in
-      (next, at, (refused h e next, refl, (follows_with size mid.medium mid.kept next (answering h e next.machine) (store_size new) refl store.0, store.1), made ∙ ap F is ∙ ap (answering h e) same, now))
+      (next, at, (refused h e next, refl, (follows_with size mid.disk_state mid.kept next (answering h e next.machine) (store_size new) refl store.0, store.1), made ∙ ap F is ∙ ap (answering h e) same, now))
 
   -- it was refused by its arguments
   refuses : (e : SbiError) (held : Made) → Refused_to e (hart_at life.machine h) t held → new ≡ old → Came (λ word x. Refuses e h life b word x) held
   refuses e held (is, at) same =
-      let Q : Store → Type 0 = λ store. StoreIs size b.medium b.kept life store in
+      let Q : Store → Type 0 = λ store. StoreIs size b.disk_state b.kept life store in
       let S : Store → Type 0 = λ store. DeviceIs size b (store_fault_state store) (store_facts store) in
       let did = goes e b (life, on, subst Q (sym same) was, refl, subst S (sym same) device) is in
       let next : did.0 ≡ life = one did.0 did.1 in
@@ -154,11 +154,11 @@ module _ (size : Size) (b : Bench) (life : Life) (h : ℕ) (n : Machine) (old ne
       seen_as : life.doubt ≡ None → IsLife seen life.now life.receipts None
       seen_as none = let is = calm_life none in ((asked.answered (none_of none)).life.reseen.now ∙ is.0, is.1, is.2, is.3)
 
-      as_it_was : life.doubt ≡ None → (e : Refusal) → (e ≡ Down → ⊥) → (e ≡ Device → ⊥) → CausedRefusal (store_fault_state old) e (store_fault_state new) → life_of new ≡ seen → (x : Bench) → x.medium ≡ b.medium → x.kept ≡ b.kept → x.power ≡ b.power
+      as_it_was : life.doubt ≡ None → (e : Refusal) → (e ≡ Down → ⊥) → (e ≡ Device → ⊥) → CausedRefusal (store_fault_state old) e (store_fault_state new) → life_of new ≡ seen → (x : Bench) → x.disk_state ≡ b.disk_state → x.kept ≡ b.kept → x.power ≡ b.power
           → x.fault_state ≡ b.fault_state → x.failures ≡ b.failures → Running size x life.machine new
-      as_it_was none e up is cause same x medium kept power fault_state failures =
+      as_it_was none e up is cause same x disk_state kept power fault_state failures =
           let P : Told → Type 0 = λ l. IsLife l life.now life.receipts None in
-          again size b life command old new seen on was device asked.stays.board asked.stays.length asked.stays.no_fewer x medium kept power none (subst P (sym same) (seen_as none))
+          again size b life command old new seen on was device asked.stays.board asked.stays.length asked.stays.no_fewer x disk_state kept power none (subst P (sym same) (seen_as none))
           (calm_device size b life command old new seen on was device asked.stays.board asked.stays.length asked.stays.no_fewer x fault_state failures (untouched e (store_fault_state old) (store_fault_state new) cause up is))
 
       unfit : life.doubt ≡ None → (Fits → ⊥) → (e : Refusal) → (e ≡ Down → ⊥) → (e ≡ Device → ⊥) → CausedRefusal (store_fault_state old) e (store_fault_state new) → life_of new ≡ seen → Suspending 3
@@ -269,13 +269,13 @@ module _ (size : Size) (b : Bench) (life : Life) (h : ℕ) (n : Machine) (old ne
 abbrev Comes_so : Size → (Word → Bench → Type 0) → Bench → Word → Machine → Store → Type 0
 Comes_so size step b word n new = (x : Bench) × step word x × Stands size word x n new × (x.payloads ≡ b.payloads)
 
-module _ (size : Size) (b : Bench) (life : Life) (h : ℕ) (n : Machine) (old new : Store) (on : b.power ≡ Some life) (was : StoreIs size b.medium b.kept life old) (device : DeviceIs size b (store_fault_state old) (store_facts old)) where
+module _ (size : Size) (b : Bench) (life : Life) (h : ℕ) (n : Machine) (old new : Store) (on : b.power ≡ Some life) (was : StoreIs size b.disk_state b.kept life old) (device : DeviceIs size b (store_fault_state old) (store_facts old)) where
   called : (held : Made) → MachineCall h life.machine n old new held → Comes_so size (λ word x. Comes Durable h life b word x) b (word_by held) n new
   called held (after, is, e) =
       let F : Machine = record life.machine { harts = slice_set life.machine.harts h after.hart } in
       let made : n ≡ F = e ∙ ap (λ x. record { size = life.machine.size; memory = after.memory; harts = slice_set life.machine.harts h after.hart; table = x }) is.1
       ∙ ap (λ y. record { size = life.machine.size; memory = y; harts = slice_set life.machine.harts h after.hart; table = life.machine.table }) is.2 in
-      makes size b life h n old new on was device after.hart made (call_of (hart_at life.machine h)) held is.0 (sized_for size b.medium b.kept life (store_size old) was.0)
+      makes size b life h n old new on was device after.hart made (call_of (hart_at life.machine h)) held is.0 (sized_for size b.disk_state b.kept life (store_size old) was.0)
 
   pub comes : (did : Turned) (word : Word) → boards.Comes did h life.machine n old new word → Comes_so size (λ word x. Comes did h life b word x) b word n new
   comes Durable word (held, made, e) =
@@ -283,16 +283,16 @@ module _ (size : Size) (b : Bench) (life : Life) (h : ℕ) (n : Machine) (old ne
       subst P (sym e) (called held made)
   comes did word (same, still, e) =
       let P : Word → Type 0 = λ w. Comes_so size (λ word x. Comes did h life b word x) b w n new in
-      let Q : Store → Type 0 = λ store. StoreIs size b.medium b.kept life store in
+      let Q : Store → Type 0 = λ store. StoreIs size b.disk_state b.kept life store in
       let S : Store → Type 0 = λ store. DeviceIs size b (store_fault_state store) (store_facts store) in
       subst P (sym e) (b, (refl, refl), (life, on, subst Q (sym still) was, same, subst S (sym still) device), refl)
 
 -- ---- turns
 -- the board with another machine of its size
-pub has_other : (size : Size) (b : Bench) (life : Life) (m : Machine) (store : Store) → m.size ≡ life.machine.size → StoreIs size b.medium b.kept life store → StoreIs size b.medium b.kept (has_machine m life) store
-has_other size b life m store same is = (follows_with size b.medium b.kept life m (store_size store) same is.0, is.1)
+pub has_other : (size : Size) (b : Bench) (life : Life) (m : Machine) (store : Store) → m.size ≡ life.machine.size → StoreIs size b.disk_state b.kept life store → StoreIs size b.disk_state b.kept (has_machine m life) store
+has_other size b life m store same is = (follows_with size b.disk_state b.kept life m (store_size store) same is.0, is.1)
 
-turn : (size : Size) (h : ℕ) (b : Bench) (life : Life) (n : Machine) (old new : Store) (word : Word) → b.power ≡ Some life → StoreIs size b.medium b.kept life old → DeviceIs size b (store_fault_state old) (store_facts old)
+turn : (size : Size) (h : ℕ) (b : Bench) (life : Life) (n : Machine) (old new : Store) (word : Word) → b.power ≡ Some life → StoreIs size b.disk_state b.kept life old → DeviceIs size b (store_fault_state old) (store_facts old)
     → boards.Turns h life.machine n old new word → Comes_so size (λ word x. GuestTurn h life b word x) b word n new
 turn size h b life n old new word on was device (m, did, turned, came) =
     let same : m.size ≡ life.machine.size = ap (λ (k : Machine). k.size) turned.2 in

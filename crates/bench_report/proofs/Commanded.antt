@@ -35,11 +35,11 @@ console_goes_on commands.Discard is = refl
 
 -- a board that is on, by its machine and its store
 abbrev pub Running : Size → Bench → Machine → Store → Type 0
-Running size b m store = (life : Life) × (b.power ≡ Some life) × StoreIs size b.medium b.kept life store × (m ≡ life.machine) × DeviceIs size b (store_fault_state store) (store_facts store)
+Running size b m store = (life : Life) × (b.power ≡ Some life) × StoreIs size b.disk_state b.kept life store × (m ≡ life.machine) × DeviceIs size b (store_fault_state store) (store_facts store)
 
 pub running_on : (size : Size) (b : Bench) (board : Board) → Running size b (machine_in board) (store_in board) → OnIs size b board
 running_on size b board (life, on, store, machine, device) =
-    let P : Option Life → Type 0 = λ p. BoardIs size b.medium b.kept p board in
+    let P : Option Life → Type 0 = λ p. BoardIs size b.disk_state b.kept p board in
     (subst P (sym on) (store, machine), device)
 
 -- a board with that machine
@@ -79,22 +79,22 @@ over_more size Formatted k c life store h calm now doubt = (h.0 ∙ calm, now �
 
 -- A command on a board whose life has a command in doubt, or none. Where none is, the store's life is seen so when it is asked.
 module _ (size : Size) (b : Bench) (life : Life) (c : Change) (old new : Store) (seen : Told)
-    (on : b.power ≡ Some life) (was : StoreIs size b.medium b.kept life old) (device : DeviceIs size b (store_fault_state old) (store_facts old))
+    (on : b.power ≡ Some life) (was : StoreIs size b.disk_state b.kept life old) (device : DeviceIs size b (store_fault_state old) (store_facts old))
     (same_size : store_size new ≡ store_size old) (fits : SameLength (store_facts old) (store_facts new)) (no_fewer : (store_facts old).failures ≤ (store_facts new).failures) where
   -- the command is answered so, and the board is on
   abbrev pub Goes : Result ℕ ℕ → Type 0
   Goes o = (x : Bench) × Issued c life b o x × Running size x life.machine new × (x.payloads ≡ b.payloads)
 
-  here : Follows size b.medium b.kept life (store_size new)
-  here = sized size b.medium b.kept life (store_size old) (store_size new) same_size was.0
+  here : Follows size b.disk_state b.kept life (store_size new)
+  here = sized size b.disk_state b.kept life (store_size old) (store_size new) same_size was.0
 
   -- the life is as it was
-  pub again : (x : Bench) → x.medium ≡ b.medium → x.kept ≡ b.kept → x.power ≡ b.power → life.doubt ≡ None → IsAs new life.now life.receipts None → DeviceIs size x (store_fault_state new) (store_facts new) → Running size x life.machine new
-  again x medium kept power calm is now =
+  pub again : (x : Bench) → x.disk_state ≡ b.disk_state → x.kept ≡ b.kept → x.power ≡ b.power → life.doubt ≡ None → IsAs new life.now life.receipts None → DeviceIs size x (store_fault_state new) (store_facts new) → Running size x life.machine new
+  again x disk_state kept power calm is now =
       let P : Option Change → Type 0 = λ d. IsAs new life.now life.receipts d in
       let M : DiskState → Type 0 = λ m. StoreIs size m x.kept life new in
-      let K : Kept → Type 0 = λ k. StoreIs size b.medium k life new in
-      (life, power ∙ on, subst M (sym medium) (subst K (sym kept) (here, subst P (sym calm) is)), refl, now)
+      let K : Kept → Type 0 = λ k. StoreIs size b.disk_state k life new in
+      (life, power ∙ on, subst M (sym disk_state) (subst K (sym kept) (here, subst P (sym calm) is)), refl, now)
 
   pub calm_device : (x : Bench) → x.fault_state ≡ b.fault_state → x.failures ≡ b.failures → store_fault_state new ≡ store_fault_state old → DeviceIs size x (store_fault_state new) (store_facts new)
   calm_device x fault_state failures same =
@@ -117,7 +117,7 @@ module _ (size : Size) (b : Bench) (life : Life) (c : Change) (old new : Store) 
       let P : Option Change → Type 0 = λ d. IsAs new (after life.now c) (life.receipts + 1) d in (
         x,
         issued_ok calm n did.0 did.1,
-        (record life { now = after life.now c; receipts = life.receipts + 1 }, refl, (follows_more size b.medium b.kept c life (store_size new) here, subst P (sym calm) did.2), refl, now),
+        (record life { now = after life.now c; receipts = life.receipts + 1 }, refl, (follows_more size b.disk_state b.kept c life (store_size new) here, subst P (sym calm) did.2), refl, now),
         refl,
       )
 
@@ -139,7 +139,7 @@ module _ (size : Size) (b : Bench) (life : Life) (c : Change) (old new : Store) 
       let Q : Option ℕ → Type 0 = λ r. Writes r c life b (Err (number_of e)) y in (
         y,
         with_none calm (Err (number_of e)) y (inr (did.1.0, subst Q (sym did.1.1) (inr (inr (number e Down did.0, x.0))))),
-        (record life { doubt = Some c }, refl, (follows_doubt size b.medium b.kept c life (store_size new) here, did.2), refl, x.1),
+        (record life { doubt = Some c }, refl, (follows_doubt size b.disk_state b.kept c life (store_size new) here, did.2), refl, x.1),
         refl,
       )
   up_err calm e (inr (inr (inl did))) cause fails downs =
@@ -153,7 +153,7 @@ module _ (size : Size) (b : Bench) (life : Life) (c : Change) (old new : Store) 
   -- the store as it was
   pub unmoved : new ≡ old → Running size b life.machine new
   unmoved same =
-      let Q : Store → Type 0 = λ store. StoreIs size b.medium b.kept life store in
+      let Q : Store → Type 0 = λ store. StoreIs size b.disk_state b.kept life store in
       let S : Store → Type 0 = λ store. DeviceIs size b (store_fault_state store) (store_facts store) in
       (life, on, subst Q (sym same) was, refl, subst S (sym same) device)
 
@@ -173,10 +173,10 @@ module _ (size : Size) (b : Bench) (life : Life) (c : Change) (old new : Store) 
     pub told_end : (doubt : Option Change) → life.doubt ≡ doubt → (n : ℕ)
         → (doubt_of old ≡ None → Applied seen c (Ok n) (life_of new)) → ((d : Change) → doubt_of old ≡ Some d → (◌≡◌ {A = Result ℕ Refusal} (Ok n) (Err Down)) × (new ≡ old))
         → (doubt_of old ≡ None → store_fault_state new ≡ store_fault_state old)
-        → Issued c life b (Ok n) (acknowledged c life b) × IsOver size b.medium (acknowledged c life b).kept new × DeviceIs size b (store_fault_state new) (store_facts new)
+        → Issued c life b (Ok n) (acknowledged c life b) × IsOver size b.disk_state (acknowledged c life b).kept new × DeviceIs size b (store_fault_state new) (store_facts new)
     told_end None calm n up down unmoved =
         let did = ended life.now life.receipts c seen (life_of new) (is calm) n (up (was.1.2 ∙ calm)) in
-        (issued_ok calm n did.0 did.1, over_more size b.medium b.kept c life new here calm did.2 did.3, calm_device b refl refl (unmoved (was.1.2 ∙ calm)))
+        (issued_ok calm n did.0 did.1, over_more size b.disk_state b.kept c life new here calm did.2 did.3, calm_device b refl refl (unmoved (was.1.2 ∙ calm)))
     told_end (Some d) calm n up down unmoved = never_ok d calm n down
 
     pub told_up : life.doubt ≡ None → (e : Refusal) → Refused seen c e (life_of new) → CausedRefusal (store_fault_state old) e (store_fault_state new) → CountedRefusal (store_facts old).failures e (store_facts new).failures

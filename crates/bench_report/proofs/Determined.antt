@@ -28,7 +28,7 @@ CalmDisk Unknown doubt = ⊥
 CalmDisk Formatted doubt = doubt ≡ None
 
 abbrev pub IsCalm : Bench → Type 0
-IsCalm b = CalmDisk b.medium b.kept.doubt
+IsCalm b = CalmDisk b.disk_state b.kept.doubt
 
 -- what was spoilt stays so; what was calm stays so, or is spoilt
 abbrev pub Fair : Bench → Bench → Type 0
@@ -176,18 +176,18 @@ boots_fair (Some n) mode z s b line new x = unmoved b new x.1
 boots_fair None mode z s b line new (inl x) = begins_fair mode z s b line new x
 boots_fair None mode z s b line new (inr x) = spoils b new (starves b new x.1)
 
-settled_fair : (changes : List Change) (m : DiskState) (b mid : Bench) → b.medium ≡ m → CalmDisk m None → mid ≡ settled changes b → Fair b mid
+settled_fair : (changes : List Change) (m : DiskState) (b mid : Bench) → b.disk_state ≡ m → CalmDisk m None → mid ≡ settled changes b → Fair b mid
 settled_fair changes m b mid at calm e =
     let P : DiskState → Type 0 = λ x. CalmDisk x None in
     fair_to b mid (settled changes b) e (λ s. s, λ c. inr (subst P (sym at) calm))
 
-opens_fair : (size : Size) (m : DiskState) (b : Bench) (s : State) (z : Size) (mid : Bench) → b.medium ≡ m → Opens size m b s z mid → Fair b mid
+opens_fair : (size : Size) (m : DiskState) (b : Bench) (s : State) (z : Size) (mid : Bench) → b.disk_state ≡ m → Opens size m b s z mid → Fair b mid
 opens_fair size Blank b s z mid at h = absurd h
 opens_fair size Unknown b s z mid at h = unmoved b mid h
 opens_fair size Formatted b s z mid at h = settled_fair h.0 Formatted b mid at refl h.4
 
 pub powers_fair : (size : Size) (mode : BootMode) (b : Bench) (a : Answer) (new : Bench) → PowersOn size mode b a new → Fair b new
-powers_fair size mode b a new (inl (s, z, mid, found, shows, x)) = fair_then b mid new (opens_fair size b.medium b s z mid refl found) (boots_fair (boot_refusal s mode) mode z s mid a.line new x)
+powers_fair size mode b a new (inl (s, z, mid, found, shows, x)) = fair_then b mid new (opens_fair size b.disk_state b s z mid refl found) (boots_fair (boot_refusal s mode) mode z s mid a.line new x)
 powers_fair size mode b a new (inr (inl x)) = unmoved b new x.3
 powers_fair size mode b a new (inr (inr (inl x))) = spoils b new (starves b new x.2)
 powers_fair size mode b a new (inr (inr (inr x))) = spoils b new (hinders b new x.1)
@@ -318,11 +318,11 @@ powers size mode b a c new last calm (inr (inl x)) (inr (inr (inl y))) = inr (in
 powers size mode b a c new last calm (inl x) (inr (inr (inr y))) = inr (inl (hinders b last y.1))
 powers size mode b a c new last calm (inr (inl x)) (inr (inr (inr y))) = inr (inl (hinders b last y.1))
 powers size mode b a c new last calm (inr (inl x)) (inr (inl y)) =
-    same a c (says (printed.OnRefused x.0)) new last b x.2 (y.2 ∙ ap (λ n. says (printed.OnRefused n)) (one_number b.medium b y.0 x.0 calm y.1 x.1)) x.3 y.3
-powers size mode b a c new last calm (inl x) (inr (inl y)) = absurd (no_open size b.medium b x.0 x.1 x.2 y.0 calm x.3 y.1)
-powers size mode b a c new last calm (inr (inl x)) (inl y) = absurd (no_open size b.medium b y.0 y.1 y.2 x.0 calm y.3 x.1)
+    same a c (says (printed.OnRefused x.0)) new last b x.2 (y.2 ∙ ap (λ n. says (printed.OnRefused n)) (one_number b.disk_state b y.0 x.0 calm y.1 x.1)) x.3 y.3
+powers size mode b a c new last calm (inl x) (inr (inl y)) = absurd (no_open size b.disk_state b x.0 x.1 x.2 y.0 calm x.3 y.1)
+powers size mode b a c new last calm (inr (inl x)) (inl y) = absurd (no_open size b.disk_state b y.0 y.1 y.2 x.0 calm y.3 x.1)
 powers size mode b a c new last calm (inl (s, z, mid, found, shows, x)) (inl (t, w, other, found2, shows2, y)) =
-    let one = one_open size b.medium b s z mid t w other calm found found2 in
+    let one = one_open size b.disk_state b s z mid t w other calm found found2 in
     let P : State → Type 0 = λ u. ShowsFound c.found u × Boots (boot_refusal u mode) mode w u other c.line last in
     let Q : Size → Type 0 = λ u. Boots (boot_refusal s mode) mode u s other c.line last in
     let R : Bench → Type 0 = λ u. Boots (boot_refusal s mode) mode z s u c.line last in

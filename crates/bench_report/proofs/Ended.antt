@@ -71,7 +71,7 @@ pub board_ended : (size : Size) (m : DiskState) (k : Kept) (p : Option Life) (bo
 board_ended size m k None board disk was up down allowed = absurd was
 board_ended size m k (Some life) board disk was up down allowed = ended size m k life (store_in board) disk was.0 up down allowed
 
--- where no other content may be left than before, the medium is the same
+-- where no other content may be left than before, the disk state is the same
 pub left_on : GoesOn → (size : Size) (m : DiskState) (k : Kept) (old new : SimDisk) → DiskIs size m k (facts old) → LeavesLess old new → DiskIs size m k (facts new)
 left_on goes_on size Blank k old new was less = (goes_on old new less).0 was
 left_on goes_on size Unknown k old new was less = tt

@@ -126,13 +126,13 @@ opens_many size Unknown b s z mid h = as_many b b mid refl refl h
 opens_many size Formatted b s z mid h = as_many b (settled h.0 b) mid refl refl h.4
 
 powers_failure_free : (size : Size) (mode : BootMode) (b : Bench) (a : Answer) (new : Bench) → PowersOn size mode b a new → ShowsNoFailure a.line → AsMany b new
-powers_failure_free size mode b a new (inl (s, z, mid, found, shows, h)) failure_free = many_then b mid new (opens_many size b.medium b s z mid found) (boots_failure_free (boot_refusal s mode) mode z s mid a.line new h failure_free)
+powers_failure_free size mode b a new (inl (s, z, mid, found, shows, h)) failure_free = many_then b mid new (opens_many size b.disk_state b s z mid found) (boots_failure_free (boot_refusal s mode) mode z s mid a.line new h failure_free)
 powers_failure_free size mode b a new (inr (inl h)) failure_free = as_many b b new refl refl h.3
 powers_failure_free size mode b a new (inr (inr (inl h))) failure_free = absurd ((of_answer a (printed.OnRefused 11) h.1 failure_free).2 refl)
 powers_failure_free size mode b a new (inr (inr (inr h))) failure_free = absurd ((of_answer a (printed.OnRefused 5) h.0 failure_free).0 refl)
 
 format_at : (p : Option Life) (b : Bench) (a : Answer) (new : Bench) → FormatStep p b a new → ShowsNoFailure a.line → AsMany b new
-format_at None b a new h failure_free = formats_failure_free b.medium b a new h failure_free
+format_at None b a new h failure_free = formats_failure_free b.disk_state b a new h failure_free
 format_at (Some life) b a new h failure_free = as_many b b new refl refl h.1
 
 on_at : (size : Size) (p : Option Life) (mode : BootMode) (b : Bench) (a : Answer) (new : Bench) → OnStep size p mode b a new → ShowsNoFailure a.line → AsMany b new

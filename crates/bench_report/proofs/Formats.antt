@@ -49,7 +49,7 @@ refused a e f h g = h ∙ ap (λ x. says (printed.FormatRefused (number_of x))) 
 module _ (kept : KeptLaw) (blank : BlankLaw) (size : Size) (b : Bench) (old new : SimDisk) (a : Answer) (e : Refusal) (off : b.power ≡ None) (device : DeviceIs size b (fault_state old) (facts old))
     (refusal : FormatRefused (facts old) size e (facts new)) (marked : MarkedClause old new) (cause : CausedRefusal (fault_state old) e (fault_state new)) (no_fewer : (facts old).failures ≤ (facts new).failures)
     (fits : SameLength (facts old) (facts new)) (h : a ≡ says (printed.FormatRefused (number_of e))) where
-  hinders : (c : Bench) → c.fault_state ≡ b.fault_state → c.failures ≡ b.failures → c.power ≡ None → DiskIs size c.medium c.kept (facts new) → e ≡ Device
+  hinders : (c : Bench) → c.fault_state ≡ b.fault_state → c.failures ≡ b.failures → c.power ≡ None → DiskIs size c.disk_state c.kept (facts new) → e ≡ Device
       → (x : Bench) × ((a ≡ says (printed.FormatRefused 5)) × ((n : FaultState) × Cause c.fault_state n × (x ≡ failed n c))) × OffIs size x new
   hinders c same count off disk is =
       let its : DeviceIs size c (fault_state old) (facts old) = (same ∙ device.0, rw count device.1, device.2) in
@@ -62,7 +62,7 @@ module _ (kept : KeptLaw) (blank : BlankLaw) (size : Size) (b : Bench) (old new 
   large : sectors_of size ≤ length (facts old).content
   large = omega (arith, device.2)
 
-  pub formats_err : (m : DiskState) → b.medium ≡ m → DiskIs size m b.kept (facts old) → Formats size m b a new
+  pub formats_err : (m : DiskState) → b.disk_state ≡ m → DiskIs size m b.kept (facts old) → Formats size m b a new
   formats_err Blank at was =
       let x = hinders (unknown b) refl refl off tt (blank.formats old new size e was large refusal) in (x.0, inr x.1, x.2, ap (λ (y : Bench). y.payloads) x.1.1.2)
   formats_err Unknown at was =

@@ -25,7 +25,7 @@ GoesOn kept None = ⊤
 GoesOn kept (Some life) = (kept.doubt ≡ life.doubt) × (life.now ≡ found_of kept.changes)
 
 abbrev pub IsSound : Bench → Type 0
-IsSound b = (b.medium ≡ Formatted) × GoesOn b.kept b.power
+IsSound b = (b.disk_state ≡ Formatted) × GoesOn b.kept b.power
 
 -- what may be found after comes, by R, of what could be found before
 abbrev pub Back : Bench → Bench → (State → State → Type 0) → Type 0

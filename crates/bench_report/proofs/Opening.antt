@@ -42,7 +42,7 @@ module _ (kept : KeptLaw) (blank : BlankLaw) (size : Size) (mode : BootMode) (b 
   refused : (f : Refusal) → e ≡ f → a ≡ says (printed.OnRefused (number_of f))
   refused f g = h ∙ ap (λ x. says (printed.OnRefused (number_of x))) g
 
-  hinders : DiskIs size b.medium b.kept (facts new) → e ≡ Device → Stays
+  hinders : DiskIs size b.disk_state b.kept (facts new) → e ≡ Device → Stays
   hinders disk is =
       let x = fails_by_fault size b (fault_state old) (fault_state new) (facts old) (facts new) device (struck e (fault_state old) (fault_state new) cause is) (failed_open (facts old) e (facts new) refusal is) fits in
       (failed (fault_state new) b, inr (inr (inr (refused Device is, x.0))), (off, disk, x.1), refl)
@@ -50,16 +50,16 @@ module _ (kept : KeptLaw) (blank : BlankLaw) (size : Size) (mode : BootMode) (b 
   keeps : e ≢ Device → DeviceIs size b (fault_state new) (facts new)
   keeps is = stays size b (fault_state old) (fault_state new) (facts old) (facts new) device (calm e (fault_state old) (fault_state new) cause (never_down (facts old) e (facts new) refusal) is) no_fewer fits
 
-  starves : MayStand b.medium → DiskIs size b.medium b.kept (facts new) → e ≡ Memory → Stays
+  starves : MayStand b.disk_state → DiskIs size b.disk_state b.kept (facts new) → e ≡ Memory → Stays
   starves stands disk is = (out_of_memory b, inr (inr (inl (stands, refused Memory is, refl))), (off, disk, keeps (λ d. (let no : ⊥ = cc in no))), refl)
 
-  by_medium : (m : DiskState) → b.medium ≡ m → DiskIs size m b.kept (facts old) → DiskIs size b.medium b.kept (facts new) → Stays
-  by_medium Blank at was disk =
+  by_disk_state : (m : DiskState) → b.disk_state ≡ m → DiskIs size m b.kept (facts old) → DiskIs size b.disk_state b.kept (facts new) → Stays
+  by_disk_state Blank at was disk =
       elim (blank.opens old new e was (omega (arith, device.2)) refusal) [
         | inl f ↦ (b, inr (inl (1, rw at refl, refused NotFormatted f, refl)), (off, disk, keeps (λ d. (let no : ⊥ = cc in no))), refl)
         | inr f ↦ hinders disk f
       ]
-  by_medium Unknown at was disk =
+  by_disk_state Unknown at was disk =
       elim (is_device e) [
         | inl f ↦ hinders disk f
         | inr f ↦ elim (is_memory e) [
@@ -67,8 +67,8 @@ module _ (kept : KeptLaw) (blank : BlankLaw) (size : Size) (mode : BootMode) (b 
           | inr g ↦ (b, inr (inl (number_of e, rw at (λ n. f (five e n), λ n. g (eleven e n)), h, refl)), (off, disk, keeps f), refl)
         ]
       ]
-  by_medium Formatted at was disk =
+  by_disk_state Formatted at was disk =
       elim (kept.opens old new size e was.0 refusal) [ inl f ↦ hinders disk f | inr f ↦ starves (rw at tt) disk f ]
 
-  pub open_err : DiskIs size b.medium b.kept (facts old) → Stays
-  open_err was = by_medium b.medium refl was (left_on kept.goes_on size b.medium b.kept old new was left)
+  pub open_err : DiskIs size b.disk_state b.kept (facts old) → Stays
+  open_err was = by_disk_state b.disk_state refl was (left_on kept.goes_on size b.disk_state b.kept old new was left)

@@ -31,7 +31,7 @@ CalmPower (Some life) = (life.doubt ≡ None) × (life.receipts ≤ 4096)
 
 -- the commands kept leave no image
 abbrev IsGood : Bench → Type 0
-IsGood b = CalmDisk b.medium b.kept.doubt × CalmPower b.power × (b.fault_state.struck ≡ false) × ((found_of b.kept.changes).image ≡ None)
+IsGood b = CalmDisk b.disk_state b.kept.doubt × CalmPower b.power × (b.fault_state.struck ≡ false) × ((found_of b.kept.changes).image ≡ None)
 
 -- what a line says, and the bench after it, are allowed, and leave the bench good
 abbrev Well : Bench → (Answer → Bench → Type 0) → Answer × Bench → Type 0
@@ -87,7 +87,7 @@ formats Unknown b calm good = absurd calm
 formats Formatted b calm good = (inl (refl, refl), good, (refl, refl))
 
 format_at : (size : Size) (p : Option Life) (b : Bench) → IsGood b → Well b (FormatStep p b) (plain_at size p lines.Format b)
-format_at size None b good = formats b.medium b good.0 good
+format_at size None b good = formats b.disk_state b good.0 good
 format_at size (Some life) b good = ((refl, refl), good, (refl, refl))
 
 -- ---- power on
@@ -111,7 +111,7 @@ found_line : (r : Option ℕ) (mode : BootMode) (z : Size) (s : State) (b : Benc
 found_line (Some n) mode z s b = refl
 found_line None mode z s b = refl
 
-powers : (size : Size) (m : DiskState) (mode : BootMode) (b : Bench) → b.medium ≡ m → CalmDisk m b.kept.doubt → IsGood b → Well b (PowersOn size mode b) (plain_on size m mode b)
+powers : (size : Size) (m : DiskState) (mode : BootMode) (b : Bench) → b.disk_state ≡ m → CalmDisk m b.kept.doubt → IsGood b → Well b (PowersOn size mode b) (plain_on size m mode b)
 powers size Blank mode b at calm good =
     let P : DiskState → Type 0 = λ m. IsOpenRefusal m 1 in
     (inr (inl (1, subst P (sym at) refl, refl, refl)), good, (refl, refl))
@@ -125,7 +125,7 @@ powers size Formatted mode b at calm good =
     (inl (s, size, mid, subst P (sym at) (b.kept.changes, inl refl, refl, refl, refl), found_line (boot_refusal s mode) mode size s mid, did.0), did.1, did.2)
 
 on_at : (size : Size) (p : Option Life) (mode : BootMode) (b : Bench) → IsGood b → Well b (OnStep size p mode b) (plain_at size p (lines.On mode) b)
-on_at size None mode b good = powers size b.medium mode b refl good.0 good
+on_at size None mode b good = powers size b.disk_state mode b refl good.0 good
 on_at size (Some life) mode b good = ((refl, refl), good, (refl, refl))
 
 payload_at : (size : Size) (p : Option Life) (slot : ℕ) (bytes : List ℕ) (b : Bench) → IsGood b → Well b (PayloadStep p slot bytes b) (plain_at size p (lines.Payload slot bytes) b)

@@ -33,7 +33,7 @@ poked_off size b old new a was same long e =
 pub not_poked : GoesOn → (size : Size) (b : Bench) (old new : SimDisk) → OffIs size b old → NoCall (facts old) (facts new) (fault_state old) (fault_state new) → SameLength (facts old) (facts new)
     → Unchanged (facts old) (facts new) → OffIs size b new
 not_poked goes_on size b old new was same long still =
-    (was.0, left_on goes_on size b.medium b.kept old new was.1 (λ c l. (still.now c).0 l), device size b old new was.2 same long)
+    (was.0, left_on goes_on size b.disk_state b.kept old new was.1 (λ c l. (still.now c).0 l), device size b old new was.2 same long)
 
 -- with the payloads, which a poke keeps
 pub poke_matches : (size : Size) (b : Bench) (r : Result Answer Refusal) (after : Power) (payloads : List (List ℕ)) → payloads ≡ b.payloads

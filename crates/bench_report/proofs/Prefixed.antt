@@ -53,13 +53,13 @@ by_eqs asked b a x new n e f h =
     subst P (sym e) (subst Q (sym f) h)
 
 -- it says a word that tells of no command, and the bench is as it was to an open
-same : (asked : Asked) (b : Bench) (a : Answer) (x : Printed) (new n : Bench) → a ≡ says x → new ≡ n → n.kept ≡ b.kept → n.medium ≡ b.medium → is_up n.power ≡ is_up b.power → GoesOn n.kept n.power → IsSound b
+same : (asked : Asked) (b : Bench) (a : Answer) (x : Printed) (new n : Bench) → a ≡ says x → new ≡ n → n.kept ≡ b.kept → n.disk_state ≡ b.disk_state → is_up n.power ≡ is_up b.power → GoesOn n.kept n.power → IsSound b
     → ((s t : State) → t ≡ s → Tells asked x s (is_up b.power) t (is_up b.power)) → Tell asked b a new
-same asked b a x new n e f kept medium up goes sound tells =
+same asked b a x new n e f kept disk_state up goes sound tells =
     let P : Kept → State → Type 0 = λ k t. MayFind k t in
     let Q : Bool → State → Type 0 = λ now s. Tells asked x s (is_up b.power) s now in
     by_eqs asked b a (says x) new n e f
-    ((medium ∙ sound.0, goes), λ t found. (t, (let R : Kept → Type 0 = λ k. MayFind k t in subst R kept found), (tt, (let S : Bool → Type 0 = λ now. Tells asked x t (is_up b.power) t now in subst S (sym up) (tells t t refl)))))
+    ((disk_state ∙ sound.0, goes), λ t found. (t, (let R : Kept → Type 0 = λ k. MayFind k t in subst R kept found), (tt, (let S : Bool → Type 0 = λ now. Tells asked x t (is_up b.power) t now in subst S (sym up) (tells t t refl)))))
 
 stays : (asked : Asked) (b : Bench) (a : Answer) (x : Printed) (new : Bench) → a ≡ says x → new ≡ b → IsSound b → ((s t : State) → t ≡ s → Tells asked x s (is_up b.power) t (is_up b.power)) → Tell asked b a new
 stays asked b a x new e f sound tells = same asked b a x new b e f refl refl refl sound.1 sound tells
@@ -76,7 +76,7 @@ found_as None s h = absurd h
 found_as (Some d) s h = ap Some h
 
 -- an open: what is found stands
-module _ (b : Bench) (changes : List Change) (may : MayKeep b.kept changes) (medium : b.medium ≡ Formatted) (on : b.power ≡ None) where
+module _ (b : Bench) (changes : List Change) (may : MayKeep b.kept changes) (disk_state : b.disk_state ≡ Formatted) (on : b.power ≡ None) where
   opened : (x : Bench) → x.kept ≡ record { changes = changes; doubt = None } → IsSound x → Back b x (λ s t. (t ≡ s) × (s ≡ found_of changes))
   opened x e sound = (sound, λ t found. (found_of changes, (changes, may, refl), (let P : Kept → Type 0 = λ k. MayFind k t in alone t (subst P e found), refl)))
     where
@@ -94,10 +94,10 @@ module _ (b : Bench) (changes : List Change) (may : MayKeep b.kept changes) (med
   shown s e = ap durable_of (sym e)
 
   refused_boot : (n : ℕ) (mode : BootMode) (a : Answer) (x new : Bench) → a.found ≡ Some (durable_of (found_of changes)) → a.line ≡ printed.OnRefused n → new ≡ x
-      → x.kept ≡ record { changes = changes; doubt = None } → x.power ≡ b.power → x.medium ≡ b.medium → Tell (Boot mode) b a new
-  refused_boot n mode a x new found line e kept same_power same_medium =
+      → x.kept ≡ record { changes = changes; doubt = None } → x.power ≡ b.power → x.disk_state ≡ b.disk_state → Tell (Boot mode) b a new
+  refused_boot n mode a x new found line e kept same_power same_disk_state =
       let Q : Bench → Type 0 = λ m. Tell (Boot mode) b a m in
-      let back = opened x kept (same_medium ∙ medium, sound_off x.kept x.power same_power) in
+      let back = opened x kept (same_disk_state ∙ disk_state, sound_off x.kept x.power same_power) in
       subst Q (sym e) (said b x (λ s t. (t ≡ s) × (s ≡ found_of changes)) (λ s t. Told (Boot mode) a (is_up b.power) (is_up x.power) s t) back
       (λ s t h. by_parts mode a _ (printed.OnRefused n) (is_up b.power) (is_up x.power) s t found line (shown s h.1) (off_now, ap is_up same_power ∙ off_now, inl h.0)))
 
@@ -126,7 +126,7 @@ module _ (b : Bench) (changes : List Change) (may : MayKeep b.kept changes) (med
   starts : (mode : BootMode) (z : Size) (a : Answer) (new : Bench) → a.found ≡ Some (durable_of (found_of changes)) → Starts mode z (found_of changes) (settled changes b) a.line new → Tell (Boot mode) b a new
   starts mode z a new found (o, mid, all, on_h) =
       let start : Bench = on_with (begun (found_of changes) z) (settled changes b) in
-      let sound : IsSound start = (medium, (refl, refl)) in
+      let sound : IsSound start = (disk_state, (refl, refl)) in
       let rest : Back start mid (AllWent o (commands_of mode) (is_up mid.power)) = all_back (commands_of mode) start o mid sound refl all in
       let whole : Back b mid (λ s t. (s ≡ found_of changes) × AllWent o (commands_of mode) (is_up mid.power) s t) =
       joined b start mid (λ s t. (t ≡ s) × (s ≡ found_of changes)) (AllWent o (commands_of mode) (is_up mid.power)) (λ s t. (s ≡ found_of changes) × AllWent o (commands_of mode) (is_up mid.power) s t)
@@ -149,17 +149,17 @@ module _ (b : Bench) (changes : List Change) (may : MayKeep b.kept changes) (med
   boots None mode z a new found (inl h) = begins mode z a new found h
   boots None mode z a new found (inr h) = refused_boot 11 mode a (out_of_memory (settled changes b)) new found h.0 h.1 refl refl refl
 
-opens : (size : Size) (m : DiskState) (mode : BootMode) (b : Bench) (a : Answer) (new mid : Bench) (s : State) (z : Size) → b.medium ≡ m → b.medium ≡ Formatted → b.power ≡ None → Opens size m b s z mid → ShowsFound a.found s
+opens : (size : Size) (m : DiskState) (mode : BootMode) (b : Bench) (a : Answer) (new mid : Bench) (s : State) (z : Size) → b.disk_state ≡ m → b.disk_state ≡ Formatted → b.power ≡ None → Opens size m b s z mid → ShowsFound a.found s
     → Boots (boot_refusal s mode) mode z s mid a.line new → Tell (Boot mode) b a new
-opens size Blank mode b a new mid s z at medium on h shows boot = absurd h
-opens size Unknown mode b a new mid s z at medium on h shows boot = absurd (let e : Unknown ≡ Formatted = sym at ∙ medium in let no : ⊥ = cc in no)
-opens size Formatted mode b a new mid s z at medium on (changes, may, is, sized, e) shows boot =
+opens size Blank mode b a new mid s z at disk_state on h shows boot = absurd h
+opens size Unknown mode b a new mid s z at disk_state on h shows boot = absurd (let e : Unknown ≡ Formatted = sym at ∙ disk_state in let no : ⊥ = cc in no)
+opens size Formatted mode b a new mid s z at disk_state on (changes, may, is, sized, e) shows boot =
     let P : State → Type 0 = λ x. Boots (boot_refusal x mode) mode z x mid a.line new in
     let Q : Bench → Type 0 = λ x. Boots (boot_refusal (found_of changes) mode) mode z (found_of changes) x a.line new in
-    boots b changes may medium on (boot_refusal (found_of changes) mode) mode z a new (found_as a.found s shows ∙ ap (λ x. Some (durable_of x)) is) (subst Q e (subst P is boot))
+    boots b changes may disk_state on (boot_refusal (found_of changes) mode) mode z a new (found_as a.found s shows ∙ ap (λ x. Some (durable_of x)) is) (subst Q e (subst P is boot))
 
 powers : (size : Size) (mode : BootMode) (b : Bench) (a : Answer) (new : Bench) → IsSound b → b.power ≡ None → PowersOn size mode b a new → Tell (Boot mode) b a new
-powers size mode b a new sound on (inl (s, z, mid, found, shows, boot)) = opens size b.medium mode b a new mid s z refl sound.0 on found shows boot
+powers size mode b a new sound on (inl (s, z, mid, found, shows, boot)) = opens size b.disk_state mode b a new mid s z refl sound.0 on found shows boot
 powers size mode b a new sound on (inr (inl h)) = let P : DiskState → Type 0 = λ m. IsOpenRefusal m h.0 in absurd (subst P sound.0 h.1)
 powers size mode b a new sound on (inr (inr (inl h))) = same (Boot mode) b a (printed.OnRefused 11) new (out_of_memory b) h.1 h.2 refl refl refl sound.1 sound (λ s t e. (ap is_up on, ap is_up on, inl e))
 powers size mode b a new sound on (inr (inr (inr h))) = same (Boot mode) b a (printed.OnRefused 5) new (failed h.1.0 b) h.0 h.1.2 refl refl refl sound.1 sound (λ s t e. (ap is_up on, ap is_up on, inl e))
@@ -180,14 +180,14 @@ consoles : (word : ConsoleWord) (c : Change) (p : Option Life) (b : Bench) (a : 
 consoles word c None b a new sound on h = stays (Command c) b a printed.Off new h.0 h.1 sound (λ s t e. (e, refl))
 consoles word c (Some life) b a new sound on (o, issued, e) = console_says word c o b a new (issued_back c life b o new sound on issued) e
 
-formats : (m : DiskState) (b : Bench) (a : Answer) (new : Bench) → IsSound b → b.medium ≡ m → FormatsOn m b a new → Tell Nothing b a new
+formats : (m : DiskState) (b : Bench) (a : Answer) (new : Bench) → IsSound b → b.disk_state ≡ m → FormatsOn m b a new → Tell Nothing b a new
 formats Blank b a new sound at h = absurd (let e : Blank ≡ Formatted = sym at ∙ sound.0 in let no : ⊥ = cc in no)
 formats Unknown b a new sound at h = absurd (let e : Unknown ≡ Formatted = sym at ∙ sound.0 in let no : ⊥ = cc in no)
 formats Formatted b a new sound at (inl h) = stays Nothing b a (printed.FormatRefused 2) new h.0 h.1 sound (λ s t e. (e, refl))
 formats Formatted b a new sound at (inr h) = same Nothing b a (printed.FormatRefused 5) new (failed h.1.0 b) h.0 h.1.2 refl refl refl sound.1 sound (λ s t e. (e, refl))
 
 format_at : (p : Option Life) (b : Bench) (a : Answer) (new : Bench) → IsSound b → FormatStep p b a new → Tell Nothing b a new
-format_at None b a new sound h = formats b.medium b a new sound refl h
+format_at None b a new sound h = formats b.disk_state b a new sound refl h
 format_at (Some life) b a new sound h = stays Nothing b a printed.Busy new h.0 h.1 sound (λ s t e. (e, refl))
 
 on_at : (size : Size) (p : Option Life) (mode : BootMode) (b : Bench) (a : Answer) (new : Bench) → IsSound b → b.power ≡ p → OnStep size p mode b a new → Tell (Boot mode) b a new
@@ -300,7 +300,7 @@ by_line x y e differs ok = let P : Printed → Type 0 = λ z. is_format_ok z ≡
 
 -- a board that is off over a disk that was formatted anew
 abbrev IsFresh : Bench → Type 0
-IsFresh new = (new.medium ≡ Formatted) × (new.kept ≡ nothing_kept) × (new.power ≡ None)
+IsFresh new = (new.disk_state ≡ Formatted) × (new.kept ≡ nothing_kept) × (new.power ≡ None)
 
 fresh : (new b : Bench) → b.power ≡ None → new ≡ formatted_anew b → IsFresh new
 fresh new b on e = let P : Bench → Type 0 = IsFresh in subst P (sym e) (refl, refl, on)
@@ -315,7 +315,7 @@ formatted_on Formatted b a new on (inl h) ok = other a _ h.0 refl ok
 formatted_on Formatted b a new on (inr h) ok = other a _ h.0 refl ok
 
 formatted_at : (p : Option Life) (b : Bench) (a : Answer) (new : Bench) → b.power ≡ p → FormatStep p b a new → is_format_ok a.line ≡ true → IsFresh new
-formatted_at None b a new on h ok = formatted_on b.medium b a new on h ok
+formatted_at None b a new on h ok = formatted_on b.disk_state b a new on h ok
 formatted_at (Some life) b a new on h ok = other a _ h.0 refl ok
 
 is_on_no : {T : Type 0} (o : Result ℕ ℕ) (mode : BootMode) (z : Size) (s : State) (b : Bench) (x : Printed) (new : Bench) → IsOn o mode z s b x new → is_format_ok x ≡ true → T
@@ -409,9 +409,9 @@ moves_format size line b a new (inr h) ok = other a _ h.4 refl ok
 
 -- what is found on a disk that was just formatted
 anew : (size : Size) (ls : List Line) (b : Bench) (answers : List Answer) (end : Bench) → AreByFirmware ls → IsFresh b → Run size b ls answers end → IsPrefixed formatted false ls answers × RisesFrom 0 (resumes answers) × AreLoaded ls answers
-anew size ls b answers end by (medium, kept, on) run =
+anew size ls b answers end by (disk_state, kept, on) run =
     let F : Option Life → Type 0 = λ p. GoesOn b.kept p in
-    let told = prefixed size ls b answers end by (medium, subst F (sym on) tt) run in
+    let told = prefixed size ls b answers end by (disk_state, subst F (sym on) tt) run in
     let P : State → Type 0 = λ s. IsPrefixed s (is_up b.power) ls answers in
     let Q : Bool → Type 0 = λ up. IsPrefixed formatted up ls answers in
     let R : Kept → Type 0 = λ k. MayFind k told.0 in
@@ -422,7 +422,7 @@ anew size ls b answers end by (medium, kept, on) run =
     whole_anew k p e f =
         let P : Kept → Type 0 = λ k. IsKeptWhole size (record b { kept = k; power = p }) in
         let Q : Option Life → Type 0 = λ p. IsKeptWhole size (record b { kept = nothing_kept; power = p }) in
-        subst P (sym e) (subst Q (sym f) (medium, tt, tt, tt))
+        subst P (sym e) (subst Q (sym f) (disk_state, tt, tt, tt))
 
     first : (s : State) → MayFind nothing_kept s → s ≡ formatted
     first s (cs, inl e, is) = is ∙ ap found_of e

@@ -111,52 +111,52 @@ module _ (size : Size) (b : Bench) (a : Answer) (new : Bench) (changes : List Ch
   boots None line (inr x) = other a.line (printed.OnRefused 11) x.0 (λ f. (let no : ⊥ = cc in no)) line
   boots (Some n) line x = other a.line (printed.OnRefused n) x.0 (λ f. (let no : ⊥ = cc in no)) line
 
-opens : (size : Size) (m : DiskState) (b : Bench) (a : Answer) (new mid : Bench) (s : State) (z : Size) → b.medium ≡ m → b.medium ≡ Formatted → Opens size m b s z mid → ShowsFound a.found s → a.line ≡ printed.On modes.Resume
+opens : (size : Size) (m : DiskState) (b : Bench) (a : Answer) (new mid : Bench) (s : State) (z : Size) → b.disk_state ≡ m → b.disk_state ≡ Formatted → Opens size m b s z mid → ShowsFound a.found s → a.line ≡ printed.On modes.Resume
     → Boots (boot_refusal s modes.Resume) modes.Resume z s mid a.line new → IsResumedFrom size b a new
-opens size Blank b a new mid s z at medium h shows line boot = absurd h
-opens size Unknown b a new mid s z at medium h shows line boot = absurd (let e : Unknown ≡ Formatted = sym at ∙ medium in let no : ⊥ = cc in no)
-opens size Formatted b a new mid s z at medium (changes, may, is, sized, e) shows line boot =
+opens size Blank b a new mid s z at disk_state h shows line boot = absurd h
+opens size Unknown b a new mid s z at disk_state h shows line boot = absurd (let e : Unknown ≡ Formatted = sym at ∙ disk_state in let no : ⊥ = cc in no)
+opens size Formatted b a new mid s z at disk_state (changes, may, is, sized, e) shows line boot =
     let P : State → Type 0 = λ x. Boots (boot_refusal x modes.Resume) modes.Resume z x mid a.line new in
     let Z : Size → Type 0 = λ y. Boots (boot_refusal (found_of changes) modes.Resume) modes.Resume y (found_of changes) mid a.line new in
     let Q : Bench → Type 0 = λ x. Boots (boot_refusal (found_of changes) modes.Resume) modes.Resume size (found_of changes) x a.line new in
     boots size b a new changes may (found_as a.found s shows ∙ ap (λ x. Some (durable_of x)) is) (boot_refusal (found_of changes) modes.Resume) line (subst Q e (subst Z sized (subst P is boot)))
 
-powers : (size : Size) (b : Bench) (a : Answer) (new : Bench) → b.medium ≡ Formatted → a.line ≡ printed.On modes.Resume → PowersOn size modes.Resume b a new → IsResumedFrom size b a new
-powers size b a new medium line (inl (s, z, mid, found, shows, boot)) = opens size b.medium b a new mid s z refl medium found shows line boot
-powers size b a new medium line (inr (inl h)) = said a (printed.OnRefused h.0) h.2 (λ f. (let no : ⊥ = cc in no)) line
-powers size b a new medium line (inr (inr (inl h))) = said a (printed.OnRefused 11) h.1 (λ f. (let no : ⊥ = cc in no)) line
-powers size b a new medium line (inr (inr (inr h))) = said a (printed.OnRefused 5) h.0 (λ f. (let no : ⊥ = cc in no)) line
+powers : (size : Size) (b : Bench) (a : Answer) (new : Bench) → b.disk_state ≡ Formatted → a.line ≡ printed.On modes.Resume → PowersOn size modes.Resume b a new → IsResumedFrom size b a new
+powers size b a new disk_state line (inl (s, z, mid, found, shows, boot)) = opens size b.disk_state b a new mid s z refl disk_state found shows line boot
+powers size b a new disk_state line (inr (inl h)) = said a (printed.OnRefused h.0) h.2 (λ f. (let no : ⊥ = cc in no)) line
+powers size b a new disk_state line (inr (inr (inl h))) = said a (printed.OnRefused 11) h.1 (λ f. (let no : ⊥ = cc in no)) line
+powers size b a new disk_state line (inr (inr (inr h))) = said a (printed.OnRefused 5) h.0 (λ f. (let no : ⊥ = cc in no)) line
 
-on_at : (size : Size) (p : Option Life) (b : Bench) (a : Answer) (new : Bench) → b.medium ≡ Formatted → a.line ≡ printed.On modes.Resume → OnStep size p modes.Resume b a new → IsResumedFrom size b a new
-on_at size None b a new medium line h = powers size b a new medium line h
-on_at size (Some life) b a new medium line h = said a printed.Busy h.0 (λ f. (let no : ⊥ = cc in no)) line
+on_at : (size : Size) (p : Option Life) (b : Bench) (a : Answer) (new : Bench) → b.disk_state ≡ Formatted → a.line ≡ printed.On modes.Resume → OnStep size p modes.Resume b a new → IsResumedFrom size b a new
+on_at size None b a new disk_state line h = powers size b a new disk_state line h
+on_at size (Some life) b a new disk_state line h = said a printed.Busy h.0 (λ f. (let no : ⊥ = cc in no)) line
 
-pub resumed_from : (size : Size) (b : Bench) (a : Answer) (new : Bench) → b.medium ≡ Formatted → Moves size (lines.On modes.Resume) b a new → a.line ≡ printed.On modes.Resume → IsResumedFrom size b a new
-resumed_from size b a new medium (inl h) line = on_at size b.power b a new medium line h.0
-resumed_from size b a new medium (inr (would, mid, h, struck, e, is)) line = said a printed.PowerLost e (λ f. (let no : ⊥ = cc in no)) line
+pub resumed_from : (size : Size) (b : Bench) (a : Answer) (new : Bench) → b.disk_state ≡ Formatted → Moves size (lines.On modes.Resume) b a new → a.line ≡ printed.On modes.Resume → IsResumedFrom size b a new
+resumed_from size b a new disk_state (inl h) line = on_at size b.power b a new disk_state line h.0
+resumed_from size b a new disk_state (inr (would, mid, h, struck, e, is)) line = said a printed.PowerLost e (λ f. (let no : ⊥ = cc in no)) line
 
 -- ---- without failures
 -- nothing is in doubt on the formatted disk of a run in which memory was never refused and no failure was answered
-pub sure : (script : Script) (answers : List Answer) (b : Bench) → AreByFirmware script.lines → IsReport script answers b → IsFailureFree b → b.medium ≡ Formatted → b.kept.doubt ≡ None
-sure script [] b by h failure_free_bench medium = absurd h
-sure script (board ∷ answers) b by h failure_free_bench medium =
+pub sure : (script : Script) (answers : List Answer) (b : Bench) → AreByFirmware script.lines → IsReport script answers b → IsFailureFree b → b.disk_state ≡ Formatted → b.kept.doubt ≡ None
+sure script [] b by h failure_free_bench disk_state = absurd h
+sure script (board ∷ answers) b by h failure_free_bench disk_state =
     let P : DiskState → Type 0 = λ m. CalmDisk m b.kept.doubt in
-    elim ((run_fair script.size script.lines blank_bench answers b by h.1).1 tt) [ inl spoilt ↦ clean b failure_free_bench spoilt | inr calm ↦ subst P medium calm ]
+    elim ((run_fair script.size script.lines blank_bench answers b by h.1).1 tt) [ inl spoilt ↦ clean b failure_free_bench spoilt | inr calm ↦ subst P disk_state calm ]
 
 kept_as : (k : Kept) (changes : List Change) → k.doubt ≡ None → MayKeep k changes → changes ≡ k.changes
 kept_as k changes calm (inl e) = e
 kept_as k changes calm (inr t) = let P : Option Change → Type 0 = λ d. TakesIn d k.changes changes in absurd (subst P calm t)
 
-opens_sure : (size : Size) (m : DiskState) (b : Bench) (s : State) (z : Size) (mid : Bench) → b.medium ≡ m → b.medium ≡ Formatted → b.kept.doubt ≡ None → Opens size m b s z mid → s ≡ found_of b.kept.changes
-opens_sure size Blank b s z mid at medium calm h = absurd h
-opens_sure size Unknown b s z mid at medium calm h = absurd (let e : Unknown ≡ Formatted = sym at ∙ medium in let no : ⊥ = cc in no)
-opens_sure size Formatted b s z mid at medium calm (changes, may, is, sized, e) = is ∙ ap found_of (kept_as b.kept changes calm may)
+opens_sure : (size : Size) (m : DiskState) (b : Bench) (s : State) (z : Size) (mid : Bench) → b.disk_state ≡ m → b.disk_state ≡ Formatted → b.kept.doubt ≡ None → Opens size m b s z mid → s ≡ found_of b.kept.changes
+opens_sure size Blank b s z mid at disk_state calm h = absurd h
+opens_sure size Unknown b s z mid at disk_state calm h = absurd (let e : Unknown ≡ Formatted = sym at ∙ disk_state in let no : ⊥ = cc in no)
+opens_sure size Formatted b s z mid at disk_state calm (changes, may, is, sized, e) = is ∙ ap found_of (kept_as b.kept changes calm may)
 
-powers_sure : (size : Size) (mode : BootMode) (b : Bench) (a : Answer) (new : Bench) → b.medium ≡ Formatted → b.kept.doubt ≡ None → IsFailureFree new → PowersOn size mode b a new → a.found ≡ Some (durable_of (found_of b.kept.changes))
-powers_sure size mode b a new medium calm failure_free_bench (inl (s, z, mid, found, shows, boot)) = found_as a.found s shows ∙ ap (λ x. Some (durable_of x)) (opens_sure size b.medium b s z mid refl medium calm found)
-powers_sure size mode b a new medium calm failure_free_bench (inr (inl h)) = let P : DiskState → Type 0 = λ m. IsOpenRefusal m h.0 in absurd (subst P medium h.1)
-powers_sure size mode b a new medium calm failure_free_bench (inr (inr (inl h))) = clean new failure_free_bench (starves b new h.2)
-powers_sure size mode b a new medium calm failure_free_bench (inr (inr (inr h))) = clean new failure_free_bench (hinders b new h.1)
+powers_sure : (size : Size) (mode : BootMode) (b : Bench) (a : Answer) (new : Bench) → b.disk_state ≡ Formatted → b.kept.doubt ≡ None → IsFailureFree new → PowersOn size mode b a new → a.found ≡ Some (durable_of (found_of b.kept.changes))
+powers_sure size mode b a new disk_state calm failure_free_bench (inl (s, z, mid, found, shows, boot)) = found_as a.found s shows ∙ ap (λ x. Some (durable_of x)) (opens_sure size b.disk_state b s z mid refl disk_state calm found)
+powers_sure size mode b a new disk_state calm failure_free_bench (inr (inl h)) = let P : DiskState → Type 0 = λ m. IsOpenRefusal m h.0 in absurd (subst P disk_state h.1)
+powers_sure size mode b a new disk_state calm failure_free_bench (inr (inr (inl h))) = clean new failure_free_bench (starves b new h.2)
+powers_sure size mode b a new disk_state calm failure_free_bench (inr (inr (inr h))) = clean new failure_free_bench (hinders b new h.1)
 
 spoilt_before : (b : Bench) → IsFailureFree b ⊎ HasFailed b
 spoilt_before b = by_counts b.growths b.failures refl refl
@@ -166,38 +166,38 @@ spoilt_before b = by_counts b.growths b.failures refl refl
     by_counts (suc n) f e h = inr (inl (omega (arith, e)))
     by_counts zero (suc n) e h = inr (inr (omega (arith, h)))
 
-pub finds_all : (script : Script) (answers : List Answer) (b : Bench) (mode : BootMode) (a : Answer) (new : Bench) → AreByFirmware script.lines → IsReport script answers b → b.medium ≡ Formatted → b.power ≡ None → Moves script.size (lines.On mode) b a new
+pub finds_all : (script : Script) (answers : List Answer) (b : Bench) (mode : BootMode) (a : Answer) (new : Bench) → AreByFirmware script.lines → IsReport script answers b → b.disk_state ≡ Formatted → b.power ≡ None → Moves script.size (lines.On mode) b a new
     → a.line ≢ printed.PowerLost → IsFailureFree new → a.found ≡ Some (durable_of (found_of b.kept.changes))
-finds_all script answers b mode a new by h medium none (inl move) lost failure_free_bench =
+finds_all script answers b mode a new by h disk_state none (inl move) lost failure_free_bench =
     let P : Option Life → Type 0 = λ p. OnStep script.size p mode b a new in
     elim (spoilt_before b) [
-      | inl was ↦ powers_sure script.size mode b a new medium (sure script answers b by h was medium) failure_free_bench (subst P none move.0)
+      | inl was ↦ powers_sure script.size mode b a new disk_state (sure script answers b by h was disk_state) failure_free_bench (subst P none move.0)
       | inr spoilt ↦ clean new failure_free_bench ((moves_fair script.size (lines.On mode) b a new tt (inl move)).0 spoilt)
     ]
-finds_all script answers b mode a new by h medium none (inr (would, mid, step, struck, e, is)) lost failure_free_bench = absurd (lost (ap (λ (x : Answer). x.line) e))
+finds_all script answers b mode a new by h disk_state none (inr (would, mid, step, struck, e, is)) lost failure_free_bench = absurd (lost (ap (λ (x : Answer). x.line) e))
 
 -- ---- what any open finds
 untold : {A : Type 0} (a : Answer) (line : Printed) (d : Durable) → a ≡ says line → a.found ≡ Some d → A
 untold a line d e told = let g : ◌≡◌ {A = Option Durable} None (Some d) = ap (λ (x : Answer). x.found) (sym e) ∙ told in absurd (let no : ⊥ = cc in no)
 
-powers_find : (size : Size) (mode : BootMode) (b : Bench) (a : Answer) (new : Bench) (d : Durable) → b.medium ≡ Formatted → PowersOn size mode b a new → a.found ≡ Some d → (s : State) × MayFind b.kept s × (d ≡ durable_of s)
-powers_find size mode b a new d medium (inl (s, z, mid, found, shows, boot)) told = (s, opens_find b.medium refl found, shown (found_as a.found s shows))
+powers_find : (size : Size) (mode : BootMode) (b : Bench) (a : Answer) (new : Bench) (d : Durable) → b.disk_state ≡ Formatted → PowersOn size mode b a new → a.found ≡ Some d → (s : State) × MayFind b.kept s × (d ≡ durable_of s)
+powers_find size mode b a new d disk_state (inl (s, z, mid, found, shows, boot)) told = (s, opens_find b.disk_state refl found, shown (found_as a.found s shows))
   where
-    opens_find : (m : DiskState) → b.medium ≡ m → Opens size m b s z mid → MayFind b.kept s
+    opens_find : (m : DiskState) → b.disk_state ≡ m → Opens size m b s z mid → MayFind b.kept s
     opens_find Blank at h = absurd h
-    opens_find Unknown at h = absurd (let e : Unknown ≡ Formatted = sym at ∙ medium in let no : ⊥ = cc in no)
+    opens_find Unknown at h = absurd (let e : Unknown ≡ Formatted = sym at ∙ disk_state in let no : ⊥ = cc in no)
     opens_find Formatted at (changes, may, is, sized, e) = (changes, may, is)
 
     shown : a.found ≡ Some (durable_of s) → d ≡ durable_of s
     shown e = let g : Some d ≡ Some (durable_of s) = sym told ∙ e in let h : d ≡ durable_of s = cc in h
-powers_find size mode b a new d medium (inr (inl h)) told = untold a (printed.OnRefused h.0) d h.2 told
-powers_find size mode b a new d medium (inr (inr (inl h))) told = untold a (printed.OnRefused 11) d h.1 told
-powers_find size mode b a new d medium (inr (inr (inr h))) told = untold a (printed.OnRefused 5) d h.0 told
+powers_find size mode b a new d disk_state (inr (inl h)) told = untold a (printed.OnRefused h.0) d h.2 told
+powers_find size mode b a new d disk_state (inr (inr (inl h))) told = untold a (printed.OnRefused 11) d h.1 told
+powers_find size mode b a new d disk_state (inr (inr (inr h))) told = untold a (printed.OnRefused 5) d h.0 told
 
-on_find : (size : Size) (p : Option Life) (mode : BootMode) (b : Bench) (a : Answer) (new : Bench) (d : Durable) → b.medium ≡ Formatted → OnStep size p mode b a new → a.found ≡ Some d → (s : State) × MayFind b.kept s × (d ≡ durable_of s)
-on_find size None mode b a new d medium h told = powers_find size mode b a new d medium h told
-on_find size (Some life) mode b a new d medium h told = untold a printed.Busy d h.0 told
+on_find : (size : Size) (p : Option Life) (mode : BootMode) (b : Bench) (a : Answer) (new : Bench) (d : Durable) → b.disk_state ≡ Formatted → OnStep size p mode b a new → a.found ≡ Some d → (s : State) × MayFind b.kept s × (d ≡ durable_of s)
+on_find size None mode b a new d disk_state h told = powers_find size mode b a new d disk_state h told
+on_find size (Some life) mode b a new d disk_state h told = untold a printed.Busy d h.0 told
 
-pub finds : (size : Size) (mode : BootMode) (b : Bench) (a : Answer) (new : Bench) (d : Durable) → b.medium ≡ Formatted → Moves size (lines.On mode) b a new → a.found ≡ Some d → (s : State) × MayFind b.kept s × (d ≡ durable_of s)
-finds size mode b a new d medium (inl move) told = on_find size b.power mode b a new d medium move.0 told
-finds size mode b a new d medium (inr (would, mid, step, struck, e, is)) told = untold a printed.PowerLost d e told
+pub finds : (size : Size) (mode : BootMode) (b : Bench) (a : Answer) (new : Bench) (d : Durable) → b.disk_state ≡ Formatted → Moves size (lines.On mode) b a new → a.found ≡ Some d → (s : State) × MayFind b.kept s × (d ≡ durable_of s)
+finds size mode b a new d disk_state (inl move) told = on_find size b.power mode b a new d disk_state move.0 told
+finds size mode b a new d disk_state (inr (would, mid, step, struck, e, is)) told = untold a printed.PowerLost d e told

@@ -35,7 +35,7 @@ IsOneCsr = (h n : ℕ) (m : Machine) (line also : MachineLine) → CsrLine h n m
 
 -- ---- fair
 format_fair : (p : Option Life) (b : Bench) (a : Answer) (new : Bench) → FormatStep p b a new → Fair b new
-format_fair None b a new h = formats_fair b.medium b a new h
+format_fair None b a new h = formats_fair b.disk_state b a new h
 format_fair (Some life) b a new h = unmoved b new h.1
 
 on_fair : (size : Size) (p : Option Life) (mode : BootMode) (b : Bench) (a : Answer) (new : Bench) → OnStep size p mode b a new → Fair b new
@@ -112,7 +112,7 @@ by_word f o p a z new last e g (inr (inl s)) = inr (inl s)
 by_word f o p a z new last e g (inr (inr h)) = inr (inr (e ∙ ap f h.0 ∙ sym g, h.1))
 
 format_at : (p : Option Life) (b : Bench) (a z : Answer) (new last : Bench) → IsCalm b → FormatStep p b a new → FormatStep p b z last → Agree a z new last
-format_at None b a z new last calm x y = formats b.medium b a z new last calm x y
+format_at None b a z new last calm x y = formats b.disk_state b a z new last calm x y
 format_at (Some life) b a z new last calm x y = same a z _ new last b x.0 y.0 x.1 y.1
 
 on_at : (size : Size) (p : Option Life) (mode : BootMode) (b : Bench) (a z : Answer) (new last : Bench) → IsCalm b → OnStep size p mode b a new → OnStep size p mode b z last → Agree a z new last

@@ -62,8 +62,8 @@ kept_either size z Unknown k s c disk follows allowed l = tt
 kept_either size z Formatted k s c disk follows allowed l = left_either size z (record k { doubt = Some c }) c s disk refl follows.1 allowed follows.2 l
 
 -- an open that found a state
-opened : KeptLaw → BlankLaw → (size : Size) (b : Bench) (old : SimDisk) (z : Size) (s : State) → OffIs size b old → Leaves (facts old) z s → (k : Kept) × Opens size b.medium b s z (record b { kept = k }) × Follows size b.medium k (begun s z) z
-opened kept blank size b old z s off leaves = opens size b.medium b (facts old) z s off.1 leaves (λ is. blank.stands old z s is leaves) (λ y is. kept.one_size old y z s leaves is)
+opened : KeptLaw → BlankLaw → (size : Size) (b : Bench) (old : SimDisk) (z : Size) (s : State) → OffIs size b old → Leaves (facts old) z s → (k : Kept) × Opens size b.disk_state b s z (record b { kept = k }) × Follows size b.disk_state k (begun s z) z
+opened kept blank size b old z s off leaves = opens size b.disk_state b (facts old) z s off.1 leaves (λ is. blank.stands old z s is leaves) (λ y is. kept.one_size old y z s leaves is)
 
 -- ---- the board is on
 abbrev BoardStarts : Size → BootMode → Size → State → Bench → Printed → Board → Type 0
@@ -72,7 +72,7 @@ BoardStarts size mode z s b line board = (x : Bench) × Starts mode z s b line x
 abbrev BoardOn : Size → BootMode → Size → State → Bench → Printed → Board → Type 0
 BoardOn size mode z s b line board = (x : Bench) × Begins mode z s b line x × OnIs size x board × (x.payloads ≡ b.payloads)
 
-module _ (size : Size) (b : Bench) (s : State) (board : Board) (line : Printed) (follows : Follows size b.medium b.kept (begun s (store_size (store_in board))) (store_size (store_in board)))
+module _ (size : Size) (b : Bench) (s : State) (board : Board) (line : Printed) (follows : Follows size b.disk_state b.kept (begun s (store_size (store_in board))) (store_size (store_in board)))
     (device : DeviceIs size b (store_fault_state (store_in board)) (store_facts (store_in board))) where
   abbrev z : Size
   z = store_size (store_in board)
@@ -89,7 +89,7 @@ module _ (size : Size) (b : Bench) (s : State) (board : Board) (line : Printed) 
       let P : List Change → Type 0 = λ cs. IssuesAll cs start (Ok 0) start in (
         on_with (has_machine machine (begun s z)) b,
         (Ok 0, start, subst P (sym none) (refl, refl), (begun s z, refl, h, machine, begins, refl)),
-        (((follows_with size b.medium b.kept (begun s z) machine z (begun_size mode z b.payloads s machine begins) follows, as_begun (store_in board) s life), refl), device),
+        (((follows_with size b.disk_state b.kept (begun s z) machine z (begun_size mode z b.payloads s machine begins) follows, as_begun (store_in board) s life), refl), device),
         refl,
       )
 
@@ -105,7 +105,7 @@ module _ (size : Size) (b : Bench) (s : State) (board : Board) (line : Printed) 
       let all : Q (c ∷ []) = (begun s z, refl, Ok 1, mid, one, inl (1, refl, (refl, refl))) in (
         on_with (has_machine machine next) mid,
         (Ok 0, mid, subst Q (sym only) all, (next, refl, h, machine, begins, refl)),
-        (((follows_with size b.medium mid.kept next machine z (begun_size mode z b.payloads s machine begins) (follows_more size b.medium b.kept c (begun s z) z follows), as_issued (store_in board) s c life), refl), device),
+        (((follows_with size b.disk_state mid.kept next machine z (begun_size mode z b.payloads s machine begins) (follows_more size b.disk_state b.kept c (begun s z) z follows), as_issued (store_in board) s c life), refl), device),
         refl,
       )
 
@@ -131,14 +131,14 @@ power_ok kept blank size mode b payloads old board a off same on keeps shows h =
 
 -- ---- the board is off, after an open that left this bench
 module _ (size : Size) (b : Bench) (old new : SimDisk) (z : Size) (s : State) (payloads : List (List ℕ)) (line : Printed) (none : b.power ≡ None) (device : DeviceIs size b (fault_state old) (facts old))
-    (follows : Follows size b.medium b.kept (begun s z) z) (fits : Fits z payloads) (no_fewer : (facts old).failures ≤ (facts new).failures) (long : SameLength (facts old) (facts new)) where
+    (follows : Follows size b.disk_state b.kept (begun s z) z) (fits : Fits z payloads) (no_fewer : (facts old).failures ≤ (facts new).failures) (long : SameLength (facts old) (facts new)) where
   abbrev Left : Option ℕ → BootMode → Type 0
   Left o mode = (x : Bench) × Boots o mode z s b line x × OffIs size x new × (x.payloads ≡ b.payloads)
 
   quiet : (mode : BootMode) (e : Refusal) → e ≢ Down → e ≢ Device → CausedRefusal (fault_state old) e (fault_state new) → LeavesLife (doubt_after mode e) (facts new) z s → OffIs size b new
   quiet mode e up is cause left =
       let P : Option Change → Type 0 = λ d. LeavesLife d (facts new) z s in
-      (none, kept_only size z b.medium b.kept s (facts new) follows (subst P (no_doubt mode e up) left), stays size b (fault_state old) (fault_state new) (facts old) (facts new) device (calm e (fault_state old) (fault_state new) cause up is) no_fewer long)
+      (none, kept_only size z b.disk_state b.kept s (facts new) follows (subst P (no_doubt mode e up) left), stays size b (fault_state old) (fault_state new) (facts old) (facts new) device (calm e (fault_state old) (fault_state new) cause up is) no_fewer long)
 
   -- by a mode with that command, which the disk refused
   refuses_it : (mode : BootMode) (c : Change) (o : ℕ) (mid : Bench) → commands_of mode ≡ c ∷ [] → refusal_of s c ≡ None → Writes None c (begun s z) (on_with (begun s z) b) (Err o) mid → line ≡ printed.OnRefused o
@@ -161,7 +161,7 @@ module _ (size : Size) (b : Bench) (old new : SimDisk) (z : Size) (s : State) (p
       let first : Bench = on_with (begun s z) b in
       let did = fails_by_fault size first (fault_state old) (fault_state new) (facts old) (facts new) device cause counts long in
       let mid = failed (fault_state new) first in
-      (off mid, refuses_it mode c 5 mid only allowed (inr (inl (refl, did.0))) h, (refl, kept_only size z b.medium b.kept s (facts new) follows left, did.1), refl)
+      (off mid, refuses_it mode c 5 mid only allowed (inr (inl (refl, did.0))) h, (refl, kept_only size z b.disk_state b.kept s (facts new) follows left, did.1), refl)
 
   -- it failed where the command may have taken effect
   doubted_at : (mode : BootMode) (c : Change) → commands_of mode ≡ c ∷ [] → refusal_of s c ≡ None → line ≡ printed.OnRefused 6 → LeavesEither (facts new) z s (after s c) → CausedRefusal (fault_state old) Down (fault_state new)
@@ -170,7 +170,7 @@ module _ (size : Size) (b : Bench) (old new : SimDisk) (z : Size) (s : State) (p
       let d : Bench = in_doubt c (begun s z) (on_with (begun s z) b) in
       let did = fails_by_fault size d (fault_state old) (fault_state new) (facts old) (facts new) device cause counts long in
       let mid = failed (fault_state new) d in
-      (off mid, refuses_it mode c 6 mid only allowed (inr (inr (refl, did.0))) h, (refl, kept_either size z b.medium b.kept s c (facts new) follows allowed left, did.1), refl)
+      (off mid, refuses_it mode c 6 mid only allowed (inr (inr (refl, did.0))) h, (refl, kept_either size z b.disk_state b.kept s c (facts new) follows allowed left, did.1), refl)
 
   late_device : (mode : BootMode) → boot_refusal s mode ≡ None → line ≡ printed.OnRefused 5 → Issues mode → LeavesOnly (facts new) z s → CausedRefusal (fault_state old) Device (fault_state new)
       → CountsRefusal (facts old).failures Device (facts new).failures → Left None mode

@@ -83,12 +83,12 @@ resets_back (Ok reset) h life b word new sound on (o, mid, i, x) =
     held_back o (words.Reset reset.0) (Reset reset.1) (reset.1, refl) h b mid word new (issued_back (Reset reset.1) life b o mid sound on i) x
 
 -- where there was no memory, or the command did not fit, nothing went to the disk
-none_went : (n : ℕ) (c : Change) (b mid : Bench) → IsSound b → n ≢ 6 → mid.medium ≡ b.medium → mid.kept ≡ b.kept → mid.power ≡ b.power → Back b mid (Went (Err n) c (is_up b.power) (is_up mid.power))
-none_went n c b mid sound differs medium kept power =
+none_went : (n : ℕ) (c : Change) (b mid : Bench) → IsSound b → n ≢ 6 → mid.disk_state ≡ b.disk_state → mid.kept ≡ b.kept → mid.power ≡ b.power → Back b mid (Went (Err n) c (is_up b.power) (is_up mid.power))
+none_went n c b mid sound differs disk_state kept power =
     let F : Kept → Type 0 = λ k. GoesOn k mid.power in
     let G : Option Life → Type 0 = λ p. GoesOn b.kept p in
     let K : Kept → State → Type 0 = λ k t. MayFind k t in
-    ((medium ∙ sound.0, subst F (sym kept) (subst G (sym power) sound.1)), λ t found. (t, (let R : Kept → Type 0 = λ k. MayFind k t in subst R kept found), inl (differs, refl, ap is_up power)))
+    ((disk_state ∙ sound.0, subst F (sym kept) (subst G (sym power) sound.1)), λ t found. (t, (let R : Kept → Type 0 = λ k. MayFind k t in subst R kept found), inl (differs, refl, ap is_up power)))
 
 suspends_back : (Fits : Type 0) (c : Change) (life : Life) (b : Bench) (o : Result ℕ ℕ) (mid : Bench) → IsSound b → b.power ≡ Some life → Suspends Fits c life b o mid → Back b mid (Went o c (is_up b.power) (is_up mid.power))
 suspends_back Fits c life b o mid sound on (inl x) = issued_back c life b o mid sound on x.1

@@ -51,7 +51,7 @@ IsSized size (Some life) = life.machine.size ≡ size
 
 -- a formatted disk keeps commands that make whole images alone, and a board that is on is of the script's size
 abbrev pub IsKeptWhole : Size → Bench → Type 0
-IsKeptWhole size b = (b.medium ≡ Formatted) × IsWhole size (found_of b.kept.changes) × DoubtWhole size b.kept.doubt × IsSized size b.power
+IsKeptWhole size b = (b.disk_state ≡ Formatted) × IsWhole size (found_of b.kept.changes) × DoubtWhole size b.kept.doubt × IsSized size b.power
 
 whole_after : (size : Size) (s : State) (c : Change) → IsWhole size s → CarriesWhole size c → IsWhole size (after s c)
 whole_after size s (Slot n) w carries = w
@@ -196,7 +196,7 @@ module _ (size : Size) where
   boots None mode z s b line new same k (inr x) = same_as (out_of_memory b) new x.1 k
 
   -- an open finds a state whose image is whole, for a board of the script's size
-  opens : (m : DiskState) (b : Bench) (s : State) (z : Size) (mid : Bench) → b.medium ≡ m → b.power ≡ None → IsKeptWhole size b → Opens size m b s z mid → IsWhole size s × (z ≡ size) × IsKeptWhole size mid
+  opens : (m : DiskState) (b : Bench) (s : State) (z : Size) (mid : Bench) → b.disk_state ≡ m → b.power ≡ None → IsKeptWhole size b → Opens size m b s z mid → IsWhole size s × (z ≡ size) × IsKeptWhole size mid
   opens Blank b s z mid at off k x = absurd x
   opens Unknown b s z mid at off k x = absurd (let e : Unknown ≡ Formatted = sym at ∙ k.0 in let no : ⊥ = cc in no)
   opens Formatted b s z mid at off k (changes, may, is, same, e) =
@@ -206,7 +206,7 @@ module _ (size : Size) where
 
   powers : (mode : BootMode) (b : Bench) (a : Answer) (new : Bench) → b.power ≡ None → IsKeptWhole size b → PowersOn size mode b a new → IsKeptWhole size new
   powers mode b a new none k (inl (s, z, mid, found, shows, x)) =
-      let at = opens b.medium b s z mid refl none k found in
+      let at = opens b.disk_state b s z mid refl none k found in
       boots (boot_refusal s mode) mode z s mid a.line new at.1 at.2 x
   powers mode b a new none k (inr (inl x)) = same_as b new x.3 k
   powers mode b a new none k (inr (inr (inl x))) = same_as (out_of_memory b) new x.2 k
@@ -217,14 +217,14 @@ module _ (size : Size) where
   on_line None mode b a new none k x = powers mode b a new none k x
   on_line (Some life) mode b a new on k x = same_as b new x.1 k
 
-  formats : (m : DiskState) (b : Bench) (a : Answer) (new : Bench) → b.medium ≡ m → IsKeptWhole size b → FormatsOn m b a new → IsKeptWhole size new
+  formats : (m : DiskState) (b : Bench) (a : Answer) (new : Bench) → b.disk_state ≡ m → IsKeptWhole size b → FormatsOn m b a new → IsKeptWhole size new
   formats Blank b a new at k x = absurd (let e : Blank ≡ Formatted = sym at ∙ k.0 in let no : ⊥ = cc in no)
   formats Unknown b a new at k x = absurd (let e : Unknown ≡ Formatted = sym at ∙ k.0 in let no : ⊥ = cc in no)
   formats Formatted b a new at k (inl x) = same_as b new x.1 k
   formats Formatted b a new at k (inr x) = same_as (failed x.1.0 b) new x.1.2 k
 
   format_line : (p : Option Life) (b : Bench) (a : Answer) (new : Bench) → IsKeptWhole size b → FormatStep p b a new → IsKeptWhole size new
-  format_line None b a new k x = formats b.medium b a new refl k x
+  format_line None b a new k x = formats b.disk_state b a new refl k x
   format_line (Some life) b a new k x = same_as b new x.1 k
 
   console : (word : ConsoleWord) (c : Change) (p : Option Life) (b : Bench) (a : Answer) (new : Bench) → CarriesWhole size c → b.power ≡ p → IsKeptWhole size b → ConsoleStep word c p b a new → IsKeptWhole size new
@@ -317,7 +317,7 @@ module _ (size : Size) where
 
   powers_not : (mode : BootMode) (b : Bench) (a : Answer) (new : Bench) → b.power ≡ None → IsKeptWhole size b → PowersOn size mode b a new → NotThirteen a.line
   powers_not mode b a new none k (inl (s, z, mid, found, shows, x)) =
-      let at = opens b.medium b s z mid refl none k found in
+      let at = opens b.disk_state b s z mid refl none k found in
       let P : Size → Type 0 = λ y. IsWhole y s in
       boots_not (boot_refusal s mode) mode z s mid a.line new refl (subst P (sym at.1) at.0) x
   powers_not mode b a new none k (inr (inl x)) = let P : DiskState → Type 0 = λ m. IsOpenRefusal m x.0 in absurd (subst P k.0 x.1)

@@ -42,22 +42,22 @@ Follows size Formatted kept life z = (kept.doubt ≡ life.doubt) × (life.now �
 
 -- a store that goes on with a life
 abbrev pub StoreIs : Size → DiskState → Kept → Life → Store → Type 0
-StoreIs size medium kept life store = Follows size medium kept life (store_size store) × IsAs store life.now life.receipts life.doubt
+StoreIs size disk_state kept life store = Follows size disk_state kept life (store_size store) × IsAs store life.now life.receipts life.doubt
 
 -- a board that is on
 abbrev pub BoardIs : Size → DiskState → Kept → Option Life → Board → Type 0
-BoardIs size medium kept None board = ⊥
-BoardIs size medium kept (Some life) board = StoreIs size medium kept life (store_in board) × (machine_in board ≡ life.machine)
+BoardIs size disk_state kept None board = ⊥
+BoardIs size disk_state kept (Some life) board = StoreIs size disk_state kept life (store_in board) × (machine_in board ≡ life.machine)
 
 -- the device below has the bench's fault state, counted each failure that was answered, and is of exactly the size needed
 abbrev pub DeviceIs : Size → Bench → FaultState → Facts → Type 0
 DeviceIs size b m disk = (b.fault_state ≡ m) × (b.failures ≤ disk.failures) × (length disk.content ≡ sectors_of size)
 
 abbrev pub OffIs : Size → Bench → SimDisk → Type 0
-OffIs size b disk = (b.power ≡ None) × DiskIs size b.medium b.kept (facts disk) × DeviceIs size b (fault_state disk) (facts disk)
+OffIs size b disk = (b.power ≡ None) × DiskIs size b.disk_state b.kept (facts disk) × DeviceIs size b (fault_state disk) (facts disk)
 
 abbrev pub OnIs : Size → Bench → Board → Type 0
-OnIs size b board = BoardIs size b.medium b.kept b.power board × DeviceIs size b (store_fault_state (store_in board)) (store_facts (store_in board))
+OnIs size b board = BoardIs size b.disk_state b.kept b.power board × DeviceIs size b (store_fault_state (store_in board)) (store_facts (store_in board))
 
 -- the store of a life that its own command ended, over a disk that keeps that command
 abbrev pub IsOver : Size → DiskState → Kept → Store → Type 0
@@ -66,7 +66,7 @@ IsOver size Unknown kept store = ⊤
 IsOver size Formatted kept store = (kept.doubt ≡ None) × (store_now store ≡ found_of kept.changes) × (store_size store ≡ size) × (store_doubt store ≡ None)
 
 abbrev pub OverIs : Size → Bench → Board → Type 0
-OverIs size b board = (b.power ≡ None) × IsOver size b.medium b.kept (store_in board) × DeviceIs size b (store_fault_state (store_in board)) (store_facts (store_in board))
+OverIs size b board = (b.power ≡ None) × IsOver size b.disk_state b.kept (store_in board) × DeviceIs size b (store_fault_state (store_in board)) (store_facts (store_in board))
 
 -- a board after what is said of a turn or a call
 abbrev pub StandsBy : Size → Word → Bench → Board → Type 0

@@ -24,7 +24,7 @@ pub record Life : Type 0 where
 -- often a power-on was refused memory (11), how often a failure of the disk was answered (each 5, and each 6 that begins
 -- a doubt), and the fault state of the disk: what is armed, whether an armed cut has struck, and how often it failed by itself.
 pub record Bench : Type 0 where
-  pub medium : DiskState
+  pub disk_state : DiskState
   pub kept : Kept
   pub power : Option Life
   pub payloads : List (List ℕ)
@@ -41,4 +41,4 @@ no_payloads = [] ∷ [] ∷ [] ∷ [] ∷ []
 
 -- the bench after the board line
 abbrev pub blank_bench : Bench
-blank_bench = record { medium = Blank; kept = nothing_kept; power = None; payloads = no_payloads; growths = 0; failures = 0; fault_state = no_fault }
+blank_bench = record { disk_state = Blank; kept = nothing_kept; power = None; payloads = no_payloads; growths = 0; failures = 0; fault_state = no_fault }

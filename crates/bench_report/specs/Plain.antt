@@ -62,9 +62,9 @@ plain_on size Unknown mode b = (says (printed.OnRefused 1), b)
 plain_on size Formatted mode b = plain_boot (boot_refusal (found_of b.kept.changes) mode) mode size (found_of b.kept.changes) (settled b.kept.changes b)
 
 abbrev pub plain_at : Size → Option Life → Line → Bench → Answer × Bench
-plain_at size None lines.Format b = plain_format b.medium b
+plain_at size None lines.Format b = plain_format b.disk_state b
 plain_at size (Some life) lines.Format b = (says printed.Busy, b)
-plain_at size None (lines.On mode) b = plain_on size b.medium mode b
+plain_at size None (lines.On mode) b = plain_on size b.disk_state mode b
 plain_at size (Some life) (lines.On mode) b = (says printed.Busy, b)
 plain_at size p (lines.Slot n) b = plain_console names.Slot (Slot n) p b
 plain_at size p lines.Discard b = plain_console names.Discard Discard p b

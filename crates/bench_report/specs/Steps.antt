@@ -88,11 +88,11 @@ armed_with armed b = record b { fault_state = record b.fault_state { armed = arm
 
 -- nothing is known of the disk any more
 abbrev pub unknown : Bench → Bench
-unknown b = record b { medium = Unknown }
+unknown b = record b { disk_state = Unknown }
 
 -- the disk was formatted
 abbrev pub formatted_anew : Bench → Bench
-formatted_anew b = record b { medium = Formatted; kept = nothing_kept }
+formatted_anew b = record b { disk_state = Formatted; kept = nothing_kept }
 
 -- an open settled the command in doubt: these are kept
 abbrev pub settled : List Change → Bench → Bench
@@ -285,16 +285,16 @@ MayStand Formatted = ⊤
 -- power on, with the board off, of a script whose board is of that size
 abbrev pub PowersOn : Size → BootMode → Bench → Answer → Bench → Type 0
 PowersOn size mode b answer new =
-    ((s : State) × (z : Size) × (mid : Bench) × Opens size b.medium b s z mid × ShowsFound answer.found s × Boots (boot_refusal s mode) mode z s mid answer.line new)
-    ⊎ ((n : ℕ) × IsOpenRefusal b.medium n × (answer ≡ says (printed.OnRefused n)) × (new ≡ b))
-    ⊎ (MayStand b.medium × (answer ≡ says (printed.OnRefused 11)) × (new ≡ out_of_memory b))
+    ((s : State) × (z : Size) × (mid : Bench) × Opens size b.disk_state b s z mid × ShowsFound answer.found s × Boots (boot_refusal s mode) mode z s mid answer.line new)
+    ⊎ ((n : ℕ) × IsOpenRefusal b.disk_state n × (answer ≡ says (printed.OnRefused n)) × (new ≡ b))
+    ⊎ (MayStand b.disk_state × (answer ≡ says (printed.OnRefused 11)) × (new ≡ out_of_memory b))
     ⊎ ((answer ≡ says (printed.OnRefused 5)) × FailsByFault b new)
 
 -- ---- lines, by whether the board is on
 
 abbrev pub FormatStep : Option Life → Bench → Answer → Bench → Type 0
 FormatStep (Some life) b answer new = (answer ≡ says printed.Busy) × (new ≡ b)
-FormatStep None b answer new = FormatsOn b.medium b answer new
+FormatStep None b answer new = FormatsOn b.disk_state b answer new
 
 abbrev pub OnStep : Size → Option Life → BootMode → Bench → Answer → Bench → Type 0
 OnStep size (Some life) mode b answer new = (answer ≡ says printed.Busy) × (new ≡ b)

@@ -52,12 +52,12 @@ pub fn prefix_law()
 /// doubt (`sure`), and a board that is off finds the fold of all acknowledged commands (`all`). A board that is resumed has the
 /// memory of the suspension that made its image, byte for byte, and of its harts the image's alone runs (`resumes`).
 pub fn power_ons()
-    ensures finds { (script : Script) (answers : List Answer) (b : Bench) → IsReport script answers b → b.medium ≡ Formatted → (mode : BootMode) (a : Answer) (new : Bench) (d : Durable) → Moves script.size (lines.On mode) b a new
+    ensures finds { (script : Script) (answers : List Answer) (b : Bench) → IsReport script answers b → b.disk_state ≡ Formatted → (mode : BootMode) (a : Answer) (new : Bench) (d : Durable) → Moves script.size (lines.On mode) b a new
         → a.found ≡ Some d → (s : State) × MayFind b.kept s × (d ≡ durable_of s) }
-    ensures sure { (script : Script) (answers : List Answer) (b : Bench) → AreByFirmware script.lines → IsReport script answers b → IsFailureFree b → b.medium ≡ Formatted → b.kept.doubt ≡ None }
-    ensures all { (script : Script) (answers : List Answer) (b : Bench) → AreByFirmware script.lines → IsReport script answers b → b.medium ≡ Formatted → b.power ≡ None → (mode : BootMode) (a : Answer) (new : Bench) → Moves script.size (lines.On mode) b a new
+    ensures sure { (script : Script) (answers : List Answer) (b : Bench) → AreByFirmware script.lines → IsReport script answers b → IsFailureFree b → b.disk_state ≡ Formatted → b.kept.doubt ≡ None }
+    ensures all { (script : Script) (answers : List Answer) (b : Bench) → AreByFirmware script.lines → IsReport script answers b → b.disk_state ≡ Formatted → b.power ≡ None → (mode : BootMode) (a : Answer) (new : Bench) → Moves script.size (lines.On mode) b a new
         → a.line ≢ printed.PowerLost → IsFailureFree new → a.found ≡ Some (durable_of (found_of b.kept.changes)) }
-    ensures resumes { (script : Script) (answers : List Answer) (b : Bench) → IsReport script answers b → b.medium ≡ Formatted → (a : Answer) (new : Bench) → Moves script.size (lines.On modes.Resume) b a new
+    ensures resumes { (script : Script) (answers : List Answer) (b : Bench) → IsReport script answers b → b.disk_state ≡ Formatted → (a : Answer) (new : Bench) → Moves script.size (lines.On modes.Resume) b a new
         → a.line ≡ printed.On modes.Resume → IsResumedFrom script.size b a new }
 {}
 

@@ -38,7 +38,7 @@ fn says(line: Printed) -> Answer
 /// Formats the disk of a board that is off.
 fn format_disk(shape: &Shape, mut disk: SimDisk) -> (Power, Answer)
     requires { IsIdle (facts disk) }
-    ensures told { (b : Bench) → OffIs shape.now b disk → Goes shape.now b result.0 (FormatsOn b.medium b result.1) }
+    ensures told { (b : Bench) → OffIs shape.now b disk → Goes shape.now b result.0 (FormatsOn b.disk_state b result.1) }
     ensures resting { IsResting result.0 }
 {
     kept_disks::<SimDisk>();

@@ -13,7 +13,7 @@ returns-in-Asleep-clause-told c = λ size b h.
     let store = store_in c.args.board in
     let left = c.into_disk.result in (
       was.0,
-      over_ended size b.medium b.kept store (facts left) was.1 c.into_disk.ensures.up,
+      over_ended size b.disk_state b.kept store (facts left) was.1 c.into_disk.ensures.up,
       stays size b (store_fault_state store) (fault_state left) (store_facts store) (facts left) was.2 c.into_disk.ensures.fault_state (omega (arith, c.into_disk.ensures.failures)) (ap length c.into_disk.ensures.content),
     )
 
@@ -24,6 +24,6 @@ returns-in-Reset-clause-told c = λ size b h.
     let store = store_in c.args.board in
     let left = c.into_disk-in-Reset.result in (
       was.0,
-      over_ended size b.medium b.kept store (facts left) was.1 c.into_disk-in-Reset.ensures.up,
+      over_ended size b.disk_state b.kept store (facts left) was.1 c.into_disk-in-Reset.ensures.up,
       stays size b (store_fault_state store) (fault_state left) (store_facts store) (facts left) was.2 c.into_disk-in-Reset.ensures.fault_state (omega (arith, c.into_disk-in-Reset.ensures.failures)) (ap length c.into_disk-in-Reset.ensures.content),
     )

@@ -7,7 +7,7 @@ pub returns-clause-told : goal.returns-clause-told
 returns-clause-told c = λ size b h.
     let was = c.disk_left.ensures.told size b h in
     let cut = c.after_cut.ensures in
-    (refl, left_on c.kept_disks.ensures.goes_on size b.medium b.kept c.disk_left.result c.after_cut.result was.1 (cut_leaves c.disk_left.result c.after_cut.result cut.left), (ap fault_state_left was.2.0 ∙ sym cut.fault_state, omega (arith, was.2.1, cut.left.failures), omega (arith, was.2.2)))
+    (refl, left_on c.kept_disks.ensures.goes_on size b.disk_state b.kept c.disk_left.result c.after_cut.result was.1 (cut_leaves c.disk_left.result c.after_cut.result cut.left), (ap fault_state_left was.2.0 ∙ sym cut.fault_state, omega (arith, was.2.1, cut.left.failures), omega (arith, was.2.2)))
 
 pub returns-clause-exact : goal.returns-clause-exact
 returns-clause-exact c = (c.disk_left.result, c.disk_left.ensures.disk, rw c.choice.ensures at c.after_cut.ensures.exact)

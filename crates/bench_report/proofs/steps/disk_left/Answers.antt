@@ -16,4 +16,4 @@ returns-in-On-clause-told c = λ size b h.
     let board = c.in-On.board in
     let left = c.into_disk.result in
     let device = stays size b (store_fault_state (store_in board)) (fault_state left) (store_facts (store_in board)) (facts left) was.1 c.into_disk.ensures.fault_state (omega (arith, c.into_disk.ensures.failures)) (ap length c.into_disk.ensures.content) in
-    (refl, board_ended size b.medium b.kept b.power board (facts left) was.0 c.into_disk.ensures.up c.into_disk.ensures.down c.into_disk.ensures.allowed, device)
+    (refl, board_ended size b.disk_state b.kept b.power board (facts left) was.0 c.into_disk.ensures.up c.into_disk.ensures.down c.into_disk.ensures.allowed, device)

@@ -13,7 +13,7 @@ returns-in-Ok-clause-told c = λ b h.
     let k = c.kept_disks.ensures in
     let kept : KeptLaw = record { goes_on = k.goes_on; marked = k.marked; one_size = k.one_size; sized = k.sized; opens = k.opens; formats = k.formats } in
     let device = stays c.args.shape.now b (fault_state c.args.disk) (fault_state c.format.new.disk) (facts c.args.disk) (facts c.format.new.disk) h.2 did.cause did.in_order.no_fewer did.in_order.content.head.as_long in
-    formats_ok kept c.args.shape.now b.medium b c.args.disk c.format.new.disk c.says.result h.0 h.1 device c.says.ensures did.ok did.unmarked
+    formats_ok kept c.args.shape.now b.disk_state b c.args.disk c.format.new.disk c.says.result h.0 h.1 device c.says.ensures did.ok did.unmarked
 
 pub returns-in-Err-clause-told : goal.returns-in-Err-clause-told
 returns-in-Err-clause-told c = λ b h.
@@ -23,4 +23,4 @@ returns-in-Err-clause-told c = λ b h.
     let kept : KeptLaw = record { goes_on = k.goes_on; marked = k.marked; one_size = k.one_size; sized = k.sized; opens = k.opens; formats = k.formats } in
     let blank : BlankLaw = record { unmarked = n.unmarked; stands = n.stands; opens = n.opens; formats = n.formats } in
     formats_err kept blank c.args.shape.now b c.args.disk c.format.new.disk c.says-in-Err.result c.in-Err.e h.0 h.2 did.refused (λ has. (did.marked has).0) did.cause did.in_order.no_fewer did.in_order.content.head.as_long
-    (c.says-in-Err.ensures ∙ ap (λ n. says (printed.FormatRefused n)) c.code.ensures) b.medium refl h.1
+    (c.says-in-Err.ensures ∙ ap (λ n. says (printed.FormatRefused n)) c.code.ensures) b.disk_state refl h.1
