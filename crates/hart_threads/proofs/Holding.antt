@@ -9,7 +9,7 @@ use Rattle.board_model.specs.declared.refusal.Refusal.{Refusal}
 use Rattle.board_model.specs.declared.refusal.Refusal.TheVariants.{Down}
 use Rattle.hart.specs.State.{State}
 use Rattle.hsm_words.specs.declared.view.HartView.{HartView}
-use Rattle.hsm_words.specs.declared.view.Deed.TheVariants.{Quieted}
+use Rattle.hsm_words.specs.declared.view.Action.TheVariants.{Quieted}
 use Rattle.hsm_rule.specs.Rule.{HasNoted}
 use Rattle.hsm_steps.specs.Told.{after_quiet}
 use Rattle.store.specs.Follows.{FitsBoard}

@@ -7,7 +7,7 @@ use Rattle.board_model.specs.declared.durable.Reason.{Reason}
 use Rattle.hart.specs.State.{State, answered}
 use Rattle.hsm_words.specs.declared.view.HartView.{HartView}
 use Rattle.hsm_words.specs.declared.view.Stage.TheVariants.{Running}
-use Rattle.hsm_words.specs.declared.view.Deed.TheVariants.{Quieted, Unquieted}
+use Rattle.hsm_words.specs.declared.view.Action.TheVariants.{Quieted, Unquieted}
 use Rattle.hsm_rule.specs.Rule.{HasNoted}
 use Rattle.hsm_steps.specs.Told.{after_quiet}
 use Rattle.sbi_abi.specs.Answers.{error_of}

@@ -7,8 +7,8 @@ use Rattle.tallies.specs.Sums.{total}
 use Rattle.hsm_words.specs.Words.{numbers}
 use Rattle.hsm_words.specs.declared.view.Stage.{Stage}
 use Rattle.hsm_words.specs.declared.view.Stage.TheVariants.{Out, Ready, Addressed, Loaded, Running, Claiming, Half, Stored, Asleep, Quiet}
-use Rattle.hsm_words.specs.declared.view.Deed.{Deed}
-use Rattle.hsm_words.specs.declared.view.Deed.TheVariants.{Claimed, Wrote, Armed, Looked, Read, Entered, Quieted, Unquieted}
+use Rattle.hsm_words.specs.declared.view.Action.{Action}
+use Rattle.hsm_words.specs.declared.view.Action.TheVariants.{Claimed, Wrote, Armed, Looked, Read, Entered, Quieted, Unquieted}
 use Rattle.hsm_words.specs.declared.view.HartView.{HartView}
 use Rattle.hsm_words.specs.declared.view.Crew.{Crew}
 use Rattle.hsm_rule.specs.Rule.{claim_of, entry_of, did, noted, HasNoted, stands}
@@ -18,17 +18,17 @@ use Rattle.hsm.specs.Calls.{state_of, named, is_ready, KeepsOthers}
 use Rattle.hsm.proofs.Stand.{stands_after, stands_other}
 
 -- ---- one more deed
-numbers_noted : (h : ℕ) (st : Stage) (p : ℕ) (x : Deed) (vs : List HartView) → numbers (noted h st p x vs) ≡ numbers vs
+numbers_noted : (h : ℕ) (st : Stage) (p : ℕ) (x : Action) (vs : List HartView) → numbers (noted h st p x vs) ≡ numbers vs
 numbers_noted h st p x [] = refl
 numbers_noted h st p x (v ∷ vs) =
     dite (ℕ_discrete v.hart h)
     (λ hit. rw (eq-eqb v.hart h hit) refl)
     (λ miss. rw (ne_eqb v.hart h miss) (ap (λ (l : List ℕ). v.hart ∷ l) (numbers_noted h st p x vs)))
 
-pub numbered : (h : ℕ) (st : Stage) (x : Deed) (c c' : Crew) → HasNoted h st x c.harts c'.harts → numbers c'.harts ≡ numbers c.harts
+pub numbered : (h : ℕ) (st : Stage) (x : Action) (c c' : Crew) → HasNoted h st x c.harts c'.harts → numbers c'.harts ≡ numbers c.harts
 numbered h st x c c' is = ap numbers is.1 ∙ numbers_noted h st is.0 x c.harts
 
-did_noted : (g : Deed → ℕ) (h : ℕ) (st st' : Stage) (p : ℕ) (x : Deed) (vs : List HartView) → stands h st vs
+did_noted : (g : Action → ℕ) (h : ℕ) (st st' : Stage) (p : ℕ) (x : Action) (vs : List HartView) → stands h st vs
     → total (λ (v : HartView). total g v.deeds) (noted h st' p x vs) ≡ g x + total (λ (v : HartView). total g v.deeds) vs
 did_noted g h st st' p x [] s = absurd s
 did_noted g h st st' p x (v ∷ vs) s =
@@ -54,8 +54,8 @@ stands_once h st st' (v ∷ vs) s t =
 shows_as : (harts : ℕ) (c : Crew) (states states' : ℕ → HartState) → ((k : ℕ) → states' k ≡ states k) → Shows harts c states → Shows harts c states'
 shows_as harts c states states' same shown k lt = subst (λ (x : HartState). IsIn c k x) (sym (same k)) (shown k lt)
 
-module _ (harts h : ℕ) (st st' : Stage) (x : Deed) (c c' : Crew) (is : HasNoted h st' x c.harts c'.harts) (stood : stands h st c.harts) where
-  pub weight : (g : Deed → ℕ) → did g c' ≡ g x + did g c
+module _ (harts h : ℕ) (st st' : Stage) (x : Action) (c c' : Crew) (is : HasNoted h st' x c.harts c'.harts) (stood : stands h st c.harts) where
+  pub weight : (g : Action → ℕ) → did g c' ≡ g x + did g c
   weight g = ap (total (λ (v : HartView). total g v.deeds)) is.1 ∙ did_noted g h st st' is.0 x c.harts stood
 
   pub others : (k : ℕ) (sk : Stage) → k ≢ h → stands k sk c.harts → stands k sk c'.harts
@@ -115,10 +115,10 @@ pub record Goes (h : ℕ) (st : Stage) (c c' : Crew) : Type 0 where
   pub own : stands h st c'.harts
   pub others : KeepsOthers h c.harts c'.harts
 
-pub goes : (harts h : ℕ) (st st' : Stage) (x : Deed) (c c' : Crew) → HasNoted h st' x c.harts c'.harts → stands h st c.harts → Goes h st' c c'
+pub goes : (harts h : ℕ) (st st' : Stage) (x : Action) (c c' : Crew) → HasNoted h st' x c.harts c'.harts → stands h st c.harts → Goes h st' c c'
 goes harts h st st' x c c' is stood = record { own = stands_after h st st' x c c' is stood; others = keeps harts h st st' x c c' is stood }
 
-pub goes_on : (harts h : ℕ) (st st' : Stage) (x : Deed) (c c' c'' : Crew) → Goes h st c c' → HasNoted h st' x c'.harts c''.harts → Goes h st' c c''
+pub goes_on : (harts h : ℕ) (st st' : Stage) (x : Action) (c c' c'' : Crew) → Goes h st c c' → HasNoted h st' x c'.harts c''.harts → Goes h st' c c''
 goes_on harts h st st' x c c' c'' gone is =
     let next = goes harts h st st' x c' c'' is gone.own in record {
       own = next.own;
@@ -318,7 +318,7 @@ start_granted harts h t a o found c c1 c2 c3 c4 is0 is2 is3 is4 clear stood lt t
         (others harts h (Claiming t a o) (Half t a o) (Wrote (1 + 2 * t) a) c1 c2 is2 s1 k sk ne
         (others harts h Running (Claiming t a o) (Claimed t a o found) c c1 is1 stood k sk ne s)))
 
-    weighs : (g : Deed → ℕ) → did g c4 ≡ g (Armed t) + (g (Wrote (2 + 2 * t) o) + (g (Wrote (1 + 2 * t) a) + (g (Claimed t a o found) + did g c)))
+    weighs : (g : Action → ℕ) → did g c4 ≡ g (Armed t) + (g (Wrote (2 + 2 * t) o) + (g (Wrote (1 + 2 * t) a) + (g (Claimed t a o found) + did g c)))
     weighs g =
         let p = weight harts h Running (Claiming t a o) (Claimed t a o found) c c1 is1 stood g in
         let q = weight harts h (Claiming t a o) (Half t a o) (Wrote (1 + 2 * t) a) c1 c2 is2 s1 g in

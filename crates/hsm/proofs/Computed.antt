@@ -7,8 +7,8 @@ use Rattle.tallies.specs.Sums.{total}
 use Rattle.tallies.proofs.Seatings.{map_all}
 use Rattle.hsm_words.specs.declared.view.Stage.{Stage}
 use Rattle.hsm_words.specs.declared.view.Stage.TheVariants.{Out, Ready, Addressed, Loaded, Running, Claiming, Half, Stored, Asleep, Quiet}
-use Rattle.hsm_words.specs.declared.view.Deed.{Deed}
-use Rattle.hsm_words.specs.declared.view.Deed.TheVariants.{Claimed, Wrote, Armed, Looked, Read, Entered, Stopped, Suspended, Woke, Quieted, Unquieted}
+use Rattle.hsm_words.specs.declared.view.Action.{Action}
+use Rattle.hsm_words.specs.declared.view.Action.TheVariants.{Claimed, Wrote, Armed, Looked, Read, Entered, Stopped, Suspended, Woke, Quieted, Unquieted}
 use Rattle.hsm_words.specs.declared.view.HartView.{HartView}
 use Rattle.hsm_words.specs.declared.view.Crew.{Crew}
 use Rattle.hsm_rule.specs.Rule.{claim_of, entry_of, did}
@@ -59,7 +59,7 @@ module _ (h : ℕ) (c : Crew) where
   abbrev pub Weighs : HartState → Type 0
   Weighs x = (a o : ℕ) → did (claim_of h a o) c ≡ did (entry_of h a o) c + awaits x a o
 
-  none_open : (x : HartState) → ((a o : ℕ) → awaits x a o ≡ 0) → Weighs x → (d : Deed) → open_by h c d ≡ None
+  none_open : (x : HartState) → ((a o : ℕ) → awaits x a o ≡ 0) → Weighs x → (d : Action) → open_by h c d ≡ None
   none_open x settled e (Claimed t a o found) =
       let f : nat_lt (did (entry_of h a o) c) (did (claim_of h a o) c) ≡ false = lt_false _ _ (let p = e a o in let q = settled a o in omega arith) in
       dite (ℕ_discrete t h) (λ hit. rw (eq-eqb t h hit, f) refl) (λ miss. rw (ne_eqb t h miss) refl)
@@ -78,7 +78,7 @@ module _ (h : ℕ) (c : Crew) where
   closed x settled e = first_none _ (λ v. first_none (open_by h c) (none_open x settled e) v.deeds) c.harts
 
   module _ (b d : ℕ) (e : Weighs (start_pending b d)) where
-    only : (x : Deed) → (open_by h c x ≡ None) ⊎ (open_by h c x ≡ Some (b, d))
+    only : (x : Action) → (open_by h c x ≡ None) ⊎ (open_by h c x ≡ Some (b, d))
     only (Claimed t a o found) =
         dite (ℕ_discrete t h)
         (λ hit. dite (ℕ_discrete (awaits (start_pending b d) a o) 0)
@@ -100,7 +100,7 @@ module _ (h : ℕ) (c : Crew) where
     only (Unquieted w) = inl refl
 
     -- a claim with these values, where none is open with them, is none
-    weightless : (x : Deed) → open_by h c x ≡ None → claim_of h b d x ≡ 0
+    weightless : (x : Action) → open_by h c x ≡ None → claim_of h b d x ≡ 0
     weightless (Claimed t a o found) none =
         dite (ℕ_discrete t h)
         (λ hit. dite (ℕ_discrete a b)

@@ -4,7 +4,7 @@ use mathlib.Core.Logic.{dite}
 use native.Mathlib.Decide.{ℕ_discrete}
 use Rattle.hsm_words.specs.declared.view.Stage.{Stage}
 use Rattle.hsm_words.specs.declared.view.Stage.TheVariants.{Out, Running, Asleep, Quiet}
-use Rattle.hsm_words.specs.declared.view.Deed.{Deed}
+use Rattle.hsm_words.specs.declared.view.Action.{Action}
 use Rattle.hsm_words.specs.declared.view.HartView.{HartView}
 use Rattle.hsm_words.specs.declared.view.Crew.{Crew}
 use Rattle.hsm_rule.specs.States.{IsSettled}
@@ -13,7 +13,7 @@ use Rattle.hsm.specs.declared.state.State.{State}
 use Rattle.hsm.specs.declared.state.State.TheVariants.{Started, Stopped, StartPending, Suspended}
 use Rattle.hsm.specs.Calls.{stage_of, KeepsAll, IsOwnStatus, StandsBy}
 
-stands_noted : (h : ℕ) (st st' : Stage) (p : ℕ) (x : Deed) (vs : List HartView) → stands h st vs → stands h st' (noted h st' p x vs)
+stands_noted : (h : ℕ) (st st' : Stage) (p : ℕ) (x : Action) (vs : List HartView) → stands h st vs → stands h st' (noted h st' p x vs)
 stands_noted h st st' p x [] s = s
 stands_noted h st st' p x (v ∷ vs) s =
     ⊎_elim
@@ -22,11 +22,11 @@ stands_noted h st st' p x (v ∷ vs) s =
     s
 
 -- after a step whose view is known
-pub stands_after : (h : ℕ) (st st' : Stage) (x : Deed) (c c' : Crew) → HasNoted h st' x c.harts c'.harts → stands h st c.harts → stands h st' c'.harts
+pub stands_after : (h : ℕ) (st st' : Stage) (x : Action) (c c' : Crew) → HasNoted h st' x c.harts c'.harts → stands h st c.harts → stands h st' c'.harts
 stands_after h st st' x c c' is s = subst (stands h st') (sym is.1) (stands_noted h st st' is.0 x c.harts s)
 
 -- another hart of the seat stands as it did
-pub stands_other : (h k : ℕ) (st' st : Stage) (p : ℕ) (x : Deed) (vs : List HartView) → k ≢ h → stands k st vs → stands k st (noted h st' p x vs)
+pub stands_other : (h k : ℕ) (st' st : Stage) (p : ℕ) (x : Action) (vs : List HartView) → k ≢ h → stands k st vs → stands k st (noted h st' p x vs)
 stands_other h k st' st p x [] ne s = s
 stands_other h k st' st p x (v ∷ vs) ne s =
     dite (ℕ_discrete v.hart h)

@@ -2,8 +2,8 @@
 use Rattle.std.specs.Prelude.{◌≡◌, ℕ, List, [], ◌∷◌, ◌==◌, nat_lt, if◌then◌else◌, Option, Some, None, length, map, get_or}
 use Rattle.tallies.specs.Seats.{numbers_from}
 use Rattle.hsm_words.specs.declared.view.Stage.{Stage}
-use Rattle.hsm_words.specs.declared.view.Deed.{Deed}
-use Rattle.hsm_words.specs.declared.view.Deed.TheVariants.{Claimed}
+use Rattle.hsm_words.specs.declared.view.Action.{Action}
+use Rattle.hsm_words.specs.declared.view.Action.TheVariants.{Claimed}
 use Rattle.hsm_words.specs.declared.view.HartView.{HartView}
 use Rattle.hsm_words.specs.declared.view.Crew.{Crew}
 use Rattle.hsm_rule.specs.Rule.{claim_of, entry_of, did}
@@ -20,7 +20,7 @@ first_of f [] = None
 first_of f (x ∷ xs) = or_else (f x) (first_of f xs)
 
 -- what a claim of the hart was for, where more claims than entries are for it
-abbrev pub open_by : ℕ → Crew → Deed → Option (ℕ × ℕ)
+abbrev pub open_by : ℕ → Crew → Action → Option (ℕ × ℕ)
 open_by h c (Claimed t a o found) = if t == h then (if nat_lt (did (entry_of h a o) c) (did (claim_of h a o) c) then Some (a, o) else None) else None
 open_by h c _ = None
 

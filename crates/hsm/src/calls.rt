@@ -7,7 +7,7 @@ ghost use Rattle.hsm_rule.specs.States.{IsStarted, IsSettled, is_stopped, stoppe
 ghost use Rattle.hsm_steps.specs.Told.{after_quiet};
 ghost use Rattle.hsm_steps.specs.Seating.{IsSeatOf, harts_of, crew_of, harts_in};
 ghost use Rattle.hsm_words.specs.declared.view.Stage.TheVariants.{Out, Running, Asleep, Quiet};
-ghost use Rattle.hsm_words.specs.declared.view.Deed.TheVariants.{Looked, Stopped as DidStop, Suspended as DidSuspend, Woke, Quieted, Unquieted};
+ghost use Rattle.hsm_words.specs.declared.view.Action.TheVariants.{Looked, Stopped as DidStop, Suspended as DidSuspend, Woke, Quieted, Unquieted};
 ghost use Rattle.hsm.specs.Calls.{stage_of, Sits, KeepsAll, KeepsOthers, IsOwnStatus, StandsBy, state_of, named, Starts, EntersAs, FindsNone, ActsAlone};
 
 use crate::state::{State, state_in};

@@ -10,7 +10,7 @@ use Rattle.tallies.specs.Logs.{Log, deeds_in, placed, earlier, IsAmong, IsTrueLo
 use Rattle.tallies.proofs.Logs.{Same, More, one_log, newest, found_at, true_of}
 use Rattle.tallies.proofs.Places.{placed_in, one_found}
 use Rattle.hsm_words.specs.Words.{hart_view, crew, board_of}
-use Rattle.hsm_words.specs.declared.view.Deed.{Deed}
+use Rattle.hsm_words.specs.declared.view.Action.{Action}
 use Rattle.hsm_words.specs.declared.view.HartView.{HartView}
 use Rattle.hsm_words.specs.declared.view.Crew.{Crew}
 use Rattle.hsm_rule.specs.Rule.{is_of, seats, Kept, noted, word_of, found_by, left_by, reading, first_word}
@@ -65,7 +65,7 @@ steps_true harts boot s s' kept kept' id h place c st st' x at stood lt_word gro
     let there : get_elem? c'.harts p.k ≡ some new = ap (λ (vs : List HartView). get_elem? vs p.k) written ∙ put_at c.harts p.k old new p.there in
     let mine = kept.entered id c p.k old at p.there in
     let now = kept'.entered id c' p.k new grown there in
-    let more : More h place x l m = (sym now.0 ∙ ap (λ (ds : List Deed). x ∷ ds) mine.0, sym now.1 ∙ ap (λ (ps : List ℕ). place ∷ ps) mine.1) in
+    let more : More h place x l m = (sym now.0 ∙ ap (λ (ds : List Action). x ∷ ds) mine.0, sym now.1 ∙ ap (λ (ps : List ℕ). place ∷ ps) mine.1) in
     let others : (k : ℕ) → k < harts → k ≢ h → Same k l m = λ k lt_k ne. same harts boot s s' kept kept' k lt_k (λ v a. dite (ℕ_discrete a.id id)
     (λ is.
     let it : a.c ≡ c = some-injective a.c c (sym a.seat ∙ (ap (get_elem? s.views) is ∙ at)) in
@@ -75,7 +75,7 @@ steps_true harts boot s s' kept kept' id h place c st st' x at stood lt_word gro
     (λ far. record { id = a.id; c = a.c; i = a.i; seat = still a.id far ∙ a.seat; there = a.there; own = a.own })) in
     let first = first_word boot in
     let new_log = newest harts h place x lt l m (true_of reading first harts l kept.is_true) (true_of reading first harts m kept'.is_true) (more, others) in
-    let truth = subst (λ (n : Log Deed). IsTrueLog reading first harts n) new_log.0 kept'.is_true in (
+    let truth = subst (λ (n : Log Action). IsTrueLog reading first harts n) new_log.0 kept'.is_true in (
       subst (λ (w : ℕ). found_by x w ≡ w) (sym (kept.left (word_of h x) lt_word)) truth.1,
       (λ t lt_t. kept'.left t lt_t ∙ (ap (word_after reading first t) new_log.0 ∙ ap (λ (w : ℕ). if word_of h x == t then left_by h x w else w) (sym (kept.left t lt_t)))),
       new_log.1,
@@ -98,7 +98,7 @@ module _ (harts boot : ℕ) (s : State (Unit {0}) Crew) (kept : Kept harts boot 
   steps_of : (k : ℕ) (v : HartView) → IsAmong (λ (c : Crew). c.harts) s.views v → v.hart ≡ k → placed v.deeds v.places ≡ placed_in k kept.log
   steps_of k v a own =
       let e = kept.entered a.id a.c a.k v a.seat a.there in
-      ap (λ (ds : List Deed). placed ds v.places) e.0 ∙ (ap (placed (deeds_in v.hart kept.log)) e.1 ∙ ap (λ (n : ℕ). placed_in n kept.log) own)
+      ap (λ (ds : List Action). placed ds v.places) e.0 ∙ (ap (placed (deeds_in v.hart kept.log)) e.1 ∙ ap (λ (n : ℕ). placed_in n kept.log) own)
 
 pub earlier_stand : EarlierStepsStand
 earlier_stand harts boot s s' kept kept' p same_before v v' i j x y a a' own got got' word =
@@ -109,6 +109,6 @@ earlier_stand harts boot s s' kept kept' p same_before v v' i j x y a a' own got
     let m = among harts boot s kept k b.0 b.1 in
     let m' = among harts boot s' kept' k b'.0 b'.1 in
     ap (earlier p) (sym (steps_of harts boot s' kept' k b'.0 m' b'.1.own)) ∙ (same_before b.0 b'.0 m m' (b'.1.own ∙ sym b.1.own) ∙ ap (earlier p) (steps_of harts boot s kept k b.0 m b.1.own)))
-    (ap (λ (xs : List (ℕ × Deed)). get_elem? xs i) (sym (steps_of harts boot s kept v.hart v a refl)) ∙ got)
-    (ap (λ (xs : List (ℕ × Deed)). get_elem? xs j) (sym (steps_of harts boot s' kept' v.hart v' a' own)) ∙ got')
+    (ap (λ (xs : List (ℕ × Action)). get_elem? xs i) (sym (steps_of harts boot s kept v.hart v a refl)) ∙ got)
+    (ap (λ (xs : List (ℕ × Action)). get_elem? xs j) (sym (steps_of harts boot s' kept' v.hart v' a' own)) ∙ got')
     word

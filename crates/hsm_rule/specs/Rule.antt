@@ -11,8 +11,8 @@ use Rattle.board_model.specs.Shapes.{IsAddressIn}
 use Rattle.hsm_words.specs.Words.{hart_view, Board, board_of}
 use Rattle.hsm_words.specs.declared.view.Stage.{Stage}
 use Rattle.hsm_words.specs.declared.view.Stage.TheVariants.{Out, Ready, Addressed, Loaded, Running, Claiming, Half, Stored, Asleep, Quiet}
-use Rattle.hsm_words.specs.declared.view.Deed.{Deed}
-use Rattle.hsm_words.specs.declared.view.Deed.TheVariants.{Claimed, Wrote, Armed, Looked, Read, Entered, Stopped, Suspended, Woke, Quieted, Unquieted}
+use Rattle.hsm_words.specs.declared.view.Action.{Action}
+use Rattle.hsm_words.specs.declared.view.Action.TheVariants.{Claimed, Wrote, Armed, Looked, Read, Entered, Stopped, Suspended, Woke, Quieted, Unquieted}
 use Rattle.hsm_words.specs.declared.view.HartView.{HartView}
 use Rattle.hsm_words.specs.declared.view.Crew.{Crew}
 
@@ -30,17 +30,17 @@ granted g t a o = record { address = λ h. if h == t then a else g.address h; op
 
 -- ---- the ledger of starts
 -- 1 for a claim of this triple that found the target unclaimed
-abbrev pub claim_of : ℕ → ℕ → ℕ → Deed → ℕ
+abbrev pub claim_of : ℕ → ℕ → ℕ → Action → ℕ
 claim_of t a o (Claimed t' a' o' found) = if t' == t then (if a' == a then (if o' == o then 1 - bit_at found t else 0) else 0) else 0
 claim_of t a o _ = 0
 
 -- 1 for an entry with this triple
-abbrev pub entry_of : ℕ → ℕ → ℕ → Deed → ℕ
+abbrev pub entry_of : ℕ → ℕ → ℕ → Action → ℕ
 entry_of t a o (Entered h a' o') = if h == t then (if a' == a then (if o' == o then 1 else 0) else 0) else 0
 entry_of t a o _ = 0
 
 -- the weight of all deeds of a seat
-abbrev pub did : (Deed → ℕ) → Crew → ℕ
+abbrev pub did : (Action → ℕ) → Crew → ℕ
 did g c = total (λ (v : HartView). total g v.deeds) c.harts
 
 -- 1 where the target is claimed with this address and opaque value and hasn't entered
@@ -94,13 +94,13 @@ pub record Sound (harts : ℕ) (m : Board) (g : Grants) (views : List Crew) : Ty
 
 -- ---- the deeds as steps
 -- the word in which a deed was
-abbrev pub word_of : ℕ → Deed → ℕ
+abbrev pub word_of : ℕ → Action → ℕ
 word_of h (Wrote i n) = i
 word_of h (Read i found) = i
 word_of h _ = 0
 
 -- what it says that it found there, if it does
-abbrev pub found_by : Deed → ℕ → ℕ
+abbrev pub found_by : Action → ℕ → ℕ
 found_by (Claimed t a o found) word = found
 found_by (Looked found) word = found
 found_by (Read i found) word = found
@@ -116,7 +116,7 @@ abbrev pub bit : ℕ → ℕ
 bit i = 1 * 2 ^ i % 2 ^ 64
 
 -- and what it left there
-abbrev pub left_by : ℕ → Deed → ℕ → ℕ
+abbrev pub left_by : ℕ → Action → ℕ → ℕ
 left_by h (Claimed t a o found) word = bit_or word (bit t)
 left_by h (Wrote i n) word = n
 left_by h (Armed t) word = bit_or word (bit (8 + t))
@@ -126,7 +126,7 @@ left_by h (Suspended found) word = bit_or word (bit (24 + h))
 left_by h (Woke found) word = bit_and word (bit_not w64 (bit (24 + h)))
 left_by h _ word = word
 
-abbrev pub reading : Reading Deed
+abbrev pub reading : Reading Action
 reading = record { word_of = word_of; found_by = found_by; left_by = left_by }
 
 -- the words at the start: one hart is claimed, armed and entered
@@ -134,12 +134,12 @@ abbrev pub first_word : ℕ → ℕ → ℕ
 first_word started t = if t == 0 then bit_or (bit_or (bit started) (bit (8 + started))) (bit (16 + started)) else 0
 
 -- each hart of each seat has just its steps of the log, each with its place
-abbrev pub AreInLog : Log Deed → List Crew → Type 0
+abbrev pub AreInLog : Log Action → List Crew → Type 0
 AreInLog log views = (id : ℕ) (c : Crew) (k : ℕ) (v : HartView) → get_elem? views id ≡ some c → get_elem? c.harts k ≡ some v → IsOfLog log v.hart v.deeds v.places
 
 -- The rule: some grants fit the words and the views, and a log of all steps.
 pub record Kept (harts started : ℕ) (s : State (Unit {0}) Crew) : Type 0 where
-  pub log : Log Deed
+  pub log : Log Action
   pub is_true : IsTrueLog reading (first_word started) harts log
   pub entered : AreInLog log s.views
   pub left : (t : ℕ) → t < 1 + 2 * harts → slice_index s.words t ≡ word_after reading (first_word started) t log
@@ -149,12 +149,12 @@ pub record Kept (harts started : ℕ) (s : State (Unit {0}) Crew) : Type 0 where
   pub sound : Sound harts (board_of s.words) grants s.views
 
 -- ---- one more deed of the hart, which then stands at this stage
-abbrev pub noted : ℕ → Stage → ℕ → Deed → List HartView → List HartView
+abbrev pub noted : ℕ → Stage → ℕ → Action → List HartView → List HartView
 noted h st p x [] = []
 noted h st p x (v ∷ vs) = if v.hart == h then hart_view v.hart st (x ∷ v.deeds) (p ∷ v.places) ∷ vs else v ∷ noted h st p x vs
 
 -- a view that has one more deed of the hart, at whatever place, and nothing else is new
-abbrev pub HasNoted : ℕ → Stage → Deed → List HartView → List HartView → Type 0
+abbrev pub HasNoted : ℕ → Stage → Action → List HartView → List HartView → Type 0
 HasNoted h st x vs vs' = (place : ℕ) × (vs' ≡ noted h st place x vs)
 
 -- the seat has the hart, once, at this stage

@@ -5,7 +5,7 @@ use lib.ListN.{get_elem?}
 use Rattle.atomic_table.specs.Table.{State}
 use Rattle.hsm_words.specs.Words.{crew}
 use Rattle.hsm_words.specs.declared.view.Stage.{Stage}
-use Rattle.hsm_words.specs.declared.view.Deed.{Deed}
+use Rattle.hsm_words.specs.declared.view.Action.{Action}
 use Rattle.tallies.specs.Logs.{placed, earlier, IsAmong}
 use Rattle.hsm_words.specs.declared.view.HartView.{HartView}
 use Rattle.hsm_words.specs.declared.view.Crew.{Crew}
@@ -14,7 +14,7 @@ use Rattle.hsm_rule.specs.Rule.{Kept, noted, stands, word_of, found_by, left_by}
 -- The truth of each step: where a hart of a seat has noted a step, and the other seats are as they were, it found what its word held, changed only that word,
 -- and is the newest of all steps.
 abbrev pub StepsAreTrue : Type 0
-StepsAreTrue = (harts boot : ℕ) (s s' : State (Unit {0}) Crew) (kept : Kept harts boot s) (kept' : Kept harts boot s') (id h place : ℕ) (c : Crew) (st st' : Stage) (x : Deed)
+StepsAreTrue = (harts boot : ℕ) (s s' : State (Unit {0}) Crew) (kept : Kept harts boot s) (kept' : Kept harts boot s') (id h place : ℕ) (c : Crew) (st st' : Stage) (x : Action)
     → get_elem? s.views id ≡ some c → stands h st c.harts → word_of h x < 1 + 2 * harts
     → get_elem? s'.views id ≡ some (crew (noted h st' place x c.harts)) → ((j : ℕ) → j ≢ id → get_elem? s'.views j ≡ get_elem? s.views j)
     → (found_by x (slice_index s.words (word_of h x)) ≡ slice_index s.words (word_of h x))
@@ -26,7 +26,7 @@ StepsAreTrue = (harts boot : ℕ) (s s' : State (Unit {0}) Crew) (kept : Kept ha
 abbrev pub EarlierStepsStand : Type 0
 EarlierStepsStand = (harts boot : ℕ) (s s' : State (Unit {0}) Crew) → Kept harts boot s → Kept harts boot s' → (p : ℕ)
     → ((v v' : HartView) → IsAmong (λ (c : Crew). c.harts) s.views v → IsAmong (λ (c : Crew). c.harts) s'.views v' → v'.hart ≡ v.hart → earlier p (placed v'.deeds v'.places) ≡ earlier p (placed v.deeds v.places))
-    → (v v' : HartView) (i j : ℕ) (x y : Deed) → IsAmong (λ (c : Crew). c.harts) s.views v → IsAmong (λ (c : Crew). c.harts) s'.views v' → v'.hart ≡ v.hart
+    → (v v' : HartView) (i j : ℕ) (x y : Action) → IsAmong (λ (c : Crew). c.harts) s.views v → IsAmong (λ (c : Crew). c.harts) s'.views v' → v'.hart ≡ v.hart
     → get_elem? (placed v.deeds v.places) i ≡ some (p, x) → get_elem? (placed v'.deeds v'.places) j ≡ some (p, y) → word_of v.hart y ≡ word_of v.hart x
     → (w : ℕ) × (found_by x w ≡ w) × (found_by y w ≡ w)
 

@@ -5,8 +5,8 @@ use Rattle.atomic_table.specs.Table.{Me, Step}
 use Rattle.hsm_words.specs.Words.{hart_view, crew}
 use Rattle.hsm_words.specs.declared.view.Stage.{Stage}
 use Rattle.hsm_words.specs.declared.view.Stage.TheVariants.{Out, Ready, Addressed, Loaded, Running, Claiming, Half, Stored, Asleep, Quiet}
-use Rattle.hsm_words.specs.declared.view.Deed.{Deed}
-use Rattle.hsm_words.specs.declared.view.Deed.TheVariants.{Claimed, Wrote, Armed, Looked, Read, Entered, Stopped, Suspended, Woke, Quieted, Unquieted}
+use Rattle.hsm_words.specs.declared.view.Action.{Action}
+use Rattle.hsm_words.specs.declared.view.Action.TheVariants.{Claimed, Wrote, Armed, Looked, Read, Entered, Stopped, Suspended, Woke, Quieted, Unquieted}
 use Rattle.hsm_words.specs.declared.view.HartView.{HartView}
 use Rattle.hsm_words.specs.declared.view.Crew.{Crew}
 use Rattle.hsm_rule.specs.Rule.{IsSite, HasNoted, stands}
@@ -18,7 +18,7 @@ abbrev pub SeatState : Type 0
 SeatState = Me (Unit {0}) Crew
 
 -- the view has one more deed of the hart, and the hart then stands at this stage
-abbrev pub Notes : ℕ → Stage → Deed → SeatState → SeatState → Type 0
+abbrev pub Notes : ℕ → Stage → Action → SeatState → SeatState → Type 0
 Notes h st x m m' = HasNoted h st x m.0.harts m'.0.harts × (m'.1 ≡ m.1)
 
 -- where a hart stands after a claim

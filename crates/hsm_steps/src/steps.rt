@@ -7,7 +7,7 @@ ghost use Rattle.hsm_rule.specs.States.{HartState, IsStarted, IsSettled, Shows, 
 ghost use Rattle.hsm_steps.specs.Told.{after_claim, after_look, Claims, PutsAddress, PutsOpaque, Arms, IsFresh, Looks, LooksOut, ReadsAddress, ReadsOpaque, IsOpenStart, Enters, Stops, Suspends, Wakes, Quiets, Unquiets, Sees, is_alone, after_quiet};
 ghost use Rattle.hsm_steps.specs.Seating.{IsSeatOf, harts_of, crew_of, harts_in};
 ghost use Rattle.hsm_words.specs.declared.view.Stage.TheVariants.{Out, Ready, Addressed, Loaded, Running, Claiming, Half, Stored, Asleep, Quiet};
-ghost use Rattle.hsm_words.specs.declared.view.Deed.TheVariants.{Claimed, Wrote, Armed, Looked, Read, Entered, Stopped, Suspended, Woke, Quieted, Unquieted};
+ghost use Rattle.hsm_words.specs.declared.view.Action.TheVariants.{Claimed, Wrote, Armed, Looked, Read, Entered, Stopped, Suspended, Woke, Quieted, Unquieted};
 
 use crate::table::{Acting, HartSeat, HartTable};
 use atomic_table::Play;

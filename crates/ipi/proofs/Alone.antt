@@ -8,8 +8,8 @@ use Rattle.std.proofs.Math.Pow.{pow_pos, pow-lt}
 use mathlib.Core.Logic.{dite}
 use native.Mathlib.Decide.{ℕ_discrete, dec_le}
 use Rattle.tallies.specs.Sums.{total}
-use Rattle.ipi.specs.declared.view.Deed.{Deed}
-use Rattle.ipi.specs.declared.view.Deed.TheVariants.{Raised, Took, Looked}
+use Rattle.ipi.specs.declared.view.Action.{Action}
+use Rattle.ipi.specs.declared.view.Action.TheVariants.{Raised, Took, Looked}
 use Rattle.ipi.specs.declared.view.Diary.{Diary}
 use Rattle.ipi.specs.declared.view.Crew.{Crew}
 use Rattle.ipi.specs.Ledger.{numbers, crew, raise_of, take_of, raised, taken, is_of, seats, noted, HasNoted, IsWhole, InRange}
@@ -21,10 +21,10 @@ module _ (harts by : ℕ) (c : Crew) (whole : IsWhole harts c) (lt : by < harts)
   sits : 0 < seats by c
   sits = let w = whole by lt in omega arith
 
-  raised_then : (p : ℕ) (x : Deed) (s t : ℕ) → raised s t (crew (noted by p x c.diaries)) ≡ raised s t c + (if by == s then raise_of s t x else 0)
+  raised_then : (p : ℕ) (x : Action) (s t : ℕ) → raised s t (crew (noted by p x c.diaries)) ≡ raised s t c + (if by == s then raise_of s t x else 0)
   raised_then p x s t = weigh_noted s (raise_of s t) by p x c.diaries sits
 
-  taken_then : (p : ℕ) (x : Deed) (s t : ℕ) → taken s t (crew (noted by p x c.diaries)) ≡ taken s t c + (if by == t then take_of s x else 0)
+  taken_then : (p : ℕ) (x : Action) (s t : ℕ) → taken s t (crew (noted by p x c.diaries)) ≡ taken s t c + (if by == t then take_of s x else 0)
   taken_then p x s t = weigh_noted t (take_of s) by p x c.diaries sits
 
 nothing : (b : Bool) → ◌≡◌ {A = ℕ} (if b then 0 else 0) 0
@@ -32,14 +32,14 @@ nothing true = refl
 nothing false = refl
 
 -- ---- the harts of the seat stay
-numbers_noted : (by p : ℕ) (x : Deed) (ds : List Diary) → numbers (noted by p x ds) ≡ numbers ds
+numbers_noted : (by p : ℕ) (x : Action) (ds : List Diary) → numbers (noted by p x ds) ≡ numbers ds
 numbers_noted by p x [] = refl
 numbers_noted by p x (d ∷ ds) =
     dite (ℕ_discrete d.hart by)
     (λ hit. rw (eq-eqb d.hart by hit) refl)
     (λ miss. rw (ne_eqb d.hart by miss) (ap (λ (l : List ℕ). d.hart ∷ l) (numbers_noted by p x ds)))
 
-pub same_harts : (by : ℕ) (x : Deed) (c c' : Crew) → HasNoted by x c.diaries c'.diaries → SameHarts c c'
+pub same_harts : (by : ℕ) (x : Action) (c c' : Crew) → HasNoted by x c.diaries c'.diaries → SameHarts c c'
 same_harts by x c c' is = record {
   harts = ap numbers is.1 ∙ numbers_noted by is.0 x c.diaries;
   each = λ h. ap (total (is_of h)) is.1 ∙ seats_noted h by is.0 x c.diaries;

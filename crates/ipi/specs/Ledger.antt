@@ -6,8 +6,8 @@ use lib.ListN.{get_elem?}
 use Rattle.atomic_table.specs.Table.{State, Me, Step}
 use Rattle.tallies.specs.Sums.{total}
 use Rattle.tallies.specs.Logs.{Log, Reading, IsOfLog, IsTrueLog, word_after}
-use Rattle.ipi.specs.declared.view.Deed.{Deed}
-use Rattle.ipi.specs.declared.view.Deed.TheVariants.{Raised, Took, Looked}
+use Rattle.ipi.specs.declared.view.Action.{Action}
+use Rattle.ipi.specs.declared.view.Action.TheVariants.{Raised, Took, Looked}
 use Rattle.ipi.specs.declared.view.Diary.{Diary}
 use Rattle.ipi.specs.declared.view.Crew.{Crew}
 
@@ -15,20 +15,20 @@ abbrev pub Each : {A : Type 0} → (A → Type 0) → List A → Type 0
 Each P [] = Unit {0}
 Each P (x ∷ xs) = P x × Each P xs
 
-abbrev pub diary : ℕ → List Deed → List ℕ → Diary
+abbrev pub diary : ℕ → List Action → List ℕ → Diary
 diary h ds ps = record { hart = h; deeds = ds; places = ps }
 
 abbrev pub crew : List Diary → Crew
 crew ds = record { diaries = ds }
 
 -- a raise of the target that found the sender's bit clear
-abbrev pub raise_of : ℕ → ℕ → Deed → ℕ
+abbrev pub raise_of : ℕ → ℕ → Action → ℕ
 raise_of sender target (Raised t found) = if t == target then 1 - bit_at found sender else 0
 raise_of sender target (Took found) = 0
 raise_of sender target (Looked found) = 0
 
 -- a take whose answer holds the sender
-abbrev pub take_of : ℕ → Deed → ℕ
+abbrev pub take_of : ℕ → Action → ℕ
 take_of sender (Raised t found) = 0
 take_of sender (Took found) = bit_at found sender
 take_of sender (Looked found) = 0
@@ -53,7 +53,7 @@ abbrev pub seats : ℕ → Crew → ℕ
 seats h c = total (is_of h) c.diaries
 
 -- the hart raised for itself and has not taken since
-abbrev pub owes : ℕ → List Deed → Bool
+abbrev pub owes : ℕ → List Action → Bool
 owes h [] = false
 owes h (Raised t found ∷ ds) = if t == h then true else owes h ds
 owes h (Took found ∷ ds) = false
@@ -64,24 +64,24 @@ IsOwed words d = owes d.hart d.deeds ≡ true → bit_at (slice_index words d.ha
 
 -- ---- the deeds as steps
 -- the hart in whose word a deed of the hart h was
-abbrev pub word_of : ℕ → Deed → ℕ
+abbrev pub word_of : ℕ → Action → ℕ
 word_of h (Raised t found) = t
 word_of h (Took found) = h
 word_of h (Looked found) = h
 
 -- what it says that it found there
-abbrev pub found_by : Deed → ℕ → ℕ
+abbrev pub found_by : Action → ℕ → ℕ
 found_by (Raised t found) word = found
 found_by (Took found) word = found
 found_by (Looked found) word = found
 
 -- and what it left there
-abbrev pub left_by : ℕ → Deed → ℕ → ℕ
+abbrev pub left_by : ℕ → Action → ℕ → ℕ
 left_by h (Raised t found) word = bit_or word (2 ^ h)
 left_by h (Took found) word = 0
 left_by h (Looked found) word = word
 
-abbrev pub reading : Reading Deed
+abbrev pub reading : Reading Action
 reading = record { word_of = word_of; found_by = found_by; left_by = left_by }
 
 -- the words at the start
@@ -89,7 +89,7 @@ abbrev pub first_word : ℕ → ℕ
 first_word t = 0
 
 -- the diary has just the steps of its hart, each with its place
-abbrev pub IsInLog : Log Deed → Diary → Type 0
+abbrev pub IsInLog : Log Action → Diary → Type 0
 IsInLog log d = IsOfLog log d.hart d.deeds d.places
 
 -- The rule. The ledger: the raises that found a pair clear are the takes that answered it, and one more if it is pending.
@@ -101,18 +101,18 @@ pub record Kept (harts : ℕ) (s : State (Unit {0}) Crew) : Type 0 where
   pub once : (h : ℕ) → h < harts → total (seats h) s.views ≡ 1
   pub none_else : (h : ℕ) → harts ≤ h → total (seats h) s.views ≡ 0
   pub owed : (id : ℕ) (c : Crew) → get_elem? s.views id ≡ some c → Each (IsOwed s.words) c.diaries
-  pub log : Log Deed
+  pub log : Log Action
   pub is_true : IsTrueLog reading first_word harts log
   pub entered : (id : ℕ) (c : Crew) → get_elem? s.views id ≡ some c → Each (IsInLog log) c.diaries
   pub left : (t : ℕ) → t < harts → slice_index s.words t ≡ word_after reading first_word t log
 
 -- one more deed of the hart, at its place
-abbrev pub noted : ℕ → ℕ → Deed → List Diary → List Diary
+abbrev pub noted : ℕ → ℕ → Action → List Diary → List Diary
 noted h p x [] = []
 noted h p x (d ∷ ds) = if d.hart == h then diary d.hart (x ∷ d.deeds) (p ∷ d.places) ∷ ds else d ∷ noted h p x ds
 
 -- a view that has one more deed of the hart, at whatever place, and nothing else is new
-abbrev pub HasNoted : ℕ → Deed → List Diary → List Diary → Type 0
+abbrev pub HasNoted : ℕ → Action → List Diary → List Diary → Type 0
 HasNoted h x ds ds' = (place : ℕ) × (ds' ≡ noted h place x ds)
 
 -- what the table keeps of a seat: its view, and the slots that it has taken, of which there are none
@@ -140,7 +140,7 @@ abbrev pub Tells : ℕ → Crew → ℕ → ℕ → Type 0
 Tells harts c target found = IsWhole harts c → (sender : ℕ) → raised sender target c ≡ taken sender target c + bit_at found sender
 
 -- what the hart did
-abbrev pub deeds_of : ℕ → List Diary → List Deed
+abbrev pub deeds_of : ℕ → List Diary → List Action
 deeds_of h [] = []
 deeds_of h (d ∷ ds) = if d.hart == h then d.deeds else deeds_of h ds
 

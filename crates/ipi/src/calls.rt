@@ -6,7 +6,7 @@ ghost use Rattle.ipi.specs.Ledger.{Raises, Takes, Looks, HasNoted, seats, Tells,
 ghost use Rattle.ipi.specs.Pairs.{Sits, SameHarts, ActsAlone, with_pair, without_target};
 ghost use Rattle.ipi.specs.Senders.{Has};
 ghost use Rattle.ipi.specs.Seating.{IsSeatOf, harts_of, crew_of, diaries_in};
-ghost use Rattle.ipi.specs.declared.view.Deed.TheVariants.{Raised, Took, Looked};
+ghost use Rattle.ipi.specs.declared.view.Action.TheVariants.{Raised, Took, Looked};
 
 use crate::senders::SenderSet;
 use crate::table::{Acting, IpiSeat, PendingTable};

@@ -61,14 +61,14 @@ others_rest : (h k : ℕ) (t : Tables) (s s' : Seats) → GivesBack t h s s' →
 others_rest h k t s s' gives ne r = (others_rest_at h k (views s) (views s') gives.others ne r.0, gives.pairs.each k ∙ r.1)
 
 -- what a hart did, as a relation of two moments
-abbrev pub Deed : Type 1
-Deed = Moment → Moment → Type 0
+abbrev pub Action : Type 1
+Action = Moment → Moment → Type 0
 
 -- with the seats of all harts it was done: whatever they show before it, they show what it makes of that
-abbrev pub DoneAlone : Deed → ℕ → State → List ℕ → State → List ℕ → Seats → Seats → Type 0
+abbrev pub DoneAlone : Action → ℕ → State → List ℕ → State → List ℕ → Seats → Seats → Type 0
 DoneAlone Does harts x m y n s s' = (t : TableState) → IsTable harts s t → (t' : TableState) × Does (moment t x m) (moment t' y n) × IsTable harts s' t'
 
-module _ (size : Size) (harts : List State) (t : Tables) (os : Option Seats) (s s' : Seats) (i id : ℕ) (x y : State) (m n : List ℕ) (Does : Deed)
+module _ (size : Size) (harts : List State) (t : Tables) (os : Option Seats) (s s' : Seats) (i id : ℕ) (x y : State) (m n : List ℕ) (Does : Action)
     (one : IsOneList) (set : IsOneSet) (held : IsHeld size harts t os) (taken : os ≡ Some s) (at : i ≡ id) (lt : id < length harts) (read : x ≡ get_or harts id (never_started id))
     (done : DoneAlone Does size.harts x m y n s s') where
   before : AreWhole size.harts t s

@@ -4,13 +4,13 @@ use Rattle.board_model.specs.Shapes.{Size}
 use Rattle.hart.specs.State.{State}
 use Rattle.hsm_words.specs.declared.view.Stage.{Stage}
 use Rattle.hsm_words.specs.declared.view.Stage.TheVariants.{Out, Asleep}
-use Rattle.hsm_words.specs.declared.view.Deed.{Deed}
-use Rattle.hsm_words.specs.declared.view.Deed.TheVariants.{Looked, Stopped as DidStop, Suspended as DidSuspend}
+use Rattle.hsm_words.specs.declared.view.Action.{Action}
+use Rattle.hsm_words.specs.declared.view.Action.TheVariants.{Looked, Stopped as DidStop, Suspended as DidSuspend}
 use Rattle.hsm_rule.specs.Rule.{HasNoted as HartHasNoted}
 use Rattle.hsm.specs.Calls.{code_of, state_of, stage_of, Starts}
 use Rattle.ipi.specs.Ledger.{HasNoted}
 use Rattle.ipi.specs.declared.view.Diary.{Diary}
-use Rattle.ipi.specs.declared.view.Deed.TheVariants.{Raised}
+use Rattle.ipi.specs.declared.view.Action.TheVariants.{Raised}
 use Rattle.sbi_abi.specs.Calls.{call_of}
 use Rattle.sbi_abi.specs.Masks.{Has}
 use Rattle.sbi_calls.specs.declared.requests.Request.TheVariants.{Value, Start, Stop, Status, Suspend, SuspendAfresh, Send, Command}
@@ -22,7 +22,7 @@ use Rattle.sbi_calls.specs.Requests.{Checked, request_of}
 use Rattle.sbi_calls.specs.Answers.{start_answer, Ends}
 
 -- one step of the hart in the hart table
-abbrev pub OneStep : ℕ → Stage → Deed → Known → Known → Type 0
+abbrev pub OneStep : ℕ → Stage → Action → Known → Known → Type 0
 OneStep by st x k k' = HartHasNoted by st x k.harts k'.harts × (k'.pairs ≡ k.pairs)
 
 -- one raise for a target of the set, none for another hart

@@ -6,7 +6,7 @@ use Rattle.board_model.specs.declared.refusal.Refusal.{Refusal}
 use Rattle.hsm.specs.Calls.{KeepsOthers, ActsAlone}
 use Rattle.hsm_words.specs.declared.view.Crew.{Crew}
 use Rattle.hsm_words.specs.declared.view.Stage.TheVariants.{Running}
-use Rattle.hsm_words.specs.declared.view.Deed.TheVariants.{Quieted, Unquieted}
+use Rattle.hsm_words.specs.declared.view.Action.TheVariants.{Quieted, Unquieted}
 use Rattle.hsm_words.specs.declared.view.HartView.{HartView}
 use Rattle.hsm_rule.specs.Rule.{HasNoted}
 use Rattle.hsm_rule.specs.States.{HartState, Shows}

@@ -9,7 +9,7 @@ use Rattle.disk.specs.declared.device.Lane.{Ghosts as Lanes}
 use Rattle.hsm_words.specs.declared.view.Crew.{Crew}
 use Rattle.hsm_words.specs.declared.view.Stage.{Stage}
 use Rattle.hsm_words.specs.declared.view.Stage.TheVariants.{Running, Quiet}
-use Rattle.hsm_words.specs.declared.view.Deed.TheVariants.{Quieted, Unquieted}
+use Rattle.hsm_words.specs.declared.view.Action.TheVariants.{Quieted, Unquieted}
 use Rattle.hsm_words.specs.declared.view.HartView.{HartView}
 use Rattle.hsm_rule.specs.Rule.{HasNoted}
 use Rattle.hsm_rule.specs.States.{HartState, stopped}

@@ -8,12 +8,12 @@ use Rattle.hart.specs.Means.{Steps}
 use Rattle.hart.specs.declared.Outcome.{Outcome}
 use Rattle.hart.specs.declared.Outcome.TheVariants as outcomes
 use Rattle.hsm_words.specs.declared.view.Stage.TheVariants.{Running}
-use Rattle.hsm_words.specs.declared.view.Deed.TheVariants.{Looked, Woke}
+use Rattle.hsm_words.specs.declared.view.Action.TheVariants.{Looked, Woke}
 use Rattle.hsm.specs.Calls.{stage_of, state_of, EntersAs, FindsNone}
 use Rattle.hsm.specs.declared.state.State.{State as Code}
 use Rattle.hsm.specs.declared.state.State.TheVariants as codes
 use Rattle.ipi.specs.Ledger.{HasNoted}
-use Rattle.ipi.specs.declared.view.Deed.TheVariants.{Took, Looked as LookedAt}
+use Rattle.ipi.specs.declared.view.Action.TheVariants.{Took, Looked as LookedAt}
 use Rattle.sbi_calls.specs.declared.endings.After.{After}
 use Rattle.sbi_calls.specs.Both.{Known}
 use Rattle.sbi_calls.specs.Steps.{OneStep, Calls}

@@ -2,7 +2,7 @@ use Rattle.std.proofs.Common.{ℕ, rules, refl, sym, ap, ◌∙◌, subst}
 use mathlib.Core.Logic.{dite}
 use native.Mathlib.Decide.{ℕ_discrete}
 use Rattle.hsm_words.specs.declared.view.Stage.{Stage}
-use Rattle.hsm_words.specs.declared.view.Deed.TheVariants.{Looked}
+use Rattle.hsm_words.specs.declared.view.Action.TheVariants.{Looked}
 use Rattle.hsm_rule.specs.Rule.{stands}
 use Rattle.hsm.specs.Calls.{stage_of, state_of, IsOwnStatus}
 use Rattle.hsm.proofs.Stand.{stands_after, stands_own, stands_stage, stands_by}

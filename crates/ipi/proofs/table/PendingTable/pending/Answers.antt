@@ -1,6 +1,6 @@
 use Rattle.std.proofs.Common.{◌≡◌, ◌↔◌, ◌==◌, ◌<◌, ℕ, not, IsTrue, arith}
 use Rattle.std.specs.Int.{bit_at}
-use Rattle.ipi.specs.declared.view.Deed.TheVariants.{Looked}
+use Rattle.ipi.specs.declared.view.Action.TheVariants.{Looked}
 use Rattle.ipi.proofs.Alone.{same_harts, look_alone, few_senders, some_sender, no_sender, not_zero_of, of_not_zero}
 use Rattle.ipi.proofs.table.PendingTable.pending.Goals as goal
 

@@ -2,7 +2,7 @@ use Rattle.std.proofs.Common.{◌≡◌, ◌/◌, ◌^◌, ◌==◌, bit_and, sy
 use Rattle.std.specs.Int.{bit_at}
 use Rattle.std.proofs.lemmas.Bool.{eqb-true}
 use Rattle.std.proofs.lemmas.Nat.Bits.{shr_and_one}
-use Rattle.ipi.specs.declared.view.Deed.TheVariants.{Raised}
+use Rattle.ipi.specs.declared.view.Action.TheVariants.{Raised}
 use Rattle.ipi.proofs.Alone.{same_harts, raise_alone}
 use Rattle.ipi.proofs.table.PendingTable.raise.Goals as goal
 
