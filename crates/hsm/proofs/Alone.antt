@@ -29,7 +29,7 @@ pub numbered : (h : ℕ) (st : Stage) (x : Action) (c c' : Crew) → HasNoted h 
 numbered h st x c c' is = ap numbers is.1 ∙ numbers_noted h st is.0 x c.harts
 
 did_noted : (g : Action → ℕ) (h : ℕ) (st st' : Stage) (p : ℕ) (x : Action) (vs : List HartView) → stands h st vs
-    → total (λ (v : HartView). total g v.deeds) (noted h st' p x vs) ≡ g x + total (λ (v : HartView). total g v.deeds) vs
+    → total (λ (v : HartView). total g v.actions) (noted h st' p x vs) ≡ g x + total (λ (v : HartView). total g v.actions) vs
 did_noted g h st st' p x [] s = absurd s
 did_noted g h st st' p x (v ∷ vs) s =
     ⊎_elim
@@ -56,7 +56,7 @@ shows_as harts c states states' same shown k lt = subst (λ (x : HartState). IsI
 
 module _ (harts h : ℕ) (st st' : Stage) (x : Action) (c c' : Crew) (is : HasNoted h st' x c.harts c'.harts) (stood : stands h st c.harts) where
   pub weight : (g : Action → ℕ) → did g c' ≡ g x + did g c
-  weight g = ap (total (λ (v : HartView). total g v.deeds)) is.1 ∙ did_noted g h st st' is.0 x c.harts stood
+  weight g = ap (total (λ (v : HartView). total g v.actions)) is.1 ∙ did_noted g h st st' is.0 x c.harts stood
 
   pub others : (k : ℕ) (sk : Stage) → k ≢ h → stands k sk c.harts → stands k sk c'.harts
   others k sk ne s = subst (stands k sk) (sym is.1) (stands_other h k st' sk is.0 x c.harts ne s)

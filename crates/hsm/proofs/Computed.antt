@@ -75,7 +75,7 @@ module _ (h : ℕ) (c : Crew) where
   none_open x settled e (Unquieted w) = refl
 
   pub closed : (x : HartState) → ((a o : ℕ) → awaits x a o ≡ 0) → Weighs x → open_start h c ≡ None
-  closed x settled e = first_none _ (λ v. first_none (open_by h c) (none_open x settled e) v.deeds) c.harts
+  closed x settled e = first_none _ (λ v. first_none (open_by h c) (none_open x settled e) v.actions) c.harts
 
   module _ (b d : ℕ) (e : Weighs (start_pending b d)) where
     only : (x : Action) → (open_by h c x ≡ None) ⊎ (open_by h c x ≡ Some (b, d))
@@ -123,17 +123,17 @@ module _ (h : ℕ) (c : Crew) where
     weightless (Quieted w) none = refl
     weightless (Unquieted w) none = refl
 
-    by_hart : (v : HartView) → (first_of (open_by h c) v.deeds ≡ Some (b, d)) ⊎ ((first_of (open_by h c) v.deeds ≡ None) × (total (claim_of h b d) v.deeds ≡ 0))
-    by_hart v = first_one (open_by h c) (b, d) (claim_of h b d) only weightless v.deeds
+    by_hart : (v : HartView) → (first_of (open_by h c) v.actions ≡ Some (b, d)) ⊎ ((first_of (open_by h c) v.actions ≡ None) × (total (claim_of h b d) v.actions ≡ 0))
+    by_hart v = first_one (open_by h c) (b, d) (claim_of h b d) only weightless v.actions
 
     pub opened : open_start h c ≡ Some (b, d)
     opened =
         ⊎_elim
         (λ (s : open_start h c ≡ Some (b, d)). s)
         (λ (z : (open_start h c ≡ None) × (did (claim_of h b d) c ≡ 0)). absurd (let w = e b d in let one = awaits_own b d in let n = z.1 in omega arith))
-        (first_one (λ (v : HartView). first_of (open_by h c) v.deeds) (b, d) (λ (v : HartView). total (claim_of h b d) v.deeds)
-        (λ v. ⊎_elim (λ (s : first_of (open_by h c) v.deeds ≡ Some (b, d)). inr s) (λ (z : (first_of (open_by h c) v.deeds ≡ None) × (total (claim_of h b d) v.deeds ≡ 0)). inl z.0) (by_hart v))
-        (λ v none. ⊎_elim (λ (s : first_of (open_by h c) v.deeds ≡ Some (b, d)). absurd (let z : ◌≡◌ {A = Option (ℕ × ℕ)} (Some (b, d)) None = sym s ∙ none in let n : ⊥ = cc in n)) (λ (z : (first_of (open_by h c) v.deeds ≡ None) × (total (claim_of h b d) v.deeds ≡ 0)). z.1) (by_hart v))
+        (first_one (λ (v : HartView). first_of (open_by h c) v.actions) (b, d) (λ (v : HartView). total (claim_of h b d) v.actions)
+        (λ v. ⊎_elim (λ (s : first_of (open_by h c) v.actions ≡ Some (b, d)). inr s) (λ (z : (first_of (open_by h c) v.actions ≡ None) × (total (claim_of h b d) v.actions ≡ 0)). inl z.0) (by_hart v))
+        (λ v none. ⊎_elim (λ (s : first_of (open_by h c) v.actions ≡ Some (b, d)). absurd (let z : ◌≡◌ {A = Option (ℕ × ℕ)} (Some (b, d)) None = sym s ∙ none in let n : ⊥ = cc in n)) (λ (z : (first_of (open_by h c) v.actions ≡ None) × (total (claim_of h b d) v.actions ≡ 0)). z.1) (by_hart v))
         c.harts)
 
 at_running : (st : Stage) (start : Option (ℕ × ℕ)) → is_running st ≡ true → state_at st start ≡ started

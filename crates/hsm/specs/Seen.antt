@@ -26,7 +26,7 @@ open_by h c _ = None
 
 -- the start that the hart has not entered yet
 abbrev pub open_start : ℕ → Crew → Option (ℕ × ℕ)
-open_start h c = first_of (λ (v : HartView). first_of (open_by h c) v.deeds) c.harts
+open_start h c = first_of (λ (v : HartView). first_of (open_by h c) v.actions) c.harts
 
 abbrev pub outside : Option (ℕ × ℕ) → HartState
 outside None = stopped

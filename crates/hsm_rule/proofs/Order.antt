@@ -6,7 +6,7 @@ use native.Mathlib.Decide.{ℕ_discrete}
 use lib.ListN.{get_elem?}
 use Rattle.atomic_table.specs.Table.{State}
 use Rattle.atomic_table.proofs.Lists.{set_else}
-use Rattle.tallies.specs.Logs.{Log, deeds_in, placed, earlier, IsAmong, IsTrueLog, word_after}
+use Rattle.tallies.specs.Logs.{Log, actions_in, placed, earlier, IsAmong, IsTrueLog, word_after}
 use Rattle.tallies.proofs.Logs.{Same, More, one_log, newest, found_at, true_of}
 use Rattle.tallies.proofs.Places.{placed_in, one_found}
 use Rattle.hsm_words.specs.Words.{hart_view, crew, board_of}
@@ -58,8 +58,8 @@ steps_true harts boot s s' kept kept' id h place c st st' x at stood lt_word gro
     let m = kept'.log in
     let p = find h st c.harts stood in
     let lt : h < harts = under_board harts (board_of s.words) kept.grants s.views kept.sound id c at h st p in
-    let old = hart_view h st p.deeds p.places in
-    let new = hart_view h st' (x ∷ p.deeds) (place ∷ p.places) in
+    let old = hart_view h st p.actions p.places in
+    let new = hart_view h st' (x ∷ p.actions) (place ∷ p.places) in
     let c' = crew (noted h st' place x c.harts) in
     let written : c'.harts ≡ set c.harts p.k new = p.then_noted st' place x in
     let there : get_elem? c'.harts p.k ≡ some new = ap (λ (vs : List HartView). get_elem? vs p.k) written ∙ put_at c.harts p.k old new p.there in
@@ -95,10 +95,10 @@ module _ (harts boot : ℕ) (s : State (Unit {0}) Crew) (kept : Kept harts boot 
   among k v a = record { id = a.id; c = a.c; k = a.i; seat = a.seat; there = a.there }
 
   -- the steps of a hart are those of the log
-  steps_of : (k : ℕ) (v : HartView) → IsAmong (λ (c : Crew). c.harts) s.views v → v.hart ≡ k → placed v.deeds v.places ≡ placed_in k kept.log
+  steps_of : (k : ℕ) (v : HartView) → IsAmong (λ (c : Crew). c.harts) s.views v → v.hart ≡ k → placed v.actions v.places ≡ placed_in k kept.log
   steps_of k v a own =
       let e = kept.entered a.id a.c a.k v a.seat a.there in
-      ap (λ (ds : List Action). placed ds v.places) e.0 ∙ (ap (placed (deeds_in v.hart kept.log)) e.1 ∙ ap (λ (n : ℕ). placed_in n kept.log) own)
+      ap (λ (ds : List Action). placed ds v.places) e.0 ∙ (ap (placed (actions_in v.hart kept.log)) e.1 ∙ ap (λ (n : ℕ). placed_in n kept.log) own)
 
 pub earlier_stand : EarlierStepsStand
 earlier_stand harts boot s s' kept kept' p same_before v v' i j x y a a' own got got' word =

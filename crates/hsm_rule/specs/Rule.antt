@@ -39,9 +39,9 @@ abbrev pub entry_of : ℕ → ℕ → ℕ → Action → ℕ
 entry_of t a o (Entered h a' o') = if h == t then (if a' == a then (if o' == o then 1 else 0) else 0) else 0
 entry_of t a o _ = 0
 
--- the weight of all deeds of a seat
+-- the weight of all actions of a seat
 abbrev pub did : (Action → ℕ) → Crew → ℕ
-did g c = total (λ (v : HartView). total g v.deeds) c.harts
+did g c = total (λ (v : HartView). total g v.actions) c.harts
 
 -- 1 where the target is claimed with this address and opaque value and hasn't entered
 abbrev pub is_pending : Board → Grants → ℕ → ℕ → ℕ → ℕ
@@ -92,7 +92,7 @@ pub record Sound (harts : ℕ) (m : Board) (g : Grants) (views : List Crew) : Ty
   pub none_else : (h : ℕ) → harts ≤ h → total (seats h) views ≡ 0
   pub fits : (id : ℕ) (c : Crew) (k : ℕ) (v : HartView) → get_elem? views id ≡ some c → get_elem? c.harts k ≡ some v → Fits harts m g v.hart v.stage
 
--- ---- the deeds as steps
+-- ---- the actions as steps
 -- the word in which a deed was
 abbrev pub word_of : ℕ → Action → ℕ
 word_of h (Wrote i n) = i
@@ -135,7 +135,7 @@ first_word started t = if t == 0 then bit_or (bit_or (bit started) (bit (8 + sta
 
 -- each hart of each seat has just its steps of the log, each with its place
 abbrev pub AreInLog : Log Action → List Crew → Type 0
-AreInLog log views = (id : ℕ) (c : Crew) (k : ℕ) (v : HartView) → get_elem? views id ≡ some c → get_elem? c.harts k ≡ some v → IsOfLog log v.hart v.deeds v.places
+AreInLog log views = (id : ℕ) (c : Crew) (k : ℕ) (v : HartView) → get_elem? views id ≡ some c → get_elem? c.harts k ≡ some v → IsOfLog log v.hart v.actions v.places
 
 -- The rule: some grants fit the words and the views, and a log of all steps.
 pub record Kept (harts started : ℕ) (s : State (Unit {0}) Crew) : Type 0 where
@@ -151,7 +151,7 @@ pub record Kept (harts started : ℕ) (s : State (Unit {0}) Crew) : Type 0 where
 -- ---- one more deed of the hart, which then stands at this stage
 abbrev pub noted : ℕ → Stage → ℕ → Action → List HartView → List HartView
 noted h st p x [] = []
-noted h st p x (v ∷ vs) = if v.hart == h then hart_view v.hart st (x ∷ v.deeds) (p ∷ v.places) ∷ vs else v ∷ noted h st p x vs
+noted h st p x (v ∷ vs) = if v.hart == h then hart_view v.hart st (x ∷ v.actions) (p ∷ v.places) ∷ vs else v ∷ noted h st p x vs
 
 -- a view that has one more deed of the hart, at whatever place, and nothing else is new
 abbrev pub HasNoted : ℕ → Stage → Action → List HartView → List HartView → Type 0

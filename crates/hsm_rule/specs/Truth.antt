@@ -25,9 +25,9 @@ StepsAreTrue = (harts boot : ℕ) (s s' : State (Unit {0}) Crew) (kept : Kept ha
 -- word, then both found what that word held.
 abbrev pub EarlierStepsStand : Type 0
 EarlierStepsStand = (harts boot : ℕ) (s s' : State (Unit {0}) Crew) → Kept harts boot s → Kept harts boot s' → (p : ℕ)
-    → ((v v' : HartView) → IsAmong (λ (c : Crew). c.harts) s.views v → IsAmong (λ (c : Crew). c.harts) s'.views v' → v'.hart ≡ v.hart → earlier p (placed v'.deeds v'.places) ≡ earlier p (placed v.deeds v.places))
+    → ((v v' : HartView) → IsAmong (λ (c : Crew). c.harts) s.views v → IsAmong (λ (c : Crew). c.harts) s'.views v' → v'.hart ≡ v.hart → earlier p (placed v'.actions v'.places) ≡ earlier p (placed v.actions v.places))
     → (v v' : HartView) (i j : ℕ) (x y : Action) → IsAmong (λ (c : Crew). c.harts) s.views v → IsAmong (λ (c : Crew). c.harts) s'.views v' → v'.hart ≡ v.hart
-    → get_elem? (placed v.deeds v.places) i ≡ some (p, x) → get_elem? (placed v'.deeds v'.places) j ≡ some (p, y) → word_of v.hart y ≡ word_of v.hart x
+    → get_elem? (placed v.actions v.places) i ≡ some (p, x) → get_elem? (placed v'.actions v'.places) j ≡ some (p, y) → word_of v.hart y ≡ word_of v.hart x
     → (w : ℕ) × (found_by x w ≡ w) × (found_by y w ≡ w)
 
 -- What no seat noted changed nothing.

@@ -16,7 +16,7 @@ Each P [] = Unit {0}
 Each P (x ∷ xs) = P x × Each P xs
 
 abbrev pub diary : ℕ → List Action → List ℕ → Diary
-diary h ds ps = record { hart = h; deeds = ds; places = ps }
+diary h ds ps = record { hart = h; actions = ds; places = ps }
 
 abbrev pub crew : List Diary → Crew
 crew ds = record { diaries = ds }
@@ -34,10 +34,10 @@ take_of sender (Took found) = bit_at found sender
 take_of sender (Looked found) = 0
 
 abbrev pub raised_by : ℕ → ℕ → Diary → ℕ
-raised_by sender target d = if d.hart == sender then total (raise_of sender target) d.deeds else 0
+raised_by sender target d = if d.hart == sender then total (raise_of sender target) d.actions else 0
 
 abbrev pub taken_by : ℕ → ℕ → Diary → ℕ
-taken_by sender target d = if d.hart == target then total (take_of sender) d.deeds else 0
+taken_by sender target d = if d.hart == target then total (take_of sender) d.actions else 0
 
 abbrev pub raised : ℕ → ℕ → Crew → ℕ
 raised sender target c = total (raised_by sender target) c.diaries
@@ -60,9 +60,9 @@ owes h (Took found ∷ ds) = false
 owes h (Looked found ∷ ds) = owes h ds
 
 abbrev pub IsOwed : List ℕ → Diary → Type 0
-IsOwed words d = owes d.hart d.deeds ≡ true → bit_at (slice_index words d.hart) d.hart ≡ 1
+IsOwed words d = owes d.hart d.actions ≡ true → bit_at (slice_index words d.hart) d.hart ≡ 1
 
--- ---- the deeds as steps
+-- ---- the actions as steps
 -- the hart in whose word a deed of the hart h was
 abbrev pub word_of : ℕ → Action → ℕ
 word_of h (Raised t found) = t
@@ -90,7 +90,7 @@ first_word t = 0
 
 -- the diary has just the steps of its hart, each with its place
 abbrev pub IsInLog : Log Action → Diary → Type 0
-IsInLog log d = IsOfLog log d.hart d.deeds d.places
+IsInLog log d = IsOfLog log d.hart d.actions d.places
 
 -- The rule. The ledger: the raises that found a pair clear are the takes that answered it, and one more if it is pending.
 -- The log: all steps in their order, the newest first, which the diaries fix, since each diary has the steps of its hart with their places.
@@ -109,7 +109,7 @@ pub record Kept (harts : ℕ) (s : State (Unit {0}) Crew) : Type 0 where
 -- one more deed of the hart, at its place
 abbrev pub noted : ℕ → ℕ → Action → List Diary → List Diary
 noted h p x [] = []
-noted h p x (d ∷ ds) = if d.hart == h then diary d.hart (x ∷ d.deeds) (p ∷ d.places) ∷ ds else d ∷ noted h p x ds
+noted h p x (d ∷ ds) = if d.hart == h then diary d.hart (x ∷ d.actions) (p ∷ d.places) ∷ ds else d ∷ noted h p x ds
 
 -- a view that has one more deed of the hart, at whatever place, and nothing else is new
 abbrev pub HasNoted : ℕ → Action → List Diary → List Diary → Type 0
@@ -140,13 +140,13 @@ abbrev pub Tells : ℕ → Crew → ℕ → ℕ → Type 0
 Tells harts c target found = IsWhole harts c → (sender : ℕ) → raised sender target c ≡ taken sender target c + bit_at found sender
 
 -- what the hart did
-abbrev pub deeds_of : ℕ → List Diary → List Action
-deeds_of h [] = []
-deeds_of h (d ∷ ds) = if d.hart == h then d.deeds else deeds_of h ds
+abbrev pub actions_of : ℕ → List Diary → List Action
+actions_of h [] = []
+actions_of h (d ∷ ds) = if d.hart == h then d.actions else actions_of h ds
 
 -- the hart of the seat raised for itself and has not taken since
 abbrev pub IsOwing : ℕ → Crew → Type 0
-IsOwing h c = owes h (deeds_of h c.diaries) ≡ true
+IsOwing h c = owes h (actions_of h c.diaries) ≡ true
 
 -- Freshness: then the word of the hart has its own bit
 abbrev pub OwnsUp : Crew → ℕ → ℕ → Type 0

@@ -5,7 +5,7 @@ use mathlib.Core.Logic.{dite}
 use mathlib.Core.Option.{some, some-injective, some-ne-none}
 use native.Mathlib.Decide.{ℕ_discrete, dec_le}
 use lib.ListN.{get_elem?}
-use Rattle.tallies.specs.Logs.{Log, Reading, deeds_in, places_in, placed, earlier, word_after, IsTrueLog}
+use Rattle.tallies.specs.Logs.{Log, Reading, actions_in, places_in, placed, earlier, word_after, IsTrueLog}
 use Rattle.tallies.proofs.Logs.{Same, AreOf, one_log, true_of}
 
 lt_true : (m n : ℕ) → m < n → nat_lt m n ≡ true
@@ -29,14 +29,14 @@ module _ {D : Type 0} where
 
   -- the steps of a hart in a log, each with its place
   abbrev pub placed_in : ℕ → Log D → List (ℕ × D)
-  placed_in k l = placed (deeds_in k l) (places_in k l)
+  placed_in k l = placed (actions_in k l) (places_in k l)
 
-  deeds_back : (k : ℕ) (l : Log D) → map (λ (x : ℕ × D). x.1) (placed_in k l) ≡ deeds_in k l
-  deeds_back k [] = refl
-  deeds_back k (e ∷ l) =
+  actions_back : (k : ℕ) (l : Log D) → map (λ (x : ℕ × D). x.1) (placed_in k l) ≡ actions_in k l
+  actions_back k [] = refl
+  actions_back k (e ∷ l) =
       dite (ℕ_discrete e.0 k)
-      (λ hit. rw (eq-eqb e.0 k hit) (ap (λ (ds : List D). e.1 ∷ ds) (deeds_back k l)))
-      (λ miss. rw (ne_eqb e.0 k miss) (deeds_back k l))
+      (λ hit. rw (eq-eqb e.0 k hit) (ap (λ (ds : List D). e.1 ∷ ds) (actions_back k l)))
+      (λ miss. rw (ne_eqb e.0 k miss) (actions_back k l))
 
   places_back : (k : ℕ) (l : Log D) → map (λ (x : ℕ × D). x.0) (placed_in k l) ≡ places_in k l
   places_back k [] = refl
@@ -68,7 +68,7 @@ module _ {D : Type 0} where
   same_before : (k p : ℕ) (l m : Log D) → earlier p (placed_in k m) ≡ earlier p (placed_in k l) → Same k (before p l) (before p m)
   same_before k p l m same =
       let e : placed_in k (before p m) ≡ placed_in k (before p l) = sym (earlier_before k p m) ∙ (same ∙ earlier_before k p l) in (
-        sym (deeds_back k (before p m)) ∙ (ap (map (λ (x : ℕ × D). x.1)) e ∙ deeds_back k (before p l)),
+        sym (actions_back k (before p m)) ∙ (ap (map (λ (x : ℕ × D). x.1)) e ∙ actions_back k (before p l)),
         sym (places_back k (before p m)) ∙ (ap (map (λ (x : ℕ × D). x.0)) e ∙ places_back k (before p l)),
       )
 
