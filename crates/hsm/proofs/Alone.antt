@@ -17,7 +17,7 @@ use Rattle.hsm_steps.specs.Told.{after_claim, after_look, after_quiet, is_alone,
 use Rattle.hsm.specs.Calls.{state_of, named, is_ready, KeepsOthers}
 use Rattle.hsm.proofs.Stand.{stands_after, stands_other}
 
--- ---- one more deed
+-- ---- one more action
 numbers_noted : (h : ℕ) (st : Stage) (p : ℕ) (x : Action) (vs : List HartView) → numbers (noted h st p x vs) ≡ numbers vs
 numbers_noted h st p x [] = refl
 numbers_noted h st p x (v ∷ vs) =

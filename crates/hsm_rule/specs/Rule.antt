@@ -93,7 +93,7 @@ pub record Sound (harts : ℕ) (m : Board) (g : Grants) (views : List Crew) : Ty
   pub fits : (id : ℕ) (c : Crew) (k : ℕ) (v : HartView) → get_elem? views id ≡ some c → get_elem? c.harts k ≡ some v → Fits harts m g v.hart v.stage
 
 -- ---- the actions as steps
--- the word in which a deed was
+-- the word in which an action was
 abbrev pub word_of : ℕ → Action → ℕ
 word_of h (Wrote i n) = i
 word_of h (Read i found) = i
@@ -148,12 +148,12 @@ pub record Kept (harts started : ℕ) (s : State (Unit {0}) Crew) : Type 0 where
   pub sites : (h : ℕ) → IsSite (grants.address h)
   pub sound : Sound harts (board_of s.words) grants s.views
 
--- ---- one more deed of the hart, which then stands at this stage
+-- ---- one more action of the hart, which then stands at this stage
 abbrev pub noted : ℕ → Stage → ℕ → Action → List HartView → List HartView
 noted h st p x [] = []
 noted h st p x (v ∷ vs) = if v.hart == h then hart_view v.hart st (x ∷ v.actions) (p ∷ v.places) ∷ vs else v ∷ noted h st p x vs
 
--- a view that has one more deed of the hart, at whatever place, and nothing else is new
+-- a view that has one more action of the hart, at whatever place, and nothing else is new
 abbrev pub HasNoted : ℕ → Stage → Action → List HartView → List HartView → Type 0
 HasNoted h st x vs vs' = (place : ℕ) × (vs' ≡ noted h st place x vs)
 

@@ -17,7 +17,7 @@ use Rattle.hsm_rule.specs.States.{HartState, stopped, start_pending, started, Is
 abbrev pub SeatState : Type 0
 SeatState = Me (Unit {0}) Crew
 
--- the view has one more deed of the hart, and the hart then stands at this stage
+-- the view has one more action of the hart, and the hart then stands at this stage
 abbrev pub Notes : ℕ → Stage → Action → SeatState → SeatState → Type 0
 Notes h st x m m' = HasNoted h st x m.0.harts m'.0.harts × (m'.1 ≡ m.1)
 

@@ -63,7 +63,7 @@ abbrev pub IsOwed : List ℕ → Diary → Type 0
 IsOwed words d = owes d.hart d.actions ≡ true → bit_at (slice_index words d.hart) d.hart ≡ 1
 
 -- ---- the actions as steps
--- the hart in whose word a deed of the hart h was
+-- the hart in whose word an action of the hart h was
 abbrev pub word_of : ℕ → Action → ℕ
 word_of h (Raised t found) = t
 word_of h (Took found) = h
@@ -106,12 +106,12 @@ pub record Kept (harts : ℕ) (s : State (Unit {0}) Crew) : Type 0 where
   pub entered : (id : ℕ) (c : Crew) → get_elem? s.views id ≡ some c → Each (IsInLog log) c.diaries
   pub left : (t : ℕ) → t < harts → slice_index s.words t ≡ word_after reading first_word t log
 
--- one more deed of the hart, at its place
+-- one more action of the hart, at its place
 abbrev pub noted : ℕ → ℕ → Action → List Diary → List Diary
 noted h p x [] = []
 noted h p x (d ∷ ds) = if d.hart == h then diary d.hart (x ∷ d.actions) (p ∷ d.places) ∷ ds else d ∷ noted h p x ds
 
--- a view that has one more deed of the hart, at whatever place, and nothing else is new
+-- a view that has one more action of the hart, at whatever place, and nothing else is new
 abbrev pub HasNoted : ℕ → Action → List Diary → List Diary → Type 0
 HasNoted h x ds ds' = (place : ℕ) × (ds' ≡ noted h place x ds)
 

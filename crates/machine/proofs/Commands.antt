@@ -73,6 +73,6 @@ module _ {D L : Type 0} {g : Ghosts D L} {l : Lanes L} where
   held_then n m memory call s t a b c old new held e did still =
       subst (λ (k : ℕ). HeldAlone k memory call s t a c old new held) e (λ x are. let r = did x are in (r.0, still x r.1))
 
-  pub held_deed : (size : Size) (memory : List ℕ) (s t : State) (a b : Seats) (old new : Store D L g l) (held : Held) → HeldAlone size.harts memory (call_of s) s t a b old new held
+  pub held_action : (size : Size) (memory : List ℕ) (s t : State) (a b : Seats) (old new : Store D L g l) (held : Held) → HeldAlone size.harts memory (call_of s) s t a b old new held
       → DoneAlone (λ x y. HeldOf size x y old new held) size.harts s memory t memory a b
-  held_deed size memory s t a b old new held did x are = let r = did x are in (x, (r.0, refl, refl), r.1)
+  held_action size memory s t a b old new held did x are = let r = did x are in (x, (r.0, refl, refl), r.1)

@@ -4,7 +4,7 @@ use Rattle.machine.specs.Machine.{Machine}
 use Rattle.machine.specs.Durables.{IsStarted, HeldOf, MakesCall}
 use Rattle.machine.specs.Held.{shown_by}
 use Rattle.machine.proofs.Holding.{read_at, made, held_after}
-use Rattle.machine.proofs.Commands.{started_acts, held_deed}
+use Rattle.machine.proofs.Commands.{started_acts, held_action}
 use Rattle.machine.proofs.machine.Machine.make_call.Goals as goal
 
 pub make_held-seats-requires-clause-acts : goal.make_held-seats-requires-clause-acts
@@ -24,7 +24,7 @@ invariant_of-self g c =
     held_after i.shape i.harts.items i.tables i.seats c.unwrap-seats.result c.make_held-seats.result.0 c.index.result c.args.id c.index_mut.result.now c.make_held-seats.new.hart i.ram i.ram
     (λ a b. HeldOf i.shape a b c.args.store.now c.make_held-seats.new.store c.make_held-seats.result.1)
     c.one_table.ensures.list c.one_set.ensures.list c.self.invariant (sym c.take.ensures.value ∙ c.unwrap-seats.ensures) c.index.ensures.value lt read
-    (held_deed i.shape i.ram c.index_mut.result.now c.make_held-seats.new.hart c.unwrap-seats.result c.make_held-seats.result.0 c.args.store.now c.make_held-seats.new.store c.make_held-seats.result.1 e.alone)
+    (held_action i.shape i.ram c.index_mut.result.now c.make_held-seats.new.hart c.unwrap-seats.result c.make_held-seats.result.0 c.args.store.now c.make_held-seats.new.store c.make_held-seats.result.1 e.alone)
     e.id e.gives (inr (inl e.acts.0), e.acts.1)
 
 pub returns-clause-makes : goal.returns-clause-makes
@@ -38,4 +38,4 @@ returns-clause-makes g c =
     (made i.shape i.harts.items i.tables i.seats c.unwrap-seats.result c.make_held-seats.result.0 c.index.result c.args.id c.index_mut.result.now c.make_held-seats.new.hart i.ram i.ram
     (λ a b. HeldOf i.shape a b c.args.store.now c.make_held-seats.new.store c.make_held-seats.result.1)
     c.one_table.ensures.list c.one_set.ensures.list c.self.invariant (sym c.take.ensures.value ∙ c.unwrap-seats.ensures) c.index.ensures.value lt read
-    (held_deed i.shape i.ram c.index_mut.result.now c.make_held-seats.new.hart c.unwrap-seats.result c.make_held-seats.result.0 c.args.store.now c.make_held-seats.new.store c.make_held-seats.result.1 e.alone))
+    (held_action i.shape i.ram c.index_mut.result.now c.make_held-seats.new.hart c.unwrap-seats.result c.make_held-seats.result.0 c.args.store.now c.make_held-seats.new.store c.make_held-seats.result.1 e.alone))
