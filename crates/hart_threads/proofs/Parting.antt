@@ -14,7 +14,7 @@ use Rattle.hsm_rule.specs.Rule.{stands}
 use Rattle.ipi.specs.Seating as pairs
 use Rattle.ipi.specs.Pairs.{Sits}
 use Rattle.ipi.specs.declared.view.Crew.{Crew as PairCrew}
-use Rattle.ipi.specs.declared.view.Diary.{Diary}
+use Rattle.ipi.specs.declared.view.PendingView.{PendingView}
 use Rattle.machine.specs.Held.{AreNumbered, IsHeld}
 use Rattle.sbi_calls.specs.Both.{harts_of, views, diaries}
 use Rattle.sbi_calls.specs.declared.tables.Seats.{Seats}
@@ -126,7 +126,7 @@ all_left t size left s starts raises held starts_are stages by_seat raises_are s
     let whole = held.seats in
     let long : length left ≡ harts_of t = held.long ∙ sym held.tables in
     let views_long : length (views s) ≡ harts_of t = length_all (λ (v : HartView). v.hart) (views s) 0 (harts_of t) whole.all.0 in
-    let diaries_long : length (diaries s) ≡ pairs.harts_of t.pending = length_all (λ (d : Diary). d.hart) (diaries s) 0 (pairs.harts_of t.pending) whole.all.1 in
+    let diaries_long : length (diaries s) ≡ pairs.harts_of t.pending = length_all (λ (d : PendingView). d.hart) (diaries s) 0 (pairs.harts_of t.pending) whole.all.1 in
     let starts_long : length starts ≡ harts_of t = long_as harts.harts_in starts (views s) by_seat ∙ views_long in
     let raises_long : length raises ≡ harts_of t = long_as pairs.diaries_in raises (diaries s) by_diary ∙ (diaries_long ∙ t.same) in
     record {

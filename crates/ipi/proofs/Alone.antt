@@ -10,7 +10,7 @@ use native.Mathlib.Decide.{ℕ_discrete, dec_le}
 use Rattle.tallies.specs.Sums.{total}
 use Rattle.ipi.specs.declared.view.Action.{Action}
 use Rattle.ipi.specs.declared.view.Action.TheVariants.{Raised, Took, Looked}
-use Rattle.ipi.specs.declared.view.Diary.{Diary}
+use Rattle.ipi.specs.declared.view.PendingView.{PendingView}
 use Rattle.ipi.specs.declared.view.Crew.{Crew}
 use Rattle.ipi.specs.Ledger.{numbers, crew, raise_of, take_of, raised, taken, is_of, seats, noted, HasNoted, IsWhole, InRange}
 use Rattle.ipi.specs.Pairs.{IsPending, SameHarts, Shows, with_pair, without_target}
@@ -32,7 +32,7 @@ nothing true = refl
 nothing false = refl
 
 -- ---- the harts of the seat stay
-numbers_noted : (by p : ℕ) (x : Action) (ds : List Diary) → numbers (noted by p x ds) ≡ numbers ds
+numbers_noted : (by p : ℕ) (x : Action) (ds : List PendingView) → numbers (noted by p x ds) ≡ numbers ds
 numbers_noted by p x [] = refl
 numbers_noted by p x (d ∷ ds) =
     dite (ℕ_discrete d.hart by)

@@ -8,7 +8,7 @@ use mathlib.Core.Logic.{dite}
 use native.Mathlib.Decide.{ℕ_discrete}
 use Rattle.tallies.specs.Seats.{numbers_from}
 use Rattle.tallies.proofs.Seatings.{map_all, at_all, total_beyond, total_once}
-use Rattle.ipi.specs.declared.view.Diary.{Diary}
+use Rattle.ipi.specs.declared.view.PendingView.{PendingView}
 use Rattle.ipi.specs.declared.view.Crew.{Crew}
 use Rattle.ipi.specs.Ledger.{numbers, is_of, raised_by, raised, taken, IsWhole}
 use Rattle.ipi.specs.Pairs.{IsPending, Shows, with_pair, without_target}
@@ -39,7 +39,7 @@ shows_seen harts c whole = (whole, (λ s t. lt_told (taken s t c) (raised s t c)
 
 pub in_range : (harts : ℕ) (c : Crew) → numbers c.diaries ≡ numbers_from 0 harts → (sender target : ℕ) → harts ≤ sender → pair_in c sender target ≡ false
 in_range harts c all s t le =
-    let none : raised s t c ≡ 0 = total_beyond (λ (d : Diary). d.hart) (raised_by s t) s harts c.diaries (λ d ne. rw (ne_eqb d.hart s ne) refl) all le in
+    let none : raised s t c ≡ 0 = total_beyond (λ (d : PendingView). d.hart) (raised_by s t) s harts c.diaries (λ d ne. rw (ne_eqb d.hart s ne) refl) all le in
     lt_false (taken s t c) (raised s t c) (omega arith)
 
 -- ---- the pairs as a list
@@ -116,4 +116,4 @@ one_less harts c target pairs rows lt shown =
 
 -- a seat of every hart, in the order of their numbers, has each once
 pub whole_of : (harts : ℕ) (c : Crew) → numbers c.diaries ≡ numbers_from 0 harts → IsWhole harts c
-whole_of harts c all h lt = total_once (λ (d : Diary). d.hart) (is_of h) h (λ d e. rw (eq-eqb d.hart h e) refl) (λ d ne. rw (ne_eqb d.hart h ne) refl) c.diaries harts all lt
+whole_of harts c all h lt = total_once (λ (d : PendingView). d.hart) (is_of h) h (λ d e. rw (eq-eqb d.hart h e) refl) (λ d ne. rw (ne_eqb d.hart h ne) refl) c.diaries harts all lt

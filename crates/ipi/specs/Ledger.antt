@@ -8,17 +8,17 @@ use Rattle.tallies.specs.Sums.{total}
 use Rattle.tallies.specs.Logs.{Log, Reading, IsOfLog, IsTrueLog, word_after}
 use Rattle.ipi.specs.declared.view.Action.{Action}
 use Rattle.ipi.specs.declared.view.Action.TheVariants.{Raised, Took, Looked}
-use Rattle.ipi.specs.declared.view.Diary.{Diary}
+use Rattle.ipi.specs.declared.view.PendingView.{PendingView}
 use Rattle.ipi.specs.declared.view.Crew.{Crew}
 
 abbrev pub Each : {A : Type 0} → (A → Type 0) → List A → Type 0
 Each P [] = Unit {0}
 Each P (x ∷ xs) = P x × Each P xs
 
-abbrev pub diary : ℕ → List Action → List ℕ → Diary
+abbrev pub diary : ℕ → List Action → List ℕ → PendingView
 diary h ds ps = record { hart = h; actions = ds; places = ps }
 
-abbrev pub crew : List Diary → Crew
+abbrev pub crew : List PendingView → Crew
 crew ds = record { diaries = ds }
 
 -- a raise of the target that found the sender's bit clear
@@ -33,10 +33,10 @@ take_of sender (Raised t found) = 0
 take_of sender (Took found) = bit_at found sender
 take_of sender (Looked found) = 0
 
-abbrev pub raised_by : ℕ → ℕ → Diary → ℕ
+abbrev pub raised_by : ℕ → ℕ → PendingView → ℕ
 raised_by sender target d = if d.hart == sender then total (raise_of sender target) d.actions else 0
 
-abbrev pub taken_by : ℕ → ℕ → Diary → ℕ
+abbrev pub taken_by : ℕ → ℕ → PendingView → ℕ
 taken_by sender target d = if d.hart == target then total (take_of sender) d.actions else 0
 
 abbrev pub raised : ℕ → ℕ → Crew → ℕ
@@ -45,7 +45,7 @@ raised sender target c = total (raised_by sender target) c.diaries
 abbrev pub taken : ℕ → ℕ → Crew → ℕ
 taken sender target c = total (taken_by sender target) c.diaries
 
-abbrev pub is_of : ℕ → Diary → ℕ
+abbrev pub is_of : ℕ → PendingView → ℕ
 is_of h d = if d.hart == h then 1 else 0
 
 -- how often the hart is in the seat
@@ -59,7 +59,7 @@ owes h (Raised t found ∷ ds) = if t == h then true else owes h ds
 owes h (Took found ∷ ds) = false
 owes h (Looked found ∷ ds) = owes h ds
 
-abbrev pub IsOwed : List ℕ → Diary → Type 0
+abbrev pub IsOwed : List ℕ → PendingView → Type 0
 IsOwed words d = owes d.hart d.actions ≡ true → bit_at (slice_index words d.hart) d.hart ≡ 1
 
 -- ---- the actions as steps
@@ -89,7 +89,7 @@ abbrev pub first_word : ℕ → ℕ
 first_word t = 0
 
 -- the diary has just the steps of its hart, each with its place
-abbrev pub IsInLog : Log Action → Diary → Type 0
+abbrev pub IsInLog : Log Action → PendingView → Type 0
 IsInLog log d = IsOfLog log d.hart d.actions d.places
 
 -- The rule. The ledger: the raises that found a pair clear are the takes that answered it, and one more if it is pending.
@@ -107,12 +107,12 @@ pub record Kept (harts : ℕ) (s : State (Unit {0}) Crew) : Type 0 where
   pub left : (t : ℕ) → t < harts → slice_index s.words t ≡ word_after reading first_word t log
 
 -- one more action of the hart, at its place
-abbrev pub noted : ℕ → ℕ → Action → List Diary → List Diary
+abbrev pub noted : ℕ → ℕ → Action → List PendingView → List PendingView
 noted h p x [] = []
 noted h p x (d ∷ ds) = if d.hart == h then diary d.hart (x ∷ d.actions) (p ∷ d.places) ∷ ds else d ∷ noted h p x ds
 
 -- a view that has one more action of the hart, at whatever place, and nothing else is new
-abbrev pub HasNoted : ℕ → Action → List Diary → List Diary → Type 0
+abbrev pub HasNoted : ℕ → Action → List PendingView → List PendingView → Type 0
 HasNoted h x ds ds' = (place : ℕ) × (ds' ≡ noted h place x ds)
 
 -- what the table keeps of a seat: its view, and the slots that it has taken, of which there are none
@@ -120,11 +120,11 @@ abbrev pub SeatState : Type 0
 SeatState = Me (Unit {0}) Crew
 
 -- the numbers of the harts, in the order of the list
-abbrev pub numbers : List Diary → List ℕ
+abbrev pub numbers : List PendingView → List ℕ
 numbers = map (λ d. d.hart)
 
 -- no step yet
-abbrev pub fresh_from : ℕ → ℕ → List Diary
+abbrev pub fresh_from : ℕ → ℕ → List PendingView
 fresh_from first zero = []
 fresh_from first (suc n) = diary first [] [] ∷ fresh_from (suc first) n
 
@@ -140,7 +140,7 @@ abbrev pub Tells : ℕ → Crew → ℕ → ℕ → Type 0
 Tells harts c target found = IsWhole harts c → (sender : ℕ) → raised sender target c ≡ taken sender target c + bit_at found sender
 
 -- what the hart did
-abbrev pub actions_of : ℕ → List Diary → List Action
+abbrev pub actions_of : ℕ → List PendingView → List Action
 actions_of h [] = []
 actions_of h (d ∷ ds) = if d.hart == h then d.actions else actions_of h ds
 

@@ -3,7 +3,7 @@ use Rattle.std.specs.Prelude.{◌≡◌, ℕ, List, [], Option, Some, slice_get}
 use Rattle.atomic_table.specs.declared.shared.Seat.{Seat}
 use Rattle.tallies.specs.Seats.{numbers_from, AreSeats, views_by_seat, all_views, AreByNumber}
 use Rattle.ipi.specs.Ledger.{numbers, seats}
-use Rattle.ipi.specs.declared.view.Diary.{Diary}
+use Rattle.ipi.specs.declared.view.PendingView.{PendingView}
 use Rattle.ipi.specs.declared.view.Crew.{Crew}
 use Rattle.ipi.specs.declared.table.PendingTable.{PendingTable}
 pub use Rattle.tallies.specs.Seats.{one_by_one}
@@ -21,7 +21,7 @@ abbrev pub crew_of : Seat (Unit {0}) Crew → Crew
 crew_of s = s.me.0
 
 -- the harts of the seat, each with its steps
-abbrev pub diaries_in : Seat (Unit {0}) Crew → List Diary
+abbrev pub diaries_in : Seat (Unit {0}) Crew → List PendingView
 diaries_in s = s.me.0.diaries
 
 -- the seat has every hart of the table, in the order of their numbers
@@ -41,9 +41,9 @@ abbrev pub AreSeatsOf : PendingTable → List (Option (Seat (Unit {0}) Crew)) �
 AreSeatsOf t = AreSeats (IsSeatOf t)
 
 -- the harts of each seat of a list
-abbrev pub diaries_by_seat : List (Option (Seat (Unit {0}) Crew)) → List (List Diary)
+abbrev pub diaries_by_seat : List (Option (Seat (Unit {0}) Crew)) → List (List PendingView)
 diaries_by_seat = views_by_seat diaries_in
 
 -- the harts of all seats of a list
-abbrev pub all_diaries : List (Option (Seat (Unit {0}) Crew)) → List Diary
+abbrev pub all_diaries : List (Option (Seat (Unit {0}) Crew)) → List PendingView
 all_diaries = all_views diaries_in

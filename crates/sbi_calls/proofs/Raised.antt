@@ -7,7 +7,7 @@ use mathlib.Core.Logic.{dite}
 use native.Mathlib.Decide.{ℕ_discrete}
 use Rattle.tallies.proofs.Seatings.{map_all}
 use Rattle.ipi.specs.declared.view.Crew.{Crew}
-use Rattle.ipi.specs.declared.view.Diary.{Diary}
+use Rattle.ipi.specs.declared.view.PendingView.{PendingView}
 use Rattle.ipi.specs.Pairs.{SameHarts}
 use Rattle.ipi.specs.Seen.{ArePairs, row_of}
 use Rattle.sbi_calls.specs.Answers.{row_sent, pairs_sent, pairs_to}
@@ -76,7 +76,7 @@ sent_next n by set k target before c c' at so raised =
     subst (λ (j : ℕ). Sent n by set j before c') e
     (λ pairs are. subst (λ (j : ℕ). ArePairs n c' (pairs_to by set j (sent_below by set k pairs))) at (raised (sent_below by set k pairs) (so pairs are)))
 
-pub sends_next : (by set k target : ℕ) (ds mid ds' : List Diary) → target ≡ k → Sends by set k ds mid → SendsTo by set target mid ds' → Sends by set (k + 1) ds ds'
+pub sends_next : (by set k target : ℕ) (ds mid ds' : List PendingView) → target ≡ k → Sends by set k ds mid → SendsTo by set target mid ds' → Sends by set (k + 1) ds ds'
 sends_next by set k target ds mid ds' at so sends =
     let e : suc k ≡ k + 1 = omega arith in
     subst (λ (j : ℕ). Sends by set j ds ds') e (mid, so, subst (λ (j : ℕ). SendsTo by set j mid ds') at sends)

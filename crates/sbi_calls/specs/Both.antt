@@ -12,7 +12,7 @@ use Rattle.hsm.specs.Seen.{AreStates}
 use Rattle.ipi.specs.Seating as pairs
 use Rattle.ipi.specs.Pairs.{Sits, SameHarts}
 use Rattle.ipi.specs.Seen.{ArePairs}
-use Rattle.ipi.specs.declared.view.Diary.{Diary}
+use Rattle.ipi.specs.declared.view.PendingView.{PendingView}
 use Rattle.ipi.specs.declared.view.Crew.{Crew as PairCrew}
 use Rattle.sbi_calls.specs.declared.tables.Tables.{Tables}
 use Rattle.sbi_calls.specs.declared.tables.Seats.{Seats}
@@ -39,7 +39,7 @@ views s = harts.harts_in s.harts
 abbrev pub crew : Seats → HartCrew
 crew s = harts.crew_of s.harts
 
-abbrev pub diaries : Seats → List Diary
+abbrev pub diaries : Seats → List PendingView
 diaries s = pairs.diaries_in s.pending
 
 abbrev pub pair_crew : Seats → PairCrew
@@ -47,7 +47,7 @@ pair_crew s = pairs.crew_of s.pending
 
 pub record Known : Type 0 where
   pub harts : List HartView
-  pub pairs : List Diary
+  pub pairs : List PendingView
 
 abbrev pub known : Seats → Known
 known s = record { harts = views s; pairs = diaries s }

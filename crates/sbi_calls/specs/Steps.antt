@@ -9,7 +9,7 @@ use Rattle.hsm_words.specs.declared.view.Action.TheVariants.{Looked, Stopped as 
 use Rattle.hsm_rule.specs.Rule.{HasNoted as HartHasNoted}
 use Rattle.hsm.specs.Calls.{code_of, state_of, stage_of, Starts}
 use Rattle.ipi.specs.Ledger.{HasNoted}
-use Rattle.ipi.specs.declared.view.Diary.{Diary}
+use Rattle.ipi.specs.declared.view.PendingView.{PendingView}
 use Rattle.ipi.specs.declared.view.Action.TheVariants.{Raised}
 use Rattle.sbi_abi.specs.Calls.{call_of}
 use Rattle.sbi_abi.specs.Masks.{Has}
@@ -26,15 +26,15 @@ abbrev pub OneStep : ℕ → Stage → Action → Known → Known → Type 0
 OneStep by st x k k' = HartHasNoted by st x k.harts k'.harts × (k'.pairs ≡ k.pairs)
 
 -- one raise for a target of the set, none for another hart
-abbrev pub SendsTo : ℕ → ℕ → ℕ → List Diary → List Diary → Type 0
+abbrev pub SendsTo : ℕ → ℕ → ℕ → List PendingView → List PendingView → Type 0
 SendsTo by targets target ds ds' =
     (Has target targets → (found : ℕ) × HasNoted by (Raised target found) ds ds')
     × ((Has target targets → ⊥) → ds' ≡ ds)
 
 -- one raise for each target of the set below n, in rising order
-abbrev pub Sends : ℕ → ℕ → ℕ → List Diary → List Diary → Type 0
+abbrev pub Sends : ℕ → ℕ → ℕ → List PendingView → List PendingView → Type 0
 Sends by targets zero ds ds' = ds' ≡ ds
-Sends by targets (suc n) ds ds' = (mid : List Diary) × Sends by targets n ds mid × SendsTo by targets n mid ds'
+Sends by targets (suc n) ds ds' = (mid : List PendingView) × Sends by targets n ds mid × SendsTo by targets n mid ds'
 
 -- on a board of so many harts
 abbrev pub Does : ℕ → ℕ → Checked → Known → Known → Ending → Type 0

@@ -3,19 +3,19 @@ use Rattle.std.proofs.Common.{◌≡◌, ℕ, ◌+◌, ◌<◌, List, [], ◌∷
 use Rattle.std.proofs.lemmas.List.{map-append, take-append-drop}
 use Rattle.tallies.specs.Sums.{total}
 use Rattle.tallies.proofs.Totals.{total-append}
-use Rattle.ipi.specs.declared.view.Diary.{Diary}
+use Rattle.ipi.specs.declared.view.PendingView.{PendingView}
 use Rattle.ipi.specs.declared.view.Crew.{Crew}
 use Rattle.ipi.specs.Ledger.{numbers, is_of, seats, first_hart, other_harts, together}
 use Rattle.ipi.specs.Pairs.{SameHarts}
 use Rattle.table_tests.specs.Crowd.{AreFrom}
 
 -- a seat of the first hart alone has it
-pub sits_alone : (first : ℕ) (ds : List Diary) → AreFrom first ds → length ds ≡ 1 → total (is_of first) ds ≡ 1
+pub sits_alone : (first : ℕ) (ds : List PendingView) → AreFrom first ds → length ds ≡ 1 → total (is_of first) ds ≡ 1
 sits_alone first [] row one = absurd (omega arith)
 sits_alone first (d ∷ []) row one = let e : is_of first d ≡ 1 = rw (eq-eqb d.hart first row.0) refl in omega arith
 sits_alone first (d ∷ e ∷ ds) row one = absurd (omega arith)
 
-pub sits_first : (first : ℕ) (ds : List Diary) → AreFrom first ds → 0 < length ds → total (is_of first) (take 1 ds) ≡ 1
+pub sits_first : (first : ℕ) (ds : List PendingView) → AreFrom first ds → 0 < length ds → total (is_of first) (take 1 ds) ≡ 1
 sits_first first [] row pos = absurd (omega arith)
 sits_first first (d ∷ ds) row pos = let e : is_of first d ≡ 1 = rw (eq-eqb d.hart first row.0) refl in omega arith
 
@@ -24,10 +24,10 @@ pub same_whole : (c one others one' others' c' : Crew) → one ≡ first_hart c 
 same_whole c one others one' others' c' is_one is_others same more is = record {
   harts =
       ap (λ (d : Crew). numbers d.diaries) is
-      ∙ (map-append (λ (d : Diary). d.hart) one'.diaries others'.diaries
+      ∙ (map-append (λ (d : PendingView). d.hart) one'.diaries others'.diaries
       ∙ (ap (λ (l : List ℕ). l ++ numbers others'.diaries) (same.harts ∙ ap (λ (d : Crew). numbers d.diaries) is_one)
       ∙ (ap (λ (l : List ℕ). numbers (take 1 c.diaries) ++ l) (more.harts ∙ ap (λ (d : Crew). numbers d.diaries) is_others)
-      ∙ (sym (map-append (λ (d : Diary). d.hart) (take 1 c.diaries) (drop 1 c.diaries)) ∙ ap numbers (take-append-drop 1 c.diaries)))));
+      ∙ (sym (map-append (λ (d : PendingView). d.hart) (take 1 c.diaries) (drop 1 c.diaries)) ∙ ap numbers (take-append-drop 1 c.diaries)))));
   each = λ h.
       ap (seats h) is
       ∙ (total-append (is_of h) one'.diaries others'.diaries
@@ -35,7 +35,7 @@ same_whole c one others one' others' c' is_one is_others same more is = record {
       let r : total (is_of h) one.diaries + total (is_of h) others.diaries ≡ total (is_of h) c.diaries =
       ap (λ (d : Crew). total (is_of h) d.diaries + total (is_of h) others.diaries) is_one
       ∙ (ap (λ (d : Crew). total (is_of h) (take 1 c.diaries) + total (is_of h) d.diaries) is_others
-      ∙ (sym (total-append (is_of h) (take 1 c.diaries) (drop 1 c.diaries)) ∙ ap (λ (ds : List Diary). total (is_of h) ds) (take-append-drop 1 c.diaries))) in
+      ∙ (sym (total-append (is_of h) (take 1 c.diaries) (drop 1 c.diaries)) ∙ ap (λ (ds : List PendingView). total (is_of h) ds) (take-append-drop 1 c.diaries))) in
       omega arith));
 }
 
