@@ -21,11 +21,11 @@ module _ (harts by : ℕ) (c : Crew) (whole : IsWhole harts c) (lt : by < harts)
   sits : 0 < seats by c
   sits = let w = whole by lt in omega arith
 
-  raised_then : (p : ℕ) (x : Action) (s t : ℕ) → raised s t (crew (noted by p x c.diaries)) ≡ raised s t c + (if by == s then raise_of s t x else 0)
-  raised_then p x s t = weigh_noted s (raise_of s t) by p x c.diaries sits
+  raised_then : (p : ℕ) (x : Action) (s t : ℕ) → raised s t (crew (noted by p x c.pending_views)) ≡ raised s t c + (if by == s then raise_of s t x else 0)
+  raised_then p x s t = weigh_noted s (raise_of s t) by p x c.pending_views sits
 
-  taken_then : (p : ℕ) (x : Action) (s t : ℕ) → taken s t (crew (noted by p x c.diaries)) ≡ taken s t c + (if by == t then take_of s x else 0)
-  taken_then p x s t = weigh_noted t (take_of s) by p x c.diaries sits
+  taken_then : (p : ℕ) (x : Action) (s t : ℕ) → taken s t (crew (noted by p x c.pending_views)) ≡ taken s t c + (if by == t then take_of s x else 0)
+  taken_then p x s t = weigh_noted t (take_of s) by p x c.pending_views sits
 
 nothing : (b : Bool) → ◌≡◌ {A = ℕ} (if b then 0 else 0) 0
 nothing true = refl
@@ -39,10 +39,10 @@ numbers_noted by p x (d ∷ ds) =
     (λ hit. rw (eq-eqb d.hart by hit) refl)
     (λ miss. rw (ne_eqb d.hart by miss) (ap (λ (l : List ℕ). d.hart ∷ l) (numbers_noted by p x ds)))
 
-pub same_harts : (by : ℕ) (x : Action) (c c' : Crew) → HasNoted by x c.diaries c'.diaries → SameHarts c c'
+pub same_harts : (by : ℕ) (x : Action) (c c' : Crew) → HasNoted by x c.pending_views c'.pending_views → SameHarts c c'
 same_harts by x c c' is = record {
-  harts = ap numbers is.1 ∙ numbers_noted by is.0 x c.diaries;
-  each = λ h. ap (total (is_of h)) is.1 ∙ seats_noted h by is.0 x c.diaries;
+  harts = ap numbers is.1 ∙ numbers_noted by is.0 x c.pending_views;
+  each = λ h. ap (total (is_of h)) is.1 ∙ seats_noted h by is.0 x c.pending_views;
 }
 
 whole_still : (harts : ℕ) (c c' : Crew) → SameHarts c c' → IsWhole harts c → IsWhole harts c'
@@ -63,7 +63,7 @@ is_not false true e = refl
 is_not false false e = e.1 (λ f. true≢false (sym f))
 
 -- ---- raise
-module _ (harts by target found : ℕ) (c c' : Crew) (whole : IsWhole harts c) (lt : by < harts) (is : HasNoted by (Raised target found) c.diaries c'.diaries) (tells : raised by target c ≡ taken by target c + bit_at found by) where
+module _ (harts by target found : ℕ) (c c' : Crew) (whole : IsWhole harts c) (lt : by < harts) (is : HasNoted by (Raised target found) c.pending_views c'.pending_views) (tells : raised by target c ≡ taken by target c + bit_at found by) where
   newly : (bit_at found by ≡ 0) ↔ (IsPending c by target → ⊥)
   newly = let bit = bit_at-lt found by in (
     (λ z p. omega arith),
@@ -83,7 +83,7 @@ module _ (harts by target found : ℕ) (c c' : Crew) (whole : IsWhole harts c) (
       here : (found s t : ℕ) → s ≡ by → t ≡ target → (if by == s then raise_of s t (Raised target found) else 0) ≡ 1 - bit_at found s
       here found s t e f = rw (eq-eqb by s (sym e), eq-eqb target t (sym f)) refl
 
-      pairs : (found : ℕ) → raised by target c ≡ taken by target c + bit_at found by → (s t : ℕ) → IsPending (crew (noted by is.0 (Raised target found) c.diaries)) s t ↔ (IsPending c s t ⊎ ((s ≡ by) × (t ≡ target)))
+      pairs : (found : ℕ) → raised by target c ≡ taken by target c + bit_at found by → (s t : ℕ) → IsPending (crew (noted by is.0 (Raised target found) c.pending_views)) s t ↔ (IsPending c s t ⊎ ((s ≡ by) × (t ≡ target)))
       pairs found tells s t =
           let up = raised_then harts by c whole lt is.0 (Raised target found) s t in
           let same = taken_then harts by c whole lt is.0 (Raised target found) s t in
@@ -120,14 +120,14 @@ module _ (harts by target found : ℕ) (c c' : Crew) (whole : IsWhole harts c) (
           ((λ p. r.1 (inl (old.0 (sym it ∙ p)))), (λ q. it ∙ old.1 (⊎_elim (λ (p : IsPending c s t). p) (λ (x : (s ≡ by) × (t ≡ target)). absurd (n x.0)) (r.0 q)))))
 
 -- ---- take
-module _ (harts by found : ℕ) (c c' : Crew) (whole : IsWhole harts c) (lt : by < harts) (is : HasNoted by (Took found) c.diaries c'.diaries) (tells : (sender : ℕ) → raised sender by c ≡ taken sender by c + bit_at found sender) where
+module _ (harts by found : ℕ) (c c' : Crew) (whole : IsWhole harts c) (lt : by < harts) (is : HasNoted by (Took found) c.pending_views c'.pending_views) (tells : (sender : ℕ) → raised sender by c ≡ taken sender by c + bit_at found sender) where
   found_pairs : (s : ℕ) → Has s found ↔ IsPending c s by
   found_pairs s = let e = tells s in let bit = bit_at-lt found s in ((λ one. omega arith), (λ p. omega arith))
 
   taken_pairs : (s t : ℕ) → IsPending c' s t ↔ (IsPending c s t × (t ≢ by))
   taken_pairs s t = subst (λ (d : Crew). IsPending d s t ↔ (IsPending c s t × (t ≢ by))) (sym (ap crew is.1)) (pairs s (tells s) t)
     where
-      pairs : (s : ℕ) → raised s by c ≡ taken s by c + bit_at found s → (t : ℕ) → IsPending (crew (noted by is.0 (Took found) c.diaries)) s t ↔ (IsPending c s t × (t ≢ by))
+      pairs : (s : ℕ) → raised s by c ≡ taken s by c + bit_at found s → (t : ℕ) → IsPending (crew (noted by is.0 (Took found) c.pending_views)) s t ↔ (IsPending c s t × (t ≢ by))
       pairs s tells t =
           let same = raised_then harts by c whole lt is.0 (Took found) s t in
           let up = taken_then harts by c whole lt is.0 (Took found) s t in
@@ -163,7 +163,7 @@ some_sender found small ne = let b = bit_at-trailing_zeros w64 found (omega arit
 pub no_sender : (found s : ℕ) → bit_at found s ≡ 1 → found ≢ 0
 no_sender found s one z = let e = ap (λ (n : ℕ). bit_at n s) z in let n = bit_at-zero s in omega arith
 
-module _ (harts by found : ℕ) (c c' : Crew) (whole : IsWhole harts c) (lt : by < harts) (is : HasNoted by (Looked found) c.diaries c'.diaries) (tells : (sender : ℕ) → raised sender by c ≡ taken sender by c + bit_at found sender) where
+module _ (harts by found : ℕ) (c c' : Crew) (whole : IsWhole harts c) (lt : by < harts) (is : HasNoted by (Looked found) c.pending_views c'.pending_views) (tells : (sender : ℕ) → raised sender by c ≡ taken sender by c + bit_at found sender) where
   looked_pairs : (s t : ℕ) → IsPending c' s t ↔ IsPending c s t
   looked_pairs s t = subst (λ (d : Crew). IsPending d s t ↔ IsPending c s t) (sym (ap crew is.1))
       (let p = raised_then harts by c whole lt is.0 (Looked found) s t in

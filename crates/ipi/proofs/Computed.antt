@@ -37,9 +37,9 @@ one_set harts c pairs shown s t =
 pub shows_seen : (harts : ℕ) (c : Crew) → IsWhole harts c → Shows harts c (pair_in c)
 shows_seen harts c whole = (whole, (λ s t. lt_told (taken s t c) (raised s t c)))
 
-pub in_range : (harts : ℕ) (c : Crew) → numbers c.diaries ≡ numbers_from 0 harts → (sender target : ℕ) → harts ≤ sender → pair_in c sender target ≡ false
+pub in_range : (harts : ℕ) (c : Crew) → numbers c.pending_views ≡ numbers_from 0 harts → (sender target : ℕ) → harts ≤ sender → pair_in c sender target ≡ false
 in_range harts c all s t le =
-    let none : raised s t c ≡ 0 = total_beyond (λ (d : PendingView). d.hart) (raised_by s t) s harts c.diaries (λ d ne. rw (ne_eqb d.hart s ne) refl) all le in
+    let none : raised s t c ≡ 0 = total_beyond (λ (d : PendingView). d.hart) (raised_by s t) s harts c.pending_views (λ d ne. rw (ne_eqb d.hart s ne) refl) all le in
     lt_false (taken s t c) (raised s t c) (omega arith)
 
 -- ---- the pairs as a list
@@ -115,5 +115,5 @@ one_less harts c target pairs rows lt shown =
     )
 
 -- a seat of every hart, in the order of their numbers, has each once
-pub whole_of : (harts : ℕ) (c : Crew) → numbers c.diaries ≡ numbers_from 0 harts → IsWhole harts c
-whole_of harts c all h lt = total_once (λ (d : PendingView). d.hart) (is_of h) h (λ d e. rw (eq-eqb d.hart h e) refl) (λ d ne. rw (ne_eqb d.hart h ne) refl) c.diaries harts all lt
+pub whole_of : (harts : ℕ) (c : Crew) → numbers c.pending_views ≡ numbers_from 0 harts → IsWhole harts c
+whole_of harts c all h lt = total_once (λ (d : PendingView). d.hart) (is_of h) h (λ d e. rw (eq-eqb d.hart h e) refl) (λ d ne. rw (ne_eqb d.hart h ne) refl) c.pending_views harts all lt

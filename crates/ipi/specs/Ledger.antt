@@ -19,7 +19,7 @@ abbrev pub diary : ℕ → List Action → List ℕ → PendingView
 diary h ds ps = record { hart = h; actions = ds; places = ps }
 
 abbrev pub crew : List PendingView → Crew
-crew ds = record { diaries = ds }
+crew ds = record { pending_views = ds }
 
 -- a raise of the target that found the sender's bit clear
 abbrev pub raise_of : ℕ → ℕ → Action → ℕ
@@ -40,17 +40,17 @@ abbrev pub taken_by : ℕ → ℕ → PendingView → ℕ
 taken_by sender target d = if d.hart == target then total (take_of sender) d.actions else 0
 
 abbrev pub raised : ℕ → ℕ → Crew → ℕ
-raised sender target c = total (raised_by sender target) c.diaries
+raised sender target c = total (raised_by sender target) c.pending_views
 
 abbrev pub taken : ℕ → ℕ → Crew → ℕ
-taken sender target c = total (taken_by sender target) c.diaries
+taken sender target c = total (taken_by sender target) c.pending_views
 
 abbrev pub is_of : ℕ → PendingView → ℕ
 is_of h d = if d.hart == h then 1 else 0
 
 -- how often the hart is in the seat
 abbrev pub seats : ℕ → Crew → ℕ
-seats h c = total (is_of h) c.diaries
+seats h c = total (is_of h) c.pending_views
 
 -- the hart raised for itself and has not taken since
 abbrev pub owes : ℕ → List Action → Bool
@@ -93,17 +93,17 @@ abbrev pub IsInLog : Log Action → PendingView → Type 0
 IsInLog log d = IsOfLog log d.hart d.actions d.places
 
 -- The rule. The ledger: the raises that found a pair clear are the takes that answered it, and one more if it is pending.
--- The log: all steps in their order, the newest first, which the diaries fix, since each diary has the steps of its hart with their places.
+-- The log: all steps in their order, the newest first, which the pending views fix, since each diary has the steps of its hart with their places.
 pub record Kept (harts : ℕ) (s : State (Unit {0}) Crew) : Type 0 where
   pub wide : length s.words ≡ harts
   pub ledger : (sender target : ℕ) → target < harts
       → total (raised sender target) s.views ≡ total (taken sender target) s.views + bit_at (slice_index s.words target) sender
   pub once : (h : ℕ) → h < harts → total (seats h) s.views ≡ 1
   pub none_else : (h : ℕ) → harts ≤ h → total (seats h) s.views ≡ 0
-  pub owed : (id : ℕ) (c : Crew) → get_elem? s.views id ≡ some c → Each (IsOwed s.words) c.diaries
+  pub owed : (id : ℕ) (c : Crew) → get_elem? s.views id ≡ some c → Each (IsOwed s.words) c.pending_views
   pub log : Log Action
   pub is_true : IsTrueLog reading first_word harts log
-  pub entered : (id : ℕ) (c : Crew) → get_elem? s.views id ≡ some c → Each (IsInLog log) c.diaries
+  pub entered : (id : ℕ) (c : Crew) → get_elem? s.views id ≡ some c → Each (IsInLog log) c.pending_views
   pub left : (t : ℕ) → t < harts → slice_index s.words t ≡ word_after reading first_word t log
 
 -- one more action of the hart, at its place
@@ -146,7 +146,7 @@ actions_of h (d ∷ ds) = if d.hart == h then d.actions else actions_of h ds
 
 -- the hart of the seat raised for itself and has not taken since
 abbrev pub IsOwing : ℕ → Crew → Type 0
-IsOwing h c = owes h (actions_of h c.diaries) ≡ true
+IsOwing h c = owes h (actions_of h c.pending_views) ≡ true
 
 -- Freshness: then the word of the hart has its own bit
 abbrev pub OwnsUp : Crew → ℕ → ℕ → Type 0
@@ -158,24 +158,24 @@ InRange harts found = (sender : ℕ) → harts ≤ sender → bit_at found sende
 
 -- what a step tells
 abbrev pub Raises : ℕ → ℕ → Step (Unit {0}) → SeatState → ℕ → SeatState → Type 0
-Raises harts by st m found m' = HasNoted by (Raised st.word found) m.0.diaries m'.0.diaries × (m'.1 ≡ m.1) × Tells harts m.0 st.word found
+Raises harts by st m found m' = HasNoted by (Raised st.word found) m.0.pending_views m'.0.pending_views × (m'.1 ≡ m.1) × Tells harts m.0 st.word found
 
 abbrev pub Takes : ℕ → Step (Unit {0}) → SeatState → ℕ → SeatState → Type 0
-Takes harts st m found m' = HasNoted st.word (Took found) m.0.diaries m'.0.diaries × (m'.1 ≡ m.1) × Tells harts m.0 st.word found × OwnsUp m.0 st.word found × InRange harts found
+Takes harts st m found m' = HasNoted st.word (Took found) m.0.pending_views m'.0.pending_views × (m'.1 ≡ m.1) × Tells harts m.0 st.word found × OwnsUp m.0 st.word found × InRange harts found
 
 abbrev pub Looks : ℕ → Step (Unit {0}) → SeatState → ℕ → SeatState → Type 0
-Looks harts st m found m' = HasNoted st.word (Looked found) m.0.diaries m'.0.diaries × (m'.1 ≡ m.1) × Tells harts m.0 st.word found × OwnsUp m.0 st.word found × InRange harts found
+Looks harts st m found m' = HasNoted st.word (Looked found) m.0.pending_views m'.0.pending_views × (m'.1 ≡ m.1) × Tells harts m.0 st.word found × OwnsUp m.0 st.word found × InRange harts found
 
 -- ---- seats
 -- the first hart of a seat, and the others
 abbrev pub first_hart : Crew → Crew
-first_hart c = crew (take 1 c.diaries)
+first_hart c = crew (take 1 c.pending_views)
 
 abbrev pub other_harts : Crew → Crew
-other_harts c = crew (drop 1 c.diaries)
+other_harts c = crew (drop 1 c.pending_views)
 
 abbrev pub together : Crew → Crew → Crew
-together c d = crew (c.diaries ++ d.diaries)
+together c d = crew (c.pending_views ++ d.pending_views)
 
 abbrev pub nobody : Crew
 nobody = crew []

@@ -21,16 +21,16 @@ abbrev pub crew_of : Seat (Unit {0}) Crew → Crew
 crew_of s = s.me.0
 
 -- the harts of the seat, each with its steps
-abbrev pub diaries_in : Seat (Unit {0}) Crew → List PendingView
-diaries_in s = s.me.0.diaries
+abbrev pub pending_views_in : Seat (Unit {0}) Crew → List PendingView
+pending_views_in s = s.me.0.pending_views
 
 -- the seat has every hart of the table, in the order of their numbers
 abbrev pub IsOfAll : PendingTable → Seat (Unit {0}) Crew → Type 0
-IsOfAll t s = numbers (diaries_in s) ≡ numbers_from 0 (harts_of t)
+IsOfAll t s = numbers (pending_views_in s) ≡ numbers_from 0 (harts_of t)
 
 -- each seat of a list has just the hart of its place
 abbrev pub AreInOrder : List (Option (Seat (Unit {0}) Crew)) → Type 0
-AreInOrder = AreByNumber diaries_in (λ d. d.hart)
+AreInOrder = AreByNumber pending_views_in (λ d. d.hart)
 
 -- and has it once
 abbrev pub AreSeated : List (Option (Seat (Unit {0}) Crew)) → Type 0
@@ -41,9 +41,9 @@ abbrev pub AreSeatsOf : PendingTable → List (Option (Seat (Unit {0}) Crew)) �
 AreSeatsOf t = AreSeats (IsSeatOf t)
 
 -- the harts of each seat of a list
-abbrev pub diaries_by_seat : List (Option (Seat (Unit {0}) Crew)) → List (List PendingView)
-diaries_by_seat = views_by_seat diaries_in
+abbrev pub pending_views_by_seat : List (Option (Seat (Unit {0}) Crew)) → List (List PendingView)
+pending_views_by_seat = views_by_seat pending_views_in
 
 -- the harts of all seats of a list
-abbrev pub all_diaries : List (Option (Seat (Unit {0}) Crew)) → List PendingView
-all_diaries = all_views diaries_in
+abbrev pub all_pending_views : List (Option (Seat (Unit {0}) Crew)) → List PendingView
+all_pending_views = all_views pending_views_in

@@ -5,7 +5,7 @@ ghost use Rattle.std.specs.Int.{bit_at};
 ghost use Rattle.ipi.specs.Ledger.{Raises, Takes, Looks, HasNoted, seats, Tells, OwnsUp, InRange, IsOwing};
 ghost use Rattle.ipi.specs.Pairs.{Sits, SameHarts, ActsAlone, with_pair, without_target};
 ghost use Rattle.ipi.specs.Senders.{Has};
-ghost use Rattle.ipi.specs.Seating.{IsSeatOf, harts_of, crew_of, diaries_in};
+ghost use Rattle.ipi.specs.Seating.{IsSeatOf, harts_of, crew_of, pending_views_in};
 ghost use Rattle.ipi.specs.declared.view.Action.TheVariants.{Raised, Took, Looked};
 
 use crate::senders::SenderSet;
@@ -46,7 +46,7 @@ fn raise_by<J: Acting>(table: &PendingTable, seat: &mut IpiSeat, by: HartId, tar
     requires by { by < harts_of table.now }
     requires target { target < harts_of table.now }
     ensures seat { IsSeatOf table.now seat.new }
-    ensures told { HasNoted by (Raised target result) (diaries_in seat.old) (diaries_in seat.new) }
+    ensures told { HasNoted by (Raised target result) (pending_views_in seat.old) (pending_views_in seat.new) }
     ensures tells { Tells (harts_of table.now) (crew_of seat.old) target result }
 {
     let bit = by.number();
@@ -63,7 +63,7 @@ fn take_by<J: Acting>(table: &PendingTable, seat: &mut IpiSeat, by: HartId) -> u
     requires acts { Sits by (crew_of seat.old) }
     requires by { by < harts_of table.now }
     ensures seat { IsSeatOf table.now seat.new }
-    ensures told { HasNoted by (Took result) (diaries_in seat.old) (diaries_in seat.new) }
+    ensures told { HasNoted by (Took result) (pending_views_in seat.old) (pending_views_in seat.new) }
     ensures tells { Tells (harts_of table.now) (crew_of seat.old) by result }
     ensures own { OwnsUp (crew_of seat.old) by result }
     ensures range { InRange (harts_of table.now) result }
@@ -78,7 +78,7 @@ fn look_by<J: Acting>(table: &PendingTable, seat: &mut IpiSeat, by: HartId) -> u
     requires acts { Sits by (crew_of seat.old) }
     requires by { by < harts_of table.now }
     ensures seat { IsSeatOf table.now seat.new }
-    ensures told { HasNoted by (Looked result) (diaries_in seat.old) (diaries_in seat.new) }
+    ensures told { HasNoted by (Looked result) (pending_views_in seat.old) (pending_views_in seat.new) }
     ensures tells { Tells (harts_of table.now) (crew_of seat.old) by result }
     ensures own { OwnsUp (crew_of seat.old) by result }
     ensures range { InRange (harts_of table.now) result }
@@ -96,7 +96,7 @@ impl PendingTable {
         requires target { target < harts_of self.now }
         ensures seat { IsSeatOf self.entry.now result.0 }
         ensures harts { SameHarts (crew_of seat) (crew_of result.0) }
-        ensures steps { (found : ℕ) × HasNoted by (Raised target found) (diaries_in seat) (diaries_in result.0) × (IsTrue result.1 ↔ (bit_at found by ≡ 0)) }
+        ensures steps { (found : ℕ) × HasNoted by (Raised target found) (pending_views_in seat) (pending_views_in result.0) × (IsTrue result.1 ↔ (bit_at found by ≡ 0)) }
         ensures alone { ActsAlone (harts_of self.entry.now) (crew_of seat) (crew_of result.0) (λ pairs. result.1 ≡ not (pairs by target)) (with_pair by target) }
     {
         let mut seat = seat;
@@ -112,7 +112,7 @@ impl PendingTable {
         requires by { by < harts_of self.now }
         ensures seat { IsSeatOf self.entry.now result.0 }
         ensures harts { SameHarts (crew_of seat) (crew_of result.0) }
-        ensures steps { HasNoted by (Took result.1) (diaries_in seat) (diaries_in result.0) }
+        ensures steps { HasNoted by (Took result.1) (pending_views_in seat) (pending_views_in result.0) }
         ensures own { IsOwing by (crew_of seat) → Has by result.1 }
         ensures range { (sender : ℕ) → Has sender result.1 → sender < harts_of self.entry.now }
         ensures alone { ActsAlone (harts_of self.entry.now) (crew_of seat) (crew_of result.0) (λ pairs. (sender : ℕ) → Has sender result.1 ↔ IsTrue (pairs sender by)) (without_target by) }
@@ -129,7 +129,7 @@ impl PendingTable {
         requires by { by < harts_of self.now }
         ensures seat { IsSeatOf self.entry.now result.0 }
         ensures harts { SameHarts (crew_of seat) (crew_of result.0) }
-        ensures steps { (found : ℕ) × HasNoted by (Looked found) (diaries_in seat) (diaries_in result.0) × (IsTrue result.1 ↔ ((sender : ℕ) × (bit_at found sender ≡ 1))) }
+        ensures steps { (found : ℕ) × HasNoted by (Looked found) (pending_views_in seat) (pending_views_in result.0) × (IsTrue result.1 ↔ ((sender : ℕ) × (bit_at found sender ≡ 1))) }
         ensures own { IsOwing by (crew_of seat) → result.1 ≡ true }
         ensures alone { ActsAlone (harts_of self.entry.now) (crew_of seat) (crew_of result.0) (λ pairs. IsTrue result.1 ↔ ((sender : ℕ) × IsTrue (pairs sender by))) (λ pairs. pairs) }
     {

@@ -5,7 +5,7 @@ ghost use Rattle.arrayvec.specs.ArrayVec.{array_vec_len};
 ghost use Rattle.ipi.specs.Ledger.{opening_crew};
 ghost use Rattle.ipi.specs.Pairs.{Sits, Shows};
 ghost use Rattle.ipi.specs.Seen.{pair_in};
-ghost use Rattle.ipi.specs.Seating.{IsSeatOf, harts_of, crew_of, diaries_in, IsOfAll, AreInOrder, AreSeated, AreSeatsOf, diaries_by_seat, all_diaries, one_by_one};
+ghost use Rattle.ipi.specs.Seating.{IsSeatOf, harts_of, crew_of, pending_views_in, IsOfAll, AreInOrder, AreSeated, AreSeatsOf, pending_views_by_seat, all_pending_views, one_by_one};
 ghost use Rattle.board_model.specs.declared.refusal.Refusal.TheVariants.{Memory};
 
 use crate::table::{IpiSeat, PendingTable, Seats};
@@ -68,8 +68,8 @@ impl PendingTable {
         ensures seats { AreSeatsOf self.now result.items }
         ensures order { AreInOrder result.items }
         ensures sits { AreSeated result.items }
-        ensures apart { diaries_by_seat result.items ≡ one_by_one (diaries_in seat) }
-        ensures harts { all_diaries result.items ≡ diaries_in seat }
+        ensures apart { pending_views_by_seat result.items ≡ one_by_one (pending_views_in seat) }
+        ensures harts { all_pending_views result.items ≡ pending_views_in seat }
     {
         tallies::split(self, seat)
     }
@@ -80,7 +80,7 @@ impl PendingTable {
         requires seats { AreSeatsOf self.now seats.items }
         requires some { 0 < array_vec_len seats }
         ensures seat { IsSeatOf self.now result }
-        ensures harts { diaries_in result ≡ all_diaries seats.items }
+        ensures harts { pending_views_in result ≡ all_pending_views seats.items }
         ensures all { AreInOrder seats.items → array_vec_len seats ≡ harts_of self.now → IsOfAll self.now result }
         ensures shows { AreInOrder seats.items → array_vec_len seats ≡ harts_of self.now → Shows (harts_of self.now) (crew_of result) (pair_in (crew_of result)) }
     {

@@ -12,7 +12,7 @@ ghost use Rattle.ipi.specs.declared.view.Crew.{Crew};
 pub fn one_set()
     ensures one { (harts : ℕ) (c : Crew) (pairs : ℕ → ℕ → Bool) → Shows harts c pairs → (sender target : ℕ) → pair_in c sender target ≡ pairs sender target }
     ensures seen { (harts : ℕ) (c : Crew) → IsWhole harts c → Shows harts c (pair_in c) }
-    ensures range { (harts : ℕ) (c : Crew) → numbers c.diaries ≡ numbers_from 0 harts → (sender target : ℕ) → harts ≤ sender → pair_in c sender target ≡ false }
+    ensures range { (harts : ℕ) (c : Crew) → numbers c.pending_views ≡ numbers_from 0 harts → (sender target : ℕ) → harts ≤ sender → pair_in c sender target ≡ false }
     ensures list { (harts : ℕ) (c : Crew) (pairs : List (List Bool)) → ArePairs harts c pairs → pairs_in harts c ≡ pairs }
     ensures read { (harts : ℕ) (c : Crew) (sender target : ℕ) → sender < harts → target < harts → pair_at (pairs_in harts c) sender target ≡ pair_in c sender target }
     ensures raised { (harts : ℕ) (c : Crew) (sender target : ℕ) (pairs : List (List Bool)) → AreRows harts pairs → sender < harts → target < harts

@@ -39,8 +39,8 @@ views s = harts.harts_in s.harts
 abbrev pub crew : Seats → HartCrew
 crew s = harts.crew_of s.harts
 
-abbrev pub diaries : Seats → List PendingView
-diaries s = pairs.diaries_in s.pending
+abbrev pub pending_views : Seats → List PendingView
+pending_views s = pairs.pending_views_in s.pending
 
 abbrev pub pair_crew : Seats → PairCrew
 pair_crew s = pairs.crew_of s.pending
@@ -50,7 +50,7 @@ pub record Known : Type 0 where
   pub pairs : List PendingView
 
 abbrev pub known : Seats → Known
-known s = record { harts = views s; pairs = diaries s }
+known s = record { harts = views s; pairs = pending_views s }
 
 -- the hart is one of the seats, at this stage of the hart table
 abbrev pub Acts : ℕ → Stage → Seats → Type 0

@@ -2,7 +2,7 @@
 
 ghost use Rattle.std.specs.Prelude.{◌≡◌, ◌<◌, ◌≤◌, ℕ, Ok, List, Bool};
 ghost use Rattle.ipi.specs.Pairs.{Sits, SameHarts};
-ghost use Rattle.ipi.specs.Seating.{IsSeatOf, harts_of, crew_of, diaries_in};
+ghost use Rattle.ipi.specs.Seating.{IsSeatOf, harts_of, crew_of, pending_views_in};
 ghost use Rattle.ipi.specs.Seen.{ArePairs};
 ghost use Rattle.hsm_words.specs.declared.view.Stage.TheVariants.{Running};
 ghost use Rattle.sbi_calls.specs.declared.requests.Request.TheVariants.{Send};
@@ -30,7 +30,7 @@ fn send_one(
     requires target { target < harts_of tables.now.pending }
     ensures seat { IsSeatOf tables.entry.now.pending result }
     ensures same { SameHarts (crew_of pending) (crew_of result) }
-    ensures sends { SendsTo by targets target (diaries_in pending) (diaries_in result) }
+    ensures sends { SendsTo by targets target (pending_views_in pending) (pending_views_in result) }
     ensures alone { (pairs : List (List Bool)) → ArePairs (harts_of tables.entry.now.pending) (crew_of pending) pairs → ArePairs (harts_of tables.entry.now.pending) (crew_of result) (pairs_to by targets target pairs) }
 {
     ipi::one_set();
@@ -49,7 +49,7 @@ fn send_all(pending: IpiSeat, tables: &Tables, by: HartId, targets: HartSet) -> 
     requires by { by < harts_of tables.now.pending }
     ensures seat { IsSeatOf tables.entry.now.pending result }
     ensures same { SameHarts (crew_of pending) (crew_of result) }
-    ensures sends { Sends by targets (harts_of tables.entry.now.pending) (diaries_in pending) (diaries_in result) }
+    ensures sends { Sends by targets (harts_of tables.entry.now.pending) (pending_views_in pending) (pending_views_in result) }
     ensures alone { (pairs : List (List Bool)) → ArePairs (harts_of tables.entry.now.pending) (crew_of pending) pairs → ArePairs (harts_of tables.entry.now.pending) (crew_of result) (pairs_sent by targets pairs) }
 {
     let mut pending = pending;

@@ -23,19 +23,19 @@ sits_first first (d ∷ ds) row pos = let e : is_of first d ≡ 1 = rw (eq-eqb d
 pub same_whole : (c one others one' others' c' : Crew) → one ≡ first_hart c → others ≡ other_harts c → SameHarts one one' → SameHarts others others' → c' ≡ together one' others' → SameHarts c c'
 same_whole c one others one' others' c' is_one is_others same more is = record {
   harts =
-      ap (λ (d : Crew). numbers d.diaries) is
-      ∙ (map-append (λ (d : PendingView). d.hart) one'.diaries others'.diaries
-      ∙ (ap (λ (l : List ℕ). l ++ numbers others'.diaries) (same.harts ∙ ap (λ (d : Crew). numbers d.diaries) is_one)
-      ∙ (ap (λ (l : List ℕ). numbers (take 1 c.diaries) ++ l) (more.harts ∙ ap (λ (d : Crew). numbers d.diaries) is_others)
-      ∙ (sym (map-append (λ (d : PendingView). d.hart) (take 1 c.diaries) (drop 1 c.diaries)) ∙ ap numbers (take-append-drop 1 c.diaries)))));
+      ap (λ (d : Crew). numbers d.pending_views) is
+      ∙ (map-append (λ (d : PendingView). d.hart) one'.pending_views others'.pending_views
+      ∙ (ap (λ (l : List ℕ). l ++ numbers others'.pending_views) (same.harts ∙ ap (λ (d : Crew). numbers d.pending_views) is_one)
+      ∙ (ap (λ (l : List ℕ). numbers (take 1 c.pending_views) ++ l) (more.harts ∙ ap (λ (d : Crew). numbers d.pending_views) is_others)
+      ∙ (sym (map-append (λ (d : PendingView). d.hart) (take 1 c.pending_views) (drop 1 c.pending_views)) ∙ ap numbers (take-append-drop 1 c.pending_views)))));
   each = λ h.
       ap (seats h) is
-      ∙ (total-append (is_of h) one'.diaries others'.diaries
+      ∙ (total-append (is_of h) one'.pending_views others'.pending_views
       ∙ (let p = same.each h in let q = more.each h in
-      let r : total (is_of h) one.diaries + total (is_of h) others.diaries ≡ total (is_of h) c.diaries =
-      ap (λ (d : Crew). total (is_of h) d.diaries + total (is_of h) others.diaries) is_one
-      ∙ (ap (λ (d : Crew). total (is_of h) (take 1 c.diaries) + total (is_of h) d.diaries) is_others
-      ∙ (sym (total-append (is_of h) (take 1 c.diaries) (drop 1 c.diaries)) ∙ ap (λ (ds : List PendingView). total (is_of h) ds) (take-append-drop 1 c.diaries))) in
+      let r : total (is_of h) one.pending_views + total (is_of h) others.pending_views ≡ total (is_of h) c.pending_views =
+      ap (λ (d : Crew). total (is_of h) d.pending_views + total (is_of h) others.pending_views) is_one
+      ∙ (ap (λ (d : Crew). total (is_of h) (take 1 c.pending_views) + total (is_of h) d.pending_views) is_others
+      ∙ (sym (total-append (is_of h) (take 1 c.pending_views) (drop 1 c.pending_views)) ∙ ap (λ (ds : List PendingView). total (is_of h) ds) (take-append-drop 1 c.pending_views))) in
       omega arith));
 }
 

@@ -3,7 +3,7 @@
 ghost use Rattle.std.specs.Prelude.{◌≡◌, ℕ, ◌<◌, ◌≤◌, ◌+◌, length};
 ghost use denote.Param.Send.{IsSync};
 ghost use Rattle.ipi.specs.Pairs.{Sits, SameHarts};
-ghost use Rattle.ipi.specs.Seating.{IsSeatOf, harts_of, crew_of, diaries_in};
+ghost use Rattle.ipi.specs.Seating.{IsSeatOf, harts_of, crew_of, pending_views_in};
 ghost use Rattle.table_tests.specs.Crowd.{AreFrom};
 
 use board_model::HartId;
@@ -73,7 +73,7 @@ pub fn all_harts<R: Threads + Sync>(
     rounds: u64,
 ) -> (IpiSeat, Sums)
     requires seat { IsSeatOf table.now seat }
-    requires row { AreFrom first (diaries_in seat) × (length (diaries_in seat) ≡ harts) × (0 < harts) × (first + harts ≤ harts_of table.now) × (first + harts ≤ 8) }
+    requires row { AreFrom first (pending_views_in seat) × (length (pending_views_in seat) ≡ harts) × (0 < harts) × (first + harts ≤ harts_of table.now) × (first + harts ≤ 8) }
     ensures seat { IsSeatOf table.entry.now result.0 }
     ensures harts { SameHarts (crew_of seat) (crew_of result.0) }
 {
@@ -89,7 +89,7 @@ pub fn all_harts<R: Threads + Sync>(
             ensures { IsSeatOf table.entry.now result.0 × SameHarts (crew_of one) (crew_of result.0) }
         { one_hart(table, one, by, rounds) },
         move || -> (IpiSeat, Sums)
-            requires { IsSync R.row × IsSeatOf table.now others × AreFrom (first + 1) (diaries_in others) × (length (diaries_in others) + 1 ≡ harts) × (1 < harts) × (first + harts ≤ harts_of table.now) × (first + harts ≤ 8) }
+            requires { IsSync R.row × IsSeatOf table.now others × AreFrom (first + 1) (pending_views_in others) × (length (pending_views_in others) + 1 ≡ harts) × (1 < harts) × (first + harts ≤ harts_of table.now) × (first + harts ≤ 8) }
             ensures { IsSeatOf table.entry.now result.0 × SameHarts (crew_of others) (crew_of result.0) }
         { all_harts(rt, table, others, first + 1, harts - 1, rounds) },
     );

@@ -1,5 +1,5 @@
 use Rattle.std.proofs.Common.{◌<◌, ℕ, List, Bool, refl, sym, subst}
-use Rattle.ipi.specs.Seating.{crew_of, diaries_in}
+use Rattle.ipi.specs.Seating.{crew_of, pending_views_in}
 use Rattle.ipi.specs.Seen.{ArePairs}
 use Rattle.sbi_calls.specs.Answers.{pairs_sent}
 use Rattle.sbi_calls.specs.Steps.{Sends}
@@ -10,7 +10,7 @@ send_all-pending-requires-clause-by c = subst (λ (n : ℕ). c.args.by < n) (sym
 
 pub returns-clause-does : goal.returns-clause-does
 returns-clause-does c =
-    (refl, subst (λ (n : ℕ). Sends c.args.by c.args.targets n (diaries_in c.args.seats.pending) (diaries_in c.send_all-pending.result)) c.args.tables.now.same c.send_all-pending.ensures.sends, refl)
+    (refl, subst (λ (n : ℕ). Sends c.args.by c.args.targets n (pending_views_in c.args.seats.pending) (pending_views_in c.send_all-pending.result)) c.args.tables.now.same c.send_all-pending.ensures.sends, refl)
 
 pub returns-clause-alone : goal.returns-clause-alone
 returns-clause-alone c = λ t are.

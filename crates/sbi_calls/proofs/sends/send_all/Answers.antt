@@ -1,5 +1,5 @@
 use Rattle.std.proofs.Common.{◌≡◌, ℕ, subst, arith}
-use Rattle.ipi.specs.Seating.{harts_of, crew_of, diaries_in}
+use Rattle.ipi.specs.Seating.{harts_of, crew_of, pending_views_in}
 use Rattle.sbi_calls.specs.Steps.{Sends}
 use Rattle.sbi_calls.proofs.Raised.{sent_next, sends_next, sent_last, same_then}
 use Rattle.sbi_calls.proofs.sends.send_all.Goals as goal
@@ -13,7 +13,7 @@ loop-number-preserved c =
     let at = (rw c.unwrap-target.ensures at c.new.ensures.some).0 in record {
       seat = c.send_one-pending.ensures.seat;
       same = same_then (crew_of before) (crew_of mid) (crew_of after) c.loop-number.invariant.same c.send_one-pending.ensures.same;
-      sends = sends_next c.args.by c.args.targets c.loop-number.number c.unwrap-target.result (diaries_in before) (diaries_in mid) (diaries_in after) at c.loop-number.invariant.sends c.send_one-pending.ensures.sends;
+      sends = sends_next c.args.by c.args.targets c.loop-number.number c.unwrap-target.result (pending_views_in before) (pending_views_in mid) (pending_views_in after) at c.loop-number.invariant.sends c.send_one-pending.ensures.sends;
       sent = sent_next n c.args.by c.args.targets c.loop-number.number c.unwrap-target.result (crew_of before) (crew_of mid) (crew_of after) at c.loop-number.invariant.sent c.send_one-pending.ensures.alone;
     }
 
@@ -21,7 +21,7 @@ pub returns-clause-sends : goal.returns-clause-sends
 returns-clause-sends c =
     let a = c.loop-number-test.false in let b = c.loop-number.auto.number-end in let d = c.from-count.ensures in let e = c.harts.ensures.value in
     let last : c.loop-number.number ≡ harts_of c.args.tables.now.pending = omega arith in
-    subst (λ (k : ℕ). Sends c.args.by c.args.targets k (diaries_in c.args.pending) (diaries_in c.loop-number.pending)) last c.loop-number.invariant.sends
+    subst (λ (k : ℕ). Sends c.args.by c.args.targets k (pending_views_in c.args.pending) (pending_views_in c.loop-number.pending)) last c.loop-number.invariant.sends
 
 pub returns-clause-alone : goal.returns-clause-alone
 returns-clause-alone c =

@@ -1,4 +1,4 @@
-use Rattle.ipi.specs.Seating.{IsSeatOf, harts_of, crew_of, diaries_in}
+use Rattle.ipi.specs.Seating.{IsSeatOf, harts_of, crew_of, pending_views_in}
 use Rattle.ipi.specs.Pairs.{SameHarts}
 use Rattle.sbi_calls.specs.Steps.{Sends}
 use Rattle.sbi_calls.proofs.Raised.{Sent}
@@ -8,6 +8,6 @@ abbrev pub invariant-loop-number : goal.invariant-loop-number
 invariant-loop-number l = record {
   seat : IsSeatOf l.fn.tables.pending l.pending;
   same : SameHarts (crew_of l.fn.pending) (crew_of l.pending);
-  sends : Sends l.fn.by l.fn.targets l.number (diaries_in l.fn.pending) (diaries_in l.pending);
+  sends : Sends l.fn.by l.fn.targets l.number (pending_views_in l.fn.pending) (pending_views_in l.pending);
   sent : Sent (harts_of l.fn.tables.pending) l.fn.by l.fn.targets l.number (crew_of l.fn.pending) (crew_of l.pending);
 }

@@ -21,7 +21,7 @@ of_words-requires c =
 
 pub returns-clause-all : goal.returns-clause-all
 returns-clause-all c =
-    ap (λ (m : SeatState). numbers m.0.diaries) c.in_ok-table.ensures.4 ∙ (opens_numbered 0 c.harts-harts.result ∙ ap (λ (n : ℕ). numbers_from 0 n) (sym c.in_ok-table.ensures.5))
+    ap (λ (m : SeatState). numbers m.0.pending_views) c.in_ok-table.ensures.4 ∙ (opens_numbered 0 c.harts-harts.result ∙ ap (λ (n : ℕ). numbers_from 0 n) (sym c.in_ok-table.ensures.5))
 
 pub returns-clause-sits : goal.returns-clause-sits
 returns-clause-sits c = λ h lt.

@@ -1,6 +1,6 @@
-use Rattle.ipi.specs.Seating.{diaries_in}
+use Rattle.ipi.specs.Seating.{pending_views_in}
 use Rattle.ipi.proofs.Lists.{seated_alone}
 use Rattle.ipi.proofs.table.PendingTable.split.Goals as goal
 
 pub returns-clause-sits : goal.returns-clause-sits
-returns-clause-sits c = λ i s at. seated_alone i (diaries_in s) (c.split.ensures.order i s at)
+returns-clause-sits c = λ i s at. seated_alone i (pending_views_in s) (c.split.ensures.order i s at)
