@@ -122,13 +122,13 @@ rests_in i vs ws each r =
 pub all_left : (t : Tables) (size : Size) (left : List State) (s : Seats) (starts : List (Option (Seat (Unit {0}) Crew))) (raises : List (Option (Seat (Unit {0}) PairCrew)))
     → IsHeld size left t (Some s) → harts.AreSeatsOf t.harts starts → harts.StandAsIn (views s) starts → harts.harts_by_seat starts ≡ one_by_one (views s)
     → pairs.AreSeatsOf t.pending raises → pairs.AreSeated raises → pairs.pending_views_by_seat raises ≡ one_by_one (pending_views s) → AreLeft t left starts raises
-all_left t size left s starts raises held starts_are stages by_seat raises_are seated by_diary =
+all_left t size left s starts raises held starts_are stages by_seat raises_are seated by_pending_view =
     let whole = held.seats in
     let long : length left ≡ harts_of t = held.long ∙ sym held.tables in
     let views_long : length (views s) ≡ harts_of t = length_all (λ (v : HartView). v.hart) (views s) 0 (harts_of t) whole.all.0 in
     let pending_views_long : length (pending_views s) ≡ pairs.harts_of t.pending = length_all (λ (d : PendingView). d.hart) (pending_views s) 0 (pairs.harts_of t.pending) whole.all.1 in
     let starts_long : length starts ≡ harts_of t = long_as harts.harts_in starts (views s) by_seat ∙ views_long in
-    let raises_long : length raises ≡ harts_of t = long_as pairs.pending_views_in raises (pending_views s) by_diary ∙ (pending_views_long ∙ t.same) in
+    let raises_long : length raises ≡ harts_of t = long_as pairs.pending_views_in raises (pending_views s) by_pending_view ∙ (pending_views_long ∙ t.same) in
     record {
       numbered = held.numbered;
       few = omega arith;

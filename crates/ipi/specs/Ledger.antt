@@ -15,8 +15,8 @@ abbrev pub Each : {A : Type 0} → (A → Type 0) → List A → Type 0
 Each P [] = Unit {0}
 Each P (x ∷ xs) = P x × Each P xs
 
-abbrev pub diary : ℕ → List Action → List ℕ → PendingView
-diary h ds ps = record { hart = h; actions = ds; places = ps }
+abbrev pub pending_view : ℕ → List Action → List ℕ → PendingView
+pending_view h ds ps = record { hart = h; actions = ds; places = ps }
 
 abbrev pub crew : List PendingView → Crew
 crew ds = record { pending_views = ds }
@@ -88,12 +88,12 @@ reading = record { word_of = word_of; found_by = found_by; left_by = left_by }
 abbrev pub first_word : ℕ → ℕ
 first_word t = 0
 
--- the diary has just the steps of its hart, each with its place
+-- the pending view has just the steps of its hart, each with its place
 abbrev pub IsInLog : Log Action → PendingView → Type 0
 IsInLog log d = IsOfLog log d.hart d.actions d.places
 
 -- The rule. The ledger: the raises that found a pair clear are the takes that answered it, and one more if it is pending.
--- The log: all steps in their order, the newest first, which the pending views fix, since each diary has the steps of its hart with their places.
+-- The log: all steps in their order, the newest first, which the pending views fix, since each pending view has the steps of its hart with their places.
 pub record Kept (harts : ℕ) (s : State (Unit {0}) Crew) : Type 0 where
   pub wide : length s.words ≡ harts
   pub ledger : (sender target : ℕ) → target < harts
@@ -109,7 +109,7 @@ pub record Kept (harts : ℕ) (s : State (Unit {0}) Crew) : Type 0 where
 -- one more action of the hart, at its place
 abbrev pub noted : ℕ → ℕ → Action → List PendingView → List PendingView
 noted h p x [] = []
-noted h p x (d ∷ ds) = if d.hart == h then diary d.hart (x ∷ d.actions) (p ∷ d.places) ∷ ds else d ∷ noted h p x ds
+noted h p x (d ∷ ds) = if d.hart == h then pending_view d.hart (x ∷ d.actions) (p ∷ d.places) ∷ ds else d ∷ noted h p x ds
 
 -- a view that has one more action of the hart, at whatever place, and nothing else is new
 abbrev pub HasNoted : ℕ → Action → List PendingView → List PendingView → Type 0
@@ -126,7 +126,7 @@ numbers = map (λ d. d.hart)
 -- no step yet
 abbrev pub fresh_from : ℕ → ℕ → List PendingView
 fresh_from first zero = []
-fresh_from first (suc n) = diary first [] [] ∷ fresh_from (suc first) n
+fresh_from first (suc n) = pending_view first [] [] ∷ fresh_from (suc first) n
 
 abbrev pub opening_crew : ℕ → Crew
 opening_crew harts = crew (fresh_from 0 harts)
