@@ -62,7 +62,7 @@ pub fn try_enter(table: &HartTable, seat: HartSeat, by: HartId) -> (HartSeat, Op
 {
     let mut seat = seat;
     let hart = by.number();
-    let found = hsm_steps::look_out::<Brand>(table, &mut seat, by);
+    let found = hsm_steps::poll::<Brand>(table, &mut seat, by);
     if found >> (8 + hart) & 1 != 1 {
         return (seat, None);
     }

@@ -252,7 +252,7 @@ pub fn look<J: Acting>(table: &HartTable, seat: &mut HartSeat, by: HartId) -> u6
 }
 
 /// A look at the first word by a hart that has not entered.
-pub fn look_out<J: Acting>(table: &HartTable, seat: &mut HartSeat, by: HartId) -> u64
+pub fn poll<J: Acting>(table: &HartTable, seat: &mut HartSeat, by: HartId) -> u64
     requires named { (J.harts ≡ harts_of table.now) × (J.by ≡ by) }
     requires seat { IsSeatOf table.now seat.old }
     requires acts { stands by Out (harts_in seat.old) }

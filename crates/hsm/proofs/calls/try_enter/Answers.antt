@@ -7,68 +7,68 @@ use Rattle.hsm_rule.specs.Rule.{HasNoted}
 use Rattle.hsm_rule.specs.States.{HartState, Shows, change_at, entry, begin}
 use Rattle.hsm.specs.Calls.{is_ready}
 use Rattle.hsm.proofs.Alone.{Goes, goes, goes_on, unarmed, gone_in, stays_out, gets_ready, enters_none, enters_some}
-use Rattle.hsm.proofs.calls.try_enter.Goals.{After-look_out-found, Then-found-hart-ne1, Then-found-hart-ne0, Else-found-hart-ne0, After-read_address-site, After-read_opaque-opaque, After-enter}
+use Rattle.hsm.proofs.calls.try_enter.Goals.{After-poll-found, Then-found-hart-ne1, Then-found-hart-ne0, Else-found-hart-ne0, After-read_address-site, After-read_opaque-opaque, After-enter}
 use Rattle.hsm.proofs.calls.try_enter.Goals as goal
 
 -- ---- the look did not find the hart ready
-not_armed : (c : Then-found-hart-ne1) → is_ready c.args.by c.look_out-found.result ≡ false
+not_armed : (c : Then-found-hart-ne1) → is_ready c.args.by c.poll-found.result ≡ false
 not_armed c =
-    let found = c.look_out-found.result in
+    let found = c.poll-found.result in
     unarmed c.args.by found (λ e. c.if-found-hart-ne1.true (shr_and_one found (8 + c.number-hart.result) ∙ (ap (λ n. bit_at found (8 + n)) c.number-hart.ensures.value ∙ e)))
 
-entered : (c : Then-found-hart-ne0) → is_ready c.args.by c.look_out-found.result ≡ false
+entered : (c : Then-found-hart-ne0) → is_ready c.args.by c.poll-found.result ≡ false
 entered c =
-    let found = c.look_out-found.result in
+    let found = c.poll-found.result in
     gone_in c.args.by found (λ e. c.if-found-hart-ne0.true (shr_and_one found (16 + c.number-hart.result) ∙ (ap (λ n. bit_at found (16 + n)) c.number-hart.ensures.value ∙ e)))
 
-waits : (c : After-look_out-found) → is_ready c.args.by c.look_out-found.result ≡ false → Goes c.args.by Out c.args.seat.me.0 c.look_out-found.new.seat.me.0
+waits : (c : After-poll-found) → is_ready c.args.by c.poll-found.result ≡ false → Goes c.args.by Out c.args.seat.me.0 c.poll-found.new.seat.me.0
 waits c z =
     let h = c.args.by in
-    let found = c.look_out-found.result in
+    let found = c.poll-found.result in
     let c0 = c.args.seat.me.0 in
-    let c1 = c.look_out-found.new.seat.me.0 in
-    goes c.args.table.now.table.shared.key.harts h Out Out (Looked found) c0 c1 (stays_out h found c0 c1 c.look_out-found.ensures.told z) c.requires.acts
+    let c1 = c.poll-found.new.seat.me.0 in
+    goes c.args.table.now.table.shared.key.harts h Out Out (Looked found) c0 c1 (stays_out h found c0 c1 c.poll-found.ensures.told z) c.requires.acts
 
-waits_alone : (c : After-look_out-found) → is_ready c.args.by c.look_out-found.result ≡ false
+waits_alone : (c : After-poll-found) → is_ready c.args.by c.poll-found.result ≡ false
     → (states : ℕ → HartState) → Shows c.args.table.now.table.shared.key.harts c.args.seat.me.0 states
-    → (None ≡ entry (states c.args.by)) × Shows c.args.table.now.table.shared.key.harts c.look_out-found.new.seat.me.0 (change_at c.args.by begin states)
+    → (None ≡ entry (states c.args.by)) × Shows c.args.table.now.table.shared.key.harts c.poll-found.new.seat.me.0 (change_at c.args.by begin states)
 waits_alone c z states shown =
-    enters_none c.args.table.now.table.shared.key.harts c.args.by c.look_out-found.result c.args.seat.me.0 c.look_out-found.new.seat.me.0 c.look_out-found.ensures.told z c.requires.acts c.requires.by c.look_out-found.ensures.tells states shown
+    enters_none c.args.table.now.table.shared.key.harts c.args.by c.poll-found.result c.args.seat.me.0 c.poll-found.new.seat.me.0 c.poll-found.ensures.told z c.requires.acts c.requires.by c.poll-found.ensures.tells states shown
 
 pub returns-then-found-hart-ne1-clause-stands : goal.returns-then-found-hart-ne1-clause-stands
-returns-then-found-hart-ne1-clause-stands c = let at = goal.at.returns-then-found-hart-ne1-clause-stands c in (waits at.After-look_out-found (not_armed at.Then-found-hart-ne1)).own
+returns-then-found-hart-ne1-clause-stands c = let at = goal.at.returns-then-found-hart-ne1-clause-stands c in (waits at.After-poll-found (not_armed at.Then-found-hart-ne1)).own
 
 pub returns-then-found-hart-ne1-clause-others : goal.returns-then-found-hart-ne1-clause-others
-returns-then-found-hart-ne1-clause-others c = let at = goal.at.returns-then-found-hart-ne1-clause-others c in (waits at.After-look_out-found (not_armed at.Then-found-hart-ne1)).others
+returns-then-found-hart-ne1-clause-others c = let at = goal.at.returns-then-found-hart-ne1-clause-others c in (waits at.After-poll-found (not_armed at.Then-found-hart-ne1)).others
 
 pub returns-then-found-hart-ne1-clause-alone : goal.returns-then-found-hart-ne1-clause-alone
-returns-then-found-hart-ne1-clause-alone c = let at = goal.at.returns-then-found-hart-ne1-clause-alone c in waits_alone at.After-look_out-found (not_armed at.Then-found-hart-ne1)
+returns-then-found-hart-ne1-clause-alone c = let at = goal.at.returns-then-found-hart-ne1-clause-alone c in waits_alone at.After-poll-found (not_armed at.Then-found-hart-ne1)
 
 pub returns-then-found-hart-ne0-clause-stands : goal.returns-then-found-hart-ne0-clause-stands
-returns-then-found-hart-ne0-clause-stands c = let at = goal.at.returns-then-found-hart-ne0-clause-stands c in (waits at.After-look_out-found (entered at.Then-found-hart-ne0)).own
+returns-then-found-hart-ne0-clause-stands c = let at = goal.at.returns-then-found-hart-ne0-clause-stands c in (waits at.After-poll-found (entered at.Then-found-hart-ne0)).own
 
 pub returns-then-found-hart-ne0-clause-others : goal.returns-then-found-hart-ne0-clause-others
-returns-then-found-hart-ne0-clause-others c = let at = goal.at.returns-then-found-hart-ne0-clause-others c in (waits at.After-look_out-found (entered at.Then-found-hart-ne0)).others
+returns-then-found-hart-ne0-clause-others c = let at = goal.at.returns-then-found-hart-ne0-clause-others c in (waits at.After-poll-found (entered at.Then-found-hart-ne0)).others
 
 pub returns-then-found-hart-ne0-clause-alone : goal.returns-then-found-hart-ne0-clause-alone
-returns-then-found-hart-ne0-clause-alone c = let at = goal.at.returns-then-found-hart-ne0-clause-alone c in waits_alone at.After-look_out-found (entered at.Then-found-hart-ne0)
+returns-then-found-hart-ne0-clause-alone c = let at = goal.at.returns-then-found-hart-ne0-clause-alone c in waits_alone at.After-poll-found (entered at.Then-found-hart-ne0)
 
 -- ---- it did: two loads and the entry
-looked : (c : Else-found-hart-ne0) → HasNoted c.args.by Ready (Looked c.look_out-found.result) c.args.seat.me.0.harts c.look_out-found.new.seat.me.0.harts
+looked : (c : Else-found-hart-ne0) → HasNoted c.args.by Ready (Looked c.poll-found.result) c.args.seat.me.0.harts c.poll-found.new.seat.me.0.harts
 looked c =
     let h = c.args.by in
-    let found = c.look_out-found.result in
+    let found = c.poll-found.result in
     let armed : bit_at found (8 + h) ≡ 1 = sym (ap (λ n. bit_at found (8 + n)) c.number-hart.ensures.value) ∙ (sym (shr_and_one found (8 + c.number-hart.result)) ∙ c.if-found-hart-ne1.false) in
     let out : bit_at found (16 + h) ≡ 0 = sym (ap (λ n. bit_at found (16 + n)) c.number-hart.ensures.value) ∙ (sym (shr_and_one found (16 + c.number-hart.result)) ∙ c.if-found-hart-ne0.false) in
-    gets_ready h found c.args.seat.me.0 c.look_out-found.new.seat.me.0 c.look_out-found.ensures.told armed out
+    gets_ready h found c.args.seat.me.0 c.poll-found.new.seat.me.0 c.poll-found.ensures.told armed out
 
-ready : (c : Else-found-hart-ne0) → Goes c.args.by Ready c.args.seat.me.0 c.look_out-found.new.seat.me.0
-ready c = goes c.args.table.now.table.shared.key.harts c.args.by Out Ready (Looked c.look_out-found.result) c.args.seat.me.0 c.look_out-found.new.seat.me.0 (looked c) c.requires.acts
+ready : (c : Else-found-hart-ne0) → Goes c.args.by Ready c.args.seat.me.0 c.poll-found.new.seat.me.0
+ready c = goes c.args.table.now.table.shared.key.harts c.args.by Out Ready (Looked c.poll-found.result) c.args.seat.me.0 c.poll-found.new.seat.me.0 (looked c) c.requires.acts
 
-addressed : (c : After-read_address-site) → Goes c.args.by Ready c.args.seat.me.0 c.look_out-found.new.seat.me.0 → Goes c.args.by (Addressed c.read_address-site.result) c.args.seat.me.0 c.read_address-site.new.seat.me.0
+addressed : (c : After-read_address-site) → Goes c.args.by Ready c.args.seat.me.0 c.poll-found.new.seat.me.0 → Goes c.args.by (Addressed c.read_address-site.result) c.args.seat.me.0 c.read_address-site.new.seat.me.0
 addressed c gone =
     let a = c.read_address-site.result in
-    goes_on c.args.table.now.table.shared.key.harts c.args.by Ready (Addressed a) (Read (1 + 2 * c.args.by) a) c.args.seat.me.0 c.look_out-found.new.seat.me.0 c.read_address-site.new.seat.me.0 gone c.read_address-site.ensures.told
+    goes_on c.args.table.now.table.shared.key.harts c.args.by Ready (Addressed a) (Read (1 + 2 * c.args.by) a) c.args.seat.me.0 c.poll-found.new.seat.me.0 c.read_address-site.new.seat.me.0 gone c.read_address-site.ensures.told
 
 loaded : (c : After-read_opaque-opaque) → Goes c.args.by (Addressed c.read_address-site.result) c.args.seat.me.0 c.read_address-site.new.seat.me.0
     → Goes c.args.by (Loaded c.read_address-site.result c.read_opaque-opaque.result) c.args.seat.me.0 c.read_opaque-opaque.new.seat.me.0
@@ -108,5 +108,5 @@ returns-clause-alone c = λ states shown.
     let a = c.read_address-site.result in
     let same : c.unwrap-address.result ≡ a = (rw c.unwrap-address.ensures at c.new.ensures.some).0 in
     rw same
-    (enters_some c.args.table.now.table.shared.key.harts c.args.by c.look_out-found.result a c.read_opaque-opaque.result c.args.seat.me.0 c.look_out-found.new.seat.me.0 c.read_address-site.new.seat.me.0 c.read_opaque-opaque.new.seat.me.0 c.enter.new.seat.me.0
+    (enters_some c.args.table.now.table.shared.key.harts c.args.by c.poll-found.result a c.read_opaque-opaque.result c.args.seat.me.0 c.poll-found.new.seat.me.0 c.read_address-site.new.seat.me.0 c.read_opaque-opaque.new.seat.me.0 c.enter.new.seat.me.0
     (looked at.Else-found-hart-ne0) c.read_address-site.ensures.told c.read_opaque-opaque.ensures.told c.enter.ensures.told c.requires.acts c.enter.ensures.open states shown)

@@ -1,8 +1,8 @@
 use Rattle.hsm_words.specs.declared.view.Stage.TheVariants.{Running}
 use Rattle.hsm.proofs.calls.try_enter.Given as goal
 
-abbrev pub ghosts-look_out : goal.ghosts-look_out
-ghosts-look_out a = record { by = a.by; target = 0; address = 0; opaque = 0; stage = Running; harts = a.table.now.table.shared.key.harts }
+abbrev pub ghosts-poll : goal.ghosts-poll
+ghosts-poll a = record { by = a.by; target = 0; address = 0; opaque = 0; stage = Running; harts = a.table.now.table.shared.key.harts }
 
 abbrev pub ghosts-read_address : goal.ghosts-read_address
 ghosts-read_address a = record { by = a.by; target = 0; address = 0; opaque = 0; stage = Running; harts = a.table.now.table.shared.key.harts }
