@@ -51,8 +51,8 @@ pub record IsFresh (found : ℕ) (vs : List HartView) : Type 0 where
 abbrev pub Looks : ℕ → ℕ → Stage → Step (Unit {0}) → SeatState → ℕ → SeatState → Type 0
 Looks harts h st s m found m' = Notes h st (Looked found) m m' × IsFresh found m.0.harts × Tells harts m.0 found
 
-abbrev pub LooksOut : ℕ → ℕ → Step (Unit {0}) → SeatState → ℕ → SeatState → Type 0
-LooksOut harts h st m found m' = Notes h (after_look h found) (Looked found) m m' × Tells harts m.0 found
+abbrev pub PollsOutside : ℕ → ℕ → Step (Unit {0}) → SeatState → ℕ → SeatState → Type 0
+PollsOutside harts h st m found m' = Notes h (after_look h found) (Looked found) m m' × Tells harts m.0 found
 
 abbrev pub ReadsAddress : ℕ → Step (Unit {0}) → SeatState → ℕ → SeatState → Type 0
 ReadsAddress h st m found m' = Notes h (Addressed found) (Read (1 + 2 * h) found) m m' × IsSite found
