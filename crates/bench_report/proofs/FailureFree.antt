@@ -34,7 +34,7 @@ use Rattle.bench_report.specs.declared.printed.Printed.TheVariants as printed
 use Rattle.disk.specs.FaultState.{FaultArmed, CutArmed}
 use Rattle.bench_report.specs.declared.printed.Answer.{Answer}
 use Rattle.bench_report.specs.Bench.{DiskState, Blank, Unknown, Formatted, Life, Bench, IsFailureFree, blank_bench}
-use Rattle.bench_report.specs.Steps.{says, off, on_with, unpowered, unknown, armed_with, formatted_anew, settled, has_machine, acknowledged, begun, commands_of, console_told, Writes, IssuedBy, IssuesAll, FormatsOn, IsOn, Starts, Resumes, Begins, Boots, Opens, PowersOn, FormatStep, OnStep, ConsoleStep, PayloadStep, ReadStep, PokeStep, Issued, Refuses, Held, Resets, Suspends, SleepsBy, MakesCall, Comes, GuestTurn, GuestTurns, TurnStep, CallTold, GuestCall, CallStep, Step, Moves, Run}
+use Rattle.bench_report.specs.Steps.{says, off, on_with, unpowered, unknown, armed_with, formatted_anew, settled, has_machine, acknowledged, begun, commands_of, console_told, Writes, IssuedBy, IssuesAll, FormatsOn, IsOn, Starts, Resumes, Begins, Boots, Opens, PowersOn, FormatStep, OnStep, ConsoleStep, PayloadStep, ReadStep, PokeStep, Issued, Refuses, Held, Resets, Suspends, SleepsBy, MakesCall, Comes, GuestTurn, GuestTurns, TurnStep, CallReported, GuestCall, CallStep, Step, Moves, Run}
 use Rattle.bench_report.specs.Reports.{IsReport}
 use Rattle.bench_report.specs.Plain.{ShowsNoFailure, ShowNoFailure}
 
@@ -225,9 +225,9 @@ turn_at (Some life) h n b a new (inl (has, made, word, x, e)) failure_free =
 turn_at (Some life) h n b a new (inr x) failure_free = as_many b b new refl refl x.2
 
 -- the answer of a call that may have been refused is not failure-free
-call_free : (h : ℕ) (word : Word) (new : Bench) (a : Answer) → CallTold h word new a → ShowsNoFailure a.line → IsFree word
+call_free : (h : ℕ) (word : Word) (new : Bench) (a : Answer) → CallReported h word new a → ShowsNoFailure a.line → IsFree word
 call_free h word new a told failure_free e =
-    let P : Word → Type 0 = λ w. CallTold h w new a in
+    let P : Word → Type 0 = λ w. CallReported h w new a in
     let at = subst P e told in
     of_answer a (printed.Shown (shown.Answered h _ _)) at.2 failure_free
 

@@ -18,7 +18,7 @@ use Rattle.bench_report.specs.declared.power.Power.TheVariants.{Off, On}
 use Rattle.bench_report.specs.declared.printed.Answer.{Answer}
 use Rattle.bench_report.specs.Below.{Store, Board, store_in, machine_in, store_facts, store_fault_state}
 use Rattle.bench_report.specs.Bench.{Life, Bench}
-use Rattle.bench_report.specs.Steps.{shows, on_with, has_machine, FormatsOn, FormatStep, PowersOn, OnStep, PayloadStep, CallTold, GuestCall, TurnStep, CallStep, ReadStep}
+use Rattle.bench_report.specs.Steps.{shows, on_with, has_machine, FormatsOn, FormatStep, PowersOn, OnStep, PayloadStep, CallReported, GuestCall, TurnStep, CallStep, ReadStep}
 use Rattle.bench_report.proofs.Commanded.{Running, running_on}
 use Rattle.bench_report.proofs.Came.{Stands, has_other, comes, turns}
 use Rattle.bench_report.specs.Agree.{StoreIs, BoardIs, DeviceIs, OffIs, OnIs, StandsBy, Agrees, IsBench, Matches, Goes}
@@ -90,7 +90,7 @@ pub calls_off : (size : Size) (b : Bench) (board : Board) (h e f x y z : ℕ) �
 calls_off size b board h e f x y z was not = (b, lacks size b board h b.power was.0 not (λ p. CallStep p h e f x y z b (shows shown.Off) b) (λ life no. inr (no, refl, refl)), was, refl)
 
 -- a line of a call, by what the board did
-told_as : (size : Size) (h : ℕ) (word : Word) (b : Bench) (n : Machine) (store : Store) (line : MachineLine) → Stands size word b n store → line ≡ made_line h (hart_at n h) word → CallTold h word b (shows line)
+told_as : (size : Size) (h : ℕ) (word : Word) (b : Bench) (n : Machine) (store : Store) (line : MachineLine) → Stands size word b n store → line ≡ made_line h (hart_at n h) word → CallReported h word b (shows line)
 told_as size h (words.Own did) b n store line (life, on, is, same, device) e = (life, on, ap shows (e ∙ ap (λ m. own_line h (hart_at m h) did) same))
 told_as size h words.Asleep b n store line is e = ap shows e
 told_as size h (words.Reset kind) b n store line is e = ap shows e

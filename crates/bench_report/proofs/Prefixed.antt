@@ -30,7 +30,7 @@ use Rattle.bench_report.specs.declared.printed.Printed.TheVariants as printed
 use Rattle.disk.specs.FaultState.{FaultArmed, CutArmed}
 use Rattle.bench_report.specs.declared.printed.Answer.{Answer}
 use Rattle.bench_report.specs.Bench.{DiskState, Blank, Unknown, Formatted, Life, Bench, blank_bench}
-use Rattle.bench_report.specs.Steps.{says, shows, out_of_memory, failed, on_with, unpowered, armed_with, formatted_anew, settled, has_machine, begun, commands_of, console_told, IsOn, Starts, Resumes, Begins, Boots, Opens, ShowsFound, IsOpenRefusal, PowersOn, FormatsOn, FormatStep, OnStep, ConsoleStep, PayloadStep, CallTold, GuestCall, TurnStep, CallStep, ReadStep, PokeStep, Step, Moves, Run}
+use Rattle.bench_report.specs.Steps.{says, shows, out_of_memory, failed, on_with, unpowered, armed_with, formatted_anew, settled, has_machine, begun, commands_of, console_told, IsOn, Starts, Resumes, Begins, Boots, Opens, ShowsFound, IsOpenRefusal, PowersOn, FormatsOn, FormatStep, OnStep, ConsoleStep, PayloadStep, CallReported, GuestCall, TurnStep, CallStep, ReadStep, PokeStep, Step, Moves, Run}
 use Rattle.bench_report.specs.Reports.{IsByFirmware, AreByFirmware, IsReport}
 use Rattle.bench_report.specs.Prefix.{Asked, Boot, Command, Guest, Nothing, Hides, TellsWord, TellsLine, asked_by, Refused, Lost, Tells, ShowsIts, IsPrefixed, resumes, RisesFrom, AreLoaded, is_format_ok, IsFoundByPrefix, KeepsPrefixLaw}
 use Rattle.bench_report.proofs.Unsaid.{GoesBy, comes_back, turns_back}
@@ -219,7 +219,7 @@ own_tells h hart dids.Suspended s t up now w = w
 own_tells h hart dids.Stopped s t up now w = w
 own_tells h hart dids.Durable s t up now w = w
 
-call_says : (word : Word) (h : ℕ) (b : Bench) (a : Answer) (new : Bench) → GoesBy word b new → CallTold h word new a → Tell Guest b a new
+call_says : (word : Word) (h : ℕ) (b : Bench) (a : Answer) (new : Bench) → GoesBy word b new → CallReported h word new a → Tell Guest b a new
 call_says (words.Own did) h b a new back (life, on, e) =
     line_says (words.Own did) (own_line h (hart_at life.machine h) did) b a new back e (λ s t w. own_tells h (hart_at life.machine h) did s t (is_up b.power) (is_up new.power) w)
 call_says words.Asleep h b a new back e = line_says words.Asleep (shown_lines.Called h words.Asleep) b a new back e (λ s t w. w)
@@ -361,7 +361,7 @@ turn_no None h n b a new x ok = other a _ x.0 refl ok
 turn_no (Some life) h n b a new (inl (has, made, word, x, e)) ok = other a _ e refl ok
 turn_no (Some life) h n b a new (inr x) ok = other a _ x.1 refl ok
 
-call_word_no : {T : Type 0} (word : Word) (h : ℕ) (new : Bench) (a : Answer) → CallTold h word new a → is_format_ok a.line ≡ true → T
+call_word_no : {T : Type 0} (word : Word) (h : ℕ) (new : Bench) (a : Answer) → CallReported h word new a → is_format_ok a.line ≡ true → T
 call_word_no (words.Own did) h new a (life, on, e) ok = other a _ e refl ok
 call_word_no words.Asleep h new a e ok = other a _ e refl ok
 call_word_no (words.Reset kind) h new a e ok = other a _ e refl ok

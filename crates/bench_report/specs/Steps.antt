@@ -322,15 +322,15 @@ TurnStep (Some life) h n b answer new =
     ⊎ ((Has life.machine h → ⊥) × (answer ≡ shows shown.Off) × (new ≡ b))
 
 -- what a line of a call says of its hart, on the bench after it
-abbrev pub CallTold : ℕ → Word → Bench → Answer → Type 0
-CallTold h (words.Own did) new answer = (life : Life) × (new.power ≡ Some life) × (answer ≡ shows (own_line h (hart_at life.machine h) did))
-CallTold h words.Asleep new answer = answer ≡ shows (shown.Called h words.Asleep)
-CallTold h (words.Reset kind) new answer = answer ≡ shows (shown.Called h (words.Reset kind))
+abbrev pub CallReported : ℕ → Word → Bench → Answer → Type 0
+CallReported h (words.Own did) new answer = (life : Life) × (new.power ≡ Some life) × (answer ≡ shows (own_line h (hart_at life.machine h) did))
+CallReported h words.Asleep new answer = answer ≡ shows (shown.Called h words.Asleep)
+CallReported h (words.Reset kind) new answer = answer ≡ shows (shown.Called h (words.Reset kind))
 
 -- a call that the machine made in the place of hart h, once the life has the machine
 abbrev pub GuestCall : Called → ℕ → Life → Bench → Answer → Bench → Type 0
 GuestCall NotStarted h life b answer new = (answer ≡ shows (shown.NotStarted h)) × (new ≡ b)
-GuestCall (Made did) h life b answer new = (word : Word) × Comes did h life b word new × CallTold h word new answer
+GuestCall (Made did) h life b answer new = (word : Word) × Comes did h life b word new × CallReported h word new answer
 
 abbrev pub CallStep : Option Life → ℕ → ℕ → ℕ → ℕ → ℕ → ℕ → Bench → Answer → Bench → Type 0
 CallStep None h e f x y z b answer new = (answer ≡ shows shown.Off) × (new ≡ b)
