@@ -41,7 +41,7 @@ use Rattle.bench_report.specs.Bench.{Life, Bench}
 use Rattle.bench_report.specs.Steps.{out_of_memory, off, on_with, has_machine, acknowledged, Issued, refused, Refuses, Held, Resets, Suspends, IsAlone, Sleeps, SleepsBy, MakesCall, Comes, GuestTurn, IsLastTurn, GuestTurns}
 use Rattle.bench_report.specs.Agree.{StoreIs, DeviceIs, IsOver}
 use Rattle.bench_report.proofs.Adapted.{calm as untouched}
-use Rattle.bench_report.proofs.Commanded.{Running, follows_with, sized_for, told_end, told_err, told_up, told_down, again, calm_device, unmoved}
+use Rattle.bench_report.proofs.Commanded.{Running, follows_with, sized_for, reported_end, reported_err, reported_up, reported_down, again, calm_device, unmoved}
 
 -- the store of a life that its own command ended
 abbrev pub IsEnded : Size → Bench → Store → Type 0
@@ -64,8 +64,8 @@ module _ (size : Size) (b : Bench) (life : Life) (h : ℕ) (n : Machine) (old ne
   abbrev pub Came : (Word → Bench → Type 0) → Made → Type 0
   Came step held = (x : Bench) × step (word_by held) x × Stands size (word_by held) x n new × (x.payloads ≡ b.payloads)
 
-  by_held : (step : Word → Bench → Type 0) (held told : Made) → held ≡ told → Came step told → Came step held
-  by_held step held told e came = let P : Made → Type 0 = Came step in subst P (sym e) came
+  by_held : (step : Word → Bench → Type 0) (held reported : Made) → held ≡ reported → Came step reported → Came step held
+  by_held step held reported e came = let P : Made → Type 0 = Came step in subst P (sym e) came
 
   -- the hart was answered so, and goes on
   goes : (e : SbiError) (mid : Bench) → Running size mid life.machine new → t ≡ answered (hart_at life.machine h) (error_of (Err e)) 0
@@ -100,14 +100,14 @@ module _ (size : Size) (b : Bench) (life : Life) (h : ℕ) (n : Machine) (old ne
   -- ---- a reset
   resets_ok : (kind : ResetType) (r : Reason) (k : ℕ) (held : Made) → Asked Applied old (Reset r) (Ok k) new → held ≡ helds.Reset kind → Came (λ word x. Resets (Ok (kind, r)) h life b word x) held
   resets_ok kind r k held asked e =
-      let did = told_end size b life (Reset r) old new (life_of old) on was device asked.stays.board asked.stays.length asked.stays.no_fewer calm_life life.doubt refl k
+      let did = reported_end size b life (Reset r) old new (life_of old) on was device asked.stays.board asked.stays.length asked.stays.no_fewer calm_life life.doubt refl k
       (λ none. (asked.answered none).life) asked.down (λ none. (asked.answered none).cause) in
       let mid = acknowledged (Reset r) life b in
       by_held (λ word x. Resets (Ok (kind, r)) h life b word x) held (helds.Reset kind) e (off mid, (Ok k, mid, did.0, (refl, refl)), (refl, did.1, did.2), refl)
 
   resets_err : (kind : ResetType) (r : Reason) (e : Refusal) (held : Made) → Asked Applied old (Reset r) (Err e) new → Refused_to Failed (hart_at life.machine h) t held → Came (λ word x. Resets (Ok (kind, r)) h life b word x) held
   resets_err kind r e held asked refused =
-      let did = told_err size b life (Reset r) old new (life_of old) on was device asked.stays.board asked.stays.length asked.stays.no_fewer calm_life life.doubt refl e
+      let did = reported_err size b life (Reset r) old new (life_of old) on was device asked.stays.board asked.stays.length asked.stays.no_fewer calm_life life.doubt refl e
       (λ none. (asked.answered none).life) asked.down (λ none. (asked.answered none).cause) (λ none. (asked.answered none).counts) in
       let last = fails (number_of e) (words.Reset kind) did.0 held did.2 did.3 refused in
       (last.0, (Err (number_of e), did.0, did.1, last.1), last.2, last.3)
@@ -168,7 +168,7 @@ module _ (size : Size) (b : Bench) (life : Life) (h : ℕ) (n : Machine) (old ne
       issued fits e did = (number_of e, (did.0, inl (fits, did.1), did.2, did.3))
 
       goes_up : life.doubt ≡ None → Fits → (e : Refusal) → Refused seen command e (life_of new) → CausedRefusal (store_fault_state old) e (store_fault_state new) → CountedRefusal (store_facts old).failures e (store_facts new).failures → (k : ℕ) × Suspending k
-      goes_up none fits e up cause counts = issued fits e (told_up size b life command old new seen on was device asked.stays.board asked.stays.length asked.stays.no_fewer seen_as none e up cause counts)
+      goes_up none fits e up cause counts = issued fits e (reported_up size b life command old new seen on was device asked.stays.board asked.stays.length asked.stays.no_fewer seen_as none e up cause counts)
 
       fit_err : life.doubt ≡ None → Fits → (e : Refusal) → SuspendRefused Fits seen command e (life_of new) → CausedRefusal (store_fault_state old) e (store_fault_state new) → CountedRefusal (store_facts old).failures e (store_facts new).failures
           → (k : ℕ) × Suspending k
@@ -199,22 +199,22 @@ module _ (size : Size) (b : Bench) (life : Life) (h : ℕ) (n : Machine) (old ne
     suspend_err e asked = by life.doubt refl fits_or_not
       where
         by : (doubt : Option Change) → life.doubt ≡ doubt → Fits ⊎ (Fits → ⊥) → (k : ℕ) × Suspending k
-        by None none (inl fits) = let did = asked.answered (was.1.2 ∙ none) in fit_err (Err e) asked none fits e did.life.told did.cause did.counts
-        by None none (inr not) = let did = asked.answered (was.1.2 ∙ none) in unfit_err (Err e) asked none not e did.life.told did.cause
+        by None none (inl fits) = let did = asked.answered (was.1.2 ∙ none) in fit_err (Err e) asked none fits e did.life.reported did.cause did.counts
+        by None none (inr not) = let did = asked.answered (was.1.2 ∙ none) in unfit_err (Err e) asked none not e did.life.reported did.cause
         by (Some d) at (inl fits) =
-            issued (Err e) asked fits e (told_down size b life command old new (life_of old) on was device asked.stays.board asked.stays.length asked.stays.no_fewer calm_life d at e (asked.down d (was.1.2 ∙ at)))
+            issued (Err e) asked fits e (reported_down size b life command old new (life_of old) on was device asked.stays.board asked.stays.length asked.stays.no_fewer calm_life d at e (asked.down d (was.1.2 ∙ at)))
         by (Some d) at (inr not) =
             (3, (b, inr (inr (not, refl, refl)), unmoved size b life command old new (life_of old) on was device asked.stays.board asked.stays.length asked.stays.no_fewer (asked.down d (was.1.2 ∙ at)).1, refl))
 
     -- acknowledged
     suspend_ok : (k : ℕ) → Asked (Suspended Fits) old command (Ok k) new → (x : Bench) × Suspends Fits command life b (Ok k) x × (x ≡ acknowledged command life b) × IsEnded size (off x) new
     suspend_ok k asked =
-        let did = told_end size b life command old new (seen (Ok k) asked) on was device asked.stays.board asked.stays.length asked.stays.no_fewer (seen_as (Ok k) asked) life.doubt refl k
-        (λ none. (asked.answered none).life.told.1) asked.down (λ none. (asked.answered none).cause) in
+        let did = reported_end size b life command old new (seen (Ok k) asked) on was device asked.stays.board asked.stays.length asked.stays.no_fewer (seen_as (Ok k) asked) life.doubt refl k
+        (λ none. (asked.answered none).life.reported.1) asked.down (λ none. (asked.answered none).cause) in
         (acknowledged command life b, inl (fits life.doubt refl, did.0), refl, (refl, did.1, did.2))
       where
         fits : (doubt : Option Change) → life.doubt ≡ doubt → Fits
-        fits None none = (asked.answered (was.1.2 ∙ none)).life.told.0
+        fits None none = (asked.answered (was.1.2 ∙ none)).life.reported.0
         fits (Some d) at = absurd (let e = (asked.down d (was.1.2 ∙ at)).0 in let no : ⊥ = cc in no)
 
   abbrev the_hart : State

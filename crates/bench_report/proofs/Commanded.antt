@@ -161,39 +161,39 @@ module _ (size : Size) (b : Bench) (life : Life) (c : Change) (old new : Store) 
     never_ok : {A : Type 0} (d : Change) → life.doubt ≡ Some d → (n : ℕ) → ((d : Change) → doubt_of old ≡ Some d → (◌≡◌ {A = Result ℕ Refusal} (Ok n) (Err Down)) × (new ≡ old)) → A
     never_ok d calm n down = absurd (let e = (down d (was.1.2 ∙ calm)).0 in let no : ⊥ = cc in no)
 
-    pub told_ok : ends_life c ≡ false → (doubt : Option Change) → life.doubt ≡ doubt → (n : ℕ)
+    pub reported_ok : ends_life c ≡ false → (doubt : Option Change) → life.doubt ≡ doubt → (n : ℕ)
         → (doubt_of old ≡ None → Applied seen c (Ok n) (life_of new)) → ((d : Change) → doubt_of old ≡ Some d → (◌≡◌ {A = Result ℕ Refusal} (Ok n) (Err Down)) × (new ≡ old))
         → (doubt_of old ≡ None → store_fault_state new ≡ store_fault_state old) → Goes (Ok n)
-    told_ok goes None calm n up down unmoved =
+    reported_ok goes None calm n up down unmoved =
         let did = acknowledges life.now life.receipts c seen (life_of new) (is calm) goes n (up (was.1.2 ∙ calm)) in
         up_ok calm n did (calm_device b refl refl (unmoved (was.1.2 ∙ calm)))
-    told_ok goes (Some d) calm n up down unmoved = never_ok d calm n down
+    reported_ok goes (Some d) calm n up down unmoved = never_ok d calm n down
 
     -- a command that ended the life
-    pub told_end : (doubt : Option Change) → life.doubt ≡ doubt → (n : ℕ)
+    pub reported_end : (doubt : Option Change) → life.doubt ≡ doubt → (n : ℕ)
         → (doubt_of old ≡ None → Applied seen c (Ok n) (life_of new)) → ((d : Change) → doubt_of old ≡ Some d → (◌≡◌ {A = Result ℕ Refusal} (Ok n) (Err Down)) × (new ≡ old))
         → (doubt_of old ≡ None → store_fault_state new ≡ store_fault_state old)
         → Issued c life b (Ok n) (acknowledged c life b) × IsOver size b.disk_state (acknowledged c life b).kept new × DeviceIs size b (store_fault_state new) (store_facts new)
-    told_end None calm n up down unmoved =
+    reported_end None calm n up down unmoved =
         let did = ended life.now life.receipts c seen (life_of new) (is calm) n (up (was.1.2 ∙ calm)) in
         (issued_ok calm n did.0 did.1, over_more size b.disk_state b.kept c life new here calm did.2 did.3, calm_device b refl refl (unmoved (was.1.2 ∙ calm)))
-    told_end (Some d) calm n up down unmoved = never_ok d calm n down
+    reported_end (Some d) calm n up down unmoved = never_ok d calm n down
 
-    pub told_up : life.doubt ≡ None → (e : Refusal) → Refused seen c e (life_of new) → CausedRefusal (store_fault_state old) e (store_fault_state new) → CountedRefusal (store_facts old).failures e (store_facts new).failures
+    pub reported_up : life.doubt ≡ None → (e : Refusal) → Refused seen c e (life_of new) → CausedRefusal (store_fault_state old) e (store_fault_state new) → CountedRefusal (store_facts old).failures e (store_facts new).failures
         → Goes (Err (number_of e))
-    told_up calm e up cause counts =
+    reported_up calm e up cause counts =
         let did = refused life.now life.receipts c seen (life_of new) (is calm) e up in
         let P : Refusal → Type 0 = λ f. CountedRefusal (store_facts old).failures f (store_facts new).failures in
         up_err calm e did cause (λ is. subst P is counts) (λ is. subst P is counts)
 
-    pub told_down : (d : Change) → life.doubt ≡ Some d → (e : Refusal) → ((◌≡◌ {A = Result ℕ Refusal} (Err e) (Err Down)) × (new ≡ old)) → Goes (Err (number_of e))
-    told_down d calm e did =
+    pub reported_down : (d : Change) → life.doubt ≡ Some d → (e : Refusal) → ((◌≡◌ {A = Result ℕ Refusal} (Err e) (Err Down)) × (new ≡ old)) → Goes (Err (number_of e))
+    reported_down d calm e did =
         let P : Option Change → Type 0 = λ d. IssuedBy d c life b (Err (number_of e)) b in
         (b, subst P (sym calm) (number e Down (same_error did.0), refl), unmoved did.1, refl)
 
-    pub told_err : (doubt : Option Change) → life.doubt ≡ doubt → (e : Refusal)
+    pub reported_err : (doubt : Option Change) → life.doubt ≡ doubt → (e : Refusal)
         → (doubt_of old ≡ None → Refused seen c e (life_of new)) → ((d : Change) → doubt_of old ≡ Some d → (◌≡◌ {A = Result ℕ Refusal} (Err e) (Err Down)) × (new ≡ old))
         → (doubt_of old ≡ None → CausedRefusal (store_fault_state old) e (store_fault_state new))
         → (doubt_of old ≡ None → CountedRefusal (store_facts old).failures e (store_facts new).failures) → Goes (Err (number_of e))
-    told_err None calm e up down cause counts = let none = was.1.2 ∙ calm in told_up calm e (up none) (cause none) (counts none)
-    told_err (Some d) calm e up down cause counts = told_down d calm e (down d (was.1.2 ∙ calm))
+    reported_err None calm e up down cause counts = let none = was.1.2 ∙ calm in reported_up calm e (up none) (cause none) (counts none)
+    reported_err (Some d) calm e up down cause counts = reported_down d calm e (down d (was.1.2 ∙ calm))

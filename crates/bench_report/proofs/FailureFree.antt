@@ -34,7 +34,7 @@ use Rattle.bench_report.specs.declared.printed.Printed.TheVariants as printed
 use Rattle.disk.specs.FaultState.{FaultArmed, CutArmed}
 use Rattle.bench_report.specs.declared.printed.Answer.{Answer}
 use Rattle.bench_report.specs.Bench.{DiskState, Blank, Unknown, Formatted, Life, Bench, IsFailureFree, blank_bench}
-use Rattle.bench_report.specs.Steps.{says, off, on_with, unpowered, unknown, armed_with, formatted_anew, settled, has_machine, acknowledged, begun, commands_of, console_told, Writes, IssuedBy, IssuesAll, FormatsOn, IsOn, Starts, Resumes, Begins, Boots, Opens, PowersOn, FormatStep, OnStep, ConsoleStep, PayloadStep, ReadStep, PokeStep, Issued, Refuses, Held, Resets, Suspends, SleepsBy, MakesCall, Comes, GuestTurn, GuestTurns, TurnStep, CallReported, GuestCall, CallStep, Step, Moves, Run}
+use Rattle.bench_report.specs.Steps.{says, off, on_with, unpowered, unknown, armed_with, formatted_anew, settled, has_machine, acknowledged, begun, commands_of, console_reported, Writes, IssuedBy, IssuesAll, FormatsOn, IsOn, Starts, Resumes, Begins, Boots, Opens, PowersOn, FormatStep, OnStep, ConsoleStep, PayloadStep, ReadStep, PokeStep, Issued, Refuses, Held, Resets, Suspends, SleepsBy, MakesCall, Comes, GuestTurn, GuestTurns, TurnStep, CallReported, GuestCall, CallStep, Step, Moves, Run}
 use Rattle.bench_report.specs.Reports.{IsReport}
 use Rattle.bench_report.specs.Plain.{ShowsNoFailure, ShowNoFailure}
 
@@ -49,11 +49,11 @@ pub many_then : (b mid new : Bench) → AsMany b mid → AsMany mid new → AsMa
 many_then b mid new x y = (y.0 ∙ x.0, y.1 ∙ x.1)
 
 -- what is failure-free by its line
-of_line : (line told : Printed) → line ≡ told → ShowsNoFailure line → ShowsNoFailure told
-of_line line told e failure_free = let P : Printed → Type 0 = ShowsNoFailure in subst P e failure_free
+of_line : (line reported : Printed) → line ≡ reported → ShowsNoFailure line → ShowsNoFailure reported
+of_line line reported e failure_free = let P : Printed → Type 0 = ShowsNoFailure in subst P e failure_free
 
-of_answer : (a : Answer) (told : Printed) → a ≡ says told → ShowsNoFailure a.line → ShowsNoFailure told
-of_answer a told e failure_free = of_line a.line told (ap (λ (x : Answer). x.line) e) failure_free
+of_answer : (a : Answer) (reported : Printed) → a ≡ says reported → ShowsNoFailure a.line → ShowsNoFailure reported
+of_answer a reported e failure_free = of_line a.line reported (ap (λ (x : Answer). x.line) e) failure_free
 
 -- a command that was refused by none of the disk's numbers
 abbrev IsFailureFreeResult : Result ℕ ℕ → Type 0
@@ -97,7 +97,7 @@ formats_failure_free Formatted b a new (inr h) failure_free = absurd (of_answer 
 
 is_on_failure_free : (o : Result ℕ ℕ) (mode : BootMode) (z : Size) (s : State) (b : Bench) (line : Printed) (new : Bench) → IsOn o mode z s b line new → ShowsNoFailure line → IsFailureFreeResult o × AsMany b new
 is_on_failure_free (Ok n) mode z s b line new (life, on, said, m, boots, e) failure_free = (tt, as_many b (on_with (has_machine m life) b) new refl refl e)
-is_on_failure_free (Err n) mode z s b line new h failure_free = let told = of_line line (printed.OnRefused n) h.0 failure_free in ((told.0, told.1), as_many b (off b) new refl refl h.1)
+is_on_failure_free (Err n) mode z s b line new h failure_free = let reported = of_line line (printed.OnRefused n) h.0 failure_free in ((reported.0, reported.1), as_many b (off b) new refl refl h.1)
 
 slot_failure_free : (mode : BootMode) (z : Size) (s : State) (b : Bench) (line : Printed) (new : Bench) → Starts mode z s b line new → ShowsNoFailure line → AsMany b new
 slot_failure_free mode z s b line new (o, mid, h, on) failure_free =
@@ -139,13 +139,13 @@ on_at : (size : Size) (p : Option Life) (mode : BootMode) (b : Bench) (a : Answe
 on_at size None mode b a new h failure_free = powers_failure_free size mode b a new h failure_free
 on_at size (Some life) mode b a new h failure_free = as_many b b new refl refl h.1
 
-told_failure_free : (word : ConsoleWord) (o : Result ℕ ℕ) (a : Answer) → a ≡ console_told word o → ShowsNoFailure a.line → IsFailureFreeResult o
-told_failure_free word (Ok n) a e failure_free = tt
-told_failure_free word (Err n) a e failure_free = of_answer a (printed.CommandRefused word n) e failure_free
+reported_failure_free : (word : ConsoleWord) (o : Result ℕ ℕ) (a : Answer) → a ≡ console_reported word o → ShowsNoFailure a.line → IsFailureFreeResult o
+reported_failure_free word (Ok n) a e failure_free = tt
+reported_failure_free word (Err n) a e failure_free = of_answer a (printed.CommandRefused word n) e failure_free
 
 console_at : (word : ConsoleWord) (c : Change) (p : Option Life) (b : Bench) (a : Answer) (new : Bench) → ConsoleStep word c p b a new → ShowsNoFailure a.line → AsMany b new
 console_at word c None b a new h failure_free = as_many b b new refl refl h.1
-console_at word c (Some life) b a new h failure_free = issued_failure_free life.doubt c life b h.0 new h.1 (told_failure_free word h.0 a h.2 failure_free)
+console_at word c (Some life) b a new h failure_free = issued_failure_free life.doubt c life b h.0 new h.1 (reported_failure_free word h.0 a h.2 failure_free)
 
 payload_at : (p : Option Life) (slot : ℕ) (bytes : List ℕ) (b : Bench) (a : Answer) (new : Bench) → PayloadStep p slot bytes b a new → AsMany b new
 payload_at None slot bytes b a new h = as_many b _ new refl refl h.1
@@ -226,14 +226,14 @@ turn_at (Some life) h n b a new (inr x) failure_free = as_many b b new refl refl
 
 -- the answer of a call that may have been refused is not failure-free
 call_free : (h : ℕ) (word : Word) (new : Bench) (a : Answer) → CallReported h word new a → ShowsNoFailure a.line → IsFree word
-call_free h word new a told failure_free e =
+call_free h word new a reported failure_free e =
     let P : Word → Type 0 = λ w. CallReported h w new a in
-    let at = subst P e told in
+    let at = subst P e reported in
     of_answer a (printed.Shown (shown.Answered h _ _)) at.2 failure_free
 
 called_at : (called : Called) (h : ℕ) (life : Life) (b : Bench) (a : Answer) (new : Bench) → GuestCall called h life b a new → ShowsNoFailure a.line → AsMany b new
 called_at NotStarted h life b a new x failure_free = as_many b b new refl refl x.1
-called_at (Made did) h life b a new (word, x, told) failure_free = comes_free did h life b word new x (call_free h word new a told failure_free)
+called_at (Made did) h life b a new (word, x, reported) failure_free = comes_free did h life b word new x (call_free h word new a reported failure_free)
 
 call_at : (p : Option Life) (h e f x y z : ℕ) (b : Bench) (a : Answer) (new : Bench) → CallStep p h e f x y z b a new → ShowsNoFailure a.line → AsMany b new
 call_at None h e f x y z b a new g failure_free = as_many b b new refl refl g.1

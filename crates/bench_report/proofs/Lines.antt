@@ -90,10 +90,10 @@ pub calls_off : (size : Size) (b : Bench) (board : Board) (h e f x y z : ℕ) �
 calls_off size b board h e f x y z was not = (b, lacks size b board h b.power was.0 not (λ p. CallStep p h e f x y z b (shows shown.Off) b) (λ life no. inr (no, refl, refl)), was, refl)
 
 -- a line of a call, by what the board did
-told_as : (size : Size) (h : ℕ) (word : Word) (b : Bench) (n : Machine) (store : Store) (line : MachineLine) → Stands size word b n store → line ≡ made_line h (hart_at n h) word → CallReported h word b (shows line)
-told_as size h (words.Own did) b n store line (life, on, is, same, device) e = (life, on, ap shows (e ∙ ap (λ m. own_line h (hart_at m h) did) same))
-told_as size h words.Asleep b n store line is e = ap shows e
-told_as size h (words.Reset kind) b n store line is e = ap shows e
+reported_as : (size : Size) (h : ℕ) (word : Word) (b : Bench) (n : Machine) (store : Store) (line : MachineLine) → Stands size word b n store → line ≡ made_line h (hart_at n h) word → CallReported h word b (shows line)
+reported_as size h (words.Own did) b n store line (life, on, is, same, device) e = (life, on, ap shows (e ∙ ap (λ m. own_line h (hart_at m h) did) same))
+reported_as size h words.Asleep b n store line is e = ap shows e
+reported_as size h (words.Reset kind) b n store line is e = ap shows e
 
 module _ (size : Size) (b : Bench) (old new : Board) (h e f x y z : ℕ) (said : Option Word) (line : MachineLine) (after : Power) (was : OnIs size b old) (has : Has (machine_in old) h) (shows_it : line ≡ called_line h (hart_at (machine_in new) h) said) where
   -- what the board is, where a word was said and where none was
@@ -115,8 +115,8 @@ module _ (size : Size) (b : Bench) (old new : Board) (h e f x y z : ℕ) (said :
       let x : Bench = on_with (has_machine m life) b in
       let F : Option Word → Type 0 = Follows in
       let did_so = comes size x (has_machine m life) h (machine_in new) (store_in old) (store_in new) refl (has_other size b life m (store_in old) sized is.0) was.1 did word made in
-      let told = told_as size h word did_so.0 (machine_in new) (store_in new) line did_so.2 (shows_it ∙ ap (called_line h (hart_at (machine_in new) h)) some) in
-      (did_so.0, (word, did_so.1, told), subst F some follows did_so.0 (stands_by size word did_so.0 new did_so.2), did_so.3)
+      let reported = reported_as size h word did_so.0 (machine_in new) (store_in new) line did_so.2 (shows_it ∙ ap (called_line h (hart_at (machine_in new) h)) some) in
+      (did_so.0, (word, did_so.1, reported), subst F some follows did_so.0 (stands_by size word did_so.0 new did_so.2), did_so.3)
 
   pub on_calls : boards.Calls h e f x y z (machine_in old) (machine_in new) (store_in old) (store_in new) said → Follows said → Goes size b after (CallStep b.power h e f x y z b (shows line))
   on_calls (m, called, call, comes_of) follows = by b.power was.0 refl

@@ -35,10 +35,10 @@ IsGood b = CalmDisk b.disk_state b.kept.doubt × CalmPower b.power × (b.fault_s
 
 -- what a line says, and the bench after it, are allowed, and leave the bench good
 abbrev Well : Bench → (Answer → Bench → Type 0) → Answer × Bench → Type 0
-Well b step told = step told.0 told.1 × IsGood told.1 × AsMany b told.1
+Well b step reported = step reported.0 reported.1 × IsGood reported.1 × AsMany b reported.1
 
-still : (b : Bench) (step : Answer → Bench → Type 0) (told : Answer × Bench) → step told.0 told.1 → told.1 ≡ b → IsGood b → Well b step told
-still b step told h e good = let P : Bench → Type 0 = λ x. IsGood x × AsMany b x in let rest = subst P (sym e) (good, (refl, refl)) in (h, rest.0, rest.1)
+still : (b : Bench) (step : Answer → Bench → Type 0) (reported : Answer × Bench) → step reported.0 reported.1 → reported.1 ≡ b → IsGood b → Well b step reported
+still b step reported h e good = let P : Bench → Type 0 = λ x. IsGood x × AsMany b x in let rest = subst P (sym e) (good, (refl, refl)) in (h, rest.0, rest.1)
 
 -- ---- a command
 -- it makes no image
@@ -46,7 +46,7 @@ abbrev MakesNone : Change → Type 0
 MakesNone c = (s : State) → s.image ≡ None → (after s c).image ≡ None
 
 abbrev WellIssued : Change → Life → Bench → Result ℕ ℕ × Bench → Type 0
-WellIssued c life b told = Issued c life b told.0 told.1 × IsGood told.1 × AsMany b told.1
+WellIssued c life b reported = Issued c life b reported.0 reported.1 × IsGood reported.1 × AsMany b reported.1
 
 written : (r : Option ℕ) (c : Change) (life : Life) (b : Bench) → MakesNone c → refusal_of life.now c ≡ r → life.doubt ≡ None → life.receipts < 4096 → IsGood b → WellIssued c life b (plain_written r c life b)
 written (Some n) c life b none at calm few good =
@@ -76,9 +76,9 @@ issued false c life b none at calm few good =
 console_at : (word : ConsoleWord) (c : Change) (p : Option Life) (b : Bench) → MakesNone c → CalmPower p → IsGood b → Well b (ConsoleStep word c p b) (plain_console word c p b)
 console_at word c None b none calm good = still b (ConsoleStep word c None b) (plain_console word c None b) (refl, refl) refl good
 console_at word c (Some life) b none calm good =
-    let told = plain_issued c life b in
+    let reported = plain_issued c life b in
     let did = issued (life.receipts == 4096) c life b none refl calm.0 calm.1 good in
-    ((told.0, did.0, refl), did.1, did.2)
+    ((reported.0, did.0, refl), did.1, did.2)
 
 -- ---- format
 formats : (m : DiskState) (b : Bench) → CalmDisk m b.kept.doubt → IsGood b → Well b (FormatsOn m b) (plain_format m b)

@@ -1,5 +1,5 @@
 -- The prefix law, one induction over the lines, backwards: the state before a line comes of the one after it, so that the fate of a
--- command in doubt is told by the open that settles it.
+-- command in doubt is reported by the open that settles it.
 use Rattle.std.proofs.Common.{◌≡◌, ℕ, inl, inr, List, [], ◌∷◌, Option, None, Some, Result, Ok, Err, refl, sym, ◌∙◌, ap, subst, Bool, true, false, MatchBool}
 use Rattle.board_model.specs.Durable.{State, Change, Slot, Discard, formatted}
 use Rattle.board_model.specs.Kept.{Kept, nothing_kept, found_of, MayKeep, MayFind}
@@ -30,7 +30,7 @@ use Rattle.bench_report.specs.declared.printed.Printed.TheVariants as printed
 use Rattle.disk.specs.FaultState.{FaultArmed, CutArmed}
 use Rattle.bench_report.specs.declared.printed.Answer.{Answer}
 use Rattle.bench_report.specs.Bench.{DiskState, Blank, Unknown, Formatted, Life, Bench, blank_bench}
-use Rattle.bench_report.specs.Steps.{says, shows, out_of_memory, failed, on_with, unpowered, armed_with, formatted_anew, settled, has_machine, begun, commands_of, console_told, IsOn, Starts, Resumes, Begins, Boots, Opens, ShowsFound, IsOpenRefusal, PowersOn, FormatsOn, FormatStep, OnStep, ConsoleStep, PayloadStep, CallReported, GuestCall, TurnStep, CallStep, ReadStep, PokeStep, Step, Moves, Run}
+use Rattle.bench_report.specs.Steps.{says, shows, out_of_memory, failed, on_with, unpowered, armed_with, formatted_anew, settled, has_machine, begun, commands_of, console_reported, IsOn, Starts, Resumes, Begins, Boots, Opens, ShowsFound, IsOpenRefusal, PowersOn, FormatsOn, FormatStep, OnStep, ConsoleStep, PayloadStep, CallReported, GuestCall, TurnStep, CallStep, ReadStep, PokeStep, Step, Moves, Run}
 use Rattle.bench_report.specs.Reports.{IsByFirmware, AreByFirmware, IsReport}
 use Rattle.bench_report.specs.Prefix.{Asked, Boot, Command, Guest, Nothing, Hides, TellsWord, TellsLine, asked_by, Refused, Lost, Tells, ShowsIts, IsPrefixed, resumes, RisesFrom, AreLoaded, is_format_ok, IsFoundByPrefix, KeepsPrefixLaw}
 use Rattle.bench_report.proofs.Unsaid.{GoesBy, comes_back, turns_back}
@@ -165,7 +165,7 @@ powers size mode b a new sound on (inr (inr (inl h))) = same (Boot mode) b a (pr
 powers size mode b a new sound on (inr (inr (inr h))) = same (Boot mode) b a (printed.OnRefused 5) new (failed h.1.0 b) h.0 h.1.2 refl refl refl sound.1 sound (λ s t e. (ap is_up on, ap is_up on, inl e))
 
 -- ---- the other lines
-console_says : (word : ConsoleWord) (c : Change) (o : Result ℕ ℕ) (b : Bench) (a : Answer) (new : Bench) → Does c (is_up b.power) b o new → a ≡ console_told word o → Tell (Command c) b a new
+console_says : (word : ConsoleWord) (c : Change) (o : Result ℕ ℕ) (b : Bench) (a : Answer) (new : Bench) → Does c (is_up b.power) b o new → a ≡ console_reported word o → Tell (Command c) b a new
 console_says word c (Ok k) b a new one e =
     by_eqs (Command c) b a _ new new e refl (said b new (Went (Ok k) c (is_up b.power) (is_up new.power)) (λ s t. Told (Command c) (says (printed.Acknowledged word k)) (is_up b.power) (is_up new.power) s t) one (λ s t w. (tt, (w.0, (w.1, w.2), w.3))))
 console_says word c (Err k) b a new one e =
@@ -277,16 +277,16 @@ lost_tells Nothing s t up h = (h, refl)
 moves : (size : Size) (line : Line) (b : Bench) (a : Answer) (new : Bench) → IsByFirmware line → IsSound b → Moves size line b a new → Tell (asked_by line) b a new
 moves size line b a new by sound (inl h) = steps size line b a new by sound h.0
 moves size line b a new by sound (inr (would, mid, step, struck, e, is)) =
-    let told : Tell (asked_by line) b would mid = steps size line b would mid by sound step in
+    let reported : Tell (asked_by line) b would mid = steps size line b would mid by sound step in
     by_eqs (asked_by line) b a _ new (unpowered mid) e is
-    ((told.0.0, tt), λ t f. (let s = told.1 t f in (s.0, s.1, (tt, lost_tells (asked_by line) s.0 t (is_up b.power) (lost (asked_by line) would.line s.0 t (is_up b.power) (is_up mid.power) s.2.1)))))
+    ((reported.0.0, tt), λ t f. (let s = reported.1 t f in (s.0, s.1, (tt, lost_tells (asked_by line) s.0 t (is_up b.power) (lost (asked_by line) would.line s.0 t (is_up b.power) (is_up mid.power) s.2.1)))))
 
 prefixed : (size : Size) (ls : List Line) (b : Bench) (answers : List Answer) (end : Bench) → AreByFirmware ls → IsSound b → Run size b ls answers end → (s : State) × MayFind b.kept s × IsPrefixed s (is_up b.power) ls answers
 prefixed size [] b [] end by sound run = (found_of b.kept.changes, (b.kept.changes, inl refl, refl), tt)
 prefixed size (l ∷ ls) b (a ∷ answers) end by sound run =
-    let told : Tell (asked_by l) b a run.0 = moves size l b a run.0 by.0 sound run.1 in
-    let rest = prefixed size ls run.0 answers end by.1 told.0 run.2 in
-    let s = told.1 rest.0 rest.1 in
+    let reported : Tell (asked_by l) b a run.0 = moves size l b a run.0 by.0 sound run.1 in
+    let rest = prefixed size ls run.0 answers end by.1 reported.0 run.2 in
+    let s = reported.1 rest.0 rest.1 in
     (s.0, s.1, (s.2.0, rest.0, is_up run.0.power, s.2.1, rest.2))
 prefixed size [] b (a ∷ answers) end by sound run = absurd run
 prefixed size (l ∷ ls) b [] end by sound run = absurd run
@@ -344,13 +344,13 @@ powers_no size None mode b a new (inr (inl h)) ok = other a _ h.2 refl ok
 powers_no size None mode b a new (inr (inr (inl h))) ok = other a _ h.1 refl ok
 powers_no size None mode b a new (inr (inr (inr h))) ok = other a _ h.0 refl ok
 
-told_no : {T : Type 0} (word : ConsoleWord) (o : Result ℕ ℕ) (a : Answer) → a ≡ console_told word o → is_format_ok a.line ≡ true → T
-told_no word (Ok n) a e ok = other a _ e refl ok
-told_no word (Err n) a e ok = other a _ e refl ok
+reported_no : {T : Type 0} (word : ConsoleWord) (o : Result ℕ ℕ) (a : Answer) → a ≡ console_reported word o → is_format_ok a.line ≡ true → T
+reported_no word (Ok n) a e ok = other a _ e refl ok
+reported_no word (Err n) a e ok = other a _ e refl ok
 
 console_no : {T : Type 0} (word : ConsoleWord) (c : Change) (p : Option Life) (b : Bench) (a : Answer) (new : Bench) → ConsoleStep word c p b a new → is_format_ok a.line ≡ true → T
 console_no word c None b a new h ok = other a _ h.0 refl ok
-console_no word c (Some life) b a new h ok = told_no word h.0 a h.2 ok
+console_no word c (Some life) b a new h ok = reported_no word h.0 a h.2 ok
 
 payload_no : {T : Type 0} (p : Option Life) (slot : ℕ) (bytes : List ℕ) (b : Bench) (a : Answer) (new : Bench) → PayloadStep p slot bytes b a new → is_format_ok a.line ≡ true → T
 payload_no None slot bytes b a new h ok = other a _ h.0 refl ok
@@ -411,11 +411,11 @@ moves_format size line b a new (inr h) ok = other a _ h.4 refl ok
 anew : (size : Size) (ls : List Line) (b : Bench) (answers : List Answer) (end : Bench) → AreByFirmware ls → IsFresh b → Run size b ls answers end → IsPrefixed formatted false ls answers × RisesFrom 0 (resumes answers) × AreLoaded ls answers
 anew size ls b answers end by (disk_state, kept, on) run =
     let F : Option Life → Type 0 = λ p. GoesOn b.kept p in
-    let told = prefixed size ls b answers end by (disk_state, subst F (sym on) tt) run in
+    let reported = prefixed size ls b answers end by (disk_state, subst F (sym on) tt) run in
     let P : State → Type 0 = λ s. IsPrefixed s (is_up b.power) ls answers in
     let Q : Bool → Type 0 = λ up. IsPrefixed formatted up ls answers in
-    let R : Kept → Type 0 = λ k. MayFind k told.0 in
-    let law = subst Q (ap is_up on) (subst P (first told.0 (subst R kept told.1)) told.2) in
+    let R : Kept → Type 0 = λ k. MayFind k reported.0 in
+    let law = subst Q (ap is_up on) (subst P (first reported.0 (subst R kept reported.1)) reported.2) in
     (law, serials_rise ls answers law, all_loaded size ls b answers end by (whole_anew b.kept b.power kept on) run)
   where
     whole_anew : (k : Kept) (p : Option Life) → k ≡ nothing_kept → p ≡ None → IsKeptWhole size (record b { kept = k; power = p })

@@ -178,10 +178,10 @@ finds_all script answers b mode a new by h disk_state none (inr (would, mid, ste
 
 -- ---- what any open finds
 untold : {A : Type 0} (a : Answer) (line : Printed) (d : Durable) → a ≡ says line → a.found ≡ Some d → A
-untold a line d e told = let g : ◌≡◌ {A = Option Durable} None (Some d) = ap (λ (x : Answer). x.found) (sym e) ∙ told in absurd (let no : ⊥ = cc in no)
+untold a line d e reported = let g : ◌≡◌ {A = Option Durable} None (Some d) = ap (λ (x : Answer). x.found) (sym e) ∙ reported in absurd (let no : ⊥ = cc in no)
 
 powers_find : (size : Size) (mode : BootMode) (b : Bench) (a : Answer) (new : Bench) (d : Durable) → b.disk_state ≡ Formatted → PowersOn size mode b a new → a.found ≡ Some d → (s : State) × MayFind b.kept s × (d ≡ durable_of s)
-powers_find size mode b a new d disk_state (inl (s, z, mid, found, shows, boot)) told = (s, opens_find b.disk_state refl found, shown (found_as a.found s shows))
+powers_find size mode b a new d disk_state (inl (s, z, mid, found, shows, boot)) reported = (s, opens_find b.disk_state refl found, shown (found_as a.found s shows))
   where
     opens_find : (m : DiskState) → b.disk_state ≡ m → Opens size m b s z mid → MayFind b.kept s
     opens_find Blank at h = absurd h
@@ -189,15 +189,15 @@ powers_find size mode b a new d disk_state (inl (s, z, mid, found, shows, boot))
     opens_find Formatted at (changes, may, is, sized, e) = (changes, may, is)
 
     shown : a.found ≡ Some (durable_of s) → d ≡ durable_of s
-    shown e = let g : Some d ≡ Some (durable_of s) = sym told ∙ e in let h : d ≡ durable_of s = cc in h
-powers_find size mode b a new d disk_state (inr (inl h)) told = untold a (printed.OnRefused h.0) d h.2 told
-powers_find size mode b a new d disk_state (inr (inr (inl h))) told = untold a (printed.OnRefused 11) d h.1 told
-powers_find size mode b a new d disk_state (inr (inr (inr h))) told = untold a (printed.OnRefused 5) d h.0 told
+    shown e = let g : Some d ≡ Some (durable_of s) = sym reported ∙ e in let h : d ≡ durable_of s = cc in h
+powers_find size mode b a new d disk_state (inr (inl h)) reported = untold a (printed.OnRefused h.0) d h.2 reported
+powers_find size mode b a new d disk_state (inr (inr (inl h))) reported = untold a (printed.OnRefused 11) d h.1 reported
+powers_find size mode b a new d disk_state (inr (inr (inr h))) reported = untold a (printed.OnRefused 5) d h.0 reported
 
 on_find : (size : Size) (p : Option Life) (mode : BootMode) (b : Bench) (a : Answer) (new : Bench) (d : Durable) → b.disk_state ≡ Formatted → OnStep size p mode b a new → a.found ≡ Some d → (s : State) × MayFind b.kept s × (d ≡ durable_of s)
-on_find size None mode b a new d disk_state h told = powers_find size mode b a new d disk_state h told
-on_find size (Some life) mode b a new d disk_state h told = untold a printed.Busy d h.0 told
+on_find size None mode b a new d disk_state h reported = powers_find size mode b a new d disk_state h reported
+on_find size (Some life) mode b a new d disk_state h reported = untold a printed.Busy d h.0 reported
 
 pub finds : (size : Size) (mode : BootMode) (b : Bench) (a : Answer) (new : Bench) (d : Durable) → b.disk_state ≡ Formatted → Moves size (lines.On mode) b a new → a.found ≡ Some d → (s : State) × MayFind b.kept s × (d ≡ durable_of s)
-finds size mode b a new d disk_state (inl move) told = on_find size b.power mode b a new d disk_state move.0 told
-finds size mode b a new d disk_state (inr (would, mid, step, struck, e, is)) told = untold a printed.PowerLost d e told
+finds size mode b a new d disk_state (inl move) reported = on_find size b.power mode b a new d disk_state move.0 reported
+finds size mode b a new d disk_state (inr (would, mid, step, struck, e, is)) reported = untold a printed.PowerLost d e reported

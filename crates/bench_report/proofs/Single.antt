@@ -21,7 +21,7 @@ use Rattle.bench_report.specs.declared.printed.ConsoleWord.{ConsoleWord}
 use Rattle.bench_report.specs.declared.printed.ConsoleWord.TheVariants as names
 use Rattle.bench_report.specs.declared.printed.Answer.{Answer}
 use Rattle.bench_report.specs.Bench.{Life, Bench, IsFailureFree, blank_bench}
-use Rattle.bench_report.specs.Steps.{shows, unpowered, unknown, armed_with, on_with, has_machine, console_told, FormatStep, OnStep, ConsoleStep, PayloadStep, CallReported, GuestCall, TurnStep, CallStep, ReadStep, PokeStep, Step, Moves, Run}
+use Rattle.bench_report.specs.Steps.{shows, unpowered, unknown, armed_with, on_with, has_machine, console_reported, FormatStep, OnStep, ConsoleStep, PayloadStep, CallReported, GuestCall, TurnStep, CallStep, ReadStep, PokeStep, Step, Moves, Run}
 use Rattle.bench_report.specs.Reports.{IsByFirmware, AreByFirmware, IsReport}
 use Rattle.bench_report.proofs.Guests.{IsOneTurn, Row, row, comes_fair, comes_one, turns_fair, turns_one}
 use Rattle.bench_report.proofs.Determined.{some_inj, HasFailed, IsCalm, Fair, fair_to, fair_then, unmoved, issued_fair, Agree, same, issued, formats_fair, formats, powers_fair, powers}
@@ -121,7 +121,7 @@ on_at size (Some life) mode b a z new last calm x y = same a z _ new last b x.0 
 
 console_at : (word : ConsoleWord) (c : Change) (p : Option Life) (b : Bench) (a z : Answer) (new last : Bench) → ConsoleStep word c p b a new → ConsoleStep word c p b z last → Agree a z new last
 console_at word c None b a z new last x y = same a z _ new last b x.0 y.0 x.1 y.1
-console_at word c (Some life) b a z new last x y = by_word (λ o. console_told word o) x.0 y.0 a z new last x.2 y.2 (issued c life b x.0 y.0 new last x.1 y.1)
+console_at word c (Some life) b a z new last x y = by_word (λ o. console_reported word o) x.0 y.0 a z new last x.2 y.2 (issued c life b x.0 y.0 new last x.1 y.1)
 
 payload_at : (p : Option Life) (slot : ℕ) (bytes : List ℕ) (b : Bench) (a z : Answer) (new last : Bench) → PayloadStep p slot bytes b a new → PayloadStep p slot bytes b z last → Agree a z new last
 payload_at None slot bytes b a z new last x y = same a z _ new last _ x.0 y.0 x.1 y.1
@@ -135,24 +135,24 @@ turn_at one (Some life) h n b a z new last (inl x) (inr y) = absurd (y.0 x.0)
 turn_at one (Some life) h n b a z new last (inr x) (inl y) = absurd (x.0 y.0)
 turn_at one (Some life) h n b a z new last (inr x) (inr y) = same a z _ new last b x.1 y.1 x.2 y.2
 
-told_at : (h : ℕ) (word : Word) (new : Bench) (a z : Answer) → CallReported h word new a → CallReported h word new z → a ≡ z
-told_at h (words.Own did) new a z (life, on, e) (life2, on2, e2) =
+reported_at : (h : ℕ) (word : Word) (new : Bench) (a z : Answer) → CallReported h word new a → CallReported h word new z → a ≡ z
+reported_at h (words.Own did) new a z (life, on, e) (life2, on2, e2) =
     let P : Life → Type 0 = λ l. z ≡ shows (own_line h (hart_at l.machine h) did) in
     e ∙ sym (subst P (some_inj life life2 new.power on on2) e2)
-told_at h words.Asleep new a z e e2 = e ∙ sym e2
-told_at h (words.Reset kind) new a z e e2 = e ∙ sym e2
+reported_at h words.Asleep new a z e e2 = e ∙ sym e2
+reported_at h (words.Reset kind) new a z e e2 = e ∙ sym e2
 
-told_one : (h : ℕ) (word also : Word) (a z : Answer) (new last : Bench) → Agree word also new last → CallReported h word new a → CallReported h also last z → Agree a z new last
-told_one h word also a z new last (inl s) x y = inl s
-told_one h word also a z new last (inr (inl s)) x y = inr (inl s)
-told_one h word also a z new last (inr (inr e)) x y =
+reported_one : (h : ℕ) (word also : Word) (a z : Answer) (new last : Bench) → Agree word also new last → CallReported h word new a → CallReported h also last z → Agree a z new last
+reported_one h word also a z new last (inl s) x y = inl s
+reported_one h word also a z new last (inr (inl s)) x y = inr (inl s)
+reported_one h word also a z new last (inr (inr e)) x y =
     let P : Word → Type 0 = λ w. CallReported h w last z in
     let Q : Bench → Type 0 = λ m. CallReported h word m z in
-    inr (inr (told_at h word new a z x (subst Q (sym e.1) (subst P (sym e.0) y)), e.1))
+    inr (inr (reported_at h word new a z x (subst Q (sym e.1) (subst P (sym e.0) y)), e.1))
 
 called_at : (called : Called) (h : ℕ) (life : Life) (b : Bench) (a z : Answer) (new last : Bench) → GuestCall called h life b a new → GuestCall called h life b z last → Agree a z new last
 called_at NotStarted h life b a z new last x y = same a z _ new last b x.0 y.0 x.1 y.1
-called_at (Made did) h life b a z new last (word, x, e) (also, y, e2) = told_one h word also a z new last (comes_one did h life b word also new last x y) e e2
+called_at (Made did) h life b a z new last (word, x, e) (also, y, e2) = reported_one h word also a z new last (comes_one did h life b word also new last x y) e e2
 
 call_at : IsOneCall → (p : Option Life) (h e f u v w : ℕ) (b : Bench) (a z : Answer) (new last : Bench) → CallStep p h e f u v w b a new → CallStep p h e f u v w b z last → Agree a z new last
 call_at one None h e f u v w b a z new last x y = same a z _ new last b x.0 y.0 x.1 y.1

@@ -26,10 +26,10 @@ use Rattle.bench_report.proofs.Issues.{takes_more, is_up, GoesOn, IsSound, Back,
 abbrev pub GoesBy : Word → Bench → Bench → Type 0
 GoesBy word b new = Back b new (λ s t. TellsWord word s (is_up b.power) t (is_up new.power))
 
-by_eqs : (word told : Word) (b new n : Bench) → word ≡ told → new ≡ n → GoesBy told b n → GoesBy word b new
-by_eqs word told b new n e f x =
+by_eqs : (word reported : Word) (b new n : Bench) → word ≡ reported → new ≡ n → GoesBy reported b n → GoesBy word b new
+by_eqs word reported b new n e f x =
     let P : Word → Type 0 = λ w. GoesBy w b new in
-    let Q : Bench → Type 0 = λ m. GoesBy told b m in
+    let Q : Bench → Type 0 = λ m. GoesBy reported b m in
     subst P (sym e) (subst Q (sym f) x)
 
 -- the life goes on with another machine
@@ -64,18 +64,18 @@ tells_end (words.Reset kind) c is up s t on takes = (on, refl, c, is, takes)
 refuses_back : (e : SbiError) (h : ℕ) (life : Life) (b : Bench) (word : Word) (new : Bench) → IsSound b → b.power ≡ Some life → Refuses e h life b word new → GoesBy word b new
 refuses_back e h life b word new sound on x = by_eqs word (words.Own Next) b new (on_with (refused h e life) b) x.0 x.1 (stays (words.Own Next) life b (refused h e life) sound on refl refl)
 
-held_back : (o : Result ℕ ℕ) (told : Word) (c : Change) → OfWord told c → (h : ℕ) (b mid : Bench) (word : Word) (new : Bench) → Back b mid (Went o c (is_up b.power) (is_up mid.power)) → Held o told h mid word new → GoesBy word b new
-held_back (Ok n) told c is h b mid word new back x =
-    by_eqs word told b new (off mid) x.0 x.1
-    ((back.0.0, tt), λ t found. (let s = back.1 t found in (s.0, s.1, tells_end told c is (is_up b.power) s.0 t s.2.0 (s.2.1, s.2.2))))
-held_back (Err n) told c is h b mid word new back (life, on, (e, f)) =
+held_back : (o : Result ℕ ℕ) (reported : Word) (c : Change) → OfWord reported c → (h : ℕ) (b mid : Bench) (word : Word) (new : Bench) → Back b mid (Went o c (is_up b.power) (is_up mid.power)) → Held o reported h mid word new → GoesBy word b new
+held_back (Ok n) reported c is h b mid word new back x =
+    by_eqs word reported b new (off mid) x.0 x.1
+    ((back.0.0, tt), λ t found. (let s = back.1 t found in (s.0, s.1, tells_end reported c is (is_up b.power) s.0 t s.2.0 (s.2.1, s.2.2))))
+held_back (Err n) reported c is h b mid word new back (life, on, (e, f)) =
     by_eqs word (words.Own Next) b new (on_with (refused h Failed life) mid) e f
     (same_life life mid back.0 on (refused h Failed life) refl refl, λ t found. (let s = back.1 t found in (s.0, s.1, went s.0 t s.2)))
   where
     went : (s t : State) → Went (Err n) c (is_up b.power) (is_up mid.power) s t → Hides s (is_up b.power) t (takes_more life.doubt)
     went s t (inl w) = inl (w.1, sym (ap is_up on) ∙ w.2)
     went s t (inr (inl w)) = inl (w.1, sym (ap is_up on) ∙ w.3 ∙ sym w.2)
-    went s t (inr (inr w)) = inr (w.1, sym (ap is_up on) ∙ w.2, c, of_harts told c is, w.3)
+    went s t (inr (inr w)) = inr (w.1, sym (ap is_up on) ∙ w.2, c, of_harts reported c is, w.3)
 
 resets_back : (asked : Result (ResetType × Reason) SbiError) (h : ℕ) (life : Life) (b : Bench) (word : Word) (new : Bench) → IsSound b → b.power ≡ Some life → Resets asked h life b word new → GoesBy word b new
 resets_back (Err e) h life b word new sound on x = refuses_back e h life b word new sound on x
@@ -157,9 +157,9 @@ hides (words.Reset kind) up now s t e x = absurd (let no : ⊥ = cc in no)
 
 pub turns_back : (h n : ℕ) (b : Bench) (made : ℕ) (word : Word) (new : Bench) → IsSound b → GuestTurns h n b made word new → GoesBy word b new
 turns_back h zero b made word new sound x = absurd x
-turns_back h (suc n) b made word new sound (life, on, told, mid, turn, inl x) = by_eqs word told b new mid x.2 x.3 (turn_back h life b told mid sound on turn)
-turns_back h (suc n) b made word new sound (life, on, told, mid, turn, inr x) =
-    let first : GoesBy told b mid = turn_back h life b told mid sound on turn in
+turns_back h (suc n) b made word new sound (life, on, reported, mid, turn, inl x) = by_eqs word reported b new mid x.2 x.3 (turn_back h life b reported mid sound on turn)
+turns_back h (suc n) b made word new sound (life, on, reported, mid, turn, inr x) =
+    let first : GoesBy reported b mid = turn_back h life b reported mid sound on turn in
     let rest : GoesBy word mid new = turns_back h n mid x.2 word new first.0 x.4 in
-    joined b mid new (λ s t. TellsWord told s (is_up b.power) t (is_up mid.power)) (λ s t. TellsWord word s (is_up mid.power) t (is_up new.power)) (λ s t. TellsWord word s (is_up b.power) t (is_up new.power)) first rest
-    (λ s u t p q. followed word (is_up b.power) (is_up mid.power) (is_up new.power) s u t (hides told (is_up b.power) (is_up mid.power) s u x.0 p) q)
+    joined b mid new (λ s t. TellsWord reported s (is_up b.power) t (is_up mid.power)) (λ s t. TellsWord word s (is_up mid.power) t (is_up new.power)) (λ s t. TellsWord word s (is_up b.power) t (is_up new.power)) first rest
+    (λ s u t p q. followed word (is_up b.power) (is_up mid.power) (is_up new.power) s u t (hides reported (is_up b.power) (is_up mid.power) s u x.0 p) q)

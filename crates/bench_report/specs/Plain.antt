@@ -22,7 +22,7 @@ use Rattle.bench_report.specs.declared.printed.ConsoleWord.TheVariants as names
 use Rattle.bench_report.specs.declared.printed.Printed.{Printed}
 use Rattle.bench_report.specs.declared.printed.Printed.TheVariants as printed
 use Rattle.bench_report.specs.Bench.{DiskState, Blank, Unknown, Formatted, Life, Bench, blank_bench}
-use Rattle.bench_report.specs.Steps.{says, shows, on_with, unpowered, armed_with, formatted_anew, settled, has_machine, acknowledged, begun, console_told}
+use Rattle.bench_report.specs.Steps.{says, shows, on_with, unpowered, armed_with, formatted_anew, settled, has_machine, acknowledged, begun, console_reported}
 use Rattle.bench_report.specs.Reports.{board_answer, report_text}
 
 -- a command's receipt or number, and the bench after it, by the number with which the table refuses it
@@ -36,7 +36,7 @@ plain_issued c life b = if life.receipts == 4096 then (Err 10, b) else plain_wri
 -- a command of the console, which a line names by that word
 abbrev pub plain_console : ConsoleWord → Change → Option Life → Bench → Answer × Bench
 plain_console word c None b = (says printed.Off, b)
-plain_console word c (Some life) b = (console_told word (plain_issued c life b).0, (plain_issued c life b).1)
+plain_console word c (Some life) b = (console_reported word (plain_issued c life b).0, (plain_issued c life b).1)
 
 abbrev pub plain_format : DiskState → Bench → Answer × Bench
 plain_format Blank b = (says printed.Formatted, formatted_anew b)

@@ -17,7 +17,7 @@ pub record IsMadeIn (image : Image) (changes : List Change) : Type 0 where
   pub suspended : changes ≡ before ++ Suspend image.hart image.address image.opaque image.memory ∷ later
   pub serial : image.serial ≡ (found_of before).next
 
--- From bench b a board of that size was resumed. The open kept these commands, and told what they make; an image stands in that, and
+-- From bench b a board of that size was resumed. The open kept these commands, and reported what they make; an image stands in that, and
 -- was made by one of them. The board has its memory, byte for byte, and its hart stands at its address with its number and its
 -- opaque value; all else of the harts is as before any boot, and every other hart is STOPPED. The image is consumed.
 pub record IsResumedFrom (size : Size) (b : Bench) (a : Answer) (new : Bench) : Type 0 where

@@ -242,7 +242,7 @@ IsOn (Err n) mode z s b line new = (line ≡ printed.OnRefused n) × (new ≡ of
 abbrev pub Starts : BootMode → Size → State → Bench → Printed → Bench → Type 0
 Starts mode z s b line new = (o : Result ℕ ℕ) × (mid : Bench) × IssuesAll (commands_of mode) (on_with (begun s z) b) o mid × IsOn o mode z s mid line new
 
--- The image is loaded and consumed, and the board goes on with it; a failure of the disk in the load is told as one that kept the
+-- The image is loaded and consumed, and the board goes on with it; a failure of the disk in the load is reported as one that kept the
 -- command from the disk (5). Or the image has not the memory of its board.
 abbrev pub Resumes : Size → State → Bench → Printed → Bench → Type 0
 Resumes z s b line new = Starts modes.Resume z s b line new ⊎ ((IsWhole z s → ⊥) × (line ≡ printed.OnRefused 13) × (new ≡ b))
@@ -301,14 +301,14 @@ OnStep size (Some life) mode b answer new = (answer ≡ says printed.Busy) × (n
 OnStep size None mode b answer new = PowersOn size mode b answer new
 
 -- what a line of the console says of its command, which it names by that word
-abbrev pub console_told : ConsoleWord → Result ℕ ℕ → Answer
-console_told word (Ok n) = says (printed.Acknowledged word n)
-console_told word (Err n) = says (printed.CommandRefused word n)
+abbrev pub console_reported : ConsoleWord → Result ℕ ℕ → Answer
+console_reported word (Ok n) = says (printed.Acknowledged word n)
+console_reported word (Err n) = says (printed.CommandRefused word n)
 
 -- a command of the console, which a line names by that word
 abbrev pub ConsoleStep : ConsoleWord → Change → Option Life → Bench → Answer → Bench → Type 0
 ConsoleStep word c None b answer new = (answer ≡ says printed.Off) × (new ≡ b)
-ConsoleStep word c (Some life) b answer new = (o : Result ℕ ℕ) × Issued c life b o new × (answer ≡ console_told word o)
+ConsoleStep word c (Some life) b answer new = (o : Result ℕ ℕ) × Issued c life b o new × (answer ≡ console_reported word o)
 
 -- a payload is kept while the board is off
 abbrev pub PayloadStep : Option Life → ℕ → List ℕ → Bench → Answer → Bench → Type 0

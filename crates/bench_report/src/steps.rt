@@ -38,7 +38,7 @@ fn says(line: Printed) -> Answer
 /// Formats the disk of a board that is off.
 fn format_disk(shape: &Shape, mut disk: SimDisk) -> (Power, Answer)
     requires { IsIdle (facts disk) }
-    ensures told { (b : Bench) → OffIs shape.now b disk → Goes shape.now b result.0 (FormatsOn b.disk_state b result.1) }
+    ensures reported { (b : Bench) → OffIs shape.now b disk → Goes shape.now b result.0 (FormatsOn b.disk_state b result.1) }
     ensures resting { IsResting result.0 }
 {
     kept_disks::<SimDisk>();
@@ -53,7 +53,7 @@ fn format_disk(shape: &Shape, mut disk: SimDisk) -> (Power, Answer)
 fn power_on(alloc: Global, mode: BootMode, disk: SimDisk, payloads: &Payloads) -> (Power, Answer)
     requires idle { IsIdle (facts disk) }
     requires short { AreShort payloads.now }
-    ensures told { (size : Size) (b : Bench) → OffIs size b disk → payloads.now ≡ b.payloads → Goes size b result.0 (PowersOn size mode b result.1) }
+    ensures reported { (size : Size) (b : Bench) → OffIs size b disk → payloads.now ≡ b.payloads → Goes size b result.0 (PowersOn size mode b result.1) }
     ensures resting { IsResting result.0 }
 {
     kept_disks::<SimDisk>();
@@ -91,7 +91,7 @@ fn issue(board: &mut Board<SimDisk>, word: ConsoleWord, command: Command) -> Ans
 /// The disk of a board whose life ends here.
 pub fn disk_left(power: Power) -> SimDisk
     requires { IsResting power }
-    ensures told { (size : Size) (b : Bench) → Agrees size b power → OffIs size (off b) result }
+    ensures reported { (size : Size) (b : Bench) → Agrees size b power → OffIs size (off b) result }
     ensures resting { IsIdle (facts result) }
     ensures disk { HasDisk power result }
 {
@@ -115,7 +115,7 @@ fn choice(fill: Fill) -> Choice
 /// Takes power; each range that was written since the last sync holds what the fill says.
 fn cut(power: Power, fill: Fill) -> Power
     requires { IsResting power }
-    ensures told { (size : Size) (b : Bench) → Agrees size b power → Agrees size (unpowered b) result }
+    ensures reported { (size : Size) (b : Bench) → Agrees size b power → Agrees size (unpowered b) result }
     ensures exact { (disk : SimDisk) × HasDisk power disk × IsCutBy fill disk result }
     ensures resting { IsResting result }
     ensures calm { IsUnstruck result }
@@ -127,7 +127,7 @@ fn cut(power: Power, fill: Fill) -> Power
 /// Arms a cut or a failure of the disk, or of one of its lanes, in the place of an older one, with the board on or off.
 fn arm(power: Power, fault: ArmedFault) -> (Power, Answer)
     requires { IsResting power }
-    ensures told { (size : Size) (b : Bench) → Agrees size b power → Goes size b result.0 (ArmStep (armed_by fault) b result.1) }
+    ensures reported { (size : Size) (b : Bench) → Agrees size b power → Goes size b result.0 (ArmStep (armed_by fault) b result.1) }
     ensures arms { Arms fault result.0 }
     ensures resting { IsResting result.0 }
 {
@@ -157,7 +157,7 @@ fn newest_fill(line: &Line, fill: Fill) -> Fill
 
 /// Whether an armed cut has struck.
 fn struck(power: &Power) -> bool
-    ensures told { (size : Size) (b : Bench) → Agrees size b power.now → result ≡ b.fault_state.struck }
+    ensures reported { (size : Size) (b : Bench) → Agrees size b power.now → result ≡ b.fault_state.struck }
     ensures calm { result ≡ false → IsUnstruck power.now }
 {
     match power {
@@ -168,7 +168,7 @@ fn struck(power: &Power) -> bool
 
 fn format_line(shape: &Shape, power: Power) -> (Power, Answer)
     requires { IsResting power }
-    ensures told { (b : Bench) → Agrees shape.now b power → Goes shape.now b result.0 (FormatStep b.power b result.1) }
+    ensures reported { (b : Bench) → Agrees shape.now b power → Goes shape.now b result.0 (FormatStep b.power b result.1) }
     ensures resting { IsResting result.0 }
 {
     match power {
@@ -180,7 +180,7 @@ fn format_line(shape: &Shape, power: Power) -> (Power, Answer)
 fn on_line(alloc: Global, mode: BootMode, power: Power, payloads: &Payloads) -> (Power, Answer)
     requires resting { IsResting power }
     requires short { AreShort payloads.now }
-    ensures told { (size : Size) (b : Bench) → IsBench size b power payloads.now → Goes size b result.0 (OnStep size b.power mode b result.1) }
+    ensures reported { (size : Size) (b : Bench) → IsBench size b power payloads.now → Goes size b result.0 (OnStep size b.power mode b result.1) }
     ensures resting { IsResting result.0 }
 {
     match power {
@@ -192,7 +192,7 @@ fn on_line(alloc: Global, mode: BootMode, power: Power, payloads: &Payloads) -> 
 fn console_line(word: ConsoleWord, command: Command, power: Power) -> (Power, Answer)
     requires command { IsConsoleCommand command }
     requires resting { IsResting power }
-    ensures told { (size : Size) (b : Bench) → Agrees size b power → Goes size b result.0 (ConsoleStep word (change_of command) b.power b result.1) }
+    ensures reported { (size : Size) (b : Bench) → Agrees size b power → Goes size b result.0 (ConsoleStep word (change_of command) b.power b result.1) }
     ensures resting { IsResting result.0 }
 {
     match power {
@@ -214,7 +214,7 @@ fn payload_line(
 ) -> Result<MachineLine, Refusal>
     requires bytes { length bytes.now ≤ 1024 }
     requires short { AreShort payloads.old }
-    ensures told { IfOk result (λ line. (size : Size) (b : Bench) → IsBench size b power.now payloads.old
+    ensures reported { IfOk result (λ line. (size : Size) (b : Bench) → IsBench size b power.now payloads.old
         → (new : Bench) × PayloadStep b.power slot bytes.now b (shows line) new × Matches size new power.now payloads.new) }
     ensures short { OnOk result (AreShort payloads.new) }
     ensures refused { OnErr result ((result ≡ Err Memory) × (payloads.new ≡ payloads.old)) }
@@ -233,7 +233,7 @@ fn payload_line(
 
 /// A board after what is said of a turn or a call of a hart: off where that ended the life.
 fn after(board: Board<SimDisk>, word: Word) -> Power
-    ensures told { (size : Size) (b : Bench) → StandsBy size word b board → Agrees size b result }
+    ensures reported { (size : Size) (b : Bench) → StandsBy size word b board → Agrees size b result }
     ensures resting { IsResting result }
 {
     match word {
@@ -253,7 +253,7 @@ fn turn<C: Crew>(
 ) -> (Power, MachineLine)
     requires some { 0 < count }
     requires calm { (store_fault_state (store_in board)).struck ≡ false }
-    ensures told { (size : Size) (b : Bench) → OnIs size b board → Goes size b result.0 (TurnStep b.power hart count b (shows result.1)) }
+    ensures reported { (size : Size) (b : Bench) → OnIs size b board → Goes size b result.0 (TurnStep b.power hart count b (shows result.1)) }
     ensures resting { IsResting result.0 }
 {
     if !board.machine().has(hart) {
@@ -273,7 +273,7 @@ fn turn_line<C: Crew>(
     requires some { 0 < count }
     requires resting { IsResting power }
     requires calm { IsUnstruck power }
-    ensures told { (size : Size) (b : Bench) → Agrees size b power → Goes size b result.0 (TurnStep b.power hart count b (shows result.1)) }
+    ensures reported { (size : Size) (b : Bench) → Agrees size b power → Goes size b result.0 (TurnStep b.power hart count b (shows result.1)) }
     ensures resting { IsResting result.0 }
 {
     match power {
@@ -294,7 +294,7 @@ fn call<C: Crew>(
     a1: u64,
     a2: u64,
 ) -> (Power, MachineLine)
-    ensures told { (size : Size) (b : Bench) → OnIs size b board → Goes size b result.0 (CallStep b.power hart eid fid a0 a1 a2 b (shows result.1)) }
+    ensures reported { (size : Size) (b : Bench) → OnIs size b board → Goes size b result.0 (CallStep b.power hart eid fid a0 a1 a2 b (shows result.1)) }
     ensures resting { IsResting result.0 }
 {
     if !board.machine().has(hart) {
@@ -320,7 +320,7 @@ fn call_line<C: Crew>(
     power: Power,
 ) -> (Power, MachineLine)
     requires { IsResting power }
-    ensures told { (size : Size) (b : Bench) → Agrees size b power
+    ensures reported { (size : Size) (b : Bench) → Agrees size b power
         → Goes size b result.0 (CallStep b.power hart eid fid a0 a1 a2 b (shows result.1)) }
     ensures resting { IsResting result.0 }
 {
@@ -359,7 +359,7 @@ fn waits(board: &mut Board<SimDisk>, hart: HartId) -> bool
 
 /// A control and status register of a hart of a board that is on, which stays as it was.
 fn csr(board: &mut Board<SimDisk>, hart: HartId, number: u32) -> MachineLine
-    ensures told { CsrLine hart number (machine_in board.old) result }
+    ensures reported { CsrLine hart number (machine_in board.old) result }
     ensures machine { machine_in board.new ≡ machine_in board.old }
     ensures store { store_in board.new ≡ store_in board.old }
 {
@@ -369,7 +369,7 @@ fn csr(board: &mut Board<SimDisk>, hart: HartId, number: u32) -> MachineLine
 
 fn csr_line(hart: HartId, number: u32, power: Power) -> (Power, MachineLine)
     requires { IsResting power }
-    ensures told { (size : Size) (b : Bench) → Agrees size b power
+    ensures reported { (size : Size) (b : Bench) → Agrees size b power
         → Goes size b result.0 (ReadStep b.power (λ m line. CsrLine hart number m line) b (shows result.1)) }
     ensures resting { IsResting result.0 }
 {
@@ -401,7 +401,7 @@ fn with_hart(set: u32, number: u64, waits: bool) -> u32
 
 /// The harts of a board that is on for which an interrupt is pending. The board stays as it was.
 fn pending(board: &mut Board<SimDisk>) -> MachineLine
-    ensures told { result ≡ pending_line (machine_in board.old) }
+    ensures reported { result ≡ pending_line (machine_in board.old) }
     ensures machine { machine_in board.new ≡ machine_in board.old }
     ensures store { store_in board.new ≡ store_in board.old }
 {
@@ -416,7 +416,7 @@ fn pending(board: &mut Board<SimDisk>) -> MachineLine
 
 fn pending_line(power: Power) -> (Power, MachineLine)
     requires { IsResting power }
-    ensures told { (size : Size) (b : Bench) → Agrees size b power
+    ensures reported { (size : Size) (b : Bench) → Agrees size b power
         → Goes size b result.0 (ReadStep b.power (λ m line. line ≡ pending_line m) b (shows result.1)) }
     ensures resting { IsResting result.0 }
 {
@@ -447,7 +447,7 @@ fn poke_line(
     power: Power,
 ) -> (Power, Result<Answer, Refusal>)
     requires { IsResting power }
-    ensures told { (size : Size) (b : Bench) → Agrees size b power → MatchResult result.1
+    ensures reported { (size : Size) (b : Bench) → Agrees size b power → MatchResult result.1
         (λ answer. Goes size b result.0 (PokeStep b.power b answer)) (λ e. (e ≡ Memory) × Agrees size b result.0) }
     ensures pokes { OnOk result.1 (Pokes sector offset bytes.now power result.0) }
     ensures resting { IsResting result.0 }
@@ -497,7 +497,7 @@ fn step<C: Crew>(
     requires resting { IsResting power }
     requires calm { IsUnstruck power }
     requires short { AreShort payloads.old }
-    ensures told { (b : Bench) → IsBench shape.now b power payloads.old → MatchResult result.1
+    ensures reported { (b : Bench) → IsBench shape.now b power payloads.old → MatchResult result.1
         (λ answer. (new : Bench) × Step shape.now line.now b answer new × Matches shape.now new result.0 payloads.new) (λ e. (e ≡ Memory) × Matches shape.now b result.0 payloads.new) }
     ensures arms { ArmsIts line.now result.0 }
     ensures pokes { PokesIts line.now power result.1 result.0 }
@@ -565,7 +565,7 @@ pub fn moves<C: Crew>(
     requires resting { IsResting power }
     requires calm { IsUnstruck power }
     requires short { AreShort payloads.old }
-    ensures told { (b : Bench) → IsBench shape.now b power payloads.old → MatchResult result.1
+    ensures reported { (b : Bench) → IsBench shape.now b power payloads.old → MatchResult result.1
         (λ answer. (new : Bench) × Moves shape.now line.now b answer new × IsBench shape.now new result.0 payloads.new) (λ e. (e ≡ Memory) × Matches shape.now b result.0 payloads.new) }
     ensures fill { fill.new ≡ fill_after line.now fill.old }
     ensures exact { (b : Bench) → IsBench shape.now b power payloads.old → IfOk result.1 (λ answer. EndsBy shape.now line.now fill.new b answer result.0) }

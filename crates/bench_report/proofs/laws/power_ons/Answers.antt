@@ -2,7 +2,7 @@ use Rattle.bench_report.proofs.Resumed.{finds, sure, finds_all, resumed_from}
 use Rattle.bench_report.proofs.laws.power_ons.Goals as goal
 
 pub returns-clause-finds : goal.returns-clause-finds
-returns-clause-finds c = λ script answers b h disk_state mode a new d move told. finds script.size mode b a new d disk_state move told
+returns-clause-finds c = λ script answers b h disk_state mode a new d move reported. finds script.size mode b a new d disk_state move reported
 
 pub returns-clause-sure : goal.returns-clause-sure
 returns-clause-sure c = sure

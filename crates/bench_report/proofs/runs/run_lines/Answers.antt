@@ -12,7 +12,7 @@ loop-line-init g c = record {
   resting = c.requires.resting;
   calm = c.requires.calm;
   short = c.requires.short;
-  told = λ b h. ([], b, refl, h, λ before start r. rw append-nil r);
+  reported = λ b h. ([], b, refl, h, λ before start r. rw append-nil r);
 }
 
 pub loop-line-preserved : goal.loop-line-preserved
@@ -21,8 +21,8 @@ loop-line-preserved g c = record {
   resting = c.run_line-after.ensures.resting;
   calm = rw c.in_default.is at c.run_line-after.ensures.calm;
   short = c.run_line-after.ensures.short;
-  told = λ b h.
-      let was = c.loop-line.invariant.told b h in
+  reported = λ b h.
+      let was = c.loop-line.invariant.reported b h in
       let ok = rw c.in_default.is at c.run_line-after.ensures.ok in
       let did = ok was.1 was.3 in
       let Q : Line → Type 0 = λ line. Moves c.args.shape.now line was.1 did.0 did.1 in
@@ -31,7 +31,7 @@ loop-line-preserved g c = record {
 
 pub returns-in-Err-clause-stopped : goal.returns-in-Err-clause-stopped
 returns-in-Err-clause-stopped g c = λ b h.
-    let was = c.loop-line.invariant.told b h in
+    let was = c.loop-line.invariant.reported b h in
     let stopped = rw c.in-Err.is at c.run_line-after.ensures.stopped in
     elim (stopped was.1 was.3) [
       | inl same ↦ (c.loop-line.line-index, was.0, was.1, was.2, same)
@@ -43,6 +43,6 @@ returns-in-Err-clause-stopped g c = λ b h.
 
 pub returns-clause-ok : goal.returns-clause-ok
 returns-clause-ok g c = λ b h.
-    let was = c.loop-line.invariant.told b h in
+    let was = c.loop-line.invariant.reported b h in
     let P : List Line → Type 0 = λ ls. Run c.args.shape.now b ls was.0 was.1 in
     (was.0, was.1, subst P (take_all c.loop-line.line-index c.args.lines.now (omega arith)) was.2, was.3.0, was.4)

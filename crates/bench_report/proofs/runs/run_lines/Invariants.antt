@@ -13,6 +13,6 @@ invariant-loop-line g l = record {
   resting : IsResting l.power;
   calm : IsUnstruck l.power;
   short : AreShort l.payloads;
-  told : (b : Bench) → IsBench l.shape b l.fn.power l.fn.payloads → (answers : List Answer) × (now : Bench) × Run l.shape b (take l.line-index l.lines) answers now × IsBench l.shape now l.power l.payloads
+  reported : (b : Bench) → IsBench l.shape b l.fn.power l.fn.payloads → (answers : List Answer) × (now : Bench) × Run l.shape b (take l.line-index l.lines) answers now × IsBench l.shape now l.power l.payloads
       × ((before : List Answer) (start : Option (List ℕ)) → Reported start (g.W.Write.contents l.fn.out) l.fn.report before → Reported start (g.W.Write.contents l.out) l.report (before ++ answers));
 }

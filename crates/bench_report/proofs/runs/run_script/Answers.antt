@@ -25,7 +25,7 @@ returns-in-Ok-clause-report g c =
     let ok = rw c.in-Ok.is at c.run_lines-power.ensures.ok in
     let ran = ok blank_bench (c.requires.blank, c.new-payloads.ensures, refl) in
     let P : List Line → Type 0 = λ ls. Run size blank_bench ls ran.0 ran.1 in
-    (board ∷ ran.0, ran.1, (is_board, subst P c.deref.ensures.value ran.2), ran.4 (board ∷ []) start first, c.disk_left-left.ensures.told size ran.1 ran.3)
+    (board ∷ ran.0, ran.1, (is_board, subst P c.deref.ensures.value ran.2), ran.4 (board ∷ []) start first, c.disk_left-left.ensures.reported size ran.1 ran.3)
 
 pub returns-in-Err-ran-clause-stopped : goal.returns-in-Err-ran-clause-stopped
 returns-in-Err-ran-clause-stopped g c =
@@ -35,4 +35,4 @@ returns-in-Err-ran-clause-stopped g c =
     let stopped = rw c.in-Err-ran.is at c.run_lines-power.ensures.stopped in
     let ran = stopped blank_bench (c.requires.blank, c.new-payloads.ensures, refl) in
     let P : List Line → Type 0 = λ ls. Run size blank_bench (take ran.0 ls) ran.1 ran.2 in
-    (board ∷ ran.1, ran.2, (ran.0, (is_board, subst P c.deref.ensures.value ran.3)), c.disk_left-left.ensures.told size ran.2 ran.4)
+    (board ∷ ran.1, ran.2, (ran.0, (is_board, subst P c.deref.ensures.value ran.3)), c.disk_left-left.ensures.reported size ran.2 ran.4)

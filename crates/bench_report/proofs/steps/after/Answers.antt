@@ -6,8 +6,8 @@ use Rattle.bench_report.proofs.Devices.{stays}
 use Rattle.bench_report.proofs.Ended.{over_ended}
 use Rattle.bench_report.proofs.steps.after.Goals as goal
 
-pub returns-in-Asleep-clause-told : goal.returns-in-Asleep-clause-told
-returns-in-Asleep-clause-told c = λ size b h.
+pub returns-in-Asleep-clause-reported : goal.returns-in-Asleep-clause-reported
+returns-in-Asleep-clause-reported c = λ size b h.
     let P : Word → Type 0 = λ w. StandsBy size w b c.args.board in
     let was = subst P c.in-Asleep.is h in
     let store = store_in c.args.board in
@@ -17,8 +17,8 @@ returns-in-Asleep-clause-told c = λ size b h.
       stays size b (store_fault_state store) (fault_state left) (store_facts store) (facts left) was.2 c.into_disk.ensures.fault_state (omega (arith, c.into_disk.ensures.failures)) (ap length c.into_disk.ensures.content),
     )
 
-pub returns-in-Reset-clause-told : goal.returns-in-Reset-clause-told
-returns-in-Reset-clause-told c = λ size b h.
+pub returns-in-Reset-clause-reported : goal.returns-in-Reset-clause-reported
+returns-in-Reset-clause-reported c = λ size b h.
     let P : Word → Type 0 = λ w. StandsBy size w b c.args.board in
     let was = subst P c.in-Reset.is h in
     let store = store_in c.args.board in

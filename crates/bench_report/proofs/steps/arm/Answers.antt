@@ -6,14 +6,14 @@ use Rattle.bench_report.specs.Agree.{Agrees}
 use Rattle.bench_report.proofs.Armings.{armed_off, armed_on}
 use Rattle.bench_report.proofs.steps.arm.Goals as goal
 
-pub returns-in-Off-clause-told : goal.returns-in-Off-clause-told
-returns-in-Off-clause-told c = λ size b h.
+pub returns-in-Off-clause-reported : goal.returns-in-Off-clause-reported
+returns-in-Off-clause-reported c = λ size b h.
     let P : Power → Type 0 = λ p. Agrees size b p in
     let armed = armed_by c.args.fault in
     (armed_with armed b, (c.says.ensures, refl), armed_off c.kept_disks.ensures.goes_on size b armed c.in-Off.disk c.arm.new.self (subst P c.in-Off.is h) c.arm.ensures.facts c.arm.ensures.armed, refl)
 
-pub returns-in-On-clause-told : goal.returns-in-On-clause-told
-returns-in-On-clause-told c = λ size b h.
+pub returns-in-On-clause-reported : goal.returns-in-On-clause-reported
+returns-in-On-clause-reported c = λ size b h.
     let P : Power → Type 0 = λ p. Agrees size b p in
     let armed = armed_by c.args.fault in
     let did = c.arm-in-On.ensures in

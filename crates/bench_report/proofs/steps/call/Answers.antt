@@ -7,8 +7,8 @@ use Rattle.machine_lines.specs.Shows.{Has, called_line}
 use Rattle.bench_report.proofs.Lines.{on_calls, Follows}
 use Rattle.bench_report.proofs.steps.call.Goals as goal
 
-pub returns-in-None-clause-told : goal.returns-in-None-clause-told
-returns-in-None-clause-told g c = λ size b h.
+pub returns-in-None-clause-reported : goal.returns-in-None-clause-reported
+returns-in-None-clause-reported g c = λ size b h.
     let P : Machine → Type 0 = λ m. Has m c.args.hart in
     let has : Has (machine_in c.args.board) c.args.hart = subst P c.machine.ensures (c.if-not-has.ensures.0 refl) in
     let new = c.call-said.new.self in
@@ -18,8 +18,8 @@ returns-in-None-clause-told g c = λ size b h.
     on_calls size b c.args.board new c.args.hart c.args.eid c.args.fid c.args.a0 c.args.a1 c.args.a2 c.call-said.result c.called-line.result (On new) h has line c.call-said.ensures.calls
     (subst F (sym c.in-None.is) (λ x is. is))
 
-pub returns-in-Some-clause-told : goal.returns-in-Some-clause-told
-returns-in-Some-clause-told g c = λ size b h.
+pub returns-in-Some-clause-reported : goal.returns-in-Some-clause-reported
+returns-in-Some-clause-reported g c = λ size b h.
     let P : Machine → Type 0 = λ m. Has m c.args.hart in
     let has : Has (machine_in c.args.board) c.args.hart = subst P c.machine.ensures (c.if-not-has.ensures.0 refl) in
     let new = c.call-said.new.self in
@@ -27,4 +27,4 @@ returns-in-Some-clause-told g c = λ size b h.
     let line : S (machine_in new) = subst S c.machine-2.ensures c.called-line.ensures in
     let F : Option Word → Type 0 = λ o. Follows size b c.args.board new c.args.hart c.args.eid c.args.fid c.args.a0 c.args.a1 c.args.a2 c.call-said.result c.called-line.result c.after.result h has line o in
     on_calls size b c.args.board new c.args.hart c.args.eid c.args.fid c.args.a0 c.args.a1 c.args.a2 c.call-said.result c.called-line.result c.after.result h has line c.call-said.ensures.calls
-    (subst F (sym c.in-Some.is) (λ x is. c.after.ensures.told size x is))
+    (subst F (sym c.in-Some.is) (λ x is. c.after.ensures.reported size x is))

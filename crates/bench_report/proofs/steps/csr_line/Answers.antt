@@ -7,9 +7,9 @@ use Rattle.bench_report.specs.Agree.{Agrees}
 use Rattle.bench_report.proofs.Lines.{on_looks}
 use Rattle.bench_report.proofs.steps.csr_line.Goals as goal
 
-pub returns-in-On-clause-told : goal.returns-in-On-clause-told
-returns-in-On-clause-told c = λ size b h.
+pub returns-in-On-clause-reported : goal.returns-in-On-clause-reported
+returns-in-On-clause-reported c = λ size b h.
     let P : Power → Type 0 = λ p. Agrees size b p in
     let S : Machine → MachineLine → Type 0 = λ m line. CsrLine c.args.hart c.args.number m line in
     let did = c.csr-line.ensures in
-    on_looks size b c.in-On.board c.csr-line.new.board S c.csr-line.result (subst P c.in-On.is h) did.told did.machine did.store
+    on_looks size b c.in-On.board c.csr-line.new.board S c.csr-line.result (subst P c.in-On.is h) did.reported did.machine did.store

@@ -3,9 +3,9 @@ use Rattle.disk.specs.FaultState.{fault_state_left}
 use Rattle.bench_report.proofs.Ended.{left_on, cut_leaves}
 use Rattle.bench_report.proofs.steps.cut.Goals as goal
 
-pub returns-clause-told : goal.returns-clause-told
-returns-clause-told c = λ size b h.
-    let was = c.disk_left.ensures.told size b h in
+pub returns-clause-reported : goal.returns-clause-reported
+returns-clause-reported c = λ size b h.
+    let was = c.disk_left.ensures.reported size b h in
     let cut = c.after_cut.ensures in
     (refl, left_on c.kept_disks.ensures.goes_on size b.disk_state b.kept c.disk_left.result c.after_cut.result was.1 (cut_leaves c.disk_left.result c.after_cut.result cut.left), (ap fault_state_left was.2.0 ∙ sym cut.fault_state, omega (arith, was.2.1, cut.left.failures), omega (arith, was.2.2)))
 

@@ -6,11 +6,11 @@ use Rattle.bench_report.proofs.Devices.{stays}
 use Rattle.bench_report.proofs.Ended.{board_ended}
 use Rattle.bench_report.proofs.steps.disk_left.Goals as goal
 
-pub returns-in-Off-clause-told : goal.returns-in-Off-clause-told
-returns-in-Off-clause-told c = λ size b h. let P : Power → Type 0 = λ p. Agrees size b p in let was = subst P c.in-Off.is h in (refl, was.1, was.2)
+pub returns-in-Off-clause-reported : goal.returns-in-Off-clause-reported
+returns-in-Off-clause-reported c = λ size b h. let P : Power → Type 0 = λ p. Agrees size b p in let was = subst P c.in-Off.is h in (refl, was.1, was.2)
 
-pub returns-in-On-clause-told : goal.returns-in-On-clause-told
-returns-in-On-clause-told c = λ size b h.
+pub returns-in-On-clause-reported : goal.returns-in-On-clause-reported
+returns-in-On-clause-reported c = λ size b h.
     let P : Power → Type 0 = λ p. Agrees size b p in
     let was = subst P c.in-On.is h in
     let board = c.in-On.board in

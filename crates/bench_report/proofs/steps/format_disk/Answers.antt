@@ -7,16 +7,16 @@ use Rattle.bench_report.proofs.Formats.{formats_ok, formats_err}
 use Rattle.bench_report.proofs.KeptDisks.{KeptLaw, BlankLaw}
 use Rattle.bench_report.proofs.steps.format_disk.Goals as goal
 
-pub returns-in-Ok-clause-told : goal.returns-in-Ok-clause-told
-returns-in-Ok-clause-told c = λ b h.
+pub returns-in-Ok-clause-reported : goal.returns-in-Ok-clause-reported
+returns-in-Ok-clause-reported c = λ b h.
     let did = c.in-Ok.ensures in
     let k = c.kept_disks.ensures in
     let kept : KeptLaw = record { goes_on = k.goes_on; marked = k.marked; one_size = k.one_size; sized = k.sized; opens = k.opens; formats = k.formats } in
     let device = stays c.args.shape.now b (fault_state c.args.disk) (fault_state c.format.new.disk) (facts c.args.disk) (facts c.format.new.disk) h.2 did.cause did.in_order.no_fewer did.in_order.content.head.as_long in
     formats_ok kept c.args.shape.now b.disk_state b c.args.disk c.format.new.disk c.says.result h.0 h.1 device c.says.ensures did.ok did.unmarked
 
-pub returns-in-Err-clause-told : goal.returns-in-Err-clause-told
-returns-in-Err-clause-told c = λ b h.
+pub returns-in-Err-clause-reported : goal.returns-in-Err-clause-reported
+returns-in-Err-clause-reported c = λ b h.
     let did = c.in-Err.ensures in
     let k = c.kept_disks.ensures in
     let n = c.blank_disks.ensures in

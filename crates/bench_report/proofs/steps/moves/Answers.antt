@@ -2,28 +2,28 @@ use Rattle.std.proofs.Common.{refl, sym, ◌∙◌, inl, inr}
 use Rattle.bench_report.specs.Steps.{unpowered}
 use Rattle.bench_report.proofs.steps.moves.Goals as goal
 
-pub returns-in_default-clause-told : goal.returns-in_default-clause-told
-returns-in_default-clause-told g c = λ b h. rw c.in_default.is (rw c.in_default.is at (c.step-after.ensures.told b h))
+pub returns-in_default-clause-reported : goal.returns-in_default-clause-reported
+returns-in_default-clause-reported g c = λ b h. rw c.in_default.is (rw c.in_default.is at (c.step-after.ensures.reported b h))
 
-pub returns-then-struck-clause-told : goal.returns-then-struck-clause-told
-returns-then-struck-clause-told g c = λ b h.
-    let did = rw c.in-Ok.is at (c.step-after.ensures.told b h) in
-    let hit = sym (c.struck.ensures.told c.args.shape.now did.0 did.2.0) ∙ c.if-struck.true in
-    (unpowered did.0, inr (c.in-Ok.answer, did.0, did.1, hit, c.says.ensures, refl), (c.cut.ensures.told c.args.shape.now did.0 did.2.0, did.2.1, refl))
+pub returns-then-struck-clause-reported : goal.returns-then-struck-clause-reported
+returns-then-struck-clause-reported g c = λ b h.
+    let did = rw c.in-Ok.is at (c.step-after.ensures.reported b h) in
+    let hit = sym (c.struck.ensures.reported c.args.shape.now did.0 did.2.0) ∙ c.if-struck.true in
+    (unpowered did.0, inr (c.in-Ok.answer, did.0, did.1, hit, c.says.ensures, refl), (c.cut.ensures.reported c.args.shape.now did.0 did.2.0, did.2.1, refl))
 
-pub returns-else-struck-clause-told : goal.returns-else-struck-clause-told
-returns-else-struck-clause-told g c = λ b h.
-    let did = rw c.in-Ok.is at (c.step-after.ensures.told b h) in
-    let calm = sym (c.struck.ensures.told c.args.shape.now did.0 did.2.0) ∙ c.if-struck.false in
+pub returns-else-struck-clause-reported : goal.returns-else-struck-clause-reported
+returns-else-struck-clause-reported g c = λ b h.
+    let did = rw c.in-Ok.is at (c.step-after.ensures.reported b h) in
+    let calm = sym (c.struck.ensures.reported c.args.shape.now did.0 did.2.0) ∙ c.if-struck.false in
     (did.0, inl (did.1, calm), (did.2.0, did.2.1, calm))
 
 pub returns-then-struck-clause-exact : goal.returns-then-struck-clause-exact
 returns-then-struck-clause-exact g c = λ b h.
-    let did = rw c.in-Ok.is at (c.step-after.ensures.told b h) in
-    let hit = sym (c.struck.ensures.told c.args.shape.now did.0 did.2.0) ∙ c.if-struck.true in
+    let did = rw c.in-Ok.is at (c.step-after.ensures.reported b h) in
+    let hit = sym (c.struck.ensures.reported c.args.shape.now did.0 did.2.0) ∙ c.if-struck.true in
     inr (c.in-Ok.answer, did.0, c.step-after.result.0, c.cut.ensures.exact.0, did.1, hit, did.2.0, c.cut.ensures.exact.1, c.cut.ensures.exact.2)
 
 pub returns-else-struck-clause-exact : goal.returns-else-struck-clause-exact
 returns-else-struck-clause-exact g c = λ b h.
-    let did = rw c.in-Ok.is at (c.step-after.ensures.told b h) in
-    inl (did.0, did.1, sym (c.struck.ensures.told c.args.shape.now did.0 did.2.0) ∙ c.if-struck.false)
+    let did = rw c.in-Ok.is at (c.step-after.ensures.reported b h) in
+    inl (did.0, did.1, sym (c.struck.ensures.reported c.args.shape.now did.0 did.2.0) ∙ c.if-struck.false)

@@ -4,8 +4,8 @@ use Rattle.bench_report.specs.Agree.{Agrees}
 use Rattle.bench_report.proofs.Lines.{off_powers}
 use Rattle.bench_report.proofs.steps.on_line.Goals as goal
 
-pub returns-in-Off-clause-told : goal.returns-in-Off-clause-told
-returns-in-Off-clause-told c = λ size b h.
+pub returns-in-Off-clause-reported : goal.returns-in-Off-clause-reported
+returns-in-Off-clause-reported c = λ size b h.
     let P : Power → Type 0 = λ p. Agrees size b p in
     let was = subst P c.in-Off.is h.0 in
-    off_powers size b c.args.mode c.power_on.result.1 c.power_on.result.0 was.0 (c.power_on.ensures.told size b was h.1)
+    off_powers size b c.args.mode c.power_on.result.1 c.power_on.result.0 was.0 (c.power_on.ensures.reported size b was h.1)

@@ -4,8 +4,8 @@ use Rattle.bench_report.proofs.KeptDisks.{KeptLaw, BlankLaw}
 use Rattle.bench_report.proofs.Started.{power_ok, unpowered}
 use Rattle.bench_report.proofs.steps.power_on.Goals as goal
 
-pub returns-in-Ok-clause-told : goal.returns-in-Ok-clause-told
-returns-in-Ok-clause-told c = λ size b h same.
+pub returns-in-Ok-clause-reported : goal.returns-in-Ok-clause-reported
+returns-in-Ok-clause-reported c = λ size b h same.
     let did = c.in-Ok.ensures in
     let k = c.kept_disks.ensures in
     let n = c.blank_disks.ensures in
@@ -13,8 +13,8 @@ returns-in-Ok-clause-told c = λ size b h same.
     let blank : BlankLaw = record { unmarked = n.unmarked; stands = n.stands; opens = n.opens; formats = n.formats } in
     power_ok kept blank size c.args.mode b c.args.payloads.now c.args.disk c.in-Ok.board (record { found = Some c.found.result; line = printed.On c.args.mode }) h same did.on did.keeps c.found.ensures refl
 
-pub returns-in-Err-clause-told : goal.returns-in-Err-clause-told
-returns-in-Err-clause-told c = λ size b h same.
+pub returns-in-Err-clause-reported : goal.returns-in-Err-clause-reported
+returns-in-Err-clause-reported c = λ size b h same.
     let did = c.in-Err.ensures in
     let k = c.kept_disks.ensures in
     let n = c.blank_disks.ensures in
