@@ -199,8 +199,8 @@ module _ (size : Size) (b : Bench) (life : Life) (h : ℕ) (n : Machine) (old ne
     suspend_err e asked = by life.doubt refl fits_or_not
       where
         by : (doubt : Option Change) → life.doubt ≡ doubt → Fits ⊎ (Fits → ⊥) → (k : ℕ) × Suspending k
-        by None none (inl fits) = let did = asked.answered (was.1.2 ∙ none) in fit_err (Err e) asked none fits e did.life.reported did.cause did.counts
-        by None none (inr not) = let did = asked.answered (was.1.2 ∙ none) in unfit_err (Err e) asked none not e did.life.reported did.cause
+        by None none (inl fits) = let did = asked.answered (was.1.2 ∙ none) in fit_err (Err e) asked none fits e did.life.told did.cause did.counts
+        by None none (inr not) = let did = asked.answered (was.1.2 ∙ none) in unfit_err (Err e) asked none not e did.life.told did.cause
         by (Some d) at (inl fits) =
             issued (Err e) asked fits e (reported_down size b life command old new (life_of old) on was device asked.stays.board asked.stays.length asked.stays.no_fewer calm_life d at e (asked.down d (was.1.2 ∙ at)))
         by (Some d) at (inr not) =
@@ -210,11 +210,11 @@ module _ (size : Size) (b : Bench) (life : Life) (h : ℕ) (n : Machine) (old ne
     suspend_ok : (k : ℕ) → Asked (Suspended Fits) old command (Ok k) new → (x : Bench) × Suspends Fits command life b (Ok k) x × (x ≡ acknowledged command life b) × IsEnded size (off x) new
     suspend_ok k asked =
         let did = reported_end size b life command old new (seen (Ok k) asked) on was device asked.stays.board asked.stays.length asked.stays.no_fewer (seen_as (Ok k) asked) life.doubt refl k
-        (λ none. (asked.answered none).life.reported.1) asked.down (λ none. (asked.answered none).cause) in
+        (λ none. (asked.answered none).life.told.1) asked.down (λ none. (asked.answered none).cause) in
         (acknowledged command life b, inl (fits life.doubt refl, did.0), refl, (refl, did.1, did.2))
       where
         fits : (doubt : Option Change) → life.doubt ≡ doubt → Fits
-        fits None none = (asked.answered (was.1.2 ∙ none)).life.reported.0
+        fits None none = (asked.answered (was.1.2 ∙ none)).life.told.0
         fits (Some d) at = absurd (let e = (asked.down d (was.1.2 ∙ at)).0 in let no : ⊥ = cc in no)
 
   abbrev the_hart : State
