@@ -4,7 +4,7 @@ use Rattle.board_model.specs.Shapes.{Size}
 use Rattle.disk.specs.Facts.{Facts, Unchanged}
 use Rattle.disk.specs.FaultState.{Armed, FaultState}
 use Rattle.simdisk.specs.declared.SimDisk.{SimDisk}
-use Rattle.store.specs.Lives.{Life as Told}
+use Rattle.store.specs.Lives.{Life as StoreLife}
 use Rattle.store.specs.Stores.{life_of}
 use Rattle.bench_report.specs.Below.{Board, store_in, machine_in, facts, fault_state, store_size, store_facts, store_fault_state, IsLife}
 use Rattle.bench_report.specs.Bench.{Life, Bench}
@@ -33,5 +33,5 @@ armed_on size b a old new was machine life board same is =
     by None on = absurd on
     by (Some l) on =
         let P : Size → Type 0 = λ z. Follows size b.disk_state b.kept l z in
-        let Q : Told → Type 0 = λ x. IsLife x l.now l.receipts l.doubt in
+        let Q : StoreLife → Type 0 = λ x. IsLife x l.now l.receipts l.doubt in
         ((subst P (sym board) on.0.0, subst Q (sym life) on.0.1), machine ∙ on.1)

@@ -9,7 +9,7 @@ use Rattle.board_model.specs.declared.refusal.Refusal.{Refusal}
 use Rattle.board_model.specs.declared.refusal.Refusal.TheVariants.{Device, Down, Memory, BadShape, JournalFull}
 use Rattle.hart.specs.State.{State, answered}
 use Rattle.hsm.specs.Seen.{listed}
-use Rattle.store.specs.Lives.{Life as Told, Applied, Refused, Suspended, SuspendRefused}
+use Rattle.store.specs.Lives.{Life as StoreLife, Applied, Refused, Suspended, SuspendRefused}
 use Rattle.store.specs.Follows.{FitsBoard}
 use Rattle.store.specs.Opens.{CausedRefusal}
 use Rattle.store.specs.Stores.{life_of, doubt_of}
@@ -145,7 +145,7 @@ module _ (size : Size) (b : Bench) (life : Life) (h : ℕ) (n : Machine) (old ne
     Suspending k = (x : Bench) × Suspends Fits command life b (Err k) x × Running size x life.machine new × (x.payloads ≡ b.payloads)
 
     module _ (r : Result ℕ Refusal) (asked : Asked (Suspended Fits) old command r new) where
-      abbrev seen : Told
+      abbrev seen : StoreLife
       seen = record (life_of old) { found = (life_of new).found }
 
       none_of : life.doubt ≡ None → doubt_of old ≡ None
@@ -157,7 +157,7 @@ module _ (size : Size) (b : Bench) (life : Life) (h : ℕ) (n : Machine) (old ne
       as_it_was : life.doubt ≡ None → (e : Refusal) → (e ≡ Down → ⊥) → (e ≡ Device → ⊥) → CausedRefusal (store_fault_state old) e (store_fault_state new) → life_of new ≡ seen → (x : Bench) → x.disk_state ≡ b.disk_state → x.kept ≡ b.kept → x.power ≡ b.power
           → x.fault_state ≡ b.fault_state → x.failures ≡ b.failures → Running size x life.machine new
       as_it_was none e up is cause same x disk_state kept power fault_state failures =
-          let P : Told → Type 0 = λ l. IsLife l life.now life.receipts None in
+          let P : StoreLife → Type 0 = λ l. IsLife l life.now life.receipts None in
           again size b life command old new seen on was device asked.stays.board asked.stays.length asked.stays.no_fewer x disk_state kept power none (subst P (sym same) (seen_as none))
           (calm_device size b life command old new seen on was device asked.stays.board asked.stays.length asked.stays.no_fewer x fault_state failures (untouched e (store_fault_state old) (store_fault_state new) cause up is))
 

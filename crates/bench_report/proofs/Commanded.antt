@@ -12,7 +12,7 @@ use Rattle.board.specs.Boots.{IsConsoleCommand}
 use Rattle.disk.specs.Facts.{Failed}
 use Rattle.machine.specs.Machine.{Machine}
 use Rattle.store.specs.Leaves.{SameLength}
-use Rattle.store.specs.Lives.{Life as Told, Applied, Refused}
+use Rattle.store.specs.Lives.{Life as StoreLife, Applied, Refused}
 use Rattle.store.specs.Opens.{CausedRefusal}
 use Rattle.store.specs.Stores.{life_of, doubt_of}
 use Rattle.store.specs.Views.{CountedRefusal}
@@ -78,7 +78,7 @@ over_more size Unknown k c life store h calm now doubt = tt
 over_more size Formatted k c life store h calm now doubt = (h.0 ∙ calm, now ∙ found_more k.changes c life.now h.1, h.2, doubt)
 
 -- A command on a board whose life has a command in doubt, or none. Where none is, the store's life is seen so when it is asked.
-module _ (size : Size) (b : Bench) (life : Life) (c : Change) (old new : Store) (seen : Told)
+module _ (size : Size) (b : Bench) (life : Life) (c : Change) (old new : Store) (seen : StoreLife)
     (on : b.power ≡ Some life) (was : StoreIs size b.disk_state b.kept life old) (device : DeviceIs size b (store_fault_state old) (store_facts old))
     (same_size : store_size new ≡ store_size old) (fits : SameLength (store_facts old) (store_facts new)) (no_fewer : (store_facts old).failures ≤ (store_facts new).failures) where
   -- the command is answered so, and the board is on

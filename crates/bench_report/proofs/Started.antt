@@ -12,7 +12,7 @@ use Rattle.board_model.specs.declared.refusal.Refusal.TheVariants.{BadShape, Mem
 use Rattle.disk.specs.Facts.{Facts}
 use Rattle.simdisk.specs.declared.SimDisk.{SimDisk}
 use Rattle.store.specs.Leaves.{Leaves, LeavesOnly, LeavesEither, SameLength}
-use Rattle.store.specs.Lives.{Life as Told, begun as started}
+use Rattle.store.specs.Lives.{Life as StoreLife, begun as started}
 use Rattle.store.specs.Opens.{CausedRefusal}
 use Rattle.store.specs.Stores.{life_of, view_of}
 use Rattle.machine.specs.Machine.{Machine}
@@ -44,10 +44,10 @@ no_doubt mode Down up = absurd (up refl)
 no_doubt mode e up = refl
 
 as_begun : (store : Store) (s : State) → life_of store ≡ started s → IsAs store s 0 None
-as_begun store s e = let P : Told → Type 0 = λ life. IsLife life s 0 None in subst P (sym e) (refl, refl, refl, refl)
+as_begun store s e = let P : StoreLife → Type 0 = λ life. IsLife life s 0 None in subst P (sym e) (refl, refl, refl, refl)
 
 as_issued : (store : Store) (s : State) (c : Change) → life_of store ≡ record (started s) { journal = c ∷ [] } → IsAs store (after s c) 1 None
-as_issued store s c e = let P : Told → Type 0 = λ life. IsLife life (after s c) 1 None in subst P (sym e) (refl, refl, refl, refl)
+as_issued store s c e = let P : StoreLife → Type 0 = λ life. IsLife life (after s c) 1 None in subst P (sym e) (refl, refl, refl, refl)
 
 -- what a crash leaves of a disk whose life ends with the boot
 kept_only : (size z : Size) (m : DiskState) (k : Kept) (s : State) (disk : Facts) → Follows size m k (begun s z) z → LeavesOnly disk z s → DiskIs size m k disk
