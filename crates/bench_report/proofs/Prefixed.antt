@@ -40,11 +40,11 @@ use Rattle.bench_report.proofs.Wholes.{IsKeptWhole, all_loaded}
 use Rattle.bench_report.proofs.Issues.{takes_more, is_up, GoesOn, IsSound, Back, joined, said, Went, Does, issued_back, AllWent, all_back}
 
 -- ---- a line that leaves what the disk stands for
-abbrev pub Told : Asked → Answer → Bool → Bool → State → State → Type 0
-Told asked a up now s t = ShowsIts a.found s × Tells asked a.line s up t now
+abbrev pub LineReports : Asked → Answer → Bool → Bool → State → State → Type 0
+LineReports asked a up now s t = ShowsIts a.found s × Tells asked a.line s up t now
 
 abbrev pub Tell : Asked → Bench → Answer → Bench → Type 0
-Tell asked b a new = Back b new (λ s t. Told asked a (is_up b.power) (is_up new.power) s t)
+Tell asked b a new = Back b new (λ s t. LineReports asked a (is_up b.power) (is_up new.power) s t)
 
 by_eqs : (asked : Asked) (b : Bench) (a x : Answer) (new n : Bench) → a ≡ x → new ≡ n → Tell asked b x n → Tell asked b a new
 by_eqs asked b a x new n e f h =
@@ -65,7 +65,7 @@ stays : (asked : Asked) (b : Bench) (a : Answer) (x : Printed) (new : Bench) →
 stays asked b a x new e f sound tells = same asked b a x new b e f refl refl refl sound.1 sound tells
 
 -- ---- power on
-by_parts : (mode : BootMode) (a : Answer) (f : Option Durable) (x : Printed) (up now : Bool) (s t : State) → a.found ≡ f → a.line ≡ x → ShowsIts f s → Tells (Boot mode) x s up t now → Told (Boot mode) a up now s t
+by_parts : (mode : BootMode) (a : Answer) (f : Option Durable) (x : Printed) (up now : Bool) (s t : State) → a.found ≡ f → a.line ≡ x → ShowsIts f s → Tells (Boot mode) x s up t now → LineReports (Boot mode) a up now s t
 by_parts mode a f x up now s t e g shows tells =
     let P : Option Durable → Type 0 = λ o. ShowsIts o s in
     let Q : Printed → Type 0 = λ y. Tells (Boot mode) y s up t now in
@@ -98,7 +98,7 @@ module _ (b : Bench) (changes : List Change) (may : MayKeep b.kept changes) (dis
   refused_boot n mode a x new found line e kept same_power same_disk_state =
       let Q : Bench → Type 0 = λ m. Tell (Boot mode) b a m in
       let back = opened x kept (same_disk_state ∙ disk_state, sound_off x.kept x.power same_power) in
-      subst Q (sym e) (said b x (λ s t. (t ≡ s) × (s ≡ found_of changes)) (λ s t. Told (Boot mode) a (is_up b.power) (is_up x.power) s t) back
+      subst Q (sym e) (said b x (λ s t. (t ≡ s) × (s ≡ found_of changes)) (λ s t. LineReports (Boot mode) a (is_up b.power) (is_up x.power) s t) back
       (λ s t h. by_parts mode a _ (printed.OnRefused n) (is_up b.power) (is_up x.power) s t found line (shown s h.1) (off_now, ap is_up same_power ∙ off_now, inl h.0)))
 
   is_on : (o : Result ℕ ℕ) (mode : BootMode) (z : Size) (a : Answer) (mid new : Bench) → a.found ≡ Some (durable_of (found_of changes))
@@ -167,9 +167,9 @@ powers size mode b a new sound on (inr (inr (inr h))) = same (Boot mode) b a (pr
 -- ---- the other lines
 console_says : (word : ConsoleWord) (c : Change) (o : Result ℕ ℕ) (b : Bench) (a : Answer) (new : Bench) → Does c (is_up b.power) b o new → a ≡ console_reported word o → Tell (Command c) b a new
 console_says word c (Ok k) b a new one e =
-    by_eqs (Command c) b a _ new new e refl (said b new (Went (Ok k) c (is_up b.power) (is_up new.power)) (λ s t. Told (Command c) (says (printed.Acknowledged word k)) (is_up b.power) (is_up new.power) s t) one (λ s t w. (tt, (w.0, (w.1, w.2), w.3))))
+    by_eqs (Command c) b a _ new new e refl (said b new (Went (Ok k) c (is_up b.power) (is_up new.power)) (λ s t. LineReports (Command c) (says (printed.Acknowledged word k)) (is_up b.power) (is_up new.power) s t) one (λ s t w. (tt, (w.0, (w.1, w.2), w.3))))
 console_says word c (Err k) b a new one e =
-    by_eqs (Command c) b a _ new new e refl (said b new (Went (Err k) c (is_up b.power) (is_up new.power)) (λ s t. Told (Command c) (says (printed.CommandRefused word k)) (is_up b.power) (is_up new.power) s t) one (λ s t w. (tt, down s t w)))
+    by_eqs (Command c) b a _ new new e refl (said b new (Went (Err k) c (is_up b.power) (is_up new.power)) (λ s t. LineReports (Command c) (says (printed.CommandRefused word k)) (is_up b.power) (is_up new.power) s t) one (λ s t w. (tt, down s t w)))
   where
     down : (s t : State) → Went (Err k) c (is_up b.power) (is_up new.power) s t → Refused k c s (is_up b.power) t (is_up new.power)
     down s t (inl w) = inl w
@@ -204,11 +204,11 @@ payload_at None slot bytes b a new sound h = same Nothing b a _ new _ h.0 h.1 re
 -- turns and calls
 turn_says : (word : Word) (h made : ℕ) (b : Bench) (a : Answer) (new : Bench) → GoesBy word b new → a ≡ shows (shown_lines.Turn h made word) → Tell Guest b a new
 turn_says word h made b a new back e =
-    by_eqs Guest b a _ new new e refl (said b new (λ s t. TellsWord word s (is_up b.power) t (is_up new.power)) (λ s t. Told Guest (shows (shown_lines.Turn h made word)) (is_up b.power) (is_up new.power) s t) back (λ s t w. (tt, w)))
+    by_eqs Guest b a _ new new e refl (said b new (λ s t. TellsWord word s (is_up b.power) t (is_up new.power)) (λ s t. LineReports Guest (shows (shown_lines.Turn h made word)) (is_up b.power) (is_up new.power) s t) back (λ s t w. (tt, w)))
 
 line_says : (word : Word) (line : MachineLine) (b : Bench) (a : Answer) (new : Bench) → GoesBy word b new → a ≡ shows line → ((s t : State) → TellsWord word s (is_up b.power) t (is_up new.power) → TellsLine line s (is_up b.power) t (is_up new.power)) → Tell Guest b a new
 line_says word line b a new back e tells =
-    by_eqs Guest b a _ new new e refl (said b new (λ s t. TellsWord word s (is_up b.power) t (is_up new.power)) (λ s t. Told Guest (shows line) (is_up b.power) (is_up new.power) s t) back (λ s t w. (tt, tells s t w)))
+    by_eqs Guest b a _ new new e refl (said b new (λ s t. TellsWord word s (is_up b.power) t (is_up new.power)) (λ s t. LineReports Guest (shows line) (is_up b.power) (is_up new.power) s t) back (λ s t w. (tt, tells s t w)))
 
 own_tells : (h : ℕ) (hart : HartState) (did : Turned) (s t : State) (up now : Bool) → Hides s up t now → TellsLine (own_line h hart did) s up t now
 own_tells h hart dids.Next s t up now w = w
