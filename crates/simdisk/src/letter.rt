@@ -10,7 +10,7 @@ use disk::Disk;
 /// What a crash may leave, to the letter: each content that agrees with the one at the last sync
 /// outside the ranges written since, whatever bytes are in them, and no other; and the same for
 /// each moment since an earlier one. What is lent is among the ranges written.
-pub fn to_the_letter(disk: &SimDisk)
+pub fn exactly_the_model(disk: &SimDisk)
     ensures now { (c : Content) → (⟦<SimDisk as Disk>⟧.facts disk.now).may_leave c ↔ Agrees (synced (⟦<SimDisk as Recorded>⟧.record disk.now)) (ranges (⟦<SimDisk as Recorded>⟧.record disk.now).written) c }
     ensures moment { (⟦<SimDisk as Disk>⟧.facts disk.now).moment ≡ length (⟦<SimDisk as Recorded>⟧.record disk.now).past }
     ensures since { (t : ℕ) (c : Content) → (⟦<SimDisk as Disk>⟧.facts disk.now).since t c

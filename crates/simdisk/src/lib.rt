@@ -25,6 +25,6 @@ mod striking;
 
 pub use choice::Choice;
 pub use lane::SimLane;
-pub use letter::to_the_letter;
+pub use letter::exactly_the_model;
 pub use recorded::{Recorded, RecordedLane};
 pub use sim::SimDisk;
