@@ -11,7 +11,7 @@ mod laid;
 mod lane;
 mod latest;
 mod lending;
-mod letter;
+mod exactness;
 mod loan;
 mod made;
 mod past;
@@ -25,6 +25,6 @@ mod striking;
 
 pub use choice::Choice;
 pub use lane::SimLane;
-pub use letter::exactly_the_model;
+pub use exactness::exactly_the_model;
 pub use recorded::{Recorded, RecordedLane};
 pub use sim::SimDisk;

@@ -2,7 +2,7 @@ use Rattle.simdisk.specs.Loans.{lent_of}
 use Rattle.simdisk.specs.Record.{ranges}
 use Rattle.simdisk.specs.Views.{pieces}
 use Rattle.simdisk.proofs.Notes.{lent_written}
-use Rattle.simdisk.proofs.letter.exactly_the_model.Goals as goal
+use Rattle.simdisk.proofs.exactness.exactly_the_model.Goals as goal
 
 pub returns-clause-lent : goal.returns-clause-lent
 returns-clause-lent c k le lt u =
