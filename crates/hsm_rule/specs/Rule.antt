@@ -48,15 +48,15 @@ abbrev pub is_pending : Board → Grants → ℕ → ℕ → ℕ → ℕ
 is_pending m g t a o = if g.address t == a then (if g.opaque t == o then m.claimed t - m.entered t else 0) else 0
 
 -- 1 where a hart at this stage has a start of the target in flight: it has claimed it and not armed it yet
-abbrev pub fly : ℕ → Stage → ℕ
-fly t (Claiming t' a o) = if t' == t then 1 else 0
-fly t (Half t' a o) = if t' == t then 1 else 0
-fly t (Stored t' a o) = if t' == t then 1 else 0
-fly t _ = 0
+abbrev pub in_flight : ℕ → Stage → ℕ
+in_flight t (Claiming t' a o) = if t' == t then 1 else 0
+in_flight t (Half t' a o) = if t' == t then 1 else 0
+in_flight t (Stored t' a o) = if t' == t then 1 else 0
+in_flight t _ = 0
 
 -- the starts of the target that the harts of a seat have in flight
 abbrev pub flights : ℕ → Crew → ℕ
-flights t c = total (λ (v : HartView). fly t v.stage) c.harts
+flights t c = total (λ (v : HartView). in_flight t v.stage) c.harts
 
 -- how often the hart is in a seat
 abbrev pub is_of : ℕ → HartView → ℕ
