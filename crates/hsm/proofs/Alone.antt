@@ -10,7 +10,7 @@ use Rattle.hsm_words.specs.declared.view.Stage.TheVariants.{Out, Ready, Addresse
 use Rattle.hsm_words.specs.declared.view.Action.{Action}
 use Rattle.hsm_words.specs.declared.view.Action.TheVariants.{Claimed, Wrote, Armed, Looked, Read, Entered, Quieted, Unquieted}
 use Rattle.hsm_words.specs.declared.view.HartView.{HartView}
-use Rattle.hsm_words.specs.declared.view.Crew.{Crew}
+use Rattle.hsm_words.specs.declared.view.HartSeatView.{HartSeatView}
 use Rattle.hsm_rule.specs.Rule.{claim_of, entry_of, did, noted, HasNoted, stands}
 use Rattle.hsm_rule.specs.States.{HartState, stopped, start_pending, started, suspended, awaits, Says, is_outside, is_running, is_asleep, IsAt, IsIn, IsStarted, Shows, Tells, change_at, is_stopped, grant, entry, begin}
 use Rattle.hsm_steps.specs.Told.{after_claim, after_look, after_quiet, is_alone, IsOpenStart}
@@ -25,7 +25,7 @@ numbers_noted h st p x (v ∷ vs) =
     (λ hit. rw (eq-eqb v.hart h hit) refl)
     (λ miss. rw (ne_eqb v.hart h miss) (ap (λ (l : List ℕ). v.hart ∷ l) (numbers_noted h st p x vs)))
 
-pub numbered : (h : ℕ) (st : Stage) (x : Action) (c c' : Crew) → HasNoted h st x c.harts c'.harts → numbers c'.harts ≡ numbers c.harts
+pub numbered : (h : ℕ) (st : Stage) (x : Action) (c c' : HartSeatView) → HasNoted h st x c.harts c'.harts → numbers c'.harts ≡ numbers c.harts
 numbered h st x c c' is = ap numbers is.1 ∙ numbers_noted h st is.0 x c.harts
 
 did_noted : (g : Action → ℕ) (h : ℕ) (st st' : Stage) (p : ℕ) (x : Action) (vs : List HartView) → stands h st vs
@@ -51,10 +51,10 @@ stands_once h st st' (v ∷ vs) s t =
     t)
     s
 
-shows_as : (harts : ℕ) (c : Crew) (states states' : ℕ → HartState) → ((k : ℕ) → states' k ≡ states k) → Shows harts c states → Shows harts c states'
+shows_as : (harts : ℕ) (c : HartSeatView) (states states' : ℕ → HartState) → ((k : ℕ) → states' k ≡ states k) → Shows harts c states → Shows harts c states'
 shows_as harts c states states' same shown k lt = subst (λ (x : HartState). IsIn c k x) (sym (same k)) (shown k lt)
 
-module _ (harts h : ℕ) (st st' : Stage) (x : Action) (c c' : Crew) (is : HasNoted h st' x c.harts c'.harts) (stood : stands h st c.harts) where
+module _ (harts h : ℕ) (st st' : Stage) (x : Action) (c c' : HartSeatView) (is : HasNoted h st' x c.harts c'.harts) (stood : stands h st c.harts) where
   pub weight : (g : Action → ℕ) → did g c' ≡ g x + did g c
   weight g = ap (total (λ (v : HartView). total g v.actions)) is.1 ∙ did_noted g h st st' is.0 x c.harts stood
 
@@ -111,14 +111,14 @@ module _ (harts h : ℕ) (st st' : Stage) (x : Action) (c c' : Crew) (is : HasNo
 
 -- ---- one step after another
 -- after some of its steps the hart is at this stage, and the others of its seat stand as they did
-pub record Goes (h : ℕ) (st : Stage) (c c' : Crew) : Type 0 where
+pub record Goes (h : ℕ) (st : Stage) (c c' : HartSeatView) : Type 0 where
   pub own : stands h st c'.harts
   pub others : KeepsOthers h c.harts c'.harts
 
-pub goes : (harts h : ℕ) (st st' : Stage) (x : Action) (c c' : Crew) → HasNoted h st' x c.harts c'.harts → stands h st c.harts → Goes h st' c c'
+pub goes : (harts h : ℕ) (st st' : Stage) (x : Action) (c c' : HartSeatView) → HasNoted h st' x c.harts c'.harts → stands h st c.harts → Goes h st' c c'
 goes harts h st st' x c c' is stood = record { own = stands_after h st st' x c c' is stood; others = keeps harts h st st' x c c' is stood }
 
-pub goes_on : (harts h : ℕ) (st st' : Stage) (x : Action) (c c' c'' : Crew) → Goes h st c c' → HasNoted h st' x c'.harts c''.harts → Goes h st' c c''
+pub goes_on : (harts h : ℕ) (st st' : Stage) (x : Action) (c c' c'' : HartSeatView) → Goes h st c c' → HasNoted h st' x c'.harts c''.harts → Goes h st' c c''
 goes_on harts h st st' x c c' c'' gone is =
     let next = goes harts h st st' x c' c'' is gone.own in record {
       own = next.own;
@@ -202,15 +202,15 @@ looked_out true true e = absurd (true≢false e)
 looked_out true false e = refl
 looked_out false q e = refl
 
-pub stays_out : (h found : ℕ) (c c' : Crew) → HasNoted h (after_look h found) (Looked found) c.harts c'.harts → is_ready h found ≡ false → HasNoted h Out (Looked found) c.harts c'.harts
+pub stays_out : (h found : ℕ) (c c' : HartSeatView) → HasNoted h (after_look h found) (Looked found) c.harts c'.harts → is_ready h found ≡ false → HasNoted h Out (Looked found) c.harts c'.harts
 stays_out h found c c' is z =
     (is.0, is.1 ∙ ap (λ (w : Stage). noted h w is.0 (Looked found) c.harts) (looked_out (eqb (bit_at found (8 + h)) 1) (eqb (bit_at found (16 + h)) 0) z))
 
-pub gets_ready : (h found : ℕ) (c c' : Crew) → HasNoted h (after_look h found) (Looked found) c.harts c'.harts → bit_at found (8 + h) ≡ 1 → bit_at found (16 + h) ≡ 0 → HasNoted h Ready (Looked found) c.harts c'.harts
+pub gets_ready : (h found : ℕ) (c c' : HartSeatView) → HasNoted h (after_look h found) (Looked found) c.harts c'.harts → bit_at found (8 + h) ≡ 1 → bit_at found (16 + h) ≡ 0 → HasNoted h Ready (Looked found) c.harts c'.harts
 gets_ready h found c c' is armed out =
     let e : after_look h found ≡ Ready = rw (armed, out) refl in (is.0, is.1 ∙ ap (λ (w : Stage). noted h w is.0 (Looked found) c.harts) e)
 
-pub enters_none : (harts h found : ℕ) (c c' : Crew) → HasNoted h (after_look h found) (Looked found) c.harts c'.harts → is_ready h found ≡ false → stands h Out c.harts → h < harts → Tells harts c found
+pub enters_none : (harts h found : ℕ) (c c' : HartSeatView) → HasNoted h (after_look h found) (Looked found) c.harts c'.harts → is_ready h found ≡ false → stands h Out c.harts → h < harts → Tells harts c found
     → (states : ℕ → HartState) → Shows harts c states → (None ≡ entry (states h)) × Shows harts c' (change_at h begin states)
 enters_none harts h found c c' is z stood lt tells states shown =
     let t = tells states shown h lt in
@@ -222,7 +222,7 @@ enters_none harts h found c c' is z stood lt tells states shown =
           (shows_same harts h Out Out (Looked found) c c' (stays_out h found c c' is z) stood (λ y at. at) (λ k a o. refl) (λ k a o. refl) states shown),
     )
 
-pub enters_some : (harts h found a o : ℕ) (c c1 c2 c3 c4 : Crew)
+pub enters_some : (harts h found a o : ℕ) (c c1 c2 c3 c4 : HartSeatView)
     → HasNoted h Ready (Looked found) c.harts c1.harts
     → HasNoted h (Addressed a) (Read (1 + 2 * h) a) c1.harts c2.harts
     → HasNoted h (Loaded a o) (Read (2 + 2 * h) o) c2.harts c3.harts
@@ -263,15 +263,15 @@ no_claim t a o found k b d taken =
     nil true false n e = refl
     nil false q n e = refl
 
-pub stays_running : (h t a o found : ℕ) (c c' : Crew) → HasNoted h (after_claim t a o found) (Claimed t a o found) c.harts c'.harts → bit_at found t ≢ 0 → HasNoted h Running (Claimed t a o found) c.harts c'.harts
+pub stays_running : (h t a o found : ℕ) (c c' : HartSeatView) → HasNoted h (after_claim t a o found) (Claimed t a o found) c.harts c'.harts → bit_at found t ≢ 0 → HasNoted h Running (Claimed t a o found) c.harts c'.harts
 stays_running h t a o found c c' is taken =
     let e : after_claim t a o found ≡ Running = rw (ne_eqb (bit_at found t) 0 taken) refl in (is.0, is.1 ∙ ap (λ (w : Stage). noted h w is.0 (Claimed t a o found) c.harts) e)
 
-pub claims_it : (h t a o found : ℕ) (c c' : Crew) → HasNoted h (after_claim t a o found) (Claimed t a o found) c.harts c'.harts → bit_at found t ≡ 0 → HasNoted h (Claiming t a o) (Claimed t a o found) c.harts c'.harts
+pub claims_it : (h t a o found : ℕ) (c c' : HartSeatView) → HasNoted h (after_claim t a o found) (Claimed t a o found) c.harts c'.harts → bit_at found t ≡ 0 → HasNoted h (Claiming t a o) (Claimed t a o found) c.harts c'.harts
 claims_it h t a o found c c' is clear =
     let e : after_claim t a o found ≡ Claiming t a o = rw clear refl in (is.0, is.1 ∙ ap (λ (w : Stage). noted h w is.0 (Claimed t a o found) c.harts) e)
 
-pub start_refused : (harts h t a o found : ℕ) (c c' : Crew) → HasNoted h (after_claim t a o found) (Claimed t a o found) c.harts c'.harts → bit_at found t ≢ 0 → stands h Running c.harts → t < harts → Tells harts c found
+pub start_refused : (harts h t a o found : ℕ) (c c' : HartSeatView) → HasNoted h (after_claim t a o found) (Claimed t a o found) c.harts c'.harts → bit_at found t ≢ 0 → stands h Running c.harts → t < harts → Tells harts c found
     → (states : ℕ → HartState) → Shows harts c states → (false ≡ is_stopped (states t)) × Shows harts c' (change_at t (grant a o) states)
 start_refused harts h t a o found c c' is taken stood lt tells states shown =
     let n = taken_of found t (states t) (tells states shown t lt).0 taken in (
@@ -282,7 +282,7 @@ start_refused harts h t a o found c c' is taken stood lt tells states shown =
           (shows_same harts h Running Running (Claimed t a o found) c c' (stays_running h t a o found c c' is taken) stood (λ y at. at) (λ k b d. no_claim t a o found k b d taken) (λ k b d. refl) states shown),
     )
 
-pub start_granted : (harts h t a o found : ℕ) (c c1 c2 c3 c4 : Crew)
+pub start_granted : (harts h t a o found : ℕ) (c c1 c2 c3 c4 : HartSeatView)
     → HasNoted h (after_claim t a o found) (Claimed t a o found) c.harts c1.harts
     → HasNoted h (Half t a o) (Wrote (1 + 2 * t) a) c1.harts c2.harts
     → HasNoted h (Stored t a o) (Wrote (2 + 2 * t) o) c2.harts c3.harts
@@ -374,7 +374,7 @@ after_runs : (q : Bool) → is_running (if q then Quiet else Running) ≡ true
 after_runs true = refl
 after_runs false = refl
 
-pub quiet_alone : (harts h found : ℕ) (c c' : Crew) → HasNoted h (after_quiet harts h found) (Quieted found) c.harts c'.harts → IsStarted h c.harts
+pub quiet_alone : (harts h found : ℕ) (c c' : HartSeatView) → HasNoted h (after_quiet harts h found) (Quieted found) c.harts c'.harts → IsStarted h c.harts
     → (IsTrue (is_alone harts h found) ↔ ((t : ℕ) → t < harts → t ≢ h → bit_at found t ≡ 0)) → Tells harts c found
     → (states : ℕ → HartState) → Shows harts c states
     → (IsTrue (is_alone harts h found) ↔ ((t : ℕ) → t < harts → t ≢ h → states t ≡ stopped)) × Shows harts c' states
@@ -389,11 +389,11 @@ quiet_alone harts h found c c' is stood alone tells states shown = (
       stood,
 )
 
-pub unquiet_alone : (harts h found : ℕ) (c c' : Crew) → HasNoted h Running (Unquieted found) c.harts c'.harts → stands h Quiet c.harts → (states : ℕ → HartState) → Shows harts c states → Shows harts c' states
+pub unquiet_alone : (harts h found : ℕ) (c c' : HartSeatView) → HasNoted h Running (Unquieted found) c.harts c'.harts → stands h Quiet c.harts → (states : ℕ → HartState) → Shows harts c states → Shows harts c' states
 unquiet_alone harts h found c c' is stood states shown =
     shows_same harts h Quiet Running (Unquieted found) c c' is stood (at_running Quiet Running refl refl refl) (λ k a o. refl) (λ k a o. refl) states shown
 
-module _ (harts h found : ℕ) (c c' : Crew) (is : HasNoted h (after_quiet harts h found) (Quieted found) c.harts c'.harts) (stood : IsStarted h c.harts) where
+module _ (harts h found : ℕ) (c c' : HartSeatView) (is : HasNoted h (after_quiet harts h found) (Quieted found) c.harts c'.harts) (stood : IsStarted h c.harts) where
   pub quiet_stands : MatchBool (is_alone harts h found) (stands h Quiet c'.harts) (stands h Running c'.harts)
   quiet_stands = settle (is_alone harts h found) (⊎_elim
       (λ (s : stands h Running c.harts). stands_after h Running (after_quiet harts h found) (Quieted found) c c' is s)

@@ -10,7 +10,7 @@ use Rattle.hsm_words.specs.declared.view.Stage.TheVariants.{Out, Ready, Addresse
 use Rattle.hsm_words.specs.declared.view.Action.{Action}
 use Rattle.hsm_words.specs.declared.view.Action.TheVariants.{Claimed, Wrote, Armed, Looked, Read, Entered, Stopped, Suspended, Woke, Quieted, Unquieted}
 use Rattle.hsm_words.specs.declared.view.HartView.{HartView}
-use Rattle.hsm_words.specs.declared.view.Crew.{Crew}
+use Rattle.hsm_words.specs.declared.view.HartSeatView.{HartSeatView}
 use Rattle.hsm_rule.specs.Rule.{claim_of, entry_of, did}
 use Rattle.hsm_rule.specs.States.{HartState, stopped, start_pending, started, suspended, awaits, is_outside, is_running, is_asleep, IsIn, Shows}
 use Rattle.std.specs.Prelude.{length, slice_set}
@@ -55,7 +55,7 @@ lt_true m n lt = search (arith, rules)
 lt_false : (m n : ℕ) → n ≤ m → nat_lt m n ≡ false
 lt_false m n le = search (arith, rules)
 
-module _ (h : ℕ) (c : Crew) where
+module _ (h : ℕ) (c : HartSeatView) where
   abbrev pub Weighs : HartState → Type 0
   Weighs x = (a o : ℕ) → did (claim_of h a o) c ≡ did (entry_of h a o) c + awaits x a o
 
@@ -151,7 +151,7 @@ at_outside (Loaded a o) start e = refl
 at_outside st start e = absurd (cc)
 
 -- the state that a view tells is the one that is computed of it
-pub state_is : (c : Crew) (h : ℕ) (x : HartState) → IsIn c h x → state_in c h ≡ x
+pub state_is : (c : HartSeatView) (h : ℕ) (x : HartState) → IsIn c h x → state_in c h ≡ x
 state_is c h stopped i =
     ap (λ (s : Stage). state_at s (open_start h c)) (stands_stage h i.0 c.harts i.1) ∙ (at_outside i.0 (open_start h c) i.2 ∙ ap outside (closed h c stopped (λ a o. refl) i.3))
 state_is c h (start_pending b d) i =
@@ -161,18 +161,18 @@ state_is c h started i =
 state_is c h suspended i =
     ap (λ (s : Stage). state_at s (open_start h c)) (stands_stage h i.0 c.harts i.1) ∙ at_asleep i.0 (open_start h c) i.2
 
-pub one_table : (harts : ℕ) (c : Crew) (states : ℕ → HartState) → Shows harts c states → (h : ℕ) → h < harts → state_in c h ≡ states h
+pub one_table : (harts : ℕ) (c : HartSeatView) (states : ℕ → HartState) → Shows harts c states → (h : ℕ) → h < harts → state_in c h ≡ states h
 one_table harts c states shown h lt = state_is c h (states h) (shown h lt)
 
 -- so the states that a view shows are those computed of it
-pub shows_seen : (harts : ℕ) (c : Crew) (states : ℕ → HartState) → Shows harts c states → Shows harts c (state_in c)
+pub shows_seen : (harts : ℕ) (c : HartSeatView) (states : ℕ → HartState) → Shows harts c states → Shows harts c (state_in c)
 shows_seen harts c states shown h lt = subst (λ (x : HartState). IsIn c h x) (sym (one_table harts c states shown h lt)) (shown h lt)
 
 -- ---- the states as a list
-pub one_list : (harts : ℕ) (c : Crew) (states : List HartState) → AreStates harts c states → states_in harts c ≡ states
+pub one_list : (harts : ℕ) (c : HartSeatView) (states : List HartState) → AreStates harts c states → states_in harts c ≡ states
 one_list harts c states are = map_all (state_in c) stopped harts states are.0 (one_table harts c (listed states) are.1)
 
-pub changed : (harts h : ℕ) (f : HartState → HartState) (c : Crew) (states : List HartState) → length states ≡ harts → h < harts → Shows harts c (change_at h f (listed states)) → AreStates harts c (slice_set states h (f (listed states h)))
+pub changed : (harts h : ℕ) (f : HartState → HartState) (c : HartSeatView) (states : List HartState) → length states ≡ harts → h < harts → Shows harts c (change_at h f (listed states)) → AreStates harts c (slice_set states h (f (listed states h)))
 changed harts h f c states e lt shown = (
   length-set states h (f (listed states h)) ∙ e,
   (λ k below. subst (λ (x : HartState). IsIn c k x) (dite (ℕ_discrete k h)

@@ -6,7 +6,7 @@ use Rattle.hsm_words.specs.declared.view.Stage.{Stage}
 use Rattle.hsm_words.specs.declared.view.Stage.TheVariants.{Out, Running, Asleep, Quiet}
 use Rattle.hsm_words.specs.declared.view.Action.{Action}
 use Rattle.hsm_words.specs.declared.view.HartView.{HartView}
-use Rattle.hsm_words.specs.declared.view.Crew.{Crew}
+use Rattle.hsm_words.specs.declared.view.HartSeatView.{HartSeatView}
 use Rattle.hsm_rule.specs.States.{IsSettled}
 use Rattle.hsm_rule.specs.Rule.{noted, HasNoted, stands}
 use Rattle.hsm.specs.declared.state.State.{State}
@@ -22,7 +22,7 @@ stands_noted h st st' p x (v ∷ vs) s =
     s
 
 -- after a step whose view is known
-pub stands_after : (h : ℕ) (st st' : Stage) (x : Action) (c c' : Crew) → HasNoted h st' x c.harts c'.harts → stands h st c.harts → stands h st' c'.harts
+pub stands_after : (h : ℕ) (st st' : Stage) (x : Action) (c c' : HartSeatView) → HasNoted h st' x c.harts c'.harts → stands h st c.harts → stands h st' c'.harts
 stands_after h st st' x c c' is s = subst (stands h st') (sym is.1) (stands_noted h st st' is.0 x c.harts s)
 
 -- another hart of the seat stands as it did

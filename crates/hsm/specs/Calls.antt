@@ -6,7 +6,7 @@ use Rattle.hsm_words.specs.declared.view.Stage.{Stage}
 use Rattle.hsm_words.specs.declared.view.Stage.TheVariants.{Out, Ready, Addressed, Loaded, Running, Claiming, Half, Stored, Asleep, Quiet}
 use Rattle.hsm_words.specs.declared.view.Action.TheVariants.{Claimed, Wrote, Armed, Looked, Read, Entered}
 use Rattle.hsm_words.specs.declared.view.HartView.{HartView}
-use Rattle.hsm_words.specs.declared.view.Crew.{Crew}
+use Rattle.hsm_words.specs.declared.view.HartSeatView.{HartSeatView}
 use Rattle.hsm_rule.specs.Rule.{HasNoted, stands}
 use Rattle.hsm_rule.specs.States.{HartState, stopped, start_pending, started, suspended, IsStarted, Shows}
 use Rattle.hsm.specs.declared.state.State.{State}
@@ -97,5 +97,5 @@ FindsNone h vs vs' = (found : ℕ) × (is_ready h found ≡ false) × HasNoted h
 
 -- ---- with the one seat of all harts
 -- Whatever the states are, the answer is right of them, and the states after the call are those that follow.
-abbrev pub ActsAlone : ℕ → Crew → Crew → ((ℕ → HartState) → Type 0) → ((ℕ → HartState) → ℕ → HartState) → Type 0
+abbrev pub ActsAlone : ℕ → HartSeatView → HartSeatView → ((ℕ → HartState) → Type 0) → ((ℕ → HartState) → ℕ → HartState) → Type 0
 ActsAlone harts c c' Answers next = (states : ℕ → HartState) → Shows harts c states → Answers states × Shows harts c' (next states)

@@ -5,7 +5,7 @@ use Rattle.hsm_words.specs.declared.view.Stage.{Stage}
 use Rattle.hsm_words.specs.declared.view.Action.{Action}
 use Rattle.hsm_words.specs.declared.view.Action.TheVariants.{Claimed}
 use Rattle.hsm_words.specs.declared.view.HartView.{HartView}
-use Rattle.hsm_words.specs.declared.view.Crew.{Crew}
+use Rattle.hsm_words.specs.declared.view.HartSeatView.{HartSeatView}
 use Rattle.hsm_rule.specs.Rule.{claim_of, entry_of, did}
 use Rattle.hsm_rule.specs.States.{HartState, stopped, start_pending, started, suspended, is_running, is_asleep, Shows}
 use Rattle.hsm.specs.Calls.{stage_of}
@@ -20,12 +20,12 @@ first_of f [] = None
 first_of f (x ∷ xs) = or_else (f x) (first_of f xs)
 
 -- what a claim of the hart was for, where more claims than entries are for it
-abbrev pub open_by : ℕ → Crew → Action → Option (ℕ × ℕ)
+abbrev pub open_by : ℕ → HartSeatView → Action → Option (ℕ × ℕ)
 open_by h c (Claimed t a o found) = if t == h then (if nat_lt (did (entry_of h a o) c) (did (claim_of h a o) c) then Some (a, o) else None) else None
 open_by h c _ = None
 
 -- the start that the hart has not entered yet
-abbrev pub open_start : ℕ → Crew → Option (ℕ × ℕ)
+abbrev pub open_start : ℕ → HartSeatView → Option (ℕ × ℕ)
 open_start h c = first_of (λ (v : HartView). first_of (open_by h c) v.actions) c.harts
 
 abbrev pub outside : Option (ℕ × ℕ) → HartState
@@ -36,11 +36,11 @@ abbrev pub state_at : Stage → Option (ℕ × ℕ) → HartState
 state_at st start = if is_running st then started else (if is_asleep st then suspended else outside start)
 
 -- the state of a hart
-abbrev pub state_in : Crew → ℕ → HartState
+abbrev pub state_in : HartSeatView → ℕ → HartState
 state_in c h = state_at (stage_of h c.harts) (open_start h c)
 
 -- the states of all harts, in the order of their numbers
-abbrev pub states_in : ℕ → Crew → List HartState
+abbrev pub states_in : ℕ → HartSeatView → List HartState
 states_in harts c = map (state_in c) (numbers_from 0 harts)
 
 -- the state of a hart in a list of them; a hart that the board lacks is stopped
@@ -48,5 +48,5 @@ abbrev pub listed : List HartState → ℕ → HartState
 listed states h = get_or states h stopped
 
 -- the view of a seat of all harts shows these states
-abbrev pub AreStates : ℕ → Crew → List HartState → Type 0
+abbrev pub AreStates : ℕ → HartSeatView → List HartState → Type 0
 AreStates harts c states = (length states ≡ harts) × Shows harts c (listed states)

@@ -12,7 +12,7 @@ use Rattle.tallies.proofs.Places.{placed_in, one_found}
 use Rattle.hsm_words.specs.Words.{hart_view, crew, board_of}
 use Rattle.hsm_words.specs.declared.view.Action.{Action}
 use Rattle.hsm_words.specs.declared.view.HartView.{HartView}
-use Rattle.hsm_words.specs.declared.view.Crew.{Crew}
+use Rattle.hsm_words.specs.declared.view.HartSeatView.{HartSeatView}
 use Rattle.hsm_rule.specs.Rule.{is_of, seats, Kept, noted, word_of, found_by, left_by, reading, first_word}
 use Rattle.hsm_rule.specs.Truth.{ChangesAreNoted, EarlierStepsStand, StepsAreTrue}
 use Rattle.hsm_rule.proofs.Next.{find, under as under_board}
@@ -27,15 +27,15 @@ put_at (x ∷ xs) zero a b e = refl
 put_at (x ∷ xs) (suc i) a b e = put_at xs i a b e
 
 -- where a hart's view is
-pub record Holder (k : ℕ) (views : List Crew) (v : HartView) : Type 0 where
+pub record Holder (k : ℕ) (views : List HartSeatView) (v : HartView) : Type 0 where
   pub id : ℕ
-  pub c : Crew
+  pub c : HartSeatView
   pub i : ℕ
   pub seat : get_elem? views id ≡ some c
   pub there : get_elem? c.harts i ≡ some v
   pub own : v.hart ≡ k
 
-module _ (harts boot : ℕ) (s s' : State (Unit {0}) Crew) (kept : Kept harts boot s) (kept' : Kept harts boot s') where
+module _ (harts boot : ℕ) (s s' : State (Unit {0}) HartSeatView) (kept : Kept harts boot s) (kept' : Kept harts boot s') where
   holder : (k : ℕ) → k < harts → (v : HartView) × Holder k s.views v
   holder k lt =
       let one = kept.sound.once k lt in
@@ -69,7 +69,7 @@ steps_true harts boot s s' kept kept' id h place c st st' x at stood lt_word gro
     let others : (k : ℕ) → k < harts → k ≢ h → Same k l m = λ k lt_k ne. same harts boot s s' kept kept' k lt_k (λ v a. dite (ℕ_discrete a.id id)
     (λ is.
     let it : a.c ≡ c = some-injective a.c c (sym a.seat ∙ (ap (get_elem? s.views) is ∙ at)) in
-    let was : get_elem? c.harts a.i ≡ some v = subst (λ (u : Crew). get_elem? u.harts a.i ≡ some v) it a.there in
+    let was : get_elem? c.harts a.i ≡ some v = subst (λ (u : HartSeatView). get_elem? u.harts a.i ≡ some v) it a.there in
     let far : a.i ≢ p.k = λ e. ne (sym a.own ∙ ap (λ (w : HartView). w.hart) (some-injective v old (sym was ∙ (ap (get_elem? c.harts) e ∙ p.there)))) in
     record { id = id; c = c'; i = a.i; seat = grown; there = ap (λ (vs : List HartView). get_elem? vs a.i) written ∙ (set_else c.harts p.k a.i new far ∙ was); own = a.own })
     (λ far. record { id = a.id; c = a.c; i = a.i; seat = still a.id far ∙ a.seat; there = a.there; own = a.own })) in
@@ -90,12 +90,12 @@ changes_noted harts boot s s' kept kept' alike t lt =
     kept'.left t lt ∙ (ap (word_after reading first t) log ∙ sym (kept.left t lt))
 
 -- ---- earlier steps
-module _ (harts boot : ℕ) (s : State (Unit {0}) Crew) (kept : Kept harts boot s) where
-  among : (k : ℕ) (v : HartView) → Holder k s.views v → IsAmong (λ (c : Crew). c.harts) s.views v
+module _ (harts boot : ℕ) (s : State (Unit {0}) HartSeatView) (kept : Kept harts boot s) where
+  among : (k : ℕ) (v : HartView) → Holder k s.views v → IsAmong (λ (c : HartSeatView). c.harts) s.views v
   among k v a = record { id = a.id; c = a.c; k = a.i; seat = a.seat; there = a.there }
 
   -- the steps of a hart are those of the log
-  steps_of : (k : ℕ) (v : HartView) → IsAmong (λ (c : Crew). c.harts) s.views v → v.hart ≡ k → placed v.actions v.places ≡ placed_in k kept.log
+  steps_of : (k : ℕ) (v : HartView) → IsAmong (λ (c : HartSeatView). c.harts) s.views v → v.hart ≡ k → placed v.actions v.places ≡ placed_in k kept.log
   steps_of k v a own =
       let e = kept.entered a.id a.c a.k v a.seat a.there in
       ap (λ (ds : List Action). placed ds v.places) e.0 ∙ (ap (placed (actions_in v.hart kept.log)) e.1 ∙ ap (λ (n : ℕ). placed_in n kept.log) own)

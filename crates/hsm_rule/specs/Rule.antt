@@ -14,7 +14,7 @@ use Rattle.hsm_words.specs.declared.view.Stage.TheVariants.{Out, Ready, Addresse
 use Rattle.hsm_words.specs.declared.view.Action.{Action}
 use Rattle.hsm_words.specs.declared.view.Action.TheVariants.{Claimed, Wrote, Armed, Looked, Read, Entered, Stopped, Suspended, Woke, Quieted, Unquieted}
 use Rattle.hsm_words.specs.declared.view.HartView.{HartView}
-use Rattle.hsm_words.specs.declared.view.Crew.{Crew}
+use Rattle.hsm_words.specs.declared.view.HartSeatView.{HartSeatView}
 
 -- an address at which a hart can be started
 abbrev pub IsSite : ℕ → Type 0
@@ -40,7 +40,7 @@ entry_of t a o (Entered h a' o') = if h == t then (if a' == a then (if o' == o t
 entry_of t a o _ = 0
 
 -- the weight of all actions of a seat
-abbrev pub did : (Action → ℕ) → Crew → ℕ
+abbrev pub did : (Action → ℕ) → HartSeatView → ℕ
 did g c = total (λ (v : HartView). total g v.actions) c.harts
 
 -- 1 where the target is claimed with this address and opaque value and hasn't entered
@@ -55,14 +55,14 @@ in_flight t (Stored t' a o) = if t' == t then 1 else 0
 in_flight t _ = 0
 
 -- the starts of the target that the harts of a seat have in flight
-abbrev pub flights : ℕ → Crew → ℕ
+abbrev pub flights : ℕ → HartSeatView → ℕ
 flights t c = total (λ (v : HartView). in_flight t v.stage) c.harts
 
 -- how often the hart is in a seat
 abbrev pub is_of : ℕ → HartView → ℕ
 is_of h v = if v.hart == h then 1 else 0
 
-abbrev pub seats : ℕ → Crew → ℕ
+abbrev pub seats : ℕ → HartSeatView → ℕ
 seats h c = total (is_of h) c.harts
 
 abbrev pub IsGrantOf : Grants → ℕ → ℕ → ℕ → Type 0
@@ -83,14 +83,14 @@ Fits harts m g h Quiet = (m.entered h ≡ 1) × (m.suspended h ≡ 0) × ((t : �
 
 -- The words and the views agree. `flying`: a claimed hart that is not armed is the start in flight of just one view. `armed`: until an armed hart enters,
 -- its argument words are its claim's. `once`: every hart is in just one seat.
-pub record Sound (harts : ℕ) (m : Board) (g : Grants) (views : List Crew) : Type 0 where
+pub record Sound (harts : ℕ) (m : Board) (g : Grants) (views : List HartSeatView) : Type 0 where
   pub order : (h : ℕ) → h < harts → (m.suspended h ≤ m.entered h) × (m.entered h ≤ m.armed h) × (m.armed h ≤ m.claimed h) × (m.claimed h ≤ 1)
   pub flying : (t : ℕ) → t < harts → total (flights t) views + m.armed t ≡ m.claimed t
   pub ledger : (t a o : ℕ) → t < harts → total (did (claim_of t a o)) views ≡ total (did (entry_of t a o)) views + is_pending m g t a o
   pub armed : (t : ℕ) → t < harts → m.armed t ≡ 1 → m.entered t ≡ 0 → (m.address t ≡ g.address t) × (m.opaque t ≡ g.opaque t)
   pub once : (h : ℕ) → h < harts → total (seats h) views ≡ 1
   pub none_else : (h : ℕ) → harts ≤ h → total (seats h) views ≡ 0
-  pub fits : (id : ℕ) (c : Crew) (k : ℕ) (v : HartView) → get_elem? views id ≡ some c → get_elem? c.harts k ≡ some v → Fits harts m g v.hart v.stage
+  pub fits : (id : ℕ) (c : HartSeatView) (k : ℕ) (v : HartView) → get_elem? views id ≡ some c → get_elem? c.harts k ≡ some v → Fits harts m g v.hart v.stage
 
 -- ---- the actions as steps
 -- the word in which an action was
@@ -134,11 +134,11 @@ abbrev pub first_word : ℕ → ℕ → ℕ
 first_word started t = if t == 0 then bit_or (bit_or (bit started) (bit (8 + started))) (bit (16 + started)) else 0
 
 -- each hart of each seat has just its steps of the log, each with its place
-abbrev pub AreInLog : Log Action → List Crew → Type 0
-AreInLog log views = (id : ℕ) (c : Crew) (k : ℕ) (v : HartView) → get_elem? views id ≡ some c → get_elem? c.harts k ≡ some v → IsOfLog log v.hart v.actions v.places
+abbrev pub AreInLog : Log Action → List HartSeatView → Type 0
+AreInLog log views = (id : ℕ) (c : HartSeatView) (k : ℕ) (v : HartView) → get_elem? views id ≡ some c → get_elem? c.harts k ≡ some v → IsOfLog log v.hart v.actions v.places
 
 -- The rule: some grants fit the words and the views, and a log of all steps.
-pub record Kept (harts started : ℕ) (s : State (Unit {0}) Crew) : Type 0 where
+pub record Kept (harts started : ℕ) (s : State (Unit {0}) HartSeatView) : Type 0 where
   pub log : Log Action
   pub is_true : IsTrueLog reading (first_word started) harts log
   pub entered : AreInLog log s.views

@@ -7,11 +7,11 @@ use Rattle.hsm_words.specs.Words.{numbers}
 use Rattle.hsm_rule.specs.Rule.{stands}
 use Rattle.hsm_words.specs.declared.view.Stage.{Stage}
 use Rattle.hsm_words.specs.declared.view.HartView.{HartView}
-use Rattle.hsm_words.specs.declared.view.Crew.{Crew}
+use Rattle.hsm_words.specs.declared.view.HartSeatView.{HartSeatView}
 use Rattle.hsm_steps.specs.Seating.{StandAsIn, StandTogether, AreInOrder, harts_in, harts_by_seat, all_harts, one_by_one}
 
-stands_from : (ss : List (Option (Seat (Unit {0}) Crew))) (vs : List HartView) (first n : ℕ) → harts_by_seat ss ≡ one_by_one vs → numbers vs ≡ numbers_from first n
-    → (i : ℕ) (s : Seat (Unit {0}) Crew) → slice_get ss i ≡ Some (Some s) → (st : Stage) → stands (first + i) st vs → stands (first + i) st (harts_in s)
+stands_from : (ss : List (Option (Seat (Unit {0}) HartSeatView))) (vs : List HartView) (first n : ℕ) → harts_by_seat ss ≡ one_by_one vs → numbers vs ≡ numbers_from first n
+    → (i : ℕ) (s : Seat (Unit {0}) HartSeatView) → slice_get ss i ≡ Some (Some s) → (st : Stage) → stands (first + i) st vs → stands (first + i) st (harts_in s)
 stands_from [] vs first n same own i s at st stood = absurd (cc)
 stands_from (x ∷ ss) [] first n same own i s at st stood = absurd stood
 stands_from (x ∷ ss) (v ∷ vs) first zero same own i s at st stood = absurd (cc)
@@ -35,7 +35,7 @@ stands_from (x ∷ ss) (v ∷ vs) first (suc n) same own (suc i) s at st stood =
     stood)))
 
 -- each hart of a list of single harts stands where it stood
-pub in_order_stands : (ss : List (Option (Seat (Unit {0}) Crew))) (vs : List HartView) (n : ℕ) → harts_by_seat ss ≡ one_by_one vs → numbers vs ≡ numbers_from 0 n → StandAsIn vs ss
+pub in_order_stands : (ss : List (Option (Seat (Unit {0}) HartSeatView))) (vs : List HartView) (n : ℕ) → harts_by_seat ss ≡ one_by_one vs → numbers vs ≡ numbers_from 0 n → StandAsIn vs ss
 in_order_stands ss vs n same own = λ i s st at stood.
     let k : 0 + i ≡ i = omega arith in
     subst (λ (j : ℕ). stands j st (harts_in s)) k (stands_from ss vs 0 n same own i s at st (subst (λ (j : ℕ). stands j st vs) (sym k) stood))
@@ -54,8 +54,8 @@ behind [] ws n k st own ne s = absurd (cc)
 behind (v ∷ []) ws n k st own ne s = inr ((λ e. ne (sym e ∙ ap (head_or n) own)), s)
 behind (v ∷ w ∷ vs) ws n k st own ne s = absurd (cc)
 
-together_from : (ss : List (Option (Seat (Unit {0}) Crew))) (first : ℕ) → ((i : ℕ) (s : Seat (Unit {0}) Crew) → slice_get ss i ≡ Some (Some s) → numbers (harts_in s) ≡ (first + i) ∷ [])
-    → (i : ℕ) (s : Seat (Unit {0}) Crew) (st : Stage) → slice_get ss i ≡ Some (Some s) → stands (first + i) st (harts_in s) → stands (first + i) st (all_harts ss)
+together_from : (ss : List (Option (Seat (Unit {0}) HartSeatView))) (first : ℕ) → ((i : ℕ) (s : Seat (Unit {0}) HartSeatView) → slice_get ss i ≡ Some (Some s) → numbers (harts_in s) ≡ (first + i) ∷ [])
+    → (i : ℕ) (s : Seat (Unit {0}) HartSeatView) (st : Stage) → slice_get ss i ≡ Some (Some s) → stands (first + i) st (harts_in s) → stands (first + i) st (all_harts ss)
 together_from [] first order i s st at stood = absurd (cc)
 together_from (None ∷ ss) first order zero s st at stood = absurd (cc)
 together_from (None ∷ ss) first order (suc i) s st at stood =
@@ -71,7 +71,7 @@ together_from (Some x ∷ ss) first order (suc i) s st at stood =
     behind (harts_in x) (all_harts ss) first (first + suc i) st own (λ z. omega arith) (subst (λ (n : ℕ). stands n st (all_harts ss)) e
     (together_from ss (suc first) (λ j u got. order (suc j) u got ∙ ap (λ (k : ℕ). k ∷ []) (let f : first + suc j ≡ suc first + j = omega arith in f)) i s st at (subst (λ (n : ℕ). stands n st (harts_in s)) (sym e) stood)))
 
-pub stand_together : (ss : List (Option (Seat (Unit {0}) Crew))) → AreInOrder ss → StandTogether ss (all_harts ss)
+pub stand_together : (ss : List (Option (Seat (Unit {0}) HartSeatView))) → AreInOrder ss → StandTogether ss (all_harts ss)
 stand_together ss order = λ i s st at stood.
     let k : 0 + i ≡ i = omega arith in
     subst (λ (n : ℕ). stands n st (all_harts ss)) k

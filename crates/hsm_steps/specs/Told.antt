@@ -8,14 +8,14 @@ use Rattle.hsm_words.specs.declared.view.Stage.TheVariants.{Out, Ready, Addresse
 use Rattle.hsm_words.specs.declared.view.Action.{Action}
 use Rattle.hsm_words.specs.declared.view.Action.TheVariants.{Claimed, Wrote, Armed, Looked, Read, Entered, Stopped, Suspended, Woke, Quieted, Unquieted}
 use Rattle.hsm_words.specs.declared.view.HartView.{HartView}
-use Rattle.hsm_words.specs.declared.view.Crew.{Crew}
+use Rattle.hsm_words.specs.declared.view.HartSeatView.{HartSeatView}
 use Rattle.hsm_rule.specs.Rule.{IsSite, HasNoted, stands}
 use Rattle.hsm_rule.specs.States.{HartState, stopped, start_pending, started, IsStarted, IsSettled, Shows, Tells}
 
 -- ---- what each step tells
 -- what the table keeps of a seat: its view, and the slots that it has taken, of which there are none
 abbrev pub SeatState : Type 0
-SeatState = Me (Unit {0}) Crew
+SeatState = Me (Unit {0}) HartSeatView
 
 -- the view has one more action of the hart, and the hart then stands at this stage
 abbrev pub Notes : ℕ → Stage → Action → SeatState → SeatState → Type 0
@@ -61,7 +61,7 @@ abbrev pub ReadsOpaque : ℕ → ℕ → Step (Unit {0}) → SeatState → ℕ �
 ReadsOpaque h a st m found m' = Notes h (Loaded a found) (Read (2 + 2 * h) found) m m'
 
 -- the triple entered is the open one
-abbrev pub IsOpenStart : ℕ → Crew → ℕ → ℕ → ℕ → Type 0
+abbrev pub IsOpenStart : ℕ → HartSeatView → ℕ → ℕ → ℕ → Type 0
 IsOpenStart harts c h a o = (table : ℕ → HartState) → Shows harts c table → table h ≡ start_pending a o
 
 abbrev pub Enters : ℕ → ℕ → ℕ → ℕ → Step (Unit {0}) → SeatState → ℕ → SeatState → Type 0
@@ -101,7 +101,7 @@ abbrev pub opening_from : ℕ → ℕ → ℕ → List HartView
 opening_from lone first zero = []
 opening_from lone first (suc n) = hart_view first (if first == lone then Running else Out) [] [] ∷ opening_from lone (suc first) n
 
-abbrev pub opening_crew : ℕ → ℕ → Crew
+abbrev pub opening_crew : ℕ → ℕ → HartSeatView
 opening_crew harts lone = crew (opening_from lone 0 harts)
 
 -- the states at the start
@@ -109,14 +109,14 @@ abbrev pub opening_states : ℕ → ℕ → HartState
 opening_states first k = if k == first then started else stopped
 
 -- ---- seats
-abbrev pub first_hart : Crew → Crew
+abbrev pub first_hart : HartSeatView → HartSeatView
 first_hart c = crew (take 1 c.harts)
 
-abbrev pub other_harts : Crew → Crew
+abbrev pub other_harts : HartSeatView → HartSeatView
 other_harts c = crew (drop 1 c.harts)
 
-abbrev pub together : Crew → Crew → Crew
+abbrev pub together : HartSeatView → HartSeatView → HartSeatView
 together c d = crew (c.harts ++ d.harts)
 
-abbrev pub nobody : Crew
+abbrev pub nobody : HartSeatView
 nobody = crew []

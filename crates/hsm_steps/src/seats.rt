@@ -13,13 +13,13 @@ use crate::steps::see;
 use crate::table::{HartSeat, HartTable, Seats, Setup};
 use atomic_table::Table;
 use board_model::{HartId, Refusal, Shape};
-use hsm_words::Crew;
+use hsm_words::HartSeatView;
 use std::alloc::Global;
 use std::marker::Brand;
 use tallies::{ByHart, SeatTable};
 
 impl SeatTable for HartTable {
-    type View = Crew;
+    type View = HartSeatView;
 
     type Seat = HartSeat;
 

@@ -12,14 +12,14 @@ ghost use Rattle.hsm_words.specs.declared.view.Action.TheVariants.{Claimed, Wrot
 use crate::table::{Acting, HartSeat, HartTable};
 use atomic_table::Play;
 use board_model::HartId;
-use hsm_words::Crew;
+use hsm_words::HartSeatView;
 use std::marker::PhantomData;
 
 struct ClaimStep<J> {
     of: PhantomData<J>,
 }
 
-impl<J: Acting> Play<(), Crew> for ClaimStep<J> {
+impl<J: Acting> Play<(), HartSeatView> for ClaimStep<J> {
     ghost then = { Claims J.harts J.by J.target J.address J.opaque };
 }
 
@@ -27,7 +27,7 @@ struct PutAddressStep<J> {
     of: PhantomData<J>,
 }
 
-impl<J: Acting> Play<(), Crew> for PutAddressStep<J> {
+impl<J: Acting> Play<(), HartSeatView> for PutAddressStep<J> {
     ghost then = { PutsAddress J.by J.target J.address J.opaque };
 }
 
@@ -35,7 +35,7 @@ struct PutOpaqueStep<J> {
     of: PhantomData<J>,
 }
 
-impl<J: Acting> Play<(), Crew> for PutOpaqueStep<J> {
+impl<J: Acting> Play<(), HartSeatView> for PutOpaqueStep<J> {
     ghost then = { PutsOpaque J.by J.target J.address J.opaque };
 }
 
@@ -43,7 +43,7 @@ struct ArmStep<J> {
     of: PhantomData<J>,
 }
 
-impl<J: Acting> Play<(), Crew> for ArmStep<J> {
+impl<J: Acting> Play<(), HartSeatView> for ArmStep<J> {
     ghost then = { Arms J.by J.target };
 }
 
@@ -51,7 +51,7 @@ struct LookStep<J> {
     of: PhantomData<J>,
 }
 
-impl<J: Acting> Play<(), Crew> for LookStep<J> {
+impl<J: Acting> Play<(), HartSeatView> for LookStep<J> {
     ghost then = { Looks J.harts J.by J.stage };
 }
 
@@ -59,7 +59,7 @@ struct LookOutStep<J> {
     of: PhantomData<J>,
 }
 
-impl<J: Acting> Play<(), Crew> for LookOutStep<J> {
+impl<J: Acting> Play<(), HartSeatView> for LookOutStep<J> {
     ghost then = { PollsOutside J.harts J.by };
 }
 
@@ -67,7 +67,7 @@ struct ReadAddressStep<J> {
     of: PhantomData<J>,
 }
 
-impl<J: Acting> Play<(), Crew> for ReadAddressStep<J> {
+impl<J: Acting> Play<(), HartSeatView> for ReadAddressStep<J> {
     ghost then = { ReadsAddress J.by };
 }
 
@@ -75,7 +75,7 @@ struct ReadOpaqueStep<J> {
     of: PhantomData<J>,
 }
 
-impl<J: Acting> Play<(), Crew> for ReadOpaqueStep<J> {
+impl<J: Acting> Play<(), HartSeatView> for ReadOpaqueStep<J> {
     ghost then = { ReadsOpaque J.by J.address };
 }
 
@@ -83,7 +83,7 @@ struct EnterStep<J> {
     of: PhantomData<J>,
 }
 
-impl<J: Acting> Play<(), Crew> for EnterStep<J> {
+impl<J: Acting> Play<(), HartSeatView> for EnterStep<J> {
     ghost then = { Enters J.harts J.by J.address J.opaque };
 }
 
@@ -91,7 +91,7 @@ struct StopStep<J> {
     of: PhantomData<J>,
 }
 
-impl<J: Acting> Play<(), Crew> for StopStep<J> {
+impl<J: Acting> Play<(), HartSeatView> for StopStep<J> {
     ghost then = { Stops J.by };
 }
 
@@ -99,7 +99,7 @@ struct SuspendStep<J> {
     of: PhantomData<J>,
 }
 
-impl<J: Acting> Play<(), Crew> for SuspendStep<J> {
+impl<J: Acting> Play<(), HartSeatView> for SuspendStep<J> {
     ghost then = { Suspends J.by };
 }
 
@@ -107,7 +107,7 @@ struct WakeStep<J> {
     of: PhantomData<J>,
 }
 
-impl<J: Acting> Play<(), Crew> for WakeStep<J> {
+impl<J: Acting> Play<(), HartSeatView> for WakeStep<J> {
     ghost then = { Wakes J.by };
 }
 
@@ -115,7 +115,7 @@ struct QuietStep<J> {
     of: PhantomData<J>,
 }
 
-impl<J: Acting> Play<(), Crew> for QuietStep<J> {
+impl<J: Acting> Play<(), HartSeatView> for QuietStep<J> {
     ghost then = { Quiets J.harts J.by };
 }
 
@@ -123,7 +123,7 @@ struct UnquietStep<J> {
     of: PhantomData<J>,
 }
 
-impl<J: Acting> Play<(), Crew> for UnquietStep<J> {
+impl<J: Acting> Play<(), HartSeatView> for UnquietStep<J> {
     ghost then = { Unquiets J.by };
 }
 
@@ -131,7 +131,7 @@ struct SeeStep<J> {
     of: PhantomData<J>,
 }
 
-impl<J: Acting> Play<(), Crew> for SeeStep<J> {
+impl<J: Acting> Play<(), HartSeatView> for SeeStep<J> {
     ghost then = { Sees J.harts };
 }
 

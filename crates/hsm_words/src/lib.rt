@@ -3,4 +3,4 @@
 
 mod view;
 
-pub use view::{Crew, Action, HartView, Stage};
+pub use view::{HartSeatView, Action, HartView, Stage};

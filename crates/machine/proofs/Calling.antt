@@ -5,7 +5,7 @@ use Rattle.board_model.specs.Shapes.{Size}
 use Rattle.hart.specs.State.{State}
 use Rattle.hart.specs.declared.Outcome.TheVariants.{Ecall}
 use Rattle.hsm_steps.specs.Seating as seating
-use Rattle.hsm_words.specs.declared.view.Crew.{Crew}
+use Rattle.hsm_words.specs.declared.view.HartSeatView.{HartSeatView}
 use Rattle.hsm_rule.specs.States.{started}
 use Rattle.hsm.specs.Calls.{ActsAlone, KeepsAll, named}
 use Rattle.hsm.specs.Seen.{listed}
@@ -21,21 +21,21 @@ use Rattle.machine.specs.Turns.{CallsAlone}
 use Rattle.machine.proofs.Own.{is_started, others_kept, kept_then}
 
 -- the same seats, but for that of the hart table
-abbrev pub with_harts : Seats → Seat (Unit {0}) Crew → Seats
+abbrev pub with_harts : Seats → Seat (Unit {0}) HartSeatView → Seats
 with_harts s harts = record { harts = harts; pending = s.pending }
 
 -- a look at the hart table gives the seats back
-pub as_was : {t : Tables} (h : ℕ) (s : Seats) (harts : Seat (Unit {0}) Crew) → AreSeatsOf t (with_harts s harts) → KeepsAll (views s) (seating.harts_in harts) → GivesBack t h s (with_harts s harts)
+pub as_was : {t : Tables} (h : ℕ) (s : Seats) (harts : Seat (Unit {0}) HartSeatView) → AreSeatsOf t (with_harts s harts) → KeepsAll (views s) (seating.harts_in harts) → GivesBack t h s (with_harts s harts)
 as_was h s harts seats kept = record { seats = seats; others = others_kept h (views s) (seating.harts_in harts) kept; pairs = record { harts = refl; each = λ k. refl } }
 
-pub given_then : {t : Tables} (h : ℕ) (s : Seats) (harts : Seat (Unit {0}) Crew) (after : Seats) → KeepsAll (views s) (seating.harts_in harts) → GivesBack t h (with_harts s harts) after → GivesBack t h s after
+pub given_then : {t : Tables} (h : ℕ) (s : Seats) (harts : Seat (Unit {0}) HartSeatView) (after : Seats) → KeepsAll (views s) (seating.harts_in harts) → GivesBack t h (with_harts s harts) after → GivesBack t h s after
 given_then h s harts after kept gives = record { seats = gives.seats; others = kept_then h (views s) (seating.harts_in harts) (views after) kept gives.others; pairs = gives.pairs }
 
 -- a look at the state of a hart
-abbrev pub LooksAlone : ℕ → Crew → Crew → ℕ → Code → Type 0
+abbrev pub LooksAlone : ℕ → HartSeatView → HartSeatView → ℕ → Code → Type 0
 LooksAlone n before after h name = ActsAlone n before after (λ states. name ≡ named (states h)) (λ states. states)
 
-looked : (n : ℕ) (size : Size) (s : Seats) (harts : Seat (Unit {0}) Crew) (by h : ℕ) (name : Code) → n ≡ size.harts → by ≡ h → LooksAlone n (crew s) (seating.crew_of harts) by name → (t : TableState) → IsTable size.harts s t
+looked : (n : ℕ) (size : Size) (s : Seats) (harts : Seat (Unit {0}) HartSeatView) (by h : ℕ) (name : Code) → n ≡ size.harts → by ≡ h → LooksAlone n (crew s) (seating.crew_of harts) by name → (t : TableState) → IsTable size.harts s t
     → (name ≡ named (listed t.states h)) × IsTable size.harts (with_harts s harts) t
 looked n size s harts by h name e f acts t is =
     let own : LooksAlone size.harts (crew s) (seating.crew_of harts) h name = subst (λ (k : ℕ). LooksAlone size.harts (crew s) (seating.crew_of harts) k name) f (subst (λ (k : ℕ). LooksAlone k (crew s) (seating.crew_of harts) by name) e acts) in
@@ -44,14 +44,14 @@ looked n size s harts by h name e f acts t is =
 
 module _ (size : Size) (n by : ℕ) (s u : State) (m : List ℕ) where
   -- a hart that is named otherwise makes no call
-  pub not_made_alone : (seats : Seats) (harts : Seat (Unit {0}) Crew) (name : Code) → n ≡ size.harts → by ≡ s.id → name ≢ codes.Started → LooksAlone n (crew seats) (seating.crew_of harts) by name
+  pub not_made_alone : (seats : Seats) (harts : Seat (Unit {0}) HartSeatView) (name : Code) → n ≡ size.harts → by ≡ s.id → name ≢ codes.Started → LooksAlone n (crew seats) (seating.crew_of harts) by name
       → CallsAlone size s u s m seats (with_harts seats harts) NotStarted
   not_made_alone seats harts name e f ne acts t is =
       let a = looked n size seats harts by s.id name e f acts t is in
       (t, record { made = λ at. absurd (ne (a.0 ∙ ap named at)); not_started = λ _. (refl, refl) }, a.1)
 
   -- one that is STARTED stands at the ECALL, and is answered
-  pub made_alone : (v t : State) (seats : Seats) (harts : Seat (Unit {0}) Crew) (after : Seats) (name : Code) (word : Turned) → n ≡ size.harts → by ≡ s.id → name ≡ codes.Started → v ≡ u → LooksAlone n (crew seats) (seating.crew_of harts) by name
+  pub made_alone : (v t : State) (seats : Seats) (harts : Seat (Unit {0}) HartSeatView) (after : Seats) (name : Code) (word : Turned) → n ≡ size.harts → by ≡ s.id → name ≡ codes.Started → v ≡ u → LooksAlone n (crew seats) (seating.crew_of harts) by name
       → FinishesAlone size Ecall v t (with_harts seats harts) after word → CallsAlone size s u t m seats after (Made word)
   made_alone v t seats harts after name word e f at same acts finishes x is =
       let a = looked n size seats harts by s.id name e f acts x is in

@@ -5,7 +5,7 @@ use Rattle.disk.specs.declared.device.Disk.{Ghosts}
 use Rattle.disk.specs.declared.device.Lane.{Ghosts as Lanes}
 use Rattle.board_model.specs.Shapes.{Size}
 use Rattle.hart.specs.State.{State, never_started}
-use Rattle.hsm_words.specs.declared.view.Crew.{Crew}
+use Rattle.hsm_words.specs.declared.view.HartSeatView.{HartSeatView}
 use Rattle.hsm_words.specs.declared.view.HartView.{HartView}
 use Rattle.hsm_words.specs.declared.view.Stage.{Stage}
 use Rattle.hsm_words.specs.declared.view.Stage.TheVariants.{Out, Running, Asleep}
@@ -45,7 +45,7 @@ one_stage h (v ∷ vs) a b (inl p) (inr q) = absurd (q.0 p.0)
 one_stage h (v ∷ vs) a b (inr p) (inl q) = absurd (p.0 q.0)
 one_stage h (v ∷ vs) a b (inr p) (inr q) = one_stage h vs a b p.1 q.1
 
-runs_at : (h : ℕ) (c : Crew) → IsIn c h started → RestsAt h c.harts → stands h Running c.harts
+runs_at : (h : ℕ) (c : HartSeatView) → IsIn c h started → RestsAt h c.harts → stands h Running c.harts
 runs_at h c is rests =
     ⊎_elim
     (λ (o : stands h Out c.harts). absurd (true≢false (sym is.2 ∙ ap is_running (one_stage h c.harts is.0 Out is.1 o))))

@@ -7,7 +7,7 @@ use mathlib.Core.Logic.{dite}
 use native.Mathlib.Decide.{ℕ_discrete}
 use Rattle.board_model.specs.Shapes.{Size}
 use Rattle.hart.specs.State.{State, never_started}
-use Rattle.hsm_words.specs.declared.view.Crew.{Crew}
+use Rattle.hsm_words.specs.declared.view.HartSeatView.{HartSeatView}
 use Rattle.hsm_words.specs.declared.view.HartView.{HartView}
 use Rattle.hsm_words.specs.declared.view.Stage.TheVariants.{Out, Running, Asleep}
 use Rattle.hsm_rule.specs.Rule.{stands}
@@ -25,7 +25,7 @@ use Rattle.machine.specs.Turns.{DoneBy}
 use Rattle.machine.specs.Held.{shown_by, table_of, AreWhole, AreAllSeats, AreNumbered, IsHeld}
 
 abbrev pub IsOneList : Type 0
-IsOneList = (harts : ℕ) (c : Crew) (states : List HartState) → AreStates harts c states → states_in harts c ≡ states
+IsOneList = (harts : ℕ) (c : HartSeatView) (states : List HartState) → AreStates harts c states → states_in harts c ≡ states
 
 abbrev pub IsOneSet : Type 0
 IsOneSet = (harts : ℕ) (c : Pairs) (pairs : List (List Bool)) → ArePairs harts c pairs → pairs_in harts c ≡ pairs

@@ -2,7 +2,7 @@
 use Rattle.std.proofs.Common.{◌≡◌, ℕ, Bool, List, Option, Some, sym, ap, ◌∙◌, subst}
 use Rattle.atomic_table.specs.declared.shared.Seat.{Seat}
 use Rattle.board_model.specs.Shapes.{Size}
-use Rattle.hsm_words.specs.declared.view.Crew.{Crew}
+use Rattle.hsm_words.specs.declared.view.HartSeatView.{HartSeatView}
 use Rattle.hart.specs.State.{State}
 use Rattle.sbi_calls.specs.declared.tables.Tables.{Tables}
 use Rattle.sbi_calls.specs.declared.tables.Seats.{Seats}
@@ -29,7 +29,7 @@ module _ (size : Size) (memory : List ℕ) (harts : List State) (t : Tables) (os
     seats = gives.seats;
     all = (gives.others.harts ∙ before.all.0, gives.pairs.harts ∙ before.all.1);
     shows = subst (λ (l : TableState). IsTable size.harts s' l) (sym shown_after) looked.1;
-    rests = λ h below. let r = before.rests h below in (subst (λ (x : Seat (Unit {0}) Crew). RestsAt h (harts_in x)) (sym same) r.0, gives.pairs.each h ∙ r.1);
+    rests = λ h below. let r = before.rests h below in (subst (λ (x : Seat (Unit {0}) HartSeatView). RestsAt h (harts_in x)) (sym same) r.0, gives.pairs.each h ∙ r.1);
   }
 
   pub held_still : IsHeld size harts t (Some s')

@@ -9,7 +9,7 @@ use Rattle.board_model.specs.Shapes.{Size, ram_bytes_of}
 use Rattle.hart.specs.State.{State, never_started}
 use Rattle.hsm_words.specs.declared.view.Stage.{Stage}
 use Rattle.hsm_words.specs.declared.view.Stage.TheVariants.{Out, Running}
-use Rattle.hsm_words.specs.declared.view.Crew.{Crew}
+use Rattle.hsm_words.specs.declared.view.HartSeatView.{HartSeatView}
 use Rattle.hsm_rule.specs.Rule.{stands}
 use Rattle.hsm_rule.specs.States.{HartState, stopped, started, Shows, IsIn}
 use Rattle.hsm_steps.specs.Told.{opening_states}
@@ -50,7 +50,7 @@ opening_listed n first k low lt =
     (λ miss. let e : opening_states first k ≡ stopped = rw (ne_eqb k first miss) refl in
     get_or-set_other (replicate n stopped) first k started stopped miss ∙ (get_or-replicate n k stopped stopped lt ∙ sym e))
 
-pub opening_shown : (n first : ℕ) (c : Crew) → first < n → Shows n c (opening_states first) → AreStates n c (only_first n first)
+pub opening_shown : (n first : ℕ) (c : HartSeatView) → first < n → Shows n c (opening_states first) → AreStates n c (only_first n first)
 opening_shown n first c low shown = (
   length-set (replicate n stopped) first started ∙ length-replicate n stopped,
   (λ k lt. subst (λ (x : HartState). IsIn c k x) (sym (opening_listed n first k low lt)) (shown k lt)),

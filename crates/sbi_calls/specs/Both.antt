@@ -4,7 +4,7 @@ use Rattle.board_model.specs.Shapes.{Size}
 use Rattle.hsm_steps.specs.Seating as harts
 use Rattle.hsm_words.specs.declared.view.Stage.{Stage}
 use Rattle.hsm_words.specs.declared.view.HartView.{HartView}
-use Rattle.hsm_words.specs.declared.view.Crew.{Crew as HartCrew}
+use Rattle.hsm_words.specs.declared.view.HartSeatView.{HartSeatView as HartCrew}
 use Rattle.hsm_rule.specs.Rule.{stands}
 use Rattle.hsm_rule.specs.States.{HartState}
 use Rattle.hsm.specs.Calls.{KeepsOthers}

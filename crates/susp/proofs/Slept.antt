@@ -4,7 +4,7 @@ use Rattle.disk.specs.declared.device.Disk.{Ghosts}
 use Rattle.disk.specs.declared.device.Lane.{Ghosts as Lanes}
 use Rattle.board_model.specs.declared.refusal.Refusal.{Refusal}
 use Rattle.hsm.specs.Calls.{KeepsOthers, ActsAlone}
-use Rattle.hsm_words.specs.declared.view.Crew.{Crew}
+use Rattle.hsm_words.specs.declared.view.HartSeatView.{HartSeatView}
 use Rattle.hsm_words.specs.declared.view.Stage.TheVariants.{Running}
 use Rattle.hsm_words.specs.declared.view.Action.TheVariants.{Quieted, Unquieted}
 use Rattle.hsm_words.specs.declared.view.HartView.{HartView}
@@ -21,7 +21,7 @@ use Rattle.susp.specs.Sleeps.{AreUnclaimed, AreStopped, AsksToSleep, Sleeps, Sle
 abbrev pub Looked : ℕ → ℕ → Bool → List HartView → List HartView → Type 0
 Looked harts by quiet vs mid = (found : ℕ) × (IsTrue quiet ↔ AreUnclaimed harts by found) × HasNoted by (after_quiet harts by found) (Quieted found) vs mid
 
-abbrev pub LookedAlone : ℕ → ℕ → Bool → Crew → Crew → Type 0
+abbrev pub LookedAlone : ℕ → ℕ → Bool → HartSeatView → HartSeatView → Type 0
 LookedAlone harts by quiet c c' = ActsAlone harts c c' (λ states. IsTrue quiet ↔ AreStopped harts by states) (λ states. states)
 
 pub others_then : (h : ℕ) (a b c : List HartView) → KeepsOthers h a b → KeepsOthers h b c → KeepsOthers h a c
@@ -51,13 +51,13 @@ module _ {D L : Type 0} {g : Ghosts D L} {l : Lanes L} (harts by kind address op
     slept = (looked.0, mid, looked.2, inr (looked.1.0 holds, (Err e, did, (refl, ended))));
   }
 
-  pub denied_alone : (quiet : Bool) (c c' : Crew) → quiet ≡ false → LookedAlone harts by quiet c c' → (states : ℕ → HartState) → Shows harts c states
+  pub denied_alone : (quiet : Bool) (c c' : HartSeatView) → quiet ≡ false → LookedAlone harts by quiet c c' → (states : ℕ → HartState) → Shows harts c states
       → SleepsAlone harts by kind address opaque memory states old (Some Denied) old × Shows harts c' states
   denied_alone quiet c c' off looked states shows =
       let a = looked states shows in
       (record { asked = Ok site; checked = checked; slept = inl ((λ are. absurd (true≢false (sym (a.0.1 are) ∙ off))), refl, refl) }, a.1)
 
-  pub refused_alone : (quiet : Bool) (c mid c' : Crew) (e : Refusal) (new : Store D L g l) → quiet ≡ true → LookedAlone harts by quiet c mid → AsksToSleep by site opaque memory old (Err e) new
+  pub refused_alone : (quiet : Bool) (c mid c' : HartSeatView) (e : Refusal) (new : Store D L g l) → quiet ≡ true → LookedAlone harts by quiet c mid → AsksToSleep by site opaque memory old (Err e) new
       → ActsAlone harts mid c' (λ _. Unit {0}) (λ states. states) → (states : ℕ → HartState) → Shows harts c states
       → SleepsAlone harts by kind address opaque memory states old (Some Failed) new × Shows harts c' states
   refused_alone quiet c mid c' e new holds looked did ended states shows =

@@ -6,7 +6,7 @@ use Rattle.board_model.specs.Durable.{Suspend}
 use Rattle.board_model.specs.declared.refusal.Refusal.{Refusal}
 use Rattle.disk.specs.declared.device.Disk.{Ghosts}
 use Rattle.disk.specs.declared.device.Lane.{Ghosts as Lanes}
-use Rattle.hsm_words.specs.declared.view.Crew.{Crew}
+use Rattle.hsm_words.specs.declared.view.HartSeatView.{HartSeatView}
 use Rattle.hsm_words.specs.declared.view.Stage.{Stage}
 use Rattle.hsm_words.specs.declared.view.Stage.TheVariants.{Running, Quiet}
 use Rattle.hsm_words.specs.declared.view.Action.TheVariants.{Quieted, Unquieted}
@@ -26,12 +26,12 @@ use Rattle.susp.specs.Checks.{IsChecked}
 
 -- ---- what the call answers
 -- the seat of the hart, given back or kept in the board that sleeps
-abbrev pub seat_after : Result Asleep (Seat (Unit {0}) Crew × SbiError) → Seat (Unit {0}) Crew
+abbrev pub seat_after : Result Asleep (Seat (Unit {0}) HartSeatView × SbiError) → Seat (Unit {0}) HartSeatView
 seat_after (Ok asleep) = asleep.seat
 seat_after (Err e) = e.0
 
 -- the error, where the board does not sleep
-abbrev pub error_after : Result Asleep (Seat (Unit {0}) Crew × SbiError) → Option SbiError
+abbrev pub error_after : Result Asleep (Seat (Unit {0}) HartSeatView × SbiError) → Option SbiError
 error_after (Ok asleep) = None
 error_after (Err e) = Some e.1
 

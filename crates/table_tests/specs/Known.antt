@@ -4,10 +4,10 @@ use Rattle.hsm_rule.specs.Rule.{stands}
 use Rattle.hsm_steps.specs.Seating.{IsSeatOf, harts_in}
 use Rattle.hsm_steps.specs.declared.table.HartTable.{HartTable}
 use Rattle.hsm_words.specs.declared.view.Stage.TheVariants.{Out, Running}
-use Rattle.hsm_words.specs.declared.view.Crew.{Crew}
+use Rattle.hsm_words.specs.declared.view.HartSeatView.{HartSeatView}
 use Rattle.atomic_table.specs.declared.shared.Seat.{Seat}
 
-pub record IsTeam (t : HartTable) (by target : ℕ) (s : Seat (Unit {0}) Crew) : Type 0 where
+pub record IsTeam (t : HartTable) (by target : ℕ) (s : Seat (Unit {0}) HartSeatView) : Type 0 where
   pub seat : IsSeatOf t s
   pub runs : stands by Running (harts_in s)
   pub waits : stands target Out (harts_in s)

@@ -1,7 +1,7 @@
 use Rattle.std.proofs.Common.{List, sym, ap, subst, ◌∙◌}
 use Rattle.hsm_words.specs.Words.{numbers}
 use Rattle.hsm_words.specs.declared.view.HartView.{HartView}
-use Rattle.hsm_words.specs.declared.view.Crew.{Crew}
+use Rattle.hsm_words.specs.declared.view.HartSeatView.{HartSeatView}
 use Rattle.hsm_steps.specs.Seating.{harts_of}
 use Rattle.hsm_rule.specs.Rule.{stands}
 use Rattle.hsm_rule.specs.States.{IsSettled, Shows}
@@ -9,17 +9,17 @@ use Rattle.hsm_steps.proofs.Lists.{stand_together}
 use Rattle.hsm_steps.proofs.table.HartTable.join.Goals as goal
 
 pub returns-clause-all : goal.returns-clause-all
-returns-clause-all c = λ order count. ap (λ (d : Crew). numbers d.harts) c.see.ensures.same ∙ c.join-whole.ensures.all order count
+returns-clause-all c = λ order count. ap (λ (d : HartSeatView). numbers d.harts) c.see.ensures.same ∙ c.join-whole.ensures.all order count
 
 pub returns-clause-harts : goal.returns-clause-harts
-returns-clause-harts c = ap (λ (d : Crew). d.harts) c.see.ensures.same ∙ c.join-whole.ensures.harts
+returns-clause-harts c = ap (λ (d : HartSeatView). d.harts) c.see.ensures.same ∙ c.join-whole.ensures.harts
 
 pub returns-clause-stands : goal.returns-clause-stands
 returns-clause-stands c = λ order i s st at stood.
-    subst (λ (vs : List HartView). stands i st vs) (sym (ap (λ (d : Crew). d.harts) c.see.ensures.same ∙ c.join-whole.ensures.harts)) (stand_together c.args.seats.items order i s st at stood)
+    subst (λ (vs : List HartView). stands i st vs) (sym (ap (λ (d : HartSeatView). d.harts) c.see.ensures.same ∙ c.join-whole.ensures.harts)) (stand_together c.args.seats.items order i s st at stood)
 
 pub returns-clause-shows : goal.returns-clause-shows
 returns-clause-shows c = λ settled.
     let same = c.see.ensures.same in
-    let r = c.see.ensures.shows (λ h lt. subst (λ (d : Crew). IsSettled h d.harts) same (settled h lt)) in
-    (r.0, subst (λ (d : Crew). Shows (harts_of c.args.self.now) d r.0) (sym same) r.1)
+    let r = c.see.ensures.shows (λ h lt. subst (λ (d : HartSeatView). IsSettled h d.harts) same (settled h lt)) in
+    (r.0, subst (λ (d : HartSeatView). Shows (harts_of c.args.self.now) d r.0) (sym same) r.1)
