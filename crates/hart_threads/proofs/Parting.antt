@@ -13,7 +13,7 @@ use Rattle.hsm_words.specs.declared.view.Stage.TheVariants.{Out, Running, Asleep
 use Rattle.hsm_rule.specs.Rule.{stands}
 use Rattle.ipi.specs.Seating as pairs
 use Rattle.ipi.specs.Pairs.{Sits}
-use Rattle.ipi.specs.declared.view.Crew.{Crew as PairCrew}
+use Rattle.ipi.specs.declared.view.PendingSeatView.{PendingSeatView as PairCrew}
 use Rattle.ipi.specs.declared.view.PendingView.{PendingView}
 use Rattle.machine.specs.Held.{AreNumbered, IsHeld}
 use Rattle.sbi_calls.specs.Both.{harts_of, views, pending_views}

@@ -9,7 +9,7 @@ use native.Mathlib.Decide.{ℕ_discrete}
 use Rattle.tallies.specs.Seats.{numbers_from}
 use Rattle.tallies.proofs.Seatings.{map_all, at_all, total_beyond, total_once}
 use Rattle.ipi.specs.declared.view.PendingView.{PendingView}
-use Rattle.ipi.specs.declared.view.Crew.{Crew}
+use Rattle.ipi.specs.declared.view.PendingSeatView.{PendingSeatView}
 use Rattle.ipi.specs.Ledger.{numbers, is_of, raised_by, raised, taken, IsWhole}
 use Rattle.ipi.specs.Pairs.{IsPending, Shows, with_pair, without_target}
 use Rattle.ipi.specs.Seen.{pair_in, pairs_in, row_of, pair_at, AreRows, ArePairs, pairs_with, pairs_without}
@@ -29,30 +29,30 @@ same_bool true false f g = sym (f refl)
 same_bool false true f g = g refl
 same_bool false false f g = refl
 
-pub one_set : (harts : ℕ) (c : Crew) (pairs : ℕ → ℕ → Bool) → Shows harts c pairs → (sender target : ℕ) → pair_in c sender target ≡ pairs sender target
+pub one_set : (harts : ℕ) (c : PendingSeatView) (pairs : ℕ → ℕ → Bool) → Shows harts c pairs → (sender target : ℕ) → pair_in c sender target ≡ pairs sender target
 one_set harts c pairs shown s t =
     let told = lt_told (taken s t c) (raised s t c) in
     same_bool (pair_in c s t) (pairs s t) (λ p. (shown.1 s t).1 (told.0 p)) (λ p. told.1 ((shown.1 s t).0 p))
 
-pub shows_seen : (harts : ℕ) (c : Crew) → IsWhole harts c → Shows harts c (pair_in c)
+pub shows_seen : (harts : ℕ) (c : PendingSeatView) → IsWhole harts c → Shows harts c (pair_in c)
 shows_seen harts c whole = (whole, (λ s t. lt_told (taken s t c) (raised s t c)))
 
-pub in_range : (harts : ℕ) (c : Crew) → numbers c.pending_views ≡ numbers_from 0 harts → (sender target : ℕ) → harts ≤ sender → pair_in c sender target ≡ false
+pub in_range : (harts : ℕ) (c : PendingSeatView) → numbers c.pending_views ≡ numbers_from 0 harts → (sender target : ℕ) → harts ≤ sender → pair_in c sender target ≡ false
 in_range harts c all s t le =
     let none : raised s t c ≡ 0 = total_beyond (λ (d : PendingView). d.hart) (raised_by s t) s harts c.pending_views (λ d ne. rw (ne_eqb d.hart s ne) refl) all le in
     lt_false (taken s t c) (raised s t c) (omega arith)
 
 -- ---- the pairs as a list
-pub one_list : (harts : ℕ) (c : Crew) (pairs : List (List Bool)) → ArePairs harts c pairs → pairs_in harts c ≡ pairs
+pub one_list : (harts : ℕ) (c : PendingSeatView) (pairs : List (List Bool)) → ArePairs harts c pairs → pairs_in harts c ≡ pairs
 one_list harts c pairs are =
     map_all (λ t. map (λ s. pair_in c s t) (numbers_from 0 harts)) [] harts pairs are.0.0
     (λ t lt. map_all (λ s. pair_in c s t) false harts (row_of pairs t) (are.0.1 t lt) (λ s _. one_set harts c (pair_at pairs) are.1 s t))
 
-pub at_pairs : (harts : ℕ) (c : Crew) (sender target : ℕ) → sender < harts → target < harts → pair_at (pairs_in harts c) sender target ≡ pair_in c sender target
+pub at_pairs : (harts : ℕ) (c : PendingSeatView) (sender target : ℕ) → sender < harts → target < harts → pair_at (pairs_in harts c) sender target ≡ pair_in c sender target
 at_pairs harts c s t ls lt =
     ap (λ (row : List Bool). get_or row s false) (at_all (λ t. map (λ s. pair_in c s t) (numbers_from 0 harts)) [] harts t lt) ∙ at_all (λ s. pair_in c s t) false harts s ls
 
-shows_as : (harts : ℕ) (c : Crew) (p q : ℕ → ℕ → Bool) → ((s t : ℕ) → q s t ≡ p s t) → Shows harts c p → Shows harts c q
+shows_as : (harts : ℕ) (c : PendingSeatView) (p q : ℕ → ℕ → Bool) → ((s t : ℕ) → q s t ≡ p s t) → Shows harts c p → Shows harts c q
 shows_as harts c p q same shown = (shown.0, (λ s t. subst (λ (b : Bool). IsTrue b ↔ IsPending c s t) (sym (same s t)) (shown.1 s t)))
 
 -- one row is another
@@ -80,7 +80,7 @@ module _ (harts target : ℕ) (pairs : List (List Bool)) (rows : AreRows harts p
   at_else : (s t : ℕ) → t ≢ target → pair_at (slice_set pairs target row) s t ≡ pair_at pairs s t
   at_else s t ne = ap (λ (r : List Bool). get_or r s false) (row_else t ne)
 
-pub one_more : (harts : ℕ) (c : Crew) (sender target : ℕ) (pairs : List (List Bool)) → AreRows harts pairs → sender < harts → target < harts
+pub one_more : (harts : ℕ) (c : PendingSeatView) (sender target : ℕ) (pairs : List (List Bool)) → AreRows harts pairs → sender < harts → target < harts
     → Shows harts c (with_pair sender target (pair_at pairs)) → ArePairs harts c (pairs_with sender target pairs)
 one_more harts c sender target pairs rows ls lt shown =
     let old = row_of pairs target in
@@ -102,7 +102,7 @@ none_of [] s = refl
 none_of (b ∷ row) zero = refl
 none_of (b ∷ row) (suc s) = none_of row s
 
-pub one_less : (harts : ℕ) (c : Crew) (target : ℕ) (pairs : List (List Bool)) → AreRows harts pairs → target < harts
+pub one_less : (harts : ℕ) (c : PendingSeatView) (target : ℕ) (pairs : List (List Bool)) → AreRows harts pairs → target < harts
     → Shows harts c (without_target target (pair_at pairs)) → ArePairs harts c (pairs_without target pairs)
 one_less harts c target pairs rows lt shown =
     let old = row_of pairs target in
@@ -115,5 +115,5 @@ one_less harts c target pairs rows lt shown =
     )
 
 -- a seat of every hart, in the order of their numbers, has each once
-pub whole_of : (harts : ℕ) (c : Crew) → numbers c.pending_views ≡ numbers_from 0 harts → IsWhole harts c
+pub whole_of : (harts : ℕ) (c : PendingSeatView) → numbers c.pending_views ≡ numbers_from 0 harts → IsWhole harts c
 whole_of harts c all h lt = total_once (λ (d : PendingView). d.hart) (is_of h) h (λ d e. rw (eq-eqb d.hart h e) refl) (λ d ne. rw (ne_eqb d.hart h ne) refl) c.pending_views harts all lt

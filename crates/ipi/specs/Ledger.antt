@@ -9,7 +9,7 @@ use Rattle.tallies.specs.Logs.{Log, Reading, IsOfLog, IsTrueLog, word_after}
 use Rattle.ipi.specs.declared.view.Action.{Action}
 use Rattle.ipi.specs.declared.view.Action.TheVariants.{Raised, Took, Looked}
 use Rattle.ipi.specs.declared.view.PendingView.{PendingView}
-use Rattle.ipi.specs.declared.view.Crew.{Crew}
+use Rattle.ipi.specs.declared.view.PendingSeatView.{PendingSeatView}
 
 abbrev pub Each : {A : Type 0} → (A → Type 0) → List A → Type 0
 Each P [] = Unit {0}
@@ -18,7 +18,7 @@ Each P (x ∷ xs) = P x × Each P xs
 abbrev pub pending_view : ℕ → List Action → List ℕ → PendingView
 pending_view h ds ps = record { hart = h; actions = ds; places = ps }
 
-abbrev pub crew : List PendingView → Crew
+abbrev pub crew : List PendingView → PendingSeatView
 crew ds = record { pending_views = ds }
 
 -- a raise of the target that found the sender's bit clear
@@ -39,17 +39,17 @@ raised_by sender target d = if d.hart == sender then total (raise_of sender targ
 abbrev pub taken_by : ℕ → ℕ → PendingView → ℕ
 taken_by sender target d = if d.hart == target then total (take_of sender) d.actions else 0
 
-abbrev pub raised : ℕ → ℕ → Crew → ℕ
+abbrev pub raised : ℕ → ℕ → PendingSeatView → ℕ
 raised sender target c = total (raised_by sender target) c.pending_views
 
-abbrev pub taken : ℕ → ℕ → Crew → ℕ
+abbrev pub taken : ℕ → ℕ → PendingSeatView → ℕ
 taken sender target c = total (taken_by sender target) c.pending_views
 
 abbrev pub is_of : ℕ → PendingView → ℕ
 is_of h d = if d.hart == h then 1 else 0
 
 -- how often the hart is in the seat
-abbrev pub seats : ℕ → Crew → ℕ
+abbrev pub seats : ℕ → PendingSeatView → ℕ
 seats h c = total (is_of h) c.pending_views
 
 -- the hart raised for itself and has not taken since
@@ -94,16 +94,16 @@ IsInLog log d = IsOfLog log d.hart d.actions d.places
 
 -- The rule. The ledger: the raises that found a pair clear are the takes that answered it, and one more if it is pending.
 -- The log: all steps in their order, the newest first, which the pending views fix, since each pending view has the steps of its hart with their places.
-pub record Kept (harts : ℕ) (s : State (Unit {0}) Crew) : Type 0 where
+pub record Kept (harts : ℕ) (s : State (Unit {0}) PendingSeatView) : Type 0 where
   pub wide : length s.words ≡ harts
   pub ledger : (sender target : ℕ) → target < harts
       → total (raised sender target) s.views ≡ total (taken sender target) s.views + bit_at (slice_index s.words target) sender
   pub once : (h : ℕ) → h < harts → total (seats h) s.views ≡ 1
   pub none_else : (h : ℕ) → harts ≤ h → total (seats h) s.views ≡ 0
-  pub owed : (id : ℕ) (c : Crew) → get_elem? s.views id ≡ some c → Each (IsOwed s.words) c.pending_views
+  pub owed : (id : ℕ) (c : PendingSeatView) → get_elem? s.views id ≡ some c → Each (IsOwed s.words) c.pending_views
   pub log : Log Action
   pub is_true : IsTrueLog reading first_word harts log
-  pub entered : (id : ℕ) (c : Crew) → get_elem? s.views id ≡ some c → Each (IsInLog log) c.pending_views
+  pub entered : (id : ℕ) (c : PendingSeatView) → get_elem? s.views id ≡ some c → Each (IsInLog log) c.pending_views
   pub left : (t : ℕ) → t < harts → slice_index s.words t ≡ word_after reading first_word t log
 
 -- one more action of the hart, at its place
@@ -117,7 +117,7 @@ HasNoted h x ds ds' = (place : ℕ) × (ds' ≡ noted h place x ds)
 
 -- what the table keeps of a seat: its view, and the slots that it has taken, of which there are none
 abbrev pub SeatState : Type 0
-SeatState = Me (Unit {0}) Crew
+SeatState = Me (Unit {0}) PendingSeatView
 
 -- the numbers of the harts, in the order of the list
 abbrev pub numbers : List PendingView → List ℕ
@@ -128,15 +128,15 @@ abbrev pub fresh_from : ℕ → ℕ → List PendingView
 fresh_from first zero = []
 fresh_from first (suc n) = pending_view first [] [] ∷ fresh_from (suc first) n
 
-abbrev pub opening_crew : ℕ → Crew
+abbrev pub opening_crew : ℕ → PendingSeatView
 opening_crew harts = crew (fresh_from 0 harts)
 
 -- the seat has every hart
-abbrev pub IsWhole : ℕ → Crew → Type 0
+abbrev pub IsWhole : ℕ → PendingSeatView → Type 0
 IsWhole harts c = (h : ℕ) → h < harts → seats h c ≡ 1
 
 -- The pairs of a seat of all harts are those of the word found
-abbrev pub Tells : ℕ → Crew → ℕ → ℕ → Type 0
+abbrev pub Tells : ℕ → PendingSeatView → ℕ → ℕ → Type 0
 Tells harts c target found = IsWhole harts c → (sender : ℕ) → raised sender target c ≡ taken sender target c + bit_at found sender
 
 -- what the hart did
@@ -145,11 +145,11 @@ actions_of h [] = []
 actions_of h (d ∷ ds) = if d.hart == h then d.actions else actions_of h ds
 
 -- the hart of the seat raised for itself and has not taken since
-abbrev pub IsOwing : ℕ → Crew → Type 0
+abbrev pub IsOwing : ℕ → PendingSeatView → Type 0
 IsOwing h c = owes h (actions_of h c.pending_views) ≡ true
 
 -- Freshness: then the word of the hart has its own bit
-abbrev pub OwnsUp : Crew → ℕ → ℕ → Type 0
+abbrev pub OwnsUp : PendingSeatView → ℕ → ℕ → Type 0
 OwnsUp c h found = IsOwing h c → bit_at found h ≡ 1
 
 -- only harts of the board are senders
@@ -168,14 +168,14 @@ Looks harts st m found m' = HasNoted st.word (Looked found) m.0.pending_views m'
 
 -- ---- seats
 -- the first hart of a seat, and the others
-abbrev pub first_hart : Crew → Crew
+abbrev pub first_hart : PendingSeatView → PendingSeatView
 first_hart c = crew (take 1 c.pending_views)
 
-abbrev pub other_harts : Crew → Crew
+abbrev pub other_harts : PendingSeatView → PendingSeatView
 other_harts c = crew (drop 1 c.pending_views)
 
-abbrev pub together : Crew → Crew → Crew
+abbrev pub together : PendingSeatView → PendingSeatView → PendingSeatView
 together c d = crew (c.pending_views ++ d.pending_views)
 
-abbrev pub nobody : Crew
+abbrev pub nobody : PendingSeatView
 nobody = crew []

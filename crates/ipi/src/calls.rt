@@ -10,7 +10,7 @@ ghost use Rattle.ipi.specs.declared.view.Action.TheVariants.{Raised, Took, Looke
 
 use crate::senders::SenderSet;
 use crate::table::{Acting, IpiSeat, PendingTable};
-use crate::view::Crew;
+use crate::view::PendingSeatView;
 use atomic_table::Play;
 use board_model::HartId;
 use std::marker::{Brand, PhantomData};
@@ -19,7 +19,7 @@ struct RaiseStep<J> {
     of: PhantomData<J>,
 }
 
-impl<J: Acting> Play<(), Crew> for RaiseStep<J> {
+impl<J: Acting> Play<(), PendingSeatView> for RaiseStep<J> {
     ghost then = { Raises J.harts J.by };
 }
 
@@ -27,7 +27,7 @@ struct TakeStep<J> {
     of: PhantomData<J>,
 }
 
-impl<J: Acting> Play<(), Crew> for TakeStep<J> {
+impl<J: Acting> Play<(), PendingSeatView> for TakeStep<J> {
     ghost then = { Takes J.harts };
 }
 
@@ -35,7 +35,7 @@ struct LookStep<J> {
     of: PhantomData<J>,
 }
 
-impl<J: Acting> Play<(), Crew> for LookStep<J> {
+impl<J: Acting> Play<(), PendingSeatView> for LookStep<J> {
     ghost then = { Looks J.harts };
 }
 

@@ -9,14 +9,14 @@ ghost use Rattle.ipi.specs.Seating.{IsSeatOf, harts_of, crew_of, pending_views_i
 ghost use Rattle.board_model.specs.declared.refusal.Refusal.TheVariants.{Memory};
 
 use crate::table::{IpiSeat, PendingTable, Seats};
-use crate::view::Crew;
+use crate::view::PendingSeatView;
 use atomic_table::Table;
 use board_model::{Refusal, Shape};
 use std::alloc::Global;
 use tallies::{ByHart, SeatTable};
 
 impl SeatTable for PendingTable {
-    type View = Crew;
+    type View = PendingSeatView;
 
     type Seat = IpiSeat;
 

@@ -5,18 +5,18 @@ ghost use Rattle.tallies.specs.Seats.{numbers_from};
 ghost use Rattle.ipi.specs.Ledger.{numbers, IsWhole};
 ghost use Rattle.ipi.specs.Pairs.{Shows, with_pair, without_target};
 ghost use Rattle.ipi.specs.Seen.{pair_in, pairs_in, pair_at, AreRows, ArePairs, pairs_with, pairs_without};
-ghost use Rattle.ipi.specs.declared.view.Crew.{Crew};
+ghost use Rattle.ipi.specs.declared.view.PendingSeatView.{PendingSeatView};
 
 /// The pending pairs that the view of a seat of all harts shows are those that `pair_in` computes of it, and `pairs_in`
 /// as a list. A pair with a sender that the board lacks is never pending.
 pub fn one_set()
-    ensures one { (harts : ℕ) (c : Crew) (pairs : ℕ → ℕ → Bool) → Shows harts c pairs → (sender target : ℕ) → pair_in c sender target ≡ pairs sender target }
-    ensures seen { (harts : ℕ) (c : Crew) → IsWhole harts c → Shows harts c (pair_in c) }
-    ensures range { (harts : ℕ) (c : Crew) → numbers c.pending_views ≡ numbers_from 0 harts → (sender target : ℕ) → harts ≤ sender → pair_in c sender target ≡ false }
-    ensures list { (harts : ℕ) (c : Crew) (pairs : List (List Bool)) → ArePairs harts c pairs → pairs_in harts c ≡ pairs }
-    ensures read { (harts : ℕ) (c : Crew) (sender target : ℕ) → sender < harts → target < harts → pair_at (pairs_in harts c) sender target ≡ pair_in c sender target }
-    ensures raised { (harts : ℕ) (c : Crew) (sender target : ℕ) (pairs : List (List Bool)) → AreRows harts pairs → sender < harts → target < harts
+    ensures one { (harts : ℕ) (c : PendingSeatView) (pairs : ℕ → ℕ → Bool) → Shows harts c pairs → (sender target : ℕ) → pair_in c sender target ≡ pairs sender target }
+    ensures seen { (harts : ℕ) (c : PendingSeatView) → IsWhole harts c → Shows harts c (pair_in c) }
+    ensures range { (harts : ℕ) (c : PendingSeatView) → numbers c.pending_views ≡ numbers_from 0 harts → (sender target : ℕ) → harts ≤ sender → pair_in c sender target ≡ false }
+    ensures list { (harts : ℕ) (c : PendingSeatView) (pairs : List (List Bool)) → ArePairs harts c pairs → pairs_in harts c ≡ pairs }
+    ensures read { (harts : ℕ) (c : PendingSeatView) (sender target : ℕ) → sender < harts → target < harts → pair_at (pairs_in harts c) sender target ≡ pair_in c sender target }
+    ensures raised { (harts : ℕ) (c : PendingSeatView) (sender target : ℕ) (pairs : List (List Bool)) → AreRows harts pairs → sender < harts → target < harts
         → Shows harts c (with_pair sender target (pair_at pairs)) → ArePairs harts c (pairs_with sender target pairs) }
-    ensures taken { (harts : ℕ) (c : Crew) (target : ℕ) (pairs : List (List Bool)) → AreRows harts pairs → target < harts
+    ensures taken { (harts : ℕ) (c : PendingSeatView) (target : ℕ) (pairs : List (List Bool)) → AreRows harts pairs → target < harts
         → Shows harts c (without_target target (pair_at pairs)) → ArePairs harts c (pairs_without target pairs) }
 {}

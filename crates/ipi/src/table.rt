@@ -3,7 +3,7 @@
 ghost use Rattle.std.specs.Prelude.{◌≡◌, ℕ, ◌<◌, ◌≤◌};
 ghost use Rattle.ipi.specs.Ledger.{Kept, opening_crew};
 
-use crate::view::Crew;
+use crate::view::PendingSeatView;
 use arrayvec::ArrayVec;
 use atomic_table::{Seat, Table, TableRule};
 use std::alloc::Global;
@@ -12,7 +12,7 @@ use std::marker::Brand;
 /// The ledger of interrupts, which is the rule of the table.
 pub struct Ledger;
 
-impl TableRule<(), Crew, u32> for Ledger {
+impl TableRule<(), PendingSeatView, u32> for Ledger {
     ghost holds = { Kept };
 
     ghost first = { opening_crew };
@@ -33,7 +33,7 @@ impl Acting for Brand {
 }
 
 /// A seat of some of the harts: the right to act as them. It takes no bytes, and may go to another thread.
-pub type IpiSeat = Seat<(), Crew>;
+pub type IpiSeat = Seat<(), PendingSeatView>;
 
 /// A seat for each hart of a board, in a list. A seat that is out with its hart leaves `None`.
 pub type Seats = ArrayVec<Option<IpiSeat>, 8>;
@@ -41,7 +41,7 @@ pub type Seats = ArrayVec<Option<IpiSeat>, 8>;
 /// The pending interrupts of one board. Threads share it by reference, each with seats of its own.
 #[derive(Drop)]
 pub struct PendingTable {
-    pub(crate) table: Table<(), Crew, u32, Ledger, Global>,
+    pub(crate) table: Table<(), PendingSeatView, u32, Ledger, Global>,
     ghost wide: { table.shared.table_id.words ≡ table.shared.key },
     ghost few: { table.shared.key ≤ 8 },
     ghost one: { 0 < table.shared.key },

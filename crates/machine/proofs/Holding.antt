@@ -14,7 +14,7 @@ use Rattle.hsm_rule.specs.Rule.{stands}
 use Rattle.hsm_rule.specs.States.{HartState}
 use Rattle.hsm.specs.Calls.{KeepsOthers}
 use Rattle.hsm.specs.Seen.{states_in, AreStates}
-use Rattle.ipi.specs.declared.view.Crew.{Crew as Pairs}
+use Rattle.ipi.specs.declared.view.PendingSeatView.{PendingSeatView as Pairs}
 use Rattle.ipi.specs.Seen.{pairs_in, ArePairs}
 use Rattle.sbi_calls.specs.declared.tables.Tables.{Tables}
 use Rattle.sbi_calls.specs.declared.tables.Seats.{Seats}

@@ -6,7 +6,7 @@ use Rattle.std.proofs.lemmas.List.{get_or-set_other, get_or-set_same, length-set
 use mathlib.Core.Logic.{dite}
 use native.Mathlib.Decide.{ℕ_discrete}
 use Rattle.tallies.proofs.Seatings.{map_all}
-use Rattle.ipi.specs.declared.view.Crew.{Crew}
+use Rattle.ipi.specs.declared.view.PendingSeatView.{PendingSeatView}
 use Rattle.ipi.specs.declared.view.PendingView.{PendingView}
 use Rattle.ipi.specs.Pairs.{SameHarts}
 use Rattle.ipi.specs.Seen.{ArePairs, row_of}
@@ -67,10 +67,10 @@ sent_all by set pairs =
     sym (map_all (row_sent by set pairs) [] (length pairs) (sent_below by set (length pairs) pairs) (long by set (length pairs) pairs) (λ k lt. sym (below by set (length pairs) k pairs lt lt)))
 
 -- ---- what the loop keeps, after the targets below k
-abbrev pub Sent : ℕ → ℕ → ℕ → ℕ → Crew → Crew → Type 0
+abbrev pub Sent : ℕ → ℕ → ℕ → ℕ → PendingSeatView → PendingSeatView → Type 0
 Sent n by set k before c = (pairs : Pairs) → ArePairs n before pairs → ArePairs n c (sent_below by set k pairs)
 
-pub sent_next : (n by set k target : ℕ) (before c c' : Crew) → target ≡ k → Sent n by set k before c → ((pairs : Pairs) → ArePairs n c pairs → ArePairs n c' (pairs_to by set target pairs)) → Sent n by set (k + 1) before c'
+pub sent_next : (n by set k target : ℕ) (before c c' : PendingSeatView) → target ≡ k → Sent n by set k before c → ((pairs : Pairs) → ArePairs n c pairs → ArePairs n c' (pairs_to by set target pairs)) → Sent n by set (k + 1) before c'
 sent_next n by set k target before c c' at so raised =
     let e : suc k ≡ k + 1 = omega arith in
     subst (λ (j : ℕ). Sent n by set j before c') e
@@ -82,10 +82,10 @@ sends_next by set k target ds mid ds' at so sends =
     subst (λ (j : ℕ). Sends by set j ds ds') e (mid, so, subst (λ (j : ℕ). SendsTo by set j mid ds') at sends)
 
 -- after the last target
-pub sent_last : (n by set k : ℕ) (before c : Crew) → k ≡ n → Sent n by set k before c → (pairs : Pairs) → ArePairs n before pairs → ArePairs n c (pairs_sent by set pairs)
+pub sent_last : (n by set k : ℕ) (before c : PendingSeatView) → k ≡ n → Sent n by set k before c → (pairs : Pairs) → ArePairs n before pairs → ArePairs n c (pairs_sent by set pairs)
 sent_last n by set k before c last so pairs are =
     let e : k ≡ length pairs = last ∙ sym are.0.0 in
     subst (λ (x : Pairs). ArePairs n c x) (ap (λ (j : ℕ). sent_below by set j pairs) e ∙ sent_all by set pairs) (so pairs are)
 
-pub same_then : (a b c : Crew) → SameHarts a b → SameHarts b c → SameHarts a c
+pub same_then : (a b c : PendingSeatView) → SameHarts a b → SameHarts b c → SameHarts a c
 same_then a b c p q = record { harts = q.harts ∙ p.harts; each = λ h. q.each h ∙ p.each h }

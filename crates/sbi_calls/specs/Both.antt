@@ -13,7 +13,7 @@ use Rattle.ipi.specs.Seating as pairs
 use Rattle.ipi.specs.Pairs.{Sits, SameHarts}
 use Rattle.ipi.specs.Seen.{ArePairs}
 use Rattle.ipi.specs.declared.view.PendingView.{PendingView}
-use Rattle.ipi.specs.declared.view.Crew.{Crew as PairCrew}
+use Rattle.ipi.specs.declared.view.PendingSeatView.{PendingSeatView as PairCrew}
 use Rattle.sbi_calls.specs.declared.tables.Tables.{Tables}
 use Rattle.sbi_calls.specs.declared.tables.Seats.{Seats}
 

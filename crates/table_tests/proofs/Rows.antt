@@ -4,7 +4,7 @@ use Rattle.std.proofs.lemmas.List.{map-append, take-append-drop}
 use Rattle.tallies.specs.Sums.{total}
 use Rattle.tallies.proofs.Totals.{total-append}
 use Rattle.ipi.specs.declared.view.PendingView.{PendingView}
-use Rattle.ipi.specs.declared.view.Crew.{Crew}
+use Rattle.ipi.specs.declared.view.PendingSeatView.{PendingSeatView}
 use Rattle.ipi.specs.Ledger.{numbers, is_of, seats, first_hart, other_harts, together}
 use Rattle.ipi.specs.Pairs.{SameHarts}
 use Rattle.table_tests.specs.Crowd.{AreFrom}
@@ -20,27 +20,27 @@ sits_first first [] row pos = absurd (omega arith)
 sits_first first (d ∷ ds) row pos = let e : is_of first d ≡ 1 = rw (eq-eqb d.hart first row.0) refl in omega arith
 
 -- both parts kept their harts, so the whole keeps them
-pub same_whole : (c one others one' others' c' : Crew) → one ≡ first_hart c → others ≡ other_harts c → SameHarts one one' → SameHarts others others' → c' ≡ together one' others' → SameHarts c c'
+pub same_whole : (c one others one' others' c' : PendingSeatView) → one ≡ first_hart c → others ≡ other_harts c → SameHarts one one' → SameHarts others others' → c' ≡ together one' others' → SameHarts c c'
 same_whole c one others one' others' c' is_one is_others same more is = record {
   harts =
-      ap (λ (d : Crew). numbers d.pending_views) is
+      ap (λ (d : PendingSeatView). numbers d.pending_views) is
       ∙ (map-append (λ (d : PendingView). d.hart) one'.pending_views others'.pending_views
-      ∙ (ap (λ (l : List ℕ). l ++ numbers others'.pending_views) (same.harts ∙ ap (λ (d : Crew). numbers d.pending_views) is_one)
-      ∙ (ap (λ (l : List ℕ). numbers (take 1 c.pending_views) ++ l) (more.harts ∙ ap (λ (d : Crew). numbers d.pending_views) is_others)
+      ∙ (ap (λ (l : List ℕ). l ++ numbers others'.pending_views) (same.harts ∙ ap (λ (d : PendingSeatView). numbers d.pending_views) is_one)
+      ∙ (ap (λ (l : List ℕ). numbers (take 1 c.pending_views) ++ l) (more.harts ∙ ap (λ (d : PendingSeatView). numbers d.pending_views) is_others)
       ∙ (sym (map-append (λ (d : PendingView). d.hart) (take 1 c.pending_views) (drop 1 c.pending_views)) ∙ ap numbers (take-append-drop 1 c.pending_views)))));
   each = λ h.
       ap (seats h) is
       ∙ (total-append (is_of h) one'.pending_views others'.pending_views
       ∙ (let p = same.each h in let q = more.each h in
       let r : total (is_of h) one.pending_views + total (is_of h) others.pending_views ≡ total (is_of h) c.pending_views =
-      ap (λ (d : Crew). total (is_of h) d.pending_views + total (is_of h) others.pending_views) is_one
-      ∙ (ap (λ (d : Crew). total (is_of h) (take 1 c.pending_views) + total (is_of h) d.pending_views) is_others
+      ap (λ (d : PendingSeatView). total (is_of h) d.pending_views + total (is_of h) others.pending_views) is_one
+      ∙ (ap (λ (d : PendingSeatView). total (is_of h) (take 1 c.pending_views) + total (is_of h) d.pending_views) is_others
       ∙ (sym (total-append (is_of h) (take 1 c.pending_views) (drop 1 c.pending_views)) ∙ ap (λ (ds : List PendingView). total (is_of h) ds) (take-append-drop 1 c.pending_views))) in
       omega arith));
 }
 
-pub same_then : (a b c : Crew) → SameHarts a b → SameHarts b c → SameHarts a c
+pub same_then : (a b c : PendingSeatView) → SameHarts a b → SameHarts b c → SameHarts a c
 same_then a b c p q = record { harts = q.harts ∙ p.harts; each = λ h. q.each h ∙ p.each h }
 
-pub same_self : (a : Crew) → SameHarts a a
+pub same_self : (a : PendingSeatView) → SameHarts a a
 same_self a = record { harts = refl; each = λ h. refl }

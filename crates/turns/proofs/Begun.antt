@@ -7,7 +7,7 @@ use Rattle.hsm_rule.specs.States.{HartState, stopped, start_pending, started, su
 use Rattle.hsm.specs.Calls.{Sits as SitsIn, IsOwnStatus, named}
 use Rattle.hsm.specs.declared.state.State.{State}
 use Rattle.hsm.specs.declared.state.State.TheVariants as codes
-use Rattle.ipi.specs.declared.view.Crew.{Crew}
+use Rattle.ipi.specs.declared.view.PendingSeatView.{PendingSeatView}
 use Rattle.ipi.specs.Pairs.{Shows, ActsAlone}
 use Rattle.ipi.specs.Seen.{ArePairs, pair_at, row_of}
 use Rattle.sbi_calls.specs.declared.tables.Tables.{Tables}
@@ -118,7 +118,7 @@ same_bool true false f g = sym (f refl)
 same_bool false true f g = g refl
 same_bool false false f g = refl
 
-pub looked : (n m by : ℕ) (c c' : Crew) (found : Bool) → n ≡ m → ActsAlone n c c' (λ pairs. IsTrue found ↔ ((sender : ℕ) × IsTrue (pairs sender by))) (λ pairs. pairs)
+pub looked : (n m by : ℕ) (c c' : PendingSeatView) (found : Bool) → n ≡ m → ActsAlone n c c' (λ pairs. IsTrue found ↔ ((sender : ℕ) × IsTrue (pairs sender by))) (λ pairs. pairs)
     → (pairs : List (List Bool)) → ArePairs m c pairs → (found ≡ is_pending by pairs) × ArePairs m c' pairs
 looked n m by c c' found e acts pairs are =
     let a = acts (pair_at pairs) (subst (λ (k : ℕ). Shows k c (pair_at pairs)) (sym e) are.1) in (
