@@ -4,7 +4,7 @@ use Rattle.board_model.specs.Shapes.{Size}
 use Rattle.hsm_steps.specs.Seating as harts
 use Rattle.hsm_words.specs.declared.view.Stage.{Stage}
 use Rattle.hsm_words.specs.declared.view.HartView.{HartView}
-use Rattle.hsm_words.specs.declared.view.HartSeatView.{HartSeatView as HartCrew}
+use Rattle.hsm_words.specs.declared.view.HartSeatView.{HartSeatView as HartSeatView}
 use Rattle.hsm_rule.specs.Rule.{stands}
 use Rattle.hsm_rule.specs.States.{HartState}
 use Rattle.hsm.specs.Calls.{KeepsOthers}
@@ -36,7 +36,7 @@ AreOfAll t s = harts.IsOfAll t.harts s.harts × pairs.IsOfAll t.pending s.pendin
 abbrev pub views : Seats → List HartView
 views s = harts.harts_in s.harts
 
-abbrev pub crew : Seats → HartCrew
+abbrev pub crew : Seats → HartSeatView
 crew s = harts.crew_of s.harts
 
 abbrev pub pending_views : Seats → List PendingView
