@@ -13,7 +13,7 @@ use Rattle.ipi.specs.Seating as pairs
 use Rattle.ipi.specs.Pairs.{Sits, SameHarts}
 use Rattle.ipi.specs.Seen.{ArePairs}
 use Rattle.ipi.specs.declared.view.PendingView.{PendingView}
-use Rattle.ipi.specs.declared.view.PendingSeatView.{PendingSeatView as PairCrew}
+use Rattle.ipi.specs.declared.view.PendingSeatView.{PendingSeatView as PendingSeatView}
 use Rattle.sbi_calls.specs.declared.tables.Tables.{Tables}
 use Rattle.sbi_calls.specs.declared.tables.Seats.{Seats}
 
@@ -42,7 +42,7 @@ crew s = harts.crew_of s.harts
 abbrev pub pending_views : Seats → List PendingView
 pending_views s = pairs.pending_views_in s.pending
 
-abbrev pub pair_crew : Seats → PairCrew
+abbrev pub pair_crew : Seats → PendingSeatView
 pair_crew s = pairs.crew_of s.pending
 
 pub record Known : Type 0 where
