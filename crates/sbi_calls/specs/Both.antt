@@ -4,7 +4,7 @@ use Rattle.board_model.specs.Shapes.{Size}
 use Rattle.hsm_steps.specs.Seating as harts
 use Rattle.hsm_words.specs.declared.view.Stage.{Stage}
 use Rattle.hsm_words.specs.declared.view.HartView.{HartView}
-use Rattle.hsm_words.specs.declared.view.HartSeatView.{HartSeatView as HartSeatView}
+use Rattle.hsm_words.specs.declared.view.HartSeatView.{HartSeatView}
 use Rattle.hsm_rule.specs.Rule.{stands}
 use Rattle.hsm_rule.specs.States.{HartState}
 use Rattle.hsm.specs.Calls.{KeepsOthers}
@@ -13,7 +13,7 @@ use Rattle.ipi.specs.Seating as pairs
 use Rattle.ipi.specs.Pairs.{Sits, SameHarts}
 use Rattle.ipi.specs.Seen.{ArePairs}
 use Rattle.ipi.specs.declared.view.PendingView.{PendingView}
-use Rattle.ipi.specs.declared.view.PendingSeatView.{PendingSeatView as PendingSeatView}
+use Rattle.ipi.specs.declared.view.PendingSeatView.{PendingSeatView}
 use Rattle.sbi_calls.specs.declared.tables.Tables.{Tables}
 use Rattle.sbi_calls.specs.declared.tables.Seats.{Seats}
 
