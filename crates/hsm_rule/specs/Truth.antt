@@ -3,7 +3,7 @@ use Rattle.std.specs.Prelude.{◌≡◌, ◌≢◌, ℕ, ◌+◌, ◌*◌, ◌<�
 use mathlib.Core.Option.{some}
 use lib.ListN.{get_elem?}
 use Rattle.atomic_table.specs.Table.{State}
-use Rattle.hsm_words.specs.Words.{crew}
+use Rattle.hsm_words.specs.Words.{hart_seat_view}
 use Rattle.hsm_words.specs.declared.view.Stage.{Stage}
 use Rattle.hsm_words.specs.declared.view.Action.{Action}
 use Rattle.tallies.specs.Logs.{placed, earlier, IsAmong}
@@ -16,7 +16,7 @@ use Rattle.hsm_rule.specs.Rule.{Kept, noted, stands, word_of, found_by, left_by}
 abbrev pub StepsAreTrue : Type 0
 StepsAreTrue = (harts boot : ℕ) (s s' : State (Unit {0}) HartSeatView) (kept : Kept harts boot s) (kept' : Kept harts boot s') (id h place : ℕ) (c : HartSeatView) (st st' : Stage) (x : Action)
     → get_elem? s.views id ≡ some c → stands h st c.harts → word_of h x < 1 + 2 * harts
-    → get_elem? s'.views id ≡ some (crew (noted h st' place x c.harts)) → ((j : ℕ) → j ≢ id → get_elem? s'.views j ≡ get_elem? s.views j)
+    → get_elem? s'.views id ≡ some (hart_seat_view (noted h st' place x c.harts)) → ((j : ℕ) → j ≢ id → get_elem? s'.views j ≡ get_elem? s.views j)
     → (found_by x (slice_index s.words (word_of h x)) ≡ slice_index s.words (word_of h x))
     × ((t : ℕ) → t < 1 + 2 * harts → slice_index s'.words t ≡ (if word_of h x == t then left_by h x (slice_index s.words t) else slice_index s.words t))
     × (place ≡ length kept.log) × (kept'.log ≡ (h, x) ∷ kept.log)

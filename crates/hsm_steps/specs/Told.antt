@@ -2,7 +2,7 @@
 use Rattle.std.specs.Prelude.{◌≡◌, ◌≢◌, ◌↔◌, ℕ, ◌+◌, ◌*◌, ◌<◌, ◌%◌, ◌^◌, zero, suc, Bool, true, List, [], ◌∷◌, ◌++◌, ◌==◌, if◌then◌else◌, IsTrue, take, drop}
 use Rattle.std.specs.Int.{bit_at}
 use Rattle.atomic_table.specs.Table.{Me, Step}
-use Rattle.hsm_words.specs.Words.{hart_view, crew}
+use Rattle.hsm_words.specs.Words.{hart_view, hart_seat_view}
 use Rattle.hsm_words.specs.declared.view.Stage.{Stage}
 use Rattle.hsm_words.specs.declared.view.Stage.TheVariants.{Out, Ready, Addressed, Loaded, Running, Claiming, Half, Stored, Asleep, Quiet}
 use Rattle.hsm_words.specs.declared.view.Action.{Action}
@@ -102,7 +102,7 @@ opening_from lone first zero = []
 opening_from lone first (suc n) = hart_view first (if first == lone then Running else Out) [] [] ∷ opening_from lone (suc first) n
 
 abbrev pub opening_crew : ℕ → ℕ → HartSeatView
-opening_crew harts lone = crew (opening_from lone 0 harts)
+opening_crew harts lone = hart_seat_view (opening_from lone 0 harts)
 
 -- the states at the start
 abbrev pub opening_states : ℕ → ℕ → HartState
@@ -110,13 +110,13 @@ opening_states first k = if k == first then started else stopped
 
 -- ---- seats
 abbrev pub first_hart : HartSeatView → HartSeatView
-first_hart c = crew (take 1 c.harts)
+first_hart c = hart_seat_view (take 1 c.harts)
 
 abbrev pub other_harts : HartSeatView → HartSeatView
-other_harts c = crew (drop 1 c.harts)
+other_harts c = hart_seat_view (drop 1 c.harts)
 
 abbrev pub together : HartSeatView → HartSeatView → HartSeatView
-together c d = crew (c.harts ++ d.harts)
+together c d = hart_seat_view (c.harts ++ d.harts)
 
 abbrev pub nobody : HartSeatView
-nobody = crew []
+nobody = hart_seat_view []
