@@ -12,7 +12,7 @@ use Rattle.ipi.specs.declared.view.Action.{Action}
 use Rattle.ipi.specs.declared.view.Action.TheVariants.{Raised, Took, Looked}
 use Rattle.ipi.specs.declared.view.PendingView.{PendingView}
 use Rattle.ipi.specs.declared.view.PendingSeatView.{PendingSeatView}
-use Rattle.ipi.specs.Ledger.{numbers, crew, raise_of, take_of, raised, taken, is_of, seats, noted, HasNoted, IsWhole, InRange}
+use Rattle.ipi.specs.Ledger.{numbers, pending_seat_view, raise_of, take_of, raised, taken, is_of, seats, noted, HasNoted, IsWhole, InRange}
 use Rattle.ipi.specs.Pairs.{IsPending, SameHarts, Shows, with_pair, without_target}
 use Rattle.ipi.specs.Senders.{Has}
 use Rattle.ipi.proofs.Keeps.{weigh_noted, seats_noted}
@@ -21,10 +21,10 @@ module _ (harts by : ℕ) (c : PendingSeatView) (whole : IsWhole harts c) (lt : 
   sits : 0 < seats by c
   sits = let w = whole by lt in omega arith
 
-  raised_then : (p : ℕ) (x : Action) (s t : ℕ) → raised s t (crew (noted by p x c.pending_views)) ≡ raised s t c + (if by == s then raise_of s t x else 0)
+  raised_then : (p : ℕ) (x : Action) (s t : ℕ) → raised s t (pending_seat_view (noted by p x c.pending_views)) ≡ raised s t c + (if by == s then raise_of s t x else 0)
   raised_then p x s t = weigh_noted s (raise_of s t) by p x c.pending_views sits
 
-  taken_then : (p : ℕ) (x : Action) (s t : ℕ) → taken s t (crew (noted by p x c.pending_views)) ≡ taken s t c + (if by == t then take_of s x else 0)
+  taken_then : (p : ℕ) (x : Action) (s t : ℕ) → taken s t (pending_seat_view (noted by p x c.pending_views)) ≡ taken s t c + (if by == t then take_of s x else 0)
   taken_then p x s t = weigh_noted t (take_of s) by p x c.pending_views sits
 
 nothing : (b : Bool) → ◌≡◌ {A = ℕ} (if b then 0 else 0) 0
@@ -71,7 +71,7 @@ module _ (harts by target found : ℕ) (c c' : PendingSeatView) (whole : IsWhole
   )
 
   raised_pairs : (s t : ℕ) → IsPending c' s t ↔ (IsPending c s t ⊎ ((s ≡ by) × (t ≡ target)))
-  raised_pairs s t = subst (λ (d : PendingSeatView). IsPending d s t ↔ (IsPending c s t ⊎ ((s ≡ by) × (t ≡ target)))) (sym (ap crew is.1)) (pairs found tells s t)
+  raised_pairs s t = subst (λ (d : PendingSeatView). IsPending d s t ↔ (IsPending c s t ⊎ ((s ≡ by) × (t ≡ target)))) (sym (ap pending_seat_view is.1)) (pairs found tells s t)
     where
       other : (found s t : ℕ) → ((s ≡ by) × (t ≡ target) → ⊥) → (if by == s then raise_of s t (Raised target found) else 0) ≡ 0
       other found s t apart = dite (ℕ_discrete s by)
@@ -83,7 +83,7 @@ module _ (harts by target found : ℕ) (c c' : PendingSeatView) (whole : IsWhole
       here : (found s t : ℕ) → s ≡ by → t ≡ target → (if by == s then raise_of s t (Raised target found) else 0) ≡ 1 - bit_at found s
       here found s t e f = rw (eq-eqb by s (sym e), eq-eqb target t (sym f)) refl
 
-      pairs : (found : ℕ) → raised by target c ≡ taken by target c + bit_at found by → (s t : ℕ) → IsPending (crew (noted by is.0 (Raised target found) c.pending_views)) s t ↔ (IsPending c s t ⊎ ((s ≡ by) × (t ≡ target)))
+      pairs : (found : ℕ) → raised by target c ≡ taken by target c + bit_at found by → (s t : ℕ) → IsPending (pending_seat_view (noted by is.0 (Raised target found) c.pending_views)) s t ↔ (IsPending c s t ⊎ ((s ≡ by) × (t ≡ target)))
       pairs found tells s t =
           let up = raised_then harts by c whole lt is.0 (Raised target found) s t in
           let same = taken_then harts by c whole lt is.0 (Raised target found) s t in
@@ -125,9 +125,9 @@ module _ (harts by found : ℕ) (c c' : PendingSeatView) (whole : IsWhole harts 
   found_pairs s = let e = tells s in let bit = bit_at-lt found s in ((λ one. omega arith), (λ p. omega arith))
 
   taken_pairs : (s t : ℕ) → IsPending c' s t ↔ (IsPending c s t × (t ≢ by))
-  taken_pairs s t = subst (λ (d : PendingSeatView). IsPending d s t ↔ (IsPending c s t × (t ≢ by))) (sym (ap crew is.1)) (pairs s (tells s) t)
+  taken_pairs s t = subst (λ (d : PendingSeatView). IsPending d s t ↔ (IsPending c s t × (t ≢ by))) (sym (ap pending_seat_view is.1)) (pairs s (tells s) t)
     where
-      pairs : (s : ℕ) → raised s by c ≡ taken s by c + bit_at found s → (t : ℕ) → IsPending (crew (noted by is.0 (Took found) c.pending_views)) s t ↔ (IsPending c s t × (t ≢ by))
+      pairs : (s : ℕ) → raised s by c ≡ taken s by c + bit_at found s → (t : ℕ) → IsPending (pending_seat_view (noted by is.0 (Took found) c.pending_views)) s t ↔ (IsPending c s t × (t ≢ by))
       pairs s tells t =
           let same = raised_then harts by c whole lt is.0 (Took found) s t in
           let up = taken_then harts by c whole lt is.0 (Took found) s t in
@@ -165,7 +165,7 @@ no_sender found s one z = let e = ap (λ (n : ℕ). bit_at n s) z in let n = bit
 
 module _ (harts by found : ℕ) (c c' : PendingSeatView) (whole : IsWhole harts c) (lt : by < harts) (is : HasNoted by (Looked found) c.pending_views c'.pending_views) (tells : (sender : ℕ) → raised sender by c ≡ taken sender by c + bit_at found sender) where
   looked_pairs : (s t : ℕ) → IsPending c' s t ↔ IsPending c s t
-  looked_pairs s t = subst (λ (d : PendingSeatView). IsPending d s t ↔ IsPending c s t) (sym (ap crew is.1))
+  looked_pairs s t = subst (λ (d : PendingSeatView). IsPending d s t ↔ IsPending c s t) (sym (ap pending_seat_view is.1))
       (let p = raised_then harts by c whole lt is.0 (Looked found) s t in
       let q = taken_then harts by c whole lt is.0 (Looked found) s t in
       let y = nothing (eqb by s) in

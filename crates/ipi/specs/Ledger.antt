@@ -18,8 +18,8 @@ Each P (x ∷ xs) = P x × Each P xs
 abbrev pub pending_view : ℕ → List Action → List ℕ → PendingView
 pending_view h ds ps = record { hart = h; actions = ds; places = ps }
 
-abbrev pub crew : List PendingView → PendingSeatView
-crew ds = record { pending_views = ds }
+abbrev pub pending_seat_view : List PendingView → PendingSeatView
+pending_seat_view ds = record { pending_views = ds }
 
 -- a raise of the target that found the sender's bit clear
 abbrev pub raise_of : ℕ → ℕ → Action → ℕ
@@ -129,7 +129,7 @@ fresh_from first zero = []
 fresh_from first (suc n) = pending_view first [] [] ∷ fresh_from (suc first) n
 
 abbrev pub opening_crew : ℕ → PendingSeatView
-opening_crew harts = crew (fresh_from 0 harts)
+opening_crew harts = pending_seat_view (fresh_from 0 harts)
 
 -- the seat has every hart
 abbrev pub IsWhole : ℕ → PendingSeatView → Type 0
@@ -169,13 +169,13 @@ Looks harts st m found m' = HasNoted st.word (Looked found) m.0.pending_views m'
 -- ---- seats
 -- the first hart of a seat, and the others
 abbrev pub first_hart : PendingSeatView → PendingSeatView
-first_hart c = crew (take 1 c.pending_views)
+first_hart c = pending_seat_view (take 1 c.pending_views)
 
 abbrev pub other_harts : PendingSeatView → PendingSeatView
-other_harts c = crew (drop 1 c.pending_views)
+other_harts c = pending_seat_view (drop 1 c.pending_views)
 
 abbrev pub together : PendingSeatView → PendingSeatView → PendingSeatView
-together c d = crew (c.pending_views ++ d.pending_views)
+together c d = pending_seat_view (c.pending_views ++ d.pending_views)
 
 abbrev pub nobody : PendingSeatView
-nobody = crew []
+nobody = pending_seat_view []
