@@ -18,7 +18,7 @@ use Rattle.sbi_abi.specs.Calls.{call_of}
 use Rattle.sbi_abi.specs.declared.call.Call.{Call}
 use Rattle.sbi_calls.specs.declared.tables.Tables.{Tables}
 use Rattle.sbi_calls.specs.declared.tables.Seats.{Seats}
-use Rattle.sbi_calls.specs.Both.{TableState, IsTable, GivesBack, Acts, views, crew}
+use Rattle.sbi_calls.specs.Both.{TableState, IsTable, GivesBack, Acts, views, harts_known}
 use Rattle.sbi.specs.declared.dispatches.Held.{Held}
 use Rattle.sbi.specs.Helds.{HeldAlone}
 use Rattle.turns.specs.Turns.{RestsAt}
@@ -62,8 +62,8 @@ started_acts size harts t os s id x held e lt read is =
     let low : x.id < size.harts = subst (λ (n : ℕ). x.id < n) held.long (subst (λ (k : ℕ). k < length harts) (sym (numbered_at harts id x held.numbered lt read)) lt) in
     let at_x : listed (table_of size.harts os).states x.id ≡ started = subst (λ (z : State). listed (table_of size.harts os).states z.id ≡ started) (sym read) is in
     let at : listed (shown_by size.harts s).states x.id ≡ started = subst (λ (o : Option Seats). listed (table_of size.harts o).states x.id ≡ started) e at_x in
-    let shown : IsIn (crew s) x.id started = subst (λ (y : HartState). IsIn (crew s) x.id y) at (a.shows.0.1 x.id low) in
-    (runs_at x.id (crew s) shown rests.0, rests.1)
+    let shown : IsIn (harts_known s) x.id started = subst (λ (y : HartState). IsIn (harts_known s) x.id y) at (a.shows.0.1 x.id low) in
+    (runs_at x.id (harts_known s) shown rests.0, rests.1)
 
 -- ---- with a store
 module _ {D L : Type 0} {g : Ghosts D L} {l : Lanes L} where

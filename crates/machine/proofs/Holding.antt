@@ -18,7 +18,7 @@ use Rattle.ipi.specs.declared.view.PendingSeatView.{PendingSeatView as Pairs}
 use Rattle.ipi.specs.Seen.{pairs_in, ArePairs}
 use Rattle.sbi_calls.specs.declared.tables.Tables.{Tables}
 use Rattle.sbi_calls.specs.declared.tables.Seats.{Seats}
-use Rattle.sbi_calls.specs.Both.{TableState, IsTable, GivesBack, views, crew, pair_crew}
+use Rattle.sbi_calls.specs.Both.{TableState, IsTable, GivesBack, views, harts_known, pair_crew}
 use Rattle.turns.specs.Turns.{Moment, moment, Rests, RestsAt}
 use Rattle.machine.specs.Machine.{Machine}
 use Rattle.machine.specs.Turns.{DoneBy}
@@ -33,7 +33,7 @@ IsOneSet = (harts : ℕ) (c : Pairs) (pairs : List (List Bool)) → ArePairs har
 -- seats show one table
 pub one_shown : IsOneList → IsOneSet → (harts : ℕ) (s : Seats) (t : TableState) → IsTable harts s t → shown_by harts s ≡ t
 one_shown one set harts s t is =
-    let x : states_in harts (crew s) ≡ t.states = one harts (crew s) t.states is.0 in
+    let x : states_in harts (harts_known s) ≡ t.states = one harts (harts_known s) t.states is.0 in
     let y : pairs_in harts (pair_crew s) ≡ t.pairs = set harts (pair_crew s) t.pairs is.1 in
     ap (λ (l : List HartState). let r : TableState = record { states = l; pairs = pairs_in harts (pair_crew s) } in r) x
     ∙ ap (λ (p : List (List Bool)). let r : TableState = record { states = t.states; pairs = p } in r) y

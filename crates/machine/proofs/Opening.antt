@@ -19,7 +19,7 @@ use Rattle.ipi.specs.Pairs as shown
 use Rattle.ipi.specs.Seen.{pair_at, ArePairs}
 use Rattle.sbi_calls.specs.declared.tables.Tables.{Tables}
 use Rattle.sbi_calls.specs.declared.tables.Seats.{Seats}
-use Rattle.sbi_calls.specs.Both.{TableState, AreTablesOf, AreSeatsOf, AreOfAll, IsTable, views, crew, pair_crew}
+use Rattle.sbi_calls.specs.Both.{TableState, AreTablesOf, AreSeatsOf, AreOfAll, IsTable, views, harts_known, pair_crew}
 use Rattle.turns.specs.Turns.{Rests}
 use Rattle.machine.specs.Machine.{Machine, stopped_harts, only_first, none_pending, resting}
 use Rattle.machine.specs.Held.{shown_by, AreWhole, IsHeld, AreNumbered}
@@ -81,7 +81,7 @@ pub record AreMade (size : Size) (t : Tables) (s : Seats) (first : ℕ) : Type 0
   pub tables : AreTablesOf size t
   pub seats : AreSeatsOf t s
   pub all : AreOfAll t s
-  pub states : Shows size.harts (crew s) (opening_states first)
+  pub states : Shows size.harts (harts_known s) (opening_states first)
   pub stood : (h : ℕ) → h < size.harts → stands h (if h == first then Running else Out) (views s)
   pub pairs : shown.Shows size.harts (pair_crew s) (λ _ _. false)
   pub sits : (h : ℕ) → h < size.harts → shown.Sits h (pair_crew s)
@@ -91,7 +91,7 @@ opening_table harts first = record { states = only_first harts first; pairs = no
 
 module _ (size : Size) (t : Tables) (s : Seats) (first : ℕ) (one : IsOneList) (set : IsOneSet) (low : first < size.harts) (made : AreMade size t s first) where
   are : IsTable size.harts s (opening_table size.harts first)
-  are = (opening_shown size.harts first (crew s) low made.states, none_shown size.harts (pair_crew s) made.pairs)
+  are = (opening_shown size.harts first (harts_known s) low made.states, none_shown size.harts (pair_crew s) made.pairs)
 
   shows_it : shown_by size.harts s ≡ opening_table size.harts first
   shows_it = one_shown one set size.harts s (opening_table size.harts first) are

@@ -6,12 +6,12 @@ use Rattle.hsm.specs.Seen.{states_in}
 use Rattle.ipi.specs.Seen.{pairs_in}
 use Rattle.sbi_calls.specs.declared.tables.Tables.{Tables}
 use Rattle.sbi_calls.specs.declared.tables.Seats.{Seats}
-use Rattle.sbi_calls.specs.Both.{TableState, AreTablesOf, AreSeatsOf, AreOfAll, IsTable, crew, pair_crew}
+use Rattle.sbi_calls.specs.Both.{TableState, AreTablesOf, AreSeatsOf, AreOfAll, IsTable, harts_known, pair_crew}
 use Rattle.turns.specs.Turns.{Rests}
 
 -- what seats of all harts show
 abbrev pub shown_by : ℕ → Seats → TableState
-shown_by harts s = record { states = states_in harts (crew s); pairs = pairs_in harts (pair_crew s) }
+shown_by harts s = record { states = states_in harts (harts_known s); pairs = pairs_in harts (pair_crew s) }
 
 abbrev pub table_of : ℕ → Option Seats → TableState
 table_of harts None = record { states = []; pairs = [] }

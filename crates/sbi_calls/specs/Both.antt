@@ -36,8 +36,8 @@ AreOfAll t s = harts.IsOfAll t.harts s.harts × pairs.IsOfAll t.pending s.pendin
 abbrev pub views : Seats → List HartView
 views s = harts.harts_in s.harts
 
-abbrev pub crew : Seats → HartSeatView
-crew s = harts.crew_of s.harts
+abbrev pub harts_known : Seats → HartSeatView
+harts_known s = harts.crew_of s.harts
 
 abbrev pub pending_views : Seats → List PendingView
 pending_views s = pairs.pending_views_in s.pending
@@ -70,4 +70,4 @@ pub record TableState : Type 0 where
 
 -- what the seats of all harts know is this
 abbrev pub IsTable : ℕ → Seats → TableState → Type 0
-IsTable harts s t = AreStates harts (crew s) t.states × ArePairs harts (pair_crew s) t.pairs
+IsTable harts s t = AreStates harts (harts_known s) t.states × ArePairs harts (pair_crew s) t.pairs

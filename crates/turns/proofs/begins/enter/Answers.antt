@@ -6,7 +6,7 @@ use Rattle.hsm_steps.specs.Seating.{harts_in}
 use Rattle.hsm.specs.Calls.{EntersAs, FindsNone}
 use Rattle.hsm.specs.Seen.{listed, AreStates}
 use Rattle.sbi_calls.specs.declared.tables.Seats.{Seats}
-use Rattle.sbi_calls.specs.Both.{harts_of, crew, known, IsTable}
+use Rattle.sbi_calls.specs.Both.{harts_of, harts_known, known, IsTable}
 use Rattle.sbi_calls.specs.Answers.{with_state}
 use Rattle.turns.specs.declared.words.Ready.TheVariants as readies
 use Rattle.turns.specs.Turns.{begun_by}
@@ -21,7 +21,7 @@ returns-in-None-clause-alone c = λ t are out.
     let e = none_is (listed t.states c.args.by) out (sym c.in-None.is ∙ a.0) in
     let are_begun = c.one_table.ensures.changed n c.args.by begin _ t.states are.0.0 c.requires.by a.1 in
     let same = ap (λ (y : HartState). slice_set t.states c.args.by (begin y)) e ∙ (ap (λ (y : HartState). slice_set t.states c.args.by y) (sym e) ∙ set-get_or t.states c.args.by stopped) in
-    let kept : AreStates n (crew s) t.states = subst (λ (l : List HartState). AreStates n (crew s) l) same are_begun in
+    let kept : AreStates n (harts_known s) t.states = subst (λ (l : List HartState). AreStates n (harts_known s) l) same are_begun in
     subst (λ (y : HartState). (readies.Idle ≡ (begun_by c.args.by t y).ready) × IsTable n s (begun_by c.args.by t y).table) (sym e) (refl, (kept, are.1))
 
 pub returns-in-Some-clause-gives : goal.returns-in-Some-clause-gives
@@ -38,7 +38,7 @@ returns-in-Some-clause-alone c = λ t are out.
     let a = c.try_enter-harts.ensures.alone (listed t.states) are.0.1 in
     let e = some_is p (listed t.states c.args.by) (sym c.in-Some.is ∙ a.0) in
     let are_begun = c.one_table.ensures.changed n c.args.by begin _ t.states are.0.0 c.requires.by a.1 in
-    let runs : AreStates n (crew s) (slice_set t.states c.args.by started) = subst (λ (l : List HartState). AreStates n (crew s) l) (ap (λ (y : HartState). slice_set t.states c.args.by (begin y)) e) are_begun in
+    let runs : AreStates n (harts_known s) (slice_set t.states c.args.by started) = subst (λ (l : List HartState). AreStates n (harts_known s) l) (ap (λ (y : HartState). slice_set t.states c.args.by (begin y)) e) are_begun in
     subst (λ (y : HartState). (readies.Enters p.0 p.1 ≡ (begun_by c.args.by t y).ready) × IsTable n c.take.result (begun_by c.args.by t y).table) (sym e)
     (refl, c.take.ensures.alone (with_state t c.args.by started) (runs, are.1))
 
