@@ -5,7 +5,7 @@ ghost use Rattle.std.specs.Int.{bit_at};
 ghost use Rattle.hsm_rule.specs.Rule.{stands, HasNoted};
 ghost use Rattle.hsm_rule.specs.States.{IsStarted, IsSettled, is_stopped, stopped, started, suspended, change_at, grant, entry, begin};
 ghost use Rattle.hsm_steps.specs.Told.{after_quiet};
-ghost use Rattle.hsm_steps.specs.Seating.{IsSeatOf, harts_of, crew_of, harts_in};
+ghost use Rattle.hsm_steps.specs.Seating.{IsSeatOf, harts_of, hart_view_of_seat, harts_in};
 ghost use Rattle.hsm_words.specs.declared.view.Stage.TheVariants.{Out, Running, Asleep, Quiet};
 ghost use Rattle.hsm_words.specs.declared.view.Action.TheVariants.{Looked, Stopped as DidStop, Suspended as DidSuspend, Woke, Quieted, Unquieted};
 ghost use Rattle.hsm.specs.Calls.{stage_of, Sits, KeepsAll, KeepsOthers, IsOwnStatus, StandsBy, state_of, named, Starts, EntersAs, FindsNone, ActsAlone};
@@ -33,7 +33,7 @@ pub fn start(
     ensures stands { stands by Running (harts_in result.0) }
     ensures others { KeepsOthers by (harts_in seat) (harts_in result.0) }
     ensures steps { Starts by target address opaque (harts_in seat) result.1 (harts_in result.0) }
-    ensures alone { ActsAlone (harts_of table.entry.now) (crew_of seat) (crew_of result.0) (λ states. result.1 ≡ is_stopped (states target)) (change_at target (grant address opaque)) }
+    ensures alone { ActsAlone (harts_of table.entry.now) (hart_view_of_seat seat) (hart_view_of_seat result.0) (λ states. result.1 ≡ is_stopped (states target)) (change_at target (grant address opaque)) }
 {
     let mut seat = seat;
     let site = address.value();
@@ -58,7 +58,7 @@ pub fn try_enter(table: &HartTable, seat: HartSeat, by: HartId) -> (HartSeat, Op
     ensures stands { MatchOption result.1 (stands by Out (harts_in result.0)) (λ _. stands by Running (harts_in result.0)) }
     ensures others { KeepsOthers by (harts_in seat) (harts_in result.0) }
     ensures steps { MatchOption result.1 (FindsNone by (harts_in seat) (harts_in result.0)) (λ e. EntersAs by (harts_in seat) e.0 e.1 (harts_in result.0)) }
-    ensures alone { ActsAlone (harts_of table.entry.now) (crew_of seat) (crew_of result.0) (λ states. result.1 ≡ entry (states by)) (change_at by begin) }
+    ensures alone { ActsAlone (harts_of table.entry.now) (hart_view_of_seat seat) (hart_view_of_seat result.0) (λ states. result.1 ≡ entry (states by)) (change_at by begin) }
 {
     let mut seat = seat;
     let hart = by.number();
@@ -85,7 +85,7 @@ pub fn stop(table: &HartTable, seat: HartSeat, by: HartId) -> HartSeat
     ensures stands { stands by Out (harts_in result) }
     ensures others { KeepsOthers by (harts_in seat) (harts_in result) }
     ensures steps { (found : ℕ) × HasNoted by Out (DidStop found) (harts_in seat) (harts_in result) }
-    ensures alone { ActsAlone (harts_of table.entry.now) (crew_of seat) (crew_of result) (λ _. Unit {0}) (change_at by (λ _. stopped)) }
+    ensures alone { ActsAlone (harts_of table.entry.now) (hart_view_of_seat seat) (hart_view_of_seat result) (λ _. Unit {0}) (change_at by (λ _. stopped)) }
 {
     let mut seat = seat;
     hsm_steps::stop::<Brand>(table, &mut seat, by);
@@ -103,7 +103,7 @@ pub fn status(table: &HartTable, seat: HartSeat, by: HartId, hart: HartId) -> (H
     ensures steps { (found : ℕ) × (result.1 ≡ state_of hart found) × HasNoted by (stage_of by (harts_in seat)) (Looked found) (harts_in seat) (harts_in result.0) }
     ensures fresh { IsOwnStatus hart (harts_in seat) result.1 }
     ensures own { IsSettled hart (harts_in seat) → StandsBy result.1 hart (harts_in result.0) }
-    ensures alone { ActsAlone (harts_of table.entry.now) (crew_of seat) (crew_of result.0) (λ states. result.1 ≡ named (states hart)) (λ states. states) }
+    ensures alone { ActsAlone (harts_of table.entry.now) (hart_view_of_seat seat) (hart_view_of_seat result.0) (λ states. result.1 ≡ named (states hart)) (λ states. states) }
 {
     let mut seat = seat;
     let found = hsm_steps::look::<Brand>(table, &mut seat, by);
@@ -121,7 +121,7 @@ pub fn suspend(table: &HartTable, seat: HartSeat, by: HartId) -> HartSeat
     ensures stands { stands by Asleep (harts_in result) }
     ensures others { KeepsOthers by (harts_in seat) (harts_in result) }
     ensures steps { (found : ℕ) × HasNoted by Asleep (DidSuspend found) (harts_in seat) (harts_in result) }
-    ensures alone { ActsAlone (harts_of table.entry.now) (crew_of seat) (crew_of result) (λ _. Unit {0}) (change_at by (λ _. suspended)) }
+    ensures alone { ActsAlone (harts_of table.entry.now) (hart_view_of_seat seat) (hart_view_of_seat result) (λ _. Unit {0}) (change_at by (λ _. suspended)) }
 {
     let mut seat = seat;
     hsm_steps::suspend::<Brand>(table, &mut seat, by);
@@ -137,7 +137,7 @@ pub fn wake(table: &HartTable, seat: HartSeat, by: HartId) -> HartSeat
     ensures stands { stands by Running (harts_in result) }
     ensures others { KeepsOthers by (harts_in seat) (harts_in result) }
     ensures steps { (found : ℕ) × HasNoted by Running (Woke found) (harts_in seat) (harts_in result) }
-    ensures alone { ActsAlone (harts_of table.entry.now) (crew_of seat) (crew_of result) (λ _. Unit {0}) (change_at by (λ _. started)) }
+    ensures alone { ActsAlone (harts_of table.entry.now) (hart_view_of_seat seat) (hart_view_of_seat result) (λ _. Unit {0}) (change_at by (λ _. started)) }
 {
     let mut seat = seat;
     hsm_steps::wake::<Brand>(table, &mut seat, by);
@@ -155,7 +155,7 @@ pub fn quiet(table: &HartTable, seat: HartSeat, by: HartId) -> (HartSeat, bool)
     ensures still { stands by Quiet (harts_in seat) → result.1 ≡ true }
     ensures others { KeepsOthers by (harts_in seat) (harts_in result.0) }
     ensures steps { (found : ℕ) × (IsTrue result.1 ↔ ((t : ℕ) → t < harts_of table.entry.now → t ≢ by → bit_at found t ≡ 0)) × HasNoted by (after_quiet (harts_of table.entry.now) by found) (Quieted found) (harts_in seat) (harts_in result.0) }
-    ensures alone { ActsAlone (harts_of table.entry.now) (crew_of seat) (crew_of result.0) (λ states. IsTrue result.1 ↔ ((t : ℕ) → t < harts_of table.entry.now → t ≢ by → states t ≡ stopped)) (λ states. states) }
+    ensures alone { ActsAlone (harts_of table.entry.now) (hart_view_of_seat seat) (hart_view_of_seat result.0) (λ states. IsTrue result.1 ↔ ((t : ℕ) → t < harts_of table.entry.now → t ≢ by → states t ≡ stopped)) (λ states. states) }
 {
     let mut seat = seat;
     let found = hsm_steps::quiet::<Brand>(table, &mut seat, by);
@@ -172,7 +172,7 @@ pub fn unquiet(table: &HartTable, seat: HartSeat, by: HartId) -> HartSeat
     ensures stands { stands by Running (harts_in result) }
     ensures others { KeepsOthers by (harts_in seat) (harts_in result) }
     ensures steps { (found : ℕ) × HasNoted by Running (Unquieted found) (harts_in seat) (harts_in result) }
-    ensures alone { ActsAlone (harts_of table.entry.now) (crew_of seat) (crew_of result) (λ _. Unit {0}) (λ states. states) }
+    ensures alone { ActsAlone (harts_of table.entry.now) (hart_view_of_seat seat) (hart_view_of_seat result) (λ _. Unit {0}) (λ states. states) }
 {
     let mut seat = seat;
     hsm_steps::unquiet::<Brand>(table, &mut seat, by);

@@ -19,8 +19,8 @@ abbrev pub harts_of : HartTable → ℕ
 harts_of t = t.table.shared.key.harts
 
 -- what the seat knows
-abbrev pub crew_of : Seat (Unit {0}) HartSeatView → HartSeatView
-crew_of s = s.me.0
+abbrev pub hart_view_of_seat : Seat (Unit {0}) HartSeatView → HartSeatView
+hart_view_of_seat s = s.me.0
 
 -- the harts of the seat, each with its stage and its steps
 abbrev pub harts_in : Seat (Unit {0}) HartSeatView → List HartView

@@ -5,7 +5,7 @@ ghost use Rattle.hsm_rule.specs.Rule.{stands};
 ghost use Rattle.hsm_rule.specs.States.{HartState, IsSettled, Shows};
 ghost use Rattle.hsm_words.specs.declared.view.Stage.TheVariants.{Out, Running};
 ghost use Rattle.hsm_steps.specs.Told.{opening_states, opening_crew};
-ghost use Rattle.hsm_steps.specs.Seating.{IsSeatOf, harts_of, crew_of, harts_in, IsOfAll, AreInOrder, StandAsIn, StandTogether, AreSeatsOf, harts_by_seat, all_harts, one_by_one};
+ghost use Rattle.hsm_steps.specs.Seating.{IsSeatOf, harts_of, hart_view_of_seat, harts_in, IsOfAll, AreInOrder, StandAsIn, StandTogether, AreSeatsOf, harts_by_seat, all_harts, one_by_one};
 ghost use Rattle.arrayvec.specs.ArrayVec.{array_vec_len};
 ghost use Rattle.board_model.specs.declared.refusal.Refusal.TheVariants.{Memory};
 
@@ -27,7 +27,7 @@ impl SeatTable for HartTable {
 
     ghost count = { harts_of };
 
-    ghost known = { crew_of };
+    ghost known = { hart_view_of_seat };
 
     fn harts(&self) -> u32 {
         ((self.table.word_count() - 1) / 2) as u32
@@ -57,10 +57,10 @@ impl HartTable {
         requires { started < shape.harts }
         ensures seat { IfOk result (λ t. IsSeatOf t.0 t.1) }
         ensures harts { IfOk result (λ t. harts_of t.0 ≡ shape.harts) }
-        ensures opening { IfOk result (λ t. crew_of t.1 ≡ opening_crew shape.harts started) }
+        ensures opening { IfOk result (λ t. hart_view_of_seat t.1 ≡ opening_crew shape.harts started) }
         ensures stands { IfOk result (λ t. (h : ℕ) → h < shape.harts → stands h (if h == started then Running else Out) (harts_in t.1)) }
         ensures all { IfOk result (λ t. IsOfAll t.0 t.1) }
-        ensures shows { IfOk result (λ t. Shows shape.harts (crew_of t.1) (opening_states started)) }
+        ensures shows { IfOk result (λ t. Shows shape.harts (hart_view_of_seat t.1) (opening_states started)) }
         ensures memory { IfErr result (λ e. e ≡ Memory) }
     {
         let hart = started.number();
@@ -97,7 +97,7 @@ impl HartTable {
         ensures harts { harts_in result ≡ all_harts seats.items }
         ensures all { AreInOrder seats.items → array_vec_len seats ≡ harts_of self.now → IsOfAll self.now result }
         ensures stands { AreInOrder seats.items → StandTogether seats.items (harts_in result) }
-        ensures shows { ((h : ℕ) → h < harts_of self.now → IsSettled h (harts_in result)) → (states : ℕ → HartState) × Shows (harts_of self.now) (crew_of result) states }
+        ensures shows { ((h : ℕ) → h < harts_of self.now → IsSettled h (harts_in result)) → (states : ℕ → HartState) × Shows (harts_of self.now) (hart_view_of_seat result) states }
     {
         let mut whole = tallies::join(self, seats);
         see::<Brand>(self, &mut whole);

@@ -5,7 +5,7 @@ ghost use Rattle.std.specs.Int.{bit_at};
 ghost use Rattle.hsm_rule.specs.Rule.{IsSite, HasNoted, stands};
 ghost use Rattle.hsm_rule.specs.States.{HartState, IsStarted, IsSettled, Shows, Tells};
 ghost use Rattle.hsm_steps.specs.Told.{after_claim, after_look, Claims, PutsAddress, PutsOpaque, Arms, IsFresh, Looks, PollsOutside, ReadsAddress, ReadsOpaque, IsOpenStart, Enters, Stops, Suspends, Wakes, Quiets, Unquiets, Sees, is_alone, after_quiet};
-ghost use Rattle.hsm_steps.specs.Seating.{IsSeatOf, harts_of, crew_of, harts_in};
+ghost use Rattle.hsm_steps.specs.Seating.{IsSeatOf, harts_of, hart_view_of_seat, harts_in};
 ghost use Rattle.hsm_words.specs.declared.view.Stage.TheVariants.{Out, Ready, Addressed, Loaded, Running, Claiming, Half, Stored, Asleep, Quiet};
 ghost use Rattle.hsm_words.specs.declared.view.Action.TheVariants.{Claimed, Wrote, Armed, Looked, Read, Entered, Stopped, Suspended, Woke, Quieted, Unquieted};
 
@@ -140,8 +140,8 @@ pub(crate) fn see<J: Acting>(table: &HartTable, seat: &mut HartSeat)
     requires named { J.harts ≡ harts_of table.now }
     requires seat { IsSeatOf table.now seat.old }
     ensures seat { IsSeatOf table.now seat.new }
-    ensures same { crew_of seat.new ≡ crew_of seat.old }
-    ensures shows { ((h : ℕ) → h < harts_of table.now → IsSettled h (harts_in seat.old)) → (states : ℕ → HartState) × Shows (harts_of table.now) (crew_of seat.old) states }
+    ensures same { hart_view_of_seat seat.new ≡ hart_view_of_seat seat.old }
+    ensures shows { ((h : ℕ) → h < harts_of table.now → IsSettled h (harts_in seat.old)) → (states : ℕ → HartState) × Shows (harts_of table.now) (hart_view_of_seat seat.old) states }
 {
     table.table.shared.load::<SeeStep<J>>(seat, 0);
 }
@@ -163,7 +163,7 @@ pub fn claim<J: Acting>(
     requires site { IsSite address }
     ensures seat { IsSeatOf table.now seat.new }
     ensures told { HasNoted by (after_claim target address opaque result) (Claimed target address opaque result) (harts_in seat.old) (harts_in seat.new) }
-    ensures tells { Tells (harts_of table.now) (crew_of seat.old) result }
+    ensures tells { Tells (harts_of table.now) (hart_view_of_seat seat.old) result }
 {
     let bit = target.number();
     table
@@ -246,7 +246,7 @@ pub fn look<J: Acting>(table: &HartTable, seat: &mut HartSeat, by: HartId) -> u6
     ensures seat { IsSeatOf table.now seat.new }
     ensures told { HasNoted by J.stage (Looked result) (harts_in seat.old) (harts_in seat.new) }
     ensures fresh { IsFresh result (harts_in seat.old) }
-    ensures tells { Tells (harts_of table.now) (crew_of seat.old) result }
+    ensures tells { Tells (harts_of table.now) (hart_view_of_seat seat.old) result }
 {
     table.table.shared.load::<LookStep<J>>(seat, 0)
 }
@@ -258,7 +258,7 @@ pub fn poll<J: Acting>(table: &HartTable, seat: &mut HartSeat, by: HartId) -> u6
     requires acts { stands by Out (harts_in seat.old) }
     ensures seat { IsSeatOf table.now seat.new }
     ensures told { HasNoted by (after_look by result) (Looked result) (harts_in seat.old) (harts_in seat.new) }
-    ensures tells { Tells (harts_of table.now) (crew_of seat.old) result }
+    ensures tells { Tells (harts_of table.now) (hart_view_of_seat seat.old) result }
 {
     table.table.shared.load::<LookOutStep<J>>(seat, 0)
 }
@@ -309,7 +309,7 @@ pub fn enter<J: Acting>(
     requires by { by < harts_of table.now }
     ensures seat { IsSeatOf table.now seat.new }
     ensures told { HasNoted by Running (Entered by address opaque) (harts_in seat.old) (harts_in seat.new) }
-    ensures open { IsOpenStart (harts_of table.now) (crew_of seat.old) by address opaque }
+    ensures open { IsOpenStart (harts_of table.now) (hart_view_of_seat seat.old) by address opaque }
 {
     let bit = 16 + by.number();
     table
@@ -377,7 +377,7 @@ pub fn quiet<J: Acting>(table: &HartTable, seat: &mut HartSeat, by: HartId) -> u
     ensures told { HasNoted by (after_quiet (harts_of table.now) by result) (Quieted result) (harts_in seat.old) (harts_in seat.new) }
     ensures alone { IsTrue (is_alone (harts_of table.now) by result) ↔ ((t : ℕ) → t < harts_of table.now → t ≢ by → bit_at result t ≡ 0) }
     ensures still { stands by Quiet (harts_in seat.old) → is_alone (harts_of table.now) by result ≡ true }
-    ensures tells { Tells (harts_of table.now) (crew_of seat.old) result }
+    ensures tells { Tells (harts_of table.now) (hart_view_of_seat seat.old) result }
 {
     table.table.shared.load::<QuietStep<J>>(seat, 0)
 }

@@ -35,23 +35,23 @@ given_then h s harts after kept gives = record { seats = gives.seats; others = k
 abbrev pub LooksAlone : ℕ → HartSeatView → HartSeatView → ℕ → Code → Type 0
 LooksAlone n before after h name = ActsAlone n before after (λ states. name ≡ named (states h)) (λ states. states)
 
-looked : (n : ℕ) (size : Size) (s : Seats) (harts : Seat (Unit {0}) HartSeatView) (by h : ℕ) (name : Code) → n ≡ size.harts → by ≡ h → LooksAlone n (harts_known s) (seating.crew_of harts) by name → (t : TableState) → IsTable size.harts s t
+looked : (n : ℕ) (size : Size) (s : Seats) (harts : Seat (Unit {0}) HartSeatView) (by h : ℕ) (name : Code) → n ≡ size.harts → by ≡ h → LooksAlone n (harts_known s) (seating.hart_view_of_seat harts) by name → (t : TableState) → IsTable size.harts s t
     → (name ≡ named (listed t.states h)) × IsTable size.harts (with_harts s harts) t
 looked n size s harts by h name e f acts t is =
-    let own : LooksAlone size.harts (harts_known s) (seating.crew_of harts) h name = subst (λ (k : ℕ). LooksAlone size.harts (harts_known s) (seating.crew_of harts) k name) f (subst (λ (k : ℕ). LooksAlone k (harts_known s) (seating.crew_of harts) by name) e acts) in
+    let own : LooksAlone size.harts (harts_known s) (seating.hart_view_of_seat harts) h name = subst (λ (k : ℕ). LooksAlone size.harts (harts_known s) (seating.hart_view_of_seat harts) k name) f (subst (λ (k : ℕ). LooksAlone k (harts_known s) (seating.hart_view_of_seat harts) by name) e acts) in
     let a = own (listed t.states) is.0.1 in
     (a.0, ((is.0.0, a.1), is.1))
 
 module _ (size : Size) (n by : ℕ) (s u : State) (m : List ℕ) where
   -- a hart that is named otherwise makes no call
-  pub not_made_alone : (seats : Seats) (harts : Seat (Unit {0}) HartSeatView) (name : Code) → n ≡ size.harts → by ≡ s.id → name ≢ codes.Started → LooksAlone n (harts_known seats) (seating.crew_of harts) by name
+  pub not_made_alone : (seats : Seats) (harts : Seat (Unit {0}) HartSeatView) (name : Code) → n ≡ size.harts → by ≡ s.id → name ≢ codes.Started → LooksAlone n (harts_known seats) (seating.hart_view_of_seat harts) by name
       → CallsAlone size s u s m seats (with_harts seats harts) NotStarted
   not_made_alone seats harts name e f ne acts t is =
       let a = looked n size seats harts by s.id name e f acts t is in
       (t, record { made = λ at. absurd (ne (a.0 ∙ ap named at)); not_started = λ _. (refl, refl) }, a.1)
 
   -- one that is STARTED stands at the ECALL, and is answered
-  pub made_alone : (v t : State) (seats : Seats) (harts : Seat (Unit {0}) HartSeatView) (after : Seats) (name : Code) (word : Turned) → n ≡ size.harts → by ≡ s.id → name ≡ codes.Started → v ≡ u → LooksAlone n (harts_known seats) (seating.crew_of harts) by name
+  pub made_alone : (v t : State) (seats : Seats) (harts : Seat (Unit {0}) HartSeatView) (after : Seats) (name : Code) (word : Turned) → n ≡ size.harts → by ≡ s.id → name ≡ codes.Started → v ≡ u → LooksAlone n (harts_known seats) (seating.hart_view_of_seat harts) by name
       → FinishesAlone size Ecall v t (with_harts seats harts) after word → CallsAlone size s u t m seats after (Made word)
   made_alone v t seats harts after name word e f at same acts finishes x is =
       let a = looked n size seats harts by s.id name e f acts x is in

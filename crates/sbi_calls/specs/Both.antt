@@ -37,7 +37,7 @@ abbrev pub views : Seats → List HartView
 views s = harts.harts_in s.harts
 
 abbrev pub harts_known : Seats → HartSeatView
-harts_known s = harts.crew_of s.harts
+harts_known s = harts.hart_view_of_seat s.harts
 
 abbrev pub pending_views : Seats → List PendingView
 pending_views s = pairs.pending_views_in s.pending

@@ -4,7 +4,7 @@ ghost use Rattle.std.specs.Prelude.{◌≡◌, ◌<◌, ℕ};
 ghost use Rattle.hsm_words.specs.declared.view.Stage.TheVariants.{Running};
 ghost use Rattle.hsm_rule.specs.Rule.{stands};
 ghost use Rattle.hsm.specs.Calls.{KeepsOthers, ActsAlone};
-ghost use Rattle.hsm_steps.specs.Seating.{IsSeatOf, harts_of, crew_of, harts_in};
+ghost use Rattle.hsm_steps.specs.Seating.{IsSeatOf, harts_of, hart_view_of_seat, harts_in};
 ghost use Rattle.susp.specs.Checks.{IsChecked};
 ghost use Rattle.susp.specs.Sleeps.{seat_after, error_after, stage_after, Sleeps, SleepsAlone};
 
@@ -70,7 +70,7 @@ pub fn suspend<D: Disk + Drop, C: Crew>(
     ensures stands { stands by (stage_after (error_after result)) (harts_in (seat_after result)) }
     ensures others { KeepsOthers by (harts_in seat) (harts_in (seat_after result)) }
     ensures sleeps { Sleeps (harts_of table.entry.now) by kind address opaque ram.now (harts_in seat) store.old (error_after result) (harts_in (seat_after result)) store.new }
-    ensures alone { ActsAlone (harts_of table.entry.now) (crew_of seat) (crew_of (seat_after result))
+    ensures alone { ActsAlone (harts_of table.entry.now) (hart_view_of_seat seat) (hart_view_of_seat (seat_after result))
         (λ states. SleepsAlone (harts_of table.entry.now) by kind address opaque ram.now states store.old (error_after result) store.new) (λ states. states) }
 {
     let site = match site_of(&store.shape(), kind, address) {

@@ -1,7 +1,7 @@
 //! Races with a known answer: what one hart does to another can't fail, while others do the same beside them.
 
 ghost use Rattle.std.specs.Prelude.{◌≡◌, ◌≢◌, ℕ, ◌+◌, ◌<◌, IfSome};
-ghost use Rattle.hsm_steps.specs.Seating.{IsSeatOf as IsHartSeatOf, harts_of as harts_in_table, crew_of as hart_crew_of};
+ghost use Rattle.hsm_steps.specs.Seating.{IsSeatOf as IsHartSeatOf, harts_of as harts_in_table, hart_view_of_seat as hart_crew_of};
 ghost use Rattle.hsm_steps.specs.Told.{opening_crew as opening_harts};
 ghost use Rattle.ipi.specs.Ledger.{opening_crew};
 ghost use Rattle.ipi.specs.Pairs.{Sits};
