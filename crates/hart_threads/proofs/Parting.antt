@@ -32,7 +32,7 @@ pub record AreLeft (t : Tables) (left : List State) (starts : List (Option (Seat
   pub starts_are : harts.AreSeatsOf t.harts starts
   pub raises_are : pairs.AreSeatsOf t.pending raises
   pub rest : (i : ℕ) (s : Seat (Unit {0}) HartSeatView) → slice_get starts i ≡ Some (Some s) → RestsAt i (harts.harts_in s)
-  pub sit : (i : ℕ) (s : Seat (Unit {0}) PairCrew) → slice_get raises i ≡ Some (Some s) → Sits i (pairs.crew_of s)
+  pub sit : (i : ℕ) (s : Seat (Unit {0}) PairCrew) → slice_get raises i ≡ Some (Some s) → Sits i (pairs.pending_view_of_seat s)
 
 -- ---- the last of a list
 pub length_last : {A : Type 0} (xs : List A) (x : A) → length (xs ++ x ∷ []) ≡ length xs + 1

@@ -17,8 +17,8 @@ abbrev pub harts_of : PendingTable → ℕ
 harts_of t = t.table.shared.key
 
 -- what the seat knows
-abbrev pub crew_of : Seat (Unit {0}) PendingSeatView → PendingSeatView
-crew_of s = s.me.0
+abbrev pub pending_view_of_seat : Seat (Unit {0}) PendingSeatView → PendingSeatView
+pending_view_of_seat s = s.me.0
 
 -- the harts of the seat, each with its steps
 abbrev pub pending_views_in : Seat (Unit {0}) PendingSeatView → List PendingView
@@ -34,7 +34,7 @@ AreInOrder = AreByNumber pending_views_in (λ d. d.hart)
 
 -- and has it once
 abbrev pub AreSeated : List (Option (Seat (Unit {0}) PendingSeatView)) → Type 0
-AreSeated ss = (i : ℕ) (s : Seat (Unit {0}) PendingSeatView) → slice_get ss i ≡ Some (Some s) → seats i (crew_of s) ≡ 1
+AreSeated ss = (i : ℕ) (s : Seat (Unit {0}) PendingSeatView) → slice_get ss i ≡ Some (Some s) → seats i (pending_view_of_seat s) ≡ 1
 
 -- every place of a list has a seat of the table; one that was taken out leaves None
 abbrev pub AreSeatsOf : PendingTable → List (Option (Seat (Unit {0}) PendingSeatView)) → Type 0

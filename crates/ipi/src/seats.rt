@@ -5,7 +5,7 @@ ghost use Rattle.arrayvec.specs.ArrayVec.{array_vec_len};
 ghost use Rattle.ipi.specs.Ledger.{opening_crew};
 ghost use Rattle.ipi.specs.Pairs.{Sits, Shows};
 ghost use Rattle.ipi.specs.Seen.{pair_in};
-ghost use Rattle.ipi.specs.Seating.{IsSeatOf, harts_of, crew_of, pending_views_in, IsOfAll, AreInOrder, AreSeated, AreSeatsOf, pending_views_by_seat, all_pending_views, one_by_one};
+ghost use Rattle.ipi.specs.Seating.{IsSeatOf, harts_of, pending_view_of_seat, pending_views_in, IsOfAll, AreInOrder, AreSeated, AreSeatsOf, pending_views_by_seat, all_pending_views, one_by_one};
 ghost use Rattle.board_model.specs.declared.refusal.Refusal.TheVariants.{Memory};
 
 use crate::table::{IpiSeat, PendingTable, Seats};
@@ -24,7 +24,7 @@ impl SeatTable for PendingTable {
 
     ghost count = { harts_of };
 
-    ghost known = { crew_of };
+    ghost known = { pending_view_of_seat };
 
     fn harts(&self) -> u32 {
         self.table.word_count() as u32
@@ -49,10 +49,10 @@ impl PendingTable {
     pub fn new(alloc: Global, shape: Shape) -> Result<(PendingTable, IpiSeat), Refusal>
         ensures seat { IfOk result (λ t. IsSeatOf t.0 t.1) }
         ensures harts { IfOk result (λ t. harts_of t.0 ≡ shape.harts) }
-        ensures opening { IfOk result (λ t. crew_of t.1 ≡ opening_crew shape.harts) }
+        ensures opening { IfOk result (λ t. pending_view_of_seat t.1 ≡ opening_crew shape.harts) }
         ensures all { IfOk result (λ t. IsOfAll t.0 t.1) }
-        ensures sits { IfOk result (λ t. (h : ℕ) → h < shape.harts → Sits h (crew_of t.1)) }
-        ensures shows { IfOk result (λ t. Shows shape.harts (crew_of t.1) (λ _ _. false)) }
+        ensures sits { IfOk result (λ t. (h : ℕ) → h < shape.harts → Sits h (pending_view_of_seat t.1)) }
+        ensures shows { IfOk result (λ t. Shows shape.harts (pending_view_of_seat t.1) (λ _ _. false)) }
         ensures memory { IfErr result (λ e. e ≡ Memory) }
     {
         let harts = shape.harts();
@@ -82,7 +82,7 @@ impl PendingTable {
         ensures seat { IsSeatOf self.now result }
         ensures harts { pending_views_in result ≡ all_pending_views seats.items }
         ensures all { AreInOrder seats.items → array_vec_len seats ≡ harts_of self.now → IsOfAll self.now result }
-        ensures shows { AreInOrder seats.items → array_vec_len seats ≡ harts_of self.now → Shows (harts_of self.now) (crew_of result) (pair_in (crew_of result)) }
+        ensures shows { AreInOrder seats.items → array_vec_len seats ≡ harts_of self.now → Shows (harts_of self.now) (pending_view_of_seat result) (pair_in (pending_view_of_seat result)) }
     {
         tallies::join(self, seats)
     }

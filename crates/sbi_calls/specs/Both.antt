@@ -43,7 +43,7 @@ abbrev pub pending_views : Seats → List PendingView
 pending_views s = pairs.pending_views_in s.pending
 
 abbrev pub pair_crew : Seats → PendingSeatView
-pair_crew s = pairs.crew_of s.pending
+pair_crew s = pairs.pending_view_of_seat s.pending
 
 pub record Known : Type 0 where
   pub harts : List HartView

@@ -2,7 +2,7 @@
 
 ghost use Rattle.std.specs.Prelude.{◌≡◌, ◌<◌, ◌≤◌, ℕ, Ok, List, Bool};
 ghost use Rattle.ipi.specs.Pairs.{Sits, SameHarts};
-ghost use Rattle.ipi.specs.Seating.{IsSeatOf, harts_of, crew_of, pending_views_in};
+ghost use Rattle.ipi.specs.Seating.{IsSeatOf, harts_of, pending_view_of_seat, pending_views_in};
 ghost use Rattle.ipi.specs.Seen.{ArePairs};
 ghost use Rattle.hsm_words.specs.declared.view.Stage.TheVariants.{Running};
 ghost use Rattle.sbi_calls.specs.declared.requests.Request.TheVariants.{Send};
@@ -25,13 +25,13 @@ fn send_one(
     target: HartId,
 ) -> IpiSeat
     requires seat { IsSeatOf tables.now.pending pending }
-    requires sits { Sits by (crew_of pending) }
+    requires sits { Sits by (pending_view_of_seat pending) }
     requires by { by < harts_of tables.now.pending }
     requires target { target < harts_of tables.now.pending }
     ensures seat { IsSeatOf tables.entry.now.pending result }
-    ensures same { SameHarts (crew_of pending) (crew_of result) }
+    ensures same { SameHarts (pending_view_of_seat pending) (pending_view_of_seat result) }
     ensures sends { SendsTo by targets target (pending_views_in pending) (pending_views_in result) }
-    ensures alone { (pairs : List (List Bool)) → ArePairs (harts_of tables.entry.now.pending) (crew_of pending) pairs → ArePairs (harts_of tables.entry.now.pending) (crew_of result) (pairs_to by targets target pairs) }
+    ensures alone { (pairs : List (List Bool)) → ArePairs (harts_of tables.entry.now.pending) (pending_view_of_seat pending) pairs → ArePairs (harts_of tables.entry.now.pending) (pending_view_of_seat result) (pairs_to by targets target pairs) }
 {
     ipi::one_set();
     if targets.contains(target) {
@@ -45,12 +45,12 @@ fn send_one(
 /// Raises an interrupt of the acting hart for each of the targets, one step for each, in rising order.
 fn send_all(pending: IpiSeat, tables: &Tables, by: HartId, targets: HartSet) -> IpiSeat
     requires seat { IsSeatOf tables.now.pending pending }
-    requires sits { Sits by (crew_of pending) }
+    requires sits { Sits by (pending_view_of_seat pending) }
     requires by { by < harts_of tables.now.pending }
     ensures seat { IsSeatOf tables.entry.now.pending result }
-    ensures same { SameHarts (crew_of pending) (crew_of result) }
+    ensures same { SameHarts (pending_view_of_seat pending) (pending_view_of_seat result) }
     ensures sends { Sends by targets (harts_of tables.entry.now.pending) (pending_views_in pending) (pending_views_in result) }
-    ensures alone { (pairs : List (List Bool)) → ArePairs (harts_of tables.entry.now.pending) (crew_of pending) pairs → ArePairs (harts_of tables.entry.now.pending) (crew_of result) (pairs_sent by targets pairs) }
+    ensures alone { (pairs : List (List Bool)) → ArePairs (harts_of tables.entry.now.pending) (pending_view_of_seat pending) pairs → ArePairs (harts_of tables.entry.now.pending) (pending_view_of_seat result) (pairs_sent by targets pairs) }
 {
     let mut pending = pending;
     let count = u64::from(tables.pending.harts());

@@ -3,7 +3,7 @@
 ghost use Rattle.std.specs.Prelude.{◌≡◌, ℕ, ◌<◌, ◌≤◌, ◌+◌, length};
 ghost use denote.Param.Send.{IsSync};
 ghost use Rattle.ipi.specs.Pairs.{Sits, SameHarts};
-ghost use Rattle.ipi.specs.Seating.{IsSeatOf, harts_of, crew_of, pending_views_in};
+ghost use Rattle.ipi.specs.Seating.{IsSeatOf, harts_of, pending_view_of_seat, pending_views_in};
 ghost use Rattle.table_tests.specs.Crowd.{AreFrom};
 
 use board_model::HartId;
@@ -39,10 +39,10 @@ pub fn count(senders: SenderSet) -> u64 {
 /// One hart raises for every hart in turn, and takes what is pending for itself.
 pub fn one_hart(table: &PendingTable, seat: IpiSeat, by: HartId, rounds: u64) -> (IpiSeat, Sums)
     requires seat { IsSeatOf table.now seat }
-    requires acts { Sits by (crew_of seat) }
+    requires acts { Sits by (pending_view_of_seat seat) }
     requires by { by < harts_of table.now }
     ensures seat { IsSeatOf table.entry.now result.0 }
-    ensures harts { SameHarts (crew_of seat) (crew_of result.0) }
+    ensures harts { SameHarts (pending_view_of_seat seat) (pending_view_of_seat result.0) }
 {
     let mut seat = seat;
     let mut sums = Sums {
@@ -75,7 +75,7 @@ pub fn all_harts<R: Threads + Sync>(
     requires seat { IsSeatOf table.now seat }
     requires row { AreFrom first (pending_views_in seat) × (length (pending_views_in seat) ≡ harts) × (0 < harts) × (first + harts ≤ harts_of table.now) × (first + harts ≤ 8) }
     ensures seat { IsSeatOf table.entry.now result.0 }
-    ensures harts { SameHarts (crew_of seat) (crew_of result.0) }
+    ensures harts { SameHarts (pending_view_of_seat seat) (pending_view_of_seat result.0) }
 {
     let by = HartId::new(first).unwrap();
     if harts == 1 {
@@ -85,12 +85,12 @@ pub fn all_harts<R: Threads + Sync>(
     let ((one, sums), (others, more)) = join(
         rt,
         move || -> (IpiSeat, Sums)
-            requires { IsSeatOf table.now one × Sits by (crew_of one) × (by < harts_of table.now) }
-            ensures { IsSeatOf table.entry.now result.0 × SameHarts (crew_of one) (crew_of result.0) }
+            requires { IsSeatOf table.now one × Sits by (pending_view_of_seat one) × (by < harts_of table.now) }
+            ensures { IsSeatOf table.entry.now result.0 × SameHarts (pending_view_of_seat one) (pending_view_of_seat result.0) }
         { one_hart(table, one, by, rounds) },
         move || -> (IpiSeat, Sums)
             requires { IsSync R.row × IsSeatOf table.now others × AreFrom (first + 1) (pending_views_in others) × (length (pending_views_in others) + 1 ≡ harts) × (1 < harts) × (first + harts ≤ harts_of table.now) × (first + harts ≤ 8) }
-            ensures { IsSeatOf table.entry.now result.0 × SameHarts (crew_of others) (crew_of result.0) }
+            ensures { IsSeatOf table.entry.now result.0 × SameHarts (pending_view_of_seat others) (pending_view_of_seat result.0) }
         { all_harts(rt, table, others, first + 1, harts - 1, rounds) },
     );
     (table.join_two(one, others), sums.plus(more))
@@ -99,7 +99,7 @@ pub fn all_harts<R: Threads + Sync>(
 /// The harts of a seat of all harts take what is left, one after another.
 pub fn take_all(table: &PendingTable, seat: IpiSeat) -> (IpiSeat, u64)
     requires seat { IsSeatOf table.now seat }
-    requires all { (h : ℕ) → h < harts_of table.now → Sits h (crew_of seat) }
+    requires all { (h : ℕ) → h < harts_of table.now → Sits h (pending_view_of_seat seat) }
 {
     let mut seat = seat;
     let mut taken = 0u64;

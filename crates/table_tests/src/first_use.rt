@@ -7,7 +7,7 @@ ghost use Rattle.hsm_steps.specs.Seating.{IsSeatOf, harts_of, hart_view_of_seat,
 ghost use Rattle.hsm_steps.specs.Told.{opening_crew};
 ghost use Rattle.ipi.specs.Ledger.{opening_crew as opening_pairs};
 ghost use Rattle.ipi.specs.Pairs.{Sits};
-ghost use Rattle.ipi.specs.Seating.{IsSeatOf as IsPairSeatOf, harts_of as targets_of, crew_of as pairs_of};
+ghost use Rattle.ipi.specs.Seating.{IsSeatOf as IsPairSeatOf, harts_of as targets_of, pending_view_of_seat as pairs_of};
 
 use board_model::{Addr, HartId};
 use hsm::{HartSeat, HartTable, SeatTable, State, start, status, try_enter};

@@ -5,7 +5,7 @@ ghost use Rattle.hsm_steps.specs.Seating.{IsSeatOf as IsHartSeatOf, harts_of as 
 ghost use Rattle.hsm_steps.specs.Told.{opening_crew as opening_harts};
 ghost use Rattle.ipi.specs.Ledger.{opening_crew};
 ghost use Rattle.ipi.specs.Pairs.{Sits};
-ghost use Rattle.ipi.specs.Seating.{IsSeatOf, harts_of, crew_of};
+ghost use Rattle.ipi.specs.Seating.{IsSeatOf, harts_of, pending_view_of_seat};
 ghost use Rattle.table_tests.specs.Known.{IsTeam};
 
 use board_model::{Addr, HartId};
@@ -23,7 +23,7 @@ fn hart(number: u64) -> HartId
 /// Hart 0 raises for hart 2 again and again.
 fn noise(table: &PendingTable, seat: IpiSeat, rounds: u64) -> IpiSeat
     requires seat { IsSeatOf table.now seat }
-    requires acts { Sits 0 (crew_of seat) }
+    requires acts { Sits 0 (pending_view_of_seat seat) }
     requires harts { 2 < harts_of table.now }
     ensures { IsSeatOf table.entry.now result }
 {
@@ -39,8 +39,8 @@ fn noise(table: &PendingTable, seat: IpiSeat, rounds: u64) -> IpiSeat
 /// How often it was not so.
 fn pairs(table: &PendingTable, seat: IpiSeat, rounds: u64) -> (IpiSeat, u64)
     requires seat { IsSeatOf table.now seat }
-    requires one { Sits 1 (crew_of seat) }
-    requires two { Sits 2 (crew_of seat) }
+    requires one { Sits 1 (pending_view_of_seat seat) }
+    requires two { Sits 2 (pending_view_of_seat seat) }
     requires harts { 2 < harts_of table.now }
     ensures { IsSeatOf table.entry.now result.0 }
 {
@@ -61,18 +61,18 @@ fn pairs(table: &PendingTable, seat: IpiSeat, rounds: u64) -> (IpiSeat, u64)
 /// How many interrupts of hart 1 for hart 2 were lost, while hart 0 raises for it too.
 pub fn lost<R: Threads + Sync>(rt: &R, table: &PendingTable, whole: IpiSeat, rounds: u64) -> u64
     requires seat { IsSeatOf table.now whole }
-    requires opening { crew_of whole ≡ opening_crew 3 }
+    requires opening { pending_view_of_seat whole ≡ opening_crew 3 }
     requires harts { harts_of table.now ≡ 3 }
 {
     let (zero, others) = table.split_first(whole);
     let (_zero, (_others, lost)) = join(
         rt,
         move || -> IpiSeat
-            requires { IsSeatOf table.now zero × Sits 0 (crew_of zero) × (2 < harts_of table.now) }
+            requires { IsSeatOf table.now zero × Sits 0 (pending_view_of_seat zero) × (2 < harts_of table.now) }
             ensures { IsSeatOf table.entry.now result }
         { noise(table, zero, rounds) },
         move || -> (IpiSeat, u64)
-            requires { IsSeatOf table.now others × Sits 1 (crew_of others) × Sits 2 (crew_of others) × (2 < harts_of table.now) }
+            requires { IsSeatOf table.now others × Sits 1 (pending_view_of_seat others) × Sits 2 (pending_view_of_seat others) × (2 < harts_of table.now) }
             ensures { IsSeatOf table.entry.now result.0 }
         { pairs(table, others, rounds) },
     );

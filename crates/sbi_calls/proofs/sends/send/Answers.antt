@@ -1,5 +1,5 @@
 use Rattle.std.proofs.Common.{◌<◌, ℕ, List, Bool, refl, sym, subst}
-use Rattle.ipi.specs.Seating.{crew_of, pending_views_in}
+use Rattle.ipi.specs.Seating.{pending_view_of_seat, pending_views_in}
 use Rattle.ipi.specs.Seen.{ArePairs}
 use Rattle.sbi_calls.specs.Answers.{pairs_sent}
 use Rattle.sbi_calls.specs.Steps.{Sends}
@@ -14,5 +14,5 @@ returns-clause-does c =
 
 pub returns-clause-alone : goal.returns-clause-alone
 returns-clause-alone c = λ t are.
-    let sent = subst (λ (n : ℕ). (pairs : List (List Bool)) → ArePairs n (crew_of c.args.seats.pending) pairs → ArePairs n (crew_of c.send_all-pending.result) (pairs_sent c.args.by c.args.targets pairs)) c.args.tables.now.same c.send_all-pending.ensures.alone in
+    let sent = subst (λ (n : ℕ). (pairs : List (List Bool)) → ArePairs n (pending_view_of_seat c.args.seats.pending) pairs → ArePairs n (pending_view_of_seat c.send_all-pending.result) (pairs_sent c.args.by c.args.targets pairs)) c.args.tables.now.same c.send_all-pending.ensures.alone in
     (refl, (are.0, sent t.pairs are.1))
