@@ -101,8 +101,8 @@ abbrev pub opening_from : ℕ → ℕ → ℕ → List HartView
 opening_from lone first zero = []
 opening_from lone first (suc n) = hart_view first (if first == lone then Running else Out) [] [] ∷ opening_from lone (suc first) n
 
-abbrev pub opening_crew : ℕ → ℕ → HartSeatView
-opening_crew harts lone = hart_seat_view (opening_from lone 0 harts)
+abbrev pub opening_view : ℕ → ℕ → HartSeatView
+opening_view harts lone = hart_seat_view (opening_from lone 0 harts)
 
 -- the states at the start
 abbrev pub opening_states : ℕ → ℕ → HartState

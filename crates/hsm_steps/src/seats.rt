@@ -4,7 +4,7 @@ ghost use Rattle.std.specs.Prelude.{◌≡◌, ◌≢◌, ℕ, ◌<◌, ◌≤�
 ghost use Rattle.hsm_rule.specs.Rule.{stands};
 ghost use Rattle.hsm_rule.specs.States.{HartState, IsSettled, Shows};
 ghost use Rattle.hsm_words.specs.declared.view.Stage.TheVariants.{Out, Running};
-ghost use Rattle.hsm_steps.specs.Told.{opening_states, opening_crew};
+ghost use Rattle.hsm_steps.specs.Told.{opening_states, opening_view};
 ghost use Rattle.hsm_steps.specs.Seating.{IsSeatOf, harts_of, hart_view_of_seat, harts_in, IsOfAll, AreInOrder, StandAsIn, StandTogether, AreSeatsOf, harts_by_seat, all_harts, one_by_one};
 ghost use Rattle.arrayvec.specs.ArrayVec.{array_vec_len};
 ghost use Rattle.board_model.specs.declared.refusal.Refusal.TheVariants.{Memory};
@@ -57,7 +57,7 @@ impl HartTable {
         requires { started < shape.harts }
         ensures seat { IfOk result (λ t. IsSeatOf t.0 t.1) }
         ensures harts { IfOk result (λ t. harts_of t.0 ≡ shape.harts) }
-        ensures opening { IfOk result (λ t. hart_view_of_seat t.1 ≡ opening_crew shape.harts started) }
+        ensures opening { IfOk result (λ t. hart_view_of_seat t.1 ≡ opening_view shape.harts started) }
         ensures stands { IfOk result (λ t. (h : ℕ) → h < shape.harts → stands h (if h == started then Running else Out) (harts_in t.1)) }
         ensures all { IfOk result (λ t. IsOfAll t.0 t.1) }
         ensures shows { IfOk result (λ t. Shows shape.harts (hart_view_of_seat t.1) (opening_states started)) }

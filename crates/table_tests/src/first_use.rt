@@ -4,7 +4,7 @@ ghost use Rattle.std.specs.Prelude.{◌≡◌, ◌<◌};
 ghost use Rattle.hsm_rule.specs.Rule.{stands};
 ghost use Rattle.hsm_words.specs.declared.view.Stage.TheVariants.{Out, Running};
 ghost use Rattle.hsm_steps.specs.Seating.{IsSeatOf, harts_of, hart_view_of_seat, harts_in};
-ghost use Rattle.hsm_steps.specs.Told.{opening_crew};
+ghost use Rattle.hsm_steps.specs.Told.{opening_view};
 ghost use Rattle.ipi.specs.Ledger.{opening_crew as opening_pairs};
 ghost use Rattle.ipi.specs.Pairs.{Sits};
 ghost use Rattle.ipi.specs.Seating.{IsSeatOf as IsPairSeatOf, harts_of as targets_of, pending_view_of_seat as pairs_of};
@@ -33,7 +33,7 @@ pub fn first_use<R: Threads + Sync>(
     pending: &PendingTable,
     pairs: IpiSeat,
 ) -> Seen
-    requires harts { (harts_of harts.now ≡ 2) × IsSeatOf harts.now whole × (hart_view_of_seat whole ≡ opening_crew 2 0) }
+    requires harts { (harts_of harts.now ≡ 2) × IsSeatOf harts.now whole × (hart_view_of_seat whole ≡ opening_view 2 0) }
     requires pending { (targets_of pending.now ≡ 2) × IsPairSeatOf pending.now pairs × (pairs_of pairs ≡ opening_pairs 2) }
 {
     let address = Addr::new(0x8000_0000).unwrap();

@@ -3,7 +3,7 @@
 ghost use Rattle.std.specs.Prelude.{◌≡◌, ◌<◌, IfOk, IfSome};
 ghost use Rattle.hsm_rule.specs.Rule.{stands};
 ghost use Rattle.hsm_steps.specs.Seating.{IsSeatOf, harts_of, harts_in, hart_view_of_seat};
-ghost use Rattle.hsm_steps.specs.Told.{opening_crew};
+ghost use Rattle.hsm_steps.specs.Told.{opening_view};
 ghost use Rattle.hsm_words.specs.declared.view.Stage.TheVariants.{Running};
 ghost use Rattle.table_tests.specs.Race.{AreReady};
 
@@ -109,7 +109,7 @@ pub fn rounds<R: Threads + Sync>(rt: &R, table: &HartTable, racers: Racers, coun
 /// Parts the seat of three harts of which the first runs, and has the second started.
 fn seated(table: &HartTable, whole: HartSeat, plans: (Plan, Plan)) -> Option<Racers>
     requires seat { IsSeatOf table.now whole }
-    requires opening { hart_view_of_seat whole ≡ opening_crew 3 0 }
+    requires opening { hart_view_of_seat whole ≡ opening_view 3 0 }
     requires harts { harts_of table.now ≡ 3 }
     ensures { IfSome result (λ r. AreReady table.entry.now r.first r.second r.third) }
 {
