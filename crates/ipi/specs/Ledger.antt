@@ -128,8 +128,8 @@ abbrev pub fresh_from : ℕ → ℕ → List PendingView
 fresh_from first zero = []
 fresh_from first (suc n) = pending_view first [] [] ∷ fresh_from (suc first) n
 
-abbrev pub opening_crew : ℕ → PendingSeatView
-opening_crew harts = pending_seat_view (fresh_from 0 harts)
+abbrev pub opening_pending_view : ℕ → PendingSeatView
+opening_pending_view harts = pending_seat_view (fresh_from 0 harts)
 
 -- the seat has every hart
 abbrev pub IsWhole : ℕ → PendingSeatView → Type 0

@@ -2,7 +2,7 @@
 
 ghost use Rattle.std.specs.Prelude.{◌≡◌, ℕ, ◌<◌, ◌≤◌, false, IfOk, IfErr};
 ghost use Rattle.arrayvec.specs.ArrayVec.{array_vec_len};
-ghost use Rattle.ipi.specs.Ledger.{opening_crew};
+ghost use Rattle.ipi.specs.Ledger.{opening_pending_view};
 ghost use Rattle.ipi.specs.Pairs.{Sits, Shows};
 ghost use Rattle.ipi.specs.Seen.{pair_in};
 ghost use Rattle.ipi.specs.Seating.{IsSeatOf, harts_of, pending_view_of_seat, pending_views_in, IsOfAll, AreInOrder, AreSeated, AreSeatsOf, pending_views_by_seat, all_pending_views, one_by_one};
@@ -49,7 +49,7 @@ impl PendingTable {
     pub fn new(alloc: Global, shape: Shape) -> Result<(PendingTable, IpiSeat), Refusal>
         ensures seat { IfOk result (λ t. IsSeatOf t.0 t.1) }
         ensures harts { IfOk result (λ t. harts_of t.0 ≡ shape.harts) }
-        ensures opening { IfOk result (λ t. pending_view_of_seat t.1 ≡ opening_crew shape.harts) }
+        ensures opening { IfOk result (λ t. pending_view_of_seat t.1 ≡ opening_pending_view shape.harts) }
         ensures all { IfOk result (λ t. IsOfAll t.0 t.1) }
         ensures sits { IfOk result (λ t. (h : ℕ) → h < shape.harts → Sits h (pending_view_of_seat t.1)) }
         ensures shows { IfOk result (λ t. Shows shape.harts (pending_view_of_seat t.1) (λ _ _. false)) }

@@ -1,7 +1,7 @@
 //! The table, one word a hart with a bit for each sender, its rule, and the types of its seats.
 
 ghost use Rattle.std.specs.Prelude.{◌≡◌, ℕ, ◌<◌, ◌≤◌};
-ghost use Rattle.ipi.specs.Ledger.{Kept, opening_crew};
+ghost use Rattle.ipi.specs.Ledger.{Kept, opening_pending_view};
 
 use crate::view::PendingSeatView;
 use arrayvec::ArrayVec;
@@ -15,7 +15,7 @@ pub struct Ledger;
 impl TableRule<(), PendingSeatView, u32> for Ledger {
     ghost holds = { Kept };
 
-    ghost first = { opening_crew };
+    ghost first = { opening_pending_view };
 }
 
 /// What the contract of a step names beside the step's own operands. A caller names itself `Brand` and picks the values

@@ -3,7 +3,7 @@
 ghost use Rattle.std.specs.Prelude.{◌≡◌, ◌≢◌, ℕ, ◌+◌, ◌<◌, IfSome};
 ghost use Rattle.hsm_steps.specs.Seating.{IsSeatOf as IsHartSeatOf, harts_of as harts_in_table, hart_view_of_seat as hart_crew_of};
 ghost use Rattle.hsm_steps.specs.Told.{opening_view as opening_harts};
-ghost use Rattle.ipi.specs.Ledger.{opening_crew};
+ghost use Rattle.ipi.specs.Ledger.{opening_pending_view};
 ghost use Rattle.ipi.specs.Pairs.{Sits};
 ghost use Rattle.ipi.specs.Seating.{IsSeatOf, harts_of, pending_view_of_seat};
 ghost use Rattle.table_tests.specs.Known.{IsTeam};
@@ -61,7 +61,7 @@ fn pairs(table: &PendingTable, seat: IpiSeat, rounds: u64) -> (IpiSeat, u64)
 /// How many interrupts of hart 1 for hart 2 were lost, while hart 0 raises for it too.
 pub fn lost<R: Threads + Sync>(rt: &R, table: &PendingTable, whole: IpiSeat, rounds: u64) -> u64
     requires seat { IsSeatOf table.now whole }
-    requires opening { pending_view_of_seat whole ≡ opening_crew 3 }
+    requires opening { pending_view_of_seat whole ≡ opening_pending_view 3 }
     requires harts { harts_of table.now ≡ 3 }
 {
     let (zero, others) = table.split_first(whole);

@@ -3,7 +3,7 @@ use Rattle.std.specs.Prelude.{slice_index}
 use Rattle.std.proofs.Common.{false, sym, ap, ◌∙◌, subst}
 use Rattle.tallies.specs.Seats.{numbers_from}
 use Rattle.ipi.specs.declared.view.PendingSeatView.{PendingSeatView}
-use Rattle.ipi.specs.Ledger.{SeatState, seats, numbers, opening_crew}
+use Rattle.ipi.specs.Ledger.{SeatState, seats, numbers, opening_pending_view}
 use Rattle.ipi.specs.Pairs.{Shows}
 use Rattle.ipi.proofs.Keeps.{opens, opens_numbered, opens_seated, opens_shown}
 use Rattle.ipi.proofs.table.PendingTable.new.Goals as goal
@@ -32,4 +32,4 @@ pub returns-clause-shows : goal.returns-clause-shows
 returns-clause-shows c =
     let size = c.harts-harts.ensures.value in
     let crew = ap (λ (m : SeatState). m.0) c.in_ok-table.ensures.4 in
-    subst (λ (d : PendingSeatView). Shows c.args.shape.harts d (λ _ _. false)) (sym crew) (subst (λ (n : ℕ). Shows n (opening_crew c.harts-harts.result) (λ _ _. false)) size (opens_shown c.harts-harts.result))
+    subst (λ (d : PendingSeatView). Shows c.args.shape.harts d (λ _ _. false)) (sym crew) (subst (λ (n : ℕ). Shows n (opening_pending_view c.harts-harts.result) (λ _ _. false)) size (opens_shown c.harts-harts.result))
