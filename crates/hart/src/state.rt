@@ -17,7 +17,7 @@ pub struct Hart {
     id: HartId,
     regs: [u64; 32],
     pc: u64,
-    sie: bool,
+    interrupts: bool,
     spie: bool,
     enabled: bool,
     stvec: u64,
@@ -30,7 +30,7 @@ pub struct Hart {
 impl Model for Hart {
     ghost Value = { State };
 
-    ghost view = { λ h. record { id = h.id; regs = h.regs; pc = h.pc; sie = h.sie; spie = h.spie; enabled = h.enabled; stvec = h.stvec; sscratch = h.sscratch; sepc = h.sepc; scause = h.scause; stval = h.stval } };
+    ghost view = { λ h. record { id = h.id; regs = h.regs; pc = h.pc; interrupts = h.interrupts; spie = h.spie; enabled = h.enabled; stvec = h.stvec; sscratch = h.sscratch; sepc = h.sepc; scause = h.scause; stval = h.stval } };
 
     ghost invariant = { λ h. slice_index h.regs 0 ≡ 0 };
 }
@@ -44,7 +44,7 @@ impl Hart {
             id,
             regs: [0; 32],
             pc: 0,
-            sie: false,
+            interrupts: false,
             spie: false,
             enabled: false,
             stvec: 0,
@@ -148,15 +148,15 @@ impl Hart {
         self.sepc = self.pc - self.pc % 4;
         self.scause = code;
         self.stval = tval;
-        self.spie = self.sie;
-        self.sie = false;
+        self.spie = self.interrupts;
+        self.interrupts = false;
         self.pc = self.stvec;
     }
 
     pub(crate) fn return_from_trap(&mut self)
         ensures { self.new ≡ return_from_trap self.old }
     {
-        self.sie = self.spie;
+        self.interrupts = self.spie;
         self.spie = true;
         self.pc = self.sepc;
     }
@@ -166,7 +166,7 @@ impl Hart {
         ensures { result ≡ csr_read csr self.now pending }
     {
         match csr {
-            Csr::Sstatus => 0x100 + 2 * u64::from(self.sie) + 32 * u64::from(self.spie),
+            Csr::Sstatus => 0x100 + 2 * u64::from(self.interrupts) + 32 * u64::from(self.spie),
             Csr::Sie => 2 * u64::from(self.enabled),
             Csr::Stvec => self.stvec,
             Csr::Sscratch => self.sscratch,
@@ -184,7 +184,7 @@ impl Hart {
     {
         match csr {
             Csr::Sstatus => {
-                self.sie = (value >> 1) % 2 == 1;
+                self.interrupts = (value >> 1) % 2 == 1;
                 self.spie = (value >> 5) % 2 == 1;
             }
             Csr::Sie => self.enabled = (value >> 1) % 2 == 1,
@@ -200,8 +200,8 @@ impl Hart {
     /// Whether an interrupt that is pending is taken.
     #[inline(always)]
     pub(crate) fn is_open(&self) -> bool
-        ensures { IsTrue result ↔ (IsTrue self.now.sie × IsTrue self.now.enabled) }
+        ensures { IsTrue result ↔ (IsTrue self.now.interrupts × IsTrue self.now.enabled) }
     {
-        self.sie && self.enabled
+        self.interrupts && self.enabled
     }
 }
