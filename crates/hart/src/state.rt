@@ -19,7 +19,7 @@ pub struct Hart {
     pc: u64,
     interrupts: bool,
     spie: bool,
-    enabled: bool,
+    ssie: bool,
     stvec: u64,
     sscratch: u64,
     sepc: u64,
@@ -30,7 +30,7 @@ pub struct Hart {
 impl Model for Hart {
     ghost Value = { State };
 
-    ghost view = { λ h. record { id = h.id; regs = h.regs; pc = h.pc; interrupts = h.interrupts; spie = h.spie; enabled = h.enabled; stvec = h.stvec; sscratch = h.sscratch; sepc = h.sepc; scause = h.scause; stval = h.stval } };
+    ghost view = { λ h. record { id = h.id; regs = h.regs; pc = h.pc; interrupts = h.interrupts; spie = h.spie; ssie = h.ssie; stvec = h.stvec; sscratch = h.sscratch; sepc = h.sepc; scause = h.scause; stval = h.stval } };
 
     ghost invariant = { λ h. slice_index h.regs 0 ≡ 0 };
 }
@@ -46,7 +46,7 @@ impl Hart {
             pc: 0,
             interrupts: false,
             spie: false,
-            enabled: false,
+            ssie: false,
             stvec: 0,
             sscratch: 0,
             sepc: 0,
@@ -167,7 +167,7 @@ impl Hart {
     {
         match csr {
             Csr::Sstatus => 0x100 + 2 * u64::from(self.interrupts) + 32 * u64::from(self.spie),
-            Csr::Sie => 2 * u64::from(self.enabled),
+            Csr::Sie => 2 * u64::from(self.ssie),
             Csr::Stvec => self.stvec,
             Csr::Sscratch => self.sscratch,
             Csr::Sepc => self.sepc,
@@ -187,7 +187,7 @@ impl Hart {
                 self.interrupts = (value >> 1) % 2 == 1;
                 self.spie = (value >> 5) % 2 == 1;
             }
-            Csr::Sie => self.enabled = (value >> 1) % 2 == 1,
+            Csr::Sie => self.ssie = (value >> 1) % 2 == 1,
             Csr::Stvec => self.stvec = value - value % 4,
             Csr::Sscratch => self.sscratch = value,
             Csr::Sepc => self.sepc = value - value % 4,
@@ -200,8 +200,8 @@ impl Hart {
     /// Whether an interrupt that is pending is taken.
     #[inline(always)]
     pub(crate) fn is_open(&self) -> bool
-        ensures { IsTrue result ↔ (IsTrue self.now.interrupts × IsTrue self.now.enabled) }
+        ensures { IsTrue result ↔ (IsTrue self.now.interrupts × IsTrue self.now.ssie) }
     {
-        self.interrupts && self.enabled
+        self.interrupts && self.ssie
     }
 }
