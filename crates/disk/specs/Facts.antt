@@ -59,14 +59,14 @@ abbrev pub Stays : Content → Content → Type 0
 Stays old new = new ≡ old
 
 -- what a crash might have left, after that step
-abbrev pub After : Facts → (Content → Content → Type 0) → Content → Type 0
-After old step c = (d : Content) × old.may_leave d × step d c
+abbrev pub LeavesAfter : Facts → (Content → Content → Type 0) → Content → Type 0
+LeavesAfter old step c = (d : Content) × old.may_leave d × step d c
 
 -- Calls went by. A crash then, or at some moment of them, leaves what it might have left before, after that step.
 pub record Passes (old new : Facts) (step : Content → Content → Type 0) : Type 0 where
   pub later : old.moment ≤ new.moment
-  pub now : (c : Content) → new.may_leave c → After old step c
-  pub nothing_else : (t : ℕ) (c : Content) → t ≤ old.moment → new.since t c → old.since t c ⊎ After old step c
+  pub now : (c : Content) → new.may_leave c → LeavesAfter old step c
+  pub nothing_else : (t : ℕ) (c : Content) → t ≤ old.moment → new.since t c → old.since t c ⊎ LeavesAfter old step c
   pub keeps : (t : ℕ) (c : Content) → t ≤ old.moment → old.since t c → new.since t c
 
 -- A crash at any moment since old leaves what has P.

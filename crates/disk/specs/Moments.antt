@@ -1,6 +1,6 @@
 -- How runs of calls go on: what the layers above compose their moments by.
 use Rattle.std.proofs.Common.{◌∙◌, ◌+◌, ◌≤◌, inl, inr, ⊎_elim, refl, sym, subst, arith, ℕ, Result, Ok, Err}
-use Rattle.disk.specs.Facts.{Content, Facts, After, Passes, Stays, Torn, Unchanged, LeavesSince}
+use Rattle.disk.specs.Facts.{Content, Facts, LeavesAfter, Passes, Stays, Torn, Unchanged, LeavesSince}
 use Rattle.disk.specs.FaultState.{FaultState, Cause}
 use Rattle.disk.specs.Calls.{Called}
 
@@ -23,7 +23,7 @@ passes_then a b c first second p q goes = record {
   keeps = λ t x le past. q.keeps t x (omega (arith, le, p.later)) (p.keeps t x le past);
 }
   where
-    both : (x : Content) → After b second x → After a first x
+    both : (x : Content) → LeavesAfter b second x → LeavesAfter a first x
     both x step =
         let from = p.now step.0 step.1 in
         (from.0, from.1, goes from.0 step.0 x from.2 step.2)
@@ -41,7 +41,7 @@ passes_weaker a b P Q p has = record {
   keeps = p.keeps;
 }
   where
-    is : (x : Content) → After a P x → After a Q x
+    is : (x : Content) → LeavesAfter a P x → LeavesAfter a Q x
     is x step = (step.0, step.1, has step.0 x step.2)
 
 -- a split, the lanes, which touch nothing of the disk, the join, and a sync: any bytes in what was lent, and all else as it was
@@ -71,7 +71,7 @@ leaves_more a b c P step so_far p has = record {
   before = λ t x le left. ⊎_elim (so_far.before t x le) (λ s. inr (is x s)) (p.nothing_else t x (omega (arith, le, so_far.later)) left);
 }
   where
-    is : (x : Content) → After b step x → P x
+    is : (x : Content) → LeavesAfter b step x → P x
     is x s = has s.0 x s.1 s.2
 
 pub leaves_stays : (a b c : Facts) (P : Content → Type 0) → LeavesSince a b P → Passes b c Stays → LeavesSince a c P

@@ -1,7 +1,7 @@
 -- What writes and syncs leave of the facts.
 use Rattle.std.proofs.Common.{◌≡◌, ◌⊎◌, ◌∙◌, inl, inr, ⊎_elim, refl, ℕ, ◌+◌, ◌≤◌, List, [], ◌∷◌, ◌++◌, length, take, drop, map, sym, ap, subst, arith, length-append}
 use Rattle.std.proofs.lemmas.List.{map-append, take-append-le, drop-append-le, take-append-drop}
-use Rattle.disk.specs.Facts.{Content, Facts, Lent, After, Passes, Stays, Torn}
+use Rattle.disk.specs.Facts.{Content, Facts, Lent, LeavesAfter, Passes, Stays, Torn}
 use Rattle.simdisk.specs.Record.{Piece, Record, replay, settled, range, ranges, synced_after, more_written, more_synced, Untouched, Agrees, Fits, Had, sim_facts}
 use Rattle.simdisk.proofs.Ranges.{agrees_push, crash_write, crash_sync}
 use Rattle.simdisk.proofs.Pieces.{ranges_settled}
@@ -71,7 +71,7 @@ passes_range now new stood stood' r r' f g i j l m p more is within =
     joined : (c : Content) → Agrees stood (ranges r.written) c → Agrees stood (ranges (r.written ++ p ∷ [])) c
     joined c a = subst (λ (rs : List (ℕ × ℕ)). Agrees stood rs c) (sym (ranges_push r.written p)) (agrees_push stood (ranges r.written) (range p) c a)
 
-    step : (c : Content) → Agrees stood (ranges (r.written ++ p ∷ [])) c → After (sim_facts now stood r f i l) (Torn p.0 (length p.1)) c
+    step : (c : Content) → Agrees stood (ranges (r.written ++ p ∷ [])) c → LeavesAfter (sim_facts now stood r f i l) (Torn p.0 (length p.1)) c
     step c a = crash_write stood (ranges r.written) p.0 (length p.1) c within (split c a)
 
     pushed : Passes (sim_facts now stood r f i l) (sim_facts new stood (more_written p r) g j m) (Torn p.0 (length p.1))
@@ -110,7 +110,7 @@ passes_sync now stood stood' r r' f g i j l next more is stood_so agrees fits fe
     into : (t : ℕ) (c : Content) → Agrees stood (ranges r.written) c → Agrees (synced_after (drop t r.past) (synced_after (take t r.past) r.began)) (ranges (map (settled now) r.written)) c
     into t c a = subst (λ (s : Content). Agrees s (ranges (map (settled now) r.written)) c) (sym (at t)) (subst (λ (rs : List (ℕ × ℕ)). Agrees stood rs c) (sym same) a)
 
-    step : (c : Content) → Agrees now (ranges next) c → After (sim_facts now stood r f i l) Stays c
+    step : (c : Content) → Agrees now (ranges next) c → LeavesAfter (sim_facts now stood r f i l) Stays c
     step c a = (c, crash_sync stood (ranges r.written) (ranges next) now c agrees fewer a, refl)
 
     Then : ℕ → Content → Type 0
