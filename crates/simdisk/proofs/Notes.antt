@@ -6,7 +6,7 @@ use Rattle.std.proofs.lemmas.List.{map-append, map-set, set-get_or, get_or_appen
 use Rattle.std.proofs.lemmas.Bool.{cases_lt}
 use Rattle.disk.specs.Facts.{Content, Lent, Torn, Apart, IsFresh, nothing, sector}
 use Rattle.simdisk.specs.declared.patch.Patch.{Patch}
-use Rattle.simdisk.specs.Record.{Piece, Record, put, newest, synced, range, ranges, more_written, more_synced, lent_piece, new_record, replay, filled, sim_facts, Untouched, Agrees, Fits}
+use Rattle.simdisk.specs.Record.{Piece, Record, put, newest, synced, range, ranges, more_written, more_synced, lent_piece, new_record, replay, filled, sim_facts, Untouched, AgreesOutside, Fits}
 use Rattle.simdisk.specs.Views.{piece, pieces}
 use Rattle.simdisk.specs.Loans.{Noted, IsLast}
 use Rattle.simdisk.specs.Choices.{left_by}
@@ -66,9 +66,9 @@ pub range_lent : (l : Lent) (c : Content) → l.first + l.lanes * l.each ≤ len
 range_lent l c within = ap (λ (n : ℕ). (l.first, n)) (length-take-le (l.lanes * l.each) (drop l.first c) (omega (arith, within, length-drop l.first c)))
 
 -- where nothing is lent, a sync leaves no more than the content
-pub durable_then : (l : Lent) (now c : Content) (r r' : Record) (stood' : Content) → r' ≡ more_synced now (lent_piece l now ∷ []) r → stood' ≡ now → l.lanes ≡ 0 → Agrees stood' (ranges r'.written) c → c ≡ now
+pub durable_then : (l : Lent) (now c : Content) (r r' : Record) (stood' : Content) → r' ≡ more_synced now (lent_piece l now ∷ []) r → stood' ≡ now → l.lanes ≡ 0 → AgreesOutside stood' (ranges r'.written) c → c ≡ now
 durable_then l now c r r' stood' more is none a =
-    durable l.first (length (lent_piece l now).1) now c empty (subst (λ (s : Content). Agrees s (ranges (lent_piece l now ∷ [])) c) is (subst (λ (q : Record). Agrees stood' (ranges q.written) c) more a))
+    durable l.first (length (lent_piece l now).1) now c empty (subst (λ (s : Content). AgreesOutside s (ranges (lent_piece l now ∷ [])) c) is (subst (λ (q : Record). AgreesOutside stood' (ranges q.written) c) more a))
   where
     zero_each : l.lanes * l.each ≡ 0
     zero_each = ap (λ (n : ℕ). n * l.each) none ∙ zero-mul l.each
@@ -91,8 +91,8 @@ lent_fewer l now rs i within noted k u = elim (cases_lt 0 l.lanes) [
     outside zero = elim (cases_lt k l.first) [ inl low ↦ inl low | inr le ↦ inr (omega (arith, le, zero)) ]
 
 -- what a join brings back is torn where the record has it as written
-pub agrees_join : (l : Lent) (stood : Content) (rs : List (ℕ × ℕ)) (i : ℕ) (now new : Content) → (0 < l.lanes → Noted rs i (l.first, l.lanes * l.each)) → Agrees stood rs now → Torn l.first (l.lanes * l.each) now new
-    → Agrees stood rs new
+pub agrees_join : (l : Lent) (stood : Content) (rs : List (ℕ × ℕ)) (i : ℕ) (now new : Content) → (0 < l.lanes → Noted rs i (l.first, l.lanes * l.each)) → AgreesOutside stood rs now → Torn l.first (l.lanes * l.each) now new
+    → AgreesOutside stood rs new
 agrees_join l stood rs i now new noted a torn = elim (cases_lt 0 l.lanes) [
   | inl some ↦ agrees_torn stood rs i (l.first, l.lanes * l.each) now new (noted some).0 (noted some).1 a torn
   | inr none ↦ record { as_long = torn.as_long ∙ a.as_long; same = λ k u. same none k ∙ a.same k u }
@@ -118,14 +118,14 @@ lent_written l rs i noted k le lt u = elim (cases_lt 0 l.lanes) [
 pub fresh_of : (now stood : Content) (r : Record) (f i : ℕ) (l : Lent) → r ≡ new_record now → stood ≡ now → l ≡ nothing → IsFresh now (sim_facts now stood r f i l)
 fresh_of now stood r f i l begun is none = record {
   reads = refl;
-  durable = λ c a. agrees_all now c (subst (λ (s : Content). Agrees s [] c) is (subst (λ (q : Record). Agrees stood (ranges q.written) c) begun a));
+  durable = λ c a. agrees_all now c (subst (λ (s : Content). AgreesOutside s [] c) is (subst (λ (q : Record). AgreesOutside stood (ranges q.written) c) begun a));
   none_out = none;
 }
 
 -- each choice is one that a crash may leave
-pub left_agrees : (choice : Choice) (stood : Content) (ps : List Piece) → Fits (length stood) (ranges ps) → Agrees stood (ranges ps) (left_by choice stood ps)
+pub left_agrees : (choice : Choice) (stood : Content) (ps : List Piece) → Fits (length stood) (ranges ps) → AgreesOutside stood (ranges ps) (left_by choice stood ps)
 left_agrees (Byte byte) stood ps fits =
     let same = ranges_filled byte ps in
-    subst (λ (rs : List (ℕ × ℕ)). Agrees stood rs (replay (map (filled byte) ps) stood)) same (agrees_replay (map (filled byte) ps) stood (subst (λ (rs : List (ℕ × ℕ)). Fits (length stood) rs) (sym same) fits))
+    subst (λ (rs : List (ℕ × ℕ)). AgreesOutside stood rs (replay (map (filled byte) ps) stood)) same (agrees_replay (map (filled byte) ps) stood (subst (λ (rs : List (ℕ × ℕ)). Fits (length stood) rs) (sym same) fits))
 left_agrees Old stood ps fits = record { as_long = refl; same = λ k u. refl }
 left_agrees New stood ps fits = agrees_replay ps stood fits

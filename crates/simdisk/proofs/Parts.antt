@@ -9,7 +9,7 @@ use Rattle.simdisk.specs.declared.patch.Patch.{Patch}
 use Rattle.simdisk.specs.declared.choice.Choice.{Choice}
 use Rattle.simdisk.specs.declared.choice.Choice.TheVariants.{Byte, Old, New}
 use Rattle.simdisk.specs.Choices.{left_by}
-use Rattle.simdisk.specs.Record.{Piece, Record, put, replay, synced, filled, ranges, Untouched, Agrees, Fits}
+use Rattle.simdisk.specs.Record.{Piece, Record, put, replay, synced, filled, ranges, Untouched, AgreesOutside, Fits}
 use Rattle.simdisk.specs.Pokes.{misses, part_before, part_behind, parted, poked_record}
 use Rattle.simdisk.specs.Views.{piece, pieces}
 use Rattle.simdisk.proofs.Pieces.{length-put, put_low, put_mid, put_high, fits_here, fits_rest, ranges_filled}
@@ -242,7 +242,7 @@ module _ (k : ℕ) (v : List ℕ) (stood : Content) (ps : List Piece) (lt : k < 
   left_poked fits Old = refl
   left_poked fits New = replay_parted k v ps stood lt fits
 
-  pub agrees_put : (c : Content) → Agrees stood (ranges ps) c → Agrees (put (k, v ∷ []) stood) (ranges (flat_map (parted k) ps)) (put (k, v ∷ []) c)
+  pub agrees_put : (c : Content) → AgreesOutside stood (ranges ps) c → AgreesOutside (put (k, v ∷ []) stood) (ranges (flat_map (parted k) ps)) (put (k, v ∷ []) c)
   agrees_put c a = record {
     as_long = long_poked k v c in_c ∙ a.as_long ∙ sym (long_poked k v stood lt);
     same = λ j u. elim (cases_eq j k) [
@@ -255,7 +255,7 @@ module _ (k : ℕ) (v : List ℕ) (stood : Content) (ps : List Piece) (lt : k < 
       in_c = omega (arith, lt, a.as_long)
 
   -- each that a crash then may leave is one of those
-  pub agrees_back : (c : Content) → Agrees (put (k, v ∷ []) stood) (ranges (flat_map (parted k) ps)) c → (d : Content) × Agrees stood (ranges ps) d × (c ≡ put (k, v ∷ []) d)
+  pub agrees_back : (c : Content) → AgreesOutside (put (k, v ∷ []) stood) (ranges (flat_map (parted k) ps)) c → (d : Content) × AgreesOutside stood (ranges ps) d × (c ≡ put (k, v ∷ []) d)
   agrees_back c a = (
     put (k, sector stood k ∷ []) c,
     record {
@@ -288,14 +288,14 @@ module _ (k : ℕ) (v : List ℕ) (r r' : Record) (anew : r' ≡ poked_record k 
   pub choices_poked : Fits (length (synced r)) (ranges r.written) → (choice : Choice) → left_by choice (synced r') r'.written ≡ put (k, v ∷ []) (left_by choice (synced r) r.written)
   choices_poked fits choice = ap (λ (q : Record). left_by choice (synced q) q.written) anew ∙ left_poked k v (synced r) r.written lt fits choice
 
-  pub agrees_poked : (c c' : Content) → Agrees (synced r) (ranges r.written) c → c' ≡ put (k, v ∷ []) c → Agrees (synced r') (ranges r'.written) c'
+  pub agrees_poked : (c c' : Content) → AgreesOutside (synced r) (ranges r.written) c → c' ≡ put (k, v ∷ []) c → AgreesOutside (synced r') (ranges r'.written) c'
   agrees_poked c c' a laid =
-      subst (λ (q : Record). Agrees (synced q) (ranges q.written) c') (sym anew)
-      (subst (λ (d : Content). Agrees (put (k, v ∷ []) (synced r)) (ranges (flat_map (parted k) r.written)) d) (sym laid) (agrees_put k v (synced r) r.written lt c a))
+      subst (λ (q : Record). AgreesOutside (synced q) (ranges q.written) c') (sym anew)
+      (subst (λ (d : Content). AgreesOutside (put (k, v ∷ []) (synced r)) (ranges (flat_map (parted k) r.written)) d) (sym laid) (agrees_put k v (synced r) r.written lt c a))
 
-  pub crash_poked : (c : Content) → Agrees (synced r') (ranges r'.written) c ↔ ((d : Content) × Agrees (synced r) (ranges r.written) d × (c ≡ put (k, v ∷ []) d))
+  pub crash_poked : (c : Content) → AgreesOutside (synced r') (ranges r'.written) c ↔ ((d : Content) × AgreesOutside (synced r) (ranges r.written) d × (c ≡ put (k, v ∷ []) d))
   crash_poked c = (
-    λ a. agrees_back k v (synced r) r.written lt c (subst (λ (q : Record). Agrees (synced q) (ranges q.written) c) anew a),
+    λ a. agrees_back k v (synced r) r.written lt c (subst (λ (q : Record). AgreesOutside (synced q) (ranges q.written) c) anew a),
     λ one. agrees_poked one.0 c one.1 one.2,
   )
 

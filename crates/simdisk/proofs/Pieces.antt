@@ -4,7 +4,7 @@ use Rattle.std.proofs.Math.ListN.{get_or-map}
 use Rattle.std.proofs.lemmas.List.{places, get_or_append_left, get_or_push, ext_get_or, length-map, length-replicate, length-take-le}
 use Rattle.std.proofs.lemmas.Bool.{cases_lt}
 use Rattle.disk.specs.Facts.{Content, sector}
-use Rattle.simdisk.specs.Record.{Piece, put, replay, synced_after, range, ranges, Untouched, Agrees, Fits, settled, filled}
+use Rattle.simdisk.specs.Record.{Piece, put, replay, synced_after, range, ranges, Untouched, AgreesOutside, Fits, settled, filled}
 
 module _ (first : ℕ) (s c : Content) (within : first + length s ≤ length c) where
   pub length-put : length (put (first, s) c) ≡ length c
@@ -63,7 +63,7 @@ replay_outside (p ∷ ps) c k fits u =
     let here = length-put p.0 p.1 c within in
     replay_outside ps (put p c) k (rw here (fits_rest (length c) p ps fits)) u.1 ∙ elim u.0 [ inl low ↦ put_low p.0 p.1 c within k low | inr high ↦ put_high p.0 p.1 c within k high ]
 
-pub agrees_replay : (ps : List Piece) (stood : Content) → Fits (length stood) (ranges ps) → Agrees stood (ranges ps) (replay ps stood)
+pub agrees_replay : (ps : List Piece) (stood : Content) → Fits (length stood) (ranges ps) → AgreesOutside stood (ranges ps) (replay ps stood)
 agrees_replay ps stood fits = record { as_long = length_replay ps stood fits; same = λ k u. replay_outside ps stood k fits u }
 
 -- to fill or settle a piece leaves its range
@@ -111,7 +111,7 @@ settled_onto now (p ∷ ps) c long fits same = settled_onto now ps (put q c) (le
         middle : (k : ℕ) → p.0 ≤ k → k < p.0 + length p.1 → sector q.1 (k - p.0) ≡ sector now k
         middle k le lt = search (rules, places)
 
-pub replay_settled : (stood now : Content) (ps : List Piece) → Agrees stood (ranges ps) now → Fits (length stood) (ranges ps) → replay (map (settled now) ps) stood ≡ now
+pub replay_settled : (stood now : Content) (ps : List Piece) → AgreesOutside stood (ranges ps) now → Fits (length stood) (ranges ps) → replay (map (settled now) ps) stood ≡ now
 replay_settled stood now ps agrees fits = settled_onto now ps stood (sym agrees.as_long) (rw agrees.as_long fits) (λ k u. sym (agrees.same k u))
 
 -- a range more

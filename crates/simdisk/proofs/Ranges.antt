@@ -3,7 +3,7 @@ use Rattle.std.proofs.Common.{◌≡◌, ◌⊎◌, ◌∙◌, inl, inr, ⊎_eli
 use Rattle.std.proofs.lemmas.List.{places, ext_get_or}
 use Rattle.std.proofs.lemmas.Bool.{cases_lt}
 use Rattle.disk.specs.Facts.{Content, sector, Torn}
-use Rattle.simdisk.specs.Record.{Untouched, Agrees, range_at}
+use Rattle.simdisk.specs.Record.{Untouched, AgreesOutside, range_at}
 
 pub untouched_push : (rs : List (ℕ × ℕ)) (r : ℕ × ℕ) (k : ℕ) → Untouched (rs ++ r ∷ []) k → Untouched rs k × ((k < r.0) ⊎ (r.0 + r.1 ≤ k))
 untouched_push [] r k u = (tt, u.0)
@@ -21,17 +21,17 @@ untouched_at [] i r k lt is u = absurd (omega arith)
 untouched_at (x ∷ rs) zero r k lt is u = subst (λ (y : ℕ × ℕ). (k < y.0) ⊎ (y.0 + y.1 ≤ k)) is u.0
 untouched_at (x ∷ rs) (suc i) r k lt is u = untouched_at rs i r k (omega arith) is u.1
 
-pub agrees_write : (stood : Content) (rs : List (ℕ × ℕ)) (first n : ℕ) (now new : Content) → Agrees stood rs now → Torn first n now new → Agrees stood (rs ++ (first, n) ∷ []) new
+pub agrees_write : (stood : Content) (rs : List (ℕ × ℕ)) (first n : ℕ) (now new : Content) → AgreesOutside stood rs now → Torn first n now new → AgreesOutside stood (rs ++ (first, n) ∷ []) new
 agrees_write stood rs first n now new a torn = record {
   as_long = torn.as_long ∙ a.as_long;
   same = λ k u. let p = untouched_push rs (first, n) k u in ⊎_elim (λ low. torn.before k low ∙ a.same k p.0) (λ high. torn.after k high ∙ a.same k p.0) p.1;
 }
 
-pub agrees_push : (stood : Content) (rs : List (ℕ × ℕ)) (r : ℕ × ℕ) (c : Content) → Agrees stood rs c → Agrees stood (rs ++ r ∷ []) c
+pub agrees_push : (stood : Content) (rs : List (ℕ × ℕ)) (r : ℕ × ℕ) (c : Content) → AgreesOutside stood rs c → AgreesOutside stood (rs ++ r ∷ []) c
 agrees_push stood rs r c a = record { as_long = a.as_long; same = λ k u. a.same k (untouched_push rs r k u).0 }
 
 -- a content torn in one of the ranges
-pub agrees_torn : (stood : Content) (rs : List (ℕ × ℕ)) (i : ℕ) (r : ℕ × ℕ) (c d : Content) → i < length rs → range_at rs i ≡ r → Agrees stood rs c → Torn r.0 r.1 c d → Agrees stood rs d
+pub agrees_torn : (stood : Content) (rs : List (ℕ × ℕ)) (i : ℕ) (r : ℕ × ℕ) (c d : Content) → i < length rs → range_at rs i ≡ r → AgreesOutside stood rs c → Torn r.0 r.1 c d → AgreesOutside stood rs d
 agrees_torn stood rs i r c d lt is a torn = record {
   as_long = torn.as_long ∙ a.as_long;
   same = λ k u. ⊎_elim (λ low. torn.before k low ∙ a.same k u) (λ high. torn.after k high ∙ a.same k u) (untouched_at rs i r k lt is u);
@@ -55,7 +55,7 @@ module _ (first n : ℕ) (from c : Content) (same_length : length c ≡ length f
   patched_high k high = search (rules, places)
 
 -- what a crash after a write may leave is what it might have left before, torn there
-pub crash_write : (stood : Content) (rs : List (ℕ × ℕ)) (first n : ℕ) (c : Content) → first + n ≤ length stood → Agrees stood (rs ++ (first, n) ∷ []) c → (d : Content) × Agrees stood rs d × Torn first n d c
+pub crash_write : (stood : Content) (rs : List (ℕ × ℕ)) (first n : ℕ) (c : Content) → first + n ≤ length stood → AgreesOutside stood (rs ++ (first, n) ∷ []) c → (d : Content) × AgreesOutside stood rs d × Torn first n d c
 crash_write stood rs first n c within a = (
   patched first n stood c,
   record {
@@ -79,15 +79,15 @@ crash_write stood rs first n c within a = (
     outside k u out = untouched_more rs (first, n) k u out
 
 -- after a sync a crash may leave no more than before
-pub crash_sync : (stood : Content) (rs next : List (ℕ × ℕ)) (now c : Content) → Agrees stood rs now → ((k : ℕ) → Untouched rs k → Untouched next k) → Agrees now next c → Agrees stood rs c
+pub crash_sync : (stood : Content) (rs next : List (ℕ × ℕ)) (now c : Content) → AgreesOutside stood rs now → ((k : ℕ) → Untouched rs k → Untouched next k) → AgreesOutside now next c → AgreesOutside stood rs c
 crash_sync stood rs next now c was fewer a = record { as_long = a.as_long ∙ was.as_long; same = λ k u. a.same k (fewer k u) ∙ was.same k u }
 
 -- where no sector is in a range, what stood is all
-pub durable : (first n : ℕ) (now c : Content) → n ≡ 0 → Agrees now ((first, n) ∷ []) c → c ≡ now
+pub durable : (first n : ℕ) (now c : Content) → n ≡ 0 → AgreesOutside now ((first, n) ∷ []) c → c ≡ now
 durable first n now c none a = ext_get_or [] c now a.as_long (λ k lt. elim (cases_lt k first) [
   | inl low ↦ a.same k (inl low, tt)
   | inr le ↦ a.same k (inr (omega arith), tt)
 ])
 
-pub agrees_all : (now c : Content) → Agrees now [] c → c ≡ now
+pub agrees_all : (now c : Content) → AgreesOutside now [] c → c ≡ now
 agrees_all now c a = ext_get_or [] c now a.as_long (λ k lt. a.same k tt)

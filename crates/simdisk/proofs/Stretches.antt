@@ -2,7 +2,7 @@
 use Rattle.std.proofs.Common.{◌≡◌, ◌⊎◌, ◌∙◌, inl, inr, ⊎_elim, refl, ℕ, ◌+◌, ◌≤◌, List, [], ◌∷◌, ◌++◌, length, take, drop, map, sym, ap, subst, arith, length-append}
 use Rattle.std.proofs.lemmas.List.{map-append, take-append-le, drop-append-le, take-append-drop}
 use Rattle.disk.specs.Facts.{Content, Facts, Lent, LeavesAfter, Passes, Stays, Torn}
-use Rattle.simdisk.specs.Record.{Piece, Record, replay, settled, range, ranges, synced_after, more_written, more_synced, Untouched, Agrees, Fits, Had, sim_facts}
+use Rattle.simdisk.specs.Record.{Piece, Record, replay, settled, range, ranges, synced_after, more_written, more_synced, Untouched, AgreesOutside, Fits, Had, sim_facts}
 use Rattle.simdisk.proofs.Ranges.{agrees_push, crash_write, crash_sync}
 use Rattle.simdisk.proofs.Pieces.{ranges_settled}
 
@@ -11,11 +11,11 @@ had_push stood [] e c had = absurd had
 had_push stood (x ∷ past) e c (inl here) = inl here
 had_push stood (x ∷ past) e c (inr there) = inr (had_push (replay x stood) past e c there)
 
-had_last : (stood : Content) (past : List (List Piece)) (e : List Piece) (c : Content) → Agrees (synced_after past stood) (ranges e) c → Had stood (past ++ e ∷ []) c
+had_last : (stood : Content) (past : List (List Piece)) (e : List Piece) (c : Content) → AgreesOutside (synced_after past stood) (ranges e) c → Had stood (past ++ e ∷ []) c
 had_last stood [] e c a = inl a
 had_last stood (x ∷ past) e c a = inr (had_last (replay x stood) past e c a)
 
-had_either : (stood : Content) (past : List (List Piece)) (e : List Piece) (c : Content) → Had stood (past ++ e ∷ []) c → Had stood past c ⊎ Agrees (synced_after past stood) (ranges e) c
+had_either : (stood : Content) (past : List (List Piece)) (e : List Piece) (c : Content) → Had stood (past ++ e ∷ []) c → Had stood past c ⊎ AgreesOutside (synced_after past stood) (ranges e) c
 had_either stood [] e c (inl here) = inr here
 had_either stood [] e c (inr none) = absurd none
 had_either stood (x ∷ past) e c (inl here) = inl (inl here)
@@ -46,11 +46,11 @@ passes_ranges now new stood stood' r r' f g i j l m same past began is = record 
   keeps = λ t c le left. ⊎_elim (λ a. inl (onto c a)) (λ had. inr (subst (λ (T : Type 0). T) (sym (had_same t c)) had)) left;
 }
   where
-    back : (c : Content) → Agrees stood' (ranges r'.written) c → Agrees stood (ranges r.written) c
-    back c a = subst (λ (s : Content). Agrees s (ranges r.written) c) is (subst (λ (rs : List (ℕ × ℕ)). Agrees stood' rs c) same a)
+    back : (c : Content) → AgreesOutside stood' (ranges r'.written) c → AgreesOutside stood (ranges r.written) c
+    back c a = subst (λ (s : Content). AgreesOutside s (ranges r.written) c) is (subst (λ (rs : List (ℕ × ℕ)). AgreesOutside stood' rs c) same a)
 
-    onto : (c : Content) → Agrees stood (ranges r.written) c → Agrees stood' (ranges r'.written) c
-    onto c a = subst (λ (rs : List (ℕ × ℕ)). Agrees stood' rs c) (sym same) (subst (λ (s : Content). Agrees s (ranges r.written) c) (sym is) a)
+    onto : (c : Content) → AgreesOutside stood (ranges r.written) c → AgreesOutside stood' (ranges r'.written) c
+    onto c a = subst (λ (rs : List (ℕ × ℕ)). AgreesOutside stood' rs c) (sym same) (subst (λ (s : Content). AgreesOutside s (ranges r.written) c) (sym is) a)
 
     had_same : (t : ℕ) (c : Content) → Had (synced_after (take t r'.past) r'.began) (drop t r'.past) c ≡ Had (synced_after (take t r.past) r.began) (drop t r.past) c
     had_same t c = ap (λ (es : List (List Piece)). Had (synced_after (take t es) r'.began) (drop t es) c) past ∙ ap (λ (b : Content). Had (synced_after (take t r.past) b) (drop t r.past) c) began
@@ -65,13 +65,13 @@ passes_range now new stood stood' r r' f g i j l m p more is within =
     subst (λ (s : Content). Passes (sim_facts now stood r f i l) (sim_facts new s r' g j m) (Torn p.0 (length p.1))) (sym is)
     (subst (λ (q : Record). Passes (sim_facts now stood r f i l) (sim_facts new stood q g j m) (Torn p.0 (length p.1))) (sym more) pushed)
   where
-    split : (c : Content) → Agrees stood (ranges (r.written ++ p ∷ [])) c → Agrees stood (ranges r.written ++ range p ∷ []) c
-    split c a = subst (λ (rs : List (ℕ × ℕ)). Agrees stood rs c) (ranges_push r.written p) a
+    split : (c : Content) → AgreesOutside stood (ranges (r.written ++ p ∷ [])) c → AgreesOutside stood (ranges r.written ++ range p ∷ []) c
+    split c a = subst (λ (rs : List (ℕ × ℕ)). AgreesOutside stood rs c) (ranges_push r.written p) a
 
-    joined : (c : Content) → Agrees stood (ranges r.written) c → Agrees stood (ranges (r.written ++ p ∷ [])) c
-    joined c a = subst (λ (rs : List (ℕ × ℕ)). Agrees stood rs c) (sym (ranges_push r.written p)) (agrees_push stood (ranges r.written) (range p) c a)
+    joined : (c : Content) → AgreesOutside stood (ranges r.written) c → AgreesOutside stood (ranges (r.written ++ p ∷ [])) c
+    joined c a = subst (λ (rs : List (ℕ × ℕ)). AgreesOutside stood rs c) (sym (ranges_push r.written p)) (agrees_push stood (ranges r.written) (range p) c a)
 
-    step : (c : Content) → Agrees stood (ranges (r.written ++ p ∷ [])) c → LeavesAfter (sim_facts now stood r f i l) (Torn p.0 (length p.1)) c
+    step : (c : Content) → AgreesOutside stood (ranges (r.written ++ p ∷ [])) c → LeavesAfter (sim_facts now stood r f i l) (Torn p.0 (length p.1)) c
     step c a = crash_write stood (ranges r.written) p.0 (length p.1) c within (split c a)
 
     pushed : Passes (sim_facts now stood r f i l) (sim_facts new stood (more_written p r) g j m) (Torn p.0 (length p.1))
@@ -84,7 +84,7 @@ passes_range now new stood stood' r r' f g i j l m p more is within =
 
 -- a sync more
 pub passes_sync : (now stood stood' : Content) (r r' : Record) (f g i j : ℕ) (l : Lent) (next : List Piece) → r' ≡ more_synced now next r → stood' ≡ now → synced_after r.past r.began ≡ stood
-    → Agrees stood (ranges r.written) now → Fits (length stood) (ranges r.written) → ((k : ℕ) → Untouched (ranges r.written) k → Untouched (ranges next) k)
+    → AgreesOutside stood (ranges r.written) now → Fits (length stood) (ranges r.written) → ((k : ℕ) → Untouched (ranges r.written) k → Untouched (ranges next) k)
     → Passes (sim_facts now stood r f i l) (sim_facts now stood' r' g j l) Stays
 passes_sync now stood stood' r r' f g i j l next more is stood_so agrees fits fewer =
     subst (λ (s : Content). Passes before (sim_facts now s r' g j l) Stays) (sym is) (subst (λ (q : Record). Passes before (sim_facts now now q g j l) Stays) (sym more) pushed)
@@ -104,13 +104,13 @@ passes_sync now stood stood' r r' f g i j l next more is stood_so agrees fits fe
     at : (t : ℕ) → synced_after (drop t r.past) (synced_after (take t r.past) r.began) ≡ stood
     at t = synced_parts t r.past r.began ∙ stood_so
 
-    from : (t : ℕ) (c : Content) → Agrees (synced_after (drop t r.past) (synced_after (take t r.past) r.began)) (ranges (map (settled now) r.written)) c → Agrees stood (ranges r.written) c
-    from t c a = subst (λ (rs : List (ℕ × ℕ)). Agrees stood rs c) same (subst (λ (s : Content). Agrees s (ranges (map (settled now) r.written)) c) (at t) a)
+    from : (t : ℕ) (c : Content) → AgreesOutside (synced_after (drop t r.past) (synced_after (take t r.past) r.began)) (ranges (map (settled now) r.written)) c → AgreesOutside stood (ranges r.written) c
+    from t c a = subst (λ (rs : List (ℕ × ℕ)). AgreesOutside stood rs c) same (subst (λ (s : Content). AgreesOutside s (ranges (map (settled now) r.written)) c) (at t) a)
 
-    into : (t : ℕ) (c : Content) → Agrees stood (ranges r.written) c → Agrees (synced_after (drop t r.past) (synced_after (take t r.past) r.began)) (ranges (map (settled now) r.written)) c
-    into t c a = subst (λ (s : Content). Agrees s (ranges (map (settled now) r.written)) c) (sym (at t)) (subst (λ (rs : List (ℕ × ℕ)). Agrees stood rs c) (sym same) a)
+    into : (t : ℕ) (c : Content) → AgreesOutside stood (ranges r.written) c → AgreesOutside (synced_after (drop t r.past) (synced_after (take t r.past) r.began)) (ranges (map (settled now) r.written)) c
+    into t c a = subst (λ (s : Content). AgreesOutside s (ranges (map (settled now) r.written)) c) (sym (at t)) (subst (λ (rs : List (ℕ × ℕ)). AgreesOutside stood rs c) (sym same) a)
 
-    step : (c : Content) → Agrees now (ranges next) c → LeavesAfter (sim_facts now stood r f i l) Stays c
+    step : (c : Content) → AgreesOutside now (ranges next) c → LeavesAfter (sim_facts now stood r f i l) Stays c
     step c a = (c, crash_sync stood (ranges r.written) (ranges next) now c agrees fewer a, refl)
 
     Then : ℕ → Content → Type 0

@@ -84,7 +84,7 @@ Untouched [] k = Unit {0}
 Untouched (r ∷ rs) k = ((k < r.0) ⊎ (r.0 + r.1 ≤ k)) × Untouched rs k
 
 -- but for the sectors of these ranges, which are any, c is what stood
-pub record Agrees (stood : Content) (rs : List (ℕ × ℕ)) (c : Content) : Type 0 where
+pub record AgreesOutside (stood : Content) (rs : List (ℕ × ℕ)) (c : Content) : Type 0 where
   pub as_long : length c ≡ length stood
   pub same : (k : ℕ) → Untouched rs k → sector c k ≡ sector stood k
 
@@ -102,15 +102,15 @@ FitAll n past = (i : ℕ) → i < length past → Fits n (ranges (get_or past i 
 -- a crash before one of these syncs might have left it, where that content stood when they began
 abbrev pub Had : Content → List (List Piece) → Content → Type 0
 Had stood [] c = ⊥
-Had stood (epoch ∷ epochs) c = Agrees stood (ranges epoch) c ⊎ Had (replay epoch stood) epochs c
+Had stood (epoch ∷ epochs) c = AgreesOutside stood (ranges epoch) c ⊎ Had (replay epoch stood) epochs c
 
 -- the facts of a disk with that record, whose last sync had that content
 abbrev pub sim_facts : Content → Content → Record → ℕ → ℕ → Lent → Facts
 sim_facts now stood r failures calls lent = record {
   content = now;
-  may_leave = λ c. Agrees stood (ranges r.written) c;
+  may_leave = λ c. AgreesOutside stood (ranges r.written) c;
   moment = length r.past;
-  since = λ t c. Agrees stood (ranges r.written) c ⊎ Had (synced_after (take t r.past) r.began) (drop t r.past) c;
+  since = λ t c. AgreesOutside stood (ranges r.written) c ⊎ Had (synced_after (take t r.past) r.began) (drop t r.past) c;
   failures = failures;
   calls = calls;
   lent = lent;

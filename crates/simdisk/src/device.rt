@@ -22,7 +22,7 @@ impl Disk for SimDisk {
     ghost use Rattle.simdisk.specs.History.{record_of};
     ghost use Rattle.simdisk.specs.Loans.{lent_of};
     ghost use Rattle.simdisk.specs.Armings.{fault_state_of};
-    ghost use Rattle.simdisk.specs.Record.{ranges, synced, Agrees};
+    ghost use Rattle.simdisk.specs.Record.{ranges, synced, AgreesOutside};
     ghost use Rattle.simdisk.specs.Views.{pieces};
     ghost use Rattle.simdisk.specs.Laws.{only_the_last, below};
     ghost use Rattle.std.specs.Prelude.{◌≡◌, ◌⊎◌, length, take, Some};
@@ -193,7 +193,7 @@ impl Disk for SimDisk {
 
     ghost counts_now = { λ d t c le now. inl now };
 
-    ghost only_now = { λ d c left. only_the_last (synced_after (take (length d.history.past.epochs) d.history.past.epochs) d.history.past.began) d.history.past.epochs c (Agrees (synced (record_of d.history)) (ranges (pieces d.history.written.items)) c) left };
+    ghost only_now = { λ d c left. only_the_last (synced_after (take (length d.history.past.epochs) d.history.past.epochs) d.history.past.began) d.history.past.epochs c (AgreesOutside (synced (record_of d.history)) (ranges (pieces d.history.written.items)) c) left };
 
     ghost bounded = { λ d. below d.failures d.few };
 

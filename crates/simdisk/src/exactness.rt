@@ -1,7 +1,7 @@
 //! What a crash may leave, to the letter.
 ghost use Rattle.std.specs.Prelude.{◌≡◌, ◌⊎◌, ◌≤◌, ◌<◌, ◌+◌, ◌*◌, ◌↔◌, ℕ, length, take, drop};
 ghost use Rattle.disk.specs.Facts.{Content, lent_sectors};
-ghost use Rattle.simdisk.specs.Record.{synced, synced_after, ranges, Agrees, Untouched, Had};
+ghost use Rattle.simdisk.specs.Record.{synced, synced_after, ranges, AgreesOutside, Untouched, Had};
 
 use crate::recorded::Recorded;
 use crate::sim::SimDisk;
@@ -11,7 +11,7 @@ use disk::Disk;
 /// outside the ranges written since, whatever bytes are in them, and no other; and the same for
 /// each moment since an earlier one. What is lent is among the ranges written.
 pub fn exactly_the_model(disk: &SimDisk)
-    ensures now { (c : Content) → (⟦<SimDisk as Disk>⟧.facts disk.now).may_leave c ↔ Agrees (synced (⟦<SimDisk as Recorded>⟧.record disk.now)) (ranges (⟦<SimDisk as Recorded>⟧.record disk.now).written) c }
+    ensures now { (c : Content) → (⟦<SimDisk as Disk>⟧.facts disk.now).may_leave c ↔ AgreesOutside (synced (⟦<SimDisk as Recorded>⟧.record disk.now)) (ranges (⟦<SimDisk as Recorded>⟧.record disk.now).written) c }
     ensures moment { (⟦<SimDisk as Disk>⟧.facts disk.now).moment ≡ length (⟦<SimDisk as Recorded>⟧.record disk.now).past }
     ensures since { (t : ℕ) (c : Content) → (⟦<SimDisk as Disk>⟧.facts disk.now).since t c
         ↔ ((⟦<SimDisk as Disk>⟧.facts disk.now).may_leave c

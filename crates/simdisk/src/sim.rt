@@ -1,6 +1,6 @@
 //! The disk in memory.
 ghost use Rattle.std.specs.Prelude.{◌≡◌, ◌≤◌, ◌<◌, ◌+◌, ◌*◌, ◌^◌, length};
-ghost use Rattle.simdisk.specs.Record.{ranges, synced, newest, Agrees};
+ghost use Rattle.simdisk.specs.Record.{ranges, synced, newest, AgreesOutside};
 ghost use Rattle.simdisk.specs.History.{record_of};
 ghost use Rattle.simdisk.specs.Latest.{latest_of};
 ghost use Rattle.simdisk.specs.Views.{pieces};
@@ -25,7 +25,7 @@ pub struct SimDisk {
     pub(crate) refused: u64,
     pub(crate) loan: Loan,
     pub(crate) faults: Faults,
-    ghost agrees: { Agrees (synced (record_of history)) (ranges (pieces history.written.items)) content.items },
+    ghost agrees: { AgreesOutside (synced (record_of history)) (ranges (pieces history.written.items)) content.items },
     ghost newest: { newest (record_of history) ≡ latest_of latest content.items },
     ghost room: { length latest.sectors.items ≡ length content.items },
     ghost few: { failures < 2 ^ 64 },
