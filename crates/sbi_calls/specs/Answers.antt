@@ -11,7 +11,7 @@ use Rattle.hsm_rule.specs.States.{HartState, stopped, suspended, is_stopped, gra
 use Rattle.hsm.specs.Calls.{code_of, named}
 use Rattle.hsm.specs.Seen.{listed}
 use Rattle.ipi.specs.Seen.{row_of, pairs_with}
-use Rattle.sbi_abi.specs.Answers.{Answer, error_of, value_of}
+use Rattle.sbi_abi.specs.Answers.{SbiResult, error_of, value_of}
 use Rattle.sbi_abi.specs.Calls.{call_of}
 use Rattle.sbi_abi.specs.declared.call.Call.{Call}
 use Rattle.sbi_abi.specs.declared.ret.SbiError.TheVariants.{AlreadyAvailable}
@@ -30,7 +30,7 @@ pub record Row : Type 0 where
   pub table : TableState
 
 -- the answer to a start that was granted, or was not
-abbrev pub start_answer : Bool → Answer
+abbrev pub start_answer : Bool → SbiResult
 start_answer granted = if granted then Ok 0 else Err AlreadyAvailable
 
 -- one hart's state changes
