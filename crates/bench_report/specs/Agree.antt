@@ -103,16 +103,16 @@ IsCutBy fill d (Off left) = (facts left).content ≡ left_by (choice_by fill) (s
 IsCutBy fill d (On board) = ⊥
 
 -- that fault is armed on the disk, whether the board is off or on, and each call of it is still to come
-abbrev pub Arms : ArmedFault → Power → Type 0
-Arms fault (Off disk) = arms disk fault
-Arms fault (On board) = store_arms (store_in board) fault
+abbrev pub IsArmed : ArmedFault → Power → Type 0
+IsArmed fault (Off disk) = arms disk fault
+IsArmed fault (On board) = store_arms (store_in board) fault
 
 -- what a line arms
 abbrev pub ArmsIts : Line → Power → Type 0
-ArmsIts (lines.CutAt n fill) power = Arms (faults.CutAt n) power
-ArmsIts (lines.CutLane i n fill) power = Arms (faults.CutLane i n) power
-ArmsIts (lines.FailAt n) power = Arms (faults.FailAt n) power
-ArmsIts (lines.FailLane i n) power = Arms (faults.FailLane i n) power
+ArmsIts (lines.CutAt n fill) power = IsArmed (faults.CutAt n) power
+ArmsIts (lines.CutLane i n fill) power = IsArmed (faults.CutLane i n) power
+ArmsIts (lines.FailAt n) power = IsArmed (faults.FailAt n) power
+ArmsIts (lines.FailLane i n) power = IsArmed (faults.FailLane i n) power
 ArmsIts line power = ⊤
 
 -- That sector of the disk of a board that is off stands with these bytes in it, from that one on, and nothing else has changed.

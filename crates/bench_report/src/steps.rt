@@ -11,7 +11,7 @@ ghost use Rattle.bench_report.specs.Bench.{Bench, Life};
 ghost use Rattle.bench_report.specs.Steps.{FormatsOn, PowersOn, FormatStep, OnStep, ConsoleStep, PayloadStep, TurnStep, CallStep, ReadStep, ArmStep, PokeStep, Step, Moves, off, unpowered, says, shows};
 ghost use Rattle.disk.specs.FaultState.{armed_by};
 ghost use Rattle.simdisk.specs.declared.SimDisk.{SimDisk};
-ghost use Rattle.bench_report.specs.Agree.{choice_by, HasDisk, IsCutBy, Arms, ArmsIts, Pokes, PokesIts, fill_after, EndsBy, Agrees, IsResting, OffIs, OnIs, StandsBy, AreShort, IsBench, IsUnstruck, Matches, Goes};
+ghost use Rattle.bench_report.specs.Agree.{choice_by, HasDisk, IsCutBy, IsArmed, ArmsIts, Pokes, PokesIts, fill_after, EndsBy, Agrees, IsResting, OffIs, OnIs, StandsBy, AreShort, IsBench, IsUnstruck, Matches, Goes};
 ghost use Rattle.machine_lines.specs.Shows.{waits, reg_line, pc_line, CsrLine, pending_line, mem_line};
 ghost use Rattle.machine.specs.Machine.{Machine};
 ghost use Rattle.board_model.specs.declared.refusal.Refusal.TheVariants.{Memory};
@@ -128,7 +128,7 @@ fn cut(power: Power, fill: Fill) -> Power
 fn arm(power: Power, fault: ArmedFault) -> (Power, Answer)
     requires { IsResting power }
     ensures reported { (size : Size) (b : Bench) → Agrees size b power → Goes size b result.0 (ArmStep (armed_by fault) b result.1) }
-    ensures arms { Arms fault result.0 }
+    ensures arms { IsArmed fault result.0 }
     ensures resting { IsResting result.0 }
 {
     kept_disks::<SimDisk>();
