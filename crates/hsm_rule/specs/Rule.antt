@@ -8,7 +8,7 @@ use Rattle.atomic_table.specs.Table.{State}
 use Rattle.tallies.specs.Sums.{total}
 use Rattle.tallies.specs.Logs.{Log, Reading, IsOfLog, IsTrueLog, word_after}
 use Rattle.board_model.specs.Shapes.{IsAddressIn}
-use Rattle.hsm_words.specs.Words.{hart_view, Board, board_of}
+use Rattle.hsm_words.specs.Words.{hart_view, WordBits, board_of}
 use Rattle.hsm_words.specs.declared.view.Stage.{Stage}
 use Rattle.hsm_words.specs.declared.view.Stage.TheVariants.{Out, Ready, Addressed, Loaded, Running, Claiming, Half, Stored, Asleep, Quiet}
 use Rattle.hsm_words.specs.declared.view.Action.{Action}
@@ -44,7 +44,7 @@ abbrev pub did : (Action → ℕ) → HartSeatView → ℕ
 did g c = total (λ (v : HartView). total g v.actions) c.harts
 
 -- 1 where the target is claimed with this address and opaque value and hasn't entered
-abbrev pub is_pending : Board → Grants → ℕ → ℕ → ℕ → ℕ
+abbrev pub is_pending : WordBits → Grants → ℕ → ℕ → ℕ → ℕ
 is_pending m g t a o = if g.address t == a then (if g.opaque t == o then m.claimed t - m.entered t else 0) else 0
 
 -- 1 where a hart at this stage has a start of the target in flight: it has claimed it and not armed it yet
@@ -69,7 +69,7 @@ abbrev pub IsGrantOf : Grants → ℕ → ℕ → ℕ → Type 0
 IsGrantOf g t a o = (g.address t ≡ a) × (g.opaque t ≡ o)
 
 -- where a hart stands is so in the words
-abbrev pub Fits : ℕ → Board → Grants → ℕ → Stage → Type 0
+abbrev pub Fits : ℕ → WordBits → Grants → ℕ → Stage → Type 0
 Fits harts m g h Out = m.entered h ≡ 0
 Fits harts m g h Ready = (m.armed h ≡ 1) × (m.entered h ≡ 0)
 Fits harts m g h (Addressed a) = (m.armed h ≡ 1) × (m.entered h ≡ 0) × (m.address h ≡ a)
@@ -83,7 +83,7 @@ Fits harts m g h Quiet = (m.entered h ≡ 1) × (m.suspended h ≡ 0) × ((t : �
 
 -- The words and the views agree. `flying`: a claimed hart that is not armed is the start in flight of just one view. `armed`: until an armed hart enters,
 -- its argument words are its claim's. `once`: every hart is in just one seat.
-pub record Sound (harts : ℕ) (m : Board) (g : Grants) (views : List HartSeatView) : Type 0 where
+pub record Sound (harts : ℕ) (m : WordBits) (g : Grants) (views : List HartSeatView) : Type 0 where
   pub order : (h : ℕ) → h < harts → (m.suspended h ≤ m.entered h) × (m.entered h ≤ m.armed h) × (m.armed h ≤ m.claimed h) × (m.claimed h ≤ 1)
   pub flying : (t : ℕ) → t < harts → total (flights t) views + m.armed t ≡ m.claimed t
   pub ledger : (t a o : ℕ) → t < harts → total (did (claim_of t a o)) views ≡ total (did (entry_of t a o)) views + is_pending m g t a o

@@ -5,7 +5,7 @@ use Rattle.std.specs.Int.{bit_at, bit_not}
 use Rattle.std.proofs.lemmas.Nat.Bits.{bit_at_set_same, bit_at_set_other, bit_at_clear_same, bit_at_clear_other, bit_at-lt, bit_at-zero, bit_at_or, bit_at_and, bit_at_not}
 use mathlib.Core.Logic.{dite}
 use native.Mathlib.Decide.{ℕ_discrete}
-use Rattle.hsm_words.specs.Words.{Board, board_of, Same}
+use Rattle.hsm_words.specs.Words.{WordBits, board_of, Same}
 
 abbrev pub mask : ℕ → ℕ
 mask i = 1 * 2 ^ i % 2 ^ 64
@@ -44,7 +44,7 @@ abbrev pub But : ℕ → ℕ → Type 0
 But t k = k ≢ t
 
 -- each of the six things that the words say of a hart, of the harts that are named for it
-pub record Leaves (harts : ℕ) (cl ar en su ad op : ℕ → Type 0) (m m' : Board) : Type 0 where
+pub record Leaves (harts : ℕ) (cl ar en su ad op : ℕ → Type 0) (m m' : WordBits) : Type 0 where
   pub claimed : (k : ℕ) → k < harts → cl k → m'.claimed k ≡ m.claimed k
   pub armed : (k : ℕ) → k < harts → ar k → m'.armed k ≡ m.armed k
   pub entered : (k : ℕ) → k < harts → en k → m'.entered k ≡ m.entered k
