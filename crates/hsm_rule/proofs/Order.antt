@@ -9,7 +9,7 @@ use Rattle.atomic_table.proofs.Lists.{set_else}
 use Rattle.tallies.specs.Logs.{Log, actions_in, placed, earlier, IsAmong, IsTrueLog, word_after}
 use Rattle.tallies.proofs.Logs.{Same, More, one_log, newest, found_at, true_of}
 use Rattle.tallies.proofs.Places.{placed_in, one_found}
-use Rattle.hsm_words.specs.Words.{hart_view, hart_seat_view, board_of}
+use Rattle.hsm_words.specs.Words.{hart_view, hart_seat_view, word_bits}
 use Rattle.hsm_words.specs.declared.view.Action.{Action}
 use Rattle.hsm_words.specs.declared.view.HartView.{HartView}
 use Rattle.hsm_words.specs.declared.view.HartSeatView.{HartSeatView}
@@ -57,7 +57,7 @@ steps_true harts boot s s' kept kept' id h place c st st' x at stood lt_word gro
     let l = kept.log in
     let m = kept'.log in
     let p = find h st c.harts stood in
-    let lt : h < harts = under_board harts (board_of s.words) kept.grants s.views kept.sound id c at h st p in
+    let lt : h < harts = under_board harts (word_bits s.words) kept.grants s.views kept.sound id c at h st p in
     let old = hart_view h st p.actions p.places in
     let new = hart_view h st' (x ∷ p.actions) (place ∷ p.places) in
     let c' = hart_seat_view (noted h st' place x c.harts) in

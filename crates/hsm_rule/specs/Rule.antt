@@ -8,7 +8,7 @@ use Rattle.atomic_table.specs.Table.{State}
 use Rattle.tallies.specs.Sums.{total}
 use Rattle.tallies.specs.Logs.{Log, Reading, IsOfLog, IsTrueLog, word_after}
 use Rattle.board_model.specs.Shapes.{IsAddressIn}
-use Rattle.hsm_words.specs.Words.{hart_view, WordBits, board_of}
+use Rattle.hsm_words.specs.Words.{hart_view, WordBits, word_bits}
 use Rattle.hsm_words.specs.declared.view.Stage.{Stage}
 use Rattle.hsm_words.specs.declared.view.Stage.TheVariants.{Out, Ready, Addressed, Loaded, Running, Claiming, Half, Stored, Asleep, Quiet}
 use Rattle.hsm_words.specs.declared.view.Action.{Action}
@@ -146,7 +146,7 @@ pub record Kept (harts started : ℕ) (s : State (Unit {0}) HartSeatView) : Type
   pub wide : length s.words ≡ 1 + 2 * harts
   pub grants : Grants
   pub sites : (h : ℕ) → IsSite (grants.address h)
-  pub sound : Sound harts (board_of s.words) grants s.views
+  pub sound : Sound harts (word_bits s.words) grants s.views
 
 -- ---- one more action of the hart, which then stands at this stage
 abbrev pub noted : ℕ → Stage → ℕ → Action → List HartView → List HartView

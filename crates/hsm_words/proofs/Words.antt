@@ -5,7 +5,7 @@ use Rattle.std.specs.Int.{bit_at, bit_not}
 use Rattle.std.proofs.lemmas.Nat.Bits.{bit_at_set_same, bit_at_set_other, bit_at_clear_same, bit_at_clear_other, bit_at-lt, bit_at-zero, bit_at_or, bit_at_and, bit_at_not}
 use mathlib.Core.Logic.{dite}
 use native.Mathlib.Decide.{ℕ_discrete}
-use Rattle.hsm_words.specs.Words.{WordBits, board_of, Same}
+use Rattle.hsm_words.specs.Words.{WordBits, word_bits, Same}
 
 abbrev pub mask : ℕ → ℕ
 mask i = 1 * 2 ^ i % 2 ^ 64
@@ -17,7 +17,7 @@ set_back ws i j short =
     (λ other. get_or-set_other ws i j (slice_index ws i) 0 other)
 
 -- a load
-pub same_after_load : (harts : ℕ) (ws : List ℕ) (i : ℕ) → i < length ws → Same harts (board_of ws) (board_of (slice_set ws i (slice_index ws i)))
+pub same_after_load : (harts : ℕ) (ws : List ℕ) (i : ℕ) → i < length ws → Same harts (word_bits ws) (word_bits (slice_set ws i (slice_index ws i)))
 same_after_load harts ws i short = record {
   claimed = λ h lt. ap (λ (k : ℕ). bit_at k h) (set_back ws i 0 short);
   armed = λ h lt. ap (λ (k : ℕ). bit_at k (8 + h)) (set_back ws i 0 short);
@@ -56,7 +56,7 @@ module _ (harts : ℕ) (ws : List ℕ) (n : ℕ) where
   -- word 0 changes, and the bits that are away from the change stay
   pub leaves_bits : (cl ar en su Away : ℕ → Type 0) → 0 < length ws → harts ≤ 8 → ((i : ℕ) → i < 64 → Away i → bit_at (slice_index (slice_set ws 0 n) 0) i ≡ bit_at (slice_index ws 0) i)
       → ((k : ℕ) → k < harts → cl k → Away k) → ((k : ℕ) → k < harts → ar k → Away (8 + k)) → ((k : ℕ) → k < harts → en k → Away (16 + k)) → ((k : ℕ) → k < harts → su k → Away (24 + k))
-      → Leaves harts cl ar en su Any Any (board_of ws) (board_of (slice_set ws 0 n))
+      → Leaves harts cl ar en su Any Any (word_bits ws) (word_bits (slice_set ws 0 n))
   leaves_bits cl ar en su Away short small same c a e s = record {
     claimed = λ k lt z. same k (omega arith) (c k lt z);
     armed = λ k lt z. same (8 + k) (omega arith) (a k lt z);
@@ -68,7 +68,7 @@ module _ (harts : ℕ) (ws : List ℕ) (n : ℕ) where
 
   -- an argument word of the hart t changes
   pub leaves_arguments : (t i : ℕ) → 0 < i → ((k : ℕ) → k ≢ t → 1 + 2 * k ≢ i) → ((k : ℕ) → k ≢ t → 2 + 2 * k ≢ i)
-      → Leaves harts Any Any Any Any (But t) (But t) (board_of ws) (board_of (slice_set ws i n))
+      → Leaves harts Any Any Any Any (But t) (But t) (word_bits ws) (word_bits (slice_set ws i n))
   leaves_arguments t i pos a o =
       let same : (j : ℕ) → j ≢ i → slice_index (slice_set ws i n) j ≡ slice_index ws j = λ j ne. get_or-set_other ws i j n 0 ne in
       let bits : (j : ℕ) → bit_at (slice_index (slice_set ws i n) 0) j ≡ bit_at (slice_index ws 0) j = λ j. ap (λ (k : ℕ). bit_at k j) (same 0 (λ e. omega arith)) in
