@@ -6,7 +6,7 @@ use Rattle.disk.specs.FaultState.{Armed, FaultState}
 use Rattle.simdisk.specs.declared.SimDisk.{SimDisk}
 use Rattle.store.specs.Lives.{Life as StoreLife}
 use Rattle.store.specs.Stores.{life_of}
-use Rattle.bench_report.specs.Below.{Board, store_in, machine_in, facts, fault_state, store_size, store_facts, store_fault_state, IsLife}
+use Rattle.bench_report.specs.Below.{SimBoard, store_in, machine_in, facts, fault_state, store_size, store_facts, store_fault_state, IsLife}
 use Rattle.bench_report.specs.Bench.{Life, Bench}
 use Rattle.bench_report.specs.Steps.{armed_with}
 use Rattle.bench_report.specs.Agree.{Follows, BoardIs, DeviceIs, OffIs, OnIs}
@@ -23,7 +23,7 @@ pub armed_off : GoesOn → (size : Size) (b : Bench) (a : Armed) (old new : SimD
 armed_off goes_on size b a old new was same is =
     (was.0, left_on goes_on size b.disk_state b.kept old new was.1 (λ c l. (same.now c).0 l), device size b a (fault_state old) (fault_state new) (facts old) (facts new) was.2 same is)
 
-pub armed_on : (size : Size) (b : Bench) (a : Armed) (old new : Board) → OnIs size b old → machine_in new ≡ machine_in old → life_of (store_in new) ≡ life_of (store_in old)
+pub armed_on : (size : Size) (b : Bench) (a : Armed) (old new : SimBoard) → OnIs size b old → machine_in new ≡ machine_in old → life_of (store_in new) ≡ life_of (store_in old)
     → store_size (store_in new) ≡ store_size (store_in old) → Unchanged (store_facts (store_in old)) (store_facts (store_in new)) → store_fault_state (store_in new) ≡ record (store_fault_state (store_in old)) { armed = a }
     → OnIs size (armed_with a b) new
 armed_on size b a old new was machine life board same is =

@@ -16,7 +16,7 @@ use Rattle.store.specs.Lives.{Life as StoreLife, Applied, Refused}
 use Rattle.store.specs.Opens.{CausedRefusal}
 use Rattle.store.specs.Stores.{life_of, doubt_of}
 use Rattle.store.specs.Views.{CountedRefusal}
-use Rattle.bench_report.specs.Below.{Store, Board, store_in, machine_in, IsLife, IsAs, store_size, store_now, store_doubt, store_fault_state, store_facts}
+use Rattle.bench_report.specs.Below.{Store, SimBoard, store_in, machine_in, IsLife, IsAs, store_size, store_now, store_doubt, store_fault_state, store_facts}
 use Rattle.bench_report.specs.Bench.{DiskState, Blank, Unknown, Formatted, Life, Bench}
 use Rattle.bench_report.specs.Steps.{failed, acknowledged, in_doubt, Writes, IssuedBy, Issued}
 use Rattle.bench_report.specs.Agree.{StoreIs, BoardIs, Follows, DeviceIs, OnIs, IsOver}
@@ -37,13 +37,13 @@ console_goes_on commands.Discard is = refl
 abbrev pub Running : Size → Bench → Machine → Store → Type 0
 Running size b m store = (life : Life) × (b.power ≡ Some life) × StoreIs size b.disk_state b.kept life store × (m ≡ life.machine) × DeviceIs size b (store_fault_state store) (store_facts store)
 
-pub running_on : (size : Size) (b : Bench) (board : Board) → Running size b (machine_in board) (store_in board) → OnIs size b board
+pub running_on : (size : Size) (b : Bench) (board : SimBoard) → Running size b (machine_in board) (store_in board) → OnIs size b board
 running_on size b board (life, on, store, machine, device) =
     let P : Option Life → Type 0 = λ p. BoardIs size b.disk_state b.kept p board in
     (subst P (sym on) (store, machine), device)
 
 -- a board with that machine
-pub goes_on : (size : Size) (b : Bench) (m : Machine) (board : Board) → Running size b m (store_in board) → machine_in board ≡ m → OnIs size b board
+pub goes_on : (size : Size) (b : Bench) (m : Machine) (board : SimBoard) → Running size b m (store_in board) → machine_in board ≡ m → OnIs size b board
 goes_on size b m board is same = let P : Machine → Type 0 = λ n. Running size b n (store_in board) in running_on size b board (subst P (sym same) is)
 
 pub follows_more : (size : Size) (m : DiskState) (k : Kept) (c : Change) (life : Life) (z : Size) → Follows size m k life z → Follows size m (record k { changes = k.changes ++ c ∷ [] }) (record life { now = after life.now c; receipts = life.receipts + 1 }) z

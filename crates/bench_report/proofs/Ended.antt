@@ -7,7 +7,7 @@ use Rattle.disk.specs.Facts.{Facts, Content, IsLeft}
 use Rattle.store.specs.Leaves.{Leaves, IsKept, LeavesOnly, LeavesEither}
 use Rattle.store.specs.Stores.{Stands, Doubts, now_state, doubt_of}
 use Rattle.simdisk.specs.declared.SimDisk.{SimDisk}
-use Rattle.bench_report.specs.Below.{facts, Store, Board, store_in, IsAs, store_size}
+use Rattle.bench_report.specs.Below.{facts, Store, SimBoard, store_in, IsAs, store_size}
 use Rattle.bench_report.specs.Bench.{DiskState, Blank, Unknown, Formatted, Life}
 use Rattle.bench_report.specs.Agree.{StoreIs, BoardIs, DiskIs, IsOver}
 use Rattle.bench_report.proofs.Adapted.{grows}
@@ -66,7 +66,7 @@ over_ended size Blank k store disk was up = absurd was
 over_ended size Unknown k store disk was up = tt
 over_ended size Formatted k store disk was up = left_only size (store_size store) k (now_state store) disk was.1 was.2 (up (now_state store) (was.3, refl))
 
-pub board_ended : (size : Size) (m : DiskState) (k : Kept) (p : Option Life) (board : Board) (disk : Facts) → BoardIs size m k p board → LeftUp (store_in board) disk → LeftDown (store_in board) disk
+pub board_ended : (size : Size) (m : DiskState) (k : Kept) (p : Option Life) (board : SimBoard) (disk : Facts) → BoardIs size m k p board → LeftUp (store_in board) disk → LeftDown (store_in board) disk
     → IsAllowed (store_in board) → DiskIs size m k disk
 board_ended size m k None board disk was up down allowed = absurd was
 board_ended size m k (Some life) board disk was up down allowed = ended size m k life (store_in board) disk was.0 up down allowed

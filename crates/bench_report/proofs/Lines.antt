@@ -16,7 +16,7 @@ use Rattle.machine_lines.specs.declared.line.MachineLine.TheVariants as shown
 use Rattle.bench_report.specs.declared.power.Power.{Power}
 use Rattle.bench_report.specs.declared.power.Power.TheVariants.{Off, On}
 use Rattle.bench_report.specs.declared.printed.Answer.{Answer}
-use Rattle.bench_report.specs.Below.{Store, Board, store_in, machine_in, store_facts, store_fault_state}
+use Rattle.bench_report.specs.Below.{Store, SimBoard, store_in, machine_in, store_facts, store_fault_state}
 use Rattle.bench_report.specs.Bench.{Life, Bench}
 use Rattle.bench_report.specs.Steps.{shows, on_with, has_machine, FormatsOn, FormatStep, PowersOn, OnStep, PayloadStep, CallReported, GuestCall, TurnStep, CallStep, ReadStep}
 use Rattle.bench_report.proofs.Commanded.{Running, running_on}
@@ -31,14 +31,14 @@ pub off_powers : (size : Size) (b : Bench) (mode : BootMode) (a : Answer) (after
 off_powers size b mode a after none did = let P : Option Life → Type 0 = λ p. OnStep size p mode b a did.0 in (did.0, subst P (sym none) did.1, did.2, did.3)
 
 -- a board that is on has a life
-life_by : {X : Type 0} (size : Size) (b : Bench) (board : Board) (p : Option Life) → b.power ≡ p → OnIs size b board → ((life : Life) → b.power ≡ Some life → X) → X
+life_by : {X : Type 0} (size : Size) (b : Bench) (board : SimBoard) (p : Option Life) → b.power ≡ p → OnIs size b board → ((life : Life) → b.power ≡ Some life → X) → X
 life_by size b board None e was then = let P : Option Life → Type 0 = λ p. BoardIs size b.disk_state b.kept p board in absurd (subst P e was.0)
 life_by size b board (Some life) e was then = then life e
 
-pub on_life : {X : Type 0} (size : Size) (b : Bench) (board : Board) → OnIs size b board → ((life : Life) → b.power ≡ Some life → X) → X
+pub on_life : {X : Type 0} (size : Size) (b : Bench) (board : SimBoard) → OnIs size b board → ((life : Life) → b.power ≡ Some life → X) → X
 on_life size b board was then = life_by size b board b.power refl was then
 
-pub on_reads : (size : Size) (b : Bench) (board : Board) (says_so : Machine → MachineLine → Type 0) (line : MachineLine) → OnIs size b board → says_so (machine_in board) line → ReadStep b.power says_so b (shows line) b
+pub on_reads : (size : Size) (b : Bench) (board : SimBoard) (says_so : Machine → MachineLine → Type 0) (line : MachineLine) → OnIs size b board → says_so (machine_in board) line → ReadStep b.power says_so b (shows line) b
 on_reads size b board says_so line was so = by b.power was.0
   where
     by : (p : Option Life) → BoardIs size b.disk_state b.kept p board → ReadStep p says_so b (shows line) b
@@ -46,7 +46,7 @@ on_reads size b board says_so line was so = by b.power was.0
     by (Some life) is = let P : Machine → Type 0 = λ m. says_so m line in (line, subst P is.1 so, refl, refl)
 
 -- a board of which nothing changed
-as_it_was : (size : Size) (b : Bench) (old new : Board) → OnIs size b old → machine_in new ≡ machine_in old → store_in new ≡ store_in old → OnIs size b new
+as_it_was : (size : Size) (b : Bench) (old new : SimBoard) → OnIs size b old → machine_in new ≡ machine_in old → store_in new ≡ store_in old → OnIs size b new
 as_it_was size b old new was still same =
     let R : Store → Type 0 = λ store. DeviceIs size b (store_fault_state store) (store_facts store) in
     (by b.power was.0, subst R (sym same) was.1)
@@ -56,17 +56,17 @@ as_it_was size b old new was still same =
     by (Some life) is = let Q : Store → Type 0 = λ store. StoreIs size b.disk_state b.kept life store in (subst Q (sym same) is.0, still ∙ is.1)
 
 -- a board by what is said of it, and by its machine and its store
-on_runs : (size : Size) (b : Bench) (life : Life) (board : Board) → b.power ≡ Some life → BoardIs size b.disk_state b.kept (Some life) board → DeviceIs size b (store_fault_state (store_in board)) (store_facts (store_in board))
+on_runs : (size : Size) (b : Bench) (life : Life) (board : SimBoard) → b.power ≡ Some life → BoardIs size b.disk_state b.kept (Some life) board → DeviceIs size b (store_fault_state (store_in board)) (store_facts (store_in board))
     → Running size b (machine_in board) (store_in board)
 on_runs size b life board on is device = (life, on, is.0, is.1, device)
 
-stands_by : (size : Size) (word : Word) (b : Bench) (board : Board) → Stands size word b (machine_in board) (store_in board) → StandsBy size word b board
+stands_by : (size : Size) (word : Word) (b : Bench) (board : SimBoard) → Stands size word b (machine_in board) (store_in board) → StandsBy size word b board
 stands_by size (words.Own did) b board is = running_on size b board is
 stands_by size words.Asleep b board is = is
 stands_by size (words.Reset kind) b board is = is
 
 -- a line of turns, by what the board did
-pub on_turns : (size : Size) (b : Bench) (old new : Board) (h n made : ℕ) (word : Word) (after : Power) → OnIs size b old → Has (machine_in old) h
+pub on_turns : (size : Size) (b : Bench) (old new : SimBoard) (h n made : ℕ) (word : Word) (after : Power) → OnIs size b old → Has (machine_in old) h
     → boards.TurnsMany h n (machine_in old) (machine_in new) (store_in old) (store_in new) made word → ((x : Bench) → StandsBy size word x new → Agrees size x after)
     → Goes size b after (TurnStep b.power h n b (shows (shown.Turn h made word)))
 on_turns size b old new h n made word after was has turned agrees = by b.power was.0 refl
@@ -79,14 +79,14 @@ on_turns size b old new h n made word after was has turned agrees = by b.power w
         (did.0, inl (subst P is.1 has, made, word, did.1, refl), agrees did.0 (stands_by size word did.0 new did.2), did.3)
 
 -- a line whose hart the board lacks
-lacks : (size : Size) (b : Bench) (board : Board) (h : ℕ) (p : Option Life) → BoardIs size b.disk_state b.kept p board → (Has (machine_in board) h → ⊥) → (step : Option Life → Type 0) → ((life : Life) → (Has life.machine h → ⊥) → step (Some life)) → step p
+lacks : (size : Size) (b : Bench) (board : SimBoard) (h : ℕ) (p : Option Life) → BoardIs size b.disk_state b.kept p board → (Has (machine_in board) h → ⊥) → (step : Option Life → Type 0) → ((life : Life) → (Has life.machine h → ⊥) → step (Some life)) → step p
 lacks size b board h None is not step then = absurd is
 lacks size b board h (Some life) is not step then = let P : Machine → Type 0 = λ m. Has m h → ⊥ in then life (subst P is.1 not)
 
-pub turns_off : (size : Size) (b : Bench) (board : Board) (h n : ℕ) → OnIs size b board → (Has (machine_in board) h → ⊥) → Goes size b (On board) (TurnStep b.power h n b (shows shown.Off))
+pub turns_off : (size : Size) (b : Bench) (board : SimBoard) (h n : ℕ) → OnIs size b board → (Has (machine_in board) h → ⊥) → Goes size b (On board) (TurnStep b.power h n b (shows shown.Off))
 turns_off size b board h n was not = (b, lacks size b board h b.power was.0 not (λ p. TurnStep p h n b (shows shown.Off) b) (λ life no. inr (no, refl, refl)), was, refl)
 
-pub calls_off : (size : Size) (b : Bench) (board : Board) (h e f x y z : ℕ) → OnIs size b board → (Has (machine_in board) h → ⊥) → Goes size b (On board) (CallStep b.power h e f x y z b (shows shown.Off))
+pub calls_off : (size : Size) (b : Bench) (board : SimBoard) (h e f x y z : ℕ) → OnIs size b board → (Has (machine_in board) h → ⊥) → Goes size b (On board) (CallStep b.power h e f x y z b (shows shown.Off))
 calls_off size b board h e f x y z was not = (b, lacks size b board h b.power was.0 not (λ p. CallStep p h e f x y z b (shows shown.Off) b) (λ life no. inr (no, refl, refl)), was, refl)
 
 -- a line of a call, by what the board did
@@ -95,7 +95,7 @@ reported_as size h (words.Own did) b n store line (life, on, is, same, device) e
 reported_as size h words.Asleep b n store line is e = ap shows e
 reported_as size h (words.Reset kind) b n store line is e = ap shows e
 
-module _ (size : Size) (b : Bench) (old new : Board) (h e f x y z : ℕ) (said : Option Word) (line : MachineLine) (after : Power) (was : OnIs size b old) (has : Has (machine_in old) h) (shows_it : line ≡ called_line h (hart_at (machine_in new) h) said) where
+module _ (size : Size) (b : Bench) (old new : SimBoard) (h e f x y z : ℕ) (said : Option Word) (line : MachineLine) (after : Power) (was : OnIs size b old) (has : Has (machine_in old) h) (shows_it : line ≡ called_line h (hart_at (machine_in new) h) said) where
   -- what the board is, where a word was said and where none was
   abbrev pub Follows : Option Word → Type 0
   Follows None = (w : Bench) → OnIs size w new → Agrees size w after
@@ -131,7 +131,7 @@ module _ (size : Size) (b : Bench) (old new : Board) (h e f x y z : ℕ) (said :
           (did.0, inl (subst P is.1 has, m, called, subst C is.1 call, did.1), did.2, did.3)
 
 -- a look that leaves the board as it was
-pub on_looks : (size : Size) (b : Bench) (old new : Board) (says_so : Machine → MachineLine → Type 0) (line : MachineLine) → OnIs size b old → says_so (machine_in old) line → machine_in new ≡ machine_in old → store_in new ≡ store_in old
+pub on_looks : (size : Size) (b : Bench) (old new : SimBoard) (says_so : Machine → MachineLine → Type 0) (line : MachineLine) → OnIs size b old → says_so (machine_in old) line → machine_in new ≡ machine_in old → store_in new ≡ store_in old
     → Goes size b (On new) (ReadStep b.power says_so b (shows line))
 on_looks size b old new says_so line was so still same = (b, on_reads size b old says_so line was so, as_it_was size b old new was still same, refl)
 
@@ -150,10 +150,10 @@ keeps_off size b power disk slot bytes old new at was set =
     let next_off : OffIs size next disk = off in
     (next, subst P (sym off.0) (refl, refl), (subst R (sym at) next_off, set ∙ ap (λ ps. slice_set ps slot bytes) was.1))
 
-busy_on : (size : Size) (b : Bench) (power : Power) (board : Board) (p : Option Life) (slot : ℕ) (bytes : List ℕ) (old : List (List ℕ)) → BoardIs size b.disk_state b.kept p board → IsBench size b power old
+busy_on : (size : Size) (b : Bench) (power : Power) (board : SimBoard) (p : Option Life) (slot : ℕ) (bytes : List ℕ) (old : List (List ℕ)) → BoardIs size b.disk_state b.kept p board → IsBench size b power old
     → (new : Bench) × PayloadStep p slot bytes b (shows shown.Busy) new × Matches size new power old
 busy_on size b power board None slot bytes old is was = absurd is
 busy_on size b power board (Some life) slot bytes old is was = (b, (refl, refl), (was.0, was.1))
 
-pub keeps_on : (size : Size) (b : Bench) (power : Power) (board : Board) (slot : ℕ) (bytes : List ℕ) (old : List (List ℕ)) → power ≡ On board → IsBench size b power old → Keeps size b power slot bytes shown.Busy old
+pub keeps_on : (size : Size) (b : Bench) (power : Power) (board : SimBoard) (slot : ℕ) (bytes : List ℕ) (old : List (List ℕ)) → power ≡ On board → IsBench size b power old → Keeps size b power slot bytes shown.Busy old
 keeps_on size b power board slot bytes old at was = let Q : Power → Type 0 = λ p. Agrees size b p in let on : OnIs size b board = subst Q at was.0 in busy_on size b power board b.power slot bytes old on.0 was

@@ -23,7 +23,7 @@ use Rattle.board.specs.Unbooted.{doubt_after, LeavesLife, CountsRefusal}
 use Rattle.bench_report.specs.declared.printed.Answer.{Answer}
 use Rattle.bench_report.specs.declared.printed.Printed.{Printed}
 use Rattle.bench_report.specs.declared.printed.Printed.TheVariants as printed
-use Rattle.bench_report.specs.Below.{Store, Board, store_in, machine_in, facts, fault_state, store_size, store_facts, store_fault_state, IsLife, IsAs}
+use Rattle.bench_report.specs.Below.{Store, SimBoard, store_in, machine_in, facts, fault_state, store_size, store_facts, store_fault_state, IsLife, IsAs}
 use Rattle.bench_report.specs.Bench.{DiskState, Blank, Unknown, Formatted, Life, Bench}
 use Rattle.bench_report.specs.Steps.{says, out_of_memory, failed, off, on_with, has_machine, begun, acknowledged, in_doubt, commands_of, Writes, Issued, IssuesAll, ShowsFound, Opens, Starts, Begins, Boots, PowersOn}
 use Rattle.bench_report.specs.Agree.{AreShort, DiskIs, DeviceIs, Follows, OffIs, OnIs}
@@ -66,13 +66,13 @@ opened : KeptLaw → BlankLaw → (size : Size) (b : Bench) (old : SimDisk) (z :
 opened kept blank size b old z s off leaves = opens size b.disk_state b (facts old) z s off.1 leaves (λ is. blank.stands old z s is leaves) (λ y is. kept.one_size old y z s leaves is)
 
 -- ---- the board is on
-abbrev BoardStarts : Size → BootMode → Size → State → Bench → Printed → Board → Type 0
+abbrev BoardStarts : Size → BootMode → Size → State → Bench → Printed → SimBoard → Type 0
 BoardStarts size mode z s b line board = (x : Bench) × Starts mode z s b line x × OnIs size x board × (x.payloads ≡ b.payloads)
 
-abbrev BoardOn : Size → BootMode → Size → State → Bench → Printed → Board → Type 0
+abbrev BoardOn : Size → BootMode → Size → State → Bench → Printed → SimBoard → Type 0
 BoardOn size mode z s b line board = (x : Bench) × Begins mode z s b line x × OnIs size x board × (x.payloads ≡ b.payloads)
 
-module _ (size : Size) (b : Bench) (s : State) (board : Board) (line : Printed) (follows : Follows size b.disk_state b.kept (begun s (store_size (store_in board))) (store_size (store_in board)))
+module _ (size : Size) (b : Bench) (s : State) (board : SimBoard) (line : Printed) (follows : Follows size b.disk_state b.kept (begun s (store_size (store_in board))) (store_size (store_in board)))
     (device : DeviceIs size b (store_fault_state (store_in board)) (store_facts (store_in board))) where
   abbrev z : Size
   z = store_size (store_in board)
@@ -115,7 +115,7 @@ module _ (size : Size) (b : Bench) (s : State) (board : Board) (line : Printed) 
   on_begun modes.Discard begins life allowed h = by_one modes.Discard Discard refl allowed begins life h
   on_begun modes.Resume begins life allowed h = let did = by_one modes.Resume Consume refl allowed begins life h in (did.0, inl did.1, did.2, did.3)
 
-pub power_ok : KeptLaw → BlankLaw → (size : Size) (mode : BootMode) (b : Bench) (payloads : List (List ℕ)) (old : SimDisk) (board : Board) (a : Answer) → OffIs size b old → payloads ≡ b.payloads
+pub power_ok : KeptLaw → BlankLaw → (size : Size) (mode : BootMode) (b : Bench) (payloads : List (List ℕ)) (old : SimDisk) (board : SimBoard) (a : Answer) → OffIs size b old → payloads ≡ b.payloads
     → IsOn mode payloads (facts old) (view_of (store_in board)) (machine_in board) → KeepsDisk (facts old) (fault_state old) (store_facts (store_in board)) (store_fault_state (store_in board))
     → ShowsFound a.found (life_of (store_in board)).found → a.line ≡ printed.On mode → (x : Bench) × PowersOn size mode b a x × OnIs size x board × (x.payloads ≡ b.payloads)
 power_ok kept blank size mode b payloads old board a off same on keeps shows h =

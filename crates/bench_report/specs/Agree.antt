@@ -23,7 +23,7 @@ use Rattle.machine.specs.declared.parts.Word.{Word}
 use Rattle.machine.specs.declared.parts.Word.TheVariants as words
 use Rattle.bench_report.specs.declared.power.Power.{Power}
 use Rattle.bench_report.specs.declared.power.Power.TheVariants.{Off, On}
-use Rattle.bench_report.specs.Below.{Store, Board, store_in, machine_in, facts, arms, store_arms, record_of, fault_state, store_facts, store_fault_state, store_size, store_now, store_doubt, IsAs}
+use Rattle.bench_report.specs.Below.{Store, SimBoard, store_in, machine_in, facts, arms, store_arms, record_of, fault_state, store_facts, store_fault_state, store_size, store_now, store_doubt, IsAs}
 use Rattle.bench_report.specs.Bench.{DiskState, Blank, Unknown, Formatted, Life, Bench}
 use Rattle.bench_report.specs.Steps.{Step}
 use Rattle.bench_report.specs.declared.printed.Answer.{Answer}
@@ -45,7 +45,7 @@ abbrev pub StoreIs : Size → DiskState → Kept → Life → Store → Type 0
 StoreIs size disk_state kept life store = Follows size disk_state kept life (store_size store) × IsAs store life.now life.receipts life.doubt
 
 -- a board that is on
-abbrev pub BoardIs : Size → DiskState → Kept → Option Life → Board → Type 0
+abbrev pub BoardIs : Size → DiskState → Kept → Option Life → SimBoard → Type 0
 BoardIs size disk_state kept None board = ⊥
 BoardIs size disk_state kept (Some life) board = StoreIs size disk_state kept life (store_in board) × (machine_in board ≡ life.machine)
 
@@ -56,7 +56,7 @@ DeviceIs size b m disk = (b.fault_state ≡ m) × (b.failures ≤ disk.failures)
 abbrev pub OffIs : Size → Bench → SimDisk → Type 0
 OffIs size b disk = (b.power ≡ None) × DiskIs size b.disk_state b.kept (facts disk) × DeviceIs size b (fault_state disk) (facts disk)
 
-abbrev pub OnIs : Size → Bench → Board → Type 0
+abbrev pub OnIs : Size → Bench → SimBoard → Type 0
 OnIs size b board = BoardIs size b.disk_state b.kept b.power board × DeviceIs size b (store_fault_state (store_in board)) (store_facts (store_in board))
 
 -- the store of a life that its own command ended, over a disk that keeps that command
@@ -65,11 +65,11 @@ IsOver size Blank kept store = ⊥
 IsOver size Unknown kept store = ⊤
 IsOver size Formatted kept store = (kept.doubt ≡ None) × (store_now store ≡ found_of kept.changes) × (store_size store ≡ size) × (store_doubt store ≡ None)
 
-abbrev pub OverIs : Size → Bench → Board → Type 0
+abbrev pub OverIs : Size → Bench → SimBoard → Type 0
 OverIs size b board = (b.power ≡ None) × IsOver size b.disk_state b.kept (store_in board) × DeviceIs size b (store_fault_state (store_in board)) (store_facts (store_in board))
 
 -- a board after what is said of a turn or a call
-abbrev pub StandsBy : Size → Word → Bench → Board → Type 0
+abbrev pub StandsBy : Size → Word → Bench → SimBoard → Type 0
 StandsBy size (words.Own did) b board = OnIs size b board
 StandsBy size words.Asleep b board = OverIs size b board
 StandsBy size (words.Reset kind) b board = OverIs size b board

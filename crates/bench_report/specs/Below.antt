@@ -23,14 +23,14 @@ abbrev pub Store : Type 0
 Store = any.Store SimDisk SimLane sim_disk.ghosts sim_lane.ghosts
 
 -- a board over a disk in memory
-abbrev pub Board : Type 0
-Board = boards.Board SimDisk SimLane sim_disk.ghosts sim_lane.ghosts
+abbrev pub SimBoard : Type 0
+SimBoard = boards.Board SimDisk SimLane sim_disk.ghosts sim_lane.ghosts
 
 -- its store, and its memory and harts
-abbrev pub store_in : Board → Store
+abbrev pub store_in : SimBoard → Store
 store_in board = words.store_of board
 
-abbrev pub machine_in : Board → Machine
+abbrev pub machine_in : SimBoard → Machine
 machine_in board = words.machine_of board
 
 -- the facts of the disk, and why it failed
