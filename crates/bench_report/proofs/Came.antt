@@ -36,7 +36,7 @@ use Rattle.machine.specs.Durables.{MakesCall as MachineCall}
 use Rattle.machine.specs.declared.parts.Word.{Word}
 use Rattle.machine.specs.declared.parts.Word.TheVariants as words
 use Rattle.board.specs.Turns as boards
-use Rattle.bench_report.specs.Below.{Store, IsLife, IsAs, store_size, store_fault_state, store_facts}
+use Rattle.bench_report.specs.Below.{SimStore, IsLife, IsAs, store_size, store_fault_state, store_facts}
 use Rattle.bench_report.specs.Bench.{Life, Bench}
 use Rattle.bench_report.specs.Steps.{out_of_memory, off, on_with, has_machine, acknowledged, Issued, refused, Refuses, Held, Resets, Suspends, IsAlone, Sleeps, SleepsBy, MakesCall, Comes, GuestTurn, IsLastTurn, GuestTurns}
 use Rattle.bench_report.specs.Agree.{StoreIs, DeviceIs, IsOver}
@@ -44,11 +44,11 @@ use Rattle.bench_report.proofs.Adapted.{calm as untouched}
 use Rattle.bench_report.proofs.Commanded.{Running, follows_with, sized_for, reported_end, reported_err, reported_up, reported_down, again, calm_device, unmoved}
 
 -- the store of a life that its own command ended
-abbrev pub IsEnded : Size → Bench → Store → Type 0
+abbrev pub IsEnded : Size → Bench → SimStore → Type 0
 IsEnded size b store = (b.power ≡ None) × IsOver size b.disk_state b.kept store × DeviceIs size b (store_fault_state store) (store_facts store)
 
 -- a board after what is said of a turn or a call
-abbrev pub Stands : Size → Word → Bench → Machine → Store → Type 0
+abbrev pub Stands : Size → Word → Bench → Machine → SimStore → Type 0
 Stands size (words.Own did) b m store = Running size b m store
 Stands size words.Asleep b m store = IsEnded size b store
 Stands size (words.Reset kind) b m store = IsEnded size b store
@@ -58,7 +58,7 @@ abbrev answering : ℕ → SbiError → Machine → Machine
 answering h e m = record m { harts = slice_set m.harts h (answered (hart_at m h) (error_of (Err e)) 0) }
 
 -- a command of hart h, which the store was asked for on a board that is on
-module _ (size : Size) (b : Bench) (life : Life) (h : ℕ) (n : Machine) (old new : Store) (on : b.power ≡ Some life) (was : StoreIs size b.disk_state b.kept life old) (device : DeviceIs size b (store_fault_state old) (store_facts old))
+module _ (size : Size) (b : Bench) (life : Life) (h : ℕ) (n : Machine) (old new : SimStore) (on : b.power ≡ Some life) (was : StoreIs size b.disk_state b.kept life old) (device : DeviceIs size b (store_fault_state old) (store_facts old))
     (t : State) (made : n ≡ record life.machine { harts = slice_set life.machine.harts h t }) where
   -- it came to that
   abbrev pub Came : (Word → Bench → Type 0) → Made → Type 0
@@ -77,8 +77,8 @@ module _ (size : Size) (b : Bench) (life : Life) (h : ℕ) (n : Machine) (old ne
   -- it was refused by its arguments
   refuses : (e : SbiError) (held : Made) → Refused_to e (hart_at life.machine h) t held → new ≡ old → Came (λ word x. Refuses e h life b word x) held
   refuses e held (is, at) same =
-      let Q : Store → Type 0 = λ store. StoreIs size b.disk_state b.kept life store in
-      let S : Store → Type 0 = λ store. DeviceIs size b (store_fault_state store) (store_facts store) in
+      let Q : SimStore → Type 0 = λ store. StoreIs size b.disk_state b.kept life store in
+      let S : SimStore → Type 0 = λ store. DeviceIs size b (store_fault_state store) (store_facts store) in
       let did = goes e b (life, on, subst Q (sym same) was, refl, subst S (sym same) device) is in
       let next : did.0 ≡ life = one did.0 did.1 in
       let P : Life → Type 0 = λ l. Running size (on_with (refused h e l) b) n new in
@@ -266,10 +266,10 @@ module _ (size : Size) (b : Bench) (life : Life) (h : ℕ) (n : Machine) (old ne
   makes call held x sized = refuses NotSupported held x.0 x.1
 
 -- ---- what comes of what a hart did
-abbrev Comes_so : Size → (Word → Bench → Type 0) → Bench → Word → Machine → Store → Type 0
+abbrev Comes_so : Size → (Word → Bench → Type 0) → Bench → Word → Machine → SimStore → Type 0
 Comes_so size step b word n new = (x : Bench) × step word x × Stands size word x n new × (x.payloads ≡ b.payloads)
 
-module _ (size : Size) (b : Bench) (life : Life) (h : ℕ) (n : Machine) (old new : Store) (on : b.power ≡ Some life) (was : StoreIs size b.disk_state b.kept life old) (device : DeviceIs size b (store_fault_state old) (store_facts old)) where
+module _ (size : Size) (b : Bench) (life : Life) (h : ℕ) (n : Machine) (old new : SimStore) (on : b.power ≡ Some life) (was : StoreIs size b.disk_state b.kept life old) (device : DeviceIs size b (store_fault_state old) (store_facts old)) where
   called : (held : Made) → MachineCall h life.machine n old new held → Comes_so size (λ word x. Comes Durable h life b word x) b (word_by held) n new
   called held (after, is, e) =
       let F : Machine = record life.machine { harts = slice_set life.machine.harts h after.hart } in
@@ -283,33 +283,33 @@ module _ (size : Size) (b : Bench) (life : Life) (h : ℕ) (n : Machine) (old ne
       subst P (sym e) (called held made)
   comes did word (same, still, e) =
       let P : Word → Type 0 = λ w. Comes_so size (λ word x. Comes did h life b word x) b w n new in
-      let Q : Store → Type 0 = λ store. StoreIs size b.disk_state b.kept life store in
-      let S : Store → Type 0 = λ store. DeviceIs size b (store_fault_state store) (store_facts store) in
+      let Q : SimStore → Type 0 = λ store. StoreIs size b.disk_state b.kept life store in
+      let S : SimStore → Type 0 = λ store. DeviceIs size b (store_fault_state store) (store_facts store) in
       subst P (sym e) (b, (refl, refl), (life, on, subst Q (sym still) was, same, subst S (sym still) device), refl)
 
 -- ---- turns
 -- the board with another machine of its size
-pub has_other : (size : Size) (b : Bench) (life : Life) (m : Machine) (store : Store) → m.size ≡ life.machine.size → StoreIs size b.disk_state b.kept life store → StoreIs size b.disk_state b.kept (has_machine m life) store
+pub has_other : (size : Size) (b : Bench) (life : Life) (m : Machine) (store : SimStore) → m.size ≡ life.machine.size → StoreIs size b.disk_state b.kept life store → StoreIs size b.disk_state b.kept (has_machine m life) store
 has_other size b life m store same is = (follows_with size b.disk_state b.kept life m (store_size store) same is.0, is.1)
 
-turn : (size : Size) (h : ℕ) (b : Bench) (life : Life) (n : Machine) (old new : Store) (word : Word) → b.power ≡ Some life → StoreIs size b.disk_state b.kept life old → DeviceIs size b (store_fault_state old) (store_facts old)
+turn : (size : Size) (h : ℕ) (b : Bench) (life : Life) (n : Machine) (old new : SimStore) (word : Word) → b.power ≡ Some life → StoreIs size b.disk_state b.kept life old → DeviceIs size b (store_fault_state old) (store_facts old)
     → boards.Turns h life.machine n old new word → Comes_so size (λ word x. GuestTurn h life b word x) b word n new
 turn size h b life n old new word on was device (m, did, turned, came) =
     let same : m.size ≡ life.machine.size = ap (λ (k : Machine). k.size) turned.2 in
     let rest = comes size (on_with (has_machine m life) b) (has_machine m life) h n old new refl (has_other size b life m old same was) device did word came in
     (rest.0, (m, did, turned, rest.1), rest.2, rest.3)
 
-struck_as : (size : Size) (word : Word) (b : Bench) (m : Machine) (store : Store) → Stands size word b m store → b.fault_state.struck ≡ (store_fault_state store).struck
+struck_as : (size : Size) (word : Word) (b : Bench) (m : Machine) (store : SimStore) → Stands size word b m store → b.fault_state.struck ≡ (store_fault_state store).struck
 struck_as size (words.Own did) b m store (life, on, is, same, device) = ap (λ x. x.struck) device.0
 struck_as size words.Asleep b m store (off, is, device) = ap (λ x. x.struck) device.0
 struck_as size (words.Reset kind) b m store (off, is, device) = ap (λ x. x.struck) device.0
 
-runs : (size : Size) (word : Word) (b : Bench) (m : Machine) (store : Store) → ends word ≡ false → Stands size word b m store → Running size b m store
+runs : (size : Size) (word : Word) (b : Bench) (m : Machine) (store : SimStore) → ends word ≡ false → Stands size word b m store → Running size b m store
 runs size (words.Own did) b m store e is = is
 runs size words.Asleep b m store e is = absurd (let no : ⊥ = cc in no)
 runs size (words.Reset kind) b m store e is = absurd (let no : ⊥ = cc in no)
 
-pub turns : (size : Size) (h count : ℕ) (b : Bench) (m n : Machine) (old new : Store) (made : ℕ) (word : Word) → Running size b m old → boards.TurnsMany h count m n old new made word
+pub turns : (size : Size) (h count : ℕ) (b : Bench) (m n : Machine) (old new : SimStore) (made : ℕ) (word : Word) → Running size b m old → boards.TurnsMany h count m n old new made word
     → Comes_so size (λ word x. GuestTurns h count b made word x) b word n new
 turns size h zero b m n old new made word is x = absurd x
 turns size h (suc count) b m n old new made word (life, on, was, same, device) (mid, store, first, turned, more) =
@@ -323,7 +323,7 @@ turns size h (suc count) b m n old new made word (life, on, was, same, device) (
         → Comes_so size (λ word x. GuestTurns h (suc count) b made word x) b word n new
     go (x, did, stands, payloads) (inl (last, e, f, k, w)) others =
         let M : Machine → Type 0 = λ y. Stands size first x y new in
-        let S : Store → Type 0 = λ y. Stands size first x mid y in
+        let S : SimStore → Type 0 = λ y. Stands size first x mid y in
         let W : Word → Type 0 = λ y. Stands size y x n new in
         (x, (life, on, first, x, did, inl (is_last last, k, w, refl)), subst W (sym w) (subst M (sym e) (subst S (sym f) stands)), payloads)
       where

@@ -16,7 +16,7 @@ use Rattle.store.specs.Lives.{Life as StoreLife, Applied, Refused}
 use Rattle.store.specs.Opens.{CausedRefusal}
 use Rattle.store.specs.Stores.{life_of, doubt_of}
 use Rattle.store.specs.Views.{CountedRefusal}
-use Rattle.bench_report.specs.Below.{Store, SimBoard, store_in, machine_in, IsLife, IsAs, store_size, store_now, store_doubt, store_fault_state, store_facts}
+use Rattle.bench_report.specs.Below.{SimStore, SimBoard, store_in, machine_in, IsLife, IsAs, store_size, store_now, store_doubt, store_fault_state, store_facts}
 use Rattle.bench_report.specs.Bench.{DiskState, Blank, Unknown, Formatted, Life, Bench}
 use Rattle.bench_report.specs.Steps.{failed, acknowledged, in_doubt, Writes, IssuedBy, Issued}
 use Rattle.bench_report.specs.Agree.{StoreIs, BoardIs, Follows, DeviceIs, OnIs, IsOver}
@@ -34,7 +34,7 @@ console_goes_on commands.Consume is = absurd is
 console_goes_on commands.Discard is = refl
 
 -- a board that is on, by its machine and its store
-abbrev pub Running : Size → Bench → Machine → Store → Type 0
+abbrev pub Running : Size → Bench → Machine → SimStore → Type 0
 Running size b m store = (life : Life) × (b.power ≡ Some life) × StoreIs size b.disk_state b.kept life store × (m ≡ life.machine) × DeviceIs size b (store_fault_state store) (store_facts store)
 
 pub running_on : (size : Size) (b : Bench) (board : SimBoard) → Running size b (machine_in board) (store_in board) → OnIs size b board
@@ -71,14 +71,14 @@ sized_for size Formatted k life z h = h.3
 sized : (size : Size) (m : DiskState) (k : Kept) (life : Life) (z y : Size) → y ≡ z → Follows size m k life z → Follows size m k life y
 sized size m k life z y same h = let P : Size → Type 0 = λ x. Follows size m k life x in subst P (sym same) h
 
-over_more : (size : Size) (m : DiskState) (k : Kept) (c : Change) (life : Life) (store : Store) → Follows size m k life (store_size store) → life.doubt ≡ None → store_now store ≡ after life.now c → store_doubt store ≡ None
+over_more : (size : Size) (m : DiskState) (k : Kept) (c : Change) (life : Life) (store : SimStore) → Follows size m k life (store_size store) → life.doubt ≡ None → store_now store ≡ after life.now c → store_doubt store ≡ None
     → IsOver size m (record k { changes = k.changes ++ c ∷ [] }) store
 over_more size Blank k c life store h calm now doubt = h
 over_more size Unknown k c life store h calm now doubt = tt
 over_more size Formatted k c life store h calm now doubt = (h.0 ∙ calm, now ∙ found_more k.changes c life.now h.1, h.2, doubt)
 
 -- A command on a board whose life has a command in doubt, or none. Where none is, the store's life is seen so when it is asked.
-module _ (size : Size) (b : Bench) (life : Life) (c : Change) (old new : Store) (seen : StoreLife)
+module _ (size : Size) (b : Bench) (life : Life) (c : Change) (old new : SimStore) (seen : StoreLife)
     (on : b.power ≡ Some life) (was : StoreIs size b.disk_state b.kept life old) (device : DeviceIs size b (store_fault_state old) (store_facts old))
     (same_size : store_size new ≡ store_size old) (fits : SameLength (store_facts old) (store_facts new)) (no_fewer : (store_facts old).failures ≤ (store_facts new).failures) where
   -- the command is answered so, and the board is on
@@ -153,8 +153,8 @@ module _ (size : Size) (b : Bench) (life : Life) (c : Change) (old new : Store) 
   -- the store as it was
   pub unmoved : new ≡ old → Running size b life.machine new
   unmoved same =
-      let Q : Store → Type 0 = λ store. StoreIs size b.disk_state b.kept life store in
-      let S : Store → Type 0 = λ store. DeviceIs size b (store_fault_state store) (store_facts store) in
+      let Q : SimStore → Type 0 = λ store. StoreIs size b.disk_state b.kept life store in
+      let S : SimStore → Type 0 = λ store. DeviceIs size b (store_fault_state store) (store_facts store) in
       (life, on, subst Q (sym same) was, refl, subst S (sym same) device)
 
   module _ (is : life.doubt ≡ None → IsLife seen life.now life.receipts None) where

@@ -7,7 +7,7 @@ use Rattle.disk.specs.Facts.{Facts, Content, IsLeft}
 use Rattle.store.specs.Leaves.{Leaves, IsKept, LeavesOnly, LeavesEither}
 use Rattle.store.specs.Stores.{Stands, Doubts, now_state, doubt_of}
 use Rattle.simdisk.specs.declared.SimDisk.{SimDisk}
-use Rattle.bench_report.specs.Below.{facts, Store, SimBoard, store_in, IsAs, store_size}
+use Rattle.bench_report.specs.Below.{facts, SimStore, SimBoard, store_in, IsAs, store_size}
 use Rattle.bench_report.specs.Bench.{DiskState, Blank, Unknown, Formatted, Life}
 use Rattle.bench_report.specs.Agree.{StoreIs, BoardIs, DiskIs, IsOver}
 use Rattle.bench_report.proofs.Adapted.{grows}
@@ -17,14 +17,14 @@ pub found_more : (cs : List Change) (c : Change) (now : State) → now ≡ found
 found_more cs c now e = ap (λ s. after s c) e ∙ sym (grows formatted cs c)
 
 -- the table does not refuse the command that a store has in doubt
-abbrev pub IsAllowed : Store → Type 0
+abbrev pub IsAllowed : SimStore → Type 0
 IsAllowed store = (c : Change) → doubt_of store ≡ Some c → refusal_of (now_state store) c ≡ None
 
 -- what a crash leaves of the disk of a store that was up, and of one that was down
-abbrev pub LeftUp : Store → Facts → Type 0
+abbrev pub LeftUp : SimStore → Facts → Type 0
 LeftUp store disk = (s : State) → Stands store s → LeavesOnly disk (store_size store) s
 
-abbrev pub LeftDown : Store → Facts → Type 0
+abbrev pub LeftDown : SimStore → Facts → Type 0
 LeftDown store disk = (s t : State) → Doubts store s t → LeavesEither disk (store_size store) s t
 
 with_doubt : (k : Kept) (c : Change) (now u : State) → k.doubt ≡ Some c → now ≡ found_of k.changes → refusal_of now c ≡ None → (u ≡ now) ⊎ (u ≡ after now c) → MayFind k u
@@ -46,14 +46,14 @@ left_either size z k c now disk doubt same allowed sized l =
     let P : Size → Type 0 = λ y. IsKept disk y × ((s : State) → Leaves disk y s → MayFind k s) in
     subst P sized (l.kept, λ s h. with_doubt k c now s doubt same allowed (l.only z s h).1)
 
-left : (size : Size) (k : Kept) (now : State) (count : ℕ) (doubt : Option Change) (store : Store) (disk : Facts) → k.doubt ≡ doubt → now ≡ found_of k.changes → store_size store ≡ size
+left : (size : Size) (k : Kept) (now : State) (count : ℕ) (doubt : Option Change) (store : SimStore) (disk : Facts) → k.doubt ≡ doubt → now ≡ found_of k.changes → store_size store ≡ size
     → IsAs store now count doubt → LeftUp store disk → LeftDown store disk → IsAllowed store → DiskIs size Formatted k disk
 left size k now count None store disk doubt same sized is up down allowed = left_only size (store_size store) k now disk same sized (up now (is.2, sym is.0))
 left size k now count (Some c) store disk doubt same sized is up down allowed =
     let P : State → Type 0 = λ s. refusal_of s c ≡ None in
     left_either size (store_size store) k c now disk doubt same (subst P is.0 (allowed c is.2)) sized (down now (after now c) (c, is.2, sym is.0, refl))
 
-pub ended : (size : Size) (m : DiskState) (k : Kept) (life : Life) (store : Store) (disk : Facts) → StoreIs size m k life store → LeftUp store disk → LeftDown store disk → IsAllowed store
+pub ended : (size : Size) (m : DiskState) (k : Kept) (life : Life) (store : SimStore) (disk : Facts) → StoreIs size m k life store → LeftUp store disk → LeftDown store disk → IsAllowed store
     → DiskIs size m k disk
 ended size Blank k life store disk was up down allowed = absurd was.0
 ended size Unknown k life store disk was up down allowed = tt
@@ -61,7 +61,7 @@ ended size Formatted k life store disk was up down allowed =
     left size k life.now life.receipts life.doubt store disk was.0.0 was.0.1 was.0.2 was.1 up down allowed
 
 -- that of a life which its own command ended
-pub over_ended : (size : Size) (m : DiskState) (k : Kept) (store : Store) (disk : Facts) → IsOver size m k store → LeftUp store disk → DiskIs size m k disk
+pub over_ended : (size : Size) (m : DiskState) (k : Kept) (store : SimStore) (disk : Facts) → IsOver size m k store → LeftUp store disk → DiskIs size m k disk
 over_ended size Blank k store disk was up = absurd was
 over_ended size Unknown k store disk was up = tt
 over_ended size Formatted k store disk was up = left_only size (store_size store) k (now_state store) disk was.1 was.2 (up (now_state store) (was.3, refl))

@@ -16,7 +16,7 @@ use Rattle.machine_lines.specs.declared.line.MachineLine.TheVariants as shown
 use Rattle.bench_report.specs.declared.power.Power.{Power}
 use Rattle.bench_report.specs.declared.power.Power.TheVariants.{Off, On}
 use Rattle.bench_report.specs.declared.printed.Answer.{Answer}
-use Rattle.bench_report.specs.Below.{Store, SimBoard, store_in, machine_in, store_facts, store_fault_state}
+use Rattle.bench_report.specs.Below.{SimStore, SimBoard, store_in, machine_in, store_facts, store_fault_state}
 use Rattle.bench_report.specs.Bench.{Life, Bench}
 use Rattle.bench_report.specs.Steps.{shows, on_with, has_machine, FormatsOn, FormatStep, PowersOn, OnStep, PayloadStep, CallReported, GuestCall, TurnStep, CallStep, ReadStep}
 use Rattle.bench_report.proofs.Commanded.{Running, running_on}
@@ -48,12 +48,12 @@ on_reads size b board says_so line was so = by b.power was.0
 -- a board of which nothing changed
 as_it_was : (size : Size) (b : Bench) (old new : SimBoard) → OnIs size b old → machine_in new ≡ machine_in old → store_in new ≡ store_in old → OnIs size b new
 as_it_was size b old new was still same =
-    let R : Store → Type 0 = λ store. DeviceIs size b (store_fault_state store) (store_facts store) in
+    let R : SimStore → Type 0 = λ store. DeviceIs size b (store_fault_state store) (store_facts store) in
     (by b.power was.0, subst R (sym same) was.1)
   where
     by : (p : Option Life) → BoardIs size b.disk_state b.kept p old → BoardIs size b.disk_state b.kept p new
     by None is = absurd is
-    by (Some life) is = let Q : Store → Type 0 = λ store. StoreIs size b.disk_state b.kept life store in (subst Q (sym same) is.0, still ∙ is.1)
+    by (Some life) is = let Q : SimStore → Type 0 = λ store. StoreIs size b.disk_state b.kept life store in (subst Q (sym same) is.0, still ∙ is.1)
 
 -- a board by what is said of it, and by its machine and its store
 on_runs : (size : Size) (b : Bench) (life : Life) (board : SimBoard) → b.power ≡ Some life → BoardIs size b.disk_state b.kept (Some life) board → DeviceIs size b (store_fault_state (store_in board)) (store_facts (store_in board))
@@ -90,7 +90,7 @@ pub calls_off : (size : Size) (b : Bench) (board : SimBoard) (h e f x y z : ℕ)
 calls_off size b board h e f x y z was not = (b, lacks size b board h b.power was.0 not (λ p. CallStep p h e f x y z b (shows shown.Off) b) (λ life no. inr (no, refl, refl)), was, refl)
 
 -- a line of a call, by what the board did
-reported_as : (size : Size) (h : ℕ) (word : Word) (b : Bench) (n : Machine) (store : Store) (line : MachineLine) → Stands size word b n store → line ≡ made_line h (hart_at n h) word → CallReported h word b (shows line)
+reported_as : (size : Size) (h : ℕ) (word : Word) (b : Bench) (n : Machine) (store : SimStore) (line : MachineLine) → Stands size word b n store → line ≡ made_line h (hart_at n h) word → CallReported h word b (shows line)
 reported_as size h (words.Own did) b n store line (life, on, is, same, device) e = (life, on, ap shows (e ∙ ap (λ m. own_line h (hart_at m h) did) same))
 reported_as size h words.Asleep b n store line is e = ap shows e
 reported_as size h (words.Reset kind) b n store line is e = ap shows e
@@ -106,8 +106,8 @@ module _ (size : Size) (b : Bench) (old new : SimBoard) (h e f x y z : ℕ) (sai
       → (w : Bench) × GuestCall called h (has_machine m life) (on_with (has_machine m life) b) (shows line) w × Agrees size w after × (w.payloads ≡ b.payloads)
   came life m NotStarted on is sized (same, still, none) follows =
       let x : Bench = on_with (has_machine m life) b in
-      let Q : Store → Type 0 = λ store. StoreIs size b.disk_state b.kept (has_machine m life) store in
-      let S : Store → Type 0 = λ store. DeviceIs size b (store_fault_state store) (store_facts store) in
+      let Q : SimStore → Type 0 = λ store. StoreIs size b.disk_state b.kept (has_machine m life) store in
+      let S : SimStore → Type 0 = λ store. DeviceIs size b (store_fault_state store) (store_facts store) in
       let F : Option Word → Type 0 = Follows in
       let on_new : OnIs size x new = ((subst Q (sym still) (has_other size b life m (store_in old) sized is.0), same), subst S (sym still) was.1) in
       (x, (ap shows (shows_it ∙ ap (called_line h (hart_at (machine_in new) h)) none), refl), subst F none follows x on_new, refl)

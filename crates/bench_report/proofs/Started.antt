@@ -23,7 +23,7 @@ use Rattle.board.specs.Unbooted.{doubt_after, LeavesLife, CountsRefusal}
 use Rattle.bench_report.specs.declared.printed.Answer.{Answer}
 use Rattle.bench_report.specs.declared.printed.Printed.{Printed}
 use Rattle.bench_report.specs.declared.printed.Printed.TheVariants as printed
-use Rattle.bench_report.specs.Below.{Store, SimBoard, store_in, machine_in, facts, fault_state, store_size, store_facts, store_fault_state, IsLife, IsAs}
+use Rattle.bench_report.specs.Below.{SimStore, SimBoard, store_in, machine_in, facts, fault_state, store_size, store_facts, store_fault_state, IsLife, IsAs}
 use Rattle.bench_report.specs.Bench.{DiskState, Blank, Unknown, Formatted, Life, Bench}
 use Rattle.bench_report.specs.Steps.{says, out_of_memory, failed, off, on_with, has_machine, begun, acknowledged, in_doubt, commands_of, Writes, Issued, IssuesAll, ShowsFound, Opens, Starts, Begins, Boots, PowersOn}
 use Rattle.bench_report.specs.Agree.{AreShort, DiskIs, DeviceIs, Follows, OffIs, OnIs}
@@ -43,10 +43,10 @@ no_doubt : (mode : BootMode) (e : Refusal) → e ≢ Down → doubt_after mode e
 no_doubt mode Down up = absurd (up refl)
 no_doubt mode e up = refl
 
-as_begun : (store : Store) (s : State) → life_of store ≡ started s → IsAs store s 0 None
+as_begun : (store : SimStore) (s : State) → life_of store ≡ started s → IsAs store s 0 None
 as_begun store s e = let P : StoreLife → Type 0 = λ life. IsLife life s 0 None in subst P (sym e) (refl, refl, refl, refl)
 
-as_issued : (store : Store) (s : State) (c : Change) → life_of store ≡ record (started s) { journal = c ∷ [] } → IsAs store (after s c) 1 None
+as_issued : (store : SimStore) (s : State) (c : Change) → life_of store ≡ record (started s) { journal = c ∷ [] } → IsAs store (after s c) 1 None
 as_issued store s c e = let P : StoreLife → Type 0 = λ life. IsLife life (after s c) 1 None in subst P (sym e) (refl, refl, refl, refl)
 
 -- what a crash leaves of a disk whose life ends with the boot

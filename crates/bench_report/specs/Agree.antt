@@ -23,7 +23,7 @@ use Rattle.machine.specs.declared.parts.Word.{Word}
 use Rattle.machine.specs.declared.parts.Word.TheVariants as words
 use Rattle.bench_report.specs.declared.power.Power.{Power}
 use Rattle.bench_report.specs.declared.power.Power.TheVariants.{Off, On}
-use Rattle.bench_report.specs.Below.{Store, SimBoard, store_in, machine_in, facts, arms, store_arms, record_of, fault_state, store_facts, store_fault_state, store_size, store_now, store_doubt, IsAs}
+use Rattle.bench_report.specs.Below.{SimStore, SimBoard, store_in, machine_in, facts, arms, store_arms, record_of, fault_state, store_facts, store_fault_state, store_size, store_now, store_doubt, IsAs}
 use Rattle.bench_report.specs.Bench.{DiskState, Blank, Unknown, Formatted, Life, Bench}
 use Rattle.bench_report.specs.Steps.{Step}
 use Rattle.bench_report.specs.declared.printed.Answer.{Answer}
@@ -41,7 +41,7 @@ Follows size Unknown kept life z = life.machine.size ≡ z
 Follows size Formatted kept life z = (kept.doubt ≡ life.doubt) × (life.now ≡ found_of kept.changes) × (z ≡ size) × (life.machine.size ≡ z)
 
 -- a store that goes on with a life
-abbrev pub StoreIs : Size → DiskState → Kept → Life → Store → Type 0
+abbrev pub StoreIs : Size → DiskState → Kept → Life → SimStore → Type 0
 StoreIs size disk_state kept life store = Follows size disk_state kept life (store_size store) × IsAs store life.now life.receipts life.doubt
 
 -- a board that is on
@@ -60,7 +60,7 @@ abbrev pub OnIs : Size → Bench → SimBoard → Type 0
 OnIs size b board = BoardIs size b.disk_state b.kept b.power board × DeviceIs size b (store_fault_state (store_in board)) (store_facts (store_in board))
 
 -- the store of a life that its own command ended, over a disk that keeps that command
-abbrev pub IsOver : Size → DiskState → Kept → Store → Type 0
+abbrev pub IsOver : Size → DiskState → Kept → SimStore → Type 0
 IsOver size Blank kept store = ⊥
 IsOver size Unknown kept store = ⊤
 IsOver size Formatted kept store = (kept.doubt ≡ None) × (store_now store ≡ found_of kept.changes) × (store_size store ≡ size) × (store_doubt store ≡ None)

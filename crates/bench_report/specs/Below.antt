@@ -19,15 +19,15 @@ use Rattle.store.specs.Lives.{Life, now_of}
 use Rattle.store.specs.Stores as stores
 
 -- a store over a disk in memory
-abbrev pub Store : Type 0
-Store = any.Store SimDisk SimLane sim_disk.ghosts sim_lane.ghosts
+abbrev pub SimStore : Type 0
+SimStore = any.Store SimDisk SimLane sim_disk.ghosts sim_lane.ghosts
 
 -- a board over a disk in memory
 abbrev pub SimBoard : Type 0
 SimBoard = boards.Board SimDisk SimLane sim_disk.ghosts sim_lane.ghosts
 
 -- its store, and its memory and harts
-abbrev pub store_in : SimBoard → Store
+abbrev pub store_in : SimBoard → SimStore
 store_in board = words.store_of board
 
 abbrev pub machine_in : SimBoard → Machine
@@ -49,29 +49,29 @@ abbrev pub record_of : SimDisk → Record
 record_of disk = sim_record.ghosts.record disk
 
 -- the same of the disk that a store holds
-abbrev pub store_facts : Store → Facts
+abbrev pub store_facts : SimStore → Facts
 store_facts store = stores.disk_of store
 
-abbrev pub store_fault_state : Store → FaultState
+abbrev pub store_fault_state : SimStore → FaultState
 store_fault_state store = stores.fault_state_of store
 
-abbrev pub store_arms : Store → ArmedFault → Type 0
+abbrev pub store_arms : SimStore → ArmedFault → Type 0
 store_arms store fault = stores.arms_of store fault
 
 -- the size of the board that a store's disk was formatted for
-abbrev pub store_size : Store → Size
+abbrev pub store_size : SimStore → Size
 store_size store = stores.size_of_store store
 
 -- the durable state now, without a command in doubt, and the command in doubt
-abbrev pub store_now : Store → State
+abbrev pub store_now : SimStore → State
 store_now store = stores.now_state store
 
-abbrev pub store_doubt : Store → Option Change
+abbrev pub store_doubt : SimStore → Option Change
 store_doubt store = stores.doubt_of store
 
 -- a life that goes on: the durable state with what was acknowledged, how many commands that were, and the one in doubt
 abbrev pub IsLife : Life → State → ℕ → Option Change → Type 0
 IsLife life s count doubt = (now_of life ≡ s) × (length life.journal ≡ count) × (life.doubt ≡ doubt) × (life.over ≡ false)
 
-abbrev pub IsAs : Store → State → ℕ → Option Change → Type 0
+abbrev pub IsAs : SimStore → State → ℕ → Option Change → Type 0
 IsAs store s count doubt = IsLife (stores.life_of store) s count doubt
