@@ -2,7 +2,7 @@
 use Rattle.std.proofs.Common.{◌∙◌, ◌+◌, ◌≤◌, inl, inr, ⊎_elim, refl, sym, subst, arith, ℕ, Result, Ok, Err}
 use Rattle.disk.specs.Facts.{Content, Facts, LeavesAfter, Passes, Stays, Torn, Unchanged, LeavesSince}
 use Rattle.disk.specs.FaultState.{FaultState, Cause}
-use Rattle.disk.specs.Calls.{Called}
+use Rattle.disk.specs.Calls.{MakesCalls}
 
 -- no call at all
 pub passes_none : (a : Facts) → Passes a a Stays
@@ -103,7 +103,7 @@ leaves_lanes a b c d first n P only here has split join sync =
 
 -- calls that all answered Ok, and then some more
 pub called_then : {T E U F : Type 0} (n m : ℕ) (step : Content → Content → Type 0) (a b c : Facts) (x y z : FaultState) (v : T) (r : Result U F)
-    → ((p q s : Content) → step p q → step q s → step p s) → Called {T = T} {E = E} n step a b x y (Ok v) → Called {T = U} {E = F} m step b c y z r → Called {T = U} {E = F} (n + m) step a c x z r
+    → ((p q s : Content) → step p q → step q s → step p s) → MakesCalls {T = T} {E = E} n step a b x y (Ok v) → MakesCalls {T = U} {E = F} m step b c y z r → MakesCalls {T = U} {E = F} (n + m) step a c x z r
 called_then n m step a b c x y z v (Ok w) goes p q = record {
   content = goes a.content b.content c.content p.content q.content;
   crash = passes_then a b c step step p.crash q.crash goes;
@@ -125,7 +125,7 @@ called_then n m step a b c x y z v (Err f) goes p q = record {
 
 -- calls of which one failed, where more would have come
 pub called_fewer : {T E U F : Type 0} (n m : ℕ) (step : Content → Content → Type 0) (a b : Facts) (x y : FaultState) (e : E) (f : F) → n ≤ m
-    → Called {T = T} {E = E} n step a b x y (Err e) → Called {T = U} {E = F} m step a b x y (Err f)
+    → MakesCalls {T = T} {E = E} n step a b x y (Err e) → MakesCalls {T = U} {E = F} m step a b x y (Err f)
 called_fewer n m step a b x y e f le p = record {
   content = p.content;
   crash = p.crash;

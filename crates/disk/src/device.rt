@@ -64,7 +64,7 @@ pub trait Lane {
 pub trait Disk {
     ghost use Rattle.disk.specs.Facts.{Content, Facts, Torn, Written, Stays, Passes, Only, Apart, Found, Handed, InRow, Joined, Unchanged, counted, most, nothing, lent_sectors, lane_failures};
     ghost use Rattle.disk.specs.FaultState.{FaultState, CausedInLanes, armed_by};
-    ghost use Rattle.disk.specs.Calls.{Called, NoCall};
+    ghost use Rattle.disk.specs.Calls.{MakesCalls, NoCall};
     ghost use Rattle.disk.specs.declared.device.ArmedFault.{ArmedFault};
 
     type Lane: Lane + Send + Drop;
@@ -87,7 +87,7 @@ pub trait Disk {
         requires within { first + length sectors.old ≤ length (facts self.old).content }
         requires apart { Apart first (length sectors.old) (facts self.old).lent }
         ensures found { OnOk result (Found first (facts self.old).content sectors.new) }
-        ensures called { Called 1 Stays (facts self.old) (facts self.new) (fault_state self.old) (fault_state self.new) result };
+        ensures called { MakesCalls 1 Stays (facts self.old) (facts self.new) (fault_state self.old) (fault_state self.new) result };
 
     /// Writes these sectors from that one on. Until a sync succeeds, a crash may leave any bytes in
     /// the range, at `Err` as at `Ok`. At `Err` the range reads as any bytes until it is written
@@ -96,14 +96,14 @@ pub trait Disk {
         requires within { first + length sectors.now ≤ length (facts self.old).content }
         requires apart { Apart first (length sectors.now) (facts self.old).lent }
         ensures written { OnOk result (Written first sectors.now (facts self.old).content (facts self.new).content) }
-        ensures called { Called 1 (Torn first (length sectors.now)) (facts self.old) (facts self.new) (fault_state self.old) (fault_state self.new) result };
+        ensures called { MakesCalls 1 (Torn first (length sectors.now)) (facts self.old) (facts self.new) (fault_state self.old) (fault_state self.new) result };
 
     /// Makes durable what a read gives: at `Ok` a crash leaves that and nothing else, but for
     /// sectors that are lent. At `Err` it has made nothing durable.
     fn sync(&mut self) -> Result<(), Fault>
         ensures durable { OnOk result ((facts self.old).lent.lanes ≡ 0 → Only (facts self.new).content (facts self.new).may_leave) }
         ensures but_lent { OnOk result ((c : Content) → (facts self.new).may_leave c → Torn (facts self.old).lent.first (lent_sectors (facts self.old).lent) (facts self.new).content c) }
-        ensures called { Called 1 Stays (facts self.old) (facts self.new) (fault_state self.old) (fault_state self.new) result };
+        ensures called { MakesCalls 1 Stays (facts self.old) (facts self.new) (fault_state self.old) (fault_state self.new) result };
 
     /// Lends so many lanes, at most 4, of so many sectors each, in a row from the first. From now
     /// until a sync after the join succeeds, a crash may leave any bytes in them. At `Err` memory

@@ -2,7 +2,7 @@
 ghost use Rattle.std.specs.Prelude.{◌≡◌, ◌⊎◌, ◌≤◌, ◌+◌, ◌*◌, ℕ, [], ◌∷◌, length, map, OnOk, OnErr, IfOk};
 ghost use Rattle.disk.specs.Facts.{Content, Torn, Written, Passes, Stays, Only, Apart, Found, Handed, InRow, Joined, Unchanged, counted, nothing, lent_sectors, lane_failures};
 ghost use Rattle.disk.specs.FaultState.{CausedInLanes, armed_by};
-ghost use Rattle.disk.specs.Calls.{Called, NoCall};
+ghost use Rattle.disk.specs.Calls.{MakesCalls, NoCall};
 ghost use Rattle.simdisk.specs.Armings.{FailsNext, one_call_on};
 ghost use Rattle.simdisk.specs.Lendings.{Lends, TakesBack};
 ghost use Rattle.simdisk.specs.Record.{more_written, more_synced, lent_piece, NotedOrRefused};
@@ -45,7 +45,7 @@ impl Disk for SimDisk {
         requires within { first + length sectors.old ≤ length (⟦<SimDisk as Disk>⟧.facts self.old).content }
         requires apart { Apart first (length sectors.old) (⟦<SimDisk as Disk>⟧.facts self.old).lent }
         ensures found { OnOk result (Found first (⟦<SimDisk as Disk>⟧.facts self.old).content sectors.new) }
-        ensures called { Called 1 Stays (⟦<SimDisk as Disk>⟧.facts self.old) (⟦<SimDisk as Disk>⟧.facts self.new) (⟦<SimDisk as Disk>⟧.fault_state self.old) (⟦<SimDisk as Disk>⟧.fault_state self.new) result }
+        ensures called { MakesCalls 1 Stays (⟦<SimDisk as Disk>⟧.facts self.old) (⟦<SimDisk as Disk>⟧.facts self.new) (⟦<SimDisk as Disk>⟧.fault_state self.old) (⟦<SimDisk as Disk>⟧.fault_state self.new) result }
         ensures not_its_own { (⟦<SimDisk as Disk>⟧.fault_state self.new).own ≡ (⟦<SimDisk as Disk>⟧.fault_state self.old).own }
         ensures record { ⟦<SimDisk as Recorded>⟧.record self.new ≡ ⟦<SimDisk as Recorded>⟧.record self.old }
         ensures due { OnOk result (FailsNext (⟦<SimDisk as Disk>⟧.fault_state self.old).struck (⟦<SimDisk as Recorded>⟧.armed self.old) → ⊥) }
@@ -64,7 +64,7 @@ impl Disk for SimDisk {
         requires within { first + length sectors.now ≤ length (⟦<SimDisk as Disk>⟧.facts self.old).content }
         requires apart { Apart first (length sectors.now) (⟦<SimDisk as Disk>⟧.facts self.old).lent }
         ensures written { OnOk result (Written first sectors.now (⟦<SimDisk as Disk>⟧.facts self.old).content (⟦<SimDisk as Disk>⟧.facts self.new).content) }
-        ensures called { Called 1 (Torn first (length sectors.now)) (⟦<SimDisk as Disk>⟧.facts self.old) (⟦<SimDisk as Disk>⟧.facts self.new) (⟦<SimDisk as Disk>⟧.fault_state self.old) (⟦<SimDisk as Disk>⟧.fault_state self.new) result }
+        ensures called { MakesCalls 1 (Torn first (length sectors.now)) (⟦<SimDisk as Disk>⟧.facts self.old) (⟦<SimDisk as Disk>⟧.facts self.new) (⟦<SimDisk as Disk>⟧.fault_state self.old) (⟦<SimDisk as Disk>⟧.fault_state self.new) result }
         ensures stays { OnErr result ((⟦<SimDisk as Disk>⟧.facts self.new).content ≡ (⟦<SimDisk as Disk>⟧.facts self.old).content) }
         ensures record { OnOk result (⟦<SimDisk as Recorded>⟧.record self.new ≡ more_written (first, sectors.now) (⟦<SimDisk as Recorded>⟧.record self.old)) }
         ensures record_failed { OnErr result (NotedOrRefused (first, sectors.now) (⟦<SimDisk as Recorded>⟧.record self.old) (⟦<SimDisk as Recorded>⟧.record self.new) (⟦<SimDisk as Disk>⟧.fault_state self.old).own (⟦<SimDisk as Disk>⟧.fault_state self.new).own) }
@@ -90,7 +90,7 @@ impl Disk for SimDisk {
     fn sync(&mut self) -> Result<(), Fault>
         ensures durable { OnOk result ((⟦<SimDisk as Disk>⟧.facts self.old).lent.lanes ≡ 0 → Only (⟦<SimDisk as Disk>⟧.facts self.new).content (⟦<SimDisk as Disk>⟧.facts self.new).may_leave) }
         ensures but_lent { OnOk result ((c : Content) → (⟦<SimDisk as Disk>⟧.facts self.new).may_leave c → Torn (⟦<SimDisk as Disk>⟧.facts self.old).lent.first (lent_sectors (⟦<SimDisk as Disk>⟧.facts self.old).lent) (⟦<SimDisk as Disk>⟧.facts self.new).content c) }
-        ensures called { Called 1 Stays (⟦<SimDisk as Disk>⟧.facts self.old) (⟦<SimDisk as Disk>⟧.facts self.new) (⟦<SimDisk as Disk>⟧.fault_state self.old) (⟦<SimDisk as Disk>⟧.fault_state self.new) result }
+        ensures called { MakesCalls 1 Stays (⟦<SimDisk as Disk>⟧.facts self.old) (⟦<SimDisk as Disk>⟧.facts self.new) (⟦<SimDisk as Disk>⟧.fault_state self.old) (⟦<SimDisk as Disk>⟧.fault_state self.new) result }
         ensures record { OnOk result (⟦<SimDisk as Recorded>⟧.record self.new ≡ more_synced (⟦<SimDisk as Disk>⟧.facts self.old).content (lent_piece (⟦<SimDisk as Disk>⟧.facts self.old).lent (⟦<SimDisk as Disk>⟧.facts self.old).content ∷ []) (⟦<SimDisk as Recorded>⟧.record self.old)) }
         ensures record_failed { OnErr result (⟦<SimDisk as Recorded>⟧.record self.new ≡ ⟦<SimDisk as Recorded>⟧.record self.old) }
         ensures due { OnOk result (FailsNext (⟦<SimDisk as Disk>⟧.fault_state self.old).struck (⟦<SimDisk as Recorded>⟧.armed self.old) → ⊥) }
