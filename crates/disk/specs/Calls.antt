@@ -4,7 +4,7 @@ use Rattle.disk.specs.Facts.{Content, Facts, Passes, Counts, counted}
 use Rattle.disk.specs.FaultState.{FaultState, Caused}
 
 -- with Ok they were so many calls, and with an error one at least and no more than that
-pub record Calls {T E : Type 0} (n before now : ℕ) (result : Result T E) : Type 0 where
+pub record CountsCalls {T E : Type 0} (n before now : ℕ) (result : Result T E) : Type 0 where
   pub ok : OnOk result (now ≡ counted before n)
   pub err : OnErr result ((counted before 1 ≤ now) × (now ≤ counted before n))
 
@@ -16,7 +16,7 @@ pub record MakesCalls {T E : Type 0} (n : ℕ) (step : Content → Content → T
   pub crash : Passes old new step
   -- nothing is lent or taken back
   pub lent : new.lent ≡ old.lent
-  pub calls : Calls n old.calls new.calls result
+  pub calls : CountsCalls n old.calls new.calls result
   pub failures : Counts old.failures new.failures result
   pub cause : Caused was is result
   -- once an armed cut has struck, no call answers Ok
