@@ -17,7 +17,7 @@ use Rattle.sbi_calls.specs.Both.{TableState, IsTable, AreSeatsOf, GivesBack, vie
 use Rattle.turns.specs.Turns.{Finishes, FinishesAlone}
 use Rattle.turns.specs.declared.words.Turned.{Turned}
 use Rattle.machine.specs.declared.parts.Called.TheVariants.{NotStarted, Made}
-use Rattle.machine.specs.Turns.{CallsAlone}
+use Rattle.machine.specs.Turns.{MakesCallAlone}
 use Rattle.machine.proofs.Own.{is_started, others_kept, kept_then}
 
 -- the same seats, but for that of the hart table
@@ -45,14 +45,14 @@ looked n size s harts by h name e f acts t is =
 module _ (size : Size) (n by : ℕ) (s u : State) (m : List ℕ) where
   -- a hart that is named otherwise makes no call
   pub not_made_alone : (seats : Seats) (harts : Seat (Unit {0}) HartSeatView) (name : Code) → n ≡ size.harts → by ≡ s.id → name ≢ codes.Started → LooksAlone n (harts_known seats) (seating.hart_view_of_seat harts) by name
-      → CallsAlone size s u s m seats (with_harts seats harts) NotStarted
+      → MakesCallAlone size s u s m seats (with_harts seats harts) NotStarted
   not_made_alone seats harts name e f ne acts t is =
       let a = looked n size seats harts by s.id name e f acts t is in
       (t, record { made = λ at. absurd (ne (a.0 ∙ ap named at)); not_started = λ _. (refl, refl) }, a.1)
 
   -- one that is STARTED stands at the ECALL, and is answered
   pub made_alone : (v t : State) (seats : Seats) (harts : Seat (Unit {0}) HartSeatView) (after : Seats) (name : Code) (word : Turned) → n ≡ size.harts → by ≡ s.id → name ≡ codes.Started → v ≡ u → LooksAlone n (harts_known seats) (seating.hart_view_of_seat harts) by name
-      → FinishesAlone size Ecall v t (with_harts seats harts) after word → CallsAlone size s u t m seats after (Made word)
+      → FinishesAlone size Ecall v t (with_harts seats harts) after word → MakesCallAlone size s u t m seats after (Made word)
   made_alone v t seats harts after name word e f at same acts finishes x is =
       let a = looked n size seats harts by s.id name e f acts x is in
       let did = finishes x a.1 in (

@@ -67,8 +67,8 @@ pub record CallOf (size : Size) (u : State) (a b : Moment) (called : Called) : T
   pub not_started : (listed a.table.states a.hart.id ≡ started → ⊥) → (b ≡ a) × (called ≡ NotStarted)
 
 -- with the one seat of all harts
-abbrev pub CallsAlone : Size → State → State → State → List ℕ → Seats → Seats → Called → Type 0
-CallsAlone size s u t m before after called = (x : TableState) → IsTable size.harts before x
+abbrev pub MakesCallAlone : Size → State → State → State → List ℕ → Seats → Seats → Called → Type 0
+MakesCallAlone size s u t m before after called = (x : TableState) → IsTable size.harts before x
     → (y : TableState) × CallOf size u (moment x s m) (moment y t m) called × IsTable size.harts after y
 
 -- a call of hart h with these registers

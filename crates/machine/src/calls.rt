@@ -3,7 +3,7 @@
 ghost use Rattle.std.specs.Prelude.{◌≡◌, ◌<◌, ℕ, List};
 ghost use Rattle.sbi_calls.specs.Both.{AreTablesOf, AreSeatsOf, GivesBack};
 ghost use Rattle.turns.specs.Turns.{Rests};
-ghost use Rattle.machine.specs.Turns.{calling, CallsAlone};
+ghost use Rattle.machine.specs.Turns.{calling, MakesCallAlone};
 
 use crate::parts::Called;
 use board_model::Shape;
@@ -51,7 +51,7 @@ pub fn make_call(
     ensures gives { GivesBack tables.entry.now hart.old.id seats result.0 }
     ensures rests { Rests hart.old.id result.0 }
     ensures id { hart.new.id ≡ hart.old.id }
-    ensures alone { (m : List ℕ) → CallsAlone shape.now hart.old (calling hart.old call.entry.now.eid call.entry.now.fid call.entry.now.a0 call.entry.now.a1 call.entry.now.a2) hart.new m seats result.0 result.1 }
+    ensures alone { (m : List ℕ) → MakesCallAlone shape.now hart.old (calling hart.old call.entry.now.eid call.entry.now.fid call.entry.now.a0 call.entry.now.a1 call.entry.now.a2) hart.new m seats result.0 result.1 }
 {
     let by = hart.id();
     let Seats { harts, pending } = seats;
