@@ -4,7 +4,7 @@ use Rattle.board_model.specs.declared.boot_mode.BootMode.{BootMode}
 use Rattle.board_model.specs.Shapes.{Size}
 use Rattle.simdisk.specs.declared.SimDisk.{SimDisk}
 use Rattle.machine.specs.Machine.{Machine, hart_at}
-use Rattle.machine.specs.Turns.{Calls}
+use Rattle.machine.specs.Turns.{MakesOneCall}
 use Rattle.machine.specs.declared.parts.Word.{Word}
 use Rattle.machine.specs.declared.parts.Word.TheVariants as words
 use Rattle.board.specs.Turns as boards
@@ -125,7 +125,7 @@ module _ (size : Size) (b : Bench) (old new : SimBoard) (h e f x y z : ℕ) (sai
       by None is on = absurd is
       by (Some life) is on =
           let P : Machine → Type 0 = λ k. Has k h in
-          let C : Machine → Type 0 = λ k. Calls h e f x y z k m called in
+          let C : Machine → Type 0 = λ k. MakesOneCall h e f x y z k m called in
           let sized : m.size ≡ life.machine.size = ap (λ (k : Machine). k.size) call.2 ∙ ap (λ (k : Machine). k.size) is.1 in
           let did = came life m called on is sized comes_of follows in
           (did.0, inl (subst P is.1 has, m, called, subst C is.1 call, did.1), did.2, did.3)

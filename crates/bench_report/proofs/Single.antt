@@ -9,7 +9,7 @@ use Rattle.machine_lines.specs.Shows.{own_line}
 use Rattle.machine_lines.specs.declared.line.MachineLine.{MachineLine}
 use Rattle.machine_lines.specs.declared.line.MachineLine.TheVariants as shown_lines
 use Rattle.machine_lines.specs.Shows.{CsrLine}
-use Rattle.machine.specs.Turns.{Calls}
+use Rattle.machine.specs.Turns.{MakesOneCall}
 use Rattle.machine.specs.declared.parts.Word.{Word}
 use Rattle.machine.specs.declared.parts.Word.TheVariants as words
 use Rattle.machine.specs.declared.parts.Called.{Called}
@@ -28,7 +28,7 @@ use Rattle.bench_report.proofs.Determined.{some_inj, HasFailed, IsCalm, Fair, fa
 
 -- what the lines leave nothing open of
 abbrev pub IsOneCall : Type 0
-IsOneCall = (h eid fid a0 a1 a2 : ℕ) (old new other : Machine) (called also : Called) → Calls h eid fid a0 a1 a2 old new called → Calls h eid fid a0 a1 a2 old other also → (new ≡ other) × (called ≡ also)
+IsOneCall = (h eid fid a0 a1 a2 : ℕ) (old new other : Machine) (called also : Called) → MakesOneCall h eid fid a0 a1 a2 old new called → MakesOneCall h eid fid a0 a1 a2 old other also → (new ≡ other) × (called ≡ also)
 
 abbrev pub IsOneCsr : Type 0
 IsOneCsr = (h n : ℕ) (m : Machine) (line also : MachineLine) → CsrLine h n m line → CsrLine h n m also → line ≡ also

@@ -17,7 +17,7 @@ use Rattle.machine.specs.Machine.{Machine, hart_at, resting}
 use Rattle.script_lang.specs.declared.line.Line.{Line}
 use Rattle.script_lang.specs.declared.line.Line.TheVariants as lines
 use Rattle.machine_lines.specs.Shows.{Has, own_line, reg_line, pc_line, CsrLine, pending_line, mem_line}
-use Rattle.machine.specs.Turns.{Turns, Calls}
+use Rattle.machine.specs.Turns.{Turns, MakesOneCall}
 use Rattle.machine.specs.Words.{ends}
 use Rattle.machine.specs.declared.parts.Word.{Word}
 use Rattle.machine.specs.declared.parts.Word.TheVariants as words
@@ -335,7 +335,7 @@ GuestCall (Made did) h life b answer new = (word : Word) × Comes did h life b w
 abbrev pub CallStep : Option Life → ℕ → ℕ → ℕ → ℕ → ℕ → ℕ → Bench → Answer → Bench → Type 0
 CallStep None h e f x y z b answer new = (answer ≡ shows shown.Off) × (new ≡ b)
 CallStep (Some life) h e f x y z b answer new =
-    (Has life.machine h × (m : Machine) × (called : Called) × Calls h e f x y z life.machine m called
+    (Has life.machine h × (m : Machine) × (called : Called) × MakesOneCall h e f x y z life.machine m called
     × GuestCall called h (has_machine m life) (on_with (has_machine m life) b) answer new)
     ⊎ ((Has life.machine h → ⊥) × (answer ≡ shows shown.Off) × (new ≡ b))
 

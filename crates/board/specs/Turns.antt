@@ -47,7 +47,7 @@ module _ {D L : Type 0} {g : Ghosts D L} {l : Lanes L} where
   -- a call in the place of hart h with these registers
   abbrev pub Calls : ℕ → ℕ → ℕ → ℕ → ℕ → ℕ → Machine → Machine → Store D L g l → Store D L g l → Option Word → Type 0
   Calls h eid fid a0 a1 a2 m n old new said =
-      (mid : Machine) × (called : Called) × machines.Calls h eid fid a0 a1 a2 m mid called × ComesOf called h mid n old new said
+      (mid : Machine) × (called : Called) × machines.MakesOneCall h eid fid a0 a1 a2 m mid called × ComesOf called h mid n old new said
 
   -- ---- a row within a line
   -- turns of which the last alone may ask the store

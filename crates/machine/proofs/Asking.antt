@@ -22,7 +22,7 @@ use Rattle.turns.specs.Turns.{Moment, is_pending, woken, begun_by, turned_by, Fi
 use Rattle.machine.specs.declared.parts.Called.{Called}
 use Rattle.machine.specs.declared.parts.Called.TheVariants.{NotStarted, Made}
 use Rattle.machine.specs.Machine.{Machine, hart_at}
-use Rattle.machine.specs.Turns.{moment_of, with_moment, Turns, TurnsMany, Calls, calling}
+use Rattle.machine.specs.Turns.{moment_of, with_moment, Turns, TurnsMany, MakesOneCall, calling}
 use Rattle.machine.specs.Durables.{IsStarted}
 use Rattle.machine.proofs.Determined.{is_decided}
 
@@ -101,7 +101,7 @@ row_asks number h (suc n) k old new word lt p is =
     ]
 
 -- ---- a call
-pub call_asks : (h eid fid a0 a1 a2 : ℕ) (old new : Machine) (called : Called) → h < length old.harts → Calls h eid fid a0 a1 a2 old new called → called ≡ Made Durable → IsStarted h new
+pub call_asks : (h eid fid a0 a1 a2 : ℕ) (old new : Machine) (called : Called) → h < length old.harts → MakesOneCall h eid fid a0 a1 a2 old new called → called ≡ Made Durable → IsStarted h new
 call_asks h eid fid a0 a1 a2 old new called lt p is =
     let a = moment_of h old in
     let u = calling a.hart eid fid a0 a1 a2 in

@@ -103,7 +103,7 @@ call_of_one size u a b c called also x y =
       | inr none ↦ ((x.not_started none).0 ∙ sym (y.not_started none).0, (x.not_started none).1 ∙ sym (y.not_started none).1)
     ]
 
-pub one_call : (h eid fid a0 a1 a2 : ℕ) (old new other : Machine) (called also : Called) → turns.Calls h eid fid a0 a1 a2 old new called → turns.Calls h eid fid a0 a1 a2 old other also → (new ≡ other) × (called ≡ also)
+pub one_call : (h eid fid a0 a1 a2 : ℕ) (old new other : Machine) (called also : Called) → turns.MakesOneCall h eid fid a0 a1 a2 old new called → turns.MakesOneCall h eid fid a0 a1 a2 old other also → (new ≡ other) × (called ≡ also)
 one_call h eid fid a0 a1 a2 old new other called also p q =
     let a = turns.moment_of h old in
     let e = call_of_one old.size (turns.calling a.hart eid fid a0 a1 a2) a p.0 q.0 called also p.1 q.1 in

@@ -72,5 +72,5 @@ MakesCallAlone size s u t m before after called = (x : TableState) → IsTable s
     → (y : TableState) × CallOf size u (moment x s m) (moment y t m) called × IsTable size.harts after y
 
 -- a call of hart h with these registers
-abbrev pub Calls : ℕ → ℕ → ℕ → ℕ → ℕ → ℕ → Machine → Machine → Called → Type 0
-Calls h eid fid a0 a1 a2 old new called = DoneBy (λ a b. CallOf old.size (calling a.hart eid fid a0 a1 a2) a b called) h old new
+abbrev pub MakesOneCall : ℕ → ℕ → ℕ → ℕ → ℕ → ℕ → Machine → Machine → Called → Type 0
+MakesOneCall h eid fid a0 a1 a2 old new called = DoneBy (λ a b. CallOf old.size (calling a.hart eid fid a0 a1 a2) a b called) h old new

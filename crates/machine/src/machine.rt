@@ -11,7 +11,7 @@ ghost use Rattle.store.specs.Stores.{size_of_store, now_state, view_of};
 ghost use Rattle.store.specs.Views.{StaysOpen};
 ghost use Rattle.susp.specs.Wakes.{IsUnloaded, IsConsumed};
 ghost use Rattle.machine.specs.Machine.{hart_at, stopped_harts, resting, begun, woken};
-ghost use Rattle.machine.specs.Turns.{Turns, Rows, TurnsMany, Calls};
+ghost use Rattle.machine.specs.Turns.{Turns, Rows, TurnsMany, MakesOneCall};
 ghost use Rattle.machine.specs.Held.{IsHeld, shown_by};
 ghost use Rattle.machine.specs.Durables.{IsStarted, MakesCall};
 
@@ -234,7 +234,7 @@ impl Machine {
     /// hart that is not STARTED makes none, and stays as it was.
     pub fn call(&mut self, id: HartId, eid: u64, fid: u64, a0: u64, a1: u64, a2: u64) -> Called
         requires { id < length self.old.harts }
-        ensures calls { Calls id eid fid a0 a1 a2 self.old self.new result }
+        ensures calls { MakesOneCall id eid fid a0 a1 a2 self.old self.new result }
         ensures asks { result ≡ Made Durable → IsStarted id self.new }
         ensures harts { length self.new.harts ≡ length self.old.harts }
     {

@@ -5,7 +5,7 @@ use Rattle.hart.specs.Csrs.{csr_number}
 use Rattle.hart.specs.declared.csr.Csr.{Csr}
 use Rattle.hart.specs.declared.csr.Csr.TheVariants.{Sstatus, Sie, Stvec, Sscratch, Sepc, Scause, Stval, Sip, Satp}
 use Rattle.machine.specs.Machine.{Machine, hart_at}
-use Rattle.machine.specs.Turns.{TurnsMany, Calls}
+use Rattle.machine.specs.Turns.{TurnsMany, MakesOneCall}
 use Rattle.machine.specs.declared.parts.Called.{Called}
 use Rattle.turns.specs.declared.words.Turned.{Turned}
 use Rattle.machine.specs.declared.parts.Word.TheVariants.{Own}
@@ -18,7 +18,7 @@ abbrev pub IsOneRow : Type 0
 IsOneRow = (h n k l : ℕ) (old new other : Machine) (word also : Turned) → TurnsMany h n old new k word → TurnsMany h n old other l also → (new ≡ other) × (k ≡ l) × (word ≡ also)
 
 abbrev pub IsOneCall : Type 0
-IsOneCall = (h eid fid a0 a1 a2 : ℕ) (old new other : Machine) (called also : Called) → Calls h eid fid a0 a1 a2 old new called → Calls h eid fid a0 a1 a2 old other also → (new ≡ other) × (called ≡ also)
+IsOneCall = (h eid fid a0 a1 a2 : ℕ) (old new other : Machine) (called also : Called) → MakesOneCall h eid fid a0 a1 a2 old new called → MakesOneCall h eid fid a0 a1 a2 old other also → (new ≡ other) × (called ≡ also)
 
 made : IsOneRow → (h n : ℕ) (old new other : Machine) (line also : MachineLine) → Has old h → 1 ≤ n → TurnsLine h n old new line → TurnsLine h n old other also → (new ≡ other) × (line ≡ also)
 made row h n old new other line also has some x y =

@@ -6,7 +6,7 @@ use Rattle.hart.specs.Csrs.{csr_number, csr_read}
 use Rattle.hart.specs.declared.csr.Csr.{Csr}
 use Rattle.machine.specs.Machine.{Machine, hart_at}
 use Rattle.turns.specs.Turns.{is_pending}
-use Rattle.machine.specs.Turns.{TurnsMany, Calls}
+use Rattle.machine.specs.Turns.{TurnsMany, MakesOneCall}
 use Rattle.machine.specs.declared.parts.Called.{Called}
 use Rattle.machine.specs.declared.parts.Called.TheVariants.{NotStarted, Made}
 use Rattle.turns.specs.declared.words.Turned.{Turned}
@@ -52,7 +52,7 @@ word_of (Made did) = Some (Own did)
 
 -- `call H EID FID A0 A1 A2`, of a machine without a store
 pub record CallLine (h eid fid a0 a1 a2 : ℕ) (old new : Machine) (line : MachineLine) : Type 0 where
-  pub made : Has old h → (called : Called) × Calls h eid fid a0 a1 a2 old new called × (line ≡ called_line h (hart_at new h) (word_of called))
+  pub made : Has old h → (called : Called) × MakesOneCall h eid fid a0 a1 a2 old new called × (line ≡ called_line h (hart_at new h) (word_of called))
   pub lacks : (Has old h → ⊥) → (new ≡ old) × (line ≡ lines.Off)
 
 -- the board has the hart, and an interrupt is pending for it

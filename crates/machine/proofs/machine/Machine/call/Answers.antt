@@ -1,7 +1,7 @@
 use Rattle.std.proofs.Common.{ℕ, sym, ◌∙◌, subst, ◌<◌}
 use Rattle.std.specs.Prelude.{length, slice_set}
 use Rattle.machine.specs.Machine.{Machine}
-use Rattle.machine.specs.Turns.{CallOf, calling, Calls}
+use Rattle.machine.specs.Turns.{CallOf, calling, MakesOneCall}
 use Rattle.machine.specs.Held.{shown_by}
 use Rattle.machine.proofs.Holding.{read_at, seat_rests, made, held_after}
 use Rattle.machine.proofs.Asking.{call_asks}
@@ -30,7 +30,7 @@ returns-clause-calls c =
     let lt : c.args.id < length i.harts.items = subst (λ (m : Machine). c.args.id < length m.harts) (sym c.self.view_is) c.requires in
     let read = read_at i.harts.items c.index.result c.args.id c.index_mut.result.now c.index.ensures.value lt c.index_mut.ensures.value in
     let new : Machine = record { size = i.shape; memory = i.ram; harts = slice_set i.harts.items c.index.result c.make_call-seats.new.hart; table = shown_by i.shape.harts c.make_call-seats.result.0 } in
-    subst (λ (m : Machine). Calls c.args.id c.args.eid c.args.fid c.args.a0 c.args.a1 c.args.a2 m new c.make_call-seats.result.1) c.self.view_is
+    subst (λ (m : Machine). MakesOneCall c.args.id c.args.eid c.args.fid c.args.a0 c.args.a1 c.args.a2 m new c.make_call-seats.result.1) c.self.view_is
     (made i.shape i.harts.items i.tables i.seats c.unwrap-seats.result c.make_call-seats.result.0 c.index.result c.args.id c.index_mut.result.now c.make_call-seats.new.hart i.ram i.ram
     (λ a b. CallOf i.shape (calling a.hart c.args.eid c.args.fid c.args.a0 c.args.a1 c.args.a2) a b c.make_call-seats.result.1)
     c.one_table.ensures.list c.one_set.ensures.list c.self.invariant (sym c.take.ensures.value ∙ c.unwrap-seats.ensures) c.index.ensures.value lt read (c.make_call-seats.ensures.alone i.ram))
