@@ -56,8 +56,8 @@ abbrev pub IsOfHarts : Change → Type 0
 IsOfHarts c = IsReset c ⊎ IsSuspension c
 
 -- a hart's command of this kind ended the life
-abbrev pub Ends : (Change → Type 0) → State → Bool → State → Bool → Type 0
-Ends Is s up t now = (up ≡ true) × (now ≡ false) × (c : Change) × Is c × Takes (c ∷ []) s t
+abbrev pub EndsLife : (Change → Type 0) → State → Bool → State → Bool → Type 0
+EndsLife Is s up t now = (up ≡ true) × (now ≡ false) × (c : Change) × Is c × Takes (c ∷ []) s t
 
 -- Harts went on: none of them made a durable command; or one is in doubt, of which the report does not tell, and the life takes
 -- no more.
@@ -69,8 +69,8 @@ Hides s up t now =
 -- what the word of a turn or a call tells
 abbrev pub TellsWord : Word → State → Bool → State → Bool → Type 0
 TellsWord (words.Own did) s up t now = Hides s up t now
-TellsWord words.Asleep s up t now = Ends IsSuspension s up t now
-TellsWord (words.Reset kind) s up t now = Ends IsReset s up t now
+TellsWord words.Asleep s up t now = EndsLife IsSuspension s up t now
+TellsWord (words.Reset kind) s up t now = EndsLife IsReset s up t now
 
 abbrev pub TellsLine : MachineLine → State → Bool → State → Bool → Type 0
 TellsLine (shown.Turn h made word) s up t now = TellsWord word s up t now
