@@ -6,7 +6,7 @@ use Rattle.std.proofs.lemmas.List.{map-append, map-set, set-get_or, get_or_appen
 use Rattle.std.proofs.lemmas.Bool.{cases_lt}
 use Rattle.disk.specs.Facts.{Content, Lent, Torn, Apart, IsFresh, nothing, sector}
 use Rattle.simdisk.specs.declared.patch.Patch.{Patch}
-use Rattle.simdisk.specs.Record.{Piece, Record, put, newest, synced, range, ranges, more_written, more_synced, lent_piece, new_record, replay, filled, sim_facts, Untouched, AgreesOutside, Fits}
+use Rattle.simdisk.specs.Record.{Piece, Record, put, newest, synced, range, ranges, more_written, more_synced, lent_piece, new_record, replay, filled, sim_facts, Untouched, AgreesOutside, AreWithin}
 use Rattle.simdisk.specs.Views.{piece, pieces}
 use Rattle.simdisk.specs.Loans.{Noted, IsLast}
 use Rattle.simdisk.specs.Choices.{left_by}
@@ -123,9 +123,9 @@ fresh_of now stood r f i l begun is none = record {
 }
 
 -- each choice is one that a crash may leave
-pub left_agrees : (choice : Choice) (stood : Content) (ps : List Piece) → Fits (length stood) (ranges ps) → AgreesOutside stood (ranges ps) (left_by choice stood ps)
+pub left_agrees : (choice : Choice) (stood : Content) (ps : List Piece) → AreWithin (length stood) (ranges ps) → AgreesOutside stood (ranges ps) (left_by choice stood ps)
 left_agrees (Byte byte) stood ps fits =
     let same = ranges_filled byte ps in
-    subst (λ (rs : List (ℕ × ℕ)). AgreesOutside stood rs (replay (map (filled byte) ps) stood)) same (agrees_replay (map (filled byte) ps) stood (subst (λ (rs : List (ℕ × ℕ)). Fits (length stood) rs) (sym same) fits))
+    subst (λ (rs : List (ℕ × ℕ)). AgreesOutside stood rs (replay (map (filled byte) ps) stood)) same (agrees_replay (map (filled byte) ps) stood (subst (λ (rs : List (ℕ × ℕ)). AreWithin (length stood) rs) (sym same) fits))
 left_agrees Old stood ps fits = record { as_long = refl; same = λ k u. refl }
 left_agrees New stood ps fits = agrees_replay ps stood fits

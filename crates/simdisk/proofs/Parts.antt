@@ -9,7 +9,7 @@ use Rattle.simdisk.specs.declared.patch.Patch.{Patch}
 use Rattle.simdisk.specs.declared.choice.Choice.{Choice}
 use Rattle.simdisk.specs.declared.choice.Choice.TheVariants.{Byte, Old, New}
 use Rattle.simdisk.specs.Choices.{left_by}
-use Rattle.simdisk.specs.Record.{Piece, Record, put, replay, synced, filled, ranges, Untouched, AgreesOutside, Fits}
+use Rattle.simdisk.specs.Record.{Piece, Record, put, replay, synced, filled, ranges, Untouched, AgreesOutside, AreWithin}
 use Rattle.simdisk.specs.Pokes.{misses, part_before, part_behind, parted, poked_record}
 use Rattle.simdisk.specs.Views.{piece, pieces}
 use Rattle.simdisk.proofs.Pieces.{length-put, put_low, put_mid, put_high, fits_here, fits_rest, ranges_filled}
@@ -93,16 +93,16 @@ own_untouched k (p ∷ ps) =
     (λ out. (out, own_untouched k ps))
     (λ le less. (own_before k p le less, (own_behind k p le less, own_untouched k ps)))
 
-fits_cons : (n : ℕ) (p : Piece) (ps : List Piece) → p.0 + length p.1 ≤ n → Fits n (ranges ps) → Fits n (ranges (p ∷ ps))
+fits_cons : (n : ℕ) (p : Piece) (ps : List Piece) → p.0 + length p.1 ≤ n → AreWithin n (ranges ps) → AreWithin n (ranges (p ∷ ps))
 fits_cons n p ps here rest zero less = here
 fits_cons n p ps here rest (suc i) less = rest i (omega arith)
 
-pub fits_parted : (n k : ℕ) (ps : List Piece) → Fits n (ranges ps) → Fits n (ranges (flat_map (parted k) ps))
+pub fits_parted : (n k : ℕ) (ps : List Piece) → AreWithin n (ranges ps) → AreWithin n (ranges (flat_map (parted k) ps))
 fits_parted n k [] fits = fits
 fits_parted n k (p ∷ ps) fits =
     let here : p.0 + length p.1 ≤ n = fits_here n p ps fits in
-    let rest : Fits n (ranges (flat_map (parted k) ps)) = fits_parted n k ps (fits_rest n p ps fits) in
-    parted_by k p (λ (qs : List Piece). Fits n (ranges (qs ++ flat_map (parted k) ps)))
+    let rest : AreWithin n (ranges (flat_map (parted k) ps)) = fits_parted n k ps (fits_rest n p ps fits) in
+    parted_by k p (λ (qs : List Piece). AreWithin n (ranges (qs ++ flat_map (parted k) ps)))
     (λ out. fits_cons n p (flat_map (parted k) ps) here rest)
     (λ le less. fits_cons n (part_before k p) (part_behind k p ∷ flat_map (parted k) ps) (omega (arith, here, long_before k p le less, le, less))
     (fits_cons n (part_behind k p) (flat_map (parted k) ps) (omega (arith, here, long_behind k p le less)) rest))
@@ -197,12 +197,12 @@ module _ (k : ℕ) (v : List ℕ) where
           ])
 
   -- the parts, laid over a content with the sector
-  pub replay_parted : (ps : List Piece) (c : Content) → k < length c → Fits (length c) (ranges ps) → replay (flat_map (parted k) ps) (put (k, v ∷ []) c) ≡ put (k, v ∷ []) (replay ps c)
+  pub replay_parted : (ps : List Piece) (c : Content) → k < length c → AreWithin (length c) (ranges ps) → replay (flat_map (parted k) ps) (put (k, v ∷ []) c) ≡ put (k, v ∷ []) (replay ps c)
   replay_parted [] c lt fits = refl
   replay_parted (p ∷ ps) c lt fits =
       let here : p.0 + length p.1 ≤ length c = fits_here (length c) p ps fits in
       let long : length (put p c) ≡ length c = length-put p.0 p.1 c here in
-      let rest : replay (flat_map (parted k) ps) (put (k, v ∷ []) (put p c)) ≡ put (k, v ∷ []) (replay ps (put p c)) = replay_parted ps (put p c) (wide p c lt here) (subst (λ (n : ℕ). Fits n (ranges ps)) (sym long) (fits_rest (length c) p ps fits)) in
+      let rest : replay (flat_map (parted k) ps) (put (k, v ∷ []) (put p c)) ≡ put (k, v ∷ []) (replay ps (put p c)) = replay_parted ps (put p c) (wide p c lt here) (subst (λ (n : ℕ). AreWithin n (ranges ps)) (sym long) (fits_rest (length c) p ps fits)) in
       parted_by k p (λ (qs : List Piece). replay (qs ++ flat_map (parted k) ps) (put (k, v ∷ []) c) ≡ put (k, v ∷ []) (replay ps (put p c)))
       (λ out. ap (λ (d : Content). replay (flat_map (parted k) ps) d) (commute_out p c lt here out) ∙ rest)
       (λ le less. ap (λ (d : Content). replay (flat_map (parted k) ps) d) (commute_in p c lt here le less) ∙ rest)
@@ -235,10 +235,10 @@ filled_parts byte k (p ∷ ps) =
 
 -- what a crash leaves of a content with the k-th sector so
 module _ (k : ℕ) (v : List ℕ) (stood : Content) (ps : List Piece) (lt : k < length stood) where
-  pub left_poked : Fits (length stood) (ranges ps) → (choice : Choice) → left_by choice (put (k, v ∷ []) stood) (flat_map (parted k) ps) ≡ put (k, v ∷ []) (left_by choice stood ps)
+  pub left_poked : AreWithin (length stood) (ranges ps) → (choice : Choice) → left_by choice (put (k, v ∷ []) stood) (flat_map (parted k) ps) ≡ put (k, v ∷ []) (left_by choice stood ps)
   left_poked fits (Byte byte) =
       ap (λ (qs : List Piece). replay qs (put (k, v ∷ []) stood)) (filled_parts byte k ps)
-      ∙ replay_parted k v (map (filled byte) ps) stood lt (subst (λ (rs : List (ℕ × ℕ)). Fits (length stood) rs) (sym (ranges_filled byte ps)) fits)
+      ∙ replay_parted k v (map (filled byte) ps) stood lt (subst (λ (rs : List (ℕ × ℕ)). AreWithin (length stood) rs) (sym (ranges_filled byte ps)) fits)
   left_poked fits Old = refl
   left_poked fits New = replay_parted k v ps stood lt fits
 
@@ -285,7 +285,7 @@ module _ (k : ℕ) (v : List ℕ) (stood : Content) (ps : List Piece) (lt : k < 
 
 -- the record of a disk that was poked
 module _ (k : ℕ) (v : List ℕ) (r r' : Record) (anew : r' ≡ poked_record k v r) (lt : k < length (synced r)) where
-  pub choices_poked : Fits (length (synced r)) (ranges r.written) → (choice : Choice) → left_by choice (synced r') r'.written ≡ put (k, v ∷ []) (left_by choice (synced r) r.written)
+  pub choices_poked : AreWithin (length (synced r)) (ranges r.written) → (choice : Choice) → left_by choice (synced r') r'.written ≡ put (k, v ∷ []) (left_by choice (synced r) r.written)
   choices_poked fits choice = ap (λ (q : Record). left_by choice (synced q) q.written) anew ∙ left_poked k v (synced r) r.written lt fits choice
 
   pub agrees_poked : (c c' : Content) → AgreesOutside (synced r) (ranges r.written) c → c' ≡ put (k, v ∷ []) c → AgreesOutside (synced r') (ranges r'.written) c'

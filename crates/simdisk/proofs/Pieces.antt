@@ -4,7 +4,7 @@ use Rattle.std.proofs.Math.ListN.{get_or-map}
 use Rattle.std.proofs.lemmas.List.{places, get_or_append_left, get_or_push, ext_get_or, length-map, length-replicate, length-take-le}
 use Rattle.std.proofs.lemmas.Bool.{cases_lt}
 use Rattle.disk.specs.Facts.{Content, sector}
-use Rattle.simdisk.specs.Record.{Piece, put, replay, synced_after, range, ranges, Untouched, AgreesOutside, Fits, settled, filled}
+use Rattle.simdisk.specs.Record.{Piece, put, replay, synced_after, range, ranges, Untouched, AgreesOutside, AreWithin, settled, filled}
 
 module _ (first : ℕ) (s c : Content) (within : first + length s ≤ length c) where
   pub length-put : length (put (first, s) c) ≡ length c
@@ -43,27 +43,27 @@ pub replay_push : (ps : List Piece) (p : Piece) (c : Content) → replay (ps ++ 
 replay_push [] p c = refl
 replay_push (q ∷ ps) p c = replay_push ps p (put q c)
 
-pub fits_here : (n : ℕ) (p : Piece) (ps : List Piece) → Fits n (ranges (p ∷ ps)) → p.0 + length p.1 ≤ n
+pub fits_here : (n : ℕ) (p : Piece) (ps : List Piece) → AreWithin n (ranges (p ∷ ps)) → p.0 + length p.1 ≤ n
 fits_here n p ps fits = fits 0 (omega arith)
 
-pub fits_rest : (n : ℕ) (p : Piece) (ps : List Piece) → Fits n (ranges (p ∷ ps)) → Fits n (ranges ps)
+pub fits_rest : (n : ℕ) (p : Piece) (ps : List Piece) → AreWithin n (ranges (p ∷ ps)) → AreWithin n (ranges ps)
 fits_rest n p ps fits i lt = fits (suc i) (omega arith)
 
 -- what is laid over a content leaves the rest of it
-pub length_replay : (ps : List Piece) (c : Content) → Fits (length c) (ranges ps) → length (replay ps c) ≡ length c
+pub length_replay : (ps : List Piece) (c : Content) → AreWithin (length c) (ranges ps) → length (replay ps c) ≡ length c
 length_replay [] c fits = refl
 length_replay (p ∷ ps) c fits =
     let here = length-put p.0 p.1 c (fits_here (length c) p ps fits) in
     length_replay ps (put p c) (rw here (fits_rest (length c) p ps fits)) ∙ here
 
-pub replay_outside : (ps : List Piece) (c : Content) (k : ℕ) → Fits (length c) (ranges ps) → Untouched (ranges ps) k → sector (replay ps c) k ≡ sector c k
+pub replay_outside : (ps : List Piece) (c : Content) (k : ℕ) → AreWithin (length c) (ranges ps) → Untouched (ranges ps) k → sector (replay ps c) k ≡ sector c k
 replay_outside [] c k fits u = refl
 replay_outside (p ∷ ps) c k fits u =
     let within = fits_here (length c) p ps fits in
     let here = length-put p.0 p.1 c within in
     replay_outside ps (put p c) k (rw here (fits_rest (length c) p ps fits)) u.1 ∙ elim u.0 [ inl low ↦ put_low p.0 p.1 c within k low | inr high ↦ put_high p.0 p.1 c within k high ]
 
-pub agrees_replay : (ps : List Piece) (stood : Content) → Fits (length stood) (ranges ps) → AgreesOutside stood (ranges ps) (replay ps stood)
+pub agrees_replay : (ps : List Piece) (stood : Content) → AreWithin (length stood) (ranges ps) → AgreesOutside stood (ranges ps) (replay ps stood)
 agrees_replay ps stood fits = record { as_long = length_replay ps stood fits; same = λ k u. replay_outside ps stood k fits u }
 
 -- to fill or settle a piece leaves its range
@@ -75,14 +75,14 @@ ranges_filled byte (p ∷ ps) =
 pub length-settled : (now : Content) (p : Piece) → p.0 + length p.1 ≤ length now → length (settled now p).1 ≡ length p.1
 length-settled now p within = length-take-le (length p.1) (drop p.0 now) (omega (arith, within, length-drop p.0 now))
 
-pub ranges_settled : (now : Content) (ps : List Piece) → Fits (length now) (ranges ps) → ranges (map (settled now) ps) ≡ ranges ps
+pub ranges_settled : (now : Content) (ps : List Piece) → AreWithin (length now) (ranges ps) → ranges (map (settled now) ps) ≡ ranges ps
 ranges_settled now [] fits = refl
 ranges_settled now (p ∷ ps) fits =
     ap (λ (n : ℕ). (p.0, n) ∷ ranges (map (settled now) ps)) (length-settled now p (fits_here (length now) p ps fits))
     ∙ ap (λ (rs : List (ℕ × ℕ)). (p.0, length p.1) ∷ rs) (ranges_settled now ps (fits_rest (length now) p ps fits))
 
 -- pieces as they stand in a content, laid over one that is the same outside them, give that content
-settled_onto : (now : Content) (ps : List Piece) (c : Content) → length c ≡ length now → Fits (length now) (ranges ps) → ((k : ℕ) → Untouched (ranges ps) k → sector c k ≡ sector now k)
+settled_onto : (now : Content) (ps : List Piece) (c : Content) → length c ≡ length now → AreWithin (length now) (ranges ps) → ((k : ℕ) → Untouched (ranges ps) k → sector c k ≡ sector now k)
     → replay (map (settled now) ps) c ≡ now
 settled_onto now [] c long fits same = ext_get_or [] c now long (λ k lt. same k tt)
 settled_onto now (p ∷ ps) c long fits same = settled_onto now ps (put q c) (length-put q.0 q.1 c within ∙ long) (fits_rest (length now) p ps fits) (λ k u. here k u)
@@ -111,11 +111,11 @@ settled_onto now (p ∷ ps) c long fits same = settled_onto now ps (put q c) (le
         middle : (k : ℕ) → p.0 ≤ k → k < p.0 + length p.1 → sector q.1 (k - p.0) ≡ sector now k
         middle k le lt = search (rules, places)
 
-pub replay_settled : (stood now : Content) (ps : List Piece) → AgreesOutside stood (ranges ps) now → Fits (length stood) (ranges ps) → replay (map (settled now) ps) stood ≡ now
+pub replay_settled : (stood now : Content) (ps : List Piece) → AgreesOutside stood (ranges ps) now → AreWithin (length stood) (ranges ps) → replay (map (settled now) ps) stood ≡ now
 replay_settled stood now ps agrees fits = settled_onto now ps stood (sym agrees.as_long) (rw agrees.as_long fits) (λ k u. sym (agrees.same k u))
 
 -- a range more
-pub fits_push : (n : ℕ) (ps : List Piece) (p : Piece) → Fits n (ranges ps) → p.0 + length p.1 ≤ n → Fits n (ranges (ps ++ p ∷ []))
+pub fits_push : (n : ℕ) (ps : List Piece) (p : Piece) → AreWithin n (ranges ps) → p.0 + length p.1 ≤ n → AreWithin n (ranges (ps ++ p ∷ []))
 fits_push n ps p fits within i lt = elim (cases_lt i (length ps)) [
   | inl less ↦ subst (λ (r : ℕ × ℕ). r.0 + r.1 ≤ n) (sym (at i (get_or_append_left ps (p ∷ []) (0, []) i less))) (fits i (omega (arith, less, length-map ps range)))
   | inr more ↦ subst (λ (r : ℕ × ℕ). r.0 + r.1 ≤ n) (sym (last (omega (arith, more, lt, length-map (ps ++ p ∷ []) range, length-append ps (p ∷ []))))) within

@@ -3,7 +3,7 @@ use Rattle.std.proofs.Common.{◌≡◌, ◌⊎◌, ◌∙◌, inl, inr, ⊎_eli
 use Rattle.std.proofs.lemmas.Bool.{cases_lt}
 use Rattle.std.proofs.lemmas.List.{places, map-set, set-get_or, length-map, length-take-le, ext_get_or}
 use Rattle.disk.specs.Facts.{Content, Torn, sector}
-use Rattle.simdisk.specs.Record.{Piece, put, replay, settled, range, ranges, Untouched, Fits, range_at}
+use Rattle.simdisk.specs.Record.{Piece, put, replay, settled, range, ranges, Untouched, AreWithin, range_at}
 use Rattle.simdisk.specs.Loans.{IsLast}
 use Rattle.simdisk.specs.declared.patch.Patch.{Patch}
 use Rattle.simdisk.specs.Views.{piece, pieces}
@@ -11,12 +11,12 @@ use Rattle.simdisk.proofs.Walks.{range_read}
 use Rattle.simdisk.proofs.Pieces.{length-put, put_low, put_mid, put_high, fits_here, fits_rest, length_replay, length-settled, replay_outside}
 
 -- two contents with the same in a sector, if it is outside of these pieces, have the same there after them
-replay_outside_same : (ps : List Piece) (c d : Content) (k : ℕ) → length d ≡ length c → Fits (length c) (ranges ps) → (Untouched (ranges ps) k → sector d k ≡ sector c k)
+replay_outside_same : (ps : List Piece) (c d : Content) (k : ℕ) → length d ≡ length c → AreWithin (length c) (ranges ps) → (Untouched (ranges ps) k → sector d k ≡ sector c k)
     → sector (replay ps d) k ≡ sector (replay ps c) k
 replay_outside_same [] c d k long fits same = same tt
 replay_outside_same (p ∷ ps) c d k long fits same =
     replay_outside_same ps (put p c) (put p d) k (length-put p.0 p.1 d inside ∙ long ∙ sym (length-put p.0 p.1 c within))
-    (subst (λ (n : ℕ). Fits n (ranges ps)) (sym (length-put p.0 p.1 c within)) (fits_rest (length c) p ps fits)) here
+    (subst (λ (n : ℕ). AreWithin n (ranges ps)) (sym (length-put p.0 p.1 c within)) (fits_rest (length c) p ps fits)) here
   where
     within : p.0 + length p.1 ≤ length c
     within = fits_here (length c) p ps fits
@@ -33,7 +33,7 @@ replay_outside_same (p ∷ ps) c d k long fits same =
       ]
     ]
 
-replay_same : (ps : List Piece) (c d : Content) (k : ℕ) → length d ≡ length c → Fits (length c) (ranges ps) → sector d k ≡ sector c k → sector (replay ps d) k ≡ sector (replay ps c) k
+replay_same : (ps : List Piece) (c d : Content) (k : ℕ) → length d ≡ length c → AreWithin (length c) (ranges ps) → sector d k ≡ sector c k → sector (replay ps d) k ≡ sector (replay ps c) k
 replay_same ps c d k long fits same = replay_outside_same ps c d k long fits (λ u. same)
 
 -- the sectors that later ranges leave alone
@@ -42,11 +42,11 @@ later [] r k apart le lt = tt
 later (x ∷ rs) r k apart le lt = (elim (cases_lt r.0 (x.0 + x.1)) [ inl behind ↦ inl (omega (arith, apart 0 (omega arith) behind, lt)) | inr before ↦ inr (omega (arith, before, le)) ], later rs r k (λ j less. apart (suc j) (omega (arith, less))) le lt)
 
 -- a piece that is replaced by one of the same range: outside it nothing changes
-pub replaced_outside : (ps : List Piece) (i : ℕ) (new : Piece) (c : Content) (k : ℕ) → i < length ps → Fits (length c) (ranges ps) → range_at (ranges ps) i ≡ range new
+pub replaced_outside : (ps : List Piece) (i : ℕ) (new : Piece) (c : Content) (k : ℕ) → i < length ps → AreWithin (length c) (ranges ps) → range_at (ranges ps) i ≡ range new
     → (k < new.0) ⊎ (new.0 + length new.1 ≤ k) → sector (replay (set ps i new) c) k ≡ sector (replay ps c) k
 replaced_outside [] i new c k lt fits is out = absurd (omega arith)
 replaced_outside (p ∷ ps) zero new c k lt fits is out =
-    replay_same ps (put p c) (put new c) k (length-put new.0 new.1 c inside ∙ sym (length-put p.0 p.1 c within)) (subst (λ (n : ℕ). Fits n (ranges ps)) (sym (length-put p.0 p.1 c within)) (fits_rest (length c) p ps fits)) here
+    replay_same ps (put p c) (put new c) k (length-put new.0 new.1 c inside ∙ sym (length-put p.0 p.1 c within)) (subst (λ (n : ℕ). AreWithin n (ranges ps)) (sym (length-put p.0 p.1 c within)) (fits_rest (length c) p ps fits)) here
   where
     within : p.0 + length p.1 ≤ length c
     within = fits_here (length c) p ps fits
@@ -65,14 +65,14 @@ replaced_outside (p ∷ ps) zero new c k lt fits is out =
         (λ low. put_low new.0 new.1 c inside k low ∙ sym (put_low p.0 p.1 c within k (omega (arith, low, first))))
         (λ high. put_high new.0 new.1 c inside k high ∙ sym (put_high p.0 p.1 c within k (omega (arith, high, first, long)))) out
 replaced_outside (p ∷ ps) (suc i) new c k lt fits is out =
-    replaced_outside ps i new (put p c) k (omega arith) (subst (λ (n : ℕ). Fits n (ranges ps)) (sym (length-put p.0 p.1 c (fits_here (length c) p ps fits))) (fits_rest (length c) p ps fits)) is out
+    replaced_outside ps i new (put p c) k (omega arith) (subst (λ (n : ℕ). AreWithin n (ranges ps)) (sym (length-put p.0 p.1 c (fits_here (length c) p ps fits))) (fits_rest (length c) p ps fits)) is out
 
 -- and within it, where no later one touches it, its bytes stand
-pub replaced_inside : (ps : List Piece) (i : ℕ) (new : Piece) (c : Content) (k : ℕ) → Fits (length c) (ranges ps) → IsLast (ranges ps) i (range new)
+pub replaced_inside : (ps : List Piece) (i : ℕ) (new : Piece) (c : Content) (k : ℕ) → AreWithin (length c) (ranges ps) → IsLast (ranges ps) i (range new)
     → new.0 ≤ k → k < new.0 + length new.1 → sector (replay (set ps i new) c) k ≡ sector new.1 (k - new.0)
 replaced_inside [] i new c k fits last le lt = absurd (omega (arith, last.noted.0))
 replaced_inside (p ∷ ps) zero new c k fits last le lt =
-    replay_outside ps (put new c) k (subst (λ (n : ℕ). Fits n (ranges ps)) (sym (length-put new.0 new.1 c inside)) (fits_rest (length c) p ps fits)) alone
+    replay_outside ps (put new c) k (subst (λ (n : ℕ). AreWithin n (ranges ps)) (sym (length-put new.0 new.1 c inside)) (fits_rest (length c) p ps fits)) alone
     ∙ put_mid new.0 new.1 c inside k le lt
   where
     inside : new.0 + length new.1 ≤ length c
@@ -81,11 +81,11 @@ replaced_inside (p ∷ ps) zero new c k fits last le lt =
     alone : Untouched (ranges ps) k
     alone = later (ranges ps) (range new) k (λ j less. last.apart (suc j) (omega arith) (omega (arith, less))) le lt
 replaced_inside (p ∷ ps) (suc i) new c k fits last le lt =
-    replaced_inside ps i new (put p c) k (subst (λ (n : ℕ). Fits n (ranges ps)) (sym (length-put p.0 p.1 c (fits_here (length c) p ps fits))) (fits_rest (length c) p ps fits))
+    replaced_inside ps i new (put p c) k (subst (λ (n : ℕ). AreWithin n (ranges ps)) (sym (length-put p.0 p.1 c (fits_here (length c) p ps fits))) (fits_rest (length c) p ps fits))
     (record { noted = (omega (arith, last.noted.0), last.noted.1); apart = λ j more less. last.apart (suc j) (omega (arith, more)) (omega (arith, less)) }) le lt
 
 -- the last piece of its range, with what stands there in a content that is torn there alone: then that content is what all give
-pub replaced_torn : (ps : List Piece) (i first n : ℕ) (c now : Content) → Fits (length c) (ranges ps) → IsLast (ranges ps) i (first, n) → Torn first n (replay ps c) now
+pub replaced_torn : (ps : List Piece) (i first n : ℕ) (c now : Content) → AreWithin (length c) (ranges ps) → IsLast (ranges ps) i (first, n) → Torn first n (replay ps c) now
     → replay (set ps i (first, take n (drop first now))) c ≡ now
 replaced_torn ps i first n c now fits last torn =
     ext_get_or [] (replay (set ps i new) c) now (length_replay (set ps i new) c still ∙ sym long) (λ k lt. elim (cases_lt k first) [
@@ -114,8 +114,8 @@ replaced_torn ps i first n c now fits last torn =
     is : range_at (ranges ps) i ≡ range new
     is = last.noted.1 ∙ ap (λ (x : ℕ). (first, x)) (sym size)
 
-    still : Fits (length c) (ranges (set ps i new))
-    still = subst (λ (rs : List (ℕ × ℕ)). Fits (length c) rs) (sym (map-set range ps i new ∙ ap (λ (r : ℕ × ℕ). set (ranges ps) i r) (sym is) ∙ set-get_or (ranges ps) i (0, 0))) fits
+    still : AreWithin (length c) (ranges (set ps i new))
+    still = subst (λ (rs : List (ℕ × ℕ)). AreWithin (length c) rs) (sym (map-set range ps i new ∙ ap (λ (r : ℕ × ℕ). set (ranges ps) i r) (sym is) ∙ set-get_or (ranges ps) i (0, 0))) fits
 
     middle : (k : ℕ) → first ≤ k → k < first + n → sector (take n (drop first now)) (k - first) ≡ sector now k
     middle k le lt = search (rules, places)
@@ -131,7 +131,7 @@ pub range_settled : (now : Content) (x new : Patch) → piece new ≡ settled no
 range_settled now x new is within = ap range is ∙ ap (λ (n : ℕ). (x.first, n)) (length-settled now (piece x) (rw x.long within))
 
 -- the patch at that place, as it stands in that content
-pub newest_retaken : (patches : List Patch) (i : ℕ) (x new : Patch) (first n : ℕ) (s now : Content) → i < length patches → x ≡ get_or patches i x → Fits (length s) (ranges (pieces patches))
+pub newest_retaken : (patches : List Patch) (i : ℕ) (x new : Patch) (first n : ℕ) (s now : Content) → i < length patches → x ≡ get_or patches i x → AreWithin (length s) (ranges (pieces patches))
     → IsLast (ranges (pieces patches)) i (first, n) → piece new ≡ settled now (piece x) → Torn first n (replay (pieces patches) s) now → replay (pieces (set patches i new)) s ≡ now
 newest_retaken patches i x new first n s now lt is fits last changed torn = ap (λ (ps : List Piece). replay ps s) set_is ∙ replaced_torn (pieces patches) i first n s now fits last torn
   where

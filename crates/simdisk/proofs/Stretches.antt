@@ -2,7 +2,7 @@
 use Rattle.std.proofs.Common.{◌≡◌, ◌⊎◌, ◌∙◌, inl, inr, ⊎_elim, refl, ℕ, ◌+◌, ◌≤◌, List, [], ◌∷◌, ◌++◌, length, take, drop, map, sym, ap, subst, arith, length-append}
 use Rattle.std.proofs.lemmas.List.{map-append, take-append-le, drop-append-le, take-append-drop}
 use Rattle.disk.specs.Facts.{Content, Facts, Lent, LeavesAfter, Passes, Stays, Torn}
-use Rattle.simdisk.specs.Record.{Piece, Record, replay, settled, range, ranges, synced_after, more_written, more_synced, Untouched, AgreesOutside, Fits, Had, sim_facts}
+use Rattle.simdisk.specs.Record.{Piece, Record, replay, settled, range, ranges, synced_after, more_written, more_synced, Untouched, AgreesOutside, AreWithin, Had, sim_facts}
 use Rattle.simdisk.proofs.Ranges.{agrees_push, crash_write, crash_sync}
 use Rattle.simdisk.proofs.Pieces.{ranges_settled}
 
@@ -84,7 +84,7 @@ passes_range now new stood stood' r r' f g i j l m p more is within =
 
 -- a sync more
 pub passes_sync : (now stood stood' : Content) (r r' : Record) (f g i j : ℕ) (l : Lent) (next : List Piece) → r' ≡ more_synced now next r → stood' ≡ now → synced_after r.past r.began ≡ stood
-    → AgreesOutside stood (ranges r.written) now → Fits (length stood) (ranges r.written) → ((k : ℕ) → Untouched (ranges r.written) k → Untouched (ranges next) k)
+    → AgreesOutside stood (ranges r.written) now → AreWithin (length stood) (ranges r.written) → ((k : ℕ) → Untouched (ranges r.written) k → Untouched (ranges next) k)
     → Passes (sim_facts now stood r f i l) (sim_facts now stood' r' g j l) Stays
 passes_sync now stood stood' r r' f g i j l next more is stood_so agrees fits fewer =
     subst (λ (s : Content). Passes before (sim_facts now s r' g j l) Stays) (sym is) (subst (λ (q : Record). Passes before (sim_facts now now q g j l) Stays) (sym more) pushed)

@@ -4,7 +4,7 @@ use Rattle.std.proofs.Math.ListN.{get_or-map}
 use Rattle.std.proofs.lemmas.List.{drop_more, length-map}
 use Rattle.disk.specs.Facts.{Content}
 use Rattle.simdisk.specs.declared.patch.Patch.{Patch}
-use Rattle.simdisk.specs.Record.{Piece, put, replay, range, ranges, range_at, Fits}
+use Rattle.simdisk.specs.Record.{Piece, put, replay, range, ranges, range_at, AreWithin}
 use Rattle.simdisk.specs.Views.{piece, pieces}
 
 -- what was read at that place, as a piece
@@ -27,7 +27,7 @@ laid_more f patches i x c new all lt is so_far laid =
     rest = drop_more (map f (pieces patches)) i (f (piece x)) (omega (arith, lt, length-map (pieces patches) f, length-map patches piece))
         ∙ ap (λ (p : Piece). p ∷ drop (i + 1) (map f (pieces patches))) (get_or-map f (pieces patches) i (piece x) ∙ ap f (read_piece patches i x lt is (piece x)))
 
-pub fits_read : (n : ℕ) (patches : List Patch) (i : ℕ) (x : Patch) → i < length patches → x ≡ get_or patches i x → Fits n (ranges (pieces patches)) → x.first + x.count ≤ n
+pub fits_read : (n : ℕ) (patches : List Patch) (i : ℕ) (x : Patch) → i < length patches → x ≡ get_or patches i x → AreWithin n (ranges (pieces patches)) → x.first + x.count ≤ n
 fits_read n patches i x lt is fits =
     subst (λ (k : ℕ). x.first + k ≤ n) x.long
     (subst (λ (r : ℕ × ℕ). r.0 + r.1 ≤ n) (get_or-map range (pieces patches) i (0, []) ∙ ap range (read_piece patches i x lt is (0, []))) (fits i (omega (arith, lt, length-map (pieces patches) range, length-map patches piece))))

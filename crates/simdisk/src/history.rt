@@ -1,6 +1,6 @@
 //! The record of a disk's writes and syncs.
 ghost use Rattle.std.specs.Prelude.{◌≡◌, length};
-ghost use Rattle.simdisk.specs.Record.{ranges, synced_after, Fits};
+ghost use Rattle.simdisk.specs.Record.{ranges, synced_after, AreWithin};
 ghost use Rattle.simdisk.specs.Views.{pieces};
 
 use crate::past::Past;
@@ -15,5 +15,5 @@ pub(crate) struct History {
     pub(crate) written: Vec<Patch>,
     pub(crate) past: Past,
     ghost stood_so: { synced_after past.epochs past.began ≡ stood.items },
-    ghost fits: { Fits (length stood.items) (ranges (pieces written.items)) },
+    ghost fits: { AreWithin (length stood.items) (ranges (pieces written.items)) },
 }

@@ -1,7 +1,7 @@
 //! Patches laid over a content.
 ghost use Rattle.std.specs.Prelude.{◌≡◌, ◌≤◌, ◌<◌, ◌+◌, length, map, replicate};
 ghost use Rattle.disk.specs.Facts.{Written};
-ghost use Rattle.simdisk.specs.Record.{put, replay, settled, filled, ranges, Fits};
+ghost use Rattle.simdisk.specs.Record.{put, replay, settled, filled, ranges, AreWithin};
 ghost use Rattle.simdisk.specs.Views.{pieces};
 
 use crate::patch::Patch;
@@ -20,7 +20,7 @@ pub(crate) fn overwrite(content: &mut Vec<Sector>, first: usize, sectors: &[Sect
 #[tactic(auto, using(crate::proofs::Pieces::length_replay))]
 pub(crate) fn settle(stood: &mut Vec<Sector>, patches: &[Patch], content: &[Sector])
     requires as_long { length content.now ≡ length stood.old.items }
-    requires fits { Fits (length stood.old.items) (ranges (pieces patches.now)) }
+    requires fits { AreWithin (length stood.old.items) (ranges (pieces patches.now)) }
     ensures { stood.new.items ≡ replay (map (settled content.now) (pieces patches.now)) stood.old.items }
 {
     for patch in patches {
@@ -31,7 +31,7 @@ pub(crate) fn settle(stood: &mut Vec<Sector>, patches: &[Patch], content: &[Sect
 // Fills the sectors of these patches with that byte.
 #[tactic(auto, using(crate::proofs::Pieces::length_replay))]
 pub(crate) fn fill(content: &mut Vec<Sector>, patches: &[Patch], byte: u8)
-    requires { Fits (length content.old.items) (ranges (pieces patches.now)) }
+    requires { AreWithin (length content.old.items) (ranges (pieces patches.now)) }
     ensures content { content.new.items ≡ replay (map (filled byte) (pieces patches.now)) content.old.items }
     ensures as_long { length content.new.items ≡ length content.old.items }
 {

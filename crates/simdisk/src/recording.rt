@@ -2,7 +2,7 @@
 ghost use Rattle.std.specs.Prelude.{◌≡◌, ◌≤◌, ◌<◌, ◌+◌, ◌*◌, ℕ, [], ◌∷◌, length, map, true, OnOk, OnErr, IfOk};
 ghost use Rattle.disk.specs.Facts.{Handed, Torn};
 ghost use Rattle.simdisk.specs.Loans.{IsLast};
-ghost use Rattle.simdisk.specs.Record.{new_record, more_written, more_synced, lent_piece, newest, synced, ranges, AgreesOutside, Fits};
+ghost use Rattle.simdisk.specs.Record.{new_record, more_written, more_synced, lent_piece, newest, synced, ranges, AgreesOutside, AreWithin};
 ghost use Rattle.simdisk.specs.Choices.{left_by};
 ghost use Rattle.simdisk.specs.Views.{pieces};
 
@@ -50,7 +50,7 @@ impl History {
     // Notes a sync of that content. From now on these patches are written.
     pub(crate) fn sync(&mut self, content: &[Sector], next: Vec<Patch>)
         requires agrees { AgreesOutside (synced (record_of self.old)) (ranges (pieces self.old.written.items)) content.now }
-        requires fits { Fits (length (synced (record_of self.old))) (ranges (pieces next.items)) }
+        requires fits { AreWithin (length (synced (record_of self.old))) (ranges (pieces next.items)) }
         ensures noted { record_of self.new ≡ more_synced content.now (pieces next.items) (record_of self.old) }
         ensures synced { synced (record_of self.new) ≡ content.now }
     {
