@@ -16,7 +16,7 @@ use Rattle.store.specs.Lives.{Life as StoreLife, begun as started}
 use Rattle.store.specs.Opens.{CausedRefusal}
 use Rattle.store.specs.Stores.{life_of, view_of}
 use Rattle.machine.specs.Machine.{Machine}
-use Rattle.board.specs.Boots.{boot_refusal, life_after, Fits}
+use Rattle.board.specs.Boots.{boot_refusal, life_after, PayloadsFit}
 use Rattle.board.specs.Begins.{IsBegun, Issues, IsLateRefusal, IsBootRefusal}
 use Rattle.board.specs.PowersOn.{IsOn, IsUnpowered, KeepsDisk, GivesDisk}
 use Rattle.board.specs.Unbooted.{doubt_after, LeavesLife, CountsRefusal}
@@ -36,7 +36,7 @@ use Rattle.bench_report.proofs.KeptDisks.{KeptLaw, BlankLaw}
 use Rattle.bench_report.proofs.Opening.{opens, open_err}
 use Rattle.bench_report.proofs.Table.{mode_not_device, mode_not_down}
 
-pub roomy : (size : Size) (payloads : List (List ℕ)) → IsSize size → AreShort payloads → Fits size payloads
+pub roomy : (size : Size) (payloads : List (List ℕ)) → IsSize size → AreShort payloads → PayloadsFit size payloads
 roomy size payloads is short = λ k d lt. omega (arith, is.2, short k d lt)
 
 no_doubt : (mode : BootMode) (e : Refusal) → e ≢ Down → doubt_after mode e ≡ None
@@ -131,7 +131,7 @@ power_ok kept blank size mode b payloads old board a off same on keeps shows h =
 
 -- ---- the board is off, after an open that left this bench
 module _ (size : Size) (b : Bench) (old new : SimDisk) (z : Size) (s : State) (payloads : List (List ℕ)) (line : Printed) (none : b.power ≡ None) (device : DeviceIs size b (fault_state old) (facts old))
-    (follows : Follows size b.disk_state b.kept (begun s z) z) (fits : Fits z payloads) (no_fewer : (facts old).failures ≤ (facts new).failures) (long : SameLength (facts old) (facts new)) where
+    (follows : Follows size b.disk_state b.kept (begun s z) z) (fits : PayloadsFit z payloads) (no_fewer : (facts old).failures ≤ (facts new).failures) (long : SameLength (facts old) (facts new)) where
   abbrev Left : Option ℕ → BootMode → Type 0
   Left o mode = (x : Bench) × Boots o mode z s b line x × OffIs size x new × (x.payloads ≡ b.payloads)
 

@@ -9,7 +9,7 @@ use Rattle.board_model.specs.declared.boot_mode.BootMode.TheVariants as modes
 use Rattle.board_model.specs.declared.refusal.Refusal.{Refusal}
 use Rattle.board_model.specs.declared.refusal.Refusal.TheVariants.{BadShape, Memory, Device, Down, BadImage}
 use Rattle.machine.specs.Machine.{Machine, woken}
-use Rattle.board.specs.Boots.{Fits, boot_refusal, booted}
+use Rattle.board.specs.Boots.{PayloadsFit, boot_refusal, booted}
 use Rattle.board.specs.Moments.{issued_by}
 
 -- the hart of an image that stands is one of the board
@@ -50,11 +50,11 @@ Issues mode = IsTrue (is_some (issued_by mode))
 -- of a mode that the state allows, in this order: a payload that does not fit, memory, an image that has not the memory of its
 -- board, and the disk, where the mode issues a command
 abbrev pub IsLateRefusal : BootMode → Size → List (List ℕ) → State → Refusal → Type 0
-IsLateRefusal mode size payloads s BadShape = Fits size payloads → ⊥
-IsLateRefusal mode size payloads s Memory = Fits size payloads
-IsLateRefusal mode size payloads s BadImage = Fits size payloads × (mode ≡ modes.Resume) × (IsWhole size s → ⊥)
-IsLateRefusal mode size payloads s Device = Fits size payloads × Issues mode
-IsLateRefusal mode size payloads s Down = Fits size payloads × Issues mode
+IsLateRefusal mode size payloads s BadShape = PayloadsFit size payloads → ⊥
+IsLateRefusal mode size payloads s Memory = PayloadsFit size payloads
+IsLateRefusal mode size payloads s BadImage = PayloadsFit size payloads × (mode ≡ modes.Resume) × (IsWhole size s → ⊥)
+IsLateRefusal mode size payloads s Device = PayloadsFit size payloads × Issues mode
+IsLateRefusal mode size payloads s Down = PayloadsFit size payloads × Issues mode
 IsLateRefusal mode size payloads s e = ⊥
 
 -- by the number with which the state refuses the mode, where it does

@@ -31,8 +31,8 @@ IsConsoleCommand commands.Consume = ⊥
 IsConsoleCommand commands.Discard = Unit {0}
 
 -- each of the payloads fits into RAM
-abbrev pub Fits : Size → List (List ℕ) → Type 0
-Fits size payloads = All (λ payload. length payload ≤ ram_bytes_of size) payloads
+abbrev pub PayloadsFit : Size → List (List ℕ) → Type 0
+PayloadsFit size payloads = All (λ payload. length payload ≤ ram_bytes_of size) payloads
 
 -- the payload of a slot
 abbrev pub payload_at : List (List ℕ) → ℕ → List ℕ

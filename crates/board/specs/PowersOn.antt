@@ -15,7 +15,7 @@ use Rattle.store.specs.Opens.{OpenRefused, CausedRefusal}
 use Rattle.store.specs.Standing.{StandsFor}
 use Rattle.store.specs.Views.{StoreView}
 use Rattle.machine.specs.Machine.{Machine}
-use Rattle.board.specs.Boots.{Fits, boot_refusal, life_after}
+use Rattle.board.specs.Boots.{PayloadsFit, boot_refusal, life_after}
 use Rattle.board.specs.Begins.{IsBegun, IsRefused}
 use Rattle.board.specs.Moments.{issued_by, gone_before, MayLeave}
 use Rattle.board.specs.Unbooted.{doubt_after, LeavesLife, CountsRefusal}
@@ -31,7 +31,7 @@ pub record IsOn (mode : BootMode) (payloads : List (List ℕ)) (disk : Facts) (s
   pub only : LeavesOnly store.disk store.size (now_of store.life)
   pub any_moment : LeavesSince disk store.disk (MayLeave disk store.size store.life.found (issued_by mode))
   pub allowed : boot_refusal store.life.found mode ≡ None
-  pub fits : Fits store.size payloads
+  pub fits : PayloadsFit store.size payloads
   pub begun : IsBegun mode store.size payloads store.life.found machine
   pub opened : store.failures_at_open ≡ disk.failures
 

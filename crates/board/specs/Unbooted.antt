@@ -11,13 +11,13 @@ use Rattle.board_model.specs.declared.refusal.Refusal.{Refusal}
 use Rattle.board_model.specs.declared.refusal.Refusal.TheVariants.{BadShape, Memory, Device, Down, NoImage, ImageThere}
 use Rattle.store.specs.Leaves.{LeavesOnly, LeavesEither}
 use Rattle.store.specs.Lives.{Life, begun, now_of}
-use Rattle.board.specs.Boots.{Fits}
+use Rattle.board.specs.Boots.{PayloadsFit}
 use Rattle.board.specs.Moments.{issued_by}
 
 -- of a store that is open: a payload that does not fit, or memory
 abbrev pub IsStartRefusal : Size → List (List ℕ) → Refusal → Type 0
-IsStartRefusal size payloads BadShape = Fits size payloads → ⊥
-IsStartRefusal size payloads Memory = Fits size payloads
+IsStartRefusal size payloads BadShape = PayloadsFit size payloads → ⊥
+IsStartRefusal size payloads Memory = PayloadsFit size payloads
 IsStartRefusal size payloads e = ⊥
 
 -- the life after a refusal: the command that the mode issues may be in doubt

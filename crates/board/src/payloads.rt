@@ -2,7 +2,7 @@
 
 ghost use Rattle.std.specs.Prelude.{◌≡◌, ◌≤◌, ◌↔◌, ℕ, List, [], ◌∷◌, length, IsTrue, slice_set, All};
 ghost use Rattle.board_model.specs.Shapes.{ram_bytes_of};
-ghost use Rattle.board.specs.Boots.{Fits, payload_at};
+ghost use Rattle.board.specs.Boots.{PayloadsFit, payload_at};
 
 use board_model::{Shape, Slot};
 use std::alloc::Global;
@@ -62,7 +62,7 @@ impl Payloads {
 
     /// Whether each of them fits into the RAM of a board.
     pub fn fit(&self, shape: &Shape) -> bool
-        ensures told { IsTrue result ↔ Fits shape.now self.now }
+        ensures told { IsTrue result ↔ PayloadsFit shape.now self.now }
         ensures least { 4096 ≤ ram_bytes_of shape.now }
     {
         all_fit(&self.slots, shape)

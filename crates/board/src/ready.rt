@@ -7,7 +7,7 @@ ghost use Rattle.board_model.specs.Shown.{durable_of};
 ghost use Rattle.store.specs.Stores.{size_of_store, found_state, now_state, view_of};
 ghost use Rattle.machine.specs.Machine.{resting};
 ghost use Rattle.board.specs.Begins.{HasItsHart, first_of, IsBegun, IsLateRefusal, IsRefused};
-ghost use Rattle.board.specs.Boots.{boot_refusal, Fits, booted};
+ghost use Rattle.board.specs.Boots.{boot_refusal, PayloadsFit, booted};
 ghost use Rattle.board.specs.Readies.{IsOpen, IsIssued, IsUnissued};
 ghost use Rattle.board.specs.Unbooted.{IsStartRefusal, RefusesMode};
 
@@ -59,7 +59,7 @@ fn resting<D: Disk + Drop>(
     payloads: &Payloads,
 ) -> Result<Machine, Refusal>
     requires { HasItsHart (size_of_store store.now) (found_state store.now) }
-    ensures fits { OnOk result (Fits (size_of_store store.now) payloads.now) }
+    ensures fits { OnOk result (PayloadsFit (size_of_store store.now) payloads.now) }
     ensures least { 4096 ≤ ram_bytes_of (size_of_store store.now) }
     ensures machine { IfOk result (λ m. m ≡ resting (size_of_store store.now) (first_of mode (found_state store.now))) }
     ensures refused { IfErr result (λ e. IsStartRefusal (size_of_store store.now) payloads.now e) }
@@ -76,7 +76,7 @@ fn resting<D: Disk + Drop>(
 /// Boots the slot of the state now, on a board that was just made.
 fn boot_slot<D: Disk + Drop>(machine: &mut Machine, store: &Store<D>, payloads: &Payloads)
     requires resting { machine.old ≡ resting (size_of_store store.now) 0 }
-    requires fits { Fits (size_of_store store.now) payloads.now }
+    requires fits { PayloadsFit (size_of_store store.now) payloads.now }
     ensures { machine.new ≡ booted payloads.now (now_state store.now) (size_of_store store.now) }
 {
     let now = store.now();
@@ -95,7 +95,7 @@ fn begin<D: Disk + Drop>(
     requires allowed { boot_refusal (found_state store.old) mode ≡ None }
     requires resting { machine.old ≡ resting (size_of_store store.old) (first_of mode (found_state store.old)) }
     requires least { 4096 ≤ ram_bytes_of (size_of_store store.old) }
-    requires fits { Fits (size_of_store store.old) payloads.now }
+    requires fits { PayloadsFit (size_of_store store.old) payloads.now }
     ensures issued { OnOk result (IsIssued mode (view_of store.old) (view_of store.new)) }
     ensures begun { OnOk result (IsBegun mode (size_of_store store.old) payloads.now (found_state store.old) machine.new) }
     ensures refused { IfErr result (λ e. IsLateRefusal mode (size_of_store store.old) payloads.now (found_state store.old) e) }
@@ -123,7 +123,7 @@ pub fn ready<D: Disk + Drop>(
 ) -> Result<Machine, Refusal>
     requires { IsOpen (view_of store.old) }
     ensures allowed { OnOk result (boot_refusal (found_state store.old) mode ≡ None) }
-    ensures fits { OnOk result (Fits (size_of_store store.old) payloads.now) }
+    ensures fits { OnOk result (PayloadsFit (size_of_store store.old) payloads.now) }
     ensures issued { OnOk result (IsIssued mode (view_of store.old) (view_of store.new)) }
     ensures begun { IfOk result (λ m. IsBegun mode (size_of_store store.old) payloads.now (found_state store.old) m) }
     ensures refused { IfErr result (λ e. IsRefused mode (size_of_store store.old) payloads.now (found_state store.old) e) }
