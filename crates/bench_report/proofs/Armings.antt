@@ -9,7 +9,7 @@ use Rattle.store.specs.Stores.{life_of}
 use Rattle.bench_report.specs.Below.{SimBoard, store_in, machine_in, facts, fault_state, store_size, store_facts, store_fault_state, IsLife}
 use Rattle.bench_report.specs.Bench.{Life, Bench}
 use Rattle.bench_report.specs.Steps.{armed_with}
-use Rattle.bench_report.specs.Agree.{Follows, BoardIs, DeviceIs, OffIs, OnIs}
+use Rattle.bench_report.specs.Agree.{LifeIs, BoardIs, DeviceIs, OffIs, OnIs}
 use Rattle.bench_report.proofs.Ended.{left_on}
 use Rattle.bench_report.proofs.KeptDisks.{GoesOn}
 
@@ -32,6 +32,6 @@ armed_on size b a old new was machine life board same is =
     by : (p : Option Life) → BoardIs size b.disk_state b.kept p old → BoardIs size b.disk_state b.kept p new
     by None on = absurd on
     by (Some l) on =
-        let P : Size → Type 0 = λ z. Follows size b.disk_state b.kept l z in
+        let P : Size → Type 0 = λ z. LifeIs size b.disk_state b.kept l z in
         let Q : StoreLife → Type 0 = λ x. IsLife x l.now l.receipts l.doubt in
         ((subst P (sym board) on.0.0, subst Q (sym life) on.0.1), machine ∙ on.1)

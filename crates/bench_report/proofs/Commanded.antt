@@ -19,7 +19,7 @@ use Rattle.store.specs.Views.{CountedRefusal}
 use Rattle.bench_report.specs.Below.{SimStore, SimBoard, store_in, machine_in, IsLife, IsAs, store_size, store_now, store_doubt, store_fault_state, store_facts}
 use Rattle.bench_report.specs.Bench.{DiskState, Blank, Unknown, Formatted, Life, Bench}
 use Rattle.bench_report.specs.Steps.{failed, acknowledged, in_doubt, Writes, IssuedBy, Issued}
-use Rattle.bench_report.specs.Agree.{StoreIs, BoardIs, Follows, DeviceIs, OnIs, IsOver}
+use Rattle.bench_report.specs.Agree.{StoreIs, BoardIs, LifeIs, DeviceIs, OnIs, IsOver}
 use Rattle.bench_report.proofs.Adapted.{Reaches, Acknowledges, Refuses, acknowledged as acknowledges, ended, refused, struck, downed, calm as untouched}
 use Rattle.bench_report.proofs.Devices.{fails_by_fault, stays}
 use Rattle.bench_report.proofs.Ended.{found_more}
@@ -46,32 +46,32 @@ running_on size b board (life, on, store, machine, device) =
 pub goes_on : (size : Size) (b : Bench) (m : Machine) (board : SimBoard) → Running size b m (store_in board) → machine_in board ≡ m → OnIs size b board
 goes_on size b m board is same = let P : Machine → Type 0 = λ n. Running size b n (store_in board) in running_on size b board (subst P (sym same) is)
 
-pub follows_more : (size : Size) (m : DiskState) (k : Kept) (c : Change) (life : Life) (z : Size) → Follows size m k life z → Follows size m (record k { changes = k.changes ++ c ∷ [] }) (record life { now = after life.now c; receipts = life.receipts + 1 }) z
+pub follows_more : (size : Size) (m : DiskState) (k : Kept) (c : Change) (life : Life) (z : Size) → LifeIs size m k life z → LifeIs size m (record k { changes = k.changes ++ c ∷ [] }) (record life { now = after life.now c; receipts = life.receipts + 1 }) z
 follows_more size Blank k c life z h = h
 follows_more size Unknown k c life z h = h
 follows_more size Formatted k c life z h = (h.0, found_more k.changes c life.now h.1, h.2, h.3)
 
-follows_doubt : (size : Size) (m : DiskState) (k : Kept) (c : Change) (life : Life) (z : Size) → Follows size m k life z → Follows size m (record k { doubt = Some c }) (record life { doubt = Some c }) z
+follows_doubt : (size : Size) (m : DiskState) (k : Kept) (c : Change) (life : Life) (z : Size) → LifeIs size m k life z → LifeIs size m (record k { doubt = Some c }) (record life { doubt = Some c }) z
 follows_doubt size Blank k c life z h = h
 follows_doubt size Unknown k c life z h = h
 follows_doubt size Formatted k c life z h = (refl, h.1, h.2, h.3)
 
 -- a life goes on from what the disk keeps, whatever its memory and harts are
-pub follows_with : (size : Size) (m : DiskState) (k : Kept) (life : Life) (machine : Machine) (z : Size) → machine.size ≡ life.machine.size → Follows size m k life z → Follows size m k (record life { machine = machine }) z
+pub follows_with : (size : Size) (m : DiskState) (k : Kept) (life : Life) (machine : Machine) (z : Size) → machine.size ≡ life.machine.size → LifeIs size m k life z → LifeIs size m k (record life { machine = machine }) z
 follows_with size Blank k life machine z same h = h
 follows_with size Unknown k life machine z same h = same ∙ h
 follows_with size Formatted k life machine z same h = (h.0, h.1, h.2, same ∙ h.3)
 
 -- its memory is that of the board of its store
-pub sized_for : (size : Size) (m : DiskState) (k : Kept) (life : Life) (z : Size) → Follows size m k life z → life.machine.size ≡ z
+pub sized_for : (size : Size) (m : DiskState) (k : Kept) (life : Life) (z : Size) → LifeIs size m k life z → life.machine.size ≡ z
 sized_for size Blank k life z h = absurd h
 sized_for size Unknown k life z h = h
 sized_for size Formatted k life z h = h.3
 
-sized : (size : Size) (m : DiskState) (k : Kept) (life : Life) (z y : Size) → y ≡ z → Follows size m k life z → Follows size m k life y
-sized size m k life z y same h = let P : Size → Type 0 = λ x. Follows size m k life x in subst P (sym same) h
+sized : (size : Size) (m : DiskState) (k : Kept) (life : Life) (z y : Size) → y ≡ z → LifeIs size m k life z → LifeIs size m k life y
+sized size m k life z y same h = let P : Size → Type 0 = λ x. LifeIs size m k life x in subst P (sym same) h
 
-over_more : (size : Size) (m : DiskState) (k : Kept) (c : Change) (life : Life) (store : SimStore) → Follows size m k life (store_size store) → life.doubt ≡ None → store_now store ≡ after life.now c → store_doubt store ≡ None
+over_more : (size : Size) (m : DiskState) (k : Kept) (c : Change) (life : Life) (store : SimStore) → LifeIs size m k life (store_size store) → life.doubt ≡ None → store_now store ≡ after life.now c → store_doubt store ≡ None
     → IsOver size m (record k { changes = k.changes ++ c ∷ [] }) store
 over_more size Blank k c life store h calm now doubt = h
 over_more size Unknown k c life store h calm now doubt = tt
@@ -85,7 +85,7 @@ module _ (size : Size) (b : Bench) (life : Life) (c : Change) (old new : SimStor
   abbrev pub Goes : Result ℕ ℕ → Type 0
   Goes o = (x : Bench) × Issued c life b o x × Running size x life.machine new × (x.payloads ≡ b.payloads)
 
-  here : Follows size b.disk_state b.kept life (store_size new)
+  here : LifeIs size b.disk_state b.kept life (store_size new)
   here = sized size b.disk_state b.kept life (store_size old) (store_size new) same_size was.0
 
   -- the life is as it was

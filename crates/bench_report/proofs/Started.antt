@@ -26,7 +26,7 @@ use Rattle.bench_report.specs.declared.printed.Printed.TheVariants as printed
 use Rattle.bench_report.specs.Below.{SimStore, SimBoard, store_in, machine_in, facts, fault_state, store_size, store_facts, store_fault_state, IsLife, IsAs}
 use Rattle.bench_report.specs.Bench.{DiskState, Blank, Unknown, Formatted, Life, Bench}
 use Rattle.bench_report.specs.Steps.{says, out_of_memory, failed, off, on_with, has_machine, begun, acknowledged, in_doubt, commands_of, Writes, Issued, IssuesAll, ShowsFound, Opens, Starts, Begins, Boots, PowersOn}
-use Rattle.bench_report.specs.Agree.{AreShort, DiskIs, DeviceIs, Follows, OffIs, OnIs}
+use Rattle.bench_report.specs.Agree.{AreShort, DiskIs, DeviceIs, LifeIs, OffIs, OnIs}
 use Rattle.bench_report.proofs.Adapted.{calm}
 use Rattle.bench_report.proofs.Commanded.{follows_more, follows_with}
 use Rattle.bench_report.proofs.Determined.{begun_size}
@@ -50,19 +50,19 @@ as_issued : (store : SimStore) (s : State) (c : Change) → life_of store ≡ re
 as_issued store s c e = let P : StoreLife → Type 0 = λ life. IsLife life (after s c) 1 None in subst P (sym e) (refl, refl, refl, refl)
 
 -- what a crash leaves of a disk whose life ends with the boot
-kept_only : (size z : Size) (m : DiskState) (k : Kept) (s : State) (disk : Facts) → Follows size m k (begun s z) z → LeavesOnly disk z s → DiskIs size m k disk
+kept_only : (size z : Size) (m : DiskState) (k : Kept) (s : State) (disk : Facts) → LifeIs size m k (begun s z) z → LeavesOnly disk z s → DiskIs size m k disk
 kept_only size z Blank k s disk follows l = absurd follows
 kept_only size z Unknown k s disk follows l = tt
 kept_only size z Formatted k s disk follows l = left_only size z k s disk follows.1 follows.2 l
 
-kept_either : (size z : Size) (m : DiskState) (k : Kept) (s : State) (c : Change) (disk : Facts) → Follows size m k (begun s z) z → refusal_of s c ≡ None → LeavesEither disk z s (after s c)
+kept_either : (size z : Size) (m : DiskState) (k : Kept) (s : State) (c : Change) (disk : Facts) → LifeIs size m k (begun s z) z → refusal_of s c ≡ None → LeavesEither disk z s (after s c)
     → DiskIs size m (record k { doubt = Some c }) disk
 kept_either size z Blank k s c disk follows allowed l = absurd follows
 kept_either size z Unknown k s c disk follows allowed l = tt
 kept_either size z Formatted k s c disk follows allowed l = left_either size z (record k { doubt = Some c }) c s disk refl follows.1 allowed follows.2 l
 
 -- an open that found a state
-opened : KeptLaw → BlankLaw → (size : Size) (b : Bench) (old : SimDisk) (z : Size) (s : State) → OffIs size b old → Leaves (facts old) z s → (k : Kept) × Opens size b.disk_state b s z (record b { kept = k }) × Follows size b.disk_state k (begun s z) z
+opened : KeptLaw → BlankLaw → (size : Size) (b : Bench) (old : SimDisk) (z : Size) (s : State) → OffIs size b old → Leaves (facts old) z s → (k : Kept) × Opens size b.disk_state b s z (record b { kept = k }) × LifeIs size b.disk_state k (begun s z) z
 opened kept blank size b old z s off leaves = opens size b.disk_state b (facts old) z s off.1 leaves (λ is. blank.stands old z s is leaves) (λ y is. kept.one_size old y z s leaves is)
 
 -- ---- the board is on
@@ -72,7 +72,7 @@ BoardStarts size mode z s b line board = (x : Bench) × Starts mode z s b line x
 abbrev BoardOn : Size → BootMode → Size → State → Bench → Printed → SimBoard → Type 0
 BoardOn size mode z s b line board = (x : Bench) × Begins mode z s b line x × OnIs size x board × (x.payloads ≡ b.payloads)
 
-module _ (size : Size) (b : Bench) (s : State) (board : SimBoard) (line : Printed) (follows : Follows size b.disk_state b.kept (begun s (store_size (store_in board))) (store_size (store_in board)))
+module _ (size : Size) (b : Bench) (s : State) (board : SimBoard) (line : Printed) (follows : LifeIs size b.disk_state b.kept (begun s (store_size (store_in board))) (store_size (store_in board)))
     (device : DeviceIs size b (store_fault_state (store_in board)) (store_facts (store_in board))) where
   abbrev z : Size
   z = store_size (store_in board)
@@ -131,7 +131,7 @@ power_ok kept blank size mode b payloads old board a off same on keeps shows h =
 
 -- ---- the board is off, after an open that left this bench
 module _ (size : Size) (b : Bench) (old new : SimDisk) (z : Size) (s : State) (payloads : List (List ℕ)) (line : Printed) (none : b.power ≡ None) (device : DeviceIs size b (fault_state old) (facts old))
-    (follows : Follows size b.disk_state b.kept (begun s z) z) (fits : PayloadsFit z payloads) (no_fewer : (facts old).failures ≤ (facts new).failures) (long : SameLength (facts old) (facts new)) where
+    (follows : LifeIs size b.disk_state b.kept (begun s z) z) (fits : PayloadsFit z payloads) (no_fewer : (facts old).failures ≤ (facts new).failures) (long : SameLength (facts old) (facts new)) where
   abbrev Left : Option ℕ → BootMode → Type 0
   Left o mode = (x : Bench) × Boots o mode z s b line x × OffIs size x new × (x.payloads ≡ b.payloads)
 

@@ -35,14 +35,14 @@ DiskIs size Unknown kept disk = ⊤
 DiskIs size Formatted kept disk = IsKept disk size × ((s : State) → Leaves disk size s → MayFind kept s)
 
 -- a life over a disk, by a store for a board of size z
-abbrev pub Follows : Size → DiskState → Kept → Life → Size → Type 0
-Follows size Blank kept life z = ⊥
-Follows size Unknown kept life z = life.machine.size ≡ z
-Follows size Formatted kept life z = (kept.doubt ≡ life.doubt) × (life.now ≡ found_of kept.changes) × (z ≡ size) × (life.machine.size ≡ z)
+abbrev pub LifeIs : Size → DiskState → Kept → Life → Size → Type 0
+LifeIs size Blank kept life z = ⊥
+LifeIs size Unknown kept life z = life.machine.size ≡ z
+LifeIs size Formatted kept life z = (kept.doubt ≡ life.doubt) × (life.now ≡ found_of kept.changes) × (z ≡ size) × (life.machine.size ≡ z)
 
 -- a store that goes on with a life
 abbrev pub StoreIs : Size → DiskState → Kept → Life → SimStore → Type 0
-StoreIs size disk_state kept life store = Follows size disk_state kept life (store_size store) × IsAs store life.now life.receipts life.doubt
+StoreIs size disk_state kept life store = LifeIs size disk_state kept life (store_size store) × IsAs store life.now life.receipts life.doubt
 
 -- a board that is on
 abbrev pub BoardIs : Size → DiskState → Kept → Option Life → SimBoard → Type 0
