@@ -109,8 +109,8 @@ abbrev pub Apart : ℕ → ℕ → Lent → Type 0
 Apart first n l = (l.lanes ≡ 0) ⊎ (first + n ≤ l.first) ⊎ (l.first + lent_sectors l ≤ first)
 
 -- these sectors are what stands from that place on
-abbrev pub Found : ℕ → Content → Content → Type 0
-Found first content sectors = (i : ℕ) → i < length sectors → sector sectors i ≡ sector content (first + i)
+abbrev pub AreSectorsAt : ℕ → Content → Content → Type 0
+AreSectorsAt first content sectors = (i : ℕ) → i < length sectors → sector sectors i ≡ sector content (first + i)
 
 -- a count that stays where it ends
 abbrev pub most : ℕ

@@ -29,14 +29,14 @@ pub enum ArmedFault {
 /// Some sectors in a row, lent by a disk until a join takes them back. What a crash leaves in them
 /// is a matter of the disk alone.
 pub trait Lane {
-    ghost use Rattle.disk.specs.Facts.{LaneFacts, Torn, Written, Found, Counts};
+    ghost use Rattle.disk.specs.Facts.{LaneFacts, Torn, Written, AreSectorsAt, Counts};
 
     ghost lane_facts: { Self → LaneFacts };
 
     /// Reads what stands from that sector of the lane on. At `Err` the buffer holds any bytes.
     fn read(&mut self, first: usize, sectors: &mut [Sector]) -> Result<(), Fault>
         requires { first + length sectors.old ≤ length (lane_facts self.old).content }
-        ensures found { OnOk result (Found first (lane_facts self.old).content sectors.new) }
+        ensures found { OnOk result (AreSectorsAt first (lane_facts self.old).content sectors.new) }
         ensures content { (lane_facts self.new).content ≡ (lane_facts self.old).content }
         ensures place { (lane_facts self.new).first ≡ (lane_facts self.old).first }
         ensures failures { Counts (lane_facts self.old).failures (lane_facts self.new).failures result };
@@ -62,7 +62,7 @@ pub trait Lane {
 /// Each error of a call is one failure more, in a count that stays where it ends. What a call does
 /// to the contents that a crash may leave, before, during and after it, is its clause `crash`.
 pub trait Disk {
-    ghost use Rattle.disk.specs.Facts.{Content, Facts, Torn, Written, Stays, Passes, Only, Apart, Found, Handed, InRow, Joined, Unchanged, counted, most, nothing, lent_sectors, lane_failures};
+    ghost use Rattle.disk.specs.Facts.{Content, Facts, Torn, Written, Stays, Passes, Only, Apart, AreSectorsAt, Handed, InRow, Joined, Unchanged, counted, most, nothing, lent_sectors, lane_failures};
     ghost use Rattle.disk.specs.FaultState.{FaultState, CausedInLanes, armed_by};
     ghost use Rattle.disk.specs.Calls.{MakesCalls, NoCall};
     ghost use Rattle.disk.specs.declared.device.ArmedFault.{ArmedFault};
@@ -86,7 +86,7 @@ pub trait Disk {
     fn read(&mut self, first: usize, sectors: &mut [Sector]) -> Result<(), Fault>
         requires within { first + length sectors.old ≤ length (facts self.old).content }
         requires apart { Apart first (length sectors.old) (facts self.old).lent }
-        ensures found { OnOk result (Found first (facts self.old).content sectors.new) }
+        ensures found { OnOk result (AreSectorsAt first (facts self.old).content sectors.new) }
         ensures called { MakesCalls 1 Stays (facts self.old) (facts self.new) (fault_state self.old) (fault_state self.new) result };
 
     /// Writes these sectors from that one on. Until a sync succeeds, a crash may leave any bytes in

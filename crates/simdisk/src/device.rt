@@ -1,6 +1,6 @@
 //! The disk in memory as a disk.
 ghost use Rattle.std.specs.Prelude.{◌≡◌, ◌⊎◌, ◌≤◌, ◌+◌, ◌*◌, ℕ, [], ◌∷◌, length, map, OnOk, OnErr, IfOk};
-ghost use Rattle.disk.specs.Facts.{Content, Torn, Written, Passes, Stays, Only, Apart, Found, Handed, InRow, Joined, Unchanged, counted, nothing, lent_sectors, lane_failures};
+ghost use Rattle.disk.specs.Facts.{Content, Torn, Written, Passes, Stays, Only, Apart, AreSectorsAt, Handed, InRow, Joined, Unchanged, counted, nothing, lent_sectors, lane_failures};
 ghost use Rattle.disk.specs.FaultState.{CausedInLanes, armed_by};
 ghost use Rattle.disk.specs.Calls.{MakesCalls, NoCall};
 ghost use Rattle.simdisk.specs.Armings.{FailsNext, one_call_on};
@@ -44,7 +44,7 @@ impl Disk for SimDisk {
     fn read(&mut self, first: usize, sectors: &mut [Sector]) -> Result<(), Fault>
         requires within { first + length sectors.old ≤ length (⟦<SimDisk as Disk>⟧.facts self.old).content }
         requires apart { Apart first (length sectors.old) (⟦<SimDisk as Disk>⟧.facts self.old).lent }
-        ensures found { OnOk result (Found first (⟦<SimDisk as Disk>⟧.facts self.old).content sectors.new) }
+        ensures found { OnOk result (AreSectorsAt first (⟦<SimDisk as Disk>⟧.facts self.old).content sectors.new) }
         ensures called { MakesCalls 1 Stays (⟦<SimDisk as Disk>⟧.facts self.old) (⟦<SimDisk as Disk>⟧.facts self.new) (⟦<SimDisk as Disk>⟧.fault_state self.old) (⟦<SimDisk as Disk>⟧.fault_state self.new) result }
         ensures not_its_own { (⟦<SimDisk as Disk>⟧.fault_state self.new).own ≡ (⟦<SimDisk as Disk>⟧.fault_state self.old).own }
         ensures record { ⟦<SimDisk as Recorded>⟧.record self.new ≡ ⟦<SimDisk as Recorded>⟧.record self.old }

@@ -1,6 +1,6 @@
 //! A lane, which owns its sectors.
 ghost use Rattle.std.specs.Prelude.{◌≡◌, ◌≤◌, ◌+◌, length, None, false, OnOk, OnErr};
-ghost use Rattle.disk.specs.Facts.{Torn, Written, Found, Counts};
+ghost use Rattle.disk.specs.Facts.{Torn, Written, AreSectorsAt, Counts};
 ghost use Rattle.simdisk.specs.LaneRecords.{LaneCalled};
 ghost use Rattle.simdisk.specs.Record.{put};
 ghost use Rattle.simdisk.specs.Lasts.{last_of, IsAsRead};
@@ -81,7 +81,7 @@ impl Lane for SimLane {
 
     fn read(&mut self, first: usize, sectors: &mut [Sector]) -> Result<(), Fault>
         requires { first + length sectors.old ≤ length (⟦<SimLane as Lane>⟧.lane_facts self.old).content }
-        ensures found { OnOk result (Found first (⟦<SimLane as Lane>⟧.lane_facts self.old).content sectors.new) }
+        ensures found { OnOk result (AreSectorsAt first (⟦<SimLane as Lane>⟧.lane_facts self.old).content sectors.new) }
         ensures content { (⟦<SimLane as Lane>⟧.lane_facts self.new).content ≡ (⟦<SimLane as Lane>⟧.lane_facts self.old).content }
         ensures place { (⟦<SimLane as Lane>⟧.lane_facts self.new).first ≡ (⟦<SimLane as Lane>⟧.lane_facts self.old).first }
         ensures failures { Counts (⟦<SimLane as Lane>⟧.lane_facts self.old).failures (⟦<SimLane as Lane>⟧.lane_facts self.new).failures result }
