@@ -21,13 +21,13 @@ use Rattle.bench_report.specs.Bench.{Life, Bench}
 use Rattle.bench_report.specs.Steps.{shows, on_with, has_machine, FormatsOn, FormatStep, PowersOn, OnStep, PayloadStep, CallReported, GuestCall, TurnStep, CallStep, ReadStep}
 use Rattle.bench_report.proofs.Commanded.{Running, running_on}
 use Rattle.bench_report.proofs.Came.{Stands, has_other, comes, turns}
-use Rattle.bench_report.specs.Agree.{StoreIs, BoardIs, DeviceIs, OffIs, OnIs, StandsBy, Agrees, IsBench, Matches, Goes}
+use Rattle.bench_report.specs.Agree.{StoreIs, BoardIs, DeviceIs, OffIs, OnIs, StandsBy, Agrees, IsBench, Matches, StepsTo}
 
 -- a board that is off
-pub off_formats : (size : Size) (b : Bench) (a : Answer) (after : Power) → b.power ≡ None → Goes size b after (FormatsOn b.disk_state b a) → Goes size b after (FormatStep b.power b a)
+pub off_formats : (size : Size) (b : Bench) (a : Answer) (after : Power) → b.power ≡ None → StepsTo size b after (FormatsOn b.disk_state b a) → StepsTo size b after (FormatStep b.power b a)
 off_formats size b a after none did = let P : Option Life → Type 0 = λ p. FormatStep p b a did.0 in (did.0, subst P (sym none) did.1, did.2, did.3)
 
-pub off_powers : (size : Size) (b : Bench) (mode : BootMode) (a : Answer) (after : Power) → b.power ≡ None → Goes size b after (PowersOn size mode b a) → Goes size b after (OnStep size b.power mode b a)
+pub off_powers : (size : Size) (b : Bench) (mode : BootMode) (a : Answer) (after : Power) → b.power ≡ None → StepsTo size b after (PowersOn size mode b a) → StepsTo size b after (OnStep size b.power mode b a)
 off_powers size b mode a after none did = let P : Option Life → Type 0 = λ p. OnStep size p mode b a did.0 in (did.0, subst P (sym none) did.1, did.2, did.3)
 
 -- a board that is on has a life
@@ -68,10 +68,10 @@ stands_by size (words.Reset kind) b board is = is
 -- a line of turns, by what the board did
 pub on_turns : (size : Size) (b : Bench) (old new : SimBoard) (h n made : ℕ) (word : Word) (after : Power) → OnIs size b old → Has (machine_in old) h
     → boards.TurnsMany h n (machine_in old) (machine_in new) (store_in old) (store_in new) made word → ((x : Bench) → StandsBy size word x new → Agrees size x after)
-    → Goes size b after (TurnStep b.power h n b (shows (shown.Turn h made word)))
+    → StepsTo size b after (TurnStep b.power h n b (shows (shown.Turn h made word)))
 on_turns size b old new h n made word after was has turned agrees = by b.power was.0 refl
   where
-    by : (p : Option Life) → BoardIs size b.disk_state b.kept p old → b.power ≡ p → Goes size b after (TurnStep p h n b (shows (shown.Turn h made word)))
+    by : (p : Option Life) → BoardIs size b.disk_state b.kept p old → b.power ≡ p → StepsTo size b after (TurnStep p h n b (shows (shown.Turn h made word)))
     by None is on = absurd is
     by (Some life) is on =
         let P : Machine → Type 0 = λ m. Has m h in
@@ -83,10 +83,10 @@ lacks : (size : Size) (b : Bench) (board : SimBoard) (h : ℕ) (p : Option Life)
 lacks size b board h None is not step then = absurd is
 lacks size b board h (Some life) is not step then = let P : Machine → Type 0 = λ m. Has m h → ⊥ in then life (subst P is.1 not)
 
-pub turns_off : (size : Size) (b : Bench) (board : SimBoard) (h n : ℕ) → OnIs size b board → (Has (machine_in board) h → ⊥) → Goes size b (On board) (TurnStep b.power h n b (shows shown.Off))
+pub turns_off : (size : Size) (b : Bench) (board : SimBoard) (h n : ℕ) → OnIs size b board → (Has (machine_in board) h → ⊥) → StepsTo size b (On board) (TurnStep b.power h n b (shows shown.Off))
 turns_off size b board h n was not = (b, lacks size b board h b.power was.0 not (λ p. TurnStep p h n b (shows shown.Off) b) (λ life no. inr (no, refl, refl)), was, refl)
 
-pub calls_off : (size : Size) (b : Bench) (board : SimBoard) (h e f x y z : ℕ) → OnIs size b board → (Has (machine_in board) h → ⊥) → Goes size b (On board) (CallStep b.power h e f x y z b (shows shown.Off))
+pub calls_off : (size : Size) (b : Bench) (board : SimBoard) (h e f x y z : ℕ) → OnIs size b board → (Has (machine_in board) h → ⊥) → StepsTo size b (On board) (CallStep b.power h e f x y z b (shows shown.Off))
 calls_off size b board h e f x y z was not = (b, lacks size b board h b.power was.0 not (λ p. CallStep p h e f x y z b (shows shown.Off) b) (λ life no. inr (no, refl, refl)), was, refl)
 
 -- a line of a call, by what the board did
@@ -118,10 +118,10 @@ module _ (size : Size) (b : Bench) (old new : SimBoard) (h e f x y z : ℕ) (sai
       let reported = reported_as size h word did_so.0 (machine_in new) (store_in new) line did_so.2 (shows_it ∙ ap (called_line h (hart_at (machine_in new) h)) some) in
       (did_so.0, (word, did_so.1, reported), subst F some follows did_so.0 (stands_by size word did_so.0 new did_so.2), did_so.3)
 
-  pub on_calls : boards.Calls h e f x y z (machine_in old) (machine_in new) (store_in old) (store_in new) said → Follows said → Goes size b after (CallStep b.power h e f x y z b (shows line))
+  pub on_calls : boards.Calls h e f x y z (machine_in old) (machine_in new) (store_in old) (store_in new) said → Follows said → StepsTo size b after (CallStep b.power h e f x y z b (shows line))
   on_calls (m, called, call, comes_of) follows = by b.power was.0 refl
     where
-      by : (p : Option Life) → BoardIs size b.disk_state b.kept p old → b.power ≡ p → Goes size b after (CallStep p h e f x y z b (shows line))
+      by : (p : Option Life) → BoardIs size b.disk_state b.kept p old → b.power ≡ p → StepsTo size b after (CallStep p h e f x y z b (shows line))
       by None is on = absurd is
       by (Some life) is on =
           let P : Machine → Type 0 = λ k. Has k h in
@@ -132,7 +132,7 @@ module _ (size : Size) (b : Bench) (old new : SimBoard) (h e f x y z : ℕ) (sai
 
 -- a look that leaves the board as it was
 pub on_looks : (size : Size) (b : Bench) (old new : SimBoard) (says_so : Machine → MachineLine → Type 0) (line : MachineLine) → OnIs size b old → says_so (machine_in old) line → machine_in new ≡ machine_in old → store_in new ≡ store_in old
-    → Goes size b (On new) (ReadStep b.power says_so b (shows line))
+    → StepsTo size b (On new) (ReadStep b.power says_so b (shows line))
 on_looks size b old new says_so line was so still same = (b, on_reads size b old says_so line was so, as_it_was size b old new was still same, refl)
 
 -- a payload

@@ -14,7 +14,7 @@ use Rattle.bench_report.specs.declared.printed.Printed.TheVariants as printed
 use Rattle.bench_report.specs.Below.{facts, fault_state}
 use Rattle.bench_report.specs.Bench.{Life, Bench}
 use Rattle.bench_report.specs.Steps.{says, unknown, PokeStep}
-use Rattle.bench_report.specs.Agree.{DeviceIs, OffIs, Agrees, Matches, Goes}
+use Rattle.bench_report.specs.Agree.{DeviceIs, OffIs, Agrees, Matches, StepsTo}
 use Rattle.bench_report.proofs.Devices.{stays}
 use Rattle.bench_report.proofs.Ended.{left_on}
 use Rattle.bench_report.proofs.KeptDisks.{GoesOn}
@@ -24,7 +24,7 @@ device : (size : Size) (b : Bench) (old new : SimDisk) → DeviceIs size b (faul
 device size b old new was same long = stays size b (fault_state old) (fault_state new) (facts old) (facts new) was same.cause (omega (arith, same.failures)) long
 
 pub poked_off : (size : Size) (b : Bench) (old new : SimDisk) (a : Answer) → OffIs size b old → NoCall (facts old) (facts new) (fault_state old) (fault_state new) → SameLength (facts old) (facts new)
-    → a ≡ says printed.Poked → Goes size b (Off new) (PokeStep b.power b a)
+    → a ≡ says printed.Poked → StepsTo size b (Off new) (PokeStep b.power b a)
 poked_off size b old new a was same long e =
     let P : Option Life → Type 0 = λ p. PokeStep p b a (unknown b) in
     (unknown b, subst P (sym was.0) (e, refl), (was.0, tt, device size b old new was.2 same long), refl)
@@ -37,7 +37,7 @@ not_poked goes_on size b old new was same long still =
 
 -- with the payloads, which a poke keeps
 pub poke_matches : (size : Size) (b : Bench) (r : Result Answer Refusal) (after : Power) (payloads : List (List ℕ)) → payloads ≡ b.payloads
-    → MatchResult r (λ answer. Goes size b after (PokeStep b.power b answer)) (λ e. (e ≡ Memory) × Agrees size b after)
+    → MatchResult r (λ answer. StepsTo size b after (PokeStep b.power b answer)) (λ e. (e ≡ Memory) × Agrees size b after)
     → MatchResult r (λ answer. (new : Bench) × PokeStep b.power b answer new × Matches size new after payloads) (λ e. (e ≡ Memory) × Matches size b after payloads)
 poke_matches size b (Ok a) after payloads same did = (did.0, did.1, (did.2, same ∙ sym did.3))
 poke_matches size b (Err e) after payloads same did = (did.0, (did.1, same))

@@ -154,5 +154,5 @@ abbrev pub AreShort : List (List ℕ) → Type 0
 AreShort payloads = All (λ bytes. length bytes ≤ 1024) payloads
 
 -- what a function that neither keeps a payload nor speaks of one says of a line: there is a bench after it by this step
-abbrev pub Goes : Size → Bench → Power → (Bench → Type 0) → Type 0
-Goes size b after step = (new : Bench) × step new × Agrees size new after × (new.payloads ≡ b.payloads)
+abbrev pub StepsTo : Size → Bench → Power → (Bench → Type 0) → Type 0
+StepsTo size b after step = (new : Bench) × step new × Agrees size new after × (new.payloads ≡ b.payloads)

@@ -11,7 +11,7 @@ ghost use Rattle.bench_report.specs.Bench.{Bench, Life};
 ghost use Rattle.bench_report.specs.Steps.{FormatsOn, PowersOn, FormatStep, OnStep, ConsoleStep, PayloadStep, TurnStep, CallStep, ReadStep, ArmStep, PokeStep, Step, Moves, off, unpowered, says, shows};
 ghost use Rattle.disk.specs.FaultState.{armed_by};
 ghost use Rattle.simdisk.specs.declared.SimDisk.{SimDisk};
-ghost use Rattle.bench_report.specs.Agree.{choice_by, HasDisk, IsCutBy, IsArmed, ArmsIts, Pokes, PokesIts, fill_after, EndsBy, Agrees, IsResting, OffIs, OnIs, StandsBy, AreShort, IsBench, IsUnstruck, Matches, Goes};
+ghost use Rattle.bench_report.specs.Agree.{choice_by, HasDisk, IsCutBy, IsArmed, ArmsIts, Pokes, PokesIts, fill_after, EndsBy, Agrees, IsResting, OffIs, OnIs, StandsBy, AreShort, IsBench, IsUnstruck, Matches, StepsTo};
 ghost use Rattle.machine_lines.specs.Shows.{waits, reg_line, pc_line, CsrLine, pending_line, mem_line};
 ghost use Rattle.machine.specs.Machine.{Machine};
 ghost use Rattle.board_model.specs.declared.refusal.Refusal.TheVariants.{Memory};
@@ -38,7 +38,7 @@ fn says(line: Printed) -> Answer
 /// Formats the disk of a board that is off.
 fn format_disk(shape: &Shape, mut disk: SimDisk) -> (Power, Answer)
     requires { IsIdle (facts disk) }
-    ensures reported { (b : Bench) → OffIs shape.now b disk → Goes shape.now b result.0 (FormatsOn b.disk_state b result.1) }
+    ensures reported { (b : Bench) → OffIs shape.now b disk → StepsTo shape.now b result.0 (FormatsOn b.disk_state b result.1) }
     ensures resting { IsResting result.0 }
 {
     kept_disks::<SimDisk>();
@@ -53,7 +53,7 @@ fn format_disk(shape: &Shape, mut disk: SimDisk) -> (Power, Answer)
 fn power_on(alloc: Global, mode: BootMode, disk: SimDisk, payloads: &Payloads) -> (Power, Answer)
     requires idle { IsIdle (facts disk) }
     requires short { AreShort payloads.now }
-    ensures reported { (size : Size) (b : Bench) → OffIs size b disk → payloads.now ≡ b.payloads → Goes size b result.0 (PowersOn size mode b result.1) }
+    ensures reported { (size : Size) (b : Bench) → OffIs size b disk → payloads.now ≡ b.payloads → StepsTo size b result.0 (PowersOn size mode b result.1) }
     ensures resting { IsResting result.0 }
 {
     kept_disks::<SimDisk>();
@@ -127,7 +127,7 @@ fn cut(power: Power, fill: Fill) -> Power
 /// Arms a cut or a failure of the disk, or of one of its lanes, in the place of an older one, with the board on or off.
 fn arm(power: Power, fault: ArmedFault) -> (Power, Answer)
     requires { IsResting power }
-    ensures reported { (size : Size) (b : Bench) → Agrees size b power → Goes size b result.0 (ArmStep (armed_by fault) b result.1) }
+    ensures reported { (size : Size) (b : Bench) → Agrees size b power → StepsTo size b result.0 (ArmStep (armed_by fault) b result.1) }
     ensures arms { IsArmed fault result.0 }
     ensures resting { IsResting result.0 }
 {
@@ -168,7 +168,7 @@ fn struck(power: &Power) -> bool
 
 fn format_line(shape: &Shape, power: Power) -> (Power, Answer)
     requires { IsResting power }
-    ensures reported { (b : Bench) → Agrees shape.now b power → Goes shape.now b result.0 (FormatStep b.power b result.1) }
+    ensures reported { (b : Bench) → Agrees shape.now b power → StepsTo shape.now b result.0 (FormatStep b.power b result.1) }
     ensures resting { IsResting result.0 }
 {
     match power {
@@ -180,7 +180,7 @@ fn format_line(shape: &Shape, power: Power) -> (Power, Answer)
 fn on_line(alloc: Global, mode: BootMode, power: Power, payloads: &Payloads) -> (Power, Answer)
     requires resting { IsResting power }
     requires short { AreShort payloads.now }
-    ensures reported { (size : Size) (b : Bench) → IsBench size b power payloads.now → Goes size b result.0 (OnStep size b.power mode b result.1) }
+    ensures reported { (size : Size) (b : Bench) → IsBench size b power payloads.now → StepsTo size b result.0 (OnStep size b.power mode b result.1) }
     ensures resting { IsResting result.0 }
 {
     match power {
@@ -192,7 +192,7 @@ fn on_line(alloc: Global, mode: BootMode, power: Power, payloads: &Payloads) -> 
 fn console_line(word: ConsoleWord, command: Command, power: Power) -> (Power, Answer)
     requires command { IsConsoleCommand command }
     requires resting { IsResting power }
-    ensures reported { (size : Size) (b : Bench) → Agrees size b power → Goes size b result.0 (ConsoleStep word (change_of command) b.power b result.1) }
+    ensures reported { (size : Size) (b : Bench) → Agrees size b power → StepsTo size b result.0 (ConsoleStep word (change_of command) b.power b result.1) }
     ensures resting { IsResting result.0 }
 {
     match power {
@@ -253,7 +253,7 @@ fn turn<C: Crew>(
 ) -> (Power, MachineLine)
     requires some { 0 < count }
     requires calm { (store_fault_state (store_in board)).struck ≡ false }
-    ensures reported { (size : Size) (b : Bench) → OnIs size b board → Goes size b result.0 (TurnStep b.power hart count b (shows result.1)) }
+    ensures reported { (size : Size) (b : Bench) → OnIs size b board → StepsTo size b result.0 (TurnStep b.power hart count b (shows result.1)) }
     ensures resting { IsResting result.0 }
 {
     if !board.machine().has(hart) {
@@ -273,7 +273,7 @@ fn turn_line<C: Crew>(
     requires some { 0 < count }
     requires resting { IsResting power }
     requires calm { IsUnstruck power }
-    ensures reported { (size : Size) (b : Bench) → Agrees size b power → Goes size b result.0 (TurnStep b.power hart count b (shows result.1)) }
+    ensures reported { (size : Size) (b : Bench) → Agrees size b power → StepsTo size b result.0 (TurnStep b.power hart count b (shows result.1)) }
     ensures resting { IsResting result.0 }
 {
     match power {
@@ -294,7 +294,7 @@ fn call<C: Crew>(
     a1: u64,
     a2: u64,
 ) -> (Power, MachineLine)
-    ensures reported { (size : Size) (b : Bench) → OnIs size b board → Goes size b result.0 (CallStep b.power hart eid fid a0 a1 a2 b (shows result.1)) }
+    ensures reported { (size : Size) (b : Bench) → OnIs size b board → StepsTo size b result.0 (CallStep b.power hart eid fid a0 a1 a2 b (shows result.1)) }
     ensures resting { IsResting result.0 }
 {
     if !board.machine().has(hart) {
@@ -321,7 +321,7 @@ fn call_line<C: Crew>(
 ) -> (Power, MachineLine)
     requires { IsResting power }
     ensures reported { (size : Size) (b : Bench) → Agrees size b power
-        → Goes size b result.0 (CallStep b.power hart eid fid a0 a1 a2 b (shows result.1)) }
+        → StepsTo size b result.0 (CallStep b.power hart eid fid a0 a1 a2 b (shows result.1)) }
     ensures resting { IsResting result.0 }
 {
     match power {
@@ -370,7 +370,7 @@ fn csr(board: &mut Board<SimDisk>, hart: HartId, number: u32) -> MachineLine
 fn csr_line(hart: HartId, number: u32, power: Power) -> (Power, MachineLine)
     requires { IsResting power }
     ensures reported { (size : Size) (b : Bench) → Agrees size b power
-        → Goes size b result.0 (ReadStep b.power (λ m line. CsrLine hart number m line) b (shows result.1)) }
+        → StepsTo size b result.0 (ReadStep b.power (λ m line. CsrLine hart number m line) b (shows result.1)) }
     ensures resting { IsResting result.0 }
 {
     match power {
@@ -417,7 +417,7 @@ fn pending(board: &mut Board<SimDisk>) -> MachineLine
 fn pending_line(power: Power) -> (Power, MachineLine)
     requires { IsResting power }
     ensures reported { (size : Size) (b : Bench) → Agrees size b power
-        → Goes size b result.0 (ReadStep b.power (λ m line. line ≡ pending_line m) b (shows result.1)) }
+        → StepsTo size b result.0 (ReadStep b.power (λ m line. line ≡ pending_line m) b (shows result.1)) }
     ensures resting { IsResting result.0 }
 {
     match power {
@@ -448,7 +448,7 @@ fn poke_line(
 ) -> (Power, Result<Answer, Refusal>)
     requires { IsResting power }
     ensures reported { (size : Size) (b : Bench) → Agrees size b power → MatchResult result.1
-        (λ answer. Goes size b result.0 (PokeStep b.power b answer)) (λ e. (e ≡ Memory) × Agrees size b result.0) }
+        (λ answer. StepsTo size b result.0 (PokeStep b.power b answer)) (λ e. (e ≡ Memory) × Agrees size b result.0) }
     ensures pokes { OnOk result.1 (Pokes sector offset bytes.now power result.0) }
     ensures resting { IsResting result.0 }
     ensures refused { OnErr result.1 (result.1 ≡ Err Memory) }
