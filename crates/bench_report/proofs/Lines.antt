@@ -10,7 +10,7 @@ use Rattle.machine.specs.declared.parts.Word.TheVariants as words
 use Rattle.board.specs.Turns as boards
 use Rattle.machine.specs.declared.parts.Called.{Called}
 use Rattle.machine.specs.declared.parts.Called.TheVariants.{NotStarted, Made}
-use Rattle.machine_lines.specs.Shows.{Has, own_line, made_line, called_line}
+use Rattle.machine_lines.specs.Shows.{HasHart, own_line, made_line, called_line}
 use Rattle.machine_lines.specs.declared.line.MachineLine.{MachineLine}
 use Rattle.machine_lines.specs.declared.line.MachineLine.TheVariants as shown
 use Rattle.bench_report.specs.declared.power.Power.{Power}
@@ -66,7 +66,7 @@ stands_by size words.Asleep b board is = is
 stands_by size (words.Reset kind) b board is = is
 
 -- a line of turns, by what the board did
-pub on_turns : (size : Size) (b : Bench) (old new : SimBoard) (h n made : ℕ) (word : Word) (after : Power) → OnIs size b old → Has (machine_in old) h
+pub on_turns : (size : Size) (b : Bench) (old new : SimBoard) (h n made : ℕ) (word : Word) (after : Power) → OnIs size b old → HasHart (machine_in old) h
     → boards.TurnsMany h n (machine_in old) (machine_in new) (store_in old) (store_in new) made word → ((x : Bench) → StandsBy size word x new → Agrees size x after)
     → StepsTo size b after (TurnStep b.power h n b (shows (shown.Turn h made word)))
 on_turns size b old new h n made word after was has turned agrees = by b.power was.0 refl
@@ -74,19 +74,19 @@ on_turns size b old new h n made word after was has turned agrees = by b.power w
     by : (p : Option Life) → BoardIs size b.disk_state b.kept p old → b.power ≡ p → StepsTo size b after (TurnStep p h n b (shows (shown.Turn h made word)))
     by None is on = absurd is
     by (Some life) is on =
-        let P : Machine → Type 0 = λ m. Has m h in
+        let P : Machine → Type 0 = λ m. HasHart m h in
         let did = turns size h n b (machine_in old) (machine_in new) (store_in old) (store_in new) made word (on_runs size b life old on is was.1) turned in
         (did.0, inl (subst P is.1 has, made, word, did.1, refl), agrees did.0 (stands_by size word did.0 new did.2), did.3)
 
 -- a line whose hart the board lacks
-lacks : (size : Size) (b : Bench) (board : SimBoard) (h : ℕ) (p : Option Life) → BoardIs size b.disk_state b.kept p board → (Has (machine_in board) h → ⊥) → (step : Option Life → Type 0) → ((life : Life) → (Has life.machine h → ⊥) → step (Some life)) → step p
+lacks : (size : Size) (b : Bench) (board : SimBoard) (h : ℕ) (p : Option Life) → BoardIs size b.disk_state b.kept p board → (HasHart (machine_in board) h → ⊥) → (step : Option Life → Type 0) → ((life : Life) → (HasHart life.machine h → ⊥) → step (Some life)) → step p
 lacks size b board h None is not step then = absurd is
-lacks size b board h (Some life) is not step then = let P : Machine → Type 0 = λ m. Has m h → ⊥ in then life (subst P is.1 not)
+lacks size b board h (Some life) is not step then = let P : Machine → Type 0 = λ m. HasHart m h → ⊥ in then life (subst P is.1 not)
 
-pub turns_off : (size : Size) (b : Bench) (board : SimBoard) (h n : ℕ) → OnIs size b board → (Has (machine_in board) h → ⊥) → StepsTo size b (On board) (TurnStep b.power h n b (shows shown.Off))
+pub turns_off : (size : Size) (b : Bench) (board : SimBoard) (h n : ℕ) → OnIs size b board → (HasHart (machine_in board) h → ⊥) → StepsTo size b (On board) (TurnStep b.power h n b (shows shown.Off))
 turns_off size b board h n was not = (b, lacks size b board h b.power was.0 not (λ p. TurnStep p h n b (shows shown.Off) b) (λ life no. inr (no, refl, refl)), was, refl)
 
-pub calls_off : (size : Size) (b : Bench) (board : SimBoard) (h e f x y z : ℕ) → OnIs size b board → (Has (machine_in board) h → ⊥) → StepsTo size b (On board) (CallStep b.power h e f x y z b (shows shown.Off))
+pub calls_off : (size : Size) (b : Bench) (board : SimBoard) (h e f x y z : ℕ) → OnIs size b board → (HasHart (machine_in board) h → ⊥) → StepsTo size b (On board) (CallStep b.power h e f x y z b (shows shown.Off))
 calls_off size b board h e f x y z was not = (b, lacks size b board h b.power was.0 not (λ p. CallStep p h e f x y z b (shows shown.Off) b) (λ life no. inr (no, refl, refl)), was, refl)
 
 -- a line of a call, by what the board did
@@ -95,7 +95,7 @@ reported_as size h (words.Own did) b n store line (life, on, is, same, device) e
 reported_as size h words.Asleep b n store line is e = ap shows e
 reported_as size h (words.Reset kind) b n store line is e = ap shows e
 
-module _ (size : Size) (b : Bench) (old new : SimBoard) (h e f x y z : ℕ) (said : Option Word) (line : MachineLine) (after : Power) (was : OnIs size b old) (has : Has (machine_in old) h) (shows_it : line ≡ called_line h (hart_at (machine_in new) h) said) where
+module _ (size : Size) (b : Bench) (old new : SimBoard) (h e f x y z : ℕ) (said : Option Word) (line : MachineLine) (after : Power) (was : OnIs size b old) (has : HasHart (machine_in old) h) (shows_it : line ≡ called_line h (hart_at (machine_in new) h) said) where
   -- what the board is, where a word was said and where none was
   abbrev pub Follows : Option Word → Type 0
   Follows None = (w : Bench) → OnIs size w new → Agrees size w after
@@ -124,7 +124,7 @@ module _ (size : Size) (b : Bench) (old new : SimBoard) (h e f x y z : ℕ) (sai
       by : (p : Option Life) → BoardIs size b.disk_state b.kept p old → b.power ≡ p → StepsTo size b after (CallStep p h e f x y z b (shows line))
       by None is on = absurd is
       by (Some life) is on =
-          let P : Machine → Type 0 = λ k. Has k h in
+          let P : Machine → Type 0 = λ k. HasHart k h in
           let C : Machine → Type 0 = λ k. MakesOneCall h e f x y z k m called in
           let sized : m.size ≡ life.machine.size = ap (λ (k : Machine). k.size) call.2 ∙ ap (λ (k : Machine). k.size) is.1 in
           let did = came life m called on is sized comes_of follows in

@@ -16,7 +16,7 @@ use Rattle.board.specs.Moments.{issued_by}
 use Rattle.machine.specs.Machine.{Machine, hart_at, resting}
 use Rattle.script_lang.specs.declared.line.Line.{Line}
 use Rattle.script_lang.specs.declared.line.Line.TheVariants as lines
-use Rattle.machine_lines.specs.Shows.{Has, own_line, reg_line, pc_line, CsrLine, pending_line, mem_line}
+use Rattle.machine_lines.specs.Shows.{HasHart, own_line, reg_line, pc_line, CsrLine, pending_line, mem_line}
 use Rattle.machine.specs.Turns.{Turns, MakesOneCall}
 use Rattle.machine.specs.Words.{ends}
 use Rattle.machine.specs.declared.parts.Word.{Word}
@@ -318,8 +318,8 @@ PayloadStep None slot bytes b answer new = (answer ≡ shows (shown.Payload slot
 abbrev pub TurnStep : Option Life → ℕ → ℕ → Bench → Answer → Bench → Type 0
 TurnStep None h n b answer new = (answer ≡ shows shown.Off) × (new ≡ b)
 TurnStep (Some life) h n b answer new =
-    (Has life.machine h × (made : ℕ) × (word : Word) × GuestTurns h n b made word new × (answer ≡ shows (shown.Turn h made word)))
-    ⊎ ((Has life.machine h → ⊥) × (answer ≡ shows shown.Off) × (new ≡ b))
+    (HasHart life.machine h × (made : ℕ) × (word : Word) × GuestTurns h n b made word new × (answer ≡ shows (shown.Turn h made word)))
+    ⊎ ((HasHart life.machine h → ⊥) × (answer ≡ shows shown.Off) × (new ≡ b))
 
 -- what a line of a call says of its hart, on the bench after it
 abbrev pub CallReported : ℕ → Word → Bench → Answer → Type 0
@@ -335,9 +335,9 @@ GuestCall (Made did) h life b answer new = (word : Word) × Comes did h life b w
 abbrev pub CallStep : Option Life → ℕ → ℕ → ℕ → ℕ → ℕ → ℕ → Bench → Answer → Bench → Type 0
 CallStep None h e f x y z b answer new = (answer ≡ shows shown.Off) × (new ≡ b)
 CallStep (Some life) h e f x y z b answer new =
-    (Has life.machine h × (m : Machine) × (called : Called) × MakesOneCall h e f x y z life.machine m called
+    (HasHart life.machine h × (m : Machine) × (called : Called) × MakesOneCall h e f x y z life.machine m called
     × GuestCall called h (has_machine m life) (on_with (has_machine m life) b) answer new)
-    ⊎ ((Has life.machine h → ⊥) × (answer ≡ shows shown.Off) × (new ≡ b))
+    ⊎ ((HasHart life.machine h → ⊥) × (answer ≡ shows shown.Off) × (new ≡ b))
 
 -- a line that shows something of memory and harts
 abbrev pub ReadStep : Option Life → (Machine → MachineLine → Type 0) → Bench → Answer → Bench → Type 0

@@ -9,7 +9,7 @@ use Rattle.machine.specs.Turns.{TurnsMany, MakesOneCall}
 use Rattle.machine.specs.declared.parts.Called.{Called}
 use Rattle.turns.specs.declared.words.Turned.{Turned}
 use Rattle.machine.specs.declared.parts.Word.TheVariants.{Own}
-use Rattle.machine_lines.specs.Shows.{Has, TurnsLine, CallLine, CsrLine, called_line, word_of}
+use Rattle.machine_lines.specs.Shows.{HasHart, TurnsLine, CallLine, CsrLine, called_line, word_of}
 use Rattle.machine_lines.specs.declared.line.MachineLine.{MachineLine}
 use Rattle.machine_lines.specs.declared.line.MachineLine.TheVariants as lines
 
@@ -20,7 +20,7 @@ IsOneRow = (h n k l : ℕ) (old new other : Machine) (word also : Turned) → Tu
 abbrev pub IsOneCall : Type 0
 IsOneCall = (h eid fid a0 a1 a2 : ℕ) (old new other : Machine) (called also : Called) → MakesOneCall h eid fid a0 a1 a2 old new called → MakesOneCall h eid fid a0 a1 a2 old other also → (new ≡ other) × (called ≡ also)
 
-made : IsOneRow → (h n : ℕ) (old new other : Machine) (line also : MachineLine) → Has old h → 1 ≤ n → TurnsLine h n old new line → TurnsLine h n old other also → (new ≡ other) × (line ≡ also)
+made : IsOneRow → (h n : ℕ) (old new other : Machine) (line also : MachineLine) → HasHart old h → 1 ≤ n → TurnsLine h n old new line → TurnsLine h n old other also → (new ≡ other) × (line ≡ also)
 made row h n old new other line also has some x y =
     let a = x.made has some in
     let b = y.made has some in
@@ -33,7 +33,7 @@ one_line row h n old new other line also x y =
       | inl none ↦ ((x.none none).0 ∙ sym (y.none none).0, (x.none none).1 ∙ sym (y.none none).1)
       | inr some ↦ elim (cases_lt h (length old.harts)) [
         | inl has ↦ made row h n old new other line also has (omega (arith, some)) x y
-        | inr past ↦ (let lacks : Has old h → ⊥ = λ has. omega (arith, has, past) in
+        | inr past ↦ (let lacks : HasHart old h → ⊥ = λ has. omega (arith, has, past) in
             ((x.lacks lacks).0 ∙ sym (y.lacks lacks).0, (x.lacks lacks).1 ∙ sym (y.lacks lacks).1))
       ]
     ]
@@ -46,7 +46,7 @@ one_call call h eid fid a0 a1 a2 old new other line also x y =
           let b = y.made has in
           let same = call h eid fid a0 a1 a2 old new other a.0 b.0 a.1 b.1 in
           (same.0, a.2 ∙ (ap (λ (m : Machine). called_line h (hart_at m h) (word_of a.0)) same.0 ∙ (ap (λ (c : Called). called_line h (hart_at other h) (word_of c)) same.1 ∙ sym b.2))))
-      | inr past ↦ (let lacks : Has old h → ⊥ = λ has. omega (arith, has, past) in
+      | inr past ↦ (let lacks : HasHart old h → ⊥ = λ has. omega (arith, has, past) in
           ((x.lacks lacks).0 ∙ sym (y.lacks lacks).0, (x.lacks lacks).1 ∙ sym (y.lacks lacks).1))
     ]
 
@@ -85,5 +85,5 @@ one_csr h n m line also x y =
         | inl c ↦ x.shown has c.0 c.1 ∙ sym (y.shown has c.0 c.1)
         | inr others ↦ (let none = none_of_all n others in x.no_csr none ∙ sym (y.no_csr none))
       ]
-      | inr past ↦ (let lacks : Has m h → ⊥ = λ has. omega (arith, has, past) in x.lacks lacks ∙ sym (y.lacks lacks))
+      | inr past ↦ (let lacks : HasHart m h → ⊥ = λ has. omega (arith, has, past) in x.lacks lacks ∙ sym (y.lacks lacks))
     ]

@@ -16,13 +16,13 @@ use Rattle.machine.specs.declared.parts.Word.TheVariants.{Own, Asleep, Reset}
 use Rattle.machine_lines.specs.declared.line.MachineLine.{MachineLine}
 use Rattle.machine_lines.specs.declared.line.MachineLine.TheVariants as lines
 
-abbrev pub Has : Machine → ℕ → Type 0
-Has m h = h < length m.harts
+abbrev pub HasHart : Machine → ℕ → Type 0
+HasHart m h = h < length m.harts
 
 -- `turn H N`, with N at least 1, of a machine without a store
 pub record TurnsLine (h n : ℕ) (old new : Machine) (line : MachineLine) : Type 0 where
-  pub made : Has old h → 1 ≤ n → (k : ℕ) × (word : Turned) × TurnsMany h n old new k word × (line ≡ lines.Turn h k (Own word))
-  pub lacks : (Has old h → ⊥) → (new ≡ old) × (line ≡ lines.Off)
+  pub made : HasHart old h → 1 ≤ n → (k : ℕ) × (word : Turned) × TurnsMany h n old new k word × (line ≡ lines.Turn h k (Own word))
+  pub lacks : (HasHart old h → ⊥) → (new ≡ old) × (line ≡ lines.Off)
   pub none : n ≡ 0 → (new ≡ old) × (line ≡ lines.Off)
 
 -- what a call that was made says of its hart: one that was answered shows the answer
@@ -52,8 +52,8 @@ word_of (Made did) = Some (Own did)
 
 -- `call H EID FID A0 A1 A2`, of a machine without a store
 pub record CallLine (h eid fid a0 a1 a2 : ℕ) (old new : Machine) (line : MachineLine) : Type 0 where
-  pub made : Has old h → (called : Called) × MakesOneCall h eid fid a0 a1 a2 old new called × (line ≡ called_line h (hart_at new h) (word_of called))
-  pub lacks : (Has old h → ⊥) → (new ≡ old) × (line ≡ lines.Off)
+  pub made : HasHart old h → (called : Called) × MakesOneCall h eid fid a0 a1 a2 old new called × (line ≡ called_line h (hart_at new h) (word_of called))
+  pub lacks : (HasHart old h → ⊥) → (new ≡ old) × (line ≡ lines.Off)
 
 -- the board has the hart, and an interrupt is pending for it
 abbrev pub waits : Machine → ℕ → Bool
@@ -78,9 +78,9 @@ pc_line h m = if nat_lt h (length m.harts) then lines.Pc h (hart_at m h).pc else
 
 -- `csr H C`, with C the number of a control and status register of the profile
 pub record CsrLine (h n : ℕ) (m : Machine) (line : MachineLine) : Type 0 where
-  pub shown : Has m h → (c : Csr) → csr_number c ≡ n → line ≡ lines.Csr h n (csr_read c (hart_at m h) (is_pending h m.table.pairs))
+  pub shown : HasHart m h → (c : Csr) → csr_number c ≡ n → line ≡ lines.Csr h n (csr_read c (hart_at m h) (is_pending h m.table.pairs))
   pub no_csr : ((c : Csr) → csr_number c ≢ n) → line ≡ lines.Off
-  pub lacks : (Has m h → ⊥) → line ≡ lines.Off
+  pub lacks : (HasHart m h → ⊥) → line ≡ lines.Off
 
 -- `mem A N`, with N at most 64
 abbrev pub mem_line : ℕ → ℕ → Machine → MachineLine

@@ -3,14 +3,14 @@ use Rattle.machine.specs.Machine.{Machine, hart_at}
 use Rattle.machine.specs.declared.parts.Word.{Word}
 use Rattle.bench_report.specs.declared.power.Power.TheVariants.{On}
 use Rattle.bench_report.specs.Below.{machine_in}
-use Rattle.machine_lines.specs.Shows.{Has, called_line}
+use Rattle.machine_lines.specs.Shows.{HasHart, called_line}
 use Rattle.bench_report.proofs.Lines.{on_calls, Follows}
 use Rattle.bench_report.proofs.steps.call.Goals as goal
 
 pub returns-in-None-clause-reported : goal.returns-in-None-clause-reported
 returns-in-None-clause-reported g c = λ size b h.
-    let P : Machine → Type 0 = λ m. Has m c.args.hart in
-    let has : Has (machine_in c.args.board) c.args.hart = subst P c.machine.ensures (c.if-not-has.ensures.0 refl) in
+    let P : Machine → Type 0 = λ m. HasHart m c.args.hart in
+    let has : HasHart (machine_in c.args.board) c.args.hart = subst P c.machine.ensures (c.if-not-has.ensures.0 refl) in
     let new = c.call-said.new.self in
     let S : Machine → Type 0 = λ m. c.called-line.result ≡ called_line c.args.hart (hart_at m c.args.hart) c.call-said.result in
     let line : S (machine_in new) = subst S c.machine-2.ensures c.called-line.ensures in
@@ -20,8 +20,8 @@ returns-in-None-clause-reported g c = λ size b h.
 
 pub returns-in-Some-clause-reported : goal.returns-in-Some-clause-reported
 returns-in-Some-clause-reported g c = λ size b h.
-    let P : Machine → Type 0 = λ m. Has m c.args.hart in
-    let has : Has (machine_in c.args.board) c.args.hart = subst P c.machine.ensures (c.if-not-has.ensures.0 refl) in
+    let P : Machine → Type 0 = λ m. HasHart m c.args.hart in
+    let has : HasHart (machine_in c.args.board) c.args.hart = subst P c.machine.ensures (c.if-not-has.ensures.0 refl) in
     let new = c.call-said.new.self in
     let S : Machine → Type 0 = λ m. c.called-line.result ≡ called_line c.args.hart (hart_at m c.args.hart) c.call-said.result in
     let line : S (machine_in new) = subst S c.machine-2.ensures c.called-line.ensures in
