@@ -14,7 +14,7 @@ use Rattle.ipi.specs.declared.view.PendingView.{PendingView}
 use Rattle.ipi.specs.declared.view.PendingSeatView.{PendingSeatView}
 use Rattle.ipi.specs.Ledger.{numbers, pending_seat_view, raise_of, take_of, raised, taken, is_of, seats, noted, HasNoted, IsWhole, InRange}
 use Rattle.ipi.specs.Pairs.{IsPending, SameHarts, Shows, with_pair, without_target}
-use Rattle.ipi.specs.Senders.{Has}
+use Rattle.ipi.specs.Senders.{HasSender}
 use Rattle.ipi.proofs.Keeps.{weigh_noted, seats_noted}
 
 module _ (harts by : ℕ) (c : PendingSeatView) (whole : IsWhole harts c) (lt : by < harts) where
@@ -121,7 +121,7 @@ module _ (harts by target found : ℕ) (c c' : PendingSeatView) (whole : IsWhole
 
 -- ---- take
 module _ (harts by found : ℕ) (c c' : PendingSeatView) (whole : IsWhole harts c) (lt : by < harts) (is : HasNoted by (Took found) c.pending_views c'.pending_views) (tells : (sender : ℕ) → raised sender by c ≡ taken sender by c + bit_at found sender) where
-  found_pairs : (s : ℕ) → Has s found ↔ IsPending c s by
+  found_pairs : (s : ℕ) → HasSender s found ↔ IsPending c s by
   found_pairs s = let e = tells s in let bit = bit_at-lt found s in ((λ one. omega arith), (λ p. omega arith))
 
   taken_pairs : (s t : ℕ) → IsPending c' s t ↔ (IsPending c s t × (t ≢ by))
@@ -141,7 +141,7 @@ module _ (harts by found : ℕ) (c c' : PendingSeatView) (whole : IsWhole harts 
           let h : (if by == t then bit_at found s else 0) ≡ 0 = rw (ne_eqb by t (λ x. n (sym x))) refl in
           ((λ p. ((let w = p in omega arith), n)), (λ q. let w = q.0 in omega arith)))
 
-  pub take_alone : (pairs : ℕ → ℕ → Bool) → Shows harts c pairs → ((s : ℕ) → Has s found ↔ IsTrue (pairs s by)) × Shows harts c' (without_target by pairs)
+  pub take_alone : (pairs : ℕ → ℕ → Bool) → Shows harts c pairs → ((s : ℕ) → HasSender s found ↔ IsTrue (pairs s by)) × Shows harts c' (without_target by pairs)
   take_alone pairs shown = (
     (λ s. ((λ one. (shown.1 s by).1 ((found_pairs s).0 one)), (λ p. (found_pairs s).1 ((shown.1 s by).0 p)))),
     (whole_still harts c c' (same_harts by (Took found) c c' is) whole, pair),

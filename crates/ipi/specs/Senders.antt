@@ -3,5 +3,5 @@ use Rattle.std.specs.Prelude.{◌≡◌, ℕ}
 use Rattle.std.specs.Int.{bit_at}
 
 -- the sender is in the set
-abbrev pub Has : ℕ → ℕ → Type 0
-Has sender set = bit_at set sender ≡ 1
+abbrev pub HasSender : ℕ → ℕ → Type 0
+HasSender sender set = bit_at set sender ≡ 1

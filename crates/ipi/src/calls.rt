@@ -4,7 +4,7 @@ ghost use Rattle.std.specs.Prelude.{◌≡◌, ◌≢◌, ◌↔◌, ℕ, ◌<�
 ghost use Rattle.std.specs.Int.{bit_at};
 ghost use Rattle.ipi.specs.Ledger.{Raises, Takes, Looks, HasNoted, seats, Tells, OwnsUp, InRange, IsOwing};
 ghost use Rattle.ipi.specs.Pairs.{Sits, SameHarts, ActsAlone, with_pair, without_target};
-ghost use Rattle.ipi.specs.Senders.{Has};
+ghost use Rattle.ipi.specs.Senders.{HasSender};
 ghost use Rattle.ipi.specs.Seating.{IsSeatOf, harts_of, pending_view_of_seat, pending_views_in};
 ghost use Rattle.ipi.specs.declared.view.Action.TheVariants.{Raised, Took, Looked};
 
@@ -113,9 +113,9 @@ impl PendingTable {
         ensures seat { IsSeatOf self.entry.now result.0 }
         ensures harts { SameHarts (pending_view_of_seat seat) (pending_view_of_seat result.0) }
         ensures steps { HasNoted by (Took result.1) (pending_views_in seat) (pending_views_in result.0) }
-        ensures own { IsOwing by (pending_view_of_seat seat) → Has by result.1 }
-        ensures range { (sender : ℕ) → Has sender result.1 → sender < harts_of self.entry.now }
-        ensures alone { ActsAlone (harts_of self.entry.now) (pending_view_of_seat seat) (pending_view_of_seat result.0) (λ pairs. (sender : ℕ) → Has sender result.1 ↔ IsTrue (pairs sender by)) (without_target by) }
+        ensures own { IsOwing by (pending_view_of_seat seat) → HasSender by result.1 }
+        ensures range { (sender : ℕ) → HasSender sender result.1 → sender < harts_of self.entry.now }
+        ensures alone { ActsAlone (harts_of self.entry.now) (pending_view_of_seat seat) (pending_view_of_seat result.0) (λ pairs. (sender : ℕ) → HasSender sender result.1 ↔ IsTrue (pairs sender by)) (without_target by) }
     {
         let mut seat = seat;
         let found = take_by::<Brand>(self, &mut seat, by);

@@ -2,13 +2,13 @@
 
 ghost use Rattle.std.specs.Prelude.{◌≡◌, ℕ, ◌<◌, ◌↔◌, IsTrue};
 ghost use Rattle.std.specs.Int.{bit_at};
-ghost use Rattle.ipi.specs.Senders.{Has};
+ghost use Rattle.ipi.specs.Senders.{HasSender};
 
 use board_model::HartId;
 use std::marker::Model;
 
 /// The harts whose interrupts one `take` took. Contracts see it as a number whose bit `s` tells whether the hart `s` is
-/// in it (`Has`).
+/// in it (`HasSender`).
 #[derive(Clone, Copy, Debug, PartialEq, Eq, Drop)]
 pub struct SenderSet {
     bits: u64,
@@ -35,7 +35,7 @@ impl SenderSet {
 
     /// Whether the hart is in the set.
     pub fn contains(self, sender: HartId) -> bool
-        ensures { IsTrue result ↔ Has sender self }
+        ensures { IsTrue result ↔ HasSender sender self }
     {
         let hart = sender.number();
         self.bits >> hart & 1 == 1
@@ -43,7 +43,7 @@ impl SenderSet {
 
     /// Whether no hart is in the set.
     pub fn is_empty(self) -> bool
-        ensures { IsTrue result ↔ ((sender : ℕ) → Has sender self → ⊥) }
+        ensures { IsTrue result ↔ ((sender : ℕ) → HasSender sender self → ⊥) }
     {
         self.bits == 0
     }
