@@ -38,7 +38,7 @@ use Rattle.machine.specs.declared.parts.Word.TheVariants as words
 use Rattle.board.specs.Turns as boards
 use Rattle.bench_report.specs.Below.{SimStore, IsLife, IsAs, store_size, store_fault_state, store_facts}
 use Rattle.bench_report.specs.Bench.{Life, Bench}
-use Rattle.bench_report.specs.Steps.{out_of_memory, off, on_with, has_machine, acknowledged, Issued, refused, Refuses, Held, Resets, Suspends, IsAlone, Sleeps, SleepsBy, MakesCall, Comes, GuestTurn, IsLastTurn, GuestTurns}
+use Rattle.bench_report.specs.Steps.{out_of_memory, off, on_with, has_machine, acknowledged, Issued, refused, Refuses, HartCommand, Resets, Suspends, IsAlone, Sleeps, SleepsBy, MakesCall, Comes, GuestTurn, IsLastTurn, GuestTurns}
 use Rattle.bench_report.specs.Agree.{StoreIs, DeviceIs, IsOver}
 use Rattle.bench_report.proofs.Adapted.{calm as untouched}
 use Rattle.bench_report.proofs.Commanded.{Running, follows_with, sized_for, reported_end, reported_err, reported_up, reported_down, again, calm_device, unmoved}
@@ -89,10 +89,10 @@ module _ (size : Size) (b : Bench) (life : Life) (h : ℕ) (n : Machine) (old ne
 
   -- its command was refused by the store
   fails : (n : ℕ) (said : Word) (mid : Bench) (held : Made) → Running size mid life.machine new → mid.payloads ≡ b.payloads → Refused_to Failed (hart_at life.machine h) t held
-      → Came (λ word x. Held (Err n) said h mid word x) held
+      → Came (λ word x. HartCommand (Err n) said h mid word x) held
   fails n said mid held is payloads (at, e) =
       let did = goes Failed mid is at in
-      by_held (λ word x. Held (Err n) said h mid word x) held helds.Goes e (on_with (refused h Failed did.0) mid, (did.0, did.1, (refl, refl)), did.2, payloads)
+      by_held (λ word x. HartCommand (Err n) said h mid word x) held helds.Goes e (on_with (refused h Failed did.0) mid, (did.0, did.1, (refl, refl)), did.2, payloads)
 
   calm_life : life.doubt ≡ None → IsLife (life_of old) life.now life.receipts None
   calm_life none = let Q : Option Change → Type 0 = λ d. IsAs old life.now life.receipts d in subst Q none was.1

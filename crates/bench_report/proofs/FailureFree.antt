@@ -34,7 +34,7 @@ use Rattle.bench_report.specs.declared.printed.Printed.TheVariants as printed
 use Rattle.disk.specs.FaultState.{FaultArmed, CutArmed}
 use Rattle.bench_report.specs.declared.printed.Answer.{Answer}
 use Rattle.bench_report.specs.Bench.{DiskState, Blank, Unknown, Formatted, Life, Bench, IsFailureFree, blank_bench}
-use Rattle.bench_report.specs.Steps.{says, off, on_with, unpowered, unknown, armed_with, formatted_anew, settled, has_machine, acknowledged, begun, commands_of, console_reported, Writes, IssuedBy, IssuesAll, FormatsOn, IsOn, Starts, Resumes, Begins, Boots, Opens, PowersOn, FormatStep, OnStep, ConsoleStep, PayloadStep, ReadStep, PokeStep, Issued, Refuses, Held, Resets, Suspends, SleepsBy, MakesCall, Comes, GuestTurn, GuestTurns, TurnStep, CallReported, GuestCall, CallStep, Step, Moves, Run}
+use Rattle.bench_report.specs.Steps.{says, off, on_with, unpowered, unknown, armed_with, formatted_anew, settled, has_machine, acknowledged, begun, commands_of, console_reported, Writes, IssuedBy, IssuesAll, FormatsOn, IsOn, Starts, Resumes, Begins, Boots, Opens, PowersOn, FormatStep, OnStep, ConsoleStep, PayloadStep, ReadStep, PokeStep, Issued, Refuses, HartCommand, Resets, Suspends, SleepsBy, MakesCall, Comes, GuestTurn, GuestTurns, TurnStep, CallReported, GuestCall, CallStep, Step, Moves, Run}
 use Rattle.bench_report.specs.Reports.{IsReport}
 use Rattle.bench_report.specs.Plain.{ShowsNoFailure, ShowNoFailure}
 
@@ -163,7 +163,7 @@ IsFree word = word ≢ words.Own Next
 refuses_free : {A : Type 0} (e : SbiError) (h : ℕ) (life : Life) (b : Bench) (word : Word) (new : Bench) → Refuses e h life b word new → IsFree word → A
 refuses_free e h life b word new x free = absurd (free x.0)
 
-held_free : (c : Change) (o : Result ℕ ℕ) (said : Word) (h : ℕ) (life : Life) (b mid : Bench) (word : Word) (new : Bench) → Issued c life b o mid → Held o said h mid word new → IsFree word → AsMany b new
+held_free : (c : Change) (o : Result ℕ ℕ) (said : Word) (h : ℕ) (life : Life) (b mid : Bench) (word : Word) (new : Bench) → Issued c life b o mid → HartCommand o said h mid word new → IsFree word → AsMany b new
 held_free c (Ok n) said h life b mid word new i x free = many_then b mid new (issued_failure_free life.doubt c life b (Ok n) mid i tt) (as_many mid (off mid) new refl refl x.1)
 held_free c (Err n) said h life b mid word new i (at, on, x) free = refuses_free Failed h at mid word new x free
 
@@ -171,13 +171,13 @@ resets_free : (asked : Result (ResetType × Reason) SbiError) (h : ℕ) (life : 
 resets_free (Err e) h life b word new x free = refuses_free e h life b word new x free
 resets_free (Ok reset) h life b word new (o, mid, i, x) free = held_free (Reset reset.1) o (words.Reset reset.0) h life b mid word new i x free
 
-refused_held : {A : Type 0} (n : ℕ) (o : Result ℕ ℕ) (h : ℕ) (b : Bench) (word : Word) (new : Bench) → o ≡ Err n → Held o words.Asleep h b word new → IsFree word → A
+refused_held : {A : Type 0} (n : ℕ) (o : Result ℕ ℕ) (h : ℕ) (b : Bench) (word : Word) (new : Bench) → o ≡ Err n → HartCommand o words.Asleep h b word new → IsFree word → A
 refused_held n o h b word new e x free =
-    let P : Result ℕ ℕ → Type 0 = λ r. Held r words.Asleep h b word new in
+    let P : Result ℕ ℕ → Type 0 = λ r. HartCommand r words.Asleep h b word new in
     let at = subst P e x in
     refuses_free Failed h at.0 b word new at.2 free
 
-sleeps_held : (Fits : Type 0) (c : Change) (o : Result ℕ ℕ) (h : ℕ) (life : Life) (b mid : Bench) (word : Word) (new : Bench) → Suspends Fits c life b o mid → Held o words.Asleep h mid word new → IsFree word → AsMany b new
+sleeps_held : (Fits : Type 0) (c : Change) (o : Result ℕ ℕ) (h : ℕ) (life : Life) (b mid : Bench) (word : Word) (new : Bench) → Suspends Fits c life b o mid → HartCommand o words.Asleep h mid word new → IsFree word → AsMany b new
 sleeps_held Fits c o h life b mid word new (inl i) x free = held_free c o words.Asleep h life b mid word new i.1 x free
 sleeps_held Fits c o h life b mid word new (inr (inl i)) x free = refused_held 11 o h mid word new i.1 x free
 sleeps_held Fits c o h life b mid word new (inr (inr i)) x free = refused_held 3 o h mid word new i.1 x free

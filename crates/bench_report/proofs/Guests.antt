@@ -19,7 +19,7 @@ use Rattle.sbi_abi.specs.Calls.{call_of}
 use Rattle.sbi.specs.declared.resets.ResetType.{ResetType}
 use Rattle.sbi.specs.Resets.{reset_of}
 use Rattle.bench_report.specs.Bench.{Life, Bench}
-use Rattle.bench_report.specs.Steps.{off, on_with, has_machine, refused, Refuses, Held, Resets, Suspends, Sleeps, SleepsBy, MakesCall, Comes, GuestTurn, IsLastTurn, GuestTurns}
+use Rattle.bench_report.specs.Steps.{off, on_with, has_machine, refused, Refuses, HartCommand, Resets, Suspends, Sleeps, SleepsBy, MakesCall, Comes, GuestTurn, IsLastTurn, GuestTurns}
 use Rattle.bench_report.proofs.Determined.{Fair, fair_to, fair_then, unmoved, spoils, starves, issued_fair, Agree, same, issued, some_inj}
 
 abbrev pub IsOneTurn : Type 0
@@ -29,7 +29,7 @@ IsOneTurn = (h : ℕ) (old new other : Machine) (word also : Turned) → Turns h
 refuses_fair : (e : SbiError) (h : ℕ) (life : Life) (b : Bench) (word : Word) (new : Bench) → Refuses e h life b word new → Fair b new
 refuses_fair e h life b word new x = fair_to b new (on_with (refused h e life) b) x.1 (λ s. s, λ c. inr c)
 
-held_fair : (o : Result ℕ ℕ) (said : Word) (h : ℕ) (b : Bench) (word : Word) (new : Bench) → Held o said h b word new → Fair b new
+held_fair : (o : Result ℕ ℕ) (said : Word) (h : ℕ) (b : Bench) (word : Word) (new : Bench) → HartCommand o said h b word new → Fair b new
 held_fair (Ok n) said h b word new x = fair_to b new (off b) x.1 (λ s. s, λ c. inr c)
 held_fair (Err n) said h b word new (life, on, x) = refuses_fair Failed h life b word new x
 
@@ -71,15 +71,15 @@ turns_fair h (suc n) b made word new (life, on, said, mid, turn, inr x) = fair_t
 refuses_one : (e : SbiError) (h : ℕ) (life : Life) (b : Bench) (word also : Word) (new last : Bench) → Refuses e h life b word new → Refuses e h life b also last → Agree word also new last
 refuses_one e h life b word also new last x y = same word also (words.Own Next) new last (on_with (refused h e life) b) x.0 y.0 x.1 y.1
 
-held_one : (o p : Result ℕ ℕ) (said : Word) (h : ℕ) (b d : Bench) (word also : Word) (new last : Bench) → Agree o p b d → Held o said h b word new → Held p said h d also last → Agree word also new last
+held_one : (o p : Result ℕ ℕ) (said : Word) (h : ℕ) (b d : Bench) (word also : Word) (new last : Bench) → Agree o p b d → HartCommand o said h b word new → HartCommand p said h d also last → Agree word also new last
 held_one o p said h b d word also new last (inl f) x y = inl ((held_fair o said h b word new x).0 f)
 held_one o p said h b d word also new last (inr (inl f)) x y = inr (inl ((held_fair p said h d also last y).0 f))
 held_one o p said h b d word also new last (inr (inr e)) x y =
-    let P : Result ℕ ℕ → Type 0 = λ r. Held r said h d also last in
-    let Q : Bench → Type 0 = λ m. Held o said h m also last in
+    let P : Result ℕ ℕ → Type 0 = λ r. HartCommand r said h d also last in
+    let Q : Bench → Type 0 = λ m. HartCommand o said h m also last in
     alike o x (subst Q (sym e.1) (subst P (sym e.0) y))
   where
-    alike : (o : Result ℕ ℕ) → Held o said h b word new → Held o said h b also last → Agree word also new last
+    alike : (o : Result ℕ ℕ) → HartCommand o said h b word new → HartCommand o said h b also last → Agree word also new last
     alike (Ok n) x y = same word also said new last (off b) x.0 y.0 x.1 y.1
     alike (Err n) (life, on, x) (other, at, y) = let P : Life → Type 0 = λ l. Refuses Failed h l b also last in refuses_one Failed h life b word also new last x (subst P (some_inj life other b.power on at) y)
 

@@ -19,7 +19,7 @@ use Rattle.sbi.specs.Resets.{reset_of}
 use Rattle.bench_report.specs.Taken.{Takes, TakesSome}
 use Rattle.bench_report.specs.Bench.{Life, Bench}
 use Rattle.bench_report.specs.Prefix.{IsReset, IsSuspension, IsOfHarts, Hides, TellsWord}
-use Rattle.bench_report.specs.Steps.{out_of_memory, off, on_with, has_machine, refused, Refuses, Held, Resets, Suspends, Sleeps, SleepsBy, MakesCall, Comes, GuestTurn, GuestTurns}
+use Rattle.bench_report.specs.Steps.{out_of_memory, off, on_with, has_machine, refused, Refuses, HartCommand, Resets, Suspends, Sleeps, SleepsBy, MakesCall, Comes, GuestTurn, GuestTurns}
 use Rattle.bench_report.proofs.Issues.{takes_more, is_up, GoesOn, IsSound, Back, joined, Went, issued_back}
 
 -- the state before and after, by the word
@@ -64,7 +64,7 @@ tells_end (words.Reset kind) c is up s t on takes = (on, refl, c, is, takes)
 refuses_back : (e : SbiError) (h : ℕ) (life : Life) (b : Bench) (word : Word) (new : Bench) → IsSound b → b.power ≡ Some life → Refuses e h life b word new → GoesBy word b new
 refuses_back e h life b word new sound on x = by_eqs word (words.Own Next) b new (on_with (refused h e life) b) x.0 x.1 (stays (words.Own Next) life b (refused h e life) sound on refl refl)
 
-held_back : (o : Result ℕ ℕ) (reported : Word) (c : Change) → OfWord reported c → (h : ℕ) (b mid : Bench) (word : Word) (new : Bench) → Back b mid (Went o c (is_up b.power) (is_up mid.power)) → Held o reported h mid word new → GoesBy word b new
+held_back : (o : Result ℕ ℕ) (reported : Word) (c : Change) → OfWord reported c → (h : ℕ) (b mid : Bench) (word : Word) (new : Bench) → Back b mid (Went o c (is_up b.power) (is_up mid.power)) → HartCommand o reported h mid word new → GoesBy word b new
 held_back (Ok n) reported c is h b mid word new back x =
     by_eqs word reported b new (off mid) x.0 x.1
     ((back.0.0, tt), λ t found. (let s = back.1 t found in (s.0, s.1, tells_end reported c is (is_up b.power) s.0 t s.2.0 (s.2.1, s.2.2))))

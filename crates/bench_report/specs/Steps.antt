@@ -150,14 +150,14 @@ Refuses e h life b word new = (word ≡ words.Own dids.Next) × (new ≡ on_with
 
 -- the command of a hart, by its receipt or number: acknowledged, it ends the life as it says, and the board is off; refused, it is
 -- answered -1
-abbrev pub Held : Result ℕ ℕ → Word → ℕ → Bench → Word → Bench → Type 0
-Held (Ok n) said h b word new = (word ≡ said) × (new ≡ off b)
-Held (Err n) said h b word new = (life : Life) × (b.power ≡ Some life) × Refuses Failed h life b word new
+abbrev pub HartCommand : Result ℕ ℕ → Word → ℕ → Bench → Word → Bench → Type 0
+HartCommand (Ok n) said h b word new = (word ≡ said) × (new ≡ off b)
+HartCommand (Err n) said h b word new = (life : Life) × (b.power ≡ Some life) × Refuses Failed h life b word new
 
 -- a reset, by what its arguments say
 abbrev pub Resets : Result (ResetType × Reason) SbiError → ℕ → Life → Bench → Word → Bench → Type 0
 Resets (Err e) h life b word new = Refuses e h life b word new
-Resets (Ok reset) h life b word new = (o : Result ℕ ℕ) × (mid : Bench) × Issued (Reset reset.1) life b o mid × Held o (words.Reset reset.0) h mid word new
+Resets (Ok reset) h life b word new = (o : Result ℕ ℕ) × (mid : Bench) × Issued (Reset reset.1) life b o mid × HartCommand o (words.Reset reset.0) h mid word new
 
 -- the command of a suspension, where it fits the board or not: as other commands; or it is refused for want of memory (11), or for
 -- what is not of the board (3)
@@ -177,7 +177,7 @@ abbrev pub Sleeps : ℕ → ℕ → ℕ → Life → Bench → Word → Bench �
 Sleeps site opaque h life b word new =
     ((IsAlone (hart_at life.machine h).id life.machine → ⊥) × Refuses Denied h life b word new)
     ⊎ (IsAlone (hart_at life.machine h).id life.machine × (o : Result ℕ ℕ) × (mid : Bench)
-    × Suspends (FitsBoard life.machine.size life.machine.memory (hart_at life.machine h).id site) (Suspend (hart_at life.machine h).id site opaque life.machine.memory) life b o mid × Held o words.Asleep h mid word new)
+    × Suspends (FitsBoard life.machine.size life.machine.memory (hart_at life.machine h).id site) (Suspend (hart_at life.machine h).id site opaque life.machine.memory) life b o mid × HartCommand o words.Asleep h mid word new)
 
 abbrev pub SleepsBy : Result ℕ SbiError → ℕ → ℕ → Life → Bench → Word → Bench → Type 0
 SleepsBy (Err e) opaque h life b word new = Refuses e h life b word new
