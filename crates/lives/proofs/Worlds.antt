@@ -2,23 +2,23 @@
 use Rattle.std.proofs.Common.{◌≡◌, ◌∙◌, ⊎_elim, ℕ, ◌+◌, ◌<◌, ◌≤◌, List, [], ◌∷◌, ◌++◌, Option, Some, None, true, refl, sym, ap, subst, arith}
 use Rattle.std.specs.Bool.{⊤}
 use Rattle.board_model.specs.Durable.{State, Image, Change, Slot, Reset, Suspend, Consume, Discard, formatted, after, fold}
-use Rattle.lives.specs.Events.{Event, WasOpened, WasAcknowledged, WasRefused, WasDoubtful, WasCut, WasResumed, World, new_world, Finds, serial_of, dropped_by, Happens, Runs, IsBelow, IsAbove, Rises}
+use Rattle.lives.specs.Events.{Event, WasOpened, WasAcknowledged, WasRefused, WasDoubtful, WasCut, WasResumed, World, new_world, Finds, serial_of, dropped_by, Happens, Runs, AreBelow, IsAbove, Rises}
 
 -- the image's serial was given out, and no hart with it or a later one was answered
 abbrev pub Fresh : List ℕ → ℕ → Option Image → Type 0
 Fresh resumed next None = ⊤
-Fresh resumed next (Some i) = (i.serial < next) × IsBelow resumed i.serial
+Fresh resumed next (Some i) = (i.serial < next) × AreBelow resumed i.serial
 
 -- and so was the one that was dropped, before any image that stands
 abbrev pub Held : List ℕ → ℕ → Option Image → Option ℕ → Type 0
 Held resumed next image None = ⊤
-Held resumed next None (Some n) = (n < next) × IsBelow resumed n
-Held resumed next (Some i) (Some n) = (n < i.serial) × IsBelow resumed n
+Held resumed next None (Some n) = (n < next) × AreBelow resumed n
+Held resumed next (Some i) (Some n) = (n < i.serial) × AreBelow resumed n
 
 pub record IsSound (w : World) : Type 0 where
   pub folded : w.state ≡ fold formatted w.kept
   pub rises : Rises w.resumed
-  pub below : IsBelow w.resumed w.state.next
+  pub below : AreBelow w.resumed w.state.next
   pub fresh : Fresh w.resumed w.state.next w.state.image
   pub held : Held w.resumed w.state.next w.state.image w.dropped
 
@@ -26,7 +26,7 @@ one_more : (s : State) (cs : List Change) (c : Change) → fold s (cs ++ c ∷ [
 one_more s [] c = refl
 one_more s (d ∷ cs) c = one_more (after s d) cs c
 
-below_more : (ms : List ℕ) (m n : ℕ) → m ≤ n → IsBelow ms m → IsBelow ms n
+below_more : (ms : List ℕ) (m n : ℕ) → m ≤ n → AreBelow ms m → AreBelow ms n
 below_more [] m n le below = tt
 below_more (x ∷ ms) m n le below = (omega (arith, le, below.0), below_more ms m n le below.1)
 
@@ -34,17 +34,17 @@ above_push : (x : ℕ) (ms : List ℕ) (n : ℕ) → IsAbove x ms → x < n → 
 above_push x [] n above lt = (lt, tt)
 above_push x (m ∷ ms) n above lt = (above.0, above_push x ms n above.1 lt)
 
-rises_push : (ms : List ℕ) (n : ℕ) → Rises ms → IsBelow ms n → Rises (ms ++ n ∷ [])
+rises_push : (ms : List ℕ) (n : ℕ) → Rises ms → AreBelow ms n → Rises (ms ++ n ∷ [])
 rises_push [] n rises below = (tt, tt)
 rises_push (m ∷ ms) n rises below = (above_push m ms n rises.0 below.0, rises_push ms n rises.1 below.1)
 
-below_push : (ms : List ℕ) (n k : ℕ) → IsBelow ms k → n < k → IsBelow (ms ++ n ∷ []) k
+below_push : (ms : List ℕ) (n k : ℕ) → AreBelow ms k → n < k → AreBelow (ms ++ n ∷ []) k
 below_push [] n k below lt = (lt, tt)
 below_push (m ∷ ms) n k below lt = (below.0, below_push ms n k below.1 lt)
 
 -- a state after a command
 abbrev pub Good : List ℕ → State → Type 0
-Good resumed s = IsBelow resumed s.next × Fresh resumed s.next s.image
+Good resumed s = AreBelow resumed s.next × Fresh resumed s.next s.image
 
 good_after : (resumed : List ℕ) (s : State) (c : Change) → Good resumed s → Good resumed (after s c)
 good_after resumed s (Slot n) good = good
@@ -84,7 +84,7 @@ resumed_fresh : (resumed : List ℕ) (next : ℕ) (image : Option Image) (n : �
 resumed_fresh resumed next None n fresh held = tt
 resumed_fresh resumed next (Some i) n fresh held = (fresh.0, below_push resumed n i.serial fresh.1 held.0)
 
-held_below : (resumed : List ℕ) (next : ℕ) (image : Option Image) (n : ℕ) → Fresh resumed next image → Held resumed next image (Some n) → (n < next) × IsBelow resumed n
+held_below : (resumed : List ℕ) (next : ℕ) (image : Option Image) (n : ℕ) → Fresh resumed next image → Held resumed next image (Some n) → (n < next) × AreBelow resumed n
 held_below resumed next None n fresh held = held
 held_below resumed next (Some i) n fresh held = (omega (arith, fresh.0, held.0), held.1)
 

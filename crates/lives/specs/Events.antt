@@ -69,9 +69,9 @@ Runs w [] v = v ≡ w
 Runs w (e ∷ events) v = (u : World) × Happens w e u × Runs u events v
 
 -- each is below n
-abbrev pub IsBelow : List ℕ → ℕ → Type 0
-IsBelow [] n = ⊤
-IsBelow (m ∷ ms) n = (m < n) × IsBelow ms n
+abbrev pub AreBelow : List ℕ → ℕ → Type 0
+AreBelow [] n = ⊤
+AreBelow (m ∷ ms) n = (m < n) × AreBelow ms n
 
 abbrev pub IsAbove : ℕ → List ℕ → Type 0
 IsAbove m [] = ⊤
