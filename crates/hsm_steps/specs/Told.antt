@@ -42,14 +42,14 @@ abbrev pub Arms : ℕ → ℕ → Step (Unit {0}) → SeatState → ℕ → Seat
 Arms h t st m found m' = Notes h Running (Armed t) m m'
 
 -- Freshness: what the first word says of the harts of the seat itself.
-pub record IsFresh (found : ℕ) (vs : List HartView) : Type 0 where
+pub record IsUpToDate (found : ℕ) (vs : List HartView) : Type 0 where
   pub started : (k : ℕ) → IsStarted k vs → (bit_at found k ≡ 1) × (bit_at found (16 + k) ≡ 1) × (bit_at found (24 + k) ≡ 0)
   pub asleep : (k : ℕ) → stands k Asleep vs → (bit_at found k ≡ 1) × (bit_at found (16 + k) ≡ 1) × (bit_at found (24 + k) ≡ 1)
   pub outside : (k : ℕ) → stands k Out vs → bit_at found (16 + k) ≡ 0
 
 -- a look by a hart that stands at this stage, which it keeps
 abbrev pub Looks : ℕ → ℕ → Stage → Step (Unit {0}) → SeatState → ℕ → SeatState → Type 0
-Looks harts h st s m found m' = Notes h st (Looked found) m m' × IsFresh found m.0.harts × Tells harts m.0 found
+Looks harts h st s m found m' = Notes h st (Looked found) m m' × IsUpToDate found m.0.harts × Tells harts m.0 found
 
 abbrev pub PollsOutside : ℕ → ℕ → Step (Unit {0}) → SeatState → ℕ → SeatState → Type 0
 PollsOutside harts h st m found m' = Notes h (after_look h found) (Looked found) m m' × Tells harts m.0 found

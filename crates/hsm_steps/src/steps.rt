@@ -4,7 +4,7 @@ ghost use Rattle.std.specs.Prelude.{◌≡◌, ◌≢◌, ℕ, ◌+◌, ◌*◌,
 ghost use Rattle.std.specs.Int.{bit_at};
 ghost use Rattle.hsm_rule.specs.Rule.{IsSite, HasNoted, stands};
 ghost use Rattle.hsm_rule.specs.States.{HartState, IsStarted, IsSettled, Shows, Tells};
-ghost use Rattle.hsm_steps.specs.Told.{after_claim, after_look, Claims, PutsAddress, PutsOpaque, Arms, IsFresh, Looks, PollsOutside, ReadsAddress, ReadsOpaque, IsOpenStart, Enters, Stops, Suspends, Wakes, Quiets, Unquiets, Sees, is_alone, after_quiet};
+ghost use Rattle.hsm_steps.specs.Told.{after_claim, after_look, Claims, PutsAddress, PutsOpaque, Arms, IsUpToDate, Looks, PollsOutside, ReadsAddress, ReadsOpaque, IsOpenStart, Enters, Stops, Suspends, Wakes, Quiets, Unquiets, Sees, is_alone, after_quiet};
 ghost use Rattle.hsm_steps.specs.Seating.{IsSeatOf, harts_of, hart_view_of_seat, harts_in};
 ghost use Rattle.hsm_words.specs.declared.view.Stage.TheVariants.{Out, Ready, Addressed, Loaded, Running, Claiming, Half, Stored, Asleep, Quiet};
 ghost use Rattle.hsm_words.specs.declared.view.Action.TheVariants.{Claimed, Wrote, Armed, Looked, Read, Entered, Stopped, Suspended, Woke, Quieted, Unquieted};
@@ -245,7 +245,7 @@ pub fn look<J: Acting>(table: &HartTable, seat: &mut HartSeat, by: HartId) -> u6
     requires acts { stands by J.stage (harts_in seat.old) }
     ensures seat { IsSeatOf table.now seat.new }
     ensures told { HasNoted by J.stage (Looked result) (harts_in seat.old) (harts_in seat.new) }
-    ensures fresh { IsFresh result (harts_in seat.old) }
+    ensures fresh { IsUpToDate result (harts_in seat.old) }
     ensures tells { Tells (harts_of table.now) (hart_view_of_seat seat.old) result }
 {
     table.table.shared.load::<LookStep<J>>(seat, 0)
