@@ -2,7 +2,7 @@
 
 ghost use Rattle.std.specs.Prelude.{◌≡◌, ◌⊎◌, ◌+◌, ◌++◌, ◌∷◌, [], ◌<◌, ◌≤◌, ◌^◌, length, take, Option, Result, ℕ, List, All, IfOk, IfErr, IfSome, OnErr, OnOk, Ok, Err, None, MatchResult};
 ghost use Rattle.std.specs.Io.KnownBytes.{Appends};
-ghost use Rattle.script_lang.specs.Ranges.{IsInRange};
+ghost use Rattle.script_lang.specs.Ranges.{IsLineInRange};
 ghost use Rattle.script_lang.specs.Scripts.{script_of, Script as Said};
 ghost use Rattle.script_lang.specs.Seen.{view};
 ghost use Rattle.store.specs.Leaves.{IsIdle};
@@ -133,7 +133,7 @@ fn run_line<C: Crew, W: Write>(
     report: &mut Report,
 ) -> (Power, Result<(), Refusal>)
     requires few { report.old.lines < 2 ^ 40 }
-    requires range { IsInRange shape.now line.now }
+    requires range { IsLineInRange shape.now line.now }
     requires resting { IsResting power }
     requires calm { IsUnstruck power }
     requires short { AreShort payloads.old }
@@ -170,7 +170,7 @@ fn run_lines<C: Crew, W: Write>(
     report: &mut Report,
 ) -> (Power, Result<(), Refusal>)
     requires few { length lines.now ≤ 65535 }
-    requires ranges { All (IsInRange shape.now) lines.now }
+    requires ranges { All (IsLineInRange shape.now) lines.now }
     requires first { report.old.lines ≤ 1 }
     requires resting { IsResting power }
     requires calm { IsUnstruck power }
@@ -202,7 +202,7 @@ fn run_script<C: Crew, W: Write>(
     out: &mut W,
 ) -> (SimDisk, Result<Report, Refusal>)
     requires few { length script.now.lines.items ≤ 65535 }
-    requires ranges { All (IsInRange script.now.shape) script.now.lines.items }
+    requires ranges { All (IsLineInRange script.now.shape) script.now.lines.items }
     requires blank { OffIs script.now.shape blank_bench disk }
     requires idle { IsIdle (facts disk) }
     ensures report { IfOk result.1 (λ report. (answers : List Answer) × (end : Bench) × IsReport (view script.now) answers end × Reported (W.contents out.old) (W.contents out.new) report answers

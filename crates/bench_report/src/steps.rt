@@ -4,7 +4,7 @@ ghost use Rattle.std.specs.Prelude.{◌≡◌, false, ◌<◌, ◌≤◌, ◌+�
 ghost use Rattle.board_model.specs.Shapes.{Size};
 ghost use Rattle.board_model.specs.Shown.{change_of};
 ghost use Rattle.board.specs.Boots.{IsConsoleCommand};
-ghost use Rattle.script_lang.specs.Ranges.{IsInRange};
+ghost use Rattle.script_lang.specs.Ranges.{IsLineInRange};
 ghost use Rattle.store.specs.Leaves.{IsIdle};
 ghost use Rattle.bench_report.specs.Below.{store_in, machine_in, facts, store_fault_state};
 ghost use Rattle.bench_report.specs.Bench.{Bench, Life};
@@ -493,7 +493,7 @@ fn step<C: Crew>(
     power: Power,
     payloads: &mut Payloads,
 ) -> (Power, Result<Answer, Refusal>)
-    requires range { IsInRange shape.now line.now }
+    requires range { IsLineInRange shape.now line.now }
     requires resting { IsResting power }
     requires calm { IsUnstruck power }
     requires short { AreShort payloads.old }
@@ -561,7 +561,7 @@ pub fn moves<C: Crew>(
     payloads: &mut Payloads,
     fill: &mut Fill,
 ) -> (Power, Result<Answer, Refusal>)
-    requires range { IsInRange shape.now line.now }
+    requires range { IsLineInRange shape.now line.now }
     requires resting { IsResting power }
     requires calm { IsUnstruck power }
     requires short { AreShort payloads.old }

@@ -10,7 +10,7 @@ use Rattle.std.specs.Str.Parse.{AllDigits}
 use Rattle.board_model.specs.Shapes.{Size, IsSize, ram_bytes_of, sectors_of}
 use Rattle.script_lang.specs.Words.{words_of, number_of}
 use Rattle.script_lang.specs.Rows.{extension_of, is_csr}
-use Rattle.script_lang.specs.Ranges.{IsInRange, IsCsr}
+use Rattle.script_lang.specs.Ranges.{IsLineInRange, IsCsr}
 use Rattle.script_lang.specs.Lines.{line_of}
 use Rattle.script_lang.specs.Spellings.{spelling_of, text_of, FitsLine}
 use Rattle.board_model.specs.declared.boot_mode.BootMode.TheVariants as modes
@@ -41,7 +41,7 @@ csr_test : (n : ℕ) → IsCsr n → is_csr n ≡ true
 csr_test n h = grind (arith, nat_tests, h)
 
 -- a line is read from the words of its spelling
-line_of-spelling : (size : Size) (line : Line) → IsSize size → IsInRange size line → FitsLine line → line_of size (spelling_of line) ≡ Some line
+line_of-spelling : (size : Size) (line : Line) → IsSize size → IsLineInRange size line → FitsLine line → line_of size (spelling_of line) ≡ Some line
 line_of-spelling size (Payload slot bytes) z r f = let t : nat_le (length bytes) 1024 ≡ true = grind (arith, nat_tests, r.2) in rw (ranged-decimal 0 4 slot (omega arith) (omega arith) (omega arith), hex_of-encode bytes f r.1, t)
 line_of-spelling size Format z r f = refl
 line_of-spelling size (On modes.Fresh) z r f = refl
@@ -72,7 +72,7 @@ line_of-spelling size (Poke sector offset bytes) z r f =
     rw (ranged-decimal 0 (sectors_of size) sector (omega arith) r.0 (omega arith), ranged-decimal 0 512 offset (omega arith) (omega arith) (omega arith), hex_of-encode bytes f.1 r.1, t)
 
 -- no word of a spelling holds a space
-pub AreWords-spelling : (size : Size) (line : Line) → IsSize size → IsInRange size line → FitsLine line → AreWords (spelling_of line)
+pub AreWords-spelling : (size : Size) (line : Line) → IsSize size → IsLineInRange size line → FitsLine line → AreWords (spelling_of line)
 AreWords-spelling size (Payload slot bytes) z r f = (refl, (IsWord-decimal slot (omega arith), (IsWord-encode bytes f, tt)))
 AreWords-spelling size Format z r f = (refl, tt)
 AreWords-spelling size (On modes.Fresh) z r f = (refl, (refl, tt))
@@ -120,5 +120,5 @@ spelling_some (Poke sector offset bytes) = lit< tt
 spelling_some (On mode) = lit< tt
 
 -- a line is read from its text
-pub line_of-text : (size : Size) (line : Line) → IsSize size → IsInRange size line → FitsLine line → line_of size (words_of (text_of line)) ≡ Some line
+pub line_of-text : (size : Size) (line : Line) → IsSize size → IsLineInRange size line → FitsLine line → line_of size (words_of (text_of line)) ≡ Some line
 line_of-text size line z r f = rw (join_back (spelling_of line) (spelling_some line) (AreWords-spelling size line z r f)) (line_of-spelling size line z r f)

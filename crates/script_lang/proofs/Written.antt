@@ -9,7 +9,7 @@ use Rattle.hex.specs.Hex.{lower_digits}
 use Rattle.hex.proofs.HexLemmas.{length-encode_with}
 use Rattle.board_model.specs.Shapes.{Size, IsSize}
 use Rattle.script_lang.specs.Words.{words_of}
-use Rattle.script_lang.specs.Ranges.{IsInRange}
+use Rattle.script_lang.specs.Ranges.{IsLineInRange}
 use Rattle.script_lang.specs.Scripts.{Script, is_sound, is_passed, is_size, whole_lines, lines_of, board_of, said_of, rest_of, lines_from, script_of}
 use Rattle.script_lang.specs.Spellings.{spelling_of, text_of, fill_text, FitsLine, board_text, script_text, IsWritable}
 use Rattle.script_lang.specs.declared.line.Fill.{Fill}
@@ -106,7 +106,7 @@ text_filled (FailLane lane calls) = omega arith
 text_filled (Cut fill) = omega arith
 text_filled (Poke sector offset bytes) = omega arith
 
-spelling_long : (size : Size) (line : Line) → IsSize size → IsInRange size line → FitsLine line → long (spelling_of line) ≤ 4096
+spelling_long : (size : Size) (line : Line) → IsSize size → IsLineInRange size line → FitsLine line → long (spelling_of line) ≤ 4096
 unfolding long
 spelling_long size (Payload slot bytes) z r f = omega (arith, short slot (omega arith), length-encode_with lower_digits bytes)
 spelling_long size Format z r f = omega arith
@@ -130,23 +130,23 @@ spelling_long size (FailLane lane calls) z r f = omega (arith, short lane (omega
 spelling_long size (Cut fill) z r f = omega (arith, fill_short fill)
 spelling_long size (Poke sector offset bytes) z r f = omega (arith, short sector (omega arith), short offset (omega arith), length-encode_with lower_digits bytes)
 
-text_short : (size : Size) (line : Line) → IsSize size → IsInRange size line → FitsLine line → length (text_of line) ≤ 4096
+text_short : (size : Size) (line : Line) → IsSize size → IsLineInRange size line → FitsLine line → length (text_of line) ≤ 4096
 text_short size line z r f = omega (arith, length-join (spelling_of line), spelling_long size line z r f)
 
 -- ---- the lines after the board line
 
-said_back : (size : Size) (n : ℕ) (line : Line) → IsSize size → IsInRange size line → FitsLine line → n ≤ 65536 → said_of size n (text_of line) ≡ Ok (line ∷ [])
+said_back : (size : Size) (n : ℕ) (line : Line) → IsSize size → IsLineInRange size line → FitsLine line → n ≤ 65536 → said_of size n (text_of line) ≡ Ok (line ∷ [])
 said_back size n line z r f few =
     let fits = text_short size line z r f in
     let s : is_sound n (text_of line) ≡ true = grind (arith, nat_tests, few, fits) in
     rw (s, text_not_passed line, line_of-text size line z r f)
 
-rest_back : (size : Size) (n : ℕ) (lines : List Line) → IsSize size → All (IsInRange size) lines → All FitsLine lines → n + length lines ≤ 65537 → rest_of size n (map text_of lines) ≡ Ok lines
+rest_back : (size : Size) (n : ℕ) (lines : List Line) → IsSize size → All (IsLineInRange size) lines → All FitsLine lines → n + length lines ≤ 65537 → rest_of size n (map text_of lines) ≡ Ok lines
 unfolding rest_of
 rest_back size n [] z r f few = refl
 rest_back size n (line ∷ more) z r f few =
-    let one = said_back size n line z (All-head (IsInRange size) line more r) (All-head FitsLine line more f) (omega arith) in
-    let others = rest_back size (n + 1) more z (All-tail (IsInRange size) line more r) (All-tail FitsLine line more f) (omega arith) in
+    let one = said_back size n line z (All-head (IsLineInRange size) line more r) (All-head FitsLine line more f) (omega arith) in
+    let others = rest_back size (n + 1) more z (All-tail (IsLineInRange size) line more r) (All-tail FitsLine line more f) (omega arith) in
     rw (one, others)
 
 -- ---- the board line
@@ -173,11 +173,11 @@ board_sound size z =
 
 -- ---- the lines of a text
 
-texts_free : (size : Size) (lines : List Line) → IsSize size → All (IsInRange size) lines → All FitsLine lines → AreFree 10 (map text_of lines)
+texts_free : (size : Size) (lines : List Line) → IsSize size → All (IsLineInRange size) lines → All FitsLine lines → AreFree 10 (map text_of lines)
 texts_free size [] z r f = tt
 texts_free size (line ∷ more) z r f =
-    let one = AreWords-spelling size line z (All-head (IsInRange size) line more r) (All-head FitsLine line more f) in
-    (no_feed (spelling_of line) one, texts_free size more z (All-tail (IsInRange size) line more r) (All-tail FitsLine line more f))
+    let one = AreWords-spelling size line z (All-head (IsLineInRange size) line more r) (All-head FitsLine line more f) in
+    (no_feed (spelling_of line) one, texts_free size more z (All-tail (IsLineInRange size) line more r) (All-tail FitsLine line more f))
 
 abbrev IsFilled : List ℕ → Type 0
 IsFilled text = 0 < length text

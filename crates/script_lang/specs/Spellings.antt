@@ -10,7 +10,7 @@ use Rattle.script_lang.specs.declared.line.Fill.{Fill}
 use Rattle.script_lang.specs.declared.line.Fill.TheVariants.{Old, New, Byte}
 use Rattle.script_lang.specs.declared.line.Line.{Line}
 use Rattle.script_lang.specs.declared.line.Line.TheVariants.{Payload, Format, On, Slot, Discard, Turn, Call, Reg, Pc, Csr, Pending, Mem, CutAt, CutLane, FailAt, FailLane, Cut, Poke}
-use Rattle.script_lang.specs.Ranges.{IsInRange}
+use Rattle.script_lang.specs.Ranges.{IsLineInRange}
 use Rattle.script_lang.specs.Scripts.{Script}
 use lib.Chars.{codes}
 
@@ -87,5 +87,5 @@ script_text script = join_with_byte 10 (board_text script.size ∷ map text_of s
 pub record IsWritable (script : Script) : Type 0 where
   pub size : IsSize script.size
   pub few : length script.lines ≤ 65535
-  pub ranges : All (IsInRange script.size) script.lines
+  pub ranges : All (IsLineInRange script.size) script.lines
   pub fits : All FitsLine script.lines

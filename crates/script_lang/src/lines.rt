@@ -1,7 +1,7 @@
 //! One line.
 
 ghost use Rattle.std.specs.Prelude.{◌≡◌, map, IfOk, IfSome};
-ghost use Rattle.script_lang.specs.Ranges.{IsInRange};
+ghost use Rattle.script_lang.specs.Ranges.{IsLineInRange};
 ghost use Rattle.script_lang.specs.Lines.{keyword_in, keyword_of, alone, body_of, line_of};
 
 use crate::line::{Keyword, Line};
@@ -67,7 +67,7 @@ fn body(
     words: &[&[u8]],
 ) -> Result<Option<Line>, AllocError>
     ensures value { IfOk result (λ line. line ≡ body_of shape.now keyword (map (λ w. w.now) words.now)) }
-    ensures range { IfOk result (λ line. IfSome line (IsInRange shape.now)) }
+    ensures range { IfOk result (λ line. IfSome line (IsLineInRange shape.now)) }
 {
     match keyword {
         Keyword::Payload => rows::payload(alloc, words),
@@ -94,7 +94,7 @@ fn body(
 /// The line that its words say on a board of this shape; None where they are no line.
 pub fn line(alloc: Global, shape: &Shape, words: &[&[u8]]) -> Result<Option<Line>, AllocError>
     ensures value { IfOk result (λ line. line ≡ line_of shape.now (map (λ w. w.now) words.now)) }
-    ensures range { IfOk result (λ line. IfSome line (IsInRange shape.now)) }
+    ensures range { IfOk result (λ line. IfSome line (IsLineInRange shape.now)) }
 {
     let [first, others @ ..] = words else {
         return Ok(None);

@@ -4,7 +4,7 @@ ghost use Rattle.std.specs.Prelude.{◌≡◌, ◌≤◌, ◌<◌, map, length, 
 ghost use Rattle.std.specs.Option.{option_map};
 ghost use Rattle.script_lang.specs.Words.{ranged};
 ghost use Rattle.board_model.specs.Shapes.{Size, sectors_of};
-ghost use Rattle.script_lang.specs.Ranges.{IsCount, IsCsr, IsInRange};
+ghost use Rattle.script_lang.specs.Ranges.{IsCount, IsCsr, IsLineInRange};
 ghost use Rattle.script_lang.specs.Rows.{payload_of, mode_of, on_of, slot_of, turn_of, extension_of, argument_of, head_of, call_of, reg_of, pc_of, csr_number_of, csr_of, mem_of, cutat_of, cutlane_of, failat_of, faillane_of, cut_of, place_of, poke_of};
 
 use crate::line::Line;
@@ -46,7 +46,7 @@ fn boot_slot(word: &[u8]) -> Option<Slot>
 /// `payload S HEX`: the slot below 4, and 1 to 1,024 bytes.
 pub fn payload(alloc: Global, words: &[&[u8]]) -> Result<Option<Line>, AllocError>
     ensures value { IfOk result (λ line. line ≡ payload_of (map (λ w. w.now) words.now)) }
-    ensures range { (size : Size) → IfOk result (λ line. IfSome line (IsInRange size)) }
+    ensures range { (size : Size) → IfOk result (λ line. IfSome line (IsLineInRange size)) }
 {
     let Some((s, h)) = two(words) else {
         return Ok(None);
@@ -85,7 +85,7 @@ pub fn mode(word: &[u8]) -> Option<BootMode>
 /// `on MODE`.
 pub fn on(words: &[&[u8]]) -> Option<Line>
     ensures value { result ≡ on_of (map (λ w. w.now) words.now) }
-    ensures range { (size : Size) → IfSome result (IsInRange size) }
+    ensures range { (size : Size) → IfSome result (IsLineInRange size) }
 {
     Some(Line::On(mode(one(words)?)?))
 }
@@ -93,7 +93,7 @@ pub fn on(words: &[&[u8]]) -> Option<Line>
 /// `slot S`: any number below 2^32.
 pub fn slot(words: &[&[u8]]) -> Option<Line>
     ensures value { result ≡ slot_of (map (λ w. w.now) words.now) }
-    ensures range { (size : Size) → IfSome result (IsInRange size) }
+    ensures range { (size : Size) → IfSome result (IsLineInRange size) }
 {
     Some(Line::Slot(in_range(0, 1 << 32, one(words)?)?))
 }
@@ -101,7 +101,7 @@ pub fn slot(words: &[&[u8]]) -> Option<Line>
 /// `turn H N`.
 pub fn turn(shape: &Shape, words: &[&[u8]]) -> Option<Line>
     ensures value { result ≡ turn_of shape.now (map (λ w. w.now) words.now) }
-    ensures range { IfSome result (IsInRange shape.now) }
+    ensures range { IfSome result (IsLineInRange shape.now) }
 {
     let (h, n) = two(words)?;
     let hart = hart(shape, h)?;
@@ -154,7 +154,7 @@ fn head<'a, 'b>(words: &'b [&'a [u8]]) -> Option<(&'a [u8], &'a [u8], &'a [u8], 
 /// IPI, SRST and SUSP); missing arguments are 0.
 pub fn call(shape: &Shape, words: &[&[u8]]) -> Option<Line>
     ensures value { result ≡ call_of shape.now (map (λ w. w.now) words.now) }
-    ensures range { IfSome result (IsInRange shape.now) }
+    ensures range { IfSome result (IsLineInRange shape.now) }
 {
     let (h, e, f, others) = head(words)?;
     let hart = hart(shape, h)?;
@@ -170,7 +170,7 @@ pub fn call(shape: &Shape, words: &[&[u8]]) -> Option<Line>
 /// `reg H R`: a register below 32.
 pub fn reg(shape: &Shape, words: &[&[u8]]) -> Option<Line>
     ensures value { result ≡ reg_of shape.now (map (λ w. w.now) words.now) }
-    ensures range { IfSome result (IsInRange shape.now) }
+    ensures range { IfSome result (IsLineInRange shape.now) }
 {
     let (h, r) = two(words)?;
     let hart = hart(shape, h)?;
@@ -180,7 +180,7 @@ pub fn reg(shape: &Shape, words: &[&[u8]]) -> Option<Line>
 /// `pc H`.
 pub fn pc(shape: &Shape, words: &[&[u8]]) -> Option<Line>
     ensures value { result ≡ pc_of shape.now (map (λ w. w.now) words.now) }
-    ensures range { IfSome result (IsInRange shape.now) }
+    ensures range { IfSome result (IsLineInRange shape.now) }
 {
     Some(Line::Pc(hart(shape, one(words)?)?))
 }
@@ -200,7 +200,7 @@ fn csr_number(word: &[u8]) -> Option<u32>
 /// `csr H C`: the hart and the number of a CSR.
 pub fn csr(shape: &Shape, words: &[&[u8]]) -> Option<Line>
     ensures value { result ≡ csr_of shape.now (map (λ w. w.now) words.now) }
-    ensures range { IfSome result (IsInRange shape.now) }
+    ensures range { IfSome result (IsLineInRange shape.now) }
 {
     let (h, c) = two(words)?;
     let hart = hart(shape, h)?;
@@ -210,7 +210,7 @@ pub fn csr(shape: &Shape, words: &[&[u8]]) -> Option<Line>
 /// `mem A N`: 1 to 64 bytes, all of them in RAM.
 pub fn mem(shape: &Shape, words: &[&[u8]]) -> Option<Line>
     ensures value { result ≡ mem_of shape.now (map (λ w. w.now) words.now) }
-    ensures range { IfSome result (IsInRange shape.now) }
+    ensures range { IfSome result (IsLineInRange shape.now) }
 {
     let (a, n) = two(words)?;
     let address = number(a)?;
@@ -224,7 +224,7 @@ pub fn mem(shape: &Shape, words: &[&[u8]]) -> Option<Line>
 /// `cutat N FILL`.
 pub fn cutat(words: &[&[u8]]) -> Option<Line>
     ensures value { result ≡ cutat_of (map (λ w. w.now) words.now) }
-    ensures range { (size : Size) → IfSome result (IsInRange size) }
+    ensures range { (size : Size) → IfSome result (IsLineInRange size) }
 {
     let (n, f) = two(words)?;
     let calls = calls(n)?;
@@ -234,7 +234,7 @@ pub fn cutat(words: &[&[u8]]) -> Option<Line>
 /// `cutlane I N FILL`.
 pub fn cutlane(shape: &Shape, words: &[&[u8]]) -> Option<Line>
     ensures value { result ≡ cutlane_of shape.now (map (λ w. w.now) words.now) }
-    ensures range { IfSome result (IsInRange shape.now) }
+    ensures range { IfSome result (IsLineInRange shape.now) }
 {
     let (i, n, f) = three(words)?;
     let lane = lane(shape, i)?;
@@ -245,7 +245,7 @@ pub fn cutlane(shape: &Shape, words: &[&[u8]]) -> Option<Line>
 /// `failat N`.
 pub fn failat(words: &[&[u8]]) -> Option<Line>
     ensures value { result ≡ failat_of (map (λ w. w.now) words.now) }
-    ensures range { (size : Size) → IfSome result (IsInRange size) }
+    ensures range { (size : Size) → IfSome result (IsLineInRange size) }
 {
     Some(Line::FailAt(calls(one(words)?)?))
 }
@@ -253,7 +253,7 @@ pub fn failat(words: &[&[u8]]) -> Option<Line>
 /// `faillane I N`.
 pub fn faillane(shape: &Shape, words: &[&[u8]]) -> Option<Line>
     ensures value { result ≡ faillane_of shape.now (map (λ w. w.now) words.now) }
-    ensures range { IfSome result (IsInRange shape.now) }
+    ensures range { IfSome result (IsLineInRange shape.now) }
 {
     let (i, n) = two(words)?;
     let lane = lane(shape, i)?;
@@ -263,7 +263,7 @@ pub fn faillane(shape: &Shape, words: &[&[u8]]) -> Option<Line>
 /// `cut FILL`.
 pub fn cut(words: &[&[u8]]) -> Option<Line>
     ensures value { result ≡ cut_of (map (λ w. w.now) words.now) }
-    ensures range { (size : Size) → IfSome result (IsInRange size) }
+    ensures range { (size : Size) → IfSome result (IsLineInRange size) }
 {
     Some(Line::Cut(fill(one(words)?)?))
 }
@@ -271,7 +271,7 @@ pub fn cut(words: &[&[u8]]) -> Option<Line>
 /// `poke SECTOR OFFSET HEX`: bytes within one sector of the disk.
 pub fn poke(alloc: Global, shape: &Shape, words: &[&[u8]]) -> Result<Option<Line>, AllocError>
     ensures value { IfOk result (λ line. line ≡ poke_of shape.now (map (λ w. w.now) words.now)) }
-    ensures range { IfOk result (λ line. IfSome line (IsInRange shape.now)) }
+    ensures range { IfOk result (λ line. IfSome line (IsLineInRange shape.now)) }
 {
     let Some((sector, offset, h)) = place(shape, words) else {
         return Ok(None);

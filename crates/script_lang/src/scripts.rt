@@ -3,7 +3,7 @@
 ghost use Rattle.std.specs.Prelude.{◌≡◌, ◌+◌, ◌≤◌, ◌==◌, map, length, take, All, IfOk, OnOk, Ok, ◌++◌, ℕ};
 ghost use Rattle.std.specs.List.{slice_split};
 ghost use Rattle.script_lang.specs.Words.{words_of, three_of};
-ghost use Rattle.script_lang.specs.Ranges.{IsInRange};
+ghost use Rattle.script_lang.specs.Ranges.{IsLineInRange};
 ghost use Rattle.script_lang.specs.Lines.{line_of};
 ghost use Rattle.script_lang.specs.Scripts.{Gives, is_sound, is_passed, whole_lines, size_of_words, board_of, or_fault, ◌>>>◌, said_of, rest_of, from_board, lines_from, script_of};
 ghost use Rattle.script_lang.specs.Seen.{view};
@@ -75,7 +75,7 @@ fn first_lines(alloc: Global, script: &[u8]) -> Result<Vec<&[u8]>, AllocError>
 /// What line number `n` says on a board of this shape.
 fn line_at(alloc: Global, shape: &Shape, n: u64, bytes: &[u8]) -> Result<Line, Refusal>
     ensures value { Gives (λ x. x) result (or_fault n (line_of shape.now (words_of bytes.now))) }
-    ensures range { IfOk result (IsInRange shape.now) }
+    ensures range { IfOk result (IsLineInRange shape.now) }
 {
     let words = words(alloc, bytes)?;
     match line(alloc, shape, &words)? {
@@ -132,7 +132,7 @@ fn keep(
     ensures value { Gives (λ _. found.new.items) result (said_of shape.now n bytes.now >>> λ said. Ok (found.old.items ++ said)) }
     ensures few { length found.new.items ≤ length found.old.items + 1 }
     ensures sound { OnOk result (n ≤ 65536) }
-    ensures ranges { All (IsInRange shape.now) found.old.items → OnOk result (All (IsInRange shape.now) found.new.items) }
+    ensures ranges { All (IsLineInRange shape.now) found.old.items → OnOk result (All (IsLineInRange shape.now) found.new.items) }
 {
     if !is_sound(n, bytes) {
         return Err(Refusal::BadScript(n));
@@ -151,7 +151,7 @@ fn rest(alloc: Global, shape: &Shape, start: u64, lines: &[&[u8]]) -> Result<Vec
     requires { start ≤ 65537 }
     ensures value { Gives (λ v. v.items) result (rest_of shape.now start (map (λ w. w.now) lines.now)) }
     ensures few { IfOk result (λ v. length v.items + start ≤ 65537) }
-    ensures ranges { IfOk result (λ v. All (IsInRange shape.now) v.items) }
+    ensures ranges { IfOk result (λ v. All (IsLineInRange shape.now) v.items) }
 {
     let mut found = Vec::new(alloc);
     let mut n = start;
@@ -168,7 +168,7 @@ fn after_board(alloc: Global, n: u64, bytes: &[u8], others: &[&[u8]]) -> Result<
     requires high { n ≤ 65536 }
     ensures value { Gives view result (from_board n bytes.now (map (λ w. w.now) others.now)) }
     ensures few { IfOk result (λ script. length script.lines.items ≤ 65535) }
-    ensures ranges { IfOk result (λ script. All (IsInRange script.shape) script.lines.items) }
+    ensures ranges { IfOk result (λ script. All (IsLineInRange script.shape) script.lines.items) }
 {
     let shape = board_at(alloc, n, bytes)?;
     let lines = rest(alloc, &shape, n + 1, others)?;
@@ -180,7 +180,7 @@ fn after_board(alloc: Global, n: u64, bytes: &[u8], others: &[&[u8]]) -> Result<
 fn checked(alloc: Global, lines: &[&[u8]]) -> Result<Script, Refusal>
     ensures value { Gives view result (lines_from 1 (map (λ w. w.now) lines.now)) }
     ensures few { IfOk result (λ script. length script.lines.items ≤ 65535) }
-    ensures ranges { IfOk result (λ script. All (IsInRange script.shape) script.lines.items) }
+    ensures ranges { IfOk result (λ script. All (IsLineInRange script.shape) script.lines.items) }
 {
     let mut n = 1;
     for (i, bytes) in lines.iter().enumerate() {
@@ -203,7 +203,7 @@ fn checked(alloc: Global, lines: &[&[u8]]) -> Result<Script, Refusal>
 pub fn parse_script(alloc: Global, script: &[u8]) -> Result<Script, Refusal>
     ensures value { Gives view result (script_of script.now) }
     ensures few { IfOk result (λ script. length script.lines.items ≤ 65535) }
-    ensures ranges { IfOk result (λ script. All (IsInRange script.shape) script.lines.items) }
+    ensures ranges { IfOk result (λ script. All (IsLineInRange script.shape) script.lines.items) }
 {
     let lines = first_lines(alloc, script)?;
     checked(alloc, &lines)
