@@ -8,7 +8,7 @@ use Rattle.disk.specs.Facts.{Content, Lent, Torn, Apart, IsFresh, nothing, secto
 use Rattle.simdisk.specs.declared.patch.Patch.{Patch}
 use Rattle.simdisk.specs.Record.{Piece, Record, put, newest, synced, range, ranges, more_written, more_synced, lent_piece, new_record, replay, filled, sim_facts, Untouched, AgreesOutside, AreWithin}
 use Rattle.simdisk.specs.Views.{piece, pieces}
-use Rattle.simdisk.specs.Loans.{Noted, IsLast}
+use Rattle.simdisk.specs.Loans.{Noted, IsLatest}
 use Rattle.simdisk.specs.Choices.{left_by}
 use Rattle.simdisk.specs.declared.choice.Choice.{Choice}
 use Rattle.simdisk.specs.declared.choice.Choice.TheVariants.{Byte, Old, New}
@@ -29,7 +29,7 @@ newest_synced l r r' now more is within =
     ap (λ (q : Record). replay q.written (synced r')) more ∙ ap (λ (c : Content). put (lent_piece l now) c) is ∙ put_same l.first (l.lanes * l.each) now within
 
 -- a range more, which leaves the one at that place alone
-pub last_push : (rs : List (ℕ × ℕ)) (x r : ℕ × ℕ) (i : ℕ) → (x.0 + x.1 ≤ r.0) ⊎ (r.0 + r.1 ≤ x.0) → IsLast rs i r → IsLast (rs ++ x ∷ []) i r
+pub last_push : (rs : List (ℕ × ℕ)) (x r : ℕ × ℕ) (i : ℕ) → (x.0 + x.1 ≤ r.0) ⊎ (r.0 + r.1 ≤ x.0) → IsLatest rs i r → IsLatest (rs ++ x ∷ []) i r
 last_push rs x r i out last = record {
   noted = (omega (arith, last.noted.0, length-append rs (x ∷ [])), get_or_append_left rs (x ∷ []) (0, 0) i last.noted.0 ∙ last.noted.1);
   apart = λ j more lt. elim (cases_lt j (length rs)) [
@@ -38,13 +38,13 @@ last_push rs x r i out last = record {
   ];
 }
 
-pub last_last : (rs : List (ℕ × ℕ)) (r : ℕ × ℕ) (i : ℕ) → length rs ≡ i → IsLast (rs ++ r ∷ []) i r
+pub last_last : (rs : List (ℕ × ℕ)) (r : ℕ × ℕ) (i : ℕ) → length rs ≡ i → IsLatest (rs ++ r ∷ []) i r
 last_last rs r i is = record {
   noted = (omega (arith, is, length-append rs (r ∷ [])), get_or_push rs r (0, 0) i is);
   apart = λ j more lt. absurd (omega (arith, is, more, lt, length-append rs (r ∷ [])));
 }
 
-pub last_alone : (x r : ℕ × ℕ) → x ≡ r → IsLast (x ∷ []) 0 r
+pub last_alone : (x r : ℕ × ℕ) → x ≡ r → IsLatest (x ∷ []) 0 r
 last_alone x r is = record { noted = (omega arith, is); apart = λ j more lt. absurd (omega (arith, more, lt)) }
 
 -- what may be written while sectors are lent

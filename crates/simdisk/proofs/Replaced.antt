@@ -4,7 +4,7 @@ use Rattle.std.proofs.lemmas.Bool.{cases_lt}
 use Rattle.std.proofs.lemmas.List.{places, map-set, set-get_or, length-map, length-take-le, ext_get_or}
 use Rattle.disk.specs.Facts.{Content, Torn, sector}
 use Rattle.simdisk.specs.Record.{Piece, put, replay, settled, range, ranges, Untouched, AreWithin, range_at}
-use Rattle.simdisk.specs.Loans.{IsLast}
+use Rattle.simdisk.specs.Loans.{IsLatest}
 use Rattle.simdisk.specs.declared.patch.Patch.{Patch}
 use Rattle.simdisk.specs.Views.{piece, pieces}
 use Rattle.simdisk.proofs.Walks.{range_read}
@@ -68,7 +68,7 @@ replaced_outside (p ∷ ps) (suc i) new c k lt fits is out =
     replaced_outside ps i new (put p c) k (omega arith) (subst (λ (n : ℕ). AreWithin n (ranges ps)) (sym (length-put p.0 p.1 c (fits_here (length c) p ps fits))) (fits_rest (length c) p ps fits)) is out
 
 -- and within it, where no later one touches it, its bytes stand
-pub replaced_inside : (ps : List Piece) (i : ℕ) (new : Piece) (c : Content) (k : ℕ) → AreWithin (length c) (ranges ps) → IsLast (ranges ps) i (range new)
+pub replaced_inside : (ps : List Piece) (i : ℕ) (new : Piece) (c : Content) (k : ℕ) → AreWithin (length c) (ranges ps) → IsLatest (ranges ps) i (range new)
     → new.0 ≤ k → k < new.0 + length new.1 → sector (replay (set ps i new) c) k ≡ sector new.1 (k - new.0)
 replaced_inside [] i new c k fits last le lt = absurd (omega (arith, last.noted.0))
 replaced_inside (p ∷ ps) zero new c k fits last le lt =
@@ -85,13 +85,13 @@ replaced_inside (p ∷ ps) (suc i) new c k fits last le lt =
     (record { noted = (omega (arith, last.noted.0), last.noted.1); apart = λ j more less. last.apart (suc j) (omega (arith, more)) (omega (arith, less)) }) le lt
 
 -- the last piece of its range, with what stands there in a content that is torn there alone: then that content is what all give
-pub replaced_torn : (ps : List Piece) (i first n : ℕ) (c now : Content) → AreWithin (length c) (ranges ps) → IsLast (ranges ps) i (first, n) → Torn first n (replay ps c) now
+pub replaced_torn : (ps : List Piece) (i first n : ℕ) (c now : Content) → AreWithin (length c) (ranges ps) → IsLatest (ranges ps) i (first, n) → Torn first n (replay ps c) now
     → replay (set ps i (first, take n (drop first now))) c ≡ now
 replaced_torn ps i first n c now fits last torn =
     ext_get_or [] (replay (set ps i new) c) now (length_replay (set ps i new) c still ∙ sym long) (λ k lt. elim (cases_lt k first) [
       | inl low ↦ replaced_outside ps i new c k less fits is (inl low) ∙ sym (torn.before k low)
       | inr le ↦ elim (cases_lt k (first + n)) [
-        | inl lt ↦ replaced_inside ps i new c k fits (subst (λ (r : ℕ × ℕ). IsLast (ranges ps) i r) (ap (λ (x : ℕ). (first, x)) (sym size)) last) le (rw size lt) ∙ middle k le lt
+        | inl lt ↦ replaced_inside ps i new c k fits (subst (λ (r : ℕ × ℕ). IsLatest (ranges ps) i r) (ap (λ (x : ℕ). (first, x)) (sym size)) last) le (rw size lt) ∙ middle k le lt
         | inr high ↦ replaced_outside ps i new c k less fits is (inr (rw size high)) ∙ sym (torn.after k high)
       ]
     ])
@@ -132,7 +132,7 @@ range_settled now x new is within = ap range is ∙ ap (λ (n : ℕ). (x.first, 
 
 -- the patch at that place, as it stands in that content
 pub newest_retaken : (patches : List Patch) (i : ℕ) (x new : Patch) (first n : ℕ) (s now : Content) → i < length patches → x ≡ get_or patches i x → AreWithin (length s) (ranges (pieces patches))
-    → IsLast (ranges (pieces patches)) i (first, n) → piece new ≡ settled now (piece x) → Torn first n (replay (pieces patches) s) now → replay (pieces (set patches i new)) s ≡ now
+    → IsLatest (ranges (pieces patches)) i (first, n) → piece new ≡ settled now (piece x) → Torn first n (replay (pieces patches) s) now → replay (pieces (set patches i new)) s ≡ now
 newest_retaken patches i x new first n s now lt is fits last changed torn = ap (λ (ps : List Piece). replay ps s) set_is ∙ replaced_torn (pieces patches) i first n s now fits last torn
   where
     at : range (piece x) ≡ (first, n)

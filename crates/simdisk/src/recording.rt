@@ -1,7 +1,7 @@
 //! How the record of writes and syncs grows.
 ghost use Rattle.std.specs.Prelude.{◌≡◌, ◌≤◌, ◌<◌, ◌+◌, ◌*◌, ℕ, [], ◌∷◌, length, map, true, OnOk, OnErr, IfOk};
 ghost use Rattle.disk.specs.Facts.{Handed, Torn};
-ghost use Rattle.simdisk.specs.Loans.{IsLast};
+ghost use Rattle.simdisk.specs.Loans.{IsLatest};
 ghost use Rattle.simdisk.specs.Record.{new_record, more_written, more_synced, lent_piece, newest, synced, ranges, AgreesOutside, AreWithin};
 ghost use Rattle.simdisk.specs.Choices.{left_by};
 ghost use Rattle.simdisk.specs.Views.{pieces};
@@ -114,7 +114,7 @@ impl History {
     // came back.
     pub(crate) fn take_newest(&mut self, loan: Loan, last: &[Sector])
         requires torn { Torn loan.first (loan.lanes * loan.each) (newest (record_of self.old)) last.now }
-        requires noted { 0 < loan.lanes → IsLast (ranges (pieces self.old.written.items)) loan.patch (loan.first, loan.lanes * loan.each) }
+        requires noted { 0 < loan.lanes → IsLatest (ranges (pieces self.old.written.items)) loan.patch (loan.first, loan.lanes * loan.each) }
         ensures ranges { ranges (pieces self.new.written.items) ≡ ranges (pieces self.old.written.items) }
         ensures past { (record_of self.new).past ≡ (record_of self.old).past }
         ensures began { (record_of self.new).began ≡ (record_of self.old).began }

@@ -4,7 +4,7 @@ ghost use Rattle.simdisk.specs.Record.{ranges, synced, newest, AgreesOutside};
 ghost use Rattle.simdisk.specs.History.{record_of};
 ghost use Rattle.simdisk.specs.Latest.{latest_of};
 ghost use Rattle.simdisk.specs.Views.{pieces};
-ghost use Rattle.simdisk.specs.Loans.{IsLast};
+ghost use Rattle.simdisk.specs.Loans.{IsLatest};
 
 use crate::faults::Faults;
 use crate::history::History;
@@ -31,5 +31,5 @@ pub struct SimDisk {
     ghost few: { failures < 2 ^ 64 },
     ghost few_calls: { calls < 2 ^ 64 },
     ghost within: { loan.first + loan.lanes * loan.each ≤ length content.items },
-    ghost noted: { 0 < loan.lanes → IsLast (ranges (pieces history.written.items)) loan.patch (loan.first, loan.lanes * loan.each) },
+    ghost noted: { 0 < loan.lanes → IsLatest (ranges (pieces history.written.items)) loan.patch (loan.first, loan.lanes * loan.each) },
 }
