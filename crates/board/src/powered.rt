@@ -62,7 +62,7 @@ impl<D: Disk + Drop> Board<D> {
     ghost use Rattle.store.specs.Views.{Answered, StaysOpen};
     ghost use Rattle.store.specs.Stores.{disk_of, fault_state_of, arms_of, size_of_store, life_of, found_state, now_state, doubt_of, failures_at_open, view_of, Stands, Doubts};
     ghost use Rattle.machine.specs.Machine.{hart_at};
-    ghost use Rattle.machine.specs.Durables.{IsStarted};
+    ghost use Rattle.machine.specs.Durables.{IsHartStarted};
     ghost use Rattle.turns.specs.declared.words.Turned.TheVariants as did;
     ghost use Rattle.machine.specs.Held.{shown_by, IsHeld};
     ghost use Rattle.turns.specs.Turns.{is_pending};
@@ -152,7 +152,7 @@ impl<D: Disk + Drop> Board<D> {
     /// What comes of what a hart did: where it stands at a durable call, that call is made with the store.
     fn settle<C: Crew>(&mut self, alloc: Global, crew: &C, hart: HartId, turned: Turned) -> Word
         requires hart { hart < length (machine_of self.old).harts }
-        requires asks { turned ≡ did.Durable → IsStarted hart (machine_of self.old) }
+        requires asks { turned ≡ did.Durable → IsHartStarted hart (machine_of self.old) }
         ensures comes { Comes turned hart (machine_of self.old) (machine_of self.new) (store_of self.old) (store_of self.new) result }
         ensures harts { length (machine_of self.new).harts ≡ length (machine_of self.old).harts }
     {

@@ -23,7 +23,7 @@ use Rattle.machine.specs.declared.parts.Called.{Called}
 use Rattle.machine.specs.declared.parts.Called.TheVariants.{NotStarted, Made}
 use Rattle.machine.specs.Machine.{Machine, hart_at}
 use Rattle.machine.specs.Turns.{moment_of, with_moment, Turns, TurnsMany, MakesOneCall, calling}
-use Rattle.machine.specs.Durables.{IsStarted}
+use Rattle.machine.specs.Durables.{IsHartStarted}
 use Rattle.machine.proofs.Determined.{is_decided}
 
 -- a step leaves the hart's number
@@ -76,12 +76,12 @@ stood number size a b started is p =
 stood number size a b suspended is p = absurd (stays_asleep size (is_pending a.hart.id a.table.pairs) a.hart.id a.table a b p)
 
 -- a hart that stands so is read so
-at_once : (h : ℕ) (old new : Machine) (a : Moment) → h < length old.harts → new ≡ with_moment h old a → listed a.table.states a.hart.id ≡ started → IsStarted h new
+at_once : (h : ℕ) (old new : Machine) (a : Moment) → h < length old.harts → new ≡ with_moment h old a → listed a.table.states a.hart.id ≡ started → IsHartStarted h new
 at_once h old new a lt e is =
     let read : hart_at (with_moment h old a) h ≡ a.hart = get_or-set_same old.harts h a.hart (never_started h) lt in
-    subst (λ (m : Machine). IsStarted h m) (sym e) (subst (λ (s : State). listed a.table.states s.id ≡ started) (sym read) is)
+    subst (λ (m : Machine). IsHartStarted h m) (sym e) (subst (λ (s : State). listed a.table.states s.id ≡ started) (sym read) is)
 
-pub turn_asks : IsOneNumber → (h : ℕ) (old new : Machine) (word : Turned) → h < length old.harts → Turns h old new word → word ≡ Durable → IsStarted h new
+pub turn_asks : IsOneNumber → (h : ℕ) (old new : Machine) (word : Turned) → h < length old.harts → Turns h old new word → word ≡ Durable → IsHartStarted h new
 turn_asks number h old new word lt p is =
     let a = moment_of h old in
     let did : TurnOf old.size a p.0 Durable = subst (λ (w : Turned). TurnOf old.size a p.0 w) is p.1 in
@@ -91,17 +91,17 @@ turn_asks number h old new word lt p is =
 as_many : (h : ℕ) (old mid : Machine) (word : Turned) → Turns h old mid word → length mid.harts ≡ length old.harts
 as_many h old mid word p = ap (λ (m : Machine). length m.harts) p.2 ∙ length-set old.harts h p.0.hart
 
-pub row_asks : IsOneNumber → (h n k : ℕ) (old new : Machine) (word : Turned) → h < length old.harts → TurnsMany h n old new k word → word ≡ Durable → IsStarted h new
+pub row_asks : IsOneNumber → (h n k : ℕ) (old new : Machine) (word : Turned) → h < length old.harts → TurnsMany h n old new k word → word ≡ Durable → IsHartStarted h new
 row_asks number h zero k old new word lt p is = absurd p
 row_asks number h (suc n) k old new word lt p is =
     let has : h < length p.0.harts = subst (λ (j : ℕ). h < j) (sym (as_many h old p.0 p.1 p.2)) lt in
     elim p.3 [
-      | inl x ↦ subst (λ (m : Machine). IsStarted h m) (sym x.1) (turn_asks number h old p.0 p.1 lt p.2 (sym x.3 ∙ is))
+      | inl x ↦ subst (λ (m : Machine). IsHartStarted h m) (sym x.1) (turn_asks number h old p.0 p.1 lt p.2 (sym x.3 ∙ is))
       | inr x ↦ row_asks number h n x.1 p.0 new word has x.3 is
     ]
 
 -- ---- a call
-pub call_asks : (h eid fid a0 a1 a2 : ℕ) (old new : Machine) (called : Called) → h < length old.harts → MakesOneCall h eid fid a0 a1 a2 old new called → called ≡ Made Durable → IsStarted h new
+pub call_asks : (h eid fid a0 a1 a2 : ℕ) (old new : Machine) (called : Called) → h < length old.harts → MakesOneCall h eid fid a0 a1 a2 old new called → called ≡ Made Durable → IsHartStarted h new
 call_asks h eid fid a0 a1 a2 old new called lt p is =
     let a = moment_of h old in
     let u = calling a.hart eid fid a0 a1 a2 in

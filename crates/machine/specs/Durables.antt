@@ -14,8 +14,8 @@ use Rattle.machine.specs.Machine.{Machine, hart_at}
 use Rattle.machine.specs.Turns.{DoneBy}
 
 -- hart h is STARTED
-abbrev pub IsStarted : ℕ → Machine → Type 0
-IsStarted h m = listed m.table.states (hart_at m h).id ≡ started
+abbrev pub IsHartStarted : ℕ → Machine → Type 0
+IsHartStarted h m = listed m.table.states (hart_at m h).id ≡ started
 
 module _ {D L : Type 0} {g : Ghosts D L} {l : Lanes L} where
   -- the durable call at which its hart stands, by the table of answers: the tables and the memory stay

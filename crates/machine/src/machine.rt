@@ -13,7 +13,7 @@ ghost use Rattle.susp.specs.Wakes.{IsUnloaded, IsConsumed};
 ghost use Rattle.machine.specs.Machine.{hart_at, stopped_harts, resting, begun, woken};
 ghost use Rattle.machine.specs.Turns.{Turns, Rows, TurnsMany, MakesOneCall};
 ghost use Rattle.machine.specs.Held.{IsHeld, shown_by};
-ghost use Rattle.machine.specs.Durables.{IsStarted, MakesCall};
+ghost use Rattle.machine.specs.Durables.{IsHartStarted, MakesCall};
 
 use crate::calls::{Registers, make_call};
 use crate::holds::make_held;
@@ -167,7 +167,7 @@ impl Machine {
     pub fn turn(&mut self, id: HartId) -> Turned
         requires { id < length self.old.harts }
         ensures turns { Turns id self.old self.new result }
-        ensures asks { result ≡ Durable → IsStarted id self.new }
+        ensures asks { result ≡ Durable → IsHartStarted id self.new }
         ensures harts { length self.new.harts ≡ length self.old.harts }
     {
         let seats = self.seats.take().unwrap();
@@ -215,7 +215,7 @@ impl Machine {
         requires hart { id < length self.old.harts }
         requires some { 1 ≤ count }
         ensures turns { TurnsMany id count self.old self.new result.0 result.1 }
-        ensures asks { result.1 ≡ Durable → IsStarted id self.new }
+        ensures asks { result.1 ≡ Durable → IsHartStarted id self.new }
         ensures harts { length self.new.harts ≡ length self.old.harts }
     {
         hart::one_number();
@@ -235,7 +235,7 @@ impl Machine {
     pub fn call(&mut self, id: HartId, eid: u64, fid: u64, a0: u64, a1: u64, a2: u64) -> Called
         requires { id < length self.old.harts }
         ensures calls { MakesOneCall id eid fid a0 a1 a2 self.old self.new result }
-        ensures asks { result ≡ Made Durable → IsStarted id self.new }
+        ensures asks { result ≡ Made Durable → IsHartStarted id self.new }
         ensures harts { length self.new.harts ≡ length self.old.harts }
     {
         let call = Registers {
@@ -269,7 +269,7 @@ impl Machine {
         crew: &C,
     ) -> Held
         requires hart { id < length self.old.harts }
-        requires started { IsStarted id self.old }
+        requires started { IsHartStarted id self.old }
         ensures makes { MakesCall id self.old self.new store.old store.new result }
         ensures harts { length self.new.harts ≡ length self.old.harts }
     {

@@ -1,7 +1,7 @@
 use Rattle.std.proofs.Common.{ℕ, sym, ◌∙◌, subst, ◌<◌, inl, inr}
 use Rattle.std.specs.Prelude.{length, slice_set}
 use Rattle.machine.specs.Machine.{Machine}
-use Rattle.machine.specs.Durables.{IsStarted, HeldOf, MakesCall}
+use Rattle.machine.specs.Durables.{IsHartStarted, HeldOf, MakesCall}
 use Rattle.machine.specs.Held.{shown_by}
 use Rattle.machine.proofs.Holding.{read_at, made, held_after}
 use Rattle.machine.proofs.Commands.{started_acts, held_action}
@@ -13,7 +13,7 @@ make_held-seats-requires-clause-acts g c κs within =
     let lt : c.args.id < length i.harts.items = subst (λ (m : Machine). c.args.id < length m.harts) (sym c.self.view_is) c.requires.hart in
     let read = read_at i.harts.items c.index.result c.args.id c.index_mut.result.now c.index.ensures.value lt c.index_mut.ensures.value in
     started_acts i.shape i.harts.items i.tables i.seats c.unwrap-seats.result c.args.id c.index_mut.result.now c.self.invariant (sym c.take.ensures.value ∙ c.unwrap-seats.ensures) lt read
-    (subst (λ (m : Machine). IsStarted c.args.id m) (sym c.self.view_is) c.requires.started)
+    (subst (λ (m : Machine). IsHartStarted c.args.id m) (sym c.self.view_is) c.requires.started)
 
 pub invariant_of-self : goal.invariant_of-self
 invariant_of-self g c =
