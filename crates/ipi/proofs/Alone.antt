@@ -12,12 +12,12 @@ use Rattle.ipi.specs.declared.view.Action.{Action}
 use Rattle.ipi.specs.declared.view.Action.TheVariants.{Raised, Took, Looked}
 use Rattle.ipi.specs.declared.view.PendingView.{PendingView}
 use Rattle.ipi.specs.declared.view.PendingSeatView.{PendingSeatView}
-use Rattle.ipi.specs.Ledger.{numbers, pending_seat_view, raise_of, take_of, raised, taken, is_of, seats, noted, HasNoted, IsWhole, InRange}
+use Rattle.ipi.specs.Ledger.{numbers, pending_seat_view, raise_of, take_of, raised, taken, is_of, seats, noted, HasNoted, HasEveryHart, InRange}
 use Rattle.ipi.specs.Pairs.{IsPending, SameHarts, Shows, with_pair, without_target}
 use Rattle.ipi.specs.Senders.{HasSender}
 use Rattle.ipi.proofs.Keeps.{weigh_noted, seats_noted}
 
-module _ (harts by : ℕ) (c : PendingSeatView) (whole : IsWhole harts c) (lt : by < harts) where
+module _ (harts by : ℕ) (c : PendingSeatView) (whole : HasEveryHart harts c) (lt : by < harts) where
   sits : 0 < seats by c
   sits = let w = whole by lt in omega arith
 
@@ -45,7 +45,7 @@ same_harts by x c c' is = record {
   each = λ h. ap (total (is_of h)) is.1 ∙ seats_noted h by is.0 x c.pending_views;
 }
 
-whole_still : (harts : ℕ) (c c' : PendingSeatView) → SameHarts c c' → IsWhole harts c → IsWhole harts c'
+whole_still : (harts : ℕ) (c c' : PendingSeatView) → SameHarts c c' → HasEveryHart harts c → HasEveryHart harts c'
 whole_still harts c c' same whole h lt = same.each h ∙ whole h lt
 
 -- ---- tests
@@ -63,7 +63,7 @@ is_not false true e = refl
 is_not false false e = e.1 (λ f. true≢false (sym f))
 
 -- ---- raise
-module _ (harts by target found : ℕ) (c c' : PendingSeatView) (whole : IsWhole harts c) (lt : by < harts) (is : HasNoted by (Raised target found) c.pending_views c'.pending_views) (tells : raised by target c ≡ taken by target c + bit_at found by) where
+module _ (harts by target found : ℕ) (c c' : PendingSeatView) (whole : HasEveryHart harts c) (lt : by < harts) (is : HasNoted by (Raised target found) c.pending_views c'.pending_views) (tells : raised by target c ≡ taken by target c + bit_at found by) where
   newly : (bit_at found by ≡ 0) ↔ (IsPending c by target → ⊥)
   newly = let bit = bit_at-lt found by in (
     (λ z p. omega arith),
@@ -120,7 +120,7 @@ module _ (harts by target found : ℕ) (c c' : PendingSeatView) (whole : IsWhole
           ((λ p. r.1 (inl (old.0 (sym it ∙ p)))), (λ q. it ∙ old.1 (⊎_elim (λ (p : IsPending c s t). p) (λ (x : (s ≡ by) × (t ≡ target)). absurd (n x.0)) (r.0 q)))))
 
 -- ---- take
-module _ (harts by found : ℕ) (c c' : PendingSeatView) (whole : IsWhole harts c) (lt : by < harts) (is : HasNoted by (Took found) c.pending_views c'.pending_views) (tells : (sender : ℕ) → raised sender by c ≡ taken sender by c + bit_at found sender) where
+module _ (harts by found : ℕ) (c c' : PendingSeatView) (whole : HasEveryHart harts c) (lt : by < harts) (is : HasNoted by (Took found) c.pending_views c'.pending_views) (tells : (sender : ℕ) → raised sender by c ≡ taken sender by c + bit_at found sender) where
   found_pairs : (s : ℕ) → HasSender s found ↔ IsPending c s by
   found_pairs s = let e = tells s in let bit = bit_at-lt found s in ((λ one. omega arith), (λ p. omega arith))
 
@@ -163,7 +163,7 @@ some_sender found small ne = let b = bit_at-trailing_zeros w64 found (omega arit
 pub no_sender : (found s : ℕ) → bit_at found s ≡ 1 → found ≢ 0
 no_sender found s one z = let e = ap (λ (n : ℕ). bit_at n s) z in let n = bit_at-zero s in omega arith
 
-module _ (harts by found : ℕ) (c c' : PendingSeatView) (whole : IsWhole harts c) (lt : by < harts) (is : HasNoted by (Looked found) c.pending_views c'.pending_views) (tells : (sender : ℕ) → raised sender by c ≡ taken sender by c + bit_at found sender) where
+module _ (harts by found : ℕ) (c c' : PendingSeatView) (whole : HasEveryHart harts c) (lt : by < harts) (is : HasNoted by (Looked found) c.pending_views c'.pending_views) (tells : (sender : ℕ) → raised sender by c ≡ taken sender by c + bit_at found sender) where
   looked_pairs : (s t : ℕ) → IsPending c' s t ↔ IsPending c s t
   looked_pairs s t = subst (λ (d : PendingSeatView). IsPending d s t ↔ IsPending c s t) (sym (ap pending_seat_view is.1))
       (let p = raised_then harts by c whole lt is.0 (Looked found) s t in

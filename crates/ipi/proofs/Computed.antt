@@ -10,7 +10,7 @@ use Rattle.tallies.specs.Seats.{numbers_from}
 use Rattle.tallies.proofs.Seatings.{map_all, at_all, total_beyond, total_once}
 use Rattle.ipi.specs.declared.view.PendingView.{PendingView}
 use Rattle.ipi.specs.declared.view.PendingSeatView.{PendingSeatView}
-use Rattle.ipi.specs.Ledger.{numbers, is_of, raised_by, raised, taken, IsWhole}
+use Rattle.ipi.specs.Ledger.{numbers, is_of, raised_by, raised, taken, HasEveryHart}
 use Rattle.ipi.specs.Pairs.{IsPending, Shows, with_pair, without_target}
 use Rattle.ipi.specs.Seen.{pair_in, pairs_in, row_of, pair_at, AreRows, ArePairs, pairs_with, pairs_without}
 
@@ -34,7 +34,7 @@ one_set harts c pairs shown s t =
     let told = lt_told (taken s t c) (raised s t c) in
     same_bool (pair_in c s t) (pairs s t) (λ p. (shown.1 s t).1 (told.0 p)) (λ p. told.1 ((shown.1 s t).0 p))
 
-pub shows_seen : (harts : ℕ) (c : PendingSeatView) → IsWhole harts c → Shows harts c (pair_in c)
+pub shows_seen : (harts : ℕ) (c : PendingSeatView) → HasEveryHart harts c → Shows harts c (pair_in c)
 shows_seen harts c whole = (whole, (λ s t. lt_told (taken s t c) (raised s t c)))
 
 pub in_range : (harts : ℕ) (c : PendingSeatView) → numbers c.pending_views ≡ numbers_from 0 harts → (sender target : ℕ) → harts ≤ sender → pair_in c sender target ≡ false
@@ -115,5 +115,5 @@ one_less harts c target pairs rows lt shown =
     )
 
 -- a seat of every hart, in the order of their numbers, has each once
-pub whole_of : (harts : ℕ) (c : PendingSeatView) → numbers c.pending_views ≡ numbers_from 0 harts → IsWhole harts c
+pub whole_of : (harts : ℕ) (c : PendingSeatView) → numbers c.pending_views ≡ numbers_from 0 harts → HasEveryHart harts c
 whole_of harts c all h lt = total_once (λ (d : PendingView). d.hart) (is_of h) h (λ d e. rw (eq-eqb d.hart h e) refl) (λ d ne. rw (ne_eqb d.hart h ne) refl) c.pending_views harts all lt

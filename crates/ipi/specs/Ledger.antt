@@ -132,12 +132,12 @@ abbrev pub opening_pending_view : ℕ → PendingSeatView
 opening_pending_view harts = pending_seat_view (fresh_from 0 harts)
 
 -- the seat has every hart
-abbrev pub IsWhole : ℕ → PendingSeatView → Type 0
-IsWhole harts c = (h : ℕ) → h < harts → seats h c ≡ 1
+abbrev pub HasEveryHart : ℕ → PendingSeatView → Type 0
+HasEveryHart harts c = (h : ℕ) → h < harts → seats h c ≡ 1
 
 -- The pairs of a seat of all harts are those of the word found
 abbrev pub Tells : ℕ → PendingSeatView → ℕ → ℕ → Type 0
-Tells harts c target found = IsWhole harts c → (sender : ℕ) → raised sender target c ≡ taken sender target c + bit_at found sender
+Tells harts c target found = HasEveryHart harts c → (sender : ℕ) → raised sender target c ≡ taken sender target c + bit_at found sender
 
 -- what the hart did
 abbrev pub actions_of : ℕ → List PendingView → List Action

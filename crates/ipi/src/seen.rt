@@ -2,7 +2,7 @@
 
 ghost use Rattle.std.specs.Prelude.{◌≡◌, ◌<◌, ◌≤◌, ℕ, Bool, false, List};
 ghost use Rattle.tallies.specs.Seats.{numbers_from};
-ghost use Rattle.ipi.specs.Ledger.{numbers, IsWhole};
+ghost use Rattle.ipi.specs.Ledger.{numbers, HasEveryHart};
 ghost use Rattle.ipi.specs.Pairs.{Shows, with_pair, without_target};
 ghost use Rattle.ipi.specs.Seen.{pair_in, pairs_in, pair_at, AreRows, ArePairs, pairs_with, pairs_without};
 ghost use Rattle.ipi.specs.declared.view.PendingSeatView.{PendingSeatView};
@@ -11,7 +11,7 @@ ghost use Rattle.ipi.specs.declared.view.PendingSeatView.{PendingSeatView};
 /// as a list. A pair with a sender that the board lacks is never pending.
 pub fn one_set()
     ensures one { (harts : ℕ) (c : PendingSeatView) (pairs : ℕ → ℕ → Bool) → Shows harts c pairs → (sender target : ℕ) → pair_in c sender target ≡ pairs sender target }
-    ensures seen { (harts : ℕ) (c : PendingSeatView) → IsWhole harts c → Shows harts c (pair_in c) }
+    ensures seen { (harts : ℕ) (c : PendingSeatView) → HasEveryHart harts c → Shows harts c (pair_in c) }
     ensures range { (harts : ℕ) (c : PendingSeatView) → numbers c.pending_views ≡ numbers_from 0 harts → (sender target : ℕ) → harts ≤ sender → pair_in c sender target ≡ false }
     ensures list { (harts : ℕ) (c : PendingSeatView) (pairs : List (List Bool)) → ArePairs harts c pairs → pairs_in harts c ≡ pairs }
     ensures read { (harts : ℕ) (c : PendingSeatView) (sender target : ℕ) → sender < harts → target < harts → pair_at (pairs_in harts c) sender target ≡ pair_in c sender target }
