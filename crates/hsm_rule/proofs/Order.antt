@@ -13,7 +13,7 @@ use Rattle.hsm_words.specs.Words.{hart_view, hart_seat_view, word_bits}
 use Rattle.hsm_words.specs.declared.view.Action.{Action}
 use Rattle.hsm_words.specs.declared.view.HartView.{HartView}
 use Rattle.hsm_words.specs.declared.view.HartSeatView.{HartSeatView}
-use Rattle.hsm_rule.specs.Rule.{is_of, seats, Kept, noted, word_of, found_by, left_by, reading, first_word}
+use Rattle.hsm_rule.specs.Rule.{is_of, seats, HartInvariant, noted, word_of, found_by, left_by, reading, first_word}
 use Rattle.hsm_rule.specs.Truth.{ChangesAreNoted, EarlierStepsStand, StepsAreTrue}
 use Rattle.hsm_rule.proofs.Next.{find, under as under_board}
 
@@ -35,7 +35,7 @@ pub record Holder (k : ℕ) (views : List HartSeatView) (v : HartView) : Type 0 
   pub there : get_elem? c.harts i ≡ some v
   pub own : v.hart ≡ k
 
-module _ (harts boot : ℕ) (s s' : State (Unit {0}) HartSeatView) (kept : Kept harts boot s) (kept' : Kept harts boot s') where
+module _ (harts boot : ℕ) (s s' : State (Unit {0}) HartSeatView) (kept : HartInvariant harts boot s) (kept' : HartInvariant harts boot s') where
   holder : (k : ℕ) → k < harts → (v : HartView) × Holder k s.views v
   holder k lt =
       let one = kept.sound.once k lt in
@@ -90,7 +90,7 @@ changes_noted harts boot s s' kept kept' alike t lt =
     kept'.left t lt ∙ (ap (word_after reading first t) log ∙ sym (kept.left t lt))
 
 -- ---- earlier steps
-module _ (harts boot : ℕ) (s : State (Unit {0}) HartSeatView) (kept : Kept harts boot s) where
+module _ (harts boot : ℕ) (s : State (Unit {0}) HartSeatView) (kept : HartInvariant harts boot s) where
   among : (k : ℕ) (v : HartView) → Holder k s.views v → IsAmong (λ (c : HartSeatView). c.harts) s.views v
   among k v a = record { id = a.id; c = a.c; k = a.i; seat = a.seat; there = a.there }
 

@@ -138,7 +138,7 @@ abbrev pub AreInLog : Log Action → List HartSeatView → Type 0
 AreInLog log views = (id : ℕ) (c : HartSeatView) (k : ℕ) (v : HartView) → get_elem? views id ≡ some c → get_elem? c.harts k ≡ some v → IsOfLog log v.hart v.actions v.places
 
 -- The rule: some grants fit the words and the views, and a log of all steps.
-pub record Kept (harts started : ℕ) (s : State (Unit {0}) HartSeatView) : Type 0 where
+pub record HartInvariant (harts started : ℕ) (s : State (Unit {0}) HartSeatView) : Type 0 where
   pub log : Log Action
   pub is_true : IsTrueLog reading (first_word started) harts log
   pub entered : AreInLog log s.views
