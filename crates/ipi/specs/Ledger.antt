@@ -94,7 +94,7 @@ IsInLog log d = IsOfLog log d.hart d.actions d.places
 
 -- The rule. The ledger: the raises that found a pair clear are the takes that answered it, and one more if it is pending.
 -- The log: all steps in their order, the newest first, which the pending views fix, since each pending view has the steps of its hart with their places.
-pub record Kept (harts : ℕ) (s : State (Unit {0}) PendingSeatView) : Type 0 where
+pub record PendingInvariant (harts : ℕ) (s : State (Unit {0}) PendingSeatView) : Type 0 where
   pub wide : length s.words ≡ harts
   pub ledger : (sender target : ℕ) → target < harts
       → total (raised sender target) s.views ≡ total (taken sender target) s.views + bit_at (slice_index s.words target) sender

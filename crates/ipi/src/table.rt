@@ -1,7 +1,7 @@
 //! The table, one word a hart with a bit for each sender, its rule, and the types of its seats.
 
 ghost use Rattle.std.specs.Prelude.{◌≡◌, ℕ, ◌<◌, ◌≤◌};
-ghost use Rattle.ipi.specs.Ledger.{Kept, opening_pending_view};
+ghost use Rattle.ipi.specs.Ledger.{PendingInvariant, opening_pending_view};
 
 use crate::view::PendingSeatView;
 use arrayvec::ArrayVec;
@@ -13,7 +13,7 @@ use std::marker::Brand;
 pub struct Ledger;
 
 impl TableRule<(), PendingSeatView, u32> for Ledger {
-    ghost holds = { Kept };
+    ghost holds = { PendingInvariant };
 
     ghost first = { opening_pending_view };
 }
