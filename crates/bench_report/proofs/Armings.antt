@@ -7,7 +7,7 @@ use Rattle.simdisk.specs.declared.SimDisk.{SimDisk}
 use Rattle.store.specs.Lives.{Life as StoreLife}
 use Rattle.store.specs.Stores.{life_of}
 use Rattle.bench_report.specs.Below.{SimBoard, store_in, machine_in, facts, fault_state, store_size, store_facts, store_fault_state, IsLife}
-use Rattle.bench_report.specs.Bench.{Life, Bench}
+use Rattle.bench_report.specs.Bench.{BenchLife, Bench}
 use Rattle.bench_report.specs.Steps.{armed_with}
 use Rattle.bench_report.specs.Agree.{LifeIs, BoardIs, DeviceIs, OffIs, OnIs}
 use Rattle.bench_report.proofs.Ended.{left_on}
@@ -29,7 +29,7 @@ pub armed_on : (size : Size) (b : Bench) (a : Armed) (old new : SimBoard) → On
 armed_on size b a old new was machine life board same is =
     (by b.power was.0, device size b a (store_fault_state (store_in old)) (store_fault_state (store_in new)) (store_facts (store_in old)) (store_facts (store_in new)) was.1 same is)
   where
-    by : (p : Option Life) → BoardIs size b.disk_state b.kept p old → BoardIs size b.disk_state b.kept p new
+    by : (p : Option BenchLife) → BoardIs size b.disk_state b.kept p old → BoardIs size b.disk_state b.kept p new
     by None on = absurd on
     by (Some l) on =
         let P : Size → Type 0 = λ z. LifeIs size b.disk_state b.kept l z in

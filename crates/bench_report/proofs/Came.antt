@@ -37,7 +37,7 @@ use Rattle.machine.specs.declared.parts.Word.{Word}
 use Rattle.machine.specs.declared.parts.Word.TheVariants as words
 use Rattle.board.specs.Turns as boards
 use Rattle.bench_report.specs.Below.{SimStore, IsLife, IsAs, store_size, store_fault_state, store_facts}
-use Rattle.bench_report.specs.Bench.{Life, Bench}
+use Rattle.bench_report.specs.Bench.{BenchLife, Bench}
 use Rattle.bench_report.specs.Steps.{out_of_memory, off, on_with, has_machine, acknowledged, Issued, refused, Refuses, HartCommand, Resets, Suspends, IsAlone, Sleeps, SleepsBy, MakesCall, Comes, GuestTurn, IsLastTurn, GuestTurns}
 use Rattle.bench_report.specs.Agree.{StoreIs, DeviceIs, IsOver}
 use Rattle.bench_report.proofs.Adapted.{calm as untouched}
@@ -58,7 +58,7 @@ abbrev answering : ℕ → SbiError → Machine → Machine
 answering h e m = record m { harts = slice_set m.harts h (answered (hart_at m h) (error_of (Err e)) 0) }
 
 -- a command of hart h, which the store was asked for on a board that is on
-module _ (size : Size) (b : Bench) (life : Life) (h : ℕ) (n : Machine) (old new : SimStore) (on : b.power ≡ Some life) (was : StoreIs size b.disk_state b.kept life old) (device : DeviceIs size b (store_fault_state old) (store_facts old))
+module _ (size : Size) (b : Bench) (life : BenchLife) (h : ℕ) (n : Machine) (old new : SimStore) (on : b.power ≡ Some life) (was : StoreIs size b.disk_state b.kept life old) (device : DeviceIs size b (store_fault_state old) (store_facts old))
     (t : State) (made : n ≡ record life.machine { harts = slice_set life.machine.harts h t }) where
   -- it came to that
   abbrev pub Came : (Word → Bench → Type 0) → Made → Type 0
@@ -69,7 +69,7 @@ module _ (size : Size) (b : Bench) (life : Life) (h : ℕ) (n : Machine) (old ne
 
   -- the hart was answered so, and goes on
   goes : (e : SbiError) (mid : Bench) → Running size mid life.machine new → t ≡ answered (hart_at life.machine h) (error_of (Err e)) 0
-      → (next : Life) × (mid.power ≡ Some next) × Running size (on_with (refused h e next) mid) n new
+      → (next : BenchLife) × (mid.power ≡ Some next) × Running size (on_with (refused h e next) mid) n new
   goes e mid (next, at, store, same, now) is =
       let F : State → Machine = λ s. record life.machine { harts = slice_set life.machine.harts h s } in
       (next, at, (refused h e next, refl, (follows_with size mid.disk_state mid.kept next (answering h e next.machine) (store_size new) refl store.0, store.1), made ∙ ap F is ∙ ap (answering h e) same, now))
@@ -81,10 +81,10 @@ module _ (size : Size) (b : Bench) (life : Life) (h : ℕ) (n : Machine) (old ne
       let S : SimStore → Type 0 = λ store. DeviceIs size b (store_fault_state store) (store_facts store) in
       let did = goes e b (life, on, subst Q (sym same) was, refl, subst S (sym same) device) is in
       let next : did.0 ≡ life = one did.0 did.1 in
-      let P : Life → Type 0 = λ l. Running size (on_with (refused h e l) b) n new in
+      let P : BenchLife → Type 0 = λ l. Running size (on_with (refused h e l) b) n new in
       by_held (λ word x. Refuses e h life b word x) held helds.Goes at (on_with (refused h e life) b, (refl, refl), subst P next did.2, refl)
     where
-      one : (l : Life) → b.power ≡ Some l → l ≡ life
+      one : (l : BenchLife) → b.power ≡ Some l → l ≡ life
       one l f = let g : Some l ≡ Some life = sym f ∙ on in let i : l ≡ life = cc in i
 
   -- its command was refused by the store
@@ -269,7 +269,7 @@ module _ (size : Size) (b : Bench) (life : Life) (h : ℕ) (n : Machine) (old ne
 abbrev Comes_so : Size → (Word → Bench → Type 0) → Bench → Word → Machine → SimStore → Type 0
 Comes_so size step b word n new = (x : Bench) × step word x × Stands size word x n new × (x.payloads ≡ b.payloads)
 
-module _ (size : Size) (b : Bench) (life : Life) (h : ℕ) (n : Machine) (old new : SimStore) (on : b.power ≡ Some life) (was : StoreIs size b.disk_state b.kept life old) (device : DeviceIs size b (store_fault_state old) (store_facts old)) where
+module _ (size : Size) (b : Bench) (life : BenchLife) (h : ℕ) (n : Machine) (old new : SimStore) (on : b.power ≡ Some life) (was : StoreIs size b.disk_state b.kept life old) (device : DeviceIs size b (store_fault_state old) (store_facts old)) where
   called : (held : Made) → MachineCall h life.machine n old new held → Comes_so size (λ word x. Comes Durable h life b word x) b (word_by held) n new
   called held (after, is, e) =
       let F : Machine = record life.machine { harts = slice_set life.machine.harts h after.hart } in
@@ -289,10 +289,10 @@ module _ (size : Size) (b : Bench) (life : Life) (h : ℕ) (n : Machine) (old ne
 
 -- ---- turns
 -- the board with another machine of its size
-pub has_other : (size : Size) (b : Bench) (life : Life) (m : Machine) (store : SimStore) → m.size ≡ life.machine.size → StoreIs size b.disk_state b.kept life store → StoreIs size b.disk_state b.kept (has_machine m life) store
+pub has_other : (size : Size) (b : Bench) (life : BenchLife) (m : Machine) (store : SimStore) → m.size ≡ life.machine.size → StoreIs size b.disk_state b.kept life store → StoreIs size b.disk_state b.kept (has_machine m life) store
 has_other size b life m store same is = (follows_with size b.disk_state b.kept life m (store_size store) same is.0, is.1)
 
-turn : (size : Size) (h : ℕ) (b : Bench) (life : Life) (n : Machine) (old new : SimStore) (word : Word) → b.power ≡ Some life → StoreIs size b.disk_state b.kept life old → DeviceIs size b (store_fault_state old) (store_facts old)
+turn : (size : Size) (h : ℕ) (b : Bench) (life : BenchLife) (n : Machine) (old new : SimStore) (word : Word) → b.power ≡ Some life → StoreIs size b.disk_state b.kept life old → DeviceIs size b (store_fault_state old) (store_facts old)
     → boards.Turns h life.machine n old new word → Comes_so size (λ word x. GuestTurn h life b word x) b word n new
 turn size h b life n old new word on was device (m, did, turned, came) =
     let same : m.size ≡ life.machine.size = ap (λ (k : Machine). k.size) turned.2 in

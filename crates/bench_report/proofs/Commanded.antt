@@ -17,7 +17,7 @@ use Rattle.store.specs.Opens.{CausedRefusal}
 use Rattle.store.specs.Stores.{life_of, doubt_of}
 use Rattle.store.specs.Views.{CountedRefusal}
 use Rattle.bench_report.specs.Below.{SimStore, SimBoard, store_in, machine_in, IsLife, IsAs, store_size, store_now, store_doubt, store_fault_state, store_facts}
-use Rattle.bench_report.specs.Bench.{DiskState, Blank, Unknown, Formatted, Life, Bench}
+use Rattle.bench_report.specs.Bench.{DiskState, Blank, Unknown, Formatted, BenchLife, Bench}
 use Rattle.bench_report.specs.Steps.{failed, acknowledged, in_doubt, Writes, IssuedBy, Issued}
 use Rattle.bench_report.specs.Agree.{StoreIs, BoardIs, LifeIs, DeviceIs, OnIs, IsOver}
 use Rattle.bench_report.proofs.Adapted.{Reaches, Acknowledges, Refuses, acknowledged as acknowledges, ended, refused, struck, downed, calm as untouched}
@@ -35,50 +35,50 @@ console_goes_on commands.Discard is = refl
 
 -- a board that is on, by its machine and its store
 abbrev pub Running : Size → Bench → Machine → SimStore → Type 0
-Running size b m store = (life : Life) × (b.power ≡ Some life) × StoreIs size b.disk_state b.kept life store × (m ≡ life.machine) × DeviceIs size b (store_fault_state store) (store_facts store)
+Running size b m store = (life : BenchLife) × (b.power ≡ Some life) × StoreIs size b.disk_state b.kept life store × (m ≡ life.machine) × DeviceIs size b (store_fault_state store) (store_facts store)
 
 pub running_on : (size : Size) (b : Bench) (board : SimBoard) → Running size b (machine_in board) (store_in board) → OnIs size b board
 running_on size b board (life, on, store, machine, device) =
-    let P : Option Life → Type 0 = λ p. BoardIs size b.disk_state b.kept p board in
+    let P : Option BenchLife → Type 0 = λ p. BoardIs size b.disk_state b.kept p board in
     (subst P (sym on) (store, machine), device)
 
 -- a board with that machine
 pub goes_on : (size : Size) (b : Bench) (m : Machine) (board : SimBoard) → Running size b m (store_in board) → machine_in board ≡ m → OnIs size b board
 goes_on size b m board is same = let P : Machine → Type 0 = λ n. Running size b n (store_in board) in running_on size b board (subst P (sym same) is)
 
-pub follows_more : (size : Size) (m : DiskState) (k : Kept) (c : Change) (life : Life) (z : Size) → LifeIs size m k life z → LifeIs size m (record k { changes = k.changes ++ c ∷ [] }) (record life { now = after life.now c; receipts = life.receipts + 1 }) z
+pub follows_more : (size : Size) (m : DiskState) (k : Kept) (c : Change) (life : BenchLife) (z : Size) → LifeIs size m k life z → LifeIs size m (record k { changes = k.changes ++ c ∷ [] }) (record life { now = after life.now c; receipts = life.receipts + 1 }) z
 follows_more size Blank k c life z h = h
 follows_more size Unknown k c life z h = h
 follows_more size Formatted k c life z h = (h.0, found_more k.changes c life.now h.1, h.2, h.3)
 
-follows_doubt : (size : Size) (m : DiskState) (k : Kept) (c : Change) (life : Life) (z : Size) → LifeIs size m k life z → LifeIs size m (record k { doubt = Some c }) (record life { doubt = Some c }) z
+follows_doubt : (size : Size) (m : DiskState) (k : Kept) (c : Change) (life : BenchLife) (z : Size) → LifeIs size m k life z → LifeIs size m (record k { doubt = Some c }) (record life { doubt = Some c }) z
 follows_doubt size Blank k c life z h = h
 follows_doubt size Unknown k c life z h = h
 follows_doubt size Formatted k c life z h = (refl, h.1, h.2, h.3)
 
 -- a life goes on from what the disk keeps, whatever its memory and harts are
-pub follows_with : (size : Size) (m : DiskState) (k : Kept) (life : Life) (machine : Machine) (z : Size) → machine.size ≡ life.machine.size → LifeIs size m k life z → LifeIs size m k (record life { machine = machine }) z
+pub follows_with : (size : Size) (m : DiskState) (k : Kept) (life : BenchLife) (machine : Machine) (z : Size) → machine.size ≡ life.machine.size → LifeIs size m k life z → LifeIs size m k (record life { machine = machine }) z
 follows_with size Blank k life machine z same h = h
 follows_with size Unknown k life machine z same h = same ∙ h
 follows_with size Formatted k life machine z same h = (h.0, h.1, h.2, same ∙ h.3)
 
 -- its memory is that of the board of its store
-pub sized_for : (size : Size) (m : DiskState) (k : Kept) (life : Life) (z : Size) → LifeIs size m k life z → life.machine.size ≡ z
+pub sized_for : (size : Size) (m : DiskState) (k : Kept) (life : BenchLife) (z : Size) → LifeIs size m k life z → life.machine.size ≡ z
 sized_for size Blank k life z h = absurd h
 sized_for size Unknown k life z h = h
 sized_for size Formatted k life z h = h.3
 
-sized : (size : Size) (m : DiskState) (k : Kept) (life : Life) (z y : Size) → y ≡ z → LifeIs size m k life z → LifeIs size m k life y
+sized : (size : Size) (m : DiskState) (k : Kept) (life : BenchLife) (z y : Size) → y ≡ z → LifeIs size m k life z → LifeIs size m k life y
 sized size m k life z y same h = let P : Size → Type 0 = λ x. LifeIs size m k life x in subst P (sym same) h
 
-over_more : (size : Size) (m : DiskState) (k : Kept) (c : Change) (life : Life) (store : SimStore) → LifeIs size m k life (store_size store) → life.doubt ≡ None → store_now store ≡ after life.now c → store_doubt store ≡ None
+over_more : (size : Size) (m : DiskState) (k : Kept) (c : Change) (life : BenchLife) (store : SimStore) → LifeIs size m k life (store_size store) → life.doubt ≡ None → store_now store ≡ after life.now c → store_doubt store ≡ None
     → IsOver size m (record k { changes = k.changes ++ c ∷ [] }) store
 over_more size Blank k c life store h calm now doubt = h
 over_more size Unknown k c life store h calm now doubt = tt
 over_more size Formatted k c life store h calm now doubt = (h.0 ∙ calm, now ∙ found_more k.changes c life.now h.1, h.2, doubt)
 
 -- A command on a board whose life has a command in doubt, or none. Where none is, the store's life is seen so when it is asked.
-module _ (size : Size) (b : Bench) (life : Life) (c : Change) (old new : SimStore) (seen : StoreLife)
+module _ (size : Size) (b : Bench) (life : BenchLife) (c : Change) (old new : SimStore) (seen : StoreLife)
     (on : b.power ≡ Some life) (was : StoreIs size b.disk_state b.kept life old) (device : DeviceIs size b (store_fault_state old) (store_facts old))
     (same_size : store_size new ≡ store_size old) (fits : SameLength (store_facts old) (store_facts new)) (no_fewer : (store_facts old).failures ≤ (store_facts new).failures) where
   -- the command is answered so, and the board is on

@@ -15,7 +15,7 @@ use Rattle.disk.specs.Facts.{counted}
 use Rattle.bench_report.specs.declared.printed.Printed.{Printed}
 use Rattle.bench_report.specs.declared.printed.Printed.TheVariants as printed
 use Rattle.bench_report.specs.declared.printed.Answer.{Answer}
-use Rattle.bench_report.specs.Bench.{DiskState, Blank, Unknown, Formatted, Life, Bench}
+use Rattle.bench_report.specs.Bench.{DiskState, Blank, Unknown, Formatted, BenchLife, Bench}
 use Rattle.bench_report.specs.Steps.{says, out_of_memory, FailsByFault, off, on_with, formatted_anew, unknown, settled, has_machine, acknowledged, in_doubt, begun, commands_of, Writes, IssuedBy, Issued, IssuesAll, FormatsOn, IsOn, Starts, Resumes, Begins, Boots, Opens, ShowsFound, IsOpenRefusal, PowersOn}
 
 abbrev pub HasFailed : Bench → Type 0
@@ -57,18 +57,18 @@ pub hinders : (c new : Bench) → FailsByFault c new → HasFailed new
 hinders c new h = let g : new.failures ≡ counted c.failures 1 = ap (λ x. x.failures) h.2 in inr (omega (arith, g))
 
 -- ---- fair
-writes_fair : (r : Option ℕ) (c : Change) (life : Life) (b : Bench) (o : Result ℕ ℕ) (new : Bench) → Writes r c life b o new → Fair b new
+writes_fair : (r : Option ℕ) (c : Change) (life : BenchLife) (b : Bench) (o : Result ℕ ℕ) (new : Bench) → Writes r c life b o new → Fair b new
 writes_fair (Some n) c life b o new w = unmoved b new w.1
 writes_fair None c life b o new (inl w) = fair_to b new (acknowledged c life b) w.1 (λ s. s, λ c. inr c)
 writes_fair None c life b o new (inr (inl w)) = spoils b new (hinders b new w.1)
 writes_fair None c life b o new (inr (inr w)) = spoils b new (hinders (in_doubt c life b) new w.1)
 
-by_fair : (d : Option Change) (c : Change) (life : Life) (b : Bench) (o : Result ℕ ℕ) (new : Bench) → IssuedBy d c life b o new → Fair b new
+by_fair : (d : Option Change) (c : Change) (life : BenchLife) (b : Bench) (o : Result ℕ ℕ) (new : Bench) → IssuedBy d c life b o new → Fair b new
 by_fair (Some d) c life b o new i = unmoved b new i.1
 by_fair None c life b o new (inl i) = unmoved b new i.2
 by_fair None c life b o new (inr i) = writes_fair (refusal_of life.now c) c life b o new i.1
 
-pub issued_fair : (c : Change) (life : Life) (b : Bench) (o : Result ℕ ℕ) (new : Bench) → Issued c life b o new → Fair b new
+pub issued_fair : (c : Change) (life : BenchLife) (b : Bench) (o : Result ℕ ℕ) (new : Bench) → Issued c life b o new → Fair b new
 issued_fair c life b o new i = by_fair life.doubt c life b o new i
 
 all_fair : (cs : List Change) (b : Bench) (o : Result ℕ ℕ) (new : Bench) → IssuesAll cs b o new → Fair b new
@@ -83,10 +83,10 @@ Agree o p new last = HasFailed new ⊎ HasFailed last ⊎ ((o ≡ p) × (new ≡
 pub same : {A : Type 0} (o p x : A) (new last y : Bench) → o ≡ x → p ≡ x → new ≡ y → last ≡ y → Agree o p new last
 same o p x new last y a b c d = inr (inr (a ∙ sym b, c ∙ sym d))
 
-pub some_inj : (x y : Life) (p : Option Life) → p ≡ Some x → p ≡ Some y → y ≡ x
+pub some_inj : (x y : BenchLife) (p : Option BenchLife) → p ≡ Some x → p ≡ Some y → y ≡ x
 some_inj x y p e f = let g : Some y ≡ Some x = sym f ∙ e in let h : y ≡ x = cc in h
 
-writes : (r : Option ℕ) (c : Change) (life : Life) (b : Bench) (o p : Result ℕ ℕ) (new last : Bench) → Writes r c life b o new → Writes r c life b p last → Agree o p new last
+writes : (r : Option ℕ) (c : Change) (life : BenchLife) (b : Bench) (o p : Result ℕ ℕ) (new last : Bench) → Writes r c life b o new → Writes r c life b p last → Agree o p new last
 writes (Some n) c life b o p new last w v = same o p (Err n) new last b w.0 v.0 w.1 v.1
 writes None c life b o p new last (inl w) (inl v) = same o p _ new last _ w.0 v.0 w.1 v.1
 writes None c life b o p new last (inr (inl w)) v = inl (hinders b new w.1)
@@ -94,14 +94,14 @@ writes None c life b o p new last (inr (inr w)) v = inl (hinders (in_doubt c lif
 writes None c life b o p new last (inl w) (inr (inl v)) = inr (inl (hinders b last v.1))
 writes None c life b o p new last (inl w) (inr (inr v)) = inr (inl (hinders (in_doubt c life b) last v.1))
 
-by : (d : Option Change) (c : Change) (life : Life) (b : Bench) (o p : Result ℕ ℕ) (new last : Bench) → IssuedBy d c life b o new → IssuedBy d c life b p last → Agree o p new last
+by : (d : Option Change) (c : Change) (life : BenchLife) (b : Bench) (o p : Result ℕ ℕ) (new last : Bench) → IssuedBy d c life b o new → IssuedBy d c life b p last → Agree o p new last
 by (Some d) c life b o p new last i j = same o p (Err 6) new last b i.0 j.0 i.1 j.1
 by None c life b o p new last (inl i) (inl j) = same o p (Err 10) new last b i.1 j.1 i.2 j.2
 by None c life b o p new last (inl i) (inr j) = absurd (omega (arith, i.0, j.0))
 by None c life b o p new last (inr i) (inl j) = absurd (omega (arith, i.0, j.0))
 by None c life b o p new last (inr i) (inr j) = writes (refusal_of life.now c) c life b o p new last i.1 j.1
 
-pub issued : (c : Change) (life : Life) (b : Bench) (o p : Result ℕ ℕ) (new last : Bench) → Issued c life b o new → Issued c life b p last → Agree o p new last
+pub issued : (c : Change) (life : BenchLife) (b : Bench) (o p : Result ℕ ℕ) (new last : Bench) → Issued c life b o new → Issued c life b p last → Agree o p new last
 issued c life b o p new last i j = by life.doubt c life b o p new last i j
 
 err_inj : (n m : ℕ) (x y : Result ℕ ℕ) → x ≡ y → x ≡ Err n → y ≡ Err m → n ≡ m
@@ -113,7 +113,7 @@ ok_err n m x y e f g = let h : y ≡ Ok n = sym e ∙ f in absurd (let no : ⊥ 
 all : (cs : List Change) (b : Bench) (o p : Result ℕ ℕ) (new last : Bench) → IssuesAll cs b o new → IssuesAll cs b p last → Agree o p new last
 all [] b o p new last h k = same o p (Ok 0) new last b h.0 k.0 h.1 k.1
 all (c ∷ cs) b o p new last (life, on, first, mid, i, h) (life2, on2, first2, mid2, j, k) =
-    let L : Life → Type 0 = λ l. Issued c l b first2 mid2 in
+    let L : BenchLife → Type 0 = λ l. Issued c l b first2 mid2 in
     ended h k (issued c life b first first2 mid mid2 i (subst L (some_inj life life2 b.power on on2) j)) (λ h k e. (let M : Bench → Type 0 = λ m. IssuesAll cs m p last in all cs mid o p new last h (subst M (sym e) k)))
   where
     ended : (((n : ℕ) × (first ≡ Ok n) × IssuesAll cs mid o new) ⊎ ((n : ℕ) × (first ≡ Err n) × (o ≡ Err n) × (new ≡ mid)))
@@ -219,7 +219,7 @@ is_on o p mode z s b d line said new last (inr (inr e)) x y =
   where
     alike : (o : Result ℕ ℕ) → IsOn o mode z s b line new → IsOn o mode z s b said last → Agree line said new last
     alike (Ok n) x y =
-        let P : Life → Type 0 = λ l. last ≡ on_with (has_machine y.3 l) b in
+        let P : BenchLife → Type 0 = λ l. last ≡ on_with (has_machine y.3 l) b in
         let one : y.3 ≡ x.3 = one_boot mode z b.payloads s x.3 y.3 x.4 y.4 in
         same line said (printed.On mode) new last (on_with (has_machine x.3 x.0) b) x.2 y.2 x.5 (subst P (some_inj x.0 y.0 b.power x.1 y.1) y.5 ∙ ap (λ (k : Machine). on_with (has_machine k x.0) b) one)
     alike (Err n) x y = same line said (printed.OnRefused n) new last (off b) x.0 y.0 x.1 y.1
@@ -237,7 +237,7 @@ off_spoilt mid new e f = let P : Bench → Type 0 = HasFailed in subst P (sym e)
 not_both : {A : Type 0} (n k : ℕ) (o : Result ℕ ℕ) → o ≡ Ok n → o ≡ Err k → A
 not_both n k o e f = ok_err n k o o refl e f
 
-writes_err : (c : Change) (life : Life) (b : Bench) (o : Result ℕ ℕ) (new : Bench) (n : ℕ) → o ≡ Err n → Writes None c life b o new → HasFailed new
+writes_err : (c : Change) (life : BenchLife) (b : Bench) (o : Result ℕ ℕ) (new : Bench) (n : ℕ) → o ≡ Err n → Writes None c life b o new → HasFailed new
 writes_err c life b o new n e (inl w) = not_both (life.receipts + 1) n o w.0 e
 writes_err c life b o new n e (inr (inl w)) = hinders b new w.1
 writes_err c life b o new n e (inr (inr w)) = hinders (in_doubt c life b) new w.1
@@ -250,7 +250,7 @@ one_err : (c : Change) (s : State) (z : Size) (b : Bench) (n : ℕ) (mid : Bench
 one_err c s z b n mid allowed (life, on, first, last, i, inl (k, ok, rest)) = not_both 0 n (Err n) rest.0 refl
 one_err c s z b n mid allowed (life, on, first, last, i, inr (k, err, same_err, e)) =
     let start : Bench = on_with (begun s z) b in
-    let L : Life → Type 0 = λ l. Issued c l start first last in
+    let L : BenchLife → Type 0 = λ l. Issued c l start first last in
     let P : Bench → Type 0 = HasFailed in
     subst P (sym e) (issued_err c s z start first last k allowed err (subst L (some_inj (begun s z) life start.power refl on) i))
 

@@ -8,7 +8,7 @@ use Rattle.store.specs.Leaves.{Leaves, IsKept, LeavesOnly, LeavesEither}
 use Rattle.store.specs.Stores.{Stands, Doubts, now_state, doubt_of}
 use Rattle.simdisk.specs.declared.SimDisk.{SimDisk}
 use Rattle.bench_report.specs.Below.{facts, SimStore, SimBoard, store_in, IsAs, store_size}
-use Rattle.bench_report.specs.Bench.{DiskState, Blank, Unknown, Formatted, Life}
+use Rattle.bench_report.specs.Bench.{DiskState, Blank, Unknown, Formatted, BenchLife}
 use Rattle.bench_report.specs.Agree.{StoreIs, BoardIs, DiskIs, IsOver}
 use Rattle.bench_report.proofs.Adapted.{grows}
 use Rattle.bench_report.proofs.KeptDisks.{GoesOn, LeavesLess}
@@ -53,7 +53,7 @@ left size k now count (Some c) store disk doubt same sized is up down allowed =
     let P : State → Type 0 = λ s. refusal_of s c ≡ None in
     left_either size (store_size store) k c now disk doubt same (subst P is.0 (allowed c is.2)) sized (down now (after now c) (c, is.2, sym is.0, refl))
 
-pub ended : (size : Size) (m : DiskState) (k : Kept) (life : Life) (store : SimStore) (disk : Facts) → StoreIs size m k life store → LeftUp store disk → LeftDown store disk → IsAllowed store
+pub ended : (size : Size) (m : DiskState) (k : Kept) (life : BenchLife) (store : SimStore) (disk : Facts) → StoreIs size m k life store → LeftUp store disk → LeftDown store disk → IsAllowed store
     → DiskIs size m k disk
 ended size Blank k life store disk was up down allowed = absurd was.0
 ended size Unknown k life store disk was up down allowed = tt
@@ -66,7 +66,7 @@ over_ended size Blank k store disk was up = absurd was
 over_ended size Unknown k store disk was up = tt
 over_ended size Formatted k store disk was up = left_only size (store_size store) k (now_state store) disk was.1 was.2 (up (now_state store) (was.3, refl))
 
-pub board_ended : (size : Size) (m : DiskState) (k : Kept) (p : Option Life) (board : SimBoard) (disk : Facts) → BoardIs size m k p board → LeftUp (store_in board) disk → LeftDown (store_in board) disk
+pub board_ended : (size : Size) (m : DiskState) (k : Kept) (p : Option BenchLife) (board : SimBoard) (disk : Facts) → BoardIs size m k p board → LeftUp (store_in board) disk → LeftDown (store_in board) disk
     → IsAllowed (store_in board) → DiskIs size m k disk
 board_ended size m k None board disk was up down allowed = absurd was
 board_ended size m k (Some life) board disk was up down allowed = ended size m k life (store_in board) disk was.0 up down allowed

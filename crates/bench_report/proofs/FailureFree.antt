@@ -33,7 +33,7 @@ use Rattle.bench_report.specs.declared.printed.Printed.{Printed}
 use Rattle.bench_report.specs.declared.printed.Printed.TheVariants as printed
 use Rattle.disk.specs.FaultState.{FaultArmed, CutArmed}
 use Rattle.bench_report.specs.declared.printed.Answer.{Answer}
-use Rattle.bench_report.specs.Bench.{DiskState, Blank, Unknown, Formatted, Life, Bench, IsFailureFree, blank_bench}
+use Rattle.bench_report.specs.Bench.{DiskState, Blank, Unknown, Formatted, BenchLife, Bench, IsFailureFree, blank_bench}
 use Rattle.bench_report.specs.Steps.{says, off, on_with, unpowered, unknown, armed_with, formatted_anew, settled, has_machine, acknowledged, begun, commands_of, console_reported, Writes, IssuedBy, IssuesAll, FormatsOn, IsOn, Starts, Resumes, Begins, Boots, Opens, PowersOn, FormatStep, OnStep, ConsoleStep, PayloadStep, ReadStep, PokeStep, Issued, Refuses, HartCommand, Resets, Suspends, SleepsBy, MakesCall, Comes, GuestTurn, GuestTurns, TurnStep, CallReported, GuestCall, CallStep, Step, Moves, Run}
 use Rattle.bench_report.specs.Reports.{IsReport}
 use Rattle.bench_report.specs.Plain.{ShowsNoFailure, ShowNoFailure}
@@ -63,13 +63,13 @@ IsFailureFreeResult (Err n) = (n ≢ 5) × (n ≢ 6)
 failure_free_as : (o p : Result ℕ ℕ) → o ≡ p → IsFailureFreeResult o → IsFailureFreeResult p
 failure_free_as o p e failure_free = let P : Result ℕ ℕ → Type 0 = IsFailureFreeResult in subst P e failure_free
 
-writes_failure_free : (r : Option ℕ) (c : Change) (life : Life) (b : Bench) (o : Result ℕ ℕ) (new : Bench) → Writes r c life b o new → IsFailureFreeResult o → AsMany b new
+writes_failure_free : (r : Option ℕ) (c : Change) (life : BenchLife) (b : Bench) (o : Result ℕ ℕ) (new : Bench) → Writes r c life b o new → IsFailureFreeResult o → AsMany b new
 writes_failure_free (Some n) c life b o new h failure_free = as_many b b new refl refl h.1
 writes_failure_free None c life b o new (inl h) failure_free = as_many b (acknowledged c life b) new refl refl h.1
 writes_failure_free None c life b o new (inr (inl h)) failure_free = absurd ((failure_free_as o (Err 5) h.0 failure_free).0 refl)
 writes_failure_free None c life b o new (inr (inr h)) failure_free = absurd ((failure_free_as o (Err 6) h.0 failure_free).1 refl)
 
-issued_failure_free : (d : Option Change) (c : Change) (life : Life) (b : Bench) (o : Result ℕ ℕ) (new : Bench) → IssuedBy d c life b o new → IsFailureFreeResult o → AsMany b new
+issued_failure_free : (d : Option Change) (c : Change) (life : BenchLife) (b : Bench) (o : Result ℕ ℕ) (new : Bench) → IssuedBy d c life b o new → IsFailureFreeResult o → AsMany b new
 issued_failure_free (Some d) c life b o new h failure_free = as_many b b new refl refl h.1
 issued_failure_free None c life b o new (inl h) failure_free = as_many b b new refl refl h.2
 issued_failure_free None c life b o new (inr h) failure_free = writes_failure_free (refusal_of life.now c) c life b o new h.1 failure_free
@@ -131,11 +131,11 @@ powers_failure_free size mode b a new (inr (inl h)) failure_free = as_many b b n
 powers_failure_free size mode b a new (inr (inr (inl h))) failure_free = absurd ((of_answer a (printed.OnRefused 11) h.1 failure_free).2 refl)
 powers_failure_free size mode b a new (inr (inr (inr h))) failure_free = absurd ((of_answer a (printed.OnRefused 5) h.0 failure_free).0 refl)
 
-format_at : (p : Option Life) (b : Bench) (a : Answer) (new : Bench) → FormatStep p b a new → ShowsNoFailure a.line → AsMany b new
+format_at : (p : Option BenchLife) (b : Bench) (a : Answer) (new : Bench) → FormatStep p b a new → ShowsNoFailure a.line → AsMany b new
 format_at None b a new h failure_free = formats_failure_free b.disk_state b a new h failure_free
 format_at (Some life) b a new h failure_free = as_many b b new refl refl h.1
 
-on_at : (size : Size) (p : Option Life) (mode : BootMode) (b : Bench) (a : Answer) (new : Bench) → OnStep size p mode b a new → ShowsNoFailure a.line → AsMany b new
+on_at : (size : Size) (p : Option BenchLife) (mode : BootMode) (b : Bench) (a : Answer) (new : Bench) → OnStep size p mode b a new → ShowsNoFailure a.line → AsMany b new
 on_at size None mode b a new h failure_free = powers_failure_free size mode b a new h failure_free
 on_at size (Some life) mode b a new h failure_free = as_many b b new refl refl h.1
 
@@ -143,15 +143,15 @@ reported_failure_free : (word : ConsoleWord) (o : Result ℕ ℕ) (a : Answer) �
 reported_failure_free word (Ok n) a e failure_free = tt
 reported_failure_free word (Err n) a e failure_free = of_answer a (printed.CommandRefused word n) e failure_free
 
-console_at : (word : ConsoleWord) (c : Change) (p : Option Life) (b : Bench) (a : Answer) (new : Bench) → ConsoleStep word c p b a new → ShowsNoFailure a.line → AsMany b new
+console_at : (word : ConsoleWord) (c : Change) (p : Option BenchLife) (b : Bench) (a : Answer) (new : Bench) → ConsoleStep word c p b a new → ShowsNoFailure a.line → AsMany b new
 console_at word c None b a new h failure_free = as_many b b new refl refl h.1
 console_at word c (Some life) b a new h failure_free = issued_failure_free life.doubt c life b h.0 new h.1 (reported_failure_free word h.0 a h.2 failure_free)
 
-payload_at : (p : Option Life) (slot : ℕ) (bytes : List ℕ) (b : Bench) (a : Answer) (new : Bench) → PayloadStep p slot bytes b a new → AsMany b new
+payload_at : (p : Option BenchLife) (slot : ℕ) (bytes : List ℕ) (b : Bench) (a : Answer) (new : Bench) → PayloadStep p slot bytes b a new → AsMany b new
 payload_at None slot bytes b a new h = as_many b _ new refl refl h.1
 payload_at (Some life) slot bytes b a new h = as_many b b new refl refl h.1
 
-read_at : (p : Option Life) (says_so : Machine → MachineLine → Type 0) (b : Bench) (a : Answer) (new : Bench) → ReadStep p says_so b a new → AsMany b new
+read_at : (p : Option BenchLife) (says_so : Machine → MachineLine → Type 0) (b : Bench) (a : Answer) (new : Bench) → ReadStep p says_so b a new → AsMany b new
 read_at None says_so b a new x = as_many b b new refl refl x.1
 read_at (Some life) says_so b a new x = as_many b b new refl refl x.3
 
@@ -160,14 +160,14 @@ read_at (Some life) says_so b a new x = as_many b b new refl refl x.3
 abbrev IsFree : Word → Type 0
 IsFree word = word ≢ words.Own Next
 
-refuses_free : {A : Type 0} (e : SbiError) (h : ℕ) (life : Life) (b : Bench) (word : Word) (new : Bench) → Refuses e h life b word new → IsFree word → A
+refuses_free : {A : Type 0} (e : SbiError) (h : ℕ) (life : BenchLife) (b : Bench) (word : Word) (new : Bench) → Refuses e h life b word new → IsFree word → A
 refuses_free e h life b word new x free = absurd (free x.0)
 
-held_free : (c : Change) (o : Result ℕ ℕ) (said : Word) (h : ℕ) (life : Life) (b mid : Bench) (word : Word) (new : Bench) → Issued c life b o mid → HartCommand o said h mid word new → IsFree word → AsMany b new
+held_free : (c : Change) (o : Result ℕ ℕ) (said : Word) (h : ℕ) (life : BenchLife) (b mid : Bench) (word : Word) (new : Bench) → Issued c life b o mid → HartCommand o said h mid word new → IsFree word → AsMany b new
 held_free c (Ok n) said h life b mid word new i x free = many_then b mid new (issued_failure_free life.doubt c life b (Ok n) mid i tt) (as_many mid (off mid) new refl refl x.1)
 held_free c (Err n) said h life b mid word new i (at, on, x) free = refuses_free Failed h at mid word new x free
 
-resets_free : (asked : Result (ResetType × Reason) SbiError) (h : ℕ) (life : Life) (b : Bench) (word : Word) (new : Bench) → Resets asked h life b word new → IsFree word → AsMany b new
+resets_free : (asked : Result (ResetType × Reason) SbiError) (h : ℕ) (life : BenchLife) (b : Bench) (word : Word) (new : Bench) → Resets asked h life b word new → IsFree word → AsMany b new
 resets_free (Err e) h life b word new x free = refuses_free e h life b word new x free
 resets_free (Ok reset) h life b word new (o, mid, i, x) free = held_free (Reset reset.1) o (words.Reset reset.0) h life b mid word new i x free
 
@@ -177,26 +177,26 @@ refused_held n o h b word new e x free =
     let at = subst P e x in
     refuses_free Failed h at.0 b word new at.2 free
 
-sleeps_held : (Fits : Type 0) (c : Change) (o : Result ℕ ℕ) (h : ℕ) (life : Life) (b mid : Bench) (word : Word) (new : Bench) → Suspends Fits c life b o mid → HartCommand o words.Asleep h mid word new → IsFree word → AsMany b new
+sleeps_held : (Fits : Type 0) (c : Change) (o : Result ℕ ℕ) (h : ℕ) (life : BenchLife) (b mid : Bench) (word : Word) (new : Bench) → Suspends Fits c life b o mid → HartCommand o words.Asleep h mid word new → IsFree word → AsMany b new
 sleeps_held Fits c o h life b mid word new (inl i) x free = held_free c o words.Asleep h life b mid word new i.1 x free
 sleeps_held Fits c o h life b mid word new (inr (inl i)) x free = refused_held 11 o h mid word new i.1 x free
 sleeps_held Fits c o h life b mid word new (inr (inr i)) x free = refused_held 3 o h mid word new i.1 x free
 
-by_free : (asked : Result ℕ SbiError) (opaque h : ℕ) (life : Life) (b : Bench) (word : Word) (new : Bench) → SleepsBy asked opaque h life b word new → IsFree word → AsMany b new
+by_free : (asked : Result ℕ SbiError) (opaque h : ℕ) (life : BenchLife) (b : Bench) (word : Word) (new : Bench) → SleepsBy asked opaque h life b word new → IsFree word → AsMany b new
 by_free (Err e) opaque h life b word new x free = refuses_free e h life b word new x free
 by_free (Ok site) opaque h life b word new (inl x) free = refuses_free Denied h life b word new x.1 free
 by_free (Ok site) opaque h life b word new (inr (alone, o, mid, i, x)) free = sleeps_held _ _ o h life b mid word new i x free
 
-makes_free : (call : Call) (h : ℕ) (life : Life) (b : Bench) (word : Word) (new : Bench) → MakesCall call h life b word new → IsFree word → AsMany b new
+makes_free : (call : Call) (h : ℕ) (life : BenchLife) (b : Bench) (word : Word) (new : Bench) → MakesCall call h life b word new → IsFree word → AsMany b new
 makes_free (calls.SystemReset kind reason) h life b word new x free = resets_free (reset_of kind reason) h life b word new x free
 makes_free (calls.SystemSuspend kind address opaque) h life b word new (asked, checked, x) free = by_free asked opaque h life b word new x free
 makes_free call h life b word new x free = refuses_free NotSupported h life b word new x free
 
-comes_free : (did : Turned) (h : ℕ) (life : Life) (b : Bench) (word : Word) (new : Bench) → Comes did h life b word new → IsFree word → AsMany b new
+comes_free : (did : Turned) (h : ℕ) (life : BenchLife) (b : Bench) (word : Word) (new : Bench) → Comes did h life b word new → IsFree word → AsMany b new
 comes_free Durable h life b word new x free = makes_free (call_of (hart_at life.machine h)) h life b word new x free
 comes_free did h life b word new x free = as_many b b new refl refl x.1
 
-turn_free : (h : ℕ) (life : Life) (b : Bench) (word : Word) (new : Bench) → GuestTurn h life b word new → IsFree word → AsMany b new
+turn_free : (h : ℕ) (life : BenchLife) (b : Bench) (word : Word) (new : Bench) → GuestTurn h life b word new → IsFree word → AsMany b new
 turn_free h life b word new (m, did, turned, x) free = let rest = comes_free did h (has_machine m life) (on_with (has_machine m life) b) word new x free in (rest.0, rest.1)
 
 none_made : {A : Type 0} (h n : ℕ) (b : Bench) (word : Word) (new : Bench) → GuestTurns h n b 0 word new → A
@@ -217,7 +217,7 @@ turns_free h (suc n) b made word new (life, on, said, mid, turned, inr x) one fr
     less : (rest made : ℕ) → made ≡ suc rest → made ≡ 1 → rest ≡ 0
     less rest made e f = omega (arith, e, f)
 
-turn_at : (p : Option Life) (h n : ℕ) (b : Bench) (a : Answer) (new : Bench) → TurnStep p h n b a new → ShowsNoFailure a.line → AsMany b new
+turn_at : (p : Option BenchLife) (h n : ℕ) (b : Bench) (a : Answer) (new : Bench) → TurnStep p h n b a new → ShowsNoFailure a.line → AsMany b new
 turn_at None h n b a new x failure_free = as_many b b new refl refl x.1
 turn_at (Some life) h n b a new (inl (has, made, word, x, e)) failure_free =
     let is = of_answer a (printed.Shown (shown.Turn h made word)) e failure_free in
@@ -231,17 +231,17 @@ call_free h word new a reported failure_free e =
     let at = subst P e reported in
     of_answer a (printed.Shown (shown.Answered h _ _)) at.2 failure_free
 
-called_at : (called : Called) (h : ℕ) (life : Life) (b : Bench) (a : Answer) (new : Bench) → GuestCall called h life b a new → ShowsNoFailure a.line → AsMany b new
+called_at : (called : Called) (h : ℕ) (life : BenchLife) (b : Bench) (a : Answer) (new : Bench) → GuestCall called h life b a new → ShowsNoFailure a.line → AsMany b new
 called_at NotStarted h life b a new x failure_free = as_many b b new refl refl x.1
 called_at (Made did) h life b a new (word, x, reported) failure_free = comes_free did h life b word new x (call_free h word new a reported failure_free)
 
-call_at : (p : Option Life) (h e f x y z : ℕ) (b : Bench) (a : Answer) (new : Bench) → CallStep p h e f x y z b a new → ShowsNoFailure a.line → AsMany b new
+call_at : (p : Option BenchLife) (h e f x y z : ℕ) (b : Bench) (a : Answer) (new : Bench) → CallStep p h e f x y z b a new → ShowsNoFailure a.line → AsMany b new
 call_at None h e f x y z b a new g failure_free = as_many b b new refl refl g.1
 call_at (Some life) h e f x y z b a new (inl (has, m, called, did, g)) failure_free =
     let rest = called_at called h (has_machine m life) (on_with (has_machine m life) b) a new g failure_free in (rest.0, rest.1)
 call_at (Some life) h e f x y z b a new (inr g) failure_free = as_many b b new refl refl g.2
 
-poke_at : (p : Option Life) (b : Bench) (a : Answer) (new : Bench) → PokeStep p b a new → AsMany b new
+poke_at : (p : Option BenchLife) (b : Bench) (a : Answer) (new : Bench) → PokeStep p b a new → AsMany b new
 poke_at None b a new h = as_many b (unknown b) new refl refl h.1
 poke_at (Some life) b a new h = as_many b b new refl refl h.1
 

@@ -18,7 +18,7 @@ use Rattle.sbi_abi.specs.declared.ret.SbiError.TheVariants.{Failed, NotSupported
 use Rattle.sbi_abi.specs.Calls.{call_of}
 use Rattle.sbi.specs.declared.resets.ResetType.{ResetType}
 use Rattle.sbi.specs.Resets.{reset_of}
-use Rattle.bench_report.specs.Bench.{Life, Bench}
+use Rattle.bench_report.specs.Bench.{BenchLife, Bench}
 use Rattle.bench_report.specs.Steps.{off, on_with, has_machine, refused, Refuses, HartCommand, Resets, Suspends, Sleeps, SleepsBy, MakesCall, Comes, GuestTurn, IsLastTurn, GuestTurns}
 use Rattle.bench_report.proofs.Determined.{Fair, fair_to, fair_then, unmoved, spoils, starves, issued_fair, Agree, same, issued, some_inj}
 
@@ -26,40 +26,40 @@ abbrev pub IsOneTurn : Type 0
 IsOneTurn = (h : ℕ) (old new other : Machine) (word also : Turned) → Turns h old new word → Turns h old other also → (new ≡ other) × (word ≡ also)
 
 -- ---- fair
-refuses_fair : (e : SbiError) (h : ℕ) (life : Life) (b : Bench) (word : Word) (new : Bench) → Refuses e h life b word new → Fair b new
+refuses_fair : (e : SbiError) (h : ℕ) (life : BenchLife) (b : Bench) (word : Word) (new : Bench) → Refuses e h life b word new → Fair b new
 refuses_fair e h life b word new x = fair_to b new (on_with (refused h e life) b) x.1 (λ s. s, λ c. inr c)
 
 held_fair : (o : Result ℕ ℕ) (said : Word) (h : ℕ) (b : Bench) (word : Word) (new : Bench) → HartCommand o said h b word new → Fair b new
 held_fair (Ok n) said h b word new x = fair_to b new (off b) x.1 (λ s. s, λ c. inr c)
 held_fair (Err n) said h b word new (life, on, x) = refuses_fair Failed h life b word new x
 
-resets_fair : (asked : Result (ResetType × Reason) SbiError) (h : ℕ) (life : Life) (b : Bench) (word : Word) (new : Bench) → Resets asked h life b word new → Fair b new
+resets_fair : (asked : Result (ResetType × Reason) SbiError) (h : ℕ) (life : BenchLife) (b : Bench) (word : Word) (new : Bench) → Resets asked h life b word new → Fair b new
 resets_fair (Err e) h life b word new x = refuses_fair e h life b word new x
 resets_fair (Ok reset) h life b word new (o, mid, i, x) = fair_then b mid new (issued_fair (Reset reset.1) life b o mid i) (held_fair o (words.Reset reset.0) h mid word new x)
 
-suspends_fair : (Fits : Type 0) (c : Change) (life : Life) (b : Bench) (o : Result ℕ ℕ) (new : Bench) → Suspends Fits c life b o new → Fair b new
+suspends_fair : (Fits : Type 0) (c : Change) (life : BenchLife) (b : Bench) (o : Result ℕ ℕ) (new : Bench) → Suspends Fits c life b o new → Fair b new
 suspends_fair Fits c life b o new (inl x) = issued_fair c life b o new x.1
 suspends_fair Fits c life b o new (inr (inl x)) = spoils b new (starves b new x.2)
 suspends_fair Fits c life b o new (inr (inr x)) = unmoved b new x.2
 
-sleeps_fair : (site opaque h : ℕ) (life : Life) (b : Bench) (word : Word) (new : Bench) → Sleeps site opaque h life b word new → Fair b new
+sleeps_fair : (site opaque h : ℕ) (life : BenchLife) (b : Bench) (word : Word) (new : Bench) → Sleeps site opaque h life b word new → Fair b new
 sleeps_fair site opaque h life b word new (inl x) = refuses_fair Denied h life b word new x.1
 sleeps_fair site opaque h life b word new (inr (alone, o, mid, i, x)) = fair_then b mid new (suspends_fair _ _ life b o mid i) (held_fair o words.Asleep h mid word new x)
 
-by_fair : (asked : Result ℕ SbiError) (opaque h : ℕ) (life : Life) (b : Bench) (word : Word) (new : Bench) → SleepsBy asked opaque h life b word new → Fair b new
+by_fair : (asked : Result ℕ SbiError) (opaque h : ℕ) (life : BenchLife) (b : Bench) (word : Word) (new : Bench) → SleepsBy asked opaque h life b word new → Fair b new
 by_fair (Err e) opaque h life b word new x = refuses_fair e h life b word new x
 by_fair (Ok site) opaque h life b word new x = sleeps_fair site opaque h life b word new x
 
-makes_fair : (call : Call) (h : ℕ) (life : Life) (b : Bench) (word : Word) (new : Bench) → MakesCall call h life b word new → Fair b new
+makes_fair : (call : Call) (h : ℕ) (life : BenchLife) (b : Bench) (word : Word) (new : Bench) → MakesCall call h life b word new → Fair b new
 makes_fair (calls.SystemReset kind reason) h life b word new x = resets_fair (reset_of kind reason) h life b word new x
 makes_fair (calls.SystemSuspend kind address opaque) h life b word new (asked, checked, x) = by_fair asked opaque h life b word new x
 makes_fair call h life b word new x = refuses_fair NotSupported h life b word new x
 
-pub comes_fair : (did : Turned) (h : ℕ) (life : Life) (b : Bench) (word : Word) (new : Bench) → Comes did h life b word new → Fair b new
+pub comes_fair : (did : Turned) (h : ℕ) (life : BenchLife) (b : Bench) (word : Word) (new : Bench) → Comes did h life b word new → Fair b new
 comes_fair Durable h life b word new x = makes_fair (call_of (hart_at life.machine h)) h life b word new x
 comes_fair did h life b word new x = unmoved b new x.1
 
-turn_fair : (h : ℕ) (life : Life) (b : Bench) (word : Word) (new : Bench) → GuestTurn h life b word new → Fair b new
+turn_fair : (h : ℕ) (life : BenchLife) (b : Bench) (word : Word) (new : Bench) → GuestTurn h life b word new → Fair b new
 turn_fair h life b word new (m, did, turn, x) = let rest = comes_fair did h (has_machine m life) (on_with (has_machine m life) b) word new x in (λ s. rest.0 s, λ c. rest.1 c)
 
 pub turns_fair : (h n : ℕ) (b : Bench) (made : ℕ) (word : Word) (new : Bench) → GuestTurns h n b made word new → Fair b new
@@ -68,7 +68,7 @@ turns_fair h (suc n) b made word new (life, on, said, mid, turn, inl x) = fair_t
 turns_fair h (suc n) b made word new (life, on, said, mid, turn, inr x) = fair_then b mid new (turn_fair h life b said mid turn) (turns_fair h n mid x.2 word new x.4)
 
 -- ---- one
-refuses_one : (e : SbiError) (h : ℕ) (life : Life) (b : Bench) (word also : Word) (new last : Bench) → Refuses e h life b word new → Refuses e h life b also last → Agree word also new last
+refuses_one : (e : SbiError) (h : ℕ) (life : BenchLife) (b : Bench) (word also : Word) (new last : Bench) → Refuses e h life b word new → Refuses e h life b also last → Agree word also new last
 refuses_one e h life b word also new last x y = same word also (words.Own Next) new last (on_with (refused h e life) b) x.0 y.0 x.1 y.1
 
 held_one : (o p : Result ℕ ℕ) (said : Word) (h : ℕ) (b d : Bench) (word also : Word) (new last : Bench) → Agree o p b d → HartCommand o said h b word new → HartCommand p said h d also last → Agree word also new last
@@ -81,13 +81,13 @@ held_one o p said h b d word also new last (inr (inr e)) x y =
   where
     alike : (o : Result ℕ ℕ) → HartCommand o said h b word new → HartCommand o said h b also last → Agree word also new last
     alike (Ok n) x y = same word also said new last (off b) x.0 y.0 x.1 y.1
-    alike (Err n) (life, on, x) (other, at, y) = let P : Life → Type 0 = λ l. Refuses Failed h l b also last in refuses_one Failed h life b word also new last x (subst P (some_inj life other b.power on at) y)
+    alike (Err n) (life, on, x) (other, at, y) = let P : BenchLife → Type 0 = λ l. Refuses Failed h l b also last in refuses_one Failed h life b word also new last x (subst P (some_inj life other b.power on at) y)
 
-resets_one : (asked : Result (ResetType × Reason) SbiError) (h : ℕ) (life : Life) (b : Bench) (word also : Word) (new last : Bench) → Resets asked h life b word new → Resets asked h life b also last → Agree word also new last
+resets_one : (asked : Result (ResetType × Reason) SbiError) (h : ℕ) (life : BenchLife) (b : Bench) (word also : Word) (new last : Bench) → Resets asked h life b word new → Resets asked h life b also last → Agree word also new last
 resets_one (Err e) h life b word also new last x y = refuses_one e h life b word also new last x y
 resets_one (Ok reset) h life b word also new last (o, mid, i, x) (p, mid2, j, y) = held_one o p (words.Reset reset.0) h mid mid2 word also new last (issued (Reset reset.1) life b o p mid mid2 i j) x y
 
-suspends_one : (Fits : Type 0) (c : Change) (life : Life) (b : Bench) (o p : Result ℕ ℕ) (new last : Bench) → Suspends Fits c life b o new → Suspends Fits c life b p last → Agree o p new last
+suspends_one : (Fits : Type 0) (c : Change) (life : BenchLife) (b : Bench) (o p : Result ℕ ℕ) (new last : Bench) → Suspends Fits c life b o new → Suspends Fits c life b p last → Agree o p new last
 suspends_one Fits c life b o p new last (inl x) (inl y) = issued c life b o p new last x.1 y.1
 suspends_one Fits c life b o p new last (inr (inl x)) y = inl (starves b new x.2)
 suspends_one Fits c life b o p new last (inl x) (inr (inl y)) = inr (inl (starves b last y.2))
@@ -96,13 +96,13 @@ suspends_one Fits c life b o p new last (inl x) (inr (inr y)) = absurd (y.0 x.0)
 suspends_one Fits c life b o p new last (inr (inr x)) (inl y) = absurd (x.0 y.0)
 suspends_one Fits c life b o p new last (inr (inr x)) (inr (inr y)) = same o p (Err 3) new last b x.1 y.1 x.2 y.2
 
-sleeps_one : (site opaque h : ℕ) (life : Life) (b : Bench) (word also : Word) (new last : Bench) → Sleeps site opaque h life b word new → Sleeps site opaque h life b also last → Agree word also new last
+sleeps_one : (site opaque h : ℕ) (life : BenchLife) (b : Bench) (word also : Word) (new last : Bench) → Sleeps site opaque h life b word new → Sleeps site opaque h life b also last → Agree word also new last
 sleeps_one site opaque h life b word also new last (inl x) (inl y) = refuses_one Denied h life b word also new last x.1 y.1
 sleeps_one site opaque h life b word also new last (inl x) (inr y) = absurd (x.0 y.0)
 sleeps_one site opaque h life b word also new last (inr x) (inl y) = absurd (y.0 x.0)
 sleeps_one site opaque h life b word also new last (inr (alone, o, mid, i, x)) (inr (also_alone, p, mid2, j, y)) = held_one o p words.Asleep h mid mid2 word also new last (suspends_one _ _ life b o p mid mid2 i j) x y
 
-by_one : (asked : Result ℕ SbiError) (opaque h : ℕ) (life : Life) (b : Bench) (word also : Word) (new last : Bench) → SleepsBy asked opaque h life b word new → SleepsBy asked opaque h life b also last → Agree word also new last
+by_one : (asked : Result ℕ SbiError) (opaque h : ℕ) (life : BenchLife) (b : Bench) (word also : Word) (new last : Bench) → SleepsBy asked opaque h life b word new → SleepsBy asked opaque h life b also last → Agree word also new last
 by_one (Err e) opaque h life b word also new last x y = refuses_one e h life b word also new last x y
 by_one (Ok site) opaque h life b word also new last x y = sleeps_one site opaque h life b word also new last x y
 
@@ -129,18 +129,18 @@ checked_one size kind address (Ok a) (Err e) x y = never_both size kind address 
 checked_one size kind address (Err e) (Ok a) x y = never_both size kind address a e y x
 checked_one size kind address (Err e) (Err f) x y = ap (λ k. Err k) (checked_err size kind address e f x y)
 
-makes_one : (call : Call) (h : ℕ) (life : Life) (b : Bench) (word also : Word) (new last : Bench) → MakesCall call h life b word new → MakesCall call h life b also last → Agree word also new last
+makes_one : (call : Call) (h : ℕ) (life : BenchLife) (b : Bench) (word also : Word) (new last : Bench) → MakesCall call h life b word new → MakesCall call h life b also last → Agree word also new last
 makes_one (calls.SystemReset kind reason) h life b word also new last x y = resets_one (reset_of kind reason) h life b word also new last x y
 makes_one (calls.SystemSuspend kind address opaque) h life b word also new last (asked, checked, x) (other, checked2, y) =
     let P : Result ℕ SbiError → Type 0 = λ r. SleepsBy r opaque h life b also last in
     by_one asked opaque h life b word also new last x (subst P (sym (checked_one life.machine.size kind address asked other checked checked2)) y)
 makes_one call h life b word also new last x y = refuses_one NotSupported h life b word also new last x y
 
-pub comes_one : (did : Turned) (h : ℕ) (life : Life) (b : Bench) (word also : Word) (new last : Bench) → Comes did h life b word new → Comes did h life b also last → Agree word also new last
+pub comes_one : (did : Turned) (h : ℕ) (life : BenchLife) (b : Bench) (word also : Word) (new last : Bench) → Comes did h life b word new → Comes did h life b also last → Agree word also new last
 comes_one Durable h life b word also new last x y = makes_one (call_of (hart_at life.machine h)) h life b word also new last x y
 comes_one did h life b word also new last x y = same word also (words.Own did) new last b x.0 y.0 x.1 y.1
 
-turn_one : IsOneTurn → (h : ℕ) (life : Life) (b : Bench) (word also : Word) (new last : Bench) → GuestTurn h life b word new → GuestTurn h life b also last → Agree word also new last
+turn_one : IsOneTurn → (h : ℕ) (life : BenchLife) (b : Bench) (word also : Word) (new last : Bench) → GuestTurn h life b word new → GuestTurn h life b also last → Agree word also new last
 turn_one one h life b word also new last (m, did, t, x) (other, did2, t2, y) =
     let e = one h life.machine m other did did2 t t2 in
     let P : Machine → Type 0 = λ k. Comes did2 h (has_machine k life) (on_with (has_machine k life) b) also last in
@@ -187,7 +187,7 @@ more_one rest others word also made other new last e f (inr (inr x)) =
 pub turns_one : IsOneTurn → (h n : ℕ) (b : Bench) (made other : ℕ) (word also : Word) (new last : Bench) → GuestTurns h n b made word new → GuestTurns h n b other also last → Agree (row made word) (row other also) new last
 turns_one one h zero b made other word also new last x y = absurd x
 turns_one one h (suc n) b made other word also new last (life, on, said, mid, t, x) (life2, on2, said2, mid2, t2, y) =
-    let L : Life → Type 0 = λ l. GuestTurn h l b said2 mid2 in
+    let L : BenchLife → Type 0 = λ l. GuestTurn h l b said2 mid2 in
     go x y (turn_one one h life b said said2 mid mid2 t (subst L (some_inj life life2 b.power on on2) t2))
     (λ rest others e x y. (let M : Bench → Type 0 = λ m. GuestTurns h n m others also last in turns_one one h n mid rest others word also new last x (subst M (sym e) y)))
   where

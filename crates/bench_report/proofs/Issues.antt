@@ -5,7 +5,7 @@ use Rattle.std.specs.Bool.{⊤}
 use Rattle.board_model.specs.Durable.{State, Change, formatted, refusal_of, after}
 use Rattle.board_model.specs.Kept.{Kept, found_of, MayFind, TakesIn}
 use Rattle.bench_report.specs.Taken.{Takes, TakesSome, TakesFewer}
-use Rattle.bench_report.specs.Bench.{Formatted, Life, Bench}
+use Rattle.bench_report.specs.Bench.{Formatted, BenchLife, Bench}
 use Rattle.bench_report.specs.Steps.{failed, acknowledged, in_doubt, Writes, IssuedBy, Issued, IssuesAll}
 use Rattle.bench_report.proofs.Adapted.{grows}
 use Rattle.bench_report.proofs.Table.{table_not_six}
@@ -15,12 +15,12 @@ abbrev pub takes_more : Option Change → Bool
 takes_more None = true
 takes_more (Some c) = false
 
-abbrev pub is_up : Option Life → Bool
+abbrev pub is_up : Option BenchLife → Bool
 is_up None = false
 is_up (Some life) = takes_more life.doubt
 
 -- a life goes on from what the disk keeps
-abbrev pub GoesOn : Kept → Option Life → Type 0
+abbrev pub GoesOn : Kept → Option BenchLife → Type 0
 GoesOn kept None = ⊤
 GoesOn kept (Some life) = (kept.doubt ≡ life.doubt) × (life.now ≡ found_of kept.changes)
 
@@ -48,8 +48,8 @@ Went (Err n) c up now s t =
 abbrev pub Does : Change → Bool → Bench → Result ℕ ℕ → Bench → Type 0
 Does c up b o new = Back b new (Went o c up (is_up new.power))
 
-module _ (c : Change) (life : Life) (b : Bench) (o : Result ℕ ℕ) (new : Bench) (sound : IsSound b) (on : b.power ≡ Some life) where
-  abbrev Follow : Option Life → Type 0
+module _ (c : Change) (life : BenchLife) (b : Bench) (o : Result ℕ ℕ) (new : Bench) (sound : IsSound b) (on : b.power ≡ Some life) where
+  abbrev Follow : Option BenchLife → Type 0
   Follow p = GoesOn b.kept p
 
   follow : (b.kept.doubt ≡ life.doubt) × (life.now ≡ found_of b.kept.changes)

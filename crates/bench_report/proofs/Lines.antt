@@ -17,7 +17,7 @@ use Rattle.bench_report.specs.declared.power.Power.{Power}
 use Rattle.bench_report.specs.declared.power.Power.TheVariants.{Off, On}
 use Rattle.bench_report.specs.declared.printed.Answer.{Answer}
 use Rattle.bench_report.specs.Below.{SimStore, SimBoard, store_in, machine_in, store_facts, store_fault_state}
-use Rattle.bench_report.specs.Bench.{Life, Bench}
+use Rattle.bench_report.specs.Bench.{BenchLife, Bench}
 use Rattle.bench_report.specs.Steps.{shows, on_with, has_machine, FormatsOn, FormatStep, PowersOn, OnStep, PayloadStep, CallReported, GuestCall, TurnStep, CallStep, ReadStep}
 use Rattle.bench_report.proofs.Commanded.{Running, running_on}
 use Rattle.bench_report.proofs.Came.{Stands, has_other, comes, turns}
@@ -25,23 +25,23 @@ use Rattle.bench_report.specs.Agree.{StoreIs, BoardIs, DeviceIs, OffIs, OnIs, St
 
 -- a board that is off
 pub off_formats : (size : Size) (b : Bench) (a : Answer) (after : Power) → b.power ≡ None → StepsTo size b after (FormatsOn b.disk_state b a) → StepsTo size b after (FormatStep b.power b a)
-off_formats size b a after none did = let P : Option Life → Type 0 = λ p. FormatStep p b a did.0 in (did.0, subst P (sym none) did.1, did.2, did.3)
+off_formats size b a after none did = let P : Option BenchLife → Type 0 = λ p. FormatStep p b a did.0 in (did.0, subst P (sym none) did.1, did.2, did.3)
 
 pub off_powers : (size : Size) (b : Bench) (mode : BootMode) (a : Answer) (after : Power) → b.power ≡ None → StepsTo size b after (PowersOn size mode b a) → StepsTo size b after (OnStep size b.power mode b a)
-off_powers size b mode a after none did = let P : Option Life → Type 0 = λ p. OnStep size p mode b a did.0 in (did.0, subst P (sym none) did.1, did.2, did.3)
+off_powers size b mode a after none did = let P : Option BenchLife → Type 0 = λ p. OnStep size p mode b a did.0 in (did.0, subst P (sym none) did.1, did.2, did.3)
 
 -- a board that is on has a life
-life_by : {X : Type 0} (size : Size) (b : Bench) (board : SimBoard) (p : Option Life) → b.power ≡ p → OnIs size b board → ((life : Life) → b.power ≡ Some life → X) → X
-life_by size b board None e was then = let P : Option Life → Type 0 = λ p. BoardIs size b.disk_state b.kept p board in absurd (subst P e was.0)
+life_by : {X : Type 0} (size : Size) (b : Bench) (board : SimBoard) (p : Option BenchLife) → b.power ≡ p → OnIs size b board → ((life : BenchLife) → b.power ≡ Some life → X) → X
+life_by size b board None e was then = let P : Option BenchLife → Type 0 = λ p. BoardIs size b.disk_state b.kept p board in absurd (subst P e was.0)
 life_by size b board (Some life) e was then = then life e
 
-pub on_life : {X : Type 0} (size : Size) (b : Bench) (board : SimBoard) → OnIs size b board → ((life : Life) → b.power ≡ Some life → X) → X
+pub on_life : {X : Type 0} (size : Size) (b : Bench) (board : SimBoard) → OnIs size b board → ((life : BenchLife) → b.power ≡ Some life → X) → X
 on_life size b board was then = life_by size b board b.power refl was then
 
 pub on_reads : (size : Size) (b : Bench) (board : SimBoard) (says_so : Machine → MachineLine → Type 0) (line : MachineLine) → OnIs size b board → says_so (machine_in board) line → ReadStep b.power says_so b (shows line) b
 on_reads size b board says_so line was so = by b.power was.0
   where
-    by : (p : Option Life) → BoardIs size b.disk_state b.kept p board → ReadStep p says_so b (shows line) b
+    by : (p : Option BenchLife) → BoardIs size b.disk_state b.kept p board → ReadStep p says_so b (shows line) b
     by None is = absurd is
     by (Some life) is = let P : Machine → Type 0 = λ m. says_so m line in (line, subst P is.1 so, refl, refl)
 
@@ -51,12 +51,12 @@ as_it_was size b old new was still same =
     let R : SimStore → Type 0 = λ store. DeviceIs size b (store_fault_state store) (store_facts store) in
     (by b.power was.0, subst R (sym same) was.1)
   where
-    by : (p : Option Life) → BoardIs size b.disk_state b.kept p old → BoardIs size b.disk_state b.kept p new
+    by : (p : Option BenchLife) → BoardIs size b.disk_state b.kept p old → BoardIs size b.disk_state b.kept p new
     by None is = absurd is
     by (Some life) is = let Q : SimStore → Type 0 = λ store. StoreIs size b.disk_state b.kept life store in (subst Q (sym same) is.0, still ∙ is.1)
 
 -- a board by what is said of it, and by its machine and its store
-on_runs : (size : Size) (b : Bench) (life : Life) (board : SimBoard) → b.power ≡ Some life → BoardIs size b.disk_state b.kept (Some life) board → DeviceIs size b (store_fault_state (store_in board)) (store_facts (store_in board))
+on_runs : (size : Size) (b : Bench) (life : BenchLife) (board : SimBoard) → b.power ≡ Some life → BoardIs size b.disk_state b.kept (Some life) board → DeviceIs size b (store_fault_state (store_in board)) (store_facts (store_in board))
     → Running size b (machine_in board) (store_in board)
 on_runs size b life board on is device = (life, on, is.0, is.1, device)
 
@@ -71,7 +71,7 @@ pub on_turns : (size : Size) (b : Bench) (old new : SimBoard) (h n made : ℕ) (
     → StepsTo size b after (TurnStep b.power h n b (shows (shown.Turn h made word)))
 on_turns size b old new h n made word after was has turned agrees = by b.power was.0 refl
   where
-    by : (p : Option Life) → BoardIs size b.disk_state b.kept p old → b.power ≡ p → StepsTo size b after (TurnStep p h n b (shows (shown.Turn h made word)))
+    by : (p : Option BenchLife) → BoardIs size b.disk_state b.kept p old → b.power ≡ p → StepsTo size b after (TurnStep p h n b (shows (shown.Turn h made word)))
     by None is on = absurd is
     by (Some life) is on =
         let P : Machine → Type 0 = λ m. HasHart m h in
@@ -79,7 +79,7 @@ on_turns size b old new h n made word after was has turned agrees = by b.power w
         (did.0, inl (subst P is.1 has, made, word, did.1, refl), agrees did.0 (stands_by size word did.0 new did.2), did.3)
 
 -- a line whose hart the board lacks
-lacks : (size : Size) (b : Bench) (board : SimBoard) (h : ℕ) (p : Option Life) → BoardIs size b.disk_state b.kept p board → (HasHart (machine_in board) h → ⊥) → (step : Option Life → Type 0) → ((life : Life) → (HasHart life.machine h → ⊥) → step (Some life)) → step p
+lacks : (size : Size) (b : Bench) (board : SimBoard) (h : ℕ) (p : Option BenchLife) → BoardIs size b.disk_state b.kept p board → (HasHart (machine_in board) h → ⊥) → (step : Option BenchLife → Type 0) → ((life : BenchLife) → (HasHart life.machine h → ⊥) → step (Some life)) → step p
 lacks size b board h None is not step then = absurd is
 lacks size b board h (Some life) is not step then = let P : Machine → Type 0 = λ m. HasHart m h → ⊥ in then life (subst P is.1 not)
 
@@ -101,7 +101,7 @@ module _ (size : Size) (b : Bench) (old new : SimBoard) (h e f x y z : ℕ) (sai
   Follows None = (w : Bench) → OnIs size w new → Agrees size w after
   Follows (Some word) = (w : Bench) → StandsBy size word w new → Agrees size w after
 
-  came : (life : Life) (m : Machine) (called : Called) → b.power ≡ Some life → BoardIs size b.disk_state b.kept (Some life) old → m.size ≡ life.machine.size
+  came : (life : BenchLife) (m : Machine) (called : Called) → b.power ≡ Some life → BoardIs size b.disk_state b.kept (Some life) old → m.size ≡ life.machine.size
       → boards.ComesOf called h m (machine_in new) (store_in old) (store_in new) said → Follows said
       → (w : Bench) × GuestCall called h (has_machine m life) (on_with (has_machine m life) b) (shows line) w × Agrees size w after × (w.payloads ≡ b.payloads)
   came life m NotStarted on is sized (same, still, none) follows =
@@ -121,7 +121,7 @@ module _ (size : Size) (b : Bench) (old new : SimBoard) (h e f x y z : ℕ) (sai
   pub on_calls : boards.Calls h e f x y z (machine_in old) (machine_in new) (store_in old) (store_in new) said → Follows said → StepsTo size b after (CallStep b.power h e f x y z b (shows line))
   on_calls (m, called, call, comes_of) follows = by b.power was.0 refl
     where
-      by : (p : Option Life) → BoardIs size b.disk_state b.kept p old → b.power ≡ p → StepsTo size b after (CallStep p h e f x y z b (shows line))
+      by : (p : Option BenchLife) → BoardIs size b.disk_state b.kept p old → b.power ≡ p → StepsTo size b after (CallStep p h e f x y z b (shows line))
       by None is on = absurd is
       by (Some life) is on =
           let P : Machine → Type 0 = λ k. HasHart k h in
@@ -143,14 +143,14 @@ pub keeps_off : (size : Size) (b : Bench) (power : Power) (disk : SimDisk) (slot
     → Keeps size b power slot bytes (shown.Payload slot (length bytes)) new
 keeps_off size b power disk slot bytes old new at was set =
     let next : Bench = record b { payloads = slice_set b.payloads slot bytes } in
-    let P : Option Life → Type 0 = λ p. PayloadStep p slot bytes b (shows (shown.Payload slot (length bytes))) next in
+    let P : Option BenchLife → Type 0 = λ p. PayloadStep p slot bytes b (shows (shown.Payload slot (length bytes))) next in
     let Q : Power → Type 0 = λ p. Agrees size b p in
     let R : Power → Type 0 = λ p. Agrees size next p in
     let off : OffIs size b disk = subst Q at was.0 in
     let next_off : OffIs size next disk = off in
     (next, subst P (sym off.0) (refl, refl), (subst R (sym at) next_off, set ∙ ap (λ ps. slice_set ps slot bytes) was.1))
 
-busy_on : (size : Size) (b : Bench) (power : Power) (board : SimBoard) (p : Option Life) (slot : ℕ) (bytes : List ℕ) (old : List (List ℕ)) → BoardIs size b.disk_state b.kept p board → IsBench size b power old
+busy_on : (size : Size) (b : Bench) (power : Power) (board : SimBoard) (p : Option BenchLife) (slot : ℕ) (bytes : List ℕ) (old : List (List ℕ)) → BoardIs size b.disk_state b.kept p board → IsBench size b power old
     → (new : Bench) × PayloadStep p slot bytes b (shows shown.Busy) new × Matches size new power old
 busy_on size b power board None slot bytes old is was = absurd is
 busy_on size b power board (Some life) slot bytes old is was = (b, (refl, refl), (was.0, was.1))

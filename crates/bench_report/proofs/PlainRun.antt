@@ -14,7 +14,7 @@ use Rattle.disk.specs.FaultState.{FaultArmed, CutArmed}
 use Rattle.bench_report.specs.declared.printed.ConsoleWord.{ConsoleWord}
 use Rattle.bench_report.specs.declared.printed.ConsoleWord.TheVariants as names
 use Rattle.bench_report.specs.declared.printed.Answer.{Answer}
-use Rattle.bench_report.specs.Bench.{DiskState, Blank, Unknown, Formatted, Life, Bench, IsFailureFree, blank_bench}
+use Rattle.bench_report.specs.Bench.{DiskState, Blank, Unknown, Formatted, BenchLife, Bench, IsFailureFree, blank_bench}
 use Rattle.bench_report.specs.Steps.{on_with, settled, acknowledged, begun, Writes, Issued, IssuedBy, ShowsFound, ArmStep, FormatsOn, Boots, Begins, Opens, IsOpenRefusal, PowersOn, FormatStep, OnStep, ConsoleStep, PayloadStep, Step, Run}
 use Rattle.bench_report.specs.Reports.{IsByFirmware, AreByFirmware, IsReport}
 use Rattle.bench_report.specs.Plain.{plain_written, plain_issued, plain_console, plain_format, plain_slot, plain_boot, plain_on, plain_at, plain, plain_answers, plain_report, IsPlain, ArePlain}
@@ -25,7 +25,7 @@ use Rattle.bench_report.proofs.Single.{IsOneCall, IsOneCsr, one_report}
 use Rattle.bench_report.proofs.Guests.{IsOneTurn}
 
 -- nothing is in doubt, and a life has room for its receipts
-abbrev CalmPower : Option Life → Type 0
+abbrev CalmPower : Option BenchLife → Type 0
 CalmPower None = ⊤
 CalmPower (Some life) = (life.doubt ≡ None) × (life.receipts ≤ 4096)
 
@@ -45,10 +45,10 @@ still b step reported h e good = let P : Bench → Type 0 = λ x. IsGood x × As
 abbrev MakesNone : Change → Type 0
 MakesNone c = (s : State) → s.image ≡ None → (after s c).image ≡ None
 
-abbrev WellIssued : Change → Life → Bench → Result ℕ ℕ × Bench → Type 0
+abbrev WellIssued : Change → BenchLife → Bench → Result ℕ ℕ × Bench → Type 0
 WellIssued c life b reported = Issued c life b reported.0 reported.1 × IsGood reported.1 × AsMany b reported.1
 
-written : (r : Option ℕ) (c : Change) (life : Life) (b : Bench) → MakesNone c → refusal_of life.now c ≡ r → life.doubt ≡ None → life.receipts < 4096 → IsGood b → WellIssued c life b (plain_written r c life b)
+written : (r : Option ℕ) (c : Change) (life : BenchLife) (b : Bench) → MakesNone c → refusal_of life.now c ≡ r → life.doubt ≡ None → life.receipts < 4096 → IsGood b → WellIssued c life b (plain_written r c life b)
 written (Some n) c life b none at calm few good =
     let P : Option Change → Type 0 = λ d. IssuedBy d c life b (Err n) b in
     let Q : Option ℕ → Type 0 = λ r. Writes r c life b (Err n) b in
@@ -58,7 +58,7 @@ written None c life b none at calm few good =
     let Q : Option ℕ → Type 0 = λ r. Writes r c life b (Ok (life.receipts + 1)) (acknowledged c life b) in
     (subst P (sym calm) (inr (few, subst Q (sym at) (inl (refl, refl)))), (good.0, (calm, omega (arith, few)), good.2, ap (λ (s : State). s.image) (grows formatted b.kept.changes c) ∙ none (found_of b.kept.changes) good.3), (refl, refl))
 
-issued : (full : Bool) (c : Change) (life : Life) (b : Bench) → MakesNone c → (life.receipts == 4096) ≡ full → life.doubt ≡ None → life.receipts ≤ 4096 → IsGood b → WellIssued c life b (plain_issued c life b)
+issued : (full : Bool) (c : Change) (life : BenchLife) (b : Bench) → MakesNone c → (life.receipts == 4096) ≡ full → life.doubt ≡ None → life.receipts ≤ 4096 → IsGood b → WellIssued c life b (plain_issued c life b)
 issued true c life b none at calm few good =
     let P : Bool → Type 0 = λ t. WellIssued c life b (cond t (Err 10, b) (plain_written (refusal_of life.now c) c life b)) in
     let Q : Option Change → Type 0 = λ d. IssuedBy d c life b (Err 10) b in
@@ -73,7 +73,7 @@ issued false c life b none at calm few good =
     less : (n : ℕ) → (n == 4096) ≡ false → n ≤ 4096 → n < 4096
     less n h few = grind (arith, h, few)
 
-console_at : (word : ConsoleWord) (c : Change) (p : Option Life) (b : Bench) → MakesNone c → CalmPower p → IsGood b → Well b (ConsoleStep word c p b) (plain_console word c p b)
+console_at : (word : ConsoleWord) (c : Change) (p : Option BenchLife) (b : Bench) → MakesNone c → CalmPower p → IsGood b → Well b (ConsoleStep word c p b) (plain_console word c p b)
 console_at word c None b none calm good = still b (ConsoleStep word c None b) (plain_console word c None b) (refl, refl) refl good
 console_at word c (Some life) b none calm good =
     let reported = plain_issued c life b in
@@ -86,7 +86,7 @@ formats Blank b calm good = (inl (refl, refl), (refl, good.1, good.2, refl), (re
 formats Unknown b calm good = absurd calm
 formats Formatted b calm good = (inl (refl, refl), good, (refl, refl))
 
-format_at : (size : Size) (p : Option Life) (b : Bench) → IsGood b → Well b (FormatStep p b) (plain_at size p lines.Format b)
+format_at : (size : Size) (p : Option BenchLife) (b : Bench) → IsGood b → Well b (FormatStep p b) (plain_at size p lines.Format b)
 format_at size None b good = formats b.disk_state b good.0 good
 format_at size (Some life) b good = ((refl, refl), good, (refl, refl))
 
@@ -124,16 +124,16 @@ powers size Formatted mode b at calm good =
     let did = boots (boot_refusal s mode) mode size s mid good.3 refl (subst Q (sym at) refl, good.1, good.2, good.3) in
     (inl (s, size, mid, subst P (sym at) (b.kept.changes, inl refl, refl, refl, refl), found_line (boot_refusal s mode) mode size s mid, did.0), did.1, did.2)
 
-on_at : (size : Size) (p : Option Life) (mode : BootMode) (b : Bench) → IsGood b → Well b (OnStep size p mode b) (plain_at size p (lines.On mode) b)
+on_at : (size : Size) (p : Option BenchLife) (mode : BootMode) (b : Bench) → IsGood b → Well b (OnStep size p mode b) (plain_at size p (lines.On mode) b)
 on_at size None mode b good = powers size b.disk_state mode b refl good.0 good
 on_at size (Some life) mode b good = ((refl, refl), good, (refl, refl))
 
-payload_at : (size : Size) (p : Option Life) (slot : ℕ) (bytes : List ℕ) (b : Bench) → IsGood b → Well b (PayloadStep p slot bytes b) (plain_at size p (lines.Payload slot bytes) b)
+payload_at : (size : Size) (p : Option BenchLife) (slot : ℕ) (bytes : List ℕ) (b : Bench) → IsGood b → Well b (PayloadStep p slot bytes b) (plain_at size p (lines.Payload slot bytes) b)
 payload_at size None slot bytes b good = ((refl, refl), good, (refl, refl))
 payload_at size (Some life) slot bytes b good = ((refl, refl), good, (refl, refl))
 
 -- ---- lines
-by_power : (p : Option Life) (P : Option Life → Type 0) → P None → ((life : Life) → P (Some life)) → P p
+by_power : (p : Option BenchLife) (P : Option BenchLife → Type 0) → P None → ((life : BenchLife) → P (Some life)) → P p
 by_power None P x y = x
 by_power (Some life) P x y = y life
 

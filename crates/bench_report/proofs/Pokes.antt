@@ -12,7 +12,7 @@ use Rattle.bench_report.specs.declared.power.Power.TheVariants.{Off}
 use Rattle.bench_report.specs.declared.printed.Answer.{Answer}
 use Rattle.bench_report.specs.declared.printed.Printed.TheVariants as printed
 use Rattle.bench_report.specs.Below.{facts, fault_state}
-use Rattle.bench_report.specs.Bench.{Life, Bench}
+use Rattle.bench_report.specs.Bench.{BenchLife, Bench}
 use Rattle.bench_report.specs.Steps.{says, unknown, PokeStep}
 use Rattle.bench_report.specs.Agree.{DeviceIs, OffIs, Agrees, Matches, StepsTo}
 use Rattle.bench_report.proofs.Devices.{stays}
@@ -26,7 +26,7 @@ device size b old new was same long = stays size b (fault_state old) (fault_stat
 pub poked_off : (size : Size) (b : Bench) (old new : SimDisk) (a : Answer) → OffIs size b old → NoCall (facts old) (facts new) (fault_state old) (fault_state new) → SameLength (facts old) (facts new)
     → a ≡ says printed.Poked → StepsTo size b (Off new) (PokeStep b.power b a)
 poked_off size b old new a was same long e =
-    let P : Option Life → Type 0 = λ p. PokeStep p b a (unknown b) in
+    let P : Option BenchLife → Type 0 = λ p. PokeStep p b a (unknown b) in
     (unknown b, subst P (sym was.0) (e, refl), (was.0, tt, device size b old new was.2 same long), refl)
 
 -- a poke that was refused memory

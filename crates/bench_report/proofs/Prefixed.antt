@@ -29,7 +29,7 @@ use Rattle.bench_report.specs.declared.printed.Printed.{Printed}
 use Rattle.bench_report.specs.declared.printed.Printed.TheVariants as printed
 use Rattle.disk.specs.FaultState.{FaultArmed, CutArmed}
 use Rattle.bench_report.specs.declared.printed.Answer.{Answer}
-use Rattle.bench_report.specs.Bench.{DiskState, Blank, Unknown, Formatted, Life, Bench, blank_bench}
+use Rattle.bench_report.specs.Bench.{DiskState, Blank, Unknown, Formatted, BenchLife, Bench, blank_bench}
 use Rattle.bench_report.specs.Steps.{says, shows, out_of_memory, failed, on_with, unpowered, armed_with, formatted_anew, settled, has_machine, begun, commands_of, console_reported, IsOn, Starts, Resumes, Begins, Boots, Opens, ShowsFound, IsOpenRefusal, PowersOn, FormatsOn, FormatStep, OnStep, ConsoleStep, PayloadStep, CallReported, GuestCall, TurnStep, CallStep, ReadStep, PokeStep, Step, Moves, Run}
 use Rattle.bench_report.specs.Reports.{IsByFirmware, AreByFirmware, IsReport}
 use Rattle.bench_report.specs.Prefix.{Asked, Boot, Command, Guest, Nothing, Hides, TellsWord, TellsLine, asked_by, Refused, Lost, Tells, ShowsIts, IsPrefixed, resumes, RisesFrom, AreLoaded, is_format_ok, IsFoundByPrefix, KeepsPrefixLaw}
@@ -87,8 +87,8 @@ module _ (b : Bench) (changes : List Change) (may : MayKeep b.kept changes) (dis
   off_now : is_up b.power ≡ false
   off_now = ap is_up on
 
-  sound_off : (k : Kept) (p : Option Life) → p ≡ b.power → GoesOn k p
-  sound_off k p e = let F : Option Life → Type 0 = λ q. GoesOn k q in subst F (sym (e ∙ on)) tt
+  sound_off : (k : Kept) (p : Option BenchLife) → p ≡ b.power → GoesOn k p
+  sound_off k p e = let F : Option BenchLife → Type 0 = λ q. GoesOn k q in subst F (sym (e ∙ on)) tt
 
   shown : (s : State) → s ≡ found_of changes → ShowsIts (Some (durable_of (found_of changes))) s
   shown s e = ap durable_of (sym e)
@@ -105,7 +105,7 @@ module _ (b : Bench) (changes : List Change) (may : MayKeep b.kept changes) (dis
       → Back b mid (λ s t. (s ≡ found_of changes) × AllWent o (commands_of mode) (is_up mid.power) s t) → IsOn o mode z (found_of changes) mid a.line new → Tell (Boot mode) b a new
   is_on (Ok n) mode z a mid new found back (life, at, line, m, boots, e) =
       let Q : Bench → Type 0 = λ m. Tell (Boot mode) b a m in
-      let F : Option Life → Type 0 = λ p. GoesOn mid.kept p in
+      let F : Option BenchLife → Type 0 = λ p. GoesOn mid.kept p in
       subst Q (sym e) (
         (back.0.0, subst F at back.0.1),
         λ t f. (
@@ -176,7 +176,7 @@ console_says word c (Err k) b a new one e =
     down s t (inr (inl w)) = inr (w.0, w.3, inl w.1)
     down s t (inr (inr w)) = inr (w.0, w.2, inr (w.1, w.3))
 
-consoles : (word : ConsoleWord) (c : Change) (p : Option Life) (b : Bench) (a : Answer) (new : Bench) → IsSound b → b.power ≡ p → ConsoleStep word c p b a new → Tell (Command c) b a new
+consoles : (word : ConsoleWord) (c : Change) (p : Option BenchLife) (b : Bench) (a : Answer) (new : Bench) → IsSound b → b.power ≡ p → ConsoleStep word c p b a new → Tell (Command c) b a new
 consoles word c None b a new sound on h = stays (Command c) b a printed.Off new h.0 h.1 sound (λ s t e. (e, refl))
 consoles word c (Some life) b a new sound on (o, issued, e) = console_says word c o b a new (issued_back c life b o new sound on issued) e
 
@@ -186,18 +186,18 @@ formats Unknown b a new sound at h = absurd (let e : Unknown ≡ Formatted = sym
 formats Formatted b a new sound at (inl h) = stays Nothing b a (printed.FormatRefused 2) new h.0 h.1 sound (λ s t e. (e, refl))
 formats Formatted b a new sound at (inr h) = same Nothing b a (printed.FormatRefused 5) new (failed h.1.0 b) h.0 h.1.2 refl refl refl sound.1 sound (λ s t e. (e, refl))
 
-format_at : (p : Option Life) (b : Bench) (a : Answer) (new : Bench) → IsSound b → FormatStep p b a new → Tell Nothing b a new
+format_at : (p : Option BenchLife) (b : Bench) (a : Answer) (new : Bench) → IsSound b → FormatStep p b a new → Tell Nothing b a new
 format_at None b a new sound h = formats b.disk_state b a new sound refl h
 format_at (Some life) b a new sound h = stays Nothing b a printed.Busy new h.0 h.1 sound (λ s t e. (e, refl))
 
-on_at : (size : Size) (p : Option Life) (mode : BootMode) (b : Bench) (a : Answer) (new : Bench) → IsSound b → b.power ≡ p → OnStep size p mode b a new → Tell (Boot mode) b a new
+on_at : (size : Size) (p : Option BenchLife) (mode : BootMode) (b : Bench) (a : Answer) (new : Bench) → IsSound b → b.power ≡ p → OnStep size p mode b a new → Tell (Boot mode) b a new
 on_at size None mode b a new sound on h = powers size mode b a new sound on h
 on_at size (Some life) mode b a new sound on h = stays (Boot mode) b a printed.Busy new h.0 h.1 sound (λ s t e. (e, refl))
 
 shows_on : (line : MachineLine) (b : Bench) (a : Answer) (new : Bench) → IsSound b → a ≡ shows line → new ≡ b → Tell Nothing b a new
 shows_on line b a new sound e f = stays Nothing b a (printed.Shown line) new e f sound (λ s t e. (e, refl))
 
-payload_at : (p : Option Life) (slot : ℕ) (bytes : List ℕ) (b : Bench) (a : Answer) (new : Bench) → IsSound b → PayloadStep p slot bytes b a new → Tell Nothing b a new
+payload_at : (p : Option BenchLife) (slot : ℕ) (bytes : List ℕ) (b : Bench) (a : Answer) (new : Bench) → IsSound b → PayloadStep p slot bytes b a new → Tell Nothing b a new
 payload_at (Some life) slot bytes b a new sound h = shows_on _ b a new sound h.0 h.1
 payload_at None slot bytes b a new sound h = same Nothing b a _ new _ h.0 h.1 refl refl refl sound.1 sound (λ s t e. (e, refl))
 
@@ -228,23 +228,23 @@ call_says (words.Reset kind) h b a new back e = line_says (words.Reset kind) (sh
 stays_off : (b : Bench) (a : Answer) (new : Bench) → IsSound b → a ≡ shows shown_lines.Off → new ≡ b → Tell Guest b a new
 stays_off b a new sound e f = stays Guest b a (printed.Shown shown_lines.Off) new e f sound (λ s t e. inl (e, refl))
 
-turn_at : (p : Option Life) (h n : ℕ) (b : Bench) (a : Answer) (new : Bench) → IsSound b → TurnStep p h n b a new → Tell Guest b a new
+turn_at : (p : Option BenchLife) (h n : ℕ) (b : Bench) (a : Answer) (new : Bench) → IsSound b → TurnStep p h n b a new → Tell Guest b a new
 turn_at None h n b a new sound x = stays_off b a new sound x.0 x.1
 turn_at (Some life) h n b a new sound (inl (has, made, word, x, e)) = turn_says word h made b a new (turns_back h n b made word new sound x) e
 turn_at (Some life) h n b a new sound (inr x) = stays_off b a new sound x.1 x.2
 
-called_at : (called : Called) (h : ℕ) (m : Machine) (life : Life) (b : Bench) (a : Answer) (new : Bench) → IsSound b → b.power ≡ Some life → GuestCall called h (has_machine m life) (on_with (has_machine m life) b) a new → Tell Guest b a new
+called_at : (called : Called) (h : ℕ) (m : Machine) (life : BenchLife) (b : Bench) (a : Answer) (new : Bench) → IsSound b → b.power ≡ Some life → GuestCall called h (has_machine m life) (on_with (has_machine m life) b) a new → Tell Guest b a new
 called_at NotStarted h m life b a new sound on x =
-    let F : Option Life → Type 0 = λ p. GoesOn b.kept p in
+    let F : Option BenchLife → Type 0 = λ p. GoesOn b.kept p in
     same Guest b a (printed.Shown (shown_lines.NotStarted h)) new (on_with (has_machine m life) b) x.0 x.1 refl refl (sym (ap is_up on)) (subst F on sound.1) sound (λ s t e. inl (e, refl))
 called_at (Made did) h m life b a new sound on (word, x, e) = call_says word h b a new (comes_back did h life (has_machine m life) b word new sound on refl refl x) e
 
-call_at : (p : Option Life) (h e f x y z : ℕ) (b : Bench) (a : Answer) (new : Bench) → IsSound b → b.power ≡ p → CallStep p h e f x y z b a new → Tell Guest b a new
+call_at : (p : Option BenchLife) (h e f x y z : ℕ) (b : Bench) (a : Answer) (new : Bench) → IsSound b → b.power ≡ p → CallStep p h e f x y z b a new → Tell Guest b a new
 call_at None h e f x y z b a new sound on g = stays_off b a new sound g.0 g.1
 call_at (Some life) h e f x y z b a new sound on (inl (has, m, called, did, g)) = called_at called h m life b a new sound on g
 call_at (Some life) h e f x y z b a new sound on (inr g) = stays_off b a new sound g.1 g.2
 
-read_at : (p : Option Life) (says_so : Machine → MachineLine → Type 0) (b : Bench) (a : Answer) (new : Bench) → IsSound b → ReadStep p says_so b a new → Tell Nothing b a new
+read_at : (p : Option BenchLife) (says_so : Machine → MachineLine → Type 0) (b : Bench) (a : Answer) (new : Bench) → IsSound b → ReadStep p says_so b a new → Tell Nothing b a new
 read_at None says_so b a new sound x = shows_on _ b a new sound x.0 x.1
 read_at (Some life) says_so b a new sound x = shows_on x.0 b a new sound x.2 x.3
 
@@ -314,7 +314,7 @@ formatted_on Unknown b a new on (inr (inr h)) ok = other a _ h.2 refl ok
 formatted_on Formatted b a new on (inl h) ok = other a _ h.0 refl ok
 formatted_on Formatted b a new on (inr h) ok = other a _ h.0 refl ok
 
-formatted_at : (p : Option Life) (b : Bench) (a : Answer) (new : Bench) → b.power ≡ p → FormatStep p b a new → is_format_ok a.line ≡ true → IsFresh new
+formatted_at : (p : Option BenchLife) (b : Bench) (a : Answer) (new : Bench) → b.power ≡ p → FormatStep p b a new → is_format_ok a.line ≡ true → IsFresh new
 formatted_at None b a new on h ok = formatted_on b.disk_state b a new on h ok
 formatted_at (Some life) b a new on h ok = other a _ h.0 refl ok
 
@@ -337,7 +337,7 @@ boots_no None mode z s b x new (inl h) ok = begins_no mode z s b x new h ok
 boots_no None mode z s b x new (inr h) ok = by_line x _ h.0 refl ok
 boots_no (Some n) mode z s b x new h ok = by_line x _ h.0 refl ok
 
-powers_no : {T : Type 0} (size : Size) (p : Option Life) (mode : BootMode) (b : Bench) (a : Answer) (new : Bench) → OnStep size p mode b a new → is_format_ok a.line ≡ true → T
+powers_no : {T : Type 0} (size : Size) (p : Option BenchLife) (mode : BootMode) (b : Bench) (a : Answer) (new : Bench) → OnStep size p mode b a new → is_format_ok a.line ≡ true → T
 powers_no size (Some life) mode b a new h ok = other a _ h.0 refl ok
 powers_no size None mode b a new (inl h) ok = boots_no (boot_refusal h.0 mode) mode h.1 h.0 h.2 a.line new h.5 ok
 powers_no size None mode b a new (inr (inl h)) ok = other a _ h.2 refl ok
@@ -348,15 +348,15 @@ reported_no : {T : Type 0} (word : ConsoleWord) (o : Result ℕ ℕ) (a : Answer
 reported_no word (Ok n) a e ok = other a _ e refl ok
 reported_no word (Err n) a e ok = other a _ e refl ok
 
-console_no : {T : Type 0} (word : ConsoleWord) (c : Change) (p : Option Life) (b : Bench) (a : Answer) (new : Bench) → ConsoleStep word c p b a new → is_format_ok a.line ≡ true → T
+console_no : {T : Type 0} (word : ConsoleWord) (c : Change) (p : Option BenchLife) (b : Bench) (a : Answer) (new : Bench) → ConsoleStep word c p b a new → is_format_ok a.line ≡ true → T
 console_no word c None b a new h ok = other a _ h.0 refl ok
 console_no word c (Some life) b a new h ok = reported_no word h.0 a h.2 ok
 
-payload_no : {T : Type 0} (p : Option Life) (slot : ℕ) (bytes : List ℕ) (b : Bench) (a : Answer) (new : Bench) → PayloadStep p slot bytes b a new → is_format_ok a.line ≡ true → T
+payload_no : {T : Type 0} (p : Option BenchLife) (slot : ℕ) (bytes : List ℕ) (b : Bench) (a : Answer) (new : Bench) → PayloadStep p slot bytes b a new → is_format_ok a.line ≡ true → T
 payload_no None slot bytes b a new h ok = other a _ h.0 refl ok
 payload_no (Some life) slot bytes b a new h ok = other a _ h.0 refl ok
 
-turn_no : {T : Type 0} (p : Option Life) (h n : ℕ) (b : Bench) (a : Answer) (new : Bench) → TurnStep p h n b a new → is_format_ok a.line ≡ true → T
+turn_no : {T : Type 0} (p : Option BenchLife) (h n : ℕ) (b : Bench) (a : Answer) (new : Bench) → TurnStep p h n b a new → is_format_ok a.line ≡ true → T
 turn_no None h n b a new x ok = other a _ x.0 refl ok
 turn_no (Some life) h n b a new (inl (has, made, word, x, e)) ok = other a _ e refl ok
 turn_no (Some life) h n b a new (inr x) ok = other a _ x.1 refl ok
@@ -366,20 +366,20 @@ call_word_no (words.Own did) h new a (life, on, e) ok = other a _ e refl ok
 call_word_no words.Asleep h new a e ok = other a _ e refl ok
 call_word_no (words.Reset kind) h new a e ok = other a _ e refl ok
 
-called_no : {T : Type 0} (called : Called) (h : ℕ) (life : Life) (b : Bench) (a : Answer) (new : Bench) → GuestCall called h life b a new → is_format_ok a.line ≡ true → T
+called_no : {T : Type 0} (called : Called) (h : ℕ) (life : BenchLife) (b : Bench) (a : Answer) (new : Bench) → GuestCall called h life b a new → is_format_ok a.line ≡ true → T
 called_no NotStarted h life b a new x ok = other a _ x.0 refl ok
 called_no (Made did) h life b a new (word, x, e) ok = call_word_no word h new a e ok
 
-call_no : {T : Type 0} (p : Option Life) (h e f x y z : ℕ) (b : Bench) (a : Answer) (new : Bench) → CallStep p h e f x y z b a new → is_format_ok a.line ≡ true → T
+call_no : {T : Type 0} (p : Option BenchLife) (h e f x y z : ℕ) (b : Bench) (a : Answer) (new : Bench) → CallStep p h e f x y z b a new → is_format_ok a.line ≡ true → T
 call_no None h e f x y z b a new g ok = other a _ g.0 refl ok
 call_no (Some life) h e f x y z b a new (inl (has, m, called, did, g)) ok = called_no called h (has_machine m life) (on_with (has_machine m life) b) a new g ok
 call_no (Some life) h e f x y z b a new (inr g) ok = other a _ g.1 refl ok
 
-read_no : {T : Type 0} (p : Option Life) (says_so : Machine → MachineLine → Type 0) (b : Bench) (a : Answer) (new : Bench) → ReadStep p says_so b a new → is_format_ok a.line ≡ true → T
+read_no : {T : Type 0} (p : Option BenchLife) (says_so : Machine → MachineLine → Type 0) (b : Bench) (a : Answer) (new : Bench) → ReadStep p says_so b a new → is_format_ok a.line ≡ true → T
 read_no None says_so b a new x ok = other a _ x.0 refl ok
 read_no (Some life) says_so b a new x ok = other a _ x.2 refl ok
 
-poke_no : {T : Type 0} (p : Option Life) (b : Bench) (a : Answer) (new : Bench) → PokeStep p b a new → is_format_ok a.line ≡ true → T
+poke_no : {T : Type 0} (p : Option BenchLife) (b : Bench) (a : Answer) (new : Bench) → PokeStep p b a new → is_format_ok a.line ≡ true → T
 poke_no None b a new x ok = other a _ x.0 refl ok
 poke_no (Some life) b a new x ok = other a _ x.0 refl ok
 
@@ -410,7 +410,7 @@ moves_format size line b a new (inr h) ok = other a _ h.4 refl ok
 -- what is found on a disk that was just formatted
 anew : (size : Size) (ls : List Line) (b : Bench) (answers : List Answer) (end : Bench) → AreByFirmware ls → IsFresh b → Run size b ls answers end → IsPrefixed formatted false ls answers × RisesFrom 0 (resumes answers) × AreLoaded ls answers
 anew size ls b answers end by (disk_state, kept, on) run =
-    let F : Option Life → Type 0 = λ p. GoesOn b.kept p in
+    let F : Option BenchLife → Type 0 = λ p. GoesOn b.kept p in
     let reported = prefixed size ls b answers end by (disk_state, subst F (sym on) tt) run in
     let P : State → Type 0 = λ s. IsPrefixed s (is_up b.power) ls answers in
     let Q : Bool → Type 0 = λ up. IsPrefixed formatted up ls answers in
@@ -418,10 +418,10 @@ anew size ls b answers end by (disk_state, kept, on) run =
     let law = subst Q (ap is_up on) (subst P (first reported.0 (subst R kept reported.1)) reported.2) in
     (law, serials_rise ls answers law, all_loaded size ls b answers end by (whole_anew b.kept b.power kept on) run)
   where
-    whole_anew : (k : Kept) (p : Option Life) → k ≡ nothing_kept → p ≡ None → IsKeptWhole size (record b { kept = k; power = p })
+    whole_anew : (k : Kept) (p : Option BenchLife) → k ≡ nothing_kept → p ≡ None → IsKeptWhole size (record b { kept = k; power = p })
     whole_anew k p e f =
         let P : Kept → Type 0 = λ k. IsKeptWhole size (record b { kept = k; power = p }) in
-        let Q : Option Life → Type 0 = λ p. IsKeptWhole size (record b { kept = nothing_kept; power = p }) in
+        let Q : Option BenchLife → Type 0 = λ p. IsKeptWhole size (record b { kept = nothing_kept; power = p }) in
         subst P (sym e) (subst Q (sym f) (disk_state, tt, tt, tt))
 
     first : (s : State) → MayFind nothing_kept s → s ≡ formatted

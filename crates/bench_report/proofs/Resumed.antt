@@ -13,7 +13,7 @@ use Rattle.script_lang.specs.declared.line.Line.TheVariants as lines
 use Rattle.bench_report.specs.declared.printed.Answer.{Answer}
 use Rattle.bench_report.specs.declared.printed.Printed.{Printed}
 use Rattle.bench_report.specs.declared.printed.Printed.TheVariants as printed
-use Rattle.bench_report.specs.Bench.{DiskState, Blank, Unknown, Formatted, Life, Bench, IsFailureFree, blank_bench}
+use Rattle.bench_report.specs.Bench.{DiskState, Blank, Unknown, Formatted, BenchLife, Bench, IsFailureFree, blank_bench}
 use Rattle.bench_report.specs.Steps.{says, on_with, settled, has_machine, acknowledged, begun, Writes, Issued, IssuesAll, ShowsFound, IsOn, Starts, Resumes, Boots, Opens, IsOpenRefusal, PowersOn, OnStep, Moves}
 use Rattle.bench_report.specs.Reports.{AreByFirmware, IsReport}
 use Rattle.bench_report.specs.Resumed.{IsMadeIn, IsResumedFrom}
@@ -63,7 +63,7 @@ found_as None s h = absurd h
 found_as (Some d) s h = ap Some h
 
 -- ---- the command of the resume
-one_writes : (c : Change) (life : Life) (b : Bench) (o : Result ℕ ℕ) (new : Bench) (n : ℕ) → o ≡ Ok n → (r : Option ℕ) → Writes r c life b o new → new ≡ acknowledged c life b
+one_writes : (c : Change) (life : BenchLife) (b : Bench) (o : Result ℕ ℕ) (new : Bench) (n : ℕ) → o ≡ Ok n → (r : Option ℕ) → Writes r c life b o new → new ≡ acknowledged c life b
 one_writes c life b o new n ok (Some k) w = absurd (let g : ◌≡◌ {A = Result ℕ ℕ} (Ok n) (Err k) = sym ok ∙ w.0 in let no : ⊥ = cc in no)
 one_writes c life b o new n ok None (inl w) = w.1
 one_writes c life b o new n ok None (inr (inl w)) = absurd (let g : ◌≡◌ {A = Result ℕ ℕ} (Ok n) (Err 5) = sym ok ∙ w.0 in let no : ⊥ = cc in no)
@@ -76,7 +76,7 @@ one_issued c s z b o new n ok (inr i) = one_writes c (begun s z) b o new n ok (r
 one_command : (c : Change) (s : State) (z : Size) (b : Bench) (n : ℕ) (mid : Bench) → IssuesAll (c ∷ []) (on_with (begun s z) b) (Ok n) mid → mid ≡ acknowledged c (begun s z) (on_with (begun s z) b)
 one_command c s z b n mid (life, on, first, last, i, inl (k, ok, rest)) =
     let start : Bench = on_with (begun s z) b in
-    let L : Life → Type 0 = λ l. Issued c l start first last in
+    let L : BenchLife → Type 0 = λ l. Issued c l start first last in
     rest.1 ∙ one_issued c s z start first last k ok (subst L (some_inj (begun s z) life start.power refl on) i)
 one_command c s z b n mid (life, on, first, last, i, inr (k, err, same, e)) = absurd (let no : ⊥ = cc in no)
 
@@ -127,7 +127,7 @@ powers size b a new disk_state line (inr (inl h)) = said a (printed.OnRefused h.
 powers size b a new disk_state line (inr (inr (inl h))) = said a (printed.OnRefused 11) h.1 (λ f. (let no : ⊥ = cc in no)) line
 powers size b a new disk_state line (inr (inr (inr h))) = said a (printed.OnRefused 5) h.0 (λ f. (let no : ⊥ = cc in no)) line
 
-on_at : (size : Size) (p : Option Life) (b : Bench) (a : Answer) (new : Bench) → b.disk_state ≡ Formatted → a.line ≡ printed.On modes.Resume → OnStep size p modes.Resume b a new → IsResumedFrom size b a new
+on_at : (size : Size) (p : Option BenchLife) (b : Bench) (a : Answer) (new : Bench) → b.disk_state ≡ Formatted → a.line ≡ printed.On modes.Resume → OnStep size p modes.Resume b a new → IsResumedFrom size b a new
 on_at size None b a new disk_state line h = powers size b a new disk_state line h
 on_at size (Some life) b a new disk_state line h = said a printed.Busy h.0 (λ f. (let no : ⊥ = cc in no)) line
 
@@ -169,7 +169,7 @@ spoilt_before b = by_counts b.growths b.failures refl refl
 pub finds_all : (script : Script) (answers : List Answer) (b : Bench) (mode : BootMode) (a : Answer) (new : Bench) → AreByFirmware script.lines → IsReport script answers b → b.disk_state ≡ Formatted → b.power ≡ None → Moves script.size (lines.On mode) b a new
     → a.line ≢ printed.PowerLost → IsFailureFree new → a.found ≡ Some (durable_of (found_of b.kept.changes))
 finds_all script answers b mode a new by h disk_state none (inl move) lost failure_free_bench =
-    let P : Option Life → Type 0 = λ p. OnStep script.size p mode b a new in
+    let P : Option BenchLife → Type 0 = λ p. OnStep script.size p mode b a new in
     elim (spoilt_before b) [
       | inl was ↦ powers_sure script.size mode b a new disk_state (sure script answers b by h was disk_state) failure_free_bench (subst P none move.0)
       | inr spoilt ↦ clean new failure_free_bench ((moves_fair script.size (lines.On mode) b a new tt (inl move)).0 spoilt)
@@ -194,7 +194,7 @@ powers_find size mode b a new d disk_state (inr (inl h)) reported = untold a (pr
 powers_find size mode b a new d disk_state (inr (inr (inl h))) reported = untold a (printed.OnRefused 11) d h.1 reported
 powers_find size mode b a new d disk_state (inr (inr (inr h))) reported = untold a (printed.OnRefused 5) d h.0 reported
 
-on_find : (size : Size) (p : Option Life) (mode : BootMode) (b : Bench) (a : Answer) (new : Bench) (d : Durable) → b.disk_state ≡ Formatted → OnStep size p mode b a new → a.found ≡ Some d → (s : State) × MayFind b.kept s × (d ≡ durable_of s)
+on_find : (size : Size) (p : Option BenchLife) (mode : BootMode) (b : Bench) (a : Answer) (new : Bench) (d : Durable) → b.disk_state ≡ Formatted → OnStep size p mode b a new → a.found ≡ Some d → (s : State) × MayFind b.kept s × (d ≡ durable_of s)
 on_find size None mode b a new d disk_state h reported = powers_find size mode b a new d disk_state h reported
 on_find size (Some life) mode b a new d disk_state h reported = untold a printed.Busy d h.0 reported
 

@@ -20,7 +20,7 @@ use Rattle.script_lang.specs.declared.line.Line.TheVariants as lines
 use Rattle.bench_report.specs.declared.printed.ConsoleWord.{ConsoleWord}
 use Rattle.bench_report.specs.declared.printed.ConsoleWord.TheVariants as names
 use Rattle.bench_report.specs.declared.printed.Answer.{Answer}
-use Rattle.bench_report.specs.Bench.{Life, Bench, IsFailureFree, blank_bench}
+use Rattle.bench_report.specs.Bench.{BenchLife, Bench, IsFailureFree, blank_bench}
 use Rattle.bench_report.specs.Steps.{shows, unpowered, unknown, armed_with, on_with, has_machine, console_reported, FormatStep, OnStep, ConsoleStep, PayloadStep, CallReported, GuestCall, TurnStep, CallStep, ReadStep, PokeStep, Step, Moves, Run}
 use Rattle.bench_report.specs.Reports.{IsByFirmware, AreByFirmware, IsReport}
 use Rattle.bench_report.proofs.Guests.{IsOneTurn, Row, row, comes_fair, comes_one, turns_fair, turns_one}
@@ -34,38 +34,38 @@ abbrev pub IsOneCsr : Type 0
 IsOneCsr = (h n : ℕ) (m : Machine) (line also : MachineLine) → CsrLine h n m line → CsrLine h n m also → line ≡ also
 
 -- ---- fair
-format_fair : (p : Option Life) (b : Bench) (a : Answer) (new : Bench) → FormatStep p b a new → Fair b new
+format_fair : (p : Option BenchLife) (b : Bench) (a : Answer) (new : Bench) → FormatStep p b a new → Fair b new
 format_fair None b a new h = formats_fair b.disk_state b a new h
 format_fair (Some life) b a new h = unmoved b new h.1
 
-on_fair : (size : Size) (p : Option Life) (mode : BootMode) (b : Bench) (a : Answer) (new : Bench) → OnStep size p mode b a new → Fair b new
+on_fair : (size : Size) (p : Option BenchLife) (mode : BootMode) (b : Bench) (a : Answer) (new : Bench) → OnStep size p mode b a new → Fair b new
 on_fair size None mode b a new h = powers_fair size mode b a new h
 on_fair size (Some life) mode b a new h = unmoved b new h.1
 
-console_fair : (word : ConsoleWord) (c : Change) (p : Option Life) (b : Bench) (a : Answer) (new : Bench) → ConsoleStep word c p b a new → Fair b new
+console_fair : (word : ConsoleWord) (c : Change) (p : Option BenchLife) (b : Bench) (a : Answer) (new : Bench) → ConsoleStep word c p b a new → Fair b new
 console_fair word c None b a new h = unmoved b new h.1
 console_fair word c (Some life) b a new h = issued_fair c life b h.0 new h.1
 
-payload_fair : (p : Option Life) (slot : ℕ) (bytes : List ℕ) (b : Bench) (a : Answer) (new : Bench) → PayloadStep p slot bytes b a new → Fair b new
+payload_fair : (p : Option BenchLife) (slot : ℕ) (bytes : List ℕ) (b : Bench) (a : Answer) (new : Bench) → PayloadStep p slot bytes b a new → Fair b new
 payload_fair None slot bytes b a new h = fair_to b new _ h.1 (λ s. s, λ c. inr c)
 payload_fair (Some life) slot bytes b a new h = unmoved b new h.1
 
-turn_fair : (p : Option Life) (h n : ℕ) (b : Bench) (a : Answer) (new : Bench) → TurnStep p h n b a new → Fair b new
+turn_fair : (p : Option BenchLife) (h n : ℕ) (b : Bench) (a : Answer) (new : Bench) → TurnStep p h n b a new → Fair b new
 turn_fair None h n b a new x = unmoved b new x.1
 turn_fair (Some life) h n b a new (inl (has, made, word, x, e)) = turns_fair h n b made word new x
 turn_fair (Some life) h n b a new (inr x) = unmoved b new x.2
 
-called_fair : (called : Called) (h : ℕ) (life : Life) (b : Bench) (a : Answer) (new : Bench) → GuestCall called h life b a new → Fair b new
+called_fair : (called : Called) (h : ℕ) (life : BenchLife) (b : Bench) (a : Answer) (new : Bench) → GuestCall called h life b a new → Fair b new
 called_fair NotStarted h life b a new x = unmoved b new x.1
 called_fair (Made did) h life b a new (word, x, e) = comes_fair did h life b word new x
 
-call_fair : (p : Option Life) (h e f x y z : ℕ) (b : Bench) (a : Answer) (new : Bench) → CallStep p h e f x y z b a new → Fair b new
+call_fair : (p : Option BenchLife) (h e f x y z : ℕ) (b : Bench) (a : Answer) (new : Bench) → CallStep p h e f x y z b a new → Fair b new
 call_fair None h e f x y z b a new g = unmoved b new g.1
 call_fair (Some life) h e f x y z b a new (inl (has, m, called, did, g)) =
     let rest = called_fair called h (has_machine m life) (on_with (has_machine m life) b) a new g in (λ s. rest.0 s, λ c. rest.1 c)
 call_fair (Some life) h e f x y z b a new (inr g) = unmoved b new g.2
 
-read_fair : (p : Option Life) (says_so : Machine → MachineLine → Type 0) (b : Bench) (a : Answer) (new : Bench) → ReadStep p says_so b a new → Fair b new
+read_fair : (p : Option BenchLife) (says_so : Machine → MachineLine → Type 0) (b : Bench) (a : Answer) (new : Bench) → ReadStep p says_so b a new → Fair b new
 read_fair None says_so b a new x = unmoved b new x.1
 read_fair (Some life) says_so b a new x = unmoved b new x.3
 
@@ -111,23 +111,23 @@ by_word f o p a z new last e g (inl s) = inl s
 by_word f o p a z new last e g (inr (inl s)) = inr (inl s)
 by_word f o p a z new last e g (inr (inr h)) = inr (inr (e ∙ ap f h.0 ∙ sym g, h.1))
 
-format_at : (p : Option Life) (b : Bench) (a z : Answer) (new last : Bench) → IsCalm b → FormatStep p b a new → FormatStep p b z last → Agree a z new last
+format_at : (p : Option BenchLife) (b : Bench) (a z : Answer) (new last : Bench) → IsCalm b → FormatStep p b a new → FormatStep p b z last → Agree a z new last
 format_at None b a z new last calm x y = formats b.disk_state b a z new last calm x y
 format_at (Some life) b a z new last calm x y = same a z _ new last b x.0 y.0 x.1 y.1
 
-on_at : (size : Size) (p : Option Life) (mode : BootMode) (b : Bench) (a z : Answer) (new last : Bench) → IsCalm b → OnStep size p mode b a new → OnStep size p mode b z last → Agree a z new last
+on_at : (size : Size) (p : Option BenchLife) (mode : BootMode) (b : Bench) (a z : Answer) (new last : Bench) → IsCalm b → OnStep size p mode b a new → OnStep size p mode b z last → Agree a z new last
 on_at size None mode b a z new last calm x y = powers size mode b a z new last calm x y
 on_at size (Some life) mode b a z new last calm x y = same a z _ new last b x.0 y.0 x.1 y.1
 
-console_at : (word : ConsoleWord) (c : Change) (p : Option Life) (b : Bench) (a z : Answer) (new last : Bench) → ConsoleStep word c p b a new → ConsoleStep word c p b z last → Agree a z new last
+console_at : (word : ConsoleWord) (c : Change) (p : Option BenchLife) (b : Bench) (a z : Answer) (new last : Bench) → ConsoleStep word c p b a new → ConsoleStep word c p b z last → Agree a z new last
 console_at word c None b a z new last x y = same a z _ new last b x.0 y.0 x.1 y.1
 console_at word c (Some life) b a z new last x y = by_word (λ o. console_reported word o) x.0 y.0 a z new last x.2 y.2 (issued c life b x.0 y.0 new last x.1 y.1)
 
-payload_at : (p : Option Life) (slot : ℕ) (bytes : List ℕ) (b : Bench) (a z : Answer) (new last : Bench) → PayloadStep p slot bytes b a new → PayloadStep p slot bytes b z last → Agree a z new last
+payload_at : (p : Option BenchLife) (slot : ℕ) (bytes : List ℕ) (b : Bench) (a z : Answer) (new last : Bench) → PayloadStep p slot bytes b a new → PayloadStep p slot bytes b z last → Agree a z new last
 payload_at None slot bytes b a z new last x y = same a z _ new last _ x.0 y.0 x.1 y.1
 payload_at (Some life) slot bytes b a z new last x y = same a z _ new last b x.0 y.0 x.1 y.1
 
-turn_at : IsOneTurn → (p : Option Life) (h n : ℕ) (b : Bench) (a z : Answer) (new last : Bench) → TurnStep p h n b a new → TurnStep p h n b z last → Agree a z new last
+turn_at : IsOneTurn → (p : Option BenchLife) (h n : ℕ) (b : Bench) (a z : Answer) (new last : Bench) → TurnStep p h n b a new → TurnStep p h n b z last → Agree a z new last
 turn_at one None h n b a z new last x y = same a z _ new last b x.0 y.0 x.1 y.1
 turn_at one (Some life) h n b a z new last (inl (has, made, word, x, e)) (inl (has2, other, also, y, e2)) =
     by_word (λ (r : Row). shows (shown_lines.Turn h r.made r.word)) (row made word) (row other also) a z new last e e2 (turns_one one h n b made other word also new last x y)
@@ -137,7 +137,7 @@ turn_at one (Some life) h n b a z new last (inr x) (inr y) = same a z _ new last
 
 reported_at : (h : ℕ) (word : Word) (new : Bench) (a z : Answer) → CallReported h word new a → CallReported h word new z → a ≡ z
 reported_at h (words.Own did) new a z (life, on, e) (life2, on2, e2) =
-    let P : Life → Type 0 = λ l. z ≡ shows (own_line h (hart_at l.machine h) did) in
+    let P : BenchLife → Type 0 = λ l. z ≡ shows (own_line h (hart_at l.machine h) did) in
     e ∙ sym (subst P (some_inj life life2 new.power on on2) e2)
 reported_at h words.Asleep new a z e e2 = e ∙ sym e2
 reported_at h (words.Reset kind) new a z e e2 = e ∙ sym e2
@@ -150,11 +150,11 @@ reported_one h word also a z new last (inr (inr e)) x y =
     let Q : Bench → Type 0 = λ m. CallReported h word m z in
     inr (inr (reported_at h word new a z x (subst Q (sym e.1) (subst P (sym e.0) y)), e.1))
 
-called_at : (called : Called) (h : ℕ) (life : Life) (b : Bench) (a z : Answer) (new last : Bench) → GuestCall called h life b a new → GuestCall called h life b z last → Agree a z new last
+called_at : (called : Called) (h : ℕ) (life : BenchLife) (b : Bench) (a z : Answer) (new last : Bench) → GuestCall called h life b a new → GuestCall called h life b z last → Agree a z new last
 called_at NotStarted h life b a z new last x y = same a z _ new last b x.0 y.0 x.1 y.1
 called_at (Made did) h life b a z new last (word, x, e) (also, y, e2) = reported_one h word also a z new last (comes_one did h life b word also new last x y) e e2
 
-call_at : IsOneCall → (p : Option Life) (h e f u v w : ℕ) (b : Bench) (a z : Answer) (new last : Bench) → CallStep p h e f u v w b a new → CallStep p h e f u v w b z last → Agree a z new last
+call_at : IsOneCall → (p : Option BenchLife) (h e f u v w : ℕ) (b : Bench) (a z : Answer) (new last : Bench) → CallStep p h e f u v w b a new → CallStep p h e f u v w b z last → Agree a z new last
 call_at one None h e f u v w b a z new last x y = same a z _ new last b x.0 y.0 x.1 y.1
 call_at one (Some life) h e f u v w b a z new last (inl (has, m, called, did, x)) (inl (has2, other, also, did2, y)) =
     let is = one h e f u v w life.machine m other called also did did2 in
@@ -165,12 +165,12 @@ call_at one (Some life) h e f u v w b a z new last (inl x) (inr y) = absurd (y.0
 call_at one (Some life) h e f u v w b a z new last (inr x) (inl y) = absurd (x.0 y.0)
 call_at one (Some life) h e f u v w b a z new last (inr x) (inr y) = same a z _ new last b x.1 y.1 x.2 y.2
 
-read_at : (says_so : Machine → MachineLine → Type 0) → ((m : Machine) (line also : MachineLine) → says_so m line → says_so m also → line ≡ also) → (p : Option Life) (b : Bench) (a z : Answer) (new last : Bench)
+read_at : (says_so : Machine → MachineLine → Type 0) → ((m : Machine) (line also : MachineLine) → says_so m line → says_so m also → line ≡ also) → (p : Option BenchLife) (b : Bench) (a z : Answer) (new last : Bench)
     → ReadStep p says_so b a new → ReadStep p says_so b z last → Agree a z new last
 read_at says_so one None b a z new last x y = same a z _ new last b x.0 y.0 x.1 y.1
 read_at says_so one (Some life) b a z new last (line, so, e, f) (also, so2, e2, f2) = inr (inr (e ∙ ap shows (one life.machine line also so so2) ∙ sym e2, f ∙ sym f2))
 
-poke_at : (p : Option Life) (b : Bench) (a z : Answer) (new last : Bench) → PokeStep p b a new → PokeStep p b z last → Agree a z new last
+poke_at : (p : Option BenchLife) (b : Bench) (a z : Answer) (new last : Bench) → PokeStep p b a new → PokeStep p b z last → Agree a z new last
 poke_at None b a z new last x y = same a z _ new last (unknown b) x.0 y.0 x.1 y.1
 poke_at (Some life) b a z new last x y = same a z _ new last b x.0 y.0 x.1 y.1
 

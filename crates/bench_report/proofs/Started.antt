@@ -24,7 +24,7 @@ use Rattle.bench_report.specs.declared.printed.Answer.{Answer}
 use Rattle.bench_report.specs.declared.printed.Printed.{Printed}
 use Rattle.bench_report.specs.declared.printed.Printed.TheVariants as printed
 use Rattle.bench_report.specs.Below.{SimStore, SimBoard, store_in, machine_in, facts, fault_state, store_size, store_facts, store_fault_state, IsLife, IsAs}
-use Rattle.bench_report.specs.Bench.{DiskState, Blank, Unknown, Formatted, Life, Bench}
+use Rattle.bench_report.specs.Bench.{DiskState, Blank, Unknown, Formatted, BenchLife, Bench}
 use Rattle.bench_report.specs.Steps.{says, out_of_memory, failed, off, on_with, has_machine, begun, acknowledged, in_doubt, commands_of, Writes, Issued, IssuesAll, ShowsFound, Opens, Starts, Begins, Boots, PowersOn}
 use Rattle.bench_report.specs.Agree.{AreShort, DiskIs, DeviceIs, LifeIs, OffIs, OnIs}
 use Rattle.bench_report.proofs.Adapted.{calm}
@@ -100,7 +100,7 @@ module _ (size : Size) (b : Bench) (s : State) (board : SimBoard) (line : Printe
       let mid : Bench = acknowledged c (begun s z) start in
       let P : Option ℕ → Type 0 = λ r. Writes r c (begun s z) start (Ok 1) mid in
       let one : Issued c (begun s z) start (Ok 1) mid = inr (lit< tt, subst P (sym allowed) (inl (refl, refl))) in
-      let next : Life = record (begun s z) { now = after s c; receipts = 1 } in
+      let next : BenchLife = record (begun s z) { now = after s c; receipts = 1 } in
       let Q : List Change → Type 0 = λ cs. IssuesAll cs start (Ok 0) mid in
       let all : Q (c ∷ []) = (begun s z, refl, Ok 1, mid, one, inl (1, refl, (refl, refl))) in (
         on_with (has_machine machine next) mid,

@@ -17,7 +17,7 @@ use Rattle.sbi_abi.specs.declared.ret.SbiError.TheVariants.{Failed, NotSupported
 use Rattle.sbi.specs.declared.resets.ResetType.{ResetType}
 use Rattle.sbi.specs.Resets.{reset_of}
 use Rattle.bench_report.specs.Taken.{Takes, TakesSome}
-use Rattle.bench_report.specs.Bench.{Life, Bench}
+use Rattle.bench_report.specs.Bench.{BenchLife, Bench}
 use Rattle.bench_report.specs.Prefix.{IsReset, IsSuspension, IsOfHarts, Hides, TellsWord}
 use Rattle.bench_report.specs.Steps.{out_of_memory, off, on_with, has_machine, refused, Refuses, HartCommand, Resets, Suspends, Sleeps, SleepsBy, MakesCall, Comes, GuestTurn, GuestTurns}
 use Rattle.bench_report.proofs.Issues.{takes_more, is_up, GoesOn, IsSound, Back, joined, Went, issued_back}
@@ -33,13 +33,13 @@ by_eqs word reported b new n e f x =
     subst P (sym e) (subst Q (sym f) x)
 
 -- the life goes on with another machine
-same_life : (life : Life) (b : Bench) → IsSound b → b.power ≡ Some life → (other : Life) → other.now ≡ life.now → other.doubt ≡ life.doubt → IsSound (on_with other b)
+same_life : (life : BenchLife) (b : Bench) → IsSound b → b.power ≡ Some life → (other : BenchLife) → other.now ≡ life.now → other.doubt ≡ life.doubt → IsSound (on_with other b)
 same_life life b sound on other now doubt =
-    let F : Option Life → Type 0 = λ p. GoesOn b.kept p in
+    let F : Option BenchLife → Type 0 = λ p. GoesOn b.kept p in
     let was = subst F on sound.1 in
     (sound.0, (was.0 ∙ sym doubt, now ∙ was.1))
 
-stays : (did : Word) (life : Life) (b : Bench) (other : Life) → IsSound b → b.power ≡ Some life → other.now ≡ life.now → other.doubt ≡ life.doubt
+stays : (did : Word) (life : BenchLife) (b : Bench) (other : BenchLife) → IsSound b → b.power ≡ Some life → other.now ≡ life.now → other.doubt ≡ life.doubt
     → Back b (on_with other b) (λ s t. Hides s (is_up b.power) t (is_up (on_with other b).power))
 stays did life b other sound on now doubt =
     (same_life life b sound on other now doubt, λ t found. (t, found, inl (refl, ap takes_more doubt ∙ sym (ap is_up on))))
@@ -61,7 +61,7 @@ tells_end (words.Own did) c is up s t on takes = absurd is
 tells_end words.Asleep c is up s t on takes = (on, refl, c, is, takes)
 tells_end (words.Reset kind) c is up s t on takes = (on, refl, c, is, takes)
 
-refuses_back : (e : SbiError) (h : ℕ) (life : Life) (b : Bench) (word : Word) (new : Bench) → IsSound b → b.power ≡ Some life → Refuses e h life b word new → GoesBy word b new
+refuses_back : (e : SbiError) (h : ℕ) (life : BenchLife) (b : Bench) (word : Word) (new : Bench) → IsSound b → b.power ≡ Some life → Refuses e h life b word new → GoesBy word b new
 refuses_back e h life b word new sound on x = by_eqs word (words.Own Next) b new (on_with (refused h e life) b) x.0 x.1 (stays (words.Own Next) life b (refused h e life) sound on refl refl)
 
 held_back : (o : Result ℕ ℕ) (reported : Word) (c : Change) → OfWord reported c → (h : ℕ) (b mid : Bench) (word : Word) (new : Bench) → Back b mid (Went o c (is_up b.power) (is_up mid.power)) → HartCommand o reported h mid word new → GoesBy word b new
@@ -77,7 +77,7 @@ held_back (Err n) reported c is h b mid word new back (life, on, (e, f)) =
     went s t (inr (inl w)) = inl (w.1, sym (ap is_up on) ∙ w.3 ∙ sym w.2)
     went s t (inr (inr w)) = inr (w.1, sym (ap is_up on) ∙ w.2, c, of_harts reported c is, w.3)
 
-resets_back : (asked : Result (ResetType × Reason) SbiError) (h : ℕ) (life : Life) (b : Bench) (word : Word) (new : Bench) → IsSound b → b.power ≡ Some life → Resets asked h life b word new → GoesBy word b new
+resets_back : (asked : Result (ResetType × Reason) SbiError) (h : ℕ) (life : BenchLife) (b : Bench) (word : Word) (new : Bench) → IsSound b → b.power ≡ Some life → Resets asked h life b word new → GoesBy word b new
 resets_back (Err e) h life b word new sound on x = refuses_back e h life b word new sound on x
 resets_back (Ok reset) h life b word new sound on (o, mid, i, x) =
     held_back o (words.Reset reset.0) (Reset reset.1) (reset.1, refl) h b mid word new (issued_back (Reset reset.1) life b o mid sound on i) x
@@ -86,11 +86,11 @@ resets_back (Ok reset) h life b word new sound on (o, mid, i, x) =
 none_went : (n : ℕ) (c : Change) (b mid : Bench) → IsSound b → n ≢ 6 → mid.disk_state ≡ b.disk_state → mid.kept ≡ b.kept → mid.power ≡ b.power → Back b mid (Went (Err n) c (is_up b.power) (is_up mid.power))
 none_went n c b mid sound differs disk_state kept power =
     let F : Kept → Type 0 = λ k. GoesOn k mid.power in
-    let G : Option Life → Type 0 = λ p. GoesOn b.kept p in
+    let G : Option BenchLife → Type 0 = λ p. GoesOn b.kept p in
     let K : Kept → State → Type 0 = λ k t. MayFind k t in
     ((disk_state ∙ sound.0, subst F (sym kept) (subst G (sym power) sound.1)), λ t found. (t, (let R : Kept → Type 0 = λ k. MayFind k t in subst R kept found), inl (differs, refl, ap is_up power)))
 
-suspends_back : (Fits : Type 0) (c : Change) (life : Life) (b : Bench) (o : Result ℕ ℕ) (mid : Bench) → IsSound b → b.power ≡ Some life → Suspends Fits c life b o mid → Back b mid (Went o c (is_up b.power) (is_up mid.power))
+suspends_back : (Fits : Type 0) (c : Change) (life : BenchLife) (b : Bench) (o : Result ℕ ℕ) (mid : Bench) → IsSound b → b.power ≡ Some life → Suspends Fits c life b o mid → Back b mid (Went o c (is_up b.power) (is_up mid.power))
 suspends_back Fits c life b o mid sound on (inl x) = issued_back c life b o mid sound on x.1
 suspends_back Fits c life b o mid sound on (inr (inl x)) = at 11 (out_of_memory b) x.1 x.2 (none_went 11 c b (out_of_memory b) sound (λ f. omega (arith, f)) refl refl refl)
   where
@@ -107,24 +107,24 @@ suspends_back Fits c life b o mid sound on (inr (inr x)) = at 3 b x.1 x.2 (none_
         let Q : Bench → Type 0 = λ m. Back b m (Went (Err n) c (is_up b.power) (is_up m.power)) in
         subst P (sym e) (subst Q (sym f) back)
 
-sleeps_back : (site opaque h : ℕ) (life : Life) (b : Bench) (word : Word) (new : Bench) → IsSound b → b.power ≡ Some life → Sleeps site opaque h life b word new → GoesBy word b new
+sleeps_back : (site opaque h : ℕ) (life : BenchLife) (b : Bench) (word : Word) (new : Bench) → IsSound b → b.power ≡ Some life → Sleeps site opaque h life b word new → GoesBy word b new
 sleeps_back site opaque h life b word new sound on (inl x) = refuses_back Denied h life b word new sound on x.1
 sleeps_back site opaque h life b word new sound on (inr (alone, o, mid, i, x)) =
     let hart = (hart_at life.machine h).id in
     held_back o words.Asleep (Suspend hart site opaque life.machine.memory) (hart, site, opaque, life.machine.memory, refl) h b mid word new
     (suspends_back _ (Suspend hart site opaque life.machine.memory) life b o mid sound on i) x
 
-by_back : (asked : Result ℕ SbiError) (opaque h : ℕ) (life : Life) (b : Bench) (word : Word) (new : Bench) → IsSound b → b.power ≡ Some life → SleepsBy asked opaque h life b word new → GoesBy word b new
+by_back : (asked : Result ℕ SbiError) (opaque h : ℕ) (life : BenchLife) (b : Bench) (word : Word) (new : Bench) → IsSound b → b.power ≡ Some life → SleepsBy asked opaque h life b word new → GoesBy word b new
 by_back (Err e) opaque h life b word new sound on x = refuses_back e h life b word new sound on x
 by_back (Ok site) opaque h life b word new sound on x = sleeps_back site opaque h life b word new sound on x
 
-makes_back : (call : Call) (h : ℕ) (life : Life) (b : Bench) (word : Word) (new : Bench) → IsSound b → b.power ≡ Some life → MakesCall call h life b word new → GoesBy word b new
+makes_back : (call : Call) (h : ℕ) (life : BenchLife) (b : Bench) (word : Word) (new : Bench) → IsSound b → b.power ≡ Some life → MakesCall call h life b word new → GoesBy word b new
 makes_back (calls.SystemReset kind reason) h life b word new sound on x = resets_back (reset_of kind reason) h life b word new sound on x
 makes_back (calls.SystemSuspend kind address opaque) h life b word new sound on (asked, checked, x) = by_back asked opaque h life b word new sound on x
 makes_back call h life b word new sound on x = refuses_back NotSupported h life b word new sound on x
 
 -- what comes of what the machine did, from the bench before it
-pub comes_back : (did : Turned) (h : ℕ) (life other : Life) (b : Bench) (word : Word) (new : Bench) → IsSound b → b.power ≡ Some life → other.now ≡ life.now → other.doubt ≡ life.doubt → Comes did h other (on_with other b) word new → GoesBy word b new
+pub comes_back : (did : Turned) (h : ℕ) (life other : BenchLife) (b : Bench) (word : Word) (new : Bench) → IsSound b → b.power ≡ Some life → other.now ≡ life.now → other.doubt ≡ life.doubt → Comes did h other (on_with other b) word new → GoesBy word b new
 comes_back Durable h life other b word new sound on now doubt x =
     let start : Bench = on_with other b in
     let back : GoesBy word start new = makes_back (call_of (hart_at other.machine h)) h other start word new (same_life life b sound on other now doubt) refl x in
@@ -133,7 +133,7 @@ comes_back Durable h life other b word new sound on now doubt x =
     (back.0, subst P up back.1)
 comes_back did h life other b word new sound on now doubt x = by_eqs word (words.Own did) b new (on_with other b) x.0 x.1 (stays word life b other sound on now doubt)
 
-turn_back : (h : ℕ) (life : Life) (b : Bench) (word : Word) (new : Bench) → IsSound b → b.power ≡ Some life → GuestTurn h life b word new → GoesBy word b new
+turn_back : (h : ℕ) (life : BenchLife) (b : Bench) (word : Word) (new : Bench) → IsSound b → b.power ≡ Some life → GuestTurn h life b word new → GoesBy word b new
 turn_back h life b word new sound on (m, did, turn, x) = comes_back did h life (has_machine m life) b word new sound on refl refl x
 
 -- a turn after which others follow, and those

@@ -32,7 +32,7 @@ use Rattle.bench_report.specs.declared.printed.ConsoleWord.{ConsoleWord}
 use Rattle.bench_report.specs.declared.printed.ConsoleWord.TheVariants as names
 use Rattle.bench_report.specs.declared.printed.Printed.{Printed}
 use Rattle.bench_report.specs.declared.printed.Printed.TheVariants as printed
-use Rattle.bench_report.specs.Bench.{DiskState, Blank, Unknown, Formatted, Life, Bench}
+use Rattle.bench_report.specs.Bench.{DiskState, Blank, Unknown, Formatted, BenchLife, Bench}
 use Rattle.bench_report.specs.Prefix.{IsLoaded, AreLoaded}
 use Rattle.bench_report.specs.Reports.{IsByFirmware, AreByFirmware}
 use Rattle.bench_report.specs.Steps.{out_of_memory, failed, off, on_with, unpowered, armed_with, settled, has_machine, acknowledged, in_doubt, begun, commands_of, Writes, IssuedBy, Issued, IssuesAll, refused, Refuses, HartCommand, Resets, Suspends, Sleeps, SleepsBy, MakesCall, Comes, GuestTurn, GuestTurns, FormatsOn, IsOn, Starts, Begins, Boots, Opens, IsOpenRefusal, PowersOn, FormatStep, OnStep, ConsoleStep, PayloadStep, GuestCall, TurnStep, CallStep, ReadStep, Step, Moves, Run}
@@ -45,7 +45,7 @@ abbrev DoubtWhole : Size → Option Change → Type 0
 DoubtWhole size None = ⊤
 DoubtWhole size (Some c) = CarriesWhole size c
 
-abbrev IsSized : Size → Option Life → Type 0
+abbrev IsSized : Size → Option BenchLife → Type 0
 IsSized size None = ⊤
 IsSized size (Some life) = life.machine.size ≡ size
 
@@ -75,22 +75,22 @@ module _ (size : Size) where
   same_as : (b new : Bench) → new ≡ b → IsKeptWhole size b → IsKeptWhole size new
   same_as b new e h = let P : Bench → Type 0 = IsKeptWhole size in subst P (sym e) h
 
-  sized : (life : Life) (b : Bench) → b.power ≡ Some life → IsKeptWhole size b → life.machine.size ≡ size
-  sized life b on h = let P : Option Life → Type 0 = IsSized size in subst P on h.3
+  sized : (life : BenchLife) (b : Bench) → b.power ≡ Some life → IsKeptWhole size b → life.machine.size ≡ size
+  sized life b on h = let P : Option BenchLife → Type 0 = IsSized size in subst P on h.3
 
   -- ---- commands
-  writes : (r : Option ℕ) (c : Change) (life : Life) (b : Bench) (o : Result ℕ ℕ) (new : Bench) → CarriesWhole size c → b.power ≡ Some life → IsKeptWhole size b → Writes r c life b o new → IsKeptWhole size new
+  writes : (r : Option ℕ) (c : Change) (life : BenchLife) (b : Bench) (o : Result ℕ ℕ) (new : Bench) → CarriesWhole size c → b.power ≡ Some life → IsKeptWhole size b → Writes r c life b o new → IsKeptWhole size new
   writes (Some n) c life b o new carries on h w = same_as b new w.1 h
   writes None c life b o new carries on h (inl w) = same_as (acknowledged c life b) new w.1 (h.0, more_whole size b.kept.changes c h.1 carries, h.2, sized life b on h)
   writes None c life b o new carries on h (inr (inl w)) = same_as (failed w.1.0 b) new w.1.2 h
   writes None c life b o new carries on h (inr (inr w)) = same_as (failed w.1.0 (in_doubt c life b)) new w.1.2 (h.0, h.1, carries, sized life b on h)
 
-  by_doubt : (d : Option Change) (c : Change) (life : Life) (b : Bench) (o : Result ℕ ℕ) (new : Bench) → CarriesWhole size c → b.power ≡ Some life → IsKeptWhole size b → IssuedBy d c life b o new → IsKeptWhole size new
+  by_doubt : (d : Option Change) (c : Change) (life : BenchLife) (b : Bench) (o : Result ℕ ℕ) (new : Bench) → CarriesWhole size c → b.power ≡ Some life → IsKeptWhole size b → IssuedBy d c life b o new → IsKeptWhole size new
   by_doubt (Some d) c life b o new carries on h i = same_as b new i.1 h
   by_doubt None c life b o new carries on h (inl i) = same_as b new i.2 h
   by_doubt None c life b o new carries on h (inr i) = writes (refusal_of life.now c) c life b o new carries on h i.1
 
-  issued : (c : Change) (life : Life) (b : Bench) (o : Result ℕ ℕ) (new : Bench) → CarriesWhole size c → b.power ≡ Some life → IsKeptWhole size b → Issued c life b o new → IsKeptWhole size new
+  issued : (c : Change) (life : BenchLife) (b : Bench) (o : Result ℕ ℕ) (new : Bench) → CarriesWhole size c → b.power ≡ Some life → IsKeptWhole size b → Issued c life b o new → IsKeptWhole size new
   issued c life b o new carries on h i = by_doubt life.doubt c life b o new carries on h i
 
   abbrev AllCarry : List Change → Type 0
@@ -103,49 +103,49 @@ module _ (size : Size) where
   all (c ∷ cs) b o new carry h (life, on, first, mid, i, inr x) = same_as mid new x.3 (issued c life b first mid carry.0 on h i)
 
   -- ---- turns and calls of harts
-  refuses : (e : SbiError) (h : ℕ) (life : Life) (b : Bench) (word : Word) (new : Bench) → b.power ≡ Some life → IsKeptWhole size b → Refuses e h life b word new → IsKeptWhole size new
+  refuses : (e : SbiError) (h : ℕ) (life : BenchLife) (b : Bench) (word : Word) (new : Bench) → b.power ≡ Some life → IsKeptWhole size b → Refuses e h life b word new → IsKeptWhole size new
   refuses e h life b word new on k x = same_as (on_with (refused h e life) b) new x.1 (k.0, k.1, k.2, sized life b on k)
 
   held : (o : Result ℕ ℕ) (said : Word) (h : ℕ) (b : Bench) (word : Word) (new : Bench) → IsKeptWhole size b → HartCommand o said h b word new → IsKeptWhole size new
   held (Ok n) said h b word new k x = same_as (off b) new x.1 (k.0, k.1, k.2, tt)
   held (Err n) said h b word new k (life, on, x) = refuses Failed h life b word new on k x
 
-  resets : (asked : Result (ResetType × Reason) SbiError) (h : ℕ) (life : Life) (b : Bench) (word : Word) (new : Bench) → b.power ≡ Some life → IsKeptWhole size b → Resets asked h life b word new → IsKeptWhole size new
+  resets : (asked : Result (ResetType × Reason) SbiError) (h : ℕ) (life : BenchLife) (b : Bench) (word : Word) (new : Bench) → b.power ≡ Some life → IsKeptWhole size b → Resets asked h life b word new → IsKeptWhole size new
   resets (Err e) h life b word new on k x = refuses e h life b word new on k x
   resets (Ok reset) h life b word new on k (o, mid, i, x) = held o _ h mid word new (issued (Reset reset.1) life b o mid tt on k i) x
 
-  suspends : (Fits : Type 0) (c : Change) (life : Life) (b : Bench) (o : Result ℕ ℕ) (new : Bench) → (Fits → CarriesWhole size c) → b.power ≡ Some life → IsKeptWhole size b → Suspends Fits c life b o new → IsKeptWhole size new
+  suspends : (Fits : Type 0) (c : Change) (life : BenchLife) (b : Bench) (o : Result ℕ ℕ) (new : Bench) → (Fits → CarriesWhole size c) → b.power ≡ Some life → IsKeptWhole size b → Suspends Fits c life b o new → IsKeptWhole size new
   suspends Fits c life b o new carries on k (inl x) = issued c life b o new (carries x.0) on k x.1
   suspends Fits c life b o new carries on k (inr (inl x)) = same_as (out_of_memory b) new x.2 k
   suspends Fits c life b o new carries on k (inr (inr x)) = same_as b new x.2 k
 
-  fits_whole : (life : Life) (id site opaque : ℕ) → life.machine.size ≡ size → FitsBoard life.machine.size life.machine.memory id site → CarriesWhole size (Suspend id site opaque life.machine.memory)
+  fits_whole : (life : BenchLife) (id site opaque : ℕ) → life.machine.size ≡ size → FitsBoard life.machine.size life.machine.memory id site → CarriesWhole size (Suspend id site opaque life.machine.memory)
   fits_whole life id site opaque e fits = fits.0 ∙ ap ram_bytes_of e
 
-  sleeps : (site opaque h : ℕ) (life : Life) (b : Bench) (word : Word) (new : Bench) → b.power ≡ Some life → IsKeptWhole size b → Sleeps site opaque h life b word new → IsKeptWhole size new
+  sleeps : (site opaque h : ℕ) (life : BenchLife) (b : Bench) (word : Word) (new : Bench) → b.power ≡ Some life → IsKeptWhole size b → Sleeps site opaque h life b word new → IsKeptWhole size new
   sleeps site opaque h life b word new on k (inl x) = refuses Denied h life b word new on k x.1
   sleeps site opaque h life b word new on k (inr (alone, o, mid, i, x)) =
       let id = (hart_at life.machine h).id in
       held o _ h mid word new (suspends _ (Suspend id site opaque life.machine.memory) life b o mid (λ fits. fits_whole life id site opaque (sized life b on k) fits) on k i) x
 
-  by_check : (asked : Result ℕ SbiError) (opaque h : ℕ) (life : Life) (b : Bench) (word : Word) (new : Bench) → b.power ≡ Some life → IsKeptWhole size b → SleepsBy asked opaque h life b word new → IsKeptWhole size new
+  by_check : (asked : Result ℕ SbiError) (opaque h : ℕ) (life : BenchLife) (b : Bench) (word : Word) (new : Bench) → b.power ≡ Some life → IsKeptWhole size b → SleepsBy asked opaque h life b word new → IsKeptWhole size new
   by_check (Err e) opaque h life b word new on k x = refuses e h life b word new on k x
   by_check (Ok site) opaque h life b word new on k x = sleeps site opaque h life b word new on k x
 
-  makes : (call : Call) (h : ℕ) (life : Life) (b : Bench) (word : Word) (new : Bench) → b.power ≡ Some life → IsKeptWhole size b → MakesCall call h life b word new → IsKeptWhole size new
+  makes : (call : Call) (h : ℕ) (life : BenchLife) (b : Bench) (word : Word) (new : Bench) → b.power ≡ Some life → IsKeptWhole size b → MakesCall call h life b word new → IsKeptWhole size new
   makes (calls.SystemReset kind reason) h life b word new on k x = resets (reset_of kind reason) h life b word new on k x
   makes (calls.SystemSuspend kind address opaque) h life b word new on k (asked, checked, x) = by_check asked opaque h life b word new on k x
   makes call h life b word new on k x = refuses NotSupported h life b word new on k x
 
-  comes : (did : Turned) (h : ℕ) (life : Life) (b : Bench) (word : Word) (new : Bench) → b.power ≡ Some life → IsKeptWhole size b → Comes did h life b word new → IsKeptWhole size new
+  comes : (did : Turned) (h : ℕ) (life : BenchLife) (b : Bench) (word : Word) (new : Bench) → b.power ≡ Some life → IsKeptWhole size b → Comes did h life b word new → IsKeptWhole size new
   comes Durable h life b word new on k x = makes (call_of (hart_at life.machine h)) h life b word new on k x
   comes did h life b word new on k x = same_as b new x.1 k
 
   -- the life goes on with another machine of its size
-  goes_on : (m : Machine) (life : Life) (b : Bench) → m.size ≡ life.machine.size → b.power ≡ Some life → IsKeptWhole size b → IsKeptWhole size (on_with (has_machine m life) b)
+  goes_on : (m : Machine) (life : BenchLife) (b : Bench) → m.size ≡ life.machine.size → b.power ≡ Some life → IsKeptWhole size b → IsKeptWhole size (on_with (has_machine m life) b)
   goes_on m life b same on k = (k.0, k.1, k.2, same ∙ sized life b on k)
 
-  turn : (h : ℕ) (life : Life) (b : Bench) (word : Word) (new : Bench) → b.power ≡ Some life → IsKeptWhole size b → GuestTurn h life b word new → IsKeptWhole size new
+  turn : (h : ℕ) (life : BenchLife) (b : Bench) (word : Word) (new : Bench) → b.power ≡ Some life → IsKeptWhole size b → GuestTurn h life b word new → IsKeptWhole size new
   turn h life b word new on k (m, did, turned, x) =
       comes did h (has_machine m life) (on_with (has_machine m life) b) word new refl (goes_on m life b (ap (λ (n : Machine). n.size) turned.2) on k) x
 
@@ -154,16 +154,16 @@ module _ (size : Size) where
   turns h (suc n) b made word new k (life, on, said, mid, one, inl x) = same_as mid new x.3 (turn h life b said mid on k one)
   turns h (suc n) b made word new k (life, on, said, mid, one, inr x) = turns h n mid x.2 word new (turn h life b said mid on k one) x.4
 
-  turn_line : (p : Option Life) (h n : ℕ) (b : Bench) (a : Answer) (new : Bench) → IsKeptWhole size b → TurnStep p h n b a new → IsKeptWhole size new
+  turn_line : (p : Option BenchLife) (h n : ℕ) (b : Bench) (a : Answer) (new : Bench) → IsKeptWhole size b → TurnStep p h n b a new → IsKeptWhole size new
   turn_line None h n b a new k x = same_as b new x.1 k
   turn_line (Some life) h n b a new k (inl (has, made, word, x, e)) = turns h n b made word new k x
   turn_line (Some life) h n b a new k (inr x) = same_as b new x.2 k
 
-  called : (did : Called) (h : ℕ) (life : Life) (b : Bench) (a : Answer) (new : Bench) → b.power ≡ Some life → IsKeptWhole size b → GuestCall did h life b a new → IsKeptWhole size new
+  called : (did : Called) (h : ℕ) (life : BenchLife) (b : Bench) (a : Answer) (new : Bench) → b.power ≡ Some life → IsKeptWhole size b → GuestCall did h life b a new → IsKeptWhole size new
   called NotStarted h life b a new on k x = same_as b new x.1 k
   called (Made did) h life b a new on k (word, x, e) = comes did h life b word new on k x
 
-  call_line : (p : Option Life) (h e f x y z : ℕ) (b : Bench) (a : Answer) (new : Bench) → b.power ≡ p → IsKeptWhole size b → CallStep p h e f x y z b a new → IsKeptWhole size new
+  call_line : (p : Option BenchLife) (h e f x y z : ℕ) (b : Bench) (a : Answer) (new : Bench) → b.power ≡ p → IsKeptWhole size b → CallStep p h e f x y z b a new → IsKeptWhole size new
   call_line None h e f x y z b a new on k g = same_as b new g.1 k
   call_line (Some life) h e f x y z b a new on k (inl (has, m, did, call, g)) =
       called did h (has_machine m life) (on_with (has_machine m life) b) a new refl (goes_on m life b (ap (λ (n : Machine). n.size) call.2) on k) g
@@ -213,7 +213,7 @@ module _ (size : Size) where
   powers mode b a new none k (inr (inr (inr x))) = same_as (failed x.1.0 b) new x.1.2 k
 
   -- ---- lines
-  on_line : (p : Option Life) (mode : BootMode) (b : Bench) (a : Answer) (new : Bench) → b.power ≡ p → IsKeptWhole size b → OnStep size p mode b a new → IsKeptWhole size new
+  on_line : (p : Option BenchLife) (mode : BootMode) (b : Bench) (a : Answer) (new : Bench) → b.power ≡ p → IsKeptWhole size b → OnStep size p mode b a new → IsKeptWhole size new
   on_line None mode b a new none k x = powers mode b a new none k x
   on_line (Some life) mode b a new on k x = same_as b new x.1 k
 
@@ -223,19 +223,19 @@ module _ (size : Size) where
   formats Formatted b a new at k (inl x) = same_as b new x.1 k
   formats Formatted b a new at k (inr x) = same_as (failed x.1.0 b) new x.1.2 k
 
-  format_line : (p : Option Life) (b : Bench) (a : Answer) (new : Bench) → IsKeptWhole size b → FormatStep p b a new → IsKeptWhole size new
+  format_line : (p : Option BenchLife) (b : Bench) (a : Answer) (new : Bench) → IsKeptWhole size b → FormatStep p b a new → IsKeptWhole size new
   format_line None b a new k x = formats b.disk_state b a new refl k x
   format_line (Some life) b a new k x = same_as b new x.1 k
 
-  console : (word : ConsoleWord) (c : Change) (p : Option Life) (b : Bench) (a : Answer) (new : Bench) → CarriesWhole size c → b.power ≡ p → IsKeptWhole size b → ConsoleStep word c p b a new → IsKeptWhole size new
+  console : (word : ConsoleWord) (c : Change) (p : Option BenchLife) (b : Bench) (a : Answer) (new : Bench) → CarriesWhole size c → b.power ≡ p → IsKeptWhole size b → ConsoleStep word c p b a new → IsKeptWhole size new
   console word c None b a new carries on k x = same_as b new x.1 k
   console word c (Some life) b a new carries on k (o, i, e) = issued c life b o new carries on k i
 
-  payload : (p : Option Life) (slot : ℕ) (bytes : List ℕ) (b : Bench) (a : Answer) (new : Bench) → IsKeptWhole size b → PayloadStep p slot bytes b a new → IsKeptWhole size new
+  payload : (p : Option BenchLife) (slot : ℕ) (bytes : List ℕ) (b : Bench) (a : Answer) (new : Bench) → IsKeptWhole size b → PayloadStep p slot bytes b a new → IsKeptWhole size new
   payload None slot bytes b a new k x = same_as _ new x.1 k
   payload (Some life) slot bytes b a new k x = same_as b new x.1 k
 
-  reads : (p : Option Life) (says_so : Machine → MachineLine → Type 0) (b : Bench) (a : Answer) (new : Bench) → IsKeptWhole size b → ReadStep p says_so b a new → IsKeptWhole size new
+  reads : (p : Option BenchLife) (says_so : Machine → MachineLine → Type 0) (b : Bench) (a : Answer) (new : Bench) → IsKeptWhole size b → ReadStep p says_so b a new → IsKeptWhole size new
   reads None says_so b a new k x = same_as b new x.1 k
   reads (Some life) says_so b a new k x = same_as b new x.3 k
 
@@ -279,13 +279,13 @@ module _ (size : Size) where
   ok_not : {A : Type 0} (o : Result ℕ ℕ) (n k : ℕ) → o ≡ Ok n → o ≡ Err k → A
   ok_not o n k e f = let g : ◌≡◌ {A = Result ℕ ℕ} (Ok n) (Err k) = sym e ∙ f in absurd (let no : ⊥ = cc in no)
 
-  writes_not : (r : Option ℕ) (c : Change) (life : Life) (b : Bench) (o : Result ℕ ℕ) (new : Bench) → refusal_of life.now c ≡ r → Writes r c life b o new → o ≢ Err 13
+  writes_not : (r : Option ℕ) (c : Change) (life : BenchLife) (b : Bench) (o : Result ℕ ℕ) (new : Bench) → refusal_of life.now c ≡ r → Writes r c life b o new → o ≢ Err 13
   writes_not (Some n) c life b o new table w f = table_not_thirteen life.now c n table (err_as o n 13 w.0 f)
   writes_not None c life b o new table (inl w) f = ok_not o (life.receipts + 1) 13 w.0 f
   writes_not None c life b o new table (inr (inl w)) f = let e : 5 ≡ 13 = err_as o 5 13 w.0 f in omega (arith, e)
   writes_not None c life b o new table (inr (inr w)) f = let e : 6 ≡ 13 = err_as o 6 13 w.0 f in omega (arith, e)
 
-  by_not : (d : Option Change) (c : Change) (life : Life) (b : Bench) (o : Result ℕ ℕ) (new : Bench) → IssuedBy d c life b o new → o ≢ Err 13
+  by_not : (d : Option Change) (c : Change) (life : BenchLife) (b : Bench) (o : Result ℕ ℕ) (new : Bench) → IssuedBy d c life b o new → o ≢ Err 13
   by_not (Some d) c life b o new i f = let e : 6 ≡ 13 = err_as o 6 13 i.0 f in omega (arith, e)
   by_not None c life b o new (inl i) f = let e : 10 ≡ 13 = err_as o 10 13 i.1 f in omega (arith, e)
   by_not None c life b o new (inr i) f = writes_not (refusal_of life.now c) c life b o new refl i.1 f
@@ -324,7 +324,7 @@ module _ (size : Size) where
   powers_not mode b a new none k (inr (inr (inl x))) = answered a (printed.OnRefused 11) x.1 (number (printed.OnRefused 11) 11 refl (λ e. omega (arith, e)))
   powers_not mode b a new none k (inr (inr (inr x))) = answered a (printed.OnRefused 5) x.0 (number (printed.OnRefused 5) 5 refl (λ e. omega (arith, e)))
 
-  on_not : (p : Option Life) (mode : BootMode) (b : Bench) (a : Answer) (new : Bench) → b.power ≡ p → IsKeptWhole size b → OnStep size p mode b a new → NotThirteen a.line
+  on_not : (p : Option BenchLife) (mode : BootMode) (b : Bench) (a : Answer) (new : Bench) → b.power ≡ p → IsKeptWhole size b → OnStep size p mode b a new → NotThirteen a.line
   on_not None mode b a new none k x = powers_not mode b a new none k x
   on_not (Some life) mode b a new on k x = answered a printed.Busy x.0 (λ f. (let no : ⊥ = cc in no))
 

@@ -24,7 +24,7 @@ use Rattle.machine.specs.declared.parts.Word.TheVariants as words
 use Rattle.bench_report.specs.declared.power.Power.{Power}
 use Rattle.bench_report.specs.declared.power.Power.TheVariants.{Off, On}
 use Rattle.bench_report.specs.Below.{SimStore, SimBoard, store_in, machine_in, facts, arms, store_arms, record_of, fault_state, store_facts, store_fault_state, store_size, store_now, store_doubt, IsAs}
-use Rattle.bench_report.specs.Bench.{DiskState, Blank, Unknown, Formatted, Life, Bench}
+use Rattle.bench_report.specs.Bench.{DiskState, Blank, Unknown, Formatted, BenchLife, Bench}
 use Rattle.bench_report.specs.Steps.{Step}
 use Rattle.bench_report.specs.declared.printed.Answer.{Answer}
 
@@ -35,17 +35,17 @@ DiskIs size Unknown kept disk = ⊤
 DiskIs size Formatted kept disk = IsKept disk size × ((s : State) → Leaves disk size s → MayFind kept s)
 
 -- a life over a disk, by a store for a board of size z
-abbrev pub LifeIs : Size → DiskState → Kept → Life → Size → Type 0
+abbrev pub LifeIs : Size → DiskState → Kept → BenchLife → Size → Type 0
 LifeIs size Blank kept life z = ⊥
 LifeIs size Unknown kept life z = life.machine.size ≡ z
 LifeIs size Formatted kept life z = (kept.doubt ≡ life.doubt) × (life.now ≡ found_of kept.changes) × (z ≡ size) × (life.machine.size ≡ z)
 
 -- a store that goes on with a life
-abbrev pub StoreIs : Size → DiskState → Kept → Life → SimStore → Type 0
+abbrev pub StoreIs : Size → DiskState → Kept → BenchLife → SimStore → Type 0
 StoreIs size disk_state kept life store = LifeIs size disk_state kept life (store_size store) × IsAs store life.now life.receipts life.doubt
 
 -- a board that is on
-abbrev pub BoardIs : Size → DiskState → Kept → Option Life → SimBoard → Type 0
+abbrev pub BoardIs : Size → DiskState → Kept → Option BenchLife → SimBoard → Type 0
 BoardIs size disk_state kept None board = ⊥
 BoardIs size disk_state kept (Some life) board = StoreIs size disk_state kept life (store_in board) × (machine_in board ≡ life.machine)
 

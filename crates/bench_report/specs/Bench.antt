@@ -14,7 +14,7 @@ pub data DiskState : Type 0 where
 
 -- A board that is on: the durable state with what was acknowledged, how many commands that were in this life, the
 -- command in doubt, after which each later one is refused 6, and its memory and harts.
-pub record Life : Type 0 where
+pub record BenchLife : Type 0 where
   pub now : State
   pub receipts : ℕ
   pub doubt : Option Change
@@ -26,7 +26,7 @@ pub record Life : Type 0 where
 pub record Bench : Type 0 where
   pub disk_state : DiskState
   pub kept : Kept
-  pub power : Option Life
+  pub power : Option BenchLife
   pub payloads : List (List ℕ)
   pub growths : ℕ
   pub failures : ℕ

@@ -21,20 +21,20 @@ use Rattle.bench_report.specs.declared.printed.ConsoleWord.{ConsoleWord}
 use Rattle.bench_report.specs.declared.printed.ConsoleWord.TheVariants as names
 use Rattle.bench_report.specs.declared.printed.Printed.{Printed}
 use Rattle.bench_report.specs.declared.printed.Printed.TheVariants as printed
-use Rattle.bench_report.specs.Bench.{DiskState, Blank, Unknown, Formatted, Life, Bench, blank_bench}
+use Rattle.bench_report.specs.Bench.{DiskState, Blank, Unknown, Formatted, BenchLife, Bench, blank_bench}
 use Rattle.bench_report.specs.Steps.{says, shows, on_with, unpowered, armed_with, formatted_anew, settled, has_machine, acknowledged, begun, console_reported}
 use Rattle.bench_report.specs.Reports.{board_answer, report_text}
 
 -- a command's receipt or number, and the bench after it, by the number with which the table refuses it
-abbrev pub plain_written : Option ℕ → Change → Life → Bench → Result ℕ ℕ × Bench
+abbrev pub plain_written : Option ℕ → Change → BenchLife → Bench → Result ℕ ℕ × Bench
 plain_written (Some n) c life b = (Err n, b)
 plain_written None c life b = (Ok (life.receipts + 1), acknowledged c life b)
 
-abbrev pub plain_issued : Change → Life → Bench → Result ℕ ℕ × Bench
+abbrev pub plain_issued : Change → BenchLife → Bench → Result ℕ ℕ × Bench
 plain_issued c life b = if life.receipts == 4096 then (Err 10, b) else plain_written (refusal_of life.now c) c life b
 
 -- a command of the console, which a line names by that word
-abbrev pub plain_console : ConsoleWord → Change → Option Life → Bench → Answer × Bench
+abbrev pub plain_console : ConsoleWord → Change → Option BenchLife → Bench → Answer × Bench
 plain_console word c None b = (says printed.Off, b)
 plain_console word c (Some life) b = (console_reported word (plain_issued c life b).0, (plain_issued c life b).1)
 
@@ -61,7 +61,7 @@ plain_on size Blank mode b = (says (printed.OnRefused 1), b)
 plain_on size Unknown mode b = (says (printed.OnRefused 1), b)
 plain_on size Formatted mode b = plain_boot (boot_refusal (found_of b.kept.changes) mode) mode size (found_of b.kept.changes) (settled b.kept.changes b)
 
-abbrev pub plain_at : Size → Option Life → Line → Bench → Answer × Bench
+abbrev pub plain_at : Size → Option BenchLife → Line → Bench → Answer × Bench
 plain_at size None lines.Format b = plain_format b.disk_state b
 plain_at size (Some life) lines.Format b = (says printed.Busy, b)
 plain_at size None (lines.On mode) b = plain_on size b.disk_state mode b

@@ -7,7 +7,7 @@ use Rattle.board_model.specs.Shapes.{Size}
 use Rattle.board_model.specs.Shown.{durable_of}
 use Rattle.machine.specs.Machine.{woken}
 use Rattle.bench_report.specs.declared.printed.Answer.{Answer}
-use Rattle.bench_report.specs.Bench.{Life, Bench}
+use Rattle.bench_report.specs.Bench.{BenchLife, Bench}
 
 -- The image was made by a suspension of the list: hart, address, opaque value and memory are the ones that it carried, and the serial
 -- is the one that was next then.
@@ -28,7 +28,7 @@ pub record IsResumedFrom (size : Size) (b : Bench) (a : Answer) (new : Bench) : 
   pub stands : (found_of changes).image ≡ Some image
   pub made : IsMadeIn image changes
   pub hart : image.hart < size.harts
-  pub life : Life
+  pub life : BenchLife
   pub on : new.power ≡ Some life
   pub machine : life.machine ≡ woken image size
   pub consumed : new.kept ≡ record { changes = changes ++ Consume ∷ []; doubt = None }

@@ -46,7 +46,7 @@ use Rattle.bench_report.specs.declared.printed.ConsoleWord.TheVariants as names
 use Rattle.bench_report.specs.declared.printed.Printed.{Printed}
 use Rattle.bench_report.specs.declared.printed.Printed.TheVariants as printed
 use Rattle.bench_report.specs.declared.printed.Answer.{Answer}
-use Rattle.bench_report.specs.Bench.{DiskState, Blank, Unknown, Formatted, Life, Bench}
+use Rattle.bench_report.specs.Bench.{DiskState, Blank, Unknown, Formatted, BenchLife, Bench}
 
 -- ---- answers
 
@@ -75,7 +75,7 @@ FailsByFault b new = (m : FaultState) × Cause b.fault_state m × (new ≡ faile
 abbrev pub off : Bench → Bench
 off b = record b { power = None }
 
-abbrev pub on_with : Life → Bench → Bench
+abbrev pub on_with : BenchLife → Bench → Bench
 on_with life b = record b { power = Some life }
 
 -- power was cut
@@ -98,25 +98,25 @@ formatted_anew b = record b { disk_state = Formatted; kept = nothing_kept }
 abbrev pub settled : List Change → Bench → Bench
 settled changes b = record b { kept = record { changes = changes; doubt = None } }
 
-abbrev pub has_machine : Machine → Life → Life
+abbrev pub has_machine : Machine → BenchLife → BenchLife
 has_machine m life = record life { machine = m }
 
 -- a command of the life was acknowledged
-abbrev pub acknowledged : Change → Life → Bench → Bench
+abbrev pub acknowledged : Change → BenchLife → Bench → Bench
 acknowledged c life b = record b {
   kept = record b.kept { changes = b.kept.changes ++ c ∷ [] };
   power = Some (record life { now = after life.now c; receipts = life.receipts + 1 });
 }
 
 -- a command of the life is in doubt
-abbrev pub in_doubt : Change → Life → Bench → Bench
+abbrev pub in_doubt : Change → BenchLife → Bench → Bench
 in_doubt c life b = record b { kept = record b.kept { doubt = Some c }; power = Some (record life { doubt = Some c }) }
 
 -- ---- a durable command: its receipt, or the number with which it is refused
 
 -- by the number with which the table of commands refuses it: else it is acknowledged, or the disk fails before it could take
 -- effect (5) or where it may have (6)
-abbrev pub Writes : Option ℕ → Change → Life → Bench → Result ℕ ℕ → Bench → Type 0
+abbrev pub Writes : Option ℕ → Change → BenchLife → Bench → Result ℕ ℕ → Bench → Type 0
 Writes (Some n) c life b o new = (o ≡ Err n) × (new ≡ b)
 Writes None c life b o new =
     ((o ≡ Ok (life.receipts + 1)) × (new ≡ acknowledged c life b))
@@ -124,44 +124,44 @@ Writes None c life b o new =
     ⊎ ((o ≡ Err 6) × FailsByFault (in_doubt c life b) new)
 
 -- by the command that is in doubt: after it each is refused 6, and after 4,096 commands each is refused 10
-abbrev pub IssuedBy : Option Change → Change → Life → Bench → Result ℕ ℕ → Bench → Type 0
+abbrev pub IssuedBy : Option Change → Change → BenchLife → Bench → Result ℕ ℕ → Bench → Type 0
 IssuedBy (Some d) c life b o new = (o ≡ Err 6) × (new ≡ b)
 IssuedBy None c life b o new =
     ((life.receipts ≡ 4096) × (o ≡ Err 10) × (new ≡ b))
     ⊎ ((life.receipts < 4096) × Writes (refusal_of life.now c) c life b o new)
 
-abbrev pub Issued : Change → Life → Bench → Result ℕ ℕ → Bench → Type 0
+abbrev pub Issued : Change → BenchLife → Bench → Result ℕ ℕ → Bench → Type 0
 Issued c life b o new = IssuedBy life.doubt c life b o new
 
 -- commands in a row: the first that is refused ends it
 abbrev pub IssuesAll : List Change → Bench → Result ℕ ℕ → Bench → Type 0
 IssuesAll [] b o new = (o ≡ Ok 0) × (new ≡ b)
-IssuesAll (c ∷ cs) b o new = (life : Life) × (b.power ≡ Some life) × (first : Result ℕ ℕ) × (mid : Bench) × Issued c life b first mid
+IssuesAll (c ∷ cs) b o new = (life : BenchLife) × (b.power ≡ Some life) × (first : Result ℕ ℕ) × (mid : Bench) × Issued c life b first mid
     × (((n : ℕ) × (first ≡ Ok n) × IssuesAll cs mid o new) ⊎ ((n : ℕ) × (first ≡ Err n) × (o ≡ Err n) × (new ≡ mid)))
 
 -- ---- turns and calls of harts
 
 -- the hart is answered with the error, and goes on behind its call
-abbrev pub refused : ℕ → SbiError → Life → Life
+abbrev pub refused : ℕ → SbiError → BenchLife → BenchLife
 refused h e life = has_machine (record life.machine { harts = slice_set life.machine.harts h (answered (hart_at life.machine h) (error_of (Err e)) 0) }) life
 
-abbrev pub Refuses : SbiError → ℕ → Life → Bench → Word → Bench → Type 0
+abbrev pub Refuses : SbiError → ℕ → BenchLife → Bench → Word → Bench → Type 0
 Refuses e h life b word new = (word ≡ words.Own dids.Next) × (new ≡ on_with (refused h e life) b)
 
 -- the command of a hart, by its receipt or number: acknowledged, it ends the life as it says, and the board is off; refused, it is
 -- answered -1
 abbrev pub HartCommand : Result ℕ ℕ → Word → ℕ → Bench → Word → Bench → Type 0
 HartCommand (Ok n) said h b word new = (word ≡ said) × (new ≡ off b)
-HartCommand (Err n) said h b word new = (life : Life) × (b.power ≡ Some life) × Refuses Failed h life b word new
+HartCommand (Err n) said h b word new = (life : BenchLife) × (b.power ≡ Some life) × Refuses Failed h life b word new
 
 -- a reset, by what its arguments say
-abbrev pub Resets : Result (ResetType × Reason) SbiError → ℕ → Life → Bench → Word → Bench → Type 0
+abbrev pub Resets : Result (ResetType × Reason) SbiError → ℕ → BenchLife → Bench → Word → Bench → Type 0
 Resets (Err e) h life b word new = Refuses e h life b word new
 Resets (Ok reset) h life b word new = (o : Result ℕ ℕ) × (mid : Bench) × Issued (Reset reset.1) life b o mid × HartCommand o (words.Reset reset.0) h mid word new
 
 -- the command of a suspension, where it fits the board or not: as other commands; or it is refused for want of memory (11), or for
 -- what is not of the board (3)
-abbrev pub Suspends : Type 0 → Change → Life → Bench → Result ℕ ℕ → Bench → Type 0
+abbrev pub Suspends : Type 0 → Change → BenchLife → Bench → Result ℕ ℕ → Bench → Type 0
 Suspends Fits c life b o new =
     (Fits × Issued c life b o new)
     ⊎ (Fits × (o ≡ Err 11) × (new ≡ out_of_memory b))
@@ -173,28 +173,28 @@ IsAlone id m = AreStopped m.size.harts id (listed m.table.states)
 
 -- a suspension, whose arguments were checked: by a hart beside which another is not STOPPED it is denied; else the image has the
 -- memory of this moment
-abbrev pub Sleeps : ℕ → ℕ → ℕ → Life → Bench → Word → Bench → Type 0
+abbrev pub Sleeps : ℕ → ℕ → ℕ → BenchLife → Bench → Word → Bench → Type 0
 Sleeps site opaque h life b word new =
     ((IsAlone (hart_at life.machine h).id life.machine → ⊥) × Refuses Denied h life b word new)
     ⊎ (IsAlone (hart_at life.machine h).id life.machine × (o : Result ℕ ℕ) × (mid : Bench)
     × Suspends (FitsBoard life.machine.size life.machine.memory (hart_at life.machine h).id site) (Suspend (hart_at life.machine h).id site opaque life.machine.memory) life b o mid × HartCommand o words.Asleep h mid word new)
 
-abbrev pub SleepsBy : Result ℕ SbiError → ℕ → ℕ → Life → Bench → Word → Bench → Type 0
+abbrev pub SleepsBy : Result ℕ SbiError → ℕ → ℕ → BenchLife → Bench → Word → Bench → Type 0
 SleepsBy (Err e) opaque h life b word new = Refuses e h life b word new
 SleepsBy (Ok site) opaque h life b word new = Sleeps site opaque h life b word new
 
 -- the durable call at which the hart stands
-abbrev pub MakesCall : Call → ℕ → Life → Bench → Word → Bench → Type 0
+abbrev pub MakesCall : Call → ℕ → BenchLife → Bench → Word → Bench → Type 0
 MakesCall (calls.SystemReset kind reason) h life b word new = Resets (reset_of kind reason) h life b word new
 MakesCall (calls.SystemSuspend kind address opaque) h life b word new = (asked : Result ℕ SbiError) × IsChecked life.machine.size kind address asked × SleepsBy asked opaque h life b word new
 MakesCall call h life b word new = Refuses NotSupported h life b word new
 
 -- What comes of what hart h did, once the life has the machine: it stands at a durable call, which is made; or that is its word.
-abbrev pub Comes : Turned → ℕ → Life → Bench → Word → Bench → Type 0
+abbrev pub Comes : Turned → ℕ → BenchLife → Bench → Word → Bench → Type 0
 Comes dids.Durable h life b word new = MakesCall (call_of (hart_at life.machine h)) h life b word new
 Comes did h life b word new = (word ≡ words.Own did) × (new ≡ b)
 
-abbrev pub GuestTurn : ℕ → Life → Bench → Word → Bench → Type 0
+abbrev pub GuestTurn : ℕ → BenchLife → Bench → Word → Bench → Type 0
 GuestTurn h life b word new = (m : Machine) × (did : Turned) × Turns h life.machine m did × Comes did h (has_machine m life) (on_with (has_machine m life) b) word new
 
 -- the turn is the last of its line, with so many that might follow: it ends the line, none is left, or a cut struck in it
@@ -205,7 +205,7 @@ IsLastTurn word left new = (ends word ≡ true) ⊎ (left ≡ 0) ⊎ (new.fault_
 abbrev pub GuestTurns : ℕ → ℕ → Bench → ℕ → Word → Bench → Type 0
 GuestTurns h zero b made word new = ⊥
 GuestTurns h (suc n) b made word new =
-    (life : Life) × (b.power ≡ Some life) × (said : Word) × (mid : Bench) × GuestTurn h life b said mid
+    (life : BenchLife) × (b.power ≡ Some life) × (said : Word) × (mid : Bench) × GuestTurn h life b said mid
     × ((IsLastTurn said n mid × (made ≡ 1) × (word ≡ said) × (new ≡ mid))
     ⊎ ((ends said ≡ false) × (mid.fault_state.struck ≡ false) × (rest : ℕ) × (made ≡ suc rest) × GuestTurns h n mid rest word new))
 
@@ -230,13 +230,13 @@ abbrev pub commands_of : BootMode → List Change
 commands_of mode = option_to_list (issued_by mode)
 
 -- a life that an open begins, before the boot
-abbrev pub begun : State → Size → Life
+abbrev pub begun : State → Size → BenchLife
 begun s z = record { now = s; receipts = 0; doubt = None; machine = resting z 0 }
 
 -- the boot by the mode of a board of that size, from the state found, once its commands were issued
 abbrev pub IsOn : Result ℕ ℕ → BootMode → Size → State → Bench → Printed → Bench → Type 0
 IsOn (Ok n) mode z s b line new =
-    (life : Life) × (b.power ≡ Some life) × (line ≡ printed.On mode) × (m : Machine) × IsBegun mode z b.payloads s m × (new ≡ on_with (has_machine m life) b)
+    (life : BenchLife) × (b.power ≡ Some life) × (line ≡ printed.On mode) × (m : Machine) × IsBegun mode z b.payloads s m × (new ≡ on_with (has_machine m life) b)
 IsOn (Err n) mode z s b line new = (line ≡ printed.OnRefused n) × (new ≡ off b)
 
 abbrev pub Starts : BootMode → Size → State → Bench → Printed → Bench → Type 0
@@ -292,11 +292,11 @@ PowersOn size mode b answer new =
 
 -- ---- lines, by whether the board is on
 
-abbrev pub FormatStep : Option Life → Bench → Answer → Bench → Type 0
+abbrev pub FormatStep : Option BenchLife → Bench → Answer → Bench → Type 0
 FormatStep (Some life) b answer new = (answer ≡ says printed.Busy) × (new ≡ b)
 FormatStep None b answer new = FormatsOn b.disk_state b answer new
 
-abbrev pub OnStep : Size → Option Life → BootMode → Bench → Answer → Bench → Type 0
+abbrev pub OnStep : Size → Option BenchLife → BootMode → Bench → Answer → Bench → Type 0
 OnStep size (Some life) mode b answer new = (answer ≡ says printed.Busy) × (new ≡ b)
 OnStep size None mode b answer new = PowersOn size mode b answer new
 
@@ -306,16 +306,16 @@ console_reported word (Ok n) = says (printed.Acknowledged word n)
 console_reported word (Err n) = says (printed.CommandRefused word n)
 
 -- a command of the console, which a line names by that word
-abbrev pub ConsoleStep : ConsoleWord → Change → Option Life → Bench → Answer → Bench → Type 0
+abbrev pub ConsoleStep : ConsoleWord → Change → Option BenchLife → Bench → Answer → Bench → Type 0
 ConsoleStep word c None b answer new = (answer ≡ says printed.Off) × (new ≡ b)
 ConsoleStep word c (Some life) b answer new = (o : Result ℕ ℕ) × Issued c life b o new × (answer ≡ console_reported word o)
 
 -- a payload is kept while the board is off
-abbrev pub PayloadStep : Option Life → ℕ → List ℕ → Bench → Answer → Bench → Type 0
+abbrev pub PayloadStep : Option BenchLife → ℕ → List ℕ → Bench → Answer → Bench → Type 0
 PayloadStep (Some life) slot bytes b answer new = (answer ≡ shows shown.Busy) × (new ≡ b)
 PayloadStep None slot bytes b answer new = (answer ≡ shows (shown.Payload slot (length bytes))) × (new ≡ record b { payloads = slice_set b.payloads slot bytes })
 
-abbrev pub TurnStep : Option Life → ℕ → ℕ → Bench → Answer → Bench → Type 0
+abbrev pub TurnStep : Option BenchLife → ℕ → ℕ → Bench → Answer → Bench → Type 0
 TurnStep None h n b answer new = (answer ≡ shows shown.Off) × (new ≡ b)
 TurnStep (Some life) h n b answer new =
     (HasHart life.machine h × (made : ℕ) × (word : Word) × GuestTurns h n b made word new × (answer ≡ shows (shown.Turn h made word)))
@@ -323,16 +323,16 @@ TurnStep (Some life) h n b answer new =
 
 -- what a line of a call says of its hart, on the bench after it
 abbrev pub CallReported : ℕ → Word → Bench → Answer → Type 0
-CallReported h (words.Own did) new answer = (life : Life) × (new.power ≡ Some life) × (answer ≡ shows (own_line h (hart_at life.machine h) did))
+CallReported h (words.Own did) new answer = (life : BenchLife) × (new.power ≡ Some life) × (answer ≡ shows (own_line h (hart_at life.machine h) did))
 CallReported h words.Asleep new answer = answer ≡ shows (shown.Called h words.Asleep)
 CallReported h (words.Reset kind) new answer = answer ≡ shows (shown.Called h (words.Reset kind))
 
 -- a call that the machine made in the place of hart h, once the life has the machine
-abbrev pub GuestCall : Called → ℕ → Life → Bench → Answer → Bench → Type 0
+abbrev pub GuestCall : Called → ℕ → BenchLife → Bench → Answer → Bench → Type 0
 GuestCall NotStarted h life b answer new = (answer ≡ shows (shown.NotStarted h)) × (new ≡ b)
 GuestCall (Made did) h life b answer new = (word : Word) × Comes did h life b word new × CallReported h word new answer
 
-abbrev pub CallStep : Option Life → ℕ → ℕ → ℕ → ℕ → ℕ → ℕ → Bench → Answer → Bench → Type 0
+abbrev pub CallStep : Option BenchLife → ℕ → ℕ → ℕ → ℕ → ℕ → ℕ → Bench → Answer → Bench → Type 0
 CallStep None h e f x y z b answer new = (answer ≡ shows shown.Off) × (new ≡ b)
 CallStep (Some life) h e f x y z b answer new =
     (HasHart life.machine h × (m : Machine) × (called : Called) × MakesOneCall h e f x y z life.machine m called
@@ -340,7 +340,7 @@ CallStep (Some life) h e f x y z b answer new =
     ⊎ ((HasHart life.machine h → ⊥) × (answer ≡ shows shown.Off) × (new ≡ b))
 
 -- a line that shows something of memory and harts
-abbrev pub ReadStep : Option Life → (Machine → MachineLine → Type 0) → Bench → Answer → Bench → Type 0
+abbrev pub ReadStep : Option BenchLife → (Machine → MachineLine → Type 0) → Bench → Answer → Bench → Type 0
 ReadStep None says_so b answer new = (answer ≡ shows shown.Off) × (new ≡ b)
 ReadStep (Some life) says_so b answer new = (line : MachineLine) × says_so life.machine line × (answer ≡ shows line) × (new ≡ b)
 
@@ -349,7 +349,7 @@ abbrev pub ArmStep : Armed → Bench → Answer → Bench → Type 0
 ArmStep armed b answer new = (answer ≡ says printed.Armed) × (new ≡ armed_with armed b)
 
 -- a line that writes the disk past the firmware, while the board is off: nothing is known of the disk then
-abbrev pub PokeStep : Option Life → Bench → Answer → Bench → Type 0
+abbrev pub PokeStep : Option BenchLife → Bench → Answer → Bench → Type 0
 PokeStep (Some life) b answer new = (answer ≡ says printed.Busy) × (new ≡ b)
 PokeStep None b answer new = (answer ≡ says printed.Poked) × (new ≡ unknown b)
 

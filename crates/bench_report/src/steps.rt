@@ -7,7 +7,7 @@ ghost use Rattle.board.specs.Boots.{IsConsoleCommand};
 ghost use Rattle.script_lang.specs.Ranges.{IsLineInRange};
 ghost use Rattle.store.specs.Leaves.{IsIdle};
 ghost use Rattle.bench_report.specs.Below.{store_in, machine_in, facts, store_fault_state};
-ghost use Rattle.bench_report.specs.Bench.{Bench, Life};
+ghost use Rattle.bench_report.specs.Bench.{Bench, BenchLife};
 ghost use Rattle.bench_report.specs.Steps.{FormatsOn, PowersOn, FormatStep, OnStep, ConsoleStep, PayloadStep, TurnStep, CallStep, ReadStep, ArmStep, PokeStep, Step, Moves, off, unpowered, says, shows};
 ghost use Rattle.disk.specs.FaultState.{armed_by};
 ghost use Rattle.simdisk.specs.declared.SimDisk.{SimDisk};
@@ -79,7 +79,7 @@ fn power_on(alloc: Global, mode: BootMode, disk: SimDisk, payloads: &Payloads) -
 /// Issues a command of the console on a board that is on.
 fn issue(board: &mut Board<SimDisk>, word: ConsoleWord, command: Command) -> Answer
     requires { IsConsoleCommand command }
-    ensures { (size : Size) (b : Bench) (life : Life) → b.power ≡ Some life → OnIs size b board.old
+    ensures { (size : Size) (b : Bench) (life : BenchLife) → b.power ≡ Some life → OnIs size b board.old
         → (new : Bench) × ConsoleStep word (change_of command) (Some life) b result new × OnIs size new board.new × (new.payloads ≡ b.payloads) }
 {
     match board.console(command) {

@@ -2,7 +2,7 @@ use Rattle.std.proofs.Common.{refl, ◌∙◌, ap, subst, Option, Ok, Err}
 use Rattle.board_model.specs.Durable.{Change}
 use Rattle.board_model.specs.Shown.{number_of, change_of}
 use Rattle.store.specs.Stores.{life_of}
-use Rattle.bench_report.specs.Bench.{Life}
+use Rattle.bench_report.specs.Bench.{BenchLife}
 use Rattle.bench_report.specs.Below.{store_in, IsAs}
 use Rattle.bench_report.specs.Steps.{says}
 use Rattle.bench_report.specs.Agree.{BoardIs}
@@ -15,7 +15,7 @@ returns-in-Ok c = λ size b life on h.
     let did = c.in-Ok.ensures in
     let old = store_in c.args.board.now in
     let new = store_in c.console.new.self in
-    let P : Option Life → Type 0 = λ p. BoardIs size b.disk_state b.kept p c.args.board.now in
+    let P : Option BenchLife → Type 0 = λ p. BoardIs size b.disk_state b.kept p c.args.board.now in
     let Q : Option Change → Type 0 = λ d. IsAs old life.now life.receipts d in
     let was = subst P on h.0 in
     let reported = reported_ok size b life (change_of c.args.command) old new (life_of old) on was.0 h.1 did.stays.board did.stays.length did.stays.no_fewer (λ none. subst Q none was.0.1) (console_goes_on c.args.command c.requires) life.doubt refl c.in-Ok.receipt
@@ -27,7 +27,7 @@ returns-in-Err c = λ size b life on h.
     let did = c.in-Err.ensures in
     let old = store_in c.args.board.now in
     let new = store_in c.console.new.self in
-    let P : Option Life → Type 0 = λ p. BoardIs size b.disk_state b.kept p c.args.board.now in
+    let P : Option BenchLife → Type 0 = λ p. BoardIs size b.disk_state b.kept p c.args.board.now in
     let Q : Option Change → Type 0 = λ d. IsAs old life.now life.receipts d in
     let was = subst P on h.0 in
     let reported = reported_err size b life (change_of c.args.command) old new (life_of old) on was.0 h.1 did.stays.board did.stays.length did.stays.no_fewer (λ none. subst Q none was.0.1) life.doubt refl c.in-Err.e
