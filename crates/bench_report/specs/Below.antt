@@ -10,7 +10,7 @@ use Rattle.simdisk.specs.declared.SimLane.{SimLane}
 use Rattle.simdisk.specs.contracts.device.SimDiskDisk.TheImpl as sim_disk
 use Rattle.simdisk.specs.contracts.lane.SimLaneLane.TheImpl as sim_lane
 use Rattle.simdisk.specs.contracts.recorded.SimDiskRecorded.TheImpl as sim_record
-use Rattle.simdisk.specs.Record.{Record}
+use Rattle.simdisk.specs.Record.{WriteLog}
 use Rattle.board.specs.Boards as words
 use Rattle.board.specs.declared.Board as boards
 use Rattle.machine.specs.Machine.{Machine}
@@ -45,7 +45,7 @@ abbrev pub arms : SimDisk → ArmedFault → Type 0
 arms disk fault = sim_disk.ghosts.arms disk fault
 
 -- its record of writes and syncs
-abbrev pub record_of : SimDisk → Record
+abbrev pub record_of : SimDisk → WriteLog
 record_of disk = sim_record.ghosts.record disk
 
 -- the same of the disk that a store holds

@@ -6,7 +6,7 @@ use Rattle.std.proofs.lemmas.List.{map-append, map-set, set-get_or, get_or_appen
 use Rattle.std.proofs.lemmas.Bool.{cases_lt}
 use Rattle.disk.specs.Facts.{Content, Lent, Torn, Apart, IsFresh, nothing, sector}
 use Rattle.simdisk.specs.declared.patch.Patch.{Patch}
-use Rattle.simdisk.specs.Record.{Piece, Record, put, newest, synced, range, ranges, more_written, more_synced, lent_piece, new_record, replay, filled, sim_facts, Untouched, AgreesOutside, AreWithin}
+use Rattle.simdisk.specs.Record.{Piece, WriteLog, put, newest, synced, range, ranges, more_written, more_synced, lent_piece, new_record, replay, filled, sim_facts, Untouched, AgreesOutside, AreWithin}
 use Rattle.simdisk.specs.Views.{piece, pieces}
 use Rattle.simdisk.specs.Loans.{Noted, IsLatest}
 use Rattle.simdisk.specs.Choices.{left_by}
@@ -16,17 +16,17 @@ use Rattle.simdisk.proofs.Pieces.{agrees_replay, ranges_filled, replay_push, put
 use Rattle.simdisk.proofs.Ranges.{durable, agrees_all, untouched_at, agrees_torn}
 use Rattle.simdisk.proofs.Walks.{read_piece}
 
-pub ranges_written : (r r' : Record) (p : Piece) → r' ≡ more_written p r → ranges r'.written ≡ ranges r.written ++ range p ∷ []
-ranges_written r r' p more = ap (λ (q : Record). ranges q.written) more ∙ map-append range r.written (p ∷ [])
+pub ranges_written : (r r' : WriteLog) (p : Piece) → r' ≡ more_written p r → ranges r'.written ≡ ranges r.written ++ range p ∷ []
+ranges_written r r' p more = ap (λ (q : WriteLog). ranges q.written) more ∙ map-append range r.written (p ∷ [])
 
 -- what was written last, with a piece more
-pub newest_more : (r r' : Record) (p : Piece) (now new : Content) → r' ≡ more_written p r → newest r ≡ now → new ≡ put p now → newest r' ≡ new
-newest_more r r' p now new more is laid = ap (λ (q : Record). newest q) more ∙ replay_push r.written p (synced r) ∙ ap (λ (c : Content). put p c) is ∙ sym laid
+pub newest_more : (r r' : WriteLog) (p : Piece) (now new : Content) → r' ≡ more_written p r → newest r ≡ now → new ≡ put p now → newest r' ≡ new
+newest_more r r' p now new more is laid = ap (λ (q : WriteLog). newest q) more ∙ replay_push r.written p (synced r) ∙ ap (λ (c : Content). put p c) is ∙ sym laid
 
 -- and after a sync: what stands
-pub newest_synced : (l : Lent) (r r' : Record) (now : Content) → r' ≡ more_synced now (lent_piece l now ∷ []) r → synced r' ≡ now → l.first + l.lanes * l.each ≤ length now → newest r' ≡ now
+pub newest_synced : (l : Lent) (r r' : WriteLog) (now : Content) → r' ≡ more_synced now (lent_piece l now ∷ []) r → synced r' ≡ now → l.first + l.lanes * l.each ≤ length now → newest r' ≡ now
 newest_synced l r r' now more is within =
-    ap (λ (q : Record). replay q.written (synced r')) more ∙ ap (λ (c : Content). put (lent_piece l now) c) is ∙ put_same l.first (l.lanes * l.each) now within
+    ap (λ (q : WriteLog). replay q.written (synced r')) more ∙ ap (λ (c : Content). put (lent_piece l now) c) is ∙ put_same l.first (l.lanes * l.each) now within
 
 -- a range more, which leaves the one at that place alone
 pub last_push : (rs : List (ℕ × ℕ)) (x r : ℕ × ℕ) (i : ℕ) → (x.0 + x.1 ≤ r.0) ⊎ (r.0 + r.1 ≤ x.0) → IsLatest rs i r → IsLatest (rs ++ x ∷ []) i r
@@ -66,9 +66,9 @@ pub range_lent : (l : Lent) (c : Content) → l.first + l.lanes * l.each ≤ len
 range_lent l c within = ap (λ (n : ℕ). (l.first, n)) (length-take-le (l.lanes * l.each) (drop l.first c) (omega (arith, within, length-drop l.first c)))
 
 -- where nothing is lent, a sync leaves no more than the content
-pub durable_then : (l : Lent) (now c : Content) (r r' : Record) (stood' : Content) → r' ≡ more_synced now (lent_piece l now ∷ []) r → stood' ≡ now → l.lanes ≡ 0 → AgreesOutside stood' (ranges r'.written) c → c ≡ now
+pub durable_then : (l : Lent) (now c : Content) (r r' : WriteLog) (stood' : Content) → r' ≡ more_synced now (lent_piece l now ∷ []) r → stood' ≡ now → l.lanes ≡ 0 → AgreesOutside stood' (ranges r'.written) c → c ≡ now
 durable_then l now c r r' stood' more is none a =
-    durable l.first (length (lent_piece l now).1) now c empty (subst (λ (s : Content). AgreesOutside s (ranges (lent_piece l now ∷ [])) c) is (subst (λ (q : Record). AgreesOutside stood' (ranges q.written) c) more a))
+    durable l.first (length (lent_piece l now).1) now c empty (subst (λ (s : Content). AgreesOutside s (ranges (lent_piece l now ∷ [])) c) is (subst (λ (q : WriteLog). AgreesOutside stood' (ranges q.written) c) more a))
   where
     zero_each : l.lanes * l.each ≡ 0
     zero_each = ap (λ (n : ℕ). n * l.each) none ∙ zero-mul l.each
@@ -115,10 +115,10 @@ lent_written l rs i noted k le lt u = elim (cases_lt 0 l.lanes) [
     zero_each none = let is : l.lanes ≡ 0 = omega arith in ap (λ (n : ℕ). n * l.each) is ∙ zero-mul l.each
 
 -- a disk that begins with that content
-pub fresh_of : (now stood : Content) (r : Record) (f i : ℕ) (l : Lent) → r ≡ new_record now → stood ≡ now → l ≡ nothing → IsFresh now (sim_facts now stood r f i l)
+pub fresh_of : (now stood : Content) (r : WriteLog) (f i : ℕ) (l : Lent) → r ≡ new_record now → stood ≡ now → l ≡ nothing → IsFresh now (sim_facts now stood r f i l)
 fresh_of now stood r f i l begun is none = record {
   reads = refl;
-  durable = λ c a. agrees_all now c (subst (λ (s : Content). AgreesOutside s [] c) is (subst (λ (q : Record). AgreesOutside stood (ranges q.written) c) begun a));
+  durable = λ c a. agrees_all now c (subst (λ (s : Content). AgreesOutside s [] c) is (subst (λ (q : WriteLog). AgreesOutside stood (ranges q.written) c) begun a));
   none_out = none;
 }
 

@@ -9,7 +9,7 @@ use Rattle.simdisk.specs.declared.patch.Patch.{Patch}
 use Rattle.simdisk.specs.declared.choice.Choice.{Choice}
 use Rattle.simdisk.specs.declared.choice.Choice.TheVariants.{Byte, Old, New}
 use Rattle.simdisk.specs.Choices.{left_by}
-use Rattle.simdisk.specs.Record.{Piece, Record, put, replay, synced, filled, ranges, Untouched, AgreesOutside, AreWithin}
+use Rattle.simdisk.specs.Record.{Piece, WriteLog, put, replay, synced, filled, ranges, Untouched, AgreesOutside, AreWithin}
 use Rattle.simdisk.specs.Pokes.{misses, part_before, part_behind, parted, poked_record}
 use Rattle.simdisk.specs.Views.{piece, pieces}
 use Rattle.simdisk.proofs.Pieces.{length-put, put_low, put_mid, put_high, fits_here, fits_rest, ranges_filled}
@@ -284,18 +284,18 @@ module _ (k : ℕ) (v : List ℕ) (stood : Content) (ps : List Piece) (lt : k < 
       in_d = omega (arith, in_c, long)
 
 -- the record of a disk that was poked
-module _ (k : ℕ) (v : List ℕ) (r r' : Record) (anew : r' ≡ poked_record k v r) (lt : k < length (synced r)) where
+module _ (k : ℕ) (v : List ℕ) (r r' : WriteLog) (anew : r' ≡ poked_record k v r) (lt : k < length (synced r)) where
   pub choices_poked : AreWithin (length (synced r)) (ranges r.written) → (choice : Choice) → left_by choice (synced r') r'.written ≡ put (k, v ∷ []) (left_by choice (synced r) r.written)
-  choices_poked fits choice = ap (λ (q : Record). left_by choice (synced q) q.written) anew ∙ left_poked k v (synced r) r.written lt fits choice
+  choices_poked fits choice = ap (λ (q : WriteLog). left_by choice (synced q) q.written) anew ∙ left_poked k v (synced r) r.written lt fits choice
 
   pub agrees_poked : (c c' : Content) → AgreesOutside (synced r) (ranges r.written) c → c' ≡ put (k, v ∷ []) c → AgreesOutside (synced r') (ranges r'.written) c'
   agrees_poked c c' a laid =
-      subst (λ (q : Record). AgreesOutside (synced q) (ranges q.written) c') (sym anew)
+      subst (λ (q : WriteLog). AgreesOutside (synced q) (ranges q.written) c') (sym anew)
       (subst (λ (d : Content). AgreesOutside (put (k, v ∷ []) (synced r)) (ranges (flat_map (parted k) r.written)) d) (sym laid) (agrees_put k v (synced r) r.written lt c a))
 
   pub crash_poked : (c : Content) → AgreesOutside (synced r') (ranges r'.written) c ↔ ((d : Content) × AgreesOutside (synced r) (ranges r.written) d × (c ≡ put (k, v ∷ []) d))
   crash_poked c = (
-    λ a. agrees_back k v (synced r) r.written lt c (subst (λ (q : Record). AgreesOutside (synced q) (ranges q.written) c) anew a),
+    λ a. agrees_back k v (synced r) r.written lt c (subst (λ (q : WriteLog). AgreesOutside (synced q) (ranges q.written) c) anew a),
     λ one. agrees_poked one.0 c one.1 one.2,
   )
 

@@ -2,7 +2,7 @@
 use Rattle.std.proofs.Common.{◌≡◌, ◌⊎◌, ◌∙◌, inl, inr, ⊎_elim, refl, ℕ, ◌+◌, ◌≤◌, List, [], ◌∷◌, ◌++◌, length, take, drop, map, sym, ap, subst, arith, length-append}
 use Rattle.std.proofs.lemmas.List.{map-append, take-append-le, drop-append-le, take-append-drop}
 use Rattle.disk.specs.Facts.{Content, Facts, Lent, LeavesAfter, Passes, Stays, Torn}
-use Rattle.simdisk.specs.Record.{Piece, Record, replay, settled, range, ranges, synced_after, more_written, more_synced, Untouched, AgreesOutside, AreWithin, Had, sim_facts}
+use Rattle.simdisk.specs.Record.{Piece, WriteLog, replay, settled, range, ranges, synced_after, more_written, more_synced, Untouched, AgreesOutside, AreWithin, Had, sim_facts}
 use Rattle.simdisk.proofs.Ranges.{agrees_push, crash_write, crash_sync}
 use Rattle.simdisk.proofs.Pieces.{ranges_settled}
 
@@ -29,15 +29,15 @@ synced_parts : (t : ℕ) (past : List (List Piece)) (c : Content) → synced_aft
 synced_parts t past c = sym (synced_append (take t past) (drop t past) c) ∙ ap (λ (es : List (List Piece)). synced_after es c) (take-append-drop t past)
 
 -- nothing is written
-pub passes_same : (now new stood stood' : Content) (r r' : Record) (f g i j : ℕ) (l m : Lent) → r' ≡ r → stood' ≡ stood → Passes (sim_facts now stood r f i l) (sim_facts new stood' r' g j m) Stays
+pub passes_same : (now new stood stood' : Content) (r r' : WriteLog) (f g i j : ℕ) (l m : Lent) → r' ≡ r → stood' ≡ stood → Passes (sim_facts now stood r f i l) (sim_facts new stood' r' g j m) Stays
 passes_same now new stood stood' r r' f g i j l m same is =
-    subst (λ (s : Content). Passes (sim_facts now stood r f i l) (sim_facts new s r' g j m) Stays) (sym is) (subst (λ (q : Record). Passes (sim_facts now stood r f i l) (sim_facts new stood q g j m) Stays) (sym same) stays)
+    subst (λ (s : Content). Passes (sim_facts now stood r f i l) (sim_facts new s r' g j m) Stays) (sym is) (subst (λ (q : WriteLog). Passes (sim_facts now stood r f i l) (sim_facts new stood q g j m) Stays) (sym same) stays)
   where
     stays : Passes (sim_facts now stood r f i l) (sim_facts new stood r g j m) Stays
     stays = record { later = omega arith; now = λ c a. (c, a, refl); nothing_else = λ t c le left. inl left; keeps = λ t c le left. left }
 
 -- the bytes of what is written change, and no range of it
-pub passes_ranges : (now new stood stood' : Content) (r r' : Record) (f g i j : ℕ) (l m : Lent) → ranges r'.written ≡ ranges r.written → r'.past ≡ r.past → r'.began ≡ r.began → stood' ≡ stood
+pub passes_ranges : (now new stood stood' : Content) (r r' : WriteLog) (f g i j : ℕ) (l m : Lent) → ranges r'.written ≡ ranges r.written → r'.past ≡ r.past → r'.began ≡ r.began → stood' ≡ stood
     → Passes (sim_facts now stood r f i l) (sim_facts new stood' r' g j m) Stays
 passes_ranges now new stood stood' r r' f g i j l m same past began is = record {
   later = omega (arith, ap (λ (es : List (List Piece)). length es) past);
@@ -59,11 +59,11 @@ ranges_push : (ps : List Piece) (p : Piece) → ranges (ps ++ p ∷ []) ≡ rang
 ranges_push ps p = map-append range ps (p ∷ [])
 
 -- a piece more is written
-pub passes_range : (now new stood stood' : Content) (r r' : Record) (f g i j : ℕ) (l m : Lent) (p : Piece) → r' ≡ more_written p r → stood' ≡ stood → p.0 + length p.1 ≤ length stood
+pub passes_range : (now new stood stood' : Content) (r r' : WriteLog) (f g i j : ℕ) (l m : Lent) (p : Piece) → r' ≡ more_written p r → stood' ≡ stood → p.0 + length p.1 ≤ length stood
     → Passes (sim_facts now stood r f i l) (sim_facts new stood' r' g j m) (Torn p.0 (length p.1))
 passes_range now new stood stood' r r' f g i j l m p more is within =
     subst (λ (s : Content). Passes (sim_facts now stood r f i l) (sim_facts new s r' g j m) (Torn p.0 (length p.1))) (sym is)
-    (subst (λ (q : Record). Passes (sim_facts now stood r f i l) (sim_facts new stood q g j m) (Torn p.0 (length p.1))) (sym more) pushed)
+    (subst (λ (q : WriteLog). Passes (sim_facts now stood r f i l) (sim_facts new stood q g j m) (Torn p.0 (length p.1))) (sym more) pushed)
   where
     split : (c : Content) → AgreesOutside stood (ranges (r.written ++ p ∷ [])) c → AgreesOutside stood (ranges r.written ++ range p ∷ []) c
     split c a = subst (λ (rs : List (ℕ × ℕ)). AgreesOutside stood rs c) (ranges_push r.written p) a
@@ -83,11 +83,11 @@ passes_range now new stood stood' r r' f g i j l m p more is within =
     }
 
 -- a sync more
-pub passes_sync : (now stood stood' : Content) (r r' : Record) (f g i j : ℕ) (l : Lent) (next : List Piece) → r' ≡ more_synced now next r → stood' ≡ now → synced_after r.past r.began ≡ stood
+pub passes_sync : (now stood stood' : Content) (r r' : WriteLog) (f g i j : ℕ) (l : Lent) (next : List Piece) → r' ≡ more_synced now next r → stood' ≡ now → synced_after r.past r.began ≡ stood
     → AgreesOutside stood (ranges r.written) now → AreWithin (length stood) (ranges r.written) → ((k : ℕ) → Untouched (ranges r.written) k → Untouched (ranges next) k)
     → Passes (sim_facts now stood r f i l) (sim_facts now stood' r' g j l) Stays
 passes_sync now stood stood' r r' f g i j l next more is stood_so agrees fits fewer =
-    subst (λ (s : Content). Passes before (sim_facts now s r' g j l) Stays) (sym is) (subst (λ (q : Record). Passes before (sim_facts now now q g j l) Stays) (sym more) pushed)
+    subst (λ (s : Content). Passes before (sim_facts now s r' g j l) Stays) (sym is) (subst (λ (q : WriteLog). Passes before (sim_facts now now q g j l) Stays) (sym more) pushed)
   where
     before : Facts
     before = sim_facts now stood r f i l

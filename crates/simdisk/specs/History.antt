@@ -1,7 +1,7 @@
 -- What a history is to a contract.
 use Rattle.simdisk.specs.declared.history.History.{History}
-use Rattle.simdisk.specs.Record.{Record}
+use Rattle.simdisk.specs.Record.{WriteLog}
 use Rattle.simdisk.specs.Views.{pieces}
 
-abbrev pub record_of : History → Record
+abbrev pub record_of : History → WriteLog
 record_of h = record { began = h.past.began; past = h.past.epochs; written = pieces h.written.items }

@@ -4,7 +4,7 @@ use Rattle.std.specs.List.{flat_map}
 use Rattle.disk.specs.Facts.{Content, Facts, sector}
 use Rattle.simdisk.specs.declared.choice.Choice.{Choice}
 use Rattle.simdisk.specs.Choices.{left_by}
-use Rattle.simdisk.specs.Record.{Piece, Record, put, synced}
+use Rattle.simdisk.specs.Record.{Piece, WriteLog, put, synced}
 
 -- the bytes of a sector with these in it, from that one on
 abbrev pub bytes_put : ℕ → List ℕ → List ℕ → List ℕ
@@ -24,7 +24,7 @@ pub record StandsSo (k : ℕ) (bytes : List ℕ) (old new : Facts) : Type 0 wher
   pub crash : (c : Content) → new.may_leave c ↔ ((d : Content) × old.may_leave d × (c ≡ put (k, bytes ∷ []) d))
 
 -- by each choice a cut leaves what it would have left, with that sector
-abbrev pub StandsByEach : ℕ → List ℕ → Record → Record → Type 0
+abbrev pub StandsByEach : ℕ → List ℕ → WriteLog → WriteLog → Type 0
 StandsByEach k bytes old new = (choice : Choice) → left_by choice (synced new) new.written ≡ put (k, bytes ∷ []) (left_by choice (synced old) old.written)
 
 -- the k-th sector is not in the piece
@@ -44,5 +44,5 @@ parted k piece = (if misses k piece then piece ∷ [] else part_before k piece �
 
 -- The record begun anew with what stood at the last sync, in which the k-th sector holds these bytes, and without what was written to
 -- it since.
-abbrev pub poked_record : ℕ → List ℕ → Record → Record
+abbrev pub poked_record : ℕ → List ℕ → WriteLog → WriteLog
 poked_record k bytes r = record { began = put (k, bytes ∷ []) (synced r); past = []; written = flat_map (parted k) r.written }

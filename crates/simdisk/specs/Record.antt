@@ -7,7 +7,7 @@ abbrev pub Piece : Type 0
 Piece = ℕ × Content
 
 -- a disk's writes since it was made, or left by a crash
-pub record Record : Type 0 where
+pub record WriteLog : Type 0 where
   -- what stood then
   pub began : Content
   -- for each sync the pieces written before it, since the sync before, as they stood at it
@@ -38,19 +38,19 @@ synced_after [] c = c
 synced_after (epoch ∷ epochs) c = synced_after epochs (replay epoch c)
 
 -- what stood at the last sync
-abbrev pub synced : Record → Content
+abbrev pub synced : WriteLog → Content
 synced r = synced_after r.past r.began
 
 -- the record of a disk that was just made, or left by a crash
-abbrev pub new_record : Content → Record
+abbrev pub new_record : Content → WriteLog
 new_record c = record { began = c; past = []; written = [] }
 
 -- one piece more is written
-abbrev pub more_written : Piece → Record → Record
+abbrev pub more_written : Piece → WriteLog → WriteLog
 more_written piece r = record r { written = r.written ++ piece ∷ [] }
 
 -- a sync: the pieces stand as in that content, and these are written from now on
-abbrev pub more_synced : Content → List Piece → Record → Record
+abbrev pub more_synced : Content → List Piece → WriteLog → WriteLog
 more_synced c pieces r = record { began = r.began; past = r.past ++ map (settled c) r.written ∷ []; written = pieces }
 
 -- where a piece begins, and how many sectors it has
@@ -65,15 +65,15 @@ abbrev pub lent_piece : Lent → Content → Piece
 lent_piece l c = (l.first, take (l.lanes * l.each) (drop l.first c))
 
 -- what would stand now, had each failed write gone through
-abbrev pub newest : Record → Content
+abbrev pub newest : WriteLog → Content
 newest r = replay r.written (synced r)
 
 -- a failed write is noted too, but where memory was refused for it
-abbrev pub NotedOrRefused : Piece → Record → Record → ℕ → ℕ → Type 0
+abbrev pub NotedOrRefused : Piece → WriteLog → WriteLog → ℕ → ℕ → Type 0
 NotedOrRefused piece old new own own' = (new ≡ more_written piece old) ⊎ ((new ≡ old) × (own' ≡ counted own 1))
 
 -- the ranges that were written stay, and the syncs
-pub record SameRanges (old new : Record) : Type 0 where
+pub record SameRanges (old new : WriteLog) : Type 0 where
   pub began : new.began ≡ old.began
   pub past : new.past ≡ old.past
   pub written : ranges new.written ≡ ranges old.written
@@ -105,7 +105,7 @@ Had stood [] c = ⊥
 Had stood (epoch ∷ epochs) c = AgreesOutside stood (ranges epoch) c ⊎ Had (replay epoch stood) epochs c
 
 -- the facts of a disk with that record, whose last sync had that content
-abbrev pub sim_facts : Content → Content → Record → ℕ → ℕ → Lent → Facts
+abbrev pub sim_facts : Content → Content → WriteLog → ℕ → ℕ → Lent → Facts
 sim_facts now stood r failures calls lent = record {
   content = now;
   may_leave = λ c. AgreesOutside stood (ranges r.written) c;

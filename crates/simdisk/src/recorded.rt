@@ -1,7 +1,7 @@
 //! The record of a disk in memory, for contracts.
 ghost use Rattle.std.specs.Prelude.{Option};
 ghost use Rattle.disk.specs.declared.device.ArmedFault.{ArmedFault};
-ghost use Rattle.simdisk.specs.Record.{Record};
+ghost use Rattle.simdisk.specs.Record.{WriteLog};
 ghost use Rattle.simdisk.specs.LaneRecords.{LaneRecord};
 
 use crate::lane::SimLane;
@@ -10,7 +10,7 @@ use crate::sim::SimDisk;
 /// A disk that keeps a record of its writes and syncs, and the fault that is armed, with the calls
 /// that are left to it.
 pub trait Recorded {
-    ghost record: { Self → Record };
+    ghost record: { Self → WriteLog };
 
     ghost armed: { Self → Option ArmedFault };
 }
