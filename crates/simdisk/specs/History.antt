@@ -3,5 +3,5 @@ use Rattle.simdisk.specs.declared.history.History.{History}
 use Rattle.simdisk.specs.Record.{WriteLog}
 use Rattle.simdisk.specs.Views.{pieces}
 
-abbrev pub record_of : History → WriteLog
-record_of h = record { began = h.past.began; past = h.past.epochs; written = pieces h.written.items }
+abbrev pub log_of : History → WriteLog
+log_of h = record { began = h.past.began; past = h.past.epochs; written = pieces h.written.items }

@@ -19,7 +19,7 @@ use std::alloc::AllocError;
 
 impl Disk for SimDisk {
     ghost use Rattle.simdisk.specs.Record.{sim_facts};
-    ghost use Rattle.simdisk.specs.History.{record_of};
+    ghost use Rattle.simdisk.specs.History.{log_of};
     ghost use Rattle.simdisk.specs.Loans.{lent_of};
     ghost use Rattle.simdisk.specs.Armings.{fault_state_of};
     ghost use Rattle.simdisk.specs.Record.{ranges, synced, AgreesOutside};
@@ -31,7 +31,7 @@ impl Disk for SimDisk {
 
     type Lane = SimLane;
 
-    ghost facts = { λ d. sim_facts d.content.items (synced (record_of d.history)) (record_of d.history) d.failures d.calls (lent_of d.loan) };
+    ghost facts = { λ d. sim_facts d.content.items (synced (log_of d.history)) (log_of d.history) d.failures d.calls (lent_of d.loan) };
 
     ghost fault_state = { λ d. fault_state_of d.faults d.refused };
 
@@ -193,7 +193,7 @@ impl Disk for SimDisk {
 
     ghost counts_now = { λ d t c le now. inl now };
 
-    ghost only_now = { λ d c left. only_the_last (synced_after (take (length d.history.past.epochs) d.history.past.epochs) d.history.past.began) d.history.past.epochs c (AgreesOutside (synced (record_of d.history)) (ranges (pieces d.history.written.items)) c) left };
+    ghost only_now = { λ d c left. only_the_last (synced_after (take (length d.history.past.epochs) d.history.past.epochs) d.history.past.began) d.history.past.epochs c (AgreesOutside (synced (log_of d.history)) (ranges (pieces d.history.written.items)) c) left };
 
     ghost bounded = { λ d. below d.failures d.few };
 

@@ -60,14 +60,14 @@ fn parts_of(alloc: Global, patches: &[Patch], sector: usize) -> Result<Vec<Patch
 }
 
 impl History {
-    ghost use Rattle.simdisk.specs.History.{record_of};
+    ghost use Rattle.simdisk.specs.History.{log_of};
 
     // The record begins anew, with these bytes in that sector, and without what was written to it
     // since the last sync. At `Err` nothing has changed.
     fn set_sector(&mut self, alloc: Global, sector: usize, bytes: Sector) -> Result<(), AllocError>
-        requires { sector < length (synced (record_of self.old)) }
-        ensures record { OnOk result (record_of self.new ≡ poked_record sector bytes (record_of self.old)) }
-        ensures refused { OnErr result (record_of self.new ≡ record_of self.old) }
+        requires { sector < length (synced (log_of self.old)) }
+        ensures record { OnOk result (log_of self.new ≡ poked_record sector bytes (log_of self.old)) }
+        ensures refused { OnErr result (log_of self.new ≡ log_of self.old) }
     {
         let written = parts_of(alloc, &self.written, sector)?;
         overwrite(&mut self.stood, sector, &[bytes]);

@@ -16,9 +16,9 @@ pub trait Recorded {
 }
 
 impl Recorded for SimDisk {
-    ghost use Rattle.simdisk.specs.History.{record_of};
+    ghost use Rattle.simdisk.specs.History.{log_of};
 
-    ghost record = { λ d. record_of d.history };
+    ghost record = { λ d. log_of d.history };
 
     ghost armed = { λ d. d.faults.armed };
 }

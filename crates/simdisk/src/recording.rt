@@ -19,14 +19,14 @@ use disk::Sector;
 use std::alloc::{AllocError, Global};
 
 impl History {
-    ghost use Rattle.simdisk.specs.History.{record_of};
+    ghost use Rattle.simdisk.specs.History.{log_of};
     ghost use Rattle.simdisk.specs.Loans.{lent_of};
     ghost use Rattle.simdisk.specs.Lanes.{lane_view, lane_record};
     ghost use Rattle.simdisk.specs.LaneRecords.{AreLent};
 
     // The record of a disk that begins with these sectors.
     pub(crate) fn begun(alloc: Global, sectors: &[Sector]) -> Result<History, AllocError>
-        ensures { IfOk result (λ h. record_of h ≡ new_record sectors.now) }
+        ensures { IfOk result (λ h. log_of h ≡ new_record sectors.now) }
     {
         Ok(History {
             stood: copy_of(alloc, sectors)?,
@@ -37,10 +37,10 @@ impl History {
 
     // Notes a write of these sectors. At `Err` nothing has changed.
     pub(crate) fn note(&mut self, first: usize, sectors: &[Sector]) -> Result<(), AllocError>
-        requires { first + length sectors.now ≤ length (synced (record_of self.old)) }
-        ensures noted { OnOk result (record_of self.new ≡ more_written (first, sectors.now) (record_of self.old)) }
-        ensures refused { OnErr result (record_of self.new ≡ record_of self.old) }
-        ensures synced { synced (record_of self.new) ≡ synced (record_of self.old) }
+        requires { first + length sectors.now ≤ length (synced (log_of self.old)) }
+        ensures noted { OnOk result (log_of self.new ≡ more_written (first, sectors.now) (log_of self.old)) }
+        ensures refused { OnErr result (log_of self.new ≡ log_of self.old) }
+        ensures synced { synced (log_of self.new) ≡ synced (log_of self.old) }
     {
         self.written.reserve(1)?;
         self.written.push_reserved(Patch::of(first, sectors));
@@ -49,10 +49,10 @@ impl History {
 
     // Notes a sync of that content. From now on these patches are written.
     pub(crate) fn sync(&mut self, content: &[Sector], next: Vec<Patch>)
-        requires agrees { AgreesOutside (synced (record_of self.old)) (ranges (pieces self.old.written.items)) content.now }
-        requires fits { AreWithin (length (synced (record_of self.old))) (ranges (pieces next.items)) }
-        ensures noted { record_of self.new ≡ more_synced content.now (pieces next.items) (record_of self.old) }
-        ensures synced { synced (record_of self.new) ≡ content.now }
+        requires agrees { AgreesOutside (synced (log_of self.old)) (ranges (pieces self.old.written.items)) content.now }
+        requires fits { AreWithin (length (synced (log_of self.old))) (ranges (pieces next.items)) }
+        ensures noted { log_of self.new ≡ more_synced content.now (pieces next.items) (log_of self.old) }
+        ensures synced { synced (log_of self.new) ≡ content.now }
     {
         self.past.sync(&self.written, content);
         settle(&mut self.stood, &self.written, content);
@@ -66,11 +66,11 @@ impl History {
         content: &Vec<Sector>,
         loan: Loan,
     ) -> Result<(), AllocError>
-        requires agrees { AgreesOutside (synced (record_of self.old)) (ranges (pieces self.old.written.items)) content.now.items }
+        requires agrees { AgreesOutside (synced (log_of self.old)) (ranges (pieces self.old.written.items)) content.now.items }
         requires within { loan.first + loan.lanes * loan.each ≤ length content.now.items }
-        ensures noted { OnOk result (record_of self.new ≡ more_synced content.now.items (lent_piece (lent_of loan) content.now.items ∷ []) (record_of self.old)) }
-        ensures synced { OnOk result (synced (record_of self.new) ≡ content.now.items) }
-        ensures refused { OnErr result ((record_of self.new ≡ record_of self.old) × (synced (record_of self.new) ≡ synced (record_of self.old))) }
+        ensures noted { OnOk result (log_of self.new ≡ more_synced content.now.items (lent_piece (lent_of loan) content.now.items ∷ []) (log_of self.old)) }
+        ensures synced { OnOk result (synced (log_of self.new) ≡ content.now.items) }
+        ensures refused { OnErr result ((log_of self.new ≡ log_of self.old) × (synced (log_of self.new) ≡ synced (log_of self.old))) }
     {
         let end = loan.first + loan.lanes * loan.each;
         let lent = Patch::of(loan.first, &content[loan.first..end]);
@@ -95,12 +95,12 @@ impl History {
         requires within { loan.first + loan.lanes * loan.each ≤ length content.now }
         requires as_long { length last.now ≡ length content.now }
         requires in_step { in_step ≡ true → last.now ≡ content.now }
-        requires long { length content.now ≡ length (synced (record_of self.old)) }
+        requires long { length content.now ≡ length (synced (log_of self.old)) }
         ensures handed { IfOk result (λ out. Handed (lent_of loan) content.now (map lane_view out.items)) }
         ensures lent { IfOk result (λ out. AreLent (lent_of loan) last.now faults.armed faults.cut (map lane_record out.items)) }
-        ensures noted { OnOk result (record_of self.new ≡ more_written (lent_piece (lent_of loan) last.now) (record_of self.old)) }
-        ensures refused { OnErr result (record_of self.new ≡ record_of self.old) }
-        ensures synced { synced (record_of self.new) ≡ synced (record_of self.old) }
+        ensures noted { OnOk result (log_of self.new ≡ more_written (lent_piece (lent_of loan) last.now) (log_of self.old)) }
+        ensures refused { OnErr result (log_of self.new ≡ log_of self.old) }
+        ensures synced { synced (log_of self.new) ≡ synced (log_of self.old) }
     {
         let out = lend(
             alloc, content, last, in_step, faults, loan.first, loan.lanes, loan.each,
@@ -113,13 +113,13 @@ impl History {
     // Takes over what would stand now, had each failed write gone through, after the lanes of that loan
     // came back.
     pub(crate) fn take_newest(&mut self, loan: Loan, last: &[Sector])
-        requires torn { Torn loan.first (loan.lanes * loan.each) (newest (record_of self.old)) last.now }
+        requires torn { Torn loan.first (loan.lanes * loan.each) (newest (log_of self.old)) last.now }
         requires noted { 0 < loan.lanes → IsLatest (ranges (pieces self.old.written.items)) loan.patch (loan.first, loan.lanes * loan.each) }
         ensures ranges { ranges (pieces self.new.written.items) ≡ ranges (pieces self.old.written.items) }
-        ensures past { (record_of self.new).past ≡ (record_of self.old).past }
-        ensures began { (record_of self.new).began ≡ (record_of self.old).began }
-        ensures synced { synced (record_of self.new) ≡ synced (record_of self.old) }
-        ensures newest { newest (record_of self.new) ≡ last.now }
+        ensures past { (log_of self.new).past ≡ (log_of self.old).past }
+        ensures began { (log_of self.new).began ≡ (log_of self.old).began }
+        ensures synced { synced (log_of self.new) ≡ synced (log_of self.old) }
+        ensures newest { newest (log_of self.new) ≡ last.now }
     {
         if loan.lanes == 0 {
             return;
@@ -130,10 +130,10 @@ impl History {
     // The record of the disk that a crash leaves by that choice, where those sectors would stand had each
     // write gone through.
     pub(crate) fn left(self, alloc: Global, choice: Choice, last: &[Sector]) -> History
-        requires { last.now ≡ newest (record_of self) }
-        ensures record { record_of result ≡ new_record (left_by choice (synced (record_of self)) (pieces self.written.items)) }
-        ensures content { result.stood.items ≡ left_by choice (synced (record_of self)) (pieces self.written.items) }
-        ensures as_long { length result.stood.items ≡ length (synced (record_of self)) }
+        requires { last.now ≡ newest (log_of self) }
+        ensures record { log_of result ≡ new_record (left_by choice (synced (log_of self)) (pieces self.written.items)) }
+        ensures content { result.stood.items ≡ left_by choice (synced (log_of self)) (pieces self.written.items) }
+        ensures as_long { length result.stood.items ≡ length (synced (log_of self)) }
     {
         let mut content = self.stood;
         match choice {

@@ -1,7 +1,7 @@
 //! The disk in memory.
 ghost use Rattle.std.specs.Prelude.{◌≡◌, ◌≤◌, ◌<◌, ◌+◌, ◌*◌, ◌^◌, length};
 ghost use Rattle.simdisk.specs.Record.{ranges, synced, newest, AgreesOutside};
-ghost use Rattle.simdisk.specs.History.{record_of};
+ghost use Rattle.simdisk.specs.History.{log_of};
 ghost use Rattle.simdisk.specs.Latest.{latest_of};
 ghost use Rattle.simdisk.specs.Views.{pieces};
 ghost use Rattle.simdisk.specs.Loans.{IsLatest};
@@ -25,8 +25,8 @@ pub struct SimDisk {
     pub(crate) refused: u64,
     pub(crate) loan: Loan,
     pub(crate) faults: Faults,
-    ghost agrees: { AgreesOutside (synced (record_of history)) (ranges (pieces history.written.items)) content.items },
-    ghost newest: { newest (record_of history) ≡ latest_of latest content.items },
+    ghost agrees: { AgreesOutside (synced (log_of history)) (ranges (pieces history.written.items)) content.items },
+    ghost newest: { newest (log_of history) ≡ latest_of latest content.items },
     ghost room: { length latest.sectors.items ≡ length content.items },
     ghost few: { failures < 2 ^ 64 },
     ghost few_calls: { calls < 2 ^ 64 },

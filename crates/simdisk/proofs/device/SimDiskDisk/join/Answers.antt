@@ -3,7 +3,7 @@ use Rattle.disk.specs.Facts.{Content, Lent, Joined, counted, lane_at, lane_failu
 use Rattle.simdisk.specs.Lanes.{lane_view, newest_view, lane_record}
 use Rattle.simdisk.specs.LaneRecords.{CameBack}
 use Rattle.simdisk.specs.declared.lane.SimLane.{SimLane}
-use Rattle.simdisk.specs.History.{record_of}
+use Rattle.simdisk.specs.History.{log_of}
 use Rattle.simdisk.specs.Latest.{latest_of}
 use Rattle.simdisk.specs.Loans.{lent_of}
 use Rattle.simdisk.specs.Record.{newest, ranges, synced}
@@ -34,7 +34,7 @@ invariant_of-self c =
     record {
       newest = all.newest ∙ c.over-last.ensures ∙ ap (λ (k : Content). latest_of c.join.new.self k) c.deref-5.ensures.value;
       room = search rules;
-      agrees = rw (all.ranges, all.synced) (agrees_join (lent_of s.loan) (synced (record_of s.history)) (ranges (pieces s.history.written.items)) s.loan.patch s.content.items c.lay_row.new.content.items (λ lt. (s.noted lt).noted) s.agrees c.lay_row.ensures.elsewhere);
+      agrees = rw (all.ranges, all.synced) (agrees_join (lent_of s.loan) (synced (log_of s.history)) (ranges (pieces s.history.written.items)) s.loan.patch s.content.items c.lay_row.new.content.items (λ lt. (s.noted lt).noted) s.agrees c.lay_row.ensures.elsewhere);
       few = search rules;
       few_calls = s.few_calls;
       within = search rules;
@@ -45,7 +45,7 @@ pub returns-clause-crash : goal.returns-clause-crash
 returns-clause-crash c =
     let s = c.args.self.now in
     let all = c.take_newest.ensures in
-    passes_ranges s.content.items _ (synced (record_of s.history)) (synced (record_of c.take_newest.new.self)) (record_of s.history) (record_of c.take_newest.new.self) _ _ _ _ _ _ all.ranges
+    passes_ranges s.content.items _ (synced (log_of s.history)) (synced (log_of c.take_newest.new.self)) (log_of s.history) (log_of c.take_newest.new.self) _ _ _ _ _ _ all.ranges
     all.past all.began all.synced
 
 pub returns-clause-takes_back : goal.returns-clause-takes_back
@@ -63,6 +63,6 @@ returns-clause-takes_back c =
     let back : CameBack s.faults.armed s.faults.cut (map lane_record lanes) c.failures_of-failures.result c.come_back-own.new.self.armed c.come_back-own.new.self.cut more = search rules in
     record {
       ranges = record { began = all.began; past = all.past; written = all.ranges };
-      written = written_back (lent_of s.loan) lanes (newest (record_of s.history)) (newest (record_of c.take_newest.new.self)) (rw (s.newest, all.newest, c.over-last.ensures, c.deref-5.ensures.value) last);
+      written = written_back (lent_of s.loan) lanes (newest (log_of s.history)) (newest (log_of c.take_newest.new.self)) (rw (s.newest, all.newest, c.over-last.ensures, c.deref-5.ensures.value) last);
       faults = (more, own, subst (λ (n : ℕ). CameBack s.faults.armed s.faults.cut (map lane_record lanes) n c.come_back-own.new.self.armed c.come_back-own.new.self.cut more) failed back);
     }

@@ -4,7 +4,7 @@ use Rattle.disk.specs.Facts.{Content, Lent, Torn, Passes}
 use Rattle.simdisk.specs.Latest.{latest_of}
 use Rattle.simdisk.specs.Record.{put, more_written, range, ranges, synced, newest, lent_piece, sim_facts}
 use Rattle.simdisk.specs.Views.{piece, pieces}
-use Rattle.simdisk.specs.History.{record_of}
+use Rattle.simdisk.specs.History.{log_of}
 use Rattle.simdisk.proofs.Ranges.{agrees_push}
 use Rattle.simdisk.proofs.Epochs.{length_newest}
 use Rattle.simdisk.proofs.Notes.{newest_more, ranges_written, last_last, range_lent}
@@ -16,19 +16,19 @@ pub invariant_of-self-2 : goal.invariant_of-self-2
 invariant_of-self-2 c =
     let s = c.args.self.now in
     let l : Lent = record { first = c.args.first; lanes = c.args.lanes; each = c.args.each } in
-    let last = newest (record_of s.history) in
+    let last = newest (log_of s.history) in
     let rs = ranges (pieces s.history.written.items) in
     let r : ℕ × ℕ = (c.args.first, c.args.lanes * c.args.each) in
     let long : length last ≡ length s.content.items = length_newest s.history ∙ sym s.agrees.as_long in
-    let noted : record_of c.lend.new.self ≡ more_written (lent_piece l last) (record_of s.history) = c.in_ok-out.ensures.noted ∙ ap (λ (k : Content). more_written (lent_piece l k) (record_of s.history)) (c.over-last.ensures ∙ ap (λ (k : Content). latest_of s.latest k) c.deref.ensures.value ∙ sym s.newest) in
+    let noted : log_of c.lend.new.self ≡ more_written (lent_piece l last) (log_of s.history) = c.in_ok-out.ensures.noted ∙ ap (λ (k : Content). more_written (lent_piece l k) (log_of s.history)) (c.over-last.ensures ∙ ap (λ (k : Content). latest_of s.latest k) c.deref.ensures.value ∙ sym s.newest) in
     let more : ranges (pieces c.lend.new.self.written.items) ≡ rs ++ r ∷ [] =
-    ranges_written (record_of s.history) (record_of c.lend.new.self) (lent_piece l last) noted ∙ ap (λ (x : ℕ × ℕ). rs ++ x ∷ []) (range_lent l last (rw long c.requires.within)) in
+    ranges_written (log_of s.history) (log_of c.lend.new.self) (lent_piece l last) noted ∙ ap (λ (x : ℕ × ℕ). rs ++ x ∷ []) (range_lent l last (rw long c.requires.within)) in
     let same : (k : Content) → k ≡ latest_of s.latest s.content.items → latest_of s.latest s.content.items ≡ put (lent_piece l k) (latest_of s.latest s.content.items) =
     λ k is. sym (ap (λ (k : Content). put (lent_piece l k) (latest_of s.latest s.content.items)) is ∙ put_same c.args.first (c.args.lanes * c.args.each) (latest_of s.latest s.content.items) (rw (← s.newest, long) c.requires.within)) in
     record {
-      newest = newest_more (record_of s.history) (record_of c.lend.new.self) (lent_piece l last) (latest_of s.latest s.content.items) (latest_of s.latest s.content.items) noted s.newest (same last s.newest);
+      newest = newest_more (log_of s.history) (log_of c.lend.new.self) (lent_piece l last) (latest_of s.latest s.content.items) (latest_of s.latest s.content.items) noted s.newest (same last s.newest);
       room = s.room;
-      agrees = rw (c.in_ok-out.ensures.synced, more) (agrees_push (synced (record_of s.history)) rs r s.content.items s.agrees);
+      agrees = rw (c.in_ok-out.ensures.synced, more) (agrees_push (synced (log_of s.history)) rs r s.content.items s.agrees);
       few = s.few;
       few_calls = s.few_calls;
       within = c.requires.within;
@@ -39,11 +39,11 @@ pub returns-clause-crash : goal.returns-clause-crash
 returns-clause-crash c =
     let s = c.args.self.now in
     let l : Lent = record { first = c.args.first; lanes = c.args.lanes; each = c.args.each } in
-    let last = newest (record_of s.history) in
+    let last = newest (log_of s.history) in
     let long : length last ≡ length s.content.items = length_newest s.history ∙ sym s.agrees.as_long in
     let size : length (lent_piece l last).1 ≡ c.args.lanes * c.args.each = ap (λ (x : ℕ × ℕ). x.1) (range_lent l last (rw long c.requires.within)) in
-    let noted : record_of c.lend.new.self ≡ more_written (lent_piece l last) (record_of s.history) = c.in_ok-out.ensures.noted ∙ ap (λ (k : Content). more_written (lent_piece l k) (record_of s.history)) (c.over-last.ensures ∙ ap (λ (k : Content). latest_of s.latest k) c.deref.ensures.value ∙ sym s.newest) in
-    let all : Passes (sim_facts s.content.items (synced (record_of s.history)) (record_of s.history) s.failures s.calls _) (sim_facts s.content.items (synced (record_of c.lend.new.self)) (record_of c.lend.new.self) s.failures s.calls l) (Torn c.args.first (length (lent_piece l last).1)) =
-    passes_range s.content.items s.content.items (synced (record_of s.history)) (synced (record_of c.lend.new.self)) (record_of s.history) (record_of c.lend.new.self) _ _ _ _ _ _ (lent_piece l last) noted c.in_ok-out.ensures.synced
+    let noted : log_of c.lend.new.self ≡ more_written (lent_piece l last) (log_of s.history) = c.in_ok-out.ensures.noted ∙ ap (λ (k : Content). more_written (lent_piece l k) (log_of s.history)) (c.over-last.ensures ∙ ap (λ (k : Content). latest_of s.latest k) c.deref.ensures.value ∙ sym s.newest) in
+    let all : Passes (sim_facts s.content.items (synced (log_of s.history)) (log_of s.history) s.failures s.calls _) (sim_facts s.content.items (synced (log_of c.lend.new.self)) (log_of c.lend.new.self) s.failures s.calls l) (Torn c.args.first (length (lent_piece l last).1)) =
+    passes_range s.content.items s.content.items (synced (log_of s.history)) (synced (log_of c.lend.new.self)) (log_of s.history) (log_of c.lend.new.self) _ _ _ _ _ _ (lent_piece l last) noted c.in_ok-out.ensures.synced
     (rw (size, ← s.agrees.as_long) c.requires.within) in
     rw (← size) all

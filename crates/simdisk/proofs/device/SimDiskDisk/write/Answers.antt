@@ -2,7 +2,7 @@ use Rattle.std.proofs.Common.{◌≡◌, ◌∙◌, ◌++◌, ◌∷◌, [], ℕ
 use Rattle.disk.specs.Facts.{Content}
 use Rattle.simdisk.specs.Record.{ranges, synced}
 use Rattle.simdisk.specs.Views.{pieces}
-use Rattle.simdisk.specs.History.{record_of}
+use Rattle.simdisk.specs.History.{log_of}
 use Rattle.simdisk.specs.Latest.{latest_of}
 use Rattle.simdisk.specs.Loans.{lent_of}
 use Rattle.simdisk.proofs.Ranges.{agrees_write, agrees_push}
@@ -15,12 +15,12 @@ invariant_of-self-then-strikes c =
     let s = c.args.self.now in
     let rs = ranges (pieces s.history.written.items) in
     let r : ℕ × ℕ = (c.args.first, length c.args.sectors.now) in
-    let more : ranges (pieces c.note.new.self.written.items) ≡ rs ++ r ∷ [] = ranges_written (record_of s.history) (record_of c.note.new.self) (c.args.first, c.args.sectors.now) c.in-Ok.ensures.noted in
+    let more : ranges (pieces c.note.new.self.written.items) ≡ rs ++ r ∷ [] = ranges_written (log_of s.history) (log_of c.note.new.self) (c.args.first, c.args.sectors.now) c.in-Ok.ensures.noted in
     record {
-      newest = newest_more (record_of s.history) (record_of c.note.new.self) (c.args.first, c.args.sectors.now) (latest_of s.latest s.content.items) (latest_of c.write_failed.new.self s.content.items) c.in-Ok.ensures.noted s.newest
+      newest = newest_more (log_of s.history) (log_of c.note.new.self) (c.args.first, c.args.sectors.now) (latest_of s.latest s.content.items) (latest_of c.write_failed.new.self s.content.items) c.in-Ok.ensures.noted s.newest
           (rw (← c.deref.ensures.value) c.write_failed.ensures.written);
       room = c.write_failed.ensures.as_long ∙ s.room;
-      agrees = rw (c.in-Ok.ensures.synced, more) (agrees_push (synced (record_of s.history)) rs r s.content.items s.agrees);
+      agrees = rw (c.in-Ok.ensures.synced, more) (agrees_push (synced (log_of s.history)) rs r s.content.items s.agrees);
       few = search rules;
       few_calls = search rules;
       within = s.within;
@@ -32,7 +32,7 @@ returns-then-strikes-clause-called c =
     let s = c.args.self.now in
     record {
       content = search rules;
-      crash = passes_range s.content.items _ (synced (record_of s.history)) (synced (record_of c.note.new.self)) (record_of s.history) (record_of c.note.new.self) _ _ _ _ _ _ (c.args.first, c.args.sectors.now) c.in-Ok.ensures.noted c.in-Ok.ensures.synced
+      crash = passes_range s.content.items _ (synced (log_of s.history)) (synced (log_of c.note.new.self)) (log_of s.history) (log_of c.note.new.self) _ _ _ _ _ _ (c.args.first, c.args.sectors.now) c.in-Ok.ensures.noted c.in-Ok.ensures.synced
           (rw (← s.agrees.as_long) c.requires.within);
       lent = search rules;
       calls = search rules;
@@ -46,13 +46,13 @@ invariant_of-self-2 c =
     let s = c.args.self.now in
     let rs = ranges (pieces s.history.written.items) in
     let r : ℕ × ℕ = (c.args.first, length c.args.sectors.now) in
-    let more : ranges (pieces c.note.new.self.written.items) ≡ rs ++ r ∷ [] = ranges_written (record_of s.history) (record_of c.note.new.self) (c.args.first, c.args.sectors.now) c.in-Ok.ensures.noted in
+    let more : ranges (pieces c.note.new.self.written.items) ≡ rs ++ r ∷ [] = ranges_written (log_of s.history) (log_of c.note.new.self) (c.args.first, c.args.sectors.now) c.in-Ok.ensures.noted in
     let torn = c.overwrite.ensures.written.elsewhere in
     record {
-      newest = newest_more (record_of s.history) (record_of c.note.new.self) (c.args.first, c.args.sectors.now) (latest_of s.latest s.content.items) (latest_of c.write.new.self c.overwrite.new.content.items) c.in-Ok.ensures.noted s.newest
+      newest = newest_more (log_of s.history) (log_of c.note.new.self) (c.args.first, c.args.sectors.now) (latest_of s.latest s.content.items) (latest_of c.write.new.self c.overwrite.new.content.items) c.in-Ok.ensures.noted s.newest
           (ap (λ (k : Content). latest_of c.write.new.self k) c.overwrite.ensures.put ∙ c.write.ensures.written s.content.items);
       room = c.write.ensures.as_long ∙ s.room ∙ sym torn.as_long;
-      agrees = rw (c.in-Ok.ensures.synced, more) (agrees_write (synced (record_of s.history)) rs c.args.first (length c.args.sectors.now) s.content.items c.overwrite.new.content.items s.agrees torn);
+      agrees = rw (c.in-Ok.ensures.synced, more) (agrees_write (synced (log_of s.history)) rs c.args.first (length c.args.sectors.now) s.content.items c.overwrite.new.content.items s.agrees torn);
       few = s.few;
       few_calls = search rules;
       within = rw torn.as_long s.within;
@@ -64,7 +64,7 @@ returns-clause-called c =
     let s = c.args.self.now in
     record {
       content = search rules;
-      crash = passes_range s.content.items _ (synced (record_of s.history)) (synced (record_of c.note.new.self)) (record_of s.history) (record_of c.note.new.self) _ _ _ _ _ _ (c.args.first, c.args.sectors.now) c.in-Ok.ensures.noted c.in-Ok.ensures.synced
+      crash = passes_range s.content.items _ (synced (log_of s.history)) (synced (log_of c.note.new.self)) (log_of s.history) (log_of c.note.new.self) _ _ _ _ _ _ (c.args.first, c.args.sectors.now) c.in-Ok.ensures.noted c.in-Ok.ensures.synced
           (rw (← s.agrees.as_long) c.requires.within);
       lent = search rules;
       calls = search rules;

@@ -1,6 +1,6 @@
 use Rattle.std.proofs.Common.{◌≡◌, ◌∙◌, ◌++◌, ◌∷◌, [], List, length, map, refl, sym, ap}
 use Rattle.disk.specs.Facts.{Content}
-use Rattle.simdisk.specs.History.{record_of}
+use Rattle.simdisk.specs.History.{log_of}
 use Rattle.simdisk.specs.Record.{Piece, settled, replay, synced, synced_after}
 use Rattle.simdisk.specs.Views.{pieces}
 use Rattle.simdisk.proofs.Epochs.{fits_synced}
@@ -27,7 +27,7 @@ invariant_of-self c =
     let past = c.sync.ensures in
     let epoch = map (settled now) (pieces s.written.items) in
     let laid : c.settle.new.stood.items ≡ replay epoch s.stood.items = rw (← c.deref-2.ensures.value) c.settle.ensures in
-    let all : replay epoch s.stood.items ≡ now = ap (λ (k : Content). replay epoch k) (sym s.stood_so) ∙ replay_settled (synced (record_of s)) now (pieces s.written.items) c.requires.agrees (fits_synced s) in
+    let all : replay epoch s.stood.items ≡ now = ap (λ (k : Content). replay epoch k) (sym s.stood_so) ∙ replay_settled (synced (log_of s)) now (pieces s.written.items) c.requires.agrees (fits_synced s) in
     record {
       stood_so = epoch_more s.past.epochs c.sync.new.self.epochs s.past.began c.sync.new.self.began s.stood.items epoch past.0 (rw (← c.deref.ensures.value) past.1) s.stood_so ∙ sym laid;
       fits = rw (laid ∙ all, c.requires.agrees.as_long) c.requires.fits;
@@ -39,5 +39,5 @@ returns-clause-synced c =
     let now = c.args.content.now in
     let past = c.sync.ensures in
     let epoch = map (settled now) (pieces s.written.items) in
-    epoch_more s.past.epochs c.sync.new.self.epochs s.past.began c.sync.new.self.began (synced (record_of s)) epoch past.0 (rw (← c.deref.ensures.value) past.1) refl
-    ∙ replay_settled (synced (record_of s)) now (pieces s.written.items) c.requires.agrees (fits_synced s)
+    epoch_more s.past.epochs c.sync.new.self.epochs s.past.began c.sync.new.self.began (synced (log_of s)) epoch past.0 (rw (← c.deref.ensures.value) past.1) refl
+    ∙ replay_settled (synced (log_of s)) now (pieces s.written.items) c.requires.agrees (fits_synced s)

@@ -2,7 +2,7 @@ use Rattle.std.proofs.Common.{◌≡◌, ◌∙◌, ◌<◌, ◌∷◌, [], List
 use Rattle.std.proofs.lemmas.List.{get_or_default}
 use Rattle.disk.specs.Facts.{Content}
 use Rattle.simdisk.specs.declared.choice.Choice.TheVariants.{New}
-use Rattle.simdisk.specs.History.{record_of}
+use Rattle.simdisk.specs.History.{log_of}
 use Rattle.simdisk.specs.Latest.{latest_of}
 use Rattle.simdisk.specs.Pokes.{bytes_put, poked, poked_record}
 use Rattle.simdisk.specs.Record.{put, synced}
@@ -19,8 +19,8 @@ invariant_of-self-2 c =
     let s = c.args.self.now in
     let k = c.args.sector in
     let v = c.put_bytes.new.sector in
-    let r = record_of s.history in
-    let r' = record_of c.set_sector.new.self in
+    let r = log_of s.history in
+    let r' = log_of c.set_sector.new.self in
     let anew : r' ≡ poked_record k v r = c.in_ok-set_sector.ensures.record in
     let lt : k < length s.content.items = search rules in
     let old : k < length (synced r) = rw (← s.agrees.as_long) lt in
@@ -40,8 +40,8 @@ pub returns-clause-stands : goal.returns-clause-stands
 returns-clause-stands c within =
     let s = c.args.self.now in
     let k = c.args.sector in
-    let r = record_of s.history in
-    let r' = record_of c.set_sector.new.self in
+    let r = log_of s.history in
+    let r' = log_of c.set_sector.new.self in
     let is : c.put_bytes.new.sector ≡ poked k c.args.offset c.args.bytes.now s.content.items = read_so s.content.items k c.args.offset c.args.bytes.now c.index.result.now c.put_bytes.new.sector within.0 c.index.ensures c.put_bytes.ensures in
     let anew : r' ≡ poked_record k (poked k c.args.offset c.args.bytes.now s.content.items) r = rw (← is) c.in_ok-set_sector.ensures.record in
     record {
@@ -53,8 +53,8 @@ pub returns-clause-choices : goal.returns-clause-choices
 returns-clause-choices c within =
     let s = c.args.self.now in
     let k = c.args.sector in
-    let r = record_of s.history in
-    let r' = record_of c.set_sector.new.self in
+    let r = log_of s.history in
+    let r' = log_of c.set_sector.new.self in
     let is : c.put_bytes.new.sector ≡ poked k c.args.offset c.args.bytes.now s.content.items = read_so s.content.items k c.args.offset c.args.bytes.now c.index.result.now c.put_bytes.new.sector within.0 c.index.ensures c.put_bytes.ensures in
     let anew : r' ≡ poked_record k (poked k c.args.offset c.args.bytes.now s.content.items) r = rw (← is) c.in_ok-set_sector.ensures.record in
     choices_poked k (poked k c.args.offset c.args.bytes.now s.content.items) r r' anew (rw (← s.agrees.as_long) within.0) (fits_synced s.history)
