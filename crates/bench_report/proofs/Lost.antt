@@ -10,7 +10,7 @@ use Rattle.bench_report.specs.declared.printed.Printed.{Printed}
 use Rattle.bench_report.specs.declared.printed.Printed.TheVariants as printed
 use Rattle.bench_report.specs.Steps.{commands_of}
 use Rattle.bench_report.specs.Taken.{Takes, TakesSome, TakesFewer}
-use Rattle.bench_report.specs.Prefix.{Asked, Boot, Command, Guest, Nothing, IsOfHarts, Hides, TellsWord, TellsLine, Refused, Lost, Tells}
+use Rattle.bench_report.specs.Prefix.{Asked, Boot, Command, Guest, Nothing, IsOfHarts, Hides, TellsWord, TellsLine, RefusedChange, Lost, Tells}
 
 none_some : (cs : List Change) (s t : State) → t ≡ s → TakesSome cs s t
 none_some [] s t e = e
@@ -25,7 +25,7 @@ fewer_some [] s t h = absurd h
 fewer_some (c ∷ cs) s t (inl e) = inl e
 fewer_some (c ∷ cs) s t (inr h) = inr (h.0, fewer_some cs (after s c) t h.1)
 
-lost_refused : (n : ℕ) (c : Change) (s t : State) (up now : Bool) → Refused n c s up t now → (t ≡ s) ⊎ ((up ≡ true) × TakesSome (c ∷ []) s t)
+lost_refused : (n : ℕ) (c : Change) (s t : State) (up now : Bool) → RefusedChange n c s up t now → (t ≡ s) ⊎ ((up ≡ true) × TakesSome (c ∷ []) s t)
 lost_refused n c s t up now (inl h) = inl h.1
 lost_refused n c s t up now (inr h) = h.2
 

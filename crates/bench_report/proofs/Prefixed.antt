@@ -32,7 +32,7 @@ use Rattle.bench_report.specs.declared.printed.Answer.{Answer}
 use Rattle.bench_report.specs.Bench.{DiskState, Blank, Unknown, Formatted, BenchLife, Bench, blank_bench}
 use Rattle.bench_report.specs.Steps.{says, shows, out_of_memory, failed, on_with, unpowered, armed_with, formatted_anew, settled, has_machine, begun, commands_of, console_reported, IsOn, Starts, Resumes, Begins, Boots, Opens, ShowsFound, IsOpenRefusal, PowersOn, FormatsOn, FormatStep, OnStep, ConsoleStep, PayloadStep, CallReported, GuestCall, TurnStep, CallStep, ReadStep, PokeStep, Step, Moves, Run}
 use Rattle.bench_report.specs.Reports.{IsByFirmware, AreByFirmware, IsReport}
-use Rattle.bench_report.specs.Prefix.{Asked, Boot, Command, Guest, Nothing, Hides, TellsWord, TellsLine, asked_by, Refused, Lost, Tells, ShowsIts, IsPrefixed, resumes, RisesFrom, AreLoaded, is_format_ok, IsFoundByPrefix, KeepsPrefixLaw}
+use Rattle.bench_report.specs.Prefix.{Asked, Boot, Command, Guest, Nothing, Hides, TellsWord, TellsLine, asked_by, RefusedChange, Lost, Tells, ShowsIts, IsPrefixed, resumes, RisesFrom, AreLoaded, is_format_ok, IsFoundByPrefix, KeepsPrefixLaw}
 use Rattle.bench_report.proofs.Unsaid.{GoesBy, comes_back, turns_back}
 use Rattle.bench_report.proofs.Lost.{lost}
 use Rattle.bench_report.proofs.Serials.{serials_rise}
@@ -171,7 +171,7 @@ console_says word c (Ok k) b a new one e =
 console_says word c (Err k) b a new one e =
     by_eqs (Command c) b a _ new new e refl (said b new (Went (Err k) c (is_up b.power) (is_up new.power)) (λ s t. LineReports (Command c) (says (printed.CommandRefused word k)) (is_up b.power) (is_up new.power) s t) one (λ s t w. (tt, down s t w)))
   where
-    down : (s t : State) → Went (Err k) c (is_up b.power) (is_up new.power) s t → Refused k c s (is_up b.power) t (is_up new.power)
+    down : (s t : State) → Went (Err k) c (is_up b.power) (is_up new.power) s t → RefusedChange k c s (is_up b.power) t (is_up new.power)
     down s t (inl w) = inl w
     down s t (inr (inl w)) = inr (w.0, w.3, inl w.1)
     down s t (inr (inr w)) = inr (w.0, w.2, inr (w.1, w.3))

@@ -40,8 +40,8 @@ asked_by line = Nothing
 
 -- A command was refused: by 6 it may have taken effect, and the life takes no more (up: whether it took commands before; now:
 -- whether it does after); by another number it did not.
-abbrev pub Refused : ℕ → Change → State → Bool → State → Bool → Type 0
-Refused n c s up t now =
+abbrev pub RefusedChange : ℕ → Change → State → Bool → State → Bool → Type 0
+RefusedChange n c s up t now =
     ((n ≢ 6) × (t ≡ s) × (now ≡ up))
     ⊎ ((n ≡ 6) × (now ≡ false) × ((t ≡ s) ⊎ ((up ≡ true) × TakesSome (c ∷ []) s t)))
 
@@ -91,7 +91,7 @@ Tells (Boot asked) (printed.On mode) s up t now = (mode ≡ asked) × (up ≡ fa
 Tells (Boot mode) (printed.OnRefused n) s up t now =
     (up ≡ false) × (now ≡ false) × ((t ≡ s) ⊎ TakesFewer (commands_of mode) s t ⊎ ((n ≡ 6) × TakesSome (commands_of mode) s t))
 Tells (Command c) (printed.Acknowledged word k) s up t now = (up ≡ true) × Takes (c ∷ []) s t × (now ≡ true)
-Tells (Command c) (printed.CommandRefused word n) s up t now = Refused n c s up t now
+Tells (Command c) (printed.CommandRefused word n) s up t now = RefusedChange n c s up t now
 Tells Guest (printed.Shown line) s up t now = TellsLine line s up t now
 Tells Nothing (printed.On mode) s up t now = ⊥
 Tells Guest (printed.On mode) s up t now = ⊥
