@@ -38,7 +38,7 @@ use Rattle.machine.specs.declared.parts.Word.TheVariants as words
 use Rattle.board.specs.Turns as boards
 use Rattle.bench_report.specs.Below.{SimStore, IsLife, IsAs, store_size, store_fault_state, store_facts}
 use Rattle.bench_report.specs.Bench.{BenchLife, Bench}
-use Rattle.bench_report.specs.Steps.{out_of_memory, off, on_with, has_machine, acknowledged, Issued, refused, Refuses, HartCommand, Resets, Suspends, IsAlone, Sleeps, SleepsBy, MakesCall, Comes, GuestTurn, IsLastTurn, GuestTurns}
+use Rattle.bench_report.specs.Steps.{out_of_memory, off, on_with, has_machine, acknowledged, Issued, refused, AnswersError, HartCommand, Resets, Suspends, IsAlone, Sleeps, SleepsBy, MakesCall, Comes, GuestTurn, IsLastTurn, GuestTurns}
 use Rattle.bench_report.specs.Agree.{StoreIs, DeviceIs, IsOver}
 use Rattle.bench_report.proofs.Adapted.{calm as untouched}
 use Rattle.bench_report.proofs.Commanded.{Running, follows_with, sized_for, reported_end, reported_err, reported_up, reported_down, again, calm_device, unmoved}
@@ -75,14 +75,14 @@ module _ (size : Size) (b : Bench) (life : BenchLife) (h : ℕ) (n : Machine) (o
       (next, at, (refused h e next, refl, (follows_with size mid.disk_state mid.kept next (answering h e next.machine) (store_size new) refl store.0, store.1), made ∙ ap F is ∙ ap (answering h e) same, now))
 
   -- it was refused by its arguments
-  refuses : (e : SbiError) (held : Made) → Refused_to e (hart_at life.machine h) t held → new ≡ old → Came (λ word x. Refuses e h life b word x) held
+  refuses : (e : SbiError) (held : Made) → Refused_to e (hart_at life.machine h) t held → new ≡ old → Came (λ word x. AnswersError e h life b word x) held
   refuses e held (is, at) same =
       let Q : SimStore → Type 0 = λ store. StoreIs size b.disk_state b.kept life store in
       let S : SimStore → Type 0 = λ store. DeviceIs size b (store_fault_state store) (store_facts store) in
       let did = goes e b (life, on, subst Q (sym same) was, refl, subst S (sym same) device) is in
       let next : did.0 ≡ life = one did.0 did.1 in
       let P : BenchLife → Type 0 = λ l. Running size (on_with (refused h e l) b) n new in
-      by_held (λ word x. Refuses e h life b word x) held helds.Goes at (on_with (refused h e life) b, (refl, refl), subst P next did.2, refl)
+      by_held (λ word x. AnswersError e h life b word x) held helds.Goes at (on_with (refused h e life) b, (refl, refl), subst P next did.2, refl)
     where
       one : (l : BenchLife) → b.power ≡ Some l → l ≡ life
       one l f = let g : Some l ≡ Some life = sym f ∙ on in let i : l ≡ life = cc in i

@@ -34,7 +34,7 @@ use Rattle.bench_report.specs.declared.printed.Printed.TheVariants as printed
 use Rattle.disk.specs.FaultState.{FaultArmed, CutArmed}
 use Rattle.bench_report.specs.declared.printed.Answer.{Answer}
 use Rattle.bench_report.specs.Bench.{DiskState, Blank, Unknown, Formatted, BenchLife, Bench, IsFailureFree, blank_bench}
-use Rattle.bench_report.specs.Steps.{says, off, on_with, unpowered, unknown, armed_with, formatted_anew, settled, has_machine, acknowledged, begun, commands_of, console_reported, Writes, IssuedBy, IssuesAll, FormatsOn, IsOn, Starts, Resumes, Begins, Boots, Opens, PowersOn, FormatStep, OnStep, ConsoleStep, PayloadStep, ReadStep, PokeStep, Issued, Refuses, HartCommand, Resets, Suspends, SleepsBy, MakesCall, Comes, GuestTurn, GuestTurns, TurnStep, CallReported, GuestCall, CallStep, Step, Moves, Run}
+use Rattle.bench_report.specs.Steps.{says, off, on_with, unpowered, unknown, armed_with, formatted_anew, settled, has_machine, acknowledged, begun, commands_of, console_reported, Writes, IssuedBy, IssuesAll, FormatsOn, IsOn, Starts, Resumes, Begins, Boots, Opens, PowersOn, FormatStep, OnStep, ConsoleStep, PayloadStep, ReadStep, PokeStep, Issued, AnswersError, HartCommand, Resets, Suspends, SleepsBy, MakesCall, Comes, GuestTurn, GuestTurns, TurnStep, CallReported, GuestCall, CallStep, Step, Moves, Run}
 use Rattle.bench_report.specs.Reports.{IsReport}
 use Rattle.bench_report.specs.Plain.{ShowsNoFailure, ShowNoFailure}
 
@@ -160,7 +160,7 @@ read_at (Some life) says_so b a new x = as_many b b new refl refl x.3
 abbrev IsFree : Word → Type 0
 IsFree word = word ≢ words.Own Next
 
-refuses_free : {A : Type 0} (e : SbiError) (h : ℕ) (life : BenchLife) (b : Bench) (word : Word) (new : Bench) → Refuses e h life b word new → IsFree word → A
+refuses_free : {A : Type 0} (e : SbiError) (h : ℕ) (life : BenchLife) (b : Bench) (word : Word) (new : Bench) → AnswersError e h life b word new → IsFree word → A
 refuses_free e h life b word new x free = absurd (free x.0)
 
 held_free : (c : Change) (o : Result ℕ ℕ) (said : Word) (h : ℕ) (life : BenchLife) (b mid : Bench) (word : Word) (new : Bench) → Issued c life b o mid → HartCommand o said h mid word new → IsFree word → AsMany b new

@@ -19,14 +19,14 @@ use Rattle.sbi_abi.specs.Calls.{call_of}
 use Rattle.sbi.specs.declared.resets.ResetType.{ResetType}
 use Rattle.sbi.specs.Resets.{reset_of}
 use Rattle.bench_report.specs.Bench.{BenchLife, Bench}
-use Rattle.bench_report.specs.Steps.{off, on_with, has_machine, refused, Refuses, HartCommand, Resets, Suspends, Sleeps, SleepsBy, MakesCall, Comes, GuestTurn, IsLastTurn, GuestTurns}
+use Rattle.bench_report.specs.Steps.{off, on_with, has_machine, refused, AnswersError, HartCommand, Resets, Suspends, Sleeps, SleepsBy, MakesCall, Comes, GuestTurn, IsLastTurn, GuestTurns}
 use Rattle.bench_report.proofs.Determined.{Fair, fair_to, fair_then, unmoved, spoils, starves, issued_fair, Agree, same, issued, some_inj}
 
 abbrev pub IsOneTurn : Type 0
 IsOneTurn = (h : ℕ) (old new other : Machine) (word also : Turned) → Turns h old new word → Turns h old other also → (new ≡ other) × (word ≡ also)
 
 -- ---- fair
-refuses_fair : (e : SbiError) (h : ℕ) (life : BenchLife) (b : Bench) (word : Word) (new : Bench) → Refuses e h life b word new → Fair b new
+refuses_fair : (e : SbiError) (h : ℕ) (life : BenchLife) (b : Bench) (word : Word) (new : Bench) → AnswersError e h life b word new → Fair b new
 refuses_fair e h life b word new x = fair_to b new (on_with (refused h e life) b) x.1 (λ s. s, λ c. inr c)
 
 held_fair : (o : Result ℕ ℕ) (said : Word) (h : ℕ) (b : Bench) (word : Word) (new : Bench) → HartCommand o said h b word new → Fair b new
@@ -68,7 +68,7 @@ turns_fair h (suc n) b made word new (life, on, said, mid, turn, inl x) = fair_t
 turns_fair h (suc n) b made word new (life, on, said, mid, turn, inr x) = fair_then b mid new (turn_fair h life b said mid turn) (turns_fair h n mid x.2 word new x.4)
 
 -- ---- one
-refuses_one : (e : SbiError) (h : ℕ) (life : BenchLife) (b : Bench) (word also : Word) (new last : Bench) → Refuses e h life b word new → Refuses e h life b also last → Agree word also new last
+refuses_one : (e : SbiError) (h : ℕ) (life : BenchLife) (b : Bench) (word also : Word) (new last : Bench) → AnswersError e h life b word new → AnswersError e h life b also last → Agree word also new last
 refuses_one e h life b word also new last x y = same word also (words.Own Next) new last (on_with (refused h e life) b) x.0 y.0 x.1 y.1
 
 held_one : (o p : Result ℕ ℕ) (said : Word) (h : ℕ) (b d : Bench) (word also : Word) (new last : Bench) → Agree o p b d → HartCommand o said h b word new → HartCommand p said h d also last → Agree word also new last
@@ -81,7 +81,7 @@ held_one o p said h b d word also new last (inr (inr e)) x y =
   where
     alike : (o : Result ℕ ℕ) → HartCommand o said h b word new → HartCommand o said h b also last → Agree word also new last
     alike (Ok n) x y = same word also said new last (off b) x.0 y.0 x.1 y.1
-    alike (Err n) (life, on, x) (other, at, y) = let P : BenchLife → Type 0 = λ l. Refuses Failed h l b also last in refuses_one Failed h life b word also new last x (subst P (some_inj life other b.power on at) y)
+    alike (Err n) (life, on, x) (other, at, y) = let P : BenchLife → Type 0 = λ l. AnswersError Failed h l b also last in refuses_one Failed h life b word also new last x (subst P (some_inj life other b.power on at) y)
 
 resets_one : (asked : Result (ResetType × Reason) SbiError) (h : ℕ) (life : BenchLife) (b : Bench) (word also : Word) (new last : Bench) → Resets asked h life b word new → Resets asked h life b also last → Agree word also new last
 resets_one (Err e) h life b word also new last x y = refuses_one e h life b word also new last x y

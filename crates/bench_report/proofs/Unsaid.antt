@@ -19,7 +19,7 @@ use Rattle.sbi.specs.Resets.{reset_of}
 use Rattle.bench_report.specs.Taken.{Takes, TakesSome}
 use Rattle.bench_report.specs.Bench.{BenchLife, Bench}
 use Rattle.bench_report.specs.Prefix.{IsReset, IsSuspension, IsOfHarts, Hides, TellsWord}
-use Rattle.bench_report.specs.Steps.{out_of_memory, off, on_with, has_machine, refused, Refuses, HartCommand, Resets, Suspends, Sleeps, SleepsBy, MakesCall, Comes, GuestTurn, GuestTurns}
+use Rattle.bench_report.specs.Steps.{out_of_memory, off, on_with, has_machine, refused, AnswersError, HartCommand, Resets, Suspends, Sleeps, SleepsBy, MakesCall, Comes, GuestTurn, GuestTurns}
 use Rattle.bench_report.proofs.Issues.{takes_more, is_up, GoesOn, IsSound, Back, joined, Went, issued_back}
 
 -- the state before and after, by the word
@@ -61,7 +61,7 @@ tells_end (words.Own did) c is up s t on takes = absurd is
 tells_end words.Asleep c is up s t on takes = (on, refl, c, is, takes)
 tells_end (words.Reset kind) c is up s t on takes = (on, refl, c, is, takes)
 
-refuses_back : (e : SbiError) (h : ℕ) (life : BenchLife) (b : Bench) (word : Word) (new : Bench) → IsSound b → b.power ≡ Some life → Refuses e h life b word new → GoesBy word b new
+refuses_back : (e : SbiError) (h : ℕ) (life : BenchLife) (b : Bench) (word : Word) (new : Bench) → IsSound b → b.power ≡ Some life → AnswersError e h life b word new → GoesBy word b new
 refuses_back e h life b word new sound on x = by_eqs word (words.Own Next) b new (on_with (refused h e life) b) x.0 x.1 (stays (words.Own Next) life b (refused h e life) sound on refl refl)
 
 held_back : (o : Result ℕ ℕ) (reported : Word) (c : Change) → OfWord reported c → (h : ℕ) (b mid : Bench) (word : Word) (new : Bench) → Back b mid (Went o c (is_up b.power) (is_up mid.power)) → HartCommand o reported h mid word new → GoesBy word b new

@@ -145,18 +145,18 @@ IssuesAll (c ∷ cs) b o new = (life : BenchLife) × (b.power ≡ Some life) × 
 abbrev pub refused : ℕ → SbiError → BenchLife → BenchLife
 refused h e life = has_machine (record life.machine { harts = slice_set life.machine.harts h (answered (hart_at life.machine h) (error_of (Err e)) 0) }) life
 
-abbrev pub Refuses : SbiError → ℕ → BenchLife → Bench → Word → Bench → Type 0
-Refuses e h life b word new = (word ≡ words.Own dids.Next) × (new ≡ on_with (refused h e life) b)
+abbrev pub AnswersError : SbiError → ℕ → BenchLife → Bench → Word → Bench → Type 0
+AnswersError e h life b word new = (word ≡ words.Own dids.Next) × (new ≡ on_with (refused h e life) b)
 
 -- the command of a hart, by its receipt or number: acknowledged, it ends the life as it says, and the board is off; refused, it is
 -- answered -1
 abbrev pub HartCommand : Result ℕ ℕ → Word → ℕ → Bench → Word → Bench → Type 0
 HartCommand (Ok n) said h b word new = (word ≡ said) × (new ≡ off b)
-HartCommand (Err n) said h b word new = (life : BenchLife) × (b.power ≡ Some life) × Refuses Failed h life b word new
+HartCommand (Err n) said h b word new = (life : BenchLife) × (b.power ≡ Some life) × AnswersError Failed h life b word new
 
 -- a reset, by what its arguments say
 abbrev pub Resets : Result (ResetType × Reason) SbiError → ℕ → BenchLife → Bench → Word → Bench → Type 0
-Resets (Err e) h life b word new = Refuses e h life b word new
+Resets (Err e) h life b word new = AnswersError e h life b word new
 Resets (Ok reset) h life b word new = (o : Result ℕ ℕ) × (mid : Bench) × Issued (Reset reset.1) life b o mid × HartCommand o (words.Reset reset.0) h mid word new
 
 -- the command of a suspension, where it fits the board or not: as other commands; or it is refused for want of memory (11), or for
@@ -175,19 +175,19 @@ IsAlone id m = AreStopped m.size.harts id (listed m.table.states)
 -- memory of this moment
 abbrev pub Sleeps : ℕ → ℕ → ℕ → BenchLife → Bench → Word → Bench → Type 0
 Sleeps site opaque h life b word new =
-    ((IsAlone (hart_at life.machine h).id life.machine → ⊥) × Refuses Denied h life b word new)
+    ((IsAlone (hart_at life.machine h).id life.machine → ⊥) × AnswersError Denied h life b word new)
     ⊎ (IsAlone (hart_at life.machine h).id life.machine × (o : Result ℕ ℕ) × (mid : Bench)
     × Suspends (FitsBoard life.machine.size life.machine.memory (hart_at life.machine h).id site) (Suspend (hart_at life.machine h).id site opaque life.machine.memory) life b o mid × HartCommand o words.Asleep h mid word new)
 
 abbrev pub SleepsBy : Result ℕ SbiError → ℕ → ℕ → BenchLife → Bench → Word → Bench → Type 0
-SleepsBy (Err e) opaque h life b word new = Refuses e h life b word new
+SleepsBy (Err e) opaque h life b word new = AnswersError e h life b word new
 SleepsBy (Ok site) opaque h life b word new = Sleeps site opaque h life b word new
 
 -- the durable call at which the hart stands
 abbrev pub MakesCall : Call → ℕ → BenchLife → Bench → Word → Bench → Type 0
 MakesCall (calls.SystemReset kind reason) h life b word new = Resets (reset_of kind reason) h life b word new
 MakesCall (calls.SystemSuspend kind address opaque) h life b word new = (asked : Result ℕ SbiError) × IsChecked life.machine.size kind address asked × SleepsBy asked opaque h life b word new
-MakesCall call h life b word new = Refuses NotSupported h life b word new
+MakesCall call h life b word new = AnswersError NotSupported h life b word new
 
 -- What comes of what hart h did, once the life has the machine: it stands at a durable call, which is made; or that is its word.
 abbrev pub Comes : Turned → ℕ → BenchLife → Bench → Word → Bench → Type 0
