@@ -63,8 +63,8 @@ fold s [] = s
 fold s (c ∷ cs) = fold (after s c) cs
 
 -- An image with that serial stands.
-abbrev pub Stands : State → ℕ → Type 0
-Stands s serial = (i : Image) × (s.image ≡ Some i) × (i.serial ≡ serial)
+abbrev pub HasImage : State → ℕ → Type 0
+HasImage s serial = (i : Image) × (s.image ≡ Some i) × (i.serial ≡ serial)
 
 -- A standing image has a serial that was given out: it is below the next one.
 abbrev pub IsOrdered : State → Type 0

@@ -1,7 +1,7 @@
 //! Laws of the durable commands over whole lists, each the contract of a function that does nothing.
 
 ghost use Rattle.std.specs.Prelude.{◌≡◌, ℕ, ◌≤◌, List, [], ◌++◌, Some, All};
-ghost use Rattle.board_model.specs.Durable.{State, Image, Change, Slot, Reset, formatted, after, fold, Stands, IsOrdered, IsWhole, CarriesWhole};
+ghost use Rattle.board_model.specs.Durable.{State, Image, Change, Slot, Reset, formatted, after, fold, HasImage, IsOrdered, IsWhole, CarriesWhole};
 ghost use Rattle.board_model.specs.Shapes.{Size, IsSize};
 ghost use Rattle.board_model.specs.declared.durable.Reason.{Reason};
 
@@ -23,8 +23,8 @@ pub fn slot_and_reset_leave_the_image()
 
 /// An image that a command replaced or dropped never stands again under its serial, whatever commands follow.
 pub fn image_never_again()
-    ensures { (s : State) (c : Change) (cs : List Change) (serial : ℕ) → IsOrdered s → Stands s serial
-        → (Stands (after s c) serial → ⊥) → Stands (fold (after s c) cs) serial → ⊥ }
+    ensures { (s : State) (c : Change) (cs : List Change) (serial : ℕ) → IsOrdered s → HasImage s serial
+        → (HasImage (after s c) serial → ⊥) → HasImage (fold (after s c) cs) serial → ⊥ }
 {}
 
 /// Where each suspension carries the memory of its board, so does each image that stands after it; and such a memory
