@@ -21,7 +21,7 @@ use Rattle.bench_report.specs.Bench.{BenchLife, Bench}
 use Rattle.bench_report.specs.Steps.{shows, on_with, has_machine, FormatsOn, FormatStep, PowersOn, OnStep, PayloadStep, CallReported, GuestCall, TurnStep, CallStep, ReadStep}
 use Rattle.bench_report.proofs.Commanded.{Running, running_on}
 use Rattle.bench_report.proofs.Came.{Stands, has_other, comes, turns}
-use Rattle.bench_report.specs.Agree.{StoreIs, BoardIs, DeviceIs, OffIs, OnIs, StandsBy, Agrees, IsBench, Matches, StepsTo}
+use Rattle.bench_report.specs.Agree.{StoreIs, BoardIs, DeviceIs, OffIs, OnIs, BoardAfter, Agrees, IsBench, Matches, StepsTo}
 
 -- a board that is off
 pub off_formats : (size : Size) (b : Bench) (a : Answer) (after : Power) → b.power ≡ None → StepsTo size b after (FormatsOn b.disk_state b a) → StepsTo size b after (FormatStep b.power b a)
@@ -60,14 +60,14 @@ on_runs : (size : Size) (b : Bench) (life : BenchLife) (board : SimBoard) → b.
     → Running size b (machine_in board) (store_in board)
 on_runs size b life board on is device = (life, on, is.0, is.1, device)
 
-stands_by : (size : Size) (word : Word) (b : Bench) (board : SimBoard) → Stands size word b (machine_in board) (store_in board) → StandsBy size word b board
+stands_by : (size : Size) (word : Word) (b : Bench) (board : SimBoard) → Stands size word b (machine_in board) (store_in board) → BoardAfter size word b board
 stands_by size (words.Own did) b board is = running_on size b board is
 stands_by size words.Asleep b board is = is
 stands_by size (words.Reset kind) b board is = is
 
 -- a line of turns, by what the board did
 pub on_turns : (size : Size) (b : Bench) (old new : SimBoard) (h n made : ℕ) (word : Word) (after : Power) → OnIs size b old → HasHart (machine_in old) h
-    → boards.TurnsMany h n (machine_in old) (machine_in new) (store_in old) (store_in new) made word → ((x : Bench) → StandsBy size word x new → Agrees size x after)
+    → boards.TurnsMany h n (machine_in old) (machine_in new) (store_in old) (store_in new) made word → ((x : Bench) → BoardAfter size word x new → Agrees size x after)
     → StepsTo size b after (TurnStep b.power h n b (shows (shown.Turn h made word)))
 on_turns size b old new h n made word after was has turned agrees = by b.power was.0 refl
   where
@@ -99,7 +99,7 @@ module _ (size : Size) (b : Bench) (old new : SimBoard) (h e f x y z : ℕ) (sai
   -- what the board is, where a word was said and where none was
   abbrev pub Follows : Option Word → Type 0
   Follows None = (w : Bench) → OnIs size w new → Agrees size w after
-  Follows (Some word) = (w : Bench) → StandsBy size word w new → Agrees size w after
+  Follows (Some word) = (w : Bench) → BoardAfter size word w new → Agrees size w after
 
   came : (life : BenchLife) (m : Machine) (called : Called) → b.power ≡ Some life → BoardIs size b.disk_state b.kept (Some life) old → m.size ≡ life.machine.size
       → boards.ComesOf called h m (machine_in new) (store_in old) (store_in new) said → Follows said

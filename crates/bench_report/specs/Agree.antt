@@ -69,10 +69,10 @@ abbrev pub OverIs : Size → Bench → SimBoard → Type 0
 OverIs size b board = (b.power ≡ None) × IsOver size b.disk_state b.kept (store_in board) × DeviceIs size b (store_fault_state (store_in board)) (store_facts (store_in board))
 
 -- a board after what is said of a turn or a call
-abbrev pub StandsBy : Size → Word → Bench → SimBoard → Type 0
-StandsBy size (words.Own did) b board = OnIs size b board
-StandsBy size words.Asleep b board = OverIs size b board
-StandsBy size (words.Reset kind) b board = OverIs size b board
+abbrev pub BoardAfter : Size → Word → Bench → SimBoard → Type 0
+BoardAfter size (words.Own did) b board = OnIs size b board
+BoardAfter size words.Asleep b board = OverIs size b board
+BoardAfter size (words.Reset kind) b board = OverIs size b board
 
 abbrev pub Agrees : Size → Bench → Power → Type 0
 Agrees size b (Off disk) = OffIs size b disk

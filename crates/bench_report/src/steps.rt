@@ -11,7 +11,7 @@ ghost use Rattle.bench_report.specs.Bench.{Bench, BenchLife};
 ghost use Rattle.bench_report.specs.Steps.{FormatsOn, PowersOn, FormatStep, OnStep, ConsoleStep, PayloadStep, TurnStep, CallStep, ReadStep, ArmStep, PokeStep, Step, Moves, off, unpowered, says, shows};
 ghost use Rattle.disk.specs.FaultState.{armed_by};
 ghost use Rattle.simdisk.specs.declared.SimDisk.{SimDisk};
-ghost use Rattle.bench_report.specs.Agree.{choice_by, HasDisk, IsCutBy, IsArmed, ArmsIts, Pokes, PokesIts, fill_after, EndsBy, Agrees, IsResting, OffIs, OnIs, StandsBy, AreShort, IsBench, IsUnstruck, Matches, StepsTo};
+ghost use Rattle.bench_report.specs.Agree.{choice_by, HasDisk, IsCutBy, IsArmed, ArmsIts, Pokes, PokesIts, fill_after, EndsBy, Agrees, IsResting, OffIs, OnIs, BoardAfter, AreShort, IsBench, IsUnstruck, Matches, StepsTo};
 ghost use Rattle.machine_lines.specs.Shows.{waits, reg_line, pc_line, CsrLine, pending_line, mem_line};
 ghost use Rattle.machine.specs.Machine.{Machine};
 ghost use Rattle.board_model.specs.declared.refusal.Refusal.TheVariants.{Memory};
@@ -233,7 +233,7 @@ fn payload_line(
 
 /// A board after what is said of a turn or a call of a hart: off where that ended the life.
 fn after(board: Board<SimDisk>, word: Word) -> Power
-    ensures reported { (size : Size) (b : Bench) → StandsBy size word b board → Agrees size b result }
+    ensures reported { (size : Size) (b : Bench) → BoardAfter size word b board → Agrees size b result }
     ensures resting { IsResting result }
 {
     match word {

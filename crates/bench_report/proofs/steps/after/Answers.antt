@@ -1,14 +1,14 @@
 use Rattle.std.proofs.Common.{subst, ap, arith, length}
 use Rattle.machine.specs.declared.parts.Word.{Word}
 use Rattle.bench_report.specs.Below.{store_in, facts, fault_state, store_facts, store_fault_state}
-use Rattle.bench_report.specs.Agree.{StandsBy}
+use Rattle.bench_report.specs.Agree.{BoardAfter}
 use Rattle.bench_report.proofs.Devices.{stays}
 use Rattle.bench_report.proofs.Ended.{over_ended}
 use Rattle.bench_report.proofs.steps.after.Goals as goal
 
 pub returns-in-Asleep-clause-reported : goal.returns-in-Asleep-clause-reported
 returns-in-Asleep-clause-reported c = λ size b h.
-    let P : Word → Type 0 = λ w. StandsBy size w b c.args.board in
+    let P : Word → Type 0 = λ w. BoardAfter size w b c.args.board in
     let was = subst P c.in-Asleep.is h in
     let store = store_in c.args.board in
     let left = c.into_disk.result in (
@@ -19,7 +19,7 @@ returns-in-Asleep-clause-reported c = λ size b h.
 
 pub returns-in-Reset-clause-reported : goal.returns-in-Reset-clause-reported
 returns-in-Reset-clause-reported c = λ size b h.
-    let P : Word → Type 0 = λ w. StandsBy size w b c.args.board in
+    let P : Word → Type 0 = λ w. BoardAfter size w b c.args.board in
     let was = subst P c.in-Reset.is h in
     let store = store_in c.args.board in
     let left = c.into_disk-in-Reset.result in (
