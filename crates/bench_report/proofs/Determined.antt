@@ -16,7 +16,7 @@ use Rattle.bench_report.specs.declared.printed.Printed.{Printed}
 use Rattle.bench_report.specs.declared.printed.Printed.TheVariants as printed
 use Rattle.bench_report.specs.declared.printed.Answer.{Answer}
 use Rattle.bench_report.specs.Bench.{DiskState, Blank, Unknown, Formatted, BenchLife, Bench}
-use Rattle.bench_report.specs.Steps.{says, out_of_memory, FailsByFault, off, on_with, formatted_anew, unknown, settled, has_machine, acknowledged, in_doubt, begun, commands_of, Writes, IssuedBy, Issued, IssuesAll, FormatsOn, IsOn, Starts, Resumes, Begins, Boots, Opens, ShowsFound, IsOpenRefusal, PowersOn}
+use Rattle.bench_report.specs.Steps.{says, out_of_memory, FailsByFault, off, on_with, formatted_anew, unknown, settled, has_machine, acknowledged, in_doubt, begun, commands_of, Writes, IssuedBy, Issued, IssuesAll, FormatsOn, IsOn, BootsFrom, Resumes, Begins, Boots, Opens, ShowsFound, IsOpenRefusal, PowersOn}
 
 abbrev pub HasFailed : Bench → Type 0
 HasFailed b = (0 < b.growths) ⊎ (0 < b.failures)
@@ -155,7 +155,7 @@ on_fair : (o : Result ℕ ℕ) (mode : BootMode) (z : Size) (s : State) (b : Ben
 on_fair (Ok n) mode z s b line new (life, on, said, m, boots, e) = fair_to b new (on_with (has_machine m life) b) e (λ s. s, λ c. inr c)
 on_fair (Err n) mode z s b line new x = fair_to b new (off b) x.1 (λ s. s, λ c. inr c)
 
-slot_fair : (mode : BootMode) (z : Size) (s : State) (b : Bench) (line : Printed) (new : Bench) → Starts mode z s b line new → Fair b new
+slot_fair : (mode : BootMode) (z : Size) (s : State) (b : Bench) (line : Printed) (new : Bench) → BootsFrom mode z s b line new → Fair b new
 slot_fair mode z s b line new (o, mid, h, on) =
     let start : Bench = on_with (begun s z) b in
     let one : Fair start new = fair_then start mid new (all_fair (commands_of mode) start o mid h) (on_fair o mode z s mid line new on) in
@@ -224,7 +224,7 @@ is_on o p mode z s b d line said new last (inr (inr e)) x y =
         same line said (printed.On mode) new last (on_with (has_machine x.3 x.0) b) x.2 y.2 x.5 (subst P (some_inj x.0 y.0 b.power x.1 y.1) y.5 ∙ ap (λ (k : Machine). on_with (has_machine k x.0) b) one)
     alike (Err n) x y = same line said (printed.OnRefused n) new last (off b) x.0 y.0 x.1 y.1
 
-slot_boots : (mode : BootMode) (z : Size) (s : State) (b : Bench) (line said : Printed) (new last : Bench) → Starts mode z s b line new → Starts mode z s b said last → Agree line said new last
+slot_boots : (mode : BootMode) (z : Size) (s : State) (b : Bench) (line said : Printed) (new last : Bench) → BootsFrom mode z s b line new → BootsFrom mode z s b said last → Agree line said new last
 slot_boots mode z s b line said new last (o, mid, h, x) (p, mid2, k, y) = is_on o p mode z s mid mid2 line said new last (all (commands_of mode) (on_with (begun s z) b) o p mid mid2 h k) x y
 
 -- a resume whose command was not refused for its disk goes on with an image that has the memory of its board
@@ -254,7 +254,7 @@ one_err c s z b n mid allowed (life, on, first, last, i, inr (k, err, same_err, 
     let P : Bench → Type 0 = HasFailed in
     subst P (sym e) (issued_err c s z start first last k allowed err (subst L (some_inj (begun s z) life start.power refl on) i))
 
-resumed_whole : (z : Size) (s : State) (b : Bench) (line : Printed) (new : Bench) → refusal_of s Consume ≡ None → Starts modes.Resume z s b line new → HasFailed new ⊎ IsWhole z s
+resumed_whole : (z : Size) (s : State) (b : Bench) (line : Printed) (new : Bench) → refusal_of s Consume ≡ None → BootsFrom modes.Resume z s b line new → HasFailed new ⊎ IsWhole z s
 resumed_whole z s b line new allowed (Ok n, mid, all, (life, on, said, m, is, e)) = inr (whole_image z s m is)
 resumed_whole z s b line new allowed (Err n, mid, all, (said, e)) = inl (off_spoilt mid new e (one_err Consume s z b n mid allowed all))
 

@@ -34,7 +34,7 @@ use Rattle.bench_report.specs.declared.printed.Printed.TheVariants as printed
 use Rattle.disk.specs.FaultState.{FaultArmed, CutArmed}
 use Rattle.bench_report.specs.declared.printed.Answer.{Answer}
 use Rattle.bench_report.specs.Bench.{DiskState, Blank, Unknown, Formatted, BenchLife, Bench, IsFailureFree, blank_bench}
-use Rattle.bench_report.specs.Steps.{says, off, on_with, unpowered, unknown, armed_with, formatted_anew, settled, has_machine, acknowledged, begun, commands_of, console_reported, Writes, IssuedBy, IssuesAll, FormatsOn, IsOn, Starts, Resumes, Begins, Boots, Opens, PowersOn, FormatStep, OnStep, ConsoleStep, PayloadStep, ReadStep, PokeStep, Issued, AnswersError, HartCommand, Resets, Suspends, SleepsBy, MakesCall, Comes, GuestTurn, GuestTurns, TurnStep, CallReported, GuestCall, CallStep, Step, Moves, Run}
+use Rattle.bench_report.specs.Steps.{says, off, on_with, unpowered, unknown, armed_with, formatted_anew, settled, has_machine, acknowledged, begun, commands_of, console_reported, Writes, IssuedBy, IssuesAll, FormatsOn, IsOn, BootsFrom, Resumes, Begins, Boots, Opens, PowersOn, FormatStep, OnStep, ConsoleStep, PayloadStep, ReadStep, PokeStep, Issued, AnswersError, HartCommand, Resets, Suspends, SleepsBy, MakesCall, Comes, GuestTurn, GuestTurns, TurnStep, CallReported, GuestCall, CallStep, Step, Moves, Run}
 use Rattle.bench_report.specs.Reports.{IsReport}
 use Rattle.bench_report.specs.Plain.{ShowsNoFailure, ShowNoFailure}
 
@@ -99,7 +99,7 @@ is_on_failure_free : (o : Result ℕ ℕ) (mode : BootMode) (z : Size) (s : Stat
 is_on_failure_free (Ok n) mode z s b line new (life, on, said, m, boots, e) failure_free = (tt, as_many b (on_with (has_machine m life) b) new refl refl e)
 is_on_failure_free (Err n) mode z s b line new h failure_free = let reported = of_line line (printed.OnRefused n) h.0 failure_free in ((reported.0, reported.1), as_many b (off b) new refl refl h.1)
 
-slot_failure_free : (mode : BootMode) (z : Size) (s : State) (b : Bench) (line : Printed) (new : Bench) → Starts mode z s b line new → ShowsNoFailure line → AsMany b new
+slot_failure_free : (mode : BootMode) (z : Size) (s : State) (b : Bench) (line : Printed) (new : Bench) → BootsFrom mode z s b line new → ShowsNoFailure line → AsMany b new
 slot_failure_free mode z s b line new (o, mid, h, on) failure_free =
     let last = is_on_failure_free o mode z s mid line new on failure_free in
     let start : Bench = on_with (begun s z) b in

@@ -14,7 +14,7 @@ use Rattle.bench_report.specs.declared.printed.Answer.{Answer}
 use Rattle.bench_report.specs.declared.printed.Printed.{Printed}
 use Rattle.bench_report.specs.declared.printed.Printed.TheVariants as printed
 use Rattle.bench_report.specs.Bench.{DiskState, Blank, Unknown, Formatted, BenchLife, Bench, IsFailureFree, blank_bench}
-use Rattle.bench_report.specs.Steps.{says, on_with, settled, has_machine, acknowledged, begun, Writes, Issued, IssuesAll, ShowsFound, IsOn, Starts, Resumes, Boots, Opens, IsOpenRefusal, PowersOn, OnStep, Moves}
+use Rattle.bench_report.specs.Steps.{says, on_with, settled, has_machine, acknowledged, begun, Writes, Issued, IssuesAll, ShowsFound, IsOn, BootsFrom, Resumes, Boots, Opens, IsOpenRefusal, PowersOn, OnStep, Moves}
 use Rattle.bench_report.specs.Reports.{AreByFirmware, IsReport}
 use Rattle.bench_report.specs.Resumed.{IsMadeIn, IsResumedFrom}
 use Rattle.bench_report.proofs.Determined.{HasFailed, CalmDisk, starves, hinders, some_inj}
@@ -98,7 +98,7 @@ module _ (size : Size) (b : Bench) (a : Answer) (new : Bench) (changes : List Ch
     consumed = ap (λ (x : Bench). x.kept) made ∙ ap (λ (x : Bench). x.kept) e;
   }
 
-  starts : a.line ≡ printed.On modes.Resume → Starts modes.Resume size (found_of changes) (settled changes b) a.line new → IsResumedFrom size b a new
+  starts : a.line ≡ printed.On modes.Resume → BootsFrom modes.Resume size (found_of changes) (settled changes b) a.line new → IsResumedFrom size b a new
   starts line (Ok n, mid, all, on) = resumes_ok n mid (one_command Consume (found_of changes) size (settled changes b) n mid all) on
   starts line (Err n, mid, all, on) = other a.line (printed.OnRefused n) on.0 (λ f. (let no : ⊥ = cc in no)) line
 

@@ -25,7 +25,7 @@ use Rattle.bench_report.specs.declared.printed.Printed.{Printed}
 use Rattle.bench_report.specs.declared.printed.Printed.TheVariants as printed
 use Rattle.bench_report.specs.Below.{SimStore, SimBoard, store_in, machine_in, facts, fault_state, store_size, store_facts, store_fault_state, IsLife, IsAs}
 use Rattle.bench_report.specs.Bench.{DiskState, Blank, Unknown, Formatted, BenchLife, Bench}
-use Rattle.bench_report.specs.Steps.{says, out_of_memory, failed, off, on_with, has_machine, begun, acknowledged, in_doubt, commands_of, Writes, Issued, IssuesAll, ShowsFound, Opens, Starts, Begins, Boots, PowersOn}
+use Rattle.bench_report.specs.Steps.{says, out_of_memory, failed, off, on_with, has_machine, begun, acknowledged, in_doubt, commands_of, Writes, Issued, IssuesAll, ShowsFound, Opens, BootsFrom, Begins, Boots, PowersOn}
 use Rattle.bench_report.specs.Agree.{AreShort, DiskIs, DeviceIs, LifeIs, OffIs, OnIs}
 use Rattle.bench_report.proofs.Adapted.{calm}
 use Rattle.bench_report.proofs.Commanded.{follows_more, follows_with}
@@ -67,7 +67,7 @@ opened kept blank size b old z s off leaves = opens size b.disk_state b (facts o
 
 -- ---- the board is on
 abbrev BoardStarts : Size → BootMode → Size → State → Bench → Printed → SimBoard → Type 0
-BoardStarts size mode z s b line board = (x : Bench) × Starts mode z s b line x × OnIs size x board × (x.payloads ≡ b.payloads)
+BoardStarts size mode z s b line board = (x : Bench) × BootsFrom mode z s b line x × OnIs size x board × (x.payloads ≡ b.payloads)
 
 abbrev BoardOn : Size → BootMode → Size → State → Bench → Printed → SimBoard → Type 0
 BoardOn size mode z s b line board = (x : Bench) × Begins mode z s b line x × OnIs size x board × (x.payloads ≡ b.payloads)
@@ -142,7 +142,7 @@ module _ (size : Size) (b : Bench) (old new : SimDisk) (z : Size) (s : State) (p
 
   -- by a mode with that command, which the disk refused
   refuses_it : (mode : BootMode) (c : Change) (o : ℕ) (mid : Bench) → commands_of mode ≡ c ∷ [] → refusal_of s c ≡ None → Writes None c (begun s z) (on_with (begun s z) b) (Err o) mid → line ≡ printed.OnRefused o
-      → Starts mode z s b line (off mid)
+      → BootsFrom mode z s b line (off mid)
   refuses_it mode c o mid only allowed writes h =
       let first : Bench = on_with (begun s z) b in
       let P : Option ℕ → Type 0 = λ r. Writes r c (begun s z) first (Err o) mid in
@@ -152,7 +152,7 @@ module _ (size : Size) (b : Bench) (old new : SimDisk) (z : Size) (s : State) (p
       (Err o, mid, subst Q (sym only) all, (h, refl))
 
   abbrev StartsOff : BootMode → Type 0
-  StartsOff mode = (x : Bench) × Starts mode z s b line x × OffIs size x new × (x.payloads ≡ b.payloads)
+  StartsOff mode = (x : Bench) × BootsFrom mode z s b line x × OffIs size x new × (x.payloads ≡ b.payloads)
 
   -- the disk failed before the command could take effect
   failed_at : (mode : BootMode) (c : Change) → commands_of mode ≡ c ∷ [] → refusal_of s c ≡ None → line ≡ printed.OnRefused 5 → LeavesOnly (facts new) z s → CausedRefusal (fault_state old) Device (fault_state new)

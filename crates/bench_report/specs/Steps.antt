@@ -239,19 +239,19 @@ IsOn (Ok n) mode z s b line new =
     (life : BenchLife) × (b.power ≡ Some life) × (line ≡ printed.On mode) × (m : Machine) × IsBegun mode z b.payloads s m × (new ≡ on_with (has_machine m life) b)
 IsOn (Err n) mode z s b line new = (line ≡ printed.OnRefused n) × (new ≡ off b)
 
-abbrev pub Starts : BootMode → Size → State → Bench → Printed → Bench → Type 0
-Starts mode z s b line new = (o : Result ℕ ℕ) × (mid : Bench) × IssuesAll (commands_of mode) (on_with (begun s z) b) o mid × IsOn o mode z s mid line new
+abbrev pub BootsFrom : BootMode → Size → State → Bench → Printed → Bench → Type 0
+BootsFrom mode z s b line new = (o : Result ℕ ℕ) × (mid : Bench) × IssuesAll (commands_of mode) (on_with (begun s z) b) o mid × IsOn o mode z s mid line new
 
 -- The image is loaded and consumed, and the board goes on with it; a failure of the disk in the load is reported as one that kept the
 -- command from the disk (5). Or the image has not the memory of its board.
 abbrev pub Resumes : Size → State → Bench → Printed → Bench → Type 0
-Resumes z s b line new = Starts modes.Resume z s b line new ⊎ ((IsWhole z s → ⊥) × (line ≡ printed.OnRefused 13) × (new ≡ b))
+Resumes z s b line new = BootsFrom modes.Resume z s b line new ⊎ ((IsWhole z s → ⊥) × (line ≡ printed.OnRefused 13) × (new ≡ b))
 
 -- the boot by a mode that is allowed, once there is memory for the board
 abbrev pub Begins : BootMode → Size → State → Bench → Printed → Bench → Type 0
-Begins modes.Fresh z s b line new = Starts modes.Fresh z s b line new
-Begins modes.Keep z s b line new = Starts modes.Keep z s b line new
-Begins modes.Discard z s b line new = Starts modes.Discard z s b line new
+Begins modes.Fresh z s b line new = BootsFrom modes.Fresh z s b line new
+Begins modes.Keep z s b line new = BootsFrom modes.Keep z s b line new
+Begins modes.Discard z s b line new = BootsFrom modes.Discard z s b line new
 Begins modes.Resume z s b line new = Resumes z s b line new
 
 -- the boot after an open that found a state, by the number with which that refuses the mode; there may be no memory
