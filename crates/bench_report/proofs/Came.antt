@@ -7,7 +7,7 @@ use Rattle.board_model.specs.Shown.{number_of}
 use Rattle.board_model.specs.declared.durable.Reason.{Reason}
 use Rattle.board_model.specs.declared.refusal.Refusal.{Refusal}
 use Rattle.board_model.specs.declared.refusal.Refusal.TheVariants.{Device, Down, Memory, BadShape, JournalFull}
-use Rattle.hart.specs.State.{State, answered}
+use Rattle.hart.specs.State.{ArchState, answered}
 use Rattle.hsm.specs.Seen.{listed}
 use Rattle.store.specs.Lives.{Life as StoreLife, Applied, Refused, Suspended, SuspendRefused}
 use Rattle.store.specs.Follows.{FitsBoard}
@@ -59,7 +59,7 @@ answering h e m = record m { harts = slice_set m.harts h (answered (hart_at m h)
 
 -- a command of hart h, which the store was asked for on a board that is on
 module _ (size : Size) (b : Bench) (life : BenchLife) (h : ℕ) (n : Machine) (old new : SimStore) (on : b.power ≡ Some life) (was : StoreIs size b.disk_state b.kept life old) (device : DeviceIs size b (store_fault_state old) (store_facts old))
-    (t : State) (made : n ≡ record life.machine { harts = slice_set life.machine.harts h t }) where
+    (t : ArchState) (made : n ≡ record life.machine { harts = slice_set life.machine.harts h t }) where
   -- it came to that
   abbrev pub Came : (Word → Bench → Type 0) → Made → Type 0
   Came step held = (x : Bench) × step (word_by held) x × Stands size (word_by held) x n new × (x.payloads ≡ b.payloads)
@@ -71,7 +71,7 @@ module _ (size : Size) (b : Bench) (life : BenchLife) (h : ℕ) (n : Machine) (o
   goes : (e : SbiError) (mid : Bench) → Running size mid life.machine new → t ≡ answered (hart_at life.machine h) (error_of (Err e)) 0
       → (next : BenchLife) × (mid.power ≡ Some next) × Running size (on_with (refused h e next) mid) n new
   goes e mid (next, at, store, same, now) is =
-      let F : State → Machine = λ s. record life.machine { harts = slice_set life.machine.harts h s } in
+      let F : ArchState → Machine = λ s. record life.machine { harts = slice_set life.machine.harts h s } in
       (next, at, (refused h e next, refl, (follows_with size mid.disk_state mid.kept next (answering h e next.machine) (store_size new) refl store.0, store.1), made ∙ ap F is ∙ ap (answering h e) same, now))
 
   -- it was refused by its arguments
@@ -217,7 +217,7 @@ module _ (size : Size) (b : Bench) (life : BenchLife) (h : ℕ) (n : Machine) (o
         fits None none = (asked.answered (was.1.2 ∙ none)).life.told.0
         fits (Some d) at = absurd (let e = (asked.down d (was.1.2 ∙ at)).0 in let no : ⊥ = cc in no)
 
-  abbrev the_hart : State
+  abbrev the_hart : ArchState
   the_hart = hart_at life.machine h
 
   -- once every other hart is STOPPED

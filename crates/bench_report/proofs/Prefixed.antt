@@ -16,7 +16,7 @@ use Rattle.machine.specs.Machine.{Machine, hart_at}
 use Rattle.machine_lines.specs.Shows.{own_line}
 use Rattle.machine.specs.declared.parts.Called.{Called}
 use Rattle.machine.specs.declared.parts.Called.TheVariants.{NotStarted, Made}
-use Rattle.hart.specs.State.{State as HartState}
+use Rattle.hart.specs.State.{ArchState as HartState}
 use Rattle.turns.specs.declared.words.Turned.{Turned}
 use Rattle.turns.specs.declared.words.Turned.TheVariants as dids
 use Rattle.machine.specs.declared.parts.Word.{Word}

@@ -5,7 +5,7 @@ use Rattle.board_model.specs.Shapes.{Size}
 use Rattle.board_model.specs.declared.boot_mode.BootMode.{BootMode}
 use Rattle.board_model.specs.declared.boot_mode.BootMode.TheVariants as modes
 use Rattle.board.specs.Begins.{IsBegun}
-use Rattle.hart.specs.State.{State}
+use Rattle.hart.specs.State.{ArchState}
 use Rattle.machine.specs.Machine.{Machine}
 use Rattle.machine.specs.Held.{IsHeld}
 use Rattle.sbi_calls.specs.declared.tables.Tables.{Tables}
@@ -17,7 +17,7 @@ begun_size modes.Keep size payloads s m b = ap (λ (x : Machine). x.size) b
 begun_size modes.Discard size payloads s m b = ap (λ (x : Machine). x.size) b
 begun_size modes.Resume size payloads s m b = ap (λ (x : Machine). x.size) b.is
 
-pub held_by_shape : (mode : BootMode) (size shape : Size) (payloads : List (List ℕ)) (s : Durables) (m : Machine) (harts : List State) (t : Tables) (seats : Seats) → IsBegun mode size payloads s m → shape ≡ size
+pub held_by_shape : (mode : BootMode) (size shape : Size) (payloads : List (List ℕ)) (s : Durables) (m : Machine) (harts : List ArchState) (t : Tables) (seats : Seats) → IsBegun mode size payloads s m → shape ≡ size
     → IsHeld m.size harts t (Some seats) → IsHeld shape harts t (Some seats)
 held_by_shape mode size shape payloads s m harts t seats begun is held = subst (λ (z : Size). IsHeld z harts t (Some seats)) (begun_size mode size payloads s m begun ∙ sym is) held
 

@@ -3,7 +3,7 @@
 
 ghost use Rattle.std.specs.Prelude.{◌≡◌, ℕ, List, Bool};
 ghost use Rattle.hart.specs.Values.{Computes};
-ghost use Rattle.hart.specs.State.{State};
+ghost use Rattle.hart.specs.State.{ArchState};
 ghost use Rattle.hart.specs.Means.{means, IsSame, Steps};
 ghost use Rattle.hart.specs.declared.Outcome.{Outcome};
 ghost use Rattle.rv_decode.specs.declared.instr.ArithOp.{ArithOp};
@@ -17,19 +17,19 @@ pub fn one_result()
 /// What an instruction does is one outcome, for all sixty: from a state, a memory and the pending interrupt follow the
 /// state and the memory after it, and the answer.
 pub fn one_outcome()
-    ensures { (i : Instr) (w : ℕ) (p : Bool) (s t u : State) (m n l : List ℕ) (o q : Outcome) → means i w p s m t n o → means i w p s m u l q → IsSame t u n l o q }
+    ensures { (i : Instr) (w : ℕ) (p : Bool) (s t u : ArchState) (m n l : List ℕ) (o q : Outcome) → means i w p s m t n o → means i w p s m u l q → IsSame t u n l o q }
 {
     ram::one_store();
 }
 
 /// A step is one outcome: a hart's state, a memory and the pending interrupt leave it no other.
 pub fn one_step()
-    ensures { (p : Bool) (s t u : State) (m n l : List ℕ) (o q : Outcome) → Steps p s m t n o → Steps p s m u l q → IsSame t u n l o q }
+    ensures { (p : Bool) (s t u : ArchState) (m n l : List ℕ) (o q : Outcome) → Steps p s m t n o → Steps p s m u l q → IsSame t u n l o q }
 {
     ram::one_store();
 }
 
 /// A step leaves the hart's number.
 pub fn one_number()
-    ensures { (p : Bool) (s t : State) (m n : List ℕ) (o : Outcome) → Steps p s m t n o → t.id ≡ s.id }
+    ensures { (p : Bool) (s t : ArchState) (m n : List ℕ) (o : Outcome) → Steps p s m t n o → t.id ≡ s.id }
 {}

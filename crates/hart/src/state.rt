@@ -3,14 +3,14 @@
 ghost use Rattle.std.specs.Prelude.{◌≡◌, ◌≢◌, ◌↔◌, Some, None, ℕ, ◌+◌, ◌-◌, ◌*◌, ◌/◌, ◌%◌, ◌^◌, ◌<◌, ◌≤◌, IsTrue, IfSome, replicate, length, slice_index, slice_set, Bool, true, false, nat_eq};
 ghost use Rattle.hart.specs.Csrs.{csr_number, csr_read, csr_write};
 ghost use Rattle.hart.specs.declared.csr.Csr.{Csr};
-ghost use Rattle.hart.specs.State.{State, never_started, started, reg, put, jump, next, trap, return_from_trap, answered};
+ghost use Rattle.hart.specs.State.{ArchState, never_started, started, reg, put, jump, next, trap, return_from_trap, answered};
 
 use super::csr::{self, Csr};
 use board_model::HartId;
 use rv_decode::{CsrNumber, Reg};
 use std::marker::Model;
 
-/// A hart, which contracts see as its `State`: its number, the registers, the pc, and what the control and status
+/// A hart, which contracts see as its `ArchState`: its number, the registers, the pc, and what the control and status
 /// registers keep.
 #[derive(Drop)]
 pub struct Hart {
@@ -28,7 +28,7 @@ pub struct Hart {
 }
 
 impl Model for Hart {
-    ghost Value = { State };
+    ghost Value = { ArchState };
 
     ghost view = { λ h. record { id = h.id; regs = h.regs; pc = h.pc; interrupts = h.interrupts; spie = h.spie; ssie = h.ssie; stvec = h.stvec; sscratch = h.sscratch; sepc = h.sepc; scause = h.scause; stval = h.stval } };
 

@@ -1,7 +1,7 @@
 -- A hart that is told to stand at a durable call: its seats know what they knew before the call, and it is STARTED.
 use Rattle.std.proofs.Common.{◌≡◌, ℕ, List, Ok, Err, refl, sym, ap, ◌∙◌, subst}
 use Rattle.board_model.specs.Shapes.{Size}
-use Rattle.hart.specs.State.{State}
+use Rattle.hart.specs.State.{ArchState}
 use Rattle.hart.specs.declared.Outcome.{Outcome}
 use Rattle.hart.specs.declared.Outcome.TheVariants as outcomes
 use Rattle.hsm_words.specs.declared.view.HartView.{HartView}
@@ -24,7 +24,7 @@ use Rattle.turns.specs.Turns.{turned_by}
 use Rattle.turns.specs.Own.{FinishesOwn}
 
 -- ---- a call that is told durable was left to the firmware
-deferred : (end : Ending) (u v : State) (after : After) → Ends end u v after → Durable ≡ turned_by after → end ≡ endings.Defers
+deferred : (end : Ending) (u v : ArchState) (after : After) → Ends end u v after → Durable ≡ turned_by after → end ≡ endings.Defers
 deferred (endings.Answers a) u v after p w = let z : Durable ≡ Next = w ∙ ap turned_by p.1 in let n : ⊥ = cc in absurd n
 deferred endings.Stops u v after p w = let z : Durable ≡ Stopped = w ∙ ap turned_by p.1 in let n : ⊥ = cc in absurd n
 deferred endings.Suspends u v after p w = let z : Durable ≡ Suspended = w ∙ ap turned_by p.1 in let n : ⊥ = cc in absurd n
@@ -43,13 +43,13 @@ still harts by (Ok (SuspendAfresh a o)) k k' end p d = let z = sym p.2 ∙ d in 
 still harts by (Ok (Send targets)) k k' end p d = let z = sym p.2 ∙ d in let n : ⊥ = cc in absurd n
 still harts by (Ok Command) k k' end p d = p.0
 
-knew : (size : Size) (o : Outcome) (u v : State) (k k' : Known) → FinishesOwn size o u v k k' Durable → k' ≡ k
+knew : (size : Size) (o : Outcome) (u v : ArchState) (k k' : Known) → FinishesOwn size o u v k k' Durable → k' ≡ k
 knew size outcomes.Next u v k k' p = p.0
 knew size outcomes.TakePending u v k k' p = let z : Durable ≡ Next = p.2 in let n : ⊥ = cc in absurd n
 knew size outcomes.Ecall u v k k' p = still size.harts u.id (request_of size (call_of u)) k k' p.1.0 p.1.1 (deferred p.1.0 u v p.0 p.1.2 p.2)
 
 -- ---- so the hart acts as before
-pub asks : (size : Size) (o : Outcome) (u v : State) (t : Tables) (by : ℕ) (s s' : Seats) (word : Turned) → FinishesOwn size o u v (known s) (known s') word → GivesBack t by s s' → Acts by Running s → word ≡ Durable → Acts by Running s'
+pub asks : (size : Size) (o : Outcome) (u v : ArchState) (t : Tables) (by : ℕ) (s s' : Seats) (word : Turned) → FinishesOwn size o u v (known s) (known s') word → GivesBack t by s s' → Acts by Running s → word ≡ Durable → Acts by Running s'
 asks size o u v t by s s' word own gives acts e =
     let same = knew size o u v (known s) (known s') (subst (λ (w : Turned). FinishesOwn size o u v (known s) (known s') w) e own) in
     (subst (λ (vs : List HartView). stands by Running vs) (sym (ap (λ (k : Known). k.harts) same)) acts.0, gives.pairs.each by ∙ acts.1)

@@ -7,7 +7,7 @@ use Rattle.board_model.specs.Shapes.{Size}
 use Rattle.board_model.specs.declared.durable.Reason.{Reason}
 use Rattle.board_model.specs.declared.refusal.Refusal.{Refusal}
 use Rattle.board_model.specs.declared.refusal.Refusal.TheVariants.{Down}
-use Rattle.hart.specs.State.{State}
+use Rattle.hart.specs.State.{ArchState}
 use Rattle.hsm_words.specs.declared.view.HartView.{HartView}
 use Rattle.hsm_words.specs.declared.view.Action.TheVariants.{Quieted}
 use Rattle.hsm_rule.specs.Rule.{HasNoted}
@@ -30,19 +30,19 @@ use Rattle.sbi.specs.Helds.{Refuses, EndsReset, EndsSleep, MakesReset, MakesSlee
 use Rattle.hart_threads.specs.Threads.{Acknowledges, LooksForQuiet, HeldOnce}
 
 -- ---- an error
-refused : (size : Size) (e : SbiError) (s t : State) (k k' : Known) (held : Held) → Refuses e s t held → LooksForQuiet size.harts s.id k.harts k'.harts → k'.pairs ≡ k.pairs → HeldOnce size s t k k' held
+refused : (size : Size) (e : SbiError) (s t : ArchState) (k k' : Known) (held : Held) → Refuses e s t held → LooksForQuiet size.harts s.id k.harts k'.harts → k'.pairs ≡ k.pairs → HeldOnce size s t k k' held
 refused size e s t k k' held p looks pairs = subst (λ (h : Held). HeldOnce size s t k k' h) (sym p.1) (e, p.0, looks, pairs)
 
-no_steps : (size : Size) (s : State) (k k' : Known) → k' ≡ k → LooksForQuiet size.harts s.id k.harts k'.harts
+no_steps : (size : Size) (s : ArchState) (k k' : Known) → k' ≡ k → LooksForQuiet size.harts s.id k.harts k'.harts
 no_steps size s k k' same = inl (ap (λ (x : Known). x.harts) same)
 
 -- that a suspension was answered with
-ends_with : (size : Size) (error : Option SbiError) (e : SbiError) (s t : State) (k k' : Known) (held : Held) → error ≡ Some e → EndsSleep error s t held → LooksForQuiet size.harts s.id k.harts k'.harts → k'.pairs ≡ k.pairs → HeldOnce size s t k k' held
+ends_with : (size : Size) (error : Option SbiError) (e : SbiError) (s t : ArchState) (k k' : Known) (held : Held) → error ≡ Some e → EndsSleep error s t held → LooksForQuiet size.harts s.id k.harts k'.harts → k'.pairs ≡ k.pairs → HeldOnce size s t k k' held
 ends_with size error e s t k k' held is ends looks pairs =
     refused size e s t k k' held (subst (λ (x : Option SbiError). EndsSleep x s t held) is ends) looks pairs
 
 -- of a call that comes to no durable command
-other_once : (size : Size) (s t : State) (k k' : Known) (held : Held) → Refuses NotSupported s t held → k' ≡ k → HeldOnce size s t k k' held
+other_once : (size : Size) (s t : ArchState) (k k' : Known) (held : Held) → Refuses NotSupported s t held → k' ≡ k → HeldOnce size s t k k' held
 other_once size s t k k' held p same = refused size NotSupported s t k k' held p (no_steps size s k k' same) (ap (λ (x : Known). x.pairs) same)
 
 -- a store that answered with a receipt was not down
@@ -66,12 +66,12 @@ module _ {D L : Type 0} {g : Ghosts D L} {l : Lanes L} where
       subst (λ (h : Held). HeldOnce size s t k k' h) (sym ends.1) (cause, applied_at old new (Reset cause) n (doubt_of old) refl asked, ends.0, same)
   reset_by size kind cause (Err e) s t k k' old new held asked ends same = refused size Failed s t k k' held ends (no_steps size s k k' same) (ap (λ (x : Known). x.pairs) same)
 
-  reset_once : (size : Size) (asked : Result (ResetType × Reason) SbiError) (s t : State) (k k' : Known) (old new : Store D L g l) (held : Held) → MakesReset asked s t old new held → k' ≡ k → HeldOnce size s t k k' held
+  reset_once : (size : Size) (asked : Result (ResetType × Reason) SbiError) (s t : ArchState) (k k' : Known) (old new : Store D L g l) (held : Held) → MakesReset asked s t old new held → k' ≡ k → HeldOnce size s t k k' held
   reset_once size (Err e) s t k k' old new held p same = refused size e s t k k' held p.0 (no_steps size s k k' same) (ap (λ (x : Known). x.pairs) same)
   reset_once size (Ok reset) s t k k' old new held p same = reset_by size reset.0 reset.1 p.0 s t k k' old new held p.1 p.2 same
 
   -- ---- a suspension
-  sleep_by : (size : Size) (site opaque found : ℕ) (memory : List ℕ) (r : Result ℕ Refusal) (mid : List HartView) (error : Option SbiError) (s t : State) (k k' : Known) (old new : Store D L g l) (held : Held)
+  sleep_by : (size : Size) (site opaque found : ℕ) (memory : List ℕ) (r : Result ℕ Refusal) (mid : List HartView) (error : Option SbiError) (s t : ArchState) (k k' : Known) (old new : Store D L g l) (held : Held)
       → AreUnclaimed size.harts s.id found → HasNoted s.id (after_quiet size.harts s.id found) (Quieted found) k.harts mid → AsksToSleep s.id site opaque memory old r new → Settles s.id r mid error k'.harts
       → EndsSleep error s t held → k'.pairs ≡ k.pairs → HeldOnce size s t k k' held
   sleep_by size site opaque found memory (Ok n) mid error s t k k' old new held alone noted asked settles ends pairs =
@@ -82,7 +82,7 @@ module _ {D L : Type 0} {g : Ghosts D L} {l : Lanes L} where
   sleep_by size site opaque found memory (Err e) mid error s t k k' old new held alone noted asked settles ends pairs =
       ends_with size error Failed s t k k' held settles.0 ends (inr (found, mid, noted, inr settles.1)) pairs
 
-  slept_by : (size : Size) (asked : Result ℕ SbiError) (opaque : ℕ) (memory : List ℕ) (error : Option SbiError) (s t : State) (k k' : Known) (old new : Store D L g l) (held : Held)
+  slept_by : (size : Size) (asked : Result ℕ SbiError) (opaque : ℕ) (memory : List ℕ) (error : Option SbiError) (s t : ArchState) (k k' : Known) (old new : Store D L g l) (held : Held)
       → SleepsAt size.harts s.id asked opaque memory k.harts old error k'.harts new → EndsSleep error s t held → k'.pairs ≡ k.pairs → HeldOnce size s t k k' held
   slept_by size (Err e) opaque memory error s t k k' old new held p ends pairs = ends_with size error e s t k k' held p.0 ends (inl p.1) pairs
   slept_by size (Ok site) opaque memory error s t k k' old new held p ends pairs =
@@ -91,11 +91,11 @@ module _ {D L : Type 0} {g : Ghosts D L} {l : Lanes L} where
       (λ asked. sleep_by size site opaque p.0 memory asked.1.0 p.1 error s t k k' old new held asked.0 p.2 asked.1.1 asked.1.2 ends pairs)
       p.3
 
-  sleep_once : (size : Size) (kind address opaque : ℕ) (memory : List ℕ) (s t : State) (k k' : Known) (old new : Store D L g l) (held : Held) → MakesSleep size.harts memory kind address opaque s t k k' old new held → HeldOnce size s t k k' held
+  sleep_once : (size : Size) (kind address opaque : ℕ) (memory : List ℕ) (s t : ArchState) (k k' : Known) (old new : Store D L g l) (held : Held) → MakesSleep size.harts memory kind address opaque s t k k' old new held → HeldOnce size s t k k' held
   sleep_once size kind address opaque memory s t k k' old new held p = slept_by size p.1.asked opaque memory p.0 s t k k' old new held p.1.slept p.3 p.2
 
   -- ---- any call
-  once_of : (size : Size) (memory : List ℕ) (call : Call) (s t : State) (k k' : Known) (old new : Store D L g l) (held : Held) → MakesHeld size.harts memory call s t k k' old new held → HeldOnce size s t k k' held
+  once_of : (size : Size) (memory : List ℕ) (call : Call) (s t : ArchState) (k k' : Known) (old new : Store D L g l) (held : Held) → MakesHeld size.harts memory call s t k k' old new held → HeldOnce size s t k k' held
   once_of size memory (calls.SystemReset kind cause) s t k k' old new held p = reset_once size (reset_of kind cause) s t k k' old new held p.0 p.1
   once_of size memory (calls.SystemSuspend kind address opaque) s t k k' old new held p = sleep_once size kind address opaque memory s t k k' old new held p
   once_of size memory calls.SpecVersion s t k k' old new held p = other_once size s t k k' held p.0 p.2
@@ -112,5 +112,5 @@ module _ {D L : Type 0} {g : Ghosts D L} {l : Lanes L} where
   once_of size memory (calls.SendIpi x y) s t k k' old new held p = other_once size s t k k' held p.0 p.2
   once_of size memory calls.Unknown s t k k' old new held p = other_once size s t k k' held p.0 p.2
 
-  pub held_once : (harts : ℕ) (size : Size) (memory : List ℕ) (call : Call) (s t : State) (k k' : Known) (old new : Store D L g l) (held : Held) → harts ≡ size.harts → MakesHeld harts memory call s t k k' old new held → HeldOnce size s t k k' held
+  pub held_once : (harts : ℕ) (size : Size) (memory : List ℕ) (call : Call) (s t : ArchState) (k k' : Known) (old new : Store D L g l) (held : Held) → harts ≡ size.harts → MakesHeld harts memory call s t k k' old new held → HeldOnce size s t k k' held
   held_once harts size memory call s t k k' old new held e p = once_of size memory call s t k k' old new held (subst (λ (n : ℕ). MakesHeld n memory call s t k k' old new held) e p)

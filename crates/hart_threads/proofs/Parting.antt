@@ -4,7 +4,7 @@ use Rattle.std.specs.Prelude.{slice_get, get_or}
 use Rattle.std.proofs.lemmas.List.{length-map}
 use Rattle.board_model.specs.Shapes.{Size}
 use Rattle.atomic_table.specs.declared.shared.Seat.{Seat}
-use Rattle.hart.specs.State.{State, never_started}
+use Rattle.hart.specs.State.{ArchState, never_started}
 use Rattle.hsm_steps.specs.Seating as harts
 use Rattle.hsm_words.specs.declared.view.HartSeatView.{HartSeatView}
 use Rattle.hsm_words.specs.declared.view.HartView.{HartView}
@@ -24,7 +24,7 @@ use Rattle.tallies.specs.Seats.{one_by_one, views_at, views_by_seat}
 use Rattle.tallies.proofs.Seatings.{are_pop, length_all}
 use Rattle.hart_threads.specs.Seated.{IsSeated}
 
-pub record AreLeft (t : Tables) (left : List State) (starts : List (Option (Seat (Unit {0}) HartSeatView))) (raises : List (Option (Seat (Unit {0}) PairCrew))) : Type 0 where
+pub record AreLeft (t : Tables) (left : List ArchState) (starts : List (Option (Seat (Unit {0}) HartSeatView))) (raises : List (Option (Seat (Unit {0}) PairCrew))) : Type 0 where
   pub numbered : AreNumbered left
   pub few : length left ≤ harts_of t
   pub starts_long : length starts ≡ length left
@@ -58,11 +58,11 @@ or_before (y ∷ xs) x d zero lt = refl
 or_before (y ∷ xs) x d (suc i) lt = or_before xs x d i (omega arith)
 
 -- ---- the last hart takes its seats
-pub record TakesLast (t : Tables) (left : List State) (x : State) (starts : List (Option (Seat (Unit {0}) HartSeatView))) (start : Seat (Unit {0}) HartSeatView) (raises : List (Option (Seat (Unit {0}) PairCrew))) (raise : Seat (Unit {0}) PairCrew) : Type 0 where
+pub record TakesLast (t : Tables) (left : List ArchState) (x : ArchState) (starts : List (Option (Seat (Unit {0}) HartSeatView))) (start : Seat (Unit {0}) HartSeatView) (raises : List (Option (Seat (Unit {0}) PairCrew))) (raise : Seat (Unit {0}) PairCrew) : Type 0 where
   pub rest : AreLeft t left starts raises
   pub seated : IsSeated t x.id (record { harts = start; pending = raise })
 
-pub takes_last : (t : Tables) (left : List State) (x : State) (starts : List (Option (Seat (Unit {0}) HartSeatView))) (start : Seat (Unit {0}) HartSeatView) (raises : List (Option (Seat (Unit {0}) PairCrew))) (raise : Seat (Unit {0}) PairCrew)
+pub takes_last : (t : Tables) (left : List ArchState) (x : ArchState) (starts : List (Option (Seat (Unit {0}) HartSeatView))) (start : Seat (Unit {0}) HartSeatView) (raises : List (Option (Seat (Unit {0}) PairCrew))) (raise : Seat (Unit {0}) PairCrew)
     → AreLeft t (left ++ x ∷ []) (starts ++ Some start ∷ []) (raises ++ Some raise ∷ []) → TakesLast t left x starts start raises raise
 takes_last t left x starts start raises raise are =
     let n = length left in
@@ -71,12 +71,12 @@ takes_last t left x starts start raises raise are =
     let also_many : length raises ≡ n = let a = length_last raises (Some raise) in let b = are.raises_long in omega arith in
     let low : n < n + 1 = omega arith in
     let own : x.id ≡ n =
-    sym (ap (λ (s : State). s.id) (or_last left x (never_started n))) ∙ are.numbered n (subst (λ (m : ℕ). n < m) (sym more) low) in
+    sym (ap (λ (s : ArchState). s.id) (or_last left x (never_started n))) ∙ are.numbered n (subst (λ (m : ℕ). n < m) (sym more) low) in
     let s = are_pop (harts.IsSeatOf t.harts) starts (Some start) are.starts_are in
     let p = are_pop (pairs.IsSeatOf t.pending) raises (Some raise) are.raises_are in
     record {
       rest = record {
-        numbered = λ h lt. sym (ap (λ (s : State). s.id) (or_before left x (never_started h) h lt)) ∙ are.numbered h (subst (λ (m : ℕ). h < m) (sym more) (let z : h < n + 1 = omega (arith, lt) in z));
+        numbered = λ h lt. sym (ap (λ (s : ArchState). s.id) (or_before left x (never_started h) h lt)) ∙ are.numbered h (subst (λ (m : ℕ). h < m) (sym more) (let z : h < n + 1 = omega (arith, lt) in z));
         few = let f = are.few in omega arith;
         starts_long = as_many;
         raises_long = also_many;
@@ -96,12 +96,12 @@ takes_last t left x starts start raises raise are =
     }
 
 -- what was taken off each list, by what the calls tell
-pub taken_last : (t : Tables) (all left : List State) (x : State) (starts before : List (Option (Seat (Unit {0}) HartSeatView))) (last : Option (Seat (Unit {0}) HartSeatView)) (start : Seat (Unit {0}) HartSeatView)
+pub taken_last : (t : Tables) (all left : List ArchState) (x : ArchState) (starts before : List (Option (Seat (Unit {0}) HartSeatView))) (last : Option (Seat (Unit {0}) HartSeatView)) (start : Seat (Unit {0}) HartSeatView)
     (raises also : List (Option (Seat (Unit {0}) PairCrew))) (other : Option (Seat (Unit {0}) PairCrew)) (raise : Seat (Unit {0}) PairCrew)
     → AreLeft t all starts raises → all ≡ left ++ x ∷ [] → starts ≡ before ++ last ∷ [] → last ≡ Some start → raises ≡ also ++ other ∷ [] → other ≡ Some raise
     → TakesLast t left x before start also raise
 taken_last t all left x starts before last start raises also other raise are e f is g also_is =
-    let a = subst (λ (l : List State). AreLeft t l starts raises) e are in
+    let a = subst (λ (l : List ArchState). AreLeft t l starts raises) e are in
     let b = subst (λ (l : List (Option (Seat (Unit {0}) HartSeatView))). AreLeft t (left ++ x ∷ []) l raises) (f ∙ ap (λ (o : Option (Seat (Unit {0}) HartSeatView)). before ++ o ∷ []) is) a in
     takes_last t left x before start also raise
     (subst (λ (l : List (Option (Seat (Unit {0}) PairCrew))). AreLeft t (left ++ x ∷ []) (before ++ Some start ∷ []) l) (g ∙ ap (λ (o : Option (Seat (Unit {0}) PairCrew)). also ++ o ∷ []) also_is) b)
@@ -119,7 +119,7 @@ rests_in : (i : ℕ) (vs ws : List HartView) → ((st : Stage) → stands i st v
 rests_in i vs ws each r =
     ⊎_elim (λ (p : stands i Out vs). inl (each Out p)) (⊎_elim (λ (p : stands i Running vs). inr (inl (each Running p))) (λ (p : stands i Asleep vs). inr (inr (each Asleep p)))) r
 
-pub all_left : (t : Tables) (size : Size) (left : List State) (s : Seats) (starts : List (Option (Seat (Unit {0}) HartSeatView))) (raises : List (Option (Seat (Unit {0}) PairCrew)))
+pub all_left : (t : Tables) (size : Size) (left : List ArchState) (s : Seats) (starts : List (Option (Seat (Unit {0}) HartSeatView))) (raises : List (Option (Seat (Unit {0}) PairCrew)))
     → IsHeld size left t (Some s) → harts.AreSeatsOf t.harts starts → harts.StandAsIn (views s) starts → harts.harts_by_seat starts ≡ one_by_one (views s)
     → pairs.AreSeatsOf t.pending raises → pairs.AreSeated raises → pairs.pending_views_by_seat raises ≡ one_by_one (pending_views s) → AreLeft t left starts raises
 all_left t size left s starts raises held starts_are stages by_seat raises_are seated by_pending_view =

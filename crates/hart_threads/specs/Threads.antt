@@ -4,7 +4,7 @@ use Rattle.std.specs.Prelude.{◌≡◌, ◌⊎◌, ◌<◌, ℕ, zero, suc, Boo
 use Rattle.board_model.specs.Durable.{Change, Reset, Suspend}
 use Rattle.board_model.specs.Shapes.{Size}
 use Rattle.board_model.specs.declared.durable.Reason.{Reason}
-use Rattle.hart.specs.State.{State, answered}
+use Rattle.hart.specs.State.{ArchState, answered}
 use Rattle.hsm_words.specs.declared.view.HartView.{HartView}
 use Rattle.hsm_words.specs.declared.view.Stage.TheVariants.{Running}
 use Rattle.hsm_words.specs.declared.view.Action.TheVariants.{Quieted, Unquieted}
@@ -41,7 +41,7 @@ LooksForQuiet harts by vs vs' = (vs' ≡ vs)
 
 -- What it came to, by what was told of it: the hart found an error and goes on; or it stands where it stood, and its
 -- command was acknowledged. A suspend was so with every other hart STOPPED at its one look, and keeps that hart quiet.
-abbrev pub HeldOnce : Size → State → State → Known → Known → Held → Type 0
+abbrev pub HeldOnce : Size → ArchState → ArchState → Known → Known → Held → Type 0
 HeldOnce size s t k k' helds.Goes =
     (e : SbiError) × (t ≡ answered s (error_of (Err e)) 0)
     × LooksForQuiet size.harts s.id k.harts k'.harts × (k'.pairs ≡ k.pairs)
@@ -55,10 +55,10 @@ HeldOnce size s t k k' helds.Asleep =
 -- ---- a turn
 -- a hart, and what its seats know, between two of its turns
 pub record Seated : Type 0 where
-  pub hart : State
+  pub hart : ArchState
   pub known : Known
 
-abbrev pub seated : State → Known → Seated
+abbrev pub seated : ArchState → Known → Seated
 seated s k = record { hart = s; known = k }
 
 -- what comes of what the hart did: a durable call is made, anything else is the turn's word

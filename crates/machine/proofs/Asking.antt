@@ -3,7 +3,7 @@ use Rattle.std.proofs.Common.{◌≡◌, ◌≢◌, ℕ, zero, suc, ◌<◌, Boo
 use Rattle.std.specs.Prelude.{length, get_or, slice_set}
 use Rattle.std.proofs.lemmas.List.{get_or-set_same, length-set}
 use Rattle.board_model.specs.Shapes.{Size}
-use Rattle.hart.specs.State.{State, never_started}
+use Rattle.hart.specs.State.{ArchState, never_started}
 use Rattle.hart.specs.Means.{Steps}
 use Rattle.hart.specs.declared.Outcome.{Outcome}
 use Rattle.hart.specs.declared.Outcome.TheVariants as outcomes
@@ -28,7 +28,7 @@ use Rattle.machine.proofs.Determined.{is_decided}
 
 -- a step leaves the hart's number
 abbrev pub IsOneNumber : Type 0
-IsOneNumber = (p : Bool) (s t : State) (m n : List ℕ) (o : Outcome) → Steps p s m t n o → t.id ≡ s.id
+IsOneNumber = (p : Bool) (s t : ArchState) (m n : List ℕ) (o : Outcome) → Steps p s m t n o → t.id ≡ s.id
 
 -- ---- a call that is told durable leaves the tables and the hart
 not_goes : (after : After) → after ≡ afters.Goes → Durable ≡ turned_by after → ⊥
@@ -40,7 +40,7 @@ not_stopped after e w = let z : Durable ≡ Stopped = w ∙ ap turned_by e in le
 not_suspended : (after : After) → after ≡ afters.Suspended → Durable ≡ turned_by after → ⊥
 not_suspended after e w = let z : Durable ≡ Suspended = w ∙ ap turned_by e in let n : ⊥ = cc in n
 
-defers : (by : ℕ) (asked : Checked) (t : TableState) (u v : State) (after : After) → Ends (row by asked t).ending u v after → Durable ≡ turned_by after → ((row by asked t).table ≡ t) × (v ≡ u)
+defers : (by : ℕ) (asked : Checked) (t : TableState) (u v : ArchState) (after : After) → Ends (row by asked t).ending u v after → Durable ≡ turned_by after → ((row by asked t).table ≡ t) × (v ≡ u)
 defers by (Err e) t u v after p w = absurd (not_goes after p.1 w)
 defers by (Ok (Value n)) t u v after p w = absurd (not_goes after p.1 w)
 defers by (Ok (Start h a o)) t u v after p w = absurd (not_goes after p.1 w)
@@ -51,7 +51,7 @@ defers by (Ok (SuspendAfresh a o)) t u v after p w = absurd (not_suspended after
 defers by (Ok (Send targets)) t u v after p w = absurd (not_goes after p.1 w)
 defers by (Ok Command) t u v after p w = (refl, p.0)
 
-finished : (size : Size) (o : Outcome) (x y : TableState) (u v : State) → Finishes size o x u y v Durable → (y ≡ x) × (v ≡ u)
+finished : (size : Size) (o : Outcome) (x y : TableState) (u v : ArchState) → Finishes size o x u y v Durable → (y ≡ x) × (v ≡ u)
 finished size outcomes.Next x y u v p = absurd (let z : Durable ≡ Next = p.2 in let n : ⊥ = cc in n)
 finished size outcomes.TakePending x y u v p = absurd (let z : Durable ≡ Next = p.2 in let n : ⊥ = cc in n)
 finished size outcomes.Ecall x y u v p = let d = defers u.id (request_of size (call_of u)) x u v p.0 p.1 p.3 in (p.2 ∙ d.0, d.1)
@@ -62,7 +62,7 @@ stays_asleep size true by t a b p = let z : Durable ≡ Woke = p.1 in let n : �
 stays_asleep size false by t a b p = let z : Durable ≡ Idle = p.1 in let n : ⊥ = cc in n
 
 -- as the table and the hart stood, so they stand
-same_state : (x y : TableState) (u v : State) → y ≡ x → v.id ≡ u.id → listed y.states v.id ≡ listed x.states u.id
+same_state : (x y : TableState) (u v : ArchState) → y ≡ x → v.id ≡ u.id → listed y.states v.id ≡ listed x.states u.id
 same_state x y u v e f = ap (λ (t : TableState). listed t.states v.id) e ∙ ap (λ (k : ℕ). listed x.states k) f
 
 stood : IsOneNumber → (size : Size) (a b : Moment) (s : HartState) → s ≡ listed a.table.states a.hart.id → TurnAs size (begun_by a.hart.id a.table s).ready (begun_by a.hart.id a.table s).table a b Durable
@@ -71,7 +71,7 @@ stood number size a b stopped is p = absurd (let z : Durable ≡ Idle = p.1 in l
 stood number size a b (start_pending site opaque) is p = absurd (let z : Durable ≡ Entered = p.1 in let n : ⊥ = cc in n)
 stood number size a b started is p =
     let f = finished size p.1 a.table b.table p.0 b.hart p.3 in
-    let id : b.hart.id ≡ a.hart.id = ap (λ (s : State). s.id) f.1 ∙ number (is_pending a.hart.id a.table.pairs) a.hart p.0 a.memory b.memory p.1 p.2 in
+    let id : b.hart.id ≡ a.hart.id = ap (λ (s : ArchState). s.id) f.1 ∙ number (is_pending a.hart.id a.table.pairs) a.hart p.0 a.memory b.memory p.1 p.2 in
     same_state a.table b.table a.hart b.hart f.0 id ∙ sym is
 stood number size a b suspended is p = absurd (stays_asleep size (is_pending a.hart.id a.table.pairs) a.hart.id a.table a b p)
 
@@ -79,7 +79,7 @@ stood number size a b suspended is p = absurd (stays_asleep size (is_pending a.h
 at_once : (h : ℕ) (old new : Machine) (a : Moment) → h < length old.harts → new ≡ with_moment h old a → listed a.table.states a.hart.id ≡ started → IsHartStarted h new
 at_once h old new a lt e is =
     let read : hart_at (with_moment h old a) h ≡ a.hart = get_or-set_same old.harts h a.hart (never_started h) lt in
-    subst (λ (m : Machine). IsHartStarted h m) (sym e) (subst (λ (s : State). listed a.table.states s.id ≡ started) (sym read) is)
+    subst (λ (m : Machine). IsHartStarted h m) (sym e) (subst (λ (s : ArchState). listed a.table.states s.id ≡ started) (sym read) is)
 
 pub turn_asks : IsOneNumber → (h : ℕ) (old new : Machine) (word : Turned) → h < length old.harts → Turns h old new word → word ≡ Durable → IsHartStarted h new
 turn_asks number h old new word lt p is =
@@ -111,7 +111,7 @@ call_asks h eid fid a0 a1 a2 old new called lt p is =
           let e : Made d.0 ≡ Made Durable = sym d.3 ∙ is in
           let w : d.0 ≡ Durable = cc in
           let f = finished old.size outcomes.Ecall a.table p.0.table u p.0.hart (subst (λ (t : Turned). Finishes old.size outcomes.Ecall a.table u p.0.table p.0.hart t) w d.1) in
-          let id : p.0.hart.id ≡ a.hart.id = ap (λ (s : State). s.id) f.1 in
+          let id : p.0.hart.id ≡ a.hart.id = ap (λ (s : ArchState). s.id) f.1 in
           at_once h old new p.0 lt p.2 (same_state a.table p.0.table a.hart p.0.hart f.0 id ∙ at))
       | inr none ↦ absurd (let e : NotStarted ≡ Made Durable = sym (p.1.not_started none).1 ∙ is in let n : ⊥ = cc in n)
     ]

@@ -2,7 +2,7 @@
 use Rattle.std.proofs.Common.{◌≡◌, ◌≢◌, ℕ, List, refl, sym, ap, ◌∙◌, subst}
 use Rattle.atomic_table.specs.declared.shared.Seat.{Seat}
 use Rattle.board_model.specs.Shapes.{Size}
-use Rattle.hart.specs.State.{State}
+use Rattle.hart.specs.State.{ArchState}
 use Rattle.hart.specs.declared.Outcome.TheVariants.{Ecall}
 use Rattle.hsm_steps.specs.Seating as seating
 use Rattle.hsm_words.specs.declared.view.HartSeatView.{HartSeatView}
@@ -42,7 +42,7 @@ looked n size s harts by h name e f acts t is =
     let a = own (listed t.states) is.0.1 in
     (a.0, ((is.0.0, a.1), is.1))
 
-module _ (size : Size) (n by : ℕ) (s u : State) (m : List ℕ) where
+module _ (size : Size) (n by : ℕ) (s u : ArchState) (m : List ℕ) where
   -- a hart that is named otherwise makes no call
   pub not_made_alone : (seats : Seats) (harts : Seat (Unit {0}) HartSeatView) (name : Code) → n ≡ size.harts → by ≡ s.id → name ≢ codes.Started → LooksAlone n (harts_known seats) (seating.hart_view_of_seat harts) by name
       → MakesCallAlone size s u s m seats (with_harts seats harts) NotStarted
@@ -51,14 +51,14 @@ module _ (size : Size) (n by : ℕ) (s u : State) (m : List ℕ) where
       (t, record { made = λ at. absurd (ne (a.0 ∙ ap named at)); not_started = λ _. (refl, refl) }, a.1)
 
   -- one that is STARTED stands at the ECALL, and is answered
-  pub made_alone : (v t : State) (seats : Seats) (harts : Seat (Unit {0}) HartSeatView) (after : Seats) (name : Code) (word : Turned) → n ≡ size.harts → by ≡ s.id → name ≡ codes.Started → v ≡ u → LooksAlone n (harts_known seats) (seating.hart_view_of_seat harts) by name
+  pub made_alone : (v t : ArchState) (seats : Seats) (harts : Seat (Unit {0}) HartSeatView) (after : Seats) (name : Code) (word : Turned) → n ≡ size.harts → by ≡ s.id → name ≡ codes.Started → v ≡ u → LooksAlone n (harts_known seats) (seating.hart_view_of_seat harts) by name
       → FinishesAlone size Ecall v t (with_harts seats harts) after word → MakesCallAlone size s u t m seats after (Made word)
   made_alone v t seats harts after name word e f at same acts finishes x is =
       let a = looked n size seats harts by s.id name e f acts x is in
       let did = finishes x a.1 in (
         did.0,
         record {
-          made = λ _. (word, subst (λ (z : State). Finishes size Ecall x z did.0 t word) same did.1, refl, refl);
+          made = λ _. (word, subst (λ (z : ArchState). Finishes size Ecall x z did.0 t word) same did.1, refl, refl);
           not_started = λ none. absurd (none (is_started (listed x.states s.id) (sym a.0 ∙ at)));
         },
         did.2,

@@ -4,7 +4,7 @@ use Rattle.std.specs.Prelude.{length, get_or}
 use Rattle.disk.specs.declared.device.Disk.{Ghosts}
 use Rattle.disk.specs.declared.device.Lane.{Ghosts as Lanes}
 use Rattle.board_model.specs.Shapes.{Size}
-use Rattle.hart.specs.State.{State, never_started}
+use Rattle.hart.specs.State.{ArchState, never_started}
 use Rattle.hsm_words.specs.declared.view.HartSeatView.{HartSeatView}
 use Rattle.hsm_words.specs.declared.view.HartView.{HartView}
 use Rattle.hsm_words.specs.declared.view.Stage.{Stage}
@@ -54,13 +54,13 @@ runs_at h c is rests =
     (λ (o : stands h Asleep c.harts). absurd (true≢false (sym is.2 ∙ ap is_running (one_stage h c.harts is.0 Asleep is.1 o)))))
     rests
 
-pub started_acts : (size : Size) (harts : List State) (t : Tables) (os : Option Seats) (s : Seats) (id : ℕ) (x : State) → IsHeld size harts t os → os ≡ Some s → id < length harts → x ≡ get_or harts id (never_started id)
+pub started_acts : (size : Size) (harts : List ArchState) (t : Tables) (os : Option Seats) (s : Seats) (id : ℕ) (x : ArchState) → IsHeld size harts t os → os ≡ Some s → id < length harts → x ≡ get_or harts id (never_started id)
     → listed (table_of size.harts os).states (get_or harts id (never_started id)).id ≡ started → Acts x.id Running s
 started_acts size harts t os s id x held e lt read is =
     let a = all_seats size harts t os s held e in
     let rests = seat_rests size harts t os s id x held e lt read in
     let low : x.id < size.harts = subst (λ (n : ℕ). x.id < n) held.long (subst (λ (k : ℕ). k < length harts) (sym (numbered_at harts id x held.numbered lt read)) lt) in
-    let at_x : listed (table_of size.harts os).states x.id ≡ started = subst (λ (z : State). listed (table_of size.harts os).states z.id ≡ started) (sym read) is in
+    let at_x : listed (table_of size.harts os).states x.id ≡ started = subst (λ (z : ArchState). listed (table_of size.harts os).states z.id ≡ started) (sym read) is in
     let at : listed (shown_by size.harts s).states x.id ≡ started = subst (λ (o : Option Seats). listed (table_of size.harts o).states x.id ≡ started) e at_x in
     let shown : IsIn (harts_known s) x.id started = subst (λ (y : HartState). IsIn (harts_known s) x.id y) at (a.shows.0.1 x.id low) in
     (runs_at x.id (harts_known s) shown rests.0, rests.1)
@@ -68,11 +68,11 @@ started_acts size harts t os s id x held e lt read is =
 -- ---- with a store
 module _ {D L : Type 0} {g : Ghosts D L} {l : Lanes L} where
   -- after the call the tables show what they showed
-  pub held_then : (n m : ℕ) (memory : List ℕ) (call : Call) (s t : State) (a b c : Seats) (old new : Store D L g l) (held : Held) → n ≡ m → HeldAlone n memory call s t a b old new held
+  pub held_then : (n m : ℕ) (memory : List ℕ) (call : Call) (s t : ArchState) (a b c : Seats) (old new : Store D L g l) (held : Held) → n ≡ m → HeldAlone n memory call s t a b old new held
       → ((x : TableState) → IsTable n b x → IsTable n c x) → HeldAlone m memory call s t a c old new held
   held_then n m memory call s t a b c old new held e did still =
       subst (λ (k : ℕ). HeldAlone k memory call s t a c old new held) e (λ x are. let r = did x are in (r.0, still x r.1))
 
-  pub held_action : (size : Size) (memory : List ℕ) (s t : State) (a b : Seats) (old new : Store D L g l) (held : Held) → HeldAlone size.harts memory (call_of s) s t a b old new held
+  pub held_action : (size : Size) (memory : List ℕ) (s t : ArchState) (a b : Seats) (old new : Store D L g l) (held : Held) → HeldAlone size.harts memory (call_of s) s t a b old new held
       → DoneAlone (λ x y. HeldOf size x y old new held) size.harts s memory t memory a b
   held_action size memory s t a b old new held did x are = let r = did x are in (x, (r.0, refl, refl), r.1)

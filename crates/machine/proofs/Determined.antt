@@ -1,7 +1,7 @@
 -- A turn of a hart is one outcome, and so are turns in a row, and a call.
 use Rattle.std.proofs.Common.{ℕ, zero, suc, Bool, ◌≡◌, ◌⊎◌, List, sym, ◌∙◌, ap, refl, subst, inl, inr, ⊎_elim}
 use Rattle.board_model.specs.Shapes.{Size}
-use Rattle.hart.specs.State.{State}
+use Rattle.hart.specs.State.{ArchState}
 use Rattle.hart.specs.Means.{Steps, IsSame}
 use Rattle.hart.specs.declared.Outcome.{Outcome}
 use Rattle.hart.specs.declared.Outcome.TheVariants as outcomes
@@ -24,16 +24,16 @@ use Rattle.machine.specs.Turns as turns
 
 -- a step is one outcome
 abbrev pub IsOneStep : Type 0
-IsOneStep = (p : Bool) (s t u : State) (m n l : List ℕ) (o q : Outcome) → Steps p s m t n o → Steps p s m u l q → IsSame t u n l o q
+IsOneStep = (p : Bool) (s t u : ArchState) (m n l : List ℕ) (o q : Outcome) → Steps p s m t n o → Steps p s m u l q → IsSame t u n l o q
 
-one_end : (e : Ending) (s t u : State) (a b : After) → Ends e s t a → Ends e s u b → (t ≡ u) × (a ≡ b)
+one_end : (e : Ending) (s t u : ArchState) (a b : After) → Ends e s t a → Ends e s u b → (t ≡ u) × (a ≡ b)
 one_end (Answers x) s t u a b p q = (p.0 ∙ sym q.0, p.1 ∙ sym q.1)
 one_end Stops s t u a b p q = (p.0 ∙ sym q.0, p.1 ∙ sym q.1)
 one_end Suspends s t u a b p q = (p.0 ∙ sym q.0, p.1 ∙ sym q.1)
 one_end (SuspendsAfresh x y) s t u a b p q = (p.0 ∙ sym q.0, p.1 ∙ sym q.1)
 one_end Defers s t u a b p q = (p.0 ∙ sym q.0, p.1 ∙ sym q.1)
 
-one_finish : (size : Size) (o : Outcome) (x : TableState) (u : State) (y z : TableState) (v w : State) (word also : Turned) → Finishes size o x u y v word → Finishes size o x u z w also → (y ≡ z) × (v ≡ w) × (word ≡ also)
+one_finish : (size : Size) (o : Outcome) (x : TableState) (u : ArchState) (y z : TableState) (v w : ArchState) (word also : Turned) → Finishes size o x u y v word → Finishes size o x u z w also → (y ≡ z) × (v ≡ w) × (word ≡ also)
 one_finish size outcomes.Next x u y z v w word also p q = (p.0 ∙ sym q.0, p.1 ∙ sym q.1, p.2 ∙ sym q.2)
 one_finish size outcomes.TakePending x u y z v w word also p q = (p.0 ∙ sym q.0, p.1 ∙ sym q.1, p.2 ∙ sym q.2)
 one_finish size outcomes.Ecall x u y z v w word also p q =
@@ -42,7 +42,7 @@ one_finish size outcomes.Ecall x u y z v w word also p q =
 
 one_moment : (b c : Moment) → b.table ≡ c.table → b.hart ≡ c.hart → b.memory ≡ c.memory → b ≡ c
 one_moment b c e f g =
-    ap (λ (x : TableState). moment x b.hart b.memory) e ∙ (ap (λ (s : State). moment c.table s b.memory) f ∙ ap (λ (m : List ℕ). moment c.table c.hart m) g)
+    ap (λ (x : TableState). moment x b.hart b.memory) e ∙ (ap (λ (s : ArchState). moment c.table s b.memory) f ∙ ap (λ (m : List ℕ). moment c.table c.hart m) g)
 
 one_as : IsOneStep → (size : Size) (r : Ready) (x : TableState) (a b c : Moment) (word also : Turned) → TurnAs size r x a b word → TurnAs size r x a c also → (b ≡ c) × (word ≡ also)
 one_as step size readies.Idle x a b c word also p q = (p.0 ∙ sym q.0, p.1 ∙ sym q.1)
@@ -51,7 +51,7 @@ one_as step size (readies.Enters site opaque) x a b c word also p q = (p.0 ∙ s
 one_as step size (readies.Steps pending) x a b c word also p q =
     let same = step pending a.hart p.0 q.0 a.memory b.memory c.memory p.1 q.1 p.2 q.2 in
     let at : Finishes size q.1 x q.0 b.table b.hart word =
-    subst (λ (o : Outcome). Finishes size o x q.0 b.table b.hart word) same.2 (subst (λ (u : State). Finishes size p.1 x u b.table b.hart word) same.0 p.3) in
+    subst (λ (o : Outcome). Finishes size o x q.0 b.table b.hart word) same.2 (subst (λ (u : ArchState). Finishes size p.1 x u b.table b.hart word) same.0 p.3) in
     let e = one_finish size q.1 x q.0 b.table c.table b.hart c.hart word also at q.3 in
     (one_moment b c e.0 e.1 same.1, e.2)
 
@@ -92,7 +92,7 @@ is_decided (start_pending a o) = inr (λ e. cc)
 is_decided started = inl refl
 is_decided suspended = inr (λ e. cc)
 
-call_of_one : (size : Size) (u : State) (a b c : Moment) (called also : Called) → turns.CallOf size u a b called → turns.CallOf size u a c also → (b ≡ c) × (called ≡ also)
+call_of_one : (size : Size) (u : ArchState) (a b c : Moment) (called also : Called) → turns.CallOf size u a b called → turns.CallOf size u a c also → (b ≡ c) × (called ≡ also)
 call_of_one size u a b c called also x y =
     elim (is_decided (listed a.table.states a.hart.id)) [
       | inl at ↦ (

@@ -6,7 +6,7 @@ use Rattle.std.proofs.lemmas.Grind.{get_or-set_at}
 use mathlib.Core.Logic.{dite}
 use native.Mathlib.Decide.{ℕ_discrete}
 use Rattle.board_model.specs.Shapes.{Size}
-use Rattle.hart.specs.State.{State, never_started}
+use Rattle.hart.specs.State.{ArchState, never_started}
 use Rattle.hsm_words.specs.declared.view.HartSeatView.{HartSeatView}
 use Rattle.hsm_words.specs.declared.view.HartView.{HartView}
 use Rattle.hsm_words.specs.declared.view.Stage.TheVariants.{Out, Running, Asleep}
@@ -38,17 +38,17 @@ one_shown one set harts s t is =
     ap (λ (l : List HartState). let r : TableState = record { states = l; pairs = pairs_in harts (pair_crew s) } in r) x
     ∙ ap (λ (p : List (List Bool)). let r : TableState = record { states = t.states; pairs = p } in r) y
 
-pub read_at : (harts : List State) (i id : ℕ) (x : State) → i ≡ id → id < length harts → x ≡ get_or harts i x → x ≡ get_or harts id (never_started id)
+pub read_at : (harts : List ArchState) (i id : ℕ) (x : ArchState) → i ≡ id → id < length harts → x ≡ get_or harts i x → x ≡ get_or harts id (never_started id)
 read_at harts i id x at lt e = e ∙ (ap (λ (k : ℕ). get_or harts k x) at ∙ get_or_default harts id x (never_started id) lt)
 
 -- the number of a hart that was read at its place
-pub numbered_at : (harts : List State) (id : ℕ) (x : State) → AreNumbered harts → id < length harts → x ≡ get_or harts id (never_started id) → x.id ≡ id
-numbered_at harts id x all lt e = ap (λ (s : State). s.id) e ∙ all id lt
+pub numbered_at : (harts : List ArchState) (id : ℕ) (x : ArchState) → AreNumbered harts → id < length harts → x ≡ get_or harts id (never_started id) → x.id ≡ id
+numbered_at harts id x all lt e = ap (λ (s : ArchState). s.id) e ∙ all id lt
 
-pub all_seats : (size : Size) (harts : List State) (t : Tables) (os : Option Seats) (s : Seats) → IsHeld size harts t os → os ≡ Some s → AreWhole size.harts t s
+pub all_seats : (size : Size) (harts : List ArchState) (t : Tables) (os : Option Seats) (s : Seats) → IsHeld size harts t os → os ≡ Some s → AreWhole size.harts t s
 all_seats size harts t os s held e = subst (λ (o : Option Seats). AreAllSeats size.harts t o) e held.seats
 
-pub seat_rests : (size : Size) (harts : List State) (t : Tables) (os : Option Seats) (s : Seats) (id : ℕ) (x : State) → IsHeld size harts t os → os ≡ Some s → id < length harts → x ≡ get_or harts id (never_started id) → Rests x.id s
+pub seat_rests : (size : Size) (harts : List ArchState) (t : Tables) (os : Option Seats) (s : Seats) (id : ℕ) (x : ArchState) → IsHeld size harts t os → os ≡ Some s → id < length harts → x ≡ get_or harts id (never_started id) → Rests x.id s
 seat_rests size harts t os s id x held e lt read =
     let a = all_seats size harts t os s held e in
     subst (λ (h : ℕ). Rests h s) (sym (numbered_at harts id x held.numbered lt read)) (a.rests id (subst (λ (n : ℕ). id < n) held.long lt))
@@ -65,10 +65,10 @@ abbrev pub Action : Type 1
 Action = Moment → Moment → Type 0
 
 -- with the seats of all harts it was done: whatever they show before it, they show what it makes of that
-abbrev pub DoneAlone : Action → ℕ → State → List ℕ → State → List ℕ → Seats → Seats → Type 0
+abbrev pub DoneAlone : Action → ℕ → ArchState → List ℕ → ArchState → List ℕ → Seats → Seats → Type 0
 DoneAlone Does harts x m y n s s' = (t : TableState) → IsTable harts s t → (t' : TableState) × Does (moment t x m) (moment t' y n) × IsTable harts s' t'
 
-module _ (size : Size) (harts : List State) (t : Tables) (os : Option Seats) (s s' : Seats) (i id : ℕ) (x y : State) (m n : List ℕ) (Does : Action)
+module _ (size : Size) (harts : List ArchState) (t : Tables) (os : Option Seats) (s s' : Seats) (i id : ℕ) (x y : ArchState) (m n : List ℕ) (Does : Action)
     (one : IsOneList) (set : IsOneSet) (held : IsHeld size harts t os) (taken : os ≡ Some s) (at : i ≡ id) (lt : id < length harts) (read : x ≡ get_or harts id (never_started id))
     (done : DoneAlone Does size.harts x m y n s s') where
   before : AreWhole size.harts t s
@@ -83,14 +83,14 @@ module _ (size : Size) (harts : List State) (t : Tables) (os : Option Seats) (s 
   did : Does (moment (shown_by size.harts s) x m) (moment (shown_by size.harts s') y n)
   did = subst (λ (l : TableState). Does (moment (shown_by size.harts s) x m) (moment l y n)) (sym shown_after) after.1
 
-  abbrev machine : TableState → List State → List ℕ → Machine
+  abbrev machine : TableState → List ArchState → List ℕ → Machine
   machine table all memory = record { size = size; memory = memory; harts = all; table = table }
 
   pub made : DoneBy Does id (record { size = size; memory = m; harts = harts; table = table_of size.harts os }) (record { size = size; memory = n; harts = slice_set harts i y; table = shown_by size.harts s' })
   made = (
     moment (shown_by size.harts s') y n,
     subst (λ (o : Option Seats). Does (moment (table_of size.harts o) (get_or harts id (never_started id)) m) (moment (shown_by size.harts s') y n)) (sym taken)
-        (subst (λ (z : State). Does (moment (shown_by size.harts s) z m) (moment (shown_by size.harts s') y n)) read did),
+        (subst (λ (z : ArchState). Does (moment (shown_by size.harts s) z m) (moment (shown_by size.harts s') y n)) read did),
     ap (λ (k : ℕ). machine (shown_by size.harts s') (slice_set harts k y) n) at,
   )
 
@@ -98,8 +98,8 @@ module _ (size : Size) (harts : List State) (t : Tables) (os : Option Seats) (s 
   numbered same h below =
       let long = subst (λ (k : ℕ). h < k) (length-set harts i y) below in
       dite (ℕ_discrete h i)
-      (λ hit. ap (λ (z : State). z.id) (get_or-set_at harts i h y (never_started h) hit (subst (λ (k : ℕ). k < length harts) (sym at) lt)) ∙ (same ∙ (numbered_at harts id x held.numbered lt read ∙ (sym at ∙ sym hit))))
-      (λ miss. ap (λ (z : State). z.id) (get_or-set_other harts i h y (never_started h) miss) ∙ held.numbered h long)
+      (λ hit. ap (λ (z : ArchState). z.id) (get_or-set_at harts i h y (never_started h) hit (subst (λ (k : ℕ). k < length harts) (sym at) lt)) ∙ (same ∙ (numbered_at harts id x held.numbered lt read ∙ (sym at ∙ sym hit))))
+      (λ miss. ap (λ (z : ArchState). z.id) (get_or-set_other harts i h y (never_started h) miss) ∙ held.numbered h long)
 
   whole_after : GivesBack t x.id s s' → Rests x.id s' → AreWhole size.harts t s'
   whole_after gives rests = record {

@@ -3,7 +3,7 @@ use Rattle.std.proofs.Common.{◌≡◌, ℕ, Bool, List, Option, Some, sym, ap,
 use Rattle.atomic_table.specs.declared.shared.Seat.{Seat}
 use Rattle.board_model.specs.Shapes.{Size}
 use Rattle.hsm_words.specs.declared.view.HartSeatView.{HartSeatView}
-use Rattle.hart.specs.State.{State}
+use Rattle.hart.specs.State.{ArchState}
 use Rattle.sbi_calls.specs.declared.tables.Tables.{Tables}
 use Rattle.sbi_calls.specs.declared.tables.Seats.{Seats}
 use Rattle.sbi_calls.specs.Both.{TableState, IsTable, GivesBack}
@@ -13,7 +13,7 @@ use Rattle.machine.specs.Machine.{Machine}
 use Rattle.machine.specs.Held.{shown_by, table_of, AreWhole, IsHeld}
 use Rattle.machine.proofs.Holding.{IsOneList, IsOneSet, one_shown, all_seats}
 
-module _ (size : Size) (memory : List ℕ) (harts : List State) (t : Tables) (os : Option Seats) (s s' : Seats) (n id : ℕ) (found : Bool) (one : IsOneList) (set : IsOneSet) (held : IsHeld size harts t os) (taken : os ≡ Some s)
+module _ (size : Size) (memory : List ℕ) (harts : List ArchState) (t : Tables) (os : Option Seats) (s s' : Seats) (n id : ℕ) (found : Bool) (one : IsOneList) (set : IsOneSet) (held : IsHeld size harts t os) (taken : os ≡ Some s)
     (many : n ≡ size.harts) (gives : GivesBack t id s s') (same : s'.harts ≡ s.harts) (looks : LooksAlone n id s s' found) where
   before : AreWhole size.harts t s
   before = all_seats size harts t os s held taken

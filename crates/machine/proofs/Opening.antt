@@ -6,7 +6,7 @@ use Rattle.std.proofs.lemmas.Grind.{get_or-set_at}
 use mathlib.Core.Logic.{dite}
 use native.Mathlib.Decide.{ℕ_discrete, dec_le}
 use Rattle.board_model.specs.Shapes.{Size, ram_bytes_of}
-use Rattle.hart.specs.State.{State, never_started}
+use Rattle.hart.specs.State.{ArchState, never_started}
 use Rattle.hsm_words.specs.declared.view.Stage.{Stage}
 use Rattle.hsm_words.specs.declared.view.Stage.TheVariants.{Out, Running}
 use Rattle.hsm_words.specs.declared.view.HartSeatView.{HartSeatView}
@@ -29,7 +29,7 @@ pub long : (n : ℕ) → length (stopped_harts n) ≡ n
 long zero = refl
 long (suc n) = length-append (stopped_harts n) (never_started n ∷ []) ∙ (let e = long n in omega arith)
 
-stopped_at : (n h : ℕ) (d : State) → h < n → get_or (stopped_harts n) h d ≡ never_started h
+stopped_at : (n h : ℕ) (d : ArchState) → h < n → get_or (stopped_harts n) h d ≡ never_started h
 stopped_at zero h d lt = absurd (omega (arith, lt))
 stopped_at (suc n) h d lt = elim (dec_le (suc h) n) [
   | yes l ↦ get_or_append_left (stopped_harts n) (never_started n ∷ []) d h (let e = long n in omega arith) ∙ stopped_at n h d l
@@ -39,7 +39,7 @@ stopped_at (suc n) h d lt = elim (dec_le (suc h) n) [
 ]
 
 pub stopped_numbered : (n : ℕ) → AreNumbered (stopped_harts n)
-stopped_numbered n h below = ap (λ (s : State). s.id) (stopped_at n h (never_started h) (subst (λ (k : ℕ). h < k) (long n) below))
+stopped_numbered n h below = ap (λ (s : ArchState). s.id) (stopped_at n h (never_started h) (subst (λ (k : ℕ). h < k) (long n) below))
 
 -- ---- the states
 opening_listed : (n first k : ℕ) → first < n → k < n → listed (only_first n first) k ≡ opening_states first k
@@ -104,16 +104,16 @@ module _ (size : Size) (t : Tables) (s : Seats) (first : ℕ) (one : IsOneList) 
     rests = λ h lt. rests_at_first first h s (made.stood h lt) (made.sits h lt);
   }
 
-  pub opening_held : (harts : List State) → harts ≡ stopped_harts size.harts → IsHeld size harts t (Some s)
+  pub opening_held : (harts : List ArchState) → harts ≡ stopped_harts size.harts → IsHeld size harts t (Some s)
   opening_held harts same = record {
-    long = ap (λ (hs : List State). length hs) same ∙ long size.harts;
+    long = ap (λ (hs : List ArchState). length hs) same ∙ long size.harts;
     numbered = subst AreNumbered (sym same) (stopped_numbered size.harts);
     tables = made.tables;
     seats = opening_whole;
   }
 
-  pub is_resting : (ram : List ℕ) (harts : List State) → ram ≡ replicate (ram_bytes_of size) 0 → harts ≡ stopped_harts size.harts → ◌≡◌ {A = Machine} (record { size = size; memory = ram; harts = harts; table = shown_by size.harts s }) (resting size first)
+  pub is_resting : (ram : List ℕ) (harts : List ArchState) → ram ≡ replicate (ram_bytes_of size) 0 → harts ≡ stopped_harts size.harts → ◌≡◌ {A = Machine} (record { size = size; memory = ram; harts = harts; table = shown_by size.harts s }) (resting size first)
   is_resting ram harts zeros same =
       ap (λ (m : List ℕ). let z : Machine = record { size = size; memory = m; harts = harts; table = shown_by size.harts s } in z) zeros
-      ∙ (ap (λ (hs : List State). let z : Machine = record { size = size; memory = replicate (ram_bytes_of size) 0; harts = hs; table = shown_by size.harts s } in z) same
+      ∙ (ap (λ (hs : List ArchState). let z : Machine = record { size = size; memory = replicate (ram_bytes_of size) 0; harts = hs; table = shown_by size.harts s } in z) same
       ∙ ap (λ (l : TableState). let z : Machine = record { size = size; memory = replicate (ram_bytes_of size) 0; harts = stopped_harts size.harts; table = l } in z) shows_it)

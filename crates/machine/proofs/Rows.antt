@@ -2,7 +2,7 @@
 use Rattle.std.proofs.Common.{◌≡◌, ◌⊎◌, ℕ, zero, suc, ◌+◌, ◌-◌, ◌<◌, ◌≤◌, Bool, true, false, true≢false, List, refl, sym, ap, ◌∙◌, subst, ⊎_elim, inl, inr, arith}
 use Rattle.std.specs.Prelude.{length}
 use Rattle.std.proofs.lemmas.List.{get_or-set_same, set-set, set-get_or}
-use Rattle.hart.specs.State.{State, never_started}
+use Rattle.hart.specs.State.{ArchState, never_started}
 use Rattle.turns.specs.declared.words.Turned.{Turned}
 use Rattle.turns.specs.declared.words.Turned.TheVariants.{Next}
 use Rattle.turns.specs.Turns.{Moment, moment, TurnOf}
@@ -41,13 +41,13 @@ AllNext h (suc n) old new = (mid : Machine) × AllNext h n old mid × Turns h mi
 
 -- a hart that stands so is read so, and replaced by the next
 read_back : (h : ℕ) (m : Machine) (a : Moment) → h < length m.harts → moment_of h (with_moment h m a) ≡ a
-read_back h m a lt = ap (λ (s : State). moment a.table s a.memory) (get_or-set_same m.harts h a.hart (never_started h) lt)
+read_back h m a lt = ap (λ (s : ArchState). moment a.table s a.memory) (get_or-set_same m.harts h a.hart (never_started h) lt)
 
 put_twice : (h : ℕ) (m : Machine) (a b : Moment) → with_moment h (with_moment h m a) b ≡ with_moment h m b
-put_twice h m a b = ap (λ (harts : List State). let r : Machine = record { size = m.size; memory = b.memory; harts = harts; table = b.table } in r) (set-set m.harts h a.hart b.hart)
+put_twice h m a b = ap (λ (harts : List ArchState). let r : Machine = record { size = m.size; memory = b.memory; harts = harts; table = b.table } in r) (set-set m.harts h a.hart b.hart)
 
 put_same : (h : ℕ) (m : Machine) → with_moment h m (moment_of h m) ≡ m
-put_same h m = ap (λ (harts : List State). let r : Machine = record { size = m.size; memory = m.memory; harts = harts; table = m.table } in r) (set-get_or m.harts h (never_started h))
+put_same h m = ap (λ (harts : List ArchState). let r : Machine = record { size = m.size; memory = m.memory; harts = harts; table = m.table } in r) (set-get_or m.harts h (never_started h))
 
 module _ (h : ℕ) (old : Machine) (lt : h < length old.harts) where
   one_more : (a b : Moment) (word : Turned) → TurnOf old.size a b word → Turns h (with_moment h old a) (with_moment h old b) word

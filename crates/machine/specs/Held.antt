@@ -1,7 +1,7 @@
 -- What a machine holds: both tables of a board of its shape, and the one seat of all harts in each.
 use Rattle.std.specs.Prelude.{◌≡◌, ℕ, ◌<◌, List, [], length, get_or, Option, Some, None}
 use Rattle.board_model.specs.Shapes.{Size}
-use Rattle.hart.specs.State.{State, never_started}
+use Rattle.hart.specs.State.{ArchState, never_started}
 use Rattle.hsm.specs.Seen.{states_in}
 use Rattle.ipi.specs.Seen.{pairs_in}
 use Rattle.sbi_calls.specs.declared.tables.Tables.{Tables}
@@ -29,10 +29,10 @@ abbrev pub AreAllSeats : ℕ → Tables → Option Seats → Type 0
 AreAllSeats harts t None = ⊥
 AreAllSeats harts t (Some s) = AreWhole harts t s
 
-abbrev pub AreNumbered : List State → Type 0
+abbrev pub AreNumbered : List ArchState → Type 0
 AreNumbered harts = (h : ℕ) → h < length harts → (get_or harts h (never_started h)).id ≡ h
 
-pub record IsHeld (size : Size) (harts : List State) (t : Tables) (held : Option Seats) : Type 0 where
+pub record IsHeld (size : Size) (harts : List ArchState) (t : Tables) (held : Option Seats) : Type 0 where
   pub long : length harts ≡ size.harts
   pub numbered : AreNumbered harts
   pub tables : AreTablesOf size t

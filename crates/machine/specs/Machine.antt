@@ -4,7 +4,7 @@ use Rattle.board_model.specs.Durable.{Image}
 use Rattle.board_model.specs.Shapes.{Size, ram_bytes_of}
 use Rattle.board_model.specs.Shown.{reason_number}
 use Rattle.board_model.specs.declared.durable.Reason.{Reason}
-use Rattle.hart.specs.State.{State, never_started, started as fresh}
+use Rattle.hart.specs.State.{ArchState, never_started, started as fresh}
 use Rattle.hsm_rule.specs.States.{HartState, stopped, started}
 use Rattle.hsm.specs.Seen.{listed}
 use Rattle.sbi_calls.specs.Both.{TableState}
@@ -14,10 +14,10 @@ use Rattle.sbi_calls.specs.Both.{TableState}
 pub record Machine : Type 0 where
   pub size : Size
   pub memory : List ℕ
-  pub harts : List State
+  pub harts : List ArchState
   pub table : TableState
 
-abbrev pub hart_at : Machine → ℕ → State
+abbrev pub hart_at : Machine → ℕ → ArchState
 hart_at m h = get_or m.harts h (never_started h)
 
 -- a hart that the board lacks is stopped
@@ -25,7 +25,7 @@ abbrev pub state_at : Machine → ℕ → HartState
 state_at m h = listed m.table.states h
 
 -- the harts 0 to n - 1, none of which ever ran
-abbrev pub stopped_harts : ℕ → List State
+abbrev pub stopped_harts : ℕ → List ArchState
 stopped_harts zero = []
 stopped_harts (suc n) = stopped_harts n ++ never_started n ∷ []
 

@@ -1,7 +1,7 @@
 -- Turns of a hart, and calls that are made in its place. Source: docs/BOARD.md; SBI specification 2.0, chapters 3 and 9.
 use Rattle.std.specs.Prelude.{◌≡◌, ◌⊎◌, ℕ, zero, suc, Bool, true, false, List, slice_set}
 use Rattle.board_model.specs.Shapes.{Size}
-use Rattle.hart.specs.State.{State, put}
+use Rattle.hart.specs.State.{ArchState, put}
 use Rattle.hart.specs.declared.Outcome.TheVariants.{Ecall}
 use Rattle.hsm_rule.specs.States.{started}
 use Rattle.hsm.specs.Seen.{listed}
@@ -58,16 +58,16 @@ TurnsMany h (suc n) old new made word =
 
 -- ---- a call that is made in the place of a hart
 -- the registers of a call: the extension in a7, the function in a6, the arguments in a0 to a2
-abbrev pub calling : State → ℕ → ℕ → ℕ → ℕ → ℕ → State
+abbrev pub calling : ArchState → ℕ → ℕ → ℕ → ℕ → ℕ → ArchState
 calling s eid fid a0 a1 a2 = put (put (put (put (put s 10 a0) 11 a1) 12 a2) 16 fid) 17 eid
 
 -- the call of a hart that then stands as u at an ECALL: none where the hart is not STARTED
-pub record CallOf (size : Size) (u : State) (a b : Moment) (called : Called) : Type 0 where
+pub record CallOf (size : Size) (u : ArchState) (a b : Moment) (called : Called) : Type 0 where
   pub made : listed a.table.states a.hart.id ≡ started → (word : Turned) × Finishes size Ecall a.table u b.table b.hart word × (b.memory ≡ a.memory) × (called ≡ Made word)
   pub not_started : (listed a.table.states a.hart.id ≡ started → ⊥) → (b ≡ a) × (called ≡ NotStarted)
 
 -- with the one seat of all harts
-abbrev pub MakesCallAlone : Size → State → State → State → List ℕ → Seats → Seats → Called → Type 0
+abbrev pub MakesCallAlone : Size → ArchState → ArchState → ArchState → List ℕ → Seats → Seats → Called → Type 0
 MakesCallAlone size s u t m before after called = (x : TableState) → IsTable size.harts before x
     → (y : TableState) × CallOf size u (moment x s m) (moment y t m) called × IsTable size.harts after y
 

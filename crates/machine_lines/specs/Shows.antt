@@ -1,7 +1,7 @@
 -- What the lines that show a board's memory and harts say, and what a line of turns makes of them. A line whose hart or whose
 -- bytes the board lacks says `off`, and does nothing. Source: docs/SCRIPT.md.
 use Rattle.std.specs.Prelude.{◌≡◌, ◌≢◌, ℕ, zero, suc, ◌+◌, ◌-◌, ◌^◌, ◌<◌, ◌≤◌, ◌++◌, Bool, Option, Some, None, length, replicate, slice_range, nat_lt, nat_le, ◌&&◌, if◌then◌else◌}
-use Rattle.hart.specs.State.{State, reg}
+use Rattle.hart.specs.State.{ArchState, reg}
 use Rattle.hart.specs.Csrs.{csr_number, csr_read}
 use Rattle.hart.specs.declared.csr.Csr.{Csr}
 use Rattle.machine.specs.Machine.{Machine, hart_at}
@@ -26,7 +26,7 @@ pub record TurnsLine (h n : ℕ) (old new : Machine) (line : MachineLine) : Type
   pub none : n ≡ 0 → (new ≡ old) × (line ≡ lines.Off)
 
 -- what a call that was made says of its hart: one that was answered shows the answer
-abbrev pub own_line : ℕ → State → Turned → MachineLine
+abbrev pub own_line : ℕ → ArchState → Turned → MachineLine
 own_line h s Next = lines.Answered h (reg s 10) (reg s 11)
 own_line h s Idle = lines.Called h (Own Idle)
 own_line h s Entered = lines.Called h (Own Entered)
@@ -35,13 +35,13 @@ own_line h s Suspended = lines.Called h (Own Suspended)
 own_line h s Stopped = lines.Called h (Own Stopped)
 own_line h s Durable = lines.Called h (Own Durable)
 
-abbrev pub made_line : ℕ → State → Word → MachineLine
+abbrev pub made_line : ℕ → ArchState → Word → MachineLine
 made_line h s (Own did) = own_line h s did
 made_line h s Asleep = lines.Called h Asleep
 made_line h s (Reset kind) = lines.Called h (Reset kind)
 
 -- none was made where the hart is not STARTED
-abbrev pub called_line : ℕ → State → Option Word → MachineLine
+abbrev pub called_line : ℕ → ArchState → Option Word → MachineLine
 called_line h s None = lines.NotStarted h
 called_line h s (Some word) = made_line h s word
 

@@ -5,7 +5,7 @@ use Rattle.board_model.specs.declared.durable.Reason.{Reason}
 use Rattle.board_model.specs.declared.refusal.Refusal.{Refusal}
 use Rattle.disk.specs.declared.device.Disk.{Ghosts}
 use Rattle.disk.specs.declared.device.Lane.{Ghosts as Lanes}
-use Rattle.hart.specs.State.{State, answered}
+use Rattle.hart.specs.State.{ArchState, answered}
 use Rattle.hsm.specs.Seen.{listed}
 use Rattle.hsm_words.specs.declared.view.Stage.{Stage}
 use Rattle.hsm_words.specs.declared.view.Stage.TheVariants.{Running, Quiet}
@@ -26,16 +26,16 @@ use Rattle.sbi.specs.declared.dispatches.Held.TheVariants as helds
 use Rattle.sbi.specs.Resets.{reset_of}
 
 -- the hart finds the error, and goes on
-abbrev pub Refuses : SbiError → State → State → Held → Type 0
+abbrev pub Refuses : SbiError → ArchState → ArchState → Held → Type 0
 Refuses e s t held = (t ≡ answered s (error_of (Err e)) 0) × (held ≡ helds.Goes)
 
 -- what a reset comes to: acknowledged, it does not return; refused by the store, it is answered -1
-abbrev pub EndsReset : ResetType → Result ℕ Refusal → State → State → Held → Type 0
+abbrev pub EndsReset : ResetType → Result ℕ Refusal → ArchState → ArchState → Held → Type 0
 EndsReset kind (Ok n) s t held = (t ≡ s) × (held ≡ helds.Reset kind)
 EndsReset kind (Err e) s t held = Refuses Failed s t held
 
 -- and a suspend, by the error that it was refused with
-abbrev pub EndsSleep : Option SbiError → State → State → Held → Type 0
+abbrev pub EndsSleep : Option SbiError → ArchState → ArchState → Held → Type 0
 EndsSleep None s t held = (t ≡ s) × (held ≡ helds.Asleep)
 EndsSleep (Some e) s t held = Refuses e s t held
 
@@ -47,34 +47,34 @@ stage_by (helds.Reset kind) = Running
 
 module _ {D L : Type 0} {g : Ghosts D L} {l : Lanes L} where
   -- a reset whose arguments were checked so
-  abbrev pub MakesReset : Result (ResetType × Reason) SbiError → State → State → Store D L g l → Store D L g l → Held → Type 0
+  abbrev pub MakesReset : Result (ResetType × Reason) SbiError → ArchState → ArchState → Store D L g l → Store D L g l → Held → Type 0
   MakesReset (Err e) s t old new held = Refuses e s t held × (new ≡ old)
   MakesReset (Ok reset) s t old new held = (r : Result ℕ Refusal) × Asked Applied old (Reset reset.1) r new × EndsReset reset.0 r s t held
 
   -- a suspend with this memory: its own steps, whatever other harts do
-  abbrev pub MakesSleep : ℕ → List ℕ → ℕ → ℕ → ℕ → State → State → Known → Known → Store D L g l → Store D L g l → Held → Type 0
+  abbrev pub MakesSleep : ℕ → List ℕ → ℕ → ℕ → ℕ → ArchState → ArchState → Known → Known → Store D L g l → Store D L g l → Held → Type 0
   MakesSleep harts memory kind address opaque s t k k' old new held =
       (error : Option SbiError) × Sleeps harts s.id kind address opaque memory k.harts old error k'.harts new × (k'.pairs ≡ k.pairs) × EndsSleep error s t held
 
   -- the call at which the hart s stands, which then is t
-  abbrev pub MakesHeld : ℕ → List ℕ → Call → State → State → Known → Known → Store D L g l → Store D L g l → Held → Type 0
+  abbrev pub MakesHeld : ℕ → List ℕ → Call → ArchState → ArchState → Known → Known → Store D L g l → Store D L g l → Held → Type 0
   MakesHeld harts memory (calls.SystemReset kind reason) s t k k' old new held = MakesReset (reset_of kind reason) s t old new held × (k' ≡ k)
   MakesHeld harts memory (calls.SystemSuspend kind address opaque) s t k k' old new held = MakesSleep harts memory kind address opaque s t k k' old new held
   MakesHeld harts memory call s t k k' old new held = Refuses NotSupported s t held × (new ≡ old) × (k' ≡ k)
 
   -- ---- with the one seat of all harts: by the states of the tables, which stay
-  abbrev pub SleepsIn : ℕ → List ℕ → ℕ → ℕ → ℕ → State → State → TableState → Store D L g l → Store D L g l → Held → Type 0
+  abbrev pub SleepsIn : ℕ → List ℕ → ℕ → ℕ → ℕ → ArchState → ArchState → TableState → Store D L g l → Store D L g l → Held → Type 0
   SleepsIn harts memory kind address opaque s t x old new held =
       (error : Option SbiError) × SleepsAlone harts s.id kind address opaque memory (listed x.states) old error new × EndsSleep error s t held
 
-  abbrev pub SleptAlone : ℕ → List ℕ → ℕ → ℕ → ℕ → State → State → Seats → Seats → Store D L g l → Store D L g l → Held → Type 0
+  abbrev pub SleptAlone : ℕ → List ℕ → ℕ → ℕ → ℕ → ArchState → ArchState → Seats → Seats → Store D L g l → Store D L g l → Held → Type 0
   SleptAlone harts memory kind address opaque s t seats seats' old new held = (x : TableState) → IsTable harts seats x
       → SleepsIn harts memory kind address opaque s t x old new held × IsTable harts seats' x
 
-  abbrev pub HeldIn : ℕ → List ℕ → Call → State → State → TableState → Store D L g l → Store D L g l → Held → Type 0
+  abbrev pub HeldIn : ℕ → List ℕ → Call → ArchState → ArchState → TableState → Store D L g l → Store D L g l → Held → Type 0
   HeldIn harts memory (calls.SystemReset kind reason) s t x old new held = MakesReset (reset_of kind reason) s t old new held
   HeldIn harts memory (calls.SystemSuspend kind address opaque) s t x old new held = SleepsIn harts memory kind address opaque s t x old new held
   HeldIn harts memory call s t x old new held = Refuses NotSupported s t held × (new ≡ old)
 
-  abbrev pub HeldAlone : ℕ → List ℕ → Call → State → State → Seats → Seats → Store D L g l → Store D L g l → Held → Type 0
+  abbrev pub HeldAlone : ℕ → List ℕ → Call → ArchState → ArchState → Seats → Seats → Store D L g l → Store D L g l → Held → Type 0
   HeldAlone harts memory call s t seats seats' old new held = (x : TableState) → IsTable harts seats x → HeldIn harts memory call s t x old new held × IsTable harts seats' x

@@ -4,7 +4,7 @@ use Rattle.std.specs.Prelude.{◌≡◌, ℕ, Bool, true, List, map, length, sli
 use Rattle.std.specs.Int.{bit_at}
 use Rattle.board_model.specs.Shapes.{Size}
 use Rattle.tallies.specs.Seats.{numbers_from}
-use Rattle.hart.specs.State.{State, answered, started as fresh}
+use Rattle.hart.specs.State.{ArchState, answered, started as fresh}
 use Rattle.hsm_words.specs.declared.view.Stage.{Stage}
 use Rattle.hsm_words.specs.declared.view.Stage.TheVariants.{Out, Running, Asleep}
 use Rattle.hsm_rule.specs.States.{HartState, stopped, suspended, is_stopped, grant}
@@ -65,7 +65,7 @@ abbrev pub answer : Size → ℕ → Call → TableState → Row
 answer size by call t = row by (request_of size call) t
 
 -- ---- what an ending makes of the calling hart, and what the firmware is told
-abbrev pub Ends : Ending → State → State → After → Type 0
+abbrev pub Ends : Ending → ArchState → ArchState → After → Type 0
 Ends (Answers a) old new after = (new ≡ answered old (error_of a) (value_of a)) × (after ≡ afters.Goes)
 Ends Stops old new after = (new ≡ old) × (after ≡ afters.Stopped)
 Ends Suspends old new after = (new ≡ answered old 0 0) × (after ≡ afters.Suspended)
@@ -92,6 +92,6 @@ abbrev pub DoesAlone : ℕ → ℕ → Checked → Seats → Seats → Ending �
 DoesAlone harts by asked s s' end = (t : TableState) → IsTable harts s t → (end ≡ (row by asked t).ending) × IsTable harts s' (row by asked t).table
 
 -- whatever the tables are, the call at which the hart stood was answered by the table of answers
-abbrev pub CallsAlone : Size → State → State → Seats → Seats → After → Type 0
+abbrev pub CallsAlone : Size → ArchState → ArchState → Seats → Seats → After → Type 0
 CallsAlone size old new s s' after = (t : TableState) → IsTable size.harts s t
     → Ends (answer size old.id (call_of old) t).ending old new after × IsTable size.harts s' (answer size old.id (call_of old) t).table

@@ -1,7 +1,7 @@
 -- A call's own steps, and its ending by what they found, whatever the other threads do. Source: docs/TABLES.md, docs/SBI.md.
 use Rattle.std.specs.Prelude.{◌≡◌, ℕ, zero, suc, Bool, List, Ok, Err}
 use Rattle.board_model.specs.Shapes.{Size}
-use Rattle.hart.specs.State.{State}
+use Rattle.hart.specs.State.{ArchState}
 use Rattle.hsm_words.specs.declared.view.Stage.{Stage}
 use Rattle.hsm_words.specs.declared.view.Stage.TheVariants.{Out, Asleep}
 use Rattle.hsm_words.specs.declared.view.Action.{Action}
@@ -49,5 +49,5 @@ Does harts by (Ok (Send targets)) k k' end = (k'.harts ≡ k.harts) × Sends by 
 Does harts by (Ok Command) k k' end = (k' ≡ k) × (end ≡ Defers)
 
 -- the call at which the hart stood made its own steps, and ended by what they found
-abbrev pub Calls : Size → State → State → Known → Known → After → Type 0
+abbrev pub Calls : Size → ArchState → ArchState → Known → Known → After → Type 0
 Calls size old new k k' after = (end : Ending) × Does size.harts old.id (request_of size (call_of old)) k k' end × Ends end old new after

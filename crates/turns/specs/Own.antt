@@ -3,7 +3,7 @@
 use Rattle.std.specs.Prelude.{◌≡◌, ◌↔◌, ℕ, Bool, true, false, IsTrue, List}
 use Rattle.std.specs.Int.{bit_at}
 use Rattle.board_model.specs.Shapes.{Size}
-use Rattle.hart.specs.State.{State, started as fresh}
+use Rattle.hart.specs.State.{ArchState, started as fresh}
 use Rattle.hart.specs.Means.{Steps}
 use Rattle.hart.specs.declared.Outcome.{Outcome}
 use Rattle.hart.specs.declared.Outcome.TheVariants as outcomes
@@ -57,17 +57,17 @@ abbrev pub BeginsOwn : ℕ → Known → Known → Ready → Type 0
 BeginsOwn by k k' ready = (found : ℕ) × (mid : Known) × OneStep by (stage_of by k.harts) (Looked found) k mid × GoesOwn by (state_of by found) mid k' ready
 
 -- ---- after the step
-abbrev pub FinishesOwn : Size → Outcome → State → State → Known → Known → Turned → Type 0
+abbrev pub FinishesOwn : Size → Outcome → ArchState → ArchState → Known → Known → Turned → Type 0
 FinishesOwn size outcomes.Next u v k k' word = (k' ≡ k) × (v ≡ u) × (word ≡ words.Next)
 FinishesOwn size outcomes.TakePending u v k k' word = TakesOwn u.id k k' × (v ≡ u) × (word ≡ words.Next)
 FinishesOwn size outcomes.Ecall u v k k' word = (after : After) × Calls size u v k k' after × (word ≡ turned_by after)
 
 -- ---- a whole turn
-abbrev pub TurnAsOwn : Size → Ready → State → List ℕ → State → List ℕ → Known → Known → Turned → Type 0
+abbrev pub TurnAsOwn : Size → Ready → ArchState → List ℕ → ArchState → List ℕ → Known → Known → Turned → Type 0
 TurnAsOwn size readies.Idle s m t n k k' word = (t ≡ s) × (n ≡ m) × (k' ≡ k) × (word ≡ words.Idle)
 TurnAsOwn size readies.Woke s m t n k k' word = (t ≡ s) × (n ≡ m) × (k' ≡ k) × (word ≡ words.Woke)
 TurnAsOwn size (readies.Enters a o) s m t n k k' word = (t ≡ fresh s.id a o) × (n ≡ m) × (k' ≡ k) × (word ≡ words.Entered)
-TurnAsOwn size (readies.Steps pending) s m t n k k' word = (u : State) × (outcome : Outcome) × Steps pending s m u n outcome × FinishesOwn size outcome u t k k' word
+TurnAsOwn size (readies.Steps pending) s m t n k k' word = (u : ArchState) × (outcome : Outcome) × Steps pending s m u n outcome × FinishesOwn size outcome u t k k' word
 
-abbrev pub TurnOwn : Size → State → List ℕ → State → List ℕ → Known → Known → Turned → Type 0
+abbrev pub TurnOwn : Size → ArchState → List ℕ → ArchState → List ℕ → Known → Known → Turned → Type 0
 TurnOwn size s m t n k k' word = (ready : Ready) × (mid : Known) × BeginsOwn s.id k mid ready × TurnAsOwn size ready s m t n mid k' word

@@ -1,7 +1,7 @@
 -- One turn of a hart. Source: docs/BOARD.md, "A turn of a hart"; SBI specification 2.0, chapter 9.
 use Rattle.std.specs.Prelude.{◌≡◌, ◌⊎◌, ℕ, Bool, true, false, List, [], ◌∷◌, if◌then◌else◌}
 use Rattle.board_model.specs.Shapes.{Size}
-use Rattle.hart.specs.State.{State, started as fresh}
+use Rattle.hart.specs.State.{ArchState, started as fresh}
 use Rattle.hart.specs.Means.{Steps}
 use Rattle.hart.specs.declared.Outcome.{Outcome}
 use Rattle.hart.specs.declared.Outcome.TheVariants as outcomes
@@ -100,23 +100,23 @@ turned_by afters.Suspended = words.Suspended
 turned_by afters.Durable = words.Durable
 
 -- the hart u and the tables x, once the step answered that, become v and y
-abbrev pub Finishes : Size → Outcome → TableState → State → TableState → State → Turned → Type 0
+abbrev pub Finishes : Size → Outcome → TableState → ArchState → TableState → ArchState → Turned → Type 0
 Finishes size outcomes.Next x u y v word = (y ≡ x) × (v ≡ u) × (word ≡ words.Next)
 Finishes size outcomes.TakePending x u y v word = (y ≡ taken x u.id) × (v ≡ u) × (word ≡ words.Next)
 Finishes size outcomes.Ecall x u y v word =
     (after : After) × Ends (answer size u.id (call_of u) x).ending u v after × (y ≡ (answer size u.id (call_of u) x).table) × (word ≡ turned_by after)
 
-abbrev pub FinishesAlone : Size → Outcome → State → State → Seats → Seats → Turned → Type 0
+abbrev pub FinishesAlone : Size → Outcome → ArchState → ArchState → Seats → Seats → Turned → Type 0
 FinishesAlone size outcome u v s s' word = (x : TableState) → IsTable size.harts s x → (y : TableState) × Finishes size outcome x u y v word × IsTable size.harts s' y
 
 -- ---- a whole turn
 -- a hart, its board's tables and the memory, at one moment
 pub record Moment : Type 0 where
   pub table : TableState
-  pub hart : State
+  pub hart : ArchState
   pub memory : List ℕ
 
-abbrev pub moment : TableState → State → List ℕ → Moment
+abbrev pub moment : TableState → ArchState → List ℕ → Moment
 moment t s m = record { table = t; hart = s; memory = m }
 
 -- by what the turn came to before the step
@@ -125,13 +125,13 @@ TurnAs size readies.Idle x a b word = (b ≡ record a { table = x }) × (word �
 TurnAs size readies.Woke x a b word = (b ≡ record a { table = x }) × (word ≡ words.Woke)
 TurnAs size (readies.Enters site opaque) x a b word = (b ≡ record a { table = x; hart = fresh a.hart.id site opaque }) × (word ≡ words.Entered)
 TurnAs size (readies.Steps pending) x a b word =
-    (u : State) × (outcome : Outcome) × Steps pending a.hart a.memory u b.memory outcome × Finishes size outcome x u b.table b.hart word
+    (u : ArchState) × (outcome : Outcome) × Steps pending a.hart a.memory u b.memory outcome × Finishes size outcome x u b.table b.hart word
 
 -- what a turn of the hart makes of a moment, and what is said of it
 abbrev pub TurnOf : Size → Moment → Moment → Turned → Type 0
 TurnOf size a b word = TurnAs size (begun a.hart.id a.table).ready (begun a.hart.id a.table).table a b word
 
 -- with the one seat of all harts
-abbrev pub TurnsAlone : Size → State → List ℕ → State → List ℕ → Seats → Seats → Turned → Type 0
+abbrev pub TurnsAlone : Size → ArchState → List ℕ → ArchState → List ℕ → Seats → Seats → Turned → Type 0
 TurnsAlone size s m t n before after word = (x : TableState) → IsTable size.harts before x
     → (y : TableState) × TurnOf size (moment x s m) (moment y t n) word × IsTable size.harts after y

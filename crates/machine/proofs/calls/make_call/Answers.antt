@@ -1,5 +1,5 @@
 use Rattle.std.proofs.Common.{◌≡◌, ◌<◌, ℕ, refl, sym, ap, ◌∙◌, subst}
-use Rattle.hart.specs.State.{State}
+use Rattle.hart.specs.State.{ArchState}
 use Rattle.hsm_steps.specs.Seating.{harts_in}
 use Rattle.hsm_words.specs.declared.view.Stage.TheVariants.{Running}
 use Rattle.hsm_rule.specs.Rule.{stands}
@@ -16,14 +16,14 @@ status-harts-requires-clause-acts c = subst (λ (h : ℕ). Sits h (views c.args.
 
 pub finish-seats-requires-clause-acts : goal.finish-seats-requires-clause-acts
 finish-seats-requires-clause-acts c =
-    let id : c.set_registers.new.hart.id ≡ c.args.hart.now.id = ap (λ (s : State). s.id) c.set_registers.ensures in
+    let id : c.set_registers.new.hart.id ≡ c.args.hart.now.id = ap (λ (s : ArchState). s.id) c.set_registers.ensures in
     let rest = subst (λ (h : ℕ). RestsAt h (views c.args.seats)) (sym c.id-by.ensures) c.requires.rests.0 in
     let run = c.status-harts.ensures.stays.stages _ _ (runs c.id-by.result (views c.args.seats) c.status-harts.result.1 c.status-harts.ensures.fresh rest c.in-Started.is) in
     (subst (λ (h : ℕ). stands h Running (harts_in c.status-harts.result.0)) (c.id-by.ensures ∙ sym id) run, subst (λ (h : ℕ). SitsIn h (pair_crew c.args.seats)) (sym id) c.requires.rests.1)
 
 pub returns-in-Started-clause-gives : goal.returns-in-Started-clause-gives
 returns-in-Started-clause-gives c =
-    let id : c.set_registers.new.hart.id ≡ c.args.hart.now.id = ap (λ (s : State). s.id) c.set_registers.ensures in
+    let id : c.set_registers.new.hart.id ≡ c.args.hart.now.id = ap (λ (s : ArchState). s.id) c.set_registers.ensures in
     given_then c.args.hart.now.id c.args.seats c.status-harts.result.0 c.finish-seats.result.0 c.status-harts.ensures.stays
     (subst (λ (k : ℕ). GivesBack c.args.tables.now k (with_harts c.args.seats c.status-harts.result.0) c.finish-seats.result.0) id c.finish-seats.ensures.gives)
 

@@ -1,6 +1,6 @@
 use Rattle.std.proofs.Common.{◌≡◌, ℕ, ap, sym, ◌∙◌, subst}
 use Rattle.board_model.specs.Shapes.{Size}
-use Rattle.hart.specs.State.{State}
+use Rattle.hart.specs.State.{ArchState}
 use Rattle.sbi_abi.specs.Calls.{call_of}
 use Rattle.sbi_calls.specs.declared.tables.Seats.{Seats}
 use Rattle.sbi_calls.specs.declared.endings.Ending.{Ending}
@@ -11,7 +11,7 @@ use Rattle.sbi_calls.specs.Answers.{Row, row, answer, Ends, DoesAlone, CallsAlon
 use Rattle.sbi_calls.proofs.dispatches.dispatch.Goals as goal
 
 -- with the numbers by other names
-answered : (n by : ℕ) (size : Size) (asked : Checked) (old new : State) (s s' : Seats) (end : Ending) (after : After)
+answered : (n by : ℕ) (size : Size) (asked : Checked) (old new : ArchState) (s s' : Seats) (end : Ending) (after : After)
     → n ≡ size.harts → by ≡ old.id → asked ≡ request_of size (call_of old) → DoesAlone n by asked s s' end → Ends end old new after → CallsAlone size old new s s' after
 answered n by size asked old new s s' end after e f g does ends t are =
     let a = does t (subst (λ (k : ℕ). IsTable k s t) (sym e) are) in
