@@ -1,7 +1,7 @@
 -- The clauses of the layers below, in the words that the bench's lemmas use.
 use Rattle.std.proofs.Common.{◌≡◌, ◌≢◌, ◌⊎◌, ◌<◌, ℕ, ◌+◌, inl, inr, refl, sym, ◌∙◌, ap, subst, arith, List, [], ◌∷◌, ◌++◌, length, Some, None, Ok, true, false}
 use Rattle.std.proofs.lemmas.List.{length-append}
-use Rattle.board_model.specs.Durable.{State, Change, refusal_of, after, fold, ends_life}
+use Rattle.board_model.specs.Durable.{DurableState, Change, refusal_of, after, fold, ends_life}
 use Rattle.board_model.specs.Shapes.{Size}
 use Rattle.board_model.specs.Shown.{number_of}
 use Rattle.board_model.specs.declared.refusal.Refusal.{Refusal}
@@ -27,28 +27,28 @@ calm Down m n h up is = absurd (up refl)
 calm e m n h up is = h
 
 -- the command may reach the disk: fewer than 4,096 were acknowledged, and the table doesn't refuse it
-abbrev pub Reaches : State → ℕ → Change → Type 0
+abbrev pub Reaches : DurableState → ℕ → Change → Type 0
 Reaches now count c = (count < 4096) × (refusal_of now c ≡ None)
 
 -- what an acknowledged command did, from a life that is seen as `now` after `count` commands with none in doubt
-abbrev pub Acknowledges : State → ℕ → Change → ℕ → Life → Type 0
+abbrev pub Acknowledges : DurableState → ℕ → Change → ℕ → Life → Type 0
 Acknowledges now count c n new = Reaches now count c × (n ≡ count + 1) × IsLife new (after now c) (count + 1) None
 
 -- the same of one that was refused
-abbrev pub Refuses : State → ℕ → Change → Refusal → Life → Type 0
+abbrev pub Refuses : DurableState → ℕ → Change → Refusal → Life → Type 0
 Refuses now count c e new =
     ((e ≡ Device) × Reaches now count c × IsLife new now count None)
     ⊎ ((e ≡ Down) × Reaches now count c × IsLife new now count (Some c))
     ⊎ ((e ≡ JournalFull) × (count ≡ 4096) × IsLife new now count None)
     ⊎ ((refusal_of now c ≡ Some (number_of e)) × (count < 4096) × IsLife new now count None)
 
-pub grows : (s : State) (cs : List Change) (c : Change) → fold s (cs ++ c ∷ []) ≡ after (fold s cs) c
+pub grows : (s : DurableState) (cs : List Change) (c : Change) → fold s (cs ++ c ∷ []) ≡ after (fold s cs) c
 grows s [] c = refl
 grows s (d ∷ cs) c = grows (after s d) cs c
 
-module _ (now : State) (count : ℕ) (c : Change) (old new : Life) (is : IsLife old now count None) where
+module _ (now : DurableState) (count : ℕ) (c : Change) (old new : Life) (is : IsLife old now count None) where
   reaches : (length old.journal < 4096) → (refusal_of (now_of old) c ≡ None) → Reaches now count c
-  reaches few table = let P : State → Type 0 = λ s. refusal_of s c ≡ None in (omega (arith, few, is.1), subst P is.0 table)
+  reaches few table = let P : DurableState → Type 0 = λ s. refusal_of s c ≡ None in (omega (arith, few, is.1), subst P is.0 table)
 
   again : new ≡ old → IsLife new now count None
   again e = let P : Life → Type 0 = λ l. IsLife l now count None in subst P (sym e) is
@@ -78,7 +78,7 @@ module _ (now : State) (count : ℕ) (c : Change) (old new : Life) (is : IsLife 
   refused e (inr (inr (inl h))) = absurd (let never : true ≡ false = sym h.1 ∙ is.3 in let no : ⊥ = cc in no)
   refused e (inr (inr (inr (inl h)))) = inr (inr (inl (h.0, sym is.1 ∙ h.2, again h.3)))
   refused e (inr (inr (inr (inr h)))) =
-      let P : State → Type 0 = λ s. refusal_of s c ≡ Some (number_of e) in
+      let P : DurableState → Type 0 = λ s. refusal_of s c ≡ Some (number_of e) in
       inr (inr (inr (subst P is.0 h.0, omega (arith, h.2, is.1), again h.3)))
 
 -- a format or an open that answered 5 counted a failure, and neither answers 6

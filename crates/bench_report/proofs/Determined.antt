@@ -1,7 +1,7 @@
 -- Where memory was never refused and no failure was answered, two runs of the same lines answer the same: commands and power on.
 use Rattle.std.proofs.Common.{◌≡◌, ◌⊎◌, ℕ, ◌+◌, ◌<◌, inl, inr, List, [], ◌∷◌, Option, None, Some, IfSome, Result, Ok, Err, length, refl, sym, ◌∙◌, ap, subst, arith}
 use Rattle.std.specs.Bool.{⊤}
-use Rattle.board_model.specs.Durable.{State, Image, Change, Consume, IsWhole, refusal_of}
+use Rattle.board_model.specs.Durable.{DurableState, Image, Change, Consume, IsWhole, refusal_of}
 use Rattle.board_model.specs.Kept.{Kept, found_of, MayKeep, TakesIn}
 use Rattle.board_model.specs.Shapes.{Size, ram_bytes_of}
 use Rattle.board_model.specs.Shown.{durable_of}
@@ -151,27 +151,27 @@ formats Formatted b a z new last calm (inr h) k = inl (hinders b new h.1)
 formats Formatted b a z new last calm (inl h) (inr k) = inr (inl (hinders b last k.1))
 
 -- ---- power on
-on_fair : (o : Result ℕ ℕ) (mode : BootMode) (z : Size) (s : State) (b : Bench) (line : Printed) (new : Bench) → IsOn o mode z s b line new → Fair b new
+on_fair : (o : Result ℕ ℕ) (mode : BootMode) (z : Size) (s : DurableState) (b : Bench) (line : Printed) (new : Bench) → IsOn o mode z s b line new → Fair b new
 on_fair (Ok n) mode z s b line new (life, on, said, m, boots, e) = fair_to b new (on_with (has_machine m life) b) e (λ s. s, λ c. inr c)
 on_fair (Err n) mode z s b line new x = fair_to b new (off b) x.1 (λ s. s, λ c. inr c)
 
-slot_fair : (mode : BootMode) (z : Size) (s : State) (b : Bench) (line : Printed) (new : Bench) → BootsFrom mode z s b line new → Fair b new
+slot_fair : (mode : BootMode) (z : Size) (s : DurableState) (b : Bench) (line : Printed) (new : Bench) → BootsFrom mode z s b line new → Fair b new
 slot_fair mode z s b line new (o, mid, h, on) =
     let start : Bench = on_with (begun s z) b in
     let one : Fair start new = fair_then start mid new (all_fair (commands_of mode) start o mid h) (on_fair o mode z s mid line new on) in
     (λ s. one.0 s, λ c. one.1 c)
 
-resumes_fair : (z : Size) (s : State) (b : Bench) (line : Printed) (new : Bench) → Resumes z s b line new → Fair b new
+resumes_fair : (z : Size) (s : DurableState) (b : Bench) (line : Printed) (new : Bench) → Resumes z s b line new → Fair b new
 resumes_fair z s b line new (inl h) = slot_fair modes.Resume z s b line new h
 resumes_fair z s b line new (inr h) = unmoved b new h.2
 
-begins_fair : (mode : BootMode) (z : Size) (s : State) (b : Bench) (line : Printed) (new : Bench) → Begins mode z s b line new → Fair b new
+begins_fair : (mode : BootMode) (z : Size) (s : DurableState) (b : Bench) (line : Printed) (new : Bench) → Begins mode z s b line new → Fair b new
 begins_fair modes.Fresh z s b line new h = slot_fair modes.Fresh z s b line new h
 begins_fair modes.Keep z s b line new h = slot_fair modes.Keep z s b line new h
 begins_fair modes.Discard z s b line new h = slot_fair modes.Discard z s b line new h
 begins_fair modes.Resume z s b line new h = resumes_fair z s b line new h
 
-boots_fair : (r : Option ℕ) (mode : BootMode) (z : Size) (s : State) (b : Bench) (line : Printed) (new : Bench) → Boots r mode z s b line new → Fair b new
+boots_fair : (r : Option ℕ) (mode : BootMode) (z : Size) (s : DurableState) (b : Bench) (line : Printed) (new : Bench) → Boots r mode z s b line new → Fair b new
 boots_fair (Some n) mode z s b line new x = unmoved b new x.1
 boots_fair None mode z s b line new (inl x) = begins_fair mode z s b line new x
 boots_fair None mode z s b line new (inr x) = spoils b new (starves b new x.1)
@@ -181,7 +181,7 @@ settled_fair changes m b mid at calm e =
     let P : DiskState → Type 0 = λ x. CalmDisk x None in
     fair_to b mid (settled changes b) e (λ s. s, λ c. inr (subst P (sym at) calm))
 
-opens_fair : (size : Size) (m : DiskState) (b : Bench) (s : State) (z : Size) (mid : Bench) → b.disk_state ≡ m → Opens size m b s z mid → Fair b mid
+opens_fair : (size : Size) (m : DiskState) (b : Bench) (s : DurableState) (z : Size) (mid : Bench) → b.disk_state ≡ m → Opens size m b s z mid → Fair b mid
 opens_fair size Blank b s z mid at h = absurd h
 opens_fair size Unknown b s z mid at h = unmoved b mid h
 opens_fair size Formatted b s z mid at h = settled_fair h.0 Formatted b mid at refl h.4
@@ -193,7 +193,7 @@ powers_fair size mode b a new (inr (inr (inl x))) = spoils b new (starves b new 
 powers_fair size mode b a new (inr (inr (inr x))) = spoils b new (hinders b new x.1)
 
 -- the machine that the mode begins is of the board's size
-pub begun_size : (mode : BootMode) (z : Size) (payloads : List (List ℕ)) (s : State) (m : Machine) → IsBegun mode z payloads s m → m.size ≡ z
+pub begun_size : (mode : BootMode) (z : Size) (payloads : List (List ℕ)) (s : DurableState) (m : Machine) → IsBegun mode z payloads s m → m.size ≡ z
 begun_size modes.Fresh z payloads s m is = ap (λ (k : Machine). k.size) is
 begun_size modes.Keep z payloads s m is = ap (λ (k : Machine). k.size) is
 begun_size modes.Discard z payloads s m is = ap (λ (k : Machine). k.size) is
@@ -203,13 +203,13 @@ begun_size modes.Resume z payloads s m is = ap (λ (k : Machine). k.size) is.is
 one_image : (i j : Image) (o : Option Image) → o ≡ Some i → o ≡ Some j → j ≡ i
 one_image i j o e f = let g : Some j ≡ Some i = sym f ∙ e in let h : j ≡ i = cc in h
 
-one_boot : (mode : BootMode) (z : Size) (payloads : List (List ℕ)) (s : State) (m n : Machine) → IsBegun mode z payloads s m → IsBegun mode z payloads s n → n ≡ m
+one_boot : (mode : BootMode) (z : Size) (payloads : List (List ℕ)) (s : DurableState) (m n : Machine) → IsBegun mode z payloads s m → IsBegun mode z payloads s n → n ≡ m
 one_boot modes.Fresh z payloads s m n x y = y ∙ sym x
 one_boot modes.Keep z payloads s m n x y = y ∙ sym x
 one_boot modes.Discard z payloads s m n x y = y ∙ sym x
 one_boot modes.Resume z payloads s m n x y = y.is ∙ ap (λ (k : Image). woken k z) (one_image x.image y.image s.image x.stands y.stands) ∙ sym x.is
 
-is_on : (o p : Result ℕ ℕ) (mode : BootMode) (z : Size) (s : State) (b d : Bench) (line said : Printed) (new last : Bench) → Agree o p b d → IsOn o mode z s b line new → IsOn p mode z s d said last → Agree line said new last
+is_on : (o p : Result ℕ ℕ) (mode : BootMode) (z : Size) (s : DurableState) (b d : Bench) (line said : Printed) (new last : Bench) → Agree o p b d → IsOn o mode z s b line new → IsOn p mode z s d said last → Agree line said new last
 is_on o p mode z s b d line said new last (inl f) x y = inl ((on_fair o mode z s b line new x).0 f)
 is_on o p mode z s b d line said new last (inr (inl f)) x y = inr (inl ((on_fair p mode z s d said last y).0 f))
 is_on o p mode z s b d line said new last (inr (inr e)) x y =
@@ -224,11 +224,11 @@ is_on o p mode z s b d line said new last (inr (inr e)) x y =
         same line said (printed.On mode) new last (on_with (has_machine x.3 x.0) b) x.2 y.2 x.5 (subst P (some_inj x.0 y.0 b.power x.1 y.1) y.5 ∙ ap (λ (k : Machine). on_with (has_machine k x.0) b) one)
     alike (Err n) x y = same line said (printed.OnRefused n) new last (off b) x.0 y.0 x.1 y.1
 
-slot_boots : (mode : BootMode) (z : Size) (s : State) (b : Bench) (line said : Printed) (new last : Bench) → BootsFrom mode z s b line new → BootsFrom mode z s b said last → Agree line said new last
+slot_boots : (mode : BootMode) (z : Size) (s : DurableState) (b : Bench) (line said : Printed) (new last : Bench) → BootsFrom mode z s b line new → BootsFrom mode z s b said last → Agree line said new last
 slot_boots mode z s b line said new last (o, mid, h, x) (p, mid2, k, y) = is_on o p mode z s mid mid2 line said new last (all (commands_of mode) (on_with (begun s z) b) o p mid mid2 h k) x y
 
 -- a resume whose command was not refused for its disk goes on with an image that has the memory of its board
-whole_image : (z : Size) (s : State) (m : Machine) → IsResumed z s m → IsWhole z s
+whole_image : (z : Size) (s : DurableState) (m : Machine) → IsResumed z s m → IsWhole z s
 whole_image z s m is = let P : Option Image → Type 0 = λ o. IfSome o (λ (i : Image). length i.memory ≡ ram_bytes_of z) in subst P (sym is.stands) is.whole
 
 off_spoilt : (mid new : Bench) → new ≡ off mid → HasFailed mid → HasFailed new
@@ -242,11 +242,11 @@ writes_err c life b o new n e (inl w) = not_both (life.receipts + 1) n o w.0 e
 writes_err c life b o new n e (inr (inl w)) = hinders b new w.1
 writes_err c life b o new n e (inr (inr w)) = hinders (in_doubt c life b) new w.1
 
-issued_err : (c : Change) (s : State) (z : Size) (b : Bench) (o : Result ℕ ℕ) (new : Bench) (n : ℕ) → refusal_of s c ≡ None → o ≡ Err n → Issued c (begun s z) b o new → HasFailed new
+issued_err : (c : Change) (s : DurableState) (z : Size) (b : Bench) (o : Result ℕ ℕ) (new : Bench) (n : ℕ) → refusal_of s c ≡ None → o ≡ Err n → Issued c (begun s z) b o new → HasFailed new
 issued_err c s z b o new n allowed e (inl i) = absurd (let no : 0 ≡ 4096 = i.0 in omega (arith, no))
 issued_err c s z b o new n allowed e (inr i) = let P : Option ℕ → Type 0 = λ r. Writes r c (begun s z) b o new in writes_err c (begun s z) b o new n e (subst P allowed i.1)
 
-one_err : (c : Change) (s : State) (z : Size) (b : Bench) (n : ℕ) (mid : Bench) → refusal_of s c ≡ None → IssuesAll (c ∷ []) (on_with (begun s z) b) (Err n) mid → HasFailed mid
+one_err : (c : Change) (s : DurableState) (z : Size) (b : Bench) (n : ℕ) (mid : Bench) → refusal_of s c ≡ None → IssuesAll (c ∷ []) (on_with (begun s z) b) (Err n) mid → HasFailed mid
 one_err c s z b n mid allowed (life, on, first, last, i, inl (k, ok, rest)) = not_both 0 n (Err n) rest.0 refl
 one_err c s z b n mid allowed (life, on, first, last, i, inr (k, err, same_err, e)) =
     let start : Bench = on_with (begun s z) b in
@@ -254,23 +254,23 @@ one_err c s z b n mid allowed (life, on, first, last, i, inr (k, err, same_err, 
     let P : Bench → Type 0 = HasFailed in
     subst P (sym e) (issued_err c s z start first last k allowed err (subst L (some_inj (begun s z) life start.power refl on) i))
 
-resumed_whole : (z : Size) (s : State) (b : Bench) (line : Printed) (new : Bench) → refusal_of s Consume ≡ None → BootsFrom modes.Resume z s b line new → HasFailed new ⊎ IsWhole z s
+resumed_whole : (z : Size) (s : DurableState) (b : Bench) (line : Printed) (new : Bench) → refusal_of s Consume ≡ None → BootsFrom modes.Resume z s b line new → HasFailed new ⊎ IsWhole z s
 resumed_whole z s b line new allowed (Ok n, mid, all, (life, on, said, m, is, e)) = inr (whole_image z s m is)
 resumed_whole z s b line new allowed (Err n, mid, all, (said, e)) = inl (off_spoilt mid new e (one_err Consume s z b n mid allowed all))
 
-resumes : (z : Size) (s : State) (b : Bench) (line said : Printed) (new last : Bench) → refusal_of s Consume ≡ None → Resumes z s b line new → Resumes z s b said last → Agree line said new last
+resumes : (z : Size) (s : DurableState) (b : Bench) (line said : Printed) (new last : Bench) → refusal_of s Consume ≡ None → Resumes z s b line new → Resumes z s b said last → Agree line said new last
 resumes z s b line said new last allowed (inl x) (inl y) = slot_boots modes.Resume z s b line said new last x y
 resumes z s b line said new last allowed (inl x) (inr y) = elim (resumed_whole z s b line new allowed x) [ inl f ↦ inl f | inr whole ↦ absurd (y.0 whole) ]
 resumes z s b line said new last allowed (inr x) (inl y) = elim (resumed_whole z s b said last allowed y) [ inl f ↦ inr (inl f) | inr whole ↦ absurd (x.0 whole) ]
 resumes z s b line said new last allowed (inr x) (inr y) = same line said (printed.OnRefused 13) new last b x.1 y.1 x.2 y.2
 
-begins : (mode : BootMode) (z : Size) (s : State) (b : Bench) (line said : Printed) (new last : Bench) → boot_refusal s mode ≡ None → Begins mode z s b line new → Begins mode z s b said last → Agree line said new last
+begins : (mode : BootMode) (z : Size) (s : DurableState) (b : Bench) (line said : Printed) (new last : Bench) → boot_refusal s mode ≡ None → Begins mode z s b line new → Begins mode z s b said last → Agree line said new last
 begins modes.Fresh z s b line said new last allowed x y = slot_boots modes.Fresh z s b line said new last x y
 begins modes.Keep z s b line said new last allowed x y = slot_boots modes.Keep z s b line said new last x y
 begins modes.Discard z s b line said new last allowed x y = slot_boots modes.Discard z s b line said new last x y
 begins modes.Resume z s b line said new last allowed x y = resumes z s b line said new last allowed x y
 
-boots : (r : Option ℕ) (mode : BootMode) (z : Size) (s : State) (b : Bench) (line said : Printed) (new last : Bench) → boot_refusal s mode ≡ r → Boots r mode z s b line new → Boots r mode z s b said last → Agree line said new last
+boots : (r : Option ℕ) (mode : BootMode) (z : Size) (s : DurableState) (b : Bench) (line said : Printed) (new last : Bench) → boot_refusal s mode ≡ r → Boots r mode z s b line new → Boots r mode z s b said last → Agree line said new last
 boots (Some n) mode z s b line said new last at x y = same line said (printed.OnRefused n) new last b x.0 y.0 x.1 y.1
 boots None mode z s b line said new last at (inr x) y = inl (starves b new x.1)
 boots None mode z s b line said new last at (inl x) (inr y) = inr (inl (starves b last y.1))
@@ -285,22 +285,22 @@ with_found f a z new last e g (inl s) = inl s
 with_found f a z new last e g (inr (inl s)) = inr (inl s)
 with_found f a z new last e g (inr (inr h)) = inr (inr (answers_as a f z.line e h.0 ∙ sym (answers_as z f z.line g refl), h.1))
 
-found_as : (o : Option Durable) (s : State) → ShowsFound o s → o ≡ Some (durable_of s)
+found_as : (o : Option Durable) (s : DurableState) → ShowsFound o s → o ≡ Some (durable_of s)
 found_as None s h = absurd h
 found_as (Some d) s h = ap Some h
 
 -- what an open finds on a disk with nothing in doubt is one state, one size and one bench
-abbrev IsOneOpen : Bench → State → Size → Bench → State → Size → Bench → Type 0
+abbrev IsOneOpen : Bench → DurableState → Size → Bench → DurableState → Size → Bench → Type 0
 IsOneOpen b s z mid t y other = (t ≡ s) × (y ≡ z) × (other ≡ mid)
 
-one_open : (size : Size) (m : DiskState) (b : Bench) (s : State) (z : Size) (mid : Bench) (t : State) (y : Size) (other : Bench) → CalmDisk m b.kept.doubt → Opens size m b s z mid → Opens size m b t y other → IsOneOpen b s z mid t y other
+one_open : (size : Size) (m : DiskState) (b : Bench) (s : DurableState) (z : Size) (mid : Bench) (t : DurableState) (y : Size) (other : Bench) → CalmDisk m b.kept.doubt → Opens size m b s z mid → Opens size m b t y other → IsOneOpen b s z mid t y other
 one_open size Blank b s z mid t y other calm h k = absurd h
 one_open size Unknown b s z mid t y other calm h k = absurd calm
 one_open size Formatted b s z mid t y other calm (cs, may, is, sized, e) (ds, may2, is2, sized2, e2) =
     let f : ds ≡ cs = sym (kept_as b.kept ds calm may2) ∙ kept_as b.kept cs calm may in
     (is2 ∙ ap found_of f ∙ sym is, sized2 ∙ sym sized, e2 ∙ ap (λ k. settled k b) f ∙ sym e)
 
-no_open : (size : Size) (m : DiskState) (b : Bench) (s : State) (z : Size) (mid : Bench) (n : ℕ) → CalmDisk m b.kept.doubt → Opens size m b s z mid → IsOpenRefusal m n → ⊥
+no_open : (size : Size) (m : DiskState) (b : Bench) (s : DurableState) (z : Size) (mid : Bench) (n : ℕ) → CalmDisk m b.kept.doubt → Opens size m b s z mid → IsOpenRefusal m n → ⊥
 no_open size Blank b s z mid n calm h r = h
 no_open size Unknown b s z mid n calm h r = calm
 no_open size Formatted b s z mid n calm h r = r
@@ -323,7 +323,7 @@ powers size mode b a c new last calm (inl x) (inr (inl y)) = absurd (no_open siz
 powers size mode b a c new last calm (inr (inl x)) (inl y) = absurd (no_open size b.disk_state b y.0 y.1 y.2 x.0 calm y.3 x.1)
 powers size mode b a c new last calm (inl (s, z, mid, found, shows, x)) (inl (t, w, other, found2, shows2, y)) =
     let one = one_open size b.disk_state b s z mid t w other calm found found2 in
-    let P : State → Type 0 = λ u. ShowsFound c.found u × Boots (boot_refusal u mode) mode w u other c.line last in
+    let P : DurableState → Type 0 = λ u. ShowsFound c.found u × Boots (boot_refusal u mode) mode w u other c.line last in
     let Q : Size → Type 0 = λ u. Boots (boot_refusal s mode) mode u s other c.line last in
     let R : Bench → Type 0 = λ u. Boots (boot_refusal s mode) mode z s u c.line last in
     let again = subst P one.0 (shows2, y) in

@@ -1,6 +1,6 @@
 -- What a life that ends leaves on its disk.
 use Rattle.std.proofs.Common.{◌≡◌, ◌⊎◌, ℕ, inl, inr, List, [], ◌∷◌, ◌++◌, Option, None, Some, refl, sym, ◌∙◌, ap, subst}
-use Rattle.board_model.specs.Durable.{State, Change, formatted, refusal_of, after}
+use Rattle.board_model.specs.Durable.{DurableState, Change, formatted, refusal_of, after}
 use Rattle.board_model.specs.Kept.{Kept, MayFind, TakesIn, found_of}
 use Rattle.board_model.specs.Shapes.{Size}
 use Rattle.disk.specs.Facts.{Facts, Content, IsLeft}
@@ -13,7 +13,7 @@ use Rattle.bench_report.specs.Agree.{StoreIs, BoardIs, DiskIs, IsOver}
 use Rattle.bench_report.proofs.Adapted.{grows}
 use Rattle.bench_report.proofs.KeptDisks.{GoesOn, LeavesLess}
 
-pub found_more : (cs : List Change) (c : Change) (now : State) → now ≡ found_of cs → after now c ≡ found_of (cs ++ c ∷ [])
+pub found_more : (cs : List Change) (c : Change) (now : DurableState) → now ≡ found_of cs → after now c ≡ found_of (cs ++ c ∷ [])
 found_more cs c now e = ap (λ s. after s c) e ∙ sym (grows formatted cs c)
 
 -- the table does not refuse the command that a store has in doubt
@@ -22,35 +22,35 @@ IsAllowed store = (c : Change) → doubt_of store ≡ Some c → refusal_of (now
 
 -- what a crash leaves of the disk of a store that was up, and of one that was down
 abbrev pub LeftUp : SimStore → Facts → Type 0
-LeftUp store disk = (s : State) → Stands store s → LeavesOnly disk (store_size store) s
+LeftUp store disk = (s : DurableState) → Stands store s → LeavesOnly disk (store_size store) s
 
 abbrev pub LeftDown : SimStore → Facts → Type 0
-LeftDown store disk = (s t : State) → Doubts store s t → LeavesEither disk (store_size store) s t
+LeftDown store disk = (s t : DurableState) → Doubts store s t → LeavesEither disk (store_size store) s t
 
-with_doubt : (k : Kept) (c : Change) (now u : State) → k.doubt ≡ Some c → now ≡ found_of k.changes → refusal_of now c ≡ None → (u ≡ now) ⊎ (u ≡ after now c) → MayFind k u
+with_doubt : (k : Kept) (c : Change) (now u : DurableState) → k.doubt ≡ Some c → now ≡ found_of k.changes → refusal_of now c ≡ None → (u ≡ now) ⊎ (u ≡ after now c) → MayFind k u
 with_doubt k c now u doubt same allowed (inl e) = (k.changes, inl refl, e ∙ same)
 with_doubt k c now u doubt same allowed (inr e) =
-    let Q : State → Type 0 = λ s. refusal_of s c ≡ None in
+    let Q : DurableState → Type 0 = λ s. refusal_of s c ≡ None in
     let P : Option Change → Type 0 = λ d. TakesIn d k.changes (k.changes ++ c ∷ []) in
     (k.changes ++ c ∷ [], inr (subst P (sym doubt) (subst Q same allowed, refl)), e ∙ found_more k.changes c now same)
 
 -- a crash leaves the state that the commands kept make, or that with the one in doubt
-pub left_only : (size z : Size) (k : Kept) (now : State) (disk : Facts) → now ≡ found_of k.changes → z ≡ size → LeavesOnly disk z now → DiskIs size Formatted k disk
+pub left_only : (size z : Size) (k : Kept) (now : DurableState) (disk : Facts) → now ≡ found_of k.changes → z ≡ size → LeavesOnly disk z now → DiskIs size Formatted k disk
 left_only size z k now disk same sized l =
-    let P : Size → Type 0 = λ y. IsKept disk y × ((s : State) → Leaves disk y s → MayFind k s) in
+    let P : Size → Type 0 = λ y. IsKept disk y × ((s : DurableState) → Leaves disk y s → MayFind k s) in
     subst P sized (l.kept, λ s h. (k.changes, inl refl, (l.only z s h).1 ∙ same))
 
-pub left_either : (size z : Size) (k : Kept) (c : Change) (now : State) (disk : Facts) → k.doubt ≡ Some c → now ≡ found_of k.changes → refusal_of now c ≡ None → z ≡ size → LeavesEither disk z now (after now c)
+pub left_either : (size z : Size) (k : Kept) (c : Change) (now : DurableState) (disk : Facts) → k.doubt ≡ Some c → now ≡ found_of k.changes → refusal_of now c ≡ None → z ≡ size → LeavesEither disk z now (after now c)
     → DiskIs size Formatted k disk
 left_either size z k c now disk doubt same allowed sized l =
-    let P : Size → Type 0 = λ y. IsKept disk y × ((s : State) → Leaves disk y s → MayFind k s) in
+    let P : Size → Type 0 = λ y. IsKept disk y × ((s : DurableState) → Leaves disk y s → MayFind k s) in
     subst P sized (l.kept, λ s h. with_doubt k c now s doubt same allowed (l.only z s h).1)
 
-left : (size : Size) (k : Kept) (now : State) (count : ℕ) (doubt : Option Change) (store : SimStore) (disk : Facts) → k.doubt ≡ doubt → now ≡ found_of k.changes → store_size store ≡ size
+left : (size : Size) (k : Kept) (now : DurableState) (count : ℕ) (doubt : Option Change) (store : SimStore) (disk : Facts) → k.doubt ≡ doubt → now ≡ found_of k.changes → store_size store ≡ size
     → IsAs store now count doubt → LeftUp store disk → LeftDown store disk → IsAllowed store → DiskIs size Formatted k disk
 left size k now count None store disk doubt same sized is up down allowed = left_only size (store_size store) k now disk same sized (up now (is.2, sym is.0))
 left size k now count (Some c) store disk doubt same sized is up down allowed =
-    let P : State → Type 0 = λ s. refusal_of s c ≡ None in
+    let P : DurableState → Type 0 = λ s. refusal_of s c ≡ None in
     left_either size (store_size store) k c now disk doubt same (subst P is.0 (allowed c is.2)) sized (down now (after now c) (c, is.2, sym is.0, refl))
 
 pub ended : (size : Size) (m : DiskState) (k : Kept) (life : BenchLife) (store : SimStore) (disk : Facts) → StoreIs size m k life store → LeftUp store disk → LeftDown store disk → IsAllowed store

@@ -1,7 +1,7 @@
 -- A report whose lines are failure-free: no power-on was refused memory, and no failure was answered.
 use Rattle.std.proofs.Common.{◌≡◌, ◌≢◌, ℕ, zero, suc, arith, inl, inr, List, [], ◌∷◌, Option, None, Some, Result, Ok, Err, refl, ◌∙◌, ap, subst}
 use Rattle.std.specs.Bool.{⊤}
-use Rattle.board_model.specs.Durable.{State, Change, Slot, Reset, Discard, refusal_of}
+use Rattle.board_model.specs.Durable.{DurableState, Change, Slot, Reset, Discard, refusal_of}
 use Rattle.board_model.specs.Shapes.{Size}
 use Rattle.board.specs.Boots.{boot_refusal}
 use Rattle.board_model.specs.declared.boot_mode.BootMode.{BootMode}
@@ -95,32 +95,32 @@ formats_failure_free Unknown b a new (inr (inr h)) failure_free = as_many b b ne
 formats_failure_free Formatted b a new (inl h) failure_free = as_many b b new refl refl h.1
 formats_failure_free Formatted b a new (inr h) failure_free = absurd (of_answer a (printed.FormatRefused 5) h.0 failure_free refl)
 
-is_on_failure_free : (o : Result ℕ ℕ) (mode : BootMode) (z : Size) (s : State) (b : Bench) (line : Printed) (new : Bench) → IsOn o mode z s b line new → ShowsNoFailure line → IsFailureFreeResult o × AsMany b new
+is_on_failure_free : (o : Result ℕ ℕ) (mode : BootMode) (z : Size) (s : DurableState) (b : Bench) (line : Printed) (new : Bench) → IsOn o mode z s b line new → ShowsNoFailure line → IsFailureFreeResult o × AsMany b new
 is_on_failure_free (Ok n) mode z s b line new (life, on, said, m, boots, e) failure_free = (tt, as_many b (on_with (has_machine m life) b) new refl refl e)
 is_on_failure_free (Err n) mode z s b line new h failure_free = let reported = of_line line (printed.OnRefused n) h.0 failure_free in ((reported.0, reported.1), as_many b (off b) new refl refl h.1)
 
-slot_failure_free : (mode : BootMode) (z : Size) (s : State) (b : Bench) (line : Printed) (new : Bench) → BootsFrom mode z s b line new → ShowsNoFailure line → AsMany b new
+slot_failure_free : (mode : BootMode) (z : Size) (s : DurableState) (b : Bench) (line : Printed) (new : Bench) → BootsFrom mode z s b line new → ShowsNoFailure line → AsMany b new
 slot_failure_free mode z s b line new (o, mid, h, on) failure_free =
     let last = is_on_failure_free o mode z s mid line new on failure_free in
     let start : Bench = on_with (begun s z) b in
     many_then b mid new (let first = all_failure_free (commands_of mode) start o mid h last.0 in (first.0, first.1)) last.1
 
-resumes_failure_free : (z : Size) (s : State) (b : Bench) (line : Printed) (new : Bench) → Resumes z s b line new → ShowsNoFailure line → AsMany b new
+resumes_failure_free : (z : Size) (s : DurableState) (b : Bench) (line : Printed) (new : Bench) → Resumes z s b line new → ShowsNoFailure line → AsMany b new
 resumes_failure_free z s b line new (inl h) failure_free = slot_failure_free modes.Resume z s b line new h failure_free
 resumes_failure_free z s b line new (inr h) failure_free = as_many b b new refl refl h.2
 
-begins_failure_free : (mode : BootMode) (z : Size) (s : State) (b : Bench) (line : Printed) (new : Bench) → Begins mode z s b line new → ShowsNoFailure line → AsMany b new
+begins_failure_free : (mode : BootMode) (z : Size) (s : DurableState) (b : Bench) (line : Printed) (new : Bench) → Begins mode z s b line new → ShowsNoFailure line → AsMany b new
 begins_failure_free modes.Fresh z s b line new h failure_free = slot_failure_free modes.Fresh z s b line new h failure_free
 begins_failure_free modes.Keep z s b line new h failure_free = slot_failure_free modes.Keep z s b line new h failure_free
 begins_failure_free modes.Discard z s b line new h failure_free = slot_failure_free modes.Discard z s b line new h failure_free
 begins_failure_free modes.Resume z s b line new h failure_free = resumes_failure_free z s b line new h failure_free
 
-boots_failure_free : (r : Option ℕ) (mode : BootMode) (z : Size) (s : State) (b : Bench) (line : Printed) (new : Bench) → Boots r mode z s b line new → ShowsNoFailure line → AsMany b new
+boots_failure_free : (r : Option ℕ) (mode : BootMode) (z : Size) (s : DurableState) (b : Bench) (line : Printed) (new : Bench) → Boots r mode z s b line new → ShowsNoFailure line → AsMany b new
 boots_failure_free None mode z s b line new (inl h) failure_free = begins_failure_free mode z s b line new h failure_free
 boots_failure_free None mode z s b line new (inr h) failure_free = absurd ((of_line line (printed.OnRefused 11) h.0 failure_free).2 refl)
 boots_failure_free (Some n) mode z s b line new h failure_free = as_many b b new refl refl h.1
 
-opens_many : (size : Size) (m : DiskState) (b : Bench) (s : State) (z : Size) (mid : Bench) → Opens size m b s z mid → AsMany b mid
+opens_many : (size : Size) (m : DiskState) (b : Bench) (s : DurableState) (z : Size) (mid : Bench) → Opens size m b s z mid → AsMany b mid
 opens_many size Blank b s z mid h = absurd h
 opens_many size Unknown b s z mid h = as_many b b mid refl refl h
 opens_many size Formatted b s z mid h = as_many b (settled h.0 b) mid refl refl h.4

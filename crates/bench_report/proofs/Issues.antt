@@ -2,7 +2,7 @@
 -- find after them comes of a state that an open could have found before.
 use Rattle.std.proofs.Common.{◌≡◌, ◌≢◌, ◌⊎◌, ℕ, ◌+◌, inl, inr, List, [], ◌∷◌, Option, None, Some, Result, Ok, Err, refl, sym, ◌∙◌, ap, subst, arith, Bool, true, false}
 use Rattle.std.specs.Bool.{⊤}
-use Rattle.board_model.specs.Durable.{State, Change, formatted, refusal_of, after}
+use Rattle.board_model.specs.Durable.{DurableState, Change, formatted, refusal_of, after}
 use Rattle.board_model.specs.Kept.{Kept, found_of, MayFind, TakesIn}
 use Rattle.bench_report.specs.Taken.{Takes, TakesSome, TakesFewer}
 use Rattle.bench_report.specs.Bench.{Formatted, BenchLife, Bench}
@@ -28,17 +28,17 @@ abbrev pub IsSound : Bench → Type 0
 IsSound b = (b.disk_state ≡ Formatted) × GoesOn b.kept b.power
 
 -- what may be found after comes, by R, of what could be found before
-abbrev pub Back : Bench → Bench → (State → State → Type 0) → Type 0
-Back b new R = IsSound new × ((t : State) → MayFind new.kept t → (s : State) × MayFind b.kept s × R s t)
+abbrev pub Back : Bench → Bench → (DurableState → DurableState → Type 0) → Type 0
+Back b new R = IsSound new × ((t : DurableState) → MayFind new.kept t → (s : DurableState) × MayFind b.kept s × R s t)
 
-pub joined : (b mid new : Bench) (R Q P : State → State → Type 0) → Back b mid R → Back mid new Q → ((s u t : State) → R s u → Q u t → P s t) → Back b new P
+pub joined : (b mid new : Bench) (R Q P : DurableState → DurableState → Type 0) → Back b mid R → Back mid new Q → ((s u t : DurableState) → R s u → Q u t → P s t) → Back b new P
 joined b mid new R Q P x y joins = (y.0, λ t found. (let u = y.1 t found in let s = x.1 u.0 u.1 in (s.0, s.1, joins s.0 u.0 t s.2 u.2)))
 
-pub said : (b new : Bench) (R Q : State → State → Type 0) → Back b new R → ((s t : State) → R s t → Q s t) → Back b new Q
+pub said : (b new : Bench) (R Q : DurableState → DurableState → Type 0) → Back b new R → ((s t : DurableState) → R s t → Q s t) → Back b new Q
 said b new R Q x more = (x.0, λ t found. (let s = x.1 t found in (s.0, s.1, more s.0 t s.2)))
 
 -- one command
-abbrev pub Went : Result ℕ ℕ → Change → Bool → Bool → State → State → Type 0
+abbrev pub Went : Result ℕ ℕ → Change → Bool → Bool → DurableState → DurableState → Type 0
 Went (Ok n) c up now s t = (up ≡ true) × (refusal_of s c ≡ None) × (t ≡ after s c) × (now ≡ true)
 Went (Err n) c up now s t =
     ((n ≢ 6) × (t ≡ s) × (now ≡ up))
@@ -65,7 +65,7 @@ module _ (c : Change) (life : BenchLife) (b : Bench) (o : Result ℕ ℕ) (new :
       subst P (sym e) (subst Q (sym f) x)
 
   -- found where nothing is in doubt
-  sure : (kept : Kept) (t : State) → kept.doubt ≡ None → MayFind kept t → t ≡ found_of kept.changes
+  sure : (kept : Kept) (t : DurableState) → kept.doubt ≡ None → MayFind kept t → t ≡ found_of kept.changes
   sure kept t calm (changes, inl e, is) = is ∙ ap found_of e
   sure kept t calm (changes, inr e, is) = let P : Option Change → Type 0 = λ d. TakesIn d kept.changes changes in absurd (subst P calm e)
 
@@ -97,7 +97,7 @@ module _ (c : Change) (life : BenchLife) (b : Bench) (o : Result ℕ ℕ) (new :
         ),
       )
     where
-      either : (t : State) → MayFind (record b.kept { doubt = Some c }) t → TakesSome (c ∷ []) life.now t
+      either : (t : DurableState) → MayFind (record b.kept { doubt = Some c }) t → TakesSome (c ∷ []) life.now t
       either t (changes, inl e, is) = inl (is ∙ ap found_of e ∙ sym follow.1)
       either t (changes, inr e, is) = inr (table, is ∙ ap found_of e.1 ∙ grows formatted b.kept.changes c ∙ ap (λ s. after s c) (sym follow.1))
 
@@ -110,24 +110,24 @@ module _ (c : Change) (life : BenchLife) (b : Bench) (o : Result ℕ ℕ) (new :
   issued_back i = issued_by life.doubt refl i
 
 -- commands in a row
-abbrev pub AllWent : Result ℕ ℕ → List Change → Bool → State → State → Type 0
+abbrev pub AllWent : Result ℕ ℕ → List Change → Bool → DurableState → DurableState → Type 0
 AllWent (Ok n) cs now s t = Takes cs s t × (now ≡ true)
 AllWent (Err n) cs now s t = TakesFewer cs s t ⊎ ((n ≡ 6) × TakesSome cs s t)
 
-one_some : (c : Change) (cs : List Change) (s t : State) → TakesSome (c ∷ []) s t → TakesSome (c ∷ cs) s t
+one_some : (c : Change) (cs : List Change) (s t : DurableState) → TakesSome (c ∷ []) s t → TakesSome (c ∷ cs) s t
 one_some c cs s t (inl e) = inl e
 one_some c [] s t (inr h) = inr h
 one_some c (d ∷ cs) s t (inr h) = inr (h.0, inl h.1)
 
-first_went : (n : ℕ) (c : Change) (cs : List Change) (up now : Bool) (s t : State) → Went (Err n) c up now s t → AllWent (Err n) (c ∷ cs) now s t
+first_went : (n : ℕ) (c : Change) (cs : List Change) (up now : Bool) (s t : DurableState) → Went (Err n) c up now s t → AllWent (Err n) (c ∷ cs) now s t
 first_went n c cs up now s t (inl w) = inl (inl w.1)
 first_went n c cs up now s t (inr (inl w)) = inl (inl w.1)
 first_went n c cs up now s t (inr (inr w)) = inr (w.0, one_some c cs s t w.3)
 
-more_went : (o : Result ℕ ℕ) (c : Change) (cs : List Change) (now : Bool) (s u t : State) → refusal_of s c ≡ None → u ≡ after s c → AllWent o cs now u t → AllWent o (c ∷ cs) now s t
-more_went (Ok n) c cs now s u t table is w = let P : State → Type 0 = λ x. Takes cs x t in ((table, subst P is w.0), w.1)
-more_went (Err n) c cs now s u t table is (inl w) = let P : State → Type 0 = λ x. TakesFewer cs x t in inl (inr (table, subst P is w))
-more_went (Err n) c cs now s u t table is (inr w) = let P : State → Type 0 = λ x. TakesSome cs x t in inr (w.0, inr (table, subst P is w.1))
+more_went : (o : Result ℕ ℕ) (c : Change) (cs : List Change) (now : Bool) (s u t : DurableState) → refusal_of s c ≡ None → u ≡ after s c → AllWent o cs now u t → AllWent o (c ∷ cs) now s t
+more_went (Ok n) c cs now s u t table is w = let P : DurableState → Type 0 = λ x. Takes cs x t in ((table, subst P is w.0), w.1)
+more_went (Err n) c cs now s u t table is (inl w) = let P : DurableState → Type 0 = λ x. TakesFewer cs x t in inl (inr (table, subst P is w))
+more_went (Err n) c cs now s u t table is (inr w) = let P : DurableState → Type 0 = λ x. TakesSome cs x t in inr (w.0, inr (table, subst P is w.1))
 
 pub all_back : (cs : List Change) (b : Bench) (o : Result ℕ ℕ) (new : Bench) → IsSound b → is_up b.power ≡ true → IssuesAll cs b o new → Back b new (AllWent o cs (is_up new.power))
 all_back [] b o new sound up h =

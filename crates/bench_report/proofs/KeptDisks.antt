@@ -1,6 +1,6 @@
 -- The laws of the store, for the disk in memory.
 use Rattle.std.specs.Prelude.{◌≡◌, ◌⊎◌, ◌≤◌, ◌<◌, length}
-use Rattle.board_model.specs.Durable.{State}
+use Rattle.board_model.specs.Durable.{DurableState}
 use Rattle.board_model.specs.Shapes.{Size, IsSize, sectors_of}
 use Rattle.board_model.specs.declared.refusal.Refusal.{Refusal}
 use Rattle.board_model.specs.declared.refusal.Refusal.TheVariants.{NotFormatted, AlreadyFormatted, Device, Memory}
@@ -24,8 +24,8 @@ GoesOn = (old new : SimDisk) → LeavesLess old new
 pub record KeptLaw : Type 0 where
   pub goes_on : GoesOn
   pub marked : (disk : SimDisk) (size : Size) → IsKept (facts disk) size → IsMarked (facts disk).content
-  pub one_size : (disk : SimDisk) (y z : Size) (s : State) → Leaves (facts disk) z s → IsKept (facts disk) y → y ≡ z
-  pub sized : (disk : SimDisk) (size : Size) (s : State) → Leaves (facts disk) size s → IsSize size
+  pub one_size : (disk : SimDisk) (y z : Size) (s : DurableState) → Leaves (facts disk) z s → IsKept (facts disk) y → y ≡ z
+  pub sized : (disk : SimDisk) (size : Size) (s : DurableState) → Leaves (facts disk) size s → IsSize size
   pub opens : (disk new : SimDisk) (size : Size) (e : Refusal) → IsKept (facts disk) size → OpenRefused (facts disk) e (facts new) → (e ≡ Device) ⊎ (e ≡ Memory)
   pub formats : (disk new : SimDisk) (size : Size) (e : Refusal) → sectors_of size ≤ length (facts disk).content → FormatRefused (facts disk) size e (facts new)
       → (e ≡ AlreadyFormatted) ⊎ (e ≡ Device)
@@ -33,7 +33,7 @@ pub record KeptLaw : Type 0 where
 -- the law of blank disks
 pub record BlankLaw : Type 0 where
   pub unmarked : (disk : SimDisk) → IsBlank (facts disk) → IsMarked (facts disk).content → ⊥
-  pub stands : (disk : SimDisk) (size : Size) (s : State) → IsBlank (facts disk) → Leaves (facts disk) size s → ⊥
+  pub stands : (disk : SimDisk) (size : Size) (s : DurableState) → IsBlank (facts disk) → Leaves (facts disk) size s → ⊥
   pub opens : (disk new : SimDisk) (e : Refusal) → IsBlank (facts disk) → 0 < length (facts disk).content → OpenRefused (facts disk) e (facts new) → (e ≡ NotFormatted) ⊎ (e ≡ Device)
   pub formats : (disk new : SimDisk) (size : Size) (e : Refusal) → IsBlank (facts disk) → sectors_of size ≤ length (facts disk).content → FormatRefused (facts disk) size e (facts new) → e ≡ Device
 

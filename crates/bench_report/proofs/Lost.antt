@@ -1,6 +1,6 @@
 -- Whatever a line tells, power that was lost within it would have left: some first of its commands took effect.
 use Rattle.std.proofs.Common.{◌≡◌, ◌⊎◌, ℕ, inl, inr, List, [], ◌∷◌, Bool, true}
-use Rattle.board_model.specs.Durable.{State, Change, after}
+use Rattle.board_model.specs.Durable.{DurableState, Change, after}
 use Rattle.board_model.specs.declared.boot_mode.BootMode.{BootMode}
 use Rattle.machine.specs.declared.parts.Word.{Word}
 use Rattle.machine.specs.declared.parts.Word.TheVariants as words
@@ -12,24 +12,24 @@ use Rattle.bench_report.specs.Steps.{commands_of}
 use Rattle.bench_report.specs.Taken.{Takes, TakesSome, TakesFewer}
 use Rattle.bench_report.specs.Prefix.{Asked, Boot, Command, Guest, Nothing, IsOfHarts, Hides, TellsWord, TellsLine, RefusedChange, Lost, Tells}
 
-none_some : (cs : List Change) (s t : State) → t ≡ s → TakesSome cs s t
+none_some : (cs : List Change) (s t : DurableState) → t ≡ s → TakesSome cs s t
 none_some [] s t e = e
 none_some (c ∷ cs) s t e = inl e
 
-all_some : (cs : List Change) (s t : State) → Takes cs s t → TakesSome cs s t
+all_some : (cs : List Change) (s t : DurableState) → Takes cs s t → TakesSome cs s t
 all_some [] s t e = e
 all_some (c ∷ cs) s t h = inr (h.0, all_some cs (after s c) t h.1)
 
-fewer_some : (cs : List Change) (s t : State) → TakesFewer cs s t → TakesSome cs s t
+fewer_some : (cs : List Change) (s t : DurableState) → TakesFewer cs s t → TakesSome cs s t
 fewer_some [] s t h = absurd h
 fewer_some (c ∷ cs) s t (inl e) = inl e
 fewer_some (c ∷ cs) s t (inr h) = inr (h.0, fewer_some cs (after s c) t h.1)
 
-lost_refused : (n : ℕ) (c : Change) (s t : State) (up now : Bool) → RefusedChange n c s up t now → (t ≡ s) ⊎ ((up ≡ true) × TakesSome (c ∷ []) s t)
+lost_refused : (n : ℕ) (c : Change) (s t : DurableState) (up now : Bool) → RefusedChange n c s up t now → (t ≡ s) ⊎ ((up ≡ true) × TakesSome (c ∷ []) s t)
 lost_refused n c s t up now (inl h) = inl h.1
 lost_refused n c s t up now (inr h) = h.2
 
-lost_boot : (mode : BootMode) (x : Printed) (s t : State) (up now : Bool) → Tells (Boot mode) x s up t now → TakesSome (commands_of mode) s t
+lost_boot : (mode : BootMode) (x : Printed) (s t : DurableState) (up now : Bool) → Tells (Boot mode) x s up t now → TakesSome (commands_of mode) s t
 lost_boot mode (printed.On m) s t up now h = all_some (commands_of mode) s t h.2
 lost_boot mode (printed.OnRefused n) s t up now (a, b, inl e) = none_some (commands_of mode) s t e
 lost_boot mode (printed.OnRefused n) s t up now (a, b, inr (inl h)) = fewer_some (commands_of mode) s t h
@@ -37,7 +37,7 @@ lost_boot mode (printed.OnRefused n) s t up now (a, b, inr (inr h)) = h.1
 lost_boot mode printed.PowerLost s t up now h = h.0
 lost_boot mode x s t up now h = none_some (commands_of mode) s t h.0
 
-lost_command : (c : Change) (x : Printed) (s t : State) (up now : Bool) → Tells (Command c) x s up t now → (t ≡ s) ⊎ ((up ≡ true) × TakesSome (c ∷ []) s t)
+lost_command : (c : Change) (x : Printed) (s t : DurableState) (up now : Bool) → Tells (Command c) x s up t now → (t ≡ s) ⊎ ((up ≡ true) × TakesSome (c ∷ []) s t)
 lost_command c (printed.Acknowledged word k) s t up now h = inr (h.0, all_some (c ∷ []) s t h.1)
 lost_command c (printed.CommandRefused word n) s t up now h = lost_refused n c s t up now h
 lost_command c (printed.On m) s t up now h = absurd h
@@ -45,34 +45,34 @@ lost_command c printed.PowerLost s t up now h = h.0
 lost_command c x s t up now h = inl h.0
 
 -- what power lost in a line of turns or a call may leave
-abbrev LostGuest : State → Bool → State → Type 0
+abbrev LostGuest : DurableState → Bool → DurableState → Type 0
 LostGuest s up t = (t ≡ s) ⊎ ((up ≡ true) × (c : Change) × IsOfHarts c × TakesSome (c ∷ []) s t)
 
-lost_hides : (s t : State) (up now : Bool) → Hides s up t now → LostGuest s up t
+lost_hides : (s t : DurableState) (up now : Bool) → Hides s up t now → LostGuest s up t
 lost_hides s t up now (inl h) = inl h.0
 lost_hides s t up now (inr h) = inr (h.0, h.2, h.3, h.4)
 
-lost_word : (word : Word) (s t : State) (up now : Bool) → TellsWord word s up t now → LostGuest s up t
+lost_word : (word : Word) (s t : DurableState) (up now : Bool) → TellsWord word s up t now → LostGuest s up t
 lost_word (words.Own did) s t up now h = lost_hides s t up now h
 lost_word words.Asleep s t up now h = inr (h.0, h.2, inr h.3, all_some (h.2 ∷ []) s t h.4)
 lost_word (words.Reset kind) s t up now h = inr (h.0, h.2, inl h.3, all_some (h.2 ∷ []) s t h.4)
 
-lost_line : (line : MachineLine) (s t : State) (up now : Bool) → TellsLine line s up t now → LostGuest s up t
+lost_line : (line : MachineLine) (s t : DurableState) (up now : Bool) → TellsLine line s up t now → LostGuest s up t
 lost_line (shown_lines.Turn h made word) s t up now x = lost_word word s t up now x
 lost_line (shown_lines.Called h word) s t up now x = lost_word word s t up now x
 lost_line line s t up now x = lost_hides s t up now x
 
-lost_guest : (x : Printed) (s t : State) (up now : Bool) → Tells Guest x s up t now → LostGuest s up t
+lost_guest : (x : Printed) (s t : DurableState) (up now : Bool) → Tells Guest x s up t now → LostGuest s up t
 lost_guest (printed.Shown line) s t up now h = lost_line line s t up now h
 lost_guest (printed.On m) s t up now h = absurd h
 lost_guest printed.PowerLost s t up now h = h.0
 lost_guest x s t up now h = inl h.0
 
-lost_nothing : (x : Printed) (s t : State) (up now : Bool) → Tells Nothing x s up t now → t ≡ s
+lost_nothing : (x : Printed) (s t : DurableState) (up now : Bool) → Tells Nothing x s up t now → t ≡ s
 lost_nothing (printed.On m) s t up now h = absurd h
 lost_nothing x s t up now h = h.0
 
-pub lost : (asked : Asked) (x : Printed) (s t : State) (up now : Bool) → Tells asked x s up t now → Lost asked s up t
+pub lost : (asked : Asked) (x : Printed) (s t : DurableState) (up now : Bool) → Tells asked x s up t now → Lost asked s up t
 lost (Boot mode) x s t up now h = lost_boot mode x s t up now h
 lost (Command c) x s t up now h = lost_command c x s t up now h
 lost Guest x s t up now h = lost_guest x s t up now h

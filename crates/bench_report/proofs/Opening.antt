@@ -1,6 +1,6 @@
 -- What an open answers, and the boot after it.
 use Rattle.std.proofs.Common.{◌≡◌, ◌≢◌, ◌≤◌, arith, inl, inr, None, refl, sym, ◌∙◌, ap, subst}
-use Rattle.board_model.specs.Durable.{State}
+use Rattle.board_model.specs.Durable.{DurableState}
 use Rattle.board_model.specs.Kept.{Kept, MayFind}
 use Rattle.board_model.specs.Shapes.{Size}
 use Rattle.board_model.specs.Shown.{number_of}
@@ -23,7 +23,7 @@ use Rattle.bench_report.proofs.KeptDisks.{KeptLaw, BlankLaw, LeavesLess}
 use Rattle.bench_report.proofs.Ended.{left_on}
 
 -- what an open finds is one of the states that the commands kept let it find; it keeps the command in doubt or drops it
-pub opens : (size : Size) (m : DiskState) (b : Bench) (disk : Facts) (z : Size) (s : State) → DiskIs size m b.kept disk → Leaves disk z s → (IsBlank disk → ⊥) → ((y : Size) → IsKept disk y → y ≡ z)
+pub opens : (size : Size) (m : DiskState) (b : Bench) (disk : Facts) (z : Size) (s : DurableState) → DiskIs size m b.kept disk → Leaves disk z s → (IsBlank disk → ⊥) → ((y : Size) → IsKept disk y → y ≡ z)
     → (k : Kept) × Opens size m b s z (record b { kept = k }) × LifeIs size m k (begun s z) z
 opens size Blank b disk z s was leaves formatted one = absurd (formatted was)
 opens size Unknown b disk z s was leaves formatted one = (b.kept, refl, refl)

@@ -1,7 +1,7 @@
 -- The plain report is one, of a run in which memory was never refused and no failure was answered.
 use Rattle.std.proofs.Common.{◌≡◌, ℕ, ◌+◌, ◌<◌, ◌≤◌, inl, inr, List, [], ◌∷◌, Option, None, Some, Result, Ok, Err, refl, sym, subst, arith, Bool, true, false, ◌==◌, cond, eqb→eq, T, lit≤, is_some, if◌then◌else◌, ap, ◌∙◌}
 use Rattle.std.specs.Bool.{⊤}
-use Rattle.board_model.specs.Durable.{State, Image, Change, Slot, Discard, formatted, refusal_of, after}
+use Rattle.board_model.specs.Durable.{DurableState, Image, Change, Slot, Discard, formatted, refusal_of, after}
 use Rattle.board_model.specs.Kept.{found_of}
 use Rattle.board_model.specs.Shapes.{Size}
 use Rattle.board.specs.Boots.{boot_refusal, booted}
@@ -43,7 +43,7 @@ still b step reported h e good = let P : Bench → Type 0 = λ x. IsGood x × As
 -- ---- a command
 -- it makes no image
 abbrev MakesNone : Change → Type 0
-MakesNone c = (s : State) → s.image ≡ None → (after s c).image ≡ None
+MakesNone c = (s : DurableState) → s.image ≡ None → (after s c).image ≡ None
 
 abbrev WellIssued : Change → BenchLife → Bench → Result ℕ ℕ × Bench → Type 0
 WellIssued c life b reported = Issued c life b reported.0 reported.1 × IsGood reported.1 × AsMany b reported.1
@@ -56,7 +56,7 @@ written (Some n) c life b none at calm few good =
 written None c life b none at calm few good =
     let P : Option Change → Type 0 = λ d. IssuedBy d c life b (Ok (life.receipts + 1)) (acknowledged c life b) in
     let Q : Option ℕ → Type 0 = λ r. Writes r c life b (Ok (life.receipts + 1)) (acknowledged c life b) in
-    (subst P (sym calm) (inr (few, subst Q (sym at) (inl (refl, refl)))), (good.0, (calm, omega (arith, few)), good.2, ap (λ (s : State). s.image) (grows formatted b.kept.changes c) ∙ none (found_of b.kept.changes) good.3), (refl, refl))
+    (subst P (sym calm) (inr (few, subst Q (sym at) (inl (refl, refl)))), (good.0, (calm, omega (arith, few)), good.2, ap (λ (s : DurableState). s.image) (grows formatted b.kept.changes c) ∙ none (found_of b.kept.changes) good.3), (refl, refl))
 
 issued : (full : Bool) (c : Change) (life : BenchLife) (b : Bench) → MakesNone c → (life.receipts == 4096) ≡ full → life.doubt ≡ None → life.receipts ≤ 4096 → IsGood b → WellIssued c life b (plain_issued c life b)
 issued true c life b none at calm few good =
@@ -97,17 +97,17 @@ never_on o none allowed =
     let P : Option Image → Type 0 = λ x. ◌≡◌ {A = Option ℕ} (if is_some x then None else Some 8) None in
     absurd (let e : ◌≡◌ {A = Option ℕ} (Some 8) None = subst P none allowed in let no : ⊥ = cc in no)
 
-begins : (mode : BootMode) (z : Size) (s : State) (b : Bench) → s.image ≡ None → boot_refusal s mode ≡ None → IsGood b → Well b (λ a new. Begins mode z s b a.line new) (plain_slot mode z s b)
+begins : (mode : BootMode) (z : Size) (s : DurableState) (b : Bench) → s.image ≡ None → boot_refusal s mode ≡ None → IsGood b → Well b (λ a new. Begins mode z s b a.line new) (plain_slot mode z s b)
 begins modes.Fresh z s b none allowed good = ((Ok 0, on_with (begun s z) b, (refl, refl), (begun s z, refl, refl, booted b.payloads s z, refl, refl)), (good.0, (refl, lit≤ tt), good.2, good.3), (refl, refl))
 begins modes.Keep z s b none allowed good = ((Ok 0, on_with (begun s z) b, (refl, refl), (begun s z, refl, refl, booted b.payloads s z, refl, refl)), (good.0, (refl, lit≤ tt), good.2, good.3), (refl, refl))
 begins modes.Discard z s b none allowed good = never_on s.image none allowed
 begins modes.Resume z s b none allowed good = never_on s.image none allowed
 
-boots : (r : Option ℕ) (mode : BootMode) (z : Size) (s : State) (b : Bench) → s.image ≡ None → boot_refusal s mode ≡ r → IsGood b → Well b (λ a new. Boots r mode z s b a.line new) (plain_boot r mode z s b)
+boots : (r : Option ℕ) (mode : BootMode) (z : Size) (s : DurableState) (b : Bench) → s.image ≡ None → boot_refusal s mode ≡ r → IsGood b → Well b (λ a new. Boots r mode z s b a.line new) (plain_boot r mode z s b)
 boots (Some n) mode z s b none at good = ((refl, refl), good, (refl, refl))
 boots None mode z s b none at good = let did = begins mode z s b none at good in (inl did.0, did.1, did.2)
 
-found_line : (r : Option ℕ) (mode : BootMode) (z : Size) (s : State) (b : Bench) → ShowsFound (plain_boot r mode z s b).0.found s
+found_line : (r : Option ℕ) (mode : BootMode) (z : Size) (s : DurableState) (b : Bench) → ShowsFound (plain_boot r mode z s b).0.found s
 found_line (Some n) mode z s b = refl
 found_line None mode z s b = refl
 
@@ -117,7 +117,7 @@ powers size Blank mode b at calm good =
     (inr (inl (1, subst P (sym at) refl, refl, refl)), good, (refl, refl))
 powers size Unknown mode b at calm good = absurd calm
 powers size Formatted mode b at calm good =
-    let s : State = found_of b.kept.changes in
+    let s : DurableState = found_of b.kept.changes in
     let mid : Bench = settled b.kept.changes b in
     let P : DiskState → Type 0 = λ m. Opens size m b s size mid in
     let Q : DiskState → Type 0 = λ m. CalmDisk m None in

@@ -1,7 +1,7 @@
 -- The prefix law, one induction over the lines, backwards: the state before a line comes of the one after it, so that the fate of a
 -- command in doubt is reported by the open that settles it.
 use Rattle.std.proofs.Common.{◌≡◌, ℕ, inl, inr, List, [], ◌∷◌, Option, None, Some, Result, Ok, Err, refl, sym, ◌∙◌, ap, subst, Bool, true, false, MatchBool}
-use Rattle.board_model.specs.Durable.{State, Change, Slot, Discard, formatted}
+use Rattle.board_model.specs.Durable.{DurableState, Change, Slot, Discard, formatted}
 use Rattle.board_model.specs.Kept.{Kept, nothing_kept, found_of, MayKeep, MayFind}
 use Rattle.board_model.specs.Shapes.{Size}
 use Rattle.board_model.specs.Shown.{durable_of}
@@ -40,7 +40,7 @@ use Rattle.bench_report.proofs.Wholes.{IsKeptWhole, all_loaded}
 use Rattle.bench_report.proofs.Issues.{takes_more, is_up, GoesOn, IsSound, Back, joined, said, Went, Does, issued_back, AllWent, all_back}
 
 -- ---- a line that leaves what the disk stands for
-abbrev pub LineReports : Asked → Answer → Bool → Bool → State → State → Type 0
+abbrev pub LineReports : Asked → Answer → Bool → Bool → DurableState → DurableState → Type 0
 LineReports asked a up now s t = ShowsIts a.found s × Tells asked a.line s up t now
 
 abbrev pub Tell : Asked → Bench → Answer → Bench → Type 0
@@ -54,24 +54,24 @@ by_eqs asked b a x new n e f h =
 
 -- it says a word that tells of no command, and the bench is as it was to an open
 same : (asked : Asked) (b : Bench) (a : Answer) (x : Printed) (new n : Bench) → a ≡ says x → new ≡ n → n.kept ≡ b.kept → n.disk_state ≡ b.disk_state → is_up n.power ≡ is_up b.power → GoesOn n.kept n.power → IsSound b
-    → ((s t : State) → t ≡ s → Tells asked x s (is_up b.power) t (is_up b.power)) → Tell asked b a new
+    → ((s t : DurableState) → t ≡ s → Tells asked x s (is_up b.power) t (is_up b.power)) → Tell asked b a new
 same asked b a x new n e f kept disk_state up goes sound tells =
-    let P : Kept → State → Type 0 = λ k t. MayFind k t in
-    let Q : Bool → State → Type 0 = λ now s. Tells asked x s (is_up b.power) s now in
+    let P : Kept → DurableState → Type 0 = λ k t. MayFind k t in
+    let Q : Bool → DurableState → Type 0 = λ now s. Tells asked x s (is_up b.power) s now in
     by_eqs asked b a (says x) new n e f
     ((disk_state ∙ sound.0, goes), λ t found. (t, (let R : Kept → Type 0 = λ k. MayFind k t in subst R kept found), (tt, (let S : Bool → Type 0 = λ now. Tells asked x t (is_up b.power) t now in subst S (sym up) (tells t t refl)))))
 
-stays : (asked : Asked) (b : Bench) (a : Answer) (x : Printed) (new : Bench) → a ≡ says x → new ≡ b → IsSound b → ((s t : State) → t ≡ s → Tells asked x s (is_up b.power) t (is_up b.power)) → Tell asked b a new
+stays : (asked : Asked) (b : Bench) (a : Answer) (x : Printed) (new : Bench) → a ≡ says x → new ≡ b → IsSound b → ((s t : DurableState) → t ≡ s → Tells asked x s (is_up b.power) t (is_up b.power)) → Tell asked b a new
 stays asked b a x new e f sound tells = same asked b a x new b e f refl refl refl sound.1 sound tells
 
 -- ---- power on
-by_parts : (mode : BootMode) (a : Answer) (f : Option Durable) (x : Printed) (up now : Bool) (s t : State) → a.found ≡ f → a.line ≡ x → ShowsIts f s → Tells (Boot mode) x s up t now → LineReports (Boot mode) a up now s t
+by_parts : (mode : BootMode) (a : Answer) (f : Option Durable) (x : Printed) (up now : Bool) (s t : DurableState) → a.found ≡ f → a.line ≡ x → ShowsIts f s → Tells (Boot mode) x s up t now → LineReports (Boot mode) a up now s t
 by_parts mode a f x up now s t e g shows tells =
     let P : Option Durable → Type 0 = λ o. ShowsIts o s in
     let Q : Printed → Type 0 = λ y. Tells (Boot mode) y s up t now in
     (subst P (sym e) shows, subst Q (sym g) tells)
 
-found_as : (o : Option Durable) (s : State) → ShowsFound o s → o ≡ Some (durable_of s)
+found_as : (o : Option Durable) (s : DurableState) → ShowsFound o s → o ≡ Some (durable_of s)
 found_as None s h = absurd h
 found_as (Some d) s h = ap Some h
 
@@ -80,7 +80,7 @@ module _ (b : Bench) (changes : List Change) (may : MayKeep b.kept changes) (dis
   opened : (x : Bench) → x.kept ≡ record { changes = changes; doubt = None } → IsSound x → Back b x (λ s t. (t ≡ s) × (s ≡ found_of changes))
   opened x e sound = (sound, λ t found. (found_of changes, (changes, may, refl), (let P : Kept → Type 0 = λ k. MayFind k t in alone t (subst P e found), refl)))
     where
-      alone : (t : State) → MayFind (record { changes = changes; doubt = None }) t → t ≡ found_of changes
+      alone : (t : DurableState) → MayFind (record { changes = changes; doubt = None }) t → t ≡ found_of changes
       alone t (cs, inl e, is) = is ∙ ap found_of e
       alone t (cs, inr e, is) = absurd e
 
@@ -90,7 +90,7 @@ module _ (b : Bench) (changes : List Change) (may : MayKeep b.kept changes) (dis
   sound_off : (k : Kept) (p : Option BenchLife) → p ≡ b.power → GoesOn k p
   sound_off k p e = let F : Option BenchLife → Type 0 = λ q. GoesOn k q in subst F (sym (e ∙ on)) tt
 
-  shown : (s : State) → s ≡ found_of changes → ShowsIts (Some (durable_of (found_of changes))) s
+  shown : (s : DurableState) → s ≡ found_of changes → ShowsIts (Some (durable_of (found_of changes))) s
   shown s e = ap durable_of (sym e)
 
   refused_boot : (n : ℕ) (mode : BootMode) (a : Answer) (x new : Bench) → a.found ≡ Some (durable_of (found_of changes)) → a.line ≡ printed.OnRefused n → new ≡ x
@@ -131,7 +131,7 @@ module _ (b : Bench) (changes : List Change) (may : MayKeep b.kept changes) (dis
       let whole : Back b mid (λ s t. (s ≡ found_of changes) × AllWent o (commands_of mode) (is_up mid.power) s t) =
       joined b start mid (λ s t. (t ≡ s) × (s ≡ found_of changes)) (AllWent o (commands_of mode) (is_up mid.power)) (λ s t. (s ≡ found_of changes) × AllWent o (commands_of mode) (is_up mid.power) s t)
       (opened start refl sound) rest
-      (λ s u t x w. (x.1, (let R : State → Type 0 = λ v. AllWent o (commands_of mode) (is_up mid.power) v t in subst R x.0 w))) in
+      (λ s u t x w. (x.1, (let R : DurableState → Type 0 = λ v. AllWent o (commands_of mode) (is_up mid.power) v t in subst R x.0 w))) in
       is_on o mode z a mid new found whole on_h
 
   resumes_at : (z : Size) (a : Answer) (new : Bench) → a.found ≡ Some (durable_of (found_of changes)) → Resumes z (found_of changes) (settled changes b) a.line new → Tell (Boot modes.Resume) b a new
@@ -149,12 +149,12 @@ module _ (b : Bench) (changes : List Change) (may : MayKeep b.kept changes) (dis
   boots None mode z a new found (inl h) = begins mode z a new found h
   boots None mode z a new found (inr h) = refused_boot 11 mode a (out_of_memory (settled changes b)) new found h.0 h.1 refl refl refl
 
-opens : (size : Size) (m : DiskState) (mode : BootMode) (b : Bench) (a : Answer) (new mid : Bench) (s : State) (z : Size) → b.disk_state ≡ m → b.disk_state ≡ Formatted → b.power ≡ None → Opens size m b s z mid → ShowsFound a.found s
+opens : (size : Size) (m : DiskState) (mode : BootMode) (b : Bench) (a : Answer) (new mid : Bench) (s : DurableState) (z : Size) → b.disk_state ≡ m → b.disk_state ≡ Formatted → b.power ≡ None → Opens size m b s z mid → ShowsFound a.found s
     → Boots (boot_refusal s mode) mode z s mid a.line new → Tell (Boot mode) b a new
 opens size Blank mode b a new mid s z at disk_state on h shows boot = absurd h
 opens size Unknown mode b a new mid s z at disk_state on h shows boot = absurd (let e : Unknown ≡ Formatted = sym at ∙ disk_state in let no : ⊥ = cc in no)
 opens size Formatted mode b a new mid s z at disk_state on (changes, may, is, sized, e) shows boot =
-    let P : State → Type 0 = λ x. Boots (boot_refusal x mode) mode z x mid a.line new in
+    let P : DurableState → Type 0 = λ x. Boots (boot_refusal x mode) mode z x mid a.line new in
     let Q : Bench → Type 0 = λ x. Boots (boot_refusal (found_of changes) mode) mode z (found_of changes) x a.line new in
     boots b changes may disk_state on (boot_refusal (found_of changes) mode) mode z a new (found_as a.found s shows ∙ ap (λ x. Some (durable_of x)) is) (subst Q e (subst P is boot))
 
@@ -171,7 +171,7 @@ console_says word c (Ok k) b a new one e =
 console_says word c (Err k) b a new one e =
     by_eqs (Command c) b a _ new new e refl (said b new (Went (Err k) c (is_up b.power) (is_up new.power)) (λ s t. LineReports (Command c) (says (printed.CommandRefused word k)) (is_up b.power) (is_up new.power) s t) one (λ s t w. (tt, down s t w)))
   where
-    down : (s t : State) → Went (Err k) c (is_up b.power) (is_up new.power) s t → RefusedChange k c s (is_up b.power) t (is_up new.power)
+    down : (s t : DurableState) → Went (Err k) c (is_up b.power) (is_up new.power) s t → RefusedChange k c s (is_up b.power) t (is_up new.power)
     down s t (inl w) = inl w
     down s t (inr (inl w)) = inr (w.0, w.3, inl w.1)
     down s t (inr (inr w)) = inr (w.0, w.2, inr (w.1, w.3))
@@ -206,11 +206,11 @@ turn_says : (word : Word) (h made : ℕ) (b : Bench) (a : Answer) (new : Bench) 
 turn_says word h made b a new back e =
     by_eqs Guest b a _ new new e refl (said b new (λ s t. TellsWord word s (is_up b.power) t (is_up new.power)) (λ s t. LineReports Guest (shows (shown_lines.Turn h made word)) (is_up b.power) (is_up new.power) s t) back (λ s t w. (tt, w)))
 
-line_says : (word : Word) (line : MachineLine) (b : Bench) (a : Answer) (new : Bench) → GoesBy word b new → a ≡ shows line → ((s t : State) → TellsWord word s (is_up b.power) t (is_up new.power) → TellsLine line s (is_up b.power) t (is_up new.power)) → Tell Guest b a new
+line_says : (word : Word) (line : MachineLine) (b : Bench) (a : Answer) (new : Bench) → GoesBy word b new → a ≡ shows line → ((s t : DurableState) → TellsWord word s (is_up b.power) t (is_up new.power) → TellsLine line s (is_up b.power) t (is_up new.power)) → Tell Guest b a new
 line_says word line b a new back e tells =
     by_eqs Guest b a _ new new e refl (said b new (λ s t. TellsWord word s (is_up b.power) t (is_up new.power)) (λ s t. LineReports Guest (shows line) (is_up b.power) (is_up new.power) s t) back (λ s t w. (tt, tells s t w)))
 
-own_tells : (h : ℕ) (hart : HartState) (did : Turned) (s t : State) (up now : Bool) → Hides s up t now → TellsLine (own_line h hart did) s up t now
+own_tells : (h : ℕ) (hart : HartState) (did : Turned) (s t : DurableState) (up now : Bool) → Hides s up t now → TellsLine (own_line h hart did) s up t now
 own_tells h hart dids.Next s t up now w = w
 own_tells h hart dids.Idle s t up now w = w
 own_tells h hart dids.Entered s t up now w = w
@@ -268,7 +268,7 @@ steps size (lines.FailLane x y) b a new by sound h = same Nothing b a _ new (arm
 steps size (lines.Cut fill) b a new by sound h = by_eqs Nothing b a _ new (unpowered b) h.0 h.1 ((sound.0, tt), λ t f. (t, f, (tt, (refl, refl))))
 steps size (lines.Poke x y z) b a new by sound h = absurd by
 
-lost_tells : (asked : Asked) (s t : State) (up : Bool) → Lost asked s up t → Tells asked printed.PowerLost s up t false
+lost_tells : (asked : Asked) (s t : DurableState) (up : Bool) → Lost asked s up t → Tells asked printed.PowerLost s up t false
 lost_tells (Boot mode) s t up h = (h, refl)
 lost_tells (Command c) s t up h = (h, refl)
 lost_tells Guest s t up h = (h, refl)
@@ -281,7 +281,7 @@ moves size line b a new by sound (inr (would, mid, step, struck, e, is)) =
     by_eqs (asked_by line) b a _ new (unpowered mid) e is
     ((reported.0.0, tt), λ t f. (let s = reported.1 t f in (s.0, s.1, (tt, lost_tells (asked_by line) s.0 t (is_up b.power) (lost (asked_by line) would.line s.0 t (is_up b.power) (is_up mid.power) s.2.1)))))
 
-prefixed : (size : Size) (ls : List Line) (b : Bench) (answers : List Answer) (end : Bench) → AreByFirmware ls → IsSound b → Run size b ls answers end → (s : State) × MayFind b.kept s × IsPrefixed s (is_up b.power) ls answers
+prefixed : (size : Size) (ls : List Line) (b : Bench) (answers : List Answer) (end : Bench) → AreByFirmware ls → IsSound b → Run size b ls answers end → (s : DurableState) × MayFind b.kept s × IsPrefixed s (is_up b.power) ls answers
 prefixed size [] b [] end by sound run = (found_of b.kept.changes, (b.kept.changes, inl refl, refl), tt)
 prefixed size (l ∷ ls) b (a ∷ answers) end by sound run =
     let reported : Tell (asked_by l) b a run.0 = moves size l b a run.0 by.0 sound run.1 in
@@ -318,21 +318,21 @@ formatted_at : (p : Option BenchLife) (b : Bench) (a : Answer) (new : Bench) →
 formatted_at None b a new on h ok = formatted_on b.disk_state b a new on h ok
 formatted_at (Some life) b a new on h ok = other a _ h.0 refl ok
 
-is_on_no : {T : Type 0} (o : Result ℕ ℕ) (mode : BootMode) (z : Size) (s : State) (b : Bench) (x : Printed) (new : Bench) → IsOn o mode z s b x new → is_format_ok x ≡ true → T
+is_on_no : {T : Type 0} (o : Result ℕ ℕ) (mode : BootMode) (z : Size) (s : DurableState) (b : Bench) (x : Printed) (new : Bench) → IsOn o mode z s b x new → is_format_ok x ≡ true → T
 is_on_no (Ok n) mode z s b x new h ok = by_line x _ h.2 refl ok
 is_on_no (Err n) mode z s b x new h ok = by_line x _ h.0 refl ok
 
-resumes_no : {T : Type 0} (z : Size) (s : State) (b : Bench) (x : Printed) (new : Bench) → Resumes z s b x new → is_format_ok x ≡ true → T
+resumes_no : {T : Type 0} (z : Size) (s : DurableState) (b : Bench) (x : Printed) (new : Bench) → Resumes z s b x new → is_format_ok x ≡ true → T
 resumes_no z s b x new (inl h) ok = is_on_no h.0 modes.Resume z s h.1 x new h.3 ok
 resumes_no z s b x new (inr h) ok = by_line x _ h.1 refl ok
 
-begins_no : {T : Type 0} (mode : BootMode) (z : Size) (s : State) (b : Bench) (x : Printed) (new : Bench) → Begins mode z s b x new → is_format_ok x ≡ true → T
+begins_no : {T : Type 0} (mode : BootMode) (z : Size) (s : DurableState) (b : Bench) (x : Printed) (new : Bench) → Begins mode z s b x new → is_format_ok x ≡ true → T
 begins_no modes.Fresh z s b x new h ok = is_on_no h.0 modes.Fresh z s h.1 x new h.3 ok
 begins_no modes.Keep z s b x new h ok = is_on_no h.0 modes.Keep z s h.1 x new h.3 ok
 begins_no modes.Discard z s b x new h ok = is_on_no h.0 modes.Discard z s h.1 x new h.3 ok
 begins_no modes.Resume z s b x new h ok = resumes_no z s b x new h ok
 
-boots_no : {T : Type 0} (r : Option ℕ) (mode : BootMode) (z : Size) (s : State) (b : Bench) (x : Printed) (new : Bench) → Boots r mode z s b x new → is_format_ok x ≡ true → T
+boots_no : {T : Type 0} (r : Option ℕ) (mode : BootMode) (z : Size) (s : DurableState) (b : Bench) (x : Printed) (new : Bench) → Boots r mode z s b x new → is_format_ok x ≡ true → T
 boots_no None mode z s b x new (inl h) ok = begins_no mode z s b x new h ok
 boots_no None mode z s b x new (inr h) ok = by_line x _ h.0 refl ok
 boots_no (Some n) mode z s b x new h ok = by_line x _ h.0 refl ok
@@ -412,7 +412,7 @@ anew : (size : Size) (ls : List Line) (b : Bench) (answers : List Answer) (end :
 anew size ls b answers end by (disk_state, kept, on) run =
     let F : Option BenchLife → Type 0 = λ p. GoesOn b.kept p in
     let reported = prefixed size ls b answers end by (disk_state, subst F (sym on) tt) run in
-    let P : State → Type 0 = λ s. IsPrefixed s (is_up b.power) ls answers in
+    let P : DurableState → Type 0 = λ s. IsPrefixed s (is_up b.power) ls answers in
     let Q : Bool → Type 0 = λ up. IsPrefixed formatted up ls answers in
     let R : Kept → Type 0 = λ k. MayFind k reported.0 in
     let law = subst Q (ap is_up on) (subst P (first reported.0 (subst R kept reported.1)) reported.2) in
@@ -424,7 +424,7 @@ anew size ls b answers end by (disk_state, kept, on) run =
         let Q : Option BenchLife → Type 0 = λ p. IsKeptWhole size (record b { kept = nothing_kept; power = p }) in
         subst P (sym e) (subst Q (sym f) (disk_state, tt, tt, tt))
 
-    first : (s : State) → MayFind nothing_kept s → s ≡ formatted
+    first : (s : DurableState) → MayFind nothing_kept s → s ≡ formatted
     first s (cs, inl e, is) = is ∙ ap found_of e
     first s (cs, inr e, is) = absurd e
 

@@ -1,6 +1,6 @@
 -- Power-ons at any point of a run.
 use Rattle.std.proofs.Common.{◌≡◌, ◌≢◌, ◌⊎◌, ℕ, zero, suc, inl, inr, List, [], ◌∷◌, ◌++◌, Option, None, Some, Result, Ok, Err, refl, sym, ◌∙◌, ap, subst, arith}
-use Rattle.board_model.specs.Durable.{State, Image, Change, Slot, Reset, Suspend, Consume, Discard, formatted, refusal_of, after, fold}
+use Rattle.board_model.specs.Durable.{DurableState, Image, Change, Slot, Reset, Suspend, Consume, Discard, formatted, refusal_of, after, fold}
 use Rattle.board_model.specs.Kept.{Kept, MayKeep, MayFind, TakesIn, found_of}
 use Rattle.board_model.specs.Shapes.{Size}
 use Rattle.board_model.specs.Shown.{durable_of}
@@ -21,10 +21,10 @@ use Rattle.bench_report.proofs.Determined.{HasFailed, CalmDisk, starves, hinders
 use Rattle.bench_report.proofs.Single.{run_fair, clean, moves_fair}
 
 -- ---- the suspension that made an image
-abbrev MadeSince : State → List Change → Image → Type 0
+abbrev MadeSince : DurableState → List Change → Image → Type 0
 MadeSince s cs i = (before later : List Change) × (cs ≡ before ++ Suspend i.hart i.address i.opaque i.memory ∷ later) × (i.serial ≡ (fold s before).next)
 
-made_at : (s : State) (c : Change) (cs : List Change) (i : Image) → (after s c).image ≡ Some i → (s.image ≡ Some i) ⊎ MadeSince s (c ∷ cs) i
+made_at : (s : DurableState) (c : Change) (cs : List Change) (i : Image) → (after s c).image ≡ Some i → (s.image ≡ Some i) ⊎ MadeSince s (c ∷ cs) i
 made_at s (Slot n) cs i e = inl e
 made_at s (Reset r) cs i e = inl e
 made_at s (Suspend h a o m) cs i e =
@@ -36,7 +36,7 @@ made_at s (Suspend h a o m) cs i e =
 made_at s Consume cs i e = absurd (let no : ⊥ = cc in no)
 made_at s Discard cs i e = absurd (let no : ⊥ = cc in no)
 
-made_since : (s : State) (cs : List Change) (i : Image) → (fold s cs).image ≡ Some i → (s.image ≡ Some i) ⊎ MadeSince s cs i
+made_since : (s : DurableState) (cs : List Change) (i : Image) → (fold s cs).image ≡ Some i → (s.image ≡ Some i) ⊎ MadeSince s cs i
 made_since s [] i e = inl e
 made_since s (c ∷ cs) i e = by_rest (made_since (after s c) cs i e)
   where
@@ -58,7 +58,7 @@ other x y e differs is = absurd (differs (sym e ∙ is))
 said : {A : Type 0} (a : Answer) (y : Printed) → a ≡ says y → y ≢ printed.On modes.Resume → a.line ≡ printed.On modes.Resume → A
 said a y e differs is = other a.line y (ap (λ (x : Answer). x.line) e) differs is
 
-found_as : (o : Option Durable) (s : State) → ShowsFound o s → o ≡ Some (durable_of s)
+found_as : (o : Option Durable) (s : DurableState) → ShowsFound o s → o ≡ Some (durable_of s)
 found_as None s h = absurd h
 found_as (Some d) s h = ap Some h
 
@@ -69,11 +69,11 @@ one_writes c life b o new n ok None (inl w) = w.1
 one_writes c life b o new n ok None (inr (inl w)) = absurd (let g : ◌≡◌ {A = Result ℕ ℕ} (Ok n) (Err 5) = sym ok ∙ w.0 in let no : ⊥ = cc in no)
 one_writes c life b o new n ok None (inr (inr w)) = absurd (let g : ◌≡◌ {A = Result ℕ ℕ} (Ok n) (Err 6) = sym ok ∙ w.0 in let no : ⊥ = cc in no)
 
-one_issued : (c : Change) (s : State) (z : Size) (b : Bench) (o : Result ℕ ℕ) (new : Bench) (n : ℕ) → o ≡ Ok n → Issued c (begun s z) b o new → new ≡ acknowledged c (begun s z) b
+one_issued : (c : Change) (s : DurableState) (z : Size) (b : Bench) (o : Result ℕ ℕ) (new : Bench) (n : ℕ) → o ≡ Ok n → Issued c (begun s z) b o new → new ≡ acknowledged c (begun s z) b
 one_issued c s z b o new n ok (inl i) = absurd (let g : ◌≡◌ {A = Result ℕ ℕ} (Ok n) (Err 10) = sym ok ∙ i.1 in let no : ⊥ = cc in no)
 one_issued c s z b o new n ok (inr i) = one_writes c (begun s z) b o new n ok (refusal_of s c) i.1
 
-one_command : (c : Change) (s : State) (z : Size) (b : Bench) (n : ℕ) (mid : Bench) → IssuesAll (c ∷ []) (on_with (begun s z) b) (Ok n) mid → mid ≡ acknowledged c (begun s z) (on_with (begun s z) b)
+one_command : (c : Change) (s : DurableState) (z : Size) (b : Bench) (n : ℕ) (mid : Bench) → IssuesAll (c ∷ []) (on_with (begun s z) b) (Ok n) mid → mid ≡ acknowledged c (begun s z) (on_with (begun s z) b)
 one_command c s z b n mid (life, on, first, last, i, inl (k, ok, rest)) =
     let start : Bench = on_with (begun s z) b in
     let L : BenchLife → Type 0 = λ l. Issued c l start first last in
@@ -111,12 +111,12 @@ module _ (size : Size) (b : Bench) (a : Answer) (new : Bench) (changes : List Ch
   boots None line (inr x) = other a.line (printed.OnRefused 11) x.0 (λ f. (let no : ⊥ = cc in no)) line
   boots (Some n) line x = other a.line (printed.OnRefused n) x.0 (λ f. (let no : ⊥ = cc in no)) line
 
-opens : (size : Size) (m : DiskState) (b : Bench) (a : Answer) (new mid : Bench) (s : State) (z : Size) → b.disk_state ≡ m → b.disk_state ≡ Formatted → Opens size m b s z mid → ShowsFound a.found s → a.line ≡ printed.On modes.Resume
+opens : (size : Size) (m : DiskState) (b : Bench) (a : Answer) (new mid : Bench) (s : DurableState) (z : Size) → b.disk_state ≡ m → b.disk_state ≡ Formatted → Opens size m b s z mid → ShowsFound a.found s → a.line ≡ printed.On modes.Resume
     → Boots (boot_refusal s modes.Resume) modes.Resume z s mid a.line new → IsResumedFrom size b a new
 opens size Blank b a new mid s z at disk_state h shows line boot = absurd h
 opens size Unknown b a new mid s z at disk_state h shows line boot = absurd (let e : Unknown ≡ Formatted = sym at ∙ disk_state in let no : ⊥ = cc in no)
 opens size Formatted b a new mid s z at disk_state (changes, may, is, sized, e) shows line boot =
-    let P : State → Type 0 = λ x. Boots (boot_refusal x modes.Resume) modes.Resume z x mid a.line new in
+    let P : DurableState → Type 0 = λ x. Boots (boot_refusal x modes.Resume) modes.Resume z x mid a.line new in
     let Z : Size → Type 0 = λ y. Boots (boot_refusal (found_of changes) modes.Resume) modes.Resume y (found_of changes) mid a.line new in
     let Q : Bench → Type 0 = λ x. Boots (boot_refusal (found_of changes) modes.Resume) modes.Resume size (found_of changes) x a.line new in
     boots size b a new changes may (found_as a.found s shows ∙ ap (λ x. Some (durable_of x)) is) (boot_refusal (found_of changes) modes.Resume) line (subst Q e (subst Z sized (subst P is boot)))
@@ -147,7 +147,7 @@ kept_as : (k : Kept) (changes : List Change) → k.doubt ≡ None → MayKeep k 
 kept_as k changes calm (inl e) = e
 kept_as k changes calm (inr t) = let P : Option Change → Type 0 = λ d. TakesIn d k.changes changes in absurd (subst P calm t)
 
-opens_sure : (size : Size) (m : DiskState) (b : Bench) (s : State) (z : Size) (mid : Bench) → b.disk_state ≡ m → b.disk_state ≡ Formatted → b.kept.doubt ≡ None → Opens size m b s z mid → s ≡ found_of b.kept.changes
+opens_sure : (size : Size) (m : DiskState) (b : Bench) (s : DurableState) (z : Size) (mid : Bench) → b.disk_state ≡ m → b.disk_state ≡ Formatted → b.kept.doubt ≡ None → Opens size m b s z mid → s ≡ found_of b.kept.changes
 opens_sure size Blank b s z mid at disk_state calm h = absurd h
 opens_sure size Unknown b s z mid at disk_state calm h = absurd (let e : Unknown ≡ Formatted = sym at ∙ disk_state in let no : ⊥ = cc in no)
 opens_sure size Formatted b s z mid at disk_state calm (changes, may, is, sized, e) = is ∙ ap found_of (kept_as b.kept changes calm may)
@@ -180,7 +180,7 @@ finds_all script answers b mode a new by h disk_state none (inr (would, mid, ste
 untold : {A : Type 0} (a : Answer) (line : Printed) (d : Durable) → a ≡ says line → a.found ≡ Some d → A
 untold a line d e reported = let g : ◌≡◌ {A = Option Durable} None (Some d) = ap (λ (x : Answer). x.found) (sym e) ∙ reported in absurd (let no : ⊥ = cc in no)
 
-powers_find : (size : Size) (mode : BootMode) (b : Bench) (a : Answer) (new : Bench) (d : Durable) → b.disk_state ≡ Formatted → PowersOn size mode b a new → a.found ≡ Some d → (s : State) × MayFind b.kept s × (d ≡ durable_of s)
+powers_find : (size : Size) (mode : BootMode) (b : Bench) (a : Answer) (new : Bench) (d : Durable) → b.disk_state ≡ Formatted → PowersOn size mode b a new → a.found ≡ Some d → (s : DurableState) × MayFind b.kept s × (d ≡ durable_of s)
 powers_find size mode b a new d disk_state (inl (s, z, mid, found, shows, boot)) reported = (s, opens_find b.disk_state refl found, shown (found_as a.found s shows))
   where
     opens_find : (m : DiskState) → b.disk_state ≡ m → Opens size m b s z mid → MayFind b.kept s
@@ -194,10 +194,10 @@ powers_find size mode b a new d disk_state (inr (inl h)) reported = untold a (pr
 powers_find size mode b a new d disk_state (inr (inr (inl h))) reported = untold a (printed.OnRefused 11) d h.1 reported
 powers_find size mode b a new d disk_state (inr (inr (inr h))) reported = untold a (printed.OnRefused 5) d h.0 reported
 
-on_find : (size : Size) (p : Option BenchLife) (mode : BootMode) (b : Bench) (a : Answer) (new : Bench) (d : Durable) → b.disk_state ≡ Formatted → OnStep size p mode b a new → a.found ≡ Some d → (s : State) × MayFind b.kept s × (d ≡ durable_of s)
+on_find : (size : Size) (p : Option BenchLife) (mode : BootMode) (b : Bench) (a : Answer) (new : Bench) (d : Durable) → b.disk_state ≡ Formatted → OnStep size p mode b a new → a.found ≡ Some d → (s : DurableState) × MayFind b.kept s × (d ≡ durable_of s)
 on_find size None mode b a new d disk_state h reported = powers_find size mode b a new d disk_state h reported
 on_find size (Some life) mode b a new d disk_state h reported = untold a printed.Busy d h.0 reported
 
-pub finds : (size : Size) (mode : BootMode) (b : Bench) (a : Answer) (new : Bench) (d : Durable) → b.disk_state ≡ Formatted → Moves size (lines.On mode) b a new → a.found ≡ Some d → (s : State) × MayFind b.kept s × (d ≡ durable_of s)
+pub finds : (size : Size) (mode : BootMode) (b : Bench) (a : Answer) (new : Bench) (d : Durable) → b.disk_state ≡ Formatted → Moves size (lines.On mode) b a new → a.found ≡ Some d → (s : DurableState) × MayFind b.kept s × (d ≡ durable_of s)
 finds size mode b a new d disk_state (inl move) reported = on_find size b.power mode b a new d disk_state move.0 reported
 finds size mode b a new d disk_state (inr (would, mid, step, struck, e, is)) reported = untold a printed.PowerLost d e reported

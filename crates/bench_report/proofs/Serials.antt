@@ -1,6 +1,6 @@
 -- The serials of the images that are resumed rise strictly: a consequence of the prefix law alone.
 use Rattle.std.proofs.Common.{◌≡◌, ◌≤◌, ◌<◌, ◌+◌, ℕ, inl, inr, List, [], ◌∷◌, Option, None, Some, IfSome, refl, sym, subst, arith, Bool, false}
-use Rattle.board_model.specs.Durable.{Image, State, Change, Slot, Reset, Suspend, Consume, Discard, formatted, after}
+use Rattle.board_model.specs.Durable.{Image, DurableState, Change, Slot, Reset, Suspend, Consume, Discard, formatted, after}
 use Rattle.board_model.specs.Shown.{head_of}
 use Rattle.board_model.specs.declared.durable.Durable.{Durable}
 use Rattle.board_model.specs.declared.boot_mode.BootMode.{BootMode}
@@ -15,25 +15,25 @@ use Rattle.bench_report.specs.Prefix.{Asked, Boot, Command, Guest, Nothing, aske
 use Rattle.bench_report.proofs.Lost.{lost}
 
 -- no serial below n will be resumed again
-abbrev Above : ℕ → State → Type 0
+abbrev Above : ℕ → DurableState → Type 0
 Above n s = (n ≤ s.next) × IfSome s.image (λ i. (n ≤ i.serial) × (i.serial < s.next))
 
-above_after : (n : ℕ) (s : State) (c : Change) → Above n s → Above n (after s c)
+above_after : (n : ℕ) (s : DurableState) (c : Change) → Above n s → Above n (after s c)
 above_after n s (Slot k) a = a
 above_after n s (Reset r) a = a
 above_after n s (Suspend h x o m) a = (omega (arith, a.0), (a.0, omega arith))
 above_after n s Consume a = (a.0, tt)
 above_after n s Discard a = (a.0, tt)
 
-same : (n : ℕ) (s t : State) → t ≡ s → Above n s → Above n t
-same n s t e a = let P : State → Type 0 = Above n in subst P (sym e) a
+same : (n : ℕ) (s t : DurableState) → t ≡ s → Above n s → Above n t
+same n s t e a = let P : DurableState → Type 0 = Above n in subst P (sym e) a
 
-some : (cs : List Change) (n : ℕ) (s t : State) → TakesSome cs s t → Above n s → Above n t
+some : (cs : List Change) (n : ℕ) (s t : DurableState) → TakesSome cs s t → Above n s → Above n t
 some [] n s t e a = same n s t e a
 some (c ∷ cs) n s t (inl e) a = same n s t e a
 some (c ∷ cs) n s t (inr h) a = some cs n (after s c) t h.1 (above_after n s c a)
 
-above_lost : (asked : Asked) (up : Bool) (n : ℕ) (s t : State) → Lost asked s up t → Above n s → Above n t
+above_lost : (asked : Asked) (up : Bool) (n : ℕ) (s t : DurableState) → Lost asked s up t → Above n s → Above n t
 above_lost (Boot mode) up n s t h a = some (commands_of mode) n s t h a
 above_lost (Command c) up n s t (inl e) a = same n s t e a
 above_lost (Command c) up n s t (inr h) a = some (c ∷ []) n s t h.1 a
@@ -42,17 +42,17 @@ above_lost Guest up n s t (inr h) a = some (h.1 ∷ []) n s t h.3 a
 above_lost Nothing up n s t e a = same n s t e a
 
 -- what is resumed has a serial that no later one has
-consumed : (n : ℕ) (s t : State) (o : Option Image) (rest : List ℕ) → s.image ≡ o → Takes (Consume ∷ []) s t → Above n s → ((k : ℕ) → Above k t → RisesFrom k rest) → RisesFrom n (serial_then (head_of o) rest)
+consumed : (n : ℕ) (s t : DurableState) (o : Option Image) (rest : List ℕ) → s.image ≡ o → Takes (Consume ∷ []) s t → Above n s → ((k : ℕ) → Above k t → RisesFrom k rest) → RisesFrom n (serial_then (head_of o) rest)
 consumed n s t None rest e h a more = more n (same n (after s Consume) t h.1 (a.0, tt))
 consumed n s t (Some i) rest e h a more =
     let P : Option Image → Type 0 = λ o. IfSome o (λ i. (n ≤ i.serial) × (i.serial < s.next)) in
     let at : (n ≤ i.serial) × (i.serial < s.next) = subst P e a.1 in
     (at.0, more (i.serial + 1) (same (i.serial + 1) (after s Consume) t h.1 (omega (arith, at.1), tt)))
 
-goes_on : (asked : Asked) (said : Printed) (up now : Bool) (n : ℕ) (s t : State) (rest : List ℕ) → Tells asked said s up t now → Above n s → ((k : ℕ) → Above k t → RisesFrom k rest) → RisesFrom n rest
+goes_on : (asked : Asked) (said : Printed) (up now : Bool) (n : ℕ) (s t : DurableState) (rest : List ℕ) → Tells asked said s up t now → Above n s → ((k : ℕ) → Above k t → RisesFrom k rest) → RisesFrom n rest
 goes_on asked said up now n s t rest h a more = more n (above_lost asked up n s t (lost asked said s t up now h) a)
 
-line_rises : (found : Option Durable) (said : Printed) (asked : Asked) (up now : Bool) (n : ℕ) (s t : State) (rest : List ℕ) → ShowsIts found s → Tells asked said s up t now → Above n s
+line_rises : (found : Option Durable) (said : Printed) (asked : Asked) (up now : Bool) (n : ℕ) (s t : DurableState) (rest : List ℕ) → ShowsIts found s → Tells asked said s up t now → Above n s
     → ((k : ℕ) → Above k t → RisesFrom k rest) → RisesFrom n (resumed found said rest)
 line_rises None said asked up now n s t rest shows h a more = goes_on asked said up now n s t rest h a more
 line_rises (Some d) (printed.On modes.Resume) (Boot mode) up now n s t rest shows h a more =
@@ -67,7 +67,7 @@ line_rises (Some d) (printed.On modes.Keep) asked up now n s t rest shows h a mo
 line_rises (Some d) (printed.On modes.Discard) asked up now n s t rest shows h a more = goes_on asked (printed.On modes.Discard) up now n s t rest h a more
 line_rises (Some d) said asked up now n s t rest shows h a more = goes_on asked said up now n s t rest h a more
 
-rises : (ls : List Line) (answers : List Answer) (n : ℕ) (s : State) (up : Bool) → IsPrefixed s up ls answers → Above n s → RisesFrom n (resumes answers)
+rises : (ls : List Line) (answers : List Answer) (n : ℕ) (s : DurableState) (up : Bool) → IsPrefixed s up ls answers → Above n s → RisesFrom n (resumes answers)
 rises [] [] n s up h a = tt
 rises (l ∷ ls) (x ∷ answers) n s up h a =
     line_rises x.found x.line (asked_by l) up h.2 n s h.1 (resumes answers) h.0 h.3 a (λ k above. rises ls answers k h.1 h.2 h.4 above)

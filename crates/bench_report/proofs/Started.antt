@@ -1,6 +1,6 @@
 -- A power-on whose open succeeded.
 use Rattle.std.proofs.Common.{◌≡◌, ◌≢◌, ◌≤◌, ℕ, List, [], ◌∷◌, Option, None, Some, Ok, Err, inl, inr, refl, sym, ◌∙◌, ap, subst, arith, lit<}
-use Rattle.board_model.specs.Durable.{State, Change, Consume, Discard, after, refusal_of}
+use Rattle.board_model.specs.Durable.{DurableState, Change, Consume, Discard, after, refusal_of}
 use Rattle.board_model.specs.Kept.{Kept}
 use Rattle.board_model.specs.Shapes.{Size, IsSize}
 use Rattle.board_model.specs.Shown.{number_of}
@@ -43,36 +43,36 @@ no_doubt : (mode : BootMode) (e : Refusal) → e ≢ Down → doubt_after mode e
 no_doubt mode Down up = absurd (up refl)
 no_doubt mode e up = refl
 
-as_begun : (store : SimStore) (s : State) → life_of store ≡ started s → IsAs store s 0 None
+as_begun : (store : SimStore) (s : DurableState) → life_of store ≡ started s → IsAs store s 0 None
 as_begun store s e = let P : StoreLife → Type 0 = λ life. IsLife life s 0 None in subst P (sym e) (refl, refl, refl, refl)
 
-as_issued : (store : SimStore) (s : State) (c : Change) → life_of store ≡ record (started s) { journal = c ∷ [] } → IsAs store (after s c) 1 None
+as_issued : (store : SimStore) (s : DurableState) (c : Change) → life_of store ≡ record (started s) { journal = c ∷ [] } → IsAs store (after s c) 1 None
 as_issued store s c e = let P : StoreLife → Type 0 = λ life. IsLife life (after s c) 1 None in subst P (sym e) (refl, refl, refl, refl)
 
 -- what a crash leaves of a disk whose life ends with the boot
-kept_only : (size z : Size) (m : DiskState) (k : Kept) (s : State) (disk : Facts) → LifeIs size m k (begun s z) z → LeavesOnly disk z s → DiskIs size m k disk
+kept_only : (size z : Size) (m : DiskState) (k : Kept) (s : DurableState) (disk : Facts) → LifeIs size m k (begun s z) z → LeavesOnly disk z s → DiskIs size m k disk
 kept_only size z Blank k s disk follows l = absurd follows
 kept_only size z Unknown k s disk follows l = tt
 kept_only size z Formatted k s disk follows l = left_only size z k s disk follows.1 follows.2 l
 
-kept_either : (size z : Size) (m : DiskState) (k : Kept) (s : State) (c : Change) (disk : Facts) → LifeIs size m k (begun s z) z → refusal_of s c ≡ None → LeavesEither disk z s (after s c)
+kept_either : (size z : Size) (m : DiskState) (k : Kept) (s : DurableState) (c : Change) (disk : Facts) → LifeIs size m k (begun s z) z → refusal_of s c ≡ None → LeavesEither disk z s (after s c)
     → DiskIs size m (record k { doubt = Some c }) disk
 kept_either size z Blank k s c disk follows allowed l = absurd follows
 kept_either size z Unknown k s c disk follows allowed l = tt
 kept_either size z Formatted k s c disk follows allowed l = left_either size z (record k { doubt = Some c }) c s disk refl follows.1 allowed follows.2 l
 
 -- an open that found a state
-opened : KeptLaw → BlankLaw → (size : Size) (b : Bench) (old : SimDisk) (z : Size) (s : State) → OffIs size b old → Leaves (facts old) z s → (k : Kept) × Opens size b.disk_state b s z (record b { kept = k }) × LifeIs size b.disk_state k (begun s z) z
+opened : KeptLaw → BlankLaw → (size : Size) (b : Bench) (old : SimDisk) (z : Size) (s : DurableState) → OffIs size b old → Leaves (facts old) z s → (k : Kept) × Opens size b.disk_state b s z (record b { kept = k }) × LifeIs size b.disk_state k (begun s z) z
 opened kept blank size b old z s off leaves = opens size b.disk_state b (facts old) z s off.1 leaves (λ is. blank.stands old z s is leaves) (λ y is. kept.one_size old y z s leaves is)
 
 -- ---- the board is on
-abbrev BoardStarts : Size → BootMode → Size → State → Bench → Printed → SimBoard → Type 0
+abbrev BoardStarts : Size → BootMode → Size → DurableState → Bench → Printed → SimBoard → Type 0
 BoardStarts size mode z s b line board = (x : Bench) × BootsFrom mode z s b line x × OnIs size x board × (x.payloads ≡ b.payloads)
 
-abbrev BoardOn : Size → BootMode → Size → State → Bench → Printed → SimBoard → Type 0
+abbrev BoardOn : Size → BootMode → Size → DurableState → Bench → Printed → SimBoard → Type 0
 BoardOn size mode z s b line board = (x : Bench) × Begins mode z s b line x × OnIs size x board × (x.payloads ≡ b.payloads)
 
-module _ (size : Size) (b : Bench) (s : State) (board : SimBoard) (line : Printed) (follows : LifeIs size b.disk_state b.kept (begun s (store_size (store_in board))) (store_size (store_in board)))
+module _ (size : Size) (b : Bench) (s : DurableState) (board : SimBoard) (line : Printed) (follows : LifeIs size b.disk_state b.kept (begun s (store_size (store_in board))) (store_size (store_in board)))
     (device : DeviceIs size b (store_fault_state (store_in board)) (store_facts (store_in board))) where
   abbrev z : Size
   z = store_size (store_in board)
@@ -120,7 +120,7 @@ pub power_ok : KeptLaw → BlankLaw → (size : Size) (mode : BootMode) (b : Ben
     → ShowsFound a.found (life_of (store_in board)).found → a.line ≡ printed.On mode → (x : Bench) × PowersOn size mode b a x × OnIs size x board × (x.payloads ≡ b.payloads)
 power_ok kept blank size mode b payloads old board a off same on keeps shows h =
     let z = store_size (store_in board) in
-    let s : State = (life_of (store_in board)).found in
+    let s : DurableState = (life_of (store_in board)).found in
     let m = opened kept blank size b old z s off on.found in
     let c : Bench = record b { kept = m.0 } in
     let device = stays size c (fault_state old) (store_fault_state (store_in board)) (facts old) (store_facts (store_in board)) off.2 keeps.cause (omega (arith, keeps.no_failure)) keeps.length in
@@ -130,7 +130,7 @@ power_ok kept blank size mode b payloads old board a off same on keeps shows h =
     (did.0, inl (s, z, c, m.1, shows, subst P (sym on.allowed) (inl did.1)), did.2, did.3)
 
 -- ---- the board is off, after an open that left this bench
-module _ (size : Size) (b : Bench) (old new : SimDisk) (z : Size) (s : State) (payloads : List (List ℕ)) (line : Printed) (none : b.power ≡ None) (device : DeviceIs size b (fault_state old) (facts old))
+module _ (size : Size) (b : Bench) (old new : SimDisk) (z : Size) (s : DurableState) (payloads : List (List ℕ)) (line : Printed) (none : b.power ≡ None) (device : DeviceIs size b (fault_state old) (facts old))
     (follows : LifeIs size b.disk_state b.kept (begun s z) z) (fits : PayloadsFit z payloads) (no_fewer : (facts old).failures ≤ (facts new).failures) (long : SameLength (facts old) (facts new)) where
   abbrev Left : Option ℕ → BootMode → Type 0
   Left o mode = (x : Bench) × Boots o mode z s b line x × OffIs size x new × (x.payloads ≡ b.payloads)
@@ -214,7 +214,7 @@ unpowered kept blank size mode b old new payloads e n None off short code is giv
     open_err kept blank size mode b old new (says (printed.OnRefused n)) e off.0 off.2 is.why gives.cause gives.no_fewer gives.length is.any_moment.now (ap (λ k. says (printed.OnRefused k)) code) off.1
 unpowered kept blank size mode b old new payloads e n (Some d) off short code is gives =
     let z : Size = is.size in
-    let s : State = is.state in
+    let s : DurableState = is.state in
     let m = opened kept blank size b old z s off is.earlier in
     let c : Bench = record b { kept = m.0 } in
     let did = refused size c old new z s payloads (printed.OnRefused n) off.0 off.2 m.2 (roomy z payloads (kept.sized old z s is.earlier) short) gives.no_fewer gives.length mode (boot_refusal s mode) e refl

@@ -1,6 +1,6 @@
 -- The numbers of the table of commands, and of the modes of a boot.
 use Rattle.std.proofs.Common.{◌≡◌, ◌≢◌, ◌⊎◌, ℕ, inl, inr, Option, None, Some, ◌∙◌, ap, arith, Bool, true, false, nat_lt, is_some, if◌then◌else◌}
-use Rattle.board_model.specs.Durable.{State, Change, Slot, Reset, Suspend, Consume, Discard, refusal_of}
+use Rattle.board_model.specs.Durable.{DurableState, Change, Slot, Reset, Suspend, Consume, Discard, refusal_of}
 use Rattle.board_model.specs.Shown.{number_of}
 use Rattle.board_model.specs.declared.boot_mode.BootMode.{BootMode}
 use Rattle.board_model.specs.declared.boot_mode.BootMode.TheVariants as modes
@@ -27,7 +27,7 @@ twelve n h = inr (inl (let e : 12 ≡ n = cc in e))
 eight : (n : ℕ) → Some 8 ≡ Some n → IsOfTable n
 eight n h = inr (inr (let e : 8 ≡ n = cc in e))
 
-pub of_table : (s : State) (c : Change) (n : ℕ) → refusal_of s c ≡ Some n → IsOfTable n
+pub of_table : (s : DurableState) (c : Change) (n : ℕ) → refusal_of s c ≡ Some n → IsOfTable n
 of_table s (Slot k) n h = elim (one_of (nat_lt 3 k) (Some 9) None n h) [ inl e ↦ nine n e | inr e ↦ never n e ]
 of_table s (Reset r) n h = never n h
 of_table s (Suspend x y z m) n h = elim (one_of _ (Some 12) None n h) [ inl e ↦ twelve n e | inr e ↦ never n e ]
@@ -39,34 +39,34 @@ differs k n a b c (inl e) f = a (e ∙ f)
 differs k n a b c (inr (inl e)) f = b (e ∙ f)
 differs k n a b c (inr (inr e)) f = c (e ∙ f)
 
-pub not_device : (s : State) (c : Change) (e : Refusal) → refusal_of s c ≡ Some (number_of e) → e ≢ Device
+pub not_device : (s : DurableState) (c : Change) (e : Refusal) → refusal_of s c ≡ Some (number_of e) → e ≢ Device
 not_device s c e h is = differs 5 (number_of e) (λ f. omega (arith, f)) (λ f. omega (arith, f)) (λ f. omega (arith, f)) (of_table s c (number_of e) h) (ap number_of is)
 
-pub not_down : (s : State) (c : Change) (e : Refusal) → refusal_of s c ≡ Some (number_of e) → e ≢ Down
+pub not_down : (s : DurableState) (c : Change) (e : Refusal) → refusal_of s c ≡ Some (number_of e) → e ≢ Down
 not_down s c e h is = differs 6 (number_of e) (λ f. omega (arith, f)) (λ f. omega (arith, f)) (λ f. omega (arith, f)) (of_table s c (number_of e) h) (ap number_of is)
 
-pub table_not_six : (s : State) (c : Change) (n : ℕ) → refusal_of s c ≡ Some n → n ≢ 6
+pub table_not_six : (s : DurableState) (c : Change) (n : ℕ) → refusal_of s c ≡ Some n → n ≢ 6
 table_not_six s c n h = differs 6 n (λ f. omega (arith, f)) (λ f. omega (arith, f)) (λ f. omega (arith, f)) (of_table s c n h)
 
-pub table_not_thirteen : (s : State) (c : Change) (n : ℕ) → refusal_of s c ≡ Some n → n ≢ 13
+pub table_not_thirteen : (s : DurableState) (c : Change) (n : ℕ) → refusal_of s c ≡ Some n → n ≢ 13
 table_not_thirteen s c n h = differs 13 n (λ f. omega (arith, f)) (λ f. omega (arith, f)) (λ f. omega (arith, f)) (of_table s c n h)
 
 abbrev pub IsOfModes : ℕ → Type 0
 IsOfModes n = (15 ≡ n) ⊎ (8 ≡ n)
 
 -- the numbers with which a mode is refused
-pub of_modes : (s : State) (mode : BootMode) (n : ℕ) → boot_refusal s mode ≡ Some n → IsOfModes n
+pub of_modes : (s : DurableState) (mode : BootMode) (n : ℕ) → boot_refusal s mode ≡ Some n → IsOfModes n
 of_modes s modes.Fresh n h = elim (one_of (is_some s.image) (Some 15) None n h) [ inl e ↦ inl (let f : 15 ≡ n = cc in f) | inr e ↦ absurd (let no : ⊥ = cc in no) ]
 of_modes s modes.Keep n h = absurd (let no : ⊥ = cc in no)
 of_modes s modes.Discard n h = elim (one_of (is_some s.image) None (Some 8) n h) [ inl e ↦ absurd (let no : ⊥ = cc in no) | inr e ↦ inr (let f : 8 ≡ n = cc in f) ]
 of_modes s modes.Resume n h = elim (one_of (is_some s.image) None (Some 8) n h) [ inl e ↦ absurd (let no : ⊥ = cc in no) | inr e ↦ inr (let f : 8 ≡ n = cc in f) ]
 
 -- a refusal of a mode is none of the disk
-pub mode_not_device : (s : State) (mode : BootMode) (n : ℕ) (e : Refusal) → boot_refusal s mode ≡ Some n → number_of e ≡ n → e ≢ Device
+pub mode_not_device : (s : DurableState) (mode : BootMode) (n : ℕ) (e : Refusal) → boot_refusal s mode ≡ Some n → number_of e ≡ n → e ≢ Device
 mode_not_device s mode n e h at is = elim (of_modes s mode n h) [ inl f ↦ omega (arith, f, at, ap number_of is) | inr f ↦ omega (arith, f, at, ap number_of is) ]
 
-pub mode_not_thirteen : (s : State) (mode : BootMode) (n : ℕ) → boot_refusal s mode ≡ Some n → n ≢ 13
+pub mode_not_thirteen : (s : DurableState) (mode : BootMode) (n : ℕ) → boot_refusal s mode ≡ Some n → n ≢ 13
 mode_not_thirteen s mode n h is = elim (of_modes s mode n h) [ inl f ↦ omega (arith, f, is) | inr f ↦ omega (arith, f, is) ]
 
-pub mode_not_down : (s : State) (mode : BootMode) (n : ℕ) (e : Refusal) → boot_refusal s mode ≡ Some n → number_of e ≡ n → e ≢ Down
+pub mode_not_down : (s : DurableState) (mode : BootMode) (n : ℕ) (e : Refusal) → boot_refusal s mode ≡ Some n → number_of e ≡ n → e ≢ Down
 mode_not_down s mode n e h at is = elim (of_modes s mode n h) [ inl f ↦ omega (arith, f, at, ap number_of is) | inr f ↦ omega (arith, f, at, ap number_of is) ]

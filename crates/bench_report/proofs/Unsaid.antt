@@ -1,6 +1,6 @@
 -- What turns and calls of harts make of the state that the disk stands for, read backwards.
 use Rattle.std.proofs.Common.{◌≡◌, ◌≢◌, ℕ, zero, suc, inl, inr, [], ◌∷◌, Bool, true, false, Option, Some, Result, Ok, Err, refl, sym, ◌∙◌, ap, subst, arith}
-use Rattle.board_model.specs.Durable.{State, Change, Reset, Suspend}
+use Rattle.board_model.specs.Durable.{DurableState, Change, Reset, Suspend}
 use Rattle.board_model.specs.Kept.{Kept, MayFind}
 use Rattle.board_model.specs.declared.durable.Reason.{Reason}
 use Rattle.machine.specs.Machine.{hart_at}
@@ -56,7 +56,7 @@ of_harts (words.Own did) c is = absurd is
 of_harts words.Asleep c is = inr is
 of_harts (words.Reset kind) c is = inl is
 
-tells_end : (word : Word) (c : Change) → OfWord word c → (up : Bool) (s t : State) → up ≡ true → Takes (c ∷ []) s t → TellsWord word s up t false
+tells_end : (word : Word) (c : Change) → OfWord word c → (up : Bool) (s t : DurableState) → up ≡ true → Takes (c ∷ []) s t → TellsWord word s up t false
 tells_end (words.Own did) c is up s t on takes = absurd is
 tells_end words.Asleep c is up s t on takes = (on, refl, c, is, takes)
 tells_end (words.Reset kind) c is up s t on takes = (on, refl, c, is, takes)
@@ -72,7 +72,7 @@ held_back (Err n) reported c is h b mid word new back (life, on, (e, f)) =
     by_eqs word (words.Own Next) b new (on_with (refused h Failed life) mid) e f
     (same_life life mid back.0 on (refused h Failed life) refl refl, λ t found. (let s = back.1 t found in (s.0, s.1, went s.0 t s.2)))
   where
-    went : (s t : State) → Went (Err n) c (is_up b.power) (is_up mid.power) s t → Hides s (is_up b.power) t (takes_more life.doubt)
+    went : (s t : DurableState) → Went (Err n) c (is_up b.power) (is_up mid.power) s t → Hides s (is_up b.power) t (takes_more life.doubt)
     went s t (inl w) = inl (w.1, sym (ap is_up on) ∙ w.2)
     went s t (inr (inl w)) = inl (w.1, sym (ap is_up on) ∙ w.3 ∙ sym w.2)
     went s t (inr (inr w)) = inr (w.1, sym (ap is_up on) ∙ w.2, c, of_harts reported c is, w.3)
@@ -87,7 +87,7 @@ none_went : (n : ℕ) (c : Change) (b mid : Bench) → IsSound b → n ≢ 6 →
 none_went n c b mid sound differs disk_state kept power =
     let F : Kept → Type 0 = λ k. GoesOn k mid.power in
     let G : Option BenchLife → Type 0 = λ p. GoesOn b.kept p in
-    let K : Kept → State → Type 0 = λ k t. MayFind k t in
+    let K : Kept → DurableState → Type 0 = λ k t. MayFind k t in
     ((disk_state ∙ sound.0, subst F (sym kept) (subst G (sym power) sound.1)), λ t found. (t, (let R : Kept → Type 0 = λ k. MayFind k t in subst R kept found), inl (differs, refl, ap is_up power)))
 
 suspends_back : (Fits : Type 0) (c : Change) (life : BenchLife) (b : Bench) (o : Result ℕ ℕ) (mid : Bench) → IsSound b → b.power ≡ Some life → Suspends Fits c life b o mid → Back b mid (Went o c (is_up b.power) (is_up mid.power))
@@ -129,7 +129,7 @@ comes_back Durable h life other b word new sound on now doubt x =
     let start : Bench = on_with other b in
     let back : GoesBy word start new = makes_back (call_of (hart_at other.machine h)) h other start word new (same_life life b sound on other now doubt) refl x in
     let up : is_up start.power ≡ is_up b.power = ap takes_more doubt ∙ sym (ap is_up on) in
-    let P : Bool → Type 0 = λ u. (t : State) → MayFind new.kept t → (s : State) × MayFind b.kept s × TellsWord word s u t (is_up new.power) in
+    let P : Bool → Type 0 = λ u. (t : DurableState) → MayFind new.kept t → (s : DurableState) × MayFind b.kept s × TellsWord word s u t (is_up new.power) in
     (back.0, subst P up back.1)
 comes_back did h life other b word new sound on now doubt x = by_eqs word (words.Own did) b new (on_with other b) x.0 x.1 (stays word life b other sound on now doubt)
 
@@ -137,20 +137,20 @@ turn_back : (h : ℕ) (life : BenchLife) (b : Bench) (word : Word) (new : Bench)
 turn_back h life b word new sound on (m, did, turn, x) = comes_back did h life (has_machine m life) b word new sound on refl refl x
 
 -- a turn after which others follow, and those
-followed : (word : Word) (up mid now : Bool) (s u t : State) → Hides s up u mid → TellsWord word u mid t now → TellsWord word s up t now
+followed : (word : Word) (up mid now : Bool) (s u t : DurableState) → Hides s up u mid → TellsWord word u mid t now → TellsWord word s up t now
 followed word up mid now s u t (inl x) y =
-    let P : State → Type 0 = λ v. TellsWord word v up t now in
+    let P : DurableState → Type 0 = λ v. TellsWord word v up t now in
     let Q : Bool → Type 0 = λ m. TellsWord word u m t now in
     subst P x.0 (subst Q x.1 y)
 followed (words.Own did) up mid now s u t (inr x) (inl y) =
-    let P : State → Type 0 = TakesSome (x.2 ∷ []) s in
+    let P : DurableState → Type 0 = TakesSome (x.2 ∷ []) s in
     inr (x.0, y.1 ∙ x.1, x.2, x.3, subst P (sym y.0) x.4)
 followed (words.Own did) up mid now s u t (inr x) (inr y) = absurd (let e : true ≡ false = sym y.0 ∙ x.1 in let no : ⊥ = cc in no)
 followed words.Asleep up mid now s u t (inr x) y = absurd (let e : true ≡ false = sym y.0 ∙ x.1 in let no : ⊥ = cc in no)
 followed (words.Reset kind) up mid now s u t (inr x) y = absurd (let e : true ≡ false = sym y.0 ∙ x.1 in let no : ⊥ = cc in no)
 
 -- a word that does not end a line tells no end of a life
-hides : (word : Word) (up now : Bool) (s t : State) → ends word ≡ false → TellsWord word s up t now → Hides s up t now
+hides : (word : Word) (up now : Bool) (s t : DurableState) → ends word ≡ false → TellsWord word s up t now → Hides s up t now
 hides (words.Own did) up now s t e x = x
 hides words.Asleep up now s t e x = absurd (let no : ⊥ = cc in no)
 hides (words.Reset kind) up now s t e x = absurd (let no : ⊥ = cc in no)

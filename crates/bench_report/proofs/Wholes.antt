@@ -2,7 +2,7 @@
 -- an image. So no power-on is refused 13.
 use Rattle.std.proofs.Common.{◌≡◌, ◌≢◌, ◌+◌, ℕ, zero, suc, inl, inr, List, [], ◌∷◌, ◌++◌, Option, None, Some, Result, Ok, Err, refl, sym, ◌∙◌, ap, subst, arith}
 use Rattle.std.specs.Bool.{⊤}
-use Rattle.board_model.specs.Durable.{State, Change, Slot, Reset, Suspend, Consume, Discard, formatted, refusal_of, after, IsWhole, CarriesWhole}
+use Rattle.board_model.specs.Durable.{DurableState, Change, Slot, Reset, Suspend, Consume, Discard, formatted, refusal_of, after, IsWhole, CarriesWhole}
 use Rattle.board_model.specs.Kept.{Kept, found_of, MayKeep, TakesIn}
 use Rattle.board_model.specs.Shapes.{Size, ram_bytes_of}
 use Rattle.board_model.specs.declared.boot_mode.BootMode.{BootMode}
@@ -53,7 +53,7 @@ IsSized size (Some life) = life.machine.size ≡ size
 abbrev pub IsKeptWhole : Size → Bench → Type 0
 IsKeptWhole size b = (b.disk_state ≡ Formatted) × IsWhole size (found_of b.kept.changes) × DoubtWhole size b.kept.doubt × IsSized size b.power
 
-whole_after : (size : Size) (s : State) (c : Change) → IsWhole size s → CarriesWhole size c → IsWhole size (after s c)
+whole_after : (size : Size) (s : DurableState) (c : Change) → IsWhole size s → CarriesWhole size c → IsWhole size (after s c)
 whole_after size s (Slot n) w carries = w
 whole_after size s (Reset r) w carries = w
 whole_after size s (Suspend h a o m) w carries = carries
@@ -61,7 +61,7 @@ whole_after size s Consume w carries = tt
 whole_after size s Discard w carries = tt
 
 more_whole : (size : Size) (changes : List Change) (c : Change) → IsWhole size (found_of changes) → CarriesWhole size c → IsWhole size (found_of (changes ++ c ∷ []))
-more_whole size changes c w carries = let P : State → Type 0 = IsWhole size in subst P (sym (grows formatted changes c)) (whole_after size (found_of changes) c w carries)
+more_whole size changes c w carries = let P : DurableState → Type 0 = IsWhole size in subst P (sym (grows formatted changes c)) (whole_after size (found_of changes) c w carries)
 
 may_whole : (size : Size) (k : Kept) (d : Option Change) (changes : List Change) → k.doubt ≡ d → IsWhole size (found_of k.changes) → DoubtWhole size d → MayKeep k changes → IsWhole size (found_of changes)
 may_whole size k d changes at w carries (inl e) = let P : List Change → Type 0 = λ cs. IsWhole size (found_of cs) in subst P (sym e) w
@@ -176,31 +176,31 @@ module _ (size : Size) where
   each_carries modes.Discard = (tt, tt)
   each_carries modes.Resume = (tt, tt)
 
-  is_on : (o : Result ℕ ℕ) (mode : BootMode) (z : Size) (s : State) (b : Bench) (line : Printed) (new : Bench) → z ≡ size → IsKeptWhole size b → IsOn o mode z s b line new → IsKeptWhole size new
+  is_on : (o : Result ℕ ℕ) (mode : BootMode) (z : Size) (s : DurableState) (b : Bench) (line : Printed) (new : Bench) → z ≡ size → IsKeptWhole size b → IsOn o mode z s b line new → IsKeptWhole size new
   is_on (Ok n) mode z s b line new same k (life, on, said, m, is, e) = same_as (on_with (has_machine m life) b) new e (k.0, k.1, k.2, begun_size mode z b.payloads s m is ∙ same)
   is_on (Err n) mode z s b line new same k x = same_as (off b) new x.1 (k.0, k.1, k.2, tt)
 
-  starts : (mode : BootMode) (z : Size) (s : State) (b : Bench) (line : Printed) (new : Bench) → z ≡ size → IsKeptWhole size b → BootsFrom mode z s b line new → IsKeptWhole size new
+  starts : (mode : BootMode) (z : Size) (s : DurableState) (b : Bench) (line : Printed) (new : Bench) → z ≡ size → IsKeptWhole size b → BootsFrom mode z s b line new → IsKeptWhole size new
   starts mode z s b line new same k (o, mid, x, on) = is_on o mode z s mid line new same (all (commands_of mode) (on_with (begun s z) b) o mid (each_carries mode) (k.0, k.1, k.2, same) x) on
 
-  begins : (mode : BootMode) (z : Size) (s : State) (b : Bench) (line : Printed) (new : Bench) → z ≡ size → IsKeptWhole size b → Begins mode z s b line new → IsKeptWhole size new
+  begins : (mode : BootMode) (z : Size) (s : DurableState) (b : Bench) (line : Printed) (new : Bench) → z ≡ size → IsKeptWhole size b → Begins mode z s b line new → IsKeptWhole size new
   begins modes.Fresh z s b line new same k x = starts modes.Fresh z s b line new same k x
   begins modes.Keep z s b line new same k x = starts modes.Keep z s b line new same k x
   begins modes.Discard z s b line new same k x = starts modes.Discard z s b line new same k x
   begins modes.Resume z s b line new same k (inl x) = starts modes.Resume z s b line new same k x
   begins modes.Resume z s b line new same k (inr x) = same_as b new x.2 k
 
-  boots : (r : Option ℕ) (mode : BootMode) (z : Size) (s : State) (b : Bench) (line : Printed) (new : Bench) → z ≡ size → IsKeptWhole size b → Boots r mode z s b line new → IsKeptWhole size new
+  boots : (r : Option ℕ) (mode : BootMode) (z : Size) (s : DurableState) (b : Bench) (line : Printed) (new : Bench) → z ≡ size → IsKeptWhole size b → Boots r mode z s b line new → IsKeptWhole size new
   boots (Some n) mode z s b line new same k x = same_as b new x.1 k
   boots None mode z s b line new same k (inl x) = begins mode z s b line new same k x
   boots None mode z s b line new same k (inr x) = same_as (out_of_memory b) new x.1 k
 
   -- an open finds a state whose image is whole, for a board of the script's size
-  opens : (m : DiskState) (b : Bench) (s : State) (z : Size) (mid : Bench) → b.disk_state ≡ m → b.power ≡ None → IsKeptWhole size b → Opens size m b s z mid → IsWhole size s × (z ≡ size) × IsKeptWhole size mid
+  opens : (m : DiskState) (b : Bench) (s : DurableState) (z : Size) (mid : Bench) → b.disk_state ≡ m → b.power ≡ None → IsKeptWhole size b → Opens size m b s z mid → IsWhole size s × (z ≡ size) × IsKeptWhole size mid
   opens Blank b s z mid at off k x = absurd x
   opens Unknown b s z mid at off k x = absurd (let e : Unknown ≡ Formatted = sym at ∙ k.0 in let no : ⊥ = cc in no)
   opens Formatted b s z mid at off k (changes, may, is, same, e) =
-      let P : State → Type 0 = IsWhole size in
+      let P : DurableState → Type 0 = IsWhole size in
       let whole : IsWhole size (found_of changes) = may_whole size b.kept b.kept.doubt changes refl k.1 k.2 may in
       (subst P (sym is) whole, same, same_as (settled changes b) mid e (k.0, whole, tt, k.3))
 
@@ -296,21 +296,21 @@ module _ (size : Size) where
   all_not (c ∷ cs) b o new (life, on, first, mid, i, inr (n, err, same, e)) f =
       by_not life.doubt c life b first mid i (err ∙ ap (λ k. Err k) (err_as o n 13 same f))
 
-  is_on_not : (o : Result ℕ ℕ) (mode : BootMode) (z : Size) (s : State) (b : Bench) (line : Printed) (new : Bench) → o ≢ Err 13 → IsOn o mode z s b line new → NotThirteen line
+  is_on_not : (o : Result ℕ ℕ) (mode : BootMode) (z : Size) (s : DurableState) (b : Bench) (line : Printed) (new : Bench) → o ≢ Err 13 → IsOn o mode z s b line new → NotThirteen line
   is_on_not (Ok n) mode z s b line new differs (life, on, said, m, is, e) = λ f. (let g : printed.On mode ≡ printed.OnRefused 13 = sym said ∙ f in let no : ⊥ = cc in no)
   is_on_not (Err n) mode z s b line new differs x = number line n x.0 (λ e. differs (ap (λ k. Err k) e))
 
-  starts_not : (mode : BootMode) (z : Size) (s : State) (b : Bench) (line : Printed) (new : Bench) → BootsFrom mode z s b line new → NotThirteen line
+  starts_not : (mode : BootMode) (z : Size) (s : DurableState) (b : Bench) (line : Printed) (new : Bench) → BootsFrom mode z s b line new → NotThirteen line
   starts_not mode z s b line new (o, mid, x, on) = is_on_not o mode z s mid line new (all_not (commands_of mode) (on_with (begun s z) b) o mid x) on
 
-  begins_not : (mode : BootMode) (z : Size) (s : State) (b : Bench) (line : Printed) (new : Bench) → IsWhole z s → Begins mode z s b line new → NotThirteen line
+  begins_not : (mode : BootMode) (z : Size) (s : DurableState) (b : Bench) (line : Printed) (new : Bench) → IsWhole z s → Begins mode z s b line new → NotThirteen line
   begins_not modes.Fresh z s b line new whole x = starts_not modes.Fresh z s b line new x
   begins_not modes.Keep z s b line new whole x = starts_not modes.Keep z s b line new x
   begins_not modes.Discard z s b line new whole x = starts_not modes.Discard z s b line new x
   begins_not modes.Resume z s b line new whole (inl x) = starts_not modes.Resume z s b line new x
   begins_not modes.Resume z s b line new whole (inr x) = absurd (x.0 whole)
 
-  boots_not : (r : Option ℕ) (mode : BootMode) (z : Size) (s : State) (b : Bench) (line : Printed) (new : Bench) → boot_refusal s mode ≡ r → IsWhole z s → Boots r mode z s b line new → NotThirteen line
+  boots_not : (r : Option ℕ) (mode : BootMode) (z : Size) (s : DurableState) (b : Bench) (line : Printed) (new : Bench) → boot_refusal s mode ≡ r → IsWhole z s → Boots r mode z s b line new → NotThirteen line
   boots_not (Some n) mode z s b line new table whole x = number line n x.0 (mode_not_thirteen s mode n table)
   boots_not None mode z s b line new table whole (inl x) = begins_not mode z s b line new whole x
   boots_not None mode z s b line new table whole (inr x) = number line 11 x.0 (λ e. omega (arith, e))

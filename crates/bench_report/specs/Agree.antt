@@ -1,6 +1,6 @@
 -- How the code's disk and board stand for the bench of the model.
 use Rattle.std.specs.Prelude.{◌≡◌, false, ◌⊎◌, true, false, ℕ, List, All, ◌≤◌, Option, Some, None, Result, OnOk, length, ⊤}
-use Rattle.board_model.specs.Durable.{State}
+use Rattle.board_model.specs.Durable.{DurableState}
 use Rattle.board_model.specs.Kept.{Kept, MayFind, found_of}
 use Rattle.board_model.specs.Shapes.{Size, sectors_of}
 use Rattle.board_model.specs.declared.refusal.Refusal.{Refusal}
@@ -32,7 +32,7 @@ use Rattle.bench_report.specs.declared.printed.Answer.{Answer}
 abbrev pub DiskIs : Size → DiskState → Kept → Facts → Type 0
 DiskIs size Blank kept disk = IsBlank disk
 DiskIs size Unknown kept disk = ⊤
-DiskIs size Formatted kept disk = IsKept disk size × ((s : State) → Leaves disk size s → MayFind kept s)
+DiskIs size Formatted kept disk = IsKept disk size × ((s : DurableState) → Leaves disk size s → MayFind kept s)
 
 -- a life over a disk, by a store for a board of size z
 abbrev pub LifeIs : Size → DiskState → Kept → BenchLife → Size → Type 0

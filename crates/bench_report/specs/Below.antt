@@ -1,6 +1,6 @@
 -- What the layers below say of the disk in memory and of a store over it, as the bench reads it.
 use Rattle.std.specs.Prelude.{◌≡◌, ℕ, Option, false, length}
-use Rattle.board_model.specs.Durable.{State, Change}
+use Rattle.board_model.specs.Durable.{DurableState, Change}
 use Rattle.board_model.specs.Shapes.{Size}
 use Rattle.disk.specs.Facts.{Facts}
 use Rattle.disk.specs.FaultState.{FaultState}
@@ -63,15 +63,15 @@ abbrev pub store_size : SimStore → Size
 store_size store = stores.size_of_store store
 
 -- the durable state now, without a command in doubt, and the command in doubt
-abbrev pub store_now : SimStore → State
+abbrev pub store_now : SimStore → DurableState
 store_now store = stores.now_state store
 
 abbrev pub store_doubt : SimStore → Option Change
 store_doubt store = stores.doubt_of store
 
 -- a life that goes on: the durable state with what was acknowledged, how many commands that were, and the one in doubt
-abbrev pub IsLife : Life → State → ℕ → Option Change → Type 0
+abbrev pub IsLife : Life → DurableState → ℕ → Option Change → Type 0
 IsLife life s count doubt = (now_of life ≡ s) × (length life.journal ≡ count) × (life.doubt ≡ doubt) × (life.over ≡ false)
 
-abbrev pub IsAs : SimStore → State → ℕ → Option Change → Type 0
+abbrev pub IsAs : SimStore → DurableState → ℕ → Option Change → Type 0
 IsAs store s count doubt = IsLife (stores.life_of store) s count doubt

@@ -1,6 +1,6 @@
 -- The bench as a model: what its disk keeps, its board with memory and harts, and why the disk failed.
 use Rattle.std.specs.Prelude.{◌≡◌, ℕ, List, [], ◌∷◌, Option, None}
-use Rattle.board_model.specs.Durable.{State, Change}
+use Rattle.board_model.specs.Durable.{DurableState, Change}
 use Rattle.board_model.specs.Kept.{Kept, nothing_kept}
 use Rattle.disk.specs.FaultState.{FaultState, no_fault}
 use Rattle.machine.specs.Machine.{Machine}
@@ -15,7 +15,7 @@ pub data DiskState : Type 0 where
 -- A board that is on: the durable state with what was acknowledged, how many commands that were in this life, the
 -- command in doubt, after which each later one is refused 6, and its memory and harts.
 pub record BenchLife : Type 0 where
-  pub now : State
+  pub now : DurableState
   pub receipts : ℕ
   pub doubt : Option Change
   pub machine : Machine

@@ -1,7 +1,7 @@
 -- The report of a script where memory was never refused and the disk never failed, computed: for scripts whose lines neither
 -- move harts nor show memory or harts, so that no image is ever made.
 use Rattle.std.specs.Prelude.{◌≡◌, ◌≢◌, ℕ, ◌+◌, ◌==◌, List, [], ◌∷◌, Option, Some, None, Result, Ok, Err, length, slice_set, if◌then◌else◌, ⊤}
-use Rattle.board_model.specs.Durable.{State, Change, Slot, Discard, refusal_of}
+use Rattle.board_model.specs.Durable.{DurableState, Change, Slot, Discard, refusal_of}
 use Rattle.board_model.specs.Kept.{found_of}
 use Rattle.board_model.specs.Shapes.{Size}
 use Rattle.board_model.specs.Shown.{durable_of}
@@ -43,15 +43,15 @@ plain_format Blank b = (says printed.Formatted, formatted_anew b)
 plain_format Unknown b = (says printed.Formatted, formatted_anew b)
 plain_format Formatted b = (says (printed.FormatRefused 2), b)
 
-abbrev pub found_then : State → Printed → Answer
+abbrev pub found_then : DurableState → Printed → Answer
 found_then s line = record { found = Some (durable_of s); line = line }
 
 -- a boot of the slot: no image stands in such a run, so a mode that goes on with one or drops it is refused
-abbrev pub plain_slot : BootMode → Size → State → Bench → Answer × Bench
+abbrev pub plain_slot : BootMode → Size → DurableState → Bench → Answer × Bench
 plain_slot mode z s b = (found_then s (printed.On mode), on_with (has_machine (booted b.payloads s z) (begun s z)) b)
 
 -- by the number with which the state refuses the mode
-abbrev pub plain_boot : Option ℕ → BootMode → Size → State → Bench → Answer × Bench
+abbrev pub plain_boot : Option ℕ → BootMode → Size → DurableState → Bench → Answer × Bench
 plain_boot None mode z s b = plain_slot mode z s b
 plain_boot (Some n) mode z s b = (found_then s (printed.OnRefused n), b)
 

@@ -4,7 +4,7 @@
 -- was refused 6 or lost power, some first of them. A life takes commands from its power-on to its first command in doubt, its
 -- end or a cut.
 use Rattle.std.specs.Prelude.{◌≡◌, ◌≢◌, ◌⊎◌, ℕ, ◌+◌, ◌≤◌, Bool, true, false, List, [], ◌∷◌, Option, Some, None, MatchBool, ⊤}
-use Rattle.board_model.specs.Durable.{State, Change, Slot, Reset, Suspend, Discard, formatted}
+use Rattle.board_model.specs.Durable.{DurableState, Change, Slot, Reset, Suspend, Discard, formatted}
 use Rattle.bench_report.specs.Taken.{Takes, TakesSome, TakesFewer}
 use Rattle.board_model.specs.Shown.{durable_of}
 use Rattle.board_model.specs.declared.durable.Durable.{Durable}
@@ -40,7 +40,7 @@ asked_by line = Nothing
 
 -- A command was refused: by 6 it may have taken effect, and the life takes no more (up: whether it took commands before; now:
 -- whether it does after); by another number it did not.
-abbrev pub RefusedChange : ℕ → Change → State → Bool → State → Bool → Type 0
+abbrev pub RefusedChange : ℕ → Change → DurableState → Bool → DurableState → Bool → Type 0
 RefusedChange n c s up t now =
     ((n ≢ 6) × (t ≡ s) × (now ≡ up))
     ⊎ ((n ≡ 6) × (now ≡ false) × ((t ≡ s) ⊎ ((up ≡ true) × TakesSome (c ∷ []) s t)))
@@ -56,29 +56,29 @@ abbrev pub IsOfHarts : Change → Type 0
 IsOfHarts c = IsReset c ⊎ IsSuspension c
 
 -- a hart's command of this kind ended the life
-abbrev pub EndsLife : (Change → Type 0) → State → Bool → State → Bool → Type 0
+abbrev pub EndsLife : (Change → Type 0) → DurableState → Bool → DurableState → Bool → Type 0
 EndsLife Is s up t now = (up ≡ true) × (now ≡ false) × (c : Change) × Is c × Takes (c ∷ []) s t
 
 -- Harts went on: none of them made a durable command; or one is in doubt, of which the report does not tell, and the life takes
 -- no more.
-abbrev pub Hides : State → Bool → State → Bool → Type 0
+abbrev pub Hides : DurableState → Bool → DurableState → Bool → Type 0
 Hides s up t now =
     ((t ≡ s) × (now ≡ up))
     ⊎ ((up ≡ true) × (now ≡ false) × (c : Change) × IsOfHarts c × TakesSome (c ∷ []) s t)
 
 -- what the word of a turn or a call tells
-abbrev pub TellsWord : Word → State → Bool → State → Bool → Type 0
+abbrev pub TellsWord : Word → DurableState → Bool → DurableState → Bool → Type 0
 TellsWord (words.Own did) s up t now = Hides s up t now
 TellsWord words.Asleep s up t now = EndsLife IsSuspension s up t now
 TellsWord (words.Reset kind) s up t now = EndsLife IsReset s up t now
 
-abbrev pub TellsLine : MachineLine → State → Bool → State → Bool → Type 0
+abbrev pub TellsLine : MachineLine → DurableState → Bool → DurableState → Bool → Type 0
 TellsLine (shown.Turn h made word) s up t now = TellsWord word s up t now
 TellsLine (shown.Called h word) s up t now = TellsWord word s up t now
 TellsLine line s up t now = Hides s up t now
 
 -- power was lost within the line: some first of its commands took effect, of which a board takes none that is off or in doubt
-abbrev pub Lost : Asked → State → Bool → State → Type 0
+abbrev pub Lost : Asked → DurableState → Bool → DurableState → Type 0
 Lost (Boot mode) s up t = TakesSome (commands_of mode) s t
 Lost (Command c) s up t = (t ≡ s) ⊎ ((up ≡ true) × TakesSome (c ∷ []) s t)
 Lost Guest s up t = (t ≡ s) ⊎ ((up ≡ true) × (c : Change) × IsOfHarts c × TakesSome (c ∷ []) s t)
@@ -86,7 +86,7 @@ Lost Nothing s up t = t ≡ s
 
 -- The state s before a line and t after it, and whether a board that is on takes commands before and after, by what the line
 -- asked and what it says.
-abbrev pub Tells : Asked → Printed → State → Bool → State → Bool → Type 0
+abbrev pub Tells : Asked → Printed → DurableState → Bool → DurableState → Bool → Type 0
 Tells (Boot asked) (printed.On mode) s up t now = (mode ≡ asked) × (up ≡ false) × Takes (commands_of asked) s t × (now ≡ true)
 Tells (Boot mode) (printed.OnRefused n) s up t now =
     (up ≡ false) × (now ≡ false) × ((t ≡ s) ⊎ TakesFewer (commands_of mode) s t ⊎ ((n ≡ 6) × TakesSome (commands_of mode) s t))
@@ -100,15 +100,15 @@ Tells asked printed.Cut s up t now = (t ≡ s) × (now ≡ false)
 Tells asked printed.PowerLost s up t now = Lost asked s up t × (now ≡ false)
 Tells asked said s up t now = (t ≡ s) × (now ≡ up)
 
-abbrev pub ShowsIts : Option Durable → State → Type 0
+abbrev pub ShowsIts : Option Durable → DurableState → Type 0
 ShowsIts None s = ⊤
 ShowsIts (Some d) s = d ≡ durable_of s
 
 -- the lines that are left, where the disk stands for s, and the board takes commands or not
-abbrev pub IsPrefixed : State → Bool → List Line → List Answer → Type 0
+abbrev pub IsPrefixed : DurableState → Bool → List Line → List Answer → Type 0
 IsPrefixed s up [] [] = ⊤
 IsPrefixed s up (line ∷ more) (answer ∷ answers) =
-    ShowsIts answer.found s × (t : State) × (now : Bool) × Tells (asked_by line) answer.line s up t now × IsPrefixed t now more answers
+    ShowsIts answer.found s × (t : DurableState) × (now : Bool) × Tells (asked_by line) answer.line s up t now × IsPrefixed t now more answers
 IsPrefixed s up [] (answer ∷ answers) = ⊥
 IsPrefixed s up (line ∷ more) [] = ⊥
 

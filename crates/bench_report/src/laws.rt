@@ -1,7 +1,7 @@
 //! Laws of the reports, each the contract of a function that does nothing.
 
 ghost use Rattle.std.specs.Prelude.{◌≡◌, ◌≢◌, List, Ok, Err, None, Some, codes};
-ghost use Rattle.board_model.specs.Durable.{State};
+ghost use Rattle.board_model.specs.Durable.{DurableState};
 ghost use Rattle.board_model.specs.Kept.{MayFind, found_of};
 ghost use Rattle.board_model.specs.Shown.{durable_of};
 ghost use Rattle.board_model.specs.declared.boot_mode.BootMode.{BootMode};
@@ -53,7 +53,7 @@ pub fn prefix_law()
 /// memory of the suspension that made its image, byte for byte, and of its harts the image's alone runs (`resumes`).
 pub fn power_ons()
     ensures finds { (script : Script) (answers : List Answer) (b : Bench) → IsReport script answers b → b.disk_state ≡ Formatted → (mode : BootMode) (a : Answer) (new : Bench) (d : Durable) → Moves script.size (lines.On mode) b a new
-        → a.found ≡ Some d → (s : State) × MayFind b.kept s × (d ≡ durable_of s) }
+        → a.found ≡ Some d → (s : DurableState) × MayFind b.kept s × (d ≡ durable_of s) }
     ensures sure { (script : Script) (answers : List Answer) (b : Bench) → AreByFirmware script.lines → IsReport script answers b → IsFailureFree b → b.disk_state ≡ Formatted → b.kept.doubt ≡ None }
     ensures all { (script : Script) (answers : List Answer) (b : Bench) → AreByFirmware script.lines → IsReport script answers b → b.disk_state ≡ Formatted → b.power ≡ None → (mode : BootMode) (a : Answer) (new : Bench) → Moves script.size (lines.On mode) b a new
         → a.line ≢ printed.PowerLost → IsFailureFree new → a.found ≡ Some (durable_of (found_of b.kept.changes)) }

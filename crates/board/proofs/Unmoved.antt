@@ -1,7 +1,7 @@
 -- A boot that is refused before it did anything leaves the store as the open made it.
 use Rattle.std.proofs.Common.{Option, refl, sym, ap, ◌∙◌, arith}
 use Rattle.disk.specs.Moments.{passes_none}
-use Rattle.board_model.specs.Durable.{State, Change}
+use Rattle.board_model.specs.Durable.{DurableState, Change}
 use Rattle.board_model.specs.declared.boot_mode.BootMode.{BootMode}
 use Rattle.board_model.specs.declared.refusal.Refusal.{Refusal}
 use Rattle.store.specs.Lives.{Life, begun}
@@ -11,7 +11,7 @@ use Rattle.board.specs.Readies.{IsOpen, IsUnissued}
 use Rattle.board.proofs.Moments.{IsNow, untouched_moments}
 use Rattle.board.proofs.Refused.{IsQuiet}
 
-abbrev in_doubt_of : State → Option Change → Life
+abbrev in_doubt_of : DurableState → Option Change → Life
 in_doubt_of s doubt = record (begun s) { doubt = doubt }
 
 pub unmoved : (mode : BootMode) (e : Refusal) (old : StoreView) → IsNow old.disk → IsOpen old → IsQuiet mode e → IsUnissued mode old e old

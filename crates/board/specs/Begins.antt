@@ -1,7 +1,7 @@
 -- Which board a power-on begins by its mode, and which refusals there are, in their order, once the disk was opened.
 -- Source: docs/BOARD.md, "Power on"; SBI specification 2.0, chapter 13.
 use Rattle.std.specs.Prelude.{◌≡◌, ◌<◌, ℕ, List, Option, None, Some, is_some, IfSome, length, IsTrue}
-use Rattle.board_model.specs.Durable.{State, Image, IsWhole}
+use Rattle.board_model.specs.Durable.{DurableState, Image, IsWhole}
 use Rattle.board_model.specs.Shapes.{Size, ram_bytes_of}
 use Rattle.board_model.specs.Shown.{number_of}
 use Rattle.board_model.specs.declared.boot_mode.BootMode.{BootMode}
@@ -13,7 +13,7 @@ use Rattle.board.specs.Boots.{PayloadsFit, boot_refusal, booted}
 use Rattle.board.specs.Moments.{issued_by}
 
 -- the hart of an image that stands is one of the board
-abbrev pub HasItsHart : Size → State → Type 0
+abbrev pub HasItsHart : Size → DurableState → Type 0
 HasItsHart size s = IfSome s.image (λ i. i.hart < size.harts)
 
 -- the hart that a boot by the mode begins: hart 0, or on a resume the image's
@@ -21,7 +21,7 @@ abbrev pub hart_in : Option Image → ℕ
 hart_in None = 0
 hart_in (Some i) = i.hart
 
-abbrev pub first_of : BootMode → State → ℕ
+abbrev pub first_of : BootMode → DurableState → ℕ
 first_of modes.Fresh s = 0
 first_of modes.Keep s = 0
 first_of modes.Discard s = 0
@@ -29,7 +29,7 @@ first_of modes.Resume s = hart_in s.image
 
 -- The board goes on with the image that stands: it has the image's memory, byte for byte, and of its harts the image's alone
 -- runs. Nothing of it is the slot's.
-pub record IsResumed (size : Size) (s : State) (m : Machine) : Type 0 where
+pub record IsResumed (size : Size) (s : DurableState) (m : Machine) : Type 0 where
   pub image : Image
   pub stands : s.image ≡ Some image
   pub hart : image.hart < size.harts
@@ -37,7 +37,7 @@ pub record IsResumed (size : Size) (s : State) (m : Machine) : Type 0 where
   pub is : m ≡ woken image size
 
 -- the board that the mode begins where the open found that state: the slot's payload is booted, or the image goes on
-abbrev pub IsBegun : BootMode → Size → List (List ℕ) → State → Machine → Type 0
+abbrev pub IsBegun : BootMode → Size → List (List ℕ) → DurableState → Machine → Type 0
 IsBegun modes.Fresh size payloads s m = m ≡ booted payloads s size
 IsBegun modes.Keep size payloads s m = m ≡ booted payloads s size
 IsBegun modes.Discard size payloads s m = m ≡ booted payloads s size
@@ -49,7 +49,7 @@ Issues mode = IsTrue (is_some (issued_by mode))
 
 -- of a mode that the state allows, in this order: a payload that does not fit, memory, an image that has not the memory of its
 -- board, and the disk, where the mode issues a command
-abbrev pub IsLateRefusal : BootMode → Size → List (List ℕ) → State → Refusal → Type 0
+abbrev pub IsLateRefusal : BootMode → Size → List (List ℕ) → DurableState → Refusal → Type 0
 IsLateRefusal mode size payloads s BadShape = PayloadsFit size payloads → ⊥
 IsLateRefusal mode size payloads s Memory = PayloadsFit size payloads
 IsLateRefusal mode size payloads s BadImage = PayloadsFit size payloads × (mode ≡ modes.Resume) × (IsWhole size s → ⊥)
@@ -58,10 +58,10 @@ IsLateRefusal mode size payloads s Down = PayloadsFit size payloads × Issues mo
 IsLateRefusal mode size payloads s e = ⊥
 
 -- by the number with which the state refuses the mode, where it does
-abbrev pub IsBootRefusal : Option ℕ → BootMode → Size → List (List ℕ) → State → Refusal → Type 0
+abbrev pub IsBootRefusal : Option ℕ → BootMode → Size → List (List ℕ) → DurableState → Refusal → Type 0
 IsBootRefusal (Some n) mode size payloads s e = number_of e ≡ n
 IsBootRefusal None mode size payloads s e = IsLateRefusal mode size payloads s e
 
 -- a power-on by the mode is refused so where the open found that state
-abbrev pub IsRefused : BootMode → Size → List (List ℕ) → State → Refusal → Type 0
+abbrev pub IsRefused : BootMode → Size → List (List ℕ) → DurableState → Refusal → Type 0
 IsRefused mode size payloads s e = IsBootRefusal (boot_refusal s mode) mode size payloads s e

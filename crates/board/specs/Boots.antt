@@ -2,7 +2,7 @@
 -- Source: docs/BOARD.md.
 use Rattle.std.specs.Prelude.{ℕ, List, [], ◌≤◌, length, Option, None, Some, is_some, if◌then◌else◌, All, get_or}
 use Rattle.std.specs.Option.{option_to_list}
-use Rattle.board_model.specs.Durable.{State}
+use Rattle.board_model.specs.Durable.{DurableState}
 use Rattle.board_model.specs.Shapes.{Size, ram_bytes_of}
 use Rattle.board_model.specs.declared.boot_mode.BootMode.{BootMode}
 use Rattle.board_model.specs.declared.boot_mode.BootMode.TheVariants as modes
@@ -13,14 +13,14 @@ use Rattle.store.specs.Lives.{Life, begun}
 use Rattle.board.specs.Moments.{issued_by}
 
 -- the number with which a mode is refused in a state
-abbrev pub boot_refusal : State → BootMode → Option ℕ
+abbrev pub boot_refusal : DurableState → BootMode → Option ℕ
 boot_refusal s modes.Fresh = if is_some s.image then Some 15 else None
 boot_refusal s modes.Keep = None
 boot_refusal s modes.Discard = if is_some s.image then None else Some 8
 boot_refusal s modes.Resume = if is_some s.image then None else Some 8
 
 -- the life that a boot begins in a state: with the command that the mode issues
-abbrev pub life_after : BootMode → State → Life
+abbrev pub life_after : BootMode → DurableState → Life
 life_after mode s = record (begun s) { journal = option_to_list (issued_by mode) }
 
 -- the commands that the console may issue: the others are the guest's and the boot's
@@ -39,5 +39,5 @@ abbrev pub payload_at : List (List ℕ) → ℕ → List ℕ
 payload_at payloads slot = get_or payloads slot []
 
 -- the board that boots the slot of a state
-abbrev pub booted : List (List ℕ) → State → Size → Machine
+abbrev pub booted : List (List ℕ) → DurableState → Size → Machine
 booted payloads s size = begun_machine (payload_at payloads s.slot) s.reason size

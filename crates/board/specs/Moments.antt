@@ -2,7 +2,7 @@
 -- Source: docs/BOARD.md, "Power on"; docs/STORE.md, "What a crash leaves".
 use Rattle.std.specs.Prelude.{◌⊎◌, Option, None, Some}
 use Rattle.disk.specs.Facts.{Content, Facts}
-use Rattle.board_model.specs.Durable.{State, Change, Consume, Discard, after}
+use Rattle.board_model.specs.Durable.{DurableState, Change, Consume, Discard, after}
 use Rattle.board_model.specs.Shapes.{Size}
 use Rattle.board_model.specs.declared.boot_mode.BootMode.{BootMode}
 use Rattle.board_model.specs.declared.boot_mode.BootMode.TheVariants as modes
@@ -25,6 +25,6 @@ gone_before mode e = None
 
 -- what a crash may leave from the start of a power-on, or from an open on: what a crash just before it could have left, or where that command
 -- may have gone to the disk, the state found before or after it
-abbrev pub MayLeave : Facts → Size → State → Option Change → Content → Type 0
+abbrev pub MayLeave : Facts → Size → DurableState → Option Change → Content → Type 0
 MayLeave disk size s None c = disk.may_leave c
 MayLeave disk size s (Some change) c = disk.may_leave c ⊎ StandsForEither size s (after s change) c

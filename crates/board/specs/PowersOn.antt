@@ -1,7 +1,7 @@
 -- What a power-on leaves: a board that is on, or one that is off and gives its disk back.
 -- Source: docs/BOARD.md, "Power on"; docs/STORE.md, "What a crash leaves".
 use Rattle.std.specs.Prelude.{◌≡◌, ◌≤◌, ℕ, List, Option, None, Some}
-use Rattle.board_model.specs.Durable.{State}
+use Rattle.board_model.specs.Durable.{DurableState}
 use Rattle.board_model.specs.Shapes.{Size}
 use Rattle.board_model.specs.Shown.{durable_of}
 use Rattle.board_model.specs.declared.durable.Durable.{Durable}
@@ -40,7 +40,7 @@ pub record IsOn (mode : BootMode) (payloads : List (List ℕ)) (disk : Facts) (s
 -- have gone to the disk, the state found before or after it.
 pub record IsOff (mode : BootMode) (payloads : List (List ℕ)) (found : Durable) (old : Facts) (e : Refusal) (new : Facts) : Type 0 where
   pub size : Size
-  pub state : State
+  pub state : DurableState
   pub shows : found ≡ durable_of state
   pub reads : StandsFor old.content size state
   pub earlier : Leaves old size state

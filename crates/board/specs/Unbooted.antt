@@ -2,7 +2,7 @@
 -- Source: docs/BOARD.md.
 use Rattle.std.specs.Prelude.{◌≡◌, ◌⊎◌, ◌≤◌, ℕ, List, Option, None, Some}
 use Rattle.disk.specs.Facts.{Facts, Failed}
-use Rattle.board_model.specs.Durable.{State, Change, after}
+use Rattle.board_model.specs.Durable.{DurableState, Change, after}
 use Rattle.board_model.specs.Shapes.{Size}
 use Rattle.board_model.specs.Shown.{number_of, durable_of}
 use Rattle.board_model.specs.declared.durable.Durable.{Durable}
@@ -25,13 +25,13 @@ abbrev pub doubt_after : BootMode → Refusal → Option Change
 doubt_after mode Down = issued_by mode
 doubt_after mode e = None
 
-abbrev pub life_refused : BootMode → Refusal → State → Life
+abbrev pub life_refused : BootMode → Refusal → DurableState → Life
 life_refused mode e s = record (begun s) { doubt = doubt_after mode e }
 
 -- the state now of a board that is not on, by the state found: that of the life which the refusal left
 abbrev pub IsNowAfter : BootMode → Refusal → Option Durable → Option Durable → Type 0
 IsNowAfter mode e None now = now ≡ None
-IsNowAfter mode e (Some found) now = (s : State) × (found ≡ durable_of s) × (now ≡ Some (durable_of (now_of (life_refused mode e s))))
+IsNowAfter mode e (Some found) now = (s : DurableState) × (found ≡ durable_of s) × (now ≡ Some (durable_of (now_of (life_refused mode e s))))
 
 -- the refusal of that number, or none
 abbrev pub RefusesMode : Option ℕ → Option Refusal → Type 0
@@ -41,7 +41,7 @@ RefusesMode None (Some e) = ⊥
 RefusesMode (Some n) None = ⊥
 
 -- what a crash leaves of a life that ends
-abbrev pub LeavesLife : Option Change → Facts → Size → State → Type 0
+abbrev pub LeavesLife : Option Change → Facts → Size → DurableState → Type 0
 LeavesLife None disk size s = LeavesOnly disk size s
 LeavesLife (Some c) disk size s = LeavesEither disk size s (after s c)
 

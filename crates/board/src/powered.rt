@@ -49,7 +49,7 @@ pub struct Parts<D: Disk + Drop> {
 
 impl<D: Disk + Drop> Board<D> {
     ghost use Rattle.std.specs.Prelude.{◌≡◌, ◌⊎◌, ◌<◌, ◌≤◌, false, length, Some, None, Err, IfSome, OnOk, IfOk, IfErr, IsErrOf, MatchResult};
-    ghost use Rattle.board_model.specs.Durable.{State, Change, refusal_of};
+    ghost use Rattle.board_model.specs.Durable.{DurableState, Change, refusal_of};
     ghost use Rattle.board_model.specs.Shapes.{Size};
     ghost use Rattle.board_model.specs.Shown.{durable_of, change_of};
     ghost use Rattle.board_model.specs.declared.refusal.Refusal.{Refusal};
@@ -311,8 +311,8 @@ impl<D: Disk + Drop> Board<D> {
 
     /// Turns the board off, and gives the disk back: a crash leaves the state now, or with a command in doubt one of two.
     pub fn into_disk(self) -> D
-        ensures up { (s : State) → Stands (store_of self) s → LeavesOnly (D.facts result) (size_of_store (store_of self)) s }
-        ensures down { (s t : State) → Doubts (store_of self) s t → LeavesEither (D.facts result) (size_of_store (store_of self)) s t }
+        ensures up { (s : DurableState) → Stands (store_of self) s → LeavesOnly (D.facts result) (size_of_store (store_of self)) s }
+        ensures down { (s t : DurableState) → Doubts (store_of self) s t → LeavesEither (D.facts result) (size_of_store (store_of self)) s t }
         ensures allowed { (c : Change) → doubt_of (store_of self) ≡ Some c → refusal_of (now_state (store_of self)) c ≡ None }
         ensures none_out { IsIdle (D.facts result) }
         ensures facts { Unchanged (disk_of (store_of self)) (D.facts result) }

@@ -1,7 +1,7 @@
 //! From an opened store to a board that stands at its first instruction, or goes on with its image.
 
 ghost use Rattle.std.specs.Prelude.{◌≡◌, ◌≤◌, ◌<◌, ℕ, OnOk, IfOk, IfErr, None};
-ghost use Rattle.board_model.specs.Durable.{State};
+ghost use Rattle.board_model.specs.Durable.{DurableState};
 ghost use Rattle.board_model.specs.Shapes.{ram_bytes_of};
 ghost use Rattle.board_model.specs.Shown.{durable_of};
 ghost use Rattle.store.specs.Stores.{size_of_store, found_state, now_state, view_of};
@@ -20,7 +20,7 @@ use store::Store;
 
 /// The refusal of a mode that the state does not allow.
 fn mode_refusal(mode: BootMode, found: &Durable) -> Option<Refusal>
-    ensures { (s : State) → found.now ≡ durable_of s → RefusesMode (boot_refusal s mode) result }
+    ensures { (s : DurableState) → found.now ≡ durable_of s → RefusesMode (boot_refusal s mode) result }
 {
     let stands = found.image.is_some();
     match mode {

@@ -10,7 +10,7 @@ use Rattle.board_model.specs.declared.durable.ImageHead.{ImageHead}
 use Rattle.board_model.specs.declared.durable.Durable.{Durable}
 use Rattle.board_model.specs.declared.refusal.Refusal.{Refusal}
 use Rattle.board_model.specs.declared.refusal.Refusal.TheVariants as refusals
-use Rattle.board_model.specs.Durable.{Image, State, Change, Slot, Reset, Suspend, Consume, Discard, after, refusal_of}
+use Rattle.board_model.specs.Durable.{Image, DurableState, Change, Slot, Reset, Suspend, Consume, Discard, after, refusal_of}
 
 -- The SBI specification 2.0, chapter SRST: 0 no reason, 1 system failure.
 abbrev pub reason_number : Reason → ℕ
@@ -34,7 +34,7 @@ abbrev pub head_of : Option Image → Option ImageHead
 head_of None = None
 head_of (Some i) = Some (record { serial = i.serial; hart = i.hart; address = i.address; opaque = i.opaque })
 
-abbrev pub durable_of : State → Durable
+abbrev pub durable_of : DurableState → Durable
 durable_of s = record { image = head_of s.image; slot = s.slot; reason = s.reason; next = s.next }
 
 -- The number of a refusal.
@@ -57,6 +57,6 @@ number_of refusals.ImageThere = 15
 number_of refusals.Output = 16
 
 -- What a call that computes the next state answers: the table's refusal, or the state after the command.
-pub record IsNextOf (s : State) (c : Change) (result : Result Durable Refusal) : Type 0 where
+pub record IsNextOf (s : DurableState) (c : Change) (result : Result Durable Refusal) : Type 0 where
   pub goes : IfOk result (λ d. (refusal_of s c ≡ None) × (d ≡ durable_of (after s c)))
   pub refused : IfErr result (λ e. refusal_of s c ≡ Some (number_of e))

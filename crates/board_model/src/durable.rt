@@ -1,7 +1,7 @@
 //! The durable state as the code knows it, and its commands.
 
 ghost use Rattle.std.specs.Prelude.{◌≡◌, ℕ, List};
-ghost use Rattle.board_model.specs.Durable.{State, Suspend, Consume, Discard};
+ghost use Rattle.board_model.specs.Durable.{DurableState, Suspend, Consume, Discard};
 ghost use Rattle.board_model.specs.Shown.{reason_number, change_of, durable_of, IsNextOf};
 
 use crate::numbers::{Addr, HartId, Slot};
@@ -70,7 +70,7 @@ impl Durable {
     /// The state after the command: docs/DURABLE.md, "Commands". Refused `BadSlot` for a slot above 3, and `NoImage` for
     /// Consume or Discard without an image.
     pub fn after(&self, command: Command) -> Result<Durable, Refusal>
-        ensures { (s : State) → durable_of s ≡ self.now → IsNextOf s (change_of command) result }
+        ensures { (s : DurableState) → durable_of s ≡ self.now → IsNextOf s (change_of command) result }
     {
         match command {
             Command::Slot(number) => {
@@ -91,7 +91,7 @@ impl Durable {
         address: Addr,
         opaque: u64,
     ) -> Result<Durable, Refusal>
-        ensures { (s : State) (memory : List ℕ) → durable_of s ≡ self.now → IsNextOf s (Suspend hart address opaque memory) result }
+        ensures { (s : DurableState) (memory : List ℕ) → durable_of s ≡ self.now → IsNextOf s (Suspend hart address opaque memory) result }
     {
         let serial = self.next;
         let next = serial.checked_add(1).ok_or(Refusal::SerialsSpent)?;
@@ -109,8 +109,8 @@ impl Durable {
     }
 
     fn without_image(&self) -> Result<Durable, Refusal>
-        ensures consume { (s : State) → durable_of s ≡ self.now → IsNextOf s Consume result }
-        ensures discard { (s : State) → durable_of s ≡ self.now → IsNextOf s Discard result }
+        ensures consume { (s : DurableState) → durable_of s ≡ self.now → IsNextOf s Consume result }
+        ensures discard { (s : DurableState) → durable_of s ≡ self.now → IsNextOf s Discard result }
     {
         if self.image.is_none() {
             return Err(Refusal::NoImage);

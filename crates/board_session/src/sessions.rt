@@ -1,7 +1,7 @@
 //! A board from its power-on to the end of its threads.
 
 ghost use Rattle.std.specs.Prelude.{◌≡◌, ◌⊎◌, Some, None, true, false, OnOk, IfOk, IfErr, MatchResult};
-ghost use Rattle.board_model.specs.Durable.{State};
+ghost use Rattle.board_model.specs.Durable.{DurableState};
 ghost use Rattle.board_model.specs.Shapes.{Size};
 ghost use Rattle.board_model.specs.declared.refusal.Refusal.TheVariants.{Memory, Output};
 ghost use Rattle.store.specs.Leaves.{IsIdle, IsMarked};
@@ -125,7 +125,7 @@ pub fn session<R: Threads + Wait + Sync, I: Read, W: Write>(
     // It ends without a refusal only over a disk that was not formatted yet, where a new one is asked for,
     ensures new { OnOk result.1 (options.now.new ≡ true → IsMarked (⟦<SimDisk as Disk>⟧.facts disk).content → ⊥) }
     // and else over one that stands for a state which the mode allows.
-    ensures boots { OnOk result.1 (options.now.new ≡ false → (size : Size) × (s : State)
+    ensures boots { OnOk result.1 (options.now.new ≡ false → (size : Size) × (s : DurableState)
         × StandsFor (⟦<SimDisk as Disk>⟧.facts disk).content size s × (boot_refusal s options.now.mode ≡ None)) }
     // A refusal but of memory or of the output comes before any line is read or answered.
     ensures first { IfErr result.1 (λ e. (e ≡ Memory) ⊎ (e ≡ Output) ⊎ ((input.new ≡ input.old) × (out.new ≡ out.old))) }

@@ -1,16 +1,16 @@
 -- What the store says of its calls, as events.
 use Rattle.std.proofs.Common.{◌≡◌, ◌∙◌, ◌⊎◌, inl, inr, ℕ, List, [], ◌∷◌, ◌++◌, Option, Some, None, Result, Ok, Err, Bool, true, false, nat_lt, is_some, if◌then◌else◌, refl, sym, ap, subst}
-use Rattle.board_model.specs.Durable.{State, Change, Slot, Reset, Suspend, Consume, Discard, refusal_of, after, fold, ends_life}
+use Rattle.board_model.specs.Durable.{DurableState, Change, Slot, Reset, Suspend, Consume, Discard, refusal_of, after, fold, ends_life}
 use Rattle.board_model.specs.declared.refusal.Refusal.{Refusal}
 use Rattle.board_model.specs.declared.refusal.Refusal.TheVariants.{BadShape, Device, Down, Over, JournalFull, Memory}
 use Rattle.store.specs.Lives.{Life, now_of, begun, Reaches, Refused, Applied, SuspendRefused, SuspendApplied, Suspended}
 use Rattle.lives.specs.Events.{World, WasOpened, WasAcknowledged, WasDoubtful, Finds, Goes, Happens, dropped_by, goes_on, goes_with, event_of, IsLived, Leads}
 
-one_more : (s : State) (cs : List Change) (c : Change) → fold s (cs ++ c ∷ []) ≡ after (fold s cs) c
+one_more : (s : DurableState) (cs : List Change) (c : Change) → fold s (cs ++ c ∷ []) ≡ after (fold s cs) c
 one_more s [] c = refl
 one_more s (d ∷ cs) c = one_more (after s d) cs c
 
-pub opened : (w : World) (s : State) (kept : List Change) → Finds w s kept → Leads w (WasOpened s) (begun s)
+pub opened : (w : World) (s : DurableState) (kept : List Change) → Finds w s kept → Leads w (WasOpened s) (begun s)
 opened w s kept finds = (
   record { state = s; doubt = None; kept = kept; on = true; dropped = None; resumed = w.resumed },
   (kept, finds, refl),
@@ -21,19 +21,19 @@ still : (w : World) (old new : Life) → IsLived w old → new ≡ old → IsLiv
 still w old new lived same = subst (IsLived w) (sym same) lived
 
 -- what an open finds of what a life left
-pub finds_state : (w : World) (life : Life) (s : State) → IsLived w life → s ≡ now_of life → (kept : List Change) × Finds w s kept
+pub finds_state : (w : World) (life : Life) (s : DurableState) → IsLived w life → s ≡ now_of life → (kept : List Change) × Finds w s kept
 finds_state w life s lived is = (w.kept, inl (is ∙ sym lived.state, refl))
 
-pub finds_either : (w : World) (life : Life) (c : Change) (s : State) → IsLived w life → life.doubt ≡ Some c → (s ≡ now_of life) ⊎ (s ≡ after (now_of life) c) → (kept : List Change) × Finds w s kept
+pub finds_either : (w : World) (life : Life) (c : Change) (s : DurableState) → IsLived w life → life.doubt ≡ Some c → (s ≡ now_of life) ⊎ (s ≡ after (now_of life) c) → (kept : List Change) × Finds w s kept
 finds_either w life c s lived doubt (inl is) = finds_state w life s lived is
-finds_either w life c s lived doubt (inr is) = (w.kept ++ c ∷ [], inr (c, lived.doubt ∙ doubt, is ∙ ap (λ (t : State). after t c) (sym lived.state), refl))
+finds_either w life c s lived doubt (inr is) = (w.kept ++ c ∷ [], inr (c, lived.doubt ∙ doubt, is ∙ ap (λ (t : DurableState). after t c) (sym lived.state), refl))
 
 -- a command that may go to the disk
 may_go : (w : World) (old : Life) (c : Change) → IsLived w old → old.doubt ≡ None → Reaches old c → Goes w c
 may_go w old c lived calm reaches = (
   lived.on ∙ ap (λ (o : Bool). goes_with o old.doubt) reaches.0 ∙ ap (goes_with false) calm,
   lived.doubt ∙ calm,
-  ap (λ (s : State). refusal_of s c) lived.state ∙ reaches.2,
+  ap (λ (s : DurableState). refusal_of s c) lived.state ∙ reaches.2,
 )
 
 ends : (b : Bool) → goes_on b ≡ goes_with b None
@@ -41,13 +41,13 @@ ends true = refl
 ends false = refl
 
 -- power failed while a command was under way that reached the disk
-pub under_way : (w : World) (life : Life) (c : Change) (s : State) → IsLived w life → life.doubt ≡ None → Reaches life c → (s ≡ now_of life) ⊎ (s ≡ after (now_of life) c)
+pub under_way : (w : World) (life : Life) (c : Change) (s : DurableState) → IsLived w life → life.doubt ≡ None → Reaches life c → (s ≡ now_of life) ⊎ (s ≡ after (now_of life) c)
     → (v : World) × Happens w (WasDoubtful c) v × ((kept : List Change) × Finds v s kept)
 under_way w life c s lived calm reaches is = (record w { doubt = Some c; on = false }, (may_go w life c lived calm reaches, refl), found is)
   where
     found : (s ≡ now_of life) ⊎ (s ≡ after (now_of life) c) → (kept : List Change) × Finds (record w { doubt = Some c; on = false }) s kept
     found (inl same) = (w.kept, inl (same ∙ sym lived.state, refl))
-    found (inr next) = (w.kept ++ c ∷ [], inr (c, refl, next ∙ ap (λ (t : State). after t c) (sym lived.state), refl))
+    found (inr next) = (w.kept ++ c ∷ [], inr (c, refl, next ∙ ap (λ (t : DurableState). after t c) (sym lived.state), refl))
 
 acknowledged : (w : World) (old new : Life) (c : Change) → IsLived w old → old.doubt ≡ None → Reaches old c → new ≡ record old { journal = old.journal ++ c ∷ []; over = ends_life c } → Leads w (WasAcknowledged c) new
 acknowledged w old new c lived calm reaches is = (
@@ -55,7 +55,7 @@ acknowledged w old new c lived calm reaches is = (
   (may_go w old c lived calm reaches, refl),
   subst (IsLived (record w { state = after w.state c; kept = w.kept ++ c ∷ []; on = goes_on (ends_life c); dropped = dropped_by w c })) (sym is)
       (record {
-        state = ap (λ (s : State). after s c) lived.state ∙ sym (one_more old.found old.journal c);
+        state = ap (λ (s : DurableState). after s c) lived.state ∙ sym (one_more old.found old.journal c);
         doubt = lived.doubt;
         on = ends (ends_life c) ∙ ap (goes_with (ends_life c)) (sym calm);
       }),
@@ -73,7 +73,7 @@ one_of : (t : Bool) (x y : Option ℕ) → (x ≡ Some 6 → ⊥) → (y ≡ Som
 one_of true x y p q = p
 one_of false x y p q = q
 
-not_six : (s : State) (c : Change) → refusal_of s c ≡ Some 6 → ⊥
+not_six : (s : DurableState) (c : Change) → refusal_of s c ≡ Some 6 → ⊥
 not_six s (Slot n) h = one_of (nat_lt 3 n) (Some 9) None (λ is. cc) (λ is. cc) h
 not_six s (Reset r) h = cc
 not_six s (Suspend x y z m) h = one_of _ (Some 12) None (λ is. cc) (λ is. cc) h

@@ -1,7 +1,7 @@
 -- What holds of a world, from event to event.
 use Rattle.std.proofs.Common.{◌≡◌, ◌∙◌, ⊎_elim, ℕ, ◌+◌, ◌<◌, ◌≤◌, List, [], ◌∷◌, ◌++◌, Option, Some, None, true, refl, sym, ap, subst, arith}
 use Rattle.std.specs.Bool.{⊤}
-use Rattle.board_model.specs.Durable.{State, Image, Change, Slot, Reset, Suspend, Consume, Discard, formatted, after, fold}
+use Rattle.board_model.specs.Durable.{DurableState, Image, Change, Slot, Reset, Suspend, Consume, Discard, formatted, after, fold}
 use Rattle.lives.specs.Events.{Event, WasOpened, WasAcknowledged, WasRefused, WasDoubtful, WasCut, WasResumed, World, new_world, Finds, serial_of, dropped_by, Happens, Runs, AreBelow, IsAbove, Rises}
 
 -- the image's serial was given out, and no hart with it or a later one was answered
@@ -22,7 +22,7 @@ pub record IsSound (w : World) : Type 0 where
   pub fresh : Fresh w.resumed w.state.next w.state.image
   pub held : Held w.resumed w.state.next w.state.image w.dropped
 
-one_more : (s : State) (cs : List Change) (c : Change) → fold s (cs ++ c ∷ []) ≡ after (fold s cs) c
+one_more : (s : DurableState) (cs : List Change) (c : Change) → fold s (cs ++ c ∷ []) ≡ after (fold s cs) c
 one_more s [] c = refl
 one_more s (d ∷ cs) c = one_more (after s d) cs c
 
@@ -43,10 +43,10 @@ below_push [] n k below lt = (lt, tt)
 below_push (m ∷ ms) n k below lt = (below.0, below_push ms n k below.1 lt)
 
 -- a state after a command
-abbrev pub Good : List ℕ → State → Type 0
+abbrev pub Good : List ℕ → DurableState → Type 0
 Good resumed s = AreBelow resumed s.next × Fresh resumed s.next s.image
 
-good_after : (resumed : List ℕ) (s : State) (c : Change) → Good resumed s → Good resumed (after s c)
+good_after : (resumed : List ℕ) (s : DurableState) (c : Change) → Good resumed s → Good resumed (after s c)
 good_after resumed s (Slot n) good = good
 good_after resumed s (Reset r) good = good
 good_after resumed s (Suspend h a o m) good = (below_more resumed s.next (s.next + 1) (omega arith) good.0, (omega arith, good.0))
@@ -88,11 +88,11 @@ held_below : (resumed : List ℕ) (next : ℕ) (image : Option Image) (n : ℕ) 
 held_below resumed next None n fresh held = held
 held_below resumed next (Some i) n fresh held = (omega (arith, fresh.0, held.0), held.1)
 
-found_sound : (w : World) (s : State) (kept : List Change) → IsSound w → Finds w s kept → IsSound (record { state = s; doubt = None; kept = kept; on = true; dropped = None; resumed = w.resumed })
+found_sound : (w : World) (s : DurableState) (kept : List Change) → IsSound w → Finds w s kept → IsSound (record { state = s; doubt = None; kept = kept; on = true; dropped = None; resumed = w.resumed })
 found_sound w s kept sound finds =
     ⊎_elim
     (λ same. made (same.0 ∙ sound.folded ∙ ap (fold formatted) (sym same.1)) (subst (Good w.resumed) (sym same.0) (sound.below, sound.fresh)))
-    (λ took. made (took.2 ∙ ap (λ (t : State). after t took.0) sound.folded ∙ sym (one_more formatted w.kept took.0) ∙ ap (fold formatted) (sym took.3)) (subst (Good w.resumed) (sym took.2) (good_after w.resumed w.state took.0 (sound.below, sound.fresh))))
+    (λ took. made (took.2 ∙ ap (λ (t : DurableState). after t took.0) sound.folded ∙ sym (one_more formatted w.kept took.0) ∙ ap (fold formatted) (sym took.3)) (subst (Good w.resumed) (sym took.2) (good_after w.resumed w.state took.0 (sound.below, sound.fresh))))
     finds
   where
     made : s ≡ fold formatted kept → Good w.resumed s → IsSound (record { state = s; doubt = None; kept = kept; on = true; dropped = None; resumed = w.resumed })
@@ -104,7 +104,7 @@ step w (WasAcknowledged c) v sound did =
     let good = good_after w.resumed w.state c (sound.below, sound.fresh) in
     subst IsSound (sym did.1)
     (record {
-      folded = ap (λ (t : State). after t c) sound.folded ∙ sym (one_more formatted w.kept c);
+      folded = ap (λ (t : DurableState). after t c) sound.folded ∙ sym (one_more formatted w.kept c);
       rises = sound.rises;
       below = good.0;
       fresh = good.1;

@@ -1,14 +1,14 @@
 -- Many lives of one disk, told as events: what opens find, how commands fare, and which images' harts go on.
 -- Source: docs/DURABLE.md, "What an open finds".
 use Rattle.std.specs.Prelude.{◌≡◌, ◌⊎◌, ℕ, ◌<◌, Bool, true, false, List, [], ◌∷◌, ◌++◌, Option, Some, None, Result, Ok, Err, ⊤}
-use Rattle.board_model.specs.Durable.{State, Image, Change, Consume, formatted, refusal_of, after, ends_life}
+use Rattle.board_model.specs.Durable.{DurableState, Image, Change, Consume, formatted, refusal_of, after, ends_life}
 use Rattle.board_model.specs.declared.refusal.Refusal.{Refusal}
 use Rattle.board_model.specs.declared.refusal.Refusal.TheVariants.{Down}
 use Rattle.store.specs.Lives.{Life, now_of}
 
 pub data Event : Type 0 where
   -- an open answered Ok, and found this
-  WasOpened : State → Event
+  WasOpened : DurableState → Event
   -- a command was acknowledged, was refused by a number but 6, or is in doubt: it answered 6 after it reached the disk, or was
   -- under way when power failed
   WasAcknowledged : Change → Event
@@ -23,7 +23,7 @@ pub data Event : Type 0 where
 -- commands kept since the format; whether this life may go on; the serial that the last acknowledged Consume of this life dropped,
 -- until its hart is resumed; and the serials of all images resumed.
 pub record World : Type 0 where
-  pub state : State
+  pub state : DurableState
   pub doubt : Option Change
   pub kept : List Change
   pub on : Bool
@@ -35,7 +35,7 @@ abbrev pub new_world : World
 new_world = record { state = formatted; doubt = None; kept = []; on = false; dropped = None; resumed = [] }
 
 -- an open may find the state, or what the command in doubt makes of it; and that is then kept
-abbrev pub Finds : World → State → List Change → Type 0
+abbrev pub Finds : World → DurableState → List Change → Type 0
 Finds w s kept = ((s ≡ w.state) × (kept ≡ w.kept)) ⊎ ((c : Change) × (w.doubt ≡ Some c) × (s ≡ after w.state c) × (kept ≡ w.kept ++ c ∷ []))
 
 -- a command reaches the disk: the life goes on, none is in doubt, and the table of commands does not refuse it

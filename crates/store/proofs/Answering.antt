@@ -1,7 +1,7 @@
 -- What a command does, put together from its steps.
 use Rattle.std.proofs.Common.{◌≡◌, ◌∙◌, inl, inr, ℕ, ◌-◌, ◌<◌, length, Result, Ok, Err, None, OnOk, refl, sym, ap, subst, false}
 use Rattle.std.specs.Result.{MatchResult}
-use Rattle.board_model.specs.Durable.{State, Change, after, refusal_of}
+use Rattle.board_model.specs.Durable.{DurableState, Change, after, refusal_of}
 use Rattle.board_model.specs.Shapes.{Size}
 use Rattle.board_model.specs.declared.refusal.Refusal.{Refusal}
 use Rattle.board_model.specs.declared.refusal.Refusal.TheVariants.{Device, Down, Memory}
@@ -46,13 +46,13 @@ refused_still Does v c e did moment only not_device not_down = record {
     one is = cc
 
 -- an area was written, in which the state is as before, and then a command went on
-module _ (old mid : Facts) (size : Size) (s : State) (first : LeavesSince old mid (λ c. StandsFor c size s)) where
-  pub first_moment : (t : State) → LeavesSince old mid (StandsForEither size s t)
+module _ (old mid : Facts) (size : Size) (s : DurableState) (first : LeavesSince old mid (λ c. StandsFor c size s)) where
+  pub first_moment : (t : DurableState) → LeavesSince old mid (StandsForEither size s t)
   first_moment t = leaves_weaker old mid (λ c. StandsFor c size s) (StandsForEither size s t) first (λ c stands. inl stands)
 
-  goes_on : (new : Facts) (z : Size) (r : State) (c : Change) (result : Result ℕ Refusal) → z ≡ size → r ≡ s → GoesTo mid new z r (after r c) result → GoesTo old new size s (after s c) result
+  goes_on : (new : Facts) (z : Size) (r : DurableState) (c : Change) (result : Result ℕ Refusal) → z ≡ size → r ≡ s → GoesTo mid new z r (after r c) result → GoesTo old new size s (after s c) result
   goes_on new z r c result sized same given =
-      let here : GoesTo mid new size s (after s c) result = subst (λ (x : State). GoesTo mid new size x (after x c) result) same (subst (λ (y : Size). GoesTo mid new y r (after r c) result) sized given) in
+      let here : GoesTo mid new size s (after s c) result = subst (λ (x : DurableState). GoesTo mid new size x (after x c) result) same (subst (λ (y : Size). GoesTo mid new y r (after r c) result) sized given) in
       record {
         any_moment = leaves_then old mid new (StandsForEither size s (after s c)) (first_moment (after s c)) here.any_moment;
         acknowledged = here.acknowledged;
@@ -88,7 +88,7 @@ unwritten Fits old mid c e fits life reseen going room allowed only first why = 
     again = record old.life { found = mid.life.found }
 
     reaches : Reaches again c
-    reaches = (going, room, ap (λ (s : State). refusal_of s c) reseen.now ∙ allowed)
+    reaches = (going, room, ap (λ (s : DurableState). refusal_of s c) reseen.now ∙ allowed)
 
     made : (f : Refusal) → (f ≡ Down → ⊥) → SuspendRefused Fits again c f mid.life → CausedRefusal old.fault_state f mid.fault_state → CountedRefusal old.disk.failures f mid.disk.failures → Answered (Suspended Fits) old c (Err f) mid
     made f up told cause counts = record {

@@ -1,7 +1,7 @@
 -- What a command makes of a store.
 use Rattle.std.proofs.Common.{◌≡◌, ◌∙◌, inl, inr, ⊎_elim, ℕ, ◌-◌, ◌<◌, List, [], ◌∷◌, ◌++◌, map, Option, None, option_map, Bool, true, refl, sym, ap, subst}
 use Rattle.std.proofs.lemmas.Bool.{and_parts, and_from}
-use Rattle.board_model.specs.Durable.{State, Change, refusal_of, after, fold}
+use Rattle.board_model.specs.Durable.{DurableState, Change, refusal_of, after, fold}
 use Rattle.board_model.specs.Shapes.{Size}
 use Rattle.board_model.specs.Shown.{change_in}
 use Rattle.disk.specs.Facts.{Content, Facts, LeavesSince}
@@ -42,30 +42,30 @@ plain_more (d ∷ journal) e plain is =
     let parts = and_parts (is_plain d) (are_plain journal) plain in
     and_from (is_plain d) (are_plain (journal ++ e ∷ [])) parts.0 (plain_more journal e parts.1 is)
 
-one_more : (s : State) (cs : List Change) (c : Change) → fold s (cs ++ c ∷ []) ≡ after (fold s cs) c
+one_more : (s : DurableState) (cs : List Change) (c : Change) → fold s (cs ++ c ∷ []) ≡ after (fold s cs) c
 one_more s [] c = refl
 one_more s (d ∷ cs) c = one_more (after s d) cs c
 
 pub none_maps : (A : Type 0) (f g : A → Change) (d : Option A) → d ≡ None → option_map f d ≡ option_map g d
 none_maps A f g d is = ap (option_map f) is ∙ sym (ap (option_map g) is)
 
-pub life_is : (f g : State) (i j : List Change) (c d : Option Change) (n o : Bool) → f ≡ g → i ≡ j → c ≡ d → n ≡ o
+pub life_is : (f g : DurableState) (i j : List Change) (c d : Option Change) (n o : Bool) → f ≡ g → i ≡ j → c ≡ d → n ≡ o
     → ◌≡◌ {A = Life} (record { found = f; journal = i; doubt = c; over = n }) (record { found = g; journal = j; doubt = d; over = o })
 life_is f g i j c d n o fg ij cd ends =
-    ap (λ (x : State). made x i c n) fg ∙ ap (λ (x : List Change). made g x c n) ij ∙ ap (λ (x : Option Change). made g j x n) cd ∙ ap (λ (x : Bool). made g j d x) ends
+    ap (λ (x : DurableState). made x i c n) fg ∙ ap (λ (x : List Change). made g x c n) ij ∙ ap (λ (x : Option Change). made g j x n) cd ∙ ap (λ (x : Bool). made g j d x) ends
   where
-    made : State → List Change → Option Change → Bool → Life
+    made : DurableState → List Change → Option Change → Bool → Life
     made found journal doubt over = record { found = found; journal = journal; doubt = doubt; over = over }
 
 -- a store that is up, before any call
-pub still_stands : (a : Facts) (size : Size) (side : ℕ) (current : Record) (now then : State) → ((x : Content) → a.since a.moment x → a.may_leave x) → IsUp a size side current
+pub still_stands : (a : Facts) (size : Size) (side : ℕ) (current : Record) (now then : DurableState) → ((x : Content) → a.since a.moment x → a.may_leave x) → IsUp a size side current
     → now ≡ state_of size current a.content → LeavesSince a a (StandsForEither size now then)
 still_stands a size side current now then only_now up is =
     leaves_none a (StandsForEither size now then) only_now
     (λ x left. inl (subst (StandsFor x size) (sym is) (stands_for size side current a.content x (up x left))))
 
 -- the state of a life, by the disk as a read gives it
-abbrev pub now_by : Facts → Size → Record → Record → List Entry → State
+abbrev pub now_by : Facts → Size → Record → Record → List Entry → DurableState
 now_by a size opened current journal = fold (state_of size opened a.content) (told (memory_in size current a.content) journal)
 
 -- What a commit of an entry leaves of a life, whether it was done, was left undone or is in doubt.
@@ -87,7 +87,7 @@ pub record Issues (a b : Facts) (size : Size) (side : ℕ) (opened current next 
 
 module _ (a b : Facts) (size : Size) (side : ℕ) (opened current next : Record) (journal : List Entry) (entry : Entry) (follows : Follows size current entry next)
     (areas : SameAreas a.content b.content) (folded : fold (state_of size opened a.content) (told (memory_in size current a.content) journal) ≡ state_of size current a.content) where
-  abbrev now : State
+  abbrev now : DurableState
   now = now_by a size opened current journal
 
   abbrev change : Change
@@ -113,13 +113,13 @@ module _ (a b : Facts) (size : Size) (side : ℕ) (opened current next : Record)
 
   -- a command that the table does not refuse is not refused then
   allowed_still : refusal_of now change ≡ None → refusal_of (state_of size current b.content) (change_in entry (memory_in size next b.content)) ≡ None
-  allowed_still allowed = ap (λ (s : State). refusal_of s (change_in entry (memory_in size next b.content))) now_still ∙ ap (λ (c : Change). refusal_of now c) change_still ∙ allowed
+  allowed_still allowed = ap (λ (s : DurableState). refusal_of s (change_in entry (memory_in size next b.content))) now_still ∙ ap (λ (c : Change). refusal_of now c) change_still ∙ allowed
 
   next_is : state_of size next b.content ≡ after now change
-  next_is = follows.state b.content ∙ ap (after (state_of size current b.content)) change_still ∙ ap (λ (s : State). after s change) now_still
+  next_is = follows.state b.content ∙ ap (after (state_of size current b.content)) change_still ∙ ap (λ (s : DurableState). after s change) now_still
 
   folded_still : fold (state_of size opened b.content) (told (memory_in size current b.content) journal) ≡ state_of size current b.content
-  folded_still = ap (fold (state_of size opened b.content)) told_still ∙ ap (λ (s : State). fold s (told (memory_in size current a.content) journal)) found_still ∙ sym now_still
+  folded_still = ap (fold (state_of size opened b.content)) told_still ∙ ap (λ (s : DurableState). fold s (told (memory_in size current a.content) journal)) found_still ∙ sym now_still
 
   -- the journal with the command
   told_next : are_plain journal ≡ true → told (memory_in size next b.content) (journal ++ entry ∷ []) ≡ told (memory_in size current a.content) journal ++ change ∷ []
@@ -131,7 +131,7 @@ module _ (a b : Facts) (size : Size) (side : ℕ) (opened current next : Record)
   folded_more : are_plain journal ≡ true → fold (state_of size opened b.content) (told (memory_in size next b.content) (journal ++ entry ∷ [])) ≡ state_of size next b.content
   folded_more plain =
       ap (fold (state_of size opened b.content)) (told_next plain)
-      ∙ ap (λ (s : State). fold s (told (memory_in size current a.content) journal ++ change ∷ [])) found_still
+      ∙ ap (λ (s : DurableState). fold s (told (memory_in size current a.content) journal ++ change ∷ [])) found_still
       ∙ one_more (state_of size opened a.content) (told (memory_in size current a.content) journal) change
       ∙ sym next_is
 
@@ -143,8 +143,8 @@ module _ (a b : Facts) (size : Size) (side : ℕ) (opened current next : Record)
 
   leaves_one : side < 2 → IsInDoubt b size side current next → LeavesEither b size now (after now change)
   leaves_one known doubt =
-      subst (λ (s : State). LeavesEither b size s (after now change)) now_still
-      (subst (λ (s : State). LeavesEither b size (state_of size current b.content) s) next_is (doubt_leaves b size side current next known doubt))
+      subst (λ (s : DurableState). LeavesEither b size s (after now change)) now_still
+      (subst (λ (s : DurableState). LeavesEither b size (state_of size current b.content) s) next_is (doubt_leaves b size side current next known doubt))
 
   either_moment : LeavesSince a b (SelectsEither size side current next a.content) → LeavesSince a b (StandsForEither size now (after now change))
   either_moment only =
@@ -152,7 +152,7 @@ module _ (a b : Facts) (size : Size) (side : ℕ) (opened current next : Record)
       (λ x either.
       ⊎_elim
       (λ old. inl (subst (StandsFor x size) (sym folded) old))
-      (λ new. inr (subst (StandsFor x size) (follows.state a.content ∙ ap (λ (s : State). after s change) (sym folded)) new))
+      (λ new. inr (subst (StandsFor x size) (follows.state a.content ∙ ap (λ (s : DurableState). after s change) (sym folded)) new))
       (either_stands size side current next a.content x either))
 
   pub issues : Issues a b size side opened current next journal entry

@@ -1,7 +1,7 @@
 -- The area that the live image does not use may hold anything: the state stays, also while it is written.
 use Rattle.std.proofs.Common.{◌≡◌, ◌∙◌, ◌⊎◌, zero, suc, inl, inr, ⊎_elim, ℕ, ◌+◌, ◌*◌, ◌≤◌, ◌<◌, List, [], ◌∷◌, Option, Some, true, false, refl, sym, ap, subst, arith}
 use Rattle.std.proofs.lemmas.Bool.{cases_Bool}
-use Rattle.board_model.specs.Durable.{Image, State, fold}
+use Rattle.board_model.specs.Durable.{Image, DurableState, fold}
 use Rattle.board_model.specs.Shapes.{Size, area_sectors_of}
 use Rattle.board_model.specs.Shown.{durable_of}
 use Rattle.board_model.specs.declared.durable.Command.TheVariants as commands
@@ -32,7 +32,7 @@ apart (suc (suc i)) j n k il jl first second from below = absurd (omega arith)
 apart zero (suc (suc j)) n k il jl first second from below = absurd (omega arith)
 apart (suc zero) (suc (suc j)) n k il jl first second from below = absurd (omega arith)
 
-abbrev made : ℕ → Reason → ℕ → Option Image → State
+abbrev made : ℕ → Reason → ℕ → Option Image → DurableState
 made slot reason next image = record { slot = slot; reason = reason; next = next; image = image }
 
 -- where a command dropped the image, nothing is left of it
@@ -102,7 +102,7 @@ module _ (a b : Facts) (size : Size) (side : ℕ) (opened current : Record) (jou
     free_fold =
         ⊎_elim
         (λ drops. forget (memory_in size current a.content) journal opened.slot opened.reason opened.next (image_of size opened.image b.content) (image_of size opened.image a.content) drops)
-        (λ keeps. ap (λ (s : State). fold s (told (memory_in size current a.content) journal)) (state_same size opened a.content b.content (subst (λ (i : Option Saved). SameImage size i a.content b.content) (same keeps) here)))
+        (λ keeps. ap (λ (s : DurableState). fold s (told (memory_in size current a.content) journal)) (state_same size opened a.content b.content (subst (λ (i : Option Saved). SameImage size i a.content b.content) (same keeps) here)))
         (cases_Bool (drop_image journal))
 
     module _ (folded : fold (state_of size opened a.content) (told (memory_in size current a.content) journal) ≡ state_of size current a.content) where

@@ -1,7 +1,7 @@
 -- One life of the durable state, as a store tells it, and what a command makes of it.
 -- Source: docs/STORE.md, "A life"; docs/DURABLE.md.
 use Rattle.std.specs.Prelude.{◌≡◌, ◌⊎◌, ℕ, ◌+◌, ◌<◌, Bool, true, false, List, [], ◌∷◌, ◌++◌, Option, Some, None, length, Result, Ok, Err}
-use Rattle.board_model.specs.Durable.{State, Image, Change, refusal_of, fold, ends_life}
+use Rattle.board_model.specs.Durable.{DurableState, Image, Change, refusal_of, fold, ends_life}
 use Rattle.board_model.specs.Shapes.{Size, ram_bytes_of}
 use Rattle.disk.specs.Facts.{Facts, Failed}
 use Rattle.disk.specs.FaultState.{FaultState, Cause}
@@ -11,17 +11,17 @@ use Rattle.board_model.specs.declared.refusal.Refusal.TheVariants.{BadShape, NoI
 
 -- what the open found, the commands acknowledged since, the one whose fate is in doubt, and whether the life has ended
 pub record Life : Type 0 where
-  pub found : State
+  pub found : DurableState
   pub journal : List Change
   pub doubt : Option Change
   pub over : Bool
 
 -- the life that an open begins
-abbrev pub begun : State → Life
+abbrev pub begun : DurableState → Life
 begun s = record { found = s; journal = []; doubt = None; over = false }
 
 -- the durable state now, without a command in doubt
-abbrev pub now_of : Life → State
+abbrev pub now_of : Life → DurableState
 now_of life = fold life.found life.journal
 
 -- the command goes to the disk
@@ -49,7 +49,7 @@ Applied old c (Err e) new = Refused old c e new
 
 -- The state found is shown anew once an area was written over: it is as before, but for the memory of an image that was dropped
 -- since, and the state now is the same.
-pub record IsReseen (old : Life) (found : State) : Type 0 where
+pub record IsReseen (old : Life) (found : DurableState) : Type 0 where
   pub heads : durable_of found ≡ durable_of old.found
   pub now : fold found old.journal ≡ now_of old
 
@@ -74,12 +74,12 @@ pub record Suspended (Fits : Type 0) (old : Life) (c : Change) (result : Result 
   pub told : SuspendApplied Fits (record old { found = new.found }) c result new
 
 -- the memory is that of the image that stands
-abbrev pub IsLoaded : State → List ℕ → Type 0
+abbrev pub IsLoaded : DurableState → List ℕ → Type 0
 IsLoaded s memory = (i : Image) × (s.image ≡ Some i) × (memory ≡ i.memory)
 
 -- why the image is not loaded: 3 for a memory of another size, 8 without an image, 5 where the disk failed in this call, 13 for
 -- an image that reads as no memory
-abbrev pub LoadRefused : Size → State → List ℕ → Facts → FaultState → Refusal → Facts → FaultState → Type 0
+abbrev pub LoadRefused : Size → DurableState → List ℕ → Facts → FaultState → Refusal → Facts → FaultState → Type 0
 LoadRefused size s memory old m BadShape new n = (length memory ≡ ram_bytes_of size → ⊥) × (new.failures ≡ old.failures) × (n ≡ m)
 LoadRefused size s memory old m NoImage new n = (length memory ≡ ram_bytes_of size) × (s.image ≡ None) × (new.failures ≡ old.failures) × (n ≡ m)
 LoadRefused size s memory old m Device new n = (length memory ≡ ram_bytes_of size) × Failed old.failures new.failures × Cause m n

@@ -1,6 +1,6 @@
 -- What a contract sees of a store.
 use Rattle.std.specs.Prelude.{◌≡◌, ℕ, List, Option, None, Some, length, map, option_map}
-use Rattle.board_model.specs.Durable.{State, Change, after}
+use Rattle.board_model.specs.Durable.{DurableState, Change, after}
 use Rattle.board_model.specs.Shapes.{Size}
 use Rattle.disk.specs.declared.device.ArmedFault.{ArmedFault}
 use Rattle.disk.specs.declared.device.Disk.{Ghosts}
@@ -40,13 +40,13 @@ module _ {D L : Type 0} {g : Ghosts D L} {l : Lanes L} where
     over = store.over;
   }
 
-  abbrev pub found_state : Store D L g l → State
+  abbrev pub found_state : Store D L g l → DurableState
   found_state store = (life_of store).found
 
   abbrev pub journal_of : Store D L g l → List Change
   journal_of store = (life_of store).journal
 
-  abbrev pub now_state : Store D L g l → State
+  abbrev pub now_state : Store D L g l → DurableState
   now_state store = now_of (life_of store)
 
   abbrev pub receipts : Store D L g l → ℕ
@@ -60,11 +60,11 @@ module _ {D L : Type 0} {g : Ghosts D L} {l : Lanes L} where
   failures_at_open store = store.failures_at_open
 
   -- it is up, at that state
-  abbrev pub Stands : Store D L g l → State → Type 0
+  abbrev pub Stands : Store D L g l → DurableState → Type 0
   Stands store s = (doubt_of store ≡ None) × (s ≡ now_state store)
 
   -- it is down: a command is in doubt, which makes t of s
-  abbrev pub Doubts : Store D L g l → State → State → Type 0
+  abbrev pub Doubts : Store D L g l → DurableState → DurableState → Type 0
   Doubts store s t = (c : Change) × (doubt_of store ≡ Some c) × (s ≡ now_state store) × (t ≡ after s c)
 
   -- all of it

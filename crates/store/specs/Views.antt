@@ -1,7 +1,7 @@
 -- What a contract sees of an open store, and what a command does to it.
 -- Source: docs/STORE.md, "A commit" and "A life".
 use Rattle.std.specs.Prelude.{◌≡◌, ◌≤◌, ℕ, Result, OnOk, IfErr, IsErrOf, MatchResult}
-use Rattle.board_model.specs.Durable.{State, Change, after}
+use Rattle.board_model.specs.Durable.{DurableState, Change, after}
 use Rattle.board_model.specs.Shapes.{Size}
 use Rattle.board_model.specs.declared.refusal.Refusal.{Refusal}
 use Rattle.board_model.specs.declared.refusal.Refusal.TheVariants.{Device, Down}
@@ -32,7 +32,7 @@ pub record Opened (disk : Facts) (store : StoreView) : Type 0 where
 
 -- A command goes to the disk that makes t of s. A crash leaves the one or the other at each moment since its start; t alone
 -- once it is acknowledged; s alone after a refusal, but after 6 the one or the other.
-pub record GoesTo (old new : Facts) (size : Size) (s t : State) (result : Result ℕ Refusal) : Type 0 where
+pub record GoesTo (old new : Facts) (size : Size) (s t : DurableState) (result : Result ℕ Refusal) : Type 0 where
   pub any_moment : LeavesSince old new (StandsForEither size s t)
   pub acknowledged : OnOk result (LeavesOnly new size t)
   pub unchanged : IfErr result (λ e. (e ≡ Down → ⊥) → LeavesOnly new size s)

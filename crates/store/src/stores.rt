@@ -1,6 +1,6 @@
 //! The store: one life of the durable state.
 ghost use Rattle.std.specs.Prelude.{◌≡◌, ◌≤◌, ◌≢◌, ◌<◌, ◌+◌, ◌-◌, ◌*◌, ◌^◌, ◌⊎◌, ◌↔◌, IsTrue, ℕ, List, get_or, false, true, length, map, vec_len, vec_capacity, Some, None, Err, IfSome, IfOk, IfErr, OnOk, OnErr, IsErrOf, MatchResult};
-ghost use Rattle.board_model.specs.Durable.{State, Change, Suspend, after, fold, ends_life, refusal_of};
+ghost use Rattle.board_model.specs.Durable.{DurableState, Change, Suspend, after, fold, ends_life, refusal_of};
 ghost use Rattle.board_model.specs.Shown.{change_of, change_in, number_of};
 ghost use Rattle.board_model.specs.Shapes.{Size, IsSize, ram_bytes_of};
 ghost use Rattle.layout.specs.Records.{AreCounts};
@@ -74,7 +74,7 @@ impl<D: Disk + Drop> Store<D> {
 
         // And the other way: a disk that reads as a refusal is refused so, or by 5; one that stands for a state is opened, but for 5 and 11.
         ensures refuses { (e : Refusal) → ReadsAs (D.facts disk).content e → MatchResult result (λ store. ⊥) (λ f. (f.1 ≡ e) ⊎ (f.1 ≡ Refusal.Device)) }
-        ensures opens { (size : Size) (s : State) → StandsFor (D.facts disk).content size s → IfErr result (λ f. (f.1 ≡ Refusal.Device) ⊎ (f.1 ≡ Refusal.Memory)) }
+        ensures opens { (size : Size) (s : DurableState) → StandsFor (D.facts disk).content size s → IfErr result (λ f. (f.1 ≡ Refusal.Device) ⊎ (f.1 ≡ Refusal.Memory)) }
 
         // A disk without sectors is refused before any call.
         ensures no_sectors { length (D.facts disk).content ≡ 0 → MatchResult result (λ store. ⊥) (λ f. (f.1 ≡ Refusal.BadShape) × (f.0 ≡ disk)) }
@@ -349,8 +349,8 @@ impl<D: Disk + Drop> Store<D> {
     /// What an open store keeps, from one call to the next: a crash leaves the state now, or with a command in doubt one of
     /// two; such a command is one that the table of commands does not refuse. It does nothing.
     pub fn stands(&self)
-        ensures up { (s : State) → Stands self.now s → LeavesOnly (disk_of self.now) (size_of_store self.now) s }
-        ensures down { (s t : State) → Doubts self.now s t → LeavesEither (disk_of self.now) (size_of_store self.now) s t }
+        ensures up { (s : DurableState) → Stands self.now s → LeavesOnly (disk_of self.now) (size_of_store self.now) s }
+        ensures down { (s t : DurableState) → Doubts self.now s t → LeavesEither (disk_of self.now) (size_of_store self.now) s t }
         ensures allowed { (c : Change) → doubt_of self.now ≡ Some c → refusal_of (now_state self.now) c ≡ None }
     {}
 
@@ -358,8 +358,8 @@ impl<D: Disk + Drop> Store<D> {
     /// doubt one of two.
     pub fn into_disk(self) -> D
         ensures disk { result ≡ device_of self }
-        ensures up { (s : State) → Stands self s → LeavesOnly (D.facts result) (size_of_store self) s }
-        ensures down { (s t : State) → Doubts self s t → LeavesEither (D.facts result) (size_of_store self) s t }
+        ensures up { (s : DurableState) → Stands self s → LeavesOnly (D.facts result) (size_of_store self) s }
+        ensures down { (s t : DurableState) → Doubts self s t → LeavesEither (D.facts result) (size_of_store self) s t }
         ensures allowed { (c : Change) → doubt_of self ≡ Some c → refusal_of (now_state self) c ≡ None }
         ensures none_out { IsIdle (D.facts result) }
         ensures facts { Unchanged (disk_of self) (D.facts result) }

@@ -1,7 +1,7 @@
 -- An image was loaded, and then its consumption asked: together, from the state before the load.
 use Rattle.std.proofs.Common.{◌≡◌, ◌⊎◌, ◌-◌, ℕ, List, Ok, Err, Result, OnOk, Some, None, ap, ◌∙◌, subst, inl, inr, arith}
 use Rattle.std.specs.Result.{MatchResult}
-use Rattle.board_model.specs.Durable.{State, Change, Consume, after, refusal_of}
+use Rattle.board_model.specs.Durable.{DurableState, Change, Consume, after, refusal_of}
 use Rattle.board_model.specs.Shapes.{Size}
 use Rattle.board_model.specs.declared.refusal.Refusal.{Refusal}
 use Rattle.board_model.specs.declared.refusal.Refusal.TheVariants.{Device, Down, NoImage}
@@ -15,11 +15,11 @@ use Rattle.store.specs.Standing.{selected, StandsFor}
 use Rattle.store.specs.Views.{StoreView, GoesTo, CountedRefusal, Answered}
 
 -- each content that a crash may leave stands for that state
-stands_so : (disk : Facts) (size : Size) (s : State) → LeavesOnly disk size s → (c : Content) → disk.may_leave c → StandsFor c size s
+stands_so : (disk : Facts) (size : Size) (s : DurableState) → LeavesOnly disk size s → (c : Content) → disk.may_leave c → StandsFor c size s
 unfolding Leaves IsKept
 stands_so disk size s only c left =
     let k = only.kept c left in
-    subst (λ (t : State). StandsFor c size t) (only.only size k.0 (c, left, k.1)).1 k.1
+    subst (λ (t : DurableState). StandsFor c size t) (only.only size k.0 (c, left, k.1)).1 k.1
 
 wrote_later : (old mid new : Facts) → mid.content ≡ old.content → WroteACommand mid new → WroteACommand old new
 unfolding WroteACommand
@@ -52,17 +52,17 @@ answered_on old mid new c result life sized calm counted content first only did 
     }
 
 -- the state now is one that a crash may leave
-pub left_now : (disk : Facts) (size : Size) (s : State) → disk.may_leave disk.content → LeavesOnly disk size s → Leaves disk size s
+pub left_now : (disk : Facts) (size : Size) (s : DurableState) → disk.may_leave disk.content → LeavesOnly disk size s → Leaves disk size s
 unfolding Leaves
 left_now disk size s may_keep only = (disk.content, may_keep, stands_so disk size s only disk.content may_keep)
 
 -- where a Consume is not refused, an image stands
-there : (s : State) → refusal_of s Consume ≡ None → s.image ≡ None → ⊥
+there : (s : DurableState) → refusal_of s Consume ≡ None → s.image ≡ None → ⊥
 there s allowed none =
     let refused : Some 8 ≡ None = rw none at allowed in
     cc
 
-pub unloaded : (size : Size) (s : State) (memory : List ℕ) (old : Facts) (m : FaultState) (e : Refusal) (new : Facts) (n : FaultState) → refusal_of s Consume ≡ None
+pub unloaded : (size : Size) (s : DurableState) (memory : List ℕ) (old : Facts) (m : FaultState) (e : Refusal) (new : Facts) (n : FaultState) → refusal_of s Consume ≡ None
     → (e ≡ Device) ⊎ ((e ≡ NoImage) × (s.image ≡ None)) → LoadRefused size s memory old m e new n → ((e ≡ Device) ⊎ (e ≡ Down)) × Failed old.failures new.failures
 unloaded size s memory old m e new n allowed (inl device) why =
     let was : LoadRefused size s memory old m Device new n = rw device at why in

@@ -1,6 +1,6 @@
 -- A board wakes from its image. Source: SBI specification 2.0, chapter 13; docs/SBI.md.
 use Rattle.std.specs.Prelude.{◌≡◌, ◌⊎◌, ℕ, List, Result, Err, Some, None, length}
-use Rattle.board_model.specs.Durable.{State, Image, Change, Consume, IsWhole}
+use Rattle.board_model.specs.Durable.{DurableState, Image, Change, Consume, IsWhole}
 use Rattle.board_model.specs.Shapes.{ram_bytes_of}
 use Rattle.board_model.specs.declared.refusal.Refusal.{Refusal}
 use Rattle.board_model.specs.declared.refusal.Refusal.TheVariants.{Device, Down}
@@ -14,7 +14,7 @@ use Rattle.store.specs.Stores.{disk_of, fault_state_of, size_of_store, life_of, 
 use Rattle.store.specs.declared.stores.Store.{Store}
 
 -- The memory is that of the image that stands, and the hart is the image's, as one that starts at its address with its opaque value.
-abbrev pub IsWoken : State → List ℕ → HartState → Type 0
+abbrev pub IsWoken : DurableState → List ℕ → HartState → Type 0
 IsWoken s memory hart = (i : Image) × (s.image ≡ Some i) × (memory ≡ i.memory) × (hart ≡ started i.hart i.address i.opaque)
 
 module _ {D L : Type 0} {g : Ghosts D L} {l : Lanes L} where

@@ -1,19 +1,19 @@
 use Rattle.std.proofs.Common.{◌≡◌, ℕ, ◌≤◌, ◌<◌, List, [], ◌∷◌, arith}
-use Rattle.board_model.specs.Durable.{State, Change, Slot, Reset, Suspend, Consume, Discard, after, fold, HasImage, IsOrdered}
+use Rattle.board_model.specs.Durable.{DurableState, Change, Slot, Reset, Suspend, Consume, Discard, after, fold, HasImage, IsOrdered}
 use Rattle.board_model.proofs.laws.image_never_again.Goals as goal
 
 -- A suspension stands under the next serial, so under none below it.
-fresh_serial : (s : State) (hart address opaque : ℕ) (memory : List ℕ) (serial : ℕ) → serial < s.next
+fresh_serial : (s : DurableState) (hart address opaque : ℕ) (memory : List ℕ) (serial : ℕ) → serial < s.next
     → HasImage (after s (Suspend hart address opaque memory)) serial → ⊥
 fresh_serial s hart address opaque memory serial below (i, is, named) =
     let same : s.next ≡ i.serial = cc in
     let never : ⊥ = omega arith in
     never
 
-nothing_stands : (s : State) (serial : ℕ) → HasImage (after s Consume) serial → ⊥
+nothing_stands : (s : DurableState) (serial : ℕ) → HasImage (after s Consume) serial → ⊥
 nothing_stands s serial (i, is, named) = let never : ⊥ = cc in never
 
-stays_gone : (s : State) (cs : List Change) (serial : ℕ) → serial < s.next → (HasImage s serial → ⊥)
+stays_gone : (s : DurableState) (cs : List Change) (serial : ℕ) → serial < s.next → (HasImage s serial → ⊥)
     → HasImage (fold s cs) serial → ⊥
 stays_gone s [] serial below gone stands = gone stands
 stays_gone s (Slot n ∷ cs) serial below gone stands = stays_gone (after s (Slot n)) cs serial below gone stands
@@ -24,7 +24,7 @@ stays_gone s (Suspend hart address opaque memory ∷ cs) serial below gone stand
 stays_gone s (Consume ∷ cs) serial below gone stands = stays_gone (after s Consume) cs serial below (nothing_stands s serial) stands
 stays_gone s (Discard ∷ cs) serial below gone stands = stays_gone (after s Discard) cs serial below (nothing_stands s serial) stands
 
-next_rises : (s : State) (c : Change) → s.next ≤ (after s c).next
+next_rises : (s : DurableState) (c : Change) → s.next ≤ (after s c).next
 next_rises s (Slot n) = omega arith
 next_rises s (Reset r) = omega arith
 next_rises s (Suspend hart address opaque memory) = omega arith
@@ -32,7 +32,7 @@ next_rises s Consume = omega arith
 next_rises s Discard = omega arith
 
 -- A standing serial is below the next one, also after a further command.
-below_next : (s : State) (c : Change) (serial : ℕ) → IsOrdered s → HasImage s serial → serial < (after s c).next
+below_next : (s : DurableState) (c : Change) (serial : ℕ) → IsOrdered s → HasImage s serial → serial < (after s c).next
 below_next s c serial ordered (i, is, named) =
     let given : i.serial < s.next = rw is at ordered in
     let rises : s.next ≤ (after s c).next = next_rises s c in

@@ -1,22 +1,22 @@
 use Rattle.std.proofs.Common.{◌≡◌, ◌≤◌, List, [], ◌∷◌, Some, length, ap, arith}
 use Rattle.std.specs.List.{All}
 use Rattle.std.proofs.lemmas.List.Elements.{All-head, All-tail}
-use Rattle.board_model.specs.Durable.{State, Image, Change, Slot, Reset, Suspend, Consume, Discard, after, fold, IsWhole, CarriesWhole}
+use Rattle.board_model.specs.Durable.{DurableState, Image, Change, Slot, Reset, Suspend, Consume, Discard, after, fold, IsWhole, CarriesWhole}
 use Rattle.board_model.specs.Shapes.{Size, IsSize, ram_bytes_of}
 use Rattle.board_model.proofs.laws.images_stay_whole.Goals as goal
 
-stays : (size : Size) (s : State) (c : Change) → IsWhole size s → CarriesWhole size c → IsWhole size (after s c)
+stays : (size : Size) (s : DurableState) (c : Change) → IsWhole size s → CarriesWhole size c → IsWhole size (after s c)
 stays size s (Slot n) whole carries = whole
 stays size s (Reset r) whole carries = whole
 stays size s (Suspend hart address opaque memory) whole carries = carries
 stays size s Consume whole carries = tt
 stays size s Discard whole carries = tt
 
-all_stay : (size : Size) (s : State) (cs : List Change) → IsWhole size s → All (CarriesWhole size) cs → IsWhole size (fold s cs)
+all_stay : (size : Size) (s : DurableState) (cs : List Change) → IsWhole size s → All (CarriesWhole size) cs → IsWhole size (fold s cs)
 all_stay size s [] whole carry = whole
 all_stay size s (c ∷ cs) whole carry = all_stay size (after s c) cs (stays size s c whole (All-head (CarriesWhole size) c cs carry)) (All-tail (CarriesWhole size) c cs carry)
 
-some_bytes : (size : Size) (s : State) (i : Image) → IsSize size → IsWhole size s → s.image ≡ Some i → i.memory ≡ [] → ⊥
+some_bytes : (size : Size) (s : DurableState) (i : Image) → IsSize size → IsWhole size s → s.image ≡ Some i → i.memory ≡ [] → ⊥
 some_bytes size s i is whole image none =
     let long : length i.memory ≡ ram_bytes_of size = rw image at whole in
     let short : length i.memory ≡ 0 = ap length none in

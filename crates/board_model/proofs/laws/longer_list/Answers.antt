@@ -1,8 +1,8 @@
 use Rattle.std.proofs.Common.{◌≡◌, List, [], ◌∷◌, ◌++◌, refl}
-use Rattle.board_model.specs.Durable.{State, Change, after, fold}
+use Rattle.board_model.specs.Durable.{DurableState, Change, after, fold}
 use Rattle.board_model.proofs.laws.longer_list.Goals as goal
 
-folds : (s : State) (cs ds : List Change) → fold s (cs ++ ds) ≡ fold (fold s cs) ds
+folds : (s : DurableState) (cs ds : List Change) → fold s (cs ++ ds) ≡ fold (fold s cs) ds
 folds s [] ds = refl
 folds s (c ∷ cs) ds = folds (after s c) cs ds
 
