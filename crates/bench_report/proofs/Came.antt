@@ -38,7 +38,7 @@ use Rattle.machine.specs.declared.parts.Word.TheVariants as words
 use Rattle.board.specs.Turns as boards
 use Rattle.bench_report.specs.Below.{SimStore, IsLife, IsAs, store_size, store_fault_state, store_facts}
 use Rattle.bench_report.specs.Bench.{BenchLife, Bench}
-use Rattle.bench_report.specs.Steps.{out_of_memory, off, on_with, has_machine, acknowledged, Issued, refused, AnswersError, HartCommand, Resets, Suspends, IsAlone, Sleeps, SleepsBy, MakesCall, Comes, GuestTurn, IsLastTurn, GuestTurns}
+use Rattle.bench_report.specs.Steps.{out_of_memory, off, on_with, has_machine, acknowledged, Issued, refused, AnswersError, HartCommand, Resets, SuspendIssued, IsAlone, Sleeps, SleepsBy, MakesCall, Comes, GuestTurn, IsLastTurn, GuestTurns}
 use Rattle.bench_report.specs.Agree.{StoreIs, DeviceIs, IsOver}
 use Rattle.bench_report.proofs.Adapted.{calm as untouched}
 use Rattle.bench_report.proofs.Commanded.{Running, follows_with, sized_for, reported_end, reported_err, reported_up, reported_down, again, calm_device, unmoved}
@@ -142,7 +142,7 @@ module _ (size : Size) (b : Bench) (life : BenchLife) (h : ℕ) (n : Machine) (o
 
     -- the command was refused so, and the life goes on
     abbrev Suspending : ℕ → Type 0
-    Suspending k = (x : Bench) × Suspends Fits command life b (Err k) x × Running size x life.machine new × (x.payloads ≡ b.payloads)
+    Suspending k = (x : Bench) × SuspendIssued Fits command life b (Err k) x × Running size x life.machine new × (x.payloads ≡ b.payloads)
 
     module _ (r : Result ℕ Refusal) (asked : Asked (Suspended Fits) old command r new) where
       abbrev seen : StoreLife
@@ -207,7 +207,7 @@ module _ (size : Size) (b : Bench) (life : BenchLife) (h : ℕ) (n : Machine) (o
             (3, (b, inr (inr (not, refl, refl)), unmoved size b life command old new (life_of old) on was device asked.stays.board asked.stays.length asked.stays.no_fewer (asked.down d (was.1.2 ∙ at)).1, refl))
 
     -- acknowledged
-    suspend_ok : (k : ℕ) → Asked (Suspended Fits) old command (Ok k) new → (x : Bench) × Suspends Fits command life b (Ok k) x × (x ≡ acknowledged command life b) × IsEnded size (off x) new
+    suspend_ok : (k : ℕ) → Asked (Suspended Fits) old command (Ok k) new → (x : Bench) × SuspendIssued Fits command life b (Ok k) x × (x ≡ acknowledged command life b) × IsEnded size (off x) new
     suspend_ok k asked =
         let did = reported_end size b life command old new (seen (Ok k) asked) on was device asked.stays.board asked.stays.length asked.stays.no_fewer (seen_as (Ok k) asked) life.doubt refl k
         (λ none. (asked.answered none).life.told.1) asked.down (λ none. (asked.answered none).cause) in

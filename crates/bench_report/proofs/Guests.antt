@@ -19,7 +19,7 @@ use Rattle.sbi_abi.specs.Calls.{call_of}
 use Rattle.sbi.specs.declared.resets.ResetType.{ResetType}
 use Rattle.sbi.specs.Resets.{reset_of}
 use Rattle.bench_report.specs.Bench.{BenchLife, Bench}
-use Rattle.bench_report.specs.Steps.{off, on_with, has_machine, refused, AnswersError, HartCommand, Resets, Suspends, Sleeps, SleepsBy, MakesCall, Comes, GuestTurn, IsLastTurn, GuestTurns}
+use Rattle.bench_report.specs.Steps.{off, on_with, has_machine, refused, AnswersError, HartCommand, Resets, SuspendIssued, Sleeps, SleepsBy, MakesCall, Comes, GuestTurn, IsLastTurn, GuestTurns}
 use Rattle.bench_report.proofs.Determined.{Fair, fair_to, fair_then, unmoved, spoils, starves, issued_fair, Agree, same, issued, some_inj}
 
 abbrev pub IsOneTurn : Type 0
@@ -37,7 +37,7 @@ resets_fair : (asked : Result (ResetType × Reason) SbiError) (h : ℕ) (life : 
 resets_fair (Err e) h life b word new x = refuses_fair e h life b word new x
 resets_fair (Ok reset) h life b word new (o, mid, i, x) = fair_then b mid new (issued_fair (Reset reset.1) life b o mid i) (held_fair o (words.Reset reset.0) h mid word new x)
 
-suspends_fair : (Fits : Type 0) (c : Change) (life : BenchLife) (b : Bench) (o : Result ℕ ℕ) (new : Bench) → Suspends Fits c life b o new → Fair b new
+suspends_fair : (Fits : Type 0) (c : Change) (life : BenchLife) (b : Bench) (o : Result ℕ ℕ) (new : Bench) → SuspendIssued Fits c life b o new → Fair b new
 suspends_fair Fits c life b o new (inl x) = issued_fair c life b o new x.1
 suspends_fair Fits c life b o new (inr (inl x)) = spoils b new (starves b new x.2)
 suspends_fair Fits c life b o new (inr (inr x)) = unmoved b new x.2
@@ -87,7 +87,7 @@ resets_one : (asked : Result (ResetType × Reason) SbiError) (h : ℕ) (life : B
 resets_one (Err e) h life b word also new last x y = refuses_one e h life b word also new last x y
 resets_one (Ok reset) h life b word also new last (o, mid, i, x) (p, mid2, j, y) = held_one o p (words.Reset reset.0) h mid mid2 word also new last (issued (Reset reset.1) life b o p mid mid2 i j) x y
 
-suspends_one : (Fits : Type 0) (c : Change) (life : BenchLife) (b : Bench) (o p : Result ℕ ℕ) (new last : Bench) → Suspends Fits c life b o new → Suspends Fits c life b p last → Agree o p new last
+suspends_one : (Fits : Type 0) (c : Change) (life : BenchLife) (b : Bench) (o p : Result ℕ ℕ) (new last : Bench) → SuspendIssued Fits c life b o new → SuspendIssued Fits c life b p last → Agree o p new last
 suspends_one Fits c life b o p new last (inl x) (inl y) = issued c life b o p new last x.1 y.1
 suspends_one Fits c life b o p new last (inr (inl x)) y = inl (starves b new x.2)
 suspends_one Fits c life b o p new last (inl x) (inr (inl y)) = inr (inl (starves b last y.2))

@@ -35,7 +35,7 @@ use Rattle.bench_report.specs.declared.printed.Printed.TheVariants as printed
 use Rattle.bench_report.specs.Bench.{DiskState, Blank, Unknown, Formatted, BenchLife, Bench}
 use Rattle.bench_report.specs.Prefix.{IsLoaded, AreLoaded}
 use Rattle.bench_report.specs.Reports.{IsByFirmware, AreByFirmware}
-use Rattle.bench_report.specs.Steps.{out_of_memory, failed, off, on_with, unpowered, armed_with, settled, has_machine, acknowledged, in_doubt, begun, commands_of, Writes, IssuedBy, Issued, IssuesAll, refused, AnswersError, HartCommand, Resets, Suspends, Sleeps, SleepsBy, MakesCall, Comes, GuestTurn, GuestTurns, FormatsOn, IsOn, BootsFrom, Begins, Boots, Opens, IsOpenRefusal, PowersOn, FormatStep, OnStep, ConsoleStep, PayloadStep, GuestCall, TurnStep, CallStep, ReadStep, Step, Moves, Run}
+use Rattle.bench_report.specs.Steps.{out_of_memory, failed, off, on_with, unpowered, armed_with, settled, has_machine, acknowledged, in_doubt, begun, commands_of, Writes, IssuedBy, Issued, IssuesAll, refused, AnswersError, HartCommand, Resets, SuspendIssued, Sleeps, SleepsBy, MakesCall, Comes, GuestTurn, GuestTurns, FormatsOn, IsOn, BootsFrom, Begins, Boots, Opens, IsOpenRefusal, PowersOn, FormatStep, OnStep, ConsoleStep, PayloadStep, GuestCall, TurnStep, CallStep, ReadStep, Step, Moves, Run}
 use Rattle.bench_report.proofs.Adapted.{grows}
 use Rattle.bench_report.proofs.Determined.{begun_size}
 use Rattle.bench_report.proofs.Table.{table_not_thirteen, mode_not_thirteen}
@@ -114,7 +114,7 @@ module _ (size : Size) where
   resets (Err e) h life b word new on k x = refuses e h life b word new on k x
   resets (Ok reset) h life b word new on k (o, mid, i, x) = held o _ h mid word new (issued (Reset reset.1) life b o mid tt on k i) x
 
-  suspends : (Fits : Type 0) (c : Change) (life : BenchLife) (b : Bench) (o : Result ℕ ℕ) (new : Bench) → (Fits → CarriesWhole size c) → b.power ≡ Some life → IsKeptWhole size b → Suspends Fits c life b o new → IsKeptWhole size new
+  suspends : (Fits : Type 0) (c : Change) (life : BenchLife) (b : Bench) (o : Result ℕ ℕ) (new : Bench) → (Fits → CarriesWhole size c) → b.power ≡ Some life → IsKeptWhole size b → SuspendIssued Fits c life b o new → IsKeptWhole size new
   suspends Fits c life b o new carries on k (inl x) = issued c life b o new (carries x.0) on k x.1
   suspends Fits c life b o new carries on k (inr (inl x)) = same_as (out_of_memory b) new x.2 k
   suspends Fits c life b o new carries on k (inr (inr x)) = same_as b new x.2 k

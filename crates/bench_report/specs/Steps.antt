@@ -161,8 +161,8 @@ Resets (Ok reset) h life b word new = (o : Result ℕ ℕ) × (mid : Bench) × I
 
 -- the command of a suspension, where it fits the board or not: as other commands; or it is refused for want of memory (11), or for
 -- what is not of the board (3)
-abbrev pub Suspends : Type 0 → Change → BenchLife → Bench → Result ℕ ℕ → Bench → Type 0
-Suspends Fits c life b o new =
+abbrev pub SuspendIssued : Type 0 → Change → BenchLife → Bench → Result ℕ ℕ → Bench → Type 0
+SuspendIssued Fits c life b o new =
     (Fits × Issued c life b o new)
     ⊎ (Fits × (o ≡ Err 11) × (new ≡ out_of_memory b))
     ⊎ ((Fits → ⊥) × (o ≡ Err 3) × (new ≡ b))
@@ -177,7 +177,7 @@ abbrev pub Sleeps : ℕ → ℕ → ℕ → BenchLife → Bench → Word → Ben
 Sleeps site opaque h life b word new =
     ((IsAlone (hart_at life.machine h).id life.machine → ⊥) × AnswersError Denied h life b word new)
     ⊎ (IsAlone (hart_at life.machine h).id life.machine × (o : Result ℕ ℕ) × (mid : Bench)
-    × Suspends (FitsBoard life.machine.size life.machine.memory (hart_at life.machine h).id site) (Suspend (hart_at life.machine h).id site opaque life.machine.memory) life b o mid × HartCommand o words.Asleep h mid word new)
+    × SuspendIssued (FitsBoard life.machine.size life.machine.memory (hart_at life.machine h).id site) (Suspend (hart_at life.machine h).id site opaque life.machine.memory) life b o mid × HartCommand o words.Asleep h mid word new)
 
 abbrev pub SleepsBy : Result ℕ SbiError → ℕ → ℕ → BenchLife → Bench → Word → Bench → Type 0
 SleepsBy (Err e) opaque h life b word new = AnswersError e h life b word new
