@@ -4,7 +4,7 @@ use Rattle.std.proofs.Common.{◌≡◌, ◌≢◌, ◌⊎◌, ℕ, ◌+◌, inl
 use Rattle.std.specs.Bool.{⊤}
 use Rattle.board_model.specs.Durable.{DurableState, Change, formatted, refusal_of, after}
 use Rattle.board_model.specs.Kept.{Kept, found_of, MayFind, TakesIn}
-use Rattle.bench_report.specs.Taken.{Takes, TakesSome, TakesFewer}
+use Rattle.bench_report.specs.Taken.{TakesAll, TakesSome, TakesFewer}
 use Rattle.bench_report.specs.Bench.{Formatted, BenchLife, Bench}
 use Rattle.bench_report.specs.Steps.{failed, acknowledged, in_doubt, Writes, IssuedBy, Issued, IssuesAll}
 use Rattle.bench_report.proofs.Adapted.{grows}
@@ -111,7 +111,7 @@ module _ (c : Change) (life : BenchLife) (b : Bench) (o : Result ℕ ℕ) (new :
 
 -- commands in a row
 abbrev pub AllWent : Result ℕ ℕ → List Change → Bool → DurableState → DurableState → Type 0
-AllWent (Ok n) cs now s t = Takes cs s t × (now ≡ true)
+AllWent (Ok n) cs now s t = TakesAll cs s t × (now ≡ true)
 AllWent (Err n) cs now s t = TakesFewer cs s t ⊎ ((n ≡ 6) × TakesSome cs s t)
 
 one_some : (c : Change) (cs : List Change) (s t : DurableState) → TakesSome (c ∷ []) s t → TakesSome (c ∷ cs) s t
@@ -125,7 +125,7 @@ first_went n c cs up now s t (inr (inl w)) = inl (inl w.1)
 first_went n c cs up now s t (inr (inr w)) = inr (w.0, one_some c cs s t w.3)
 
 more_went : (o : Result ℕ ℕ) (c : Change) (cs : List Change) (now : Bool) (s u t : DurableState) → refusal_of s c ≡ None → u ≡ after s c → AllWent o cs now u t → AllWent o (c ∷ cs) now s t
-more_went (Ok n) c cs now s u t table is w = let P : DurableState → Type 0 = λ x. Takes cs x t in ((table, subst P is w.0), w.1)
+more_went (Ok n) c cs now s u t table is w = let P : DurableState → Type 0 = λ x. TakesAll cs x t in ((table, subst P is w.0), w.1)
 more_went (Err n) c cs now s u t table is (inl w) = let P : DurableState → Type 0 = λ x. TakesFewer cs x t in inl (inr (table, subst P is w))
 more_went (Err n) c cs now s u t table is (inr w) = let P : DurableState → Type 0 = λ x. TakesSome cs x t in inr (w.0, inr (table, subst P is w.1))
 

@@ -9,14 +9,14 @@ use Rattle.machine_lines.specs.declared.line.MachineLine.TheVariants as shown_li
 use Rattle.bench_report.specs.declared.printed.Printed.{Printed}
 use Rattle.bench_report.specs.declared.printed.Printed.TheVariants as printed
 use Rattle.bench_report.specs.Steps.{commands_of}
-use Rattle.bench_report.specs.Taken.{Takes, TakesSome, TakesFewer}
+use Rattle.bench_report.specs.Taken.{TakesAll, TakesSome, TakesFewer}
 use Rattle.bench_report.specs.Prefix.{Asked, Boot, Command, Guest, Nothing, IsOfHarts, Hides, TellsWord, TellsLine, RefusedChange, Lost, Tells}
 
 none_some : (cs : List Change) (s t : DurableState) → t ≡ s → TakesSome cs s t
 none_some [] s t e = e
 none_some (c ∷ cs) s t e = inl e
 
-all_some : (cs : List Change) (s t : DurableState) → Takes cs s t → TakesSome cs s t
+all_some : (cs : List Change) (s t : DurableState) → TakesAll cs s t → TakesSome cs s t
 all_some [] s t e = e
 all_some (c ∷ cs) s t h = inr (h.0, all_some cs (after s c) t h.1)
 

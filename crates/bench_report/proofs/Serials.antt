@@ -10,7 +10,7 @@ use Rattle.bench_report.specs.declared.printed.Answer.{Answer}
 use Rattle.bench_report.specs.declared.printed.Printed.{Printed}
 use Rattle.bench_report.specs.declared.printed.Printed.TheVariants as printed
 use Rattle.bench_report.specs.Steps.{commands_of}
-use Rattle.bench_report.specs.Taken.{Takes, TakesSome}
+use Rattle.bench_report.specs.Taken.{TakesAll, TakesSome}
 use Rattle.bench_report.specs.Prefix.{Asked, Boot, Command, Guest, Nothing, asked_by, Lost, Tells, ShowsIts, IsPrefixed, serial_then, resumed, resumes, RisesFrom}
 use Rattle.bench_report.proofs.Lost.{lost}
 
@@ -42,7 +42,7 @@ above_lost Guest up n s t (inr h) a = some (h.1 ∷ []) n s t h.3 a
 above_lost Nothing up n s t e a = same n s t e a
 
 -- what is resumed has a serial that no later one has
-consumed : (n : ℕ) (s t : DurableState) (o : Option Image) (rest : List ℕ) → s.image ≡ o → Takes (Consume ∷ []) s t → Above n s → ((k : ℕ) → Above k t → RisesFrom k rest) → RisesFrom n (serial_then (head_of o) rest)
+consumed : (n : ℕ) (s t : DurableState) (o : Option Image) (rest : List ℕ) → s.image ≡ o → TakesAll (Consume ∷ []) s t → Above n s → ((k : ℕ) → Above k t → RisesFrom k rest) → RisesFrom n (serial_then (head_of o) rest)
 consumed n s t None rest e h a more = more n (same n (after s Consume) t h.1 (a.0, tt))
 consumed n s t (Some i) rest e h a more =
     let P : Option Image → Type 0 = λ o. IfSome o (λ i. (n ≤ i.serial) × (i.serial < s.next)) in
@@ -56,7 +56,7 @@ line_rises : (found : Option Durable) (said : Printed) (asked : Asked) (up now :
     → ((k : ℕ) → Above k t → RisesFrom k rest) → RisesFrom n (resumed found said rest)
 line_rises None said asked up now n s t rest shows h a more = goes_on asked said up now n s t rest h a more
 line_rises (Some d) (printed.On modes.Resume) (Boot mode) up now n s t rest shows h a more =
-    let P : BootMode → Type 0 = λ m. Takes (commands_of m) s t in
+    let P : BootMode → Type 0 = λ m. TakesAll (commands_of m) s t in
     let Q : Durable → Type 0 = λ d. RisesFrom n (serial_then d.image rest) in
     subst Q (sym shows) (consumed n s t s.image rest refl (subst P (sym h.0) h.2) a more)
 line_rises (Some d) (printed.On modes.Resume) (Command c) up now n s t rest shows h a more = absurd h

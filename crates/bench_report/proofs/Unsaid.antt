@@ -16,7 +16,7 @@ use Rattle.sbi_abi.specs.declared.ret.SbiError.{SbiError}
 use Rattle.sbi_abi.specs.declared.ret.SbiError.TheVariants.{Failed, NotSupported, Denied}
 use Rattle.sbi.specs.declared.resets.ResetType.{ResetType}
 use Rattle.sbi.specs.Resets.{reset_of}
-use Rattle.bench_report.specs.Taken.{Takes, TakesSome}
+use Rattle.bench_report.specs.Taken.{TakesAll, TakesSome}
 use Rattle.bench_report.specs.Bench.{BenchLife, Bench}
 use Rattle.bench_report.specs.Prefix.{IsReset, IsSuspension, IsOfHarts, Hides, TellsWord}
 use Rattle.bench_report.specs.Steps.{out_of_memory, off, on_with, has_machine, refused, AnswersError, HartCommand, Resets, SuspendIssued, Sleeps, SleepsBy, MakesCall, Comes, GuestTurn, GuestTurns}
@@ -56,7 +56,7 @@ of_harts (words.Own did) c is = absurd is
 of_harts words.Asleep c is = inr is
 of_harts (words.Reset kind) c is = inl is
 
-tells_end : (word : Word) (c : Change) → OfWord word c → (up : Bool) (s t : DurableState) → up ≡ true → Takes (c ∷ []) s t → TellsWord word s up t false
+tells_end : (word : Word) (c : Change) → OfWord word c → (up : Bool) (s t : DurableState) → up ≡ true → TakesAll (c ∷ []) s t → TellsWord word s up t false
 tells_end (words.Own did) c is up s t on takes = absurd is
 tells_end words.Asleep c is up s t on takes = (on, refl, c, is, takes)
 tells_end (words.Reset kind) c is up s t on takes = (on, refl, c, is, takes)

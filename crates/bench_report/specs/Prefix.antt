@@ -5,7 +5,7 @@
 -- end or a cut.
 use Rattle.std.specs.Prelude.{◌≡◌, ◌≢◌, ◌⊎◌, ℕ, ◌+◌, ◌≤◌, Bool, true, false, List, [], ◌∷◌, Option, Some, None, MatchBool, ⊤}
 use Rattle.board_model.specs.Durable.{DurableState, Change, Slot, Reset, Suspend, Discard, formatted}
-use Rattle.bench_report.specs.Taken.{Takes, TakesSome, TakesFewer}
+use Rattle.bench_report.specs.Taken.{TakesAll, TakesSome, TakesFewer}
 use Rattle.board_model.specs.Shown.{durable_of}
 use Rattle.board_model.specs.declared.durable.Durable.{Durable}
 use Rattle.board_model.specs.declared.durable.Reason.{Reason}
@@ -57,7 +57,7 @@ IsOfHarts c = IsReset c ⊎ IsSuspension c
 
 -- a hart's command of this kind ended the life
 abbrev pub EndsLife : (Change → Type 0) → DurableState → Bool → DurableState → Bool → Type 0
-EndsLife Is s up t now = (up ≡ true) × (now ≡ false) × (c : Change) × Is c × Takes (c ∷ []) s t
+EndsLife Is s up t now = (up ≡ true) × (now ≡ false) × (c : Change) × Is c × TakesAll (c ∷ []) s t
 
 -- Harts went on: none of them made a durable command; or one is in doubt, of which the report does not tell, and the life takes
 -- no more.
@@ -87,10 +87,10 @@ Lost Nothing s up t = t ≡ s
 -- The state s before a line and t after it, and whether a board that is on takes commands before and after, by what the line
 -- asked and what it says.
 abbrev pub Tells : Asked → Printed → DurableState → Bool → DurableState → Bool → Type 0
-Tells (Boot asked) (printed.On mode) s up t now = (mode ≡ asked) × (up ≡ false) × Takes (commands_of asked) s t × (now ≡ true)
+Tells (Boot asked) (printed.On mode) s up t now = (mode ≡ asked) × (up ≡ false) × TakesAll (commands_of asked) s t × (now ≡ true)
 Tells (Boot mode) (printed.OnRefused n) s up t now =
     (up ≡ false) × (now ≡ false) × ((t ≡ s) ⊎ TakesFewer (commands_of mode) s t ⊎ ((n ≡ 6) × TakesSome (commands_of mode) s t))
-Tells (Command c) (printed.Acknowledged word k) s up t now = (up ≡ true) × Takes (c ∷ []) s t × (now ≡ true)
+Tells (Command c) (printed.Acknowledged word k) s up t now = (up ≡ true) × TakesAll (c ∷ []) s t × (now ≡ true)
 Tells (Command c) (printed.CommandRefused word n) s up t now = RefusedChange n c s up t now
 Tells Guest (printed.Shown line) s up t now = TellsLine line s up t now
 Tells Nothing (printed.On mode) s up t now = ⊥

@@ -4,9 +4,9 @@ use Rattle.std.specs.Prelude.{◌≡◌, ◌⊎◌, List, [], ◌∷◌, None}
 use Rattle.board_model.specs.Durable.{DurableState, Change, refusal_of, after}
 
 -- all of them
-abbrev pub Takes : List Change → DurableState → DurableState → Type 0
-Takes [] s t = t ≡ s
-Takes (c ∷ cs) s t = (refusal_of s c ≡ None) × Takes cs (after s c) t
+abbrev pub TakesAll : List Change → DurableState → DurableState → Type 0
+TakesAll [] s t = t ≡ s
+TakesAll (c ∷ cs) s t = (refusal_of s c ≡ None) × TakesAll cs (after s c) t
 
 -- some first of them: none, all, or those up to one that is in doubt
 abbrev pub TakesSome : List Change → DurableState → DurableState → Type 0
