@@ -10,7 +10,7 @@ use Rattle.bench_report.specs.declared.printed.Printed.{Printed}
 use Rattle.bench_report.specs.declared.printed.Printed.TheVariants as printed
 use Rattle.bench_report.specs.Steps.{commands_of}
 use Rattle.bench_report.specs.Taken.{TakesAll, TakesSome, TakesFewer}
-use Rattle.bench_report.specs.Prefix.{Asked, Boot, Command, Guest, Nothing, IsOfHarts, Hides, TellsWord, TellsLine, RefusedChange, Lost, Tells}
+use Rattle.bench_report.specs.Prefix.{Asked, Boot, Command, Guest, Nothing, IsOfHarts, Hides, TellsWord, TellsLine, RefusedChange, Lost, LineImplies}
 
 none_some : (cs : List Change) (s t : DurableState) → t ≡ s → TakesSome cs s t
 none_some [] s t e = e
@@ -29,7 +29,7 @@ lost_refused : (n : ℕ) (c : Change) (s t : DurableState) (up now : Bool) → R
 lost_refused n c s t up now (inl h) = inl h.1
 lost_refused n c s t up now (inr h) = h.2
 
-lost_boot : (mode : BootMode) (x : Printed) (s t : DurableState) (up now : Bool) → Tells (Boot mode) x s up t now → TakesSome (commands_of mode) s t
+lost_boot : (mode : BootMode) (x : Printed) (s t : DurableState) (up now : Bool) → LineImplies (Boot mode) x s up t now → TakesSome (commands_of mode) s t
 lost_boot mode (printed.On m) s t up now h = all_some (commands_of mode) s t h.2
 lost_boot mode (printed.OnRefused n) s t up now (a, b, inl e) = none_some (commands_of mode) s t e
 lost_boot mode (printed.OnRefused n) s t up now (a, b, inr (inl h)) = fewer_some (commands_of mode) s t h
@@ -37,7 +37,7 @@ lost_boot mode (printed.OnRefused n) s t up now (a, b, inr (inr h)) = h.1
 lost_boot mode printed.PowerLost s t up now h = h.0
 lost_boot mode x s t up now h = none_some (commands_of mode) s t h.0
 
-lost_command : (c : Change) (x : Printed) (s t : DurableState) (up now : Bool) → Tells (Command c) x s up t now → (t ≡ s) ⊎ ((up ≡ true) × TakesSome (c ∷ []) s t)
+lost_command : (c : Change) (x : Printed) (s t : DurableState) (up now : Bool) → LineImplies (Command c) x s up t now → (t ≡ s) ⊎ ((up ≡ true) × TakesSome (c ∷ []) s t)
 lost_command c (printed.Acknowledged word k) s t up now h = inr (h.0, all_some (c ∷ []) s t h.1)
 lost_command c (printed.CommandRefused word n) s t up now h = lost_refused n c s t up now h
 lost_command c (printed.On m) s t up now h = absurd h
@@ -62,17 +62,17 @@ lost_line (shown_lines.Turn h made word) s t up now x = lost_word word s t up no
 lost_line (shown_lines.Called h word) s t up now x = lost_word word s t up now x
 lost_line line s t up now x = lost_hides s t up now x
 
-lost_guest : (x : Printed) (s t : DurableState) (up now : Bool) → Tells Guest x s up t now → LostGuest s up t
+lost_guest : (x : Printed) (s t : DurableState) (up now : Bool) → LineImplies Guest x s up t now → LostGuest s up t
 lost_guest (printed.Shown line) s t up now h = lost_line line s t up now h
 lost_guest (printed.On m) s t up now h = absurd h
 lost_guest printed.PowerLost s t up now h = h.0
 lost_guest x s t up now h = inl h.0
 
-lost_nothing : (x : Printed) (s t : DurableState) (up now : Bool) → Tells Nothing x s up t now → t ≡ s
+lost_nothing : (x : Printed) (s t : DurableState) (up now : Bool) → LineImplies Nothing x s up t now → t ≡ s
 lost_nothing (printed.On m) s t up now h = absurd h
 lost_nothing x s t up now h = h.0
 
-pub lost : (asked : Asked) (x : Printed) (s t : DurableState) (up now : Bool) → Tells asked x s up t now → Lost asked s up t
+pub lost : (asked : Asked) (x : Printed) (s t : DurableState) (up now : Bool) → LineImplies asked x s up t now → Lost asked s up t
 lost (Boot mode) x s t up now h = lost_boot mode x s t up now h
 lost (Command c) x s t up now h = lost_command c x s t up now h
 lost Guest x s t up now h = lost_guest x s t up now h

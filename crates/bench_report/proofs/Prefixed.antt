@@ -32,7 +32,7 @@ use Rattle.bench_report.specs.declared.printed.Answer.{Answer}
 use Rattle.bench_report.specs.Bench.{DiskState, Blank, Unknown, Formatted, BenchLife, Bench, blank_bench}
 use Rattle.bench_report.specs.Steps.{says, shows, out_of_memory, failed, on_with, unpowered, armed_with, formatted_anew, settled, has_machine, begun, commands_of, console_reported, IsOn, BootsFrom, Resumes, Begins, Boots, Opens, ShowsFound, IsOpenRefusal, PowersOn, FormatsOn, FormatStep, OnStep, ConsoleStep, PayloadStep, CallReported, GuestCall, TurnStep, CallStep, ReadStep, PokeStep, Step, Moves, Run}
 use Rattle.bench_report.specs.Reports.{IsByFirmware, AreByFirmware, IsReport}
-use Rattle.bench_report.specs.Prefix.{Asked, Boot, Command, Guest, Nothing, Hides, TellsWord, TellsLine, asked_by, RefusedChange, Lost, Tells, ShowsIts, IsPrefixed, resumes, RisesFrom, AreLoaded, is_format_ok, IsFoundByPrefix, KeepsPrefixLaw}
+use Rattle.bench_report.specs.Prefix.{Asked, Boot, Command, Guest, Nothing, Hides, TellsWord, TellsLine, asked_by, RefusedChange, Lost, LineImplies, ShowsIts, IsPrefixed, resumes, RisesFrom, AreLoaded, is_format_ok, IsFoundByPrefix, KeepsPrefixLaw}
 use Rattle.bench_report.proofs.Unsaid.{GoesBy, comes_back, turns_back}
 use Rattle.bench_report.proofs.Lost.{lost}
 use Rattle.bench_report.proofs.Serials.{serials_rise}
@@ -41,7 +41,7 @@ use Rattle.bench_report.proofs.Issues.{takes_more, is_up, GoesOn, IsSound, Back,
 
 -- ---- a line that leaves what the disk stands for
 abbrev pub LineReports : Asked → Answer → Bool → Bool → DurableState → DurableState → Type 0
-LineReports asked a up now s t = ShowsIts a.found s × Tells asked a.line s up t now
+LineReports asked a up now s t = ShowsIts a.found s × LineImplies asked a.line s up t now
 
 abbrev pub Tell : Asked → Bench → Answer → Bench → Type 0
 Tell asked b a new = Back b new (λ s t. LineReports asked a (is_up b.power) (is_up new.power) s t)
@@ -54,21 +54,21 @@ by_eqs asked b a x new n e f h =
 
 -- it says a word that tells of no command, and the bench is as it was to an open
 same : (asked : Asked) (b : Bench) (a : Answer) (x : Printed) (new n : Bench) → a ≡ says x → new ≡ n → n.kept ≡ b.kept → n.disk_state ≡ b.disk_state → is_up n.power ≡ is_up b.power → GoesOn n.kept n.power → IsSound b
-    → ((s t : DurableState) → t ≡ s → Tells asked x s (is_up b.power) t (is_up b.power)) → Tell asked b a new
+    → ((s t : DurableState) → t ≡ s → LineImplies asked x s (is_up b.power) t (is_up b.power)) → Tell asked b a new
 same asked b a x new n e f kept disk_state up goes sound tells =
     let P : Kept → DurableState → Type 0 = λ k t. MayFind k t in
-    let Q : Bool → DurableState → Type 0 = λ now s. Tells asked x s (is_up b.power) s now in
+    let Q : Bool → DurableState → Type 0 = λ now s. LineImplies asked x s (is_up b.power) s now in
     by_eqs asked b a (says x) new n e f
-    ((disk_state ∙ sound.0, goes), λ t found. (t, (let R : Kept → Type 0 = λ k. MayFind k t in subst R kept found), (tt, (let S : Bool → Type 0 = λ now. Tells asked x t (is_up b.power) t now in subst S (sym up) (tells t t refl)))))
+    ((disk_state ∙ sound.0, goes), λ t found. (t, (let R : Kept → Type 0 = λ k. MayFind k t in subst R kept found), (tt, (let S : Bool → Type 0 = λ now. LineImplies asked x t (is_up b.power) t now in subst S (sym up) (tells t t refl)))))
 
-stays : (asked : Asked) (b : Bench) (a : Answer) (x : Printed) (new : Bench) → a ≡ says x → new ≡ b → IsSound b → ((s t : DurableState) → t ≡ s → Tells asked x s (is_up b.power) t (is_up b.power)) → Tell asked b a new
+stays : (asked : Asked) (b : Bench) (a : Answer) (x : Printed) (new : Bench) → a ≡ says x → new ≡ b → IsSound b → ((s t : DurableState) → t ≡ s → LineImplies asked x s (is_up b.power) t (is_up b.power)) → Tell asked b a new
 stays asked b a x new e f sound tells = same asked b a x new b e f refl refl refl sound.1 sound tells
 
 -- ---- power on
-by_parts : (mode : BootMode) (a : Answer) (f : Option Durable) (x : Printed) (up now : Bool) (s t : DurableState) → a.found ≡ f → a.line ≡ x → ShowsIts f s → Tells (Boot mode) x s up t now → LineReports (Boot mode) a up now s t
+by_parts : (mode : BootMode) (a : Answer) (f : Option Durable) (x : Printed) (up now : Bool) (s t : DurableState) → a.found ≡ f → a.line ≡ x → ShowsIts f s → LineImplies (Boot mode) x s up t now → LineReports (Boot mode) a up now s t
 by_parts mode a f x up now s t e g shows tells =
     let P : Option Durable → Type 0 = λ o. ShowsIts o s in
-    let Q : Printed → Type 0 = λ y. Tells (Boot mode) y s up t now in
+    let Q : Printed → Type 0 = λ y. LineImplies (Boot mode) y s up t now in
     (subst P (sym e) shows, subst Q (sym g) tells)
 
 found_as : (o : Option Durable) (s : DurableState) → ShowsFound o s → o ≡ Some (durable_of s)
@@ -268,7 +268,7 @@ steps size (lines.FailLane x y) b a new by sound h = same Nothing b a _ new (arm
 steps size (lines.Cut fill) b a new by sound h = by_eqs Nothing b a _ new (unpowered b) h.0 h.1 ((sound.0, tt), λ t f. (t, f, (tt, (refl, refl))))
 steps size (lines.Poke x y z) b a new by sound h = absurd by
 
-lost_tells : (asked : Asked) (s t : DurableState) (up : Bool) → Lost asked s up t → Tells asked printed.PowerLost s up t false
+lost_tells : (asked : Asked) (s t : DurableState) (up : Bool) → Lost asked s up t → LineImplies asked printed.PowerLost s up t false
 lost_tells (Boot mode) s t up h = (h, refl)
 lost_tells (Command c) s t up h = (h, refl)
 lost_tells Guest s t up h = (h, refl)

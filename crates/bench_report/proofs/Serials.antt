@@ -11,7 +11,7 @@ use Rattle.bench_report.specs.declared.printed.Printed.{Printed}
 use Rattle.bench_report.specs.declared.printed.Printed.TheVariants as printed
 use Rattle.bench_report.specs.Steps.{commands_of}
 use Rattle.bench_report.specs.Taken.{TakesAll, TakesSome}
-use Rattle.bench_report.specs.Prefix.{Asked, Boot, Command, Guest, Nothing, asked_by, Lost, Tells, ShowsIts, IsPrefixed, serial_then, resumed, resumes, RisesFrom}
+use Rattle.bench_report.specs.Prefix.{Asked, Boot, Command, Guest, Nothing, asked_by, Lost, LineImplies, ShowsIts, IsPrefixed, serial_then, resumed, resumes, RisesFrom}
 use Rattle.bench_report.proofs.Lost.{lost}
 
 -- no serial below n will be resumed again
@@ -49,10 +49,10 @@ consumed n s t (Some i) rest e h a more =
     let at : (n ≤ i.serial) × (i.serial < s.next) = subst P e a.1 in
     (at.0, more (i.serial + 1) (same (i.serial + 1) (after s Consume) t h.1 (omega (arith, at.1), tt)))
 
-goes_on : (asked : Asked) (said : Printed) (up now : Bool) (n : ℕ) (s t : DurableState) (rest : List ℕ) → Tells asked said s up t now → Above n s → ((k : ℕ) → Above k t → RisesFrom k rest) → RisesFrom n rest
+goes_on : (asked : Asked) (said : Printed) (up now : Bool) (n : ℕ) (s t : DurableState) (rest : List ℕ) → LineImplies asked said s up t now → Above n s → ((k : ℕ) → Above k t → RisesFrom k rest) → RisesFrom n rest
 goes_on asked said up now n s t rest h a more = more n (above_lost asked up n s t (lost asked said s t up now h) a)
 
-line_rises : (found : Option Durable) (said : Printed) (asked : Asked) (up now : Bool) (n : ℕ) (s t : DurableState) (rest : List ℕ) → ShowsIts found s → Tells asked said s up t now → Above n s
+line_rises : (found : Option Durable) (said : Printed) (asked : Asked) (up now : Bool) (n : ℕ) (s t : DurableState) (rest : List ℕ) → ShowsIts found s → LineImplies asked said s up t now → Above n s
     → ((k : ℕ) → Above k t → RisesFrom k rest) → RisesFrom n (resumed found said rest)
 line_rises None said asked up now n s t rest shows h a more = goes_on asked said up now n s t rest h a more
 line_rises (Some d) (printed.On modes.Resume) (Boot mode) up now n s t rest shows h a more =

@@ -86,19 +86,19 @@ Lost Nothing s up t = t ≡ s
 
 -- The state s before a line and t after it, and whether a board that is on takes commands before and after, by what the line
 -- asked and what it says.
-abbrev pub Tells : Asked → Printed → DurableState → Bool → DurableState → Bool → Type 0
-Tells (Boot asked) (printed.On mode) s up t now = (mode ≡ asked) × (up ≡ false) × TakesAll (commands_of asked) s t × (now ≡ true)
-Tells (Boot mode) (printed.OnRefused n) s up t now =
+abbrev pub LineImplies : Asked → Printed → DurableState → Bool → DurableState → Bool → Type 0
+LineImplies (Boot asked) (printed.On mode) s up t now = (mode ≡ asked) × (up ≡ false) × TakesAll (commands_of asked) s t × (now ≡ true)
+LineImplies (Boot mode) (printed.OnRefused n) s up t now =
     (up ≡ false) × (now ≡ false) × ((t ≡ s) ⊎ TakesFewer (commands_of mode) s t ⊎ ((n ≡ 6) × TakesSome (commands_of mode) s t))
-Tells (Command c) (printed.Acknowledged word k) s up t now = (up ≡ true) × TakesAll (c ∷ []) s t × (now ≡ true)
-Tells (Command c) (printed.CommandRefused word n) s up t now = RefusedChange n c s up t now
-Tells Guest (printed.Shown line) s up t now = TellsLine line s up t now
-Tells Nothing (printed.On mode) s up t now = ⊥
-Tells Guest (printed.On mode) s up t now = ⊥
-Tells (Command c) (printed.On mode) s up t now = ⊥
-Tells asked printed.Cut s up t now = (t ≡ s) × (now ≡ false)
-Tells asked printed.PowerLost s up t now = Lost asked s up t × (now ≡ false)
-Tells asked said s up t now = (t ≡ s) × (now ≡ up)
+LineImplies (Command c) (printed.Acknowledged word k) s up t now = (up ≡ true) × TakesAll (c ∷ []) s t × (now ≡ true)
+LineImplies (Command c) (printed.CommandRefused word n) s up t now = RefusedChange n c s up t now
+LineImplies Guest (printed.Shown line) s up t now = TellsLine line s up t now
+LineImplies Nothing (printed.On mode) s up t now = ⊥
+LineImplies Guest (printed.On mode) s up t now = ⊥
+LineImplies (Command c) (printed.On mode) s up t now = ⊥
+LineImplies asked printed.Cut s up t now = (t ≡ s) × (now ≡ false)
+LineImplies asked printed.PowerLost s up t now = Lost asked s up t × (now ≡ false)
+LineImplies asked said s up t now = (t ≡ s) × (now ≡ up)
 
 abbrev pub ShowsIts : Option Durable → DurableState → Type 0
 ShowsIts None s = ⊤
@@ -108,7 +108,7 @@ ShowsIts (Some d) s = d ≡ durable_of s
 abbrev pub IsPrefixed : DurableState → Bool → List Line → List Answer → Type 0
 IsPrefixed s up [] [] = ⊤
 IsPrefixed s up (line ∷ more) (answer ∷ answers) =
-    ShowsIts answer.found s × (t : DurableState) × (now : Bool) × Tells (asked_by line) answer.line s up t now × IsPrefixed t now more answers
+    ShowsIts answer.found s × (t : DurableState) × (now : Bool) × LineImplies (asked_by line) answer.line s up t now × IsPrefixed t now more answers
 IsPrefixed s up [] (answer ∷ answers) = ⊥
 IsPrefixed s up (line ∷ more) [] = ⊥
 
