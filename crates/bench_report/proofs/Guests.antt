@@ -5,7 +5,7 @@ use Rattle.board_model.specs.Shapes.{Size}
 use Rattle.board_model.specs.declared.durable.Reason.{Reason}
 use Rattle.susp.specs.Checks.{IsChecked}
 use Rattle.machine.specs.Machine.{Machine, hart_at}
-use Rattle.machine.specs.Turns.{Turns}
+use Rattle.machine.specs.Turns.{MakesTurn}
 use Rattle.machine.specs.Words.{ends}
 use Rattle.machine.specs.declared.parts.Word.{Word}
 use Rattle.machine.specs.declared.parts.Word.TheVariants as words
@@ -23,7 +23,7 @@ use Rattle.bench_report.specs.Steps.{off, on_with, has_machine, refused, Answers
 use Rattle.bench_report.proofs.Determined.{Fair, fair_to, fair_then, unmoved, spoils, starves, issued_fair, Agree, same, issued, some_inj}
 
 abbrev pub IsOneTurn : Type 0
-IsOneTurn = (h : ℕ) (old new other : Machine) (word also : Turned) → Turns h old new word → Turns h old other also → (new ≡ other) × (word ≡ also)
+IsOneTurn = (h : ℕ) (old new other : Machine) (word also : Turned) → MakesTurn h old new word → MakesTurn h old other also → (new ≡ other) × (word ≡ also)
 
 -- ---- fair
 refuses_fair : (e : SbiError) (h : ℕ) (life : BenchLife) (b : Bench) (word : Word) (new : Bench) → AnswersError e h life b word new → Fair b new

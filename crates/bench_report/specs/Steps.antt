@@ -17,7 +17,7 @@ use Rattle.machine.specs.Machine.{Machine, hart_at, resting}
 use Rattle.script_lang.specs.declared.line.Line.{Line}
 use Rattle.script_lang.specs.declared.line.Line.TheVariants as lines
 use Rattle.machine_lines.specs.Shows.{HasHart, own_line, reg_line, pc_line, CsrLine, pending_line, mem_line}
-use Rattle.machine.specs.Turns.{Turns, MakesOneCall}
+use Rattle.machine.specs.Turns.{MakesTurn, MakesOneCall}
 use Rattle.machine.specs.Words.{ends}
 use Rattle.machine.specs.declared.parts.Word.{Word}
 use Rattle.machine.specs.declared.parts.Word.TheVariants as words
@@ -195,7 +195,7 @@ Comes dids.Durable h life b word new = MakesCall (call_of (hart_at life.machine 
 Comes did h life b word new = (word ≡ words.Own did) × (new ≡ b)
 
 abbrev pub GuestTurn : ℕ → BenchLife → Bench → Word → Bench → Type 0
-GuestTurn h life b word new = (m : Machine) × (did : Turned) × Turns h life.machine m did × Comes did h (has_machine m life) (on_with (has_machine m life) b) word new
+GuestTurn h life b word new = (m : Machine) × (did : Turned) × MakesTurn h life.machine m did × Comes did h (has_machine m life) (on_with (has_machine m life) b) word new
 
 -- the turn is the last of its line, with so many that might follow: it ends the line, none is left, or a cut struck in it
 abbrev pub IsLastTurn : Word → ℕ → Bench → Type 0

@@ -26,7 +26,7 @@ module _ {D L : Type 0} {g : Ghosts D L} {l : Lanes L} where
 
   -- a turn of hart h
   abbrev pub Turns : ℕ → Machine → Machine → Store D L g l → Store D L g l → Word → Type 0
-  Turns h m n old new word = (mid : Machine) × (did : Turned) × machines.Turns h m mid did × Comes did h mid n old new word
+  Turns h m n old new word = (mid : Machine) × (did : Turned) × machines.MakesTurn h m mid did × Comes did h mid n old new word
 
   -- the turn is the last of a line, with so many that might follow: it ends the line, none is left, or a cut struck in it
   abbrev pub IsLast : Word → ℕ → Store D L g l → Type 0

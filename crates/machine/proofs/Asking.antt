@@ -22,7 +22,7 @@ use Rattle.turns.specs.Turns.{Moment, is_pending, woken, begun_by, turned_by, Fi
 use Rattle.machine.specs.declared.parts.Called.{Called}
 use Rattle.machine.specs.declared.parts.Called.TheVariants.{NotStarted, Made}
 use Rattle.machine.specs.Machine.{Machine, hart_at}
-use Rattle.machine.specs.Turns.{moment_of, with_moment, Turns, TurnsMany, MakesOneCall, calling}
+use Rattle.machine.specs.Turns.{moment_of, with_moment, MakesTurn, TurnsMany, MakesOneCall, calling}
 use Rattle.machine.specs.Durables.{IsHartStarted}
 use Rattle.machine.proofs.Determined.{is_decided}
 
@@ -81,14 +81,14 @@ at_once h old new a lt e is =
     let read : hart_at (with_moment h old a) h ≡ a.hart = get_or-set_same old.harts h a.hart (never_started h) lt in
     subst (λ (m : Machine). IsHartStarted h m) (sym e) (subst (λ (s : ArchState). listed a.table.states s.id ≡ started) (sym read) is)
 
-pub turn_asks : IsOneNumber → (h : ℕ) (old new : Machine) (word : Turned) → h < length old.harts → Turns h old new word → word ≡ Durable → IsHartStarted h new
+pub turn_asks : IsOneNumber → (h : ℕ) (old new : Machine) (word : Turned) → h < length old.harts → MakesTurn h old new word → word ≡ Durable → IsHartStarted h new
 turn_asks number h old new word lt p is =
     let a = moment_of h old in
     let did : TurnOf old.size a p.0 Durable = subst (λ (w : Turned). TurnOf old.size a p.0 w) is p.1 in
     at_once h old new p.0 lt p.2 (stood number old.size a p.0 (listed a.table.states a.hart.id) refl did)
 
 -- ---- in a row
-as_many : (h : ℕ) (old mid : Machine) (word : Turned) → Turns h old mid word → length mid.harts ≡ length old.harts
+as_many : (h : ℕ) (old mid : Machine) (word : Turned) → MakesTurn h old mid word → length mid.harts ≡ length old.harts
 as_many h old mid word p = ap (λ (m : Machine). length m.harts) p.2 ∙ length-set old.harts h p.0.hart
 
 pub row_asks : IsOneNumber → (h n k : ℕ) (old new : Machine) (word : Turned) → h < length old.harts → TurnsMany h n old new k word → word ≡ Durable → IsHartStarted h new

@@ -62,7 +62,7 @@ one_of step size a b c word also p q = one_as step size (begun a.hart.id a.table
 with_same : (h : ℕ) (old new other : Machine) (b c : Moment) → new ≡ turns.with_moment h old b → other ≡ turns.with_moment h old c → b ≡ c → new ≡ other
 with_same h old new other b c p q e = p ∙ (ap (turns.with_moment h old) e ∙ sym q)
 
-pub one_turn : IsOneStep → (h : ℕ) (old new other : Machine) (word also : Turned) → turns.Turns h old new word → turns.Turns h old other also → (new ≡ other) × (word ≡ also)
+pub one_turn : IsOneStep → (h : ℕ) (old new other : Machine) (word also : Turned) → turns.MakesTurn h old new word → turns.MakesTurn h old other also → (new ≡ other) × (word ≡ also)
 one_turn step h old new other word also p q =
     let e = one_of step old.size (turns.moment_of h old) p.0 q.0 word also p.1 q.1 in
     (with_same h old new other p.0 q.0 p.2 q.2 e.0, e.1)

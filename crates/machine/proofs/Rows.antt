@@ -8,7 +8,7 @@ use Rattle.turns.specs.declared.words.Turned.TheVariants.{Next}
 use Rattle.turns.specs.Turns.{Moment, moment, TurnOf}
 use Rattle.turns.specs.Many.{NextTurns}
 use Rattle.machine.specs.Machine.{Machine}
-use Rattle.machine.specs.Turns.{moment_of, with_moment, Turns, Rows, ends_row, IsLast, TurnsMany}
+use Rattle.machine.specs.Turns.{moment_of, with_moment, MakesTurn, Rows, ends_row, IsLast, TurnsMany}
 
 -- before the turn `made` of at most `count`, none has ended the row: what the turns that are left make of the machine, all make of it
 abbrev pub Continues : ℕ → ℕ → ℕ → Machine → Machine → Type 0
@@ -23,13 +23,13 @@ begins h count old n k total new word left sum turns =
     subst P f (subst Q e turns)
 
 -- one more, which did not end the row
-pub goes_on : (h count made : ℕ) (old mid next : Machine) (word : Turned) → made < count → ends_row word ≡ false → Turns h mid next word → Continues h count made old mid → Continues h count (made + 1) old next
+pub goes_on : (h count made : ℕ) (old mid next : Machine) (word : Turned) → made < count → ends_row word ≡ false → MakesTurn h mid next word → Continues h count made old mid → Continues h count (made + 1) old next
 goes_on h count made old mid next word more on turn before n k total new last left sum turns =
     let some : IsLast word n → ⊥ = λ l. ⊎_elim (λ (e : ends_row word ≡ true). true≢false (sym e ∙ on)) (λ (z : n ≡ 0). omega (arith, z, left, more)) l in
     before (suc n) (suc k) total new last (omega (arith, left)) (omega (arith, sum)) (next, word, turn, inr (some, k, refl, turns))
 
 -- the last
-pub ends_with : (h count made : ℕ) (old mid next : Machine) (word : Turned) (left : ℕ) → left + made ≡ count → IsLast word left → Turns h mid next word → Continues h count made old mid → TurnsMany h count old next made word
+pub ends_with : (h count made : ℕ) (old mid next : Machine) (word : Turned) (left : ℕ) → left + made ≡ count → IsLast word left → MakesTurn h mid next word → Continues h count made old mid → TurnsMany h count old next made word
 ends_with h count made old mid next word left sum last turn before =
     before (suc left) 1 made next word (omega (arith, sum)) (omega arith) (next, word, turn, inl (last, refl, refl, refl))
 
@@ -37,7 +37,7 @@ ends_with h count made old mid next word left sum last turn before =
 -- so many turns that all said Next
 abbrev pub AllNext : ℕ → ℕ → Machine → Machine → Type 0
 AllNext h zero old new = new ≡ old
-AllNext h (suc n) old new = (mid : Machine) × AllNext h n old mid × Turns h mid new Next
+AllNext h (suc n) old new = (mid : Machine) × AllNext h n old mid × MakesTurn h mid new Next
 
 -- a hart that stands so is read so, and replaced by the next
 read_back : (h : ℕ) (m : Machine) (a : Moment) → h < length m.harts → moment_of h (with_moment h m a) ≡ a
@@ -50,14 +50,14 @@ put_same : (h : ℕ) (m : Machine) → with_moment h m (moment_of h m) ≡ m
 put_same h m = ap (λ (harts : List ArchState). let r : Machine = record { size = m.size; memory = m.memory; harts = harts; table = m.table } in r) (set-get_or m.harts h (never_started h))
 
 module _ (h : ℕ) (old : Machine) (lt : h < length old.harts) where
-  one_more : (a b : Moment) (word : Turned) → TurnOf old.size a b word → Turns h (with_moment h old a) (with_moment h old b) word
+  one_more : (a b : Moment) (word : Turned) → TurnOf old.size a b word → MakesTurn h (with_moment h old a) (with_moment h old b) word
   one_more a b word turn = (b, subst (λ (x : Moment). TurnOf old.size x b word) (sym (read_back h old a lt)) turn, sym (put_twice h old a b))
 
   all_next : (k : ℕ) (b : Moment) → NextTurns old.size k (moment_of h old) b → AllNext h k old (with_moment h old b)
   all_next zero b e = ap (with_moment h old) e ∙ put_same h old
   all_next (suc k) b x = (with_moment h old x.0, all_next k x.0 x.1, one_more x.0 b Next x.2)
 
-  parted : (count : ℕ) (new : Machine) (word : Turned) → Rows h count old new word → (k : ℕ) × (mid : Machine) × (count ≡ suc k) × AllNext h k old mid × Turns h mid new word
+  parted : (count : ℕ) (new : Machine) (word : Turned) → Rows h count old new word → (k : ℕ) × (mid : Machine) × (count ≡ suc k) × AllNext h k old mid × MakesTurn h mid new word
   parted count new word r =
       let row = r.1 in
       let turn = one_more row.1 r.0 word row.4 in (
@@ -65,7 +65,7 @@ module _ (h : ℕ) (old : Machine) (lt : h < length old.harts) where
         with_moment h old row.1,
         row.2,
         all_next row.0 row.1 row.3,
-        subst (λ (m : Machine). Turns h (with_moment h old row.1) m word) (sym r.2) turn,
+        subst (λ (m : Machine). MakesTurn h (with_moment h old row.1) m word) (sym r.2) turn,
       )
 
 nexts_on : (h count made k : ℕ) (old mid last : Machine) → made + k ≤ count → AllNext h k mid last → Continues h count made old mid → Continues h count (made + k) old last
@@ -79,7 +79,7 @@ nexts_on h count made (suc k) old mid last low x before =
 
 -- so many turns were made, none of which but the last may have ended the row, and word was said of the last
 abbrev pub Made : ℕ → ℕ → ℕ → Machine → Machine → Turned → Type 0
-Made h count made old new word = (mid : Machine) × Continues h count made old mid × Turns h mid new word
+Made h count made old new word = (mid : Machine) × Continues h count made old mid × MakesTurn h mid new word
 
 pub first_row : (h count made : ℕ) (old new : Machine) (word : Turned) → h < length old.harts → made ≤ count → Rows h made old new word → Made h count made old new word
 first_row h count made old new word lt low r =

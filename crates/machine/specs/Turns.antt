@@ -28,8 +28,8 @@ abbrev pub DoneBy : (Moment → Moment → Type 0) → ℕ → Machine → Machi
 DoneBy Does h old new = (after : Moment) × Does (moment_of h old) after × (new ≡ with_moment h old after)
 
 -- a turn of hart h
-abbrev pub Turns : ℕ → Machine → Machine → Turned → Type 0
-Turns h old new word = DoneBy (λ a b. TurnOf old.size a b word) h old new
+abbrev pub MakesTurn : ℕ → Machine → Machine → Turned → Type 0
+MakesTurn h old new word = DoneBy (λ a b. TurnOf old.size a b word) h old new
 
 -- turns of hart h in a row, of which all but the last said Next
 abbrev pub Rows : ℕ → ℕ → Machine → Machine → Turned → Type 0
@@ -53,7 +53,7 @@ IsLast word left = (ends_row word ≡ true) ⊎ (left ≡ 0)
 abbrev pub TurnsMany : ℕ → ℕ → Machine → Machine → ℕ → Turned → Type 0
 TurnsMany h zero old new made word = ⊥
 TurnsMany h (suc n) old new made word =
-    (mid : Machine) × (first : Turned) × Turns h old mid first
+    (mid : Machine) × (first : Turned) × MakesTurn h old mid first
     × ((IsLast first n × (new ≡ mid) × (made ≡ 1) × (word ≡ first)) ⊎ ((IsLast first n → ⊥) × (rest : ℕ) × (made ≡ suc rest) × TurnsMany h n mid new rest word))
 
 -- ---- a call that is made in the place of a hart

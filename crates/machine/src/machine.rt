@@ -11,7 +11,7 @@ ghost use Rattle.store.specs.Stores.{size_of_store, now_state, view_of};
 ghost use Rattle.store.specs.Views.{StaysOpen};
 ghost use Rattle.susp.specs.Wakes.{IsUnloaded, IsConsumed};
 ghost use Rattle.machine.specs.Machine.{hart_at, stopped_harts, resting, begun, woken};
-ghost use Rattle.machine.specs.Turns.{Turns, Rows, TurnsMany, MakesOneCall};
+ghost use Rattle.machine.specs.Turns.{MakesTurn, Rows, TurnsMany, MakesOneCall};
 ghost use Rattle.machine.specs.Held.{IsHeld, shown_by};
 ghost use Rattle.machine.specs.Durables.{IsHartStarted, MakesCall};
 
@@ -166,7 +166,7 @@ impl Machine {
     /// One turn of a hart.
     pub fn turn(&mut self, id: HartId) -> Turned
         requires { id < length self.old.harts }
-        ensures turns { Turns id self.old self.new result }
+        ensures turns { MakesTurn id self.old self.new result }
         ensures asks { result ≡ Durable → IsHartStarted id self.new }
         ensures harts { length self.new.harts ≡ length self.old.harts }
     {
