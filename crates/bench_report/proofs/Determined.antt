@@ -16,7 +16,7 @@ use Rattle.bench_report.specs.declared.printed.Printed.{Printed}
 use Rattle.bench_report.specs.declared.printed.Printed.TheVariants as printed
 use Rattle.bench_report.specs.declared.printed.Answer.{Answer}
 use Rattle.bench_report.specs.Bench.{DiskState, Blank, Unknown, Formatted, BenchLife, Bench}
-use Rattle.bench_report.specs.Steps.{says, out_of_memory, FailsByFault, off, on_with, formatted_anew, unknown, settled, has_machine, acknowledged, in_doubt, begun, commands_of, Writes, IssuedBy, Issued, IssuesAll, FormatsOn, IsOn, BootsFrom, Resumes, Begins, Boots, Opens, ShowsFound, IsOpenRefusal, PowersOn}
+use Rattle.bench_report.specs.Steps.{says, out_of_memory, FailsByFault, off, on_with, formatted_anew, unknown, settled, has_machine, acknowledged, in_doubt, life_begun, commands_of, Writes, IssuedBy, Issued, IssuesAll, FormatsOn, IsOn, BootsFrom, Resumes, Begins, Boots, Opens, ShowsFound, IsOpenRefusal, PowersOn}
 
 abbrev pub HasFailed : Bench → Type 0
 HasFailed b = (0 < b.growths) ⊎ (0 < b.failures)
@@ -157,7 +157,7 @@ on_fair (Err n) mode z s b line new x = fair_to b new (off b) x.1 (λ s. s, λ c
 
 slot_fair : (mode : BootMode) (z : Size) (s : DurableState) (b : Bench) (line : Printed) (new : Bench) → BootsFrom mode z s b line new → Fair b new
 slot_fair mode z s b line new (o, mid, h, on) =
-    let start : Bench = on_with (begun s z) b in
+    let start : Bench = on_with (life_begun s z) b in
     let one : Fair start new = fair_then start mid new (all_fair (commands_of mode) start o mid h) (on_fair o mode z s mid line new on) in
     (λ s. one.0 s, λ c. one.1 c)
 
@@ -225,7 +225,7 @@ is_on o p mode z s b d line said new last (inr (inr e)) x y =
     alike (Err n) x y = same line said (printed.OnRefused n) new last (off b) x.0 y.0 x.1 y.1
 
 slot_boots : (mode : BootMode) (z : Size) (s : DurableState) (b : Bench) (line said : Printed) (new last : Bench) → BootsFrom mode z s b line new → BootsFrom mode z s b said last → Agree line said new last
-slot_boots mode z s b line said new last (o, mid, h, x) (p, mid2, k, y) = is_on o p mode z s mid mid2 line said new last (all (commands_of mode) (on_with (begun s z) b) o p mid mid2 h k) x y
+slot_boots mode z s b line said new last (o, mid, h, x) (p, mid2, k, y) = is_on o p mode z s mid mid2 line said new last (all (commands_of mode) (on_with (life_begun s z) b) o p mid mid2 h k) x y
 
 -- a resume whose command was not refused for its disk goes on with an image that has the memory of its board
 whole_image : (z : Size) (s : DurableState) (m : Machine) → IsResumed z s m → IsWhole z s
@@ -242,17 +242,17 @@ writes_err c life b o new n e (inl w) = not_both (life.receipts + 1) n o w.0 e
 writes_err c life b o new n e (inr (inl w)) = hinders b new w.1
 writes_err c life b o new n e (inr (inr w)) = hinders (in_doubt c life b) new w.1
 
-issued_err : (c : Change) (s : DurableState) (z : Size) (b : Bench) (o : Result ℕ ℕ) (new : Bench) (n : ℕ) → refusal_of s c ≡ None → o ≡ Err n → Issued c (begun s z) b o new → HasFailed new
+issued_err : (c : Change) (s : DurableState) (z : Size) (b : Bench) (o : Result ℕ ℕ) (new : Bench) (n : ℕ) → refusal_of s c ≡ None → o ≡ Err n → Issued c (life_begun s z) b o new → HasFailed new
 issued_err c s z b o new n allowed e (inl i) = absurd (let no : 0 ≡ 4096 = i.0 in omega (arith, no))
-issued_err c s z b o new n allowed e (inr i) = let P : Option ℕ → Type 0 = λ r. Writes r c (begun s z) b o new in writes_err c (begun s z) b o new n e (subst P allowed i.1)
+issued_err c s z b o new n allowed e (inr i) = let P : Option ℕ → Type 0 = λ r. Writes r c (life_begun s z) b o new in writes_err c (life_begun s z) b o new n e (subst P allowed i.1)
 
-one_err : (c : Change) (s : DurableState) (z : Size) (b : Bench) (n : ℕ) (mid : Bench) → refusal_of s c ≡ None → IssuesAll (c ∷ []) (on_with (begun s z) b) (Err n) mid → HasFailed mid
+one_err : (c : Change) (s : DurableState) (z : Size) (b : Bench) (n : ℕ) (mid : Bench) → refusal_of s c ≡ None → IssuesAll (c ∷ []) (on_with (life_begun s z) b) (Err n) mid → HasFailed mid
 one_err c s z b n mid allowed (life, on, first, last, i, inl (k, ok, rest)) = not_both 0 n (Err n) rest.0 refl
 one_err c s z b n mid allowed (life, on, first, last, i, inr (k, err, same_err, e)) =
-    let start : Bench = on_with (begun s z) b in
+    let start : Bench = on_with (life_begun s z) b in
     let L : BenchLife → Type 0 = λ l. Issued c l start first last in
     let P : Bench → Type 0 = HasFailed in
-    subst P (sym e) (issued_err c s z start first last k allowed err (subst L (some_inj (begun s z) life start.power refl on) i))
+    subst P (sym e) (issued_err c s z start first last k allowed err (subst L (some_inj (life_begun s z) life start.power refl on) i))
 
 resumed_whole : (z : Size) (s : DurableState) (b : Bench) (line : Printed) (new : Bench) → refusal_of s Consume ≡ None → BootsFrom modes.Resume z s b line new → HasFailed new ⊎ IsWhole z s
 resumed_whole z s b line new allowed (Ok n, mid, all, (life, on, said, m, is, e)) = inr (whole_image z s m is)

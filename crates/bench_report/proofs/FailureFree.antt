@@ -34,7 +34,7 @@ use Rattle.bench_report.specs.declared.printed.Printed.TheVariants as printed
 use Rattle.disk.specs.FaultState.{FaultArmed, CutArmed}
 use Rattle.bench_report.specs.declared.printed.Answer.{Answer}
 use Rattle.bench_report.specs.Bench.{DiskState, Blank, Unknown, Formatted, BenchLife, Bench, IsFailureFree, blank_bench}
-use Rattle.bench_report.specs.Steps.{says, off, on_with, unpowered, unknown, armed_with, formatted_anew, settled, has_machine, acknowledged, begun, commands_of, console_reported, Writes, IssuedBy, IssuesAll, FormatsOn, IsOn, BootsFrom, Resumes, Begins, Boots, Opens, PowersOn, FormatStep, OnStep, ConsoleStep, PayloadStep, ReadStep, PokeStep, Issued, AnswersError, HartCommand, Resets, SuspendIssued, SleepsBy, MakesCall, Comes, GuestTurn, GuestTurns, TurnStep, CallReported, GuestCall, CallStep, Step, Moves, Run}
+use Rattle.bench_report.specs.Steps.{says, off, on_with, unpowered, unknown, armed_with, formatted_anew, settled, has_machine, acknowledged, life_begun, commands_of, console_reported, Writes, IssuedBy, IssuesAll, FormatsOn, IsOn, BootsFrom, Resumes, Begins, Boots, Opens, PowersOn, FormatStep, OnStep, ConsoleStep, PayloadStep, ReadStep, PokeStep, Issued, AnswersError, HartCommand, Resets, SuspendIssued, SleepsBy, MakesCall, Comes, GuestTurn, GuestTurns, TurnStep, CallReported, GuestCall, CallStep, Step, Moves, Run}
 use Rattle.bench_report.specs.Reports.{IsReport}
 use Rattle.bench_report.specs.Plain.{ShowsNoFailure, ShowNoFailure}
 
@@ -102,7 +102,7 @@ is_on_failure_free (Err n) mode z s b line new h failure_free = let reported = o
 slot_failure_free : (mode : BootMode) (z : Size) (s : DurableState) (b : Bench) (line : Printed) (new : Bench) → BootsFrom mode z s b line new → ShowsNoFailure line → AsMany b new
 slot_failure_free mode z s b line new (o, mid, h, on) failure_free =
     let last = is_on_failure_free o mode z s mid line new on failure_free in
-    let start : Bench = on_with (begun s z) b in
+    let start : Bench = on_with (life_begun s z) b in
     many_then b mid new (let first = all_failure_free (commands_of mode) start o mid h last.0 in (first.0, first.1)) last.1
 
 resumes_failure_free : (z : Size) (s : DurableState) (b : Bench) (line : Printed) (new : Bench) → Resumes z s b line new → ShowsNoFailure line → AsMany b new

@@ -15,7 +15,7 @@ use Rattle.bench_report.specs.declared.printed.Answer.{Answer}
 use Rattle.bench_report.specs.declared.printed.Printed.TheVariants as printed
 use Rattle.bench_report.specs.Below.{facts, fault_state}
 use Rattle.bench_report.specs.Bench.{DiskState, Blank, Unknown, Formatted, Bench}
-use Rattle.bench_report.specs.Steps.{says, out_of_memory, failed, begun, MayStand, Opens, PowersOn}
+use Rattle.bench_report.specs.Steps.{says, out_of_memory, failed, life_begun, MayStand, Opens, PowersOn}
 use Rattle.bench_report.specs.Agree.{DiskIs, DeviceIs, LifeIs, OffIs}
 use Rattle.bench_report.proofs.Devices.{is_device, is_memory, five, eleven, fails_by_fault, stays}
 use Rattle.bench_report.proofs.Adapted.{struck, calm, failed_open, never_down}
@@ -24,7 +24,7 @@ use Rattle.bench_report.proofs.Ended.{left_on}
 
 -- what an open finds is one of the states that the commands kept let it find; it keeps the command in doubt or drops it
 pub opens : (size : Size) (m : DiskState) (b : Bench) (disk : Facts) (z : Size) (s : DurableState) → DiskIs size m b.kept disk → Leaves disk z s → (IsBlank disk → ⊥) → ((y : Size) → IsKept disk y → y ≡ z)
-    → (k : Kept) × Opens size m b s z (record b { kept = k }) × LifeIs size m k (begun s z) z
+    → (k : Kept) × Opens size m b s z (record b { kept = k }) × LifeIs size m k (life_begun s z) z
 opens size Blank b disk z s was leaves formatted one = absurd (formatted was)
 opens size Unknown b disk z s was leaves formatted one = (b.kept, refl, refl)
 opens size Formatted b disk z s was leaves formatted one =

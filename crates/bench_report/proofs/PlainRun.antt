@@ -15,7 +15,7 @@ use Rattle.bench_report.specs.declared.printed.ConsoleWord.{ConsoleWord}
 use Rattle.bench_report.specs.declared.printed.ConsoleWord.TheVariants as names
 use Rattle.bench_report.specs.declared.printed.Answer.{Answer}
 use Rattle.bench_report.specs.Bench.{DiskState, Blank, Unknown, Formatted, BenchLife, Bench, IsFailureFree, blank_bench}
-use Rattle.bench_report.specs.Steps.{on_with, settled, acknowledged, begun, Writes, Issued, IssuedBy, ShowsFound, ArmStep, FormatsOn, Boots, Begins, Opens, IsOpenRefusal, PowersOn, FormatStep, OnStep, ConsoleStep, PayloadStep, Step, Run}
+use Rattle.bench_report.specs.Steps.{on_with, settled, acknowledged, life_begun, Writes, Issued, IssuedBy, ShowsFound, ArmStep, FormatsOn, Boots, Begins, Opens, IsOpenRefusal, PowersOn, FormatStep, OnStep, ConsoleStep, PayloadStep, Step, Run}
 use Rattle.bench_report.specs.Reports.{IsByFirmware, AreByFirmware, IsReport}
 use Rattle.bench_report.specs.Plain.{plain_written, plain_issued, plain_console, plain_format, plain_slot, plain_boot, plain_on, plain_at, plain, plain_answers, plain_report, IsPlain, ArePlain}
 use Rattle.bench_report.proofs.Adapted.{grows}
@@ -98,8 +98,8 @@ never_on o none allowed =
     absurd (let e : ◌≡◌ {A = Option ℕ} (Some 8) None = subst P none allowed in let no : ⊥ = cc in no)
 
 begins : (mode : BootMode) (z : Size) (s : DurableState) (b : Bench) → s.image ≡ None → boot_refusal s mode ≡ None → IsGood b → Well b (λ a new. Begins mode z s b a.line new) (plain_slot mode z s b)
-begins modes.Fresh z s b none allowed good = ((Ok 0, on_with (begun s z) b, (refl, refl), (begun s z, refl, refl, booted b.payloads s z, refl, refl)), (good.0, (refl, lit≤ tt), good.2, good.3), (refl, refl))
-begins modes.Keep z s b none allowed good = ((Ok 0, on_with (begun s z) b, (refl, refl), (begun s z, refl, refl, booted b.payloads s z, refl, refl)), (good.0, (refl, lit≤ tt), good.2, good.3), (refl, refl))
+begins modes.Fresh z s b none allowed good = ((Ok 0, on_with (life_begun s z) b, (refl, refl), (life_begun s z, refl, refl, booted b.payloads s z, refl, refl)), (good.0, (refl, lit≤ tt), good.2, good.3), (refl, refl))
+begins modes.Keep z s b none allowed good = ((Ok 0, on_with (life_begun s z) b, (refl, refl), (life_begun s z, refl, refl, booted b.payloads s z, refl, refl)), (good.0, (refl, lit≤ tt), good.2, good.3), (refl, refl))
 begins modes.Discard z s b none allowed good = never_on s.image none allowed
 begins modes.Resume z s b none allowed good = never_on s.image none allowed
 

@@ -30,7 +30,7 @@ use Rattle.bench_report.specs.declared.printed.Printed.TheVariants as printed
 use Rattle.disk.specs.FaultState.{FaultArmed, CutArmed}
 use Rattle.bench_report.specs.declared.printed.Answer.{Answer}
 use Rattle.bench_report.specs.Bench.{DiskState, Blank, Unknown, Formatted, BenchLife, Bench, blank_bench}
-use Rattle.bench_report.specs.Steps.{says, shows, out_of_memory, failed, on_with, unpowered, armed_with, formatted_anew, settled, has_machine, begun, commands_of, console_reported, IsOn, BootsFrom, Resumes, Begins, Boots, Opens, ShowsFound, IsOpenRefusal, PowersOn, FormatsOn, FormatStep, OnStep, ConsoleStep, PayloadStep, CallReported, GuestCall, TurnStep, CallStep, ReadStep, PokeStep, Step, Moves, Run}
+use Rattle.bench_report.specs.Steps.{says, shows, out_of_memory, failed, on_with, unpowered, armed_with, formatted_anew, settled, has_machine, life_begun, commands_of, console_reported, IsOn, BootsFrom, Resumes, Begins, Boots, Opens, ShowsFound, IsOpenRefusal, PowersOn, FormatsOn, FormatStep, OnStep, ConsoleStep, PayloadStep, CallReported, GuestCall, TurnStep, CallStep, ReadStep, PokeStep, Step, Moves, Run}
 use Rattle.bench_report.specs.Reports.{IsByFirmware, AreByFirmware, IsReport}
 use Rattle.bench_report.specs.Prefix.{Asked, Boot, Command, Guest, Nothing, Hides, TellsWord, TellsLine, asked_by, RefusedChange, Lost, LineImplies, ShowsIts, IsPrefixed, resumes, RisesFrom, AreLoaded, is_format_ok, IsFoundByPrefix, KeepsPrefixLaw}
 use Rattle.bench_report.proofs.Unsaid.{GoesBy, comes_back, turns_back}
@@ -125,7 +125,7 @@ module _ (b : Bench) (changes : List Change) (may : MayKeep b.kept changes) (dis
 
   starts : (mode : BootMode) (z : Size) (a : Answer) (new : Bench) → a.found ≡ Some (durable_of (found_of changes)) → BootsFrom mode z (found_of changes) (settled changes b) a.line new → Tell (Boot mode) b a new
   starts mode z a new found (o, mid, all, on_h) =
-      let start : Bench = on_with (begun (found_of changes) z) (settled changes b) in
+      let start : Bench = on_with (life_begun (found_of changes) z) (settled changes b) in
       let sound : IsSound start = (disk_state, (refl, refl)) in
       let rest : Back start mid (AllWent o (commands_of mode) (is_up mid.power)) = all_back (commands_of mode) start o mid sound refl all in
       let whole : Back b mid (λ s t. (s ≡ found_of changes) × AllWent o (commands_of mode) (is_up mid.power) s t) =

@@ -14,7 +14,7 @@ use Rattle.bench_report.specs.declared.printed.Answer.{Answer}
 use Rattle.bench_report.specs.declared.printed.Printed.{Printed}
 use Rattle.bench_report.specs.declared.printed.Printed.TheVariants as printed
 use Rattle.bench_report.specs.Bench.{DiskState, Blank, Unknown, Formatted, BenchLife, Bench, IsFailureFree, blank_bench}
-use Rattle.bench_report.specs.Steps.{says, on_with, settled, has_machine, acknowledged, begun, Writes, Issued, IssuesAll, ShowsFound, IsOn, BootsFrom, Resumes, Boots, Opens, IsOpenRefusal, PowersOn, OnStep, Moves}
+use Rattle.bench_report.specs.Steps.{says, on_with, settled, has_machine, acknowledged, life_begun, Writes, Issued, IssuesAll, ShowsFound, IsOn, BootsFrom, Resumes, Boots, Opens, IsOpenRefusal, PowersOn, OnStep, Moves}
 use Rattle.bench_report.specs.Reports.{AreByFirmware, IsReport}
 use Rattle.bench_report.specs.Resumed.{IsMadeIn, IsResumedFrom}
 use Rattle.bench_report.proofs.Determined.{HasFailed, CalmDisk, starves, hinders, some_inj}
@@ -69,20 +69,20 @@ one_writes c life b o new n ok None (inl w) = w.1
 one_writes c life b o new n ok None (inr (inl w)) = absurd (let g : ◌≡◌ {A = Result ℕ ℕ} (Ok n) (Err 5) = sym ok ∙ w.0 in let no : ⊥ = cc in no)
 one_writes c life b o new n ok None (inr (inr w)) = absurd (let g : ◌≡◌ {A = Result ℕ ℕ} (Ok n) (Err 6) = sym ok ∙ w.0 in let no : ⊥ = cc in no)
 
-one_issued : (c : Change) (s : DurableState) (z : Size) (b : Bench) (o : Result ℕ ℕ) (new : Bench) (n : ℕ) → o ≡ Ok n → Issued c (begun s z) b o new → new ≡ acknowledged c (begun s z) b
+one_issued : (c : Change) (s : DurableState) (z : Size) (b : Bench) (o : Result ℕ ℕ) (new : Bench) (n : ℕ) → o ≡ Ok n → Issued c (life_begun s z) b o new → new ≡ acknowledged c (life_begun s z) b
 one_issued c s z b o new n ok (inl i) = absurd (let g : ◌≡◌ {A = Result ℕ ℕ} (Ok n) (Err 10) = sym ok ∙ i.1 in let no : ⊥ = cc in no)
-one_issued c s z b o new n ok (inr i) = one_writes c (begun s z) b o new n ok (refusal_of s c) i.1
+one_issued c s z b o new n ok (inr i) = one_writes c (life_begun s z) b o new n ok (refusal_of s c) i.1
 
-one_command : (c : Change) (s : DurableState) (z : Size) (b : Bench) (n : ℕ) (mid : Bench) → IssuesAll (c ∷ []) (on_with (begun s z) b) (Ok n) mid → mid ≡ acknowledged c (begun s z) (on_with (begun s z) b)
+one_command : (c : Change) (s : DurableState) (z : Size) (b : Bench) (n : ℕ) (mid : Bench) → IssuesAll (c ∷ []) (on_with (life_begun s z) b) (Ok n) mid → mid ≡ acknowledged c (life_begun s z) (on_with (life_begun s z) b)
 one_command c s z b n mid (life, on, first, last, i, inl (k, ok, rest)) =
-    let start : Bench = on_with (begun s z) b in
+    let start : Bench = on_with (life_begun s z) b in
     let L : BenchLife → Type 0 = λ l. Issued c l start first last in
-    rest.1 ∙ one_issued c s z start first last k ok (subst L (some_inj (begun s z) life start.power refl on) i)
+    rest.1 ∙ one_issued c s z start first last k ok (subst L (some_inj (life_begun s z) life start.power refl on) i)
 one_command c s z b n mid (life, on, first, last, i, inr (k, err, same, e)) = absurd (let no : ⊥ = cc in no)
 
 -- ---- the board that is resumed
 module _ (size : Size) (b : Bench) (a : Answer) (new : Bench) (changes : List Change) (may : MayKeep b.kept changes) (found : a.found ≡ Some (durable_of (found_of changes))) where
-  resumes_ok : (n : ℕ) (mid : Bench) → mid ≡ acknowledged Consume (begun (found_of changes) size) (on_with (begun (found_of changes) size) (settled changes b)) → IsOn (Ok n) modes.Resume size (found_of changes) mid a.line new
+  resumes_ok : (n : ℕ) (mid : Bench) → mid ≡ acknowledged Consume (life_begun (found_of changes) size) (on_with (life_begun (found_of changes) size) (settled changes b)) → IsOn (Ok n) modes.Resume size (found_of changes) mid a.line new
       → IsResumedFrom size b a new
   resumes_ok n mid e (life, on, line, m, is, made) = record {
     changes = changes;

@@ -25,7 +25,7 @@ use Rattle.bench_report.specs.declared.printed.Printed.{Printed}
 use Rattle.bench_report.specs.declared.printed.Printed.TheVariants as printed
 use Rattle.bench_report.specs.Below.{SimStore, SimBoard, store_in, machine_in, facts, fault_state, store_size, store_facts, store_fault_state, IsLife, IsAs}
 use Rattle.bench_report.specs.Bench.{DiskState, Blank, Unknown, Formatted, BenchLife, Bench}
-use Rattle.bench_report.specs.Steps.{says, out_of_memory, failed, off, on_with, has_machine, begun, acknowledged, in_doubt, commands_of, Writes, Issued, IssuesAll, ShowsFound, Opens, BootsFrom, Begins, Boots, PowersOn}
+use Rattle.bench_report.specs.Steps.{says, out_of_memory, failed, off, on_with, has_machine, life_begun, acknowledged, in_doubt, commands_of, Writes, Issued, IssuesAll, ShowsFound, Opens, BootsFrom, Begins, Boots, PowersOn}
 use Rattle.bench_report.specs.Agree.{AreShort, DiskIs, DeviceIs, LifeIs, OffIs, OnIs}
 use Rattle.bench_report.proofs.Adapted.{calm}
 use Rattle.bench_report.proofs.Commanded.{follows_more, follows_with}
@@ -50,19 +50,19 @@ as_issued : (store : SimStore) (s : DurableState) (c : Change) → life_of store
 as_issued store s c e = let P : StoreLife → Type 0 = λ life. IsLife life (after s c) 1 None in subst P (sym e) (refl, refl, refl, refl)
 
 -- what a crash leaves of a disk whose life ends with the boot
-kept_only : (size z : Size) (m : DiskState) (k : Kept) (s : DurableState) (disk : Facts) → LifeIs size m k (begun s z) z → LeavesOnly disk z s → DiskIs size m k disk
+kept_only : (size z : Size) (m : DiskState) (k : Kept) (s : DurableState) (disk : Facts) → LifeIs size m k (life_begun s z) z → LeavesOnly disk z s → DiskIs size m k disk
 kept_only size z Blank k s disk follows l = absurd follows
 kept_only size z Unknown k s disk follows l = tt
 kept_only size z Formatted k s disk follows l = left_only size z k s disk follows.1 follows.2 l
 
-kept_either : (size z : Size) (m : DiskState) (k : Kept) (s : DurableState) (c : Change) (disk : Facts) → LifeIs size m k (begun s z) z → refusal_of s c ≡ None → LeavesEither disk z s (after s c)
+kept_either : (size z : Size) (m : DiskState) (k : Kept) (s : DurableState) (c : Change) (disk : Facts) → LifeIs size m k (life_begun s z) z → refusal_of s c ≡ None → LeavesEither disk z s (after s c)
     → DiskIs size m (record k { doubt = Some c }) disk
 kept_either size z Blank k s c disk follows allowed l = absurd follows
 kept_either size z Unknown k s c disk follows allowed l = tt
 kept_either size z Formatted k s c disk follows allowed l = left_either size z (record k { doubt = Some c }) c s disk refl follows.1 allowed follows.2 l
 
 -- an open that found a state
-opened : KeptLaw → BlankLaw → (size : Size) (b : Bench) (old : SimDisk) (z : Size) (s : DurableState) → OffIs size b old → Leaves (facts old) z s → (k : Kept) × Opens size b.disk_state b s z (record b { kept = k }) × LifeIs size b.disk_state k (begun s z) z
+opened : KeptLaw → BlankLaw → (size : Size) (b : Bench) (old : SimDisk) (z : Size) (s : DurableState) → OffIs size b old → Leaves (facts old) z s → (k : Kept) × Opens size b.disk_state b s z (record b { kept = k }) × LifeIs size b.disk_state k (life_begun s z) z
 opened kept blank size b old z s off leaves = opens size b.disk_state b (facts old) z s off.1 leaves (λ is. blank.stands old z s is leaves) (λ y is. kept.one_size old y z s leaves is)
 
 -- ---- the board is on
@@ -72,7 +72,7 @@ BoardStarts size mode z s b line board = (x : Bench) × BootsFrom mode z s b lin
 abbrev BoardOn : Size → BootMode → Size → DurableState → Bench → Printed → SimBoard → Type 0
 BoardOn size mode z s b line board = (x : Bench) × Begins mode z s b line x × OnIs size x board × (x.payloads ≡ b.payloads)
 
-module _ (size : Size) (b : Bench) (s : DurableState) (board : SimBoard) (line : Printed) (follows : LifeIs size b.disk_state b.kept (begun s (store_size (store_in board))) (store_size (store_in board)))
+module _ (size : Size) (b : Bench) (s : DurableState) (board : SimBoard) (line : Printed) (follows : LifeIs size b.disk_state b.kept (life_begun s (store_size (store_in board))) (store_size (store_in board)))
     (device : DeviceIs size b (store_fault_state (store_in board)) (store_facts (store_in board))) where
   abbrev z : Size
   z = store_size (store_in board)
@@ -81,15 +81,15 @@ module _ (size : Size) (b : Bench) (s : DurableState) (board : SimBoard) (line :
   machine = machine_in board
 
   abbrev start : Bench
-  start = on_with (begun s z) b
+  start = on_with (life_begun s z) b
 
   -- by a mode without a command
   by_none : (mode : BootMode) → commands_of mode ≡ [] → IsBegun mode z b.payloads s machine → life_of (store_in board) ≡ started s → line ≡ printed.On mode → BoardStarts size mode z s b line board
   by_none mode none begins life h =
       let P : List Change → Type 0 = λ cs. IssuesAll cs start (Ok 0) start in (
-        on_with (has_machine machine (begun s z)) b,
-        (Ok 0, start, subst P (sym none) (refl, refl), (begun s z, refl, h, machine, begins, refl)),
-        (((follows_with size b.disk_state b.kept (begun s z) machine z (begun_size mode z b.payloads s machine begins) follows, as_begun (store_in board) s life), refl), device),
+        on_with (has_machine machine (life_begun s z)) b,
+        (Ok 0, start, subst P (sym none) (refl, refl), (life_begun s z, refl, h, machine, begins, refl)),
+        (((follows_with size b.disk_state b.kept (life_begun s z) machine z (begun_size mode z b.payloads s machine begins) follows, as_begun (store_in board) s life), refl), device),
         refl,
       )
 
@@ -97,15 +97,15 @@ module _ (size : Size) (b : Bench) (s : DurableState) (board : SimBoard) (line :
   by_one : (mode : BootMode) (c : Change) → commands_of mode ≡ c ∷ [] → refusal_of s c ≡ None → IsBegun mode z b.payloads s machine → life_of (store_in board) ≡ record (started s) { journal = c ∷ [] } → line ≡ printed.On mode
       → BoardStarts size mode z s b line board
   by_one mode c only allowed begins life h =
-      let mid : Bench = acknowledged c (begun s z) start in
-      let P : Option ℕ → Type 0 = λ r. Writes r c (begun s z) start (Ok 1) mid in
-      let one : Issued c (begun s z) start (Ok 1) mid = inr (lit< tt, subst P (sym allowed) (inl (refl, refl))) in
-      let next : BenchLife = record (begun s z) { now = after s c; receipts = 1 } in
+      let mid : Bench = acknowledged c (life_begun s z) start in
+      let P : Option ℕ → Type 0 = λ r. Writes r c (life_begun s z) start (Ok 1) mid in
+      let one : Issued c (life_begun s z) start (Ok 1) mid = inr (lit< tt, subst P (sym allowed) (inl (refl, refl))) in
+      let next : BenchLife = record (life_begun s z) { now = after s c; receipts = 1 } in
       let Q : List Change → Type 0 = λ cs. IssuesAll cs start (Ok 0) mid in
-      let all : Q (c ∷ []) = (begun s z, refl, Ok 1, mid, one, inl (1, refl, (refl, refl))) in (
+      let all : Q (c ∷ []) = (life_begun s z, refl, Ok 1, mid, one, inl (1, refl, (refl, refl))) in (
         on_with (has_machine machine next) mid,
         (Ok 0, mid, subst Q (sym only) all, (next, refl, h, machine, begins, refl)),
-        (((follows_with size b.disk_state mid.kept next machine z (begun_size mode z b.payloads s machine begins) (follows_more size b.disk_state b.kept c (begun s z) z follows), as_issued (store_in board) s c life), refl), device),
+        (((follows_with size b.disk_state mid.kept next machine z (begun_size mode z b.payloads s machine begins) (follows_more size b.disk_state b.kept c (life_begun s z) z follows), as_issued (store_in board) s c life), refl), device),
         refl,
       )
 
@@ -131,7 +131,7 @@ power_ok kept blank size mode b payloads old board a off same on keeps shows h =
 
 -- ---- the board is off, after an open that left this bench
 module _ (size : Size) (b : Bench) (old new : SimDisk) (z : Size) (s : DurableState) (payloads : List (List ℕ)) (line : Printed) (none : b.power ≡ None) (device : DeviceIs size b (fault_state old) (facts old))
-    (follows : LifeIs size b.disk_state b.kept (begun s z) z) (fits : PayloadsFit z payloads) (no_fewer : (facts old).failures ≤ (facts new).failures) (long : SameLength (facts old) (facts new)) where
+    (follows : LifeIs size b.disk_state b.kept (life_begun s z) z) (fits : PayloadsFit z payloads) (no_fewer : (facts old).failures ≤ (facts new).failures) (long : SameLength (facts old) (facts new)) where
   abbrev Left : Option ℕ → BootMode → Type 0
   Left o mode = (x : Bench) × Boots o mode z s b line x × OffIs size x new × (x.payloads ≡ b.payloads)
 
@@ -141,14 +141,14 @@ module _ (size : Size) (b : Bench) (old new : SimDisk) (z : Size) (s : DurableSt
       (none, kept_only size z b.disk_state b.kept s (facts new) follows (subst P (no_doubt mode e up) left), stays size b (fault_state old) (fault_state new) (facts old) (facts new) device (calm e (fault_state old) (fault_state new) cause up is) no_fewer long)
 
   -- by a mode with that command, which the disk refused
-  refuses_it : (mode : BootMode) (c : Change) (o : ℕ) (mid : Bench) → commands_of mode ≡ c ∷ [] → refusal_of s c ≡ None → Writes None c (begun s z) (on_with (begun s z) b) (Err o) mid → line ≡ printed.OnRefused o
+  refuses_it : (mode : BootMode) (c : Change) (o : ℕ) (mid : Bench) → commands_of mode ≡ c ∷ [] → refusal_of s c ≡ None → Writes None c (life_begun s z) (on_with (life_begun s z) b) (Err o) mid → line ≡ printed.OnRefused o
       → BootsFrom mode z s b line (off mid)
   refuses_it mode c o mid only allowed writes h =
-      let first : Bench = on_with (begun s z) b in
-      let P : Option ℕ → Type 0 = λ r. Writes r c (begun s z) first (Err o) mid in
-      let one : Issued c (begun s z) first (Err o) mid = inr (lit< tt, subst P (sym allowed) writes) in
+      let first : Bench = on_with (life_begun s z) b in
+      let P : Option ℕ → Type 0 = λ r. Writes r c (life_begun s z) first (Err o) mid in
+      let one : Issued c (life_begun s z) first (Err o) mid = inr (lit< tt, subst P (sym allowed) writes) in
       let Q : List Change → Type 0 = λ cs. IssuesAll cs first (Err o) mid in
-      let all : Q (c ∷ []) = (begun s z, refl, Err o, mid, one, inr (o, refl, refl, refl)) in
+      let all : Q (c ∷ []) = (life_begun s z, refl, Err o, mid, one, inr (o, refl, refl, refl)) in
       (Err o, mid, subst Q (sym only) all, (h, refl))
 
   abbrev StartsOff : BootMode → Type 0
@@ -158,7 +158,7 @@ module _ (size : Size) (b : Bench) (old new : SimDisk) (z : Size) (s : DurableSt
   failed_at : (mode : BootMode) (c : Change) → commands_of mode ≡ c ∷ [] → refusal_of s c ≡ None → line ≡ printed.OnRefused 5 → LeavesOnly (facts new) z s → CausedRefusal (fault_state old) Device (fault_state new)
       → CountsRefusal (facts old).failures Device (facts new).failures → StartsOff mode
   failed_at mode c only allowed h left cause counts =
-      let first : Bench = on_with (begun s z) b in
+      let first : Bench = on_with (life_begun s z) b in
       let did = fails_by_fault size first (fault_state old) (fault_state new) (facts old) (facts new) device cause counts long in
       let mid = failed (fault_state new) first in
       (off mid, refuses_it mode c 5 mid only allowed (inr (inl (refl, did.0))) h, (refl, kept_only size z b.disk_state b.kept s (facts new) follows left, did.1), refl)
@@ -167,7 +167,7 @@ module _ (size : Size) (b : Bench) (old new : SimDisk) (z : Size) (s : DurableSt
   doubted_at : (mode : BootMode) (c : Change) → commands_of mode ≡ c ∷ [] → refusal_of s c ≡ None → line ≡ printed.OnRefused 6 → LeavesEither (facts new) z s (after s c) → CausedRefusal (fault_state old) Down (fault_state new)
       → CountsRefusal (facts old).failures Down (facts new).failures → StartsOff mode
   doubted_at mode c only allowed h left cause counts =
-      let d : Bench = in_doubt c (begun s z) (on_with (begun s z) b) in
+      let d : Bench = in_doubt c (life_begun s z) (on_with (life_begun s z) b) in
       let did = fails_by_fault size d (fault_state old) (fault_state new) (facts old) (facts new) device cause counts long in
       let mid = failed (fault_state new) d in
       (off mid, refuses_it mode c 6 mid only allowed (inr (inr (refl, did.0))) h, (refl, kept_either size z b.disk_state b.kept s c (facts new) follows allowed left, did.1), refl)

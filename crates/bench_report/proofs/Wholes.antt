@@ -35,7 +35,7 @@ use Rattle.bench_report.specs.declared.printed.Printed.TheVariants as printed
 use Rattle.bench_report.specs.Bench.{DiskState, Blank, Unknown, Formatted, BenchLife, Bench}
 use Rattle.bench_report.specs.Prefix.{IsLoaded, AreLoaded}
 use Rattle.bench_report.specs.Reports.{IsByFirmware, AreByFirmware}
-use Rattle.bench_report.specs.Steps.{out_of_memory, failed, off, on_with, unpowered, armed_with, settled, has_machine, acknowledged, in_doubt, begun, commands_of, Writes, IssuedBy, Issued, IssuesAll, refused, AnswersError, HartCommand, Resets, SuspendIssued, Sleeps, SleepsBy, MakesCall, Comes, GuestTurn, GuestTurns, FormatsOn, IsOn, BootsFrom, Begins, Boots, Opens, IsOpenRefusal, PowersOn, FormatStep, OnStep, ConsoleStep, PayloadStep, GuestCall, TurnStep, CallStep, ReadStep, Step, Moves, Run}
+use Rattle.bench_report.specs.Steps.{out_of_memory, failed, off, on_with, unpowered, armed_with, settled, has_machine, acknowledged, in_doubt, life_begun, commands_of, Writes, IssuedBy, Issued, IssuesAll, refused, AnswersError, HartCommand, Resets, SuspendIssued, Sleeps, SleepsBy, MakesCall, Comes, GuestTurn, GuestTurns, FormatsOn, IsOn, BootsFrom, Begins, Boots, Opens, IsOpenRefusal, PowersOn, FormatStep, OnStep, ConsoleStep, PayloadStep, GuestCall, TurnStep, CallStep, ReadStep, Step, Moves, Run}
 use Rattle.bench_report.proofs.Adapted.{grows}
 use Rattle.bench_report.proofs.Determined.{begun_size}
 use Rattle.bench_report.proofs.Table.{table_not_thirteen, mode_not_thirteen}
@@ -181,7 +181,7 @@ module _ (size : Size) where
   is_on (Err n) mode z s b line new same k x = same_as (off b) new x.1 (k.0, k.1, k.2, tt)
 
   starts : (mode : BootMode) (z : Size) (s : DurableState) (b : Bench) (line : Printed) (new : Bench) → z ≡ size → IsKeptWhole size b → BootsFrom mode z s b line new → IsKeptWhole size new
-  starts mode z s b line new same k (o, mid, x, on) = is_on o mode z s mid line new same (all (commands_of mode) (on_with (begun s z) b) o mid (each_carries mode) (k.0, k.1, k.2, same) x) on
+  starts mode z s b line new same k (o, mid, x, on) = is_on o mode z s mid line new same (all (commands_of mode) (on_with (life_begun s z) b) o mid (each_carries mode) (k.0, k.1, k.2, same) x) on
 
   begins : (mode : BootMode) (z : Size) (s : DurableState) (b : Bench) (line : Printed) (new : Bench) → z ≡ size → IsKeptWhole size b → Begins mode z s b line new → IsKeptWhole size new
   begins modes.Fresh z s b line new same k x = starts modes.Fresh z s b line new same k x
@@ -301,7 +301,7 @@ module _ (size : Size) where
   is_on_not (Err n) mode z s b line new differs x = number line n x.0 (λ e. differs (ap (λ k. Err k) e))
 
   starts_not : (mode : BootMode) (z : Size) (s : DurableState) (b : Bench) (line : Printed) (new : Bench) → BootsFrom mode z s b line new → NotThirteen line
-  starts_not mode z s b line new (o, mid, x, on) = is_on_not o mode z s mid line new (all_not (commands_of mode) (on_with (begun s z) b) o mid x) on
+  starts_not mode z s b line new (o, mid, x, on) = is_on_not o mode z s mid line new (all_not (commands_of mode) (on_with (life_begun s z) b) o mid x) on
 
   begins_not : (mode : BootMode) (z : Size) (s : DurableState) (b : Bench) (line : Printed) (new : Bench) → IsWhole z s → Begins mode z s b line new → NotThirteen line
   begins_not modes.Fresh z s b line new whole x = starts_not modes.Fresh z s b line new x

@@ -22,7 +22,7 @@ use Rattle.bench_report.specs.declared.printed.ConsoleWord.TheVariants as names
 use Rattle.bench_report.specs.declared.printed.Printed.{Printed}
 use Rattle.bench_report.specs.declared.printed.Printed.TheVariants as printed
 use Rattle.bench_report.specs.Bench.{DiskState, Blank, Unknown, Formatted, BenchLife, Bench, blank_bench}
-use Rattle.bench_report.specs.Steps.{says, shows, on_with, unpowered, armed_with, formatted_anew, settled, has_machine, acknowledged, begun, console_reported}
+use Rattle.bench_report.specs.Steps.{says, shows, on_with, unpowered, armed_with, formatted_anew, settled, has_machine, acknowledged, life_begun, console_reported}
 use Rattle.bench_report.specs.Reports.{board_answer, report_text}
 
 -- a command's receipt or number, and the bench after it, by the number with which the table refuses it
@@ -48,7 +48,7 @@ found_then s line = record { found = Some (durable_of s); line = line }
 
 -- a boot of the slot: no image stands in such a run, so a mode that goes on with one or drops it is refused
 abbrev pub plain_slot : BootMode → Size → DurableState → Bench → Answer × Bench
-plain_slot mode z s b = (found_then s (printed.On mode), on_with (has_machine (booted b.payloads s z) (begun s z)) b)
+plain_slot mode z s b = (found_then s (printed.On mode), on_with (has_machine (booted b.payloads s z) (life_begun s z)) b)
 
 -- by the number with which the state refuses the mode
 abbrev pub plain_boot : Option ℕ → BootMode → Size → DurableState → Bench → Answer × Bench
