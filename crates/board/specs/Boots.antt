@@ -8,7 +8,7 @@ use Rattle.board_model.specs.declared.boot_mode.BootMode.{BootMode}
 use Rattle.board_model.specs.declared.boot_mode.BootMode.TheVariants as modes
 use Rattle.board_model.specs.declared.durable.Command.{Command}
 use Rattle.board_model.specs.declared.durable.Command.TheVariants as commands
-use Rattle.machine.specs.Machine.{Machine, begun as begun_machine}
+use Rattle.machine.specs.Machine.{Machine, machine_begun as begun_machine}
 use Rattle.store.specs.Lives.{Life, begun}
 use Rattle.board.specs.Moments.{issued_by}
 

@@ -10,7 +10,7 @@ ghost use Rattle.machine.specs.declared.parts.Called.TheVariants.{Made};
 ghost use Rattle.store.specs.Stores.{size_of_store, now_state, view_of};
 ghost use Rattle.store.specs.Views.{StaysOpen};
 ghost use Rattle.susp.specs.Wakes.{IsUnloaded, IsConsumed};
-ghost use Rattle.machine.specs.Machine.{hart_at, stopped_harts, resting, begun, woken};
+ghost use Rattle.machine.specs.Machine.{hart_at, stopped_harts, resting, machine_begun, woken};
 ghost use Rattle.machine.specs.Turns.{MakesTurn, Rows, TurnsMany, MakesOneCall};
 ghost use Rattle.machine.specs.Held.{IsHeld, shown_by};
 ghost use Rattle.machine.specs.Durables.{IsHartStarted, MakesCall};
@@ -102,7 +102,7 @@ impl Machine {
     pub fn boot(&mut self, shape: &Shape, payload: &[u8], reason: Reason)
         requires resting { self.old ≡ resting shape.now 0 }
         requires fits { length payload.now ≤ ram_bytes_of shape.now }
-        ensures { self.new ≡ begun payload.now reason shape.now }
+        ensures { self.new ≡ machine_begun payload.now reason shape.now }
     {
         self.ram.boot(payload);
         if let Some(first) = shape.hart(0) {
