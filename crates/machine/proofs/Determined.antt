@@ -16,7 +16,7 @@ use Rattle.sbi_calls.specs.Answers.{Ends, answer}
 use Rattle.turns.specs.declared.words.Turned.{Turned}
 use Rattle.turns.specs.declared.words.Ready.{Ready}
 use Rattle.turns.specs.declared.words.Ready.TheVariants as readies
-use Rattle.turns.specs.Turns.{Moment, moment, begun, turned_by, Finishes, TurnAs, TurnOf}
+use Rattle.turns.specs.Turns.{Moment, moment, turn_begun, turned_by, Finishes, TurnAs, TurnOf}
 use Rattle.machine.specs.declared.parts.Called.{Called}
 use Rattle.machine.specs.declared.parts.Called.TheVariants.{NotStarted, Made}
 use Rattle.machine.specs.Machine.{Machine}
@@ -56,7 +56,7 @@ one_as step size (readies.Steps pending) x a b c word also p q =
     (one_moment b c e.0 e.1 same.1, e.2)
 
 one_of : IsOneStep → (size : Size) (a b c : Moment) (word also : Turned) → TurnOf size a b word → TurnOf size a c also → (b ≡ c) × (word ≡ also)
-one_of step size a b c word also p q = one_as step size (begun a.hart.id a.table).ready (begun a.hart.id a.table).table a b c word also p q
+one_of step size a b c word also p q = one_as step size (turn_begun a.hart.id a.table).ready (turn_begun a.hart.id a.table).table a b c word also p q
 
 -- ---- of a machine
 with_same : (h : ℕ) (old new other : Machine) (b c : Moment) → new ≡ turns.with_moment h old b → other ≡ turns.with_moment h old c → b ≡ c → new ≡ other

@@ -67,8 +67,8 @@ begun_by by t (start_pending a o) = record { ready = readies.Enters a o; table =
 begun_by by t started = record { ready = readies.Steps (is_pending by t.pairs); table = t }
 begun_by by t suspended = woken (is_pending by t.pairs) by t
 
-abbrev pub begun : ℕ → TableState → Begun
-begun by t = begun_by by t (listed t.states by)
+abbrev pub turn_begun : ℕ → TableState → Begun
+turn_begun by t = begun_by by t (listed t.states by)
 
 -- with the one seat of all harts: a look, a take, and what follows where the hart has not entered or is SUSPENDED
 abbrev pub LooksAlone : ℕ → ℕ → Seats → Seats → Bool → Type 0
@@ -84,13 +84,13 @@ IsOutside started = ⊥
 IsOutside suspended = ⊥
 
 abbrev pub EntersAlone : ℕ → ℕ → Seats → Seats → Ready → Type 0
-EntersAlone harts by s s' ready = (t : TableState) → IsTable harts s t → IsOutside (listed t.states by) → (ready ≡ (begun by t).ready) × IsTable harts s' (begun by t).table
+EntersAlone harts by s s' ready = (t : TableState) → IsTable harts s t → IsOutside (listed t.states by) → (ready ≡ (turn_begun by t).ready) × IsTable harts s' (turn_begun by t).table
 
 abbrev pub WakesAlone : ℕ → ℕ → Seats → Seats → Ready → Type 0
-WakesAlone harts by s s' ready = (t : TableState) → IsTable harts s t → listed t.states by ≡ suspended → (ready ≡ (begun by t).ready) × IsTable harts s' (begun by t).table
+WakesAlone harts by s s' ready = (t : TableState) → IsTable harts s t → listed t.states by ≡ suspended → (ready ≡ (turn_begun by t).ready) × IsTable harts s' (turn_begun by t).table
 
 abbrev pub BeginsAlone : ℕ → ℕ → Seats → Seats → Ready → Type 0
-BeginsAlone harts by s s' ready = (t : TableState) → IsTable harts s t → (ready ≡ (begun by t).ready) × IsTable harts s' (begun by t).table
+BeginsAlone harts by s s' ready = (t : TableState) → IsTable harts s t → (ready ≡ (turn_begun by t).ready) × IsTable harts s' (turn_begun by t).table
 
 -- ---- after the step
 abbrev pub turned_by : After → Turned
@@ -129,7 +129,7 @@ TurnAs size (readies.Steps pending) x a b word =
 
 -- what a turn of the hart makes of a moment, and what is said of it
 abbrev pub TurnOf : Size → Moment → Moment → Turned → Type 0
-TurnOf size a b word = TurnAs size (begun a.hart.id a.table).ready (begun a.hart.id a.table).table a b word
+TurnOf size a b word = TurnAs size (turn_begun a.hart.id a.table).ready (turn_begun a.hart.id a.table).table a b word
 
 -- with the one seat of all harts
 abbrev pub TurnsAlone : Size → ArchState → List ℕ → ArchState → List ℕ → Seats → Seats → Turned → Type 0
