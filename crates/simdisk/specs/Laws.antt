@@ -13,5 +13,5 @@ pub only_the_last : (stood : Content) (past : List (List Piece)) (c : Content) (
 only_the_last stood past c Now (inl now) = now
 only_the_last stood past c Now (inr had) = absurd (none_left stood past c had)
 
-pub below : (n : ℕ) → n < 2 ^ 64 → n ≤ most
-below n less = omega arith
+pub below_most : (n : ℕ) → n < 2 ^ 64 → n ≤ most
+below_most n less = omega arith

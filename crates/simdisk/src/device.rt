@@ -24,7 +24,7 @@ impl Disk for SimDisk {
     ghost use Rattle.simdisk.specs.Armings.{fault_state_of};
     ghost use Rattle.simdisk.specs.Record.{ranges, synced, AgreesOutside};
     ghost use Rattle.simdisk.specs.Views.{pieces};
-    ghost use Rattle.simdisk.specs.Laws.{only_the_last, below};
+    ghost use Rattle.simdisk.specs.Laws.{only_the_last, below_most};
     ghost use Rattle.std.specs.Prelude.{◌≡◌, ◌⊎◌, length, take, Some};
     ghost use Rattle.simdisk.specs.Record.{synced_after};
     ghost use mathlib.Core.Logic.{inl};
@@ -195,7 +195,7 @@ impl Disk for SimDisk {
 
     ghost only_now = { λ d c left. only_the_last (synced_after (take (length d.history.past.epochs) d.history.past.epochs) d.history.past.began) d.history.past.epochs c (AgreesOutside (synced (log_of d.history)) (ranges (pieces d.history.written.items)) c) left };
 
-    ghost bounded = { λ d. below d.failures d.few };
+    ghost bounded = { λ d. below_most d.failures d.few };
 
-    ghost bounded_calls = { λ d. below d.calls d.few_calls };
+    ghost bounded_calls = { λ d. below_most d.calls d.few_calls };
 }
