@@ -3,7 +3,7 @@ use Rattle.std.specs.Prelude.{ℕ, List, [], ◌∷◌, Option, Some, None, if�
 use Rattle.std.specs.Str.{bytes_eq}
 use Rattle.board_model.specs.Shapes.{Size}
 use Rattle.script_lang.specs.Words.{◌>>=◌, none_of}
-use Rattle.script_lang.specs.Rows.{payload_of, on_of, slot_of, turn_of, call_of, reg_of, pc_of, csr_of, mem_of, cutat_of, cutlane_of, failat_of, faillane_of, cut_of, poke_of}
+use Rattle.script_lang.specs.Rows.{payload_of, on_of, slot_of, turn_of, call_line_of, reg_of, pc_of, csr_of, mem_of, cutat_of, cutlane_of, failat_of, faillane_of, cut_of, poke_of}
 use Rattle.script_lang.specs.declared.line.Keyword.{Keyword}
 use Rattle.script_lang.specs.declared.line.Keyword.TheVariants as keywords
 use Rattle.script_lang.specs.declared.line.Line.{Line}
@@ -55,7 +55,7 @@ body_of size keywords.On words = on_of words
 body_of size keywords.Slot words = slot_of words
 body_of size keywords.Discard words = alone Discard words
 body_of size keywords.Turn words = turn_of size words
-body_of size keywords.Call words = call_of size words
+body_of size keywords.Call words = call_line_of size words
 body_of size keywords.Reg words = reg_of size words
 body_of size keywords.Pc words = pc_of size words
 body_of size keywords.Csr words = csr_of size words

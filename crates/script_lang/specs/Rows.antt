@@ -70,8 +70,8 @@ head_of (a ∷ []) = None
 head_of (a ∷ b ∷ []) = None
 head_of (a ∷ b ∷ c ∷ more) = Some (a, b, c, more)
 
-abbrev pub call_of : Size → List (List ℕ) → Option Line
-call_of size words = do
+abbrev pub call_line_of : Size → List (List ℕ) → Option Line
+call_line_of size words = do
   head ← head_of words
   hart ← ranged 0 size.harts head.0
   extension ← extension_of head.1

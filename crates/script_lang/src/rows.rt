@@ -5,7 +5,7 @@ ghost use Rattle.std.specs.Option.{option_map};
 ghost use Rattle.script_lang.specs.Words.{ranged};
 ghost use Rattle.board_model.specs.Shapes.{Size, sectors_of};
 ghost use Rattle.script_lang.specs.Ranges.{IsCount, IsCsr, IsLineInRange};
-ghost use Rattle.script_lang.specs.Rows.{payload_of, mode_of, on_of, slot_of, turn_of, extension_of, argument_of, head_of, call_of, reg_of, pc_of, csr_number_of, csr_of, mem_of, cutat_of, cutlane_of, failat_of, faillane_of, cut_of, place_of, poke_of};
+ghost use Rattle.script_lang.specs.Rows.{payload_of, mode_of, on_of, slot_of, turn_of, extension_of, argument_of, head_of, call_line_of, reg_of, pc_of, csr_number_of, csr_of, mem_of, cutat_of, cutlane_of, failat_of, faillane_of, cut_of, place_of, poke_of};
 
 use crate::line::Line;
 use crate::words::{bytes, fill, in_range, none, number, one, three, two};
@@ -153,7 +153,7 @@ fn head<'a, 'b>(words: &'b [&'a [u8]]) -> Option<(&'a [u8], &'a [u8], &'a [u8], 
 /// `call H EID FID [A0 [A1 [A2]]]`: the extension by its number or its name (SBI specification 2.0, chapters Base, HSM,
 /// IPI, SRST and SUSP); missing arguments are 0.
 pub fn call(shape: &Shape, words: &[&[u8]]) -> Option<Line>
-    ensures value { result ≡ call_of shape.now (map (λ w. w.now) words.now) }
+    ensures value { result ≡ call_line_of shape.now (map (λ w. w.now) words.now) }
     ensures range { IfSome result (IsLineInRange shape.now) }
 {
     let (h, e, f, others) = head(words)?;
