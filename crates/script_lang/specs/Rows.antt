@@ -64,15 +64,15 @@ argument_of (word ∷ more) = do
   Some (n, more)
 
 -- `call H EID FID [A0 [A1 [A2]]]`
-abbrev pub head_of : List (List ℕ) → Option (List ℕ × List ℕ × List ℕ × List (List ℕ))
-head_of [] = None
-head_of (a ∷ []) = None
-head_of (a ∷ b ∷ []) = None
-head_of (a ∷ b ∷ c ∷ more) = Some (a, b, c, more)
+abbrev pub call_head_of : List (List ℕ) → Option (List ℕ × List ℕ × List ℕ × List (List ℕ))
+call_head_of [] = None
+call_head_of (a ∷ []) = None
+call_head_of (a ∷ b ∷ []) = None
+call_head_of (a ∷ b ∷ c ∷ more) = Some (a, b, c, more)
 
 abbrev pub call_line_of : Size → List (List ℕ) → Option Line
 call_line_of size words = do
-  head ← head_of words
+  head ← call_head_of words
   hart ← ranged 0 size.harts head.0
   extension ← extension_of head.1
   function ← number_of head.2

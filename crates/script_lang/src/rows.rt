@@ -5,7 +5,7 @@ ghost use Rattle.std.specs.Option.{option_map};
 ghost use Rattle.script_lang.specs.Words.{ranged};
 ghost use Rattle.board_model.specs.Shapes.{Size, sectors_of};
 ghost use Rattle.script_lang.specs.Ranges.{IsCount, IsCsr, IsLineInRange};
-ghost use Rattle.script_lang.specs.Rows.{payload_of, mode_of, on_of, slot_of, turn_of, extension_of, argument_of, head_of, call_line_of, reg_of, pc_of, csr_number_of, csr_of, mem_of, cutat_of, cutlane_of, failat_of, faillane_of, cut_of, place_of, poke_of};
+ghost use Rattle.script_lang.specs.Rows.{payload_of, mode_of, on_of, slot_of, turn_of, extension_of, argument_of, call_head_of, call_line_of, reg_of, pc_of, csr_number_of, csr_of, mem_of, cutat_of, cutlane_of, failat_of, faillane_of, cut_of, place_of, poke_of};
 
 use crate::line::Line;
 use crate::words::{bytes, fill, in_range, none, number, one, three, two};
@@ -142,7 +142,7 @@ fn argument<'a, 'b>(words: &'b [&'a [u8]]) -> Option<(u64, &'b [&'a [u8]])>
 
 /// The first three words, and the others.
 fn head<'a, 'b>(words: &'b [&'a [u8]]) -> Option<(&'a [u8], &'a [u8], &'a [u8], &'b [&'a [u8]])>
-    ensures { option_map (λ h. (h.0.now, h.1.now, h.2.now, map (λ w. w.now) h.3.now)) result ≡ head_of (map (λ w. w.now) words.now) }
+    ensures { option_map (λ h. (h.0.now, h.1.now, h.2.now, map (λ w. w.now) h.3.now)) result ≡ call_head_of (map (λ w. w.now) words.now) }
 {
     match words {
         [a, b, c, others @ ..] => Some((*a, *b, *c, others)),
