@@ -65,7 +65,7 @@ impl<D: Disk + Drop> Board<D> {
     ghost use Rattle.machine.specs.Durables.{IsHartStarted};
     ghost use Rattle.turns.specs.declared.words.Turned.TheVariants as did;
     ghost use Rattle.machine.specs.Held.{shown_by, IsHeld};
-    ghost use Rattle.turns.specs.Turns.{is_pending};
+    ghost use Rattle.turns.specs.Turns.{has_pending};
     ghost use Rattle.board.specs.Boots.{IsConsoleCommand};
     ghost use Rattle.board.specs.Boards.{store_of, machine_of};
     ghost use Rattle.board.specs.Turns.{Comes, Turns, Rows, TurnsMany, Calls};
@@ -287,7 +287,7 @@ impl<D: Disk + Drop> Board<D> {
     /// Whether an interrupt is pending for a hart of this board, which stays as it was.
     pub fn pending(&mut self, hart: HartId) -> bool
         requires { hart < length (machine_of self.old).harts }
-        ensures value { result ≡ is_pending hart (machine_of self.old).table.pairs }
+        ensures value { result ≡ has_pending hart (machine_of self.old).table.pairs }
         ensures machine { machine_of self.new ≡ machine_of self.old }
         ensures store { store_of self.new ≡ store_of self.old }
     {

@@ -18,7 +18,7 @@ use Rattle.sbi_calls.specs.Requests.{Checked, request_of}
 use Rattle.sbi_calls.specs.Answers.{row, Ends}
 use Rattle.turns.specs.declared.words.Turned.{Turned}
 use Rattle.turns.specs.declared.words.Turned.TheVariants.{Idle, Entered, Woke, Next, Suspended, Stopped, Durable}
-use Rattle.turns.specs.Turns.{Moment, is_pending, woken, begun_by, turned_by, Finishes, TurnAs, TurnOf}
+use Rattle.turns.specs.Turns.{Moment, has_pending, woken, begun_by, turned_by, Finishes, TurnAs, TurnOf}
 use Rattle.machine.specs.declared.parts.Called.{Called}
 use Rattle.machine.specs.declared.parts.Called.TheVariants.{NotStarted, Made}
 use Rattle.machine.specs.Machine.{Machine, hart_at}
@@ -71,9 +71,9 @@ stood number size a b stopped is p = absurd (let z : Durable ≡ Idle = p.1 in l
 stood number size a b (start_pending site opaque) is p = absurd (let z : Durable ≡ Entered = p.1 in let n : ⊥ = cc in n)
 stood number size a b started is p =
     let f = finished size p.1 a.table b.table p.0 b.hart p.3 in
-    let id : b.hart.id ≡ a.hart.id = ap (λ (s : ArchState). s.id) f.1 ∙ number (is_pending a.hart.id a.table.pairs) a.hart p.0 a.memory b.memory p.1 p.2 in
+    let id : b.hart.id ≡ a.hart.id = ap (λ (s : ArchState). s.id) f.1 ∙ number (has_pending a.hart.id a.table.pairs) a.hart p.0 a.memory b.memory p.1 p.2 in
     same_state a.table b.table a.hart b.hart f.0 id ∙ sym is
-stood number size a b suspended is p = absurd (stays_asleep size (is_pending a.hart.id a.table.pairs) a.hart.id a.table a b p)
+stood number size a b suspended is p = absurd (stays_asleep size (has_pending a.hart.id a.table.pairs) a.hart.id a.table a b p)
 
 -- a hart that stands so is read so
 at_once : (h : ℕ) (old new : Machine) (a : Moment) → h < length old.harts → new ≡ with_moment h old a → listed a.table.states a.hart.id ≡ started → IsHartStarted h new

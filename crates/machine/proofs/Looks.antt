@@ -7,7 +7,7 @@ use Rattle.hart.specs.State.{ArchState}
 use Rattle.sbi_calls.specs.declared.tables.Tables.{Tables}
 use Rattle.sbi_calls.specs.declared.tables.Seats.{Seats}
 use Rattle.sbi_calls.specs.Both.{TableState, IsTable, GivesBack}
-use Rattle.turns.specs.Turns.{LooksAlone, is_pending, RestsAt}
+use Rattle.turns.specs.Turns.{LooksAlone, has_pending, RestsAt}
 use Rattle.hsm_steps.specs.Seating.{harts_in}
 use Rattle.machine.specs.Machine.{Machine}
 use Rattle.machine.specs.Held.{shown_by, table_of, AreWhole, IsHeld}
@@ -18,7 +18,7 @@ module _ (size : Size) (memory : List ℕ) (harts : List ArchState) (t : Tables)
   before : AreWhole size.harts t s
   before = all_seats size harts t os s held taken
 
-  looked : (found ≡ is_pending id (shown_by size.harts s).pairs) × IsTable size.harts s' (shown_by size.harts s)
+  looked : (found ≡ has_pending id (shown_by size.harts s).pairs) × IsTable size.harts s' (shown_by size.harts s)
   looked = subst (λ (k : ℕ). LooksAlone k id s s' found) many looks (shown_by size.harts s) before.shows
 
   shown_after : shown_by size.harts s' ≡ shown_by size.harts s
@@ -41,5 +41,5 @@ module _ (size : Size) (memory : List ℕ) (harts : List ArchState) (t : Tables)
   pub shows_still : ◌≡◌ {A = Machine} (record { size = size; memory = memory; harts = harts; table = shown_by size.harts s' }) (record { size = size; memory = memory; harts = harts; table = table_of size.harts os })
   shows_still = ap shown (shown_after ∙ ap (table_of size.harts) (sym taken))
 
-  pub found_it : found ≡ is_pending id (table_of size.harts os).pairs
-  found_it = subst (λ (o : Option Seats). found ≡ is_pending id (table_of size.harts o).pairs) (sym taken) looked.0
+  pub found_it : found ≡ has_pending id (table_of size.harts os).pairs
+  found_it = subst (λ (o : Option Seats). found ≡ has_pending id (table_of size.harts o).pairs) (sym taken) looked.0

@@ -4,7 +4,7 @@ ghost use Rattle.std.specs.Prelude.{◌≡◌, ◌⊎◌, ◌≤◌, ◌<◌, �
 ghost use Rattle.board_model.specs.Durable.{Image};
 ghost use Rattle.board_model.specs.Shapes.{ram_bytes_of};
 ghost use Rattle.board_model.specs.declared.refusal.Refusal.TheVariants.{Memory};
-ghost use Rattle.turns.specs.Turns.{is_pending};
+ghost use Rattle.turns.specs.Turns.{has_pending};
 ghost use Rattle.turns.specs.declared.words.Turned.TheVariants.{Durable};
 ghost use Rattle.machine.specs.declared.parts.Called.TheVariants.{Made};
 ghost use Rattle.store.specs.Stores.{size_of_store, now_state, view_of};
@@ -152,7 +152,7 @@ impl Machine {
     /// machine, and leaves it as it was.
     pub fn pending(&mut self, id: HartId) -> bool
         requires { id < length self.old.harts }
-        ensures value { result ≡ is_pending id self.old.table.pairs }
+        ensures value { result ≡ has_pending id self.old.table.pairs }
         ensures stays { self.new ≡ self.old }
     {
         let seats = self.seats.take().unwrap();

@@ -5,7 +5,7 @@ use Rattle.hart.specs.State.{ArchState, reg}
 use Rattle.hart.specs.Csrs.{csr_number, csr_read}
 use Rattle.hart.specs.declared.csr.Csr.{Csr}
 use Rattle.machine.specs.Machine.{Machine, hart_at}
-use Rattle.turns.specs.Turns.{is_pending}
+use Rattle.turns.specs.Turns.{has_pending}
 use Rattle.machine.specs.Turns.{TurnsMany, MakesOneCall}
 use Rattle.machine.specs.declared.parts.Called.{Called}
 use Rattle.machine.specs.declared.parts.Called.TheVariants.{NotStarted, Made}
@@ -57,7 +57,7 @@ pub record CallLine (h eid fid a0 a1 a2 : ℕ) (old new : Machine) (line : Machi
 
 -- the board has the hart, and an interrupt is pending for it
 abbrev pub waits : Machine → ℕ → Bool
-waits m h = nat_lt h (length m.harts) && is_pending h m.table.pairs
+waits m h = nat_lt h (length m.harts) && has_pending h m.table.pairs
 
 -- the harts below n for which one is pending, as a number with bit h for hart h
 abbrev pub pending_set : Machine → ℕ → ℕ
@@ -78,7 +78,7 @@ pc_line h m = if nat_lt h (length m.harts) then lines.Pc h (hart_at m h).pc else
 
 -- `csr H C`, with C the number of a control and status register of the profile
 pub record CsrLine (h n : ℕ) (m : Machine) (line : MachineLine) : Type 0 where
-  pub shown : HasHart m h → (c : Csr) → csr_number c ≡ n → line ≡ lines.Csr h n (csr_read c (hart_at m h) (is_pending h m.table.pairs))
+  pub shown : HasHart m h → (c : Csr) → csr_number c ≡ n → line ≡ lines.Csr h n (csr_read c (hart_at m h) (has_pending h m.table.pairs))
   pub no_csr : ((c : Csr) → csr_number c ≢ n) → line ≡ lines.Off
   pub lacks : (HasHart m h → ⊥) → line ≡ lines.Off
 

@@ -13,7 +13,7 @@ use Rattle.ipi.specs.Seen.{ArePairs, pair_at, row_of}
 use Rattle.sbi_calls.specs.declared.tables.Tables.{Tables}
 use Rattle.sbi_calls.specs.declared.tables.Seats.{Seats}
 use Rattle.sbi_calls.specs.Both.{GivesBack}
-use Rattle.turns.specs.Turns.{RestsAt, IsOutside, has_true, is_pending}
+use Rattle.turns.specs.Turns.{RestsAt, IsOutside, has_true, has_pending}
 
 -- ---- where the hart stands
 pub sits : (h : ℕ) (vs : List HartView) → RestsAt h vs → SitsIn h vs
@@ -119,9 +119,9 @@ same_bool false true f g = g refl
 same_bool false false f g = refl
 
 pub looked : (n m by : ℕ) (c c' : PendingSeatView) (found : Bool) → n ≡ m → ActsAlone n c c' (λ pairs. IsTrue found ↔ ((sender : ℕ) × IsTrue (pairs sender by))) (λ pairs. pairs)
-    → (pairs : List (List Bool)) → ArePairs m c pairs → (found ≡ is_pending by pairs) × ArePairs m c' pairs
+    → (pairs : List (List Bool)) → ArePairs m c pairs → (found ≡ has_pending by pairs) × ArePairs m c' pairs
 looked n m by c c' found e acts pairs are =
     let a = acts (pair_at pairs) (subst (λ (k : ℕ). Shows k c (pair_at pairs)) (sym e) are.1) in (
-      same_bool found (is_pending by pairs) (λ r. let s = a.0.0 r in is_true (row_of pairs by) s.0 s.1) (λ h. a.0.1 (some_true (row_of pairs by) h)),
+      same_bool found (has_pending by pairs) (λ r. let s = a.0.0 r in is_true (row_of pairs by) s.0 s.1) (λ h. a.0.1 (some_true (row_of pairs by) h)),
       (are.0, subst (λ (k : ℕ). Shows k c' (pair_at pairs)) e a.1),
     )

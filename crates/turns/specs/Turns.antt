@@ -44,8 +44,8 @@ has_true [] = false
 has_true (b ∷ bs) = if b then true else has_true bs
 
 -- an interrupt is pending for the hart
-abbrev pub is_pending : ℕ → List (List Bool) → Bool
-is_pending by pairs = has_true (row_of pairs by)
+abbrev pub has_pending : ℕ → List (List Bool) → Bool
+has_pending by pairs = has_true (row_of pairs by)
 
 -- the hart's pending interrupts are taken
 abbrev pub taken : TableState → ℕ → TableState
@@ -64,15 +64,15 @@ woken false by t = record { ready = readies.Idle; table = t }
 abbrev pub begun_by : ℕ → TableState → HartState → Begun
 begun_by by t stopped = record { ready = readies.Idle; table = t }
 begun_by by t (start_pending a o) = record { ready = readies.Enters a o; table = taken (with_state t by started) by }
-begun_by by t started = record { ready = readies.Steps (is_pending by t.pairs); table = t }
-begun_by by t suspended = woken (is_pending by t.pairs) by t
+begun_by by t started = record { ready = readies.Steps (has_pending by t.pairs); table = t }
+begun_by by t suspended = woken (has_pending by t.pairs) by t
 
 abbrev pub turn_begun : ℕ → TableState → Begun
 turn_begun by t = begun_by by t (listed t.states by)
 
 -- with the one seat of all harts: a look, a take, and what follows where the hart has not entered or is SUSPENDED
 abbrev pub LooksAlone : ℕ → ℕ → Seats → Seats → Bool → Type 0
-LooksAlone harts by s s' pending = (t : TableState) → IsTable harts s t → (pending ≡ is_pending by t.pairs) × IsTable harts s' t
+LooksAlone harts by s s' pending = (t : TableState) → IsTable harts s t → (pending ≡ has_pending by t.pairs) × IsTable harts s' t
 
 abbrev pub TakesAlone : ℕ → ℕ → Seats → Seats → Type 0
 TakesAlone harts by s s' = (t : TableState) → IsTable harts s t → IsTable harts s' (taken t by)

@@ -1,5 +1,5 @@
 use Rattle.std.proofs.Common.{sym, ◌≡◌, ◌∙◌, subst}
-use Rattle.turns.specs.Turns.{is_pending}
+use Rattle.turns.specs.Turns.{has_pending}
 use Rattle.machine.specs.Machine.{Machine}
 use Rattle.machine.proofs.Looks.{held_still, shows_still, found_it}
 use Rattle.machine.proofs.machine.Machine.pending.Goals as goal
@@ -13,7 +13,7 @@ invariant_of-self c =
 pub returns-clause-value : goal.returns-clause-value
 returns-clause-value c =
     let i = c.self.inside in
-    subst (λ (m : Machine). c.look-seats.result.1 ≡ is_pending c.args.id m.table.pairs) c.self.view_is
+    subst (λ (m : Machine). c.look-seats.result.1 ≡ has_pending c.args.id m.table.pairs) c.self.view_is
     (found_it i.shape i.ram i.harts.items i.tables i.seats c.unwrap-seats.result c.look-seats.result.0 _ c.args.id c.look-seats.result.1 c.one_table.ensures.list c.one_set.ensures.list c.self.invariant
     (sym c.take.ensures.value ∙ c.unwrap-seats.ensures) c.self.invariant.tables c.look-seats.ensures.gives c.look-seats.ensures.harts c.look-seats.ensures.alone)
 
