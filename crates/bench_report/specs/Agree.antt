@@ -11,7 +11,7 @@ use Rattle.disk.specs.declared.device.ArmedFault.TheVariants as faults
 use Rattle.simdisk.specs.declared.SimDisk.{SimDisk}
 use Rattle.simdisk.specs.declared.choice.Choice.{Choice}
 use Rattle.simdisk.specs.declared.choice.Choice.TheVariants as choices
-use Rattle.simdisk.specs.Choices.{left_by}
+use Rattle.simdisk.specs.Choices.{left_by_choice}
 use Rattle.simdisk.specs.Record.{synced}
 use Rattle.simdisk.specs.Pokes.{IsWithin, StandsSo, poked}
 use Rattle.script_lang.specs.declared.line.Fill.{Fill}
@@ -99,7 +99,7 @@ HasDisk (On board) d = (facts d).content ≡ (store_facts (store_in board)).cont
 
 -- power was cut, and the disk holds exactly what the fill says of what was written since the last sync
 abbrev pub IsCutBy : Fill → SimDisk → Power → Type 0
-IsCutBy fill d (Off left) = (facts left).content ≡ left_by (choice_by fill) (synced (record_of d)) (record_of d).written
+IsCutBy fill d (Off left) = (facts left).content ≡ left_by_choice (choice_by fill) (synced (record_of d)) (record_of d).written
 IsCutBy fill d (On board) = ⊥
 
 -- that fault is armed on the disk, whether the board is off or on, and each call of it is still to come

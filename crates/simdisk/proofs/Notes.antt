@@ -9,7 +9,7 @@ use Rattle.simdisk.specs.declared.patch.Patch.{Patch}
 use Rattle.simdisk.specs.Record.{Piece, WriteLog, put, newest, synced, range, ranges, more_written, more_synced, lent_piece, new_record, replay, filled, sim_facts, Untouched, AgreesOutside, AreWithin}
 use Rattle.simdisk.specs.Views.{piece, pieces}
 use Rattle.simdisk.specs.Loans.{Noted, IsLatest}
-use Rattle.simdisk.specs.Choices.{left_by}
+use Rattle.simdisk.specs.Choices.{left_by_choice}
 use Rattle.simdisk.specs.declared.choice.Choice.{Choice}
 use Rattle.simdisk.specs.declared.choice.Choice.TheVariants.{Byte, Old, New}
 use Rattle.simdisk.proofs.Pieces.{agrees_replay, ranges_filled, replay_push, put_same}
@@ -123,7 +123,7 @@ fresh_of now stood r f i l begun is none = record {
 }
 
 -- each choice is one that a crash may leave
-pub left_agrees : (choice : Choice) (stood : Content) (ps : List Piece) → AreWithin (length stood) (ranges ps) → AgreesOutside stood (ranges ps) (left_by choice stood ps)
+pub left_agrees : (choice : Choice) (stood : Content) (ps : List Piece) → AreWithin (length stood) (ranges ps) → AgreesOutside stood (ranges ps) (left_by_choice choice stood ps)
 left_agrees (Byte byte) stood ps fits =
     let same = ranges_filled byte ps in
     subst (λ (rs : List (ℕ × ℕ)). AgreesOutside stood rs (replay (map (filled byte) ps) stood)) same (agrees_replay (map (filled byte) ps) stood (subst (λ (rs : List (ℕ × ℕ)). AreWithin (length stood) rs) (sym same) fits))

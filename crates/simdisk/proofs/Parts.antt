@@ -8,7 +8,7 @@ use Rattle.disk.specs.Facts.{Content, sector}
 use Rattle.simdisk.specs.declared.patch.Patch.{Patch}
 use Rattle.simdisk.specs.declared.choice.Choice.{Choice}
 use Rattle.simdisk.specs.declared.choice.Choice.TheVariants.{Byte, Old, New}
-use Rattle.simdisk.specs.Choices.{left_by}
+use Rattle.simdisk.specs.Choices.{left_by_choice}
 use Rattle.simdisk.specs.Record.{Piece, WriteLog, put, replay, synced, filled, ranges, Untouched, AgreesOutside, AreWithin}
 use Rattle.simdisk.specs.Pokes.{misses, part_before, part_behind, parted, poked_record}
 use Rattle.simdisk.specs.Views.{piece, pieces}
@@ -235,7 +235,7 @@ filled_parts byte k (p ∷ ps) =
 
 -- what a crash leaves of a content with the k-th sector so
 module _ (k : ℕ) (v : List ℕ) (stood : Content) (ps : List Piece) (lt : k < length stood) where
-  pub left_poked : AreWithin (length stood) (ranges ps) → (choice : Choice) → left_by choice (put (k, v ∷ []) stood) (flat_map (parted k) ps) ≡ put (k, v ∷ []) (left_by choice stood ps)
+  pub left_poked : AreWithin (length stood) (ranges ps) → (choice : Choice) → left_by_choice choice (put (k, v ∷ []) stood) (flat_map (parted k) ps) ≡ put (k, v ∷ []) (left_by_choice choice stood ps)
   left_poked fits (Byte byte) =
       ap (λ (qs : List Piece). replay qs (put (k, v ∷ []) stood)) (filled_parts byte k ps)
       ∙ replay_parted k v (map (filled byte) ps) stood lt (subst (λ (rs : List (ℕ × ℕ)). AreWithin (length stood) rs) (sym (ranges_filled byte ps)) fits)
@@ -285,8 +285,8 @@ module _ (k : ℕ) (v : List ℕ) (stood : Content) (ps : List Piece) (lt : k < 
 
 -- the record of a disk that was poked
 module _ (k : ℕ) (v : List ℕ) (r r' : WriteLog) (anew : r' ≡ poked_record k v r) (lt : k < length (synced r)) where
-  pub choices_poked : AreWithin (length (synced r)) (ranges r.written) → (choice : Choice) → left_by choice (synced r') r'.written ≡ put (k, v ∷ []) (left_by choice (synced r) r.written)
-  choices_poked fits choice = ap (λ (q : WriteLog). left_by choice (synced q) q.written) anew ∙ left_poked k v (synced r) r.written lt fits choice
+  pub choices_poked : AreWithin (length (synced r)) (ranges r.written) → (choice : Choice) → left_by_choice choice (synced r') r'.written ≡ put (k, v ∷ []) (left_by_choice choice (synced r) r.written)
+  choices_poked fits choice = ap (λ (q : WriteLog). left_by_choice choice (synced q) q.written) anew ∙ left_poked k v (synced r) r.written lt fits choice
 
   pub agrees_poked : (c c' : Content) → AgreesOutside (synced r) (ranges r.written) c → c' ≡ put (k, v ∷ []) c → AgreesOutside (synced r') (ranges r'.written) c'
   agrees_poked c c' a laid =

@@ -6,7 +6,7 @@ use Rattle.simdisk.specs.declared.choice.Choice.TheVariants.{Byte, Old, New}
 use Rattle.simdisk.specs.Record.{Piece, filled, replay}
 
 -- that byte throughout each piece; what stood at the sync; or the bytes that were written last
-abbrev pub left_by : Choice → Content → List Piece → Content
-left_by (Byte byte) stood pieces = replay (map (filled byte) pieces) stood
-left_by Old stood pieces = stood
-left_by New stood pieces = replay pieces stood
+abbrev pub left_by_choice : Choice → Content → List Piece → Content
+left_by_choice (Byte byte) stood pieces = replay (map (filled byte) pieces) stood
+left_by_choice Old stood pieces = stood
+left_by_choice New stood pieces = replay pieces stood

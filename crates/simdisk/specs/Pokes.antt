@@ -3,7 +3,7 @@ use Rattle.std.specs.Prelude.{◌≡◌, ℕ, ◌+◌, ◌-◌, ◌<◌, ◌≤�
 use Rattle.std.specs.List.{flat_map}
 use Rattle.disk.specs.Facts.{Content, Facts, sector}
 use Rattle.simdisk.specs.declared.choice.Choice.{Choice}
-use Rattle.simdisk.specs.Choices.{left_by}
+use Rattle.simdisk.specs.Choices.{left_by_choice}
 use Rattle.simdisk.specs.Record.{Piece, WriteLog, put, synced}
 
 -- the bytes of a sector with these in it, from that one on
@@ -25,7 +25,7 @@ pub record StandsSo (k : ℕ) (bytes : List ℕ) (old new : Facts) : Type 0 wher
 
 -- by each choice a cut leaves what it would have left, with that sector
 abbrev pub StandsByEach : ℕ → List ℕ → WriteLog → WriteLog → Type 0
-StandsByEach k bytes old new = (choice : Choice) → left_by choice (synced new) new.written ≡ put (k, bytes ∷ []) (left_by choice (synced old) old.written)
+StandsByEach k bytes old new = (choice : Choice) → left_by_choice choice (synced new) new.written ≡ put (k, bytes ∷ []) (left_by_choice choice (synced old) old.written)
 
 -- the k-th sector is not in the piece
 abbrev pub misses : ℕ → Piece → Bool

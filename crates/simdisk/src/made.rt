@@ -4,7 +4,7 @@ ghost use Rattle.std.specs.Simd.{first_chunks};
 ghost use Rattle.disk.specs.Facts.{IsFresh, IsLeft, Unchanged};
 ghost use Rattle.disk.specs.FaultState.{FaultArmed, CutArmed, no_fault, fault_state_left};
 ghost use Rattle.simdisk.specs.Record.{synced, new_record};
-ghost use Rattle.simdisk.specs.Choices.{left_by};
+ghost use Rattle.simdisk.specs.Choices.{left_by_choice};
 
 use crate::choice::Choice;
 use crate::faults::Faults;
@@ -74,7 +74,7 @@ impl SimDisk {
     /// of it is lent, nothing is armed, and power is back. No memory is taken.
     pub fn after_cut(self, choice: Choice) -> SimDisk
         ensures left { IsLeft (⟦<SimDisk as Disk>⟧.facts self) (⟦<SimDisk as Disk>⟧.facts result) }
-        ensures exact { (⟦<SimDisk as Disk>⟧.facts result).content ≡ left_by choice (synced (⟦<SimDisk as Recorded>⟧.record self)) (⟦<SimDisk as Recorded>⟧.record self).written }
+        ensures exact { (⟦<SimDisk as Disk>⟧.facts result).content ≡ left_by_choice choice (synced (⟦<SimDisk as Recorded>⟧.record self)) (⟦<SimDisk as Recorded>⟧.record self).written }
         ensures record { ⟦<SimDisk as Recorded>⟧.record result ≡ new_record (⟦<SimDisk as Disk>⟧.facts result).content }
         ensures fault_state { ⟦<SimDisk as Disk>⟧.fault_state result ≡ fault_state_left (⟦<SimDisk as Disk>⟧.fault_state self) }
     {

@@ -3,7 +3,7 @@ ghost use Rattle.std.specs.Prelude.{◌≡◌, ◌≤◌, ◌<◌, ◌+◌, ◌*
 ghost use Rattle.disk.specs.Facts.{Handed, Torn};
 ghost use Rattle.simdisk.specs.Loans.{IsLatest};
 ghost use Rattle.simdisk.specs.Record.{new_record, more_written, more_synced, lent_piece, newest, synced, ranges, AgreesOutside, AreWithin};
-ghost use Rattle.simdisk.specs.Choices.{left_by};
+ghost use Rattle.simdisk.specs.Choices.{left_by_choice};
 ghost use Rattle.simdisk.specs.Views.{pieces};
 
 use crate::choice::Choice;
@@ -131,8 +131,8 @@ impl History {
     // write gone through.
     pub(crate) fn left(self, alloc: Global, choice: Choice, last: &[Sector]) -> History
         requires { last.now ≡ newest (log_of self) }
-        ensures record { log_of result ≡ new_record (left_by choice (synced (log_of self)) (pieces self.written.items)) }
-        ensures content { result.stood.items ≡ left_by choice (synced (log_of self)) (pieces self.written.items) }
+        ensures record { log_of result ≡ new_record (left_by_choice choice (synced (log_of self)) (pieces self.written.items)) }
+        ensures content { result.stood.items ≡ left_by_choice choice (synced (log_of self)) (pieces self.written.items) }
         ensures as_long { length result.stood.items ≡ length (synced (log_of self)) }
     {
         let mut content = self.stood;
