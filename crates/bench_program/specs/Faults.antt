@@ -1,7 +1,7 @@
 -- The text and the status of each fault with which the program ends. Source: README.md, docs/SCRIPT.md.
 use Rattle.std.specs.Prelude.{ℕ, List, [], ◌++◌, Result, Ok, Err}
 use Rattle.std.specs.Fmt.{decimal}
-use Rattle.board_model.specs.Shown.{number_of}
+use Rattle.board_model.specs.Shown.{number_of_refusal}
 use Rattle.board_model.specs.declared.refusal.Refusal.{Refusal}
 use Rattle.board_model.specs.declared.refusal.Refusal.TheVariants.{BadScript}
 use Rattle.bench_program.specs.declared.fault.Fault.{Fault}
@@ -10,8 +10,8 @@ use lib.Chars.{codes}
 
 -- the number of a refusal, and of a malformed script the line too
 abbrev pub refusal_text : Refusal → List ℕ
-refusal_text (BadScript line) = decimal (number_of (BadScript line)) ++ codes " line " ++ decimal line
-refusal_text e = decimal (number_of e)
+refusal_text (BadScript line) = decimal (number_of_refusal (BadScript line)) ++ codes " line " ++ decimal line
+refusal_text e = decimal (number_of_refusal e)
 
 abbrev pub fault_text : Fault → List ℕ
 fault_text Input = codes "sbibench: input\n"

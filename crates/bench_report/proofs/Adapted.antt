@@ -3,7 +3,7 @@ use Rattle.std.proofs.Common.{◌≡◌, ◌≢◌, ◌⊎◌, ◌<◌, ℕ, ◌
 use Rattle.std.proofs.lemmas.List.{length-append}
 use Rattle.board_model.specs.Durable.{DurableState, Change, refusal_of, after, fold, ends_life}
 use Rattle.board_model.specs.Shapes.{Size}
-use Rattle.board_model.specs.Shown.{number_of}
+use Rattle.board_model.specs.Shown.{number_of_refusal}
 use Rattle.board_model.specs.declared.refusal.Refusal.{Refusal}
 use Rattle.board_model.specs.declared.refusal.Refusal.TheVariants.{Device, Down, JournalFull}
 use Rattle.disk.specs.Facts.{Facts, Failed}
@@ -40,7 +40,7 @@ Refuses now count c e new =
     ((e ≡ Device) × Reaches now count c × IsLife new now count None)
     ⊎ ((e ≡ Down) × Reaches now count c × IsLife new now count (Some c))
     ⊎ ((e ≡ JournalFull) × (count ≡ 4096) × IsLife new now count None)
-    ⊎ ((refusal_of now c ≡ Some (number_of e)) × (count < 4096) × IsLife new now count None)
+    ⊎ ((refusal_of now c ≡ Some (number_of_refusal e)) × (count < 4096) × IsLife new now count None)
 
 pub grows : (s : DurableState) (cs : List Change) (c : Change) → fold s (cs ++ c ∷ []) ≡ after (fold s cs) c
 grows s [] c = refl
@@ -78,7 +78,7 @@ module _ (now : DurableState) (count : ℕ) (c : Change) (old new : Life) (is : 
   refused e (inr (inr (inl h))) = absurd (let never : true ≡ false = sym h.1 ∙ is.3 in let no : ⊥ = cc in no)
   refused e (inr (inr (inr (inl h)))) = inr (inr (inl (h.0, sym is.1 ∙ h.2, again h.3)))
   refused e (inr (inr (inr (inr h)))) =
-      let P : DurableState → Type 0 = λ s. refusal_of s c ≡ Some (number_of e) in
+      let P : DurableState → Type 0 = λ s. refusal_of s c ≡ Some (number_of_refusal e) in
       inr (inr (inr (subst P is.0 h.0, omega (arith, h.2, is.1), again h.3)))
 
 -- a format or an open that answered 5 counted a failure, and neither answers 6

@@ -3,7 +3,7 @@ use Rattle.std.proofs.Common.{◌≡◌, ◌⊎◌, ℕ, zero, suc, inl, inr, Li
 use Rattle.std.proofs.lemmas.Bool.{cases_lt}
 use Rattle.board_model.specs.Durable.{Change, Reset, Suspend}
 use Rattle.board_model.specs.Shapes.{Size, IsValidAddress, ram_bytes_of}
-use Rattle.board_model.specs.Shown.{number_of}
+use Rattle.board_model.specs.Shown.{number_of_refusal}
 use Rattle.board_model.specs.declared.durable.Reason.{Reason}
 use Rattle.board_model.specs.declared.refusal.Refusal.{Refusal}
 use Rattle.board_model.specs.declared.refusal.Refusal.TheVariants.{Device, Down, Memory, BadShape, JournalFull}
@@ -109,8 +109,8 @@ module _ (size : Size) (b : Bench) (life : BenchLife) (h : ℕ) (n : Machine) (o
   resets_err kind r e held asked refused =
       let did = reported_err size b life (Reset r) old new (life_of old) on was device asked.stays.board asked.stays.length asked.stays.no_fewer calm_life life.doubt refl e
       (λ none. (asked.answered none).life) asked.down (λ none. (asked.answered none).cause) (λ none. (asked.answered none).counts) in
-      let last = fails (number_of e) (words.Reset kind) did.0 held did.2 did.3 refused in
-      (last.0, (Err (number_of e), did.0, did.1, last.1), last.2, last.3)
+      let last = fails (number_of_refusal e) (words.Reset kind) did.0 held did.2 did.3 refused in
+      (last.0, (Err (number_of_refusal e), did.0, did.1, last.1), last.2, last.3)
 
   resets_by : (kind : ResetType) (r : Reason) (o : Result ℕ Refusal) (held : Made) → Asked Applied old (Reset r) o new → EndsReset kind o (hart_at life.machine h) t held → Came (λ word x. Resets (Ok (kind, r)) h life b word x) held
   resets_by kind r (Ok k) held asked ended = resets_ok kind r k held asked ended.1
@@ -164,8 +164,8 @@ module _ (size : Size) (b : Bench) (life : BenchLife) (h : ℕ) (n : Machine) (o
       unfit : life.doubt ≡ None → (Fits → ⊥) → (e : Refusal) → (e ≡ Down → ⊥) → (e ≡ Device → ⊥) → CausedRefusal (store_fault_state old) e (store_fault_state new) → life_of new ≡ seen → Suspending 3
       unfit none not e up is cause same = (b, inr (inr (not, refl, refl)), as_it_was none e up is cause same b refl refl refl refl refl, refl)
 
-      issued : Fits → (e : Refusal) → ((x : Bench) × Issued command life b (Err (number_of e)) x × Running size x life.machine new × (x.payloads ≡ b.payloads)) → (k : ℕ) × Suspending k
-      issued fits e did = (number_of e, (did.0, inl (fits, did.1), did.2, did.3))
+      issued : Fits → (e : Refusal) → ((x : Bench) × Issued command life b (Err (number_of_refusal e)) x × Running size x life.machine new × (x.payloads ≡ b.payloads)) → (k : ℕ) × Suspending k
+      issued fits e did = (number_of_refusal e, (did.0, inl (fits, did.1), did.2, did.3))
 
       goes_up : life.doubt ≡ None → Fits → (e : Refusal) → Refused seen command e (life_of new) → CausedRefusal (store_fault_state old) e (store_fault_state new) → CountedRefusal (store_facts old).failures e (store_facts new).failures → (k : ℕ) × Suspending k
       goes_up none fits e up cause counts = issued fits e (reported_up size b life command old new seen on was device asked.stays.board asked.stays.length asked.stays.no_fewer seen_as none e up cause counts)

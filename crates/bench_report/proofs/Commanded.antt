@@ -3,7 +3,7 @@ use Rattle.std.proofs.Common.{◌≡◌, ◌≤◌, ℕ, ◌+◌, [], ◌∷◌,
 use Rattle.board_model.specs.Durable.{Change, after, ends_life}
 use Rattle.board_model.specs.Kept.{Kept}
 use Rattle.board_model.specs.Shapes.{Size}
-use Rattle.board_model.specs.Shown.{number_of, change_of}
+use Rattle.board_model.specs.Shown.{number_of_refusal, change_of}
 use Rattle.board_model.specs.declared.durable.Command.{Command}
 use Rattle.board_model.specs.declared.durable.Command.TheVariants as commands
 use Rattle.board_model.specs.declared.refusal.Refusal.{Refusal}
@@ -121,34 +121,34 @@ module _ (size : Size) (b : Bench) (life : BenchLife) (c : Change) (old new : Si
         refl,
       )
 
-  number : (e f : Refusal) → e ≡ f → ◌≡◌ {A = Result ℕ ℕ} (Err (number_of e)) (Err (number_of f))
-  number e f is = ap (λ x. Err (number_of x)) is
+  number : (e f : Refusal) → e ≡ f → ◌≡◌ {A = Result ℕ ℕ} (Err (number_of_refusal e)) (Err (number_of_refusal f))
+  number e f is = ap (λ x. Err (number_of_refusal x)) is
 
   up_err : life.doubt ≡ None → (e : Refusal) → Refuses life.now life.receipts c e (life_of new) → CausedRefusal (store_fault_state old) e (store_fault_state new)
       → (e ≡ Device → Failed (store_facts old).failures (store_facts new).failures) → (e ≡ Down → Failed (store_facts old).failures (store_facts new).failures)
-      → Goes (Err (number_of e))
+      → Goes (Err (number_of_refusal e))
   up_err calm e (inl did) cause fails downs =
       let x = fails_by_fault size b (store_fault_state old) (store_fault_state new) (store_facts old) (store_facts new) device (struck e (store_fault_state old) (store_fault_state new) cause did.0) (fails did.0) fits in
       let y = failed (store_fault_state new) b in
-      let Q : Option ℕ → Type 0 = λ r. Writes r c life b (Err (number_of e)) y in
-      (y, with_none calm (Err (number_of e)) y (inr (did.1.0, subst Q (sym did.1.1) (inr (inl (number e Device did.0, x.0))))), again y refl refl refl calm did.2 x.1, refl)
+      let Q : Option ℕ → Type 0 = λ r. Writes r c life b (Err (number_of_refusal e)) y in
+      (y, with_none calm (Err (number_of_refusal e)) y (inr (did.1.0, subst Q (sym did.1.1) (inr (inl (number e Device did.0, x.0))))), again y refl refl refl calm did.2 x.1, refl)
   up_err calm e (inr (inl did)) cause fails downs =
       let d = in_doubt c life b in
       let x = fails_by_fault size d (store_fault_state old) (store_fault_state new) (store_facts old) (store_facts new) device (downed e (store_fault_state old) (store_fault_state new) cause did.0) (downs did.0) fits in
       let y = failed (store_fault_state new) d in
-      let Q : Option ℕ → Type 0 = λ r. Writes r c life b (Err (number_of e)) y in (
+      let Q : Option ℕ → Type 0 = λ r. Writes r c life b (Err (number_of_refusal e)) y in (
         y,
-        with_none calm (Err (number_of e)) y (inr (did.1.0, subst Q (sym did.1.1) (inr (inr (number e Down did.0, x.0))))),
+        with_none calm (Err (number_of_refusal e)) y (inr (did.1.0, subst Q (sym did.1.1) (inr (inr (number e Down did.0, x.0))))),
         (record life { doubt = Some c }, refl, (follows_doubt size b.disk_state b.kept c life (store_size new) here, did.2), refl, x.1),
         refl,
       )
   up_err calm e (inr (inr (inl did))) cause fails downs =
       let same = untouched e (store_fault_state old) (store_fault_state new) cause (λ f. (let no : ⊥ = cc in no)) (λ f. (let no : ⊥ = cc in no)) in
-      (b, with_none calm (Err (number_of e)) b (inl (did.1, number e JournalFull did.0, refl)), again b refl refl refl calm did.2 (calm_device b refl refl same), refl)
+      (b, with_none calm (Err (number_of_refusal e)) b (inl (did.1, number e JournalFull did.0, refl)), again b refl refl refl calm did.2 (calm_device b refl refl same), refl)
   up_err calm e (inr (inr (inr did))) cause fails downs =
       let same = untouched e (store_fault_state old) (store_fault_state new) cause (not_down life.now c e did.0) (not_device life.now c e did.0) in
-      let Q : Option ℕ → Type 0 = λ r. Writes r c life b (Err (number_of e)) b in
-      (b, with_none calm (Err (number_of e)) b (inr (did.1, subst Q (sym did.0) (refl, refl))), again b refl refl refl calm did.2 (calm_device b refl refl same), refl)
+      let Q : Option ℕ → Type 0 = λ r. Writes r c life b (Err (number_of_refusal e)) b in
+      (b, with_none calm (Err (number_of_refusal e)) b (inr (did.1, subst Q (sym did.0) (refl, refl))), again b refl refl refl calm did.2 (calm_device b refl refl same), refl)
 
   -- the store as it was
   pub unmoved : new ≡ old → Running size b life.machine new
@@ -180,20 +180,20 @@ module _ (size : Size) (b : Bench) (life : BenchLife) (c : Change) (old new : Si
     reported_end (Some d) calm n up down unmoved = never_ok d calm n down
 
     pub reported_up : life.doubt ≡ None → (e : Refusal) → Refused seen c e (life_of new) → CausedRefusal (store_fault_state old) e (store_fault_state new) → CountedRefusal (store_facts old).failures e (store_facts new).failures
-        → Goes (Err (number_of e))
+        → Goes (Err (number_of_refusal e))
     reported_up calm e up cause counts =
         let did = refused life.now life.receipts c seen (life_of new) (is calm) e up in
         let P : Refusal → Type 0 = λ f. CountedRefusal (store_facts old).failures f (store_facts new).failures in
         up_err calm e did cause (λ is. subst P is counts) (λ is. subst P is counts)
 
-    pub reported_down : (d : Change) → life.doubt ≡ Some d → (e : Refusal) → ((◌≡◌ {A = Result ℕ Refusal} (Err e) (Err Down)) × (new ≡ old)) → Goes (Err (number_of e))
+    pub reported_down : (d : Change) → life.doubt ≡ Some d → (e : Refusal) → ((◌≡◌ {A = Result ℕ Refusal} (Err e) (Err Down)) × (new ≡ old)) → Goes (Err (number_of_refusal e))
     reported_down d calm e did =
-        let P : Option Change → Type 0 = λ d. IssuedBy d c life b (Err (number_of e)) b in
+        let P : Option Change → Type 0 = λ d. IssuedBy d c life b (Err (number_of_refusal e)) b in
         (b, subst P (sym calm) (number e Down (same_error did.0), refl), unmoved did.1, refl)
 
     pub reported_err : (doubt : Option Change) → life.doubt ≡ doubt → (e : Refusal)
         → (doubt_of old ≡ None → Refused seen c e (life_of new)) → ((d : Change) → doubt_of old ≡ Some d → (◌≡◌ {A = Result ℕ Refusal} (Err e) (Err Down)) × (new ≡ old))
         → (doubt_of old ≡ None → CausedRefusal (store_fault_state old) e (store_fault_state new))
-        → (doubt_of old ≡ None → CountedRefusal (store_facts old).failures e (store_facts new).failures) → Goes (Err (number_of e))
+        → (doubt_of old ≡ None → CountedRefusal (store_facts old).failures e (store_facts new).failures) → Goes (Err (number_of_refusal e))
     reported_err None calm e up down cause counts = let none = was.1.2 ∙ calm in reported_up calm e (up none) (cause none) (counts none)
     reported_err (Some d) calm e up down cause counts = reported_down d calm e (down d (was.1.2 ∙ calm))

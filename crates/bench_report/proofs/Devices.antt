@@ -1,7 +1,7 @@
 -- The device below a bench, after a call that failed and after one that did not.
 use Rattle.std.proofs.Common.{◌≡◌, ◌≢◌, ◌⊎◌, ◌≤◌, ℕ, inl, inr, refl, sym, ◌∙◌, subst, arith}
 use Rattle.board_model.specs.Shapes.{Size}
-use Rattle.board_model.specs.Shown.{number_of}
+use Rattle.board_model.specs.Shown.{number_of_refusal}
 use Rattle.board_model.specs.declared.refusal.Refusal.{Refusal}
 use Rattle.board_model.specs.declared.refusal.Refusal.TheVariants.{Device, Memory}
 use Rattle.disk.specs.Facts.{Facts, counted, Failed}
@@ -19,11 +19,11 @@ pub is_memory : (e : Refusal) → (e ≡ Memory) ⊎ (e ≢ Memory)
 is_memory Memory = inl refl
 is_memory e = inr (λ h. (let no : ⊥ = cc in no))
 
-pub five : (e : Refusal) → number_of e ≡ 5 → e ≡ Device
+pub five : (e : Refusal) → number_of_refusal e ≡ 5 → e ≡ Device
 five Device h = refl
 five e h = absurd (omega (arith, h))
 
-pub eleven : (e : Refusal) → number_of e ≡ 11 → e ≡ Memory
+pub eleven : (e : Refusal) → number_of_refusal e ≡ 11 → e ≡ Memory
 eleven Memory h = refl
 eleven e h = absurd (omega (arith, h))
 

@@ -3,7 +3,7 @@ use Rattle.std.proofs.Common.{◌≡◌, ◌≢◌, ◌≤◌, inl, inr, [], Non
 use Rattle.board_model.specs.Durable.{formatted}
 use Rattle.board_model.specs.Kept.{nothing_kept}
 use Rattle.board_model.specs.Shapes.{Size, sectors_of}
-use Rattle.board_model.specs.Shown.{number_of}
+use Rattle.board_model.specs.Shown.{number_of_refusal}
 use Rattle.board_model.specs.declared.refusal.Refusal.{Refusal}
 use Rattle.board_model.specs.declared.refusal.Refusal.TheVariants.{AlreadyFormatted, Device}
 use Rattle.disk.specs.Facts.{Facts, Passes, Stays}
@@ -42,13 +42,13 @@ formats_ok law size Blank b old new a off was device e ok unmarked = (formatted_
 formats_ok law size Unknown b old new a off was device e ok unmarked = (formatted_anew b, inl (e, refl), (off, fresh size (facts new) ok, device), refl)
 formats_ok law size Formatted b old new a off was device e ok unmarked = absurd (unmarked (law.marked old size was.0))
 
-refused : (a : Answer) (e f : Refusal) → a ≡ says (printed.FormatRefused (number_of e)) → e ≡ f → a ≡ says (printed.FormatRefused (number_of f))
-refused a e f h g = h ∙ ap (λ x. says (printed.FormatRefused (number_of x))) g
+refused : (a : Answer) (e f : Refusal) → a ≡ says (printed.FormatRefused (number_of_refusal e)) → e ≡ f → a ≡ says (printed.FormatRefused (number_of_refusal f))
+refused a e f h g = h ∙ ap (λ x. says (printed.FormatRefused (number_of_refusal x))) g
 
 -- a refused format of a board that is off
 module _ (kept : KeptLaw) (blank : BlankLaw) (size : Size) (b : Bench) (old new : SimDisk) (a : Answer) (e : Refusal) (off : b.power ≡ None) (device : DeviceIs size b (fault_state old) (facts old))
     (refusal : FormatRefused (facts old) size e (facts new)) (marked : MarkedClause old new) (cause : CausedRefusal (fault_state old) e (fault_state new)) (no_fewer : (facts old).failures ≤ (facts new).failures)
-    (fits : SameLength (facts old) (facts new)) (h : a ≡ says (printed.FormatRefused (number_of e))) where
+    (fits : SameLength (facts old) (facts new)) (h : a ≡ says (printed.FormatRefused (number_of_refusal e))) where
   hinders : (c : Bench) → c.fault_state ≡ b.fault_state → c.failures ≡ b.failures → c.power ≡ None → DiskIs size c.disk_state c.kept (facts new) → e ≡ Device
       → (x : Bench) × ((a ≡ says (printed.FormatRefused 5)) × ((n : FaultState) × Cause c.fault_state n × (x ≡ failed n c))) × OffIs size x new
   hinders c same count off disk is =
@@ -69,7 +69,7 @@ module _ (kept : KeptLaw) (blank : BlankLaw) (size : Size) (b : Bench) (old new 
       let P : DiskState → Type 0 = λ m. DiskIs size m b.kept (facts new) in
       elim (is_device e) [
         | inl is ↦ (let x = hinders b refl refl off (subst P (sym at) tt) is in (x.0, inr (inl x.1), x.2, ap (λ (y : Bench). y.payloads) x.1.1.2))
-        | inr is ↦ (b, inr (inr (number_of e, (λ n. is (five e n)), h, refl)), (off, subst P (sym at) tt, keeps is), refl)
+        | inr is ↦ (b, inr (inr (number_of_refusal e, (λ n. is (five e n)), h, refl)), (off, subst P (sym at) tt, keeps is), refl)
       ]
   formats_err Formatted at was =
       let P : DiskState → Type 0 = λ m. DiskIs size m b.kept (facts new) in

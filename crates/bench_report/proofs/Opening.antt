@@ -3,7 +3,7 @@ use Rattle.std.proofs.Common.{◌≡◌, ◌≢◌, ◌≤◌, arith, inl, inr, 
 use Rattle.board_model.specs.Durable.{DurableState}
 use Rattle.board_model.specs.Kept.{Kept, MayFind}
 use Rattle.board_model.specs.Shapes.{Size}
-use Rattle.board_model.specs.Shown.{number_of}
+use Rattle.board_model.specs.Shown.{number_of_refusal}
 use Rattle.board_model.specs.declared.refusal.Refusal.{Refusal}
 use Rattle.board_model.specs.declared.refusal.Refusal.TheVariants.{NotFormatted, Device, Memory}
 use Rattle.disk.specs.Facts.{Facts}
@@ -35,12 +35,12 @@ opens size Formatted b disk z s was leaves formatted one =
 -- an open that was refused, of a board that is off
 module _ (kept : KeptLaw) (blank : BlankLaw) (size : Size) (mode : BootMode) (b : Bench) (old new : SimDisk) (a : Answer) (e : Refusal) (off : b.power ≡ None) (device : DeviceIs size b (fault_state old) (facts old))
     (refusal : OpenRefused (facts old) e (facts new)) (cause : CausedRefusal (fault_state old) e (fault_state new)) (no_fewer : (facts old).failures ≤ (facts new).failures)
-    (fits : SameLength (facts old) (facts new)) (left : LeavesLess old new) (h : a ≡ says (printed.OnRefused (number_of e))) where
+    (fits : SameLength (facts old) (facts new)) (left : LeavesLess old new) (h : a ≡ says (printed.OnRefused (number_of_refusal e))) where
   abbrev Stays : Type 0
   Stays = (x : Bench) × PowersOn size mode b a x × OffIs size x new × (x.payloads ≡ b.payloads)
 
-  refused : (f : Refusal) → e ≡ f → a ≡ says (printed.OnRefused (number_of f))
-  refused f g = h ∙ ap (λ x. says (printed.OnRefused (number_of x))) g
+  refused : (f : Refusal) → e ≡ f → a ≡ says (printed.OnRefused (number_of_refusal f))
+  refused f g = h ∙ ap (λ x. says (printed.OnRefused (number_of_refusal x))) g
 
   hinders : DiskIs size b.disk_state b.kept (facts new) → e ≡ Device → Stays
   hinders disk is =
@@ -64,7 +64,7 @@ module _ (kept : KeptLaw) (blank : BlankLaw) (size : Size) (mode : BootMode) (b 
         | inl f ↦ hinders disk f
         | inr f ↦ elim (is_memory e) [
           | inl g ↦ starves (rw at tt) disk g
-          | inr g ↦ (b, inr (inl (number_of e, rw at (λ n. f (five e n), λ n. g (eleven e n)), h, refl)), (off, disk, keeps f), refl)
+          | inr g ↦ (b, inr (inl (number_of_refusal e, rw at (λ n. f (five e n), λ n. g (eleven e n)), h, refl)), (off, disk, keeps f), refl)
         ]
       ]
   by_disk_state Formatted at was disk =

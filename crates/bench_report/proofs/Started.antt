@@ -3,7 +3,7 @@ use Rattle.std.proofs.Common.{◌≡◌, ◌≢◌, ◌≤◌, ℕ, List, [], �
 use Rattle.board_model.specs.Durable.{DurableState, Change, Consume, Discard, after, refusal_of}
 use Rattle.board_model.specs.Kept.{Kept}
 use Rattle.board_model.specs.Shapes.{Size, IsSize}
-use Rattle.board_model.specs.Shown.{number_of}
+use Rattle.board_model.specs.Shown.{number_of_refusal}
 use Rattle.board_model.specs.declared.boot_mode.BootMode.{BootMode}
 use Rattle.board_model.specs.declared.boot_mode.BootMode.TheVariants as modes
 use Rattle.board_model.specs.declared.durable.Durable.{Durable}
@@ -186,7 +186,7 @@ module _ (size : Size) (b : Bench) (old new : SimDisk) (z : Size) (s : DurableSt
   late_down modes.Discard allowed h issues left cause counts = let did = doubted_at modes.Discard Discard refl allowed h left cause counts in (did.0, inl did.1, did.2, did.3)
   late_down modes.Resume allowed h issues left cause counts = let did = doubted_at modes.Resume Consume refl allowed h left cause counts in (did.0, inl (inl did.1), did.2, did.3)
 
-  late : (mode : BootMode) (e : Refusal) → boot_refusal s mode ≡ None → line ≡ printed.OnRefused (number_of e) → IsLateRefusal mode z payloads s e → LeavesLife (doubt_after mode e) (facts new) z s → CausedRefusal (fault_state old) e (fault_state new)
+  late : (mode : BootMode) (e : Refusal) → boot_refusal s mode ≡ None → line ≡ printed.OnRefused (number_of_refusal e) → IsLateRefusal mode z payloads s e → LeavesLife (doubt_after mode e) (facts new) z s → CausedRefusal (fault_state old) e (fault_state new)
       → CountsRefusal (facts old).failures e (facts new).failures → Left None mode
   late mode BadShape allowed h why left cause counts = absurd (why fits)
   late mode Memory allowed h why left cause counts = (out_of_memory b, inr (h, refl), quiet mode Memory (λ f. (let no : ⊥ = cc in no)) (λ f. (let no : ⊥ = cc in no)) cause left, refl)
@@ -197,7 +197,7 @@ module _ (size : Size) (b : Bench) (old new : SimDisk) (z : Size) (s : DurableSt
       (b, subst P (sym why.1) (inl (inr (why.2, h, refl))), quiet mode BadImage (λ f. (let no : ⊥ = cc in no)) (λ f. (let no : ⊥ = cc in no)) cause left, refl)
   late mode e allowed h why left cause counts = absurd why
 
-  refused : (mode : BootMode) (o : Option ℕ) (e : Refusal) → boot_refusal s mode ≡ o → line ≡ printed.OnRefused (number_of e) → IsBootRefusal o mode z payloads s e → LeavesLife (doubt_after mode e) (facts new) z s
+  refused : (mode : BootMode) (o : Option ℕ) (e : Refusal) → boot_refusal s mode ≡ o → line ≡ printed.OnRefused (number_of_refusal e) → IsBootRefusal o mode z payloads s e → LeavesLife (doubt_after mode e) (facts new) z s
       → CausedRefusal (fault_state old) e (fault_state new) → CountsRefusal (facts old).failures e (facts new).failures → Left o mode
   refused mode None e at h why left cause counts = late mode e at h why left cause counts
   refused mode (Some n) e at h why left cause counts =
@@ -208,7 +208,7 @@ abbrev pub Unpowered : Size → BootMode → Bench → Answer → SimDisk → Ty
 Unpowered size mode b a new = (x : Bench) × PowersOn size mode b a x × OffIs size x new × (x.payloads ≡ b.payloads)
 
 -- the board stays off, whether the open found a state or not
-pub unpowered : KeptLaw → BlankLaw → (size : Size) (mode : BootMode) (b : Bench) (old new : SimDisk) (payloads : List (List ℕ)) (e : Refusal) (n : ℕ) (o : Option Durable) → OffIs size b old → AreShort payloads → n ≡ number_of e
+pub unpowered : KeptLaw → BlankLaw → (size : Size) (mode : BootMode) (b : Bench) (old new : SimDisk) (payloads : List (List ℕ)) (e : Refusal) (n : ℕ) (o : Option Durable) → OffIs size b old → AreShort payloads → n ≡ number_of_refusal e
     → IsUnpowered mode payloads o (facts old) e (facts new) → GivesDisk (facts old) (fault_state old) e (facts new) (fault_state new) → Unpowered size mode b (record { found = o; line = printed.OnRefused n }) new
 unpowered kept blank size mode b old new payloads e n None off short code is gives =
     open_err kept blank size mode b old new (says (printed.OnRefused n)) e off.0 off.2 is.why gives.cause gives.no_fewer gives.length is.any_moment.now (ap (λ k. says (printed.OnRefused k)) code) off.1

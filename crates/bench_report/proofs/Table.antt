@@ -1,7 +1,7 @@
 -- The numbers of the table of commands, and of the modes of a boot.
 use Rattle.std.proofs.Common.{◌≡◌, ◌≢◌, ◌⊎◌, ℕ, inl, inr, Option, None, Some, ◌∙◌, ap, arith, Bool, true, false, nat_lt, is_some, if◌then◌else◌}
 use Rattle.board_model.specs.Durable.{DurableState, Change, Slot, Reset, Suspend, Consume, Discard, refusal_of}
-use Rattle.board_model.specs.Shown.{number_of}
+use Rattle.board_model.specs.Shown.{number_of_refusal}
 use Rattle.board_model.specs.declared.boot_mode.BootMode.{BootMode}
 use Rattle.board_model.specs.declared.boot_mode.BootMode.TheVariants as modes
 use Rattle.board_model.specs.declared.refusal.Refusal.{Refusal}
@@ -39,11 +39,11 @@ differs k n a b c (inl e) f = a (e ∙ f)
 differs k n a b c (inr (inl e)) f = b (e ∙ f)
 differs k n a b c (inr (inr e)) f = c (e ∙ f)
 
-pub not_device : (s : DurableState) (c : Change) (e : Refusal) → refusal_of s c ≡ Some (number_of e) → e ≢ Device
-not_device s c e h is = differs 5 (number_of e) (λ f. omega (arith, f)) (λ f. omega (arith, f)) (λ f. omega (arith, f)) (of_table s c (number_of e) h) (ap number_of is)
+pub not_device : (s : DurableState) (c : Change) (e : Refusal) → refusal_of s c ≡ Some (number_of_refusal e) → e ≢ Device
+not_device s c e h is = differs 5 (number_of_refusal e) (λ f. omega (arith, f)) (λ f. omega (arith, f)) (λ f. omega (arith, f)) (of_table s c (number_of_refusal e) h) (ap number_of_refusal is)
 
-pub not_down : (s : DurableState) (c : Change) (e : Refusal) → refusal_of s c ≡ Some (number_of e) → e ≢ Down
-not_down s c e h is = differs 6 (number_of e) (λ f. omega (arith, f)) (λ f. omega (arith, f)) (λ f. omega (arith, f)) (of_table s c (number_of e) h) (ap number_of is)
+pub not_down : (s : DurableState) (c : Change) (e : Refusal) → refusal_of s c ≡ Some (number_of_refusal e) → e ≢ Down
+not_down s c e h is = differs 6 (number_of_refusal e) (λ f. omega (arith, f)) (λ f. omega (arith, f)) (λ f. omega (arith, f)) (of_table s c (number_of_refusal e) h) (ap number_of_refusal is)
 
 pub table_not_six : (s : DurableState) (c : Change) (n : ℕ) → refusal_of s c ≡ Some n → n ≢ 6
 table_not_six s c n h = differs 6 n (λ f. omega (arith, f)) (λ f. omega (arith, f)) (λ f. omega (arith, f)) (of_table s c n h)
@@ -62,11 +62,11 @@ of_modes s modes.Discard n h = elim (one_of (is_some s.image) None (Some 8) n h)
 of_modes s modes.Resume n h = elim (one_of (is_some s.image) None (Some 8) n h) [ inl e ↦ absurd (let no : ⊥ = cc in no) | inr e ↦ inr (let f : 8 ≡ n = cc in f) ]
 
 -- a refusal of a mode is none of the disk
-pub mode_not_device : (s : DurableState) (mode : BootMode) (n : ℕ) (e : Refusal) → boot_refusal s mode ≡ Some n → number_of e ≡ n → e ≢ Device
-mode_not_device s mode n e h at is = elim (of_modes s mode n h) [ inl f ↦ omega (arith, f, at, ap number_of is) | inr f ↦ omega (arith, f, at, ap number_of is) ]
+pub mode_not_device : (s : DurableState) (mode : BootMode) (n : ℕ) (e : Refusal) → boot_refusal s mode ≡ Some n → number_of_refusal e ≡ n → e ≢ Device
+mode_not_device s mode n e h at is = elim (of_modes s mode n h) [ inl f ↦ omega (arith, f, at, ap number_of_refusal is) | inr f ↦ omega (arith, f, at, ap number_of_refusal is) ]
 
 pub mode_not_thirteen : (s : DurableState) (mode : BootMode) (n : ℕ) → boot_refusal s mode ≡ Some n → n ≢ 13
 mode_not_thirteen s mode n h is = elim (of_modes s mode n h) [ inl f ↦ omega (arith, f, is) | inr f ↦ omega (arith, f, is) ]
 
-pub mode_not_down : (s : DurableState) (mode : BootMode) (n : ℕ) (e : Refusal) → boot_refusal s mode ≡ Some n → number_of e ≡ n → e ≢ Down
-mode_not_down s mode n e h at is = elim (of_modes s mode n h) [ inl f ↦ omega (arith, f, at, ap number_of is) | inr f ↦ omega (arith, f, at, ap number_of is) ]
+pub mode_not_down : (s : DurableState) (mode : BootMode) (n : ℕ) (e : Refusal) → boot_refusal s mode ≡ Some n → number_of_refusal e ≡ n → e ≢ Down
+mode_not_down s mode n e h at is = elim (of_modes s mode n h) [ inl f ↦ omega (arith, f, at, ap number_of_refusal is) | inr f ↦ omega (arith, f, at, ap number_of_refusal is) ]

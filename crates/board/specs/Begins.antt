@@ -3,7 +3,7 @@
 use Rattle.std.specs.Prelude.{◌≡◌, ◌<◌, ℕ, List, Option, None, Some, is_some, IfSome, length, IsTrue}
 use Rattle.board_model.specs.Durable.{DurableState, Image, IsWhole}
 use Rattle.board_model.specs.Shapes.{Size, ram_bytes_of}
-use Rattle.board_model.specs.Shown.{number_of}
+use Rattle.board_model.specs.Shown.{number_of_refusal}
 use Rattle.board_model.specs.declared.boot_mode.BootMode.{BootMode}
 use Rattle.board_model.specs.declared.boot_mode.BootMode.TheVariants as modes
 use Rattle.board_model.specs.declared.refusal.Refusal.{Refusal}
@@ -59,7 +59,7 @@ IsLateRefusal mode size payloads s e = ⊥
 
 -- by the number with which the state refuses the mode, where it does
 abbrev pub IsBootRefusal : Option ℕ → BootMode → Size → List (List ℕ) → DurableState → Refusal → Type 0
-IsBootRefusal (Some n) mode size payloads s e = number_of e ≡ n
+IsBootRefusal (Some n) mode size payloads s e = number_of_refusal e ≡ n
 IsBootRefusal None mode size payloads s e = IsLateRefusal mode size payloads s e
 
 -- a power-on by the mode is refused so where the open found that state

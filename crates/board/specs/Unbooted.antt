@@ -4,7 +4,7 @@ use Rattle.std.specs.Prelude.{◌≡◌, ◌⊎◌, ◌≤◌, ℕ, List, Option
 use Rattle.disk.specs.Facts.{Facts, Failed}
 use Rattle.board_model.specs.Durable.{DurableState, Change, after}
 use Rattle.board_model.specs.Shapes.{Size}
-use Rattle.board_model.specs.Shown.{number_of, durable_of}
+use Rattle.board_model.specs.Shown.{number_of_refusal, durable_of}
 use Rattle.board_model.specs.declared.durable.Durable.{Durable}
 use Rattle.board_model.specs.declared.boot_mode.BootMode.{BootMode}
 use Rattle.board_model.specs.declared.refusal.Refusal.{Refusal}
@@ -36,7 +36,7 @@ IsNowAfter mode e (Some found) now = (s : DurableState) × (found ≡ durable_of
 -- the refusal of that number, or none
 abbrev pub RefusesMode : Option ℕ → Option Refusal → Type 0
 RefusesMode None None = Unit {0}
-RefusesMode (Some n) (Some e) = (number_of e ≡ n) × ((e ≡ ImageThere) ⊎ (e ≡ NoImage))
+RefusesMode (Some n) (Some e) = (number_of_refusal e ≡ n) × ((e ≡ ImageThere) ⊎ (e ≡ NoImage))
 RefusesMode None (Some e) = ⊥
 RefusesMode (Some n) None = ⊥
 

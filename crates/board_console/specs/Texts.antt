@@ -1,7 +1,7 @@
 -- The answers of the console, as they are printed. Source: docs/CONSOLE.md, "The console".
 use Rattle.std.specs.Prelude.{ℕ, List, ◌++◌, Option, Some, None}
 use Rattle.std.specs.Fmt.{decimal}
-use Rattle.board_model.specs.Shown.{number_of, reason_number}
+use Rattle.board_model.specs.Shown.{number_of_refusal, reason_number}
 use Rattle.board_model.specs.declared.durable.ImageHead.{ImageHead}
 use Rattle.board_console.specs.declared.answer.Answer.{Answer}
 use Rattle.board_console.specs.declared.answer.Answer.TheVariants as answers
@@ -14,9 +14,9 @@ serial_text (Some head) = decimal head.serial
 
 abbrev pub answer_text : Answer → List ℕ
 answer_text (answers.SlotOk n) = codes "slot ok " ++ decimal n
-answer_text (answers.SlotRefused e) = codes "slot refused " ++ decimal (number_of e)
+answer_text (answers.SlotRefused e) = codes "slot refused " ++ decimal (number_of_refusal e)
 answer_text (answers.DiscardOk n) = codes "discard ok " ++ decimal n
-answer_text (answers.DiscardRefused e) = codes "discard refused " ++ decimal (number_of e)
+answer_text (answers.DiscardRefused e) = codes "discard refused " ++ decimal (number_of_refusal e)
 answer_text (answers.State d) = codes "state slot " ++ decimal d.slot ++ codes " reason " ++ decimal (reason_number d.reason)
     ++ codes " image " ++ serial_text d.image ++ codes " next " ++ decimal d.next
 answer_text answers.Quit = codes "quit"

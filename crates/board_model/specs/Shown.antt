@@ -38,25 +38,25 @@ abbrev pub durable_of : DurableState → Durable
 durable_of s = record { image = head_of s.image; slot = s.slot; reason = s.reason; next = s.next }
 
 -- The number of a refusal.
-abbrev pub number_of : Refusal → ℕ
-number_of refusals.NotFormatted = 1
-number_of refusals.AlreadyFormatted = 2
-number_of refusals.BadShape = 3
-number_of refusals.BadRecord = 4
-number_of refusals.Device = 5
-number_of refusals.Down = 6
-number_of refusals.Over = 7
-number_of refusals.NoImage = 8
-number_of refusals.BadSlot = 9
-number_of refusals.JournalFull = 10
-number_of refusals.Memory = 11
-number_of refusals.SerialsSpent = 12
-number_of refusals.BadImage = 13
-number_of (refusals.BadScript line) = 14
-number_of refusals.ImageThere = 15
-number_of refusals.Output = 16
+abbrev pub number_of_refusal : Refusal → ℕ
+number_of_refusal refusals.NotFormatted = 1
+number_of_refusal refusals.AlreadyFormatted = 2
+number_of_refusal refusals.BadShape = 3
+number_of_refusal refusals.BadRecord = 4
+number_of_refusal refusals.Device = 5
+number_of_refusal refusals.Down = 6
+number_of_refusal refusals.Over = 7
+number_of_refusal refusals.NoImage = 8
+number_of_refusal refusals.BadSlot = 9
+number_of_refusal refusals.JournalFull = 10
+number_of_refusal refusals.Memory = 11
+number_of_refusal refusals.SerialsSpent = 12
+number_of_refusal refusals.BadImage = 13
+number_of_refusal (refusals.BadScript line) = 14
+number_of_refusal refusals.ImageThere = 15
+number_of_refusal refusals.Output = 16
 
 -- What a call that computes the next state answers: the table's refusal, or the state after the command.
 pub record IsNextOf (s : DurableState) (c : Change) (result : Result Durable Refusal) : Type 0 where
   pub goes : IfOk result (λ d. (refusal_of s c ≡ None) × (d ≡ durable_of (after s c)))
-  pub refused : IfErr result (λ e. refusal_of s c ≡ Some (number_of e))
+  pub refused : IfErr result (λ e. refusal_of s c ≡ Some (number_of_refusal e))

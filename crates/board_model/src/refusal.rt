@@ -1,7 +1,7 @@
 //! Why a call was refused.
 
 ghost use Rattle.std.specs.Prelude.{◌≡◌, ℕ};
-ghost use Rattle.board_model.specs.Shown.{number_of};
+ghost use Rattle.board_model.specs.Shown.{number_of_refusal};
 ghost use Rattle.board_model.specs.declared.refusal.Refusal.TheVariants.{Memory};
 
 use std::alloc::{AllocError, AllocFailed};
@@ -47,7 +47,7 @@ pub enum Refusal {
 impl Refusal {
     /// The number of the refusal, as reports and fault texts print it (docs/REFUSALS.md).
     pub fn code(self) -> u32
-        ensures { result ≡ number_of self }
+        ensures { result ≡ number_of_refusal self }
     {
         match self {
             Refusal::NotFormatted => 1,

@@ -1,14 +1,14 @@
 -- The text and the status of each fault with which the program ends. Source: docs/CONSOLE.md, "Statuses and faults".
 use Rattle.std.specs.Prelude.{ℕ, List, [], ◌++◌, Result, Ok, Err}
 use Rattle.std.specs.Fmt.{decimal}
-use Rattle.board_model.specs.Shown.{number_of}
+use Rattle.board_model.specs.Shown.{number_of_refusal}
 use Rattle.board_program.specs.declared.fault.Fault.{Fault}
 use Rattle.board_program.specs.declared.fault.Fault.TheVariants.{Usage, Refused, File}
 use lib.Chars.{codes}
 
 abbrev pub fault_text : Fault → List ℕ
 fault_text Usage = []
-fault_text (Refused e) = codes "sbiboard: refusal " ++ decimal (number_of e) ++ codes "\n"
+fault_text (Refused e) = codes "sbiboard: refusal " ++ decimal (number_of_refusal e) ++ codes "\n"
 fault_text File = codes "sbiboard: file\n"
 
 -- the status with which the program ends

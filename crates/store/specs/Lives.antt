@@ -5,7 +5,7 @@ use Rattle.board_model.specs.Durable.{DurableState, Image, Change, refusal_of, f
 use Rattle.board_model.specs.Shapes.{Size, ram_bytes_of}
 use Rattle.disk.specs.Facts.{Facts, Failed}
 use Rattle.disk.specs.FaultState.{FaultState, Cause}
-use Rattle.board_model.specs.Shown.{number_of, durable_of}
+use Rattle.board_model.specs.Shown.{number_of_refusal, durable_of}
 use Rattle.board_model.specs.declared.refusal.Refusal.{Refusal}
 use Rattle.board_model.specs.declared.refusal.Refusal.TheVariants.{BadShape, NoImage, BadImage, Device, Down, Over, JournalFull, Memory}
 
@@ -39,7 +39,7 @@ Refused old c e new =
     ⊎ ((e ≡ Down) × Reaches old c × (new ≡ record old { doubt = Some c }))
     ⊎ ((e ≡ Over) × (old.over ≡ true) × (new ≡ old))
     ⊎ ((e ≡ JournalFull) × (old.over ≡ false) × (length old.journal ≡ 4096) × (new ≡ old))
-    ⊎ ((refusal_of (now_of old) c ≡ Some (number_of e)) × (old.over ≡ false) × (length old.journal < 4096) × (new ≡ old))
+    ⊎ ((refusal_of (now_of old) c ≡ Some (number_of_refusal e)) × (old.over ≡ false) × (length old.journal < 4096) × (new ≡ old))
 
 -- the answer to a command that found no other in doubt, and the life then; a receipt is its place in the journal
 abbrev pub Applied : Life → Change → Result ℕ Refusal → Life → Type 0

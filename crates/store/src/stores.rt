@@ -1,7 +1,7 @@
 //! The store: one life of the durable state.
 ghost use Rattle.std.specs.Prelude.{◌≡◌, ◌≤◌, ◌≢◌, ◌<◌, ◌+◌, ◌-◌, ◌*◌, ◌^◌, ◌⊎◌, ◌↔◌, IsTrue, ℕ, List, get_or, false, true, length, map, vec_len, vec_capacity, Some, None, Err, IfSome, IfOk, IfErr, OnOk, OnErr, IsErrOf, MatchResult};
 ghost use Rattle.board_model.specs.Durable.{DurableState, Change, Suspend, after, fold, ends_life, refusal_of};
-ghost use Rattle.board_model.specs.Shown.{change_of, change_in, number_of};
+ghost use Rattle.board_model.specs.Shown.{change_of, change_in, number_of_refusal};
 ghost use Rattle.board_model.specs.Shapes.{Size, IsSize, ram_bytes_of};
 ghost use Rattle.layout.specs.Records.{AreCounts};
 ghost use Rattle.layout.specs.declared.records.Saved.{Saved};
@@ -385,7 +385,7 @@ impl<D: Disk + Drop> Store<D> {
 // The record that the command makes. Refused `BadSlot` and `NoImage` by the table of commands.
 fn record_after(old: &Record, command: Command) -> Result<Record, Refusal>
     ensures ok { IfOk result (λ next. (size : Size) (content : Content) → (refusal_of (state_of size old.now content) (change_of command) ≡ None) × Follows size old.now (Entry.Command command) next) }
-    ensures refused { IfErr result (λ e. (size : Size) (content : Content) → refusal_of (state_of size old.now content) (change_of command) ≡ Some (number_of e)) }
+    ensures refused { IfErr result (λ e. (size : Size) (content : Content) → refusal_of (state_of size old.now content) (change_of command) ≡ Some (number_of_refusal e)) }
     ensures few { IfErr result (λ e. (e ≡ Refusal.BadSlot) ⊎ (e ≡ Refusal.NoImage)) }
 {
     let durable = old.durable().after(command)?;

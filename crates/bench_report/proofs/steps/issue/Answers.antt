@@ -1,6 +1,6 @@
 use Rattle.std.proofs.Common.{refl, ◌∙◌, ap, subst, Option, Ok, Err}
 use Rattle.board_model.specs.Durable.{Change}
-use Rattle.board_model.specs.Shown.{number_of, change_of}
+use Rattle.board_model.specs.Shown.{number_of_refusal, change_of}
 use Rattle.store.specs.Stores.{life_of}
 use Rattle.bench_report.specs.Bench.{BenchLife}
 use Rattle.bench_report.specs.Below.{store_in, IsAs}
@@ -32,4 +32,4 @@ returns-in-Err c = λ size b life on h.
     let was = subst P on h.0 in
     let reported = reported_err size b life (change_of c.args.command) old new (life_of old) on was.0 h.1 did.stays.board did.stays.length did.stays.no_fewer (λ none. subst Q none was.0.1) life.doubt refl c.in-Err.e
     (λ none. (did.answered none).life) did.down (λ none. (did.answered none).cause) (λ none. (did.answered none).counts) in
-    (reported.0, (Err (number_of c.in-Err.e), reported.1, c.says-in-Err.ensures ∙ ap (λ n. says (printed.CommandRefused c.args.word n)) c.code.ensures), goes_on size reported.0 life.machine c.console.new.self reported.2 (did.machine ∙ was.1), reported.3)
+    (reported.0, (Err (number_of_refusal c.in-Err.e), reported.1, c.says-in-Err.ensures ∙ ap (λ n. says (printed.CommandRefused c.args.word n)) c.code.ensures), goes_on size reported.0 life.machine c.console.new.self reported.2 (did.machine ∙ was.1), reported.3)
