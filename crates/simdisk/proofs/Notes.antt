@@ -6,7 +6,7 @@ use Rattle.std.proofs.lemmas.List.{map-append, map-set, set-get_or, get_or_appen
 use Rattle.std.proofs.lemmas.Bool.{cases_lt}
 use Rattle.disk.specs.Facts.{Content, Lent, Torn, Apart, IsFresh, nothing, sector}
 use Rattle.simdisk.specs.declared.patch.Patch.{Patch}
-use Rattle.simdisk.specs.Record.{Piece, WriteLog, put, newest, synced, range, ranges, more_written, more_synced, lent_piece, new_record, replay, filled, sim_facts, Untouched, AgreesOutside, AreWithin}
+use Rattle.simdisk.specs.Record.{Piece, WriteLog, laid_over, newest, synced, range, ranges, more_written, more_synced, lent_piece, new_record, replay, filled, sim_facts, Untouched, AgreesOutside, AreWithin}
 use Rattle.simdisk.specs.Views.{piece, pieces}
 use Rattle.simdisk.specs.Loans.{Noted, IsLatest}
 use Rattle.simdisk.specs.Choices.{left_by_choice}
@@ -20,13 +20,13 @@ pub ranges_written : (r r' : WriteLog) (p : Piece) → r' ≡ more_written p r �
 ranges_written r r' p more = ap (λ (q : WriteLog). ranges q.written) more ∙ map-append range r.written (p ∷ [])
 
 -- what was written last, with a piece more
-pub newest_more : (r r' : WriteLog) (p : Piece) (now new : Content) → r' ≡ more_written p r → newest r ≡ now → new ≡ put p now → newest r' ≡ new
-newest_more r r' p now new more is laid = ap (λ (q : WriteLog). newest q) more ∙ replay_push r.written p (synced r) ∙ ap (λ (c : Content). put p c) is ∙ sym laid
+pub newest_more : (r r' : WriteLog) (p : Piece) (now new : Content) → r' ≡ more_written p r → newest r ≡ now → new ≡ laid_over p now → newest r' ≡ new
+newest_more r r' p now new more is laid = ap (λ (q : WriteLog). newest q) more ∙ replay_push r.written p (synced r) ∙ ap (λ (c : Content). laid_over p c) is ∙ sym laid
 
 -- and after a sync: what stands
 pub newest_synced : (l : Lent) (r r' : WriteLog) (now : Content) → r' ≡ more_synced now (lent_piece l now ∷ []) r → synced r' ≡ now → l.first + l.lanes * l.each ≤ length now → newest r' ≡ now
 newest_synced l r r' now more is within =
-    ap (λ (q : WriteLog). replay q.written (synced r')) more ∙ ap (λ (c : Content). put (lent_piece l now) c) is ∙ put_same l.first (l.lanes * l.each) now within
+    ap (λ (q : WriteLog). replay q.written (synced r')) more ∙ ap (λ (c : Content). laid_over (lent_piece l now) c) is ∙ put_same l.first (l.lanes * l.each) now within
 
 -- a range more, which leaves the one at that place alone
 pub last_push : (rs : List (ℕ × ℕ)) (x r : ℕ × ℕ) (i : ℕ) → (x.0 + x.1 ≤ r.0) ⊎ (r.0 + r.1 ≤ x.0) → IsLatest rs i r → IsLatest (rs ++ x ∷ []) i r

@@ -9,7 +9,7 @@ use Rattle.simdisk.specs.declared.patch.Patch.{Patch}
 use Rattle.simdisk.specs.declared.choice.Choice.{Choice}
 use Rattle.simdisk.specs.declared.choice.Choice.TheVariants.{Byte, Old, New}
 use Rattle.simdisk.specs.Choices.{left_by_choice}
-use Rattle.simdisk.specs.Record.{Piece, WriteLog, put, replay, synced, filled, ranges, Untouched, AgreesOutside, AreWithin}
+use Rattle.simdisk.specs.Record.{Piece, WriteLog, laid_over, replay, synced, filled, ranges, Untouched, AgreesOutside, AreWithin}
 use Rattle.simdisk.specs.Pokes.{misses, part_before, part_behind, parted, poked_record}
 use Rattle.simdisk.specs.Views.{piece, pieces}
 use Rattle.simdisk.proofs.Pieces.{length-put, put_low, put_mid, put_high, fits_here, fits_rest, ranges_filled}
@@ -107,7 +107,7 @@ fits_parted n k (p ∷ ps) fits =
     (λ le less. fits_cons n (part_before k p) (part_behind k p ∷ flat_map (parted k) ps) (omega (arith, here, long_before k p le less, le, less))
     (fits_cons n (part_behind k p) (flat_map (parted k) ps) (omega (arith, here, long_behind k p le less)) rest))
 
-put_out : (p : Piece) (c : Content) (j : ℕ) → p.0 + length p.1 ≤ length c → Outside j p → sector (put p c) j ≡ sector c j
+put_out : (p : Piece) (c : Content) (j : ℕ) → p.0 + length p.1 ≤ length c → Outside j p → sector (laid_over p c) j ≡ sector c j
 put_out p c j within (inl low) = put_low p.0 p.1 c within j low
 put_out p c j within (inr high) = put_high p.0 p.1 c within j high
 
@@ -116,16 +116,16 @@ module _ (k : ℕ) (v : List ℕ) where
   in_one : (c : Content) → k < length c → k + length (v ∷ []) ≤ length c
   in_one c lt = omega (arith, lt)
 
-  pub long_poked : (c : Content) → k < length c → length (put (k, v ∷ []) c) ≡ length c
+  pub long_poked : (c : Content) → k < length c → length (laid_over (k, v ∷ []) c) ≡ length c
   long_poked c lt = length-put k (v ∷ []) c (in_one c lt)
 
-  at_own : (c : Content) (j : ℕ) → k < length c → j ≡ k → sector (put (k, v ∷ []) c) j ≡ v
+  at_own : (c : Content) (j : ℕ) → k < length c → j ≡ k → sector (laid_over (k, v ∷ []) c) j ≡ v
   at_own c j lt is = put_mid k (v ∷ []) c (in_one c lt) j (omega (arith, is)) (omega (arith, is)) ∙ ap (λ (n : ℕ). sector (v ∷ []) n) first
     where
       first : j - k ≡ 0
       first = omega (arith, is)
 
-  at_other : (c : Content) (j : ℕ) → k < length c → (j ≡ k → ⊥) → sector (put (k, v ∷ []) c) j ≡ sector c j
+  at_other : (c : Content) (j : ℕ) → k < length c → (j ≡ k → ⊥) → sector (laid_over (k, v ∷ []) c) j ≡ sector c j
   at_other c j lt other = elim (cases_lt j k) [
     | inl low ↦ put_low k (v ∷ []) c (in_one c lt) j low
     | inr le ↦ elim (cases_lt k j) [
@@ -135,75 +135,75 @@ module _ (k : ℕ) (v : List ℕ) where
   ]
 
   module _ (p : Piece) (c : Content) (lt : k < length c) (fits : p.0 + length p.1 ≤ length c) where
-    wide : k < length (put p c)
+    wide : k < length (laid_over p c)
     wide = omega (arith, lt, length-put p.0 p.1 c fits)
 
-    inside : p.0 + length p.1 ≤ length (put (k, v ∷ []) c)
+    inside : p.0 + length p.1 ≤ length (laid_over (k, v ∷ []) c)
     inside = omega (arith, fits, long_poked c lt)
 
-    long_both : length (put (k, v ∷ []) (put p c)) ≡ length c
-    long_both = long_poked (put p c) wide ∙ length-put p.0 p.1 c fits
+    long_both : length (laid_over (k, v ∷ []) (laid_over p c)) ≡ length c
+    long_both = long_poked (laid_over p c) wide ∙ length-put p.0 p.1 c fits
 
     -- a piece without the sector, laid over it
-    commute_out : Outside k p → put p (put (k, v ∷ []) c) ≡ put (k, v ∷ []) (put p c)
-    commute_out out = ext_get_or [] (put p (put (k, v ∷ []) c)) (put (k, v ∷ []) (put p c)) (length-put p.0 p.1 (put (k, v ∷ []) c) inside ∙ long_poked c lt ∙ sym long_both) (λ j less. elim (cases_eq j k) [
-      | inl is ↦ put_out p (put (k, v ∷ []) c) j inside (subst (λ (n : ℕ). Outside n p) (sym is) out) ∙ at_own c j lt is ∙ sym (at_own (put p c) j wide is)
+    commute_out : Outside k p → laid_over p (laid_over (k, v ∷ []) c) ≡ laid_over (k, v ∷ []) (laid_over p c)
+    commute_out out = ext_get_or [] (laid_over p (laid_over (k, v ∷ []) c)) (laid_over (k, v ∷ []) (laid_over p c)) (length-put p.0 p.1 (laid_over (k, v ∷ []) c) inside ∙ long_poked c lt ∙ sym long_both) (λ j less. elim (cases_eq j k) [
+      | inl is ↦ put_out p (laid_over (k, v ∷ []) c) j inside (subst (λ (n : ℕ). Outside n p) (sym is) out) ∙ at_own c j lt is ∙ sym (at_own (laid_over p c) j wide is)
       | inr other ↦ elim (where_is j p) [
-        | inl o ↦ put_out p (put (k, v ∷ []) c) j inside o ∙ at_other c j lt other ∙ sym (at_other (put p c) j wide other ∙ put_out p c j fits o)
-        | inr i ↦ put_mid p.0 p.1 (put (k, v ∷ []) c) inside j i.0 i.1 ∙ sym (at_other (put p c) j wide other ∙ put_mid p.0 p.1 c fits j i.0 i.1)
+        | inl o ↦ put_out p (laid_over (k, v ∷ []) c) j inside o ∙ at_other c j lt other ∙ sym (at_other (laid_over p c) j wide other ∙ put_out p c j fits o)
+        | inr i ↦ put_mid p.0 p.1 (laid_over (k, v ∷ []) c) inside j i.0 i.1 ∙ sym (at_other (laid_over p c) j wide other ∙ put_mid p.0 p.1 c fits j i.0 i.1)
       ]
     ])
 
     -- the parts of a piece that has it
     module _ (le : p.0 ≤ k) (less : k < p.0 + length p.1) where
-      fits_before : p.0 + length (take (k - p.0) p.1) ≤ length (put (k, v ∷ []) c)
+      fits_before : p.0 + length (take (k - p.0) p.1) ≤ length (laid_over (k, v ∷ []) c)
       fits_before = omega (arith, inside, long_before k p le less, le, less)
 
-      long_first : length (put (part_before k p) (put (k, v ∷ []) c)) ≡ length (put (k, v ∷ []) c)
-      long_first = length-put p.0 (take (k - p.0) p.1) (put (k, v ∷ []) c) fits_before
+      long_first : length (laid_over (part_before k p) (laid_over (k, v ∷ []) c)) ≡ length (laid_over (k, v ∷ []) c)
+      long_first = length-put p.0 (take (k - p.0) p.1) (laid_over (k, v ∷ []) c) fits_before
 
-      fits_behind : k + 1 + length (drop (k - p.0 + 1) p.1) ≤ length (put (part_before k p) (put (k, v ∷ []) c))
+      fits_behind : k + 1 + length (drop (k - p.0 + 1) p.1) ≤ length (laid_over (part_before k p) (laid_over (k, v ∷ []) c))
       fits_behind = omega (arith, inside, long_behind k p le less, long_first)
 
-      over_both : (j : ℕ) → Outside j (part_before k p) → Outside j (part_behind k p) → sector (put (part_behind k p) (put (part_before k p) (put (k, v ∷ []) c))) j ≡ sector (put (k, v ∷ []) c) j
-      over_both j a b = put_out (part_behind k p) (put (part_before k p) (put (k, v ∷ []) c)) j fits_behind b ∙ put_out (part_before k p) (put (k, v ∷ []) c) j fits_before a
+      over_both : (j : ℕ) → Outside j (part_before k p) → Outside j (part_behind k p) → sector (laid_over (part_behind k p) (laid_over (part_before k p) (laid_over (k, v ∷ []) c))) j ≡ sector (laid_over (k, v ∷ []) c) j
+      over_both j a b = put_out (part_behind k p) (laid_over (part_before k p) (laid_over (k, v ∷ []) c)) j fits_behind b ∙ put_out (part_before k p) (laid_over (k, v ∷ []) c) j fits_before a
 
-      in_before : (j : ℕ) → p.0 ≤ j → j < k → sector (put (part_behind k p) (put (part_before k p) (put (k, v ∷ []) c))) j ≡ sector p.1 (j - p.0)
+      in_before : (j : ℕ) → p.0 ≤ j → j < k → sector (laid_over (part_behind k p) (laid_over (part_before k p) (laid_over (k, v ∷ []) c))) j ≡ sector p.1 (j - p.0)
       in_before j from low =
-          put_out (part_behind k p) (put (part_before k p) (put (k, v ∷ []) c)) j fits_behind (inl (omega (arith, low)))
-          ∙ put_mid p.0 (take (k - p.0) p.1) (put (k, v ∷ []) c) fits_before j from (omega (arith, from, low, long_before k p le less))
+          put_out (part_behind k p) (laid_over (part_before k p) (laid_over (k, v ∷ []) c)) j fits_behind (inl (omega (arith, low)))
+          ∙ put_mid p.0 (take (k - p.0) p.1) (laid_over (k, v ∷ []) c) fits_before j from (omega (arith, from, low, long_before k p le less))
           ∙ get_or-take (k - p.0) p.1 (j - p.0) [] (omega (arith, from, low))
 
-      in_behind : (j : ℕ) → k < j → j < p.0 + length p.1 → sector (put (part_behind k p) (put (part_before k p) (put (k, v ∷ []) c))) j ≡ sector p.1 (j - p.0)
+      in_behind : (j : ℕ) → k < j → j < p.0 + length p.1 → sector (laid_over (part_behind k p) (laid_over (part_before k p) (laid_over (k, v ∷ []) c))) j ≡ sector p.1 (j - p.0)
       in_behind j high to =
-          put_mid (k + 1) (drop (k - p.0 + 1) p.1) (put (part_before k p) (put (k, v ∷ []) c)) fits_behind j (omega (arith, high)) (omega (arith, to, long_behind k p le less))
+          put_mid (k + 1) (drop (k - p.0 + 1) p.1) (laid_over (part_before k p) (laid_over (k, v ∷ []) c)) fits_behind j (omega (arith, high)) (omega (arith, to, long_behind k p le less))
           ∙ get_or-drop (k - p.0 + 1) p.1 (j - (k + 1)) [] ∙ ap (λ (n : ℕ). sector p.1 n) at
         where
           at : k - p.0 + 1 + (j - (k + 1)) ≡ j - p.0
           at = omega (arith, high, le)
 
-      commute_in : put (part_behind k p) (put (part_before k p) (put (k, v ∷ []) c)) ≡ put (k, v ∷ []) (put p c)
-      commute_in = ext_get_or [] (put (part_behind k p) (put (part_before k p) (put (k, v ∷ []) c))) (put (k, v ∷ []) (put p c))
-          (length-put (k + 1) (drop (k - p.0 + 1) p.1) (put (part_before k p) (put (k, v ∷ []) c)) fits_behind ∙ long_first ∙ long_poked c lt ∙ sym long_both) (λ j short. elim (cases_eq j k) [
+      commute_in : laid_over (part_behind k p) (laid_over (part_before k p) (laid_over (k, v ∷ []) c)) ≡ laid_over (k, v ∷ []) (laid_over p c)
+      commute_in = ext_get_or [] (laid_over (part_behind k p) (laid_over (part_before k p) (laid_over (k, v ∷ []) c))) (laid_over (k, v ∷ []) (laid_over p c))
+          (length-put (k + 1) (drop (k - p.0 + 1) p.1) (laid_over (part_before k p) (laid_over (k, v ∷ []) c)) fits_behind ∙ long_first ∙ long_poked c lt ∙ sym long_both) (λ j short. elim (cases_eq j k) [
             | inl is ↦ over_both j (subst (λ (n : ℕ). Outside n (part_before k p)) (sym is) (own_before k p le less)) (subst (λ (n : ℕ). Outside n (part_behind k p)) (sym is) (own_behind k p le less))
-                ∙ at_own c j lt is ∙ sym (at_own (put p c) j wide is)
+                ∙ at_own c j lt is ∙ sym (at_own (laid_over p c) j wide is)
             | inr other ↦ elim (where_is j p) [
-              | inl o ↦ over_both j (out_before k p le less j o) (out_behind k p le less j o) ∙ at_other c j lt other ∙ sym (at_other (put p c) j wide other ∙ put_out p c j fits o)
+              | inl o ↦ over_both j (out_before k p le less j o) (out_behind k p le less j o) ∙ at_other c j lt other ∙ sym (at_other (laid_over p c) j wide other ∙ put_out p c j fits o)
               | inr i ↦ (elim (cases_lt j k) [
                 | inl low ↦ in_before j i.0 low
                 | inr more ↦ elim (cases_lt k j) [ inl high ↦ in_behind j high i.1 | inr same ↦ absurd (other (omega (arith, more, same))) ]
-              ]) ∙ sym (at_other (put p c) j wide other ∙ put_mid p.0 p.1 c fits j i.0 i.1)
+              ]) ∙ sym (at_other (laid_over p c) j wide other ∙ put_mid p.0 p.1 c fits j i.0 i.1)
             ]
           ])
 
   -- the parts, laid over a content with the sector
-  pub replay_parted : (ps : List Piece) (c : Content) → k < length c → AreWithin (length c) (ranges ps) → replay (flat_map (parted k) ps) (put (k, v ∷ []) c) ≡ put (k, v ∷ []) (replay ps c)
+  pub replay_parted : (ps : List Piece) (c : Content) → k < length c → AreWithin (length c) (ranges ps) → replay (flat_map (parted k) ps) (laid_over (k, v ∷ []) c) ≡ laid_over (k, v ∷ []) (replay ps c)
   replay_parted [] c lt fits = refl
   replay_parted (p ∷ ps) c lt fits =
       let here : p.0 + length p.1 ≤ length c = fits_here (length c) p ps fits in
-      let long : length (put p c) ≡ length c = length-put p.0 p.1 c here in
-      let rest : replay (flat_map (parted k) ps) (put (k, v ∷ []) (put p c)) ≡ put (k, v ∷ []) (replay ps (put p c)) = replay_parted ps (put p c) (wide p c lt here) (subst (λ (n : ℕ). AreWithin n (ranges ps)) (sym long) (fits_rest (length c) p ps fits)) in
-      parted_by k p (λ (qs : List Piece). replay (qs ++ flat_map (parted k) ps) (put (k, v ∷ []) c) ≡ put (k, v ∷ []) (replay ps (put p c)))
+      let long : length (laid_over p c) ≡ length c = length-put p.0 p.1 c here in
+      let rest : replay (flat_map (parted k) ps) (laid_over (k, v ∷ []) (laid_over p c)) ≡ laid_over (k, v ∷ []) (replay ps (laid_over p c)) = replay_parted ps (laid_over p c) (wide p c lt here) (subst (λ (n : ℕ). AreWithin n (ranges ps)) (sym long) (fits_rest (length c) p ps fits)) in
+      parted_by k p (λ (qs : List Piece). replay (qs ++ flat_map (parted k) ps) (laid_over (k, v ∷ []) c) ≡ laid_over (k, v ∷ []) (replay ps (laid_over p c)))
       (λ out. ap (λ (d : Content). replay (flat_map (parted k) ps) d) (commute_out p c lt here out) ∙ rest)
       (λ le less. ap (λ (d : Content). replay (flat_map (parted k) ps) d) (commute_in p c lt here le less) ∙ rest)
 
@@ -235,14 +235,14 @@ filled_parts byte k (p ∷ ps) =
 
 -- what a crash leaves of a content with the k-th sector so
 module _ (k : ℕ) (v : List ℕ) (stood : Content) (ps : List Piece) (lt : k < length stood) where
-  pub left_poked : AreWithin (length stood) (ranges ps) → (choice : Choice) → left_by_choice choice (put (k, v ∷ []) stood) (flat_map (parted k) ps) ≡ put (k, v ∷ []) (left_by_choice choice stood ps)
+  pub left_poked : AreWithin (length stood) (ranges ps) → (choice : Choice) → left_by_choice choice (laid_over (k, v ∷ []) stood) (flat_map (parted k) ps) ≡ laid_over (k, v ∷ []) (left_by_choice choice stood ps)
   left_poked fits (Byte byte) =
-      ap (λ (qs : List Piece). replay qs (put (k, v ∷ []) stood)) (filled_parts byte k ps)
+      ap (λ (qs : List Piece). replay qs (laid_over (k, v ∷ []) stood)) (filled_parts byte k ps)
       ∙ replay_parted k v (map (filled byte) ps) stood lt (subst (λ (rs : List (ℕ × ℕ)). AreWithin (length stood) rs) (sym (ranges_filled byte ps)) fits)
   left_poked fits Old = refl
   left_poked fits New = replay_parted k v ps stood lt fits
 
-  pub agrees_put : (c : Content) → AgreesOutside stood (ranges ps) c → AgreesOutside (put (k, v ∷ []) stood) (ranges (flat_map (parted k) ps)) (put (k, v ∷ []) c)
+  pub agrees_put : (c : Content) → AgreesOutside stood (ranges ps) c → AgreesOutside (laid_over (k, v ∷ []) stood) (ranges (flat_map (parted k) ps)) (laid_over (k, v ∷ []) c)
   agrees_put c a = record {
     as_long = long_poked k v c in_c ∙ a.as_long ∙ sym (long_poked k v stood lt);
     same = λ j u. elim (cases_eq j k) [
@@ -255,9 +255,9 @@ module _ (k : ℕ) (v : List ℕ) (stood : Content) (ps : List Piece) (lt : k < 
       in_c = omega (arith, lt, a.as_long)
 
   -- each that a crash then may leave is one of those
-  pub agrees_back : (c : Content) → AgreesOutside (put (k, v ∷ []) stood) (ranges (flat_map (parted k) ps)) c → (d : Content) × AgreesOutside stood (ranges ps) d × (c ≡ put (k, v ∷ []) d)
+  pub agrees_back : (c : Content) → AgreesOutside (laid_over (k, v ∷ []) stood) (ranges (flat_map (parted k) ps)) c → (d : Content) × AgreesOutside stood (ranges ps) d × (c ≡ laid_over (k, v ∷ []) d)
   agrees_back c a = (
-    put (k, sector stood k ∷ []) c,
+    laid_over (k, sector stood k ∷ []) c,
     record {
       as_long = long ∙ as_stood;
       same = λ j u. elim (cases_eq j k) [
@@ -265,9 +265,9 @@ module _ (k : ℕ) (v : List ℕ) (stood : Content) (ps : List Piece) (lt : k < 
         | inr other ↦ at_other k (sector stood k) c j in_c other ∙ a.same j (parts_untouched k ps j u) ∙ at_other k v stood j lt other
       ];
     },
-    ext_get_or [] c (put (k, v ∷ []) (put (k, sector stood k ∷ []) c)) (sym (long_poked k v (put (k, sector stood k ∷ []) c) in_d ∙ long)) (λ j less. elim (cases_eq j k) [
-      | inl is ↦ a.same j (subst (λ (n : ℕ). Untouched (ranges (flat_map (parted k) ps)) n) (sym is) (own_untouched k ps)) ∙ at_own k v stood j lt is ∙ sym (at_own k v (put (k, sector stood k ∷ []) c) j in_d is)
-      | inr other ↦ sym (at_other k v (put (k, sector stood k ∷ []) c) j in_d other ∙ at_other k (sector stood k) c j in_c other)
+    ext_get_or [] c (laid_over (k, v ∷ []) (laid_over (k, sector stood k ∷ []) c)) (sym (long_poked k v (laid_over (k, sector stood k ∷ []) c) in_d ∙ long)) (λ j less. elim (cases_eq j k) [
+      | inl is ↦ a.same j (subst (λ (n : ℕ). Untouched (ranges (flat_map (parted k) ps)) n) (sym is) (own_untouched k ps)) ∙ at_own k v stood j lt is ∙ sym (at_own k v (laid_over (k, sector stood k ∷ []) c) j in_d is)
+      | inr other ↦ sym (at_other k v (laid_over (k, sector stood k ∷ []) c) j in_d other ∙ at_other k (sector stood k) c j in_c other)
     ]),
   )
     where
@@ -277,23 +277,23 @@ module _ (k : ℕ) (v : List ℕ) (stood : Content) (ps : List Piece) (lt : k < 
       in_c : k < length c
       in_c = omega (arith, lt, as_stood)
 
-      long : length (put (k, sector stood k ∷ []) c) ≡ length c
+      long : length (laid_over (k, sector stood k ∷ []) c) ≡ length c
       long = long_poked k (sector stood k) c in_c
 
-      in_d : k < length (put (k, sector stood k ∷ []) c)
+      in_d : k < length (laid_over (k, sector stood k ∷ []) c)
       in_d = omega (arith, in_c, long)
 
 -- the record of a disk that was poked
 module _ (k : ℕ) (v : List ℕ) (r r' : WriteLog) (anew : r' ≡ poked_record k v r) (lt : k < length (synced r)) where
-  pub choices_poked : AreWithin (length (synced r)) (ranges r.written) → (choice : Choice) → left_by_choice choice (synced r') r'.written ≡ put (k, v ∷ []) (left_by_choice choice (synced r) r.written)
+  pub choices_poked : AreWithin (length (synced r)) (ranges r.written) → (choice : Choice) → left_by_choice choice (synced r') r'.written ≡ laid_over (k, v ∷ []) (left_by_choice choice (synced r) r.written)
   choices_poked fits choice = ap (λ (q : WriteLog). left_by_choice choice (synced q) q.written) anew ∙ left_poked k v (synced r) r.written lt fits choice
 
-  pub agrees_poked : (c c' : Content) → AgreesOutside (synced r) (ranges r.written) c → c' ≡ put (k, v ∷ []) c → AgreesOutside (synced r') (ranges r'.written) c'
+  pub agrees_poked : (c c' : Content) → AgreesOutside (synced r) (ranges r.written) c → c' ≡ laid_over (k, v ∷ []) c → AgreesOutside (synced r') (ranges r'.written) c'
   agrees_poked c c' a laid =
       subst (λ (q : WriteLog). AgreesOutside (synced q) (ranges q.written) c') (sym anew)
-      (subst (λ (d : Content). AgreesOutside (put (k, v ∷ []) (synced r)) (ranges (flat_map (parted k) r.written)) d) (sym laid) (agrees_put k v (synced r) r.written lt c a))
+      (subst (λ (d : Content). AgreesOutside (laid_over (k, v ∷ []) (synced r)) (ranges (flat_map (parted k) r.written)) d) (sym laid) (agrees_put k v (synced r) r.written lt c a))
 
-  pub crash_poked : (c : Content) → AgreesOutside (synced r') (ranges r'.written) c ↔ ((d : Content) × AgreesOutside (synced r) (ranges r.written) d × (c ≡ put (k, v ∷ []) d))
+  pub crash_poked : (c : Content) → AgreesOutside (synced r') (ranges r'.written) c ↔ ((d : Content) × AgreesOutside (synced r) (ranges r.written) d × (c ≡ laid_over (k, v ∷ []) d))
   crash_poked c = (
     λ a. agrees_back k v (synced r) r.written lt c (subst (λ (q : WriteLog). AgreesOutside (synced q) (ranges q.written) c) anew a),
     λ one. agrees_poked one.0 c one.1 one.2,

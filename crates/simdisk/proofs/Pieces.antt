@@ -4,24 +4,24 @@ use Rattle.std.proofs.Math.ListN.{get_or-map}
 use Rattle.std.proofs.lemmas.List.{places, get_or_append_left, get_or_push, ext_get_or, length-map, length-replicate, length-take-le}
 use Rattle.std.proofs.lemmas.Bool.{cases_lt}
 use Rattle.disk.specs.Facts.{Content, sector}
-use Rattle.simdisk.specs.Record.{Piece, put, replay, synced_after, range, ranges, Untouched, AgreesOutside, AreWithin, settled, filled}
+use Rattle.simdisk.specs.Record.{Piece, laid_over, replay, synced_after, range, ranges, Untouched, AgreesOutside, AreWithin, settled, filled}
 
 module _ (first : ℕ) (s c : Content) (within : first + length s ≤ length c) where
-  pub length-put : length (put (first, s) c) ≡ length c
+  pub length-put : length (laid_over (first, s) c) ≡ length c
   length-put = search (rules, places)
 
-  pub put_low : (k : ℕ) → k < first → sector (put (first, s) c) k ≡ sector c k
+  pub put_low : (k : ℕ) → k < first → sector (laid_over (first, s) c) k ≡ sector c k
   put_low k low = search (rules, places)
 
-  pub put_mid : (k : ℕ) → first ≤ k → k < first + length s → sector (put (first, s) c) k ≡ sector s (k - first)
+  pub put_mid : (k : ℕ) → first ≤ k → k < first + length s → sector (laid_over (first, s) c) k ≡ sector s (k - first)
   put_mid k le lt = search (rules, places)
 
-  pub put_high : (k : ℕ) → first + length s ≤ k → sector (put (first, s) c) k ≡ sector c k
+  pub put_high : (k : ℕ) → first + length s ≤ k → sector (laid_over (first, s) c) k ≡ sector c k
   put_high k high = search (rules, places)
 
 -- what stands in a range, laid over it
-pub put_same : (first n : ℕ) (c : Content) → first + n ≤ length c → put (first, take n (drop first c)) c ≡ c
-put_same first n c within = ext_get_or [] (put (first, take n (drop first c)) c) c (length-put first (take n (drop first c)) c inside) (λ k lt. elim (cases_lt k first) [
+pub put_same : (first n : ℕ) (c : Content) → first + n ≤ length c → laid_over (first, take n (drop first c)) c ≡ c
+put_same first n c within = ext_get_or [] (laid_over (first, take n (drop first c)) c) c (length-put first (take n (drop first c)) c inside) (λ k lt. elim (cases_lt k first) [
   | inl low ↦ put_low first (take n (drop first c)) c inside k low
   | inr le ↦ elim (cases_lt k (first + n)) [
     | inl less ↦ put_mid first (take n (drop first c)) c inside k le (rw size less) ∙ middle k le less
@@ -39,9 +39,9 @@ put_same first n c within = ext_get_or [] (put (first, take n (drop first c)) c)
     middle k le less = search (rules, places)
 
 -- a piece more
-pub replay_push : (ps : List Piece) (p : Piece) (c : Content) → replay (ps ++ p ∷ []) c ≡ put p (replay ps c)
+pub replay_push : (ps : List Piece) (p : Piece) (c : Content) → replay (ps ++ p ∷ []) c ≡ laid_over p (replay ps c)
 replay_push [] p c = refl
-replay_push (q ∷ ps) p c = replay_push ps p (put q c)
+replay_push (q ∷ ps) p c = replay_push ps p (laid_over q c)
 
 pub fits_here : (n : ℕ) (p : Piece) (ps : List Piece) → AreWithin n (ranges (p ∷ ps)) → p.0 + length p.1 ≤ n
 fits_here n p ps fits = fits 0 (omega arith)
@@ -54,14 +54,14 @@ pub length_replay : (ps : List Piece) (c : Content) → AreWithin (length c) (ra
 length_replay [] c fits = refl
 length_replay (p ∷ ps) c fits =
     let here = length-put p.0 p.1 c (fits_here (length c) p ps fits) in
-    length_replay ps (put p c) (rw here (fits_rest (length c) p ps fits)) ∙ here
+    length_replay ps (laid_over p c) (rw here (fits_rest (length c) p ps fits)) ∙ here
 
 pub replay_outside : (ps : List Piece) (c : Content) (k : ℕ) → AreWithin (length c) (ranges ps) → Untouched (ranges ps) k → sector (replay ps c) k ≡ sector c k
 replay_outside [] c k fits u = refl
 replay_outside (p ∷ ps) c k fits u =
     let within = fits_here (length c) p ps fits in
     let here = length-put p.0 p.1 c within in
-    replay_outside ps (put p c) k (rw here (fits_rest (length c) p ps fits)) u.1 ∙ elim u.0 [ inl low ↦ put_low p.0 p.1 c within k low | inr high ↦ put_high p.0 p.1 c within k high ]
+    replay_outside ps (laid_over p c) k (rw here (fits_rest (length c) p ps fits)) u.1 ∙ elim u.0 [ inl low ↦ put_low p.0 p.1 c within k low | inr high ↦ put_high p.0 p.1 c within k high ]
 
 pub agrees_replay : (ps : List Piece) (stood : Content) → AreWithin (length stood) (ranges ps) → AgreesOutside stood (ranges ps) (replay ps stood)
 agrees_replay ps stood fits = record { as_long = length_replay ps stood fits; same = λ k u. replay_outside ps stood k fits u }
@@ -85,7 +85,7 @@ ranges_settled now (p ∷ ps) fits =
 settled_onto : (now : Content) (ps : List Piece) (c : Content) → length c ≡ length now → AreWithin (length now) (ranges ps) → ((k : ℕ) → Untouched (ranges ps) k → sector c k ≡ sector now k)
     → replay (map (settled now) ps) c ≡ now
 settled_onto now [] c long fits same = ext_get_or [] c now long (λ k lt. same k tt)
-settled_onto now (p ∷ ps) c long fits same = settled_onto now ps (put q c) (length-put q.0 q.1 c within ∙ long) (fits_rest (length now) p ps fits) (λ k u. here k u)
+settled_onto now (p ∷ ps) c long fits same = settled_onto now ps (laid_over q c) (length-put q.0 q.1 c within ∙ long) (fits_rest (length now) p ps fits) (λ k u. here k u)
   where
     q : Piece
     q = settled now p
@@ -99,7 +99,7 @@ settled_onto now (p ∷ ps) c long fits same = settled_onto now ps (put q c) (le
     within : q.0 + length q.1 ≤ length c
     within = rw (size, long) inside
 
-    here : (k : ℕ) → Untouched (ranges ps) k → sector (put q c) k ≡ sector now k
+    here : (k : ℕ) → Untouched (ranges ps) k → sector (laid_over q c) k ≡ sector now k
     here k u = elim (cases_lt k p.0) [
       | inl low ↦ put_low q.0 q.1 c within k low ∙ same k (inl low, u)
       | inr le ↦ elim (cases_lt k (p.0 + length p.1)) [

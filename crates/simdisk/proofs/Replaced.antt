@@ -3,7 +3,7 @@ use Rattle.std.proofs.Common.{◌≡◌, ◌⊎◌, ◌∙◌, inl, inr, ⊎_eli
 use Rattle.std.proofs.lemmas.Bool.{cases_lt}
 use Rattle.std.proofs.lemmas.List.{places, map-set, set-get_or, length-map, length-take-le, ext_get_or}
 use Rattle.disk.specs.Facts.{Content, Torn, sector}
-use Rattle.simdisk.specs.Record.{Piece, put, replay, settled, range, ranges, Untouched, AreWithin, range_at}
+use Rattle.simdisk.specs.Record.{Piece, laid_over, replay, settled, range, ranges, Untouched, AreWithin, range_at}
 use Rattle.simdisk.specs.Loans.{IsLatest}
 use Rattle.simdisk.specs.declared.patch.Patch.{Patch}
 use Rattle.simdisk.specs.Views.{piece, pieces}
@@ -15,7 +15,7 @@ replay_outside_same : (ps : List Piece) (c d : Content) (k : ℕ) → length d �
     → sector (replay ps d) k ≡ sector (replay ps c) k
 replay_outside_same [] c d k long fits same = same tt
 replay_outside_same (p ∷ ps) c d k long fits same =
-    replay_outside_same ps (put p c) (put p d) k (length-put p.0 p.1 d inside ∙ long ∙ sym (length-put p.0 p.1 c within))
+    replay_outside_same ps (laid_over p c) (laid_over p d) k (length-put p.0 p.1 d inside ∙ long ∙ sym (length-put p.0 p.1 c within))
     (subst (λ (n : ℕ). AreWithin n (ranges ps)) (sym (length-put p.0 p.1 c within)) (fits_rest (length c) p ps fits)) here
   where
     within : p.0 + length p.1 ≤ length c
@@ -24,7 +24,7 @@ replay_outside_same (p ∷ ps) c d k long fits same =
     inside : p.0 + length p.1 ≤ length d
     inside = omega (arith, within, long)
 
-    here : Untouched (ranges ps) k → sector (put p d) k ≡ sector (put p c) k
+    here : Untouched (ranges ps) k → sector (laid_over p d) k ≡ sector (laid_over p c) k
     here u = elim (cases_lt k p.0) [
       | inl low ↦ put_low p.0 p.1 d inside k low ∙ same (inl low, u) ∙ sym (put_low p.0 p.1 c within k low)
       | inr le ↦ elim (cases_lt k (p.0 + length p.1)) [
@@ -46,7 +46,7 @@ pub replaced_outside : (ps : List Piece) (i : ℕ) (new : Piece) (c : Content) (
     → (k < new.0) ⊎ (new.0 + length new.1 ≤ k) → sector (replay (set ps i new) c) k ≡ sector (replay ps c) k
 replaced_outside [] i new c k lt fits is out = absurd (omega arith)
 replaced_outside (p ∷ ps) zero new c k lt fits is out =
-    replay_same ps (put p c) (put new c) k (length-put new.0 new.1 c inside ∙ sym (length-put p.0 p.1 c within)) (subst (λ (n : ℕ). AreWithin n (ranges ps)) (sym (length-put p.0 p.1 c within)) (fits_rest (length c) p ps fits)) here
+    replay_same ps (laid_over p c) (laid_over new c) k (length-put new.0 new.1 c inside ∙ sym (length-put p.0 p.1 c within)) (subst (λ (n : ℕ). AreWithin n (ranges ps)) (sym (length-put p.0 p.1 c within)) (fits_rest (length c) p ps fits)) here
   where
     within : p.0 + length p.1 ≤ length c
     within = fits_here (length c) p ps fits
@@ -60,19 +60,19 @@ replaced_outside (p ∷ ps) zero new c k lt fits is out =
     inside : new.0 + length new.1 ≤ length c
     inside = omega (arith, within, first, long)
 
-    here : sector (put new c) k ≡ sector (put p c) k
+    here : sector (laid_over new c) k ≡ sector (laid_over p c) k
     here = ⊎_elim
         (λ low. put_low new.0 new.1 c inside k low ∙ sym (put_low p.0 p.1 c within k (omega (arith, low, first))))
         (λ high. put_high new.0 new.1 c inside k high ∙ sym (put_high p.0 p.1 c within k (omega (arith, high, first, long)))) out
 replaced_outside (p ∷ ps) (suc i) new c k lt fits is out =
-    replaced_outside ps i new (put p c) k (omega arith) (subst (λ (n : ℕ). AreWithin n (ranges ps)) (sym (length-put p.0 p.1 c (fits_here (length c) p ps fits))) (fits_rest (length c) p ps fits)) is out
+    replaced_outside ps i new (laid_over p c) k (omega arith) (subst (λ (n : ℕ). AreWithin n (ranges ps)) (sym (length-put p.0 p.1 c (fits_here (length c) p ps fits))) (fits_rest (length c) p ps fits)) is out
 
 -- and within it, where no later one touches it, its bytes stand
 pub replaced_inside : (ps : List Piece) (i : ℕ) (new : Piece) (c : Content) (k : ℕ) → AreWithin (length c) (ranges ps) → IsLatest (ranges ps) i (range new)
     → new.0 ≤ k → k < new.0 + length new.1 → sector (replay (set ps i new) c) k ≡ sector new.1 (k - new.0)
 replaced_inside [] i new c k fits last le lt = absurd (omega (arith, last.noted.0))
 replaced_inside (p ∷ ps) zero new c k fits last le lt =
-    replay_outside ps (put new c) k (subst (λ (n : ℕ). AreWithin n (ranges ps)) (sym (length-put new.0 new.1 c inside)) (fits_rest (length c) p ps fits)) alone
+    replay_outside ps (laid_over new c) k (subst (λ (n : ℕ). AreWithin n (ranges ps)) (sym (length-put new.0 new.1 c inside)) (fits_rest (length c) p ps fits)) alone
     ∙ put_mid new.0 new.1 c inside k le lt
   where
     inside : new.0 + length new.1 ≤ length c
@@ -81,7 +81,7 @@ replaced_inside (p ∷ ps) zero new c k fits last le lt =
     alone : Untouched (ranges ps) k
     alone = later (ranges ps) (range new) k (λ j less. last.apart (suc j) (omega arith) (omega (arith, less))) le lt
 replaced_inside (p ∷ ps) (suc i) new c k fits last le lt =
-    replaced_inside ps i new (put p c) k (subst (λ (n : ℕ). AreWithin n (ranges ps)) (sym (length-put p.0 p.1 c (fits_here (length c) p ps fits))) (fits_rest (length c) p ps fits))
+    replaced_inside ps i new (laid_over p c) k (subst (λ (n : ℕ). AreWithin n (ranges ps)) (sym (length-put p.0 p.1 c (fits_here (length c) p ps fits))) (fits_rest (length c) p ps fits))
     (record { noted = (omega (arith, last.noted.0), last.noted.1); apart = λ j more less. last.apart (suc j) (omega (arith, more)) (omega (arith, less)) }) le lt
 
 -- the last piece of its range, with what stands there in a content that is torn there alone: then that content is what all give

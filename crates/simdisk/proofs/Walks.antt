@@ -4,7 +4,7 @@ use Rattle.std.proofs.Math.ListN.{get_or-map}
 use Rattle.std.proofs.lemmas.List.{drop_more, length-map}
 use Rattle.disk.specs.Facts.{Content}
 use Rattle.simdisk.specs.declared.patch.Patch.{Patch}
-use Rattle.simdisk.specs.Record.{Piece, put, replay, range, ranges, range_at, AreWithin}
+use Rattle.simdisk.specs.Record.{Piece, laid_over, replay, range, ranges, range_at, AreWithin}
 use Rattle.simdisk.specs.Views.{piece, pieces}
 
 -- what was read at that place, as a piece
@@ -19,7 +19,7 @@ range_read patches i x r lt is at = sym (get_or-map range (pieces patches) i (0,
 
 -- each piece, changed so, laid over a content, one after the other
 pub laid_more : (f : Piece → Piece) (patches : List Patch) (i : ℕ) (x : Patch) (c new all : Content) → i < length patches → x ≡ get_or patches i x
-    → replay (drop i (map f (pieces patches))) c ≡ all → new ≡ put (f (piece x)) c → replay (drop (i + 1) (map f (pieces patches))) new ≡ all
+    → replay (drop i (map f (pieces patches))) c ≡ all → new ≡ laid_over (f (piece x)) c → replay (drop (i + 1) (map f (pieces patches))) new ≡ all
 laid_more f patches i x c new all lt is so_far laid =
     ap (λ (k : Content). replay (drop (i + 1) (map f (pieces patches))) k) laid ∙ sym (ap (λ (ps : List Piece). replay ps c) rest) ∙ so_far
   where

@@ -4,7 +4,7 @@ use Rattle.std.specs.List.{flat_map}
 use Rattle.disk.specs.Facts.{Content, Facts, sector}
 use Rattle.simdisk.specs.declared.choice.Choice.{Choice}
 use Rattle.simdisk.specs.Choices.{left_by_choice}
-use Rattle.simdisk.specs.Record.{Piece, WriteLog, put, synced}
+use Rattle.simdisk.specs.Record.{Piece, WriteLog, laid_over, synced}
 
 -- the bytes of a sector with these in it, from that one on
 abbrev pub bytes_put : ℕ → List ℕ → List ℕ → List ℕ
@@ -20,12 +20,12 @@ IsWithin k offset bytes c = (k < length c) × (offset + length bytes ≤ 512)
 
 -- The k-th sector stands so: a read gives it, and so does each crash, whatever that leaves of the others.
 pub record StandsSo (k : ℕ) (bytes : List ℕ) (old new : Facts) : Type 0 where
-  pub content : new.content ≡ put (k, bytes ∷ []) old.content
-  pub crash : (c : Content) → new.may_leave c ↔ ((d : Content) × old.may_leave d × (c ≡ put (k, bytes ∷ []) d))
+  pub content : new.content ≡ laid_over (k, bytes ∷ []) old.content
+  pub crash : (c : Content) → new.may_leave c ↔ ((d : Content) × old.may_leave d × (c ≡ laid_over (k, bytes ∷ []) d))
 
 -- by each choice a cut leaves what it would have left, with that sector
 abbrev pub StandsByEach : ℕ → List ℕ → WriteLog → WriteLog → Type 0
-StandsByEach k bytes old new = (choice : Choice) → left_by_choice choice (synced new) new.written ≡ put (k, bytes ∷ []) (left_by_choice choice (synced old) old.written)
+StandsByEach k bytes old new = (choice : Choice) → left_by_choice choice (synced new) new.written ≡ laid_over (k, bytes ∷ []) (left_by_choice choice (synced old) old.written)
 
 -- the k-th sector is not in the piece
 abbrev pub misses : ℕ → Piece → Bool
@@ -45,4 +45,4 @@ parted k piece = (if misses k piece then piece ∷ [] else part_before k piece �
 -- The record begun anew with what stood at the last sync, in which the k-th sector holds these bytes, and without what was written to
 -- it since.
 abbrev pub poked_record : ℕ → List ℕ → WriteLog → WriteLog
-poked_record k bytes r = record { began = put (k, bytes ∷ []) (synced r); past = []; written = flat_map (parted k) r.written }
+poked_record k bytes r = record { began = laid_over (k, bytes ∷ []) (synced r); past = []; written = flat_map (parted k) r.written }

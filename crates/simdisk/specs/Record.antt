@@ -24,13 +24,13 @@ abbrev pub filled : ℕ → Piece → Piece
 filled byte piece = (piece.0, replicate (length piece.1) (replicate 512 byte))
 
 -- the content with that piece laid over it
-abbrev pub put : Piece → Content → Content
-put piece c = take piece.0 c ++ (piece.1 ++ drop (piece.0 + length piece.1) c)
+abbrev pub laid_over : Piece → Content → Content
+laid_over piece c = take piece.0 c ++ (piece.1 ++ drop (piece.0 + length piece.1) c)
 
 -- the content with these pieces laid over it, one after the other
 abbrev pub replay : List Piece → Content → Content
 replay [] c = c
-replay (piece ∷ pieces) c = replay pieces (put piece c)
+replay (piece ∷ pieces) c = replay pieces (laid_over piece c)
 
 -- what stood after these syncs
 abbrev pub synced_after : List (List Piece) → Content → Content

@@ -1,7 +1,7 @@
 //! Patches laid over a content.
 ghost use Rattle.std.specs.Prelude.{◌≡◌, ◌≤◌, ◌<◌, ◌+◌, length, map, replicate};
 ghost use Rattle.disk.specs.Facts.{Written};
-ghost use Rattle.simdisk.specs.Record.{put, replay, settled, filled, ranges, AreWithin};
+ghost use Rattle.simdisk.specs.Record.{laid_over, replay, settled, filled, ranges, AreWithin};
 ghost use Rattle.simdisk.specs.Views.{pieces};
 
 use crate::patch::Patch;
@@ -11,7 +11,7 @@ use disk::Sector;
 pub(crate) fn overwrite(content: &mut Vec<Sector>, first: usize, sectors: &[Sector])
     requires { first + length sectors.now ≤ length content.old.items }
     ensures written { Written first sectors.now content.old.items content.new.items }
-    ensures put { content.new.items ≡ put (first, sectors.now) content.old.items }
+    ensures put { content.new.items ≡ laid_over (first, sectors.now) content.old.items }
 {
     content[first..first + sectors.len()].copy_from_slice(sectors);
 }
@@ -43,7 +43,7 @@ pub(crate) fn fill(content: &mut Vec<Sector>, patches: &[Patch], byte: u8)
 // Fills so many sectors from that one on with that byte.
 pub(crate) fn fill_range(content: &mut Vec<Sector>, first: usize, count: usize, byte: u8)
     requires { first + count ≤ length content.old.items }
-    ensures { content.new.items ≡ put (first, replicate count (replicate 512 byte)) content.old.items }
+    ensures { content.new.items ≡ laid_over (first, replicate count (replicate 512 byte)) content.old.items }
 {
     fill_all(&mut content[first..first + count], byte);
 }

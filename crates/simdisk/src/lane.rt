@@ -2,7 +2,7 @@
 ghost use Rattle.std.specs.Prelude.{◌≡◌, ◌≤◌, ◌+◌, length, None, false, OnOk, OnErr};
 ghost use Rattle.disk.specs.Facts.{Torn, Written, AreSectorsAt, Counts};
 ghost use Rattle.simdisk.specs.LaneRecords.{LaneCalled};
-ghost use Rattle.simdisk.specs.Record.{put};
+ghost use Rattle.simdisk.specs.Record.{laid_over};
 ghost use Rattle.simdisk.specs.Lasts.{last_of, IsAsRead};
 
 use crate::faults::Faults;
@@ -39,7 +39,7 @@ impl Last {
     // Takes over a write of these sectors from that one on.
     fn write(&mut self, first: usize, sectors: &[Sector])
         requires { HasRoom (first + length sectors.now) self.old }
-        ensures written { (c : Content) → last_of self.new (put (first, sectors.now) c) ≡ put (first, sectors.now) (last_of self.old c) }
+        ensures written { (c : Content) → last_of self.new (laid_over (first, sectors.now) c) ≡ laid_over (first, sectors.now) (last_of self.old c) }
         ensures as_read { IsAsRead self.new → IsAsRead self.old }
     {
         match self {
@@ -102,7 +102,7 @@ impl Lane for SimLane {
         ensures place { (⟦<SimLane as Lane>⟧.lane_facts self.new).first ≡ (⟦<SimLane as Lane>⟧.lane_facts self.old).first }
         ensures failures { Counts (⟦<SimLane as Lane>⟧.lane_facts self.old).failures (⟦<SimLane as Lane>⟧.lane_facts self.new).failures result }
         ensures stays { OnErr result ((⟦<SimLane as Lane>⟧.lane_facts self.new).content ≡ (⟦<SimLane as Lane>⟧.lane_facts self.old).content) }
-        ensures newest { (⟦<SimLane as RecordedLane>⟧.record self.new).newest ≡ put (first, sectors.now) (⟦<SimLane as RecordedLane>⟧.record self.old).newest }
+        ensures newest { (⟦<SimLane as RecordedLane>⟧.record self.new).newest ≡ laid_over (first, sectors.now) (⟦<SimLane as RecordedLane>⟧.record self.old).newest }
         ensures called { LaneCalled (⟦<SimLane as RecordedLane>⟧.record self.old) (⟦<SimLane as RecordedLane>⟧.record self.new) result }
     {
         self.last.write(first, sectors);

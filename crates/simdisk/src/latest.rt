@@ -2,7 +2,7 @@
 ghost use Rattle.std.specs.Prelude.{◌≡◌, ◌≤◌, ◌<◌, ◌+◌, ◌*◌, ℕ, length, map, true, false, IfOk};
 ghost use Rattle.disk.specs.Facts.{Content, Joined, lane_at};
 ghost use Rattle.simdisk.specs.Lanes.{lane_view, newest_view};
-ghost use Rattle.simdisk.specs.Record.{put};
+ghost use Rattle.simdisk.specs.Record.{laid_over};
 
 use crate::laid::overwrite;
 use crate::lane::{Bytes, SimLane};
@@ -57,8 +57,8 @@ impl Latest {
     // Takes over a write of these sectors from that one on.
     pub(crate) fn write(&mut self, first: usize, sectors: &[Sector])
         requires { first + length sectors.now ≤ length self.old.sectors.items }
-        ensures written { (c : Content) → latest_of self.new (put (first, sectors.now) c) ≡ put (first, sectors.now) (latest_of self.old c) }
-        ensures apart { self.old.as_read ≡ false → (self.new.as_read ≡ false) × (self.new.sectors.items ≡ put (first, sectors.now) self.old.sectors.items) }
+        ensures written { (c : Content) → latest_of self.new (laid_over (first, sectors.now) c) ≡ laid_over (first, sectors.now) (latest_of self.old c) }
+        ensures apart { self.old.as_read ≡ false → (self.new.as_read ≡ false) × (self.new.sectors.items ≡ laid_over (first, sectors.now) self.old.sectors.items) }
         ensures as_long { length self.new.sectors.items ≡ length self.old.sectors.items }
     {
         if !self.as_read {
@@ -70,7 +70,7 @@ impl Latest {
     pub(crate) fn write_failed(&mut self, content: &[Sector], first: usize, sectors: &[Sector])
         requires long { length self.old.sectors.items ≡ length content.now }
         requires within { first + length sectors.now ≤ length content.now }
-        ensures written { latest_of self.new content.now ≡ put (first, sectors.now) (latest_of self.old content.now) }
+        ensures written { latest_of self.new content.now ≡ laid_over (first, sectors.now) (latest_of self.old content.now) }
         ensures as_long { length self.new.sectors.items ≡ length self.old.sectors.items }
     {
         self.part(content);

@@ -18,7 +18,7 @@ pub(crate) struct Patch {
 
 impl Patch {
     ghost use Rattle.std.specs.Prelude.{◌≡◌, ◌≤◌, ◌<◌, ◌+◌, ◌^◌, length, take, drop};
-    ghost use Rattle.simdisk.specs.Record.{put, settled, filled};
+    ghost use Rattle.simdisk.specs.Record.{laid_over, settled, filled};
     ghost use Rattle.simdisk.specs.Views.{piece};
 
     // These sectors, from that one on.
@@ -36,7 +36,7 @@ impl Patch {
     pub(crate) fn settle(&self, stood: &mut Vec<Sector>, content: &[Sector])
         requires as_long { length content.now ≡ length stood.old.items }
         requires within { self.now.first + self.now.count ≤ length content.now }
-        ensures put { stood.new.items ≡ put (settled content.now (piece self.now)) stood.old.items }
+        ensures put { stood.new.items ≡ laid_over (settled content.now (piece self.now)) stood.old.items }
         ensures as_long { length stood.new.items ≡ length stood.old.items }
     {
         let end = self.first + self.count;
@@ -46,7 +46,7 @@ impl Patch {
     // Fills its sectors of that content with a byte.
     pub(crate) fn fill(&self, content: &mut Vec<Sector>, byte: u8)
         requires { self.now.first + self.now.count ≤ length content.old.items }
-        ensures put { content.new.items ≡ put (filled byte (piece self.now)) content.old.items }
+        ensures put { content.new.items ≡ laid_over (filled byte (piece self.now)) content.old.items }
         ensures as_long { length content.new.items ≡ length content.old.items }
     {
         fill_range(content, self.first, self.count, byte);

@@ -2,7 +2,7 @@ use Rattle.std.proofs.Common.{◌≡◌, ◌∙◌, ◌++◌, ◌∷◌, [], ℕ
 use Rattle.std.proofs.lemmas.List.{length-map}
 use Rattle.disk.specs.Facts.{Content, Lent, Torn, Passes}
 use Rattle.simdisk.specs.Latest.{latest_of}
-use Rattle.simdisk.specs.Record.{put, more_written, range, ranges, synced, newest, lent_piece, sim_facts}
+use Rattle.simdisk.specs.Record.{laid_over, more_written, range, ranges, synced, newest, lent_piece, sim_facts}
 use Rattle.simdisk.specs.Views.{piece, pieces}
 use Rattle.simdisk.specs.History.{log_of}
 use Rattle.simdisk.proofs.Ranges.{agrees_push}
@@ -23,8 +23,8 @@ invariant_of-self-2 c =
     let noted : log_of c.lend.new.self ≡ more_written (lent_piece l last) (log_of s.history) = c.in_ok-out.ensures.noted ∙ ap (λ (k : Content). more_written (lent_piece l k) (log_of s.history)) (c.over-last.ensures ∙ ap (λ (k : Content). latest_of s.latest k) c.deref.ensures.value ∙ sym s.newest) in
     let more : ranges (pieces c.lend.new.self.written.items) ≡ rs ++ r ∷ [] =
     ranges_written (log_of s.history) (log_of c.lend.new.self) (lent_piece l last) noted ∙ ap (λ (x : ℕ × ℕ). rs ++ x ∷ []) (range_lent l last (rw long c.requires.within)) in
-    let same : (k : Content) → k ≡ latest_of s.latest s.content.items → latest_of s.latest s.content.items ≡ put (lent_piece l k) (latest_of s.latest s.content.items) =
-    λ k is. sym (ap (λ (k : Content). put (lent_piece l k) (latest_of s.latest s.content.items)) is ∙ put_same c.args.first (c.args.lanes * c.args.each) (latest_of s.latest s.content.items) (rw (← s.newest, long) c.requires.within)) in
+    let same : (k : Content) → k ≡ latest_of s.latest s.content.items → latest_of s.latest s.content.items ≡ laid_over (lent_piece l k) (latest_of s.latest s.content.items) =
+    λ k is. sym (ap (λ (k : Content). laid_over (lent_piece l k) (latest_of s.latest s.content.items)) is ∙ put_same c.args.first (c.args.lanes * c.args.each) (latest_of s.latest s.content.items) (rw (← s.newest, long) c.requires.within)) in
     record {
       newest = newest_more (log_of s.history) (log_of c.lend.new.self) (lent_piece l last) (latest_of s.latest s.content.items) (latest_of s.latest s.content.items) noted s.newest (same last s.newest);
       room = s.room;

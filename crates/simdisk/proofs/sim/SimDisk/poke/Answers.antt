@@ -5,7 +5,7 @@ use Rattle.simdisk.specs.declared.choice.Choice.TheVariants.{New}
 use Rattle.simdisk.specs.History.{log_of}
 use Rattle.simdisk.specs.Latest.{latest_of}
 use Rattle.simdisk.specs.Pokes.{bytes_put, poked, poked_record}
-use Rattle.simdisk.specs.Record.{put, synced}
+use Rattle.simdisk.specs.Record.{laid_over, synced}
 use Rattle.simdisk.proofs.Epochs.{fits_synced}
 use Rattle.simdisk.proofs.Parts.{choices_poked, agrees_poked, crash_poked}
 use Rattle.simdisk.proofs.sim.SimDisk.poke.Goals as goal
@@ -24,10 +24,10 @@ invariant_of-self-2 c =
     let anew : r' ≡ poked_record k v r = c.in_ok-set_sector.ensures.record in
     let lt : k < length s.content.items = search rules in
     let old : k < length (synced r) = rw (← s.agrees.as_long) lt in
-    let laid : c.overwrite.new.content.items ≡ put (k, v ∷ []) s.content.items = c.overwrite.ensures.put in
+    let laid : c.overwrite.new.content.items ≡ laid_over (k, v ∷ []) s.content.items = c.overwrite.ensures.put in
     record {
       agrees = agrees_poked k v r r' anew old s.content.items c.overwrite.new.content.items s.agrees laid;
-      newest = choices_poked k v r r' anew old (fits_synced s.history) New ∙ ap (λ (x : Content). put (k, v ∷ []) x) s.newest
+      newest = choices_poked k v r r' anew old (fits_synced s.history) New ∙ ap (λ (x : Content). laid_over (k, v ∷ []) x) s.newest
           ∙ sym (c.write.ensures.written s.content.items) ∙ ap (λ (x : Content). latest_of c.write.new.self x) (sym laid);
       room = c.write.ensures.as_long ∙ s.room ∙ sym c.overwrite.ensures.written.elsewhere.as_long;
       few = s.few;
