@@ -4,7 +4,7 @@ use Rattle.std.proofs.Math.ListN.{get_or-map}
 use Rattle.std.proofs.lemmas.List.{places, get_or_append_left, get_or_push, ext_get_or, length-map, length-replicate, length-take-le}
 use Rattle.std.proofs.lemmas.Bool.{cases_lt}
 use Rattle.disk.specs.Facts.{Content, sector}
-use Rattle.simdisk.specs.Record.{Piece, laid_over, replay, synced_after, range, ranges, Untouched, AgreesOutside, AreWithin, settled, filled}
+use Rattle.simdisk.specs.Record.{Piece, laid_over, replay, synced_after, range, ranges, Untouched, AgreesOutside, AreWithin, piece_in, filled}
 
 module _ (first : ℕ) (s c : Content) (within : first + length s ≤ length c) where
   pub length-put : length (laid_over (first, s) c) ≡ length c
@@ -72,23 +72,23 @@ ranges_filled byte [] = refl
 ranges_filled byte (p ∷ ps) =
     ap (λ (n : ℕ). (p.0, n) ∷ ranges (map (filled byte) ps)) (length-replicate (length p.1) (replicate 512 byte)) ∙ ap (λ (rs : List (ℕ × ℕ)). (p.0, length p.1) ∷ rs) (ranges_filled byte ps)
 
-pub length-settled : (now : Content) (p : Piece) → p.0 + length p.1 ≤ length now → length (settled now p).1 ≡ length p.1
+pub length-settled : (now : Content) (p : Piece) → p.0 + length p.1 ≤ length now → length (piece_in now p).1 ≡ length p.1
 length-settled now p within = length-take-le (length p.1) (drop p.0 now) (omega (arith, within, length-drop p.0 now))
 
-pub ranges_settled : (now : Content) (ps : List Piece) → AreWithin (length now) (ranges ps) → ranges (map (settled now) ps) ≡ ranges ps
+pub ranges_settled : (now : Content) (ps : List Piece) → AreWithin (length now) (ranges ps) → ranges (map (piece_in now) ps) ≡ ranges ps
 ranges_settled now [] fits = refl
 ranges_settled now (p ∷ ps) fits =
-    ap (λ (n : ℕ). (p.0, n) ∷ ranges (map (settled now) ps)) (length-settled now p (fits_here (length now) p ps fits))
+    ap (λ (n : ℕ). (p.0, n) ∷ ranges (map (piece_in now) ps)) (length-settled now p (fits_here (length now) p ps fits))
     ∙ ap (λ (rs : List (ℕ × ℕ)). (p.0, length p.1) ∷ rs) (ranges_settled now ps (fits_rest (length now) p ps fits))
 
 -- pieces as they stand in a content, laid over one that is the same outside them, give that content
 settled_onto : (now : Content) (ps : List Piece) (c : Content) → length c ≡ length now → AreWithin (length now) (ranges ps) → ((k : ℕ) → Untouched (ranges ps) k → sector c k ≡ sector now k)
-    → replay (map (settled now) ps) c ≡ now
+    → replay (map (piece_in now) ps) c ≡ now
 settled_onto now [] c long fits same = ext_get_or [] c now long (λ k lt. same k tt)
 settled_onto now (p ∷ ps) c long fits same = settled_onto now ps (laid_over q c) (length-put q.0 q.1 c within ∙ long) (fits_rest (length now) p ps fits) (λ k u. here k u)
   where
     q : Piece
-    q = settled now p
+    q = piece_in now p
 
     inside : p.0 + length p.1 ≤ length now
     inside = fits_here (length now) p ps fits
@@ -111,7 +111,7 @@ settled_onto now (p ∷ ps) c long fits same = settled_onto now ps (laid_over q 
         middle : (k : ℕ) → p.0 ≤ k → k < p.0 + length p.1 → sector q.1 (k - p.0) ≡ sector now k
         middle k le lt = search (rules, places)
 
-pub replay_settled : (stood now : Content) (ps : List Piece) → AgreesOutside stood (ranges ps) now → AreWithin (length stood) (ranges ps) → replay (map (settled now) ps) stood ≡ now
+pub replay_settled : (stood now : Content) (ps : List Piece) → AgreesOutside stood (ranges ps) now → AreWithin (length stood) (ranges ps) → replay (map (piece_in now) ps) stood ≡ now
 replay_settled stood now ps agrees fits = settled_onto now ps stood (sym agrees.as_long) (rw agrees.as_long fits) (λ k u. sym (agrees.same k u))
 
 -- a range more

@@ -3,7 +3,7 @@ use Rattle.std.proofs.Common.{◌≡◌, ◌⊎◌, ◌∙◌, inl, inr, ⊎_eli
 use Rattle.std.proofs.lemmas.Bool.{cases_lt}
 use Rattle.std.proofs.lemmas.List.{places, map-set, set-get_or, length-map, length-take-le, ext_get_or}
 use Rattle.disk.specs.Facts.{Content, Torn, sector}
-use Rattle.simdisk.specs.Record.{Piece, laid_over, replay, settled, range, ranges, Untouched, AreWithin, range_at}
+use Rattle.simdisk.specs.Record.{Piece, laid_over, replay, piece_in, range, ranges, Untouched, AreWithin, range_at}
 use Rattle.simdisk.specs.Loans.{IsLatest}
 use Rattle.simdisk.specs.declared.patch.Patch.{Patch}
 use Rattle.simdisk.specs.Views.{piece, pieces}
@@ -127,12 +127,12 @@ torn_nothing first n c now none torn = ext_get_or [] now c torn.as_long (λ k lt
   | inr le ↦ torn.after k (omega (arith, le, none))
 ])
 
-pub range_settled : (now : Content) (x new : Patch) → piece new ≡ settled now (piece x) → x.first + x.count ≤ length now → range (piece new) ≡ range (piece x)
+pub range_settled : (now : Content) (x new : Patch) → piece new ≡ piece_in now (piece x) → x.first + x.count ≤ length now → range (piece new) ≡ range (piece x)
 range_settled now x new is within = ap range is ∙ ap (λ (n : ℕ). (x.first, n)) (length-settled now (piece x) (rw x.long within))
 
 -- the patch at that place, as it stands in that content
 pub newest_retaken : (patches : List Patch) (i : ℕ) (x new : Patch) (first n : ℕ) (s now : Content) → i < length patches → x ≡ get_or patches i x → AreWithin (length s) (ranges (pieces patches))
-    → IsLatest (ranges (pieces patches)) i (first, n) → piece new ≡ settled now (piece x) → Torn first n (replay (pieces patches) s) now → replay (pieces (set patches i new)) s ≡ now
+    → IsLatest (ranges (pieces patches)) i (first, n) → piece new ≡ piece_in now (piece x) → Torn first n (replay (pieces patches) s) now → replay (pieces (set patches i new)) s ≡ now
 newest_retaken patches i x new first n s now lt is fits last changed torn = ap (λ (ps : List Piece). replay ps s) set_is ∙ replaced_torn (pieces patches) i first n s now fits last torn
   where
     at : range (piece x) ≡ (first, n)

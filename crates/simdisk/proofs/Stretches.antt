@@ -2,7 +2,7 @@
 use Rattle.std.proofs.Common.{◌≡◌, ◌⊎◌, ◌∙◌, inl, inr, ⊎_elim, refl, ℕ, ◌+◌, ◌≤◌, List, [], ◌∷◌, ◌++◌, length, take, drop, map, sym, ap, subst, arith, length-append}
 use Rattle.std.proofs.lemmas.List.{map-append, take-append-le, drop-append-le, take-append-drop}
 use Rattle.disk.specs.Facts.{Content, Facts, Lent, LeavesAfter, Passes, Stays, Torn}
-use Rattle.simdisk.specs.Record.{Piece, WriteLog, replay, settled, range, ranges, synced_after, more_written, more_synced, Untouched, AgreesOutside, AreWithin, Had, sim_facts}
+use Rattle.simdisk.specs.Record.{Piece, WriteLog, replay, piece_in, range, ranges, synced_after, more_written, more_synced, Untouched, AgreesOutside, AreWithin, Had, sim_facts}
 use Rattle.simdisk.proofs.Ranges.{agrees_push, crash_write, crash_sync}
 use Rattle.simdisk.proofs.Pieces.{ranges_settled}
 
@@ -93,9 +93,9 @@ passes_sync now stood stood' r r' f g i j l next more is stood_so agrees fits fe
     before = sim_facts now stood r f i l
 
     epoch : List Piece
-    epoch = map (settled now) r.written
+    epoch = map (piece_in now) r.written
 
-    same : ranges (map (settled now) r.written) ≡ ranges r.written
+    same : ranges (map (piece_in now) r.written) ≡ ranges r.written
     same = ranges_settled now r.written (rw agrees.as_long fits)
 
     began : ℕ → Content
@@ -104,36 +104,36 @@ passes_sync now stood stood' r r' f g i j l next more is stood_so agrees fits fe
     at : (t : ℕ) → synced_after (drop t r.past) (synced_after (take t r.past) r.began) ≡ stood
     at t = synced_parts t r.past r.began ∙ stood_so
 
-    from : (t : ℕ) (c : Content) → AgreesOutside (synced_after (drop t r.past) (synced_after (take t r.past) r.began)) (ranges (map (settled now) r.written)) c → AgreesOutside stood (ranges r.written) c
-    from t c a = subst (λ (rs : List (ℕ × ℕ)). AgreesOutside stood rs c) same (subst (λ (s : Content). AgreesOutside s (ranges (map (settled now) r.written)) c) (at t) a)
+    from : (t : ℕ) (c : Content) → AgreesOutside (synced_after (drop t r.past) (synced_after (take t r.past) r.began)) (ranges (map (piece_in now) r.written)) c → AgreesOutside stood (ranges r.written) c
+    from t c a = subst (λ (rs : List (ℕ × ℕ)). AgreesOutside stood rs c) same (subst (λ (s : Content). AgreesOutside s (ranges (map (piece_in now) r.written)) c) (at t) a)
 
-    into : (t : ℕ) (c : Content) → AgreesOutside stood (ranges r.written) c → AgreesOutside (synced_after (drop t r.past) (synced_after (take t r.past) r.began)) (ranges (map (settled now) r.written)) c
-    into t c a = subst (λ (s : Content). AgreesOutside s (ranges (map (settled now) r.written)) c) (sym (at t)) (subst (λ (rs : List (ℕ × ℕ)). AgreesOutside stood rs c) (sym same) a)
+    into : (t : ℕ) (c : Content) → AgreesOutside stood (ranges r.written) c → AgreesOutside (synced_after (drop t r.past) (synced_after (take t r.past) r.began)) (ranges (map (piece_in now) r.written)) c
+    into t c a = subst (λ (s : Content). AgreesOutside s (ranges (map (piece_in now) r.written)) c) (sym (at t)) (subst (λ (rs : List (ℕ × ℕ)). AgreesOutside stood rs c) (sym same) a)
 
     step : (c : Content) → AgreesOutside now (ranges next) c → LeavesAfter (sim_facts now stood r f i l) Stays c
     step c a = (c, crash_sync stood (ranges r.written) (ranges next) now c agrees fewer a, refl)
 
     Then : ℕ → Content → Type 0
-    Then t c = Had (synced_after (take t r.past) r.began) (drop t r.past ++ map (settled now) r.written ∷ []) c
+    Then t c = Had (synced_after (take t r.past) r.began) (drop t r.past ++ map (piece_in now) r.written ∷ []) c
 
     -- the past from that moment on, with the epoch that has ended
     with_epoch : (t : ℕ) (c : Content) → t ≤ length r.past
-        → Had (synced_after (take t (r.past ++ map (settled now) r.written ∷ [])) r.began) (drop t (r.past ++ map (settled now) r.written ∷ [])) c
-        ≡ Had (synced_after (take t r.past) r.began) (drop t r.past ++ map (settled now) r.written ∷ []) c
+        → Had (synced_after (take t (r.past ++ map (piece_in now) r.written ∷ [])) r.began) (drop t (r.past ++ map (piece_in now) r.written ∷ [])) c
+        ≡ Had (synced_after (take t r.past) r.began) (drop t r.past ++ map (piece_in now) r.written ∷ []) c
     with_epoch t c le =
-        ap (λ (es : List (List Piece)). Had (synced_after es r.began) (drop t (r.past ++ map (settled now) r.written ∷ [])) c) (take-append-le t r.past (map (settled now) r.written ∷ []) le)
-        ∙ ap (λ (es : List (List Piece)). Had (synced_after (take t r.past) r.began) es c) (drop-append-le t r.past (map (settled now) r.written ∷ []) le)
+        ap (λ (es : List (List Piece)). Had (synced_after es r.began) (drop t (r.past ++ map (piece_in now) r.written ∷ [])) c) (take-append-le t r.past (map (piece_in now) r.written ∷ []) le)
+        ∙ ap (λ (es : List (List Piece)). Had (synced_after (take t r.past) r.began) es c) (drop-append-le t r.past (map (piece_in now) r.written ∷ []) le)
 
-    split : (t : ℕ) (c : Content) → Had (synced_after (take t r.past) r.began) (drop t r.past ++ map (settled now) r.written ∷ []) c → before.since t c
-    split t c had = ⊎_elim (λ h. inr h) (λ a. inl (from t c a)) (had_either (synced_after (take t r.past) r.began) (drop t r.past) (map (settled now) r.written) c had)
+    split : (t : ℕ) (c : Content) → Had (synced_after (take t r.past) r.began) (drop t r.past ++ map (piece_in now) r.written ∷ []) c → before.since t c
+    split t c had = ⊎_elim (λ h. inr h) (λ a. inl (from t c a)) (had_either (synced_after (take t r.past) r.began) (drop t r.past) (map (piece_in now) r.written) c had)
 
-    joined : (t : ℕ) (c : Content) → before.since t c → Had (synced_after (take t r.past) r.began) (drop t r.past ++ map (settled now) r.written ∷ []) c
-    joined t c left = ⊎_elim (λ a. had_last (synced_after (take t r.past) r.began) (drop t r.past) (map (settled now) r.written) c (into t c a))
-        (λ had. had_push (synced_after (take t r.past) r.began) (drop t r.past) (map (settled now) r.written) c had) left
+    joined : (t : ℕ) (c : Content) → before.since t c → Had (synced_after (take t r.past) r.began) (drop t r.past ++ map (piece_in now) r.written ∷ []) c
+    joined t c left = ⊎_elim (λ a. had_last (synced_after (take t r.past) r.began) (drop t r.past) (map (piece_in now) r.written) c (into t c a))
+        (λ had. had_push (synced_after (take t r.past) r.began) (drop t r.past) (map (piece_in now) r.written) c had) left
 
     pushed : Passes (sim_facts now stood r f i l) (sim_facts now now (more_synced now next r) g j l) Stays
     pushed = record {
-      later = omega (arith, length-append r.past (map (settled now) r.written ∷ []));
+      later = omega (arith, length-append r.past (map (piece_in now) r.written ∷ []));
       now = step;
       nothing_else = λ t c le left. ⊎_elim (λ a. inr (step c a)) (λ had. inl (split t c (subst (λ (T : Type 0). T) (with_epoch t c le) had))) left;
       keeps = λ t c le left. inr (subst (λ (T : Type 0). T) (sym (with_epoch t c le)) (joined t c left));

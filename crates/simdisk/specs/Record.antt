@@ -16,8 +16,8 @@ pub record WriteLog : Type 0 where
   pub written : List Piece
 
 -- the piece as it stands in that content
-abbrev pub settled : Content → Piece → Piece
-settled c piece = (piece.0, take (length piece.1) (drop piece.0 c))
+abbrev pub piece_in : Content → Piece → Piece
+piece_in c piece = (piece.0, take (length piece.1) (drop piece.0 c))
 
 -- the piece with that byte throughout
 abbrev pub filled : ℕ → Piece → Piece
@@ -51,7 +51,7 @@ more_written piece r = record r { written = r.written ++ piece ∷ [] }
 
 -- a sync: the pieces stand as in that content, and these are written from now on
 abbrev pub more_synced : Content → List Piece → WriteLog → WriteLog
-more_synced c pieces r = record { began = r.began; past = r.past ++ map (settled c) r.written ∷ []; written = pieces }
+more_synced c pieces r = record { began = r.began; past = r.past ++ map (piece_in c) r.written ∷ []; written = pieces }
 
 -- where a piece begins, and how many sectors it has
 abbrev pub range : Piece → ℕ × ℕ

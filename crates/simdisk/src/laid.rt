@@ -1,7 +1,7 @@
 //! Patches laid over a content.
 ghost use Rattle.std.specs.Prelude.{◌≡◌, ◌≤◌, ◌<◌, ◌+◌, length, map, replicate};
 ghost use Rattle.disk.specs.Facts.{Written};
-ghost use Rattle.simdisk.specs.Record.{laid_over, replay, settled, filled, ranges, AreWithin};
+ghost use Rattle.simdisk.specs.Record.{laid_over, replay, piece_in, filled, ranges, AreWithin};
 ghost use Rattle.simdisk.specs.Views.{pieces};
 
 use crate::patch::Patch;
@@ -21,7 +21,7 @@ pub(crate) fn overwrite(content: &mut Vec<Sector>, first: usize, sectors: &[Sect
 pub(crate) fn settle(stood: &mut Vec<Sector>, patches: &[Patch], content: &[Sector])
     requires as_long { length content.now ≡ length stood.old.items }
     requires fits { AreWithin (length stood.old.items) (ranges (pieces patches.now)) }
-    ensures { stood.new.items ≡ replay (map (settled content.now) (pieces patches.now)) stood.old.items }
+    ensures { stood.new.items ≡ replay (map (piece_in content.now) (pieces patches.now)) stood.old.items }
 {
     for patch in patches {
         patch.settle(stood, content);

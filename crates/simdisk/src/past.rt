@@ -2,7 +2,7 @@
 ghost use Rattle.std.specs.Prelude.{◌≡◌, List, [], ◌∷◌, ◌++◌, map};
 ghost use Rattle.std.specs.Borrow.{ftrue};
 ghost use Rattle.disk.specs.Facts.{Content};
-ghost use Rattle.simdisk.specs.Record.{Piece, settled};
+ghost use Rattle.simdisk.specs.Record.{Piece, piece_in};
 ghost use Rattle.simdisk.specs.Views.{pieces};
 
 use crate::patch::Patch;
@@ -33,6 +33,6 @@ impl Past {
 
     // A sync makes these patches durable, as they stand in that content.
     pub(crate) fn sync(&mut self, _patches: &[Patch], _content: &[Sector])
-        ensures { (self.new.began ≡ self.old.began) × (self.new.epochs ≡ self.old.epochs ++ map (settled _content.now) (pieces _patches.now) ∷ []) }
+        ensures { (self.new.began ≡ self.old.began) × (self.new.epochs ≡ self.old.epochs ++ map (piece_in _content.now) (pieces _patches.now) ∷ []) }
     {}
 }

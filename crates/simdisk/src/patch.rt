@@ -18,7 +18,7 @@ pub(crate) struct Patch {
 
 impl Patch {
     ghost use Rattle.std.specs.Prelude.{◌≡◌, ◌≤◌, ◌<◌, ◌+◌, ◌^◌, length, take, drop};
-    ghost use Rattle.simdisk.specs.Record.{laid_over, settled, filled};
+    ghost use Rattle.simdisk.specs.Record.{laid_over, piece_in, filled};
     ghost use Rattle.simdisk.specs.Views.{piece};
 
     // These sectors, from that one on.
@@ -36,7 +36,7 @@ impl Patch {
     pub(crate) fn settle(&self, stood: &mut Vec<Sector>, content: &[Sector])
         requires as_long { length content.now ≡ length stood.old.items }
         requires within { self.now.first + self.now.count ≤ length content.now }
-        ensures put { stood.new.items ≡ laid_over (settled content.now (piece self.now)) stood.old.items }
+        ensures put { stood.new.items ≡ laid_over (piece_in content.now (piece self.now)) stood.old.items }
         ensures as_long { length stood.new.items ≡ length stood.old.items }
     {
         let end = self.first + self.count;
@@ -81,7 +81,7 @@ impl Patch {
     // Its sectors as they stand in that content.
     pub(crate) fn retake(&mut self, content: &[Sector])
         requires { self.old.first + self.old.count ≤ length content.now }
-        ensures { piece self.new ≡ settled content.now (piece self.old) }
+        ensures { piece self.new ≡ piece_in content.now (piece self.old) }
     {
         let end = self.first + self.count;
         *self = Patch::of(self.first, &content[self.first..end]);

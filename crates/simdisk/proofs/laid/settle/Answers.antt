@@ -1,5 +1,5 @@
 use Rattle.std.proofs.Common.{◌∙◌, length, sym}
-use Rattle.simdisk.specs.Record.{settled}
+use Rattle.simdisk.specs.Record.{piece_in}
 use Rattle.simdisk.proofs.Walks.{laid_more, fits_read}
 use Rattle.simdisk.proofs.laid.settle.Goals as goal
 
@@ -14,6 +14,6 @@ settle-requires-clause-within c =
 pub loop-patch-preserved : goal.loop-patch-preserved
 loop-patch-preserved c =
     record {
-      rest = laid_more (settled c.args.content.now) c.args.patches.now c.loop-patch.patch-index c.patch-item.result c.loop-patch.stood.items c.settle.new.stood.items _ c.loop-patch-test.true c.patch-item.is c.loop-patch.invariant.rest c.settle.ensures.put;
+      rest = laid_more (piece_in c.args.content.now) c.args.patches.now c.loop-patch.patch-index c.patch-item.result c.loop-patch.stood.items c.settle.new.stood.items _ c.loop-patch-test.true c.patch-item.is c.loop-patch.invariant.rest c.settle.ensures.put;
       as_long = c.settle.ensures.as_long ∙ c.loop-patch.invariant.as_long;
     }

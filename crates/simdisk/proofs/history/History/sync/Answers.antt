@@ -1,7 +1,7 @@
 use Rattle.std.proofs.Common.{◌≡◌, ◌∙◌, ◌++◌, ◌∷◌, [], List, length, map, refl, sym, ap}
 use Rattle.disk.specs.Facts.{Content}
 use Rattle.simdisk.specs.History.{log_of}
-use Rattle.simdisk.specs.Record.{Piece, settled, replay, synced, synced_after}
+use Rattle.simdisk.specs.Record.{Piece, piece_in, replay, synced, synced_after}
 use Rattle.simdisk.specs.Views.{pieces}
 use Rattle.simdisk.proofs.Epochs.{fits_synced}
 use Rattle.simdisk.proofs.Pieces.{synced_push, replay_settled}
@@ -25,7 +25,7 @@ invariant_of-self c =
     let s = c.args.self.now in
     let now = c.args.content.now in
     let past = c.sync.ensures in
-    let epoch = map (settled now) (pieces s.written.items) in
+    let epoch = map (piece_in now) (pieces s.written.items) in
     let laid : c.settle.new.stood.items ≡ replay epoch s.stood.items = rw (← c.deref-2.ensures.value) c.settle.ensures in
     let all : replay epoch s.stood.items ≡ now = ap (λ (k : Content). replay epoch k) (sym s.stood_so) ∙ replay_settled (synced (log_of s)) now (pieces s.written.items) c.requires.agrees (fits_synced s) in
     record {
@@ -38,6 +38,6 @@ returns-clause-synced c =
     let s = c.args.self.now in
     let now = c.args.content.now in
     let past = c.sync.ensures in
-    let epoch = map (settled now) (pieces s.written.items) in
+    let epoch = map (piece_in now) (pieces s.written.items) in
     epoch_more s.past.epochs c.sync.new.self.epochs s.past.began c.sync.new.self.began (synced (log_of s)) epoch past.0 (rw (← c.deref.ensures.value) past.1) refl
     ∙ replay_settled (synced (log_of s)) now (pieces s.written.items) c.requires.agrees (fits_synced s)

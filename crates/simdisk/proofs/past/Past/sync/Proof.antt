@@ -30,7 +30,7 @@ use denote.Triple.Spec.{Meets, triple_of}
 use denote.Triple.Table.{entered}
 use denote.Triple.Walked.{says, Stays, stay_ref, stay_none_slice, walk_of, AllGo, Goes-ref, Goes-none_slice, Walks, ends_at, walked, walk_Meets}
 use Rattle.disk.specs.Facts.{Content}
-use Rattle.simdisk.specs.Record.{settled}
+use Rattle.simdisk.specs.Record.{piece_in}
 use Rattle.simdisk.specs.Views.{pieces}
 use Rattle.simdisk.specs.declared.past.Past.{Past}
 use Rattle.simdisk.specs.declared.patch.Patch.{Patch}
@@ -57,7 +57,7 @@ module _ {M : Type 1} {𝓤 : Ura M} (𝓛 : Logic 𝓤) (at_mem : Memory → SP
   args = (record { ref_ptr = (b, o); ghost_name = γ; now = h }, (ps, (c, tt)))
 
   abbrev after : Past
-  after = record { marker = h.marker; began = h.began; epochs = h.epochs ++ map (settled c.now) (pieces ps.now) ∷ [] }
+  after = record { marker = h.marker; began = h.began; epochs = h.epochs ++ map (piece_in c.now) (pieces ps.now) ∷ [] }
 
   abbrev at : List Val × (List Val × (List Val × Unit {0}))
   at = (vptr b o ∷ [], (slice_val ps.ref_ptr (length ps.now) ∷ [], (slice_val c.ref_ptr (length c.now) ∷ [], tt)))
