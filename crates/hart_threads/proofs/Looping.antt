@@ -1,7 +1,7 @@
 -- Turns one after another.
 use Rattle.std.proofs.Common.{◌≡◌, ◌⊎◌, ◌+◌, ℕ, suc, List, true, false, arith, refl, sym, ◌∙◌, subst, inl, inr}
 use Rattle.board_model.specs.Shapes.{Size}
-use Rattle.sbi.specs.Helds.{stage_by}
+use Rattle.sbi.specs.Helds.{stage_by_held}
 use Rattle.sbi.specs.declared.dispatches.Held.{Held}
 use Rattle.sbi.specs.declared.dispatches.Held.TheVariants as helds
 use Rattle.sbi_calls.specs.declared.tables.Seats.{Seats}
@@ -28,7 +28,7 @@ gives_none t by s are = record {
 
 -- ---- where the hart stands
 -- after a durable call
-pub stands_by_held : (by : ℕ) (s : Seats) (held : Held) → Acts by (stage_by held) s → StandsBy (word_by held) by s
+pub stands_by_held : (by : ℕ) (s : Seats) (held : Held) → Acts by (stage_by_held held) s → StandsBy (word_by held) by s
 stands_by_held by s helds.Goes a = (inr (inl a.0), a.1)
 stands_by_held by s helds.Asleep a = a
 stands_by_held by s (helds.Reset kind) a = a

@@ -7,7 +7,7 @@ ghost use Rattle.sbi_calls.specs.Both.{AreTablesOf, AreSeatsOf, GivesBack, Acts,
 ghost use Rattle.turns.specs.Turns.{Rests};
 ghost use Rattle.turns.specs.Own.{TurnOwn};
 ghost use Rattle.turns.specs.declared.words.Turned.TheVariants as did;
-ghost use Rattle.sbi.specs.Helds.{stage_by};
+ghost use Rattle.sbi.specs.Helds.{stage_by_held};
 ghost use Rattle.hart_threads.specs.Threads.{HeldOnce};
 
 use board_model::Shape;
@@ -88,7 +88,7 @@ pub(crate) fn make_held<R: Wait, D: Disk + Drop, C: Crew>(
     requires hart { hart.old.id < shape.now.harts }
     requires acts { Acts hart.old.id Running seats }
     ensures gives { GivesBack tables.entry.now hart.old.id seats result.0 }
-    ensures acts { Acts hart.old.id (stage_by result.1) result.0 }
+    ensures acts { Acts hart.old.id (stage_by_held result.1) result.0 }
     ensures id { hart.new.id ≡ hart.old.id }
     ensures once { HeldOnce shape.now hart.old hart.new (known seats) (known result.0) result.1 }
 {

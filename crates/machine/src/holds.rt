@@ -4,7 +4,7 @@ ghost use Rattle.std.specs.Prelude.{◌≡◌, ◌<◌, ℕ};
 ghost use Rattle.hsm_words.specs.declared.view.Stage.TheVariants.{Running};
 ghost use Rattle.sbi_abi.specs.Calls.{call_of};
 ghost use Rattle.sbi_calls.specs.Both.{TableState, IsTable, AreTablesOf, AreSeatsOf, GivesBack, Acts, harts_of};
-ghost use Rattle.sbi.specs.Helds.{stage_by, HeldAlone};
+ghost use Rattle.sbi.specs.Helds.{stage_by_held, HeldAlone};
 
 use board_model::{HartId, Shape};
 use crew::Crew;
@@ -20,7 +20,7 @@ use store::Store;
 /// them acts any more.
 fn settle(seats: Seats, tables: &Tables, by: HartId, held: Held) -> Seats
     requires seats { AreSeatsOf tables.now seats }
-    requires acts { Acts by (stage_by held) seats }
+    requires acts { Acts by (stage_by_held held) seats }
     ensures gives { GivesBack tables.entry.now by seats result }
     ensures acts { Acts by Running result }
     ensures alone { (x : TableState) → IsTable (harts_of tables.entry.now) seats x → IsTable (harts_of tables.entry.now) result x }

@@ -40,10 +40,10 @@ EndsSleep None s t held = (t ≡ s) × (held ≡ helds.Asleep)
 EndsSleep (Some e) s t held = Refuses e s t held
 
 -- where the hart then stands in the hart table
-abbrev pub stage_by : Held → Stage
-stage_by helds.Goes = Running
-stage_by helds.Asleep = Quiet
-stage_by (helds.Reset kind) = Running
+abbrev pub stage_by_held : Held → Stage
+stage_by_held helds.Goes = Running
+stage_by_held helds.Asleep = Quiet
+stage_by_held (helds.Reset kind) = Running
 
 module _ {D L : Type 0} {g : Ghosts D L} {l : Lanes L} where
   -- a reset whose arguments were checked so

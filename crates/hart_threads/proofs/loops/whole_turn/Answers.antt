@@ -1,7 +1,7 @@
 use Rattle.std.proofs.Common.{ℕ, ◌<◌, sym, ◌∙◌, subst}
 use Rattle.hsm_words.specs.declared.view.Stage.TheVariants.{Running}
 use Rattle.sbi_calls.specs.Both.{GivesBack, Acts, known}
-use Rattle.sbi.specs.Helds.{stage_by}
+use Rattle.sbi.specs.Helds.{stage_by_held}
 use Rattle.machine.specs.declared.parts.Word.{Word}
 use Rattle.turns.proofs.Begun.{gives_then}
 use Rattle.hart_threads.specs.Seated.{StandsBy}
@@ -20,7 +20,7 @@ returns-in-Durable-clause-gives g c =
 pub returns-in-Durable-clause-stands : goal.returns-in-Durable-clause-stands
 returns-in-Durable-clause-stands g c =
     let by = c.args.hart.now.id in let s = c.make_held-seats.result.0 in let held = c.make_held-seats.result.1 in
-    let acts = subst (λ (k : ℕ). Acts k (stage_by held) s) c.turn-seats.ensures.id c.make_held-seats.ensures.acts in
+    let acts = subst (λ (k : ℕ). Acts k (stage_by_held held) s) c.turn-seats.ensures.id c.make_held-seats.ensures.acts in
     subst (λ (w : Word). StandsBy w by s) (sym c.word_by.ensures) (stands_by_held by s held acts)
 
 pub returns-in-Durable-clause-id : goal.returns-in-Durable-clause-id
