@@ -17,7 +17,7 @@ use Rattle.std.specs.Prelude.{length, slice_set}
 use Rattle.std.proofs.lemmas.List.{length-set, get_or-set_other}
 use Rattle.std.proofs.lemmas.Grind.{get_or-set_at}
 use Rattle.hsm_rule.specs.States.{change_at}
-use Rattle.hsm.specs.Seen.{first_of, open_by, open_start, outside, state_at, state_in, states_in, listed, AreStates}
+use Rattle.hsm.specs.Seen.{first_of, open_by, open_start, outside, state_by_stage, state_in, states_in, listed, AreStates}
 use Rattle.hsm.proofs.Stand.{stands_stage}
 
 -- ---- a start that is pending is found
@@ -136,14 +136,14 @@ module _ (h : ℕ) (c : HartSeatView) where
         (λ v none. ⊎_elim (λ (s : first_of (open_by h c) v.actions ≡ Some (b, d)). absurd (let z : ◌≡◌ {A = Option (ℕ × ℕ)} (Some (b, d)) None = sym s ∙ none in let n : ⊥ = cc in n)) (λ (z : (first_of (open_by h c) v.actions ≡ None) × (total (claim_of h b d) v.actions ≡ 0)). z.1) (by_hart v))
         c.harts)
 
-at_running : (st : Stage) (start : Option (ℕ × ℕ)) → is_running st ≡ true → state_at st start ≡ started
+at_running : (st : Stage) (start : Option (ℕ × ℕ)) → is_running st ≡ true → state_by_stage st start ≡ started
 at_running st start e = rw e refl
 
-at_asleep : (st : Stage) (start : Option (ℕ × ℕ)) → is_asleep st ≡ true → state_at st start ≡ suspended
+at_asleep : (st : Stage) (start : Option (ℕ × ℕ)) → is_asleep st ≡ true → state_by_stage st start ≡ suspended
 at_asleep Asleep start e = refl
 at_asleep st start e = absurd (cc)
 
-at_outside : (st : Stage) (start : Option (ℕ × ℕ)) → is_outside st ≡ true → state_at st start ≡ outside start
+at_outside : (st : Stage) (start : Option (ℕ × ℕ)) → is_outside st ≡ true → state_by_stage st start ≡ outside start
 at_outside Out start e = refl
 at_outside Ready start e = refl
 at_outside (Addressed a) start e = refl
@@ -153,13 +153,13 @@ at_outside st start e = absurd (cc)
 -- the state that a view tells is the one that is computed of it
 pub state_is : (c : HartSeatView) (h : ℕ) (x : HartState) → IsIn c h x → state_in c h ≡ x
 state_is c h stopped i =
-    ap (λ (s : Stage). state_at s (open_start h c)) (stands_stage h i.0 c.harts i.1) ∙ (at_outside i.0 (open_start h c) i.2 ∙ ap outside (closed h c stopped (λ a o. refl) i.3))
+    ap (λ (s : Stage). state_by_stage s (open_start h c)) (stands_stage h i.0 c.harts i.1) ∙ (at_outside i.0 (open_start h c) i.2 ∙ ap outside (closed h c stopped (λ a o. refl) i.3))
 state_is c h (start_pending b d) i =
-    ap (λ (s : Stage). state_at s (open_start h c)) (stands_stage h i.0 c.harts i.1) ∙ (at_outside i.0 (open_start h c) i.2 ∙ ap outside (opened h c b d i.3))
+    ap (λ (s : Stage). state_by_stage s (open_start h c)) (stands_stage h i.0 c.harts i.1) ∙ (at_outside i.0 (open_start h c) i.2 ∙ ap outside (opened h c b d i.3))
 state_is c h started i =
-    ap (λ (s : Stage). state_at s (open_start h c)) (stands_stage h i.0 c.harts i.1) ∙ at_running i.0 (open_start h c) i.2
+    ap (λ (s : Stage). state_by_stage s (open_start h c)) (stands_stage h i.0 c.harts i.1) ∙ at_running i.0 (open_start h c) i.2
 state_is c h suspended i =
-    ap (λ (s : Stage). state_at s (open_start h c)) (stands_stage h i.0 c.harts i.1) ∙ at_asleep i.0 (open_start h c) i.2
+    ap (λ (s : Stage). state_by_stage s (open_start h c)) (stands_stage h i.0 c.harts i.1) ∙ at_asleep i.0 (open_start h c) i.2
 
 pub one_table : (harts : ℕ) (c : HartSeatView) (states : ℕ → HartState) → Shows harts c states → (h : ℕ) → h < harts → state_in c h ≡ states h
 one_table harts c states shown h lt = state_is c h (states h) (shown h lt)

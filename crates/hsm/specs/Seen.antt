@@ -32,12 +32,12 @@ abbrev pub outside : Option (ℕ × ℕ) → HartState
 outside None = stopped
 outside (Some p) = start_pending p.0 p.1
 
-abbrev pub state_at : Stage → Option (ℕ × ℕ) → HartState
-state_at st start = if is_running st then started else (if is_asleep st then suspended else outside start)
+abbrev pub state_by_stage : Stage → Option (ℕ × ℕ) → HartState
+state_by_stage st start = if is_running st then started else (if is_asleep st then suspended else outside start)
 
 -- the state of a hart
 abbrev pub state_in : HartSeatView → ℕ → HartState
-state_in c h = state_at (stage_of h c.harts) (open_start h c)
+state_in c h = state_by_stage (stage_of h c.harts) (open_start h c)
 
 -- the states of all harts, in the order of their numbers
 abbrev pub states_in : ℕ → HartSeatView → List HartState
