@@ -14,7 +14,7 @@ use Rattle.hsm_words.specs.declared.view.HartSeatView.{HartSeatView}
 use Rattle.hsm_rule.specs.Rule.{claim_of, entry_of, did, noted, HasNoted, stands}
 use Rattle.hsm_rule.specs.States.{HartState, stopped, start_pending, started, suspended, awaits, Says, is_outside, is_running, is_asleep, IsAt, IsIn, IsStarted, Shows, Tells, change_at, is_stopped, grant, entry, begin}
 use Rattle.hsm_steps.specs.Told.{after_claim, after_look, after_quiet, is_alone, IsOpenStart}
-use Rattle.hsm.specs.Calls.{state_of, named, is_ready, KeepsOthers}
+use Rattle.hsm.specs.Calls.{state_in_word, named, is_ready, KeepsOthers}
 use Rattle.hsm.proofs.Stand.{stands_after, stands_other}
 
 -- ---- one more action
@@ -174,7 +174,7 @@ grant_taken a o (start_pending b d) e = refl
 grant_taken a o started e = refl
 grant_taken a o suspended e = refl
 
-pub named_is : (found h : ℕ) (x : HartState) → Says found h x → state_of h found ≡ named x
+pub named_is : (found h : ℕ) (x : HartState) → Says found h x → state_in_word h found ≡ named x
 named_is found h stopped says = rw says refl
 named_is found h (start_pending a o) says = rw (says.0, says.1) refl
 named_is found h started says = rw (says.0, says.1, says.2) refl

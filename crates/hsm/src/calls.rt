@@ -8,7 +8,7 @@ ghost use Rattle.hsm_steps.specs.Told.{after_quiet};
 ghost use Rattle.hsm_steps.specs.Seating.{IsSeatOf, harts_of, hart_view_of_seat, harts_in};
 ghost use Rattle.hsm_words.specs.declared.view.Stage.TheVariants.{Out, Running, Asleep, Quiet};
 ghost use Rattle.hsm_words.specs.declared.view.Action.TheVariants.{Looked, Stopped as DidStop, Suspended as DidSuspend, Woke, Quieted, Unquieted};
-ghost use Rattle.hsm.specs.Calls.{stage_of, Sits, KeepsAll, KeepsOthers, IsOwnStatus, StandsBy, state_of, named, Starts, EntersAs, FindsNone, ActsAlone};
+ghost use Rattle.hsm.specs.Calls.{stage_of, Sits, KeepsAll, KeepsOthers, IsOwnStatus, StandsBy, state_in_word, named, Starts, EntersAs, FindsNone, ActsAlone};
 
 use crate::state::{State, state_in};
 use board_model::{Addr, HartId};
@@ -100,7 +100,7 @@ pub fn status(table: &HartTable, seat: HartSeat, by: HartId, hart: HartId) -> (H
     requires hart { hart < harts_of table.now }
     ensures seat { IsSeatOf table.entry.now result.0 }
     ensures stays { KeepsAll (harts_in seat) (harts_in result.0) }
-    ensures steps { (found : ℕ) × (result.1 ≡ state_of hart found) × HasNoted by (stage_of by (harts_in seat)) (Looked found) (harts_in seat) (harts_in result.0) }
+    ensures steps { (found : ℕ) × (result.1 ≡ state_in_word hart found) × HasNoted by (stage_of by (harts_in seat)) (Looked found) (harts_in seat) (harts_in result.0) }
     ensures fresh { IsOwnStatus hart (harts_in seat) result.1 }
     ensures own { IsSettled hart (harts_in seat) → StandsBy result.1 hart (harts_in result.0) }
     ensures alone { ActsAlone (harts_of table.entry.now) (hart_view_of_seat seat) (hart_view_of_seat result.0) (λ states. result.1 ≡ named (states hart)) (λ states. states) }

@@ -1,7 +1,7 @@
 //! The state of a hart.
 
 ghost use Rattle.std.specs.Prelude.{◌≡◌, ◌<◌};
-ghost use Rattle.hsm.specs.Calls.{code_of, state_of};
+ghost use Rattle.hsm.specs.Calls.{code_of, state_in_word};
 
 /// The state of a hart (SBI specification 2.0, chapter HSM). The standard's STOP_PENDING, SUSPEND_PENDING and
 /// RESUME_PENDING are never answered, since those changes are one step each.
@@ -30,7 +30,7 @@ impl State {
 /// The state of a hart, by the first word of the table.
 pub(crate) fn state_in(found: u64, hart: u32) -> State
     requires { hart < 8 }
-    ensures { result ≡ state_of hart found }
+    ensures { result ≡ state_in_word hart found }
 {
     if found >> hart & 1 == 0 {
         State::Stopped

@@ -7,7 +7,7 @@ use Rattle.hsm_words.specs.declared.view.Stage.TheVariants.{Out, Asleep}
 use Rattle.hsm_words.specs.declared.view.Action.{Action}
 use Rattle.hsm_words.specs.declared.view.Action.TheVariants.{Looked, Stopped as DidStop, Suspended as DidSuspend}
 use Rattle.hsm_rule.specs.Rule.{HasNoted as HartHasNoted}
-use Rattle.hsm.specs.Calls.{code_of, state_of, stage_of, Starts}
+use Rattle.hsm.specs.Calls.{code_of, state_in_word, stage_of, Starts}
 use Rattle.ipi.specs.Ledger.{HasNoted}
 use Rattle.ipi.specs.declared.view.PendingView.{PendingView}
 use Rattle.ipi.specs.declared.view.Action.TheVariants.{Raised}
@@ -42,7 +42,7 @@ Does harts by (Err e) k k' end = (k' ≡ k) × (end ≡ Answers (Err e))
 Does harts by (Ok (Value v)) k k' end = (k' ≡ k) × (end ≡ Answers (Ok v))
 Does harts by (Ok (Start h a o)) k k' end = (granted : Bool) × Starts by h a o k.harts granted k'.harts × (k'.pairs ≡ k.pairs) × (end ≡ Answers (start_answer granted))
 Does harts by (Ok Stop) k k' end = (found : ℕ) × OneStep by Out (DidStop found) k k' × (end ≡ Stops)
-Does harts by (Ok (Status h)) k k' end = (found : ℕ) × OneStep by (stage_of by k.harts) (Looked found) k k' × (end ≡ Answers (Ok (code_of (state_of h found))))
+Does harts by (Ok (Status h)) k k' end = (found : ℕ) × OneStep by (stage_of by k.harts) (Looked found) k k' × (end ≡ Answers (Ok (code_of (state_in_word h found))))
 Does harts by (Ok Suspend) k k' end = (found : ℕ) × OneStep by Asleep (DidSuspend found) k k' × (end ≡ Suspends)
 Does harts by (Ok (SuspendAfresh a o)) k k' end = (found : ℕ) × OneStep by Asleep (DidSuspend found) k k' × (end ≡ SuspendsAfresh a o)
 Does harts by (Ok (Send targets)) k k' end = (k'.harts ≡ k.harts) × Sends by targets harts k.pairs k'.pairs × (end ≡ Answers (Ok 0))

@@ -9,7 +9,7 @@ use Rattle.hart.specs.declared.Outcome.{Outcome}
 use Rattle.hart.specs.declared.Outcome.TheVariants as outcomes
 use Rattle.hsm_words.specs.declared.view.Stage.TheVariants.{Running}
 use Rattle.hsm_words.specs.declared.view.Action.TheVariants.{Looked, Woke}
-use Rattle.hsm.specs.Calls.{stage_of, state_of, EntersAs, FindsNone}
+use Rattle.hsm.specs.Calls.{stage_of, state_in_word, EntersAs, FindsNone}
 use Rattle.hsm.specs.declared.state.State.{State as Code}
 use Rattle.hsm.specs.declared.state.State.TheVariants as codes
 use Rattle.ipi.specs.Ledger.{HasNoted}
@@ -54,7 +54,7 @@ GoesOwn by codes.StartPending k k' ready = EntersOwn by k k' ready
 
 -- one look at its own state, and what follows by that
 abbrev pub BeginsOwn : ℕ → Known → Known → Ready → Type 0
-BeginsOwn by k k' ready = (found : ℕ) × (mid : Known) × OneStep by (stage_of by k.harts) (Looked found) k mid × GoesOwn by (state_of by found) mid k' ready
+BeginsOwn by k k' ready = (found : ℕ) × (mid : Known) × OneStep by (stage_of by k.harts) (Looked found) k mid × GoesOwn by (state_in_word by found) mid k' ready
 
 -- ---- after the step
 abbrev pub FinishesOwn : Size → Outcome → ArchState → ArchState → Known → Known → Turned → Type 0

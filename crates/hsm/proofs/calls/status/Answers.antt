@@ -4,7 +4,7 @@ use native.Mathlib.Decide.{ℕ_discrete}
 use Rattle.hsm_words.specs.declared.view.Stage.{Stage}
 use Rattle.hsm_words.specs.declared.view.Action.TheVariants.{Looked}
 use Rattle.hsm_rule.specs.Rule.{stands}
-use Rattle.hsm.specs.Calls.{stage_of, state_of, IsOwnStatus}
+use Rattle.hsm.specs.Calls.{stage_of, state_in_word, IsOwnStatus}
 use Rattle.hsm.proofs.Stand.{stands_after, stands_own, stands_stage, stands_by}
 use Rattle.hsm.proofs.Alone.{numbered, others, shows_same, named_is}
 use Rattle.hsm.proofs.calls.status.Goals as goal
@@ -37,6 +37,6 @@ returns-clause-alone c = λ states shown.
     let st = stage_of c.args.by c.args.seat.me.0.harts in
     let own = stands_own c.args.by c.requires.acts.0 c.args.seat.me.0.harts c.requires.acts.1 in
     let found = c.look-found.result in (
-      c.state_in.ensures ∙ (ap (λ h. state_of h found) c.number-number.ensures.value ∙ named_is found c.args.hart (states c.args.hart) (c.look-found.ensures.tells states shown c.args.hart c.requires.hart).0),
+      c.state_in.ensures ∙ (ap (λ h. state_in_word h found) c.number-number.ensures.value ∙ named_is found c.args.hart (states c.args.hart) (c.look-found.ensures.tells states shown c.args.hart c.requires.hart).0),
       shows_same c.args.table.now.table.shared.key.harts c.args.by st st (Looked found) c.args.seat.me.0 c.look-found.new.seat.me.0 c.look-found.ensures.told own (λ y at. at) (λ k a o. refl) (λ k a o. refl) states shown,
     )

@@ -4,7 +4,7 @@ use Rattle.hsm_words.specs.declared.view.Stage.TheVariants.{Running}
 use Rattle.hsm_rule.specs.Rule.{stands}
 use Rattle.hsm_rule.specs.States.{HartState}
 use Rattle.hsm_steps.specs.Seating.{harts_in}
-use Rattle.hsm.specs.Calls.{state_of}
+use Rattle.hsm.specs.Calls.{state_in_word}
 use Rattle.hsm.specs.Seen.{listed}
 use Rattle.hsm.specs.declared.state.State.{State as Code}
 use Rattle.hsm.specs.declared.state.State.TheVariants as codes
@@ -92,7 +92,7 @@ returns-in-Stopped-clause-own c =
     let step = c.status-harts.ensures.steps in
     let mid = known (record { harts = c.status-harts.result.0; pending = c.args.seats.pending }) in
     let P : Code → Type 0 = λ x. GoesOwn c.args.by x mid (known c.enter.result.0) c.enter.result.1 in
-    let goes : P (state_of c.args.by step.0) = ⊎_elim
+    let goes : P (state_in_word c.args.by step.0) = ⊎_elim
     (λ (e : c.status-harts.result.1 ≡ codes.Stopped). subst P (sym e ∙ step.1) c.enter.ensures.own)
     (λ (e : c.status-harts.result.1 ≡ codes.StartPending). subst P (sym e ∙ step.1) c.enter.ensures.own)
     c.in-Stopped.is in
