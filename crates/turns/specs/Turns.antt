@@ -48,8 +48,8 @@ abbrev pub has_pending : ℕ → List (List Bool) → Bool
 has_pending by pairs = has_true (row_of pairs by)
 
 -- the hart's pending interrupts are taken
-abbrev pub taken : TableState → ℕ → TableState
-taken t by = record t { pairs = pairs_without by t.pairs }
+abbrev pub after_take : TableState → ℕ → TableState
+after_take t by = record t { pairs = pairs_without by t.pairs }
 
 -- what a turn comes to before the step, and what the tables then are
 pub record Begun : Type 0 where
@@ -63,7 +63,7 @@ woken false by t = record { ready = readies.Idle; table = t }
 -- a STOPPED hart is idle; a pending one enters, and its interrupts are taken; a suspended one wakes where an interrupt is pending, which stays
 abbrev pub begun_by : ℕ → TableState → HartState → Begun
 begun_by by t stopped = record { ready = readies.Idle; table = t }
-begun_by by t (start_pending a o) = record { ready = readies.Enters a o; table = taken (with_state t by started) by }
+begun_by by t (start_pending a o) = record { ready = readies.Enters a o; table = after_take (with_state t by started) by }
 begun_by by t started = record { ready = readies.Steps (has_pending by t.pairs); table = t }
 begun_by by t suspended = woken (has_pending by t.pairs) by t
 
@@ -75,7 +75,7 @@ abbrev pub LooksAlone : ℕ → ℕ → Seats → Seats → Bool → Type 0
 LooksAlone harts by s s' pending = (t : TableState) → IsTable harts s t → (pending ≡ has_pending by t.pairs) × IsTable harts s' t
 
 abbrev pub TakesAlone : ℕ → ℕ → Seats → Seats → Type 0
-TakesAlone harts by s s' = (t : TableState) → IsTable harts s t → IsTable harts s' (taken t by)
+TakesAlone harts by s s' = (t : TableState) → IsTable harts s t → IsTable harts s' (after_take t by)
 
 abbrev pub IsOutside : HartState → Type 0
 IsOutside stopped = Unit {0}
@@ -102,7 +102,7 @@ turned_by afters.Durable = words.Durable
 -- the hart u and the tables x, once the step answered that, become v and y
 abbrev pub Finishes : Size → Outcome → TableState → ArchState → TableState → ArchState → Turned → Type 0
 Finishes size outcomes.Next x u y v word = (y ≡ x) × (v ≡ u) × (word ≡ words.Next)
-Finishes size outcomes.TakePending x u y v word = (y ≡ taken x u.id) × (v ≡ u) × (word ≡ words.Next)
+Finishes size outcomes.TakePending x u y v word = (y ≡ after_take x u.id) × (v ≡ u) × (word ≡ words.Next)
 Finishes size outcomes.Ecall x u y v word =
     (after : After) × Ends (answer size u.id (call_of u) x).ending u v after × (y ≡ (answer size u.id (call_of u) x).table) × (word ≡ turned_by after)
 
