@@ -9,7 +9,7 @@ use Rattle.machine.specs.Turns.{TurnsMany, MakesOneCall}
 use Rattle.machine.specs.declared.parts.Called.{Called}
 use Rattle.turns.specs.declared.words.Turned.{Turned}
 use Rattle.machine.specs.declared.parts.Word.TheVariants.{Own}
-use Rattle.machine_lines.specs.Shows.{HasHart, TurnsLine, CallLine, CsrLine, called_line, word_of}
+use Rattle.machine_lines.specs.Shows.{HasHart, TurnsLine, CallLine, CsrLine, called_line, word_after_call}
 use Rattle.machine_lines.specs.declared.line.MachineLine.{MachineLine}
 use Rattle.machine_lines.specs.declared.line.MachineLine.TheVariants as lines
 
@@ -45,7 +45,7 @@ one_call call h eid fid a0 a1 a2 old new other line also x y =
           let a = x.made has in
           let b = y.made has in
           let same = call h eid fid a0 a1 a2 old new other a.0 b.0 a.1 b.1 in
-          (same.0, a.2 ∙ (ap (λ (m : Machine). called_line h (hart_at m h) (word_of a.0)) same.0 ∙ (ap (λ (c : Called). called_line h (hart_at other h) (word_of c)) same.1 ∙ sym b.2))))
+          (same.0, a.2 ∙ (ap (λ (m : Machine). called_line h (hart_at m h) (word_after_call a.0)) same.0 ∙ (ap (λ (c : Called). called_line h (hart_at other h) (word_after_call c)) same.1 ∙ sym b.2))))
       | inr past ↦ (let lacks : HasHart old h → ⊥ = λ has. omega (arith, has, past) in
           ((x.lacks lacks).0 ∙ sym (y.lacks lacks).0, (x.lacks lacks).1 ∙ sym (y.lacks lacks).1))
     ]

@@ -46,13 +46,13 @@ called_line h s None = lines.NotStarted h
 called_line h s (Some word) = made_line h s word
 
 -- what a machine without a store made of a call
-abbrev pub word_of : Called → Option Word
-word_of NotStarted = None
-word_of (Made did) = Some (Own did)
+abbrev pub word_after_call : Called → Option Word
+word_after_call NotStarted = None
+word_after_call (Made did) = Some (Own did)
 
 -- `call H EID FID A0 A1 A2`, of a machine without a store
 pub record CallLine (h eid fid a0 a1 a2 : ℕ) (old new : Machine) (line : MachineLine) : Type 0 where
-  pub made : HasHart old h → (called : Called) × MakesOneCall h eid fid a0 a1 a2 old new called × (line ≡ called_line h (hart_at new h) (word_of called))
+  pub made : HasHart old h → (called : Called) × MakesOneCall h eid fid a0 a1 a2 old new called × (line ≡ called_line h (hart_at new h) (word_after_call called))
   pub lacks : (HasHart old h → ⊥) → (new ≡ old) × (line ≡ lines.Off)
 
 -- the board has the hart, and an interrupt is pending for it

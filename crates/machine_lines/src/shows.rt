@@ -2,7 +2,7 @@
 
 ghost use Rattle.std.specs.Prelude.{◌≡◌, ◌<◌, ◌≤◌, ◌++◌, ◌-◌, length, replicate};
 ghost use Rattle.machine.specs.Machine.{hart_at};
-ghost use Rattle.machine_lines.specs.Shows.{TurnsLine, CallLine, own_line, made_line, called_line, word_of, waits, pending_line, reg_line, pc_line, CsrLine, mem_line};
+ghost use Rattle.machine_lines.specs.Shows.{TurnsLine, CallLine, own_line, made_line, called_line, word_after_call, waits, pending_line, reg_line, pc_line, CsrLine, mem_line};
 
 use crate::line::{MachineLine, MemBytes};
 use board_model::{HartId, RAM_BASE};
@@ -43,7 +43,7 @@ pub fn turn(machine: &mut Machine, hart: HartId, count: u32) -> MachineLine
 }
 
 fn word_of(called: Called) -> Option<Word>
-    ensures { result ≡ word_of called }
+    ensures { result ≡ word_after_call called }
 {
     match called {
         Called::NotStarted => None,
