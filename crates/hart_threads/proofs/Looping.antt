@@ -6,7 +6,7 @@ use Rattle.sbi.specs.declared.dispatches.Held.{Held}
 use Rattle.sbi.specs.declared.dispatches.Held.TheVariants as helds
 use Rattle.sbi_calls.specs.declared.tables.Seats.{Seats}
 use Rattle.sbi_calls.specs.declared.tables.Tables.{Tables}
-use Rattle.sbi_calls.specs.Both.{GivesBack, Acts, AreSeatsOf}
+use Rattle.sbi_calls.specs.Both.{GivesBack, Acts, AreSeatsOfBoth}
 use Rattle.turns.specs.Turns.{Rests}
 use Rattle.turns.specs.Own.{TurnOwn}
 use Rattle.turns.specs.declared.words.Turned.{Turned}
@@ -19,7 +19,7 @@ use Rattle.hart_threads.specs.Threads.{Seated, HeldOnce, TurnOnce, TurnsOn, Loop
 use Rattle.hart_threads.specs.declared.loops.Why.TheVariants as whys
 
 -- ---- nothing was done yet
-pub gives_none : (t : Tables) (by : ℕ) (s : Seats) → AreSeatsOf t s → GivesBack t by s s
+pub gives_none : (t : Tables) (by : ℕ) (s : Seats) → AreSeatsOfBoth t s → GivesBack t by s s
 gives_none t by s are = record {
   seats = are;
   others = record { harts = refl; stages = λ k st ne x. x };

@@ -3,7 +3,7 @@
 ghost use Rattle.std.specs.Prelude.{◌≡◌, ◌<◌, ℕ, List};
 ghost use Rattle.hart.specs.Means.{Steps};
 ghost use Rattle.hsm_words.specs.declared.view.Stage.TheVariants.{Running};
-ghost use Rattle.sbi_calls.specs.Both.{AreTablesOf, AreSeatsOf, GivesBack, Acts, known};
+ghost use Rattle.sbi_calls.specs.Both.{AreTablesOf, AreSeatsOfBoth, GivesBack, Acts, known};
 ghost use Rattle.turns.specs.Turns.{Rests};
 ghost use Rattle.turns.specs.Own.{TurnOwn};
 ghost use Rattle.turns.specs.declared.words.Turned.TheVariants as did;
@@ -45,7 +45,7 @@ pub(crate) fn turn<R: Wait>(
     bus: &Mutex<Ram>,
 ) -> (Seats, Turned)
     requires tables { AreTablesOf shape.now tables.now }
-    requires seats { AreSeatsOf tables.now seats }
+    requires seats { AreSeatsOfBoth tables.now seats }
     requires hart { hart.old.id < shape.now.harts }
     requires rests { Rests hart.old.id seats }
     ensures gives { GivesBack tables.entry.now hart.old.id seats result.0 }
@@ -84,7 +84,7 @@ pub(crate) fn make_held<R: Wait, D: Disk + Drop, C: Crew>(
     crew: &C,
 ) -> (Seats, Held)
     requires tables { AreTablesOf shape.now tables.now }
-    requires seats { AreSeatsOf tables.now seats }
+    requires seats { AreSeatsOfBoth tables.now seats }
     requires hart { hart.old.id < shape.now.harts }
     requires acts { Acts hart.old.id Running seats }
     ensures gives { GivesBack tables.entry.now hart.old.id seats result.0 }

@@ -13,7 +13,7 @@ use Rattle.hsm.specs.declared.state.State.{State as Code}
 use Rattle.hsm.specs.declared.state.State.TheVariants as codes
 use Rattle.sbi_calls.specs.declared.tables.Tables.{Tables}
 use Rattle.sbi_calls.specs.declared.tables.Seats.{Seats}
-use Rattle.sbi_calls.specs.Both.{TableState, IsTable, AreSeatsOf, GivesBack, views, harts_known}
+use Rattle.sbi_calls.specs.Both.{TableState, IsTable, AreSeatsOfBoth, GivesBack, views, harts_known}
 use Rattle.turns.specs.Turns.{Finishes, FinishesAlone}
 use Rattle.turns.specs.declared.words.Turned.{Turned}
 use Rattle.machine.specs.declared.parts.Called.TheVariants.{NotStarted, Made}
@@ -25,7 +25,7 @@ abbrev pub with_harts : Seats → Seat (Unit {0}) HartSeatView → Seats
 with_harts s harts = record { harts = harts; pending = s.pending }
 
 -- a look at the hart table gives the seats back
-pub as_was : {t : Tables} (h : ℕ) (s : Seats) (harts : Seat (Unit {0}) HartSeatView) → AreSeatsOf t (with_harts s harts) → KeepsAll (views s) (seating.harts_in harts) → GivesBack t h s (with_harts s harts)
+pub as_was : {t : Tables} (h : ℕ) (s : Seats) (harts : Seat (Unit {0}) HartSeatView) → AreSeatsOfBoth t (with_harts s harts) → KeepsAll (views s) (seating.harts_in harts) → GivesBack t h s (with_harts s harts)
 as_was h s harts seats kept = record { seats = seats; others = others_kept h (views s) (seating.harts_in harts) kept; pairs = record { harts = refl; each = λ k. refl } }
 
 pub given_then : {t : Tables} (h : ℕ) (s : Seats) (harts : Seat (Unit {0}) HartSeatView) (after : Seats) → KeepsAll (views s) (seating.harts_in harts) → GivesBack t h (with_harts s harts) after → GivesBack t h s after

@@ -19,7 +19,7 @@ use Rattle.ipi.specs.Pairs as shown
 use Rattle.ipi.specs.Seen.{pair_at, ArePairs}
 use Rattle.sbi_calls.specs.declared.tables.Tables.{Tables}
 use Rattle.sbi_calls.specs.declared.tables.Seats.{Seats}
-use Rattle.sbi_calls.specs.Both.{TableState, AreTablesOf, AreSeatsOf, AreOfAll, IsTable, views, harts_known, pair_crew}
+use Rattle.sbi_calls.specs.Both.{TableState, AreTablesOf, AreSeatsOfBoth, AreOfAll, IsTable, views, harts_known, pair_crew}
 use Rattle.turns.specs.Turns.{Rests}
 use Rattle.machine.specs.Machine.{Machine, stopped_harts, only_first, none_pending, resting}
 use Rattle.machine.specs.Held.{shown_by, AreWhole, IsHeld, AreNumbered}
@@ -79,7 +79,7 @@ rests_at_first first h s stood sits =
 -- what the two tables and their seats are, just made
 pub record AreMade (size : Size) (t : Tables) (s : Seats) (first : ℕ) : Type 0 where
   pub tables : AreTablesOf size t
-  pub seats : AreSeatsOf t s
+  pub seats : AreSeatsOfBoth t s
   pub all : AreOfAll t s
   pub states : Shows size.harts (harts_known s) (opening_states first)
   pub stood : (h : ℕ) → h < size.harts → stands h (if h == first then Running else Out) (views s)

@@ -6,7 +6,7 @@ use Rattle.hsm.specs.Seen.{states_in}
 use Rattle.ipi.specs.Seen.{pairs_in}
 use Rattle.sbi_calls.specs.declared.tables.Tables.{Tables}
 use Rattle.sbi_calls.specs.declared.tables.Seats.{Seats}
-use Rattle.sbi_calls.specs.Both.{TableState, AreTablesOf, AreSeatsOf, AreOfAll, IsTable, harts_known, pair_crew}
+use Rattle.sbi_calls.specs.Both.{TableState, AreTablesOf, AreSeatsOfBoth, AreOfAll, IsTable, harts_known, pair_crew}
 use Rattle.turns.specs.Turns.{Rests}
 
 -- what seats of all harts show
@@ -19,7 +19,7 @@ table_of harts (Some s) = shown_by harts s
 
 -- The seats have every hart, and show a state of each and the pending interrupts; between two turns each hart rests.
 pub record AreWhole (harts : ℕ) (t : Tables) (s : Seats) : Type 0 where
-  pub seats : AreSeatsOf t s
+  pub seats : AreSeatsOfBoth t s
   pub all : AreOfAll t s
   pub shows : IsTable harts s (shown_by harts s)
   pub rests : (h : ℕ) → h < harts → Rests h s

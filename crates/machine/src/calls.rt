@@ -1,7 +1,7 @@
 //! A call that is made in the place of a hart.
 
 ghost use Rattle.std.specs.Prelude.{◌≡◌, ◌<◌, ℕ, List};
-ghost use Rattle.sbi_calls.specs.Both.{AreTablesOf, AreSeatsOf, GivesBack};
+ghost use Rattle.sbi_calls.specs.Both.{AreTablesOf, AreSeatsOfBoth, GivesBack};
 ghost use Rattle.turns.specs.Turns.{Rests};
 ghost use Rattle.machine.specs.Turns.{calling, MakesCallAlone};
 
@@ -45,7 +45,7 @@ pub fn make_call(
     call: &Registers,
 ) -> (Seats, Called)
     requires tables { AreTablesOf shape.now tables.now }
-    requires seats { AreSeatsOf tables.now seats }
+    requires seats { AreSeatsOfBoth tables.now seats }
     requires hart { hart.old.id < shape.now.harts }
     requires rests { Rests hart.old.id seats }
     ensures gives { GivesBack tables.entry.now hart.old.id seats result.0 }

@@ -3,7 +3,7 @@
 ghost use Rattle.std.specs.Prelude.{◌≡◌, ◌<◌, ℕ};
 ghost use Rattle.hsm_words.specs.declared.view.Stage.TheVariants.{Running};
 ghost use Rattle.sbi_abi.specs.Calls.{call_of};
-ghost use Rattle.sbi_calls.specs.Both.{TableState, IsTable, AreTablesOf, AreSeatsOf, GivesBack, Acts, harts_of};
+ghost use Rattle.sbi_calls.specs.Both.{TableState, IsTable, AreTablesOf, AreSeatsOfBoth, GivesBack, Acts, harts_of};
 ghost use Rattle.sbi.specs.Helds.{stage_by_held, HeldAlone};
 
 use board_model::{HartId, Shape};
@@ -19,7 +19,7 @@ use store::Store;
 /// Ends the quiet of a hart whose board sleeps, so that each hart of the seats is at rest. The life is over, and none of
 /// them acts any more.
 fn settle(seats: Seats, tables: &Tables, by: HartId, held: Held) -> Seats
-    requires seats { AreSeatsOf tables.now seats }
+    requires seats { AreSeatsOfBoth tables.now seats }
     requires acts { Acts by (stage_by_held held) seats }
     ensures gives { GivesBack tables.entry.now by seats result }
     ensures acts { Acts by Running result }
@@ -47,7 +47,7 @@ pub fn make_held<D: Disk + Drop, C: Crew>(
     crew: &C,
 ) -> (Seats, Held)
     requires tables { AreTablesOf shape.now tables.now }
-    requires seats { AreSeatsOf tables.now seats }
+    requires seats { AreSeatsOfBoth tables.now seats }
     requires hart { hart.old.id < shape.now.harts }
     requires acts { Acts hart.old.id Running seats }
     ensures gives { GivesBack tables.entry.now hart.old.id seats result.0 }

@@ -3,7 +3,7 @@
 ghost use Rattle.std.specs.Prelude.{◌≡◌, ◌<◌};
 ghost use Rattle.hsm_words.specs.declared.view.Stage.TheVariants.{Running};
 ghost use Rattle.sbi_abi.specs.Calls.{call_of};
-ghost use Rattle.sbi_calls.specs.Both.{AreSeatsOf, GivesBack, Acts, harts_of, known};
+ghost use Rattle.sbi_calls.specs.Both.{AreSeatsOfBoth, GivesBack, Acts, harts_of, known};
 ghost use Rattle.sbi.specs.Resets.{reset_of};
 ghost use Rattle.sbi.specs.Helds.{Refuses, MakesReset, MakesSleep, MakesHeld, SleptAlone, HeldAlone, stage_by_held};
 
@@ -63,7 +63,7 @@ fn sleep<D: Disk + Drop, C: Crew>(
     address: u64,
     opaque: u64,
 ) -> (Seats, Held)
-    requires seats { AreSeatsOf tables.now seats }
+    requires seats { AreSeatsOfBoth tables.now seats }
     requires acts { Acts hart.old.id Running seats }
     requires hart { hart.old.id < harts_of tables.now }
     ensures gives { GivesBack tables.entry.now hart.old.id seats result.0 }
@@ -112,7 +112,7 @@ pub fn dispatch_held<D: Disk + Drop, C: Crew>(
     store: &mut Store<D>,
     crew: &C,
 ) -> (Seats, Held)
-    requires seats { AreSeatsOf tables.now seats }
+    requires seats { AreSeatsOfBoth tables.now seats }
     requires acts { Acts hart.old.id Running seats }
     requires hart { hart.old.id < harts_of tables.now }
     ensures gives { GivesBack tables.entry.now hart.old.id seats result.0 }

@@ -25,8 +25,8 @@ harts_of t = harts.harts_of t.harts
 abbrev pub AreTablesOf : Size → Tables → Type 0
 AreTablesOf size t = harts_of t ≡ size.harts
 
-abbrev pub AreSeatsOf : Tables → Seats → Type 0
-AreSeatsOf t s = harts.IsSeatOf t.harts s.harts × pairs.IsSeatOf t.pending s.pending
+abbrev pub AreSeatsOfBoth : Tables → Seats → Type 0
+AreSeatsOfBoth t s = harts.IsSeatOf t.harts s.harts × pairs.IsSeatOf t.pending s.pending
 
 -- the seats have every hart of the tables, in the order of their numbers
 abbrev pub AreOfAll : Tables → Seats → Type 0
@@ -58,7 +58,7 @@ Acts by st s = stands by st (views s) × Sits by (pair_crew s)
 
 -- The seats given back are of the same tables and have the same harts, and all but the acting one stand where they stood.
 pub record GivesBack (t : Tables) (by : ℕ) (s s' : Seats) : Type 0 where
-  pub seats : AreSeatsOf t s'
+  pub seats : AreSeatsOfBoth t s'
   pub others : KeepsOthers by (views s) (views s')
   pub pairs : SameHarts (pair_crew s) (pair_crew s')
 

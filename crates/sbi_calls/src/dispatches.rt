@@ -5,7 +5,7 @@ ghost use Rattle.hsm_words.specs.declared.view.Stage.TheVariants.{Running};
 ghost use Rattle.sbi_calls.specs.Requests.{IsWithin};
 ghost use Rattle.sbi_calls.specs.Answers.{stage_of_ending, stage_by, DoesAlone, CallsAlone};
 ghost use Rattle.sbi_calls.specs.Steps.{Does, Calls};
-ghost use Rattle.sbi_calls.specs.Both.{AreTablesOf, AreSeatsOf, GivesBack, Acts, harts_of, known};
+ghost use Rattle.sbi_calls.specs.Both.{AreTablesOf, AreSeatsOfBoth, GivesBack, Acts, harts_of, known};
 
 use crate::endings::{After, Ending, end};
 use crate::requests::{Request, request_of};
@@ -18,7 +18,7 @@ use sbi_abi::{Call, SbiError};
 
 /// Does a request, by the tables.
 fn do_request(seats: Seats, tables: &Tables, by: HartId, request: Request) -> (Seats, Ending)
-    requires seats { AreSeatsOf tables.now seats }
+    requires seats { AreSeatsOfBoth tables.now seats }
     requires acts { Acts by Running seats }
     requires by { by < harts_of tables.now }
     requires within { IsWithin (harts_of tables.now) (Ok request) }
@@ -46,7 +46,7 @@ fn serve(
     by: HartId,
     asked: Result<Request, SbiError>,
 ) -> (Seats, Ending)
-    requires seats { AreSeatsOf tables.now seats }
+    requires seats { AreSeatsOfBoth tables.now seats }
     requires acts { Acts by Running seats }
     requires by { by < harts_of tables.now }
     requires within { IsWithin (harts_of tables.now) asked }
@@ -65,7 +65,7 @@ fn serve(
 /// one of the seats. A call that comes to a durable command is told so, with nothing changed.
 pub fn dispatch(hart: &mut Hart, seats: Seats, tables: &Tables, shape: &Shape) -> (Seats, After)
     requires tables { AreTablesOf shape.now tables.now }
-    requires seats { AreSeatsOf tables.now seats }
+    requires seats { AreSeatsOfBoth tables.now seats }
     requires acts { Acts hart.old.id Running seats }
     requires hart { hart.old.id < shape.now.harts }
     ensures gives { GivesBack tables.entry.now hart.old.id seats result.0 }

@@ -6,7 +6,7 @@ ghost use Rattle.ipi.specs.Seating.{IsSeatOf, harts_of, pending_view_of_seat, pe
 ghost use Rattle.ipi.specs.Seen.{ArePairs};
 ghost use Rattle.hsm_words.specs.declared.view.Stage.TheVariants.{Running};
 ghost use Rattle.sbi_calls.specs.declared.requests.Request.TheVariants.{Send};
-ghost use Rattle.sbi_calls.specs.Both.{AreSeatsOf, GivesBack, Acts, harts_of as hart_count, known};
+ghost use Rattle.sbi_calls.specs.Both.{AreSeatsOfBoth, GivesBack, Acts, harts_of as hart_count, known};
 ghost use Rattle.sbi_calls.specs.Answers.{DoesAlone, pairs_to, pairs_sent};
 ghost use Rattle.sbi_calls.specs.Steps.{Does, Sends, SendsTo};
 
@@ -63,7 +63,7 @@ fn send_all(pending: IpiSeat, tables: &Tables, by: HartId, targets: HartSet) -> 
 
 /// `send_ipi`, with its mask checked.
 pub(crate) fn send(seats: Seats, tables: &Tables, by: HartId, targets: HartSet) -> (Seats, Ending)
-    requires seats { AreSeatsOf tables.now seats }
+    requires seats { AreSeatsOfBoth tables.now seats }
     requires acts { Acts by Running seats }
     requires by { by < hart_count tables.now }
     ensures gives { GivesBack tables.entry.now by seats result.0 }

@@ -4,7 +4,7 @@ ghost use Rattle.std.specs.Prelude.{◌≡◌, ◌<◌, Ok};
 ghost use Rattle.hsm_words.specs.declared.view.Stage.TheVariants.{Running, Out, Asleep};
 ghost use Rattle.sbi_calls.specs.declared.requests.Request.TheVariants.{Start, Stop, Status, Suspend, SuspendAfresh};
 ghost use Rattle.sbi_calls.specs.declared.endings.Ending.TheVariants.{Stops, Suspends, SuspendsAfresh};
-ghost use Rattle.sbi_calls.specs.Both.{AreSeatsOf, GivesBack, Acts, harts_of, known};
+ghost use Rattle.sbi_calls.specs.Both.{AreSeatsOfBoth, GivesBack, Acts, harts_of, known};
 ghost use Rattle.sbi_calls.specs.Answers.{DoesAlone};
 ghost use Rattle.sbi_calls.specs.Steps.{Does};
 
@@ -22,7 +22,7 @@ pub(crate) fn start(
     site: Addr,
     opaque: u64,
 ) -> (Seats, Ending)
-    requires seats { AreSeatsOf tables.now seats }
+    requires seats { AreSeatsOfBoth tables.now seats }
     requires acts { Acts by Running seats }
     requires target { target < harts_of tables.now }
     ensures gives { GivesBack tables.entry.now by seats result.0 }
@@ -43,7 +43,7 @@ pub(crate) fn start(
 
 /// `hart_get_status`, with its argument checked.
 pub(crate) fn status(seats: Seats, tables: &Tables, by: HartId, target: HartId) -> (Seats, Ending)
-    requires seats { AreSeatsOf tables.now seats }
+    requires seats { AreSeatsOfBoth tables.now seats }
     requires acts { Acts by Running seats }
     requires target { target < harts_of tables.now }
     ensures gives { GivesBack tables.entry.now by seats result.0 }
@@ -58,7 +58,7 @@ pub(crate) fn status(seats: Seats, tables: &Tables, by: HartId, target: HartId) 
 
 /// `hart_stop`.
 pub(crate) fn stop(seats: Seats, tables: &Tables, by: HartId) -> (Seats, Ending)
-    requires seats { AreSeatsOf tables.now seats }
+    requires seats { AreSeatsOfBoth tables.now seats }
     requires acts { Acts by Running seats }
     requires by { by < harts_of tables.now }
     ensures gives { GivesBack tables.entry.now by seats result.0 }
@@ -75,7 +75,7 @@ pub(crate) fn stop(seats: Seats, tables: &Tables, by: HartId) -> (Seats, Ending)
 
 /// `hart_suspend`, with its arguments checked: the hart's one step.
 pub(crate) fn suspend(seats: Seats, tables: &Tables, by: HartId) -> (Seats, Ending)
-    requires seats { AreSeatsOf tables.now seats }
+    requires seats { AreSeatsOfBoth tables.now seats }
     requires acts { Acts by Running seats }
     requires by { by < harts_of tables.now }
     ensures gives { GivesBack tables.entry.now by seats result.0 }
@@ -98,7 +98,7 @@ pub(crate) fn suspend_afresh(
     site: Addr,
     opaque: u64,
 ) -> (Seats, Ending)
-    requires seats { AreSeatsOf tables.now seats }
+    requires seats { AreSeatsOfBoth tables.now seats }
     requires acts { Acts by Running seats }
     requires by { by < harts_of tables.now }
     ensures gives { GivesBack tables.entry.now by seats result.0 }

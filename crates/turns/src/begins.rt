@@ -3,7 +3,7 @@
 ghost use Rattle.std.specs.Prelude.{◌≡◌, ◌<◌};
 ghost use Rattle.hsm_words.specs.declared.view.Stage.TheVariants.{Out, Running, Asleep};
 ghost use Rattle.ipi.specs.Pairs.{Sits};
-ghost use Rattle.sbi_calls.specs.Both.{AreSeatsOf, GivesBack, Acts, harts_of, known, pair_crew};
+ghost use Rattle.sbi_calls.specs.Both.{AreSeatsOfBoth, GivesBack, Acts, harts_of, known, pair_crew};
 ghost use Rattle.turns.specs.Turns.{Rests, RestsAs, BeginsAlone, LooksAlone, TakesAlone, EntersAlone, WakesAlone};
 ghost use Rattle.turns.specs.Own.{LooksOwn, TakesOwn, EntersOwn, WakesOwn, BeginsOwn};
 
@@ -15,7 +15,7 @@ use sbi_calls::{Seats, Tables};
 /// Whether an interrupt is pending for the hart, by one look.
 #[inline(always)]
 pub fn look(seats: Seats, tables: &Tables, by: HartId) -> (Seats, bool)
-    requires seats { AreSeatsOf tables.now seats }
+    requires seats { AreSeatsOfBoth tables.now seats }
     requires by { by < harts_of tables.now }
     requires sits { Sits by (pair_crew seats) }
     ensures gives { GivesBack tables.entry.now by seats result.0 }
@@ -30,7 +30,7 @@ pub fn look(seats: Seats, tables: &Tables, by: HartId) -> (Seats, bool)
 
 /// Takes what is pending for the hart, in one step.
 pub(crate) fn take(seats: Seats, tables: &Tables, by: HartId) -> Seats
-    requires seats { AreSeatsOf tables.now seats }
+    requires seats { AreSeatsOfBoth tables.now seats }
     requires by { by < harts_of tables.now }
     requires sits { Sits by (pair_crew seats) }
     ensures gives { GivesBack tables.entry.now by seats result }
@@ -46,7 +46,7 @@ pub(crate) fn take(seats: Seats, tables: &Tables, by: HartId) -> Seats
 
 /// Enters, where the hart is START_PENDING, and takes what is pending for it.
 fn enter(seats: Seats, tables: &Tables, by: HartId) -> (Seats, Ready)
-    requires seats { AreSeatsOf tables.now seats }
+    requires seats { AreSeatsOfBoth tables.now seats }
     requires by { by < harts_of tables.now }
     requires acts { Acts by Out seats }
     ensures gives { GivesBack tables.entry.now by seats result.0 }
@@ -66,7 +66,7 @@ fn enter(seats: Seats, tables: &Tables, by: HartId) -> (Seats, Ready)
 
 /// Wakes the suspended hart where an interrupt is pending for it, which stays.
 fn wake(seats: Seats, tables: &Tables, by: HartId) -> (Seats, Ready)
-    requires seats { AreSeatsOf tables.now seats }
+    requires seats { AreSeatsOfBoth tables.now seats }
     requires by { by < harts_of tables.now }
     requires acts { Acts by Asleep seats }
     ensures gives { GivesBack tables.entry.now by seats result.0 }
@@ -90,7 +90,7 @@ fn wake(seats: Seats, tables: &Tables, by: HartId) -> (Seats, Ready)
 /// one makes a step, for which one more look says whether an interrupt is pending.
 #[inline(always)]
 pub fn begin(seats: Seats, tables: &Tables, by: HartId) -> (Seats, Ready)
-    requires seats { AreSeatsOf tables.now seats }
+    requires seats { AreSeatsOfBoth tables.now seats }
     requires by { by < harts_of tables.now }
     requires rests { Rests by seats }
     ensures gives { GivesBack tables.entry.now by seats result.0 }

@@ -1,7 +1,7 @@
 //! A whole turn, where the memory is at hand.
 
 ghost use Rattle.std.specs.Prelude.{◌≡◌, ◌<◌};
-ghost use Rattle.sbi_calls.specs.Both.{AreTablesOf, AreSeatsOf, GivesBack, known};
+ghost use Rattle.sbi_calls.specs.Both.{AreTablesOf, AreSeatsOfBoth, GivesBack, known};
 ghost use Rattle.turns.specs.Own.{TurnOwn};
 ghost use Rattle.turns.specs.Turns.{Rests, TurnsAlone};
 
@@ -22,7 +22,7 @@ pub fn turn(
     shape: &Shape,
 ) -> (Seats, Turned)
     requires tables { AreTablesOf shape.now tables.now }
-    requires seats { AreSeatsOf tables.now seats }
+    requires seats { AreSeatsOfBoth tables.now seats }
     requires hart { hart.old.id < shape.now.harts }
     requires rests { Rests hart.old.id seats }
     ensures gives { GivesBack tables.entry.now hart.old.id seats result.0 }
