@@ -3,7 +3,7 @@ ghost use Rattle.std.specs.Prelude.{◌≡◌, ◌≢◌, ◌<◌, IfOk};
 ghost use Rattle.hsm_words.specs.declared.view.Stage.TheVariants.{Out, Running};
 ghost use Rattle.hsm_rule.specs.Rule.{stands};
 ghost use Rattle.hsm_steps.specs.Seating.{IsSeatOf, harts_of, harts_in};
-ghost use Rattle.sbi_calls.specs.Both.{AreSeatsOfBoth, Acts, harts_of as hart_count};
+ghost use Rattle.sbi_calls.specs.Both.{AreSeatsOfBoth, Acts, harts_of_both as hart_count};
 
 use board_model::{Addr, Durable, HartId, Refusal, Shape};
 use crew::Turns;

@@ -3,7 +3,7 @@ use Rattle.std.specs.Prelude.{◌⊎◌, ◌<◌, ℕ}
 use Rattle.hsm_words.specs.declared.view.Stage.TheVariants.{Running, Quiet}
 use Rattle.sbi_calls.specs.declared.tables.Tables.{Tables}
 use Rattle.sbi_calls.specs.declared.tables.Seats.{Seats}
-use Rattle.sbi_calls.specs.Both.{AreSeatsOfBoth, Acts, harts_of}
+use Rattle.sbi_calls.specs.Both.{AreSeatsOfBoth, Acts, harts_of_both}
 use Rattle.turns.specs.Turns.{Rests}
 use Rattle.machine.specs.declared.parts.Word.{Word}
 use Rattle.machine.specs.declared.parts.Word.TheVariants as words
@@ -12,7 +12,7 @@ use Rattle.hart_threads.specs.declared.loops.Why.TheVariants as whys
 
 -- the hart is one of the board's and of the seats, which are the tables', and rests between two turns
 abbrev pub IsSeated : Tables → ℕ → Seats → Type 0
-IsSeated t by s = AreSeatsOfBoth t s × (by < harts_of t) × Rests by s
+IsSeated t by s = AreSeatsOfBoth t s × (by < harts_of_both t) × Rests by s
 
 -- where the hart stands after a turn: at rest, or the life is over, and it is STARTED, and quiet where its board sleeps
 abbrev pub StandsBy : Word → ℕ → Seats → Type 0

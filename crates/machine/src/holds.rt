@@ -3,7 +3,7 @@
 ghost use Rattle.std.specs.Prelude.{◌≡◌, ◌<◌, ℕ};
 ghost use Rattle.hsm_words.specs.declared.view.Stage.TheVariants.{Running};
 ghost use Rattle.sbi_abi.specs.Calls.{call_of};
-ghost use Rattle.sbi_calls.specs.Both.{TableState, IsTable, AreTablesOf, AreSeatsOfBoth, GivesBack, Acts, harts_of};
+ghost use Rattle.sbi_calls.specs.Both.{TableState, IsTable, AreTablesOf, AreSeatsOfBoth, GivesBack, Acts, harts_of_both};
 ghost use Rattle.sbi.specs.Helds.{stage_by_held, HeldAlone};
 
 use board_model::{HartId, Shape};
@@ -23,7 +23,7 @@ fn settle(seats: Seats, tables: &Tables, by: HartId, held: Held) -> Seats
     requires acts { Acts by (stage_by_held held) seats }
     ensures gives { GivesBack tables.entry.now by seats result }
     ensures acts { Acts by Running result }
-    ensures alone { (x : TableState) → IsTable (harts_of tables.entry.now) seats x → IsTable (harts_of tables.entry.now) result x }
+    ensures alone { (x : TableState) → IsTable (harts_of_both tables.entry.now) seats x → IsTable (harts_of_both tables.entry.now) result x }
 {
     match held {
         Held::Goes | Held::Reset(_) => seats,

@@ -3,7 +3,7 @@
 ghost use Rattle.std.specs.Prelude.{◌≡◌, ◌<◌};
 ghost use Rattle.hsm_words.specs.declared.view.Stage.TheVariants.{Running};
 ghost use Rattle.sbi_abi.specs.Calls.{call_of};
-ghost use Rattle.sbi_calls.specs.Both.{AreSeatsOfBoth, GivesBack, Acts, harts_of, known};
+ghost use Rattle.sbi_calls.specs.Both.{AreSeatsOfBoth, GivesBack, Acts, harts_of_both, known};
 ghost use Rattle.sbi.specs.Resets.{reset_of};
 ghost use Rattle.sbi.specs.Helds.{Refuses, MakesReset, MakesSleep, MakesHeld, SleptAlone, HeldAlone, stage_by_held};
 
@@ -65,11 +65,11 @@ fn sleep<D: Disk + Drop, C: Crew>(
 ) -> (Seats, Held)
     requires seats { AreSeatsOfBoth tables.now seats }
     requires acts { Acts hart.old.id Running seats }
-    requires hart { hart.old.id < harts_of tables.now }
+    requires hart { hart.old.id < harts_of_both tables.now }
     ensures gives { GivesBack tables.entry.now hart.old.id seats result.0 }
     ensures acts { Acts hart.old.id (stage_by_held result.1) result.0 }
-    ensures makes { MakesSleep (harts_of tables.entry.now) ram.now kind address opaque hart.old hart.new (known seats) (known result.0) store.old store.new result.1 }
-    ensures alone { SleptAlone (harts_of tables.entry.now) ram.now kind address opaque hart.old hart.new seats result.0 store.old store.new result.1 }
+    ensures makes { MakesSleep (harts_of_both tables.entry.now) ram.now kind address opaque hart.old hart.new (known seats) (known result.0) store.old store.new result.1 }
+    ensures alone { SleptAlone (harts_of_both tables.entry.now) ram.now kind address opaque hart.old hart.new seats result.0 store.old store.new result.1 }
 {
     let Seats { harts, pending } = seats;
     let by = hart.id();
@@ -114,12 +114,12 @@ pub fn dispatch_held<D: Disk + Drop, C: Crew>(
 ) -> (Seats, Held)
     requires seats { AreSeatsOfBoth tables.now seats }
     requires acts { Acts hart.old.id Running seats }
-    requires hart { hart.old.id < harts_of tables.now }
+    requires hart { hart.old.id < harts_of_both tables.now }
     ensures gives { GivesBack tables.entry.now hart.old.id seats result.0 }
     ensures acts { Acts hart.old.id (stage_by_held result.1) result.0 }
     ensures id { hart.new.id ≡ hart.old.id }
-    ensures makes { MakesHeld (harts_of tables.entry.now) ram.now (call_of hart.old) hart.old hart.new (known seats) (known result.0) store.old store.new result.1 }
-    ensures alone { HeldAlone (harts_of tables.entry.now) ram.now (call_of hart.old) hart.old hart.new seats result.0 store.old store.new result.1 }
+    ensures makes { MakesHeld (harts_of_both tables.entry.now) ram.now (call_of hart.old) hart.old hart.new (known seats) (known result.0) store.old store.new result.1 }
+    ensures alone { HeldAlone (harts_of_both tables.entry.now) ram.now (call_of hart.old) hart.old hart.new seats result.0 store.old store.new result.1 }
 {
     match Call::of(hart) {
         Call::SystemReset { kind, reason } => (seats, reset(hart, store, kind, reason)),

@@ -18,12 +18,12 @@ use Rattle.sbi_calls.specs.declared.tables.Tables.{Tables}
 use Rattle.sbi_calls.specs.declared.tables.Seats.{Seats}
 
 -- how many harts there are
-abbrev pub harts_of : Tables → ℕ
-harts_of t = harts.harts_of t.harts
+abbrev pub harts_of_both : Tables → ℕ
+harts_of_both t = harts.harts_of t.harts
 
 -- the tables of a board of that size
 abbrev pub AreTablesOf : Size → Tables → Type 0
-AreTablesOf size t = harts_of t ≡ size.harts
+AreTablesOf size t = harts_of_both t ≡ size.harts
 
 abbrev pub AreSeatsOfBoth : Tables → Seats → Type 0
 AreSeatsOfBoth t s = harts.IsSeatOf t.harts s.harts × pairs.IsSeatOf t.pending s.pending

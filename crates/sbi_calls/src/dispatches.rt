@@ -5,7 +5,7 @@ ghost use Rattle.hsm_words.specs.declared.view.Stage.TheVariants.{Running};
 ghost use Rattle.sbi_calls.specs.Requests.{IsWithin};
 ghost use Rattle.sbi_calls.specs.Answers.{stage_of_ending, stage_by, DoesAlone, CallsAlone};
 ghost use Rattle.sbi_calls.specs.Steps.{Does, Calls};
-ghost use Rattle.sbi_calls.specs.Both.{AreTablesOf, AreSeatsOfBoth, GivesBack, Acts, harts_of, known};
+ghost use Rattle.sbi_calls.specs.Both.{AreTablesOf, AreSeatsOfBoth, GivesBack, Acts, harts_of_both, known};
 
 use crate::endings::{After, Ending, end};
 use crate::requests::{Request, request_of};
@@ -20,12 +20,12 @@ use sbi_abi::{Call, SbiError};
 fn do_request(seats: Seats, tables: &Tables, by: HartId, request: Request) -> (Seats, Ending)
     requires seats { AreSeatsOfBoth tables.now seats }
     requires acts { Acts by Running seats }
-    requires by { by < harts_of tables.now }
-    requires within { IsWithin (harts_of tables.now) (Ok request) }
+    requires by { by < harts_of_both tables.now }
+    requires within { IsWithin (harts_of_both tables.now) (Ok request) }
     ensures gives { GivesBack tables.entry.now by seats result.0 }
     ensures acts { Acts by (stage_of_ending result.1) result.0 }
-    ensures does { Does (harts_of tables.entry.now) by (Ok request) (known seats) (known result.0) result.1 }
-    ensures alone { DoesAlone (harts_of tables.entry.now) by (Ok request) seats result.0 result.1 }
+    ensures does { Does (harts_of_both tables.entry.now) by (Ok request) (known seats) (known result.0) result.1 }
+    ensures alone { DoesAlone (harts_of_both tables.entry.now) by (Ok request) seats result.0 result.1 }
 {
     match request {
         Request::Value(value) => (seats, Ending::Answers(Ok(value))),
@@ -48,12 +48,12 @@ fn serve(
 ) -> (Seats, Ending)
     requires seats { AreSeatsOfBoth tables.now seats }
     requires acts { Acts by Running seats }
-    requires by { by < harts_of tables.now }
-    requires within { IsWithin (harts_of tables.now) asked }
+    requires by { by < harts_of_both tables.now }
+    requires within { IsWithin (harts_of_both tables.now) asked }
     ensures gives { GivesBack tables.entry.now by seats result.0 }
     ensures acts { Acts by (stage_of_ending result.1) result.0 }
-    ensures does { Does (harts_of tables.entry.now) by asked (known seats) (known result.0) result.1 }
-    ensures alone { DoesAlone (harts_of tables.entry.now) by asked seats result.0 result.1 }
+    ensures does { Does (harts_of_both tables.entry.now) by asked (known seats) (known result.0) result.1 }
+    ensures alone { DoesAlone (harts_of_both tables.entry.now) by asked seats result.0 result.1 }
 {
     match asked {
         Err(error) => (seats, Ending::Answers(Err(error))),

@@ -6,7 +6,7 @@ ghost use Rattle.ipi.specs.Seating.{IsSeatOf, harts_of, pending_view_of_seat, pe
 ghost use Rattle.ipi.specs.Seen.{ArePairs};
 ghost use Rattle.hsm_words.specs.declared.view.Stage.TheVariants.{Running};
 ghost use Rattle.sbi_calls.specs.declared.requests.Request.TheVariants.{Send};
-ghost use Rattle.sbi_calls.specs.Both.{AreSeatsOfBoth, GivesBack, Acts, harts_of as hart_count, known};
+ghost use Rattle.sbi_calls.specs.Both.{AreSeatsOfBoth, GivesBack, Acts, harts_of_both as hart_count, known};
 ghost use Rattle.sbi_calls.specs.Answers.{DoesAlone, pairs_to, pairs_sent};
 ghost use Rattle.sbi_calls.specs.Steps.{Does, Sends, SendsTo};
 

@@ -4,7 +4,7 @@ ghost use Rattle.std.specs.Prelude.{◌≡◌, ◌<◌, Ok};
 ghost use Rattle.hsm_words.specs.declared.view.Stage.TheVariants.{Running, Out, Asleep};
 ghost use Rattle.sbi_calls.specs.declared.requests.Request.TheVariants.{Start, Stop, Status, Suspend, SuspendAfresh};
 ghost use Rattle.sbi_calls.specs.declared.endings.Ending.TheVariants.{Stops, Suspends, SuspendsAfresh};
-ghost use Rattle.sbi_calls.specs.Both.{AreSeatsOfBoth, GivesBack, Acts, harts_of, known};
+ghost use Rattle.sbi_calls.specs.Both.{AreSeatsOfBoth, GivesBack, Acts, harts_of_both, known};
 ghost use Rattle.sbi_calls.specs.Answers.{DoesAlone};
 ghost use Rattle.sbi_calls.specs.Steps.{Does};
 
@@ -24,11 +24,11 @@ pub(crate) fn start(
 ) -> (Seats, Ending)
     requires seats { AreSeatsOfBoth tables.now seats }
     requires acts { Acts by Running seats }
-    requires target { target < harts_of tables.now }
+    requires target { target < harts_of_both tables.now }
     ensures gives { GivesBack tables.entry.now by seats result.0 }
     ensures acts { Acts by Running result.0 }
-    ensures does { Does (harts_of tables.entry.now) by (Ok (Start target site opaque)) (known seats) (known result.0) result.1 }
-    ensures alone { DoesAlone (harts_of tables.entry.now) by (Ok (Start target site opaque)) seats result.0 result.1 }
+    ensures does { Does (harts_of_both tables.entry.now) by (Ok (Start target site opaque)) (known seats) (known result.0) result.1 }
+    ensures alone { DoesAlone (harts_of_both tables.entry.now) by (Ok (Start target site opaque)) seats result.0 result.1 }
 {
     hsm::one_table();
     let Seats { harts, pending } = seats;
@@ -45,11 +45,11 @@ pub(crate) fn start(
 pub(crate) fn status(seats: Seats, tables: &Tables, by: HartId, target: HartId) -> (Seats, Ending)
     requires seats { AreSeatsOfBoth tables.now seats }
     requires acts { Acts by Running seats }
-    requires target { target < harts_of tables.now }
+    requires target { target < harts_of_both tables.now }
     ensures gives { GivesBack tables.entry.now by seats result.0 }
     ensures acts { Acts by Running result.0 }
-    ensures does { Does (harts_of tables.entry.now) by (Ok (Status target)) (known seats) (known result.0) result.1 }
-    ensures alone { DoesAlone (harts_of tables.entry.now) by (Ok (Status target)) seats result.0 result.1 }
+    ensures does { Does (harts_of_both tables.entry.now) by (Ok (Status target)) (known seats) (known result.0) result.1 }
+    ensures alone { DoesAlone (harts_of_both tables.entry.now) by (Ok (Status target)) seats result.0 result.1 }
 {
     let Seats { harts, pending } = seats;
     let (harts, state) = hsm::status(&tables.harts, harts, by, target);
@@ -60,12 +60,12 @@ pub(crate) fn status(seats: Seats, tables: &Tables, by: HartId, target: HartId) 
 pub(crate) fn stop(seats: Seats, tables: &Tables, by: HartId) -> (Seats, Ending)
     requires seats { AreSeatsOfBoth tables.now seats }
     requires acts { Acts by Running seats }
-    requires by { by < harts_of tables.now }
+    requires by { by < harts_of_both tables.now }
     ensures gives { GivesBack tables.entry.now by seats result.0 }
     ensures acts { Acts by Out result.0 }
-    ensures does { Does (harts_of tables.entry.now) by (Ok Stop) (known seats) (known result.0) result.1 }
+    ensures does { Does (harts_of_both tables.entry.now) by (Ok Stop) (known seats) (known result.0) result.1 }
     ensures ending { result.1 ≡ Stops }
-    ensures alone { DoesAlone (harts_of tables.entry.now) by (Ok Stop) seats result.0 result.1 }
+    ensures alone { DoesAlone (harts_of_both tables.entry.now) by (Ok Stop) seats result.0 result.1 }
 {
     hsm::one_table();
     let Seats { harts, pending } = seats;
@@ -77,12 +77,12 @@ pub(crate) fn stop(seats: Seats, tables: &Tables, by: HartId) -> (Seats, Ending)
 pub(crate) fn suspend(seats: Seats, tables: &Tables, by: HartId) -> (Seats, Ending)
     requires seats { AreSeatsOfBoth tables.now seats }
     requires acts { Acts by Running seats }
-    requires by { by < harts_of tables.now }
+    requires by { by < harts_of_both tables.now }
     ensures gives { GivesBack tables.entry.now by seats result.0 }
     ensures acts { Acts by Asleep result.0 }
-    ensures does { Does (harts_of tables.entry.now) by (Ok Suspend) (known seats) (known result.0) result.1 }
+    ensures does { Does (harts_of_both tables.entry.now) by (Ok Suspend) (known seats) (known result.0) result.1 }
     ensures ending { result.1 ≡ Suspends }
-    ensures alone { DoesAlone (harts_of tables.entry.now) by (Ok Suspend) seats result.0 result.1 }
+    ensures alone { DoesAlone (harts_of_both tables.entry.now) by (Ok Suspend) seats result.0 result.1 }
 {
     hsm::one_table();
     let Seats { harts, pending } = seats;
@@ -100,12 +100,12 @@ pub(crate) fn suspend_afresh(
 ) -> (Seats, Ending)
     requires seats { AreSeatsOfBoth tables.now seats }
     requires acts { Acts by Running seats }
-    requires by { by < harts_of tables.now }
+    requires by { by < harts_of_both tables.now }
     ensures gives { GivesBack tables.entry.now by seats result.0 }
     ensures acts { Acts by Asleep result.0 }
-    ensures does { Does (harts_of tables.entry.now) by (Ok (SuspendAfresh site opaque)) (known seats) (known result.0) result.1 }
+    ensures does { Does (harts_of_both tables.entry.now) by (Ok (SuspendAfresh site opaque)) (known seats) (known result.0) result.1 }
     ensures ending { result.1 ≡ SuspendsAfresh site opaque }
-    ensures alone { DoesAlone (harts_of tables.entry.now) by (Ok (SuspendAfresh site opaque)) seats result.0 result.1 }
+    ensures alone { DoesAlone (harts_of_both tables.entry.now) by (Ok (SuspendAfresh site opaque)) seats result.0 result.1 }
 {
     let (seats, _) = suspend(seats, tables, by);
     (seats, Ending::SuspendsAfresh(site, opaque))

@@ -3,7 +3,7 @@
 ghost use Rattle.std.specs.Prelude.{◌≡◌, ◌<◌};
 ghost use Rattle.hsm_words.specs.declared.view.Stage.TheVariants.{Out, Running, Asleep};
 ghost use Rattle.ipi.specs.Pairs.{Sits};
-ghost use Rattle.sbi_calls.specs.Both.{AreSeatsOfBoth, GivesBack, Acts, harts_of, known, pair_crew};
+ghost use Rattle.sbi_calls.specs.Both.{AreSeatsOfBoth, GivesBack, Acts, harts_of_both, known, pair_crew};
 ghost use Rattle.turns.specs.Turns.{Rests, RestsAs, BeginsAlone, LooksAlone, TakesAlone, EntersAlone, WakesAlone};
 ghost use Rattle.turns.specs.Own.{LooksOwn, TakesOwn, EntersOwn, WakesOwn, BeginsOwn};
 
@@ -16,12 +16,12 @@ use sbi_calls::{Seats, Tables};
 #[inline(always)]
 pub fn look(seats: Seats, tables: &Tables, by: HartId) -> (Seats, bool)
     requires seats { AreSeatsOfBoth tables.now seats }
-    requires by { by < harts_of tables.now }
+    requires by { by < harts_of_both tables.now }
     requires sits { Sits by (pair_crew seats) }
     ensures gives { GivesBack tables.entry.now by seats result.0 }
     ensures harts { result.0.harts ≡ seats.harts }
     ensures own { LooksOwn by (known seats) (known result.0) result.1 }
-    ensures alone { LooksAlone (harts_of tables.entry.now) by seats result.0 result.1 }
+    ensures alone { LooksAlone (harts_of_both tables.entry.now) by seats result.0 result.1 }
 {
     let Seats { harts, pending } = seats;
     let (pending, is) = tables.pending.pending(pending, by);
@@ -31,12 +31,12 @@ pub fn look(seats: Seats, tables: &Tables, by: HartId) -> (Seats, bool)
 /// Takes what is pending for the hart, in one step.
 pub(crate) fn take(seats: Seats, tables: &Tables, by: HartId) -> Seats
     requires seats { AreSeatsOfBoth tables.now seats }
-    requires by { by < harts_of tables.now }
+    requires by { by < harts_of_both tables.now }
     requires sits { Sits by (pair_crew seats) }
     ensures gives { GivesBack tables.entry.now by seats result }
     ensures harts { result.harts ≡ seats.harts }
     ensures own { TakesOwn by (known seats) (known result) }
-    ensures alone { TakesAlone (harts_of tables.entry.now) by seats result }
+    ensures alone { TakesAlone (harts_of_both tables.entry.now) by seats result }
 {
     ipi::one_set();
     let Seats { harts, pending } = seats;
@@ -47,12 +47,12 @@ pub(crate) fn take(seats: Seats, tables: &Tables, by: HartId) -> Seats
 /// Enters, where the hart is START_PENDING, and takes what is pending for it.
 fn enter(seats: Seats, tables: &Tables, by: HartId) -> (Seats, Ready)
     requires seats { AreSeatsOfBoth tables.now seats }
-    requires by { by < harts_of tables.now }
+    requires by { by < harts_of_both tables.now }
     requires acts { Acts by Out seats }
     ensures gives { GivesBack tables.entry.now by seats result.0 }
     ensures rests { RestsAs by result.1 result.0 }
     ensures own { EntersOwn by (known seats) (known result.0) result.1 }
-    ensures alone { EntersAlone (harts_of tables.entry.now) by seats result.0 result.1 }
+    ensures alone { EntersAlone (harts_of_both tables.entry.now) by seats result.0 result.1 }
 {
     hsm::one_table();
     let Seats { harts, pending } = seats;
@@ -67,12 +67,12 @@ fn enter(seats: Seats, tables: &Tables, by: HartId) -> (Seats, Ready)
 /// Wakes the suspended hart where an interrupt is pending for it, which stays.
 fn wake(seats: Seats, tables: &Tables, by: HartId) -> (Seats, Ready)
     requires seats { AreSeatsOfBoth tables.now seats }
-    requires by { by < harts_of tables.now }
+    requires by { by < harts_of_both tables.now }
     requires acts { Acts by Asleep seats }
     ensures gives { GivesBack tables.entry.now by seats result.0 }
     ensures rests { RestsAs by result.1 result.0 }
     ensures own { WakesOwn by (known seats) (known result.0) result.1 }
-    ensures alone { WakesAlone (harts_of tables.entry.now) by seats result.0 result.1 }
+    ensures alone { WakesAlone (harts_of_both tables.entry.now) by seats result.0 result.1 }
 {
     hsm::one_table();
     let (seats, wakes) = look(seats, tables, by);
@@ -91,12 +91,12 @@ fn wake(seats: Seats, tables: &Tables, by: HartId) -> (Seats, Ready)
 #[inline(always)]
 pub fn begin(seats: Seats, tables: &Tables, by: HartId) -> (Seats, Ready)
     requires seats { AreSeatsOfBoth tables.now seats }
-    requires by { by < harts_of tables.now }
+    requires by { by < harts_of_both tables.now }
     requires rests { Rests by seats }
     ensures gives { GivesBack tables.entry.now by seats result.0 }
     ensures rests { RestsAs by result.1 result.0 }
     ensures own { BeginsOwn by (known seats) (known result.0) result.1 }
-    ensures alone { BeginsAlone (harts_of tables.entry.now) by seats result.0 result.1 }
+    ensures alone { BeginsAlone (harts_of_both tables.entry.now) by seats result.0 result.1 }
 {
     let Seats { harts, pending } = seats;
     let (harts, state) = hsm::status(&tables.harts, harts, by, by);

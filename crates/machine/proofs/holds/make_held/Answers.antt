@@ -1,6 +1,6 @@
 use Rattle.std.proofs.Common.{ℕ, sym, ◌∙◌, subst}
 use Rattle.sbi_abi.specs.Calls.{call_of}
-use Rattle.sbi_calls.specs.Both.{GivesBack, Acts, harts_of}
+use Rattle.sbi_calls.specs.Both.{GivesBack, Acts, harts_of_both}
 use Rattle.sbi.specs.Helds.{stage_by_held}
 use Rattle.machine.proofs.Commands.{gives_then, held_then}
 use Rattle.machine.proofs.holds.make_held.Goals as goal
@@ -15,5 +15,5 @@ returns-clause-gives g c =
 
 pub returns-clause-alone : goal.returns-clause-alone
 returns-clause-alone g c =
-    held_then (harts_of c.args.tables.now) c.args.shape.now.harts c.args.ram.now (call_of c.args.hart.now) c.args.hart.now c.dispatch_held-seats.new.hart c.args.seats c.dispatch_held-seats.result.0 c.settle.result
+    held_then (harts_of_both c.args.tables.now) c.args.shape.now.harts c.args.ram.now (call_of c.args.hart.now) c.args.hart.now c.dispatch_held-seats.new.hart c.args.seats c.dispatch_held-seats.result.0 c.settle.result
     c.args.store.now c.dispatch_held-seats.new.store c.dispatch_held-seats.result.1 c.requires.tables c.dispatch_held-seats.ensures.alone c.settle.ensures.alone

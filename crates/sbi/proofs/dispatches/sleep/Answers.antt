@@ -1,18 +1,18 @@
 use Rattle.std.proofs.Common.{ℕ, refl, subst, None, Some}
 use Rattle.hsm.specs.Seen.{listed}
-use Rattle.sbi_calls.specs.Both.{harts_of}
+use Rattle.sbi_calls.specs.Both.{harts_of_both}
 use Rattle.susp.specs.Sleeps.{SleepsAlone}
 use Rattle.sbi.proofs.dispatches.sleep.Goals as goal
 
 pub returns-in-Ok-clause-alone : goal.returns-in-Ok-clause-alone
 returns-in-Ok-clause-alone g c = λ x are.
     let a = c.in-Ok.ensures.alone (listed x.states) are.0.1 in
-    let slept = subst (λ (k : ℕ). SleepsAlone (harts_of c.args.tables.now) k c.args.kind c.args.address c.args.opaque c.args.ram.now (listed x.states) c.args.store.now None c.suspend.new.store) c.id-by.ensures a.0 in
+    let slept = subst (λ (k : ℕ). SleepsAlone (harts_of_both c.args.tables.now) k c.args.kind c.args.address c.args.opaque c.args.ram.now (listed x.states) c.args.store.now None c.suspend.new.store) c.id-by.ensures a.0 in
     ((None, slept, (refl, refl)), ((are.0.0, a.1), are.1))
 
 pub returns-in-Err-clause-alone : goal.returns-in-Err-clause-alone
 returns-in-Err-clause-alone g c = λ x are.
     let a = c.in-Err.ensures.alone (listed x.states) are.0.1 in
     let e = c.in-Err.refused.1 in
-    let slept = subst (λ (k : ℕ). SleepsAlone (harts_of c.args.tables.now) k c.args.kind c.args.address c.args.opaque c.args.ram.now (listed x.states) c.args.store.now (Some e) c.suspend.new.store) c.id-by.ensures a.0 in
+    let slept = subst (λ (k : ℕ). SleepsAlone (harts_of_both c.args.tables.now) k c.args.kind c.args.address c.args.opaque c.args.ram.now (listed x.states) c.args.store.now (Some e) c.suspend.new.store) c.id-by.ensures a.0 in
     ((Some e, slept, c.refuse-held.ensures), ((are.0.0, a.1), are.1))

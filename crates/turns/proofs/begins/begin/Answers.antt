@@ -8,7 +8,7 @@ use Rattle.hsm.specs.Calls.{state_in_word}
 use Rattle.hsm.specs.Seen.{listed}
 use Rattle.hsm.specs.declared.state.State.{State as Code}
 use Rattle.hsm.specs.declared.state.State.TheVariants as codes
-use Rattle.sbi_calls.specs.Both.{harts_of, known, views, IsTable}
+use Rattle.sbi_calls.specs.Both.{harts_of_both, known, views, IsTable}
 use Rattle.turns.specs.declared.words.Ready.TheVariants as readies
 use Rattle.turns.specs.Turns.{begun_by}
 use Rattle.turns.proofs.Begun.{sits, runs, sleeps, is_out, gives_then, is_started, is_suspended, named_out, IsOutCode}
@@ -48,7 +48,7 @@ returns-in-Started-clause-alone c = λ t are.
     let a = c.status-harts.ensures.alone (listed t.states) are.0.1 in
     let e = is_started (listed t.states c.args.by) (sym a.0 ∙ c.in-Started.is) in
     let l = c.look-seats.ensures.alone t ((are.0.0, a.1), are.1) in
-    subst (λ (y : HartState). (readies.Steps c.look-seats.result.1 ≡ (begun_by c.args.by t y).ready) × IsTable (harts_of c.args.tables.now) c.look-seats.result.0 (begun_by c.args.by t y).table) (sym e)
+    subst (λ (y : HartState). (readies.Steps c.look-seats.result.1 ≡ (begun_by c.args.by t y).ready) × IsTable (harts_of_both c.args.tables.now) c.look-seats.result.0 (begun_by c.args.by t y).table) (sym e)
     (ap (λ (b : Bool). readies.Steps b) l.0, l.1)
 
 pub returns-in-Suspended-clause-gives : goal.returns-in-Suspended-clause-gives

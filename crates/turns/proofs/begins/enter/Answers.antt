@@ -6,7 +6,7 @@ use Rattle.hsm_steps.specs.Seating.{harts_in}
 use Rattle.hsm.specs.Calls.{EntersAs, FindsNone}
 use Rattle.hsm.specs.Seen.{listed, AreStates}
 use Rattle.sbi_calls.specs.declared.tables.Seats.{Seats}
-use Rattle.sbi_calls.specs.Both.{harts_of, harts_known, known, IsTable}
+use Rattle.sbi_calls.specs.Both.{harts_of_both, harts_known, known, IsTable}
 use Rattle.sbi_calls.specs.Answers.{with_state}
 use Rattle.turns.specs.declared.words.Ready.TheVariants as readies
 use Rattle.turns.specs.Turns.{begun_by}
@@ -15,7 +15,7 @@ use Rattle.turns.proofs.begins.enter.Goals as goal
 
 pub returns-in-None-clause-alone : goal.returns-in-None-clause-alone
 returns-in-None-clause-alone c = λ t are out.
-    let n = harts_of c.args.tables.now in
+    let n = harts_of_both c.args.tables.now in
     let s : Seats = record { harts = c.try_enter-harts.result.0; pending = c.args.seats.pending } in
     let a = c.try_enter-harts.ensures.alone (listed t.states) are.0.1 in
     let e = none_is (listed t.states c.args.by) out (sym c.in-None.is ∙ a.0) in
@@ -32,7 +32,7 @@ returns-in-Some-clause-gives c =
 
 pub returns-in-Some-clause-alone : goal.returns-in-Some-clause-alone
 returns-in-Some-clause-alone c = λ t are out.
-    let n = harts_of c.args.tables.now in
+    let n = harts_of_both c.args.tables.now in
     let s : Seats = record { harts = c.try_enter-harts.result.0; pending = c.args.seats.pending } in
     let p = c.in-Some.start in
     let a = c.try_enter-harts.ensures.alone (listed t.states) are.0.1 in

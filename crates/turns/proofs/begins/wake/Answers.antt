@@ -2,7 +2,7 @@ use Rattle.std.proofs.Common.{◌≡◌, Bool, true, refl, sym, ◌∙◌, subst
 use Rattle.hsm_rule.specs.States.{HartState, started}
 use Rattle.hsm.specs.Seen.{listed}
 use Rattle.sbi_calls.specs.declared.tables.Seats.{Seats}
-use Rattle.sbi_calls.specs.Both.{harts_of, known, IsTable}
+use Rattle.sbi_calls.specs.Both.{harts_of_both, known, IsTable}
 use Rattle.turns.specs.declared.words.Ready.TheVariants as readies
 use Rattle.turns.specs.Turns.{begun_by, woken}
 use Rattle.turns.proofs.Begun.{gives_then}
@@ -17,7 +17,7 @@ returns-then-wakes-clause-gives c =
 
 pub returns-then-wakes-clause-alone : goal.returns-then-wakes-clause-alone
 returns-then-wakes-clause-alone c = λ t are e.
-    let n = harts_of c.args.tables.now in
+    let n = harts_of_both c.args.tables.now in
     let s : Seats = record { harts = c.wake-harts.result; pending = c.look-seats.result.0.pending } in
     let l = c.look-seats.ensures.alone t are in
     let a = c.wake-harts.ensures.alone (listed t.states) l.1.0.1 in
@@ -28,7 +28,7 @@ returns-then-wakes-clause-alone c = λ t are e.
 
 pub returns-else-wakes-clause-alone : goal.returns-else-wakes-clause-alone
 returns-else-wakes-clause-alone c = λ t are e.
-    let n = harts_of c.args.tables.now in
+    let n = harts_of_both c.args.tables.now in
     let s = c.look-seats.result.0 in
     let l = c.look-seats.ensures.alone t are in
     let p = sym l.0 ∙ c.if-wakes.false in
