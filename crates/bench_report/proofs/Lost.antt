@@ -10,7 +10,7 @@ use Rattle.bench_report.specs.declared.printed.Printed.{Printed}
 use Rattle.bench_report.specs.declared.printed.Printed.TheVariants as printed
 use Rattle.bench_report.specs.Steps.{commands_of}
 use Rattle.bench_report.specs.Taken.{TakesAll, TakesSome, TakesFewer}
-use Rattle.bench_report.specs.Prefix.{Asked, Boot, Command, Guest, Nothing, IsOfHarts, Hides, TellsWord, TellsLine, RefusedChange, Lost, LineImplies}
+use Rattle.bench_report.specs.Prefix.{AskedLine, Boot, Command, Guest, Nothing, IsOfHarts, Hides, TellsWord, TellsLine, RefusedChange, Lost, LineImplies}
 
 none_some : (cs : List Change) (s t : DurableState) → t ≡ s → TakesSome cs s t
 none_some [] s t e = e
@@ -72,7 +72,7 @@ lost_nothing : (x : Printed) (s t : DurableState) (up now : Bool) → LineImplie
 lost_nothing (printed.On m) s t up now h = absurd h
 lost_nothing x s t up now h = h.0
 
-pub lost : (asked : Asked) (x : Printed) (s t : DurableState) (up now : Bool) → LineImplies asked x s up t now → Lost asked s up t
+pub lost : (asked : AskedLine) (x : Printed) (s t : DurableState) (up now : Bool) → LineImplies asked x s up t now → Lost asked s up t
 lost (Boot mode) x s t up now h = lost_boot mode x s t up now h
 lost (Command c) x s t up now h = lost_command c x s t up now h
 lost Guest x s t up now h = lost_guest x s t up now h

@@ -32,7 +32,7 @@ use Rattle.bench_report.specs.declared.printed.Answer.{Answer}
 use Rattle.bench_report.specs.Bench.{DiskState, Blank, Unknown, Formatted, BenchLife, Bench, blank_bench}
 use Rattle.bench_report.specs.Steps.{says, shows, out_of_memory, failed, on_with, unpowered, armed_with, formatted_anew, settled, has_machine, life_begun, commands_of, console_reported, IsOn, BootsFrom, Resumes, Begins, Boots, Opens, ShowsFound, IsOpenRefusal, PowersOn, FormatsOn, FormatStep, OnStep, ConsoleStep, PayloadStep, CallReported, GuestCall, TurnStep, CallStep, ReadStep, PokeStep, Step, Moves, Run}
 use Rattle.bench_report.specs.Reports.{IsByFirmware, AreByFirmware, IsReport}
-use Rattle.bench_report.specs.Prefix.{Asked, Boot, Command, Guest, Nothing, Hides, TellsWord, TellsLine, asked_by, RefusedChange, Lost, LineImplies, ShowsIts, IsPrefixed, resumes, RisesFrom, AreLoaded, is_format_ok, IsFoundByPrefix, KeepsPrefixLaw}
+use Rattle.bench_report.specs.Prefix.{AskedLine, Boot, Command, Guest, Nothing, Hides, TellsWord, TellsLine, asked_by, RefusedChange, Lost, LineImplies, ShowsIts, IsPrefixed, resumes, RisesFrom, AreLoaded, is_format_ok, IsFoundByPrefix, KeepsPrefixLaw}
 use Rattle.bench_report.proofs.Unsaid.{GoesBy, comes_back, turns_back}
 use Rattle.bench_report.proofs.Lost.{lost}
 use Rattle.bench_report.proofs.Serials.{serials_rise}
@@ -40,20 +40,20 @@ use Rattle.bench_report.proofs.Wholes.{IsKeptWhole, all_loaded}
 use Rattle.bench_report.proofs.Issues.{takes_more, is_up, GoesOn, IsSound, Back, joined, said, Went, Does, issued_back, AllWent, all_back}
 
 -- ---- a line that leaves what the disk stands for
-abbrev pub LineReports : Asked → Answer → Bool → Bool → DurableState → DurableState → Type 0
+abbrev pub LineReports : AskedLine → Answer → Bool → Bool → DurableState → DurableState → Type 0
 LineReports asked a up now s t = ShowsIts a.found s × LineImplies asked a.line s up t now
 
-abbrev pub Tell : Asked → Bench → Answer → Bench → Type 0
+abbrev pub Tell : AskedLine → Bench → Answer → Bench → Type 0
 Tell asked b a new = Back b new (λ s t. LineReports asked a (is_up b.power) (is_up new.power) s t)
 
-by_eqs : (asked : Asked) (b : Bench) (a x : Answer) (new n : Bench) → a ≡ x → new ≡ n → Tell asked b x n → Tell asked b a new
+by_eqs : (asked : AskedLine) (b : Bench) (a x : Answer) (new n : Bench) → a ≡ x → new ≡ n → Tell asked b x n → Tell asked b a new
 by_eqs asked b a x new n e f h =
     let P : Answer → Type 0 = λ y. Tell asked b y new in
     let Q : Bench → Type 0 = λ m. Tell asked b x m in
     subst P (sym e) (subst Q (sym f) h)
 
 -- it says a word that tells of no command, and the bench is as it was to an open
-same : (asked : Asked) (b : Bench) (a : Answer) (x : Printed) (new n : Bench) → a ≡ says x → new ≡ n → n.kept ≡ b.kept → n.disk_state ≡ b.disk_state → is_up n.power ≡ is_up b.power → GoesOn n.kept n.power → IsSound b
+same : (asked : AskedLine) (b : Bench) (a : Answer) (x : Printed) (new n : Bench) → a ≡ says x → new ≡ n → n.kept ≡ b.kept → n.disk_state ≡ b.disk_state → is_up n.power ≡ is_up b.power → GoesOn n.kept n.power → IsSound b
     → ((s t : DurableState) → t ≡ s → LineImplies asked x s (is_up b.power) t (is_up b.power)) → Tell asked b a new
 same asked b a x new n e f kept disk_state up goes sound tells =
     let P : Kept → DurableState → Type 0 = λ k t. MayFind k t in
@@ -61,7 +61,7 @@ same asked b a x new n e f kept disk_state up goes sound tells =
     by_eqs asked b a (says x) new n e f
     ((disk_state ∙ sound.0, goes), λ t found. (t, (let R : Kept → Type 0 = λ k. MayFind k t in subst R kept found), (tt, (let S : Bool → Type 0 = λ now. LineImplies asked x t (is_up b.power) t now in subst S (sym up) (tells t t refl)))))
 
-stays : (asked : Asked) (b : Bench) (a : Answer) (x : Printed) (new : Bench) → a ≡ says x → new ≡ b → IsSound b → ((s t : DurableState) → t ≡ s → LineImplies asked x s (is_up b.power) t (is_up b.power)) → Tell asked b a new
+stays : (asked : AskedLine) (b : Bench) (a : Answer) (x : Printed) (new : Bench) → a ≡ says x → new ≡ b → IsSound b → ((s t : DurableState) → t ≡ s → LineImplies asked x s (is_up b.power) t (is_up b.power)) → Tell asked b a new
 stays asked b a x new e f sound tells = same asked b a x new b e f refl refl refl sound.1 sound tells
 
 -- ---- power on
@@ -268,7 +268,7 @@ steps size (lines.FailLane x y) b a new by sound h = same Nothing b a _ new (arm
 steps size (lines.Cut fill) b a new by sound h = by_eqs Nothing b a _ new (unpowered b) h.0 h.1 ((sound.0, tt), λ t f. (t, f, (tt, (refl, refl))))
 steps size (lines.Poke x y z) b a new by sound h = absurd by
 
-lost_tells : (asked : Asked) (s t : DurableState) (up : Bool) → Lost asked s up t → LineImplies asked printed.PowerLost s up t false
+lost_tells : (asked : AskedLine) (s t : DurableState) (up : Bool) → Lost asked s up t → LineImplies asked printed.PowerLost s up t false
 lost_tells (Boot mode) s t up h = (h, refl)
 lost_tells (Command c) s t up h = (h, refl)
 lost_tells Guest s t up h = (h, refl)

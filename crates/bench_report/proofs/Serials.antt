@@ -11,7 +11,7 @@ use Rattle.bench_report.specs.declared.printed.Printed.{Printed}
 use Rattle.bench_report.specs.declared.printed.Printed.TheVariants as printed
 use Rattle.bench_report.specs.Steps.{commands_of}
 use Rattle.bench_report.specs.Taken.{TakesAll, TakesSome}
-use Rattle.bench_report.specs.Prefix.{Asked, Boot, Command, Guest, Nothing, asked_by, Lost, LineImplies, ShowsIts, IsPrefixed, serial_then, resumed, resumes, RisesFrom}
+use Rattle.bench_report.specs.Prefix.{AskedLine, Boot, Command, Guest, Nothing, asked_by, Lost, LineImplies, ShowsIts, IsPrefixed, serial_then, resumed, resumes, RisesFrom}
 use Rattle.bench_report.proofs.Lost.{lost}
 
 -- no serial below n will be resumed again
@@ -33,7 +33,7 @@ some [] n s t e a = same n s t e a
 some (c ∷ cs) n s t (inl e) a = same n s t e a
 some (c ∷ cs) n s t (inr h) a = some cs n (after s c) t h.1 (above_after n s c a)
 
-above_lost : (asked : Asked) (up : Bool) (n : ℕ) (s t : DurableState) → Lost asked s up t → Above n s → Above n t
+above_lost : (asked : AskedLine) (up : Bool) (n : ℕ) (s t : DurableState) → Lost asked s up t → Above n s → Above n t
 above_lost (Boot mode) up n s t h a = some (commands_of mode) n s t h a
 above_lost (Command c) up n s t (inl e) a = same n s t e a
 above_lost (Command c) up n s t (inr h) a = some (c ∷ []) n s t h.1 a
@@ -49,10 +49,10 @@ consumed n s t (Some i) rest e h a more =
     let at : (n ≤ i.serial) × (i.serial < s.next) = subst P e a.1 in
     (at.0, more (i.serial + 1) (same (i.serial + 1) (after s Consume) t h.1 (omega (arith, at.1), tt)))
 
-goes_on : (asked : Asked) (said : Printed) (up now : Bool) (n : ℕ) (s t : DurableState) (rest : List ℕ) → LineImplies asked said s up t now → Above n s → ((k : ℕ) → Above k t → RisesFrom k rest) → RisesFrom n rest
+goes_on : (asked : AskedLine) (said : Printed) (up now : Bool) (n : ℕ) (s t : DurableState) (rest : List ℕ) → LineImplies asked said s up t now → Above n s → ((k : ℕ) → Above k t → RisesFrom k rest) → RisesFrom n rest
 goes_on asked said up now n s t rest h a more = more n (above_lost asked up n s t (lost asked said s t up now h) a)
 
-line_rises : (found : Option Durable) (said : Printed) (asked : Asked) (up now : Bool) (n : ℕ) (s t : DurableState) (rest : List ℕ) → ShowsIts found s → LineImplies asked said s up t now → Above n s
+line_rises : (found : Option Durable) (said : Printed) (asked : AskedLine) (up now : Bool) (n : ℕ) (s t : DurableState) (rest : List ℕ) → ShowsIts found s → LineImplies asked said s up t now → Above n s
     → ((k : ℕ) → Above k t → RisesFrom k rest) → RisesFrom n (resumed found said rest)
 line_rises None said asked up now n s t rest shows h a more = goes_on asked said up now n s t rest h a more
 line_rises (Some d) (printed.On modes.Resume) (Boot mode) up now n s t rest shows h a more =

@@ -24,13 +24,13 @@ use Rattle.bench_report.specs.declared.printed.Printed.TheVariants as printed
 use Rattle.bench_report.specs.Steps.{commands_of}
 
 -- what a line asks of the disk: a boot with its commands, one command of the console, at most one that a hart makes, or none
-pub data Asked : Type 0 where
-  Boot : BootMode → Asked
-  Command : Change → Asked
-  Guest : Asked
-  Nothing : Asked
+pub data AskedLine : Type 0 where
+  Boot : BootMode → AskedLine
+  Command : Change → AskedLine
+  Guest : AskedLine
+  Nothing : AskedLine
 
-abbrev pub asked_by : Line → Asked
+abbrev pub asked_by : Line → AskedLine
 asked_by (lines.On mode) = Boot mode
 asked_by (lines.Slot n) = Command (Slot n)
 asked_by lines.Discard = Command Discard
@@ -78,7 +78,7 @@ TellsLine (shown.Called h word) s up t now = TellsWord word s up t now
 TellsLine line s up t now = Hides s up t now
 
 -- power was lost within the line: some first of its commands took effect, of which a board takes none that is off or in doubt
-abbrev pub Lost : Asked → DurableState → Bool → DurableState → Type 0
+abbrev pub Lost : AskedLine → DurableState → Bool → DurableState → Type 0
 Lost (Boot mode) s up t = TakesSome (commands_of mode) s t
 Lost (Command c) s up t = (t ≡ s) ⊎ ((up ≡ true) × TakesSome (c ∷ []) s t)
 Lost Guest s up t = (t ≡ s) ⊎ ((up ≡ true) × (c : Change) × IsOfHarts c × TakesSome (c ∷ []) s t)
@@ -86,7 +86,7 @@ Lost Nothing s up t = t ≡ s
 
 -- The state s before a line and t after it, and whether a board that is on takes commands before and after, by what the line
 -- asked and what it says.
-abbrev pub LineImplies : Asked → Printed → DurableState → Bool → DurableState → Bool → Type 0
+abbrev pub LineImplies : AskedLine → Printed → DurableState → Bool → DurableState → Bool → Type 0
 LineImplies (Boot asked) (printed.On mode) s up t now = (mode ≡ asked) × (up ≡ false) × TakesAll (commands_of asked) s t × (now ≡ true)
 LineImplies (Boot mode) (printed.OnRefused n) s up t now =
     (up ≡ false) × (now ≡ false) × ((t ≡ s) ⊎ TakesFewer (commands_of mode) s t ⊎ ((n ≡ 6) × TakesSome (commands_of mode) s t))
