@@ -38,7 +38,7 @@ use Rattle.machine.specs.declared.parts.Word.TheVariants as words
 use Rattle.board.specs.Turns as boards
 use Rattle.bench_report.specs.Below.{SimStore, IsLife, IsAs, store_size, store_fault_state, store_facts}
 use Rattle.bench_report.specs.Bench.{BenchLife, Bench}
-use Rattle.bench_report.specs.Steps.{out_of_memory, off, on_with, has_machine, acknowledged, Issued, refused, AnswersError, HartCommand, Resets, SuspendIssued, IsAlone, Sleeps, SleepsBy, MakesCall, Comes, GuestTurn, IsLastTurn, GuestTurns}
+use Rattle.bench_report.specs.Steps.{out_of_memory, off, on_with, has_machine, acknowledged, Issued, refused, AnswersError, HartCommand, Resets, SuspendIssued, IsAlone, Sleeps, SleepsBy, MakesCall, ComesTo, GuestTurn, IsLastTurn, GuestTurns}
 use Rattle.bench_report.specs.Agree.{StoreIs, DeviceIs, IsOver}
 use Rattle.bench_report.proofs.Adapted.{calm as untouched}
 use Rattle.bench_report.proofs.Commanded.{Running, follows_with, sized_for, reported_end, reported_err, reported_up, reported_down, again, calm_device, unmoved}
@@ -270,19 +270,19 @@ abbrev Comes_so : Size → (Word → Bench → Type 0) → Bench → Word → Ma
 Comes_so size step b word n new = (x : Bench) × step word x × Stands size word x n new × (x.payloads ≡ b.payloads)
 
 module _ (size : Size) (b : Bench) (life : BenchLife) (h : ℕ) (n : Machine) (old new : SimStore) (on : b.power ≡ Some life) (was : StoreIs size b.disk_state b.kept life old) (device : DeviceIs size b (store_fault_state old) (store_facts old)) where
-  called : (held : Made) → MachineCall h life.machine n old new held → Comes_so size (λ word x. Comes Durable h life b word x) b (word_by held) n new
+  called : (held : Made) → MachineCall h life.machine n old new held → Comes_so size (λ word x. ComesTo Durable h life b word x) b (word_by held) n new
   called held (after, is, e) =
       let F : Machine = record life.machine { harts = slice_set life.machine.harts h after.hart } in
       let made : n ≡ F = e ∙ ap (λ x. record { size = life.machine.size; memory = after.memory; harts = slice_set life.machine.harts h after.hart; table = x }) is.1
       ∙ ap (λ y. record { size = life.machine.size; memory = y; harts = slice_set life.machine.harts h after.hart; table = life.machine.table }) is.2 in
       makes size b life h n old new on was device after.hart made (call_of (hart_at life.machine h)) held is.0 (sized_for size b.disk_state b.kept life (store_size old) was.0)
 
-  pub comes : (did : Turned) (word : Word) → boards.Comes did h life.machine n old new word → Comes_so size (λ word x. Comes did h life b word x) b word n new
+  pub comes : (did : Turned) (word : Word) → boards.Comes did h life.machine n old new word → Comes_so size (λ word x. ComesTo did h life b word x) b word n new
   comes Durable word (held, made, e) =
-      let P : Word → Type 0 = λ w. Comes_so size (λ word x. Comes Durable h life b word x) b w n new in
+      let P : Word → Type 0 = λ w. Comes_so size (λ word x. ComesTo Durable h life b word x) b w n new in
       subst P (sym e) (called held made)
   comes did word (same, still, e) =
-      let P : Word → Type 0 = λ w. Comes_so size (λ word x. Comes did h life b word x) b w n new in
+      let P : Word → Type 0 = λ w. Comes_so size (λ word x. ComesTo did h life b word x) b w n new in
       let Q : SimStore → Type 0 = λ store. StoreIs size b.disk_state b.kept life store in
       let S : SimStore → Type 0 = λ store. DeviceIs size b (store_fault_state store) (store_facts store) in
       subst P (sym e) (b, (refl, refl), (life, on, subst Q (sym still) was, same, subst S (sym still) device), refl)

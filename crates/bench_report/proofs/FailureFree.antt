@@ -34,7 +34,7 @@ use Rattle.bench_report.specs.declared.printed.Printed.TheVariants as printed
 use Rattle.disk.specs.FaultState.{FaultArmed, CutArmed}
 use Rattle.bench_report.specs.declared.printed.Answer.{Answer}
 use Rattle.bench_report.specs.Bench.{DiskState, Blank, Unknown, Formatted, BenchLife, Bench, IsFailureFree, blank_bench}
-use Rattle.bench_report.specs.Steps.{says, off, on_with, unpowered, unknown, armed_with, formatted_anew, settled, has_machine, acknowledged, life_begun, commands_of, console_reported, Writes, IssuedBy, IssuesAll, FormatsOn, IsOn, BootsFrom, Resumes, Begins, Boots, Opens, PowersOn, FormatStep, OnStep, ConsoleStep, PayloadStep, ReadStep, PokeStep, Issued, AnswersError, HartCommand, Resets, SuspendIssued, SleepsBy, MakesCall, Comes, GuestTurn, GuestTurns, TurnStep, CallReported, GuestCall, CallStep, Step, Moves, Run}
+use Rattle.bench_report.specs.Steps.{says, off, on_with, unpowered, unknown, armed_with, formatted_anew, settled, has_machine, acknowledged, life_begun, commands_of, console_reported, Writes, IssuedBy, IssuesAll, FormatsOn, IsOn, BootsFrom, Resumes, Begins, Boots, Opens, PowersOn, FormatStep, OnStep, ConsoleStep, PayloadStep, ReadStep, PokeStep, Issued, AnswersError, HartCommand, Resets, SuspendIssued, SleepsBy, MakesCall, ComesTo, GuestTurn, GuestTurns, TurnStep, CallReported, GuestCall, CallStep, Step, Moves, Run}
 use Rattle.bench_report.specs.Reports.{IsReport}
 use Rattle.bench_report.specs.Plain.{ShowsNoFailure, ShowNoFailure}
 
@@ -192,7 +192,7 @@ makes_free (calls.SystemReset kind reason) h life b word new x free = resets_fre
 makes_free (calls.SystemSuspend kind address opaque) h life b word new (asked, checked, x) free = by_free asked opaque h life b word new x free
 makes_free call h life b word new x free = refuses_free NotSupported h life b word new x free
 
-comes_free : (did : Turned) (h : ℕ) (life : BenchLife) (b : Bench) (word : Word) (new : Bench) → Comes did h life b word new → IsFree word → AsMany b new
+comes_free : (did : Turned) (h : ℕ) (life : BenchLife) (b : Bench) (word : Word) (new : Bench) → ComesTo did h life b word new → IsFree word → AsMany b new
 comes_free Durable h life b word new x free = makes_free (call_of (hart_at life.machine h)) h life b word new x free
 comes_free did h life b word new x free = as_many b b new refl refl x.1
 

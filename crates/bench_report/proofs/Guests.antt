@@ -19,7 +19,7 @@ use Rattle.sbi_abi.specs.Calls.{call_of}
 use Rattle.sbi.specs.declared.resets.ResetType.{ResetType}
 use Rattle.sbi.specs.Resets.{reset_of}
 use Rattle.bench_report.specs.Bench.{BenchLife, Bench}
-use Rattle.bench_report.specs.Steps.{off, on_with, has_machine, refused, AnswersError, HartCommand, Resets, SuspendIssued, Sleeps, SleepsBy, MakesCall, Comes, GuestTurn, IsLastTurn, GuestTurns}
+use Rattle.bench_report.specs.Steps.{off, on_with, has_machine, refused, AnswersError, HartCommand, Resets, SuspendIssued, Sleeps, SleepsBy, MakesCall, ComesTo, GuestTurn, IsLastTurn, GuestTurns}
 use Rattle.bench_report.proofs.Determined.{Fair, fair_to, fair_then, unmoved, spoils, starves, issued_fair, Agree, same, issued, some_inj}
 
 abbrev pub IsOneTurn : Type 0
@@ -55,7 +55,7 @@ makes_fair (calls.SystemReset kind reason) h life b word new x = resets_fair (re
 makes_fair (calls.SystemSuspend kind address opaque) h life b word new (asked, checked, x) = by_fair asked opaque h life b word new x
 makes_fair call h life b word new x = refuses_fair NotSupported h life b word new x
 
-pub comes_fair : (did : Turned) (h : ℕ) (life : BenchLife) (b : Bench) (word : Word) (new : Bench) → Comes did h life b word new → Fair b new
+pub comes_fair : (did : Turned) (h : ℕ) (life : BenchLife) (b : Bench) (word : Word) (new : Bench) → ComesTo did h life b word new → Fair b new
 comes_fair Durable h life b word new x = makes_fair (call_of (hart_at life.machine h)) h life b word new x
 comes_fair did h life b word new x = unmoved b new x.1
 
@@ -136,15 +136,15 @@ makes_one (calls.SystemSuspend kind address opaque) h life b word also new last 
     by_one asked opaque h life b word also new last x (subst P (sym (checked_one life.machine.size kind address asked other checked checked2)) y)
 makes_one call h life b word also new last x y = refuses_one NotSupported h life b word also new last x y
 
-pub comes_one : (did : Turned) (h : ℕ) (life : BenchLife) (b : Bench) (word also : Word) (new last : Bench) → Comes did h life b word new → Comes did h life b also last → Agree word also new last
+pub comes_one : (did : Turned) (h : ℕ) (life : BenchLife) (b : Bench) (word also : Word) (new last : Bench) → ComesTo did h life b word new → ComesTo did h life b also last → Agree word also new last
 comes_one Durable h life b word also new last x y = makes_one (call_of (hart_at life.machine h)) h life b word also new last x y
 comes_one did h life b word also new last x y = same word also (words.Own did) new last b x.0 y.0 x.1 y.1
 
 turn_one : IsOneTurn → (h : ℕ) (life : BenchLife) (b : Bench) (word also : Word) (new last : Bench) → GuestTurn h life b word new → GuestTurn h life b also last → Agree word also new last
 turn_one one h life b word also new last (m, did, t, x) (other, did2, t2, y) =
     let e = one h life.machine m other did did2 t t2 in
-    let P : Machine → Type 0 = λ k. Comes did2 h (has_machine k life) (on_with (has_machine k life) b) also last in
-    let Q : Turned → Type 0 = λ w. Comes w h (has_machine m life) (on_with (has_machine m life) b) also last in
+    let P : Machine → Type 0 = λ k. ComesTo did2 h (has_machine k life) (on_with (has_machine k life) b) also last in
+    let Q : Turned → Type 0 = λ w. ComesTo w h (has_machine m life) (on_with (has_machine m life) b) also last in
     comes_one did h (has_machine m life) (on_with (has_machine m life) b) word also new last x (subst Q (sym e.1) (subst P (sym e.0) y))
 
 -- what a row of turns says

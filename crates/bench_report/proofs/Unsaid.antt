@@ -19,7 +19,7 @@ use Rattle.sbi.specs.Resets.{reset_of}
 use Rattle.bench_report.specs.Taken.{TakesAll, TakesSome}
 use Rattle.bench_report.specs.Bench.{BenchLife, Bench}
 use Rattle.bench_report.specs.Prefix.{IsReset, IsSuspension, IsOfHarts, Hides, TellsWord}
-use Rattle.bench_report.specs.Steps.{out_of_memory, off, on_with, has_machine, refused, AnswersError, HartCommand, Resets, SuspendIssued, Sleeps, SleepsBy, MakesCall, Comes, GuestTurn, GuestTurns}
+use Rattle.bench_report.specs.Steps.{out_of_memory, off, on_with, has_machine, refused, AnswersError, HartCommand, Resets, SuspendIssued, Sleeps, SleepsBy, MakesCall, ComesTo, GuestTurn, GuestTurns}
 use Rattle.bench_report.proofs.Issues.{takes_more, is_up, GoesOn, IsSound, Back, joined, Went, issued_back}
 
 -- the state before and after, by the word
@@ -124,7 +124,7 @@ makes_back (calls.SystemSuspend kind address opaque) h life b word new sound on 
 makes_back call h life b word new sound on x = refuses_back NotSupported h life b word new sound on x
 
 -- what comes of what the machine did, from the bench before it
-pub comes_back : (did : Turned) (h : ℕ) (life other : BenchLife) (b : Bench) (word : Word) (new : Bench) → IsSound b → b.power ≡ Some life → other.now ≡ life.now → other.doubt ≡ life.doubt → Comes did h other (on_with other b) word new → GoesBy word b new
+pub comes_back : (did : Turned) (h : ℕ) (life other : BenchLife) (b : Bench) (word : Word) (new : Bench) → IsSound b → b.power ≡ Some life → other.now ≡ life.now → other.doubt ≡ life.doubt → ComesTo did h other (on_with other b) word new → GoesBy word b new
 comes_back Durable h life other b word new sound on now doubt x =
     let start : Bench = on_with other b in
     let back : GoesBy word start new = makes_back (call_of (hart_at other.machine h)) h other start word new (same_life life b sound on other now doubt) refl x in

@@ -190,12 +190,12 @@ MakesCall (calls.SystemSuspend kind address opaque) h life b word new = (asked :
 MakesCall call h life b word new = AnswersError NotSupported h life b word new
 
 -- What comes of what hart h did, once the life has the machine: it stands at a durable call, which is made; or that is its word.
-abbrev pub Comes : Turned → ℕ → BenchLife → Bench → Word → Bench → Type 0
-Comes dids.Durable h life b word new = MakesCall (call_of (hart_at life.machine h)) h life b word new
-Comes did h life b word new = (word ≡ words.Own did) × (new ≡ b)
+abbrev pub ComesTo : Turned → ℕ → BenchLife → Bench → Word → Bench → Type 0
+ComesTo dids.Durable h life b word new = MakesCall (call_of (hart_at life.machine h)) h life b word new
+ComesTo did h life b word new = (word ≡ words.Own did) × (new ≡ b)
 
 abbrev pub GuestTurn : ℕ → BenchLife → Bench → Word → Bench → Type 0
-GuestTurn h life b word new = (m : Machine) × (did : Turned) × MakesTurn h life.machine m did × Comes did h (has_machine m life) (on_with (has_machine m life) b) word new
+GuestTurn h life b word new = (m : Machine) × (did : Turned) × MakesTurn h life.machine m did × ComesTo did h (has_machine m life) (on_with (has_machine m life) b) word new
 
 -- the turn is the last of its line, with so many that might follow: it ends the line, none is left, or a cut struck in it
 abbrev pub IsLastTurn : Word → ℕ → Bench → Type 0
@@ -330,7 +330,7 @@ CallReported h (words.Reset kind) new answer = answer ≡ shows (shown.Called h 
 -- a call that the machine made in the place of hart h, once the life has the machine
 abbrev pub GuestCall : Called → ℕ → BenchLife → Bench → Answer → Bench → Type 0
 GuestCall NotStarted h life b answer new = (answer ≡ shows (shown.NotStarted h)) × (new ≡ b)
-GuestCall (Made did) h life b answer new = (word : Word) × Comes did h life b word new × CallReported h word new answer
+GuestCall (Made did) h life b answer new = (word : Word) × ComesTo did h life b word new × CallReported h word new answer
 
 abbrev pub CallStep : Option BenchLife → ℕ → ℕ → ℕ → ℕ → ℕ → ℕ → Bench → Answer → Bench → Type 0
 CallStep None h e f x y z b answer new = (answer ≡ shows shown.Off) × (new ≡ b)
