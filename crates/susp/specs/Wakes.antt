@@ -19,19 +19,19 @@ IsWoken s memory hart = (i : Image) × (s.image ≡ Some i) × (memory ≡ i.mem
 
 module _ {D L : Type 0} {g : Ghosts D L} {l : Lanes L} where
   -- the life went on as it was, and a crash leaves what it might have left before
-  pub record IsLeft (old new : Store D L g l) : Type 0 where
+  pub record StoreIsLeft (old new : Store D L g l) : Type 0 where
     pub life : life_of new ≡ life_of old
     pub crash : Passes (disk_of old) (disk_of new) Stays
 
   -- the image was not loaded into that memory
   pub record IsUnloaded (old : Store D L g l) (memory : List ℕ) (e : Refusal) (new : Store D L g l) : Type 0 where
     pub why : LoadRefused (size_of_store old) (now_state old) memory (disk_of old) (fault_state_of old) e (disk_of new) (fault_state_of new)
-    pub left : IsLeft old new
+    pub left : StoreIsLeft old new
 
   -- the image was loaded, and its consumption asked of the store
   pub record IsConsumed (old : Store D L g l) (r : Result ℕ Refusal) (new : Store D L g l) : Type 0 where
     pub answered : doubt_of old ≡ None → Answered Applied (view_of old) Consume r (view_of new)
-    pub down : (c : Change) → doubt_of old ≡ Some c → (r ≡ Err Down) × IsLeft old new
+    pub down : (c : Change) → doubt_of old ≡ Some c → (r ≡ Err Down) × StoreIsLeft old new
 
   -- Nothing stands against a wake: no command is in doubt, a Consume goes to the disk (so the life is not over, and an image stands),
   -- the image has the memory of its board, and the memory that is lent is of its size.

@@ -4,7 +4,7 @@ use Rattle.board_model.specs.Durable.{Consume}
 use Rattle.disk.specs.Facts.{LeavesSince}
 use Rattle.store.specs.Lives.{Life}
 use Rattle.store.specs.Stores.{now_state, view_of}
-use Rattle.susp.specs.Wakes.{IsLeft}
+use Rattle.susp.specs.Wakes.{StoreIsLeft}
 use Rattle.susp.proofs.Woken.{answered_on, left_now, unloaded, unconsumed}
 use Rattle.susp.proofs.wakes.wake_image.Goals as goal
 
@@ -21,7 +21,7 @@ returns-in_err-apply-clause-refused g c =
     (inr (record {
       answered = λ none. answered_on (view_of old) (view_of mid) (view_of c.apply.new.self) Consume _ e.life e.stays.board e.no_failure.1 e.no_failure.0 e.reads_alone.content first
           (c.stands.ensures.up _ (none, refl)) (a.answered (ap (λ (x : Life). x.doubt) e.life ∙ none));
-      down = λ d is. let b = a.down d (ap (λ (x : Life). x.doubt) e.life ∙ is) in (b.0, subst (λ s. IsLeft old s) (sym b.1) (record { life = e.life; crash = e.reads_alone.crash }));
+      down = λ d is. let b = a.down d (ap (λ (x : Life). x.doubt) e.life ∙ is) in (b.0, subst (λ s. StoreIsLeft old s) (sym b.1) (record { life = e.life; crash = e.reads_alone.crash }));
     }))
 
 pub returns-clause-consumed : goal.returns-clause-consumed
