@@ -38,7 +38,7 @@ use Rattle.machine.specs.declared.parts.Word.TheVariants as words
 use Rattle.board.specs.Turns as boards
 use Rattle.bench_report.specs.Below.{SimStore, IsLife, IsAs, store_size, store_fault_state, store_facts}
 use Rattle.bench_report.specs.Bench.{BenchLife, Bench}
-use Rattle.bench_report.specs.Steps.{out_of_memory, off, on_with, has_machine, acknowledged, Issued, refused, AnswersError, HartCommand, Resets, SuspendIssued, IsAlone, Sleeps, SleepsBy, MakesCall, ComesTo, GuestTurn, IsLastTurn, GuestTurns}
+use Rattle.bench_report.specs.Steps.{out_of_memory, off, on_with, has_machine, acknowledged, Issued, refused, AnswersError, HartCommand, Resets, SuspendIssued, IsAlone, Sleeps, SleepsBy, BenchMakesCall, ComesTo, GuestTurn, IsLastTurn, GuestTurns}
 use Rattle.bench_report.specs.Agree.{StoreIs, DeviceIs, IsOver}
 use Rattle.bench_report.proofs.Adapted.{calm as untouched}
 use Rattle.bench_report.proofs.Commanded.{Running, follows_with, sized_for, reported_end, reported_err, reported_up, reported_down, again, calm_device, unmoved}
@@ -260,7 +260,7 @@ module _ (size : Size) (b : Bench) (life : BenchLife) (h : ℕ) (n : Machine) (o
       let did = sleeps kind address opaque alone.asked error held checked alone.slept sized ended in
       (did.0, (alone.asked, checked, did.1), did.2, did.3)
 
-  makes : (call : Call) (held : Made) → HeldIn life.machine.size.harts life.machine.memory call the_hart t life.machine.table old new held → life.machine.size ≡ store_size old → Came (λ word x. MakesCall call h life b word x) held
+  makes : (call : Call) (held : Made) → HeldIn life.machine.size.harts life.machine.memory call the_hart t life.machine.table old new held → life.machine.size ≡ store_size old → Came (λ word x. BenchMakesCall call h life b word x) held
   makes (calls.SystemReset kind reason) held x sized = resets (reset_of kind reason) held x
   makes (calls.SystemSuspend kind address opaque) held x sized = suspends kind address opaque held x sized
   makes call held x sized = refuses NotSupported held x.0 x.1

@@ -19,7 +19,7 @@ use Rattle.sbi_abi.specs.Calls.{call_of}
 use Rattle.sbi.specs.declared.resets.ResetType.{ResetType}
 use Rattle.sbi.specs.Resets.{reset_of}
 use Rattle.bench_report.specs.Bench.{BenchLife, Bench}
-use Rattle.bench_report.specs.Steps.{off, on_with, has_machine, refused, AnswersError, HartCommand, Resets, SuspendIssued, Sleeps, SleepsBy, MakesCall, ComesTo, GuestTurn, IsLastTurn, GuestTurns}
+use Rattle.bench_report.specs.Steps.{off, on_with, has_machine, refused, AnswersError, HartCommand, Resets, SuspendIssued, Sleeps, SleepsBy, BenchMakesCall, ComesTo, GuestTurn, IsLastTurn, GuestTurns}
 use Rattle.bench_report.proofs.Determined.{Fair, fair_to, fair_then, unmoved, spoils, starves, issued_fair, Agree, same, issued, some_inj}
 
 abbrev pub IsOneTurn : Type 0
@@ -50,7 +50,7 @@ by_fair : (asked : Result ℕ SbiError) (opaque h : ℕ) (life : BenchLife) (b :
 by_fair (Err e) opaque h life b word new x = refuses_fair e h life b word new x
 by_fair (Ok site) opaque h life b word new x = sleeps_fair site opaque h life b word new x
 
-makes_fair : (call : Call) (h : ℕ) (life : BenchLife) (b : Bench) (word : Word) (new : Bench) → MakesCall call h life b word new → Fair b new
+makes_fair : (call : Call) (h : ℕ) (life : BenchLife) (b : Bench) (word : Word) (new : Bench) → BenchMakesCall call h life b word new → Fair b new
 makes_fair (calls.SystemReset kind reason) h life b word new x = resets_fair (reset_of kind reason) h life b word new x
 makes_fair (calls.SystemSuspend kind address opaque) h life b word new (asked, checked, x) = by_fair asked opaque h life b word new x
 makes_fair call h life b word new x = refuses_fair NotSupported h life b word new x
@@ -129,7 +129,7 @@ checked_one size kind address (Ok a) (Err e) x y = never_both size kind address 
 checked_one size kind address (Err e) (Ok a) x y = never_both size kind address a e y x
 checked_one size kind address (Err e) (Err f) x y = ap (λ k. Err k) (checked_err size kind address e f x y)
 
-makes_one : (call : Call) (h : ℕ) (life : BenchLife) (b : Bench) (word also : Word) (new last : Bench) → MakesCall call h life b word new → MakesCall call h life b also last → Agree word also new last
+makes_one : (call : Call) (h : ℕ) (life : BenchLife) (b : Bench) (word also : Word) (new last : Bench) → BenchMakesCall call h life b word new → BenchMakesCall call h life b also last → Agree word also new last
 makes_one (calls.SystemReset kind reason) h life b word also new last x y = resets_one (reset_of kind reason) h life b word also new last x y
 makes_one (calls.SystemSuspend kind address opaque) h life b word also new last (asked, checked, x) (other, checked2, y) =
     let P : Result ℕ SbiError → Type 0 = λ r. SleepsBy r opaque h life b also last in

@@ -19,7 +19,7 @@ use Rattle.sbi.specs.Resets.{reset_of}
 use Rattle.bench_report.specs.Taken.{TakesAll, TakesSome}
 use Rattle.bench_report.specs.Bench.{BenchLife, Bench}
 use Rattle.bench_report.specs.Prefix.{IsReset, IsSuspension, IsOfHarts, Hides, TellsWord}
-use Rattle.bench_report.specs.Steps.{out_of_memory, off, on_with, has_machine, refused, AnswersError, HartCommand, Resets, SuspendIssued, Sleeps, SleepsBy, MakesCall, ComesTo, GuestTurn, GuestTurns}
+use Rattle.bench_report.specs.Steps.{out_of_memory, off, on_with, has_machine, refused, AnswersError, HartCommand, Resets, SuspendIssued, Sleeps, SleepsBy, BenchMakesCall, ComesTo, GuestTurn, GuestTurns}
 use Rattle.bench_report.proofs.Issues.{takes_more, is_up, GoesOn, IsSound, Back, joined, Went, issued_back}
 
 -- the state before and after, by the word
@@ -118,7 +118,7 @@ by_back : (asked : Result ℕ SbiError) (opaque h : ℕ) (life : BenchLife) (b :
 by_back (Err e) opaque h life b word new sound on x = refuses_back e h life b word new sound on x
 by_back (Ok site) opaque h life b word new sound on x = sleeps_back site opaque h life b word new sound on x
 
-makes_back : (call : Call) (h : ℕ) (life : BenchLife) (b : Bench) (word : Word) (new : Bench) → IsSound b → b.power ≡ Some life → MakesCall call h life b word new → GoesBy word b new
+makes_back : (call : Call) (h : ℕ) (life : BenchLife) (b : Bench) (word : Word) (new : Bench) → IsSound b → b.power ≡ Some life → BenchMakesCall call h life b word new → GoesBy word b new
 makes_back (calls.SystemReset kind reason) h life b word new sound on x = resets_back (reset_of kind reason) h life b word new sound on x
 makes_back (calls.SystemSuspend kind address opaque) h life b word new sound on (asked, checked, x) = by_back asked opaque h life b word new sound on x
 makes_back call h life b word new sound on x = refuses_back NotSupported h life b word new sound on x

@@ -35,7 +35,7 @@ use Rattle.bench_report.specs.declared.printed.Printed.TheVariants as printed
 use Rattle.bench_report.specs.Bench.{DiskState, Blank, Unknown, Formatted, BenchLife, Bench}
 use Rattle.bench_report.specs.Prefix.{IsLoaded, AreLoaded}
 use Rattle.bench_report.specs.Reports.{IsByFirmware, AreByFirmware}
-use Rattle.bench_report.specs.Steps.{out_of_memory, failed, off, on_with, unpowered, armed_with, settled, has_machine, acknowledged, in_doubt, life_begun, commands_of, Writes, IssuedBy, Issued, IssuesAll, refused, AnswersError, HartCommand, Resets, SuspendIssued, Sleeps, SleepsBy, MakesCall, ComesTo, GuestTurn, GuestTurns, FormatsOn, IsOn, BootsFrom, Begins, Boots, Opens, IsOpenRefusal, PowersOn, FormatStep, OnStep, ConsoleStep, PayloadStep, GuestCall, TurnStep, CallStep, ReadStep, Step, Moves, Run}
+use Rattle.bench_report.specs.Steps.{out_of_memory, failed, off, on_with, unpowered, armed_with, settled, has_machine, acknowledged, in_doubt, life_begun, commands_of, Writes, IssuedBy, Issued, IssuesAll, refused, AnswersError, HartCommand, Resets, SuspendIssued, Sleeps, SleepsBy, BenchMakesCall, ComesTo, GuestTurn, GuestTurns, FormatsOn, IsOn, BootsFrom, Begins, Boots, Opens, IsOpenRefusal, PowersOn, FormatStep, OnStep, ConsoleStep, PayloadStep, GuestCall, TurnStep, CallStep, ReadStep, Step, Moves, Run}
 use Rattle.bench_report.proofs.Adapted.{grows}
 use Rattle.bench_report.proofs.Determined.{begun_size}
 use Rattle.bench_report.proofs.Table.{table_not_thirteen, mode_not_thirteen}
@@ -132,7 +132,7 @@ module _ (size : Size) where
   by_check (Err e) opaque h life b word new on k x = refuses e h life b word new on k x
   by_check (Ok site) opaque h life b word new on k x = sleeps site opaque h life b word new on k x
 
-  makes : (call : Call) (h : ℕ) (life : BenchLife) (b : Bench) (word : Word) (new : Bench) → b.power ≡ Some life → IsKeptWhole size b → MakesCall call h life b word new → IsKeptWhole size new
+  makes : (call : Call) (h : ℕ) (life : BenchLife) (b : Bench) (word : Word) (new : Bench) → b.power ≡ Some life → IsKeptWhole size b → BenchMakesCall call h life b word new → IsKeptWhole size new
   makes (calls.SystemReset kind reason) h life b word new on k x = resets (reset_of kind reason) h life b word new on k x
   makes (calls.SystemSuspend kind address opaque) h life b word new on k (asked, checked, x) = by_check asked opaque h life b word new on k x
   makes call h life b word new on k x = refuses NotSupported h life b word new on k x

@@ -184,14 +184,14 @@ SleepsBy (Err e) opaque h life b word new = AnswersError e h life b word new
 SleepsBy (Ok site) opaque h life b word new = Sleeps site opaque h life b word new
 
 -- the durable call at which the hart stands
-abbrev pub MakesCall : Call → ℕ → BenchLife → Bench → Word → Bench → Type 0
-MakesCall (calls.SystemReset kind reason) h life b word new = Resets (reset_of kind reason) h life b word new
-MakesCall (calls.SystemSuspend kind address opaque) h life b word new = (asked : Result ℕ SbiError) × IsChecked life.machine.size kind address asked × SleepsBy asked opaque h life b word new
-MakesCall call h life b word new = AnswersError NotSupported h life b word new
+abbrev pub BenchMakesCall : Call → ℕ → BenchLife → Bench → Word → Bench → Type 0
+BenchMakesCall (calls.SystemReset kind reason) h life b word new = Resets (reset_of kind reason) h life b word new
+BenchMakesCall (calls.SystemSuspend kind address opaque) h life b word new = (asked : Result ℕ SbiError) × IsChecked life.machine.size kind address asked × SleepsBy asked opaque h life b word new
+BenchMakesCall call h life b word new = AnswersError NotSupported h life b word new
 
 -- What comes of what hart h did, once the life has the machine: it stands at a durable call, which is made; or that is its word.
 abbrev pub ComesTo : Turned → ℕ → BenchLife → Bench → Word → Bench → Type 0
-ComesTo dids.Durable h life b word new = MakesCall (call_of (hart_at life.machine h)) h life b word new
+ComesTo dids.Durable h life b word new = BenchMakesCall (call_of (hart_at life.machine h)) h life b word new
 ComesTo did h life b word new = (word ≡ words.Own did) × (new ≡ b)
 
 abbrev pub GuestTurn : ℕ → BenchLife → Bench → Word → Bench → Type 0
