@@ -11,7 +11,7 @@ use Rattle.machine.specs.Turns as machines
 use Rattle.machine.specs.Words.{ends}
 use Rattle.machine.specs.declared.parts.Word.{Word}
 use Rattle.machine.specs.declared.parts.Word.TheVariants.{Own}
-use Rattle.board.specs.Turns.{Comes, Turns, IsLast, TurnsMany, Rows}
+use Rattle.board.specs.Turns.{Comes, Turns, IsLast, TurnsMany, RowsHeld}
 
 -- a row has at least one turn, and no more than were asked for
 pub within : (h n k : ℕ) (m mid : Machine) (did : Turned) → machines.TurnsMany h n m mid k did → (1 ≤ k) × (k ≤ n)
@@ -66,10 +66,10 @@ module _ {D L : Type 0} {g : Ghosts D L} {l : Lanes L} where
   ]
 
   -- the rows of a line, each after the other
-  pub first_row : (h count made : ℕ) (m n : Machine) (old new : Store D L g l) (word : Word) → IsCalm old → Rows h count m n old new made word → Reaches h count made m n old new word
+  pub first_row : (h count made : ℕ) (m n : Machine) (old new : Store D L g l) (word : Word) → IsCalm old → RowsHeld h count m n old new made word → Reaches h count made m n old new word
   first_row h count made m n old new word calm r = row_reaches h count made m r.0 n old new r.1 word calm r.2 r.3
 
-  pub more_row : (h count made more : ℕ) (m n n' : Machine) (old new new' : Store D L g l) (said word : Word) → made ≤ count → ends said ≡ false → IsCalm new → Reaches h count made m n old new said → Rows h (count - made) n n' new new' more word
+  pub more_row : (h count made more : ℕ) (m n n' : Machine) (old new new' : Store D L g l) (said word : Word) → made ≤ count → ends said ≡ false → IsCalm new → Reaches h count made m n old new said → RowsHeld h (count - made) n n' new new' more word
       → Reaches h count (made + more) m n' old new' word
   more_row h count made more m n n' old new new' said word low on calm before r =
       let after = first_row h (count - made) more n n' new new' word calm r in

@@ -51,5 +51,5 @@ module _ {D L : Type 0} {g : Ghosts D L} {l : Lanes L} where
 
   -- ---- a row within a line
   -- turns of which the last alone may ask the store
-  abbrev pub Rows : ℕ → ℕ → Machine → Machine → Store D L g l → Store D L g l → ℕ → Word → Type 0
-  Rows h count m n old new made word = (mid : Machine) × (did : Turned) × machines.TurnsMany h count m mid made did × Comes did h mid n old new word
+  abbrev pub RowsHeld : ℕ → ℕ → Machine → Machine → Store D L g l → Store D L g l → ℕ → Word → Type 0
+  RowsHeld h count m n old new made word = (mid : Machine) × (did : Turned) × machines.TurnsMany h count m mid made did × Comes did h mid n old new word

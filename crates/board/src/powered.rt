@@ -68,7 +68,7 @@ impl<D: Disk + Drop> Board<D> {
     ghost use Rattle.turns.specs.Turns.{has_pending};
     ghost use Rattle.board.specs.Boots.{IsConsoleCommand};
     ghost use Rattle.board.specs.Boards.{store_of, machine_of};
-    ghost use Rattle.board.specs.Turns.{Comes, Turns, Rows, TurnsMany, Calls};
+    ghost use Rattle.board.specs.Turns.{Comes, Turns, RowsHeld, TurnsMany, Calls};
     ghost use Rattle.board.specs.PowersOn.{IsOn, IsUnpowered, KeepsDisk, GivesDisk};
     ghost use Rattle.board.specs.Unbooted.{IsNowAfter};
 
@@ -225,7 +225,7 @@ impl<D: Disk + Drop> Board<D> {
     fn row<C: Crew>(&mut self, alloc: Global, crew: &C, hart: HartId, most: u32) -> (u32, Word)
         requires hart { hart < length (machine_of self.old).harts }
         requires some { 1 ≤ most }
-        ensures row { Rows hart most (machine_of self.old) (machine_of self.new) (store_of self.old) (store_of self.new) result.0 result.1 }
+        ensures row { RowsHeld hart most (machine_of self.old) (machine_of self.new) (store_of self.old) (store_of self.new) result.0 result.1 }
         ensures range { (1 ≤ result.0) × (result.0 ≤ most) }
         ensures harts { length (machine_of self.new).harts ≡ length (machine_of self.old).harts }
     {
