@@ -309,7 +309,7 @@ runs size (words.Own did) b m store e is = is
 runs size words.Asleep b m store e is = absurd (let no : ⊥ = cc in no)
 runs size (words.Reset kind) b m store e is = absurd (let no : ⊥ = cc in no)
 
-pub turns : (size : Size) (h count : ℕ) (b : Bench) (m n : Machine) (old new : SimStore) (made : ℕ) (word : Word) → Running size b m old → boards.TurnsMany h count m n old new made word
+pub turns : (size : Size) (h count : ℕ) (b : Bench) (m n : Machine) (old new : SimStore) (made : ℕ) (word : Word) → Running size b m old → boards.TurnsManyHeld h count m n old new made word
     → Comes_so size (λ word x. GuestTurns h count b made word x) b word n new
 turns size h zero b m n old new made word is x = absurd x
 turns size h (suc count) b m n old new made word (life, on, was, same, device) (mid, store, first, turned, more) =
@@ -318,8 +318,8 @@ turns size h (suc count) b m n old new made word (life, on, was, same, device) (
     go one more (λ x rest runs_on after. turns size h count x mid n store new rest word runs_on after)
   where
     go : Comes_so size (λ word x. GuestTurn h life b word x) b first mid store
-        → ((boards.IsLast first count store × (n ≡ mid) × (new ≡ store) × (made ≡ 1) × (word ≡ first)) ⊎ ((ends first ≡ false) × ((store_fault_state store).struck ≡ false) × (rest : ℕ) × (made ≡ suc rest) × boards.TurnsMany h count mid n store new rest word))
-        → ((x : Bench) (rest : ℕ) → Running size x mid store → boards.TurnsMany h count mid n store new rest word → Comes_so size (λ word y. GuestTurns h count x rest word y) x word n new)
+        → ((boards.IsLast first count store × (n ≡ mid) × (new ≡ store) × (made ≡ 1) × (word ≡ first)) ⊎ ((ends first ≡ false) × ((store_fault_state store).struck ≡ false) × (rest : ℕ) × (made ≡ suc rest) × boards.TurnsManyHeld h count mid n store new rest word))
+        → ((x : Bench) (rest : ℕ) → Running size x mid store → boards.TurnsManyHeld h count mid n store new rest word → Comes_so size (λ word y. GuestTurns h count x rest word y) x word n new)
         → Comes_so size (λ word x. GuestTurns h (suc count) b made word x) b word n new
     go (x, did, stands, payloads) (inl (last, e, f, k, w)) others =
         let M : Machine → Type 0 = λ y. Stands size first x y new in

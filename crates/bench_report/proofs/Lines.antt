@@ -67,7 +67,7 @@ stands_by size (words.Reset kind) b board is = is
 
 -- a line of turns, by what the board did
 pub on_turns : (size : Size) (b : Bench) (old new : SimBoard) (h n made : ℕ) (word : Word) (after : Power) → OnIs size b old → HasHart (machine_in old) h
-    → boards.TurnsMany h n (machine_in old) (machine_in new) (store_in old) (store_in new) made word → ((x : Bench) → BoardAfter size word x new → Agrees size x after)
+    → boards.TurnsManyHeld h n (machine_in old) (machine_in new) (store_in old) (store_in new) made word → ((x : Bench) → BoardAfter size word x new → Agrees size x after)
     → StepsTo size b after (TurnStep b.power h n b (shows (shown.Turn h made word)))
 on_turns size b old new h n made word after was has turned agrees = by b.power was.0 refl
   where

@@ -68,7 +68,7 @@ impl<D: Disk + Drop> Board<D> {
     ghost use Rattle.turns.specs.Turns.{has_pending};
     ghost use Rattle.board.specs.Boots.{IsConsoleCommand};
     ghost use Rattle.board.specs.Boards.{store_of, machine_of};
-    ghost use Rattle.board.specs.Turns.{Comes, Turns, RowsHeld, TurnsMany, Calls};
+    ghost use Rattle.board.specs.Turns.{Comes, Turns, RowsHeld, TurnsManyHeld, Calls};
     ghost use Rattle.board.specs.PowersOn.{IsOn, IsUnpowered, KeepsDisk, GivesDisk};
     ghost use Rattle.board.specs.Unbooted.{IsNowAfter};
 
@@ -247,7 +247,7 @@ impl<D: Disk + Drop> Board<D> {
         requires hart { hart < length (machine_of self.old).harts }
         requires some { 1 ≤ count }
         requires calm { (fault_state_of (store_of self.old)).struck ≡ false }
-        ensures turns { TurnsMany hart count (machine_of self.old) (machine_of self.new) (store_of self.old) (store_of self.new) result.0 result.1 }
+        ensures turns { TurnsManyHeld hart count (machine_of self.old) (machine_of self.new) (store_of self.old) (store_of self.new) result.0 result.1 }
         ensures harts { length (machine_of self.new).harts ≡ length (machine_of self.old).harts }
     {
         let (first, said) = self.row(alloc, crew, hart, count);
