@@ -38,7 +38,7 @@ use Rattle.machine.specs.declared.parts.Word.TheVariants as words
 use Rattle.board.specs.Turns as boards
 use Rattle.bench_report.specs.Below.{SimStore, IsLife, IsAs, store_size, store_fault_state, store_facts}
 use Rattle.bench_report.specs.Bench.{BenchLife, Bench}
-use Rattle.bench_report.specs.Steps.{out_of_memory, off, on_with, has_machine, acknowledged, Issued, refused, AnswersError, HartCommand, Resets, SuspendIssued, IsAlone, Sleeps, SleepsBy, BenchMakesCall, ComesTo, GuestTurn, IsLastTurn, GuestTurns}
+use Rattle.bench_report.specs.Steps.{out_of_memory, off, on_with, has_machine, acknowledged, Issued, refused, AnswersError, HartCommand, Resets, SuspendIssued, IsAlone, Sleeps, BenchSleepsBy, BenchMakesCall, ComesTo, GuestTurn, IsLastTurn, GuestTurns}
 use Rattle.bench_report.specs.Agree.{StoreIs, DeviceIs, IsOver}
 use Rattle.bench_report.proofs.Adapted.{calm as untouched}
 use Rattle.bench_report.proofs.Commanded.{Running, follows_with, sized_for, reported_end, reported_err, reported_up, reported_down, again, calm_device, unmoved}
@@ -236,7 +236,7 @@ module _ (size : Size) (b : Bench) (life : BenchLife) (h : ℕ) (n : Machine) (o
 
   sleeps : (kind address opaque : ℕ) (asked : Result ℕ SbiError) (error : Option SbiError) (held : Made) → IsChecked life.machine.size kind address asked
       → StoreSleeps life.machine.size.harts the_hart.id asked opaque life.machine.memory (listed life.machine.table.states) old error new → life.machine.size ≡ store_size old → EndsSleep error the_hart t held
-      → Came (λ word x. SleepsBy asked opaque h life b word x) held
+      → Came (λ word x. BenchSleepsBy asked opaque h life b word x) held
   sleeps kind address opaque (Err e) error held checked (is, same) sized ended =
       let P : Option SbiError → Type 0 = λ o. EndsSleep o the_hart t held in refuses e held (subst P is ended) same
   sleeps kind address opaque (Ok site) error held checked (inl (busy, is, same)) sized ended =
@@ -253,7 +253,7 @@ module _ (size : Size) (b : Bench) (life : BenchLife) (h : ℕ) (n : Machine) (o
 
   -- ---- the call
   suspends : (kind address opaque : ℕ) (held : Made) → SleepsIn life.machine.size.harts life.machine.memory kind address opaque the_hart t life.machine.table old new held → life.machine.size ≡ store_size old
-      → Came (λ word x. (asked : Result ℕ SbiError) × IsChecked life.machine.size kind address asked × SleepsBy asked opaque h life b word x) held
+      → Came (λ word x. (asked : Result ℕ SbiError) × IsChecked life.machine.size kind address asked × BenchSleepsBy asked opaque h life b word x) held
   suspends kind address opaque held (error, alone, ended) sized =
       let P : Size → Type 0 = λ z. IsChecked z kind address alone.asked in
       let checked = subst P (sym sized) alone.checked in

@@ -34,7 +34,7 @@ use Rattle.bench_report.specs.declared.printed.Printed.TheVariants as printed
 use Rattle.disk.specs.FaultState.{FaultArmed, CutArmed}
 use Rattle.bench_report.specs.declared.printed.Answer.{Answer}
 use Rattle.bench_report.specs.Bench.{DiskState, Blank, Unknown, Formatted, BenchLife, Bench, IsFailureFree, blank_bench}
-use Rattle.bench_report.specs.Steps.{says, off, on_with, unpowered, unknown, armed_with, formatted_anew, settled, has_machine, acknowledged, life_begun, commands_of, console_reported, Writes, IssuedBy, IssuesAll, FormatsOn, IsOn, BootsFrom, Resumes, Begins, Boots, Opens, PowersOn, FormatStep, OnStep, ConsoleStep, PayloadStep, ReadStep, PokeStep, Issued, AnswersError, HartCommand, Resets, SuspendIssued, SleepsBy, BenchMakesCall, ComesTo, GuestTurn, GuestTurns, TurnStep, CallReported, GuestCall, CallStep, Step, Moves, Run}
+use Rattle.bench_report.specs.Steps.{says, off, on_with, unpowered, unknown, armed_with, formatted_anew, settled, has_machine, acknowledged, life_begun, commands_of, console_reported, Writes, IssuedBy, IssuesAll, FormatsOn, IsOn, BootsFrom, Resumes, Begins, Boots, Opens, PowersOn, FormatStep, OnStep, ConsoleStep, PayloadStep, ReadStep, PokeStep, Issued, AnswersError, HartCommand, Resets, SuspendIssued, BenchSleepsBy, BenchMakesCall, ComesTo, GuestTurn, GuestTurns, TurnStep, CallReported, GuestCall, CallStep, Step, Moves, Run}
 use Rattle.bench_report.specs.Reports.{IsReport}
 use Rattle.bench_report.specs.Plain.{ShowsNoFailure, ShowNoFailure}
 
@@ -182,7 +182,7 @@ sleeps_held Fits c o h life b mid word new (inl i) x free = held_free c o words.
 sleeps_held Fits c o h life b mid word new (inr (inl i)) x free = refused_held 11 o h mid word new i.1 x free
 sleeps_held Fits c o h life b mid word new (inr (inr i)) x free = refused_held 3 o h mid word new i.1 x free
 
-by_free : (asked : Result ℕ SbiError) (opaque h : ℕ) (life : BenchLife) (b : Bench) (word : Word) (new : Bench) → SleepsBy asked opaque h life b word new → IsFree word → AsMany b new
+by_free : (asked : Result ℕ SbiError) (opaque h : ℕ) (life : BenchLife) (b : Bench) (word : Word) (new : Bench) → BenchSleepsBy asked opaque h life b word new → IsFree word → AsMany b new
 by_free (Err e) opaque h life b word new x free = refuses_free e h life b word new x free
 by_free (Ok site) opaque h life b word new (inl x) free = refuses_free Denied h life b word new x.1 free
 by_free (Ok site) opaque h life b word new (inr (alone, o, mid, i, x)) free = sleeps_held _ _ o h life b mid word new i x free

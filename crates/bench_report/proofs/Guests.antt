@@ -19,7 +19,7 @@ use Rattle.sbi_abi.specs.Calls.{call_of}
 use Rattle.sbi.specs.declared.resets.ResetType.{ResetType}
 use Rattle.sbi.specs.Resets.{reset_of}
 use Rattle.bench_report.specs.Bench.{BenchLife, Bench}
-use Rattle.bench_report.specs.Steps.{off, on_with, has_machine, refused, AnswersError, HartCommand, Resets, SuspendIssued, Sleeps, SleepsBy, BenchMakesCall, ComesTo, GuestTurn, IsLastTurn, GuestTurns}
+use Rattle.bench_report.specs.Steps.{off, on_with, has_machine, refused, AnswersError, HartCommand, Resets, SuspendIssued, Sleeps, BenchSleepsBy, BenchMakesCall, ComesTo, GuestTurn, IsLastTurn, GuestTurns}
 use Rattle.bench_report.proofs.Determined.{Fair, fair_to, fair_then, unmoved, spoils, starves, issued_fair, Agree, same, issued, some_inj}
 
 abbrev pub IsOneTurn : Type 0
@@ -46,7 +46,7 @@ sleeps_fair : (site opaque h : ℕ) (life : BenchLife) (b : Bench) (word : Word)
 sleeps_fair site opaque h life b word new (inl x) = refuses_fair Denied h life b word new x.1
 sleeps_fair site opaque h life b word new (inr (alone, o, mid, i, x)) = fair_then b mid new (suspends_fair _ _ life b o mid i) (held_fair o words.Asleep h mid word new x)
 
-by_fair : (asked : Result ℕ SbiError) (opaque h : ℕ) (life : BenchLife) (b : Bench) (word : Word) (new : Bench) → SleepsBy asked opaque h life b word new → Fair b new
+by_fair : (asked : Result ℕ SbiError) (opaque h : ℕ) (life : BenchLife) (b : Bench) (word : Word) (new : Bench) → BenchSleepsBy asked opaque h life b word new → Fair b new
 by_fair (Err e) opaque h life b word new x = refuses_fair e h life b word new x
 by_fair (Ok site) opaque h life b word new x = sleeps_fair site opaque h life b word new x
 
@@ -102,7 +102,7 @@ sleeps_one site opaque h life b word also new last (inl x) (inr y) = absurd (x.0
 sleeps_one site opaque h life b word also new last (inr x) (inl y) = absurd (y.0 x.0)
 sleeps_one site opaque h life b word also new last (inr (alone, o, mid, i, x)) (inr (also_alone, p, mid2, j, y)) = held_one o p words.Asleep h mid mid2 word also new last (suspends_one _ _ life b o p mid mid2 i j) x y
 
-by_one : (asked : Result ℕ SbiError) (opaque h : ℕ) (life : BenchLife) (b : Bench) (word also : Word) (new last : Bench) → SleepsBy asked opaque h life b word new → SleepsBy asked opaque h life b also last → Agree word also new last
+by_one : (asked : Result ℕ SbiError) (opaque h : ℕ) (life : BenchLife) (b : Bench) (word also : Word) (new last : Bench) → BenchSleepsBy asked opaque h life b word new → BenchSleepsBy asked opaque h life b also last → Agree word also new last
 by_one (Err e) opaque h life b word also new last x y = refuses_one e h life b word also new last x y
 by_one (Ok site) opaque h life b word also new last x y = sleeps_one site opaque h life b word also new last x y
 
@@ -132,7 +132,7 @@ checked_one size kind address (Err e) (Err f) x y = ap (λ k. Err k) (checked_er
 makes_one : (call : Call) (h : ℕ) (life : BenchLife) (b : Bench) (word also : Word) (new last : Bench) → BenchMakesCall call h life b word new → BenchMakesCall call h life b also last → Agree word also new last
 makes_one (calls.SystemReset kind reason) h life b word also new last x y = resets_one (reset_of kind reason) h life b word also new last x y
 makes_one (calls.SystemSuspend kind address opaque) h life b word also new last (asked, checked, x) (other, checked2, y) =
-    let P : Result ℕ SbiError → Type 0 = λ r. SleepsBy r opaque h life b also last in
+    let P : Result ℕ SbiError → Type 0 = λ r. BenchSleepsBy r opaque h life b also last in
     by_one asked opaque h life b word also new last x (subst P (sym (checked_one life.machine.size kind address asked other checked checked2)) y)
 makes_one call h life b word also new last x y = refuses_one NotSupported h life b word also new last x y
 

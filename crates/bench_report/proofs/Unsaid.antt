@@ -19,7 +19,7 @@ use Rattle.sbi.specs.Resets.{reset_of}
 use Rattle.bench_report.specs.Taken.{TakesAll, TakesSome}
 use Rattle.bench_report.specs.Bench.{BenchLife, Bench}
 use Rattle.bench_report.specs.Prefix.{IsReset, IsSuspension, IsOfHarts, Hides, TellsWord}
-use Rattle.bench_report.specs.Steps.{out_of_memory, off, on_with, has_machine, refused, AnswersError, HartCommand, Resets, SuspendIssued, Sleeps, SleepsBy, BenchMakesCall, ComesTo, GuestTurn, GuestTurns}
+use Rattle.bench_report.specs.Steps.{out_of_memory, off, on_with, has_machine, refused, AnswersError, HartCommand, Resets, SuspendIssued, Sleeps, BenchSleepsBy, BenchMakesCall, ComesTo, GuestTurn, GuestTurns}
 use Rattle.bench_report.proofs.Issues.{takes_more, is_up, GoesOn, IsSound, Back, joined, Went, issued_back}
 
 -- the state before and after, by the word
@@ -114,7 +114,7 @@ sleeps_back site opaque h life b word new sound on (inr (alone, o, mid, i, x)) =
     held_back o words.Asleep (Suspend hart site opaque life.machine.memory) (hart, site, opaque, life.machine.memory, refl) h b mid word new
     (suspends_back _ (Suspend hart site opaque life.machine.memory) life b o mid sound on i) x
 
-by_back : (asked : Result ℕ SbiError) (opaque h : ℕ) (life : BenchLife) (b : Bench) (word : Word) (new : Bench) → IsSound b → b.power ≡ Some life → SleepsBy asked opaque h life b word new → GoesBy word b new
+by_back : (asked : Result ℕ SbiError) (opaque h : ℕ) (life : BenchLife) (b : Bench) (word : Word) (new : Bench) → IsSound b → b.power ≡ Some life → BenchSleepsBy asked opaque h life b word new → GoesBy word b new
 by_back (Err e) opaque h life b word new sound on x = refuses_back e h life b word new sound on x
 by_back (Ok site) opaque h life b word new sound on x = sleeps_back site opaque h life b word new sound on x
 

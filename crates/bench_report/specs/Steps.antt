@@ -179,14 +179,14 @@ Sleeps site opaque h life b word new =
     ⊎ (IsAlone (hart_at life.machine h).id life.machine × (o : Result ℕ ℕ) × (mid : Bench)
     × SuspendIssued (FitsBoard life.machine.size life.machine.memory (hart_at life.machine h).id site) (Suspend (hart_at life.machine h).id site opaque life.machine.memory) life b o mid × HartCommand o words.Asleep h mid word new)
 
-abbrev pub SleepsBy : Result ℕ SbiError → ℕ → ℕ → BenchLife → Bench → Word → Bench → Type 0
-SleepsBy (Err e) opaque h life b word new = AnswersError e h life b word new
-SleepsBy (Ok site) opaque h life b word new = Sleeps site opaque h life b word new
+abbrev pub BenchSleepsBy : Result ℕ SbiError → ℕ → ℕ → BenchLife → Bench → Word → Bench → Type 0
+BenchSleepsBy (Err e) opaque h life b word new = AnswersError e h life b word new
+BenchSleepsBy (Ok site) opaque h life b word new = Sleeps site opaque h life b word new
 
 -- the durable call at which the hart stands
 abbrev pub BenchMakesCall : Call → ℕ → BenchLife → Bench → Word → Bench → Type 0
 BenchMakesCall (calls.SystemReset kind reason) h life b word new = Resets (reset_of kind reason) h life b word new
-BenchMakesCall (calls.SystemSuspend kind address opaque) h life b word new = (asked : Result ℕ SbiError) × IsChecked life.machine.size kind address asked × SleepsBy asked opaque h life b word new
+BenchMakesCall (calls.SystemSuspend kind address opaque) h life b word new = (asked : Result ℕ SbiError) × IsChecked life.machine.size kind address asked × BenchSleepsBy asked opaque h life b word new
 BenchMakesCall call h life b word new = AnswersError NotSupported h life b word new
 
 -- What comes of what hart h did, once the life has the machine: it stands at a durable call, which is made; or that is its word.
