@@ -38,7 +38,7 @@ use Rattle.machine.specs.declared.parts.Word.TheVariants as words
 use Rattle.board.specs.Turns as boards
 use Rattle.bench_report.specs.Below.{SimStore, IsLife, IsAs, store_size, store_fault_state, store_facts}
 use Rattle.bench_report.specs.Bench.{BenchLife, Bench}
-use Rattle.bench_report.specs.Steps.{out_of_memory, off, on_with, has_machine, acknowledged, Issued, refused, AnswersError, HartCommand, Resets, SuspendIssued, IsAlone, Sleeps, BenchSleepsBy, BenchMakesCall, ComesTo, GuestTurn, IsLastTurn, GuestTurns}
+use Rattle.bench_report.specs.Steps.{out_of_memory, off, on_with, has_machine, acknowledged, Issued, refused, AnswersError, HartCommand, Resets, SuspendIssued, IsAlone, BenchSleeps, BenchSleepsBy, BenchMakesCall, ComesTo, GuestTurn, IsLastTurn, GuestTurns}
 use Rattle.bench_report.specs.Agree.{StoreIs, DeviceIs, IsOver}
 use Rattle.bench_report.proofs.Adapted.{calm as untouched}
 use Rattle.bench_report.proofs.Commanded.{Running, follows_with, sized_for, reported_end, reported_err, reported_up, reported_down, again, calm_device, unmoved}
@@ -223,11 +223,11 @@ module _ (size : Size) (b : Bench) (life : BenchLife) (h : ℕ) (n : Machine) (o
   -- once every other hart is STOPPED
   sleeps_by : (site opaque : ℕ) (r : Result ℕ Refusal) (error : Option SbiError) (held : Made) → IsValidAddress life.machine.size site → IsAlone the_hart.id life.machine
       → Asked (Suspended (FitsBoard life.machine.size life.machine.memory the_hart.id site)) old (Suspend the_hart.id site opaque life.machine.memory) r new
-      → Answers r error → EndsSleep error the_hart t held → Came (λ word x. Sleeps site opaque h life b word x) held
+      → Answers r error → EndsSleep error the_hart t held → Came (λ word x. BenchSleeps site opaque h life b word x) held
   sleeps_by site opaque (Ok k) error held address alone asked e ended =
       let P : Option SbiError → Type 0 = λ o. EndsSleep o the_hart t held in
       let did = suspend_ok the_hart.id site opaque life.machine.memory address k asked in
-      by_held (λ word x. Sleeps site opaque h life b word x) held helds.Asleep (subst P e ended).1 (off did.0, inr (alone, Ok k, did.0, did.1, (refl, refl)), did.3, ap (λ (y : Bench). y.payloads) did.2)
+      by_held (λ word x. BenchSleeps site opaque h life b word x) held helds.Asleep (subst P e ended).1 (off did.0, inr (alone, Ok k, did.0, did.1, (refl, refl)), did.3, ap (λ (y : Bench). y.payloads) did.2)
   sleeps_by site opaque (Err f) error held address alone asked e ended =
       let P : Option SbiError → Type 0 = λ o. EndsSleep o the_hart t held in
       let did = suspend_err the_hart.id site opaque life.machine.memory address f asked in

@@ -19,7 +19,7 @@ use Rattle.sbi_abi.specs.Calls.{call_of}
 use Rattle.sbi.specs.declared.resets.ResetType.{ResetType}
 use Rattle.sbi.specs.Resets.{reset_of}
 use Rattle.bench_report.specs.Bench.{BenchLife, Bench}
-use Rattle.bench_report.specs.Steps.{off, on_with, has_machine, refused, AnswersError, HartCommand, Resets, SuspendIssued, Sleeps, BenchSleepsBy, BenchMakesCall, ComesTo, GuestTurn, IsLastTurn, GuestTurns}
+use Rattle.bench_report.specs.Steps.{off, on_with, has_machine, refused, AnswersError, HartCommand, Resets, SuspendIssued, BenchSleeps, BenchSleepsBy, BenchMakesCall, ComesTo, GuestTurn, IsLastTurn, GuestTurns}
 use Rattle.bench_report.proofs.Determined.{Fair, fair_to, fair_then, unmoved, spoils, starves, issued_fair, Agree, same, issued, some_inj}
 
 abbrev pub IsOneTurn : Type 0
@@ -42,7 +42,7 @@ suspends_fair Fits c life b o new (inl x) = issued_fair c life b o new x.1
 suspends_fair Fits c life b o new (inr (inl x)) = spoils b new (starves b new x.2)
 suspends_fair Fits c life b o new (inr (inr x)) = unmoved b new x.2
 
-sleeps_fair : (site opaque h : ℕ) (life : BenchLife) (b : Bench) (word : Word) (new : Bench) → Sleeps site opaque h life b word new → Fair b new
+sleeps_fair : (site opaque h : ℕ) (life : BenchLife) (b : Bench) (word : Word) (new : Bench) → BenchSleeps site opaque h life b word new → Fair b new
 sleeps_fair site opaque h life b word new (inl x) = refuses_fair Denied h life b word new x.1
 sleeps_fair site opaque h life b word new (inr (alone, o, mid, i, x)) = fair_then b mid new (suspends_fair _ _ life b o mid i) (held_fair o words.Asleep h mid word new x)
 
@@ -96,7 +96,7 @@ suspends_one Fits c life b o p new last (inl x) (inr (inr y)) = absurd (y.0 x.0)
 suspends_one Fits c life b o p new last (inr (inr x)) (inl y) = absurd (x.0 y.0)
 suspends_one Fits c life b o p new last (inr (inr x)) (inr (inr y)) = same o p (Err 3) new last b x.1 y.1 x.2 y.2
 
-sleeps_one : (site opaque h : ℕ) (life : BenchLife) (b : Bench) (word also : Word) (new last : Bench) → Sleeps site opaque h life b word new → Sleeps site opaque h life b also last → Agree word also new last
+sleeps_one : (site opaque h : ℕ) (life : BenchLife) (b : Bench) (word also : Word) (new last : Bench) → BenchSleeps site opaque h life b word new → BenchSleeps site opaque h life b also last → Agree word also new last
 sleeps_one site opaque h life b word also new last (inl x) (inl y) = refuses_one Denied h life b word also new last x.1 y.1
 sleeps_one site opaque h life b word also new last (inl x) (inr y) = absurd (x.0 y.0)
 sleeps_one site opaque h life b word also new last (inr x) (inl y) = absurd (y.0 x.0)

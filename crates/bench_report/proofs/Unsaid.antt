@@ -19,7 +19,7 @@ use Rattle.sbi.specs.Resets.{reset_of}
 use Rattle.bench_report.specs.Taken.{TakesAll, TakesSome}
 use Rattle.bench_report.specs.Bench.{BenchLife, Bench}
 use Rattle.bench_report.specs.Prefix.{IsReset, IsSuspension, IsOfHarts, Hides, TellsWord}
-use Rattle.bench_report.specs.Steps.{out_of_memory, off, on_with, has_machine, refused, AnswersError, HartCommand, Resets, SuspendIssued, Sleeps, BenchSleepsBy, BenchMakesCall, ComesTo, GuestTurn, GuestTurns}
+use Rattle.bench_report.specs.Steps.{out_of_memory, off, on_with, has_machine, refused, AnswersError, HartCommand, Resets, SuspendIssued, BenchSleeps, BenchSleepsBy, BenchMakesCall, ComesTo, GuestTurn, GuestTurns}
 use Rattle.bench_report.proofs.Issues.{takes_more, is_up, GoesOn, IsSound, Back, joined, Went, issued_back}
 
 -- the state before and after, by the word
@@ -107,7 +107,7 @@ suspends_back Fits c life b o mid sound on (inr (inr x)) = at 3 b x.1 x.2 (none_
         let Q : Bench → Type 0 = λ m. Back b m (Went (Err n) c (is_up b.power) (is_up m.power)) in
         subst P (sym e) (subst Q (sym f) back)
 
-sleeps_back : (site opaque h : ℕ) (life : BenchLife) (b : Bench) (word : Word) (new : Bench) → IsSound b → b.power ≡ Some life → Sleeps site opaque h life b word new → GoesBy word b new
+sleeps_back : (site opaque h : ℕ) (life : BenchLife) (b : Bench) (word : Word) (new : Bench) → IsSound b → b.power ≡ Some life → BenchSleeps site opaque h life b word new → GoesBy word b new
 sleeps_back site opaque h life b word new sound on (inl x) = refuses_back Denied h life b word new sound on x.1
 sleeps_back site opaque h life b word new sound on (inr (alone, o, mid, i, x)) =
     let hart = (hart_at life.machine h).id in

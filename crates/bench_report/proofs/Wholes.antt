@@ -35,7 +35,7 @@ use Rattle.bench_report.specs.declared.printed.Printed.TheVariants as printed
 use Rattle.bench_report.specs.Bench.{DiskState, Blank, Unknown, Formatted, BenchLife, Bench}
 use Rattle.bench_report.specs.Prefix.{IsLoaded, AreLoaded}
 use Rattle.bench_report.specs.Reports.{IsByFirmware, AreByFirmware}
-use Rattle.bench_report.specs.Steps.{out_of_memory, failed, off, on_with, unpowered, armed_with, settled, has_machine, acknowledged, in_doubt, life_begun, commands_of, Writes, IssuedBy, Issued, IssuesAll, refused, AnswersError, HartCommand, Resets, SuspendIssued, Sleeps, BenchSleepsBy, BenchMakesCall, ComesTo, GuestTurn, GuestTurns, FormatsOn, IsOn, BootsFrom, Begins, Boots, Opens, IsOpenRefusal, PowersOn, FormatStep, OnStep, ConsoleStep, PayloadStep, GuestCall, TurnStep, CallStep, ReadStep, Step, Moves, Run}
+use Rattle.bench_report.specs.Steps.{out_of_memory, failed, off, on_with, unpowered, armed_with, settled, has_machine, acknowledged, in_doubt, life_begun, commands_of, Writes, IssuedBy, Issued, IssuesAll, refused, AnswersError, HartCommand, Resets, SuspendIssued, BenchSleeps, BenchSleepsBy, BenchMakesCall, ComesTo, GuestTurn, GuestTurns, FormatsOn, IsOn, BootsFrom, Begins, Boots, Opens, IsOpenRefusal, PowersOn, FormatStep, OnStep, ConsoleStep, PayloadStep, GuestCall, TurnStep, CallStep, ReadStep, Step, Moves, Run}
 use Rattle.bench_report.proofs.Adapted.{grows}
 use Rattle.bench_report.proofs.Determined.{begun_size}
 use Rattle.bench_report.proofs.Table.{table_not_thirteen, mode_not_thirteen}
@@ -122,7 +122,7 @@ module _ (size : Size) where
   fits_whole : (life : BenchLife) (id site opaque : ℕ) → life.machine.size ≡ size → FitsBoard life.machine.size life.machine.memory id site → CarriesWhole size (Suspend id site opaque life.machine.memory)
   fits_whole life id site opaque e fits = fits.0 ∙ ap ram_bytes_of e
 
-  sleeps : (site opaque h : ℕ) (life : BenchLife) (b : Bench) (word : Word) (new : Bench) → b.power ≡ Some life → IsKeptWhole size b → Sleeps site opaque h life b word new → IsKeptWhole size new
+  sleeps : (site opaque h : ℕ) (life : BenchLife) (b : Bench) (word : Word) (new : Bench) → b.power ≡ Some life → IsKeptWhole size b → BenchSleeps site opaque h life b word new → IsKeptWhole size new
   sleeps site opaque h life b word new on k (inl x) = refuses Denied h life b word new on k x.1
   sleeps site opaque h life b word new on k (inr (alone, o, mid, i, x)) =
       let id = (hart_at life.machine h).id in

@@ -173,15 +173,15 @@ IsAlone id m = AreStopped m.size.harts id (listed m.table.states)
 
 -- a suspension, whose arguments were checked: by a hart beside which another is not STOPPED it is denied; else the image has the
 -- memory of this moment
-abbrev pub Sleeps : ℕ → ℕ → ℕ → BenchLife → Bench → Word → Bench → Type 0
-Sleeps site opaque h life b word new =
+abbrev pub BenchSleeps : ℕ → ℕ → ℕ → BenchLife → Bench → Word → Bench → Type 0
+BenchSleeps site opaque h life b word new =
     ((IsAlone (hart_at life.machine h).id life.machine → ⊥) × AnswersError Denied h life b word new)
     ⊎ (IsAlone (hart_at life.machine h).id life.machine × (o : Result ℕ ℕ) × (mid : Bench)
     × SuspendIssued (FitsBoard life.machine.size life.machine.memory (hart_at life.machine h).id site) (Suspend (hart_at life.machine h).id site opaque life.machine.memory) life b o mid × HartCommand o words.Asleep h mid word new)
 
 abbrev pub BenchSleepsBy : Result ℕ SbiError → ℕ → ℕ → BenchLife → Bench → Word → Bench → Type 0
 BenchSleepsBy (Err e) opaque h life b word new = AnswersError e h life b word new
-BenchSleepsBy (Ok site) opaque h life b word new = Sleeps site opaque h life b word new
+BenchSleepsBy (Ok site) opaque h life b word new = BenchSleeps site opaque h life b word new
 
 -- the durable call at which the hart stands
 abbrev pub BenchMakesCall : Call → ℕ → BenchLife → Bench → Word → Bench → Type 0
