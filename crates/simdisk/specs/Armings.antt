@@ -9,8 +9,8 @@ abbrev pub arming : Option ArmedFault → Armed
 arming None = Unarmed
 arming (Some fault) = armed_by fault
 
-abbrev pub fault_state_of : Faults → ℕ → FaultState
-fault_state_of faults own = record { armed = arming faults.armed; struck = faults.cut; own = own }
+abbrev pub fault_state_by : Faults → ℕ → FaultState
+fault_state_by faults own = record { armed = arming faults.armed; struck = faults.cut; own = own }
 
 -- what was armed struck, or power was cut before
 abbrev pub Strikes : Faults → Faults → Type 0

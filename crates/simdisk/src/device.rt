@@ -21,7 +21,7 @@ impl Disk for SimDisk {
     ghost use Rattle.simdisk.specs.Record.{sim_facts};
     ghost use Rattle.simdisk.specs.History.{log_of};
     ghost use Rattle.simdisk.specs.Loans.{lent_of};
-    ghost use Rattle.simdisk.specs.Armings.{fault_state_of};
+    ghost use Rattle.simdisk.specs.Armings.{fault_state_by};
     ghost use Rattle.simdisk.specs.Record.{ranges, synced, AgreesOutside};
     ghost use Rattle.simdisk.specs.Views.{pieces};
     ghost use Rattle.simdisk.specs.Laws.{only_the_last, below_most};
@@ -33,7 +33,7 @@ impl Disk for SimDisk {
 
     ghost facts = { λ d. sim_facts d.content.items (synced (log_of d.history)) (log_of d.history) d.failures d.calls (lent_of d.loan) };
 
-    ghost fault_state = { λ d. fault_state_of d.faults d.refused };
+    ghost fault_state = { λ d. fault_state_by d.faults d.refused };
 
     ghost arms = { λ d fault. d.faults.armed ≡ Some fault };
 
