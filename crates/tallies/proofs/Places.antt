@@ -5,7 +5,7 @@ use mathlib.Core.Logic.{dite}
 use mathlib.Core.Option.{some, some-injective, some-ne-none}
 use native.Mathlib.Decide.{ℕ_discrete, dec_le}
 use lib.ListN.{get_elem?}
-use Rattle.tallies.specs.Logs.{Log, Reading, actions_in, places_in, placed, earlier, word_after, IsTrueLog}
+use Rattle.tallies.specs.Logs.{Log, Reading, actions_in, log_places, placed, earlier, word_after, IsTrueLog}
 use Rattle.tallies.proofs.Logs.{Same, AreOf, one_log, true_of}
 
 lt_true : (m n : ℕ) → m < n → nat_lt m n ≡ true
@@ -29,7 +29,7 @@ module _ {D : Type 0} where
 
   -- the steps of a hart in a log, each with its place
   abbrev pub placed_in : ℕ → Log D → List (ℕ × D)
-  placed_in k l = placed (actions_in k l) (places_in k l)
+  placed_in k l = placed (actions_in k l) (log_places k l)
 
   actions_back : (k : ℕ) (l : Log D) → map (λ (x : ℕ × D). x.1) (placed_in k l) ≡ actions_in k l
   actions_back k [] = refl
@@ -38,7 +38,7 @@ module _ {D : Type 0} where
       (λ hit. rw (eq-eqb e.0 k hit) (ap (λ (ds : List D). e.1 ∷ ds) (actions_back k l)))
       (λ miss. rw (ne_eqb e.0 k miss) (actions_back k l))
 
-  places_back : (k : ℕ) (l : Log D) → map (λ (x : ℕ × D). x.0) (placed_in k l) ≡ places_in k l
+  places_back : (k : ℕ) (l : Log D) → map (λ (x : ℕ × D). x.0) (placed_in k l) ≡ log_places k l
   places_back k [] = refl
   places_back k (e ∷ l) =
       dite (ℕ_discrete e.0 k)
