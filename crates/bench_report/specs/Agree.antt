@@ -23,7 +23,7 @@ use Rattle.machine.specs.declared.parts.Word.{Word}
 use Rattle.machine.specs.declared.parts.Word.TheVariants as words
 use Rattle.bench_report.specs.declared.power.Power.{Power}
 use Rattle.bench_report.specs.declared.power.Power.TheVariants.{Off, On}
-use Rattle.bench_report.specs.Below.{SimStore, SimBoard, store_in, machine_in, facts, arms, store_arms, record_of, fault_state, store_facts, store_fault_state, store_size, store_now, store_doubt, IsAs}
+use Rattle.bench_report.specs.Below.{SimStore, SimBoard, store_in, machine_in, facts, arms, store_arms, sim_log_of, fault_state, store_facts, store_fault_state, store_size, store_now, store_doubt, IsAs}
 use Rattle.bench_report.specs.Bench.{DiskState, Blank, Unknown, Formatted, BenchLife, Bench}
 use Rattle.bench_report.specs.Steps.{Step}
 use Rattle.bench_report.specs.declared.printed.Answer.{Answer}
@@ -99,7 +99,7 @@ HasDisk (On board) d = (facts d).content ≡ (store_facts (store_in board)).cont
 
 -- power was cut, and the disk holds exactly what the fill says of what was written since the last sync
 abbrev pub IsCutBy : Fill → SimDisk → Power → Type 0
-IsCutBy fill d (Off left) = (facts left).content ≡ left_by_choice (choice_by fill) (synced (record_of d)) (record_of d).written
+IsCutBy fill d (Off left) = (facts left).content ≡ left_by_choice (choice_by fill) (synced (sim_log_of d)) (sim_log_of d).written
 IsCutBy fill d (On board) = ⊥
 
 -- that fault is armed on the disk, whether the board is off or on, and each call of it is still to come

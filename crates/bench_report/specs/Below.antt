@@ -45,8 +45,8 @@ abbrev pub arms : SimDisk → ArmedFault → Type 0
 arms disk fault = sim_disk.ghosts.arms disk fault
 
 -- its record of writes and syncs
-abbrev pub record_of : SimDisk → WriteLog
-record_of disk = sim_record.ghosts.record disk
+abbrev pub sim_log_of : SimDisk → WriteLog
+sim_log_of disk = sim_record.ghosts.record disk
 
 -- the same of the disk that a store holds
 abbrev pub store_facts : SimStore → Facts
