@@ -59,10 +59,10 @@ pub(crate) enum Bytes {
 }
 
 impl SimLane {
-    ghost use Rattle.simdisk.specs.Lanes.{view_of};
+    ghost use Rattle.simdisk.specs.Lanes.{lane_view_of};
 
     pub(crate) fn bytes(&self, bytes: Bytes) -> &[Sector]
-        ensures { result.now ≡ (view_of bytes self.now).content }
+        ensures { result.now ≡ (lane_view_of bytes self.now).content }
     {
         match bytes {
             Bytes::Read => &self.sectors,

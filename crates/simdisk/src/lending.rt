@@ -1,7 +1,7 @@
 //! How sectors are lent and taken back.
 ghost use Rattle.std.specs.Prelude.{◌≡◌, ◌≤◌, ◌<◌, ◌+◌, ◌*◌, ℕ, length, map, true, IsTrue, IfOk};
 ghost use Rattle.disk.specs.Facts.{Content, Handed, Joined, counted, lane_failures, lane_at};
-ghost use Rattle.simdisk.specs.Lanes.{lane_view, newest_view, lane_record, view_of};
+ghost use Rattle.simdisk.specs.Lanes.{lane_view, newest_view, lane_record, lane_view_of};
 ghost use Rattle.simdisk.specs.Lasts.{last_of, IsAsRead};
 ghost use Rattle.simdisk.specs.LaneRecords.{AreLent};
 
@@ -100,9 +100,9 @@ pub(crate) fn lay_row(
     bytes: Bytes,
 )
     requires count { length lanes.now ≡ count }
-    requires each { (i : ℕ) → i < count → length (lane_at (map (view_of bytes) lanes.now) i).content ≡ each }
+    requires each { (i : ℕ) → i < count → length (lane_at (map (lane_view_of bytes) lanes.now) i).content ≡ each }
     requires within { first + count * each ≤ length content.old.items }
-    ensures { Joined (record { first = first; lanes = count; each = each }) (map (view_of bytes) lanes.now) content.old.items content.new.items }
+    ensures { Joined (record { first = first; lanes = count; each = each }) (map (lane_view_of bytes) lanes.now) content.old.items content.new.items }
 {
     for (i, lane) in lanes.iter().enumerate() {
         overwrite(content, first + i * each, lane.bytes(bytes));
