@@ -118,7 +118,7 @@ module _ (size : Size) (b : Bench) (old new : SimBoard) (h e f x y z : ℕ) (sai
       let reported = reported_as size h word did_so.0 (machine_in new) (store_in new) line did_so.2 (shows_it ∙ ap (called_line h (hart_at (machine_in new) h)) some) in
       (did_so.0, (word, did_so.1, reported), subst F some follows did_so.0 (stands_by size word did_so.0 new did_so.2), did_so.3)
 
-  pub on_calls : boards.Calls h e f x y z (machine_in old) (machine_in new) (store_in old) (store_in new) said → Follows said → StepsTo size b after (CallStep b.power h e f x y z b (shows line))
+  pub on_calls : boards.CallsHeld h e f x y z (machine_in old) (machine_in new) (store_in old) (store_in new) said → Follows said → StepsTo size b after (CallStep b.power h e f x y z b (shows line))
   on_calls (m, called, call, comes_of) follows = by b.power was.0 refl
     where
       by : (p : Option BenchLife) → BoardIs size b.disk_state b.kept p old → b.power ≡ p → StepsTo size b after (CallStep p h e f x y z b (shows line))

@@ -45,8 +45,8 @@ module _ {D L : Type 0} {g : Ghosts D L} {l : Lanes L} where
   ComesOf (Made did) h m n old new said = (word : Word) × Comes did h m n old new word × (said ≡ Some word)
 
   -- a call in the place of hart h with these registers
-  abbrev pub Calls : ℕ → ℕ → ℕ → ℕ → ℕ → ℕ → Machine → Machine → Store D L g l → Store D L g l → Option Word → Type 0
-  Calls h eid fid a0 a1 a2 m n old new said =
+  abbrev pub CallsHeld : ℕ → ℕ → ℕ → ℕ → ℕ → ℕ → Machine → Machine → Store D L g l → Store D L g l → Option Word → Type 0
+  CallsHeld h eid fid a0 a1 a2 m n old new said =
       (mid : Machine) × (called : Called) × machines.MakesOneCall h eid fid a0 a1 a2 m mid called × ComesOf called h mid n old new said
 
   -- ---- a row within a line

@@ -68,7 +68,7 @@ impl<D: Disk + Drop> Board<D> {
     ghost use Rattle.turns.specs.Turns.{has_pending};
     ghost use Rattle.board.specs.Boots.{IsConsoleCommand};
     ghost use Rattle.board.specs.Boards.{store_of, machine_of};
-    ghost use Rattle.board.specs.Turns.{Comes, Turns, RowsHeld, TurnsManyHeld, Calls};
+    ghost use Rattle.board.specs.Turns.{Comes, Turns, RowsHeld, TurnsManyHeld, CallsHeld};
     ghost use Rattle.board.specs.PowersOn.{IsOn, IsUnpowered, KeepsDisk, GivesDisk};
     ghost use Rattle.board.specs.Unbooted.{IsNowAfter};
 
@@ -275,7 +275,7 @@ impl<D: Disk + Drop> Board<D> {
         a2: u64,
     ) -> Option<Word>
         requires { hart < length (machine_of self.old).harts }
-        ensures calls { Calls hart eid fid a0 a1 a2 (machine_of self.old) (machine_of self.new) (store_of self.old) (store_of self.new) result }
+        ensures calls { CallsHeld hart eid fid a0 a1 a2 (machine_of self.old) (machine_of self.new) (store_of self.old) (store_of self.new) result }
         ensures harts { length (machine_of self.new).harts ≡ length (machine_of self.old).harts }
     {
         match self.machine.call(hart, eid, fid, a0, a1, a2) {
