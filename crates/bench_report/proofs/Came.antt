@@ -318,7 +318,7 @@ turns size h (suc count) b m n old new made word (life, on, was, same, device) (
     go one more (λ x rest runs_on after. turns size h count x mid n store new rest word runs_on after)
   where
     go : Comes_so size (λ word x. GuestTurn h life b word x) b first mid store
-        → ((boards.IsLast first count store × (n ≡ mid) × (new ≡ store) × (made ≡ 1) × (word ≡ first)) ⊎ ((ends first ≡ false) × ((store_fault_state store).struck ≡ false) × (rest : ℕ) × (made ≡ suc rest) × boards.TurnsManyHeld h count mid n store new rest word))
+        → ((boards.IsLastHeld first count store × (n ≡ mid) × (new ≡ store) × (made ≡ 1) × (word ≡ first)) ⊎ ((ends first ≡ false) × ((store_fault_state store).struck ≡ false) × (rest : ℕ) × (made ≡ suc rest) × boards.TurnsManyHeld h count mid n store new rest word))
         → ((x : Bench) (rest : ℕ) → Running size x mid store → boards.TurnsManyHeld h count mid n store new rest word → Comes_so size (λ word y. GuestTurns h count x rest word y) x word n new)
         → Comes_so size (λ word x. GuestTurns h (suc count) b made word x) b word n new
     go (x, did, stands, payloads) (inl (last, e, f, k, w)) others =
@@ -327,7 +327,7 @@ turns size h (suc count) b m n old new made word (life, on, was, same, device) (
         let W : Word → Type 0 = λ y. Stands size y x n new in
         (x, (life, on, first, x, did, inl (is_last last, k, w, refl)), subst W (sym w) (subst M (sym e) (subst S (sym f) stands)), payloads)
       where
-        is_last : boards.IsLast first count store → IsLastTurn first count x
+        is_last : boards.IsLastHeld first count store → IsLastTurn first count x
         is_last (inl t) = inl t
         is_last (inr (inl z)) = inr (inl z)
         is_last (inr (inr s)) = inr (inr (struck_as size first x mid store stands ∙ s))

@@ -11,7 +11,7 @@ use Rattle.machine.specs.Turns as machines
 use Rattle.machine.specs.Words.{ends}
 use Rattle.machine.specs.declared.parts.Word.{Word}
 use Rattle.machine.specs.declared.parts.Word.TheVariants.{Own}
-use Rattle.board.specs.Turns.{Comes, Turns, IsLast, TurnsManyHeld, RowsHeld}
+use Rattle.board.specs.Turns.{Comes, Turns, IsLastHeld, TurnsManyHeld, RowsHeld}
 
 -- a row has at least one turn, and no more than were asked for
 pub within : (h n k : ℕ) (m mid : Machine) (did : Turned) → machines.TurnsMany h n m mid k did → (1 ≤ k) × (k ≤ n)
@@ -39,7 +39,7 @@ module _ {D L : Type 0} {g : Ghosts D L} {l : Lanes L} where
   -- So many of the turns were made: if the last of them is the last of the line, that is the line; else whatever those that are
   -- left come to, the line comes to.
   pub record Reaches (h count made : ℕ) (m n : Machine) (old new : Store D L g l) (word : Word) : Type 0 where
-    pub stops : (left : ℕ) → left + made ≡ count → IsLast word left new → TurnsManyHeld h count m n old new made word
+    pub stops : (left : ℕ) → left + made ≡ count → IsLastHeld word left new → TurnsManyHeld h count m n old new made word
     pub goes_on : ends word ≡ false → IsCalm new → (left rest total : ℕ) (end : Machine) (store : Store D L g l) (last : Word) → left + made ≡ count → total ≡ made + rest → TurnsManyHeld h left n end new store rest last
         → TurnsManyHeld h count m end old store total last
 
@@ -51,7 +51,7 @@ module _ {D L : Type 0} {g : Ghosts D L} {l : Lanes L} where
         let came_of : Comes p.1 h p.0 n old new word = subst (λ (t : Turned). Comes t h p.0 n old new word) x.3 (subst (λ (z : Machine). Comes did h z n old new word) x.1 came) in
         let turn : Turns h m n old new word = (p.0, p.1, p.2, came_of) in
         record {
-          stops = λ left sum last. (n, new, word, turn, inl (subst (λ (j : ℕ). IsLast word j new) (omega (arith, sum, k)) last, refl, refl, k, refl));
+          stops = λ left sum last. (n, new, word, turn, inl (subst (λ (j : ℕ). IsLastHeld word j new) (omega (arith, sum, k)) last, refl, refl, k, refl));
           goes_on = λ on still left rest total end store last sum all more. (n, new, word, turn, inr (on, still, rest, omega (arith, all, k), subst (λ (j : ℕ). TurnsManyHeld h j n end new store rest last) (omega (arith, sum, k)) more));
         })
     | inr x ↦ (

@@ -29,14 +29,14 @@ module _ {D L : Type 0} {g : Ghosts D L} {l : Lanes L} where
   Turns h m n old new word = (mid : Machine) × (did : Turned) × machines.MakesTurn h m mid did × Comes did h mid n old new word
 
   -- the turn is the last of a line, with so many that might follow: it ends the line, none is left, or a cut struck in it
-  abbrev pub IsLast : Word → ℕ → Store D L g l → Type 0
-  IsLast word left store = (ends word ≡ true) ⊎ ((left ≡ 0) ⊎ ((fault_state_of store).struck ≡ true))
+  abbrev pub IsLastHeld : Word → ℕ → Store D L g l → Type 0
+  IsLastHeld word left store = (ends word ≡ true) ⊎ ((left ≡ 0) ⊎ ((fault_state_of store).struck ≡ true))
 
   -- at most n turns of hart h in a line, of which so many were made, and the word of the last
   abbrev pub TurnsManyHeld : ℕ → ℕ → Machine → Machine → Store D L g l → Store D L g l → ℕ → Word → Type 0
   TurnsManyHeld h zero m n old new made word = ⊥
   TurnsManyHeld h (suc count) m n old new made word = (mid : Machine) × (store : Store D L g l) × (first : Word) × Turns h m mid old store first
-      × ((IsLast first count store × (n ≡ mid) × (new ≡ store) × (made ≡ 1) × (word ≡ first))
+      × ((IsLastHeld first count store × (n ≡ mid) × (new ≡ store) × (made ≡ 1) × (word ≡ first))
       ⊎ ((ends first ≡ false) × ((fault_state_of store).struck ≡ false) × (rest : ℕ) × (made ≡ suc rest) × TurnsManyHeld h count mid n store new rest word))
 
   -- what comes of a call that the machine made in the place of hart h, or did not
