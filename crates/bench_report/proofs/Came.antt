@@ -293,7 +293,7 @@ pub has_other : (size : Size) (b : Bench) (life : BenchLife) (m : Machine) (stor
 has_other size b life m store same is = (follows_with size b.disk_state b.kept life m (store_size store) same is.0, is.1)
 
 turn : (size : Size) (h : ℕ) (b : Bench) (life : BenchLife) (n : Machine) (old new : SimStore) (word : Word) → b.power ≡ Some life → StoreIs size b.disk_state b.kept life old → DeviceIs size b (store_fault_state old) (store_facts old)
-    → boards.Turns h life.machine n old new word → Comes_so size (λ word x. GuestTurn h life b word x) b word n new
+    → boards.TurnsHeld h life.machine n old new word → Comes_so size (λ word x. GuestTurn h life b word x) b word n new
 turn size h b life n old new word on was device (m, did, turned, came) =
     let same : m.size ≡ life.machine.size = ap (λ (k : Machine). k.size) turned.2 in
     let rest = comes size (on_with (has_machine m life) b) (has_machine m life) h n old new refl (has_other size b life m old same was) device did word came in
@@ -313,7 +313,7 @@ pub turns : (size : Size) (h count : ℕ) (b : Bench) (m n : Machine) (old new :
     → Comes_so size (λ word x. GuestTurns h count b made word x) b word n new
 turns size h zero b m n old new made word is x = absurd x
 turns size h (suc count) b m n old new made word (life, on, was, same, device) (mid, store, first, turned, more) =
-    let P : Machine → Type 0 = λ k. boards.Turns h k mid old store first in
+    let P : Machine → Type 0 = λ k. boards.TurnsHeld h k mid old store first in
     let one = turn size h b life mid old store first on was device (subst P same turned) in
     go one more (λ x rest runs_on after. turns size h count x mid n store new rest word runs_on after)
   where

@@ -11,7 +11,7 @@ use Rattle.machine.specs.Turns as machines
 use Rattle.machine.specs.Words.{ends}
 use Rattle.machine.specs.declared.parts.Word.{Word}
 use Rattle.machine.specs.declared.parts.Word.TheVariants.{Own}
-use Rattle.board.specs.Turns.{Comes, Turns, IsLastHeld, TurnsManyHeld, RowsHeld}
+use Rattle.board.specs.Turns.{Comes, TurnsHeld, IsLastHeld, TurnsManyHeld, RowsHeld}
 
 -- a row has at least one turn, and no more than were asked for
 pub within : (h n k : ℕ) (m mid : Machine) (did : Turned) → machines.TurnsMany h n m mid k did → (1 ≤ k) × (k ≤ n)
@@ -49,7 +49,7 @@ module _ {D L : Type 0} {g : Ghosts D L} {l : Lanes L} where
     | inl x ↦ (
         let k = x.2 in
         let came_of : Comes p.1 h p.0 n old new word = subst (λ (t : Turned). Comes t h p.0 n old new word) x.3 (subst (λ (z : Machine). Comes did h z n old new word) x.1 came) in
-        let turn : Turns h m n old new word = (p.0, p.1, p.2, came_of) in
+        let turn : TurnsHeld h m n old new word = (p.0, p.1, p.2, came_of) in
         record {
           stops = λ left sum last. (n, new, word, turn, inl (subst (λ (j : ℕ). IsLastHeld word j new) (omega (arith, sum, k)) last, refl, refl, k, refl));
           goes_on = λ on still left rest total end store last sum all more. (n, new, word, turn, inr (on, still, rest, omega (arith, all, k), subst (λ (j : ℕ). TurnsManyHeld h j n end new store rest last) (omega (arith, sum, k)) more));
@@ -57,7 +57,7 @@ module _ {D L : Type 0} {g : Ghosts D L} {l : Lanes L} where
     | inr x ↦ (
         let k = x.2 in
         let none = asks_nothing p.1 count h p.0 old x.0 in
-        let turn : Turns h m p.0 old old (Own p.1) = (p.0, p.1, p.2, none.0) in
+        let turn : TurnsHeld h m p.0 old old (Own p.1) = (p.0, p.1, p.2, none.0) in
         let r = row_reaches h count x.1 p.0 mid n old new did word calm x.3 came in
         record {
           stops = λ left sum last. (p.0, old, Own p.1, turn, inr (none.1, calm, x.1, k, r.stops left (omega (arith, sum, k)) last));

@@ -25,8 +25,8 @@ module _ {D L : Type 0} {g : Ghosts D L} {l : Lanes L} where
   Comes did h m n old new word = (n ≡ m) × (new ≡ old) × (word ≡ Own did)
 
   -- a turn of hart h
-  abbrev pub Turns : ℕ → Machine → Machine → Store D L g l → Store D L g l → Word → Type 0
-  Turns h m n old new word = (mid : Machine) × (did : Turned) × machines.MakesTurn h m mid did × Comes did h mid n old new word
+  abbrev pub TurnsHeld : ℕ → Machine → Machine → Store D L g l → Store D L g l → Word → Type 0
+  TurnsHeld h m n old new word = (mid : Machine) × (did : Turned) × machines.MakesTurn h m mid did × Comes did h mid n old new word
 
   -- the turn is the last of a line, with so many that might follow: it ends the line, none is left, or a cut struck in it
   abbrev pub IsLastHeld : Word → ℕ → Store D L g l → Type 0
@@ -35,7 +35,7 @@ module _ {D L : Type 0} {g : Ghosts D L} {l : Lanes L} where
   -- at most n turns of hart h in a line, of which so many were made, and the word of the last
   abbrev pub TurnsManyHeld : ℕ → ℕ → Machine → Machine → Store D L g l → Store D L g l → ℕ → Word → Type 0
   TurnsManyHeld h zero m n old new made word = ⊥
-  TurnsManyHeld h (suc count) m n old new made word = (mid : Machine) × (store : Store D L g l) × (first : Word) × Turns h m mid old store first
+  TurnsManyHeld h (suc count) m n old new made word = (mid : Machine) × (store : Store D L g l) × (first : Word) × TurnsHeld h m mid old store first
       × ((IsLastHeld first count store × (n ≡ mid) × (new ≡ store) × (made ≡ 1) × (word ≡ first))
       ⊎ ((ends first ≡ false) × ((fault_state_of store).struck ≡ false) × (rest : ℕ) × (made ≡ suc rest) × TurnsManyHeld h count mid n store new rest word))
 

@@ -68,7 +68,7 @@ impl<D: Disk + Drop> Board<D> {
     ghost use Rattle.turns.specs.Turns.{has_pending};
     ghost use Rattle.board.specs.Boots.{IsConsoleCommand};
     ghost use Rattle.board.specs.Boards.{store_of, machine_of};
-    ghost use Rattle.board.specs.Turns.{Comes, Turns, RowsHeld, TurnsManyHeld, CallsHeld};
+    ghost use Rattle.board.specs.Turns.{Comes, TurnsHeld, RowsHeld, TurnsManyHeld, CallsHeld};
     ghost use Rattle.board.specs.PowersOn.{IsOn, IsUnpowered, KeepsDisk, GivesDisk};
     ghost use Rattle.board.specs.Unbooted.{IsNowAfter};
 
@@ -177,7 +177,7 @@ impl<D: Disk + Drop> Board<D> {
     #[inline(always)]
     pub fn turn<C: Crew>(&mut self, alloc: Global, crew: &C, hart: HartId) -> Word
         requires { hart < length (machine_of self.old).harts }
-        ensures turns { Turns hart (machine_of self.old) (machine_of self.new) (store_of self.old) (store_of self.new) result }
+        ensures turns { TurnsHeld hart (machine_of self.old) (machine_of self.new) (store_of self.old) (store_of self.new) result }
         ensures harts { length (machine_of self.new).harts ≡ length (machine_of self.old).harts }
     {
         let turned = self.machine.turn(hart);
