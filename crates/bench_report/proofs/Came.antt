@@ -13,7 +13,7 @@ use Rattle.store.specs.Lives.{Life as StoreLife, Applied, Refused, Suspended, Su
 use Rattle.store.specs.Follows.{FitsBoard}
 use Rattle.store.specs.Opens.{CausedRefusal}
 use Rattle.store.specs.Stores.{life_of, doubt_of}
-use Rattle.store.specs.Views.{CountedRefusal}
+use Rattle.store.specs.Answers.{CountedRefusal}
 use Rattle.susp.specs.Asked.{Asked}
 use Rattle.susp.specs.Checks.{IsChecked}
 use Rattle.susp.specs.Sleeps.{SleepsBy as StoreSleeps, Answers}

@@ -7,7 +7,7 @@ use Rattle.board_model.specs.declared.boot_mode.BootMode.{BootMode}
 use Rattle.board_model.specs.declared.refusal.Refusal.{Refusal}
 use Rattle.disk.specs.Facts.{Facts, LeavesSince, Unchanged}
 use Rattle.store.specs.Lives.{Life}
-use Rattle.store.specs.Views.{StoreView, Opened}
+use Rattle.store.specs.Answers.{StoreView, Opened}
 use Rattle.board.specs.Begins.{IsRefused}
 use Rattle.board.specs.Moments.{gone_before}
 use Rattle.board.specs.PowersOn.{IsOff}

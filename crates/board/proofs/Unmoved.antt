@@ -5,7 +5,7 @@ use Rattle.board_model.specs.Durable.{DurableState, Change}
 use Rattle.board_model.specs.declared.boot_mode.BootMode.{BootMode}
 use Rattle.board_model.specs.declared.refusal.Refusal.{Refusal}
 use Rattle.store.specs.Lives.{Life, begun}
-use Rattle.store.specs.Views.{StoreView}
+use Rattle.store.specs.Answers.{StoreView}
 use Rattle.board.specs.Moments.{gone_before}
 use Rattle.board.specs.Readies.{IsOpen, IsUnissued}
 use Rattle.board.proofs.Moments.{IsNow, untouched_moments}

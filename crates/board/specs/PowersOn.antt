@@ -13,7 +13,7 @@ use Rattle.store.specs.Leaves.{IsIdle, SameLength, Leaves, LeavesOnly}
 use Rattle.store.specs.Lives.{now_of}
 use Rattle.store.specs.Opens.{OpenRefused, CausedRefusal}
 use Rattle.store.specs.Standing.{StandsFor}
-use Rattle.store.specs.Views.{StoreView}
+use Rattle.store.specs.Answers.{StoreView}
 use Rattle.machine.specs.Machine.{Machine}
 use Rattle.board.specs.Boots.{PayloadsFit, boot_refusal, life_after}
 use Rattle.board.specs.Begins.{IsBegun, IsRefused}

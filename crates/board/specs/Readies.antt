@@ -7,7 +7,7 @@ use Rattle.disk.specs.Facts.{LeavesSince}
 use Rattle.store.specs.Leaves.{IsIdle, LeavesOnly, SameLength}
 use Rattle.store.specs.Lives.{begun, now_of}
 use Rattle.store.specs.Opens.{CausedRefusal}
-use Rattle.store.specs.Views.{StoreView}
+use Rattle.store.specs.Answers.{StoreView}
 use Rattle.board.specs.Boots.{life_after}
 use Rattle.board.specs.Begins.{HasItsHart}
 use Rattle.board.specs.Moments.{issued_by, gone_before, MayLeave}

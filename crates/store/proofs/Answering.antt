@@ -13,7 +13,7 @@ use Rattle.store.specs.Leaves.{LeavesOnly, StandsForEither, WroteACommand}
 use Rattle.store.specs.Lives.{Life, now_of, Reaches, Applied, Suspended, SuspendRefused, IsReseen}
 use Rattle.store.specs.Opens.{CausedRefusal}
 use Rattle.store.specs.Standing.{selected, StandsFor}
-use Rattle.store.specs.Views.{StoreView, GoesTo, CountedRefusal, Answered}
+use Rattle.store.specs.Answers.{StoreView, GoesTo, CountedRefusal, Answered}
 use Rattle.store.proofs.Suspending.{told_so, applied_found, now_still}
 
 pub wrote : (old new : Facts) (side : ℕ) → selected old.content ≡ side → selected new.content ≡ 1 - side → WroteACommand old new

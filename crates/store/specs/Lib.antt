@@ -4,7 +4,7 @@ pub mod Leaves
 pub mod Commits
 pub mod Opens
 pub mod Lives
-pub mod Views
+pub mod Answers
 pub mod Stores
 pub mod Follows
 pub mod Formats

@@ -10,7 +10,7 @@ use Rattle.disk.specs.FaultState.{FaultState}
 use Rattle.store.specs.Standing.{state_of, memory_in}
 use Rattle.board_model.specs.Shown.{change_in}
 use Rattle.store.specs.Lives.{Life, now_of}
-use Rattle.store.specs.Views.{StoreView}
+use Rattle.store.specs.Answers.{StoreView}
 use Rattle.store.specs.declared.stores.Store.{Store}
 
 module _ {D L : Type 0} {g : Ghosts D L} {l : Lanes L} where

@@ -56,7 +56,7 @@ impl<D: Disk + Drop> Store<D> {
     ghost use Rattle.store.specs.Leaves.{IsIdle, SameLength, LeavesOnly, LeavesEither, ReadsAlone};
     ghost use Rattle.store.specs.Opens.{ReadsAs, OpenRefused, OpenCalls, CausedRefusal};
     ghost use Rattle.store.specs.Lives.{Reaches, TakesNone, Refused, Applied, IsReseen, SuspendRefused, Suspended, IsLoaded, LoadRefused};
-    ghost use Rattle.store.specs.Views.{Opened, Answered, StaysOpen};
+    ghost use Rattle.store.specs.Answers.{Opened, Answered, StaysOpen};
     ghost use Rattle.disk.specs.Facts.{LeavesSince, Unchanged, Passes, Stays, counted};
     ghost use Rattle.disk.specs.FaultState.{armed_by};
     ghost use Rattle.store.specs.Standing.{StandsFor, selected};

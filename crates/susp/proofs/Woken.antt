@@ -12,7 +12,7 @@ use Rattle.store.specs.Leaves.{Leaves, IsKept, LeavesOnly, StandsForEither, Wrot
 use Rattle.store.specs.Lives.{Life, now_of, Applied, Reaches, Refused, LoadRefused}
 use Rattle.store.specs.Opens.{CausedRefusal}
 use Rattle.store.specs.Standing.{selected, StandsFor}
-use Rattle.store.specs.Views.{StoreView, GoesTo, CountedRefusal, Answered}
+use Rattle.store.specs.Answers.{StoreView, GoesTo, CountedRefusal, Answered}
 
 -- each content that a crash may leave stands for that state
 stands_so : (disk : Facts) (size : Size) (s : DurableState) → LeavesOnly disk size s → (c : Content) → disk.may_leave c → StandsFor c size s

@@ -9,7 +9,7 @@ use Rattle.disk.specs.declared.device.Lane.{Ghosts as Lanes}
 use Rattle.disk.specs.Facts.{Passes, Stays, Failed}
 use Rattle.hart.specs.State.{ArchState as HartState, started}
 use Rattle.store.specs.Lives.{Applied, Reaches, LoadRefused}
-use Rattle.store.specs.Views.{Answered}
+use Rattle.store.specs.Answers.{Answered}
 use Rattle.store.specs.Stores.{disk_of, fault_state_of, size_of_store, life_of, now_state, doubt_of, view_of}
 use Rattle.store.specs.declared.stores.Store.{Store}
 
