@@ -12,7 +12,7 @@ use Rattle.hsm.specs.Seen.{listed}
 use Rattle.store.specs.Lives.{Life as StoreLife, Applied, Refused, Suspended, SuspendRefused}
 use Rattle.store.specs.Follows.{FitsBoard}
 use Rattle.store.specs.Opens.{CausedRefusal}
-use Rattle.store.specs.Stores.{life_of, doubt_of}
+use Rattle.store.specs.Views.{life_of, doubt_of}
 use Rattle.store.specs.Answers.{CountedRefusal}
 use Rattle.susp.specs.Asked.{Asked}
 use Rattle.susp.specs.Checks.{IsChecked}

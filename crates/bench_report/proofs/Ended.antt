@@ -5,7 +5,7 @@ use Rattle.board_model.specs.Kept.{Kept, MayFind, TakesIn, found_of}
 use Rattle.board_model.specs.Shapes.{Size}
 use Rattle.disk.specs.Facts.{Facts, Content, IsLeft}
 use Rattle.store.specs.Leaves.{Leaves, IsKept, LeavesOnly, LeavesEither}
-use Rattle.store.specs.Stores.{Stands, Doubts, now_state, doubt_of}
+use Rattle.store.specs.Views.{Stands, Doubts, now_state, doubt_of}
 use Rattle.simdisk.specs.declared.SimDisk.{SimDisk}
 use Rattle.bench_report.specs.Below.{facts, SimStore, SimBoard, store_in, IsAs, store_size}
 use Rattle.bench_report.specs.Bench.{DiskState, Blank, Unknown, Formatted, BenchLife}

@@ -14,7 +14,7 @@ use Rattle.simdisk.specs.declared.SimDisk.{SimDisk}
 use Rattle.store.specs.Leaves.{Leaves, LeavesOnly, LeavesEither, SameLength}
 use Rattle.store.specs.Lives.{Life as StoreLife, begun as started}
 use Rattle.store.specs.Opens.{CausedRefusal}
-use Rattle.store.specs.Stores.{life_of, view_of}
+use Rattle.store.specs.Views.{life_of, view_of}
 use Rattle.machine.specs.Machine.{Machine}
 use Rattle.board.specs.Boots.{boot_refusal, life_after, PayloadsFit}
 use Rattle.board.specs.Begins.{IsBegun, Issues, IsLateRefusal, IsBootRefusal}

@@ -16,7 +16,7 @@ use Rattle.board.specs.declared.Board as boards
 use Rattle.machine.specs.Machine.{Machine}
 use Rattle.store.specs.declared.Store as any
 use Rattle.store.specs.Lives.{Life, now_of}
-use Rattle.store.specs.Stores as stores
+use Rattle.store.specs.Views as stores
 
 -- a store over a disk in memory
 abbrev pub SimStore : Type 0

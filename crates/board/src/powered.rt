@@ -60,7 +60,7 @@ impl<D: Disk + Drop> Board<D> {
     ghost use Rattle.store.specs.Opens.{ReadsAs, OpenRefused, CausedRefusal};
     ghost use Rattle.store.specs.Lives.{Applied};
     ghost use Rattle.store.specs.Answers.{Answered, StaysOpen};
-    ghost use Rattle.store.specs.Stores.{disk_of, fault_state_of, arms_of, size_of_store, life_of, found_state, now_state, doubt_of, failures_at_open, view_of, Stands, Doubts};
+    ghost use Rattle.store.specs.Views.{disk_of, fault_state_of, arms_of, size_of_store, life_of, found_state, now_state, doubt_of, failures_at_open, view_of, Stands, Doubts};
     ghost use Rattle.machine.specs.Machine.{hart_at};
     ghost use Rattle.machine.specs.Durables.{IsHartStarted};
     ghost use Rattle.turns.specs.declared.words.Turned.TheVariants as did;

@@ -4,7 +4,7 @@ ghost use Rattle.std.specs.Prelude.{◌≡◌, ◌≤◌, ◌<◌, ℕ, OnOk, If
 ghost use Rattle.board_model.specs.Durable.{DurableState};
 ghost use Rattle.board_model.specs.Shapes.{ram_bytes_of};
 ghost use Rattle.board_model.specs.Shown.{durable_of};
-ghost use Rattle.store.specs.Stores.{size_of_store, found_state, now_state, view_of};
+ghost use Rattle.store.specs.Views.{size_of_store, found_state, now_state, view_of};
 ghost use Rattle.machine.specs.Machine.{resting};
 ghost use Rattle.board.specs.Begins.{HasItsHart, first_of, IsBegun, IsLateRefusal, IsRefused};
 ghost use Rattle.board.specs.Boots.{boot_refusal, PayloadsFit, booted};

@@ -7,7 +7,7 @@ use Rattle.board_model.specs.declared.refusal.Refusal.{Refusal}
 use Rattle.disk.specs.declared.device.Disk.{Ghosts}
 use Rattle.disk.specs.declared.device.Lane.{Ghosts as Lanes}
 use Rattle.store.specs.Lives.{Applied}
-use Rattle.store.specs.Stores.{now_state}
+use Rattle.store.specs.Views.{now_state}
 use Rattle.store.specs.declared.stores.Store.{Store}
 use Rattle.susp.specs.Asked.{Asked}
 use Rattle.board_console.specs.declared.words.Said.{Said}

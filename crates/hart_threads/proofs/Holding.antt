@@ -14,7 +14,7 @@ use Rattle.hsm_rule.specs.Rule.{HasNoted}
 use Rattle.hsm_steps.specs.Told.{after_quiet}
 use Rattle.store.specs.Follows.{FitsBoard}
 use Rattle.store.specs.Lives.{Applied, Suspended}
-use Rattle.store.specs.Stores.{doubt_of, life_of, size_of_store}
+use Rattle.store.specs.Views.{doubt_of, life_of, size_of_store}
 use Rattle.store.specs.declared.stores.Store.{Store}
 use Rattle.sbi_abi.specs.declared.call.Call.{Call}
 use Rattle.sbi_abi.specs.declared.call.Call.TheVariants as calls

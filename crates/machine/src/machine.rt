@@ -7,7 +7,7 @@ ghost use Rattle.board_model.specs.declared.refusal.Refusal.TheVariants.{Memory}
 ghost use Rattle.turns.specs.Turns.{has_pending};
 ghost use Rattle.turns.specs.declared.words.Turned.TheVariants.{Durable};
 ghost use Rattle.machine.specs.declared.parts.Called.TheVariants.{Made};
-ghost use Rattle.store.specs.Stores.{size_of_store, now_state, view_of};
+ghost use Rattle.store.specs.Views.{size_of_store, now_state, view_of};
 ghost use Rattle.store.specs.Answers.{StaysOpen};
 ghost use Rattle.susp.specs.Wakes.{IsUnloaded, IsConsumed};
 ghost use Rattle.machine.specs.Machine.{hart_at, stopped_harts, resting, machine_begun, woken};

@@ -5,6 +5,6 @@ pub mod Commits
 pub mod Opens
 pub mod Lives
 pub mod Answers
-pub mod Stores
+pub mod Views
 pub mod Follows
 pub mod Formats

@@ -60,7 +60,7 @@ impl<D: Disk + Drop> Store<D> {
     ghost use Rattle.disk.specs.Facts.{LeavesSince, Unchanged, Passes, Stays, counted};
     ghost use Rattle.disk.specs.FaultState.{armed_by};
     ghost use Rattle.store.specs.Standing.{StandsFor, selected};
-    ghost use Rattle.store.specs.Stores.{device_of, disk_of, fault_state_of, arms_of, size_of_store, life_of, found_state, journal_of, now_state, receipts, doubt_of, failures_at_open, view_of, Stands, Doubts};
+    ghost use Rattle.store.specs.Views.{device_of, disk_of, fault_state_of, arms_of, size_of_store, life_of, found_state, journal_of, now_state, receipts, doubt_of, failures_at_open, view_of, Stands, Doubts};
 
     /// Opens a disk, and so begins a life. What the last life left in doubt is settled by a sync. Each crash since the
     /// call's start, after a refusal too, leaves a content that a crash just before could have left, and after `Ok` only

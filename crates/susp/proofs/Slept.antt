@@ -12,7 +12,7 @@ use Rattle.hsm_rule.specs.Rule.{HasNoted}
 use Rattle.hsm_rule.specs.States.{HartState, Shows}
 use Rattle.hsm_steps.specs.Told.{after_quiet}
 use Rattle.sbi_abi.specs.declared.ret.SbiError.TheVariants.{Failed, Denied}
-use Rattle.store.specs.Stores.{size_of_store}
+use Rattle.store.specs.Views.{size_of_store}
 use Rattle.store.specs.declared.stores.Store.{Store}
 use Rattle.susp.specs.Checks.{IsChecked}
 use Rattle.susp.specs.Sleeps.{AreUnclaimed, AreStopped, AsksToSleep, Sleeps, SleepsAlone}

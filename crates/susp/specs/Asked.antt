@@ -9,7 +9,7 @@ use Rattle.disk.specs.declared.device.Lane.{Ghosts as Lanes}
 use Rattle.disk.specs.Facts.{Failed}
 use Rattle.store.specs.Lives.{Life}
 use Rattle.store.specs.Answers.{Answered, StaysOpen}
-use Rattle.store.specs.Stores.{disk_of, doubt_of, failures_at_open, view_of}
+use Rattle.store.specs.Views.{disk_of, doubt_of, failures_at_open, view_of}
 use Rattle.store.specs.declared.stores.Store.{Store}
 
 module _ {D L : Type 0} {g : Ghosts D L} {l : Lanes L} where

@@ -18,7 +18,7 @@ use Rattle.sbi_abi.specs.declared.ret.SbiError.{SbiError}
 use Rattle.sbi_abi.specs.declared.ret.SbiError.TheVariants.{Failed, Denied}
 use Rattle.store.specs.Follows.{FitsBoard}
 use Rattle.store.specs.Lives.{Suspended}
-use Rattle.store.specs.Stores.{size_of_store}
+use Rattle.store.specs.Views.{size_of_store}
 use Rattle.store.specs.declared.stores.Store.{Store}
 use Rattle.susp.specs.declared.sleeps.Asleep.{Asleep}
 use Rattle.susp.specs.Asked.{Asked}

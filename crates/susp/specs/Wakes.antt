@@ -10,7 +10,7 @@ use Rattle.disk.specs.Facts.{Passes, Stays, Failed}
 use Rattle.hart.specs.State.{ArchState as HartState, started}
 use Rattle.store.specs.Lives.{Applied, Reaches, LoadRefused}
 use Rattle.store.specs.Answers.{Answered}
-use Rattle.store.specs.Stores.{disk_of, fault_state_of, size_of_store, life_of, now_state, doubt_of, view_of}
+use Rattle.store.specs.Views.{disk_of, fault_state_of, size_of_store, life_of, now_state, doubt_of, view_of}
 use Rattle.store.specs.declared.stores.Store.{Store}
 
 -- The memory is that of the image that stands, and the hart is the image's, as one that starts at its address with its opaque value.

@@ -1,7 +1,7 @@
 //! A board wakes from its image.
 
 ghost use Rattle.std.specs.Prelude.{◌≡◌, ◌⊎◌, ℕ, length, Ok, Err, IfOk, IfErr, OnOk};
-ghost use Rattle.store.specs.Stores.{now_state, view_of};
+ghost use Rattle.store.specs.Views.{now_state, view_of};
 ghost use Rattle.store.specs.Answers.{StaysOpen};
 ghost use Rattle.susp.specs.Wakes.{IsWoken, IsUnloaded, IsConsumed, IsWakeable, DiskFailed};
 

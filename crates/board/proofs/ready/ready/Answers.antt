@@ -1,5 +1,5 @@
 use Rattle.std.proofs.Common.{rules, Some}
-use Rattle.store.specs.Stores.{found_state, view_of}
+use Rattle.store.specs.Views.{found_state, view_of}
 use Rattle.board.specs.Boots.{boot_refusal}
 use Rattle.board.specs.Unbooted.{RefusesMode}
 use Rattle.board.proofs.Unmoved.{unmoved}

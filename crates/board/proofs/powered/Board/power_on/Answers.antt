@@ -1,6 +1,6 @@
 use Rattle.std.proofs.Common.{sym, ◌∙◌, ap, refl}
 use Rattle.store.specs.Lives.{Life, now_of}
-use Rattle.store.specs.Stores.{found_state, view_of}
+use Rattle.store.specs.Views.{found_state, view_of}
 use Rattle.board.proofs.Doubted.{leaves_life}
 use Rattle.board.proofs.Off.{is_off}
 use Rattle.board.proofs.powered.Board.power_on.Goals as goal

@@ -1,5 +1,5 @@
 use Rattle.std.proofs.Common.{rules, ◌≡◌, ◌-◌, true, false, inl, inr, refl, ◌∙◌, arith}
-use Rattle.store.specs.Stores.{fault_state_of}
+use Rattle.store.specs.Views.{fault_state_of}
 use Rattle.machine.specs.Words.{ends}
 use Rattle.board.specs.Boards.{store_of, machine_of}
 use Rattle.board.proofs.Rows.{first_row, more_row}

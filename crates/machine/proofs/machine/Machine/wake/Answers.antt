@@ -2,7 +2,7 @@ use Rattle.std.proofs.Common.{rules, ◌≡◌, ◌<◌, ℕ, sym, ap, ◌∙◌
 use Rattle.std.specs.Prelude.{length}
 use Rattle.board_model.specs.Shapes.{Size}
 use Rattle.hart.specs.State.{ArchState}
-use Rattle.store.specs.Stores.{size_of_store}
+use Rattle.store.specs.Views.{size_of_store}
 use Rattle.machine.specs.Machine.{Machine}
 use Rattle.machine.proofs.machine.Machine.wake.Goals as goal
 

@@ -2,7 +2,7 @@ use Rattle.std.proofs.Common.{◌∙◌, Err, sym, ap, subst}
 use Rattle.std.proofs.lemmas.Result.{err_from_is_err_and}
 use Rattle.store.specs.Leaves.{LeavesOnly}
 use Rattle.store.specs.Lives.{Applied}
-use Rattle.store.specs.Stores.{view_of}
+use Rattle.store.specs.Views.{view_of}
 use Rattle.store.proofs.Answering.{refused_still}
 use Rattle.store.proofs.Found.{none_in_doubt}
 use Rattle.store.proofs.States.{up_leaves}

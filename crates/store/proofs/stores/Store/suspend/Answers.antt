@@ -6,7 +6,7 @@ use Rattle.store.specs.Lives.{Suspended}
 use Rattle.store.specs.Follows.{FitsBoard}
 use Rattle.store.specs.Standing.{state_of}
 use Rattle.board_model.specs.Shapes.{Size}
-use Rattle.store.specs.Stores.{life_of, found_state, now_state, view_of}
+use Rattle.store.specs.Views.{life_of, found_state, now_state, view_of}
 use Rattle.store.proofs.Suspending.{now_still}
 use Rattle.store.proofs.Answering.{refused_still, then_issued, unwritten}
 use Rattle.store.proofs.Found.{none_in_doubt}
