@@ -1,7 +1,7 @@
 -- The text and the status of each fault with which the program ends. Source: README.md, docs/SCRIPT.md.
 use Rattle.std.specs.Prelude.{ℕ, List, [], ◌++◌, Result, Ok, Err}
 use Rattle.std.specs.Fmt.{decimal}
-use Rattle.board_model.specs.Shown.{number_of_refusal}
+use Rattle.board_model.specs.Views.{number_of_refusal}
 use Rattle.board_model.specs.declared.refusal.Refusal.{Refusal}
 use Rattle.board_model.specs.declared.refusal.Refusal.TheVariants.{BadScript}
 use Rattle.bench_program.specs.declared.fault.Fault.{Fault}

@@ -3,7 +3,7 @@ use Rattle.std.proofs.Common.{◌≡◌, ◌⊎◌, ℕ, zero, suc, inl, inr, Li
 use Rattle.std.proofs.lemmas.Bool.{cases_lt}
 use Rattle.board_model.specs.Durable.{Change, Reset, Suspend}
 use Rattle.board_model.specs.Shapes.{Size, IsValidAddress, ram_bytes_of}
-use Rattle.board_model.specs.Shown.{number_of_refusal}
+use Rattle.board_model.specs.Views.{number_of_refusal}
 use Rattle.board_model.specs.declared.durable.Reason.{Reason}
 use Rattle.board_model.specs.declared.refusal.Refusal.{Refusal}
 use Rattle.board_model.specs.declared.refusal.Refusal.TheVariants.{Device, Down, Memory, BadShape, JournalFull}

@@ -3,7 +3,7 @@ use Rattle.std.proofs.Common.{◌≡◌, ◌≤◌, ℕ, ◌+◌, [], ◌∷◌,
 use Rattle.board_model.specs.Durable.{Change, after, ends_life}
 use Rattle.board_model.specs.Kept.{Kept}
 use Rattle.board_model.specs.Shapes.{Size}
-use Rattle.board_model.specs.Shown.{number_of_refusal, change_of}
+use Rattle.board_model.specs.Views.{number_of_refusal, change_of}
 use Rattle.board_model.specs.declared.durable.Command.{Command}
 use Rattle.board_model.specs.declared.durable.Command.TheVariants as commands
 use Rattle.board_model.specs.declared.refusal.Refusal.{Refusal}

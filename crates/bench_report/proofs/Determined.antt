@@ -4,7 +4,7 @@ use Rattle.std.specs.Bool.{⊤}
 use Rattle.board_model.specs.Durable.{DurableState, Image, Change, Consume, IsWhole, refusal_of}
 use Rattle.board_model.specs.Kept.{Kept, found_of, MayKeep, TakesIn}
 use Rattle.board_model.specs.Shapes.{Size, ram_bytes_of}
-use Rattle.board_model.specs.Shown.{durable_of}
+use Rattle.board_model.specs.Views.{durable_of}
 use Rattle.board_model.specs.declared.durable.Durable.{Durable}
 use Rattle.board_model.specs.declared.boot_mode.BootMode.{BootMode}
 use Rattle.board_model.specs.declared.boot_mode.BootMode.TheVariants as modes

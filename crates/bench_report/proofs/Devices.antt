@@ -1,7 +1,7 @@
 -- The device below a bench, after a call that failed and after one that did not.
 use Rattle.std.proofs.Common.{◌≡◌, ◌≢◌, ◌⊎◌, ◌≤◌, ℕ, inl, inr, refl, sym, ◌∙◌, subst, arith}
 use Rattle.board_model.specs.Shapes.{Size}
-use Rattle.board_model.specs.Shown.{number_of_refusal}
+use Rattle.board_model.specs.Views.{number_of_refusal}
 use Rattle.board_model.specs.declared.refusal.Refusal.{Refusal}
 use Rattle.board_model.specs.declared.refusal.Refusal.TheVariants.{Device, Memory}
 use Rattle.disk.specs.Facts.{Facts, counted, Failed}

@@ -3,7 +3,7 @@ use Rattle.std.proofs.Common.{◌≡◌, ◌≢◌, ◌≤◌, inl, inr, [], Non
 use Rattle.board_model.specs.Durable.{formatted}
 use Rattle.board_model.specs.Kept.{nothing_kept}
 use Rattle.board_model.specs.Shapes.{Size, sectors_of}
-use Rattle.board_model.specs.Shown.{number_of_refusal}
+use Rattle.board_model.specs.Views.{number_of_refusal}
 use Rattle.board_model.specs.declared.refusal.Refusal.{Refusal}
 use Rattle.board_model.specs.declared.refusal.Refusal.TheVariants.{AlreadyFormatted, Device}
 use Rattle.disk.specs.Facts.{Facts, Passes, Stays}

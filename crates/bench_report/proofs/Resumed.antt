@@ -3,7 +3,7 @@ use Rattle.std.proofs.Common.{◌≡◌, ◌≢◌, ◌⊎◌, ℕ, zero, suc, i
 use Rattle.board_model.specs.Durable.{DurableState, Image, Change, Slot, Reset, Suspend, Consume, Discard, formatted, refusal_of, after, fold}
 use Rattle.board_model.specs.Kept.{Kept, MayKeep, MayFind, TakesIn, found_of}
 use Rattle.board_model.specs.Shapes.{Size}
-use Rattle.board_model.specs.Shown.{durable_of}
+use Rattle.board_model.specs.Views.{durable_of}
 use Rattle.board_model.specs.declared.durable.Durable.{Durable}
 use Rattle.board_model.specs.declared.boot_mode.BootMode.{BootMode}
 use Rattle.board_model.specs.declared.boot_mode.BootMode.TheVariants as modes

@@ -1,7 +1,7 @@
 -- The serials of the images that are resumed rise strictly: a consequence of the prefix law alone.
 use Rattle.std.proofs.Common.{◌≡◌, ◌≤◌, ◌<◌, ◌+◌, ℕ, inl, inr, List, [], ◌∷◌, Option, None, Some, IfSome, refl, sym, subst, arith, Bool, false}
 use Rattle.board_model.specs.Durable.{Image, DurableState, Change, Slot, Reset, Suspend, Consume, Discard, formatted, after}
-use Rattle.board_model.specs.Shown.{head_of}
+use Rattle.board_model.specs.Views.{head_of}
 use Rattle.board_model.specs.declared.durable.Durable.{Durable}
 use Rattle.board_model.specs.declared.boot_mode.BootMode.{BootMode}
 use Rattle.board_model.specs.declared.boot_mode.BootMode.TheVariants as modes

@@ -3,7 +3,7 @@ use Rattle.std.proofs.Common.{◌≡◌, ◌≢◌, ◌≤◌, ℕ, List, [], �
 use Rattle.board_model.specs.Durable.{DurableState, Change, Consume, Discard, after, refusal_of}
 use Rattle.board_model.specs.Kept.{Kept}
 use Rattle.board_model.specs.Shapes.{Size, IsSize}
-use Rattle.board_model.specs.Shown.{number_of_refusal}
+use Rattle.board_model.specs.Views.{number_of_refusal}
 use Rattle.board_model.specs.declared.boot_mode.BootMode.{BootMode}
 use Rattle.board_model.specs.declared.boot_mode.BootMode.TheVariants as modes
 use Rattle.board_model.specs.declared.durable.Durable.{Durable}

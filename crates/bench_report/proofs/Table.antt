@@ -1,7 +1,7 @@
 -- The numbers of the table of commands, and of the modes of a boot.
 use Rattle.std.proofs.Common.{◌≡◌, ◌≢◌, ◌⊎◌, ℕ, inl, inr, Option, None, Some, ◌∙◌, ap, arith, Bool, true, false, nat_lt, is_some, if◌then◌else◌}
 use Rattle.board_model.specs.Durable.{DurableState, Change, Slot, Reset, Suspend, Consume, Discard, refusal_of}
-use Rattle.board_model.specs.Shown.{number_of_refusal}
+use Rattle.board_model.specs.Views.{number_of_refusal}
 use Rattle.board_model.specs.declared.boot_mode.BootMode.{BootMode}
 use Rattle.board_model.specs.declared.boot_mode.BootMode.TheVariants as modes
 use Rattle.board_model.specs.declared.refusal.Refusal.{Refusal}

@@ -4,7 +4,7 @@ use Rattle.std.specs.Prelude.{◌≡◌, ◌≢◌, ℕ, ◌+◌, ◌==◌, List
 use Rattle.board_model.specs.Durable.{DurableState, Change, Slot, Discard, refusal_of}
 use Rattle.board_model.specs.Kept.{found_of}
 use Rattle.board_model.specs.Shapes.{Size}
-use Rattle.board_model.specs.Shown.{durable_of}
+use Rattle.board_model.specs.Views.{durable_of}
 use Rattle.disk.specs.FaultState.{FaultArmed, CutArmed}
 use Rattle.board_model.specs.declared.refusal.Refusal.{Refusal}
 use Rattle.script_lang.specs.Scripts.{Script, script_of, ◌>>>◌}

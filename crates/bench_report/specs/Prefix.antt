@@ -6,7 +6,7 @@
 use Rattle.std.specs.Prelude.{◌≡◌, ◌≢◌, ◌⊎◌, ℕ, ◌+◌, ◌≤◌, Bool, true, false, List, [], ◌∷◌, Option, Some, None, MatchBool, ⊤}
 use Rattle.board_model.specs.Durable.{DurableState, Change, Slot, Reset, Suspend, Discard, formatted}
 use Rattle.bench_report.specs.Taken.{TakesAll, TakesSome, TakesFewer}
-use Rattle.board_model.specs.Shown.{durable_of}
+use Rattle.board_model.specs.Views.{durable_of}
 use Rattle.board_model.specs.declared.durable.Durable.{Durable}
 use Rattle.board_model.specs.declared.durable.Reason.{Reason}
 use Rattle.board_model.specs.declared.durable.ImageHead.{ImageHead}

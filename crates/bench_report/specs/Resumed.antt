@@ -4,7 +4,7 @@ use Rattle.std.specs.Prelude.{◌≡◌, ◌<◌, List, [], ◌∷◌, ◌++◌,
 use Rattle.board_model.specs.Durable.{Image, Change, Suspend, Consume}
 use Rattle.board_model.specs.Kept.{MayKeep, found_of}
 use Rattle.board_model.specs.Shapes.{Size}
-use Rattle.board_model.specs.Shown.{durable_of}
+use Rattle.board_model.specs.Views.{durable_of}
 use Rattle.machine.specs.Machine.{woken}
 use Rattle.bench_report.specs.declared.printed.Answer.{Answer}
 use Rattle.bench_report.specs.Bench.{BenchLife, Bench}

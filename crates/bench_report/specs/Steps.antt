@@ -4,7 +4,7 @@ use Rattle.std.specs.Option.{option_to_list}
 use Rattle.board_model.specs.Durable.{DurableState, Change, Slot, Reset, Suspend, Discard, IsWhole, refusal_of, after}
 use Rattle.board_model.specs.Kept.{nothing_kept, MayKeep, found_of}
 use Rattle.board_model.specs.Shapes.{Size}
-use Rattle.board_model.specs.Shown.{durable_of}
+use Rattle.board_model.specs.Views.{durable_of}
 use Rattle.board_model.specs.declared.durable.Durable.{Durable}
 use Rattle.disk.specs.Facts.{counted}
 use Rattle.disk.specs.FaultState.{Armed, FaultArmed, CutArmed, FaultState, Cause, fault_state_left}

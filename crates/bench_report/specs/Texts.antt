@@ -1,7 +1,7 @@
 -- The exact text of the lines of a report.
 use Rattle.std.specs.Prelude.{ℕ, List, [], ◌∷◌, ◌++◌, Option, Some, None}
 use Rattle.std.specs.Fmt.{decimal}
-use Rattle.board_model.specs.Shown.{reason_number}
+use Rattle.board_model.specs.Views.{reason_number}
 use Rattle.board_model.specs.declared.durable.Durable.{Durable}
 use Rattle.board_model.specs.declared.durable.ImageHead.{ImageHead}
 use Rattle.board_model.specs.declared.boot_mode.BootMode.{BootMode}

@@ -3,7 +3,7 @@
 ghost use Rattle.std.specs.Prelude.{◌≡◌, ◌≢◌, List, Ok, Err, None, Some, codes};
 ghost use Rattle.board_model.specs.Durable.{DurableState};
 ghost use Rattle.board_model.specs.Kept.{MayFind, found_of};
-ghost use Rattle.board_model.specs.Shown.{durable_of};
+ghost use Rattle.board_model.specs.Views.{durable_of};
 ghost use Rattle.board_model.specs.declared.boot_mode.BootMode.{BootMode};
 ghost use Rattle.board_model.specs.declared.boot_mode.BootMode.TheVariants as modes;
 ghost use Rattle.board_model.specs.declared.durable.Durable.{Durable};

@@ -2,7 +2,7 @@
 
 ghost use Rattle.std.specs.Prelude.{◌≡◌, false, ◌<◌, ◌≤◌, ◌+◌, ◌*◌, ◌^◌, if◌then◌else◌, ℕ, List, length, Some, None, Ok, Err, IfOk, OnOk, OnErr, true, IsTrue, ◌↔◌, MatchResult};
 ghost use Rattle.board_model.specs.Shapes.{Size};
-ghost use Rattle.board_model.specs.Shown.{change_of};
+ghost use Rattle.board_model.specs.Views.{change_of};
 ghost use Rattle.board.specs.Boots.{IsConsoleCommand};
 ghost use Rattle.script_lang.specs.Ranges.{IsLineInRange};
 ghost use Rattle.store.specs.Leaves.{IsIdle};

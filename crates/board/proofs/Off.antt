@@ -1,7 +1,7 @@
 -- A board that is off after an open that succeeded, put together from the open and from what the boot made of the store.
 use Rattle.std.proofs.Common.{◌≡◌, ℕ, List, ap, ◌∙◌, subst}
 use Rattle.board_model.specs.Shapes.{Size}
-use Rattle.board_model.specs.Shown.{durable_of}
+use Rattle.board_model.specs.Views.{durable_of}
 use Rattle.board_model.specs.declared.durable.Durable.{Durable}
 use Rattle.board_model.specs.declared.boot_mode.BootMode.{BootMode}
 use Rattle.board_model.specs.declared.refusal.Refusal.{Refusal}

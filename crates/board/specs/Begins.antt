@@ -3,7 +3,7 @@
 use Rattle.std.specs.Prelude.{◌≡◌, ◌<◌, ℕ, List, Option, None, Some, is_some, IfSome, length, IsTrue}
 use Rattle.board_model.specs.Durable.{DurableState, Image, IsWhole}
 use Rattle.board_model.specs.Shapes.{Size, ram_bytes_of}
-use Rattle.board_model.specs.Shown.{number_of_refusal}
+use Rattle.board_model.specs.Views.{number_of_refusal}
 use Rattle.board_model.specs.declared.boot_mode.BootMode.{BootMode}
 use Rattle.board_model.specs.declared.boot_mode.BootMode.TheVariants as modes
 use Rattle.board_model.specs.declared.refusal.Refusal.{Refusal}

@@ -51,7 +51,7 @@ impl<D: Disk + Drop> Board<D> {
     ghost use Rattle.std.specs.Prelude.{◌≡◌, ◌⊎◌, ◌<◌, ◌≤◌, false, length, Some, None, Err, IfSome, OnOk, IfOk, IfErr, IsErrOf, MatchResult};
     ghost use Rattle.board_model.specs.Durable.{DurableState, Change, refusal_of};
     ghost use Rattle.board_model.specs.Shapes.{Size};
-    ghost use Rattle.board_model.specs.Shown.{durable_of, change_of};
+    ghost use Rattle.board_model.specs.Views.{durable_of, change_of};
     ghost use Rattle.board_model.specs.declared.refusal.Refusal.{Refusal};
     ghost use Rattle.disk.specs.Facts.{LeavesSince, Failed, Unchanged};
     ghost use Rattle.disk.specs.FaultState.{armed_by};

@@ -3,7 +3,7 @@
 ghost use Rattle.std.specs.Prelude.{◌≡◌, ◌≤◌, ◌<◌, ℕ, OnOk, IfOk, IfErr, None};
 ghost use Rattle.board_model.specs.Durable.{DurableState};
 ghost use Rattle.board_model.specs.Shapes.{ram_bytes_of};
-ghost use Rattle.board_model.specs.Shown.{durable_of};
+ghost use Rattle.board_model.specs.Views.{durable_of};
 ghost use Rattle.store.specs.Views.{size_of_store, found_state, now_state, view_of};
 ghost use Rattle.machine.specs.Machine.{resting};
 ghost use Rattle.board.specs.Begins.{HasItsHart, first_of, IsBegun, IsLateRefusal, IsRefused};

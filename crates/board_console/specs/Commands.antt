@@ -1,7 +1,7 @@
 -- What the console makes of a line, with the store at hand. Source: docs/CONSOLE.md, "The console"; docs/DURABLE.md.
 use Rattle.std.specs.Prelude.{◌≡◌, ℕ, Result, Ok, Err}
 use Rattle.board_model.specs.Durable.{Slot, Discard}
-use Rattle.board_model.specs.Shown.{durable_of}
+use Rattle.board_model.specs.Views.{durable_of}
 use Rattle.board_model.specs.declared.durable.Durable.{Durable}
 use Rattle.board_model.specs.declared.refusal.Refusal.{Refusal}
 use Rattle.disk.specs.declared.device.Disk.{Ghosts}

@@ -1,7 +1,7 @@
 -- The answers of the console, as they are printed. Source: docs/CONSOLE.md, "The console".
 use Rattle.std.specs.Prelude.{ℕ, List, ◌++◌, Option, Some, None}
 use Rattle.std.specs.Fmt.{decimal}
-use Rattle.board_model.specs.Shown.{number_of_refusal, reason_number}
+use Rattle.board_model.specs.Views.{number_of_refusal, reason_number}
 use Rattle.board_model.specs.declared.durable.ImageHead.{ImageHead}
 use Rattle.board_console.specs.declared.answer.Answer.{Answer}
 use Rattle.board_console.specs.declared.answer.Answer.TheVariants as answers

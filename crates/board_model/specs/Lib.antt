@@ -1,4 +1,4 @@
 pub mod Shapes
 pub mod Durable
 pub mod Kept
-pub mod Shown
+pub mod Views

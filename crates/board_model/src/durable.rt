@@ -2,7 +2,7 @@
 
 ghost use Rattle.std.specs.Prelude.{◌≡◌, ℕ, List};
 ghost use Rattle.board_model.specs.Durable.{DurableState, Suspend, Consume, Discard};
-ghost use Rattle.board_model.specs.Shown.{reason_number, change_of, durable_of, IsNextOf};
+ghost use Rattle.board_model.specs.Views.{reason_number, change_of, durable_of, IsNextOf};
 
 use crate::numbers::{Addr, HartId, Slot};
 use crate::refusal::Refusal;

@@ -1,7 +1,7 @@
 -- The text and the status of each fault with which the program ends. Source: docs/CONSOLE.md, "Statuses and faults".
 use Rattle.std.specs.Prelude.{ℕ, List, [], ◌++◌, Result, Ok, Err}
 use Rattle.std.specs.Fmt.{decimal}
-use Rattle.board_model.specs.Shown.{number_of_refusal}
+use Rattle.board_model.specs.Views.{number_of_refusal}
 use Rattle.board_program.specs.declared.fault.Fault.{Fault}
 use Rattle.board_program.specs.declared.fault.Fault.TheVariants.{Usage, Refused, File}
 use lib.Chars.{codes}

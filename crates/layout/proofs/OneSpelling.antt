@@ -1,7 +1,7 @@
 -- A sector is the spelling of one record alone.
 use Rattle.std.proofs.Common.{◌≡◌, ◌∙◌, ℕ, List, [], ◌∷◌, Option, Some, None, length, slice_index, refl, sym, ap, arith}
 use Rattle.board_model.specs.Shapes.{Size}
-use Rattle.board_model.specs.Shown.{reason_number}
+use Rattle.board_model.specs.Views.{reason_number}
 use Rattle.board_model.specs.declared.durable.Reason.{Reason}
 use Rattle.board_model.specs.declared.durable.Reason.TheVariants.{NoReason, SystemFailure}
 use Rattle.layout.specs.Records.{presence_of, IsRecord}

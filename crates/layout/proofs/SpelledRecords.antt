@@ -1,7 +1,7 @@
 -- What stands in a record is what was put there.
 use Rattle.std.proofs.Common.{◌≡◌, ◌∙◌, ℕ, ◌<◌, List, [], ◌∷◌, ◌++◌, Option, Some, None, slice_index, refl, ap, append_assoc, arith}
 use Rattle.board_model.specs.Shapes.{Size}
-use Rattle.board_model.specs.Shown.{reason_number}
+use Rattle.board_model.specs.Views.{reason_number}
 use Rattle.board_model.specs.declared.durable.Reason.{Reason}
 use Rattle.layout.specs.Fields.{Field, FitAll, number_bytes, fields_bytes, sector_of, number_at}
 use Rattle.layout.specs.Records.{selected_by, gate_of, head_fields, saved_fields, image_fields, presence_of, IsSaved, IsRecord}

@@ -3,7 +3,7 @@
 use Rattle.std.specs.Prelude.{◌≡◌, ℕ, ◌%◌, ◌<◌, ◌≤◌, List, [], ◌∷◌, ◌++◌, Option, Some, None, length, sum, slice_index, nat_lt, if◌then◌else◌}
 use Rattle.std.specs.Option.{ForSome}
 use Rattle.board_model.specs.Shapes.{Size, IsValidAddress, places_of}
-use Rattle.board_model.specs.Shown.{reason_number}
+use Rattle.board_model.specs.Views.{reason_number}
 use Rattle.board_model.specs.declared.durable.ImageHead.{ImageHead}
 use Rattle.board_model.specs.declared.durable.Durable.{Durable}
 use Rattle.layout.specs.Fields.{Field, FitAll, fields_bytes, sector_of}

@@ -1,6 +1,6 @@
 //! The gate and the record, version 1.
 ghost use Rattle.std.specs.Prelude.{◌≡◌, ℕ, ◌+◌, ◌<◌, ◌≤◌, ◌^◌, ◌↔◌, ◌++◌, Ok, Some, IfOk, IfErr, IfSome, IsTrue, length, slice_index};
-ghost use Rattle.board_model.specs.Shown.{reason_number};
+ghost use Rattle.board_model.specs.Views.{reason_number};
 ghost use Rattle.board_model.specs.declared.durable.Reason.{Reason};
 ghost use Rattle.layout.specs.Fields.{fields_bytes, width_of, number_at};
 ghost use Rattle.layout.specs.Records.{selected_by, gate_of, AreCounts, most_places, head_fields, saved_fields, presence_of, record_of, durable_in, IsSaved, IsInRange, IsRecord};

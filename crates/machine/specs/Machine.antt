@@ -2,7 +2,7 @@
 use Rattle.std.specs.Prelude.{ℕ, zero, suc, Bool, false, List, [], ◌∷◌, ◌++◌, ◌-◌, length, replicate, get_or, slice_set}
 use Rattle.board_model.specs.Durable.{Image}
 use Rattle.board_model.specs.Shapes.{Size, ram_bytes_of}
-use Rattle.board_model.specs.Shown.{reason_number}
+use Rattle.board_model.specs.Views.{reason_number}
 use Rattle.board_model.specs.declared.durable.Reason.{Reason}
 use Rattle.hart.specs.State.{ArchState, never_started, started as fresh}
 use Rattle.hsm_rule.specs.States.{HartState, stopped, started}

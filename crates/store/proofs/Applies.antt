@@ -3,7 +3,7 @@ use Rattle.std.proofs.Common.{◌≡◌, ◌∙◌, inl, inr, ⊎_elim, ℕ, ◌
 use Rattle.std.proofs.lemmas.Bool.{and_parts, and_from}
 use Rattle.board_model.specs.Durable.{DurableState, Change, refusal_of, after, fold}
 use Rattle.board_model.specs.Shapes.{Size}
-use Rattle.board_model.specs.Shown.{change_in}
+use Rattle.board_model.specs.Views.{change_in}
 use Rattle.disk.specs.Facts.{Content, Facts, LeavesSince}
 use Rattle.disk.specs.Moments.{leaves_none, leaves_weaker}
 use Rattle.layout.specs.declared.records.Record.{Record}

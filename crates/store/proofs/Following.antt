@@ -6,7 +6,7 @@ use Rattle.std.proofs.lemmas.Bool.Decides.{nat_tests}
 use Rattle.std.proofs.lemmas.List.Sums.{sum_by-cons}
 use Rattle.board_model.specs.declared.durable.ImageHead.{ImageHead}
 use Rattle.board_model.specs.Shapes.{Size, IsSize, IsValidAddress}
-use Rattle.board_model.specs.Shown.{change_of, durable_of, head_of, reason_number}
+use Rattle.board_model.specs.Views.{change_of, durable_of, head_of, reason_number}
 use Rattle.board_model.specs.declared.durable.Command.{Command}
 use Rattle.board_model.specs.declared.durable.Command.TheVariants.{Slot, Reset, Consume, Discard}
 use Rattle.board_model.specs.declared.durable.Durable.{Durable}

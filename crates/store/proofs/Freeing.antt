@@ -3,7 +3,7 @@ use Rattle.std.proofs.Common.{◌≡◌, ◌∙◌, ◌⊎◌, zero, suc, inl, i
 use Rattle.std.proofs.lemmas.Bool.{cases_Bool}
 use Rattle.board_model.specs.Durable.{Image, DurableState, fold}
 use Rattle.board_model.specs.Shapes.{Size, area_sectors_of}
-use Rattle.board_model.specs.Shown.{durable_of}
+use Rattle.board_model.specs.Views.{durable_of}
 use Rattle.board_model.specs.declared.durable.Command.TheVariants as commands
 use Rattle.board_model.specs.declared.durable.Reason.{Reason}
 use Rattle.disk.specs.Facts.{Content, Facts, Torn, Passes, LeavesSince}

@@ -5,7 +5,7 @@ use Rattle.board_model.specs.Durable.{ends_life}
 use Rattle.board_model.specs.Shapes.{Size}
 use Rattle.layout.specs.declared.records.Record.{Record}
 use Rattle.store.specs.Entries.{is_plain, are_plain, drops_image, drop_image}
-use Rattle.board_model.specs.Shown.{change_in}
+use Rattle.board_model.specs.Views.{change_in}
 use Rattle.store.specs.Follows.{Follows}
 use Rattle.board_model.specs.declared.durable.Entry.{Entry}
 use Rattle.board_model.specs.declared.durable.Entry.TheVariants as entries

@@ -2,7 +2,7 @@
 use Rattle.std.proofs.Common.{◌≡◌, ◌∙◌, ℕ, ◌<◌, None, sym, ap, subst}
 use Rattle.board_model.specs.Durable.{DurableState, Change, refusal_of, after}
 use Rattle.board_model.specs.Shapes.{Size}
-use Rattle.board_model.specs.Shown.{change_in}
+use Rattle.board_model.specs.Views.{change_in}
 use Rattle.disk.specs.Facts.{Facts}
 use Rattle.layout.specs.declared.records.Record.{Record}
 use Rattle.store.specs.Standing.{state_of, memory_in}

@@ -8,7 +8,7 @@ use Rattle.layout.specs.Records.{IsInRange}
 use Rattle.layout.specs.declared.records.Record.{Record}
 use Rattle.store.specs.Standing.{state_of, memory_in}
 use Rattle.store.specs.Entries.{drops_image}
-use Rattle.board_model.specs.Shown.{change_in}
+use Rattle.board_model.specs.Views.{change_in}
 use Rattle.board_model.specs.declared.durable.Entry.{Entry}
 
 -- the record of that durable state, whose image, where it has one, is the old record's

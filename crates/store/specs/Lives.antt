@@ -5,7 +5,7 @@ use Rattle.board_model.specs.Durable.{DurableState, Image, Change, refusal_of, f
 use Rattle.board_model.specs.Shapes.{Size, ram_bytes_of}
 use Rattle.disk.specs.Facts.{Facts, Failed}
 use Rattle.disk.specs.FaultState.{FaultState, Cause}
-use Rattle.board_model.specs.Shown.{number_of_refusal, durable_of}
+use Rattle.board_model.specs.Views.{number_of_refusal, durable_of}
 use Rattle.board_model.specs.declared.refusal.Refusal.{Refusal}
 use Rattle.board_model.specs.declared.refusal.Refusal.TheVariants.{BadShape, NoImage, BadImage, Device, Down, Over, JournalFull, Memory}
 

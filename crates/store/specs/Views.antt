@@ -8,7 +8,7 @@ use Rattle.disk.specs.declared.device.Lane.{Ghosts as Lanes}
 use Rattle.disk.specs.Facts.{Facts}
 use Rattle.disk.specs.FaultState.{FaultState}
 use Rattle.store.specs.Standing.{state_of, memory_in}
-use Rattle.board_model.specs.Shown.{change_in}
+use Rattle.board_model.specs.Views.{change_in}
 use Rattle.store.specs.Lives.{Life, now_of}
 use Rattle.store.specs.Answers.{StoreView}
 use Rattle.store.specs.declared.stores.Store.{Store}

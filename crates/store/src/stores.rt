@@ -1,7 +1,7 @@
 //! The store: one life of the durable state.
 ghost use Rattle.std.specs.Prelude.{◌≡◌, ◌≤◌, ◌≢◌, ◌<◌, ◌+◌, ◌-◌, ◌*◌, ◌^◌, ◌⊎◌, ◌↔◌, IsTrue, ℕ, List, get_or, false, true, length, map, vec_len, vec_capacity, Some, None, Err, IfSome, IfOk, IfErr, OnOk, OnErr, IsErrOf, MatchResult};
 ghost use Rattle.board_model.specs.Durable.{DurableState, Change, Suspend, after, fold, ends_life, refusal_of};
-ghost use Rattle.board_model.specs.Shown.{change_of, change_in, number_of_refusal};
+ghost use Rattle.board_model.specs.Views.{change_of, change_in, number_of_refusal};
 ghost use Rattle.board_model.specs.Shapes.{Size, IsSize, ram_bytes_of};
 ghost use Rattle.layout.specs.Records.{AreCounts};
 ghost use Rattle.layout.specs.declared.records.Saved.{Saved};
@@ -52,7 +52,7 @@ pub struct Store<D: Disk + Drop> {
 }
 
 impl<D: Disk + Drop> Store<D> {
-    ghost use Rattle.board_model.specs.Shown.{durable_of};
+    ghost use Rattle.board_model.specs.Views.{durable_of};
     ghost use Rattle.store.specs.Leaves.{IsIdle, SameLength, LeavesOnly, LeavesEither, ReadsAlone};
     ghost use Rattle.store.specs.Opens.{ReadsAs, OpenRefused, OpenCalls, CausedRefusal};
     ghost use Rattle.store.specs.Lives.{Reaches, TakesNone, Refused, Applied, IsReseen, SuspendRefused, Suspended, IsLoaded, LoadRefused};

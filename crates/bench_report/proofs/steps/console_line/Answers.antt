@@ -1,5 +1,5 @@
 use Rattle.std.proofs.Common.{Option, sym, subst}
-use Rattle.board_model.specs.Shown.{change_of}
+use Rattle.board_model.specs.Views.{change_of}
 use Rattle.bench_report.specs.declared.power.Power.{Power}
 use Rattle.bench_report.specs.Bench.{BenchLife}
 use Rattle.bench_report.specs.Steps.{ConsoleStep}

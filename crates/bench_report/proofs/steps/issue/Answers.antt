@@ -1,6 +1,6 @@
 use Rattle.std.proofs.Common.{refl, ◌∙◌, ap, subst, Option, Ok, Err}
 use Rattle.board_model.specs.Durable.{Change}
-use Rattle.board_model.specs.Shown.{number_of_refusal, change_of}
+use Rattle.board_model.specs.Views.{number_of_refusal, change_of}
 use Rattle.store.specs.Views.{life_of}
 use Rattle.bench_report.specs.Bench.{BenchLife}
 use Rattle.bench_report.specs.Below.{store_in, IsAs}

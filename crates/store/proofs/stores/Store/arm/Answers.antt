@@ -1,6 +1,6 @@
 use Rattle.std.proofs.Common.{◌≡◌, ◌≤◌, ℕ, None, map, sym, subst}
 use Rattle.board_model.specs.Durable.{refusal_of, after, fold}
-use Rattle.board_model.specs.Shown.{change_in}
+use Rattle.board_model.specs.Views.{change_in}
 use Rattle.disk.specs.Facts.{Content}
 use Rattle.store.specs.Standing.{state_of, memory_in}
 use Rattle.store.proofs.Armed.{still_keeps, still_failed}

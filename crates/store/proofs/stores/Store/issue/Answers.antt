@@ -4,7 +4,7 @@ use Rattle.board_model.specs.Durable.{Change, refusal_of, after}
 use Rattle.layout.specs.Records.{IsInRange}
 use Rattle.store.specs.Commits.{IsUp, IsInDoubt}
 use Rattle.store.specs.Entries.{drop_image}
-use Rattle.board_model.specs.Shown.{change_in}
+use Rattle.board_model.specs.Views.{change_in}
 use Rattle.board_model.specs.declared.durable.Entry.{Entry}
 use Rattle.store.specs.Standing.{state_of, memory_in}
 use Rattle.store.specs.declared.doubts.Doubt.{Doubt}
