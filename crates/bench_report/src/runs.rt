@@ -4,7 +4,7 @@ ghost use Rattle.std.specs.Prelude.{◌≡◌, ◌⊎◌, ◌+◌, ◌++◌, ◌
 ghost use Rattle.std.specs.Io.KnownBytes.{Appends};
 ghost use Rattle.script_lang.specs.Ranges.{IsLineInRange};
 ghost use Rattle.script_lang.specs.Scripts.{script_of, Script as Said};
-ghost use Rattle.script_lang.specs.Seen.{view};
+ghost use Rattle.script_lang.specs.Views.{view};
 ghost use Rattle.store.specs.Leaves.{IsIdle};
 ghost use Rattle.bench_report.specs.Texts.{found_line, line_text};
 ghost use Rattle.bench_report.specs.Reports.{answer_text, AreByFirmware, IsReport, IsCutShort};

@@ -4,4 +4,4 @@ pub mod Ranges
 pub mod Lines
 pub mod Scripts
 pub mod Spellings
-pub mod Seen
+pub mod Views

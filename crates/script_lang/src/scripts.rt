@@ -6,7 +6,7 @@ ghost use Rattle.script_lang.specs.Words.{words_of, three_of};
 ghost use Rattle.script_lang.specs.Ranges.{IsLineInRange};
 ghost use Rattle.script_lang.specs.Lines.{line_of};
 ghost use Rattle.script_lang.specs.Scripts.{Gives, is_sound, is_passed, whole_lines, size_of_words, board_of, or_fault, ◌>>>◌, said_of, rest_of, from_board, lines_from, script_of};
-ghost use Rattle.script_lang.specs.Seen.{view};
+ghost use Rattle.script_lang.specs.Views.{view};
 
 use crate::line::Line;
 use crate::lines::line;
