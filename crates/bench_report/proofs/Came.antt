@@ -8,7 +8,7 @@ use Rattle.board_model.specs.declared.durable.Reason.{Reason}
 use Rattle.board_model.specs.declared.refusal.Refusal.{Refusal}
 use Rattle.board_model.specs.declared.refusal.Refusal.TheVariants.{Device, Down, Memory, BadShape, JournalFull}
 use Rattle.hart.specs.State.{ArchState, answered}
-use Rattle.hsm.specs.Seen.{listed}
+use Rattle.hsm.specs.Views.{listed}
 use Rattle.store.specs.Lives.{Life as StoreLife, Applied, Refused, Suspended, SuspendRefused}
 use Rattle.store.specs.Follows.{FitsBoard}
 use Rattle.store.specs.Opens.{CausedRefusal}

@@ -32,7 +32,7 @@ use Rattle.sbi_abi.specs.declared.call.Call.{Call}
 use Rattle.sbi_abi.specs.declared.call.Call.TheVariants as calls
 use Rattle.sbi_abi.specs.declared.ret.SbiError.{SbiError}
 use Rattle.sbi_abi.specs.declared.ret.SbiError.TheVariants.{Failed, NotSupported, Denied}
-use Rattle.hsm.specs.Seen.{listed}
+use Rattle.hsm.specs.Views.{listed}
 use Rattle.store.specs.Follows.{FitsBoard}
 use Rattle.susp.specs.Checks.{IsChecked}
 use Rattle.susp.specs.Sleeps.{AreStopped}

@@ -17,7 +17,7 @@ use Rattle.std.specs.Prelude.{length, slice_set}
 use Rattle.std.proofs.lemmas.List.{length-set, get_or-set_other}
 use Rattle.std.proofs.lemmas.Grind.{get_or-set_at}
 use Rattle.hsm_rule.specs.States.{change_at}
-use Rattle.hsm.specs.Seen.{first_of, open_by, open_start, outside, state_by_stage, state_in, states_in, listed, AreStates}
+use Rattle.hsm.specs.Views.{first_of, open_by, open_start, outside, state_by_stage, state_in, states_in, listed, AreStates}
 use Rattle.hsm.proofs.Stand.{stands_stage}
 
 -- ---- a start that is pending is found

@@ -3,7 +3,7 @@
 ghost use Rattle.std.specs.Prelude.{◌≡◌, ◌<◌, ℕ, List, length, slice_set};
 ghost use Rattle.hsm_words.specs.declared.view.HartSeatView.{HartSeatView};
 ghost use Rattle.hsm_rule.specs.States.{HartState, Shows, change_at};
-ghost use Rattle.hsm.specs.Seen.{state_in, states_in, listed, AreStates};
+ghost use Rattle.hsm.specs.Views.{state_in, states_in, listed, AreStates};
 
 /// The states of all harts that the view of a seat of all harts shows are those that `state_in` computes of it.
 pub fn one_table()

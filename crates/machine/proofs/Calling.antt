@@ -8,7 +8,7 @@ use Rattle.hsm_steps.specs.Seating as seating
 use Rattle.hsm_words.specs.declared.view.HartSeatView.{HartSeatView}
 use Rattle.hsm_rule.specs.States.{started}
 use Rattle.hsm.specs.Calls.{ActsAlone, KeepsAll, named}
-use Rattle.hsm.specs.Seen.{listed}
+use Rattle.hsm.specs.Views.{listed}
 use Rattle.hsm.specs.declared.state.State.{State as Code}
 use Rattle.hsm.specs.declared.state.State.TheVariants as codes
 use Rattle.sbi_calls.specs.declared.tables.Tables.{Tables}

@@ -12,7 +12,7 @@ use Rattle.hsm_words.specs.declared.view.Stage.TheVariants.{Out, Running, Asleep
 use Rattle.hsm_rule.specs.Rule.{stands}
 use Rattle.hsm_rule.specs.States.{HartState, started, is_running, IsIn}
 use Rattle.hsm.specs.Calls.{KeepsOthers}
-use Rattle.hsm.specs.Seen.{listed}
+use Rattle.hsm.specs.Views.{listed}
 use Rattle.store.specs.declared.stores.Store.{Store}
 use Rattle.sbi_abi.specs.Calls.{call_of}
 use Rattle.sbi_abi.specs.declared.call.Call.{Call}

@@ -13,7 +13,7 @@ use Rattle.hsm_words.specs.declared.view.Stage.TheVariants.{Out, Running, Asleep
 use Rattle.hsm_rule.specs.Rule.{stands}
 use Rattle.hsm_rule.specs.States.{HartState}
 use Rattle.hsm.specs.Calls.{KeepsOthers}
-use Rattle.hsm.specs.Seen.{states_in, AreStates}
+use Rattle.hsm.specs.Views.{states_in, AreStates}
 use Rattle.ipi.specs.declared.view.PendingSeatView.{PendingSeatView as Pairs}
 use Rattle.ipi.specs.Seen.{pairs_in, ArePairs}
 use Rattle.sbi_calls.specs.declared.tables.Tables.{Tables}

@@ -4,7 +4,7 @@ use Rattle.disk.specs.declared.device.Disk.{Ghosts}
 use Rattle.disk.specs.declared.device.Lane.{Ghosts as Lanes}
 use Rattle.board_model.specs.Shapes.{Size}
 use Rattle.hsm_rule.specs.States.{started}
-use Rattle.hsm.specs.Seen.{listed}
+use Rattle.hsm.specs.Views.{listed}
 use Rattle.sbi_abi.specs.Calls.{call_of}
 use Rattle.store.specs.declared.stores.Store.{Store}
 use Rattle.sbi.specs.declared.dispatches.Held.{Held}

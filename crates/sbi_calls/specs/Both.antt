@@ -8,7 +8,7 @@ use Rattle.hsm_words.specs.declared.view.HartSeatView.{HartSeatView}
 use Rattle.hsm_rule.specs.Rule.{stands}
 use Rattle.hsm_rule.specs.States.{HartState}
 use Rattle.hsm.specs.Calls.{KeepsOthers}
-use Rattle.hsm.specs.Seen.{AreStates}
+use Rattle.hsm.specs.Views.{AreStates}
 use Rattle.ipi.specs.Seating as pairs
 use Rattle.ipi.specs.Pairs.{Sits, SameHarts}
 use Rattle.ipi.specs.Seen.{ArePairs}

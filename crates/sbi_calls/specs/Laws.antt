@@ -2,7 +2,7 @@
 use Rattle.std.specs.Prelude.{◌≡◌, ◌⊎◌, ◌↔◌, ◌<◌, ℕ, Ok, Err}
 use Rattle.board_model.specs.Shapes.{Size, IsValidAddress}
 use Rattle.hsm_rule.specs.States.{stopped}
-use Rattle.hsm.specs.Seen.{listed}
+use Rattle.hsm.specs.Views.{listed}
 use Rattle.sbi_abi.specs.declared.call.Call.{Call}
 use Rattle.sbi_abi.specs.declared.call.Call.TheVariants.{HartStart, HartStatus}
 use Rattle.sbi_abi.specs.declared.ret.SbiError.{SbiError}

@@ -9,7 +9,7 @@ use Rattle.hsm_words.specs.declared.view.HartView.{HartView}
 use Rattle.hsm_words.specs.declared.view.Stage.TheVariants.{Out, Running, Asleep}
 use Rattle.hsm_rule.specs.Rule.{stands}
 use Rattle.hsm_rule.specs.States.{HartState, stopped, start_pending, started, suspended}
-use Rattle.hsm.specs.Seen.{listed}
+use Rattle.hsm.specs.Views.{listed}
 use Rattle.ipi.specs.Pairs.{Sits}
 use Rattle.ipi.specs.Seen.{row_of, pairs_without}
 use Rattle.sbi_abi.specs.Calls.{call_of}

@@ -1,4 +1,4 @@
-use Rattle.hsm.specs.Seen.{listed}
+use Rattle.hsm.specs.Views.{listed}
 use Rattle.machine.proofs.holds.settle.Goals as goal
 
 pub returns-in-Asleep-clause-alone : goal.returns-in-Asleep-clause-alone

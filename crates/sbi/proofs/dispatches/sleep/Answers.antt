@@ -1,5 +1,5 @@
 use Rattle.std.proofs.Common.{ℕ, refl, subst, None, Some}
-use Rattle.hsm.specs.Seen.{listed}
+use Rattle.hsm.specs.Views.{listed}
 use Rattle.sbi_calls.specs.Both.{harts_of_both}
 use Rattle.susp.specs.Sleeps.{SleepsAlone}
 use Rattle.sbi.proofs.dispatches.sleep.Goals as goal

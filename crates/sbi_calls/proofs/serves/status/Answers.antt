@@ -1,6 +1,6 @@
 use Rattle.std.proofs.Common.{ℕ, Ok, ap, refl, ◌∙◌}
 use Rattle.hsm.specs.Calls.{code_of}
-use Rattle.hsm.specs.Seen.{listed}
+use Rattle.hsm.specs.Views.{listed}
 use Rattle.sbi_calls.specs.declared.endings.Ending.{Ending}
 use Rattle.sbi_calls.specs.declared.endings.Ending.TheVariants.{Answers}
 use Rattle.sbi_calls.proofs.serves.status.Goals as goal

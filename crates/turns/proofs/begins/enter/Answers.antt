@@ -4,7 +4,7 @@ use Rattle.std.proofs.lemmas.List.{set-get_or}
 use Rattle.hsm_rule.specs.States.{HartState, stopped, started, begin}
 use Rattle.hsm_steps.specs.Seating.{harts_in}
 use Rattle.hsm.specs.Calls.{EntersAs, FindsNone}
-use Rattle.hsm.specs.Seen.{listed, AreStates}
+use Rattle.hsm.specs.Views.{listed, AreStates}
 use Rattle.sbi_calls.specs.declared.tables.Seats.{Seats}
 use Rattle.sbi_calls.specs.Both.{harts_of_both, harts_known, known, IsTable}
 use Rattle.sbi_calls.specs.Answers.{with_state}
