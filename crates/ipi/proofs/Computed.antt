@@ -12,7 +12,7 @@ use Rattle.ipi.specs.declared.view.PendingView.{PendingView}
 use Rattle.ipi.specs.declared.view.PendingSeatView.{PendingSeatView}
 use Rattle.ipi.specs.Ledger.{numbers, is_of, raised_by, raised, taken, HasEveryHart}
 use Rattle.ipi.specs.Pairs.{IsPending, Shows, with_pair, without_target}
-use Rattle.ipi.specs.Seen.{pair_in, pairs_in, row_of, pair_at, AreRows, ArePairs, pairs_with, pairs_without}
+use Rattle.ipi.specs.Views.{pair_in, pairs_in, row_of, pair_at, AreRows, ArePairs, pairs_with, pairs_without}
 
 lt_true : (m n : ℕ) → m < n → nat_lt m n ≡ true
 lt_true m n lt = search (arith, rules)

@@ -2,4 +2,4 @@ pub mod Ledger
 pub mod Senders
 pub mod Pairs
 pub mod Seating
-pub mod Seen
+pub mod Views

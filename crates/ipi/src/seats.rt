@@ -4,7 +4,7 @@ ghost use Rattle.std.specs.Prelude.{◌≡◌, ℕ, ◌<◌, ◌≤◌, false, I
 ghost use Rattle.arrayvec.specs.ArrayVec.{array_vec_len};
 ghost use Rattle.ipi.specs.Ledger.{opening_pending_view};
 ghost use Rattle.ipi.specs.Pairs.{Sits, Shows};
-ghost use Rattle.ipi.specs.Seen.{pair_in};
+ghost use Rattle.ipi.specs.Views.{pair_in};
 ghost use Rattle.ipi.specs.Seating.{IsSeatOf, harts_of, pending_view_of_seat, pending_views_in, IsOfAll, AreInOrder, AreSeated, AreSeatsOf, pending_views_by_seat, all_pending_views, one_by_one};
 ghost use Rattle.board_model.specs.declared.refusal.Refusal.TheVariants.{Memory};
 

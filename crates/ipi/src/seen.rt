@@ -4,7 +4,7 @@ ghost use Rattle.std.specs.Prelude.{◌≡◌, ◌<◌, ◌≤◌, ℕ, Bool, fa
 ghost use Rattle.tallies.specs.Seats.{numbers_from};
 ghost use Rattle.ipi.specs.Ledger.{numbers, HasEveryHart};
 ghost use Rattle.ipi.specs.Pairs.{Shows, with_pair, without_target};
-ghost use Rattle.ipi.specs.Seen.{pair_in, pairs_in, pair_at, AreRows, ArePairs, pairs_with, pairs_without};
+ghost use Rattle.ipi.specs.Views.{pair_in, pairs_in, pair_at, AreRows, ArePairs, pairs_with, pairs_without};
 ghost use Rattle.ipi.specs.declared.view.PendingSeatView.{PendingSeatView};
 
 /// The pending pairs that the view of a seat of all harts shows are those that `pair_in` computes of it, and `pairs_in`

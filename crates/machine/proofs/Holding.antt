@@ -15,7 +15,7 @@ use Rattle.hsm_rule.specs.States.{HartState}
 use Rattle.hsm.specs.Calls.{KeepsOthers}
 use Rattle.hsm.specs.Views.{states_in, AreStates}
 use Rattle.ipi.specs.declared.view.PendingSeatView.{PendingSeatView as Pairs}
-use Rattle.ipi.specs.Seen.{pairs_in, ArePairs}
+use Rattle.ipi.specs.Views.{pairs_in, ArePairs}
 use Rattle.sbi_calls.specs.declared.tables.Tables.{Tables}
 use Rattle.sbi_calls.specs.declared.tables.Seats.{Seats}
 use Rattle.sbi_calls.specs.Both.{TableState, IsTable, GivesBack, views, harts_known, pair_crew}

@@ -16,7 +16,7 @@ use Rattle.hsm_steps.specs.Told.{opening_states}
 use Rattle.hsm.specs.Views.{listed, AreStates}
 use Rattle.ipi.specs.declared.view.PendingSeatView.{PendingSeatView as Pairs}
 use Rattle.ipi.specs.Pairs as shown
-use Rattle.ipi.specs.Seen.{pair_at, ArePairs}
+use Rattle.ipi.specs.Views.{pair_at, ArePairs}
 use Rattle.sbi_calls.specs.declared.tables.Tables.{Tables}
 use Rattle.sbi_calls.specs.declared.tables.Seats.{Seats}
 use Rattle.sbi_calls.specs.Both.{TableState, AreTablesOf, AreSeatsOfBoth, AreOfAll, IsTable, views, harts_known, pair_crew}

@@ -3,7 +3,7 @@ use Rattle.std.specs.Prelude.{◌≡◌, ℕ, ◌<◌, List, [], length, get_or,
 use Rattle.board_model.specs.Shapes.{Size}
 use Rattle.hart.specs.State.{ArchState, never_started}
 use Rattle.hsm.specs.Views.{states_in}
-use Rattle.ipi.specs.Seen.{pairs_in}
+use Rattle.ipi.specs.Views.{pairs_in}
 use Rattle.sbi_calls.specs.declared.tables.Tables.{Tables}
 use Rattle.sbi_calls.specs.declared.tables.Seats.{Seats}
 use Rattle.sbi_calls.specs.Both.{TableState, AreTablesOf, AreSeatsOfBoth, AreOfAll, IsTable, harts_known, pair_crew}

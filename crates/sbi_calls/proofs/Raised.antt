@@ -9,7 +9,7 @@ use Rattle.tallies.proofs.Seatings.{map_all}
 use Rattle.ipi.specs.declared.view.PendingSeatView.{PendingSeatView}
 use Rattle.ipi.specs.declared.view.PendingView.{PendingView}
 use Rattle.ipi.specs.Pairs.{SameHarts}
-use Rattle.ipi.specs.Seen.{ArePairs, row_of}
+use Rattle.ipi.specs.Views.{ArePairs, row_of}
 use Rattle.sbi_calls.specs.Answers.{row_sent, pairs_sent, pairs_to}
 use Rattle.sbi_calls.specs.Steps.{Sends, SendsTo}
 

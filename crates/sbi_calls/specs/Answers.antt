@@ -10,7 +10,7 @@ use Rattle.hsm_words.specs.declared.view.Stage.TheVariants.{Out, Running, Asleep
 use Rattle.hsm_rule.specs.States.{HartState, stopped, suspended, is_stopped, grant}
 use Rattle.hsm.specs.Calls.{code_of, named}
 use Rattle.hsm.specs.Views.{listed}
-use Rattle.ipi.specs.Seen.{row_of, pairs_with}
+use Rattle.ipi.specs.Views.{row_of, pairs_with}
 use Rattle.sbi_abi.specs.Answers.{SbiResult, error_of, value_of}
 use Rattle.sbi_abi.specs.Calls.{call_of}
 use Rattle.sbi_abi.specs.declared.call.Call.{Call}

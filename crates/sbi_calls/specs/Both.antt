@@ -11,7 +11,7 @@ use Rattle.hsm.specs.Calls.{KeepsOthers}
 use Rattle.hsm.specs.Views.{AreStates}
 use Rattle.ipi.specs.Seating as pairs
 use Rattle.ipi.specs.Pairs.{Sits, SameHarts}
-use Rattle.ipi.specs.Seen.{ArePairs}
+use Rattle.ipi.specs.Views.{ArePairs}
 use Rattle.ipi.specs.declared.view.PendingView.{PendingView}
 use Rattle.ipi.specs.declared.view.PendingSeatView.{PendingSeatView}
 use Rattle.sbi_calls.specs.declared.tables.Tables.{Tables}

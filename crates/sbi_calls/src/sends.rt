@@ -3,7 +3,7 @@
 ghost use Rattle.std.specs.Prelude.{◌≡◌, ◌<◌, ◌≤◌, ℕ, Ok, List, Bool};
 ghost use Rattle.ipi.specs.Pairs.{Sits, SameHarts};
 ghost use Rattle.ipi.specs.Seating.{IsSeatOf, harts_of, pending_view_of_seat, pending_views_in};
-ghost use Rattle.ipi.specs.Seen.{ArePairs};
+ghost use Rattle.ipi.specs.Views.{ArePairs};
 ghost use Rattle.hsm_words.specs.declared.view.Stage.TheVariants.{Running};
 ghost use Rattle.sbi_calls.specs.declared.requests.Request.TheVariants.{Send};
 ghost use Rattle.sbi_calls.specs.Both.{AreSeatsOfBoth, GivesBack, Acts, harts_of_both as hart_count, known};

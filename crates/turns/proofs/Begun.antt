@@ -9,7 +9,7 @@ use Rattle.hsm.specs.declared.state.State.{State}
 use Rattle.hsm.specs.declared.state.State.TheVariants as codes
 use Rattle.ipi.specs.declared.view.PendingSeatView.{PendingSeatView}
 use Rattle.ipi.specs.Pairs.{Shows, ActsAlone}
-use Rattle.ipi.specs.Seen.{ArePairs, pair_at, row_of}
+use Rattle.ipi.specs.Views.{ArePairs, pair_at, row_of}
 use Rattle.sbi_calls.specs.declared.tables.Tables.{Tables}
 use Rattle.sbi_calls.specs.declared.tables.Seats.{Seats}
 use Rattle.sbi_calls.specs.Both.{GivesBack}

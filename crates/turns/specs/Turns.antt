@@ -11,7 +11,7 @@ use Rattle.hsm_rule.specs.Rule.{stands}
 use Rattle.hsm_rule.specs.States.{HartState, stopped, start_pending, started, suspended}
 use Rattle.hsm.specs.Views.{listed}
 use Rattle.ipi.specs.Pairs.{Sits}
-use Rattle.ipi.specs.Seen.{row_of, pairs_without}
+use Rattle.ipi.specs.Views.{row_of, pairs_without}
 use Rattle.sbi_abi.specs.Calls.{call_of}
 use Rattle.sbi_calls.specs.declared.tables.Seats.{Seats}
 use Rattle.sbi_calls.specs.declared.endings.After.{After}

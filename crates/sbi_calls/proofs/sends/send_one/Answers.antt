@@ -1,6 +1,6 @@
 use Rattle.std.proofs.Common.{◌∙◌, refl, sym, true≢false, eq-eqb}
 use Rattle.std.specs.Int.{bit_at}
-use Rattle.ipi.specs.Seen.{pair_at}
+use Rattle.ipi.specs.Views.{pair_at}
 use Rattle.sbi_calls.proofs.sends.send_one.Goals as goal
 
 pub returns-then-contains-clause-sends : goal.returns-then-contains-clause-sends
