@@ -1,5 +1,5 @@
 pub mod Boots
-pub mod Boards
+pub mod Views
 pub mod Moments
 pub mod Unbooted
 pub mod Begins

@@ -67,7 +67,7 @@ impl<D: Disk + Drop> Board<D> {
     ghost use Rattle.machine.specs.Held.{shown_by, IsHeld};
     ghost use Rattle.turns.specs.Turns.{has_pending};
     ghost use Rattle.board.specs.Boots.{IsConsoleCommand};
-    ghost use Rattle.board.specs.Boards.{store_of, machine_of};
+    ghost use Rattle.board.specs.Views.{store_of, machine_of};
     ghost use Rattle.board.specs.Turns.{Comes, TurnsHeld, RowsHeld, TurnsManyHeld, CallsHeld};
     ghost use Rattle.board.specs.PowersOn.{IsOn, IsUnpowered, KeepsDisk, GivesDisk};
     ghost use Rattle.board.specs.Unbooted.{IsNowAfter};
