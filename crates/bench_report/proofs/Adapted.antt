@@ -10,7 +10,7 @@ use Rattle.disk.specs.Facts.{Facts, Failed}
 use Rattle.disk.specs.FaultState.{FaultState, Cause}
 use Rattle.store.specs.Lives.{Life, now_of, Refused, Applied}
 use Rattle.store.specs.Opens.{CausedRefusal, FormatRefused, OpenRefused}
-use Rattle.bench_report.specs.Below.{IsLife}
+use Rattle.bench_report.specs.Views.{IsLife}
 
 -- a call that answered 5 failed for a cause, and one that answered neither 5 nor 6 did not
 pub struck : (e : Refusal) (m n : FaultState) → CausedRefusal m e n → e ≡ Device → Cause m n

@@ -16,7 +16,7 @@ use Rattle.store.specs.Lives.{Life as StoreLife, Applied, Refused}
 use Rattle.store.specs.Opens.{CausedRefusal}
 use Rattle.store.specs.Views.{life_of, doubt_of}
 use Rattle.store.specs.Answers.{CountedRefusal}
-use Rattle.bench_report.specs.Below.{SimStore, SimBoard, store_in, machine_in, IsLife, IsAs, store_size, store_now, store_doubt, store_fault_state, store_facts}
+use Rattle.bench_report.specs.Views.{SimStore, SimBoard, store_in, machine_in, IsLife, IsAs, store_size, store_now, store_doubt, store_fault_state, store_facts}
 use Rattle.bench_report.specs.Bench.{DiskState, Blank, Unknown, Formatted, BenchLife, Bench}
 use Rattle.bench_report.specs.Steps.{failed, acknowledged, in_doubt, Writes, IssuedBy, Issued}
 use Rattle.bench_report.specs.Agree.{StoreIs, BoardIs, LifeIs, DeviceIs, OnIs, IsOver}

@@ -7,7 +7,7 @@ use Rattle.disk.specs.Facts.{Facts, Content, IsLeft}
 use Rattle.store.specs.Leaves.{Leaves, IsKept, LeavesOnly, LeavesEither}
 use Rattle.store.specs.Views.{Stands, Doubts, now_state, doubt_of}
 use Rattle.simdisk.specs.declared.SimDisk.{SimDisk}
-use Rattle.bench_report.specs.Below.{facts, SimStore, SimBoard, store_in, IsAs, store_size}
+use Rattle.bench_report.specs.Views.{facts, SimStore, SimBoard, store_in, IsAs, store_size}
 use Rattle.bench_report.specs.Bench.{DiskState, Blank, Unknown, Formatted, BenchLife}
 use Rattle.bench_report.specs.Agree.{StoreIs, BoardIs, DiskIs, IsOver}
 use Rattle.bench_report.proofs.Adapted.{grows}

@@ -8,7 +8,7 @@ use Rattle.disk.specs.Facts.{Content, Passes, Stays}
 use Rattle.simdisk.specs.declared.SimDisk.{SimDisk}
 use Rattle.store.specs.Leaves.{Leaves, IsBlank, IsKept, IsMarked, NoMore}
 use Rattle.store.specs.Opens.{OpenRefused, FormatRefused}
-use Rattle.bench_report.specs.Below.{facts}
+use Rattle.bench_report.specs.Views.{facts}
 use Rattle.std.proofs.Common.{sym, subst}
 
 -- no content may be left that could not be left before

@@ -16,7 +16,7 @@ use Rattle.machine_lines.specs.declared.line.MachineLine.TheVariants as shown
 use Rattle.bench_report.specs.declared.power.Power.{Power}
 use Rattle.bench_report.specs.declared.power.Power.TheVariants.{Off, On}
 use Rattle.bench_report.specs.declared.printed.Answer.{Answer}
-use Rattle.bench_report.specs.Below.{SimStore, SimBoard, store_in, machine_in, store_facts, store_fault_state}
+use Rattle.bench_report.specs.Views.{SimStore, SimBoard, store_in, machine_in, store_facts, store_fault_state}
 use Rattle.bench_report.specs.Bench.{BenchLife, Bench}
 use Rattle.bench_report.specs.Steps.{shows, on_with, has_machine, FormatsOn, FormatStep, PowersOn, OnStep, PayloadStep, CallReported, GuestCall, TurnStep, CallStep, ReadStep}
 use Rattle.bench_report.proofs.Commanded.{Running, running_on}

@@ -13,7 +13,7 @@ use Rattle.store.specs.Opens.{CausedRefusal, OpenRefused}
 use Rattle.board_model.specs.declared.boot_mode.BootMode.{BootMode}
 use Rattle.bench_report.specs.declared.printed.Answer.{Answer}
 use Rattle.bench_report.specs.declared.printed.Printed.TheVariants as printed
-use Rattle.bench_report.specs.Below.{facts, fault_state}
+use Rattle.bench_report.specs.Views.{facts, fault_state}
 use Rattle.bench_report.specs.Bench.{DiskState, Blank, Unknown, Formatted, Bench}
 use Rattle.bench_report.specs.Steps.{says, out_of_memory, failed, life_begun, MayStand, Opens, PowersOn}
 use Rattle.bench_report.specs.Agree.{DiskIs, DeviceIs, LifeIs, OffIs}

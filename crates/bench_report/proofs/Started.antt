@@ -23,7 +23,7 @@ use Rattle.board.specs.Unbooted.{doubt_after, LeavesLife, CountsRefusal}
 use Rattle.bench_report.specs.declared.printed.Answer.{Answer}
 use Rattle.bench_report.specs.declared.printed.Printed.{Printed}
 use Rattle.bench_report.specs.declared.printed.Printed.TheVariants as printed
-use Rattle.bench_report.specs.Below.{SimStore, SimBoard, store_in, machine_in, facts, fault_state, store_size, store_facts, store_fault_state, IsLife, IsAs}
+use Rattle.bench_report.specs.Views.{SimStore, SimBoard, store_in, machine_in, facts, fault_state, store_size, store_facts, store_fault_state, IsLife, IsAs}
 use Rattle.bench_report.specs.Bench.{DiskState, Blank, Unknown, Formatted, BenchLife, Bench}
 use Rattle.bench_report.specs.Steps.{says, out_of_memory, failed, off, on_with, has_machine, life_begun, acknowledged, in_doubt, commands_of, Writes, Issued, IssuesAll, ShowsFound, Opens, BootsFrom, Begins, Boots, PowersOn}
 use Rattle.bench_report.specs.Agree.{AreShort, DiskIs, DeviceIs, LifeIs, OffIs, OnIs}

@@ -16,7 +16,7 @@ pub mod Prefix
 -- A power-on at any point of a run, and the board that goes on with an image.
 pub mod Resumed
 -- What the layers below say of a disk in memory and of a board over it.
-pub mod Below
+pub mod Views
 -- How the code's disk and board stand for the bench of the model.
 pub mod Agree
 -- What was written and counted so far.

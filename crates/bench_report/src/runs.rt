@@ -11,7 +11,7 @@ ghost use Rattle.bench_report.specs.Reports.{answer_text, AreByFirmware, IsRepor
 ghost use Rattle.bench_report.specs.Counts.{Adds, Reported};
 ghost use Rattle.bench_report.specs.Prefix.{KeepsPrefixLaw};
 ghost use Rattle.bench_report.specs.Bench.{Bench, blank_bench};
-ghost use Rattle.bench_report.specs.Below.{facts};
+ghost use Rattle.bench_report.specs.Views.{facts};
 ghost use Rattle.bench_report.specs.Agree.{Agrees, IsResting, OffIs, AreShort, IsBench, IsUnstruck};
 ghost use Rattle.bench_report.specs.declared.printed.Answer.{Answer};
 ghost use Rattle.board_model.specs.declared.refusal.Refusal.{Refusal};

@@ -6,7 +6,7 @@ ghost use Rattle.board_model.specs.Views.{change_of};
 ghost use Rattle.board.specs.Boots.{IsConsoleCommand};
 ghost use Rattle.script_lang.specs.Ranges.{IsLineInRange};
 ghost use Rattle.store.specs.Leaves.{IsIdle};
-ghost use Rattle.bench_report.specs.Below.{store_in, machine_in, facts, store_fault_state};
+ghost use Rattle.bench_report.specs.Views.{store_in, machine_in, facts, store_fault_state};
 ghost use Rattle.bench_report.specs.Bench.{Bench, BenchLife};
 ghost use Rattle.bench_report.specs.Steps.{FormatsOn, PowersOn, FormatStep, OnStep, ConsoleStep, PayloadStep, TurnStep, CallStep, ReadStep, ArmStep, PokeStep, Step, Moves, off, unpowered, says, shows};
 ghost use Rattle.disk.specs.FaultState.{armed_by};

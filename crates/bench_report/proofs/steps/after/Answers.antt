@@ -1,6 +1,6 @@
 use Rattle.std.proofs.Common.{subst, ap, arith, length}
 use Rattle.machine.specs.declared.parts.Word.{Word}
-use Rattle.bench_report.specs.Below.{store_in, facts, fault_state, store_facts, store_fault_state}
+use Rattle.bench_report.specs.Views.{store_in, facts, fault_state, store_facts, store_fault_state}
 use Rattle.bench_report.specs.Agree.{BoardAfter}
 use Rattle.bench_report.proofs.Devices.{stays}
 use Rattle.bench_report.proofs.Ended.{over_ended}

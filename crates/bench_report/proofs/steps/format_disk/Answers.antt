@@ -1,5 +1,5 @@
 use Rattle.std.proofs.Common.{refl, ◌∙◌, ap}
-use Rattle.bench_report.specs.Below.{facts, fault_state}
+use Rattle.bench_report.specs.Views.{facts, fault_state}
 use Rattle.bench_report.specs.Steps.{says}
 use Rattle.bench_report.specs.declared.printed.Printed.TheVariants as printed
 use Rattle.bench_report.proofs.Devices.{stays}

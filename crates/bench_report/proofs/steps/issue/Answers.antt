@@ -3,7 +3,7 @@ use Rattle.board_model.specs.Durable.{Change}
 use Rattle.board_model.specs.Views.{number_of_refusal, change_of}
 use Rattle.store.specs.Views.{life_of}
 use Rattle.bench_report.specs.Bench.{BenchLife}
-use Rattle.bench_report.specs.Below.{store_in, IsAs}
+use Rattle.bench_report.specs.Views.{store_in, IsAs}
 use Rattle.bench_report.specs.Steps.{says}
 use Rattle.bench_report.specs.Agree.{BoardIs}
 use Rattle.bench_report.specs.declared.printed.Printed.TheVariants as printed
