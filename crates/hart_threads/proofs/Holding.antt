@@ -11,7 +11,7 @@ use Rattle.hart.specs.State.{ArchState}
 use Rattle.hsm_words.specs.declared.view.HartView.{HartView}
 use Rattle.hsm_words.specs.declared.view.Action.TheVariants.{Quieted}
 use Rattle.hsm_rule.specs.Rule.{HasNoted}
-use Rattle.hsm_steps.specs.Told.{after_quiet}
+use Rattle.hsm_steps.specs.Outcomes.{after_quiet}
 use Rattle.store.specs.Follows.{FitsBoard}
 use Rattle.store.specs.Lives.{Applied, Suspended}
 use Rattle.store.specs.Views.{doubt_of, life_of, size_of_store}

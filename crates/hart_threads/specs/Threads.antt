@@ -9,7 +9,7 @@ use Rattle.hsm_words.specs.declared.view.HartView.{HartView}
 use Rattle.hsm_words.specs.declared.view.Stage.TheVariants.{Running}
 use Rattle.hsm_words.specs.declared.view.Action.TheVariants.{Quieted, Unquieted}
 use Rattle.hsm_rule.specs.Rule.{HasNoted}
-use Rattle.hsm_steps.specs.Told.{after_quiet}
+use Rattle.hsm_steps.specs.Outcomes.{after_quiet}
 use Rattle.sbi_abi.specs.Answers.{error_of}
 use Rattle.sbi_abi.specs.declared.ret.SbiError.{SbiError}
 use Rattle.sbi_calls.specs.Both.{Known}

@@ -13,7 +13,7 @@ use Rattle.hsm_words.specs.declared.view.HartView.{HartView}
 use Rattle.hsm_words.specs.declared.view.HartSeatView.{HartSeatView}
 use Rattle.hsm_rule.specs.Rule.{claim_of, entry_of, did, noted, HasNoted, stands}
 use Rattle.hsm_rule.specs.States.{HartState, stopped, start_pending, started, suspended, awaits, Says, is_outside, is_running, is_asleep, IsAt, IsIn, IsStarted, Shows, Tells, change_at, is_stopped, grant, entry, begin}
-use Rattle.hsm_steps.specs.Told.{after_claim, after_look, after_quiet, is_alone, IsOpenStart}
+use Rattle.hsm_steps.specs.Outcomes.{after_claim, after_look, after_quiet, is_alone, IsOpenStart}
 use Rattle.hsm.specs.Calls.{state_in_word, named, is_ready, KeepsOthers}
 use Rattle.hsm.proofs.Stand.{stands_after, stands_other}
 

@@ -4,7 +4,7 @@ ghost use Rattle.std.specs.Prelude.{◌≡◌, ◌≢◌, ℕ, ◌+◌, ◌*◌,
 ghost use Rattle.std.specs.Int.{bit_at};
 ghost use Rattle.hsm_rule.specs.Rule.{stands, HasNoted};
 ghost use Rattle.hsm_rule.specs.States.{IsStarted, IsSettled, is_stopped, stopped, started, suspended, change_at, grant, entry, begin};
-ghost use Rattle.hsm_steps.specs.Told.{after_quiet};
+ghost use Rattle.hsm_steps.specs.Outcomes.{after_quiet};
 ghost use Rattle.hsm_steps.specs.Seating.{IsSeatOf, harts_of, hart_view_of_seat, harts_in};
 ghost use Rattle.hsm_words.specs.declared.view.Stage.TheVariants.{Out, Running, Asleep, Quiet};
 ghost use Rattle.hsm_words.specs.declared.view.Action.TheVariants.{Looked, Stopped as DidStop, Suspended as DidSuspend, Woke, Quieted, Unquieted};

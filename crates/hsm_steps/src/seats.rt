@@ -4,7 +4,7 @@ ghost use Rattle.std.specs.Prelude.{◌≡◌, ◌≢◌, ℕ, ◌<◌, ◌≤�
 ghost use Rattle.hsm_rule.specs.Rule.{stands};
 ghost use Rattle.hsm_rule.specs.States.{HartState, IsSettled, Shows};
 ghost use Rattle.hsm_words.specs.declared.view.Stage.TheVariants.{Out, Running};
-ghost use Rattle.hsm_steps.specs.Told.{opening_states, opening_view};
+ghost use Rattle.hsm_steps.specs.Outcomes.{opening_states, opening_view};
 ghost use Rattle.hsm_steps.specs.Seating.{IsSeatOf, harts_of, hart_view_of_seat, harts_in, IsOfAll, AreInOrder, StandAsIn, StandTogether, AreSeatsOf, harts_by_seat, all_harts, one_by_one};
 ghost use Rattle.arrayvec.specs.ArrayVec.{array_vec_len};
 ghost use Rattle.board_model.specs.declared.refusal.Refusal.TheVariants.{Memory};

@@ -12,7 +12,7 @@ use Rattle.hsm_words.specs.declared.view.Stage.TheVariants.{Out, Running}
 use Rattle.hsm_words.specs.declared.view.HartSeatView.{HartSeatView}
 use Rattle.hsm_rule.specs.Rule.{stands}
 use Rattle.hsm_rule.specs.States.{HartState, stopped, started, Shows, IsIn}
-use Rattle.hsm_steps.specs.Told.{opening_states}
+use Rattle.hsm_steps.specs.Outcomes.{opening_states}
 use Rattle.hsm.specs.Views.{listed, AreStates}
 use Rattle.ipi.specs.declared.view.PendingSeatView.{PendingSeatView as Pairs}
 use Rattle.ipi.specs.Pairs as shown

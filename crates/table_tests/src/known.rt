@@ -2,7 +2,7 @@
 
 ghost use Rattle.std.specs.Prelude.{◌≡◌, ◌≢◌, ℕ, ◌+◌, ◌<◌, IfSome};
 ghost use Rattle.hsm_steps.specs.Seating.{IsSeatOf as IsHartSeatOf, harts_of as harts_in_table, hart_view_of_seat as hart_crew_of};
-ghost use Rattle.hsm_steps.specs.Told.{opening_view as opening_harts};
+ghost use Rattle.hsm_steps.specs.Outcomes.{opening_view as opening_harts};
 ghost use Rattle.ipi.specs.Ledger.{opening_pending_view};
 ghost use Rattle.ipi.specs.Pairs.{Sits};
 ghost use Rattle.ipi.specs.Seating.{IsSeatOf, harts_of, pending_view_of_seat};
