@@ -12,7 +12,7 @@ use Rattle.simdisk.specs.declared.SimDisk.{SimDisk}
 use Rattle.simdisk.specs.declared.choice.Choice.{Choice}
 use Rattle.simdisk.specs.declared.choice.Choice.TheVariants as choices
 use Rattle.simdisk.specs.Choices.{left_by_choice}
-use Rattle.simdisk.specs.Record.{synced}
+use Rattle.simdisk.specs.WriteLog.{synced}
 use Rattle.simdisk.specs.Pokes.{IsWithin, StandsSo, poked}
 use Rattle.script_lang.specs.declared.line.Fill.{Fill}
 use Rattle.script_lang.specs.declared.line.Fill.TheVariants as fills

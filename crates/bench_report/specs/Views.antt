@@ -10,7 +10,7 @@ use Rattle.simdisk.specs.declared.SimLane.{SimLane}
 use Rattle.simdisk.specs.contracts.device.SimDiskDisk.TheImpl as sim_disk
 use Rattle.simdisk.specs.contracts.lane.SimLaneLane.TheImpl as sim_lane
 use Rattle.simdisk.specs.contracts.recorded.SimDiskRecorded.TheImpl as sim_record
-use Rattle.simdisk.specs.Record.{WriteLog}
+use Rattle.simdisk.specs.WriteLog.{WriteLog}
 use Rattle.board.specs.Views as words
 use Rattle.board.specs.declared.Board as boards
 use Rattle.machine.specs.Machine.{Machine}

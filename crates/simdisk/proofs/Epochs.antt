@@ -3,7 +3,7 @@ use Rattle.std.proofs.Common.{◌≡◌, length, sym, subst}
 use Rattle.disk.specs.Facts.{Content}
 use Rattle.simdisk.specs.declared.history.History.{History}
 use Rattle.simdisk.specs.History.{log_of}
-use Rattle.simdisk.specs.Record.{synced, newest, ranges, AreWithin}
+use Rattle.simdisk.specs.WriteLog.{synced, newest, ranges, AreWithin}
 use Rattle.simdisk.specs.Views.{pieces}
 use Rattle.simdisk.proofs.Pieces.{length_replay}
 

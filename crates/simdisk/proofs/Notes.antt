@@ -6,7 +6,7 @@ use Rattle.std.proofs.lemmas.List.{map-append, map-set, set-get_or, get_or_appen
 use Rattle.std.proofs.lemmas.Bool.{cases_lt}
 use Rattle.disk.specs.Facts.{Content, Lent, Torn, Apart, IsFresh, nothing, sector}
 use Rattle.simdisk.specs.declared.patch.Patch.{Patch}
-use Rattle.simdisk.specs.Record.{Piece, WriteLog, laid_over, newest, synced, range, ranges, more_written, more_synced, lent_piece, new_record, replay, filled, sim_facts, Untouched, AgreesOutside, AreWithin}
+use Rattle.simdisk.specs.WriteLog.{Piece, WriteLog, laid_over, newest, synced, range, ranges, more_written, more_synced, lent_piece, new_record, replay, filled, sim_facts, Untouched, AgreesOutside, AreWithin}
 use Rattle.simdisk.specs.Views.{piece, pieces}
 use Rattle.simdisk.specs.Loans.{Noted, IsLatest}
 use Rattle.simdisk.specs.Choices.{left_by_choice}

@@ -9,7 +9,7 @@ use Rattle.simdisk.specs.declared.patch.Patch.{Patch}
 use Rattle.simdisk.specs.declared.choice.Choice.{Choice}
 use Rattle.simdisk.specs.declared.choice.Choice.TheVariants.{Byte, Old, New}
 use Rattle.simdisk.specs.Choices.{left_by_choice}
-use Rattle.simdisk.specs.Record.{Piece, WriteLog, laid_over, replay, synced, filled, ranges, Untouched, AgreesOutside, AreWithin}
+use Rattle.simdisk.specs.WriteLog.{Piece, WriteLog, laid_over, replay, synced, filled, ranges, Untouched, AgreesOutside, AreWithin}
 use Rattle.simdisk.specs.Pokes.{misses, part_before, part_behind, parted, poked_record}
 use Rattle.simdisk.specs.Views.{piece, pieces}
 use Rattle.simdisk.proofs.Pieces.{length-put, put_low, put_mid, put_high, fits_here, fits_rest, ranges_filled}

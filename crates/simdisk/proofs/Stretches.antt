@@ -2,7 +2,7 @@
 use Rattle.std.proofs.Common.{◌≡◌, ◌⊎◌, ◌∙◌, inl, inr, ⊎_elim, refl, ℕ, ◌+◌, ◌≤◌, List, [], ◌∷◌, ◌++◌, length, take, drop, map, sym, ap, subst, arith, length-append}
 use Rattle.std.proofs.lemmas.List.{map-append, take-append-le, drop-append-le, take-append-drop}
 use Rattle.disk.specs.Facts.{Content, Facts, Lent, LeavesAfter, Passes, Stays, Torn}
-use Rattle.simdisk.specs.Record.{Piece, WriteLog, replay, piece_in, range, ranges, synced_after, more_written, more_synced, Untouched, AgreesOutside, AreWithin, Had, sim_facts}
+use Rattle.simdisk.specs.WriteLog.{Piece, WriteLog, replay, piece_in, range, ranges, synced_after, more_written, more_synced, Untouched, AgreesOutside, AreWithin, Had, sim_facts}
 use Rattle.simdisk.proofs.Ranges.{agrees_push, crash_write, crash_sync}
 use Rattle.simdisk.proofs.Pieces.{ranges_settled}
 

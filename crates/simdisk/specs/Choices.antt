@@ -3,7 +3,7 @@ use Rattle.std.specs.Prelude.{List, map}
 use Rattle.disk.specs.Facts.{Content}
 use Rattle.simdisk.specs.declared.choice.Choice.{Choice}
 use Rattle.simdisk.specs.declared.choice.Choice.TheVariants.{Byte, Old, New}
-use Rattle.simdisk.specs.Record.{Piece, filled, replay}
+use Rattle.simdisk.specs.WriteLog.{Piece, filled, replay}
 
 -- that byte throughout each piece; what stood at the sync; or the bytes that were written last
 abbrev pub left_by_choice : Choice → Content → List Piece → Content

@@ -1,6 +1,6 @@
 -- What a history is to a contract.
 use Rattle.simdisk.specs.declared.history.History.{History}
-use Rattle.simdisk.specs.Record.{WriteLog}
+use Rattle.simdisk.specs.WriteLog.{WriteLog}
 use Rattle.simdisk.specs.Views.{pieces}
 
 abbrev pub log_of : History → WriteLog

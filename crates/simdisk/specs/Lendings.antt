@@ -4,7 +4,7 @@ use Rattle.disk.specs.declared.device.ArmedFault.{ArmedFault}
 use Rattle.disk.specs.Facts.{Lent, counted}
 use Rattle.disk.specs.FaultState.{FaultState}
 use Rattle.simdisk.specs.LaneRecords.{LaneRecord, AreLent, WrittenBack, CameBack}
-use Rattle.simdisk.specs.Record.{WriteLog, more_written, lent_piece, newest, SameRanges}
+use Rattle.simdisk.specs.WriteLog.{WriteLog, more_written, lent_piece, newest, SameRanges}
 
 -- A split. With Ok what is lent counts as written, with what was written last in it, and so have it the lanes, each with its own faults;
 -- with an error the record stays. What is armed stays.

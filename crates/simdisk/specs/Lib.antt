@@ -9,5 +9,5 @@ pub mod Laws
 pub mod Lendings
 pub mod Loans
 pub mod Pokes
-pub mod Record
 pub mod Views
+pub mod WriteLog

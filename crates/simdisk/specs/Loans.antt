@@ -2,7 +2,7 @@
 use Rattle.std.specs.Prelude.{◌≡◌, ℕ, ◌+◌, ◌<◌, ◌≤◌, List, length}
 use Rattle.disk.specs.Facts.{Lent}
 use Rattle.simdisk.specs.declared.loan.Loan.{Loan}
-use Rattle.simdisk.specs.Record.{range_at}
+use Rattle.simdisk.specs.WriteLog.{range_at}
 
 abbrev pub lent_of : Loan → Lent
 lent_of loan = record { first = loan.first; lanes = loan.lanes; each = loan.each }

@@ -4,7 +4,7 @@ use Rattle.std.specs.List.{flat_map}
 use Rattle.disk.specs.Facts.{Content, Facts, sector}
 use Rattle.simdisk.specs.declared.choice.Choice.{Choice}
 use Rattle.simdisk.specs.Choices.{left_by_choice}
-use Rattle.simdisk.specs.Record.{Piece, WriteLog, laid_over, synced}
+use Rattle.simdisk.specs.WriteLog.{Piece, WriteLog, laid_over, synced}
 
 -- the bytes of a sector with these in it, from that one on
 abbrev pub bytes_put : ℕ → List ℕ → List ℕ → List ℕ

@@ -1,7 +1,7 @@
 -- What patches are to a contract.
 use Rattle.std.specs.Prelude.{List, map}
 use Rattle.simdisk.specs.declared.patch.Patch.{Patch}
-use Rattle.simdisk.specs.Record.{Piece}
+use Rattle.simdisk.specs.WriteLog.{Piece}
 
 abbrev pub piece : Patch → Piece
 piece patch = (patch.first, patch.bytes.sectors)

@@ -5,7 +5,7 @@ ghost use Rattle.disk.specs.FaultState.{CausedInLanes, armed_by};
 ghost use Rattle.disk.specs.Calls.{MakesCalls, NoCall};
 ghost use Rattle.simdisk.specs.Armings.{FailsNext, one_call_on};
 ghost use Rattle.simdisk.specs.Lendings.{Lends, TakesBack};
-ghost use Rattle.simdisk.specs.Record.{more_written, more_synced, lent_piece, NotedOrRefused};
+ghost use Rattle.simdisk.specs.WriteLog.{more_written, more_synced, lent_piece, NotedOrRefused};
 
 use crate::laid::overwrite;
 use crate::lane::{Bytes, SimLane};
@@ -18,15 +18,15 @@ use disk::{ArmedFault, Disk, Fault, Lane, Sector};
 use std::alloc::AllocError;
 
 impl Disk for SimDisk {
-    ghost use Rattle.simdisk.specs.Record.{sim_facts};
+    ghost use Rattle.simdisk.specs.WriteLog.{sim_facts};
     ghost use Rattle.simdisk.specs.History.{log_of};
     ghost use Rattle.simdisk.specs.Loans.{lent_of};
     ghost use Rattle.simdisk.specs.Armings.{fault_state_by};
-    ghost use Rattle.simdisk.specs.Record.{ranges, synced, AgreesOutside};
+    ghost use Rattle.simdisk.specs.WriteLog.{ranges, synced, AgreesOutside};
     ghost use Rattle.simdisk.specs.Views.{pieces};
     ghost use Rattle.simdisk.specs.Laws.{only_the_last, below_most};
     ghost use Rattle.std.specs.Prelude.{◌≡◌, ◌⊎◌, length, take, Some};
-    ghost use Rattle.simdisk.specs.Record.{synced_after};
+    ghost use Rattle.simdisk.specs.WriteLog.{synced_after};
     ghost use mathlib.Core.Logic.{inl};
 
     type Lane = SimLane;

@@ -1,7 +1,7 @@
 //! What a crash may leave, to the letter.
 ghost use Rattle.std.specs.Prelude.{◌≡◌, ◌⊎◌, ◌≤◌, ◌<◌, ◌+◌, ◌*◌, ◌↔◌, ℕ, length, take, drop};
 ghost use Rattle.disk.specs.Facts.{Content, lent_sectors};
-ghost use Rattle.simdisk.specs.Record.{synced, synced_after, ranges, AgreesOutside, Untouched, Had};
+ghost use Rattle.simdisk.specs.WriteLog.{synced, synced_after, ranges, AgreesOutside, Untouched, Had};
 
 use crate::recorded::Recorded;
 use crate::sim::SimDisk;

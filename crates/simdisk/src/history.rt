@@ -1,6 +1,6 @@
 //! The record of a disk's writes and syncs.
 ghost use Rattle.std.specs.Prelude.{◌≡◌, length};
-ghost use Rattle.simdisk.specs.Record.{ranges, synced_after, AreWithin};
+ghost use Rattle.simdisk.specs.WriteLog.{ranges, synced_after, AreWithin};
 ghost use Rattle.simdisk.specs.Views.{pieces};
 
 use crate::past::Past;

@@ -1,7 +1,7 @@
 //! Patches laid over a content.
 ghost use Rattle.std.specs.Prelude.{◌≡◌, ◌≤◌, ◌<◌, ◌+◌, length, map, replicate};
 ghost use Rattle.disk.specs.Facts.{Written};
-ghost use Rattle.simdisk.specs.Record.{laid_over, replay, piece_in, filled, ranges, AreWithin};
+ghost use Rattle.simdisk.specs.WriteLog.{laid_over, replay, piece_in, filled, ranges, AreWithin};
 ghost use Rattle.simdisk.specs.Views.{pieces};
 
 use crate::patch::Patch;

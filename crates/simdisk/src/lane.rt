@@ -2,7 +2,7 @@
 ghost use Rattle.std.specs.Prelude.{◌≡◌, ◌≤◌, ◌+◌, length, None, false, OnOk, OnErr};
 ghost use Rattle.disk.specs.Facts.{Torn, Written, AreSectorsAt, Counts};
 ghost use Rattle.simdisk.specs.LaneRecords.{LaneCalled};
-ghost use Rattle.simdisk.specs.Record.{laid_over};
+ghost use Rattle.simdisk.specs.WriteLog.{laid_over};
 ghost use Rattle.simdisk.specs.Lasts.{last_of, IsAsRead};
 
 use crate::faults::Faults;

@@ -3,7 +3,7 @@ ghost use Rattle.std.specs.Prelude.{◌≡◌, ◌≢◌, ◌⊎◌, ◌/◌, �
 ghost use Rattle.std.specs.Simd.{first_chunks};
 ghost use Rattle.disk.specs.Facts.{IsFresh, IsLeft, Unchanged};
 ghost use Rattle.disk.specs.FaultState.{FaultArmed, CutArmed, no_fault, fault_state_left};
-ghost use Rattle.simdisk.specs.Record.{synced, new_record};
+ghost use Rattle.simdisk.specs.WriteLog.{synced, new_record};
 ghost use Rattle.simdisk.specs.Choices.{left_by_choice};
 
 use crate::choice::Choice;

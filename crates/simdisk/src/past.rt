@@ -2,7 +2,7 @@
 ghost use Rattle.std.specs.Prelude.{◌≡◌, List, [], ◌∷◌, ◌++◌, map};
 ghost use Rattle.std.specs.Borrow.{ftrue};
 ghost use Rattle.disk.specs.Facts.{Content};
-ghost use Rattle.simdisk.specs.Record.{Piece, piece_in};
+ghost use Rattle.simdisk.specs.WriteLog.{Piece, piece_in};
 ghost use Rattle.simdisk.specs.Views.{pieces};
 
 use crate::patch::Patch;

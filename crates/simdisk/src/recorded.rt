@@ -1,7 +1,7 @@
 //! The record of a disk in memory, for contracts.
 ghost use Rattle.std.specs.Prelude.{Option};
 ghost use Rattle.disk.specs.declared.device.ArmedFault.{ArmedFault};
-ghost use Rattle.simdisk.specs.Record.{WriteLog};
+ghost use Rattle.simdisk.specs.WriteLog.{WriteLog};
 ghost use Rattle.simdisk.specs.LaneRecords.{LaneRecord};
 
 use crate::lane::SimLane;

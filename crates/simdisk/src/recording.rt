@@ -2,7 +2,7 @@
 ghost use Rattle.std.specs.Prelude.{◌≡◌, ◌≤◌, ◌<◌, ◌+◌, ◌*◌, ℕ, [], ◌∷◌, length, map, true, OnOk, OnErr, IfOk};
 ghost use Rattle.disk.specs.Facts.{Handed, Torn};
 ghost use Rattle.simdisk.specs.Loans.{IsLatest};
-ghost use Rattle.simdisk.specs.Record.{new_record, more_written, more_synced, lent_piece, newest, synced, ranges, AgreesOutside, AreWithin};
+ghost use Rattle.simdisk.specs.WriteLog.{new_record, more_written, more_synced, lent_piece, newest, synced, ranges, AgreesOutside, AreWithin};
 ghost use Rattle.simdisk.specs.Choices.{left_by_choice};
 ghost use Rattle.simdisk.specs.Views.{pieces};
 

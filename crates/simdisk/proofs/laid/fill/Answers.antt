@@ -1,5 +1,5 @@
 use Rattle.std.proofs.Common.{◌∙◌, length}
-use Rattle.simdisk.specs.Record.{filled}
+use Rattle.simdisk.specs.WriteLog.{filled}
 use Rattle.simdisk.proofs.Walks.{laid_more, fits_read}
 use Rattle.simdisk.proofs.laid.fill.Goals as goal
 

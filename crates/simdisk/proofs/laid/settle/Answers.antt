@@ -1,5 +1,5 @@
 use Rattle.std.proofs.Common.{◌∙◌, length, sym}
-use Rattle.simdisk.specs.Record.{piece_in}
+use Rattle.simdisk.specs.WriteLog.{piece_in}
 use Rattle.simdisk.proofs.Walks.{laid_more, fits_read}
 use Rattle.simdisk.proofs.laid.settle.Goals as goal
 

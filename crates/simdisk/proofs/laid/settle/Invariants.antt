@@ -1,5 +1,5 @@
 use Rattle.std.proofs.Common.{◌≡◌, drop, length, map}
-use Rattle.simdisk.specs.Record.{replay, piece_in}
+use Rattle.simdisk.specs.WriteLog.{replay, piece_in}
 use Rattle.simdisk.specs.Views.{pieces}
 use Rattle.simdisk.proofs.laid.settle.Given as goal
 

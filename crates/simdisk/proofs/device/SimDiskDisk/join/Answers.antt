@@ -6,7 +6,7 @@ use Rattle.simdisk.specs.declared.lane.SimLane.{SimLane}
 use Rattle.simdisk.specs.History.{log_of}
 use Rattle.simdisk.specs.Latest.{latest_of}
 use Rattle.simdisk.specs.Loans.{lent_of}
-use Rattle.simdisk.specs.Record.{newest, ranges, synced}
+use Rattle.simdisk.specs.WriteLog.{newest, ranges, synced}
 use Rattle.simdisk.specs.Views.{pieces}
 use Rattle.simdisk.proofs.Notes.{agrees_join}
 use Rattle.simdisk.proofs.Rows.{newest_long, written_back}

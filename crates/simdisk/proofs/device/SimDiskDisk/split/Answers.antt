@@ -2,7 +2,7 @@ use Rattle.std.proofs.Common.{◌≡◌, ◌∙◌, ◌++◌, ◌∷◌, [], ℕ
 use Rattle.std.proofs.lemmas.List.{length-map}
 use Rattle.disk.specs.Facts.{Content, Lent, Torn, Passes}
 use Rattle.simdisk.specs.Latest.{latest_of}
-use Rattle.simdisk.specs.Record.{laid_over, more_written, range, ranges, synced, newest, lent_piece, sim_facts}
+use Rattle.simdisk.specs.WriteLog.{laid_over, more_written, range, ranges, synced, newest, lent_piece, sim_facts}
 use Rattle.simdisk.specs.Views.{piece, pieces}
 use Rattle.simdisk.specs.History.{log_of}
 use Rattle.simdisk.proofs.Ranges.{agrees_push}

@@ -1,5 +1,5 @@
 use Rattle.std.proofs.Common.{◌∷◌, [], refl, rules}
-use Rattle.simdisk.specs.Record.{lent_piece, synced}
+use Rattle.simdisk.specs.WriteLog.{lent_piece, synced}
 use Rattle.simdisk.specs.History.{log_of}
 use Rattle.simdisk.specs.Loans.{lent_of}
 use Rattle.simdisk.proofs.Epochs.{fits_synced}

@@ -1,6 +1,6 @@
 use Rattle.std.proofs.Common.{◌≡◌, ◌∙◌, ◌++◌, ◌∷◌, [], ℕ, ◌*◌, length, ap, sym, rules}
 use Rattle.disk.specs.Facts.{Content}
-use Rattle.simdisk.specs.Record.{ranges, synced}
+use Rattle.simdisk.specs.WriteLog.{ranges, synced}
 use Rattle.simdisk.specs.Views.{pieces}
 use Rattle.simdisk.specs.History.{log_of}
 use Rattle.simdisk.specs.Latest.{latest_of}

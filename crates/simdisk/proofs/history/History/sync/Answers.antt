@@ -1,7 +1,7 @@
 use Rattle.std.proofs.Common.{◌≡◌, ◌∙◌, ◌++◌, ◌∷◌, [], List, length, map, refl, sym, ap}
 use Rattle.disk.specs.Facts.{Content}
 use Rattle.simdisk.specs.History.{log_of}
-use Rattle.simdisk.specs.Record.{Piece, piece_in, replay, synced, synced_after}
+use Rattle.simdisk.specs.WriteLog.{Piece, piece_in, replay, synced, synced_after}
 use Rattle.simdisk.specs.Views.{pieces}
 use Rattle.simdisk.proofs.Epochs.{fits_synced}
 use Rattle.simdisk.proofs.Pieces.{synced_push, replay_settled}

@@ -30,7 +30,7 @@ use denote.Triple.Spec.{Meets, triple_of}
 use denote.Triple.Table.{entered}
 use denote.Triple.Walked.{says, Stays, stay_ref, stay_none_slice, walk_of, AllGo, Goes-ref, Goes-none_slice, Walks, ends_at, walked, walk_Meets}
 use Rattle.disk.specs.Facts.{Content}
-use Rattle.simdisk.specs.Record.{piece_in}
+use Rattle.simdisk.specs.WriteLog.{piece_in}
 use Rattle.simdisk.specs.Views.{pieces}
 use Rattle.simdisk.specs.declared.past.Past.{Past}
 use Rattle.simdisk.specs.declared.patch.Patch.{Patch}

@@ -1,7 +1,7 @@
 use Rattle.std.proofs.Common.{◌≡◌, ◌∙◌, refl, sym, ap}
 use Rattle.simdisk.specs.Choices.{left_by_choice}
 use Rattle.simdisk.specs.History.{log_of}
-use Rattle.simdisk.specs.Record.{new_record, synced}
+use Rattle.simdisk.specs.WriteLog.{new_record, synced}
 use Rattle.simdisk.specs.Views.{pieces}
 use Rattle.simdisk.proofs.Epochs.{fits_synced}
 use Rattle.simdisk.proofs.Notes.{fresh_of, left_agrees}

@@ -5,7 +5,7 @@ use Rattle.simdisk.specs.declared.choice.Choice.TheVariants.{New}
 use Rattle.simdisk.specs.History.{log_of}
 use Rattle.simdisk.specs.Latest.{latest_of}
 use Rattle.simdisk.specs.Pokes.{bytes_put, poked, poked_record}
-use Rattle.simdisk.specs.Record.{laid_over, synced}
+use Rattle.simdisk.specs.WriteLog.{laid_over, synced}
 use Rattle.simdisk.proofs.Epochs.{fits_synced}
 use Rattle.simdisk.proofs.Parts.{choices_poked, agrees_poked, crash_poked}
 use Rattle.simdisk.proofs.sim.SimDisk.poke.Goals as goal
