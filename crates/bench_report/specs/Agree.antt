@@ -11,7 +11,7 @@ use Rattle.disk.specs.declared.device.ArmedFault.TheVariants as faults
 use Rattle.simdisk.specs.declared.SimDisk.{SimDisk}
 use Rattle.simdisk.specs.declared.choice.Choice.{Choice}
 use Rattle.simdisk.specs.declared.choice.Choice.TheVariants as choices
-use Rattle.simdisk.specs.Choices.{left_by_choice}
+use Rattle.simdisk.specs.Views.{left_by_choice}
 use Rattle.simdisk.specs.WriteLog.{synced}
 use Rattle.simdisk.specs.Pokes.{IsWithin, StandsSo, poked}
 use Rattle.script_lang.specs.declared.line.Fill.{Fill}

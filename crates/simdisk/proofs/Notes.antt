@@ -7,9 +7,7 @@ use Rattle.std.proofs.lemmas.Bool.{cases_lt}
 use Rattle.disk.specs.Facts.{Content, Lent, Torn, Apart, IsFresh, nothing, sector}
 use Rattle.simdisk.specs.declared.patch.Patch.{Patch}
 use Rattle.simdisk.specs.WriteLog.{Piece, WriteLog, laid_over, newest, synced, range, ranges, more_written, more_synced, lent_piece, new_record, replay, filled, sim_facts, Untouched, AgreesOutside, AreWithin}
-use Rattle.simdisk.specs.Views.{piece, pieces}
-use Rattle.simdisk.specs.Loans.{Noted, IsLatest}
-use Rattle.simdisk.specs.Choices.{left_by_choice}
+use Rattle.simdisk.specs.Views.{piece, pieces, left_by_choice, Noted, IsLatest}
 use Rattle.simdisk.specs.declared.choice.Choice.{Choice}
 use Rattle.simdisk.specs.declared.choice.Choice.TheVariants.{Byte, Old, New}
 use Rattle.simdisk.proofs.Pieces.{agrees_replay, ranges_filled, replay_push, put_same}

@@ -8,10 +8,9 @@ use Rattle.disk.specs.Facts.{Content, sector}
 use Rattle.simdisk.specs.declared.patch.Patch.{Patch}
 use Rattle.simdisk.specs.declared.choice.Choice.{Choice}
 use Rattle.simdisk.specs.declared.choice.Choice.TheVariants.{Byte, Old, New}
-use Rattle.simdisk.specs.Choices.{left_by_choice}
+use Rattle.simdisk.specs.Views.{left_by_choice, piece, pieces}
 use Rattle.simdisk.specs.WriteLog.{Piece, WriteLog, laid_over, replay, synced, filled, ranges, Untouched, AgreesOutside, AreWithin}
 use Rattle.simdisk.specs.Pokes.{misses, part_before, part_behind, parted, poked_record}
-use Rattle.simdisk.specs.Views.{piece, pieces}
 use Rattle.simdisk.proofs.Pieces.{length-put, put_low, put_mid, put_high, fits_here, fits_rest, ranges_filled}
 use Rattle.simdisk.proofs.Walks.{read_piece}
 

@@ -4,9 +4,8 @@ use Rattle.std.proofs.lemmas.Bool.{cases_lt}
 use Rattle.std.proofs.lemmas.List.{places, map-set, set-get_or, length-map, length-take-le, ext_get_or}
 use Rattle.disk.specs.Facts.{Content, Torn, sector}
 use Rattle.simdisk.specs.WriteLog.{Piece, laid_over, replay, piece_in, range, ranges, Untouched, AreWithin, range_at}
-use Rattle.simdisk.specs.Loans.{IsLatest}
+use Rattle.simdisk.specs.Views.{IsLatest, piece, pieces}
 use Rattle.simdisk.specs.declared.patch.Patch.{Patch}
-use Rattle.simdisk.specs.Views.{piece, pieces}
 use Rattle.simdisk.proofs.Walks.{range_read}
 use Rattle.simdisk.proofs.Pieces.{length-put, put_low, put_mid, put_high, fits_here, fits_rest, length_replay, length-settled, replay_outside}
 

@@ -1,13 +1,10 @@
 pub mod Armings
-pub mod Choices
 pub mod History
 pub mod LaneRecords
 pub mod Lanes
-pub mod Lasts
 pub mod Latest
 pub mod Laws
 pub mod Lendings
-pub mod Loans
 pub mod Pokes
 pub mod Views
 pub mod WriteLog

@@ -3,7 +3,7 @@ use Rattle.std.specs.Prelude.{◌≡◌, ℕ, ◌+◌, ◌-◌, ◌<◌, ◌≤�
 use Rattle.std.specs.List.{flat_map}
 use Rattle.disk.specs.Facts.{Content, Facts, sector}
 use Rattle.simdisk.specs.declared.choice.Choice.{Choice}
-use Rattle.simdisk.specs.Choices.{left_by_choice}
+use Rattle.simdisk.specs.Views.{left_by_choice}
 use Rattle.simdisk.specs.WriteLog.{Piece, WriteLog, laid_over, synced}
 
 -- the bytes of a sector with these in it, from that one on

@@ -1,10 +1,51 @@
 -- What patches are to a contract.
-use Rattle.std.specs.Prelude.{List, map}
+use Rattle.std.specs.Prelude.{List, map, ℕ, ◌≤◌, length, ◌≡◌, ◌+◌, ◌<◌}
+use Rattle.disk.specs.Facts.{Content, Lent}
 use Rattle.simdisk.specs.declared.patch.Patch.{Patch}
-use Rattle.simdisk.specs.WriteLog.{Piece}
+use Rattle.simdisk.specs.WriteLog.{Piece, filled, replay, range_at}
+use Rattle.simdisk.specs.declared.lane.Last.{Last}
+use Rattle.simdisk.specs.declared.lane.Last.TheVariants as last
+use Rattle.simdisk.specs.declared.choice.Choice.{Choice}
+use Rattle.simdisk.specs.declared.choice.Choice.TheVariants.{Byte, Old, New}
+use Rattle.simdisk.specs.declared.loan.Loan.{Loan}
 
 abbrev pub piece : Patch → Piece
 piece patch = (patch.first, patch.bytes.sectors)
 
 abbrev pub pieces : List Patch → List Piece
 pieces patches = map piece patches
+
+-- ---- what was written last in a lane, to a contract
+-- what was written last in a lane that holds these sectors
+abbrev pub last_of : Last → Content → Content
+last_of last.AsRead sectors = sectors
+last_of (last.Apart newest) sectors = newest.items
+
+abbrev pub IsAsRead : Last → Type 0
+IsAsRead last.AsRead = Unit {0}
+IsAsRead (last.Apart newest) = ⊥
+
+-- what is kept apart has so many sectors at least
+abbrev pub HasRoom : ℕ → Last → Type 0
+HasRoom n last.AsRead = Unit {0}
+HasRoom n (last.Apart newest) = n ≤ length newest.items
+
+-- ---- what each choice leaves of what was written since the last sync
+-- that byte throughout each piece; what stood at the sync; or the bytes that were written last
+abbrev pub left_by_choice : Choice → Content → List Piece → Content
+left_by_choice (Byte byte) stood pieces = replay (map (filled byte) pieces) stood
+left_by_choice Old stood pieces = stood
+left_by_choice New stood pieces = replay pieces stood
+
+-- ---- what is lent, and where the record has it
+abbrev pub lent_of : Loan → Lent
+lent_of loan = record { first = loan.first; lanes = loan.lanes; each = loan.each }
+
+-- that range is one of these, at that place
+abbrev pub Noted : List (ℕ × ℕ) → ℕ → ℕ × ℕ → Type 0
+Noted rs i r = (i < length rs) × (range_at rs i ≡ r)
+
+-- that range is at that place, and each later one ends before it or begins behind it
+pub record IsLatest (rs : List (ℕ × ℕ)) (i : ℕ) (r : ℕ × ℕ) : Type 0 where
+  pub noted : Noted rs i r
+  pub apart : (j : ℕ) → i < j → j < length rs → r.0 < (range_at rs j).0 + (range_at rs j).1 → r.0 + r.1 ≤ (range_at rs j).0

@@ -18,15 +18,12 @@ use disk::{ArmedFault, Disk, Fault, Lane, Sector};
 use std::alloc::AllocError;
 
 impl Disk for SimDisk {
-    ghost use Rattle.simdisk.specs.WriteLog.{sim_facts};
+    ghost use Rattle.simdisk.specs.WriteLog.{sim_facts, ranges, synced, AgreesOutside, synced_after};
     ghost use Rattle.simdisk.specs.History.{log_of};
-    ghost use Rattle.simdisk.specs.Loans.{lent_of};
+    ghost use Rattle.simdisk.specs.Views.{lent_of, pieces};
     ghost use Rattle.simdisk.specs.Armings.{fault_state_by};
-    ghost use Rattle.simdisk.specs.WriteLog.{ranges, synced, AgreesOutside};
-    ghost use Rattle.simdisk.specs.Views.{pieces};
     ghost use Rattle.simdisk.specs.Laws.{only_the_last, below_most};
     ghost use Rattle.std.specs.Prelude.{◌≡◌, ◌⊎◌, length, take, Some};
-    ghost use Rattle.simdisk.specs.WriteLog.{synced_after};
     ghost use mathlib.Core.Logic.{inl};
 
     type Lane = SimLane;

@@ -3,7 +3,7 @@ ghost use Rattle.std.specs.Prelude.{◌≡◌, ◌≤◌, ◌+◌, length, None,
 ghost use Rattle.disk.specs.Facts.{Torn, Written, AreSectorsAt, Counts};
 ghost use Rattle.simdisk.specs.LaneRecords.{LaneCalled};
 ghost use Rattle.simdisk.specs.WriteLog.{laid_over};
-ghost use Rattle.simdisk.specs.Lasts.{last_of, IsAsRead};
+ghost use Rattle.simdisk.specs.Views.{last_of, IsAsRead};
 
 use crate::faults::Faults;
 use crate::laid::overwrite;
@@ -33,7 +33,7 @@ pub(crate) enum Last {
 }
 
 impl Last {
-    ghost use Rattle.simdisk.specs.Lasts.{HasRoom};
+    ghost use Rattle.simdisk.specs.Views.{HasRoom};
     ghost use Rattle.disk.specs.Facts.{Content};
 
     // Takes over a write of these sectors from that one on.

@@ -22,7 +22,7 @@ pub(crate) struct Latest {
 
 impl Latest {
     ghost use Rattle.simdisk.specs.Latest.{latest_of};
-    ghost use Rattle.simdisk.specs.Loans.{lent_of};
+    ghost use Rattle.simdisk.specs.Views.{lent_of};
 
     // That of a disk on which no write has failed.
     pub(crate) fn begun(alloc: Global, content: &[Sector]) -> Result<Latest, AllocError>

@@ -2,7 +2,7 @@
 ghost use Rattle.std.specs.Prelude.{◌≡◌, ◌≤◌, ◌<◌, ◌+◌, ◌*◌, ℕ, length, map, true, IsTrue, IfOk};
 ghost use Rattle.disk.specs.Facts.{Content, Handed, Joined, counted, lane_failures, lane_at};
 ghost use Rattle.simdisk.specs.Lanes.{lane_view, newest_view, lane_record, lane_view_of};
-ghost use Rattle.simdisk.specs.Lasts.{last_of, IsAsRead};
+ghost use Rattle.simdisk.specs.Views.{last_of, IsAsRead};
 ghost use Rattle.simdisk.specs.LaneRecords.{AreLent};
 
 use crate::faults::Faults;

@@ -14,7 +14,7 @@ pub(crate) struct Loan {
 
 impl Loan {
     ghost use Rattle.disk.specs.Facts.{nothing};
-    ghost use Rattle.simdisk.specs.Loans.{lent_of};
+    ghost use Rattle.simdisk.specs.Views.{lent_of};
 
     /// Nothing is lent.
     pub(crate) fn nothing() -> Loan

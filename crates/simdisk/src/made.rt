@@ -4,7 +4,7 @@ ghost use Rattle.std.specs.Simd.{first_chunks};
 ghost use Rattle.disk.specs.Facts.{IsFresh, IsLeft, Unchanged};
 ghost use Rattle.disk.specs.FaultState.{FaultArmed, CutArmed, no_fault, fault_state_left};
 ghost use Rattle.simdisk.specs.WriteLog.{synced, new_record};
-ghost use Rattle.simdisk.specs.Choices.{left_by_choice};
+ghost use Rattle.simdisk.specs.Views.{left_by_choice};
 
 use crate::choice::Choice;
 use crate::faults::Faults;

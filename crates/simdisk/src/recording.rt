@@ -1,10 +1,8 @@
 //! How the record of writes and syncs grows.
 ghost use Rattle.std.specs.Prelude.{◌≡◌, ◌≤◌, ◌<◌, ◌+◌, ◌*◌, ℕ, [], ◌∷◌, length, map, true, OnOk, OnErr, IfOk};
 ghost use Rattle.disk.specs.Facts.{Handed, Torn};
-ghost use Rattle.simdisk.specs.Loans.{IsLatest};
+ghost use Rattle.simdisk.specs.Views.{IsLatest, left_by_choice, pieces};
 ghost use Rattle.simdisk.specs.WriteLog.{new_record, more_written, more_synced, lent_piece, newest, synced, ranges, AgreesOutside, AreWithin};
-ghost use Rattle.simdisk.specs.Choices.{left_by_choice};
-ghost use Rattle.simdisk.specs.Views.{pieces};
 
 use crate::choice::Choice;
 use crate::faults::Faults;
@@ -20,7 +18,7 @@ use std::alloc::{AllocError, Global};
 
 impl History {
     ghost use Rattle.simdisk.specs.History.{log_of};
-    ghost use Rattle.simdisk.specs.Loans.{lent_of};
+    ghost use Rattle.simdisk.specs.Views.{lent_of};
     ghost use Rattle.simdisk.specs.Lanes.{lane_view, lane_record};
     ghost use Rattle.simdisk.specs.LaneRecords.{AreLent};
 

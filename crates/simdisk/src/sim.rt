@@ -3,8 +3,7 @@ ghost use Rattle.std.specs.Prelude.{◌≡◌, ◌≤◌, ◌<◌, ◌+◌, ◌*
 ghost use Rattle.simdisk.specs.WriteLog.{ranges, synced, newest, AgreesOutside};
 ghost use Rattle.simdisk.specs.History.{log_of};
 ghost use Rattle.simdisk.specs.Latest.{latest_of};
-ghost use Rattle.simdisk.specs.Views.{pieces};
-ghost use Rattle.simdisk.specs.Loans.{IsLatest};
+ghost use Rattle.simdisk.specs.Views.{pieces, IsLatest};
 
 use crate::faults::Faults;
 use crate::history::History;

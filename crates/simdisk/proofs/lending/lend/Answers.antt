@@ -3,7 +3,7 @@ use Rattle.std.proofs.lemmas.List.{map-append, places}
 use Rattle.std.proofs.lemmas.Grind.{common_steps}
 use Rattle.disk.specs.Facts.{Content, LaneFacts, sector}
 use Rattle.simdisk.specs.Lanes.{lane_view, lane_record}
-use Rattle.simdisk.specs.Lasts.{last_of}
+use Rattle.simdisk.specs.Views.{last_of}
 use Rattle.simdisk.specs.declared.lane.Last.{Last}
 use Rattle.simdisk.specs.LaneRecords.{LaneRecord, IsLent}
 use Rattle.simdisk.proofs.Rows.{handed_more, lent_more}

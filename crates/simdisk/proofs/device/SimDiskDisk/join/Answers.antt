@@ -5,9 +5,8 @@ use Rattle.simdisk.specs.LaneRecords.{CameBack}
 use Rattle.simdisk.specs.declared.lane.SimLane.{SimLane}
 use Rattle.simdisk.specs.History.{log_of}
 use Rattle.simdisk.specs.Latest.{latest_of}
-use Rattle.simdisk.specs.Loans.{lent_of}
+use Rattle.simdisk.specs.Views.{lent_of, pieces}
 use Rattle.simdisk.specs.WriteLog.{newest, ranges, synced}
-use Rattle.simdisk.specs.Views.{pieces}
 use Rattle.simdisk.proofs.Notes.{agrees_join}
 use Rattle.simdisk.proofs.Rows.{newest_long, written_back}
 use Rattle.simdisk.proofs.Stretches.{passes_ranges}

@@ -1,10 +1,9 @@
 use Rattle.std.proofs.Common.{◌≡◌, ◌∙◌, ◌++◌, ◌∷◌, [], ℕ, ◌*◌, length, ap, sym, rules}
 use Rattle.disk.specs.Facts.{Content}
 use Rattle.simdisk.specs.WriteLog.{ranges, synced}
-use Rattle.simdisk.specs.Views.{pieces}
+use Rattle.simdisk.specs.Views.{pieces, lent_of}
 use Rattle.simdisk.specs.History.{log_of}
 use Rattle.simdisk.specs.Latest.{latest_of}
-use Rattle.simdisk.specs.Loans.{lent_of}
 use Rattle.simdisk.proofs.Ranges.{agrees_write, agrees_push}
 use Rattle.simdisk.proofs.Notes.{newest_more, ranges_written, last_push, apart_lent}
 use Rattle.simdisk.proofs.Stretches.{passes_range}

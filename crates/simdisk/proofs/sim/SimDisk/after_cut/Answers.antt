@@ -1,8 +1,7 @@
 use Rattle.std.proofs.Common.{◌≡◌, ◌∙◌, refl, sym, ap}
-use Rattle.simdisk.specs.Choices.{left_by_choice}
+use Rattle.simdisk.specs.Views.{left_by_choice, pieces}
 use Rattle.simdisk.specs.History.{log_of}
 use Rattle.simdisk.specs.WriteLog.{new_record, synced}
-use Rattle.simdisk.specs.Views.{pieces}
 use Rattle.simdisk.proofs.Epochs.{fits_synced}
 use Rattle.simdisk.proofs.Notes.{fresh_of, left_agrees}
 use Rattle.simdisk.proofs.sim.SimDisk.after_cut.Goals as goal
