@@ -159,7 +159,7 @@ abbrev pub Resets : Result (ResetType × Reason) SbiError → ℕ → BenchLife 
 Resets (Err e) h life b word new = AnswersError e h life b word new
 Resets (Ok reset) h life b word new = (o : Result ℕ ℕ) × (mid : Bench) × Issued (Reset reset.1) life b o mid × HartCommand o (words.Reset reset.0) h mid word new
 
--- the command of a suspension, where it fits the board or not: as other commands; or it is refused for want of memory (11), or for
+-- the command of a suspension, where it fits the board or not: as other commands; or it is refused because memory ran out (11), or for
 -- what is not of the board (3)
 abbrev pub SuspendIssued : Type 0 → Change → BenchLife → Bench → Result ℕ ℕ → Bench → Type 0
 SuspendIssued Fits c life b o new =

@@ -51,7 +51,7 @@ fn first_hart<D: Disk + Drop>(store: &Store<D>, mode: BootMode) -> HartId
     }
 }
 
-/// The board of an open store before a boot by the mode. Refused 3 where a payload does not fit, else 11 for want of memory.
+/// The board of an open store before a boot by the mode. Refused 3 where a payload does not fit, else 11 because memory ran out.
 fn resting<D: Disk + Drop>(
     alloc: Global,
     store: &Store<D>,
