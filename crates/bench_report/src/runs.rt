@@ -263,7 +263,7 @@ pub fn run_left<C: Crew, W: Write>(
         × OffIs said.size (off end) disk)) }
     // A board can be powered on over it.
     ensures idle { MatchResult result (λ left. IsIdle (facts left.1)) (λ s. IfSome s.disk (λ disk. IsIdle (facts disk))) }
-    // A refusal is the script's fault, or want of memory, or the writer's.
+    // A refusal is the script's fault, or lack of memory, or the writer's.
     ensures refused { IfErr result (λ s. (s.refusal ≡ Refusal.Memory) ⊎ (s.refusal ≡ Refusal.Output) ⊎ (script_of script.now ≡ Err s.refusal)) }
     // A script with a fault runs nothing.
     ensures nothing { (e : Refusal) → script_of script.now ≡ Err e → (W.contents out.new ≡ W.contents out.old)
@@ -299,7 +299,7 @@ pub fn run<C: Crew, W: Write>(
     // From the script's bytes to those of the report: what was written keeps the prefix law, where no line is a poke.
     ensures law { IfOk result (λ report. (said : Said) × (answers : List Answer) × (script_of script.now ≡ Ok said) × (AreByFirmware said.lines → KeepsPrefixLaw said.lines answers)
         × Reported (W.contents out.old) (W.contents out.new) report answers) }
-    // A refusal is the script's fault, or want of memory, or the writer's.
+    // A refusal is the script's fault, or lack of memory, or the writer's.
     ensures refused { IfErr result (λ e. (e ≡ Refusal.Memory) ⊎ (e ≡ Refusal.Output) ⊎ (script_of script.now ≡ Err e)) }
     // A script with a fault runs nothing.
     ensures nothing { (e : Refusal) → script_of script.now ≡ Err e → (W.contents out.new ≡ W.contents out.old) × ((result ≡ Err e) ⊎ (result ≡ Err Refusal.Memory)) }
