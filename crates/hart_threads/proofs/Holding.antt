@@ -60,7 +60,7 @@ module _ {D L : Type 0} {g : Ghosts D L} {l : Lanes L} where
   slept_at old new Fits c n (Some d) e asked = absurd (not_down n (Ok n) refl (asked.down d e).0)
 
   -- ---- a reset
-  reset_by : (size : Size) (kind : ResetType) (cause : Reason) (r : Result ℕ Refusal) (s t : State) (k k' : Known) (old new : Store D L g l) (held : Held)
+  reset_by : (size : Size) (kind : ResetType) (cause : Reason) (r : Result ℕ Refusal) (s t : ArchState) (k k' : Known) (old new : Store D L g l) (held : Held)
       → Asked Applied old (Reset cause) r new → EndsReset kind r s t held → k' ≡ k → HeldOnce size s t k k' held
   reset_by size kind cause (Ok n) s t k k' old new held asked ends same =
       subst (λ (h : Held). HeldOnce size s t k k' h) (sym ends.1) (cause, applied_at old new (Reset cause) n (doubt_of old) refl asked, ends.0, same)

@@ -8,8 +8,8 @@ mod steps;
 mod table;
 
 pub use steps::{
-    arm, claim, enter, look, poll, put_address, put_opaque, quiet, read_address, read_opaque,
-    stop, suspend, unquiet, wake,
+    arm, claim, enter, look, poll, put_address, put_opaque, quiet, read_address, read_opaque, stop,
+    suspend, unquiet, wake,
 };
 pub use table::{Acting, HartSeat, HartTable, Law, Seats, Setup};
 pub use tallies::SeatTable;

@@ -3,4 +3,4 @@
 
 mod view;
 
-pub use view::{HartSeatView, Action, HartView, Stage};
+pub use view::{Action, HartSeatView, HartView, Stage};

@@ -16,4 +16,4 @@ pub use seen::one_set;
 pub use senders::SenderSet;
 pub use table::{IpiSeat, Ledger, PendingTable, Seats};
 pub use tallies::SeatTable;
-pub use view::{PendingSeatView, Action, PendingView};
+pub use view::{Action, PendingSeatView, PendingView};

@@ -5,13 +5,13 @@
 
 mod choice;
 mod device;
+mod exactness;
 mod faults;
 mod history;
 mod laid;
 mod lane;
 mod latest;
 mod lending;
-mod exactness;
 mod loan;
 mod made;
 mod past;
@@ -24,7 +24,7 @@ mod sim;
 mod striking;
 
 pub use choice::Choice;
-pub use lane::SimLane;
 pub use exactness::exactly_the_model;
+pub use lane::SimLane;
 pub use recorded::{Recorded, RecordedLane};
 pub use sim::SimDisk;
