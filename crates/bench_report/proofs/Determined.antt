@@ -16,7 +16,7 @@ use Rattle.bench_report.specs.declared.printed.Printed.{Printed}
 use Rattle.bench_report.specs.declared.printed.Printed.TheVariants as printed
 use Rattle.bench_report.specs.declared.printed.Answer.{Answer}
 use Rattle.bench_report.specs.Bench.{DiskState, Blank, Unknown, Formatted, BenchLife, Bench}
-use Rattle.bench_report.specs.Steps.{says, out_of_memory, FailsByFault, off, on_with, formatted_anew, unknown, settled, has_machine, acknowledged, in_doubt, life_begun, commands_of, Writes, IssuedBy, Issued, IssuesAll, FormatsOn, IsOn, BootsFrom, Resumes, Begins, Boots, Opens, ShowsFound, IsOpenRefusal, PowersOn}
+use Rattle.bench_report.specs.Steps.{says, out_of_memory, FailsByFault, off, on_with, formatted_anew, unknown, settled, has_machine, acknowledged, in_doubt, life_begun, commands_of, Writes, IssuedBy, Issued, IssuesAll, FormatsOn, IsBooted, BootsFrom, Resumes, Begins, Boots, Opens, ShowsFound, IsOpenRefusal, PowersOn}
 
 abbrev pub HasFailed : Bench → Type 0
 HasFailed b = (0 < b.growths) ⊎ (0 < b.failures)
@@ -151,7 +151,7 @@ formats Formatted b a z new last calm (inr h) k = inl (hinders b new h.1)
 formats Formatted b a z new last calm (inl h) (inr k) = inr (inl (hinders b last k.1))
 
 -- ---- power on
-on_fair : (o : Result ℕ ℕ) (mode : BootMode) (z : Size) (s : DurableState) (b : Bench) (line : Printed) (new : Bench) → IsOn o mode z s b line new → Fair b new
+on_fair : (o : Result ℕ ℕ) (mode : BootMode) (z : Size) (s : DurableState) (b : Bench) (line : Printed) (new : Bench) → IsBooted o mode z s b line new → Fair b new
 on_fair (Ok n) mode z s b line new (life, on, said, m, boots, e) = fair_to b new (on_with (has_machine m life) b) e (λ s. s, λ c. inr c)
 on_fair (Err n) mode z s b line new x = fair_to b new (off b) x.1 (λ s. s, λ c. inr c)
 
@@ -209,15 +209,15 @@ one_boot modes.Keep z payloads s m n x y = y ∙ sym x
 one_boot modes.Discard z payloads s m n x y = y ∙ sym x
 one_boot modes.Resume z payloads s m n x y = y.is ∙ ap (λ (k : Image). woken k z) (one_image x.image y.image s.image x.stands y.stands) ∙ sym x.is
 
-is_on : (o p : Result ℕ ℕ) (mode : BootMode) (z : Size) (s : DurableState) (b d : Bench) (line said : Printed) (new last : Bench) → Agree o p b d → IsOn o mode z s b line new → IsOn p mode z s d said last → Agree line said new last
+is_on : (o p : Result ℕ ℕ) (mode : BootMode) (z : Size) (s : DurableState) (b d : Bench) (line said : Printed) (new last : Bench) → Agree o p b d → IsBooted o mode z s b line new → IsBooted p mode z s d said last → Agree line said new last
 is_on o p mode z s b d line said new last (inl f) x y = inl ((on_fair o mode z s b line new x).0 f)
 is_on o p mode z s b d line said new last (inr (inl f)) x y = inr (inl ((on_fair p mode z s d said last y).0 f))
 is_on o p mode z s b d line said new last (inr (inr e)) x y =
-    let P : Result ℕ ℕ → Type 0 = λ r. IsOn r mode z s d said last in
-    let Q : Bench → Type 0 = λ m. IsOn o mode z s m said last in
+    let P : Result ℕ ℕ → Type 0 = λ r. IsBooted r mode z s d said last in
+    let Q : Bench → Type 0 = λ m. IsBooted o mode z s m said last in
     alike o x (subst Q (sym e.1) (subst P (sym e.0) y))
   where
-    alike : (o : Result ℕ ℕ) → IsOn o mode z s b line new → IsOn o mode z s b said last → Agree line said new last
+    alike : (o : Result ℕ ℕ) → IsBooted o mode z s b line new → IsBooted o mode z s b said last → Agree line said new last
     alike (Ok n) x y =
         let P : BenchLife → Type 0 = λ l. last ≡ on_with (has_machine y.3 l) b in
         let one : y.3 ≡ x.3 = one_boot mode z b.payloads s x.3 y.3 x.4 y.4 in

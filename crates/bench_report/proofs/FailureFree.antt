@@ -34,7 +34,7 @@ use Rattle.bench_report.specs.declared.printed.Printed.TheVariants as printed
 use Rattle.disk.specs.FaultState.{FaultArmed, CutArmed}
 use Rattle.bench_report.specs.declared.printed.Answer.{Answer}
 use Rattle.bench_report.specs.Bench.{DiskState, Blank, Unknown, Formatted, BenchLife, Bench, IsFailureFree, blank_bench}
-use Rattle.bench_report.specs.Steps.{says, off, on_with, unpowered, unknown, armed_with, formatted_anew, settled, has_machine, acknowledged, life_begun, commands_of, console_reported, Writes, IssuedBy, IssuesAll, FormatsOn, IsOn, BootsFrom, Resumes, Begins, Boots, Opens, PowersOn, FormatStep, OnStep, ConsoleStep, PayloadStep, ReadStep, PokeStep, Issued, AnswersError, HartCommand, Resets, SuspendIssued, BenchSleepsBy, BenchMakesCall, ComesTo, GuestTurn, GuestTurns, TurnStep, CallReported, GuestCall, CallStep, Step, Moves, Run}
+use Rattle.bench_report.specs.Steps.{says, off, on_with, unpowered, unknown, armed_with, formatted_anew, settled, has_machine, acknowledged, life_begun, commands_of, console_reported, Writes, IssuedBy, IssuesAll, FormatsOn, IsBooted, BootsFrom, Resumes, Begins, Boots, Opens, PowersOn, FormatStep, OnStep, ConsoleStep, PayloadStep, ReadStep, PokeStep, Issued, AnswersError, HartCommand, Resets, SuspendIssued, BenchSleepsBy, BenchMakesCall, ComesTo, GuestTurn, GuestTurns, TurnStep, CallReported, GuestCall, CallStep, Step, Moves, Run}
 use Rattle.bench_report.specs.Reports.{IsReport}
 use Rattle.bench_report.specs.Plain.{ShowsNoFailure, ShowNoFailure}
 
@@ -95,7 +95,7 @@ formats_failure_free Unknown b a new (inr (inr h)) failure_free = as_many b b ne
 formats_failure_free Formatted b a new (inl h) failure_free = as_many b b new refl refl h.1
 formats_failure_free Formatted b a new (inr h) failure_free = absurd (of_answer a (printed.FormatRefused 5) h.0 failure_free refl)
 
-is_on_failure_free : (o : Result ℕ ℕ) (mode : BootMode) (z : Size) (s : DurableState) (b : Bench) (line : Printed) (new : Bench) → IsOn o mode z s b line new → ShowsNoFailure line → IsFailureFreeResult o × AsMany b new
+is_on_failure_free : (o : Result ℕ ℕ) (mode : BootMode) (z : Size) (s : DurableState) (b : Bench) (line : Printed) (new : Bench) → IsBooted o mode z s b line new → ShowsNoFailure line → IsFailureFreeResult o × AsMany b new
 is_on_failure_free (Ok n) mode z s b line new (life, on, said, m, boots, e) failure_free = (tt, as_many b (on_with (has_machine m life) b) new refl refl e)
 is_on_failure_free (Err n) mode z s b line new h failure_free = let reported = of_line line (printed.OnRefused n) h.0 failure_free in ((reported.0, reported.1), as_many b (off b) new refl refl h.1)
 

@@ -30,7 +30,7 @@ use Rattle.bench_report.specs.declared.printed.Printed.TheVariants as printed
 use Rattle.disk.specs.FaultState.{FaultArmed, CutArmed}
 use Rattle.bench_report.specs.declared.printed.Answer.{Answer}
 use Rattle.bench_report.specs.Bench.{DiskState, Blank, Unknown, Formatted, BenchLife, Bench, blank_bench}
-use Rattle.bench_report.specs.Steps.{says, shows, out_of_memory, failed, on_with, unpowered, armed_with, formatted_anew, settled, has_machine, life_begun, commands_of, console_reported, IsOn, BootsFrom, Resumes, Begins, Boots, Opens, ShowsFound, IsOpenRefusal, PowersOn, FormatsOn, FormatStep, OnStep, ConsoleStep, PayloadStep, CallReported, GuestCall, TurnStep, CallStep, ReadStep, PokeStep, Step, Moves, Run}
+use Rattle.bench_report.specs.Steps.{says, shows, out_of_memory, failed, on_with, unpowered, armed_with, formatted_anew, settled, has_machine, life_begun, commands_of, console_reported, IsBooted, BootsFrom, Resumes, Begins, Boots, Opens, ShowsFound, IsOpenRefusal, PowersOn, FormatsOn, FormatStep, OnStep, ConsoleStep, PayloadStep, CallReported, GuestCall, TurnStep, CallStep, ReadStep, PokeStep, Step, Moves, Run}
 use Rattle.bench_report.specs.Reports.{IsByFirmware, AreByFirmware, IsReport}
 use Rattle.bench_report.specs.Prefix.{AskedLine, Boot, Command, Guest, Nothing, Hides, TellsWord, TellsLine, asked_by, RefusedChange, Lost, LineImplies, ShowsIts, IsPrefixed, resumes, RisesFrom, AreLoaded, is_format_ok, IsFoundByPrefix, KeepsPrefixLaw}
 use Rattle.bench_report.proofs.Unsaid.{GoesBy, comes_back, turns_back}
@@ -102,7 +102,7 @@ module _ (b : Bench) (changes : List Change) (may : MayKeep b.kept changes) (dis
       (λ s t h. by_parts mode a _ (printed.OnRefused n) (is_up b.power) (is_up x.power) s t found line (shown s h.1) (off_now, ap is_up same_power ∙ off_now, inl h.0)))
 
   is_on : (o : Result ℕ ℕ) (mode : BootMode) (z : Size) (a : Answer) (mid new : Bench) → a.found ≡ Some (durable_of (found_of changes))
-      → Back b mid (λ s t. (s ≡ found_of changes) × AllWent o (commands_of mode) (is_up mid.power) s t) → IsOn o mode z (found_of changes) mid a.line new → Tell (Boot mode) b a new
+      → Back b mid (λ s t. (s ≡ found_of changes) × AllWent o (commands_of mode) (is_up mid.power) s t) → IsBooted o mode z (found_of changes) mid a.line new → Tell (Boot mode) b a new
   is_on (Ok n) mode z a mid new found back (life, at, line, m, boots, e) =
       let Q : Bench → Type 0 = λ m. Tell (Boot mode) b a m in
       let F : Option BenchLife → Type 0 = λ p. GoesOn mid.kept p in
@@ -318,7 +318,7 @@ formatted_at : (p : Option BenchLife) (b : Bench) (a : Answer) (new : Bench) →
 formatted_at None b a new on h ok = formatted_on b.disk_state b a new on h ok
 formatted_at (Some life) b a new on h ok = other a _ h.0 refl ok
 
-is_on_no : {T : Type 0} (o : Result ℕ ℕ) (mode : BootMode) (z : Size) (s : DurableState) (b : Bench) (x : Printed) (new : Bench) → IsOn o mode z s b x new → is_format_ok x ≡ true → T
+is_on_no : {T : Type 0} (o : Result ℕ ℕ) (mode : BootMode) (z : Size) (s : DurableState) (b : Bench) (x : Printed) (new : Bench) → IsBooted o mode z s b x new → is_format_ok x ≡ true → T
 is_on_no (Ok n) mode z s b x new h ok = by_line x _ h.2 refl ok
 is_on_no (Err n) mode z s b x new h ok = by_line x _ h.0 refl ok
 

@@ -14,7 +14,7 @@ use Rattle.bench_report.specs.declared.printed.Answer.{Answer}
 use Rattle.bench_report.specs.declared.printed.Printed.{Printed}
 use Rattle.bench_report.specs.declared.printed.Printed.TheVariants as printed
 use Rattle.bench_report.specs.Bench.{DiskState, Blank, Unknown, Formatted, BenchLife, Bench, IsFailureFree, blank_bench}
-use Rattle.bench_report.specs.Steps.{says, on_with, settled, has_machine, acknowledged, life_begun, Writes, Issued, IssuesAll, ShowsFound, IsOn, BootsFrom, Resumes, Boots, Opens, IsOpenRefusal, PowersOn, OnStep, Moves}
+use Rattle.bench_report.specs.Steps.{says, on_with, settled, has_machine, acknowledged, life_begun, Writes, Issued, IssuesAll, ShowsFound, IsBooted, BootsFrom, Resumes, Boots, Opens, IsOpenRefusal, PowersOn, OnStep, Moves}
 use Rattle.bench_report.specs.Reports.{AreByFirmware, IsReport}
 use Rattle.bench_report.specs.Resumed.{IsMadeIn, IsResumedFrom}
 use Rattle.bench_report.proofs.Determined.{HasFailed, CalmDisk, starves, hinders, some_inj}
@@ -82,7 +82,7 @@ one_command c s z b n mid (life, on, first, last, i, inr (k, err, same, e)) = ab
 
 -- ---- the board that is resumed
 module _ (size : Size) (b : Bench) (a : Answer) (new : Bench) (changes : List Change) (may : MayKeep b.kept changes) (found : a.found ≡ Some (durable_of (found_of changes))) where
-  resumes_ok : (n : ℕ) (mid : Bench) → mid ≡ acknowledged Consume (life_begun (found_of changes) size) (on_with (life_begun (found_of changes) size) (settled changes b)) → IsOn (Ok n) modes.Resume size (found_of changes) mid a.line new
+  resumes_ok : (n : ℕ) (mid : Bench) → mid ≡ acknowledged Consume (life_begun (found_of changes) size) (on_with (life_begun (found_of changes) size) (settled changes b)) → IsBooted (Ok n) modes.Resume size (found_of changes) mid a.line new
       → IsResumedFrom size b a new
   resumes_ok n mid e (life, on, line, m, is, made) = record {
     changes = changes;

@@ -35,7 +35,7 @@ use Rattle.bench_report.specs.declared.printed.Printed.TheVariants as printed
 use Rattle.bench_report.specs.Bench.{DiskState, Blank, Unknown, Formatted, BenchLife, Bench}
 use Rattle.bench_report.specs.Prefix.{IsLoaded, AreLoaded}
 use Rattle.bench_report.specs.Reports.{IsByFirmware, AreByFirmware}
-use Rattle.bench_report.specs.Steps.{out_of_memory, failed, off, on_with, unpowered, armed_with, settled, has_machine, acknowledged, in_doubt, life_begun, commands_of, Writes, IssuedBy, Issued, IssuesAll, refused, AnswersError, HartCommand, Resets, SuspendIssued, BenchSleeps, BenchSleepsBy, BenchMakesCall, ComesTo, GuestTurn, GuestTurns, FormatsOn, IsOn, BootsFrom, Begins, Boots, Opens, IsOpenRefusal, PowersOn, FormatStep, OnStep, ConsoleStep, PayloadStep, GuestCall, TurnStep, CallStep, ReadStep, Step, Moves, Run}
+use Rattle.bench_report.specs.Steps.{out_of_memory, failed, off, on_with, unpowered, armed_with, settled, has_machine, acknowledged, in_doubt, life_begun, commands_of, Writes, IssuedBy, Issued, IssuesAll, refused, AnswersError, HartCommand, Resets, SuspendIssued, BenchSleeps, BenchSleepsBy, BenchMakesCall, ComesTo, GuestTurn, GuestTurns, FormatsOn, IsBooted, BootsFrom, Begins, Boots, Opens, IsOpenRefusal, PowersOn, FormatStep, OnStep, ConsoleStep, PayloadStep, GuestCall, TurnStep, CallStep, ReadStep, Step, Moves, Run}
 use Rattle.bench_report.proofs.Adapted.{grows}
 use Rattle.bench_report.proofs.Determined.{begun_size}
 use Rattle.bench_report.proofs.Table.{table_not_thirteen, mode_not_thirteen}
@@ -176,7 +176,7 @@ module _ (size : Size) where
   each_carries modes.Discard = (tt, tt)
   each_carries modes.Resume = (tt, tt)
 
-  is_on : (o : Result ℕ ℕ) (mode : BootMode) (z : Size) (s : DurableState) (b : Bench) (line : Printed) (new : Bench) → z ≡ size → IsKeptWhole size b → IsOn o mode z s b line new → IsKeptWhole size new
+  is_on : (o : Result ℕ ℕ) (mode : BootMode) (z : Size) (s : DurableState) (b : Bench) (line : Printed) (new : Bench) → z ≡ size → IsKeptWhole size b → IsBooted o mode z s b line new → IsKeptWhole size new
   is_on (Ok n) mode z s b line new same k (life, on, said, m, is, e) = same_as (on_with (has_machine m life) b) new e (k.0, k.1, k.2, begun_size mode z b.payloads s m is ∙ same)
   is_on (Err n) mode z s b line new same k x = same_as (off b) new x.1 (k.0, k.1, k.2, tt)
 
@@ -296,7 +296,7 @@ module _ (size : Size) where
   all_not (c ∷ cs) b o new (life, on, first, mid, i, inr (n, err, same, e)) f =
       by_not life.doubt c life b first mid i (err ∙ ap (λ k. Err k) (err_as o n 13 same f))
 
-  is_on_not : (o : Result ℕ ℕ) (mode : BootMode) (z : Size) (s : DurableState) (b : Bench) (line : Printed) (new : Bench) → o ≢ Err 13 → IsOn o mode z s b line new → NotThirteen line
+  is_on_not : (o : Result ℕ ℕ) (mode : BootMode) (z : Size) (s : DurableState) (b : Bench) (line : Printed) (new : Bench) → o ≢ Err 13 → IsBooted o mode z s b line new → NotThirteen line
   is_on_not (Ok n) mode z s b line new differs (life, on, said, m, is, e) = λ f. (let g : printed.On mode ≡ printed.OnRefused 13 = sym said ∙ f in let no : ⊥ = cc in no)
   is_on_not (Err n) mode z s b line new differs x = number line n x.0 (λ e. differs (ap (λ k. Err k) e))
 

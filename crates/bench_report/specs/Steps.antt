@@ -234,13 +234,13 @@ abbrev pub life_begun : DurableState → Size → BenchLife
 life_begun s z = record { now = s; receipts = 0; doubt = None; machine = resting z 0 }
 
 -- the boot by the mode of a board of that size, from the state found, once its commands were issued
-abbrev pub IsOn : Result ℕ ℕ → BootMode → Size → DurableState → Bench → Printed → Bench → Type 0
-IsOn (Ok n) mode z s b line new =
+abbrev pub IsBooted : Result ℕ ℕ → BootMode → Size → DurableState → Bench → Printed → Bench → Type 0
+IsBooted (Ok n) mode z s b line new =
     (life : BenchLife) × (b.power ≡ Some life) × (line ≡ printed.On mode) × (m : Machine) × IsBegun mode z b.payloads s m × (new ≡ on_with (has_machine m life) b)
-IsOn (Err n) mode z s b line new = (line ≡ printed.OnRefused n) × (new ≡ off b)
+IsBooted (Err n) mode z s b line new = (line ≡ printed.OnRefused n) × (new ≡ off b)
 
 abbrev pub BootsFrom : BootMode → Size → DurableState → Bench → Printed → Bench → Type 0
-BootsFrom mode z s b line new = (o : Result ℕ ℕ) × (mid : Bench) × IssuesAll (commands_of mode) (on_with (life_begun s z) b) o mid × IsOn o mode z s mid line new
+BootsFrom mode z s b line new = (o : Result ℕ ℕ) × (mid : Bench) × IssuesAll (commands_of mode) (on_with (life_begun s z) b) o mid × IsBooted o mode z s mid line new
 
 -- The image is loaded and consumed, and the board goes on with it; a failure of the disk in the load is reported as one that kept the
 -- command from the disk (5). Or the image has not the memory of its board.
