@@ -33,7 +33,7 @@ use Rattle.bench_report.specs.declared.printed.ConsoleWord.TheVariants as names
 use Rattle.bench_report.specs.declared.printed.Printed.{Printed}
 use Rattle.bench_report.specs.declared.printed.Printed.TheVariants as printed
 use Rattle.bench_report.specs.Bench.{DiskState, Blank, Unknown, Formatted, BenchLife, Bench}
-use Rattle.bench_report.specs.Prefix.{IsLoaded, AreLoaded}
+use Rattle.bench_report.specs.Prefix.{LoadsWhole, AreLoaded}
 use Rattle.bench_report.specs.Reports.{IsByFirmware, AreByFirmware}
 use Rattle.bench_report.specs.Steps.{out_of_memory, failed, off, on_with, unpowered, armed_with, settled, has_machine, acknowledged, in_doubt, life_begun, commands_of, Writes, IssuedBy, Issued, IssuesAll, refused, AnswersError, HartCommand, Resets, SuspendIssued, BenchSleeps, BenchSleepsBy, BenchMakesCall, ComesTo, GuestTurn, GuestTurns, FormatsOn, IsBooted, BootsFrom, Begins, Boots, Opens, IsOpenRefusal, PowersOn, FormatStep, OnStep, ConsoleStep, PayloadStep, GuestCall, TurnStep, CallStep, ReadStep, Step, Moves, Run}
 use Rattle.bench_report.proofs.Adapted.{grows}
@@ -332,7 +332,7 @@ module _ (size : Size) where
   loaded_on mode b a new k (inl h) = on_not b.power mode b a new refl k h.0
   loaded_on mode b a new k (inr (would, mid, h, struck, e, is)) = answered a printed.PowerLost e (λ f. (let no : ⊥ = cc in no))
 
-  loaded : (line : Line) (b : Bench) (a : Answer) (new : Bench) → IsKeptWhole size b → Moves size line b a new → IsLoaded line a
+  loaded : (line : Line) (b : Bench) (a : Answer) (new : Bench) → IsKeptWhole size b → Moves size line b a new → LoadsWhole line a
   loaded (lines.On mode) b a new k h = loaded_on mode b a new k h
   loaded (lines.Payload x y) b a new k h = tt
   loaded lines.Format b a new k h = tt

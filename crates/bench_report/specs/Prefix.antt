@@ -131,13 +131,13 @@ RisesFrom n [] = ⊤
 RisesFrom n (x ∷ xs) = (n ≤ x) × RisesFrom (x + 1) xs
 
 -- a power-on was not refused 13: each image that stands has the memory of its board
-abbrev pub IsLoaded : Line → Answer → Type 0
-IsLoaded (lines.On mode) a = a.line ≢ printed.OnRefused 13
-IsLoaded line a = ⊤
+abbrev pub LoadsWhole : Line → Answer → Type 0
+LoadsWhole (lines.On mode) a = a.line ≢ printed.OnRefused 13
+LoadsWhole line a = ⊤
 
 abbrev pub AreLoaded : List Line → List Answer → Type 0
 AreLoaded [] [] = ⊤
-AreLoaded (line ∷ more) (a ∷ answers) = IsLoaded line a × AreLoaded more answers
+AreLoaded (line ∷ more) (a ∷ answers) = LoadsWhole line a × AreLoaded more answers
 AreLoaded [] (a ∷ answers) = ⊥
 AreLoaded (line ∷ more) [] = ⊥
 
