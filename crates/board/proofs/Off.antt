@@ -8,7 +8,7 @@ use Rattle.board_model.specs.declared.refusal.Refusal.{Refusal}
 use Rattle.disk.specs.Facts.{Facts, LeavesSince, Unchanged}
 use Rattle.store.specs.Lives.{Life}
 use Rattle.store.specs.Answers.{StoreView, Opened}
-use Rattle.board.specs.Begins.{IsRefused}
+use Rattle.board.specs.Begins.{RefusesBoot}
 use Rattle.board.specs.Moments.{gone_before}
 use Rattle.board.specs.PowersOn.{IsOff}
 use Rattle.board.specs.Readies.{IsUnissued}
@@ -16,7 +16,7 @@ use Rattle.board.specs.Unbooted.{doubt_after, LeavesLife}
 use Rattle.board.proofs.Moments.{kept_meanwhile}
 
 pub is_off : (mode : BootMode) (payloads : List (List ℕ)) (found : Durable) (disk : Facts) (old new : StoreView) (e : Refusal) (left : Facts) → Opened disk old → LeavesSince disk old.disk disk.may_leave → found ≡ durable_of new.life.found
-    → IsRefused mode old.size payloads old.life.found e → IsUnissued mode old e new → LeavesLife (doubt_after mode e) left new.size old.life.found → Unchanged new.disk left → IsOff mode payloads found disk e left
+    → RefusesBoot mode old.size payloads old.life.found e → IsUnissued mode old e new → LeavesLife (doubt_after mode e) left new.size old.life.found → Unchanged new.disk left → IsOff mode payloads found disk e left
 is_off mode payloads found disk old new e left opened first shows why unissued leaves same = record {
   size = old.size;
   state = old.life.found;

@@ -63,5 +63,5 @@ IsBootRefusal (Some n) mode size payloads s e = number_of_refusal e ≡ n
 IsBootRefusal None mode size payloads s e = IsLateRefusal mode size payloads s e
 
 -- a power-on by the mode is refused so where the open found that state
-abbrev pub IsRefused : BootMode → Size → List (List ℕ) → DurableState → Refusal → Type 0
-IsRefused mode size payloads s e = IsBootRefusal (boot_refusal s mode) mode size payloads s e
+abbrev pub RefusesBoot : BootMode → Size → List (List ℕ) → DurableState → Refusal → Type 0
+RefusesBoot mode size payloads s e = IsBootRefusal (boot_refusal s mode) mode size payloads s e

@@ -16,7 +16,7 @@ use Rattle.store.specs.Standing.{StandsFor}
 use Rattle.store.specs.Answers.{StoreView}
 use Rattle.machine.specs.Machine.{Machine}
 use Rattle.board.specs.Boots.{PayloadsFit, boot_refusal, life_after}
-use Rattle.board.specs.Begins.{IsBegun, IsRefused}
+use Rattle.board.specs.Begins.{IsBegun, RefusesBoot}
 use Rattle.board.specs.Moments.{issued_by, gone_before, MayLeave}
 use Rattle.board.specs.Unbooted.{doubt_after, LeavesLife, CountsRefusal}
 
@@ -44,7 +44,7 @@ pub record IsOff (mode : BootMode) (payloads : List (List ℕ)) (found : Durable
   pub shows : found ≡ durable_of state
   pub reads : StandsFor old.content size state
   pub earlier : Leaves old size state
-  pub why : IsRefused mode size payloads state e
+  pub why : RefusesBoot mode size payloads state e
   pub left : LeavesLife (doubt_after mode e) new size state
   pub any_moment : LeavesSince old new (MayLeave old size state (gone_before mode e))
 

@@ -6,7 +6,7 @@ ghost use Rattle.board_model.specs.Shapes.{ram_bytes_of};
 ghost use Rattle.board_model.specs.Views.{durable_of};
 ghost use Rattle.store.specs.Views.{size_of_store, found_state, now_state, view_of};
 ghost use Rattle.machine.specs.Machine.{resting};
-ghost use Rattle.board.specs.Begins.{HasItsHart, first_of, IsBegun, IsLateRefusal, IsRefused};
+ghost use Rattle.board.specs.Begins.{HasItsHart, first_of, IsBegun, IsLateRefusal, RefusesBoot};
 ghost use Rattle.board.specs.Boots.{boot_refusal, PayloadsFit, booted};
 ghost use Rattle.board.specs.Readies.{IsOpen, IsIssued, IsUnissued};
 ghost use Rattle.board.specs.Unbooted.{IsStartRefusal, RefusesMode};
@@ -126,7 +126,7 @@ pub fn ready<D: Disk + Drop>(
     ensures fits { OnOk result (PayloadsFit (size_of_store store.old) payloads.now) }
     ensures issued { OnOk result (IsIssued mode (view_of store.old) (view_of store.new)) }
     ensures begun { IfOk result (λ m. IsBegun mode (size_of_store store.old) payloads.now (found_state store.old) m) }
-    ensures refused { IfErr result (λ e. IsRefused mode (size_of_store store.old) payloads.now (found_state store.old) e) }
+    ensures refused { IfErr result (λ e. RefusesBoot mode (size_of_store store.old) payloads.now (found_state store.old) e) }
     ensures unissued { IfErr result (λ e. IsUnissued mode (view_of store.old) e (view_of store.new)) }
 {
     if let Some(refusal) = mode_refusal(mode, &store.found()) {
