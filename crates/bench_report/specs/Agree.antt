@@ -13,7 +13,7 @@ use Rattle.simdisk.specs.declared.choice.Choice.{Choice}
 use Rattle.simdisk.specs.declared.choice.Choice.TheVariants as choices
 use Rattle.simdisk.specs.Views.{left_by_choice}
 use Rattle.simdisk.specs.WriteLog.{synced}
-use Rattle.simdisk.specs.Pokes.{IsWithin, StandsSo, poked}
+use Rattle.simdisk.specs.Pokes.{PokeFits, StandsSo, poked}
 use Rattle.script_lang.specs.declared.line.Fill.{Fill}
 use Rattle.script_lang.specs.declared.line.Fill.TheVariants as fills
 use Rattle.script_lang.specs.declared.line.Line.{Line}
@@ -117,7 +117,7 @@ ArmsIts line power = ⊤
 
 -- That sector of the disk of a board that is off stands with these bytes in it, from that one on, and nothing else has changed.
 abbrev pub Pokes : ℕ → ℕ → List ℕ → Power → Power → Type 0
-Pokes k offset bytes (Off old) (Off new) = IsWithin k offset bytes (facts old).content → StandsSo k (poked k offset bytes (facts old).content) (facts old) (facts new)
+Pokes k offset bytes (Off old) (Off new) = PokeFits k offset bytes (facts old).content → StandsSo k (poked k offset bytes (facts old).content) (facts old) (facts new)
 Pokes k offset bytes (Off old) (On board) = ⊥
 Pokes k offset bytes (On board) after = ⊤
 

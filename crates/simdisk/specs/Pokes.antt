@@ -15,8 +15,8 @@ abbrev pub poked : ℕ → ℕ → List ℕ → Content → List ℕ
 poked k offset bytes c = bytes_put offset bytes (sector c k)
 
 -- the bytes end in a sector that the disk has
-abbrev pub IsWithin : ℕ → ℕ → List ℕ → Content → Type 0
-IsWithin k offset bytes c = (k < length c) × (offset + length bytes ≤ 512)
+abbrev pub PokeFits : ℕ → ℕ → List ℕ → Content → Type 0
+PokeFits k offset bytes c = (k < length c) × (offset + length bytes ≤ 512)
 
 -- The k-th sector stands so: a read gives it, and so does each crash, whatever that leaves of the others.
 pub record StandsSo (k : ℕ) (bytes : List ℕ) (old new : Facts) : Type 0 where

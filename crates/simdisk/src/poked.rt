@@ -3,7 +3,7 @@ ghost use Rattle.std.specs.Prelude.{◌≡◌, ◌≤◌, ◌<◌, ◌+◌, ◌-
 ghost use Rattle.std.specs.List.{flat_map};
 ghost use Rattle.disk.specs.Calls.{NoCall};
 ghost use Rattle.disk.specs.Facts.{Unchanged};
-ghost use Rattle.simdisk.specs.Pokes.{bytes_put, poked, parted, poked_record, IsWithin, StandsSo, StandsByEach};
+ghost use Rattle.simdisk.specs.Pokes.{bytes_put, poked, parted, poked_record, PokeFits, StandsSo, StandsByEach};
 ghost use Rattle.simdisk.specs.WriteLog.{synced};
 ghost use Rattle.simdisk.specs.Views.{piece, pieces};
 
@@ -86,13 +86,13 @@ impl SimDisk {
     /// refused.
     pub fn poke(&mut self, sector: usize, offset: usize, bytes: &[u8]) -> Result<(), AllocError>
         requires { (⟦<SimDisk as Disk>⟧.facts self.old).lent.lanes ≡ 0 }
-        ensures stands { OnOk result (IsWithin sector offset bytes.now (⟦<SimDisk as Disk>⟧.facts self.old).content
+        ensures stands { OnOk result (PokeFits sector offset bytes.now (⟦<SimDisk as Disk>⟧.facts self.old).content
             → StandsSo sector (poked sector offset bytes.now (⟦<SimDisk as Disk>⟧.facts self.old).content) (⟦<SimDisk as Disk>⟧.facts self.old) (⟦<SimDisk as Disk>⟧.facts self.new)) }
-        ensures choices { OnOk result (IsWithin sector offset bytes.now (⟦<SimDisk as Disk>⟧.facts self.old).content
+        ensures choices { OnOk result (PokeFits sector offset bytes.now (⟦<SimDisk as Disk>⟧.facts self.old).content
             → StandsByEach sector (poked sector offset bytes.now (⟦<SimDisk as Disk>⟧.facts self.old).content) (⟦<SimDisk as Recorded>⟧.record self.old) (⟦<SimDisk as Recorded>⟧.record self.new)) }
-        ensures record { OnOk result (IsWithin sector offset bytes.now (⟦<SimDisk as Disk>⟧.facts self.old).content
+        ensures record { OnOk result (PokeFits sector offset bytes.now (⟦<SimDisk as Disk>⟧.facts self.old).content
             → ⟦<SimDisk as Recorded>⟧.record self.new ≡ poked_record sector (poked sector offset bytes.now (⟦<SimDisk as Disk>⟧.facts self.old).content) (⟦<SimDisk as Recorded>⟧.record self.old)) }
-        ensures outside { (IsWithin sector offset bytes.now (⟦<SimDisk as Disk>⟧.facts self.old).content → ⊥)
+        ensures outside { (PokeFits sector offset bytes.now (⟦<SimDisk as Disk>⟧.facts self.old).content → ⊥)
             → IsOk result × Unchanged (⟦<SimDisk as Disk>⟧.facts self.old) (⟦<SimDisk as Disk>⟧.facts self.new) × (⟦<SimDisk as Recorded>⟧.record self.new ≡ ⟦<SimDisk as Recorded>⟧.record self.old) }
         ensures refused { OnErr result (Unchanged (⟦<SimDisk as Disk>⟧.facts self.old) (⟦<SimDisk as Disk>⟧.facts self.new) × (⟦<SimDisk as Recorded>⟧.record self.new ≡ ⟦<SimDisk as Recorded>⟧.record self.old)) }
         ensures no_call { NoCall (⟦<SimDisk as Disk>⟧.facts self.old) (⟦<SimDisk as Disk>⟧.facts self.new) (⟦<SimDisk as Disk>⟧.fault_state self.old) (⟦<SimDisk as Disk>⟧.fault_state self.new) }
