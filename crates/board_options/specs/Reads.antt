@@ -19,7 +19,7 @@ number_named None = None
 number_named (Some text) = number_of text
 
 -- each option is what the value of its name says
-pub record Reads (f : Found) (o : Options) : Type 0 where
+pub record ReadsOptions (f : Found) (o : Options) : Type 0 where
   pub disk : path_named (first_value f (codes "disk")) ≡ Some (string_bytes o.disk)
   pub mode : mode_named (first_value f (codes "mode")) ≡ Some o.mode
   pub new : one_text f (codes "new") ≡ Some (codes "true") → o.new ≡ true

@@ -9,7 +9,7 @@ ghost use Rattle.clap.specs.declared.parser.matches.Found.{Found};
 ghost use Rattle.board_options.specs.Limits.{AreTurns};
 ghost use Rattle.board_options.specs.Lines.{sbiboard};
 ghost use Rattle.board_options.specs.Modes.{mode_named};
-ghost use Rattle.board_options.specs.Reads.{Reads, path_named, number_named};
+ghost use Rattle.board_options.specs.Reads.{ReadsOptions, path_named, number_named};
 
 use crate::given::Options;
 use crate::help::{DISK, HARTS, LANES, MODE, MOST_TURNS, NEW, PAGES, PAYLOADS, TURNS, command};
@@ -86,7 +86,7 @@ fn turns(matches: &ArgMatches<'_>) -> Option<u64>
 /// The options of a command line that was parsed. None where something that the command asks for is not there, which
 /// its own checks rule out.
 fn options_of(alloc: Global, matches: &ArgMatches<'_>) -> Result<Option<Options>, AllocError>
-    ensures { IfOk result (λ found. IfSome found (Reads (found_of matches.now))) }
+    ensures { IfOk result (λ found. IfSome found (ReadsOptions (found_of matches.now))) }
 {
     let Some(disk) = path(alloc, matches, DISK)? else {
         return Ok(None);
@@ -117,7 +117,7 @@ fn options_of(alloc: Global, matches: &ArgMatches<'_>) -> Result<Option<Options>
 pub fn read_options<'a, S: AsStr>(alloc: Global, words: &'a [S]) -> Result<Options, Error>
     ensures limits { IfOk result (λ o. (0 < string_len o.disk) × IsSize o.shape × AreTurns o.turns) }
     // And each option is what the words say, as the command line's parser reads them.
-    ensures reads { IfOk result (λ o. (modes : ValueParser) × (f : Found) × (rows_of f ≡ matches_of (sbiboard modes) (map S.text words.now)) × Reads f o) }
+    ensures reads { IfOk result (λ o. (modes : ValueParser) × (f : Found) × (rows_of f ≡ matches_of (sbiboard modes) (map S.text words.now)) × ReadsOptions f o) }
 {
     let matches = command(alloc)?.try_get_matches_from(words)?;
     match options_of(alloc, &matches)? {
