@@ -14,7 +14,7 @@ use Rattle.turns.specs.declared.words.Turned.TheVariants as words
 use Rattle.machine.specs.Words.{word_by}
 use Rattle.machine.specs.declared.parts.Word.{Word}
 use Rattle.machine.specs.declared.parts.Word.TheVariants.{Own, Asleep, Reset}
-use Rattle.hart_threads.specs.Seated.{StandsBy, StandsAfter}
+use Rattle.hart_threads.specs.Seated.{StandsAfterTurn, StandsAfter}
 use Rattle.hart_threads.specs.Threads.{Seated, HeldOnce, TurnOnce, TurnsOn, LoopOnce, goes_on}
 use Rattle.hart_threads.specs.declared.loops.Why.TheVariants as whys
 
@@ -28,19 +28,19 @@ gives_none t by s are = record {
 
 -- ---- where the hart stands
 -- after a durable call
-pub stands_by_held : (by : ℕ) (s : Seats) (held : Held) → Acts by (stage_by_held held) s → StandsBy (word_by held) by s
+pub stands_by_held : (by : ℕ) (s : Seats) (held : Held) → Acts by (stage_by_held held) s → StandsAfterTurn (word_by held) by s
 stands_by_held by s helds.Goes a = (inr (inl a.0), a.1)
 stands_by_held by s helds.Asleep a = a
 stands_by_held by s (helds.Reset kind) a = a
 
 -- at rest, where the life goes on
-pub rests_on : (by : ℕ) (s : Seats) (word : Word) → goes_on word ≡ true → StandsBy word by s → Rests by s
+pub rests_on : (by : ℕ) (s : Seats) (word : Word) → goes_on word ≡ true → StandsAfterTurn word by s → Rests by s
 rests_on by s (Own did) e stands = stands
 rests_on by s Asleep e stands = let n : ⊥ = cc in absurd n
 rests_on by s (Reset kind) e stands = let n : ⊥ = cc in absurd n
 
 -- and else after the life's end
-pub stands_over : (by : ℕ) (s : Seats) (word : Word) → goes_on word ≡ false → StandsBy word by s → StandsAfter whys.Life by s
+pub stands_over : (by : ℕ) (s : Seats) (word : Word) → goes_on word ≡ false → StandsAfterTurn word by s → StandsAfter whys.Life by s
 stands_over by s (Own did) e stands = let n : ⊥ = cc in absurd n
 stands_over by s Asleep e stands = inr stands
 stands_over by s (Reset kind) e stands = inl stands

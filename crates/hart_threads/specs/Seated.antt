@@ -15,10 +15,10 @@ abbrev pub IsSeated : Tables → ℕ → Seats → Type 0
 IsSeated t by s = AreSeatsOfBoth t s × (by < harts_of_both t) × Rests by s
 
 -- where the hart stands after a turn: at rest, or the life is over, and it is STARTED, and quiet where its board sleeps
-abbrev pub StandsBy : Word → ℕ → Seats → Type 0
-StandsBy (words.Own did) by s = Rests by s
-StandsBy words.Asleep by s = Acts by Quiet s
-StandsBy (words.Reset kind) by s = Acts by Running s
+abbrev pub StandsAfterTurn : Word → ℕ → Seats → Type 0
+StandsAfterTurn (words.Own did) by s = Rests by s
+StandsAfterTurn words.Asleep by s = Acts by Quiet s
+StandsAfterTurn (words.Reset kind) by s = Acts by Running s
 
 -- Where the hart stands once its loop ended: at rest, or after the life's end as its last turn left it.
 abbrev pub StandsAfter : Why → ℕ → Seats → Type 0

@@ -2,7 +2,7 @@
 
 ghost use Rattle.std.specs.Prelude.{◌≡◌, ◌≤◌};
 ghost use Rattle.sbi_calls.specs.Both.{AreTablesOf, GivesBack, known};
-ghost use Rattle.hart_threads.specs.Seated.{IsSeated, StandsBy, StandsAfter};
+ghost use Rattle.hart_threads.specs.Seated.{IsSeated, StandsAfterTurn, StandsAfter};
 ghost use Rattle.hart_threads.specs.Threads.{seated, goes_on, TurnOnce, LoopOnce};
 
 use crate::gates::Gate;
@@ -67,7 +67,7 @@ fn whole_turn<R: Wait, D: Disk + Drop, C: Crew>(
     requires tables { AreTablesOf shape.now tables.now }
     requires seated { IsSeated tables.now hart.old.id seats }
     ensures gives { GivesBack tables.entry.now hart.old.id seats result.0 }
-    ensures stands { StandsBy result.1 hart.old.id result.0 }
+    ensures stands { StandsAfterTurn result.1 hart.old.id result.0 }
     ensures id { hart.new.id ≡ hart.old.id }
     ensures once { TurnOnce shape.now (seated hart.old (known seats)) (seated hart.new (known result.0)) result.1 }
 {

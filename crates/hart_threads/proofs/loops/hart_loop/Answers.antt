@@ -1,7 +1,7 @@
 use Rattle.std.proofs.Common.{ℕ, refl, sym, ◌∙◌, subst}
 use Rattle.sbi_calls.specs.Both.{GivesBack, known}
 use Rattle.turns.proofs.Begun.{gives_then}
-use Rattle.hart_threads.specs.Seated.{IsSeated, StandsBy, StandsAfter}
+use Rattle.hart_threads.specs.Seated.{IsSeated, StandsAfterTurn, StandsAfter}
 use Rattle.hart_threads.specs.Threads.{seated}
 use Rattle.hart_threads.specs.declared.loops.Why.TheVariants as whys
 use Rattle.hart_threads.proofs.Looping.{gives_none, rests_on, stands_over, one_more, ended_life}
@@ -21,7 +21,7 @@ loop-made-preserved g c =
     let on = sym c.goes_on.ensures ∙ c.if-not-goes_on.false in
     record {
       gives = gives_then c.args.tables.now by c.args.seats c.loop-made.seats t.result.0 i.gives (subst (λ (k : ℕ). GivesBack c.args.tables.now k c.loop-made.seats t.result.0) i.id t.ensures.gives);
-      rests = rests_on by t.result.0 t.result.1 on (subst (λ (k : ℕ). StandsBy t.result.1 k t.result.0) i.id t.ensures.stands);
+      rests = rests_on by t.result.0 t.result.1 on (subst (λ (k : ℕ). StandsAfterTurn t.result.1 k t.result.0) i.id t.ensures.stands);
       id = t.ensures.id ∙ i.id;
       turns = one_more c.args.shape.now c.loop-made.made (seated c.args.hart (known c.args.seats)) (seated c.loop-made.hart (known c.loop-made.seats)) (seated t.new.hart (known t.result.0)) t.result.1 i.turns t.ensures.once on;
     }

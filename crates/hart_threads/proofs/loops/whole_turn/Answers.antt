@@ -4,7 +4,7 @@ use Rattle.sbi_calls.specs.Both.{GivesBack, Acts, known}
 use Rattle.sbi.specs.Helds.{stage_by_held}
 use Rattle.machine.specs.declared.parts.Word.{Word}
 use Rattle.turns.proofs.Begun.{gives_then}
-use Rattle.hart_threads.specs.Seated.{StandsBy}
+use Rattle.hart_threads.specs.Seated.{StandsAfterTurn}
 use Rattle.hart_threads.specs.Threads.{seated}
 use Rattle.hart_threads.proofs.Looping.{stands_by_held, own_once, held_turn, not_durable}
 use Rattle.hart_threads.proofs.loops.whole_turn.Goals as goal
@@ -21,7 +21,7 @@ pub returns-in-Durable-clause-stands : goal.returns-in-Durable-clause-stands
 returns-in-Durable-clause-stands g c =
     let by = c.args.hart.now.id in let s = c.make_held-seats.result.0 in let held = c.make_held-seats.result.1 in
     let acts = subst (λ (k : ℕ). Acts k (stage_by_held held) s) c.turn-seats.ensures.id c.make_held-seats.ensures.acts in
-    subst (λ (w : Word). StandsBy w by s) (sym c.word_by.ensures) (stands_by_held by s held acts)
+    subst (λ (w : Word). StandsAfterTurn w by s) (sym c.word_by.ensures) (stands_by_held by s held acts)
 
 pub returns-in-Durable-clause-id : goal.returns-in-Durable-clause-id
 returns-in-Durable-clause-id g c = c.make_held-seats.ensures.id ∙ c.turn-seats.ensures.id
