@@ -1,7 +1,7 @@
 //! What the console makes of a line.
 
 ghost use Rattle.std.specs.Prelude.{◌≡◌};
-ghost use Rattle.board_console.specs.Commands.{Answers, IsAnswerTo};
+ghost use Rattle.board_console.specs.Commands.{AnswersSaid, IsAnswerTo};
 
 use crate::answer::Answer;
 use crate::words::Said;
@@ -13,7 +13,7 @@ use store::Store;
 /// lock. A command that was acknowledged is durable, and its receipt is its place in the journal of this life
 /// (`Store::entry` has it there from then on); after a refusal what stands is what `Store::apply` says.
 pub fn obey<D: Disk + Drop>(store: &mut Store<D>, said: Said) -> Answer
-    ensures asks { Answers said store.old store.new result }
+    ensures asks { AnswersSaid said store.old store.new result }
     ensures fits { IsAnswerTo said result }
 {
     match said {
