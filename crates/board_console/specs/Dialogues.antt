@@ -12,11 +12,11 @@ use Rattle.board_console.specs.Lines.{TakesLine, said_of}
 use Rattle.board_console.specs.Texts.{answer_text}
 
 -- an input and an output, by what is left of the one and stands in the other, where that is known
-pub record Ends : Type 0 where
+pub record DialogueEnds : Type 0 where
   pub input : Option (List ℕ)
   pub output : Option (List ℕ)
 
-abbrev pub ends : Option (List ℕ) → Option (List ℕ) → Ends
+abbrev pub ends : Option (List ℕ) → Option (List ℕ) → DialogueEnds
 ends i o = record { input = i; output = o }
 
 abbrev pub is_quit : Said → Bool
@@ -27,23 +27,23 @@ is_quit saids.Quit = true
 is_quit saids.Other = false
 
 -- a line is taken, and its answer is written as a line
-abbrev pub Exchanged : Said → Ends → Ends → Type 0
+abbrev pub Exchanged : Said → DialogueEnds → DialogueEnds → Type 0
 Exchanged said a b =
     (line : List ℕ) × (answer : Answer) × TakesLine a.input b.input line true × (said ≡ said_of line)
     × IsAnswerTo said answer × Appends a.output b.output (answer_text answer ++ 10 ∷ [])
 
 -- so many lines, none of which says `quit`
-abbrev pub TalksOn : ℕ → Ends → Ends → Type 0
+abbrev pub TalksOn : ℕ → DialogueEnds → DialogueEnds → Type 0
 TalksOn zero a b = b ≡ a
 TalksOn (suc n) a b =
-    (mid : Ends) × (said : Said) × TalksOn n a mid × Exchanged said mid b × (is_quit said ≡ false)
+    (mid : DialogueEnds) × (said : Said) × TalksOn n a mid × Exchanged said mid b × (is_quit said ≡ false)
 
 -- Lines and their answers, and then why the console left: the last line said `quit`, and was answered; no line was left;
 -- or the answer to the last line could not be written.
-abbrev pub Talks : Left → Ends → Ends → Type 0
+abbrev pub Talks : Left → DialogueEnds → DialogueEnds → Type 0
 Talks lefts.Quit a b =
-    (n : ℕ) × (mid : Ends) × (said : Said) × TalksOn n a mid × Exchanged said mid b × (is_quit said ≡ true)
+    (n : ℕ) × (mid : DialogueEnds) × (said : Said) × TalksOn n a mid × Exchanged said mid b × (is_quit said ≡ true)
 Talks lefts.EndOfInput a b =
-    (n : ℕ) × (mid : Ends) × (line : List ℕ) × TalksOn n a mid × TakesLine mid.input b.input line false × (b.output ≡ mid.output)
+    (n : ℕ) × (mid : DialogueEnds) × (line : List ℕ) × TalksOn n a mid × TakesLine mid.input b.input line false × (b.output ≡ mid.output)
 Talks lefts.Unwritten a b =
-    (n : ℕ) × (mid : Ends) × (line : List ℕ) × TalksOn n a mid × TakesLine mid.input b.input line true
+    (n : ℕ) × (mid : DialogueEnds) × (line : List ℕ) × TalksOn n a mid × TakesLine mid.input b.input line true
