@@ -16,8 +16,8 @@ pub record DialogueEnds : Type 0 where
   pub input : Option (List ℕ)
   pub output : Option (List ℕ)
 
-abbrev pub ends : Option (List ℕ) → Option (List ℕ) → DialogueEnds
-ends i o = record { input = i; output = o }
+abbrev pub dialogue_ends : Option (List ℕ) → Option (List ℕ) → DialogueEnds
+dialogue_ends i o = record { input = i; output = o }
 
 abbrev pub is_quit : Said → Bool
 is_quit (saids.Slot n) = false

@@ -3,7 +3,7 @@
 ghost use Rattle.std.specs.Prelude.{◌≡◌, ◌++◌, ◌∷◌, [], OnOk, IfErr};
 ghost use Rattle.std.specs.Io.KnownBytes.{Appends};
 ghost use Rattle.board_model.specs.declared.refusal.Refusal.TheVariants.{Output};
-ghost use Rattle.board_console.specs.Dialogues.{Talks, ends, is_quit};
+ghost use Rattle.board_console.specs.Dialogues.{Talks, dialogue_ends, is_quit};
 ghost use Rattle.board_console.specs.Texts.{answer_text};
 
 use crate::answer::Answer;
@@ -54,7 +54,7 @@ pub fn console<R: Wait, D: Disk + Drop, I: Read, W: Write>(
     input: &mut I,
     out: &mut W,
 ) -> Left
-    ensures { Talks result (ends (I.remaining input.old) (W.contents out.old)) (ends (I.remaining input.new) (W.contents out.new)) }
+    ensures { Talks result (dialogue_ends (I.remaining input.old) (W.contents out.old)) (dialogue_ends (I.remaining input.new) (W.contents out.new)) }
 {
     let mut line = ArrayVec::new();
     for _ in rt.forever() {

@@ -1,6 +1,6 @@
-use Rattle.board_console.specs.Dialogues.{ends}
+use Rattle.board_console.specs.Dialogues.{dialogue_ends}
 use Rattle.board_console.proofs.Talking.{Talking}
 use Rattle.board_console.proofs.talks.console.Given as goal
 
 abbrev pub invariant-loop : goal.invariant-loop
-invariant-loop g l = Talking (ends (g.I.Read.remaining l.fn.input) (g.W.Write.contents l.fn.out)) (ends (g.I.Read.remaining l.input) (g.W.Write.contents l.out))
+invariant-loop g l = Talking (dialogue_ends (g.I.Read.remaining l.fn.input) (g.W.Write.contents l.fn.out)) (dialogue_ends (g.I.Read.remaining l.input) (g.W.Write.contents l.out))
