@@ -9,7 +9,7 @@ use Rattle.board_console.specs.declared.talks.Left.{Left}
 use Rattle.board_console.specs.declared.talks.Left.TheVariants as lefts
 use Rattle.board_console.specs.Commands.{IsAnswerTo}
 use Rattle.board_console.specs.Lines.{TakesLine, said_of}
-use Rattle.board_console.specs.Texts.{answer_text}
+use Rattle.board_console.specs.Texts.{reply_text}
 
 -- an input and an output, by what is left of the one and stands in the other, where that is known
 pub record DialogueEnds : Type 0 where
@@ -30,7 +30,7 @@ is_quit saids.Other = false
 abbrev pub Exchanged : Said → DialogueEnds → DialogueEnds → Type 0
 Exchanged said a b =
     (line : List ℕ) × (answer : Answer) × TakesLine a.input b.input line true × (said ≡ said_of line)
-    × IsAnswerTo said answer × Appends a.output b.output (answer_text answer ++ 10 ∷ [])
+    × IsAnswerTo said answer × Appends a.output b.output (reply_text answer ++ 10 ∷ [])
 
 -- so many lines, none of which says `quit`
 abbrev pub TalksOn : ℕ → DialogueEnds → DialogueEnds → Type 0

@@ -12,12 +12,12 @@ abbrev pub serial_text : Option ImageHead → List ℕ
 serial_text None = codes "none"
 serial_text (Some head) = decimal head.serial
 
-abbrev pub answer_text : Answer → List ℕ
-answer_text (answers.SlotOk n) = codes "slot ok " ++ decimal n
-answer_text (answers.SlotRefused e) = codes "slot refused " ++ decimal (number_of_refusal e)
-answer_text (answers.DiscardOk n) = codes "discard ok " ++ decimal n
-answer_text (answers.DiscardRefused e) = codes "discard refused " ++ decimal (number_of_refusal e)
-answer_text (answers.State d) = codes "state slot " ++ decimal d.slot ++ codes " reason " ++ decimal (reason_number d.reason)
+abbrev pub reply_text : Answer → List ℕ
+reply_text (answers.SlotOk n) = codes "slot ok " ++ decimal n
+reply_text (answers.SlotRefused e) = codes "slot refused " ++ decimal (number_of_refusal e)
+reply_text (answers.DiscardOk n) = codes "discard ok " ++ decimal n
+reply_text (answers.DiscardRefused e) = codes "discard refused " ++ decimal (number_of_refusal e)
+reply_text (answers.State d) = codes "state slot " ++ decimal d.slot ++ codes " reason " ++ decimal (reason_number d.reason)
     ++ codes " image " ++ serial_text d.image ++ codes " next " ++ decimal d.next
-answer_text answers.Quit = codes "quit"
-answer_text answers.Unknown = codes "?"
+reply_text answers.Quit = codes "quit"
+reply_text answers.Unknown = codes "?"

@@ -1,7 +1,7 @@
 //! Answers of the console.
 
 ghost use Rattle.std.specs.Prelude.{◌≡◌, ◌++◌, Some};
-ghost use Rattle.board_console.specs.Texts.{serial_text, answer_text};
+ghost use Rattle.board_console.specs.Texts.{serial_text, reply_text};
 
 use board_model::{Durable, ImageHead, Refusal};
 use std::fmt;
@@ -43,7 +43,7 @@ impl fmt::Display for Serial {
 }
 
 impl fmt::Display for Answer {
-    ghost output = { λ a. Some (answer_text a) };
+    ghost output = { λ a. Some (reply_text a) };
 
     fn fmt<W: fmt::Write>(&self, f: &mut fmt::Formatter<W>) -> fmt::Result {
         match *self {

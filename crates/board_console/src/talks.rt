@@ -4,7 +4,7 @@ ghost use Rattle.std.specs.Prelude.{◌≡◌, ◌++◌, ◌∷◌, [], OnOk, If
 ghost use Rattle.std.specs.Io.KnownBytes.{Appends};
 ghost use Rattle.board_model.specs.declared.refusal.Refusal.TheVariants.{Output};
 ghost use Rattle.board_console.specs.Dialogues.{Talks, dialogue_ends, is_quit};
-ghost use Rattle.board_console.specs.Texts.{answer_text};
+ghost use Rattle.board_console.specs.Texts.{reply_text};
 
 use crate::answer::Answer;
 use crate::commands::obey;
@@ -39,7 +39,7 @@ fn is_quit(said: Said) -> bool
 
 /// Writes an answer as a line, so that it is seen at once.
 fn write_answer<W: Write>(out: &mut W, answer: Answer) -> Result<(), Refusal>
-    ensures written { OnOk result (Appends (W.contents out.old) (W.contents out.new) (answer_text answer ++ 10 ∷ [])) }
+    ensures written { OnOk result (Appends (W.contents out.old) (W.contents out.new) (reply_text answer ++ 10 ∷ [])) }
     ensures refused { IfErr result (λ e. e ≡ Output) }
 {
     writeln!(out, "{answer}").map_err(|_| Refusal::Output)?;
