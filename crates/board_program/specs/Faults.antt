@@ -6,10 +6,10 @@ use Rattle.board_program.specs.declared.fault.Fault.{Fault}
 use Rattle.board_program.specs.declared.fault.Fault.TheVariants.{Usage, Refused, File}
 use lib.Chars.{codes}
 
-abbrev pub fault_text : Fault → List ℕ
-fault_text Usage = []
-fault_text (Refused e) = codes "sbiboard: refusal " ++ decimal (number_of_refusal e) ++ codes "\n"
-fault_text File = codes "sbiboard: file\n"
+abbrev pub board_fault_text : Fault → List ℕ
+board_fault_text Usage = []
+board_fault_text (Refused e) = codes "sbiboard: refusal " ++ decimal (number_of_refusal e) ++ codes "\n"
+board_fault_text File = codes "sbiboard: file\n"
 
 -- the status with which the program ends
 abbrev pub status_after : {A : Type 0} → Result A Fault → ℕ

@@ -1,7 +1,7 @@
 //! Why the program ends with a fault: the status for it, and the text that says so.
 
 ghost use Rattle.std.specs.Prelude.{◌≡◌, Some};
-ghost use Rattle.board_program.specs.Faults.{fault_text, first_fault, status_after};
+ghost use Rattle.board_program.specs.Faults.{board_fault_text, first_fault, status_after};
 
 use board_model::Refusal;
 use std::fmt;
@@ -18,7 +18,7 @@ pub enum Fault {
 }
 
 impl fmt::Display for Fault {
-    ghost output = { λ fault. Some (fault_text fault) };
+    ghost output = { λ fault. Some (board_fault_text fault) };
 
     fn fmt<W: fmt::Write>(&self, f: &mut fmt::Formatter<W>) -> fmt::Result {
         match *self {
