@@ -12,11 +12,11 @@ board_fault_text (Refused e) = codes "sbiboard: refusal " ++ decimal (number_of_
 board_fault_text File = codes "sbiboard: file\n"
 
 -- the status with which the program ends
-abbrev pub status_after : {A : Type 0} → Result A Fault → ℕ
-status_after (Ok done) = 0
-status_after (Err Usage) = 2
-status_after (Err (Refused e)) = 1
-status_after (Err File) = 1
+abbrev pub board_status : {A : Type 0} → Result A Fault → ℕ
+board_status (Ok done) = 0
+board_status (Err Usage) = 2
+board_status (Err (Refused e)) = 1
+board_status (Err File) = 1
 
 -- of two faults the first is told
 abbrev pub first_fault : {A : Type 0} → Result A Fault → Result A Fault → Result A Fault

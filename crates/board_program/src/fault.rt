@@ -1,7 +1,7 @@
 //! Why the program ends with a fault: the status for it, and the text that says so.
 
 ghost use Rattle.std.specs.Prelude.{◌≡◌, Some};
-ghost use Rattle.board_program.specs.Faults.{board_fault_text, first_fault, status_after};
+ghost use Rattle.board_program.specs.Faults.{board_fault_text, first_fault, board_status};
 
 use board_model::Refusal;
 use std::fmt;
@@ -34,7 +34,7 @@ impl fmt::Display for Fault {
 
 /// The program's status: 0 where it did what it was asked, 2 for a fault of the command line, and 1 for any other.
 pub fn status_of(done: &Result<(), Fault>) -> u8
-    ensures { result ≡ status_after done.now }
+    ensures { result ≡ board_status done.now }
 {
     match done {
         Ok(()) => 0,
