@@ -21,11 +21,11 @@ abbrev pub hart_in : Option Image → ℕ
 hart_in None = 0
 hart_in (Some i) = i.hart
 
-abbrev pub first_of : BootMode → DurableState → ℕ
-first_of modes.Fresh s = 0
-first_of modes.Keep s = 0
-first_of modes.Discard s = 0
-first_of modes.Resume s = hart_in s.image
+abbrev pub boot_hart : BootMode → DurableState → ℕ
+boot_hart modes.Fresh s = 0
+boot_hart modes.Keep s = 0
+boot_hart modes.Discard s = 0
+boot_hart modes.Resume s = hart_in s.image
 
 -- The board goes on with the image that stands: it has the image's memory, byte for byte, and of its harts the image's alone
 -- runs. Nothing of it is the slot's.

@@ -6,7 +6,7 @@ ghost use Rattle.board_model.specs.Shapes.{ram_bytes_of};
 ghost use Rattle.board_model.specs.Views.{durable_of};
 ghost use Rattle.store.specs.Views.{size_of_store, found_state, now_state, view_of};
 ghost use Rattle.machine.specs.Machine.{resting};
-ghost use Rattle.board.specs.Begins.{HasItsHart, first_of, IsBegun, IsLateRefusal, RefusesBoot};
+ghost use Rattle.board.specs.Begins.{HasItsHart, boot_hart, IsBegun, IsLateRefusal, RefusesBoot};
 ghost use Rattle.board.specs.Boots.{boot_refusal, PayloadsFit, booted};
 ghost use Rattle.board.specs.Readies.{IsOpen, IsIssued, IsUnissued};
 ghost use Rattle.board.specs.Unbooted.{IsStartRefusal, RefusesMode};
@@ -38,7 +38,7 @@ fn mode_refusal(mode: BootMode, found: &Durable) -> Option<Refusal>
 /// The hart that begins: hart 0, or on a resume the image's.
 fn first_hart<D: Disk + Drop>(store: &Store<D>, mode: BootMode) -> HartId
     requires { HasItsHart (size_of_store store.now) (found_state store.now) }
-    ensures first { result ≡ first_of mode (found_state store.now) }
+    ensures first { result ≡ boot_hart mode (found_state store.now) }
     ensures range { result < (size_of_store store.now).harts }
 {
     let zero = store.shape().hart(0).unwrap();
@@ -61,7 +61,7 @@ fn resting<D: Disk + Drop>(
     requires { HasItsHart (size_of_store store.now) (found_state store.now) }
     ensures fits { OnOk result (PayloadsFit (size_of_store store.now) payloads.now) }
     ensures least { 4096 ≤ ram_bytes_of (size_of_store store.now) }
-    ensures machine { IfOk result (λ m. m ≡ resting (size_of_store store.now) (first_of mode (found_state store.now))) }
+    ensures machine { IfOk result (λ m. m ≡ resting (size_of_store store.now) (boot_hart mode (found_state store.now))) }
     ensures refused { IfErr result (λ e. IsStartRefusal (size_of_store store.now) payloads.now e) }
 {
     let shape = store.shape();
@@ -93,7 +93,7 @@ fn begin<D: Disk + Drop>(
 ) -> Result<(), Refusal>
     requires opened { IsOpen (view_of store.old) }
     requires allowed { boot_refusal (found_state store.old) mode ≡ None }
-    requires resting { machine.old ≡ resting (size_of_store store.old) (first_of mode (found_state store.old)) }
+    requires resting { machine.old ≡ resting (size_of_store store.old) (boot_hart mode (found_state store.old)) }
     requires least { 4096 ≤ ram_bytes_of (size_of_store store.old) }
     requires fits { PayloadsFit (size_of_store store.old) payloads.now }
     ensures issued { OnOk result (IsIssued mode (view_of store.old) (view_of store.new)) }
