@@ -15,7 +15,7 @@ use Rattle.machine.specs.Words.{word_by}
 use Rattle.machine.specs.declared.parts.Word.{Word}
 use Rattle.machine.specs.declared.parts.Word.TheVariants.{Own, Asleep, Reset}
 use Rattle.hart_threads.specs.Seated.{StandsAfterTurn, StandsAfter}
-use Rattle.hart_threads.specs.Threads.{Seated, HeldOnce, TurnOnce, TurnsOn, LoopOnce, goes_on}
+use Rattle.hart_threads.specs.Threads.{Seated, HeldOnce, TurnOnce, TurnsOn, LoopOnce, loop_goes_on}
 use Rattle.hart_threads.specs.declared.loops.Why.TheVariants as whys
 
 -- ---- nothing was done yet
@@ -34,13 +34,13 @@ stands_by_held by s helds.Asleep a = a
 stands_by_held by s (helds.Reset kind) a = a
 
 -- at rest, where the life goes on
-pub rests_on : (by : ℕ) (s : Seats) (word : Word) → goes_on word ≡ true → StandsAfterTurn word by s → Rests by s
+pub rests_on : (by : ℕ) (s : Seats) (word : Word) → loop_goes_on word ≡ true → StandsAfterTurn word by s → Rests by s
 rests_on by s (Own did) e stands = stands
 rests_on by s Asleep e stands = let n : ⊥ = cc in absurd n
 rests_on by s (Reset kind) e stands = let n : ⊥ = cc in absurd n
 
 -- and else after the life's end
-pub stands_over : (by : ℕ) (s : Seats) (word : Word) → goes_on word ≡ false → StandsAfterTurn word by s → StandsAfter whys.Life by s
+pub stands_over : (by : ℕ) (s : Seats) (word : Word) → loop_goes_on word ≡ false → StandsAfterTurn word by s → StandsAfter whys.Life by s
 stands_over by s (Own did) e stands = let n : ⊥ = cc in absurd n
 stands_over by s Asleep e stands = inr stands
 stands_over by s (Reset kind) e stands = inl stands
@@ -75,11 +75,11 @@ held_turn size a mid b found left did held word is own once told =
     (found, left, words.Durable, mid, subst (λ (d : Turned). TurnOwn size a.hart found mid.hart left a.known mid.known d) is own, (held, once, told))
 
 -- ---- one turn more
-pub one_more : (size : Size) (n : ℕ) (a mid b : Seated) (word : Word) → TurnsOn size n a mid → TurnOnce size mid b word → goes_on word ≡ true → TurnsOn size (n + 1) a b
+pub one_more : (size : Size) (n : ℕ) (a mid b : Seated) (word : Word) → TurnsOn size n a mid → TurnOnce size mid b word → loop_goes_on word ≡ true → TurnsOn size (n + 1) a b
 one_more size n a mid b word many once on =
     let e : suc n ≡ n + 1 = omega arith in
     subst (λ (k : ℕ). TurnsOn size k a b) e (mid, word, many, once, on)
 
 -- that ended the life
-pub ended_life : (size : Size) (turns n : ℕ) (a mid b : Seated) (word : Word) → TurnsOn size n a mid → TurnOnce size mid b word → goes_on word ≡ false → LoopOnce size turns (n + 1) a b whys.Life
+pub ended_life : (size : Size) (turns n : ℕ) (a mid b : Seated) (word : Word) → TurnsOn size n a mid → TurnOnce size mid b word → loop_goes_on word ≡ false → LoopOnce size turns (n + 1) a b whys.Life
 ended_life size turns n a mid b word many once off = let e : n + 1 ≡ suc n = omega arith in (n, mid, word, e, many, once, off)

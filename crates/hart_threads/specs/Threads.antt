@@ -75,22 +75,22 @@ TurnOnce size a b word =
 
 -- ---- the turns of a loop
 -- the life goes on after it
-abbrev pub goes_on : Word → Bool
-goes_on (Own did) = true
-goes_on Asleep = false
-goes_on (ResetBy kind) = false
+abbrev pub loop_goes_on : Word → Bool
+loop_goes_on (Own did) = true
+loop_goes_on Asleep = false
+loop_goes_on (ResetBy kind) = false
 
 -- so many turns, after each of which the life went on
 abbrev pub TurnsOn : Size → ℕ → Seated → Seated → Type 0
 TurnsOn size zero a b = b ≡ a
 TurnsOn size (suc n) a b =
-    (mid : Seated) × (word : Word) × TurnsOn size n a mid × TurnOnce size mid b word × (goes_on word ≡ true)
+    (mid : Seated) × (word : Word) × TurnsOn size n a mid × TurnOnce size mid b word × (loop_goes_on word ≡ true)
 
 -- A loop of at most so many turns made that many, and ended so: by the life's end, which its last turn told; by the
 -- gate, before it had made all; or with the last of them.
 abbrev pub LoopOnce : Size → ℕ → ℕ → Seated → Seated → Why → Type 0
 LoopOnce size turns made a b whys.Life =
     (n : ℕ) × (mid : Seated) × (word : Word) × (made ≡ suc n)
-    × TurnsOn size n a mid × TurnOnce size mid b word × (goes_on word ≡ false)
+    × TurnsOn size n a mid × TurnOnce size mid b word × (loop_goes_on word ≡ false)
 LoopOnce size turns made a b whys.Gate = TurnsOn size made a b × (made < turns)
 LoopOnce size turns made a b whys.Turns = TurnsOn size made a b × (made ≡ turns)

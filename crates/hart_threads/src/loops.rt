@@ -3,7 +3,7 @@
 ghost use Rattle.std.specs.Prelude.{◌≡◌, ◌≤◌};
 ghost use Rattle.sbi_calls.specs.Both.{AreTablesOf, GivesBack, known};
 ghost use Rattle.hart_threads.specs.Seated.{IsSeated, StandsAfterTurn, StandsAfter};
-ghost use Rattle.hart_threads.specs.Threads.{seated, goes_on, TurnOnce, LoopOnce};
+ghost use Rattle.hart_threads.specs.Threads.{seated, loop_goes_on, TurnOnce, LoopOnce};
 
 use crate::gates::Gate;
 use crate::once::{make_held, turn};
@@ -43,7 +43,7 @@ pub struct Ended {
 
 /// Whether the life goes on after a turn of which that is said.
 fn goes_on(word: Word) -> bool
-    ensures { result ≡ goes_on word }
+    ensures { result ≡ loop_goes_on word }
 {
     match word {
         Word::Own(_) => true,
