@@ -17,15 +17,15 @@ abbrev pub HasItsHart : Size → DurableState → Type 0
 HasItsHart size s = IfSome s.image (λ i. i.hart < size.harts)
 
 -- the hart that a boot by the mode begins: hart 0, or on a resume the image's
-abbrev pub hart_in : Option Image → ℕ
-hart_in None = 0
-hart_in (Some i) = i.hart
+abbrev pub image_hart : Option Image → ℕ
+image_hart None = 0
+image_hart (Some i) = i.hart
 
 abbrev pub boot_hart : BootMode → DurableState → ℕ
 boot_hart modes.Fresh s = 0
 boot_hart modes.Keep s = 0
 boot_hart modes.Discard s = 0
-boot_hart modes.Resume s = hart_in s.image
+boot_hart modes.Resume s = image_hart s.image
 
 -- The board goes on with the image that stands: it has the image's memory, byte for byte, and of its harts the image's alone
 -- runs. Nothing of it is the slot's.
