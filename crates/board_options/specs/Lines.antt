@@ -23,13 +23,13 @@ abbrev pub new_flag : Rule
 new_flag = record (new_rule (codes "new")) { long = Some (codes "new"); action = Some SetTrue }
 
 -- the command by its name alone, with a version
-abbrev pub named : App
-named = record (new_app (codes "sbiboard")) { top = record (new_app (codes "sbiboard")).top { has_version = true } }
+abbrev pub named_app : App
+named_app = record (new_app (codes "sbiboard")) { top = record (new_app (codes "sbiboard")).top { has_version = true } }
 
 -- with the disk, the mode and whether it is new
 abbrev pub board_line : ValueParser → App
 board_line modes =
-    with_rule (with_rule (with_rule named (required (path_rule (codes "disk")))) (required (value_rule (codes "mode") modes))) new_flag
+    with_rule (with_rule (with_rule named_app (required (path_rule (codes "disk")))) (required (value_rule (codes "mode") modes))) new_flag
 
 -- and all else
 abbrev pub sbiboard : ValueParser → App

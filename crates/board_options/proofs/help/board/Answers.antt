@@ -5,7 +5,7 @@ use Rattle.clap.specs.Words.{App, Rule, app_of, new_app, new_rule, rule_of, with
 use Rattle.clap.specs.declared.builder.action.ArgAction.TheVariants.{Set, SetTrue}
 use Rattle.clap.specs.declared.builder.arg.Arg.{Arg}
 use Rattle.clap.specs.declared.builder.value_parser.ValueParser.{ValueParser}
-use Rattle.board_options.specs.Lines.{named, new_flag, path_rule, required, value_rule}
+use Rattle.board_options.specs.Lines.{named_app, new_flag, path_rule, required, value_rule}
 use Rattle.board_options.proofs.help.board.Goals as goal
 
 abbrev with_version : App → App
@@ -29,10 +29,10 @@ returns c =
     let n2 = ap rule_of c.action-2.ensures ∙ ap (λ (r : Rule). record r { action = Some SetTrue }) n1 in
     let new_is : rule_of c.help-new.result ≡ new_flag = ap rule_of c.help-new.ensures ∙ n2 in
     let disk_is : rule_of c.required-2.result ≡ required (path_rule (codes "disk")) = ap rule_of c.required-2.ensures ∙ ap required c.path.ensures.rule in
-    let a1 : app_of c.version.result ≡ named = ap app_of_fields c.version.ensures ∙ ap with_version c.new-3.ensures.app in
-    let a2 : app_of c.override_usage.result ≡ named = ap app_of_fields c.override_usage.ensures ∙ a1 in
-    let a3 : app_of c.about.result ≡ named = ap app_of_fields c.about.ensures ∙ a2 in
-    let named_is : app_of c.after_help.result ≡ named = ap app_of_fields c.after_help.ensures ∙ a3 in
+    let a1 : app_of c.version.result ≡ named_app = ap app_of_fields c.version.ensures ∙ ap with_version c.new-3.ensures.app in
+    let a2 : app_of c.override_usage.result ≡ named_app = ap app_of_fields c.override_usage.ensures ∙ a1 in
+    let a3 : app_of c.about.result ≡ named_app = ap app_of_fields c.about.ensures ∙ a2 in
+    let named_is : app_of c.after_help.result ≡ named_app = ap app_of_fields c.after_help.ensures ∙ a3 in
     let mode_local : c.help-mode.result.global ≡ false =
     ap is_global c.help-mode.ensures ∙ ap is_global c.action.ensures ∙ ap is_global c.required.ensures ∙ ap is_global c.value_parser.ensures.others ∙ ap is_global c.value_name.ensures ∙ ap is_global c.long.ensures ∙ c.new.ensures.optional.1 in
     let new_local : c.help-new.result.global ≡ false = ap is_global c.help-new.ensures ∙ ap is_global c.action-2.ensures ∙ ap is_global c.long-2.ensures ∙ c.new-2.ensures.optional.1 in
