@@ -6,7 +6,7 @@ use Rattle.board_console.specs.declared.answer.Answer.{Answer}
 use Rattle.board_console.specs.declared.talks.Left.TheVariants as lefts
 use Rattle.board_console.specs.Commands.{IsAnswerTo}
 use Rattle.board_console.specs.Dialogues.{DialogueEnds, Exchanged, TalksOn, Talks, is_quit}
-use Rattle.board_console.specs.Lines.{TakesLine, said_of}
+use Rattle.board_console.specs.Lines.{TakesLine, line_meaning}
 use Rattle.board_console.specs.Texts.{reply_text}
 
 -- so far none of the lines said `quit`
@@ -18,10 +18,10 @@ pub none_yet : (a : DialogueEnds) → Talking a a
 none_yet a = record { lines = zero; talks = refl }
 
 -- one line more, as the code made it
-pub exchanged : (a b : DialogueEnds) (kept slice : List ℕ) (came : Bool) (said : Said) (answer : Answer) → TakesLine a.input b.input kept came → came ≡ true → slice ≡ kept → said ≡ said_of slice
+pub exchanged : (a b : DialogueEnds) (kept slice : List ℕ) (came : Bool) (said : Said) (answer : Answer) → TakesLine a.input b.input kept came → came ≡ true → slice ≡ kept → said ≡ line_meaning slice
     → IsAnswerTo said answer → Appends a.output b.output (reply_text answer ++ 10 ∷ []) → Exchanged said a b
 exchanged a b kept slice came said answer takes came_so same says fits written =
-    (kept, answer, subst (λ (x : Bool). TakesLine a.input b.input kept x) came_so takes, says ∙ ap said_of same, fits, written)
+    (kept, answer, subst (λ (x : Bool). TakesLine a.input b.input kept x) came_so takes, says ∙ ap line_meaning same, fits, written)
 
 pub goes_on : (a mid b : DialogueEnds) (said : Said) → Talking a mid → Exchanged said mid b → is_quit said ≡ false → Talking a b
 goes_on a mid b said t e on = record { lines = suc t.lines; talks = (mid, said, t.talks, e, on) }

@@ -8,7 +8,7 @@ use Rattle.board_console.specs.declared.answer.Answer.{Answer}
 use Rattle.board_console.specs.declared.talks.Left.{Left}
 use Rattle.board_console.specs.declared.talks.Left.TheVariants as lefts
 use Rattle.board_console.specs.Commands.{IsAnswerTo}
-use Rattle.board_console.specs.Lines.{TakesLine, said_of}
+use Rattle.board_console.specs.Lines.{TakesLine, line_meaning}
 use Rattle.board_console.specs.Texts.{reply_text}
 
 -- an input and an output, by what is left of the one and stands in the other, where that is known
@@ -29,7 +29,7 @@ is_quit saids.Other = false
 -- a line is taken, and its answer is written as a line
 abbrev pub Exchanged : Said → DialogueEnds → DialogueEnds → Type 0
 Exchanged said a b =
-    (line : List ℕ) × (answer : Answer) × TakesLine a.input b.input line true × (said ≡ said_of line)
+    (line : List ℕ) × (answer : Answer) × TakesLine a.input b.input line true × (said ≡ line_meaning line)
     × IsAnswerTo said answer × Appends a.output b.output (reply_text answer ++ 10 ∷ [])
 
 -- so many lines, none of which says `quit`

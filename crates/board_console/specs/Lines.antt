@@ -26,8 +26,8 @@ slot_said None = Other
 slot_said (Some n) = Slot n
 
 -- a line of at most 256 bytes; anything else is none of the console's
-abbrev pub said_of : List ℕ → Said
-said_of line =
+abbrev pub line_meaning : List ℕ → Said
+line_meaning line =
     if nat_lt 256 (length line) then Other else
     (if bytes_eq line (codes "discard") then Discard else
     (if bytes_eq line (codes "state") then State else

@@ -2,7 +2,7 @@
 
 ghost use Rattle.std.specs.Prelude.{◌≡◌, ◌^◌, Option};
 ghost use Rattle.script_lang.specs.Words.{ranged};
-ghost use Rattle.board_console.specs.Lines.{slot_said, said_of};
+ghost use Rattle.board_console.specs.Lines.{slot_said, line_meaning};
 
 use script_lang::in_range;
 
@@ -37,7 +37,7 @@ fn slot(number: &[u8]) -> Said
 /// What a line says, given without its line feed. Words are in lower case with one space between them, and a number is
 /// written as in scripts (docs/SCRIPT.md).
 pub fn line_said(line: &[u8]) -> Said
-    ensures { result ≡ said_of line.now }
+    ensures { result ≡ line_meaning line.now }
 {
     if MOST_BYTES < line.len() {
         return Said::Other;
