@@ -18,7 +18,7 @@ use Rattle.sbi_calls.specs.Requests.{Checked, request_of}
 use Rattle.sbi_calls.specs.Answers.{row, Ends}
 use Rattle.turns.specs.declared.words.Turned.{Turned}
 use Rattle.turns.specs.declared.words.Turned.TheVariants.{Idle, Entered, Woke, Next, Suspended, Stopped, Durable}
-use Rattle.turns.specs.Turns.{Moment, has_pending, woken, begun_by, turned_by, Finishes, TurnAs, TurnOf}
+use Rattle.turns.specs.Turns.{Moment, has_pending, woken_turn, begun_by, turned_by, Finishes, TurnAs, TurnOf}
 use Rattle.machine.specs.declared.parts.Called.{Called}
 use Rattle.machine.specs.declared.parts.Called.TheVariants.{NotStarted, Made}
 use Rattle.machine.specs.Machine.{Machine, hart_at}
@@ -57,7 +57,7 @@ finished size outcomes.TakePending x y u v p = absurd (let z : Durable ≡ Next 
 finished size outcomes.Ecall x y u v p = let d = defers u.id (request_of size (call_of u)) x u v p.0 p.1 p.3 in (p.2 ∙ d.0, d.1)
 
 -- ---- a turn
-stays_asleep : (size : Size) (w : Bool) (by : ℕ) (t : TableState) (a b : Moment) → TurnAs size (woken w by t).ready (woken w by t).table a b Durable → ⊥
+stays_asleep : (size : Size) (w : Bool) (by : ℕ) (t : TableState) (a b : Moment) → TurnAs size (woken_turn w by t).ready (woken_turn w by t).table a b Durable → ⊥
 stays_asleep size true by t a b p = let z : Durable ≡ Woke = p.1 in let n : ⊥ = cc in n
 stays_asleep size false by t a b p = let z : Durable ≡ Idle = p.1 in let n : ⊥ = cc in n
 

@@ -56,16 +56,16 @@ pub record Begun : Type 0 where
   pub ready : Ready
   pub table : TableState
 
-abbrev pub woken : Bool → ℕ → TableState → Begun
-woken true by t = record { ready = readies.Woke; table = with_state t by started }
-woken false by t = record { ready = readies.Idle; table = t }
+abbrev pub woken_turn : Bool → ℕ → TableState → Begun
+woken_turn true by t = record { ready = readies.Woke; table = with_state t by started }
+woken_turn false by t = record { ready = readies.Idle; table = t }
 
 -- a STOPPED hart is idle; a pending one enters, and its interrupts are taken; a suspended one wakes where an interrupt is pending, which stays
 abbrev pub begun_by : ℕ → TableState → HartState → Begun
 begun_by by t stopped = record { ready = readies.Idle; table = t }
 begun_by by t (start_pending a o) = record { ready = readies.Enters a o; table = after_take (with_state t by started) by }
 begun_by by t started = record { ready = readies.Steps (has_pending by t.pairs); table = t }
-begun_by by t suspended = woken (has_pending by t.pairs) by t
+begun_by by t suspended = woken_turn (has_pending by t.pairs) by t
 
 abbrev pub turn_begun : ℕ → TableState → Begun
 turn_begun by t = begun_by by t (listed t.states by)

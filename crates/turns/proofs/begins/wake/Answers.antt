@@ -4,7 +4,7 @@ use Rattle.hsm.specs.Views.{listed}
 use Rattle.sbi_calls.specs.declared.tables.Seats.{Seats}
 use Rattle.sbi_calls.specs.Both.{harts_of_both, known, IsTable}
 use Rattle.turns.specs.declared.words.Ready.TheVariants as readies
-use Rattle.turns.specs.Turns.{begun_by, woken}
+use Rattle.turns.specs.Turns.{begun_by, woken_turn}
 use Rattle.turns.proofs.Begun.{gives_then}
 use Rattle.turns.specs.Own.{LooksOwn}
 use Rattle.turns.proofs.begins.wake.Goals as goal
@@ -24,7 +24,7 @@ returns-then-wakes-clause-alone c = λ t are e.
     let states = c.one_table.ensures.changed n c.args.by (λ (x : HartState). started) _ t.states l.1.0.0 c.requires.by a.1 in
     let p = sym l.0 ∙ c.if-wakes.true in
     subst (λ (y : HartState). (readies.Woke ≡ (begun_by c.args.by t y).ready) × IsTable n s (begun_by c.args.by t y).table) (sym e)
-    (subst (λ (b : Bool). (readies.Woke ≡ (woken b c.args.by t).ready) × IsTable n s (woken b c.args.by t).table) (sym p) (refl, (states, l.1.1)))
+    (subst (λ (b : Bool). (readies.Woke ≡ (woken_turn b c.args.by t).ready) × IsTable n s (woken_turn b c.args.by t).table) (sym p) (refl, (states, l.1.1)))
 
 pub returns-else-wakes-clause-alone : goal.returns-else-wakes-clause-alone
 returns-else-wakes-clause-alone c = λ t are e.
@@ -33,7 +33,7 @@ returns-else-wakes-clause-alone c = λ t are e.
     let l = c.look-seats.ensures.alone t are in
     let p = sym l.0 ∙ c.if-wakes.false in
     subst (λ (y : HartState). (readies.Idle ≡ (begun_by c.args.by t y).ready) × IsTable n s (begun_by c.args.by t y).table) (sym e)
-    (subst (λ (b : Bool). (readies.Idle ≡ (woken b c.args.by t).ready) × IsTable n s (woken b c.args.by t).table) (sym p) (refl, l.1))
+    (subst (λ (b : Bool). (readies.Idle ≡ (woken_turn b c.args.by t).ready) × IsTable n s (woken_turn b c.args.by t).table) (sym p) (refl, l.1))
 
 pub returns-then-wakes-clause-own : goal.returns-then-wakes-clause-own
 returns-then-wakes-clause-own c =
