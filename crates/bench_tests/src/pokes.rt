@@ -84,7 +84,7 @@ fn a_poke_is_found_by_the_next_open(rt: HostRuntime) -> Result<(), Fail> {
     Ok(())
 }
 
-// It is no call by which an armed cut would strike, and a cut leaves it; a board that is on keeps its disk.
+/// It is no call by which an armed cut would strike, and a cut leaves it; a board that is on keeps its disk.
 #[test]
 fn a_poke_is_no_call(rt: HostRuntime) -> Result<(), Fail> {
     reports(
@@ -95,7 +95,7 @@ fn a_poke_is_no_call(rt: HostRuntime) -> Result<(), Fail> {
     )
 }
 
-// Its last serial is never given.
+/// Its last serial is never given.
 #[test]
 fn serials_are_spent(rt: HostRuntime) -> Result<(), Fail> {
     reports(
@@ -162,7 +162,7 @@ fn add_zeros(
     Ok(())
 }
 
-// The header of place 0 is all zeros, that of place 1 has a page 1: no byte of either may be another one.
+/// The header of place 0 is all zeros, that of place 1 has a page 1: no byte of either may be another one.
 #[test]
 fn each_byte_of_a_header_counts(rt: HostRuntime) -> Result<(), Fail> {
     let alloc = rt.alloc();
@@ -181,8 +181,8 @@ fn each_byte_of_a_header_counts(rt: HostRuntime) -> Result<(), Fail> {
     reports(&rt, alloc, &script, &report)
 }
 
-// The second image, with serial 1, stands in area 1, from sector 26 on. With the serial of the older one in a header it is not read,
-// and the durable state is as it was.
+/// The second image, with serial 1, stands in area 1, from sector 26 on. With the serial of the older one in a header it is not read,
+/// and the durable state is as it was.
 #[test]
 fn a_page_of_the_older_image_is_not_read(rt: HostRuntime) -> Result<(), Fail> {
     told(
@@ -201,8 +201,8 @@ fn a_page_of_the_older_image_is_not_read(rt: HostRuntime) -> Result<(), Fail> {
     )
 }
 
-// Lanes 0 and 1 of 3 pages save 2 pages and 1. Counts of 1 and 2 name place 1 of lane 1, at sector 35, which holds no header of the
-// page that is then missing; with one there the image reads again, since a page may stand in any place.
+/// Lanes 0 and 1 of 3 pages save 2 pages and 1. Counts of 1 and 2 name place 1 of lane 1, at sector 35, which holds no header of the
+/// page that is then missing; with one there the image reads again, since a page may stand in any place.
 #[test]
 fn counts_that_lie_are_found_out(rt: HostRuntime) -> Result<(), Fail> {
     reports(
@@ -213,7 +213,7 @@ fn counts_that_lie_are_found_out(rt: HostRuntime) -> Result<(), Fail> {
     )
 }
 
-// Counts that no image of the board can have are no record.
+/// Counts that no image of the board can have are no record.
 #[test]
 fn counts_of_no_image_are_refused(rt: HostRuntime) -> Result<(), Fail> {
     told(
@@ -230,7 +230,7 @@ fn counts_of_no_image_are_refused(rt: HostRuntime) -> Result<(), Fail> {
     )
 }
 
-// No sum guards the data of a page: what somebody wrote there is what the board resumes with.
+/// No sum guards the data of a page: what somebody wrote there is what the board resumes with.
 #[test]
 fn the_data_of_a_page_is_taken_as_it_is(rt: HostRuntime) -> Result<(), Fail> {
     told(

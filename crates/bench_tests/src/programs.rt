@@ -3,7 +3,7 @@
 use crate::told::{goes_on, reports};
 use std::test::*;
 
-// ADDI x10, x0, 1
+/// ADDI x10, x0, 1
 #[test]
 fn one_instruction(rt: HostRuntime) -> Result<(), Fail> {
     reports(
@@ -24,7 +24,7 @@ fn traps_on_zero_words(rt: HostRuntime) -> Result<(), Fail> {
     )
 }
 
-// AUIPC x10, 0 and SW x10, 64(x10): a store, which the next boot does not find.
+/// AUIPC x10, 0 and SW x10, 64(x10): a store, which the next boot does not find.
 #[test]
 fn a_boot_zeroes_ram(rt: HostRuntime) -> Result<(), Fail> {
     reports(
@@ -35,7 +35,7 @@ fn a_boot_zeroes_ram(rt: HostRuntime) -> Result<(), Fail> {
     )
 }
 
-// ADDI x10, x0, 1 in slot 0, and ADDI x10, x0, 2 in slot 1.
+/// ADDI x10, x0, 1 in slot 0, and ADDI x10, x0, 2 in slot 1.
 #[test]
 fn a_boot_takes_the_payload_of_its_slot(rt: HostRuntime) -> Result<(), Fail> {
     reports(
@@ -46,7 +46,7 @@ fn a_boot_takes_the_payload_of_its_slot(rt: HostRuntime) -> Result<(), Fail> {
     )
 }
 
-// ECALL with 0 in a7: a legacy call, which the board lacks, is answered NOT_SUPPORTED, which is -2.
+/// ECALL with 0 in a7: a legacy call, which the board lacks, is answered NOT_SUPPORTED, which is -2.
 #[test]
 fn a_legacy_call_is_not_supported(rt: HostRuntime) -> Result<(), Fail> {
     reports(

@@ -141,8 +141,8 @@ fn a_failure_at_each_call_of_a_resume_is_told(rt: HostRuntime) -> Result<(), Fai
     Ok(())
 }
 
-// The second hart suspends the board, while an interrupt is pending for the first, which is STOPPED. Nothing of either stays: the
-// second hart stands alone at its address, with its number and the opaque value.
+/// The second hart suspends the board, while an interrupt is pending for the first, which is STOPPED. Nothing of either stays: the
+/// second hart stands alone at its address, with its number and the opaque value.
 #[test]
 fn the_hart_that_suspended_goes_on_alone(rt: HostRuntime) -> Result<(), Fail> {
     reports(
@@ -153,7 +153,7 @@ fn the_hart_that_suspended_goes_on_alone(rt: HostRuntime) -> Result<(), Fail> {
     )
 }
 
-// A life that began with a resume counts its commands behind the one that consumed the image, and makes an image of its own.
+/// A life that began with a resume counts its commands behind the one that consumed the image, and makes an image of its own.
 #[test]
 fn a_resumed_board_goes_on_like_any_other(rt: HostRuntime) -> Result<(), Fail> {
     goes_on(
@@ -164,7 +164,7 @@ fn a_resumed_board_goes_on_like_any_other(rt: HostRuntime) -> Result<(), Fail> {
     )
 }
 
-// What the slots boot is of no use to a resume.
+/// What the slots boot is of no use to a resume.
 #[test]
 fn a_resume_boots_no_slot(rt: HostRuntime) -> Result<(), Fail> {
     goes_on(

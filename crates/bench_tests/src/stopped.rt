@@ -6,7 +6,7 @@ use board::{Board, Payloads};
 use board_model::{BootMode, Refusal};
 use std::test::*;
 
-// The writer has room for the report up to `slot ok 1`, and not for all of `cut`, which is made.
+/// The writer has room for the report up to `slot ok 1`, and not for all of `cut`, which is made.
 #[test]
 fn the_disk_of_a_writer_that_failed_powers_on(rt: HostRuntime) -> Result<(), Fail> {
     let alloc = rt.alloc();
@@ -30,7 +30,7 @@ fn the_disk_of_a_writer_that_failed_powers_on(rt: HostRuntime) -> Result<(), Fai
     Ok(())
 }
 
-// Run with each allocation failing in turn: a disk that is given back is powered on, or was not formatted yet.
+/// Run with each allocation failing in turn: a disk that is given back is powered on, or was not formatted yet.
 #[test]
 fn the_disk_of_a_run_out_of_memory_powers_on(rt: HostRuntime) -> Result<(), Fail> {
     let alloc = rt.alloc();

@@ -19,14 +19,14 @@ const ONE: [u8; 4] = [0x13, 0x05, 0x10, 0x00];
 // ADDI x10, x0, 2
 const TWO: [u8; 4] = [0x13, 0x05, 0x20, 0x00];
 
-// Slot 0 boots ONE, slot 1 TWO.
+/// Slot 0 boots ONE, slot 1 TWO.
 fn two_payloads(alloc: Global) -> Result<Payloads, Fail> {
     let mut payloads = one_payload(alloc, 0, &ONE)?;
     set(alloc, &mut payloads, 1, &TWO)?;
     Ok(payloads)
 }
 
-// The board boots a slot whose payload is one addition of that number.
+/// The board boots a slot whose payload is one addition of that number.
 fn adds<R: AllocGlobal + Threads + Sync + Abort>(
     rt: &R,
     board: &mut Board<SimDisk>,
@@ -53,7 +53,7 @@ fn boots_the_slot_that_stands(rt: HostRuntime) -> Result<(), Fail> {
     Ok(())
 }
 
-// A page of RAM that begins with ONE and is zero to its end.
+/// A page of RAM that begins with ONE and is zero to its end.
 fn holds_one(rt: &impl Abort, ram: &Ram) {
     same(rt, ram.bytes().len(), 4096);
     same(rt, ram.load(RAM_BASE, Width::Double), Ok(0x0010_0513));
@@ -72,7 +72,7 @@ fn a_boot_leaves_the_payload_and_zeros(rt: HostRuntime) -> Result<(), Fail> {
     Ok(())
 }
 
-// Hart 0 starts hart 1 and sends it an interrupt, which hart 1 takes as it enters (SBI specification 2.0, chapters 7 and 9).
+/// Hart 0 starts hart 1 and sends it an interrupt, which hart 1 takes as it enters (SBI specification 2.0, chapters 7 and 9).
 #[test]
 fn calls_reach_another_hart(rt: HostRuntime) -> Result<(), Fail> {
     let payloads = Payloads::new(rt.alloc());
@@ -102,7 +102,7 @@ fn calls_reach_another_hart(rt: HostRuntime) -> Result<(), Fail> {
     Ok(())
 }
 
-// What the console does to the board of an image.
+/// What the console does to the board of an image.
 fn sets_and_discards(rt: &impl Abort, board: &mut Board<SimDisk>) {
     let standing = Some((4, 7));
     let reason = Reason::SystemFailure;
@@ -137,7 +137,7 @@ fn discard_drops_the_image_and_boots_the_slot(rt: HostRuntime) -> Result<(), Fai
     Ok(())
 }
 
-// What a slot boots.
+/// What a slot boots.
 fn boots(rt: &impl Abort, payloads: &Payloads, number: u32, bytes: &[u8]) -> Result<(), Fail> {
     assert_eq!(rt; payloads.get(slot(number)?), bytes, "slot {number}");
     Ok(())

@@ -11,7 +11,7 @@ use std::test::Fail;
 
 const SRST: u64 = 0x5352_5354;
 
-// Two resets are refused by their arguments, and one ends the life: the next boot has its reason in a1.
+/// Two resets are refused by their arguments, and one ends the life: the next boot has its reason in a1.
 #[test]
 fn a_call_resets_the_board(rt: HostRuntime) -> Result<(), Fail> {
     let payloads = Payloads::new(rt.alloc());
@@ -40,8 +40,8 @@ const SHUTDOWN: [u8; 20] = [
     0x6f, 0xf0, 0x9f, 0xff,
 ];
 
-// The fourth turn asks. Acknowledged, it is the last; where the disk failed before the gate, the guest goes on and asks again;
-// where it failed at the gate, each reset is refused; and a turn in which a cut struck is the last, whatever the guest found.
+/// The fourth turn asks. Acknowledged, it is the last; where the disk failed before the gate, the guest goes on and asks again;
+/// where it failed at the gate, each reset is refused; and a turn in which a cut struck is the last, whatever the guest found.
 #[test]
 fn a_row_of_turns_ends_with_the_life_or_a_cut(rt: HostRuntime) -> Result<(), Fail> {
     let payloads = one_payload(rt.alloc(), 0, &SHUTDOWN)?;
@@ -80,7 +80,7 @@ fn a_row_of_turns_ends_asleep(rt: HostRuntime) -> Result<(), Fail> {
     Ok(())
 }
 
-// A life that is over takes no command: the guest is answered -1.
+/// A life that is over takes no command: the guest is answered -1.
 #[test]
 fn a_board_that_was_reset_takes_no_reset(rt: HostRuntime) -> Result<(), Fail> {
     let payloads = one_payload(rt.alloc(), 0, &SHUTDOWN)?;

@@ -10,7 +10,7 @@ use std::alloc::Global;
 use std::process::Abort;
 use std::test::Fail;
 
-// A disk with an image, whose discard at the boot was refused so, since that call of it failed.
+/// A disk with an image, whose discard at the boot was refused so, since that call of it failed.
 fn undiscarded(rt: &impl Abort, alloc: Global, call: u64, want: Refusal) -> Result<SimDisk, Fail> {
     let mut disk = with_image(alloc)?;
     disk.fail_at(call);
@@ -21,14 +21,14 @@ fn undiscarded(rt: &impl Abort, alloc: Global, call: u64, want: Refusal) -> Resu
     Ok(left.disk)
 }
 
-// Whether the next boot finds an image after a cut.
+/// Whether the next boot finds an image after a cut.
 fn image_after_cut(alloc: Global, disk: SimDisk, fill: u8) -> Result<bool, Refusal> {
     let disk = disk.after_cut(Choice::Byte(fill));
     let board = powered(alloc, disk, BootMode::Keep, &Payloads::new(alloc))?;
     Ok(board.found().image.is_some())
 }
 
-// Discard writes the record that the gate of the standing image, 1, does not select: gate 0 has no image.
+/// Discard writes the record that the gate of the standing image, 1, does not select: gate 0 has no image.
 #[test]
 fn a_discard_that_fails_refuses_the_boot(rt: HostRuntime) -> Result<(), Fail> {
     for (call, want, fill, stands) in [

@@ -9,7 +9,7 @@ use std::process::Abort;
 use std::test::Fail;
 use std::thread::Threads;
 
-// ADDI x10, x10, 1, 256 times
+/// ADDI x10, x10, 1, 256 times
 fn payload() -> [u8; 1024] {
     let mut bytes = [0; 1024];
     for word in 0..256 {
@@ -35,7 +35,7 @@ fn largest(alloc: Global) -> Result<Board<SimDisk>, Fail> {
     Ok(powered(alloc, disk, BootMode::Fresh, &payloads)?)
 }
 
-// Hart 0 runs its payload to the end, and hart 7 was never started.
+/// Hart 0 runs its payload to the end, and hart 7 was never started.
 fn runs<R: AllocGlobal + Threads + Sync + Abort>(rt: &R, board: &mut Board<SimDisk>) {
     same(rt, turns(rt, board, 0, 256), Some((256, NEXT)));
     same(rt, shown(board, 0), Some((256, 0, RAM_BASE + 1024)));

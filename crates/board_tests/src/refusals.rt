@@ -10,12 +10,12 @@ use std::alloc::Global;
 use std::process::Abort;
 use std::test::Fail;
 
-// Payloads that one page of RAM does not hold, in a slot that no test boots.
+/// Payloads that one page of RAM does not hold, in a slot that no test boots.
 fn too_long(alloc: Global) -> Result<Payloads, Fail> {
     one_payload(alloc, 2, &[0; 4097])
 }
 
-// What a power-on is refused, after which the next open finds what it found.
+/// What a power-on is refused, after which the next open finds what it found.
 fn refusal(
     rt: &impl Abort,
     alloc: Global,
@@ -33,7 +33,7 @@ fn refusal(
     Ok(left.refusal)
 }
 
-// What a power-on over a formatted disk is refused.
+/// What a power-on over a formatted disk is refused.
 fn without_image(
     rt: &impl Abort,
     alloc: Global,
@@ -43,7 +43,7 @@ fn without_image(
     refusal(rt, alloc, formatted(alloc, 1)?, mode, payloads)
 }
 
-// What a power-on over a disk with an image is refused.
+/// What a power-on over a disk with an image is refused.
 fn over_image(
     rt: &impl Abort,
     alloc: Global,
@@ -83,7 +83,7 @@ fn an_image_comes_before_the_payloads(rt: HostRuntime) -> Result<(), Fail> {
     Ok(())
 }
 
-// The area of this image has no places that are in form: it reads as no memory.
+/// The area of this image has no places that are in form: it reads as no memory.
 #[test]
 fn an_image_without_its_memory_is_refused(rt: HostRuntime) -> Result<(), Fail> {
     let payloads = Payloads::new(rt.alloc());
@@ -92,7 +92,7 @@ fn an_image_without_its_memory_is_refused(rt: HostRuntime) -> Result<(), Fail> {
     Ok(())
 }
 
-// An open of so many sectors of zeros is refused so, and nothing was found.
+/// An open of so many sectors of zeros is refused so, and nothing was found.
 fn open_refused(rt: &impl Abort, alloc: Global, sectors: usize, want: Refusal) -> Result<(), Fail> {
     let payloads = too_long(alloc)?;
     let disk = SimDisk::blank(alloc, sectors)?;
@@ -109,7 +109,7 @@ fn the_open_is_refused_first(rt: HostRuntime) -> Result<(), Fail> {
     open_refused(&rt, rt.alloc(), 0, Refusal::BadShape)
 }
 
-// Where the board is off, memory was refused it, and the states that the open found are told.
+/// Where the board is off, memory was refused it, and the states that the open found are told.
 fn told(rt: &impl Abort, powered: Result<Board<SimDisk>, Unpowered<SimDisk>>) {
     if let Err(left) = powered {
         same(rt, left.refusal, Refusal::Memory);
@@ -118,8 +118,8 @@ fn told(rt: &impl Abort, powered: Result<Board<SimDisk>, Unpowered<SimDisk>>) {
     }
 }
 
-// By hand: with `rt try --test --fail-alloc N` for each N this fails where the open itself is refused its journal, and at no
-// other N, since a board that is refused memory after a good open tells what the open found.
+/// By hand: with `rt try --test --fail-alloc N` for each N this fails where the open itself is refused its journal, and at no
+/// other N, since a board that is refused memory after a good open tells what the open found.
 #[test]
 fn memory_refused_after_the_open_tells_what_it_found(rt: HostRuntime) -> Result<(), Fail> {
     let payloads = Payloads::new(rt.alloc());

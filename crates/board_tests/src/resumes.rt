@@ -45,12 +45,12 @@ fn four_pages(alloc: Global, payloads: &Payloads) -> Result<Board<SimDisk>, Fail
     Ok(powered(alloc, disk, BootMode::Fresh, payloads)?)
 }
 
-// Payloads of which slot 0 suspends the board.
+/// Payloads of which slot 0 suspends the board.
 fn suspending(alloc: Global) -> Result<Payloads, Fail> {
     one_payload(alloc, 0, &SUSPENDS)
 }
 
-// The memory of a board that was suspended by its program: the program, the address that it wrote, and zeros at the end.
+/// The memory of a board that was suspended by its program: the program, the address that it wrote, and zeros at the end.
 fn holds_its_memory(rt: &impl Abort, board: &Board<SimDisk>) {
     let ram = board.ram();
     same(rt, ram.bytes().len(), 4 * 4096);
@@ -68,7 +68,7 @@ fn holds_its_memory(rt: &impl Abort, board: &Board<SimDisk>) {
     same(rt, ram.load(RAM_BASE + 0x3ff8, Width::Double), Ok(0));
 }
 
-// The image was found, and is consumed: it is the first command of this life.
+/// The image was found, and is consumed: it is the first command of this life.
 fn consumed(rt: &impl Abort, board: &mut Board<SimDisk>) {
     let found = Some((0, u64::MAX));
     same(rt, numbers(board.found()), (found, 0, Reason::NoReason, 1));
@@ -76,7 +76,7 @@ fn consumed(rt: &impl Abort, board: &mut Board<SimDisk>) {
     same(rt, set_slot(board, 1), Ok(2));
 }
 
-// A hart is STOPPED, as another one that runs is told: it makes no turn.
+/// A hart is STOPPED, as another one that runs is told: it makes no turn.
 fn stopped<R: AllocGlobal + thread::Threads + Sync + Abort>(
     rt: &R,
     board: &mut Board<SimDisk>,
@@ -92,7 +92,7 @@ fn stopped<R: AllocGlobal + thread::Threads + Sync + Abort>(
     );
 }
 
-// Hart 0 suspends the board while an interrupt is pending for hart 1, by that crew, and the board is resumed.
+/// Hart 0 suspends the board while an interrupt is pending for hart 1, by that crew, and the board is resumed.
 fn suspended_and_resumed<R: AllocGlobal + thread::Threads + Sync + Abort, C: Crew>(
     rt: &R,
     crew: &C,
@@ -105,7 +105,7 @@ fn suspended_and_resumed<R: AllocGlobal + thread::Threads + Sync + Abort, C: Cre
     Ok(powered(rt.alloc(), board.into_disk(), BootMode::Resume, &payloads)?)
 }
 
-// It goes on with its memory and its hart, and nothing else of it runs or is pending.
+/// It goes on with its memory and its hart, and nothing else of it runs or is pending.
 fn resumes<R: AllocGlobal + thread::Threads + Sync + Abort, C: Crew>(
     rt: &R,
     crew: &C,
@@ -140,7 +140,7 @@ fn a_board_resumes_on_threads(rt: HostRuntime) -> Result<(), Fail> {
     resumes(&rt, &Threads::new(&rt))
 }
 
-// Hart 0 starts hart 1 at the program and stops; hart 1 suspends the board, and is the hart that goes on.
+/// Hart 0 starts hart 1 at the program and stops; hart 1 suspends the board, and is the hart that goes on.
 #[test]
 fn the_hart_that_suspended_goes_on(rt: HostRuntime) -> Result<(), Fail> {
     let payloads = suspending(rt.alloc())?;
@@ -161,7 +161,7 @@ fn the_hart_that_suspended_goes_on(rt: HostRuntime) -> Result<(), Fail> {
     Ok(())
 }
 
-// A board of one hart and one page that was suspended by a call, whose disk is given.
+/// A board of one hart and one page that was suspended by a call, whose disk is given.
 fn asleep<R: AllocGlobal + thread::Threads + Sync + Abort>(rt: &R) -> Result<SimDisk, Fail>
     ensures { IfOk result (λ disk. (⟦<SimDisk as Disk>⟧.facts disk).lent.lanes ≡ 0) }
 {
@@ -173,7 +173,7 @@ fn asleep<R: AllocGlobal + thread::Threads + Sync + Abort>(rt: &R) -> Result<Sim
     Ok(board.into_disk())
 }
 
-// The payloads are checked in this mode too, though none is booted; and nothing was loaded or consumed then.
+/// The payloads are checked in this mode too, though none is booted; and nothing was loaded or consumed then.
 #[test]
 fn payloads_come_before_the_image(rt: HostRuntime) -> Result<(), Fail> {
     let disk = asleep(&rt)?;
@@ -190,7 +190,7 @@ fn payloads_come_before_the_image(rt: HostRuntime) -> Result<(), Fail> {
     Ok(())
 }
 
-// Whether the image stands after a resume that was refused so, since that fault struck it, and a cut: an open makes 4 calls of the disk, a load of one page 2, and Consume 4: the record, a sync, the gate, a sync.
+/// Whether the image stands after a resume that was refused so, since that fault struck it, and a cut: an open makes 4 calls of the disk, a load of one page 2, and Consume 4: the record, a sync, the gate, a sync.
 fn unresumed<R: AllocGlobal + thread::Threads + Sync + Abort>(
     rt: &R,
     fault: ArmedFault,
@@ -208,7 +208,7 @@ fn unresumed<R: AllocGlobal + thread::Threads + Sync + Abort>(
     Ok(board.found().image.is_some())
 }
 
-// The gate of a board that was suspended once is 1; Consume writes the other record, and a gate of 0.
+/// The gate of a board that was suspended once is 1; Consume writes the other record, and a gate of 0.
 #[test]
 fn a_resume_that_fails_keeps_its_image_but_for_the_gate(rt: HostRuntime) -> Result<(), Fail> {
     for (call, want, fill, stands) in [

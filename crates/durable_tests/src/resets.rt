@@ -15,7 +15,7 @@ fn reset(kind: u64, reason: u64) -> Asked {
     }
 }
 
-// Type above 2: -3. Reason other than 0 and 1: -3. Type 2: -2. Each by the low 32 bits of its register.
+/// Type above 2: -3. Reason other than 0 and 1: -3. Type 2: -2. Each by the low 32 bits of its register.
 #[test]
 fn the_arguments_are_checked_in_order(rt: HostRuntime) -> Result<(), Fail> {
     let crew: Turns<HostRuntime> = Turns::new([0, 1, 2, 3])?;
@@ -37,8 +37,8 @@ fn the_arguments_are_checked_in_order(rt: HostRuntime) -> Result<(), Fail> {
     Ok(())
 }
 
-// Shutdown and cold reboot with either reason: the durable state has the reason, the hart stays at its call, and the life is
-// over, so that another one is refused by the store.
+/// Shutdown and cold reboot with either reason: the durable state has the reason, the hart stays at its call, and the life is
+/// over, so that another one is refused by the store.
 #[test]
 fn a_reset_ends_the_life(rt: HostRuntime) -> Result<(), Fail> {
     let crew: Turns<HostRuntime> = Turns::new([0, 1, 2, 3])?;
@@ -65,7 +65,7 @@ fn a_reset_ends_the_life(rt: HostRuntime) -> Result<(), Fail> {
     Ok(())
 }
 
-// A failure before the gate is written leaves the life, so that the next reset is made; one at the gate leaves it down.
+/// A failure before the gate is written leaves the life, so that the next reset is made; one at the gate leaves it down.
 #[test]
 fn what_the_store_refuses_is_minus_1(rt: HostRuntime) -> Result<(), Fail> {
     let crew: Turns<HostRuntime> = Turns::new([0, 1, 2, 3])?;
@@ -87,7 +87,7 @@ fn what_the_store_refuses_is_minus_1(rt: HostRuntime) -> Result<(), Fail> {
     Ok(())
 }
 
-// The call after a life that took so many commands.
+/// The call after a life that took so many commands.
 fn after_slots<R: Threads + Sync>(
     alloc: Global,
     crew: &Turns<R>,
@@ -101,7 +101,7 @@ fn after_slots<R: Threads + Sync>(
     ask(alloc, &mut store, crew, Other::Stopped, asked)
 }
 
-// A life that took 4,096 commands takes no reset.
+/// A life that took 4,096 commands takes no reset.
 #[test]
 fn a_full_journal_is_minus_1(rt: HostRuntime) -> Result<(), Fail> {
     let crew: Turns<HostRuntime> = Turns::new([0, 1, 2, 3])?;

@@ -66,7 +66,7 @@ pub fn opened(alloc: Global) -> Result<Store<SimDisk>, Refusal> {
     }
 }
 
-// Hart 1, as it is to be; hart 0 is STARTED.
+/// Hart 1, as it is to be; hart 0 is STARTED.
 fn set_other(table: &HartTable, seat: HartSeat, zero: HartId, one: HartId, other: Other) -> HartSeat
     requires seat { IsSeatOf table.now seat }
     requires apart { zero ≢ one }
@@ -94,7 +94,7 @@ fn set_other(table: &HartTable, seat: HartSeat, zero: HartId, one: HartId, other
     hsm::suspend(table, seat, one)
 }
 
-// The hart at its call, with bits above each register's low 32 bits where the call has them.
+/// The hart at its call, with bits above each register's low 32 bits where the call has them.
 fn asking(id: HartId, asked: Asked) -> Hart
     ensures { result.id ≡ id }
 {
@@ -106,7 +106,7 @@ fn asking(id: HartId, asked: Asked) -> Hart
     hart
 }
 
-// The call made on these tables.
+/// The call made on these tables.
 fn made<R: Threads + Sync>(
     alloc: Global,
     seats: Seats,

@@ -23,7 +23,7 @@ fn suspend(kind: u64, address: u64, opaque: u64) -> Asked {
     }
 }
 
-// Type 0: -2. Any type but suspend to disk: -3. Then the address: -5. Then another hart that is not STOPPED: -4.
+/// Type 0: -2. Any type but suspend to disk: -3. Then the address: -5. Then another hart that is not STOPPED: -4.
 #[test]
 fn the_checks_are_made_in_order(rt: HostRuntime) -> Result<(), Fail> {
     let crew: Turns<HostRuntime> = Turns::new([0, 1, 2, 3])?;
@@ -49,7 +49,7 @@ fn the_checks_are_made_in_order(rt: HostRuntime) -> Result<(), Fail> {
     Ok(())
 }
 
-// The image of serial 0 of hart 0, resumed at that address with that value in a1.
+/// The image of serial 0 of hart 0, resumed at that address with that value in a1.
 fn image(address: u64, opaque: u64) -> Option<ImageHead> {
     Some(ImageHead {
         serial: 0,
@@ -59,7 +59,7 @@ fn image(address: u64, opaque: u64) -> Option<ImageHead> {
     })
 }
 
-// Once asleep the image stands with its head, the hart stays at its call, and the life is over.
+/// Once asleep the image stands with its head, the hart stays at its call, and the life is over.
 #[test]
 fn asleep_after_the_command(rt: HostRuntime) -> Result<(), Fail> {
     let crew: Turns<HostRuntime> = Turns::new([0, 1, 2, 3])?;
@@ -77,8 +77,8 @@ fn asleep_after_the_command(rt: HostRuntime) -> Result<(), Fail> {
     Ok(())
 }
 
-// Of the disk, a suspend makes five calls: the sync of the area, and the four of a commit. Of lane 0, two for its page. A
-// failure before the gate leaves the life: the quiet has ended, and the same call then puts the board to sleep.
+/// Of the disk, a suspend makes five calls: the sync of the area, and the four of a commit. Of lane 0, two for its page. A
+/// failure before the gate leaves the life: the quiet has ended, and the same call then puts the board to sleep.
 #[test]
 fn what_the_store_refuses_is_minus_1(rt: HostRuntime) -> Result<(), Fail> {
     let crew: Turns<HostRuntime> = Turns::new([0, 1, 2, 3])?;
@@ -101,7 +101,7 @@ fn what_the_store_refuses_is_minus_1(rt: HostRuntime) -> Result<(), Fail> {
     Ok(())
 }
 
-// A board of two harts that hart 0 suspended, with 9 for its opaque value, opened again.
+/// A board of two harts that hart 0 suspended, with 9 for its opaque value, opened again.
 fn with_image<R: Threads + Sync>(
     alloc: Global,
     crew: &Turns<R>,
@@ -115,7 +115,7 @@ fn with_image<R: Threads + Sync>(
     }
 }
 
-// What a wake answers under that fault, and then once more; the durable state after each.
+/// What a wake answers under that fault, and then once more; the durable state after each.
 fn woken_twice<R: Threads + Sync>(
     alloc: Global,
     crew: &Turns<R>,
@@ -131,7 +131,7 @@ fn woken_twice<R: Threads + Sync>(
     Ok((first, after_first, second, store.now()))
 }
 
-// The hart of the image, and whether each byte of the memory is 7.
+/// The hart of the image, and whether each byte of the memory is 7.
 fn woken<R: Threads + Sync>(alloc: Global, crew: &Turns<R>) -> Result<(Hart, bool), Refusal> {
     let mut store = with_image(alloc, crew)?;
     let mut ram = Ram::new(alloc, Shape::new(2, 1, 1)?)?;
@@ -139,7 +139,7 @@ fn woken<R: Threads + Sync>(alloc: Global, crew: &Turns<R>) -> Result<(Hart, boo
     Ok((hart, ram.bytes().iter().all(|byte| *byte == 7)))
 }
 
-// The hart is as one that starts, and the memory that of the suspension.
+/// The hart is as one that starts, and the memory that of the suspension.
 #[test]
 fn a_board_wakes(rt: HostRuntime) -> Result<(), Fail> {
     let crew: Turns<HostRuntime> = Turns::new([0, 1, 2, 3])?;
@@ -157,8 +157,8 @@ fn a_board_wakes(rt: HostRuntime) -> Result<(), Fail> {
     Ok(())
 }
 
-// Two reads load the one page, and four calls consume the image. What is refused leaves the image, which wakes the board once
-// the disk is well; at the gate the fate of the image is in doubt. A board wakes once, and not into a memory of another size.
+/// Two reads load the one page, and four calls consume the image. What is refused leaves the image, which wakes the board once
+/// the disk is well; at the gate the fate of the image is in doubt. A board wakes once, and not into a memory of another size.
 #[test]
 fn a_refused_wake_leaves_the_image(rt: HostRuntime) -> Result<(), Fail> {
     let crew: Turns<HostRuntime> = Turns::new([0, 1, 2, 3])?;
@@ -187,7 +187,7 @@ fn a_refused_wake_leaves_the_image(rt: HostRuntime) -> Result<(), Fail> {
     Ok(())
 }
 
-// Without an image, and in the life that the suspension ended.
+/// Without an image, and in the life that the suspension ended.
 fn unwoken<R: Threads + Sync>(
     alloc: Global,
     crew: &Turns<R>,

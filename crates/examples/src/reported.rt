@@ -58,7 +58,7 @@ pub fn compare_report<'a, C: Crew>(
     Ok(AsReported { name })
 }
 
-// The first line, from 1, in which the one differs from the other.
+/// The first line, from 1, in which the one differs from the other.
 fn first_line_apart(one: &[u8], other: &[u8]) -> usize {
     let same = one.iter().zip(other).take_while(|(a, b)| *a == *b);
     let ends = same.filter(|(a, _)| **a == b'\n').count();

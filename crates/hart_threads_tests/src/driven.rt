@@ -18,7 +18,7 @@ const SLEEPER: [u8; 32] = [
     0x13, 0x08, 0x00, 0x00, 0xb7, 0x58, 0x55, 0x53, 0x93, 0x88, 0x08, 0x35, 0x73, 0x00, 0x00, 0x00,
 ];
 
-// The store of that disk, opened again.
+/// The store of that disk, opened again.
 fn opened(alloc: Global, disk: SimDisk) -> Result<Store<SimDisk>, Fail>
     requires { IsIdle (⟦<SimDisk as Disk>⟧.facts disk) }
 {
@@ -28,7 +28,7 @@ fn opened(alloc: Global, disk: SimDisk) -> Result<Store<SimDisk>, Fail>
     }
 }
 
-// Whether the bytes are the code, and zeros behind it.
+/// Whether the bytes are the code, and zeros behind it.
 fn is_code(bytes: &[u8], code: &[u8]) -> bool {
     bytes.starts_with(code) && bytes.iter().skip(code.len()).all(|b| *b == 0)
 }

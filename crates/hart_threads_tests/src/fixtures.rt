@@ -36,7 +36,7 @@ pub fn formatted(alloc: Global, shape: &Shape) -> Result<SimDisk, Fail>
     Ok(disk)
 }
 
-// Slot 0 boots these bytes, and the other slots nothing.
+/// Slot 0 boots these bytes, and the other slots nothing.
 fn booting(alloc: Global, payload: &[u8]) -> Result<Payloads, Fail> {
     let mut bytes = Vec::new(alloc);
     bytes.extend_from_slice(payload)?;

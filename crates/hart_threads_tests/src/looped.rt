@@ -25,7 +25,7 @@ impl Gate for ShutAt {
     fn after(&self, _hart: HartId, _turn: u64) {}
 }
 
-// The loops of a board's harts, one after another: how many turns each made, why it ended, and the hart's pc then.
+/// The loops of a board's harts, one after another: how many turns each made, why it ended, and the hart's pc then.
 fn looped<R: Threads + Wait + Sync, G: Gate>(
     rt: &R,
     alloc: Global,

@@ -20,7 +20,7 @@ struct Meeting<'a, R> {
     missed: AtomicBool,
 }
 
-// How many calls of that name a hart has made.
+/// How many calls of that name a hart has made.
 fn calls_of(places: &[AtomicU64; 2], hart: usize) -> u64 {
     places[hart % 2].load(Ordering::SeqCst)
 }
@@ -39,7 +39,7 @@ impl<'a, R: Clock> Meeting<'a, R> {
         self.missed.load(Ordering::SeqCst)
     }
 
-    // Says that this hart has come so far, and waits until the other has.
+    /// Says that this hart has come so far, and waits until the other has.
     fn meet(&self, places: &[AtomicU64; 2], hart: HartId, turn: u64) {
         let mine = hart.index() % 2;
         let so_far = turn.wrapping_add(1);

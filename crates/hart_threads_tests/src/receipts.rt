@@ -11,7 +11,7 @@ use store::Store;
 /// How many commands a thread issues.
 const COMMANDS: usize = 100;
 
-// Issues the command that sets that slot, so many times: the receipts, 0 in the place of one that was refused.
+/// Issues the command that sets that slot, so many times: the receipts, 0 in the place of one that was refused.
 fn issue<R: Wait>(rt: &R, store: &Mutex<Store<SimDisk>>, slot: u32) -> [u32; COMMANDS] {
     let mut receipts = [0; COMMANDS];
     for receipt in receipts.iter_mut() {
@@ -22,7 +22,7 @@ fn issue<R: Wait>(rt: &R, store: &Mutex<Store<SimDisk>>, slot: u32) -> [u32; COM
     receipts
 }
 
-// The receipts of a thread that sets slot 1, and of one that sets slot 2.
+/// The receipts of a thread that sets slot 1, and of one that sets slot 2.
 fn issue_both<R: Threads + Wait + Sync>(
     rt: &R,
     store: &Mutex<Store<SimDisk>>,
@@ -34,7 +34,7 @@ fn times(receipts: &[u32], number: u32) -> usize {
     receipts.iter().filter(|n| **n == number).count()
 }
 
-// Whether the journal has that command at the place of each receipt.
+/// Whether the journal has that command at the place of each receipt.
 fn are_of(store: &Store<SimDisk>, receipts: &[u32], slot: u32) -> bool {
     let wanted = Some(Entry::Command(Command::Slot(slot)));
     receipts.iter().all(|n| store.entry(*n) == wanted)

@@ -10,7 +10,7 @@ use simdisk::Choice;
 use std::alloc::Global;
 use std::test::Fail;
 
-// Five pages written through so many lanes: how many places are in use, and whether a cut leaves the memory.
+/// Five pages written through so many lanes: how many places are in use, and whether a cut leaves the memory.
 fn written<C: Crew>(alloc: Global, crew: &C, lanes: u64) -> Result<(LaneCounts, bool), Refusal> {
     let mut site = Site::new(alloc, 5, lanes)?;
     let counts = site.write(alloc, crew, Side::first(), 9, 7)?;
@@ -44,8 +44,8 @@ fn threads_write_the_memory(rt: HostRuntime) -> Result<(), Fail> {
     Ok(())
 }
 
-// Two pages in two lanes, written under that fault; then, where it was refused, once more. What the first write answered,
-// whether the fault is still to strike, and whether the memory stands in the end.
+/// Two pages in two lanes, written under that fault; then, where it was refused, once more. What the first write answered,
+/// whether the fault is still to strike, and whether the memory stands in the end.
 fn written_under<C: Crew>(
     alloc: Global,
     crew: &C,
@@ -61,7 +61,7 @@ fn written_under<C: Crew>(
     Ok((refusal, left, holds))
 }
 
-// Of the disk, a write makes one call, the sync; of each lane two calls for each of its pages.
+/// Of the disk, a write makes one call, the sync; of each lane two calls for each of its pages.
 #[test]
 fn a_failure_is_refused_and_the_next_write_stands(rt: HostRuntime) -> Result<(), Fail> {
     let turns: Turns<HostRuntime> = Turns::new([2, 0, 3, 1])?;
@@ -80,8 +80,8 @@ fn a_failure_is_refused_and_the_next_write_stands(rt: HostRuntime) -> Result<(),
     Ok(())
 }
 
-// An image in one area, and a second one into the other, whose lane is cut at that call. What the write answered, what a
-// read of its area answers after the cut, and whether the first image stands.
+/// An image in one area, and a second one into the other, whose lane is cut at that call. What the write answered, what a
+/// read of its area answers after the cut, and whether the first image stands.
 fn cut_beside<C: Crew>(
     alloc: Global,
     crew: &C,

@@ -11,7 +11,7 @@ use std::time::{Clock, Duration};
 
 const MOST_SLEEPS: u32 = 10_000;
 
-// Says that one more has begun, and waits for the other, a millisecond at a time.
+/// Says that one more has begun, and waits for the other, a millisecond at a time.
 fn begin<R: Clock>(clock: &R, begun: &AtomicU64, missed: &AtomicBool) {
     begun.fetch_add(1, Ordering::SeqCst);
     for _ in 0..MOST_SLEEPS {
@@ -23,7 +23,7 @@ fn begin<R: Clock>(clock: &R, begun: &AtomicU64, missed: &AtomicBool) {
     missed.store(true, Ordering::SeqCst);
 }
 
-// Whether each of two jobs saw the other begin.
+/// Whether each of two jobs saw the other begin.
 fn both_begin<R: Clock + Sync, C: Crew>(clock: &R, crew: &C) -> bool {
     let begun = AtomicU64::new(0);
     let missed = AtomicBool::new(false);
@@ -85,7 +85,7 @@ impl<C: Crew> Crew for Counting<C> {
     }
 }
 
-// What a write of an area in two lanes asks of its crew.
+/// What a write of an area in two lanes asks of its crew.
 fn asked<C: Crew + Drop>(alloc: Global, crew: C) -> Result<(u64, u64, u64), Refusal> {
     let crew = Counting::new(crew);
     let mut site = Site::new(alloc, 2, 2)?;
@@ -101,7 +101,7 @@ fn one_list_of_two_jobs(rt: HostRuntime) -> Result<(), Fail> {
     Ok(())
 }
 
-// What an order is refused.
+/// What an order is refused.
 fn refused<R: thread::Threads + Sync>(_rt: &R, order: [usize; 4]) -> Option<Refusal> {
     Turns::<R>::new(order).err()
 }

@@ -24,7 +24,7 @@ pub struct Site {
     ghost enough: { sectors_of shape ≤ length (⟦<SimDisk as Disk>⟧.facts disk).content },
 }
 
-// A memory in which page k is filled with the byte k after the first.
+/// A memory in which page k is filled with the byte k after the first.
 fn memory(alloc: Global, shape: &Shape, first: u8) -> Result<Ram, Refusal>
     ensures { IfOk result (λ ram. length ram ≡ ram_bytes_of shape.now) }
 {
@@ -41,7 +41,7 @@ fn memory(alloc: Global, shape: &Shape, first: u8) -> Result<Ram, Refusal>
     Ok(ram)
 }
 
-// A record with an image in that area.
+/// A record with an image in that area.
 fn record(area: Side, serial: u64, counts: LaneCounts) -> Option<Record> {
     let head = ImageHead {
         serial,
@@ -57,7 +57,7 @@ fn record(area: Side, serial: u64, counts: LaneCounts) -> Option<Record> {
     })
 }
 
-// What such a record keeps of the image, which is refused where no board of that shape has such counts.
+/// What such a record keeps of the image, which is refused where no board of that shape has such counts.
 fn saved(shape: &Shape, area: Side, serial: u64, counts: LaneCounts) -> Result<Saved, Refusal>
     ensures { IfOk result (λ saved. AreCounts shape.now saved.counts) }
 {
@@ -75,7 +75,7 @@ impl Site {
         Site::over(shape, disk)
     }
 
-    // That disk, which is refused where it is too small.
+    /// That disk, which is refused where it is too small.
     fn over(shape: Shape, disk: SimDisk) -> Result<Site, Refusal>
         requires { (⟦<SimDisk as Disk>⟧.facts disk).lent.lanes ≡ 0 }
     {

@@ -11,19 +11,19 @@ use std::test::Fail;
 
 const TWO: LaneCounts = [2, 0, 0, 0];
 
-// Two pages in one lane, under serial 7.
+/// Two pages in one lane, under serial 7.
 fn two_pages<C: Crew>(alloc: Global, crew: &C) -> Result<Site, Refusal> {
     let mut site = Site::new(alloc, 2, 1)?;
     site.write(alloc, crew, Side::first(), 9, 7)?;
     Ok(site)
 }
 
-// What a read of that area answers: whether it is the memory that was written.
+/// What a read of that area answers: whether it is the memory that was written.
 fn read(alloc: Global, site: &mut Site) -> Result<bool, Refusal> {
     site.holds(alloc, Side::first(), 9, 7, TWO)
 }
 
-// Changes a byte, reads, and puts the byte back.
+/// Changes a byte, reads, and puts the byte back.
 fn read_poked(
     alloc: Global,
     site: &mut Site,
@@ -37,7 +37,7 @@ fn read_poked(
     answer
 }
 
-// Each byte of the first header as 0xff.
+/// Each byte of the first header as 0xff.
 #[test]
 fn each_byte_of_a_header_counts(rt: HostRuntime) -> Result<(), Fail> {
     let turns: Turns<HostRuntime> = Turns::new([0, 1, 2, 3])?;
@@ -50,7 +50,7 @@ fn each_byte_of_a_header_counts(rt: HostRuntime) -> Result<(), Fail> {
     Ok(())
 }
 
-// A page that came before, one that the board lacks, the serial of the image before; and data, in which any byte may stand.
+/// A page that came before, one that the board lacks, the serial of the image before; and data, in which any byte may stand.
 #[test]
 fn pages_come_once_each_under_the_serial(rt: HostRuntime) -> Result<(), Fail> {
     let bad = Err(Refusal::BadImage);
@@ -76,7 +76,7 @@ fn pages_come_once_each_under_the_serial(rt: HostRuntime) -> Result<(), Fail> {
     Ok(())
 }
 
-// Counts that a record may have, of which only the first are those of the write.
+/// Counts that a record may have, of which only the first are those of the write.
 #[test]
 fn counts_that_lie(rt: HostRuntime) -> Result<(), Fail> {
     let turns: Turns<HostRuntime> = Turns::new([0, 1, 2, 3])?;
@@ -97,8 +97,8 @@ fn counts_that_lie(rt: HostRuntime) -> Result<(), Fail> {
     Ok(())
 }
 
-// What a read answers whose call of that number fails, and whether that fault is still to strike. The byte stands in the
-// second header.
+/// What a read answers whose call of that number fails, and whether that fault is still to strike. The byte stands in the
+/// second header.
 fn read_failing<C: Crew>(
     alloc: Global,
     crew: &C,
@@ -112,7 +112,7 @@ fn read_failing<C: Crew>(
     Ok((answer, site.fails()))
 }
 
-// Four calls: header and page of each place. A header that is bad ends it, before its page is read.
+/// Four calls: header and page of each place. A header that is bad ends it, before its page is read.
 #[test]
 fn headers_are_read_before_pages(rt: HostRuntime) -> Result<(), Fail> {
     let turns: Turns<HostRuntime> = Turns::new([0, 1, 2, 3])?;

@@ -41,8 +41,8 @@ impl Filling {
         self.filled = end;
     }
 
-    #[tactic(auto, unfolding(crate::specs::Fields::number_bytes))]
     /// Adds a number of 4 bytes.
+    #[tactic(auto, unfolding(crate::specs::Fields::number_bytes))]
     pub fn u32(&mut self, number: u32)
         requires { length self.old + 4 ≤ 512 }
         ensures value { self.new ≡ self.old ++ number_bytes 4 number }
@@ -53,8 +53,8 @@ impl Filling {
         self.bytes(&bytes);
     }
 
-    #[tactic(auto, unfolding(crate::specs::Fields::number_bytes))]
     /// Adds a number of 8 bytes.
+    #[tactic(auto, unfolding(crate::specs::Fields::number_bytes))]
     pub fn u64(&mut self, number: u64)
         requires { length self.old + 8 ≤ 512 }
         ensures value { self.new ≡ self.old ++ number_bytes 8 number }

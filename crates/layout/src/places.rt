@@ -39,7 +39,7 @@ pub fn parse_place_head(sector: &[u8; 512], shape: &Shape) -> Result<PlaceHead, 
     Ok(head)
 }
 
-// The header that the numbers of the sector make, where the board has the page.
+/// The header that the numbers of the sector make, where the board has the page.
 fn head_in(sector: &[u8; 512], shape: &Shape) -> Option<PlaceHead>
     ensures in_range { IfSome result (λ head. (head.page < shape.now.pages) × FitAll (place_fields head)) }
     ensures exact { (head : PlaceHead) → IsPlaceHead shape.now head sector.now → result ≡ Some head }

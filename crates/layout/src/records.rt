@@ -84,7 +84,7 @@ pub fn record_bytes(r: &Record) -> [u8; 512]
     sector.finish()
 }
 
-// The first 24 bytes.
+/// The first 24 bytes.
 fn head_of(r: &Record) -> Filling
     ensures value { result ≡ fields_bytes (head_fields r.now) }
     ensures length { length result ≡ 24 }
@@ -107,7 +107,7 @@ fn presence_of(image: &Option<Saved>) -> u32
     }
 }
 
-// The image's 48 bytes.
+/// The image's 48 bytes.
 fn fill_saved(sector: &mut Filling, saved: &Saved)
     requires { length sector.old ≡ 24 }
     ensures { sector.new ≡ sector.old ++ fields_bytes (saved_fields saved.now) }
@@ -138,7 +138,7 @@ pub fn parse_record(sector: &[u8; 512], shape: &Shape) -> Result<Record, Refusal
     Ok(found)
 }
 
-// The record that the numbers of the sector make, where each is in its range.
+/// The record that the numbers of the sector make, where each is in its range.
 fn record_in(sector: &[u8; 512], shape: &Shape) -> Option<Record>
     ensures in_range { IfSome result (λ r. IsInRange shape.now r) }
     ensures exact { (r : Record) → IsRecord shape.now r sector.now → result ≡ Some r }
@@ -170,7 +170,7 @@ fn reason_of(number: u32) -> Option<Reason>
     }
 }
 
-// What the numbers of the sector keep of an image, where each is in its range.
+/// What the numbers of the sector keep of an image, where each is in its range.
 fn saved_in(sector: &[u8; 512], shape: &Shape, next: u64) -> Option<Saved>
     ensures in_range { IfSome result (λ s. IsSaved shape.now next s) }
     ensures exact { (s : Saved) → IsSaved shape.now next s → StandsIn sector.now s → result ≡ Some s }
@@ -193,7 +193,7 @@ fn saved_in(sector: &[u8; 512], shape: &Shape, next: u64) -> Option<Saved>
     Some(Saved { head, area, counts })
 }
 
-// The counts of pages in lanes 0 to 3.
+/// The counts of pages in lanes 0 to 3.
 fn counts_in(sector: &[u8; 512]) -> [u32; 4]
     ensures zero { slice_index result 0 ≡ number_at 4 56 sector.now }
     ensures one { slice_index result 1 ≡ number_at 4 60 sector.now }
@@ -209,7 +209,7 @@ fn counts_in(sector: &[u8; 512]) -> [u32; 4]
     ]
 }
 
-// Whether so many pages stand in each lane: none where the board lacks it, and all of them together.
+/// Whether so many pages stand in each lane: none where the board lacks it, and all of them together.
 fn are_counts(counts: &[u32; 4], shape: &Shape) -> bool
     ensures { IsTrue result ↔ AreCounts shape.now counts.now }
 {

@@ -45,7 +45,7 @@ pub fn parse_superblock(sector: &[u8; 512], sectors: usize) -> Result<Shape, Ref
     Ok(shape)
 }
 
-// The shape that the numbers of the sector make.
+/// The shape that the numbers of the sector make.
 fn shape_in(sector: &[u8; 512]) -> Result<Shape, Refusal>
     ensures exact { (size : Size) → IsSuperblock size sector.now → result ≡ Ok size }
     ensures refused { IfErr result (λ e. e ≡ Refusal.BadShape) }

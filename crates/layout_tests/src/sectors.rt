@@ -10,24 +10,24 @@ use std::fmt::Debug;
 use std::process::Abort;
 use std::test::Fail;
 
-// These two have to be equal.
+/// These two have to be equal.
 fn same<T: PartialEq + Debug + Drop>(rt: &impl Abort, found: T, wanted: T) {
     assert_eq!(rt; found, wanted);
 }
 
-// The bytes of a sector from that place on.
+/// The bytes of a sector from that place on.
 fn holds(rt: &impl Abort, sector: &[u8; 512], from: usize, bytes: &[u8]) {
     assert!(rt; from <= 512 && bytes.len() <= 512 - from);
     assert_eq!(rt; &sector[from..from + bytes.len()], bytes);
 }
 
-// Zeros from that place of a sector to its end.
+/// Zeros from that place of a sector to its end.
 fn ends(rt: &impl Abort, sector: &[u8; 512], from: usize) {
     assert!(rt; from <= 512);
     assert!(rt; sector[from..].iter().all(|byte| *byte == 0));
 }
 
-// The sector with another byte at that place.
+/// The sector with another byte at that place.
 fn with_byte(sector: [u8; 512], place: usize, byte: u8) -> [u8; 512] {
     let mut other = sector;
     other[place % 512] = byte;
@@ -107,7 +107,7 @@ fn an_image_byte_by_byte(rt: HostRuntime) -> Result<(), Fail> {
     Ok(())
 }
 
-// Whether the record with another byte is refused, on a board of 2 harts, 5 pages and 3 lanes.
+/// Whether the record with another byte is refused, on a board of 2 harts, 5 pages and 3 lanes.
 fn is_refused(place: usize, byte: u8) -> Result<bool, Fail> {
     let record = a_record().ok_or("record")?;
     let sector = with_byte(record_bytes(&record), place, byte);
@@ -169,7 +169,7 @@ fn a_place_head_byte_by_byte(rt: HostRuntime) -> Result<(), Fail> {
     Ok(())
 }
 
-// A board of 5 pages and 4 lanes has 2 places in a lane: 18 sectors, 72 in an area.
+/// A board of 5 pages and 4 lanes has 2 places in a lane: 18 sectors, 72 in an area.
 #[test]
 fn where_lanes_begin(rt: HostRuntime) -> Result<(), Fail> {
     let shape = Shape::new(1, 5, 4)?;

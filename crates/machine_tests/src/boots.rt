@@ -17,7 +17,7 @@ fn booted(rt: &HostRuntime, payload: &[u8], reason: Reason) -> Result<Machine, F
     booted_for(rt.alloc(), 2, payload, reason)
 }
 
-// One turn of a hart that the board has.
+/// One turn of a hart that the board has.
 fn turn(machine: &mut Machine, number: u64) -> Option<Turned> {
     let id = HartId::new(number)?;
     if machine.has(id) {
@@ -27,7 +27,7 @@ fn turn(machine: &mut Machine, number: u64) -> Option<Turned> {
     }
 }
 
-// So many turns of a hart that the board has.
+/// So many turns of a hart that the board has.
 fn turns(machine: &mut Machine, number: u64, count: u32) -> Option<(u32, Turned)> {
     let id = HartId::new(number)?;
     if machine.has(id) && 1 <= count {
@@ -37,7 +37,7 @@ fn turns(machine: &mut Machine, number: u64, count: u32) -> Option<(u32, Turned)
     }
 }
 
-// What a0, a1 and the pc of a hart hold that the board has.
+/// What a0, a1 and the pc of a hart hold that the board has.
 fn shown(machine: &Machine, number: u64) -> Option<(u64, u64, u64)> {
     let id = HartId::new(number)?;
     if machine.has(id) {
@@ -48,7 +48,7 @@ fn shown(machine: &Machine, number: u64) -> Option<(u64, u64, u64)> {
     }
 }
 
-// What a hart that the board has reads of a register.
+/// What a hart that the board has reads of a register.
 fn csr(machine: &Machine, number: u64, register: u16) -> Option<u64> {
     let id = HartId::new(number)?;
     if machine.has(id) {
@@ -58,7 +58,7 @@ fn csr(machine: &Machine, number: u64, register: u16) -> Option<u64> {
     }
 }
 
-// ADDI x10, x0, 1
+/// ADDI x10, x0, 1
 #[test]
 fn a_hart_runs_its_payload(rt: HostRuntime) -> Result<(), Fail> {
     let mut machine = booted(&rt, &[0x13, 0x05, 0x10, 0x00], Reason::NoReason)?;
@@ -70,7 +70,7 @@ fn a_hart_runs_its_payload(rt: HostRuntime) -> Result<(), Fail> {
     Ok(())
 }
 
-// An empty RAM is an illegal instruction, and the trap vector 0 lies outside of RAM.
+/// An empty RAM is an illegal instruction, and the trap vector 0 lies outside of RAM.
 #[test]
 fn an_empty_slot_traps(rt: HostRuntime) -> Result<(), Fail> {
     let mut machine = booted(&rt, &[], Reason::NoReason)?;
@@ -83,7 +83,7 @@ fn an_empty_slot_traps(rt: HostRuntime) -> Result<(), Fail> {
     Ok(())
 }
 
-// ECALL: NOT_SUPPORTED is -2, and the value of an error is 0.
+/// ECALL: NOT_SUPPORTED is -2, and the value of an error is 0.
 #[test]
 fn a_call_is_not_supported(rt: HostRuntime) -> Result<(), Fail> {
     let mut machine = booted(&rt, &[0x73, 0, 0, 0], Reason::SystemFailure)?;
@@ -104,7 +104,7 @@ fn a_stopped_hart_is_idle(rt: HostRuntime) -> Result<(), Fail> {
     Ok(())
 }
 
-// ADDI x10, x10, 1 and JAL x0, -4: 1,001 turns are 501 additions.
+/// ADDI x10, x10, 1 and JAL x0, -4: 1,001 turns are 501 additions.
 #[test]
 fn many_turns_run_a_loop(rt: HostRuntime) -> Result<(), Fail> {
     let payload = [0x13, 0x05, 0x15, 0x00, 0x6f, 0xf0, 0xdf, 0xff];

@@ -55,7 +55,7 @@ fn answer(machine: &mut Machine, asks: Asks) -> Result<MachineLine, Fail> {
     }
 }
 
-// A board of so many harts and one empty page is asked these, and says that.
+/// A board of so many harts and one empty page is asked these, and says that.
 fn all_asked(
     rt: &impl Abort,
     alloc: Global,
@@ -71,7 +71,7 @@ fn all_asked(
     all_say(rt, alloc, &lines, text)
 }
 
-// A start is granted once, and a START_PENDING hart enters with its number and the opaque value.
+/// A start is granted once, and a START_PENDING hart enters with its number and the opaque value.
 #[test]
 fn a_hart_is_started_once(rt: HostRuntime) -> Result<(), Fail> {
     let asked = [
@@ -94,7 +94,7 @@ fn a_hart_is_started_once(rt: HostRuntime) -> Result<(), Fail> {
     )
 }
 
-// A mask that names a hart that is none sends nothing; an empty one does nothing; a base of all ones means all.
+/// A mask that names a hart that is none sends nothing; an empty one does nothing; a base of all ones means all.
 #[test]
 fn a_mask_with_a_hart_that_is_none_sends_nothing(rt: HostRuntime) -> Result<(), Fail> {
     let asked = [
@@ -115,7 +115,7 @@ fn a_mask_with_a_hart_that_is_none_sends_nothing(rt: HostRuntime) -> Result<(), 
     )
 }
 
-// A suspended hart wakes where an interrupt is pending for it, behind its call; the interrupt stays.
+/// A suspended hart wakes where an interrupt is pending for it, behind its call; the interrupt stays.
 #[test]
 fn a_suspended_hart_wakes_by_an_interrupt(rt: HostRuntime) -> Result<(), Fail> {
     let asked = [
@@ -137,7 +137,7 @@ fn a_suspended_hart_wakes_by_an_interrupt(rt: HostRuntime) -> Result<(), Fail> {
     )
 }
 
-// A hart that enters takes what is pending for it, and hart_suspend checks its type before its address.
+/// A hart that enters takes what is pending for it, and hart_suspend checks its type before its address.
 #[test]
 fn a_hart_that_enters_takes_its_interrupts(rt: HostRuntime) -> Result<(), Fail> {
     let asked = [
@@ -158,7 +158,7 @@ fn a_hart_that_enters_takes_its_interrupts(rt: HostRuntime) -> Result<(), Fail> 
     )
 }
 
-// What there is not is not supported, and a hart that stopped makes no call and no turn.
+/// What there is not is not supported, and a hart that stopped makes no call and no turn.
 #[test]
 fn a_hart_that_stopped_is_not_started(rt: HostRuntime) -> Result<(), Fail> {
     let asked = [
@@ -178,7 +178,7 @@ fn a_hart_that_stopped_is_not_started(rt: HostRuntime) -> Result<(), Fail> {
     )
 }
 
-// Without a store a durable call is left as it is, and the line of turns ends there; on a board it is one of these words.
+/// Without a store a durable call is left as it is, and the line of turns ends there; on a board it is one of these words.
 #[test]
 fn a_durable_call_is_left_to_what_has_the_store(rt: HostRuntime) -> Result<(), Fail> {
     let asked = [

@@ -22,7 +22,7 @@ fn booted(rt: &HostRuntime, payload: &[u8]) -> Result<Machine, Fail>
     booted_for(rt.alloc(), 1, payload, Reason::NoReason)
 }
 
-// ADDI x10, x0, 1
+/// ADDI x10, x0, 1
 #[test]
 fn shows_what_an_instruction_did(rt: HostRuntime) -> Result<(), Fail> {
     let mut machine = booted(&rt, &[0x13, 0x05, 0x10, 0x00])?;
@@ -42,7 +42,7 @@ fn shows_what_an_instruction_did(rt: HostRuntime) -> Result<(), Fail> {
     )
 }
 
-// The lines of a turn, and of the trap that it took: its cause, the pc that it saved, and the pc.
+/// The lines of a turn, and of the trap that it took: its cause, the pc that it saved, and the pc.
 fn trap_lines(machine: &mut Machine, hart: HartId) -> [MachineLine; 4] {
     let turned = turn(machine, hart, 1);
     let cause = csr(machine, hart, 0x142);

@@ -15,7 +15,7 @@ fn memory(rt: &HostRuntime, pages: u64) -> Result<Ram, Fail>
     Ok(Ram::new(rt.alloc(), shape)?)
 }
 
-// Loads that give these numbers.
+/// Loads that give these numbers.
 fn all_load(rt: &impl Abort, ram: &Ram, cases: &[(u64, Width, u64)]) {
     for (address, width, number) in cases {
         assert_eq!(rt;
@@ -70,7 +70,7 @@ fn numbers_are_little_endian(rt: HostRuntime) -> Result<(), Fail> {
     Ok(())
 }
 
-// No word is loaded, stored or fetched there.
+/// No word is loaded, stored or fetched there.
 fn refused(rt: &impl Abort, ram: &mut Ram, address: u64, want: Access) {
     same(rt, ram.load(address, Width::Word), Err(want));
     same(rt, ram.store(address, Width::Word, 7), Err(want));
@@ -104,7 +104,7 @@ fn alignment_is_checked_first(rt: HostRuntime) -> Result<(), Fail> {
     Ok(())
 }
 
-// The byte at that place of the memory.
+/// The byte at that place of the memory.
 fn byte(ram: &Ram, at: usize) -> Option<u8> {
     let bytes = ram.bytes();
     if at < bytes.len() {

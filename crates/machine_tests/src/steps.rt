@@ -63,7 +63,7 @@ fn result(ram: &Ram, results: u64, number: usize) -> u64 {
     .unwrap_or(0)
 }
 
-// The program's results from that number on.
+/// The program's results from that number on.
 fn all_results(rt: &impl Abort, ram: &Ram, results: u64, first: usize, wants: &[u64]) {
     for (i, want) in wants.iter().enumerate() {
         let number = first.wrapping_add(i);
@@ -168,7 +168,7 @@ fn traps_and_registers_of_the_supervisor(rt: HostRuntime) -> Result<(), Fail> {
     Ok(())
 }
 
-// What the word does with that operand in x5 and the interrupt pending: what it asks for, x7 and the pc.
+/// What the word does with that operand in x5 and the interrupt pending: what it asks for, x7 and the pc.
 fn stepped(rt: &HostRuntime, word: u32, operand: u64) -> Result<(Outcome, u64, u64), Fail> {
     let mut ram = words(rt, &[word])?;
     let mut hart = fresh()?;
@@ -209,14 +209,14 @@ fn csr(hart: &Hart, number: u16) -> Option<u64> {
     hart.csr(CsrNumber::new(number % 4096), true)
 }
 
-// The control and status registers that a hart shows, with its interrupt pending.
+/// The control and status registers that a hart shows, with its interrupt pending.
 fn csrs(rt: &impl Abort, hart: &Hart, cases: &[(u16, Option<u64>)]) {
     for (number, value) in cases {
         assert_eq!(rt; csr(hart, *number), *value, "csr {number:#x}");
     }
 }
 
-// The pc and registers that a hart holds.
+/// The pc and registers that a hart holds.
 fn holds(rt: &impl Abort, hart: &Hart, pc: u64, cases: &[(u8, u64)]) {
     same(rt, hart.pc(), pc);
     for (number, value) in cases {
@@ -224,7 +224,7 @@ fn holds(rt: &impl Abort, hart: &Hart, pc: u64, cases: &[(u8, u64)]) {
     }
 }
 
-// Steps with the interrupt pending, which go on word by word.
+/// Steps with the interrupt pending, which go on word by word.
 fn goes_on(rt: &impl Abort, hart: &mut Hart, ram: &mut Ram) {
     for steps in 1..6u64 {
         same(rt, hart.step(ram, true), Outcome::Next);

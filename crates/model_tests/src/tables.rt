@@ -8,7 +8,7 @@ use std::fmt::Debug;
 use std::process::Abort;
 use std::test::Fail;
 
-// These two have to be equal.
+/// These two have to be equal.
 fn same<T: PartialEq + Debug + Drop>(rt: &impl Abort, found: T, wanted: T) {
     assert_eq!(rt; found, wanted);
 }
@@ -33,7 +33,7 @@ fn with_next(state: Durable, next: u64) -> Durable {
     Durable { next, ..state }
 }
 
-// Slots and reasons change their field of that state alone.
+/// Slots and reasons change their field of that state alone.
 fn one_field_changes(rt: &impl Abort, old: Durable) {
     let slot = Durable {
         slot: Slot::new(3).expect(rt, "slot 3"),
@@ -81,13 +81,13 @@ fn made(rt: &impl Abort) -> ImageHead {
     }
 }
 
-// A suspension by hart 0, from that state.
+/// A suspension by hart 0, from that state.
 fn suspended(rt: &impl Abort, old: Durable) -> Result<Durable, Refusal> {
     let head = made(rt);
     old.after_suspend(head.hart, head.address, 7)
 }
 
-// A suspension gives out serial 5, and none is given out at the end of all serials.
+/// A suspension gives out serial 5, and none is given out at the end of all serials.
 fn takes_a_serial(rt: &impl Abort, image: bool) {
     let new = Durable {
         image: Some(made(rt)),
@@ -106,7 +106,7 @@ fn suspend_takes_the_next_serial(rt: HostRuntime) {
     takes_a_serial(&rt, true);
 }
 
-// A refusal's number and text.
+/// A refusal's number and text.
 fn reads(
     rt: &impl Abort,
     alloc: Global,
@@ -185,7 +185,7 @@ fn refusals_have_their_numbers_and_texts(rt: HostRuntime) -> Result<(), Fail> {
     Ok(())
 }
 
-// A shape of these numbers.
+/// A shape of these numbers.
 fn has_shape(rt: &impl Abort, harts: u64, pages: u64, lanes: u64) {
     let shape = Shape::new(harts, pages, lanes).expect(rt, "a shape within the limits");
     same(rt, shape.harts() as u64, harts);
@@ -211,7 +211,7 @@ fn shapes_end_at_their_limits(rt: HostRuntime) {
     }
 }
 
-// A board of so many pages and lanes has so many places in a lane, and so many sectors.
+/// A board of so many pages and lanes has so many places in a lane, and so many sectors.
 fn has_sectors(rt: &impl Abort, pages: u64, lanes: u64, places: usize, sectors: usize) {
     let shape = Shape::new(1, pages, lanes).expect(rt, "a shape within the limits");
     same(rt, shape.places(), places);

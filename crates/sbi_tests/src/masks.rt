@@ -4,7 +4,7 @@ use board_model::HartId;
 use sbi_abi::{HartSet, SbiError, targets};
 use std::process::Abort;
 
-// The harts of a set, as bits.
+/// The harts of a set, as bits.
 fn bits(rt: &impl Abort, set: HartSet) -> u32 {
     let mut bits = 0;
     for number in 0..8u32 {
@@ -16,7 +16,7 @@ fn bits(rt: &impl Abort, set: HartSet) -> u32 {
     bits
 }
 
-// The harts that a mask names on a board of eight harts, or of three.
+/// The harts that a mask names on a board of eight harts, or of three.
 fn named(rt: &impl Abort, mask: u64, base: u64, small: bool) -> Result<u32, SbiError> {
     let harts = if small { 3 } else { 8 };
     let set = targets(mask, base, harts)?;

@@ -13,7 +13,7 @@ const A1: u64 = 0x2_0000_0003;
 
 const A2: u64 = 0x9_0000_0009;
 
-// A hart at 0x80001000 that asks for the call of these numbers.
+/// A hart at 0x80001000 that asks for the call of these numbers.
 fn asking(rt: &impl Abort, extension: u64, function: u64) -> Hart {
     let id = HartId::new(1).expect(rt, "hart 1");
     let mut hart = Hart::fresh(id, 0x8000_1000, A1);
@@ -87,7 +87,7 @@ fn the_others_have_one_call_each(rt: HostRuntime) {
     }
 }
 
-// Of other extensions, and of these numbers plus 2^32.
+/// Of other extensions, and of these numbers plus 2^32.
 #[test]
 fn all_64_bits_of_an_extension_count(rt: HostRuntime) {
     for extension in [0, 1, 0x54494d45, 0x1_0000_0010, 0x1_0048_534d, u64::MAX] {
@@ -95,7 +95,7 @@ fn all_64_bits_of_an_extension_count(rt: HostRuntime) {
     }
 }
 
-// a0, a1, a2 and the pc once the call was answered.
+/// a0, a1, a2 and the pc once the call was answered.
 fn answered(rt: &impl Abort, answer: SbiRet) -> (u64, u64, u64, u64) {
     let mut hart = asking(rt, 0x10, 0);
     put(&mut hart, answer);

@@ -9,7 +9,7 @@ const RAM: u64 = 0x8000_0000;
 
 const NON_RETENTIVE: u32 = 0x8000_0000;
 
-// What a call asks for on a board of two harts and one page of RAM.
+/// What a call asks for on a board of two harts and one page of RAM.
 fn asked(rt: &impl Abort, call: Call) -> Result<Request, SbiError> {
     let shape = Shape::new(2, 1, 1).expect(rt, "two harts and one page");
     request_of(call, &shape)
@@ -77,7 +77,7 @@ fn probe_is_1_for_what_is_there(rt: HostRuntime) {
     }
 }
 
-// The hart is checked before the address, in all 64 bits.
+/// The hart is checked before the address, in all 64 bits.
 #[test]
 fn a_start_names_a_hart_and_an_address(rt: HostRuntime) {
     let good = Request::Start(hart(&rt, 1), site(&rt, RAM + 0xffc), 5);
@@ -105,7 +105,7 @@ fn a_status_names_a_hart(rt: HostRuntime) {
     same(&rt, asked(&rt, Call::HartStop), Ok(Request::Stop));
 }
 
-// The retentive type ignores the address.
+/// The retentive type ignores the address.
 #[test]
 fn a_suspend_has_two_types(rt: HostRuntime) {
     same(&rt, suspend(&rt, 0, 1), Ok(Request::Suspend));
@@ -121,7 +121,7 @@ fn a_suspend_has_two_types(rt: HostRuntime) {
     }
 }
 
-// Its arguments are checked by what asks the store.
+/// Its arguments are checked by what asks the store.
 #[test]
 fn a_durable_command_is_left_as_it_is(rt: HostRuntime) {
     let reset = Call::SystemReset { kind: 9, reason: 9 };
@@ -136,7 +136,7 @@ fn a_durable_command_is_left_as_it_is(rt: HostRuntime) {
     same(&rt, asked(&rt, Call::Unknown), Err(SbiError::NotSupported));
 }
 
-// A mask that names a hart past the board is refused, an empty one is not.
+/// A mask that names a hart past the board is refused, an empty one is not.
 #[test]
 fn a_send_names_harts(rt: HostRuntime) {
     for (mask, base, good) in [

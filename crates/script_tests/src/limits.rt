@@ -6,7 +6,7 @@ use std::alloc::{AllocError, Global};
 use std::process::Abort;
 use std::test::*;
 
-// A byte so many times between two texts.
+/// A byte so many times between two texts.
 fn filled(
     alloc: Global,
     start: &[u8],
@@ -22,7 +22,7 @@ fn filled(
     Ok(text)
 }
 
-// A board line, a comment that has so many bytes after its sign, and this text are so many lines.
+/// A board line, a comment that has so many bytes after its sign, and this text are so many lines.
 fn comment_holds(
     rt: &impl Abort,
     alloc: Global,
@@ -34,7 +34,7 @@ fn comment_holds(
     holds(rt, alloc, &script, Shape::new(1, 1, 1)?, lines)
 }
 
-// A byte so many times between two texts is refused with that line.
+/// A byte so many times between two texts is refused with that line.
 fn filled_refused(
     rt: &impl Abort,
     alloc: Global,
@@ -66,7 +66,7 @@ fn long_lines(rt: HostRuntime) -> Result<(), Fail> {
     filled_refused(&rt, alloc, b"", b' ', 100_000, b"", 1)
 }
 
-// A board line, 65,535 line feeds and this text are one line.
+/// A board line, 65,535 line feeds and this text are one line.
 fn feeds_hold(rt: &impl Abort, alloc: Global, end: &[u8]) -> Result<(), Fail> {
     let script = filled(alloc, b"board 1 1 1", b'\n', 65_535, end)?;
     holds(rt, alloc, &script, Shape::new(1, 1, 1)?, 1)

@@ -109,7 +109,7 @@ fn memory_and_disk(rt: HostRuntime) -> Result<(), Fail> {
     Ok(())
 }
 
-// The text says a poke of these bytes.
+/// The text says a poke of these bytes.
 fn says_poke(
     rt: &impl Abort,
     alloc: Global,
@@ -122,7 +122,7 @@ fn says_poke(
     says(rt, alloc, BOARD, text, &line)
 }
 
-// The text says a payload of these bytes for that slot.
+/// The text says a payload of these bytes for that slot.
 fn says_payload(
     rt: &impl Abort,
     alloc: Global,
@@ -145,7 +145,7 @@ fn lines_that_carry_bytes(rt: HostRuntime) -> Result<(), Fail> {
     says_poke(&rt, alloc, b"poke 0 510 0001", 0, 510, &[0, 1])
 }
 
-// A word of so many hexadecimal digits at the end of a line.
+/// A word of so many hexadecimal digits at the end of a line.
 fn digits(alloc: Global, start: &[u8], count: usize) -> Result<Vec<u8>, AllocError> {
     let mut text = start.to_vec(alloc)?;
     for _ in 0..count {
@@ -154,7 +154,7 @@ fn digits(alloc: Global, start: &[u8], count: usize) -> Result<Vec<u8>, AllocErr
     Ok(text)
 }
 
-// A line that ends with so many hexadecimal digits is a fault.
+/// A line that ends with so many hexadecimal digits is a fault.
 fn malformed_digits(
     rt: &impl Abort,
     alloc: Global,
@@ -165,13 +165,13 @@ fn malformed_digits(
     malformed(rt, alloc, BOARD, &text)
 }
 
-// 512 bytes may be poked.
+/// 512 bytes may be poked.
 fn poke_of_a_sector(rt: &impl Abort, alloc: Global) -> Result<(), Fail> {
     let text = digits(alloc, b"poke 7 0 ", 1024)?;
     says_poke(rt, alloc, &text, 7, 0, &[0; 512])
 }
 
-// A payload may have 1,024 bytes.
+/// A payload may have 1,024 bytes.
 fn payload_of_1024(rt: &impl Abort, alloc: Global) -> Result<(), Fail> {
     let slot = Slot::new(0).ok_or("a slot")?;
     let text = digits(alloc, b"payload 0 ", 2048)?;

@@ -23,7 +23,7 @@ pub fn after_board(alloc: Global, board: &[u8], text: &[u8]) -> Result<Vec<u8>, 
     Ok(script)
 }
 
-// The script has just this line.
+/// The script has just this line.
 fn has_line(rt: &impl Abort, script: &Script, text: &[u8], line: &Line) {
     let is = script.lines.len() == 1 && script.lines[0] == *line;
     assert!(rt; is, "lines of {text:?}");
@@ -65,7 +65,7 @@ pub fn malformed(rt: &impl Abort, alloc: Global, board: &[u8], text: &[u8]) -> R
     refused(rt, alloc, &script, Refusal::BadScript(2))
 }
 
-// What was read has this shape and so many lines.
+/// What was read has this shape and so many lines.
 fn has(rt: &impl Abort, script: &Script, shape: Shape, lines: usize) {
     assert!(rt; script.shape == shape);
     assert_eq!(rt; script.lines.len(), lines);

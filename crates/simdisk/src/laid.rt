@@ -48,7 +48,7 @@ pub(crate) fn fill_range(content: &mut Vec<Sector>, first: usize, count: usize, 
     fill_all(&mut content[first..first + count], byte);
 }
 
-// Fills all these sectors with that byte.
+/// Fills all these sectors with that byte.
 fn fill_all(sectors: &mut [Sector], byte: u8)
     ensures { sectors.new ≡ replicate (length sectors.old) (replicate 512 byte) }
 {

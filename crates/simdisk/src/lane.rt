@@ -36,7 +36,7 @@ impl Last {
     ghost use Rattle.simdisk.specs.Views.{HasRoom};
     ghost use Rattle.disk.specs.Facts.{Content};
 
-    // Takes over a write of these sectors from that one on.
+    /// Takes over a write of these sectors from that one on.
     fn write(&mut self, first: usize, sectors: &[Sector])
         requires { HasRoom (first + length sectors.now) self.old }
         ensures written { (c : Content) → last_of self.new (laid_over (first, sectors.now) c) ≡ laid_over (first, sectors.now) (last_of self.old c) }

@@ -47,7 +47,7 @@ pub(crate) fn lend(
     Ok(out)
 }
 
-// What was written last in a lane: these sectors, which are kept apart unless a read gives them.
+/// What was written last in a lane: these sectors, which are kept apart unless a read gives them.
 fn last_in(alloc: Global, newest: &[Sector], as_read: bool) -> Result<Last, AllocError>
     ensures value { IfOk result (λ last. (c : Content) → (as_read ≡ true → newest.now ≡ c) → last_of last c ≡ newest.now) }
     ensures as_read { IfOk result (λ last. IsAsRead last → as_read ≡ true) }
@@ -66,7 +66,7 @@ pub(crate) fn stays_in_step(in_step: bool, lanes: &[SimLane]) -> bool
     in_step && as_read(lanes)
 }
 
-// Whether what was written last in each of these lanes is what a read gives.
+/// Whether what was written last in each of these lanes is what a read gives.
 fn as_read(lanes: &[SimLane]) -> bool
     ensures { IsTrue result → map newest_view lanes.now ≡ map lane_view lanes.now }
 {

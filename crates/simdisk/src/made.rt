@@ -48,7 +48,7 @@ impl SimDisk {
         SimDisk::holding(alloc, content)
     }
 
-    // A disk of these sectors, all of them durable.
+    /// A disk of these sectors, all of them durable.
     fn holding(alloc: Global, content: Vec<Sector>) -> Result<SimDisk, AllocError>
         ensures fresh { IfOk result (λ disk. IsFresh content.items (⟦<SimDisk as Disk>⟧.facts disk)) }
         ensures record { IfOk result (λ disk. ⟦<SimDisk as Recorded>⟧.record disk ≡ new_record content.items) }

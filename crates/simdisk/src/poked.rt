@@ -16,7 +16,7 @@ use crate::sim::SimDisk;
 use disk::{Disk, Sector};
 use std::alloc::{AllocError, Global};
 
-// Puts these bytes into the sector, from that one on.
+/// Puts these bytes into the sector, from that one on.
 fn put_bytes(sector: &mut Sector, offset: usize, bytes: &[u8])
     requires { offset + length bytes.now ≤ 512 }
     ensures { sector.new ≡ bytes_put offset bytes.now sector.old }
@@ -25,7 +25,7 @@ fn put_bytes(sector: &mut Sector, offset: usize, bytes: &[u8])
 }
 
 impl Patch {
-    // Adds its sectors but that one.
+    /// Adds its sectors but that one.
     fn push_parts(&self, sector: usize, out: &mut Vec<Patch>) -> Result<(), AllocError>
         requires { sector < 2 ^ 64 - 1 }
         ensures { OnOk result (pieces out.new.items ≡ pieces out.old.items ++ parted sector (piece self.now)) }
@@ -39,7 +39,7 @@ impl Patch {
     }
 }
 
-// Adds a patch.
+/// Adds a patch.
 fn push_to(out: &mut Vec<Patch>, patch: Patch) -> Result<(), AllocError>
     ensures { OnOk result (pieces out.new.items ≡ pieces out.old.items ++ piece patch ∷ []) }
 {
@@ -47,7 +47,7 @@ fn push_to(out: &mut Vec<Patch>, patch: Patch) -> Result<(), AllocError>
     Ok(())
 }
 
-// The patches without that sector.
+/// The patches without that sector.
 fn parts_of(alloc: Global, patches: &[Patch], sector: usize) -> Result<Vec<Patch>, AllocError>
     requires { sector < 2 ^ 64 - 1 }
     ensures { IfOk result (λ out. pieces out.items ≡ flat_map (parted sector) (pieces patches.now)) }
@@ -62,8 +62,8 @@ fn parts_of(alloc: Global, patches: &[Patch], sector: usize) -> Result<Vec<Patch
 impl History {
     ghost use Rattle.simdisk.specs.History.{log_of};
 
-    // The record begins anew, with these bytes in that sector, and without what was written to it
-    // since the last sync. At `Err` nothing has changed.
+    /// The record begins anew, with these bytes in that sector, and without what was written to it
+    /// since the last sync. At `Err` nothing has changed.
     fn set_sector(&mut self, alloc: Global, sector: usize, bytes: Sector) -> Result<(), AllocError>
         requires { sector < length (synced (log_of self.old)) }
         ensures record { OnOk result (log_of self.new ≡ poked_record sector bytes (log_of self.old)) }

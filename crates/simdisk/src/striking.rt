@@ -113,7 +113,7 @@ impl Faults {
         if self.struck_in(lanes) { 0 } else { 1 }
     }
 
-    // Takes over from the lane that has the fault how many calls are left to it.
+    /// Takes over from the lane that has the fault how many calls are left to it.
     fn count_on(&mut self, lanes: &[SimLane])
         ensures waits { Waits self.old self.new }
         ensures counted { self.new.armed ≡ counted_on self.old.armed (map lane_record lanes.now) }
@@ -135,7 +135,7 @@ impl Faults {
         }
     }
 
-    // Whether what was armed struck in its lane, or power was cut before.
+    /// Whether what was armed struck in its lane, or power was cut before.
     fn struck_in(&mut self, lanes: &[SimLane]) -> bool
         ensures strikes { IsTrue result → Strikes self.old self.new }
         ensures waits { IsFalse result → Waits self.old self.new }
@@ -161,7 +161,7 @@ impl Faults {
     }
 }
 
-// What is armed in that lane, if there is one.
+/// What is armed in that lane, if there is one.
 fn armed_of(lanes: &[SimLane], lane: usize) -> Option<ArmedFault>
     ensures { result ≡ (record_at (map lane_record lanes.now) lane).armed }
 {

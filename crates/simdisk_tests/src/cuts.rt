@@ -9,7 +9,7 @@ use std::alloc::Global;
 use std::process::Abort;
 use std::test::Fail;
 
-// What a disk of these bytes is refused.
+/// What a disk of these bytes is refused.
 fn new_refusal(alloc: Global, bytes: &[u8]) -> Option<Refusal> {
     SimDisk::new(alloc, bytes).err()
 }
@@ -119,7 +119,7 @@ fn one_sector_is_written_synced_and_read(rt: HostRuntime) -> Result<(), Fail> {
     Ok(())
 }
 
-// Whether a disk of four sectors could be lent as two lanes, which come back at once.
+/// Whether a disk of four sectors could be lent as two lanes, which come back at once.
 fn lend_and_join(rt: &impl Abort, disk: &mut SimDisk) -> bool
     requires { (⟦<SimDisk as Disk>⟧.facts disk.old).lent.lanes ≡ 0 }
 {
@@ -133,7 +133,7 @@ fn lend_and_join(rt: &impl Abort, disk: &mut SimDisk) -> bool
     }
 }
 
-// `rt try --test --fail-alloc N` makes each growth of the record and of a split fail in turn.
+/// `rt try --test --fail-alloc N` makes each growth of the record and of a split fail in turn.
 #[test]
 fn a_refused_growth_is_counted_and_changes_nothing(rt: HostRuntime) -> Result<(), Fail> {
     let Ok(mut disk) = SimDisk::blank(rt.alloc(), 4) else {

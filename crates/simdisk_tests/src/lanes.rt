@@ -9,7 +9,7 @@ use std::alloc::{AllocError, Global};
 use std::process::Abort;
 use std::test::Fail;
 
-// Writes one sector full of a byte at a place of a lane.
+/// Writes one sector full of a byte at a place of a lane.
 fn lane_write(lane: &mut SimLane, at: usize, byte: u8) -> Result<(), Fault>
     requires { at < length (⟦<SimLane as Lane>⟧.lane_facts lane.old).content }
     ensures first { (⟦<SimLane as Lane>⟧.lane_facts lane.new).first ≡ (⟦<SimLane as Lane>⟧.lane_facts lane.old).first }
@@ -18,7 +18,7 @@ fn lane_write(lane: &mut SimLane, at: usize, byte: u8) -> Result<(), Fault>
     lane.write(at, &[[byte; 512]])
 }
 
-// Lends so many sectors of the disk as one lane.
+/// Lends so many sectors of the disk as one lane.
 fn lend_one(rt: &impl Abort, disk: &mut SimDisk, first: usize, each: usize) -> Result<SimLane, Fail>
     requires { (⟦<SimDisk as Disk>⟧.facts disk.old).lent.lanes ≡ 0 }
     ensures lent { OnOk result ((⟦<SimDisk as Disk>⟧.facts disk.new).lent ≡ record { first = first; lanes = 1; each = each }) }
@@ -34,7 +34,7 @@ fn lend_one(rt: &impl Abort, disk: &mut SimDisk, first: usize, each: usize) -> R
     }
 }
 
-// Gives back the one lane that is lent.
+/// Gives back the one lane that is lent.
 #[tactic(auto, using(crate::proofs::Rows::row_of_one))]
 fn join_one(disk: &mut SimDisk, alloc: Global, lane: SimLane) -> Result<(), AllocError>
     requires one { (⟦<SimDisk as Disk>⟧.facts disk.old).lent.lanes ≡ 1 }
@@ -47,7 +47,7 @@ fn join_one(disk: &mut SimDisk, alloc: Global, lane: SimLane) -> Result<(), Allo
     Ok(())
 }
 
-// Writes the last three sectors of a lane of four, whose second call is cut.
+/// Writes the last three sectors of a lane of four, whose second call is cut.
 fn write_last_three(rt: &impl Abort, lane: &mut SimLane)
     requires { length (⟦<SimLane as Lane>⟧.lane_facts lane.old).content ≡ 4 }
     ensures first { (⟦<SimLane as Lane>⟧.lane_facts lane.new).first ≡ (⟦<SimLane as Lane>⟧.lane_facts lane.old).first }
@@ -58,7 +58,7 @@ fn write_last_three(rt: &impl Abort, lane: &mut SimLane)
     same(rt, lane_write(lane, 3, 7), Err(Fault));
 }
 
-// A disk after the join of a lane that was cut.
+/// A disk after the join of a lane that was cut.
 fn cut_in_lane(rt: &impl Abort, alloc: Global) -> Result<SimDisk, Fail> {
     let mut disk = SimDisk::blank(alloc, 4)?;
     disk.cut_lane(0, 2);
@@ -86,7 +86,7 @@ fn a_cut_lane_takes_the_disk_along_at_the_join(rt: HostRuntime) -> Result<(), Fa
     Ok(())
 }
 
-// Writes the first sector of a lane so many times, whatever is answered.
+/// Writes the first sector of a lane so many times, whatever is answered.
 fn write_first(lane: &mut SimLane, writes: u32)
     requires { 0 < length (⟦<SimLane as Lane>⟧.lane_facts lane.old).content }
     ensures first { (⟦<SimLane as Lane>⟧.lane_facts lane.new).first ≡ (⟦<SimLane as Lane>⟧.lane_facts lane.old).first }
@@ -97,7 +97,7 @@ fn write_first(lane: &mut SimLane, writes: u32)
     }
 }
 
-// Lends sectors 1 and 2 as a lane, writes it so many times and joins it; the disk then counts so many failures.
+/// Lends sectors 1 and 2 as a lane, writes it so many times and joins it; the disk then counts so many failures.
 fn lent_and_joined(
     rt: &impl Abort,
     disk: &mut SimDisk,
@@ -129,7 +129,7 @@ fn a_lane_counts_its_calls_from_split_to_split(rt: HostRuntime) -> Result<(), Fa
     Ok(())
 }
 
-// Lends a disk of four sectors as two lanes of two.
+/// Lends a disk of four sectors as two lanes of two.
 fn lend_two(rt: &impl Abort, disk: &mut SimDisk) -> Result<(SimLane, SimLane), Fail>
     requires { (⟦<SimDisk as Disk>⟧.facts disk.old).lent.lanes ≡ 0 }
     ensures first { IfOk result (λ lanes. length (⟦<SimLane as Lane>⟧.lane_facts lanes.0).content ≡ 2) }

@@ -8,7 +8,7 @@ use simdisk::SimDisk;
 use std::process::Abort;
 use std::test::Fail;
 
-// Lends both areas of the largest board's disk, one after the other, as its four lanes of 64 places of 9 sectors.
+/// Lends both areas of the largest board's disk, one after the other, as its four lanes of 64 places of 9 sectors.
 fn lend_largest(rt: &impl Abort, disk: &mut SimDisk) -> Result<(), Fail>
     requires { (⟦<SimDisk as Disk>⟧.facts disk.old).lent.lanes ≡ 0 }
     ensures { OnOk result ((⟦<SimDisk as Disk>⟧.facts disk.new).lent.lanes ≡ 0) }
@@ -41,7 +41,7 @@ fn the_disk_of_the_largest_board_is_made_and_lent(rt: HostRuntime) -> Result<(),
     Ok(())
 }
 
-// Writes one sector so many times, with no sync between.
+/// Writes one sector so many times, with no sync between.
 fn write_often(rt: &impl Abort, disk: &mut SimDisk, writes: u32)
     requires { (⟦<SimDisk as Disk>⟧.facts disk.old).lent.lanes ≡ 0 }
     ensures { (⟦<SimDisk as Disk>⟧.facts disk.new).lent.lanes ≡ 0 }

@@ -6,7 +6,7 @@ use simdisk::{Choice, SimDisk};
 use std::process::Abort;
 use std::test::Fail;
 
-// The byte at that place of that sector.
+/// The byte at that place of that sector.
 fn byte_at(rt: &impl Abort, disk: &SimDisk, sector: usize, at: usize) -> u8 {
     let content = disk.content();
     assert!(rt; sector < content.len() && at < 512);
@@ -107,7 +107,7 @@ fn what_does_not_end_in_a_sector_changes_nothing(rt: HostRuntime) -> Result<(), 
     Ok(())
 }
 
-// `rt try --test --fail-alloc N` refuses the poke its memory.
+/// `rt try --test --fail-alloc N` refuses the poke its memory.
 #[test]
 fn a_refused_poke_changes_nothing(rt: HostRuntime) -> Result<(), Fail> {
     let mut disk = written_disk(&rt, rt.alloc())?;

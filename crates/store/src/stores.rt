@@ -190,8 +190,8 @@ impl<D: Disk + Drop> Store<D> {
         self.issue(Entry::Suspend(hart, address, opaque), next)
     }
 
-    // What each command is asked first: refused `Down` where one is in doubt, `Over` in a life that has ended, and
-    // `JournalFull` where there is no room for another.
+    /// What each command is asked first: refused `Down` where one is in doubt, `Over` in a life that has ended, and
+    /// `JournalFull` where there is no room for another.
     fn takes(&self) -> Result<(), Refusal>
         ensures ok { OnOk result ((self.now.doubt ≡ None) × (self.now.over ≡ false) × (receipts self.now < 4096)) }
         ensures refused { IfErr result (λ e. doubt_of self.now ≡ None → TakesNone (life_of self.now) e) }
@@ -211,7 +211,7 @@ impl<D: Disk + Drop> Store<D> {
         Ok(())
     }
 
-    // Whether a suspension may go to the disk.
+    /// Whether a suspension may go to the disk.
     fn may_suspend(&self, ram: &Ram, hart: HartId, address: Addr) -> Result<(), Refusal>
         ensures ok { OnOk result ((self.now.doubt ≡ None) × (self.now.over ≡ false) × (receipts self.now < 4096) × FitsBoard self.now.shape ram.now hart address × (self.now.current.next + 1 < 2 ^ 64)) }
         ensures refused { IfErr result (λ e. (opaque : ℕ) → doubt_of self.now ≡ None
@@ -230,7 +230,7 @@ impl<D: Disk + Drop> Store<D> {
         Ok(())
     }
 
-    // Writes the memory into the area that the live image does not use. The state stays, with all bytes of its image.
+    /// Writes the memory into the area that the live image does not use. The state stays, with all bytes of its image.
     fn write_free<C: Crew>(
         &mut self,
         alloc: Global,
@@ -262,7 +262,7 @@ impl<D: Disk + Drop> Store<D> {
         Ok((area, counts))
     }
 
-    // Commits an entry that may go to the disk.
+    /// Commits an entry that may go to the disk.
     fn issue(&mut self, entry: Entry, next: Record) -> Result<Receipt, Refusal>
         requires up { self.old.doubt ≡ None }
         requires reaches { Reaches (life_of self.old) (change_in entry (memory_in self.old.shape next (disk_of self.old).content)) }
@@ -290,7 +290,7 @@ impl<D: Disk + Drop> Store<D> {
         }
     }
 
-    // The record that the command makes, where it goes to the disk.
+    /// The record that the command makes, where it goes to the disk.
     fn next_for(&self, command: Command) -> Result<Record, Refusal>
         ensures ok { IfOk result (λ next. (self.now.doubt ≡ None) × Reaches (life_of self.now) (change_of command)
             × Follows self.now.shape self.now.current (Entry.Command command) next) }
@@ -382,7 +382,7 @@ impl<D: Disk + Drop> Store<D> {
     }
 }
 
-// The record that the command makes. Refused `BadSlot` and `NoImage` by the table of commands.
+/// The record that the command makes. Refused `BadSlot` and `NoImage` by the table of commands.
 fn record_after(old: &Record, command: Command) -> Result<Record, Refusal>
     ensures ok { IfOk result (λ next. (size : Size) (content : Content) → (refusal_of (state_of size old.now content) (change_of command) ≡ None) × Follows size old.now (Entry.Command command) next) }
     ensures refused { IfErr result (λ e. (size : Size) (content : Content) → refusal_of (state_of size old.now content) (change_of command) ≡ Some (number_of_refusal e)) }
@@ -392,7 +392,7 @@ fn record_after(old: &Record, command: Command) -> Result<Record, Refusal>
     Ok(next_record(old, &durable))
 }
 
-// The record of that durable state, whose image, where it has one, is the old record's.
+/// The record of that durable state, whose image, where it has one, is the old record's.
 fn next_record(old: &Record, durable: &Durable) -> Record
     ensures { result ≡ next_of old.now durable.now }
 {
@@ -408,7 +408,7 @@ fn next_record(old: &Record, durable: &Durable) -> Record
     }
 }
 
-// Whether the memory, the hart and the address are the board's.
+/// Whether the memory, the hart and the address are the board's.
 fn fits_board(shape: &Shape, ram: &Ram, hart: HartId, address: Addr) -> bool
     ensures { IsTrue result ↔ FitsBoard shape.now ram.now hart address }
 {
@@ -417,7 +417,7 @@ fn fits_board(shape: &Shape, ram: &Ram, hart: HartId, address: Addr) -> bool
         && shape.address(address.value()).is_some()
 }
 
-// The area that the record's image does not use, area 0 where there is none.
+/// The area that the record's image does not use, area 0 where there is none.
 fn free_area(r: &Record) -> Side
     ensures free { (saved : Saved) → r.now.image ≡ Some saved → (result ≡ 0 → saved.area ≡ 0 → ⊥) × (result ≡ 1 → saved.area ≡ 1 → ⊥) }
     ensures first { r.now.image ≡ None → result ≡ 0 }
@@ -429,7 +429,7 @@ fn free_area(r: &Record) -> Side
     }
 }
 
-// The record of the state after a suspension whose memory stands in that area.
+/// The record of the state after a suspension whose memory stands in that area.
 fn suspended(
     old: &Record,
     hart: HartId,
@@ -455,7 +455,7 @@ fn suspended(
     }
 }
 
-// Whether the command ends the life in which it is issued: a reset and a suspension do.
+/// Whether the command ends the life in which it is issued: a reset and a suspension do.
 fn ends_life(entry: &Entry) -> bool
     ensures { (memory : List ℕ) → result ≡ ends_life (change_in entry.now memory) }
 {

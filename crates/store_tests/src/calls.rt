@@ -14,7 +14,7 @@ use std::process::Abort;
 use std::test::Fail;
 use store::Store;
 
-// A disk with a superblock, whose last byte is as told, and zeros.
+/// A disk with a superblock, whose last byte is as told, and zeros.
 fn marked(alloc: Global, last: u8) -> Result<SimDisk, Fail>
     ensures { IfOk result (λ disk. (⟦<SimDisk as Disk>⟧.facts disk).lent.lanes ≡ 0) }
 {
@@ -27,7 +27,7 @@ fn answer(store: &mut Store<SimDisk>, slot: u32) -> Option<Refusal> {
     store.apply(Command::Slot(slot)).err()
 }
 
-// What an open answers whose call of that number fails, and whether that fault is still to strike.
+/// What an open answers whose call of that number fails, and whether that fault is still to strike.
 fn open_failing(alloc: Global, disk: SimDisk, call: u64) -> Result<(Refusal, bool), Fail>
     requires { (⟦<SimDisk as Disk>⟧.facts disk).lent.lanes ≡ 0 }
 {
@@ -37,17 +37,17 @@ fn open_failing(alloc: Global, disk: SimDisk, call: u64) -> Result<(Refusal, boo
     Ok((refusal, disk.sync().is_err()))
 }
 
-// The same for a disk of so many sectors of zeros.
+/// The same for a disk of so many sectors of zeros.
 fn blank_open(alloc: Global, sectors: usize, call: u64) -> Result<(Refusal, bool), Fail> {
     open_failing(alloc, SimDisk::blank(alloc, sectors)?, call)
 }
 
-// The same for a disk with a superblock, whose last byte is as told.
+/// The same for a disk with a superblock, whose last byte is as told.
 fn marked_open(alloc: Global, last: u8, call: u64) -> Result<(Refusal, bool), Fail> {
     open_failing(alloc, marked(alloc, last)?, call)
 }
 
-// What a format answers whose call of that number fails, and whether that fault is still to strike.
+/// What a format answers whose call of that number fails, and whether that fault is still to strike.
 fn format_failing(disk: SimDisk, call: u64) -> Result<(Option<Refusal>, bool), Fail>
     requires { (⟦<SimDisk as Disk>⟧.facts disk).lent.lanes ≡ 0 }
 {
@@ -57,17 +57,17 @@ fn format_failing(disk: SimDisk, call: u64) -> Result<(Option<Refusal>, bool), F
     Ok((answer, disk.sync().is_err()))
 }
 
-// The same for a disk of so many sectors of zeros.
+/// The same for a disk of so many sectors of zeros.
 fn blank_format(alloc: Global, sectors: usize, call: u64) -> Result<(Option<Refusal>, bool), Fail> {
     format_failing(SimDisk::blank(alloc, sectors)?, call)
 }
 
-// The same for a disk with a superblock.
+/// The same for a disk with a superblock.
 fn marked_format(alloc: Global, call: u64) -> Result<(Option<Refusal>, bool), Fail> {
     format_failing(marked(alloc, 0)?, call)
 }
 
-// Writes a sector of a disk, and makes nothing durable.
+/// Writes a sector of a disk, and makes nothing durable.
 fn write_unsynced(disk: &mut SimDisk) -> Result<(), Fail>
     requires { (⟦<SimDisk as Disk>⟧.facts disk.old).lent.lanes ≡ 0 }
     ensures { (⟦<SimDisk as Disk>⟧.facts disk.new).lent.lanes ≡ 0 }
@@ -81,7 +81,7 @@ fn write_unsynced(disk: &mut SimDisk) -> Result<(), Fail>
     }
 }
 
-// The first byte of that sector, as a crash leaves it that leaves what was durable.
+/// The first byte of that sector, as a crash leaves it that leaves what was durable.
 fn durable_byte(disk: SimDisk) -> Option<u8> {
     let disk = disk.after_cut(Choice::Old);
     match disk.content().get(20) {
@@ -90,7 +90,7 @@ fn durable_byte(disk: SimDisk) -> Option<u8> {
     }
 }
 
-// That byte of a blank disk, written before an open whose second call failed.
+/// That byte of a blank disk, written before an open whose second call failed.
 fn written_before_open(alloc: Global) -> Result<Option<u8>, Fail> {
     let mut disk = SimDisk::blank(alloc, 26)?;
     write_unsynced(&mut disk)?;
@@ -164,8 +164,8 @@ fn a_refused_format_makes_no_further_call(rt: HostRuntime) -> Result<(), Fail> {
     Ok(())
 }
 
-// What a second format answers, after a first one whose call of that number failed and a cut with that fill; an open of the disk
-// then has to find the formatted state.
+/// What a second format answers, after a first one whose call of that number failed and a cut with that fill; an open of the disk
+/// then has to find the formatted state.
 fn format_again(
     rt: &impl Abort,
     alloc: Global,
@@ -182,7 +182,7 @@ fn format_again(
     Ok(answer)
 }
 
-// A format that failed can be made again, but where the cut left the superblock that it had written.
+/// A format that failed can be made again, but where the cut left the superblock that it had written.
 fn formats_again(
     rt: &impl Abort,
     alloc: Global,
@@ -215,8 +215,8 @@ fn a_format_that_failed_is_made_again(rt: HostRuntime) -> Result<(), Fail> {
     Ok(())
 }
 
-// What a command answers that changes nothing in value, as the first or the second of its life, whose call of that
-// number fails.
+/// What a command answers that changes nothing in value, as the first or the second of its life, whose call of that
+/// number fails.
 fn nothing_new_failing(alloc: Global, first: bool, call: u64) -> Result<Option<Refusal>, Fail> {
     let mut store = opened(alloc)?;
     if !first && answer(&mut store, 0).is_some() {
@@ -240,7 +240,7 @@ fn a_command_takes_four_calls_also_where_nothing_is_new(rt: HostRuntime) -> Resu
     Ok(())
 }
 
-// What slot 1 answers where the gate's write fails, and the slot that is found after a crash by that fill.
+/// What slot 1 answers where the gate's write fails, and the slot that is found after a crash by that fill.
 fn gate_failing(alloc: Global, fill: u8) -> Result<(Option<Refusal>, u32), Fail> {
     let mut store = opened(alloc)?;
     store.arm(ArmedFault::FailAt(3));

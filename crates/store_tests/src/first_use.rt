@@ -7,7 +7,7 @@ use std::alloc::Global;
 use std::test::Fail;
 use store::{Receipt, Store, format};
 
-// A disk in memory is formatted and opened, and the boot slot is set.
+/// A disk in memory is formatted and opened, and the boot slot is set.
 fn first_slot(alloc: Global) -> Result<(Store<SimDisk>, Receipt), Refusal> {
     // ----
     let mut disk = SimDisk::blank(alloc, 26)?;

@@ -40,7 +40,7 @@ pub fn disk_of(alloc: Global, first: &[[u8; 512]]) -> Result<SimDisk, Fail>
     Ok(SimDisk::new(alloc, &bytes)?)
 }
 
-// What stands of the image of serial 4.
+/// What stands of the image of serial 4.
 fn image() -> Option<Saved> {
     let head = ImageHead {
         serial: 4,
@@ -55,7 +55,7 @@ fn image() -> Option<Saved> {
     })
 }
 
-// The sector of a record with that image, of slot 3.
+/// The sector of a record with that image, of slot 3.
 fn record_with_image() -> Option<[u8; 512]> {
     let record = Record {
         slot: Slot::new(3)?,

@@ -15,7 +15,7 @@ use std::process::Abort;
 use std::test::Fail;
 use store::Store;
 
-// The bytes of one sector, from its first on.
+/// The bytes of one sector, from its first on.
 fn begins(rt: &impl Abort, disk: &SimDisk, sector: usize, bytes: &[u8]) {
     assert!(rt; sector < disk.content().len() && bytes.len() <= 512);
     assert_eq!(rt; &disk.content()[sector][..bytes.len()], bytes);
@@ -46,7 +46,7 @@ fn a_new_disk_is_formatted_once(rt: HostRuntime) -> Result<(), Fail> {
     Ok(())
 }
 
-// What a disk of so many sectors of zeros is refused at its open.
+/// What a disk of so many sectors of zeros is refused at its open.
 fn open_refusal(alloc: Global, sectors: usize) -> Result<Refusal, Fail> {
     Ok(unopened(alloc, SimDisk::blank(alloc, sectors)?)?.1)
 }
@@ -92,14 +92,14 @@ fn slots_above_three_are_refused(rt: HostRuntime) -> Result<(), Fail> {
     Ok(())
 }
 
-// A command whose device call of that number, from 1, is cut; what it answers, and the slot that is found.
+/// A command whose device call of that number, from 1, is cut; what it answers, and the slot that is found.
 fn cut_slot(alloc: Global, call: u64, choice: Choice) -> Result<(Option<Refusal>, u32), Fail> {
     let mut store = opened_under(alloc, ArmedFault::CutAt(call.saturating_add(4)))?;
     let answer = apply(&mut store, Command::Slot(1)).err();
     Ok((answer, slot_after_cut(alloc, store, choice)?))
 }
 
-// A commit that is cut within each of its calls, and after them. A cut within its last two leaves it in doubt.
+/// A commit that is cut within each of its calls, and after them. A cut within its last two leaves it in doubt.
 fn cut_at_each_call(
     rt: &impl Abort,
     alloc: Global,
@@ -171,7 +171,7 @@ fn a_fault_at_the_gate_is_in_doubt(rt: HostRuntime) -> Result<(), Fail> {
     Ok(())
 }
 
-// A formatted disk whose call of that number fails, after an open that the failure refused.
+/// A formatted disk whose call of that number fails, after an open that the failure refused.
 fn failed_open(rt: &impl Abort, alloc: Global, call: u64) -> Result<SimDisk, Fail>
     ensures { IfOk result (λ disk. (⟦<SimDisk as Disk>⟧.facts disk).lent.lanes ≡ 0) }
 {
@@ -211,7 +211,7 @@ fn a_reset_ends_the_life(rt: HostRuntime) -> Result<(), Fail> {
     Ok(())
 }
 
-// Fills the journal of a life: the receipts are numbered from 1.
+/// Fills the journal of a life: the receipts are numbered from 1.
 fn fill_journal(rt: &impl Abort, store: &mut Store<SimDisk>) {
     for place in 0..MAX_COMMANDS as u32 {
         same(rt, apply(store, Command::Slot(place % 4)), Ok(place + 1));
@@ -253,7 +253,7 @@ fn a_life_has_room_for_4096_commands(rt: HostRuntime) -> Result<(), Fail> {
     Ok(())
 }
 
-// The disk's image stays under a slot, until this command drops it.
+/// The disk's image stays under a slot, until this command drops it.
 fn drop_image(rt: &impl Abort, store: &mut Store<SimDisk>, command: Command) {
     let standing = Some((4, 77));
     same(
@@ -279,7 +279,7 @@ fn an_image_stays_until_it_is_dropped(rt: HostRuntime) -> Result<(), Fail> {
     Ok(())
 }
 
-// What a disk that begins with this sector is refused.
+/// What a disk that begins with this sector is refused.
 fn refusal(alloc: Global, sector: [u8; 512]) -> Result<Refusal, Fail> {
     Ok(unopened(alloc, disk_of(alloc, &[sector])?)?.1)
 }

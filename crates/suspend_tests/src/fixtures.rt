@@ -18,7 +18,7 @@ pub fn same<T: PartialEq + Debug + Drop>(rt: &impl Abort, found: T, wanted: T) {
     assert_eq!(rt; found, wanted);
 }
 
-// Fills that page with a byte, where the memory has it.
+/// Fills that page with a byte, where the memory has it.
 fn fill(ram: &mut Ram, number: u64, byte: u8) {
     if let Some(page) = PageNo::new(number) {
         if page.number() < ram.pages() {
@@ -41,7 +41,7 @@ pub fn turns<R: thread::Threads + Sync>(_rt: &R) -> Result<Turns<R>, Refusal> {
     Turns::new([2, 0, 3, 1])
 }
 
-// An open of which only the refusal is told.
+/// An open of which only the refusal is told.
 fn open(alloc: Global, disk: SimDisk) -> Result<Store<SimDisk>, Refusal>
     requires { (⟦<SimDisk as Disk>⟧.facts disk).lent.lanes ≡ 0 }
 {

@@ -17,7 +17,7 @@ use std::thread::{Threads, join};
 /// What hart 0 sees of hart 1, what hart 1 begins with, and who has interrupted it.
 pub type Seen = (State, (Option<(Addr, u64)>, SenderSet));
 
-// ----
+/// ----
 fn hart(number: u64) -> HartId
     requires { number < 8 }
     ensures { result ≡ number }
