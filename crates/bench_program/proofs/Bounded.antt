@@ -1,4 +1,5 @@
--- The script of an input that is read up to a bound: what more bytes than any script has say is told by the first of them.
+-- The script of an input that is read up to a bound: what more bytes than any script has say is told by the
+-- first of them.
 use Rattle.std.proofs.Common.{◌≡◌, ℕ, ◌+◌, ◌-◌, ◌*◌, ◌≤◌, ◌<◌, Bool, true, false, List, [], ◌∷◌, ◌++◌, length, take, All, Option, Some, None, IfSome, Result, Ok, Err, ◌⊎◌, inl, inr, ◌==◌, if◌then◌else◌, zero, suc, refl, ap, sym, ◌∙◌, arith}
 use Rattle.std.proofs.lemmas.Bool.{cases_lt, eqb-true}
 use Rattle.std.proofs.lemmas.Bool.Decides.{nat_tests}
@@ -137,7 +138,8 @@ sound_few n w s = grind (arith, nat_tests, s)
 sound_short : (n : ℕ) (w : List ℕ) → is_sound n w ≡ true → length w ≤ 4096
 sound_short n w s = grind (arith, nat_tests, s)
 
--- the lines of a text agree with those of its beginning, where that is longer than the k lines that are left can be
+-- the lines of a text agree with those of its beginning, where that is longer than the k lines that are left
+-- can be
 bounded : (k n m : ℕ) (xs : List ℕ) → n + k ≡ 65537 → k * 4097 + 1 ≤ m → Agree n (lines_of (take m xs)) (lines_of xs)
 bounded zero n m xs e bound =
     elim (parted xs) [

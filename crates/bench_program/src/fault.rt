@@ -50,8 +50,8 @@ impl fmt::Display for Fault {
     }
 }
 
-/// The program's status (README.md, "The program"): 0 where it did what it was asked, 2 for a fault of the command line, and
-/// 1 for any other.
+/// The program's status (README.md, "The program"): 0 where it did what it was asked, 2 for a fault of the
+/// command line, and 1 for any other.
 pub fn status_of(done: &Result<(), Fault>) -> u8
     ensures { result ≡ status_after done.now }
 {

@@ -1,4 +1,5 @@
-//! What the program `sbibench` does: its command line, the script that it reads, the report that it writes, and its status.
+//! What the program `sbibench` does: its command line, the script that it reads, the report that it writes,
+//! and its status.
 #![tactic(auto)]
 
 mod fault;
@@ -30,11 +31,12 @@ use std::thread::Threads;
 /// How many bytes of a report are written at once into a pipe or a file. A terminal gets each as it is made.
 const WRITTEN_AT_ONCE: usize = 65_536;
 
-/// One byte more than the longest script has, each line with its line feed: more bytes change nothing of the first fault.
+/// One byte more than the longest script has, each line with its line feed: more bytes change nothing of the
+/// first fault.
 const READ_AT_MOST: u64 = (MAX_SCRIPT_LINES * (MAX_LINE_BYTES + 1) + 1) as u64;
 
-/// The script: the input to its end, or as much of it as tells its first fault. Answers `Input` where the input failed, and
-/// the refusal `Memory` where memory was refused.
+/// The script: the input to its end, or as much of it as tells its first fault. Answers `Input` where the
+/// input failed, and the refusal `Memory` where memory was refused.
 fn read_script<R: Read + Drop>(alloc: Global, input: R) -> Result<Vec<u8>, Fault>
     // It says what the whole input says, where its bytes are known: the script, or its first fault.
     ensures said { IfOk result (λ script. IfSome (R.remaining input) (λ bytes. script_of script.items ≡ script_of bytes)) }
@@ -109,9 +111,9 @@ fn reported<R: Threads + Sync>(rt: &HostRuntime, threads: &R) -> Result<(), Faul
     }
 }
 
-/// The whole program: reads a script from standard input and writes its report to standard output (docs/SCRIPT.md), or says
-/// why not on standard error. Answers the status that README.md, "The program", has. The second handle makes the threads of
-/// lanes, where the command line asks for these.
+/// The whole program: reads a script from standard input and writes its report to standard output
+/// (docs/SCRIPT.md), or says why not on standard error. Answers the status that README.md, "The program",
+/// has. The second handle makes the threads of lanes, where the command line asks for these.
 pub fn bench<R: Threads + Sync>(rt: &HostRuntime, threads: &R) -> ExitCode {
     let done = reported(rt, threads);
     if let Err(fault) = &done {

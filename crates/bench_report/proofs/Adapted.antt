@@ -30,7 +30,8 @@ calm e m n h up is = h
 abbrev pub Reaches : DurableState → ℕ → Change → Type 0
 Reaches now count c = (count < 4096) × (refusal_of now c ≡ None)
 
--- what an acknowledged command did, from a life that is seen as `now` after `count` commands with none in doubt
+-- what an acknowledged command did, from a life that is seen as `now` after `count` commands with none in
+-- doubt
 abbrev pub Acknowledges : DurableState → ℕ → Change → ℕ → Life → Type 0
 Acknowledges now count c n new = Reaches now count c × (n ≡ count + 1) × IsLife new (after now c) (count + 1) None
 

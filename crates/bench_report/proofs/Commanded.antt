@@ -77,7 +77,8 @@ over_more size Blank k c life store h calm now doubt = h
 over_more size Unknown k c life store h calm now doubt = tt
 over_more size Formatted k c life store h calm now doubt = (h.0 ∙ calm, now ∙ found_more k.changes c life.now h.1, h.2, doubt)
 
--- A command on a board whose life has a command in doubt, or none. Where none is, the store's life is seen so when it is asked.
+-- A command on a board whose life has a command in doubt, or none. Where none is, the store's life is seen so
+-- when it is asked.
 module _ (size : Size) (b : Bench) (life : BenchLife) (c : Change) (old new : SimStore) (seen : StoreLife)
     (on : b.power ≡ Some life) (was : StoreIs size b.disk_state b.kept life old) (device : DeviceIs size b (store_fault_state old) (store_facts old))
     (same_size : store_size new ≡ store_size old) (fits : SameLength (store_facts old) (store_facts new)) (no_fewer : (store_facts old).failures ≤ (store_facts new).failures) where

@@ -1,4 +1,5 @@
--- Where memory was never refused and no failure was answered, two runs of the same lines answer the same: commands and power on.
+-- Where memory was never refused and no failure was answered, two runs of the same lines answer the same:
+-- commands and power on.
 use Rattle.std.proofs.Common.{◌≡◌, ◌⊎◌, ℕ, ◌+◌, ◌<◌, inl, inr, List, [], ◌∷◌, Option, None, Some, IfSome, Result, Ok, Err, length, refl, sym, ◌∙◌, ap, subst, arith}
 use Rattle.std.specs.Bool.{⊤}
 use Rattle.board_model.specs.Durable.{DurableState, Image, Change, Consume, IsWhole, refusal_of}

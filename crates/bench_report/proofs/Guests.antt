@@ -1,4 +1,5 @@
--- Turns and calls of harts: what was spoilt stays so, and where nothing is, two runs of the same turns are one.
+-- Turns and calls of harts: what was spoilt stays so, and where nothing is, two runs of the same turns are
+-- one.
 use Rattle.std.proofs.Common.{◌≡◌, ◌⊎◌, ℕ, zero, suc, inl, inr, Bool, true, false, Result, Ok, Err, sym, ◌∙◌, ap, subst, arith}
 use Rattle.board_model.specs.Durable.{Change, Reset}
 use Rattle.board_model.specs.Shapes.{Size}

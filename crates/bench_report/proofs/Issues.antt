@@ -1,5 +1,5 @@
--- What one command, and commands in a row, make of the state that the disk stands for, read backwards: whatever the next open may
--- find after them comes of a state that an open could have found before.
+-- What one command, and commands in a row, make of the state that the disk stands for, read backwards:
+-- whatever the next open may find after them comes of a state that an open could have found before.
 use Rattle.std.proofs.Common.{◌≡◌, ◌≢◌, ◌⊎◌, ℕ, ◌+◌, inl, inr, List, [], ◌∷◌, Option, None, Some, Result, Ok, Err, refl, sym, ◌∙◌, ap, subst, arith, Bool, true, false}
 use Rattle.std.specs.Bool.{⊤}
 use Rattle.board_model.specs.Durable.{DurableState, Change, formatted, refusal_of, after}

@@ -1,4 +1,5 @@
--- Whatever a line tells, power that was lost within it would have left: some first of its commands took effect.
+-- Whatever a line tells, power that was lost within it would have left: some first of its commands took
+-- effect.
 use Rattle.std.proofs.Common.{◌≡◌, ◌⊎◌, ℕ, inl, inr, List, [], ◌∷◌, Bool, true}
 use Rattle.board_model.specs.Durable.{DurableState, Change, after}
 use Rattle.board_model.specs.declared.boot_mode.BootMode.{BootMode}

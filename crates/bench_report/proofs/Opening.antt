@@ -22,7 +22,8 @@ use Rattle.bench_report.proofs.Adapted.{struck, calm, failed_open, never_down}
 use Rattle.bench_report.proofs.KeptDisks.{KeptLaw, BlankLaw, LeavesLess}
 use Rattle.bench_report.proofs.Ended.{left_on}
 
--- what an open finds is one of the states that the commands kept let it find; it keeps the command in doubt or drops it
+-- what an open finds is one of the states that the commands kept let it find; it keeps the command in doubt
+-- or drops it
 pub opens : (size : Size) (m : DiskState) (b : Bench) (disk : Facts) (z : Size) (s : DurableState) → DiskIs size m b.kept disk → Leaves disk z s → (IsBlank disk → ⊥) → ((y : Size) → IsKept disk y → y ≡ z)
     → (k : Kept) × Opens size m b s z (record b { kept = k }) × LifeIs size m k (life_begun s z) z
 opens size Blank b disk z s was leaves formatted one = absurd (formatted was)

@@ -1,5 +1,5 @@
--- The prefix law, one induction over the lines, backwards: the state before a line comes of the one after it, so that the fate of a
--- command in doubt is reported by the open that settles it.
+-- The prefix law, one induction over the lines, backwards: the state before a line comes of the one after it,
+-- so that the fate of a command in doubt is reported by the open that settles it.
 use Rattle.std.proofs.Common.{◌≡◌, ℕ, inl, inr, List, [], ◌∷◌, Option, None, Some, Result, Ok, Err, refl, sym, ◌∙◌, ap, subst, Bool, true, false, MatchBool}
 use Rattle.board_model.specs.Durable.{DurableState, Change, Slot, Discard, formatted}
 use Rattle.board_model.specs.Kept.{Kept, nothing_kept, found_of, MayKeep, MayFind}

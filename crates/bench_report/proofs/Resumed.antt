@@ -136,7 +136,8 @@ resumed_from size b a new disk_state (inl h) line = on_at size b.power b a new d
 resumed_from size b a new disk_state (inr (would, mid, h, struck, e, is)) line = said a printed.PowerLost e (λ f. (let no : ⊥ = cc in no)) line
 
 -- ---- without failures
--- nothing is in doubt on the formatted disk of a run in which memory was never refused and no failure was answered
+-- nothing is in doubt on the formatted disk of a run in which memory was never refused and no failure was
+-- answered
 pub sure : (script : Script) (answers : List Answer) (b : Bench) → AreByFirmware script.lines → IsReport script answers b → IsFailureFree b → b.disk_state ≡ Formatted → b.kept.doubt ≡ None
 sure script [] b by h failure_free_bench disk_state = absurd h
 sure script (board ∷ answers) b by h failure_free_bench disk_state =

@@ -1,5 +1,5 @@
--- Each image that stands has the memory of its board, through whole runs: a suspension carries that memory, and no other command makes
--- an image. So no power-on is refused 13.
+-- Each image that stands has the memory of its board, through whole runs: a suspension carries that memory,
+-- and no other command makes an image. So no power-on is refused 13.
 use Rattle.std.proofs.Common.{◌≡◌, ◌≢◌, ◌+◌, ℕ, zero, suc, inl, inr, List, [], ◌∷◌, ◌++◌, Option, None, Some, Result, Ok, Err, refl, sym, ◌∙◌, ap, subst, arith}
 use Rattle.std.specs.Bool.{⊤}
 use Rattle.board_model.specs.Durable.{DurableState, Change, Slot, Reset, Suspend, Consume, Discard, formatted, refusal_of, after, IsWhole, CarriesWhole}
@@ -49,7 +49,8 @@ abbrev IsSized : Size → Option BenchLife → Type 0
 IsSized size None = ⊤
 IsSized size (Some life) = life.machine.size ≡ size
 
--- a formatted disk keeps commands that make whole images alone, and a board that is on is of the script's size
+-- a formatted disk keeps commands that make whole images alone, and a board that is on is of the script's
+-- size
 abbrev pub IsKeptWhole : Size → Bench → Type 0
 IsKeptWhole size b = (b.disk_state ≡ Formatted) × IsWhole size (found_of b.kept.changes) × DoubtWhole size b.kept.doubt × IsSized size b.power
 

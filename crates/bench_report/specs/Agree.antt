@@ -49,7 +49,8 @@ abbrev pub BoardIs : Size → DiskState → Kept → Option BenchLife → SimBoa
 BoardIs size disk_state kept None board = ⊥
 BoardIs size disk_state kept (Some life) board = StoreIs size disk_state kept life (store_in board) × (machine_in board ≡ life.machine)
 
--- the device below has the bench's fault state, counted each failure that was answered, and is of exactly the size needed
+-- the device below has the bench's fault state, counted each failure that was answered, and is of exactly the
+-- size needed
 abbrev pub DeviceIs : Size → Bench → FaultState → Facts → Type 0
 DeviceIs size b m disk = (b.fault_state ≡ m) × (b.failures ≤ disk.failures) × (length disk.content ≡ sectors_of size)
 
@@ -115,7 +116,8 @@ ArmsIts (lines.FailAt n) power = IsArmed (faults.FailAt n) power
 ArmsIts (lines.FailLane i n) power = IsArmed (faults.FailLane i n) power
 ArmsIts line power = ⊤
 
--- That sector of the disk of a board that is off stands with these bytes in it, from that one on, and nothing else has changed.
+-- That sector of the disk of a board that is off stands with these bytes in it, from that one on, and nothing
+-- else has changed.
 abbrev pub Pokes : ℕ → ℕ → List ℕ → Power → Power → Type 0
 Pokes k offset bytes (Off old) (Off new) = PokeFits k offset bytes (facts old).content → StandsSo k (poked k offset bytes (facts old).content) (facts old) (facts new)
 Pokes k offset bytes (Off old) (On board) = ⊥
@@ -132,8 +134,8 @@ fill_after (lines.CutAt n newest) fill = newest
 fill_after (lines.CutLane i n newest) fill = newest
 fill_after line fill = fill
 
--- A line was run to its end; or an armed cut struck within it, and then power was cut by the fill, whatever the line would have
--- answered and left.
+-- A line was run to its end; or an armed cut struck within it, and then power was cut by the fill, whatever
+-- the line would have answered and left.
 abbrev pub EndsBy : Size → Line → Fill → Bench → Answer → Power → Type 0
 EndsBy size line fill b answer left =
     ((new : Bench) × Step size line b answer new × (new.fault_state.struck ≡ false))
@@ -153,6 +155,7 @@ IsResting (On board) = ⊤
 abbrev pub AreShort : List (List ℕ) → Type 0
 AreShort payloads = All (λ bytes. length bytes ≤ 1024) payloads
 
--- what a function that neither keeps a payload nor speaks of one says of a line: there is a bench after it by this step
+-- what a function that neither keeps a payload nor speaks of one says of a line: there is a bench after it by
+-- this step
 abbrev pub StepsTo : Size → Bench → Power → (Bench → Type 0) → Type 0
 StepsTo size b after step = (new : Bench) × step new × Agrees size new after × (new.payloads ≡ b.payloads)

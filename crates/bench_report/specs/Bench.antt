@@ -5,24 +5,25 @@ use Rattle.board_model.specs.Kept.{Kept, nothing_kept}
 use Rattle.disk.specs.FaultState.{FaultState, no_fault}
 use Rattle.machine.specs.Machine.{Machine}
 
--- A disk that was never written; one of which nothing is known, since a format was refused 5 or cut, or it was written past the
--- firmware, and no format has answered Ok since; one that was formatted.
+-- A disk that was never written; one of which nothing is known, since a format was refused 5 or cut, or it
+-- was written past the firmware, and no format has answered Ok since; one that was formatted.
 pub data DiskState : Type 0 where
   Blank : DiskState
   Unknown : DiskState
   Formatted : DiskState
 
--- A board that is on: the durable state with what was acknowledged, how many commands that were in this life, the
--- command in doubt, after which each later one is refused 6, and its memory and harts.
+-- A board that is on: the durable state with what was acknowledged, how many commands that were in this life,
+-- the command in doubt, after which each later one is refused 6, and its memory and harts.
 pub record BenchLife : Type 0 where
   pub now : DurableState
   pub receipts : ℕ
   pub doubt : Option Change
   pub machine : Machine
 
--- The disk and, once it was formatted, the commands that it keeps; the board where it is on; what the slots boot; how
--- often a power-on was refused memory (11), how often a failure of the disk was answered (each 5, and each 6 that begins
--- a doubt), and the fault state of the disk: what is armed, whether an armed cut has struck, and how often it failed by itself.
+-- The disk and, once it was formatted, the commands that it keeps; the board where it is on; what the slots
+-- boot; how often a power-on was refused memory (11), how often a failure of the disk was answered (each 5,
+-- and each 6 that begins a doubt), and the fault state of the disk: what is armed, whether an armed cut has
+-- struck, and how often it failed by itself.
 pub record Bench : Type 0 where
   pub disk_state : DiskState
   pub kept : Kept

@@ -1,5 +1,5 @@
--- The report of a script where memory was never refused and the disk never failed, computed: for scripts whose lines neither
--- move harts nor show memory or harts, so that no image is ever made.
+-- The report of a script where memory was never refused and the disk never failed, computed: for scripts
+-- whose lines neither move harts nor show memory or harts, so that no image is ever made.
 use Rattle.std.specs.Prelude.{◌≡◌, ◌≢◌, ℕ, ◌+◌, ◌==◌, List, [], ◌∷◌, Option, Some, None, Result, Ok, Err, length, slice_set, if◌then◌else◌, ⊤}
 use Rattle.board_model.specs.Durable.{DurableState, Change, Slot, Discard, refusal_of}
 use Rattle.board_model.specs.Kept.{found_of}
@@ -104,15 +104,16 @@ abbrev pub ArePlain : List Line → Type 0
 ArePlain [] = ⊤
 ArePlain (line ∷ more) = IsPlain line × ArePlain more
 
--- A line that shows that no hart's command was refused for its disk or for memory: one turn, after which the hart did not just go
--- on, or a call that was not answered. (A refused command is answered, and the hart goes on.)
+-- A line that shows that no hart's command was refused for its disk or for memory: one turn, after which the
+-- hart did not just go on, or a call that was not answered. (A refused command is answered, and the hart goes
+-- on.)
 abbrev pub IsFailureFreeLine : MachineLine → Type 0
 IsFailureFreeLine (shown.Turn h made word) = (made ≡ 1) × (word ≢ words.Own Next)
 IsFailureFreeLine (shown.Answered h e v) = ⊥
 IsFailureFreeLine line = ⊤
 
--- a line by which no memory was refused (11), no call of the disk failed (5, and 6 where it leaves a command in doubt) and no
--- armed cut struck
+-- a line by which no memory was refused (11), no call of the disk failed (5, and 6 where it leaves a command
+-- in doubt) and no armed cut struck
 abbrev pub ShowsNoFailure : Printed → Type 0
 ShowsNoFailure (printed.FormatRefused n) = n ≢ 5
 ShowsNoFailure (printed.OnRefused n) = (n ≢ 5) × (n ≢ 6) × (n ≢ 11)

@@ -1,8 +1,8 @@
--- The prefix law over whole runs, in the words of the report alone. There is one state before each line, the formatted one
--- after the first `format ok`. A found line shows the state before its line. A line turns it into the state after those of its
--- commands that took effect, the first of them first: all, where it says so; where it was refused, some but not all; where it
--- was refused 6 or lost power, some first of them. A life takes commands from its power-on to its first command in doubt, its
--- end or a cut.
+-- The prefix law over whole runs, in the words of the report alone. There is one state before each line, the
+-- formatted one after the first `format ok`. A found line shows the state before its line. A line turns it
+-- into the state after those of its commands that took effect, the first of them first: all, where it says
+-- so; where it was refused, some but not all; where it was refused 6 or lost power, some first of them. A
+-- life takes commands from its power-on to its first command in doubt, its end or a cut.
 use Rattle.std.specs.Prelude.{◌≡◌, ◌≢◌, ◌⊎◌, ℕ, ◌+◌, ◌≤◌, Bool, true, false, List, [], ◌∷◌, Option, Some, None, MatchBool, ⊤}
 use Rattle.board_model.specs.Durable.{DurableState, Change, Slot, Reset, Suspend, Discard, formatted}
 use Rattle.bench_report.specs.Taken.{TakesAll, TakesSome, TakesFewer}
@@ -23,7 +23,8 @@ use Rattle.bench_report.specs.declared.printed.Printed.{Printed}
 use Rattle.bench_report.specs.declared.printed.Printed.TheVariants as printed
 use Rattle.bench_report.specs.Steps.{commands_of}
 
--- what a line asks of the disk: a boot with its commands, one command of the console, at most one that a hart makes, or none
+-- what a line asks of the disk: a boot with its commands, one command of the console, at most one that a hart
+-- makes, or none
 pub data AskedLine : Type 0 where
   Boot : BootMode → AskedLine
   Command : Change → AskedLine
@@ -38,8 +39,8 @@ asked_by (lines.Turn h n) = Guest
 asked_by (lines.Call h e f x y z) = Guest
 asked_by line = Nothing
 
--- A command was refused: by 6 it may have taken effect, and the life takes no more (up: whether it took commands before; now:
--- whether it does after); by another number it did not.
+-- A command was refused: by 6 it may have taken effect, and the life takes no more (up: whether it took
+-- commands before; now: whether it does after); by another number it did not.
 abbrev pub RefusedChange : ℕ → Change → DurableState → Bool → DurableState → Bool → Type 0
 RefusedChange n c s up t now =
     ((n ≢ 6) × (t ≡ s) × (now ≡ up))
@@ -59,8 +60,8 @@ IsOfHarts c = IsReset c ⊎ IsSuspension c
 abbrev pub EndsLife : (Change → Type 0) → DurableState → Bool → DurableState → Bool → Type 0
 EndsLife Is s up t now = (up ≡ true) × (now ≡ false) × (c : Change) × Is c × TakesAll (c ∷ []) s t
 
--- Harts went on: none of them made a durable command; or one is in doubt, of which the report does not tell, and the life takes
--- no more.
+-- Harts went on: none of them made a durable command; or one is in doubt, of which the report does not tell,
+-- and the life takes no more.
 abbrev pub Hides : DurableState → Bool → DurableState → Bool → Type 0
 Hides s up t now =
     ((t ≡ s) × (now ≡ up))
@@ -77,15 +78,16 @@ TellsLine (shown.Turn h made word) s up t now = TellsWord word s up t now
 TellsLine (shown.Called h word) s up t now = TellsWord word s up t now
 TellsLine line s up t now = Hides s up t now
 
--- power was lost within the line: some first of its commands took effect, of which a board takes none that is off or in doubt
+-- power was lost within the line: some first of its commands took effect, of which a board takes none that is
+-- off or in doubt
 abbrev pub Lost : AskedLine → DurableState → Bool → DurableState → Type 0
 Lost (Boot mode) s up t = TakesSome (commands_of mode) s t
 Lost (Command c) s up t = (t ≡ s) ⊎ ((up ≡ true) × TakesSome (c ∷ []) s t)
 Lost Guest s up t = (t ≡ s) ⊎ ((up ≡ true) × (c : Change) × IsOfHarts c × TakesSome (c ∷ []) s t)
 Lost Nothing s up t = t ≡ s
 
--- The state s before a line and t after it, and whether a board that is on takes commands before and after, by what the line
--- asked and what it says.
+-- The state s before a line and t after it, and whether a board that is on takes commands before and after,
+-- by what the line asked and what it says.
 abbrev pub LineImplies : AskedLine → Printed → DurableState → Bool → DurableState → Bool → Type 0
 LineImplies (Boot asked) (printed.On mode) s up t now = (mode ≡ asked) × (up ≡ false) × TakesAll (commands_of asked) s t × (now ≡ true)
 LineImplies (Boot mode) (printed.OnRefused n) s up t now =

@@ -114,8 +114,8 @@ in_doubt c life b = record b { kept = record b.kept { doubt = Some c }; power = 
 
 -- ---- a durable command: its receipt, or the number with which it is refused
 
--- by the number with which the table of commands refuses it: else it is acknowledged, or the disk fails before it could take
--- effect (5) or where it may have (6)
+-- by the number with which the table of commands refuses it: else it is acknowledged, or the disk fails
+-- before it could take effect (5) or where it may have (6)
 abbrev pub Writes : Option ℕ → Change → BenchLife → Bench → Result ℕ ℕ → Bench → Type 0
 Writes (Some n) c life b o new = (o ≡ Err n) × (new ≡ b)
 Writes None c life b o new =
@@ -148,8 +148,8 @@ refused h e life = has_machine (record life.machine { harts = slice_set life.mac
 abbrev pub AnswersError : SbiError → ℕ → BenchLife → Bench → Word → Bench → Type 0
 AnswersError e h life b word new = (word ≡ words.Own dids.Next) × (new ≡ on_with (refused h e life) b)
 
--- the command of a hart, by its receipt or number: acknowledged, it ends the life as it says, and the board is off; refused, it is
--- answered -1
+-- the command of a hart, by its receipt or number: acknowledged, it ends the life as it says, and the board
+-- is off; refused, it is answered -1
 abbrev pub HartCommand : Result ℕ ℕ → Word → ℕ → Bench → Word → Bench → Type 0
 HartCommand (Ok n) said h b word new = (word ≡ said) × (new ≡ off b)
 HartCommand (Err n) said h b word new = (life : BenchLife) × (b.power ≡ Some life) × AnswersError Failed h life b word new
@@ -159,8 +159,8 @@ abbrev pub Resets : Result (ResetType × Reason) SbiError → ℕ → BenchLife 
 Resets (Err e) h life b word new = AnswersError e h life b word new
 Resets (Ok reset) h life b word new = (o : Result ℕ ℕ) × (mid : Bench) × Issued (Reset reset.1) life b o mid × HartCommand o (words.Reset reset.0) h mid word new
 
--- the command of a suspension, where it fits the board or not: as other commands; or it is refused because memory ran out (11), or for
--- what is not of the board (3)
+-- the command of a suspension, where it fits the board or not: as other commands; or it is refused because
+-- memory ran out (11), or for what is not of the board (3)
 abbrev pub SuspendIssued : Type 0 → Change → BenchLife → Bench → Result ℕ ℕ → Bench → Type 0
 SuspendIssued Fits c life b o new =
     (Fits × Issued c life b o new)
@@ -171,8 +171,8 @@ SuspendIssued Fits c life b o new =
 abbrev pub IsAlone : ℕ → Machine → Type 0
 IsAlone id m = AreStopped m.size.harts id (listed m.table.states)
 
--- a suspension, whose arguments were checked: by a hart beside which another is not STOPPED it is denied; else the image has the
--- memory of this moment
+-- a suspension, whose arguments were checked: by a hart beside which another is not STOPPED it is denied;
+-- else the image has the memory of this moment
 abbrev pub BenchSleeps : ℕ → ℕ → ℕ → BenchLife → Bench → Word → Bench → Type 0
 BenchSleeps site opaque h life b word new =
     ((IsAlone (hart_at life.machine h).id life.machine → ⊥) × AnswersError Denied h life b word new)
@@ -189,7 +189,8 @@ BenchMakesCall (calls.SystemReset kind reason) h life b word new = Resets (reset
 BenchMakesCall (calls.SystemSuspend kind address opaque) h life b word new = (asked : Result ℕ SbiError) × IsChecked life.machine.size kind address asked × BenchSleepsBy asked opaque h life b word new
 BenchMakesCall call h life b word new = AnswersError NotSupported h life b word new
 
--- What comes of what hart h did, once the life has the machine: it stands at a durable call, which is made; or that is its word.
+-- What comes of what hart h did, once the life has the machine: it stands at a durable call, which is made;
+-- or that is its word.
 abbrev pub ComesTo : Turned → ℕ → BenchLife → Bench → Word → Bench → Type 0
 ComesTo dids.Durable h life b word new = BenchMakesCall (call_of (hart_at life.machine h)) h life b word new
 ComesTo did h life b word new = (word ≡ words.Own did) × (new ≡ b)
@@ -197,7 +198,8 @@ ComesTo did h life b word new = (word ≡ words.Own did) × (new ≡ b)
 abbrev pub GuestTurn : ℕ → BenchLife → Bench → Word → Bench → Type 0
 GuestTurn h life b word new = (m : Machine) × (did : Turned) × MakesTurn h life.machine m did × ComesTo did h (has_machine m life) (on_with (has_machine m life) b) word new
 
--- the turn is the last of its line, with so many that might follow: it ends the line, none is left, or a cut struck in it
+-- the turn is the last of its line, with so many that might follow: it ends the line, none is left, or a cut
+-- struck in it
 abbrev pub IsLastTurn : Word → ℕ → Bench → Type 0
 IsLastTurn word left new = (ends word ≡ true) ⊎ (left ≡ 0) ⊎ (new.fault_state.struck ≡ true)
 
@@ -242,8 +244,8 @@ IsBooted (Err n) mode z s b line new = (line ≡ printed.OnRefused n) × (new �
 abbrev pub BootsFrom : BootMode → Size → DurableState → Bench → Printed → Bench → Type 0
 BootsFrom mode z s b line new = (o : Result ℕ ℕ) × (mid : Bench) × IssuesAll (commands_of mode) (on_with (life_begun s z) b) o mid × IsBooted o mode z s mid line new
 
--- The image is loaded and consumed, and the board goes on with it; a failure of the disk in the load is reported as one that kept the
--- command from the disk (5). Or the image has not the memory of its board.
+-- The image is loaded and consumed, and the board goes on with it; a failure of the disk in the load is
+-- reported as one that kept the command from the disk (5). Or the image has not the memory of its board.
 abbrev pub Resumes : Size → DurableState → Bench → Printed → Bench → Type 0
 Resumes z s b line new = BootsFrom modes.Resume z s b line new ⊎ ((IsWhole z s → ⊥) × (line ≡ printed.OnRefused 13) × (new ≡ b))
 
@@ -254,7 +256,8 @@ Begins modes.Keep z s b line new = BootsFrom modes.Keep z s b line new
 Begins modes.Discard z s b line new = BootsFrom modes.Discard z s b line new
 Begins modes.Resume z s b line new = Resumes z s b line new
 
--- the boot after an open that found a state, by the number with which that refuses the mode; there may be no memory
+-- the boot after an open that found a state, by the number with which that refuses the mode; there may be no
+-- memory
 abbrev pub Boots : Option ℕ → BootMode → Size → DurableState → Bench → Printed → Bench → Type 0
 Boots (Some n) mode z s b line new = (line ≡ printed.OnRefused n) × (new ≡ b)
 Boots None mode z s b line new = Begins mode z s b line new ⊎ ((line ≡ printed.OnRefused 11) × (new ≡ out_of_memory b))

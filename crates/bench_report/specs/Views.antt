@@ -69,7 +69,8 @@ store_now store = stores.now_state store
 abbrev pub store_doubt : SimStore → Option Change
 store_doubt store = stores.doubt_of store
 
--- a life that goes on: the durable state with what was acknowledged, how many commands that were, and the one in doubt
+-- a life that goes on: the durable state with what was acknowledged, how many commands that were, and the one
+-- in doubt
 abbrev pub IsLife : Life → DurableState → ℕ → Option Change → Type 0
 IsLife life s count doubt = (now_of life ≡ s) × (length life.journal ≡ count) × (life.doubt ≡ doubt) × (life.over ≡ false)
 

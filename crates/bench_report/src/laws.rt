@@ -19,11 +19,12 @@ ghost use Rattle.bench_report.specs.Steps.{Moves};
 ghost use Rattle.bench_report.specs.declared.printed.Answer.{Answer};
 ghost use Rattle.bench_report.specs.declared.printed.Printed.TheVariants as printed;
 
-/// There is one report of a script without `poke` where memory was never refused and no failure of the disk was
-/// answered, so that no armed cut struck: any two such runs of it wrote the same and left the same. For lines that
-/// neither make turns nor show memory or harts it is computed by the plain report. A report shows that it is one by its
-/// lines, where they are failure-free: none says that memory was refused, that the disk failed or that power was lost, and none
-/// of turns or of a call may hide that a hart's command was refused so.
+/// There is one report of a script without `poke` where memory was never refused and no failure of the disk
+/// was answered, so that no armed cut struck: any two such runs of it wrote the same and left the same. For
+/// lines that neither make turns nor show memory or harts it is computed by the plain report. A report shows
+/// that it is one by its lines, where they are failure-free: none says that memory was refused, that the disk
+/// failed or that power was lost, and none of turns or of a call may hide that a hart's command was refused
+/// so.
 pub fn one_report()
     ensures one { (script : Script) (answers others : List Answer) (end last : Bench) → AreByFirmware script.lines → IsReport script answers end → IsReport script others last → IsFailureFree end → IsFailureFree last
         → (answers ≡ others) × (end ≡ last) }
@@ -34,23 +35,25 @@ pub fn one_report()
     machine_lines::one_line();
 }
 
-/// The prefix law, over each whole run of a script without `poke`: whatever memory was refused, whatever failed and
-/// wherever power was cut, from the first `format ok` on each power-on finds what the one before it found, with each
-/// command that was acknowledged since, in order, and after them at most the one in doubt of each life since, and of that
-/// life's commands none after it. No command takes effect that the table of commands refuses. The serials of the images
-/// that are resumed rise strictly, so an image whose consumption was acknowledged is never resumed again; and no power-on
-/// is refused 13, since each image that stands has the memory of its board.
+/// The prefix law, over each whole run of a script without `poke`: whatever memory was refused, whatever
+/// failed and wherever power was cut, from the first `format ok` on each power-on finds what the one before
+/// it found, with each command that was acknowledged since, in order, and after them at most the one in doubt
+/// of each life since, and of that life's commands none after it. No command takes effect that the table of
+/// commands refuses. The serials of the images that are resumed rise strictly, so an image whose consumption
+/// was acknowledged is never resumed again; and no power-on is refused 13, since each image that stands has
+/// the memory of its board.
 pub fn prefix_law()
     ensures { (script : Script) (answers : List Answer) (end : Bench) → AreByFirmware script.lines → IsReport script answers end → KeepsPrefixLaw script.lines answers }
 {}
 
-/// Each power-on over a formatted disk, at any point of a run: `b` is the bench that some first lines of a script left, and the next
-/// line is an `on`.
+/// Each power-on over a formatted disk, at any point of a run: `b` is the bench that some first lines of a
+/// script left, and the next line is an `on`.
 ///
-/// What the found line tells is a state that the commands kept let an open find: those acknowledged since the format, in order,
-/// with the one in doubt or without it (`finds`). Where memory was never refused, no failure answered and nothing poked, none is in
-/// doubt (`sure`), and a board that is off finds the fold of all acknowledged commands (`all`). A board that is resumed has the
-/// memory of the suspension that made its image, byte for byte, and of its harts the image's alone runs (`resumes`).
+/// What the found line tells is a state that the commands kept let an open find: those acknowledged since the
+/// format, in order, with the one in doubt or without it (`finds`). Where memory was never refused, no
+/// failure answered and nothing poked, none is in doubt (`sure`), and a board that is off finds the fold of
+/// all acknowledged commands (`all`). A board that is resumed has the memory of the suspension that made its
+/// image, byte for byte, and of its harts the image's alone runs (`resumes`).
 pub fn power_ons()
     ensures finds { (script : Script) (answers : List Answer) (b : Bench) → IsReport script answers b → b.disk_state ≡ Formatted → (mode : BootMode) (a : Answer) (new : Bench) (d : Durable) → Moves script.size (lines.On mode) b a new
         → a.found ≡ Some d → (s : DurableState) × MayFind b.kept s × (d ≡ durable_of s) }

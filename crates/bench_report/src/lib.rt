@@ -1,5 +1,5 @@
-//! The bench: runs a script over a board with a disk in memory, and writes its report. docs/SCRIPT.md tells the script
-//! language and the report; specs/Steps.antt says for each line what it may answer.
+//! The bench: runs a script over a board with a disk in memory, and writes its report. docs/SCRIPT.md tells
+//! the script language and the report; specs/Steps.antt says for each line what it may answer.
 #![tactic(auto)]
 
 mod laws;

@@ -243,19 +243,20 @@ fn run_script<C: Crew, W: Write>(
     }
 }
 
-/// Runs a script and writes its report, as [`run`] does, and answers also the disk that is left, of a board whose power
-/// is off. That disk counted each failure that the report answers (each refusal 5, and each 6 that begins a doubt), and
-/// each growth that its record was refused.
+/// Runs a script and writes its report, as [`run`] does, and answers also the disk that is left, of a board
+/// whose power is off. That disk counted each failure that the report answers (each refusal 5, and each 6
+/// that begins a doubt), and each growth that its record was refused.
 ///
-/// Refused as `run` is. Where a board was made its disk is given back, as the lines left it that ran: some first of the
-/// script's.
+/// Refused as `run` is. Where a board was made its disk is given back, as the lines left it that ran: some
+/// first of the script's.
 pub fn run_left<C: Crew, W: Write>(
     alloc: Global,
     script: &[u8],
     crew: &C,
     out: &mut W,
 ) -> Result<(Report, SimDisk), Stopped>
-    // What was written is a report of the script, and so are the count and the states; the disk is the one of its end.
+    // What was written is a report of the script, and so are the count and the states; the disk is the one of
+    // its end.
     ensures report { IfOk result (λ left. (said : Said) × (answers : List Answer) × (end : Bench) × (script_of script.now ≡ Ok said) × IsReport said answers end
         × Reported (W.contents out.old) (W.contents out.new) left.0 answers × OffIs said.size (off end) left.1) }
     // Where it stopped, the disk is the one of the end of some first lines.
@@ -281,12 +282,12 @@ pub fn run_left<C: Crew, W: Write>(
     }
 }
 
-/// Runs a script (docs/SCRIPT.md) and writes its report. The crew writes the lanes of an image; what comes of it is the same for
-/// each.
+/// Runs a script (docs/SCRIPT.md) and writes its report. The crew writes the lanes of an image; what comes of
+/// it is the same for each.
 ///
-/// Refused `BadShape` or `BadScript` where the script has a fault, and then nothing ran and nothing is written; `Memory`
-/// where memory was refused; `Output` where the writer failed. After the last two any part of the report may stand in
-/// the writer.
+/// Refused `BadShape` or `BadScript` where the script has a fault, and then nothing ran and nothing is
+/// written; `Memory` where memory was refused; `Output` where the writer failed. After the last two any part
+/// of the report may stand in the writer.
 pub fn run<C: Crew, W: Write>(
     alloc: Global,
     script: &[u8],
@@ -296,7 +297,8 @@ pub fn run<C: Crew, W: Write>(
     // What was written is a report of the script, and so are the count and the states.
     ensures report { IfOk result (λ report. (said : Said) × (answers : List Answer) × (end : Bench)
         × (script_of script.now ≡ Ok said) × IsReport said answers end × Reported (W.contents out.old) (W.contents out.new) report answers) }
-    // From the script's bytes to those of the report: what was written keeps the prefix law, where no line is a poke.
+    // From the script's bytes to those of the report: what was written keeps the prefix law, where no line is
+    // a poke.
     ensures law { IfOk result (λ report. (said : Said) × (answers : List Answer) × (script_of script.now ≡ Ok said) × (AreByFirmware said.lines → KeepsPrefixLaw said.lines answers)
         × Reported (W.contents out.old) (W.contents out.new) report answers) }
     // A refusal is the script's fault, or lack of memory, or the writer's.

@@ -124,7 +124,8 @@ fn cut(power: Power, fill: Fill) -> Power
     Power::Off(disk_left(power).after_cut(choice(fill)))
 }
 
-/// Arms a cut or a failure of the disk, or of one of its lanes, in the place of an older one, with the board on or off.
+/// Arms a cut or a failure of the disk, or of one of its lanes, in the place of an older one, with the board
+/// on or off.
 fn arm(power: Power, fault: ArmedFault) -> (Power, Answer)
     requires { IsResting power }
     ensures reported { (size : Size) (b : Bench) → Agrees size b power → StepsTo size b result.0 (ArmStep (armed_by fault) b result.1) }
@@ -438,8 +439,8 @@ fn mem_line(address: u64, count: u32, power: &Power) -> MachineLine
     }
 }
 
-/// Writes bytes into a sector past the firmware, while the board is off. Refused where there is no memory for it, and then the
-/// bench is as it was.
+/// Writes bytes into a sector past the firmware, while the board is off. Refused where there is no memory for
+/// it, and then the bench is as it was.
 fn poke_line(
     sector: u32,
     offset: u32,
@@ -483,8 +484,8 @@ fn shown(did: (Power, MachineLine)) -> (Power, Result<Answer, Refusal>)
     (after, Ok(says(Printed::Shown(line))))
 }
 
-/// One line of a script, as far as no armed cut strikes. Refused only where there is no memory for a payload or a poke, and
-/// then the bench is as it was.
+/// One line of a script, as far as no armed cut strikes. Refused only where there is no memory for a payload
+/// or a poke, and then the bench is as it was.
 fn step<C: Crew>(
     alloc: Global,
     crew: &C,
@@ -550,8 +551,8 @@ fn step<C: Crew>(
     }
 }
 
-/// One line of a script. Where an armed cut struck within it, its report is `power lost`, and what was written since the last
-/// sync holds what the newest armed cut is to leave. Refused as [`step`] is.
+/// One line of a script. Where an armed cut struck within it, its report is `power lost`, and what was
+/// written since the last sync holds what the newest armed cut is to leave. Refused as [`step`] is.
 pub fn moves<C: Crew>(
     alloc: Global,
     crew: &C,

@@ -1,5 +1,6 @@
-//! Power lost, and a failure, at each call of the disk that a line makes. What is to be found then is reckoned from the rules:
-//! docs/STORE.md has the order of the calls, and what the bytes of a torn gate select.
+//! Power lost, and a failure, at each call of the disk that a line makes. What is to be found then is
+//! reckoned from the rules: docs/STORE.md has the order of the calls, and what the bytes of a torn gate
+//! select.
 
 use crate::told::{START, STARTED, reports};
 use std::alloc::{AllocError, Global};
@@ -10,8 +11,8 @@ use std::thread::Threads;
 /// A fill of a script.
 pub struct Torn {
     pub word: &'static [u8],
-    /// Whether the gate then selects the new record: by the parity of its bytes, which were 0 at the last sync and 1 in the
-    /// last write.
+    /// Whether the gate then selects the new record: by the parity of its bytes, which were 0 at the last
+    /// sync and 1 in the last write.
     pub selects_new: bool,
     /// The same of the next commit, at whose last sync they were 1 and in whose last write 0.
     pub selects_next: bool,
@@ -95,8 +96,8 @@ const FOUND_1: &[u8] = b"found slot 1 reason 0 image none next 0\non fresh\n";
 
 const FOUND_2: &[u8] = b"found slot 2 reason 0 image none next 0\non fresh\n";
 
-/// A guest that asks for a cold reboot with reason 1 in its sixth instruction, writes 7 into x5 where that is answered, and then
-/// jumps to itself.
+/// A guest that asks for a cold reboot with reason 1 in its sixth instruction, writes 7 into x5 where that is
+/// answered, and then jumps to itself.
 const GUEST: &[u8] =
     b"board 1 1 1\npayload 0 b75852539388483513080000130510009305100073000000930270006f000000\nformat\non fresh\n";
 
@@ -157,7 +158,8 @@ fn slot_is_cut(
     )
 }
 
-/// A format is read, record, gate, sync, superblock, sync: only a superblock that stands makes the disk a formatted one.
+/// A format is read, record, gate, sync, superblock, sync: only a superblock that stands makes the disk a
+/// formatted one.
 fn format_is_cut(
     rt: &(impl Abort + Threads + Sync),
     alloc: Global,
@@ -206,8 +208,8 @@ fn on_is_cut(
     )
 }
 
-/// A slot that fails before the gate is written is refused 5, and the next one is made; from the gate on it is refused 6, and so
-/// is the next, until the fill settles it.
+/// A slot that fails before the gate is written is refused 5, and the next one is made; from the gate on it
+/// is refused 6, and so is the next, until the fill settles it.
 fn slot_fails(
     rt: &(impl Abort + Threads + Sync),
     alloc: Global,
@@ -238,8 +240,8 @@ fn slot_fails(
     )
 }
 
-/// A format that fails is refused 5. The failed write of the superblock reads as before; where only its sync failed it reads as
-/// written.
+/// A format that fails is refused 5. The failed write of the superblock reads as before; where only its sync
+/// failed it reads as written.
 fn format_fails(
     rt: &(impl Abort + Threads + Sync),
     alloc: Global,
@@ -278,7 +280,8 @@ fn on_fails(rt: &(impl Abort + Threads + Sync), alloc: Global, call: &Call) -> R
     )
 }
 
-/// A guest's reset is a command as a slot is, in the middle of its line of turns: it is not told, and no turn follows.
+/// A guest's reset is a command as a slot is, in the middle of its line of turns: it is not told, and no turn
+/// follows.
 fn reset_is_cut(
     rt: &(impl Abort + Threads + Sync),
     alloc: Global,

@@ -1,6 +1,7 @@
-//! Power lost, and a failure, at each call that a guest's suspension makes, over a board of 5 pages and 4 lanes. Lane 0 saves pages 0
-//! and 4 and each other lane one page: its header, and then its data. Then come the disk's sync and a commit: record, sync, gate,
-//! sync (docs/STORE.md). Whatever a cut leaves, the next open finds the state before or the one with the image.
+//! Power lost, and a failure, at each call that a guest's suspension makes, over a board of 5 pages and 4
+//! lanes. Lane 0 saves pages 0 and 4 and each other lane one page: its header, and then its data. Then come
+//! the disk's sync and a commit: record, sync, gate, sync (docs/STORE.md). Whatever a cut leaves, the next
+//! open finds the state before or the one with the image.
 
 use crate::cuts::{FILLS, Torn, told};
 use std::alloc::Global;
@@ -88,7 +89,8 @@ fn second_is_cut(
     )
 }
 
-/// A suspension that fails before the gate is written is answered -1 and leaves what stood, and the next one is made.
+/// A suspension that fails before the gate is written is answered -1 and leaves what stood, and the next one
+/// is made.
 fn fails_early(
     rt: &(impl Abort + Threads + Sync),
     alloc: Global,
@@ -112,7 +114,8 @@ fn fails_early(
     )
 }
 
-/// From the gate on a suspension that fails is in doubt: each later command is refused 6, until the fill settles it.
+/// From the gate on a suspension that fails is in doubt: each later command is refused 6, until the fill
+/// settles it.
 fn fails_late(
     rt: &(impl Abort + Threads + Sync),
     alloc: Global,

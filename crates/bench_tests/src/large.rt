@@ -58,8 +58,8 @@ fn a_report_of_more_than_ten_thousand_lines(rt: HostRuntime) -> Result<(), Fail>
     reports(&rt, alloc, &script, &text)
 }
 
-/// The lines of a life whose journal is full after 4,096 commands: its own commands and a guest's reset are refused, and the next
-/// life begins with an empty one.
+/// The lines of a life whose journal is full after 4,096 commands: its own commands and a guest's reset are
+/// refused, and the next life begins with an empty one.
 #[test]
 fn a_full_journal_refuses_a_guests_reset(rt: HostRuntime) -> Result<(), Fail> {
     let alloc = rt.alloc();

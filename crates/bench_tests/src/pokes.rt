@@ -1,5 +1,5 @@
-//! Disks that somebody wrote past the firmware: what the next power-on finds. A board that is refused leaves the durable state as
-//! it was, so the same disk is found again, and with its bytes put back it goes on.
+//! Disks that somebody wrote past the firmware: what the next power-on finds. A board that is refused leaves
+//! the durable state as it was, so the same disk is found again, and with its bytes put back it goes on.
 
 use crate::cuts::told;
 use crate::told::reports;
@@ -181,8 +181,8 @@ fn each_byte_of_a_header_counts(rt: HostRuntime) -> Result<(), Fail> {
     reports(&rt, alloc, &script, &report)
 }
 
-/// The second image, with serial 1, stands in area 1, from sector 26 on. With the serial of the older one in a header it is not read,
-/// and the durable state is as it was.
+/// The second image, with serial 1, stands in area 1, from sector 26 on. With the serial of the older one in
+/// a header it is not read, and the durable state is as it was.
 #[test]
 fn a_page_of_the_older_image_is_not_read(rt: HostRuntime) -> Result<(), Fail> {
     told(
@@ -201,8 +201,9 @@ fn a_page_of_the_older_image_is_not_read(rt: HostRuntime) -> Result<(), Fail> {
     )
 }
 
-/// Lanes 0 and 1 of 3 pages save 2 pages and 1. Counts of 1 and 2 name place 1 of lane 1, at sector 35, which holds no header of the
-/// page that is then missing; with one there the image reads again, since a page may stand in any place.
+/// Lanes 0 and 1 of 3 pages save 2 pages and 1. Counts of 1 and 2 name place 1 of lane 1, at sector 35, which
+/// holds no header of the page that is then missing; with one there the image reads again, since a page may
+/// stand in any place.
 #[test]
 fn counts_that_lie_are_found_out(rt: HostRuntime) -> Result<(), Fail> {
     reports(

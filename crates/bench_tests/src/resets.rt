@@ -3,7 +3,8 @@
 use crate::told::{goes_on, reports};
 use std::test::*;
 
-/// The sixth instruction is an ECALL for a cold reboot with reason 1, which the next boot finds in a1; no turn follows it.
+/// The sixth instruction is an ECALL for a cold reboot with reason 1, which the next boot finds in a1; no
+/// turn follows it.
 #[test]
 fn a_guest_reboots(rt: HostRuntime) -> Result<(), Fail> {
     reports(

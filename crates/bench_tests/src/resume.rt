@@ -1,5 +1,6 @@
-//! Boards that go on with an image. On a board of one page the open makes the disk's calls 1 to 4, the load of the image 5 and 6, and
-//! the command that consumes it 7 to 10: record, sync, gate, sync (docs/STORE.md, docs/IMAGE.md).
+//! Boards that go on with an image. On a board of one page the open makes the disk's calls 1 to 4, the load
+//! of the image 5 and 6, and the command that consumes it 7 to 10: record, sync, gate, sync (docs/STORE.md,
+//! docs/IMAGE.md).
 
 use crate::cuts::{FILLS, Torn, told};
 use crate::told::{goes_on, reports};
@@ -141,8 +142,8 @@ fn a_failure_at_each_call_of_a_resume_is_told(rt: HostRuntime) -> Result<(), Fai
     Ok(())
 }
 
-/// The second hart suspends the board, while an interrupt is pending for the first, which is STOPPED. Nothing of either stays: the
-/// second hart stands alone at its address, with its number and the opaque value.
+/// The second hart suspends the board, while an interrupt is pending for the first, which is STOPPED. Nothing
+/// of either stays: the second hart stands alone at its address, with its number and the opaque value.
 #[test]
 fn the_hart_that_suspended_goes_on_alone(rt: HostRuntime) -> Result<(), Fail> {
     reports(
@@ -153,7 +154,8 @@ fn the_hart_that_suspended_goes_on_alone(rt: HostRuntime) -> Result<(), Fail> {
     )
 }
 
-/// A life that began with a resume counts its commands behind the one that consumed the image, and makes an image of its own.
+/// A life that began with a resume counts its commands behind the one that consumed the image, and makes an
+/// image of its own.
 #[test]
 fn a_resumed_board_goes_on_like_any_other(rt: HostRuntime) -> Result<(), Fail> {
     goes_on(

@@ -30,7 +30,8 @@ fn the_disk_of_a_writer_that_failed_powers_on(rt: HostRuntime) -> Result<(), Fai
     Ok(())
 }
 
-/// Run with each allocation failing in turn: a disk that is given back is powered on, or was not formatted yet.
+/// Run with each allocation failing in turn: a disk that is given back is powered on, or was not formatted
+/// yet.
 #[test]
 fn the_disk_of_a_run_out_of_memory_powers_on(rt: HostRuntime) -> Result<(), Fail> {
     let alloc = rt.alloc();

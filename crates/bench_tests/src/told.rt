@@ -23,7 +23,8 @@ pub fn in_turn<R: Threads + Sync>(_rt: &R) -> Result<Turns<R>, Fail> {
     Ok(crew)
 }
 
-/// The report of a script is this text, its count that of the text's lines, and the disk that is left never failed.
+/// The report of a script is this text, its count that of the text's lines, and the disk that is left never
+/// failed.
 pub fn reports<R: Abort + Threads + Sync>(
     rt: &R,
     alloc: Global,

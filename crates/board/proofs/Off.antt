@@ -1,4 +1,5 @@
--- A board that is off after an open that succeeded, put together from the open and from what the boot made of the store.
+-- A board that is off after an open that succeeded, put together from the open and from what the boot made of
+-- the store.
 use Rattle.std.proofs.Common.{◌≡◌, ℕ, List, ap, ◌∙◌, subst}
 use Rattle.board_model.specs.Shapes.{Size}
 use Rattle.board_model.specs.Views.{durable_of}

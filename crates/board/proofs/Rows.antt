@@ -36,8 +36,8 @@ module _ {D L : Type 0} {g : Ghosts D L} {l : Lanes L} where
   asks_nothing Stopped n h m s on = absurd (on (inl refl))
   asks_nothing Durable n h m s on = absurd (on (inl refl))
 
-  -- So many of the turns were made: if the last of them is the last of the line, that is the line; else whatever those that are
-  -- left come to, the line comes to.
+  -- So many of the turns were made: if the last of them is the last of the line, that is the line; else
+  -- whatever those that are left come to, the line comes to.
   pub record Reaches (h count made : ℕ) (m n : Machine) (old new : Store D L g l) (word : Word) : Type 0 where
     pub stops : (left : ℕ) → left + made ≡ count → IsLastHeld word left new → TurnsManyHeld h count m n old new made word
     pub goes_on : ends word ≡ false → IsCalm new → (left rest total : ℕ) (end : Machine) (store : Store D L g l) (last : Word) → left + made ≡ count → total ≡ made + rest → TurnsManyHeld h left n end new store rest last

@@ -1,5 +1,5 @@
--- Which board a power-on begins by its mode, and which refusals there are, in their order, once the disk was opened.
--- Source: docs/BOARD.md, "Power on"; SBI specification 2.0, chapter 13.
+-- Which board a power-on begins by its mode, and which refusals there are, in their order, once the disk was
+-- opened. Source: docs/BOARD.md, "Power on"; SBI specification 2.0, chapter 13.
 use Rattle.std.specs.Prelude.{◌≡◌, ◌<◌, ℕ, List, Option, None, Some, is_some, IfSome, length, IsTrue}
 use Rattle.board_model.specs.Durable.{DurableState, Image, IsWhole}
 use Rattle.board_model.specs.Shapes.{Size, ram_bytes_of}
@@ -27,8 +27,8 @@ boot_hart modes.Keep s = 0
 boot_hart modes.Discard s = 0
 boot_hart modes.Resume s = image_hart s.image
 
--- The board goes on with the image that stands: it has the image's memory, byte for byte, and of its harts the image's alone
--- runs. Nothing of it is the slot's.
+-- The board goes on with the image that stands: it has the image's memory, byte for byte, and of its harts
+-- the image's alone runs. Nothing of it is the slot's.
 pub record IsResumed (size : Size) (s : DurableState) (m : Machine) : Type 0 where
   pub image : Image
   pub stands : s.image ≡ Some image
@@ -36,7 +36,8 @@ pub record IsResumed (size : Size) (s : DurableState) (m : Machine) : Type 0 whe
   pub whole : length image.memory ≡ ram_bytes_of size
   pub is : m ≡ woken image size
 
--- the board that the mode begins where the open found that state: the slot's payload is booted, or the image goes on
+-- the board that the mode begins where the open found that state: the slot's payload is booted, or the image
+-- goes on
 abbrev pub IsBegun : BootMode → Size → List (List ℕ) → DurableState → Machine → Type 0
 IsBegun modes.Fresh size payloads s m = m ≡ booted payloads s size
 IsBegun modes.Keep size payloads s m = m ≡ booted payloads s size
@@ -47,8 +48,8 @@ IsBegun modes.Resume size payloads s m = IsResumed size s m
 abbrev pub Issues : BootMode → Type 0
 Issues mode = IsTrue (is_some (issued_by mode))
 
--- of a mode that the state allows, in this order: a payload that does not fit, memory, an image that has not the memory of its
--- board, and the disk, where the mode issues a command
+-- of a mode that the state allows, in this order: a payload that does not fit, memory, an image that has not
+-- the memory of its board, and the disk, where the mode issues a command
 abbrev pub IsLateRefusal : BootMode → Size → List (List ℕ) → DurableState → Refusal → Type 0
 IsLateRefusal mode size payloads s BadShape = PayloadsFit size payloads → ⊥
 IsLateRefusal mode size payloads s Memory = PayloadsFit size payloads

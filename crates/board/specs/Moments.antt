@@ -23,8 +23,8 @@ gone_before mode Device = issued_by mode
 gone_before mode Down = issued_by mode
 gone_before mode e = None
 
--- what a crash may leave from the start of a power-on, or from an open on: what a crash just before it could have left, or where that command
--- may have gone to the disk, the state found before or after it
+-- what a crash may leave from the start of a power-on, or from an open on: what a crash just before it could
+-- have left, or where that command may have gone to the disk, the state found before or after it
 abbrev pub MayLeave : Facts → Size → DurableState → Option Change → Content → Type 0
 MayLeave disk size s None c = disk.may_leave c
 MayLeave disk size s (Some change) c = disk.may_leave c ⊎ StandsForEither size s (after s change) c

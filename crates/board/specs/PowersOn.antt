@@ -20,10 +20,11 @@ use Rattle.board.specs.Begins.{IsBegun, RefusesBoot}
 use Rattle.board.specs.Moments.{issued_by, gone_before, MayLeave}
 use Rattle.board.specs.Unbooted.{doubt_after, LeavesLife, CountsRefusal}
 
--- The board is on. Its life begins in the state that the disk stands for, which a crash just before could have left, with the
--- command that the mode issues, acknowledged; a crash leaves that state now and no other. At each moment since the call's start
--- a crash leaves what one just before could have left, or the state found before or after that command. The mode was allowed and
--- all payloads fit, and its memory and harts are those that the mode begins.
+-- The board is on. Its life begins in the state that the disk stands for, which a crash just before could
+-- have left, with the command that the mode issues, acknowledged; a crash leaves that state now and no other.
+-- At each moment since the call's start a crash leaves what one just before could have left, or the state
+-- found before or after that command. The mode was allowed and all payloads fit, and its memory and harts are
+-- those that the mode begins.
 pub record IsOn (mode : BootMode) (payloads : List (List ℕ)) (disk : Facts) (store : StoreView) (machine : Machine) : Type 0 where
   pub reads : StandsFor disk.content store.size store.life.found
   pub found : Leaves disk store.size store.life.found
@@ -35,9 +36,9 @@ pub record IsOn (mode : BootMode) (payloads : List (List ℕ)) (disk : Facts) (s
   pub begun : IsBegun mode store.size payloads store.life.found machine
   pub opened : store.failures_at_open ≡ disk.failures
 
--- The board is off, after an open that found this state. A crash leaves that state alone, but after 6 that state or the one after
--- the command of the mode; and at each moment since the call's start what one just before could have left, or where a command may
--- have gone to the disk, the state found before or after it.
+-- The board is off, after an open that found this state. A crash leaves that state alone, but after 6 that
+-- state or the one after the command of the mode; and at each moment since the call's start what one just
+-- before could have left, or where a command may have gone to the disk, the state found before or after it.
 pub record IsOff (mode : BootMode) (payloads : List (List ℕ)) (found : Durable) (old : Facts) (e : Refusal) (new : Facts) : Type 0 where
   pub size : Size
   pub state : DurableState
@@ -65,7 +66,8 @@ pub record KeepsDisk (old : Facts) (m : FaultState) (new : Facts) (n : FaultStat
   pub cause : n ≡ m
   pub no_failure : new.failures ≡ old.failures
 
--- The disk that is given back: as long, nothing of it is lent, and a refusal by its failure has a cause and is counted.
+-- The disk that is given back: as long, nothing of it is lent, and a refusal by its failure has a cause and
+-- is counted.
 pub record GivesDisk (old : Facts) (m : FaultState) (e : Refusal) (new : Facts) (n : FaultState) : Type 0 where
   pub length : SameLength old new
   pub none_out : IsIdle new

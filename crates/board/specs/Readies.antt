@@ -1,5 +1,5 @@
--- How an open store becomes a board: what a boot by the mode makes of it, as it succeeds and as it is refused.
--- Source: docs/BOARD.md, "Power on".
+-- How an open store becomes a board: what a boot by the mode makes of it, as it succeeds and as it is
+-- refused. Source: docs/BOARD.md, "Power on".
 use Rattle.std.specs.Prelude.{◌≡◌, ◌≤◌}
 use Rattle.board_model.specs.declared.boot_mode.BootMode.{BootMode}
 use Rattle.board_model.specs.declared.refusal.Refusal.{Refusal}

@@ -1,5 +1,5 @@
--- Turns and calls of a board's harts: what the machine makes of them, and the command that one of them may make of the store.
--- Source: docs/BOARD.md; SBI specification 2.0, chapters 10 and 13.
+-- Turns and calls of a board's harts: what the machine makes of them, and the command that one of them may
+-- make of the store. Source: docs/BOARD.md; SBI specification 2.0, chapters 10 and 13.
 use Rattle.std.specs.Prelude.{◌≡◌, ◌⊎◌, ℕ, zero, suc, true, false, Option, Some, None}
 use Rattle.disk.specs.declared.device.Disk.{Ghosts}
 use Rattle.disk.specs.declared.device.Lane.{Ghosts as Lanes}
@@ -18,8 +18,8 @@ use Rattle.machine.specs.declared.parts.Word.{Word}
 use Rattle.machine.specs.declared.parts.Word.TheVariants.{Own}
 
 module _ {D L : Type 0} {g : Ghosts D L} {l : Lanes L} where
-  -- What comes of what hart h did, on a board whose machine then is m: it stands at a durable call, which is made with the
-  -- store; or that is its word, and the store is not asked.
+  -- What comes of what hart h did, on a board whose machine then is m: it stands at a durable call, which is
+  -- made with the store; or that is its word, and the store is not asked.
   abbrev pub Comes : Turned → ℕ → Machine → Machine → Store D L g l → Store D L g l → Word → Type 0
   Comes Durable h m n old new word = (held : Held) × MakesCall h m n old new held × (word ≡ word_by held)
   Comes did h m n old new word = (n ≡ m) × (new ≡ old) × (word ≡ Own did)
@@ -28,7 +28,8 @@ module _ {D L : Type 0} {g : Ghosts D L} {l : Lanes L} where
   abbrev pub TurnsHeld : ℕ → Machine → Machine → Store D L g l → Store D L g l → Word → Type 0
   TurnsHeld h m n old new word = (mid : Machine) × (did : Turned) × machines.MakesTurn h m mid did × Comes did h mid n old new word
 
-  -- the turn is the last of a line, with so many that might follow: it ends the line, none is left, or a cut struck in it
+  -- the turn is the last of a line, with so many that might follow: it ends the line, none is left, or a cut
+  -- struck in it
   abbrev pub IsLastHeld : Word → ℕ → Store D L g l → Type 0
   IsLastHeld word left store = (ends word ≡ true) ⊎ ((left ≡ 0) ⊎ ((fault_state_of store).struck ≡ true))
 

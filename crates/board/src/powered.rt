@@ -72,15 +72,15 @@ impl<D: Disk + Drop> Board<D> {
     ghost use Rattle.board.specs.PowersOn.{IsOn, IsUnpowered, KeepsDisk, GivesDisk};
     ghost use Rattle.board.specs.Unbooted.{IsNowAfter};
 
-    /// Powers a board on: opens the disk, and begins by the mode (docs/BOARD.md, "Power on"). Fresh, keep and discard boot the
-    /// slot, discard once the image is dropped. Resume goes on with the image: its memory is loaded, then the image is
-    /// consumed, and only then its hart stands at its address.
+    /// Powers a board on: opens the disk, and begins by the mode (docs/BOARD.md, "Power on"). Fresh, keep and
+    /// discard boot the slot, discard once the image is dropped. Resume goes on with the image: its memory is
+    /// loaded, then the image is consumed, and only then its hart stands at its address.
     ///
-    /// Refused as `Store::open` says; then `ImageThere` for fresh where an image stands, `NoImage` for discard and resume
-    /// where none does; then `BadShape` where any of the four payloads is longer than RAM, in every mode; then `Memory`;
-    /// then for resume `Device` and `BadImage` as `Store::load_image` says; then for discard and resume `Device` and `Down` for
-    /// the command. A refusal gives the disk back. After each the durable state is the one found, but after `Down` it may be
-    /// the one without the image.
+    /// Refused as `Store::open` says; then `ImageThere` for fresh where an image stands, `NoImage` for
+    /// discard and resume where none does; then `BadShape` where any of the four payloads is longer than RAM,
+    /// in every mode; then `Memory`; then for resume `Device` and `BadImage` as `Store::load_image` says;
+    /// then for discard and resume `Device` and `Down` for the command. A refusal gives the disk back. After
+    /// each the durable state is the one found, but after `Down` it may be the one without the image.
     pub fn power_on(
         alloc: Global,
         disk: D,
@@ -92,7 +92,8 @@ impl<D: Disk + Drop> Board<D> {
         ensures off { IfErr result (λ e. IsUnpowered mode payloads.now e.found (D.facts disk) e.refusal (D.facts e.disk)) }
         ensures now { IfErr result (λ e. IsNowAfter mode e.refusal e.found e.now) }
 
-        // A disk that reads as no state is refused so, or for its failure; one without sectors before any call of it.
+        // A disk that reads as no state is refused so, or for its failure; one without sectors before any
+        // call of it.
         ensures refuses { (e : Refusal) → ReadsAs (D.facts disk).content e → MatchResult result (λ board. ⊥) (λ f. (f.found ≡ None) × ((f.refusal ≡ e) ⊎ (f.refusal ≡ Refusal.Device))) }
         ensures no_sectors { length (D.facts disk).content ≡ 0 → MatchResult result (λ board. ⊥) (λ f. (f.refusal ≡ Refusal.BadShape) × (f.found ≡ None) × (f.disk ≡ disk)) }
 
@@ -128,8 +129,8 @@ impl<D: Disk + Drop> Board<D> {
         &self.machine
     }
 
-    /// Arms a fault of the disk in place of an older one. That is no call of the disk, and the board stays as it is; a
-    /// disk may ignore what is armed.
+    /// Arms a fault of the disk in place of an older one. That is no call of the disk, and the board stays as
+    /// it is; a disk may ignore what is armed.
     pub fn arm(&mut self, fault: ArmedFault)
         ensures machine { machine_of self.new ≡ machine_of self.old }
         ensures life { life_of (store_of self.new) ≡ life_of (store_of self.old) }
@@ -170,10 +171,10 @@ impl<D: Disk + Drop> Board<D> {
         }
     }
 
-    /// One turn of a hart of this board, and the command that it may make of the store: a system reset, or a system suspend
-    /// with the memory of this turn. `Asleep` and `Reset` end the life, once that command was acknowledged; no hart makes a
-    /// turn after them. Where the store refuses, the hart is answered -1, and that is `Next`. Memory is taken for a suspend
-    /// alone.
+    /// One turn of a hart of this board, and the command that it may make of the store: a system reset, or a
+    /// system suspend with the memory of this turn. `Asleep` and `Reset` end the life, once that command was
+    /// acknowledged; no hart makes a turn after them. Where the store refuses, the hart is answered -1, and
+    /// that is `Next`. Memory is taken for a suspend alone.
     #[inline(always)]
     pub fn turn<C: Crew>(&mut self, alloc: Global, crew: &C, hart: HartId) -> Word
         requires { hart < length (machine_of self.old).harts }
@@ -220,8 +221,8 @@ impl<D: Disk + Drop> Board<D> {
         self.machine.hart(hart)
     }
 
-    /// Turns of a hart in a row, `most` of them at most, of which the last alone may have asked the store: how many were
-    /// made, and what is said of the last.
+    /// Turns of a hart in a row, `most` of them at most, of which the last alone may have asked the store:
+    /// how many were made, and what is said of the last.
     fn row<C: Crew>(&mut self, alloc: Global, crew: &C, hart: HartId, most: u32) -> (u32, Word)
         requires hart { hart < length (machine_of self.old).harts }
         requires some { 1 ≤ most }
@@ -234,9 +235,9 @@ impl<D: Disk + Drop> Board<D> {
         (made, word)
     }
 
-    /// At most so many turns of a hart of this board, one after another, as `turn` makes each: how many were made, and what
-    /// is said of the last one. One that stops the hart is the last, and so is one that ends the life, and one in which an
-    /// armed cut struck. None may have struck before it.
+    /// At most so many turns of a hart of this board, one after another, as `turn` makes each: how many were
+    /// made, and what is said of the last one. One that stops the hart is the last, and so is one that ends
+    /// the life, and one in which an armed cut struck. None may have struck before it.
     pub fn turns<C: Crew>(
         &mut self,
         alloc: Global,
@@ -261,8 +262,9 @@ impl<D: Disk + Drop> Board<D> {
         (made, word)
     }
 
-    /// An SBI call that is made in the place of a hart of this board, as `Machine::call` says, and the command that it may
-    /// make of the store, as in `turn`. None where the hart is not STARTED; then nothing was done.
+    /// An SBI call that is made in the place of a hart of this board, as `Machine::call` says, and the
+    /// command that it may make of the store, as in `turn`. None where the hart is not STARTED; then nothing
+    /// was done.
     pub fn call<C: Crew>(
         &mut self,
         alloc: Global,
@@ -294,7 +296,8 @@ impl<D: Disk + Drop> Board<D> {
         self.machine.pending(hart)
     }
 
-    /// Issues a durable command of the console, Slot or Discard, and answers its place in the journal of this life.
+    /// Issues a durable command of the console, Slot or Discard, and answers its place in the journal of this
+    /// life.
     ///
     /// Refused as `Store::apply` says; memory and harts stay as they are.
     pub fn console(&mut self, command: Command) -> Result<Receipt, Refusal>
@@ -309,7 +312,8 @@ impl<D: Disk + Drop> Board<D> {
         self.store.apply(command)
     }
 
-    /// Turns the board off, and gives the disk back: a crash leaves the state now, or with a command in doubt one of two.
+    /// Turns the board off, and gives the disk back: a crash leaves the state now, or with a command in doubt
+    /// one of two.
     pub fn into_disk(self) -> D
         ensures up { (s : DurableState) → Stands (store_of self) s → LeavesOnly (D.facts result) (size_of_store (store_of self)) s }
         ensures down { (s t : DurableState) → Doubts (store_of self) s t → LeavesEither (D.facts result) (size_of_store (store_of self)) s t }

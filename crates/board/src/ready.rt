@@ -51,7 +51,8 @@ fn first_hart<D: Disk + Drop>(store: &Store<D>, mode: BootMode) -> HartId
     }
 }
 
-/// The board of an open store before a boot by the mode. Refused 3 where a payload does not fit, else 11 because memory ran out.
+/// The board of an open store before a boot by the mode. Refused 3 where a payload does not fit, else 11
+/// because memory ran out.
 fn resting<D: Disk + Drop>(
     alloc: Global,
     store: &Store<D>,
@@ -83,8 +84,8 @@ fn boot_slot<D: Disk + Drop>(machine: &mut Machine, store: &Store<D>, payloads: 
     machine.boot(&store.shape(), payloads.get(now.slot), now.reason);
 }
 
-/// Begins what the mode asks for, on a board that was just made: boots the slot, after discard once its command was
-/// acknowledged; or goes on with the image.
+/// Begins what the mode asks for, on a board that was just made: boots the slot, after discard once its
+/// command was acknowledged; or goes on with the image.
 fn begin<D: Disk + Drop>(
     machine: &mut Machine,
     store: &mut Store<D>,
@@ -113,8 +114,8 @@ fn begin<D: Disk + Drop>(
     Ok(())
 }
 
-/// Makes the board of a store that was just opened, and begins what the mode asks for. The checks come in the order of
-/// docs/BOARD.md; all memory is taken before a command is issued.
+/// Makes the board of a store that was just opened, and begins what the mode asks for. The checks come in the
+/// order of docs/BOARD.md; all memory is taken before a command is issued.
 pub fn ready<D: Disk + Drop>(
     alloc: Global,
     store: &mut Store<D>,

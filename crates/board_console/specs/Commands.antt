@@ -1,4 +1,5 @@
--- What the console makes of a line, with the store at hand. Source: docs/CONSOLE.md, "The console"; docs/DURABLE.md.
+-- What the console makes of a line, with the store at hand. Source: docs/CONSOLE.md, "The console";
+-- docs/DURABLE.md.
 use Rattle.std.specs.Prelude.{◌≡◌, ℕ, Result, Ok, Err}
 use Rattle.board_model.specs.Durable.{Slot, Discard}
 use Rattle.board_model.specs.Views.{durable_of}
@@ -33,8 +34,8 @@ IsAnswerTo saids.Quit answer = answer ≡ answers.Quit
 IsAnswerTo saids.Other answer = answer ≡ answers.Unknown
 
 module _ {D L : Type 0} {g : Ghosts D L} {l : Lanes L} where
-  -- A line with a command asks the store once, and no other line asks it; `state` is the state now, without a command
-  -- in doubt.
+  -- A line with a command asks the store once, and no other line asks it; `state` is the state now, without a
+  -- command in doubt.
   abbrev pub AnswersSaid : Said → Store D L g l → Store D L g l → Answer → Type 0
   AnswersSaid (saids.Slot n) old new answer = (r : Result ℕ Refusal) × Asked Applied old (Slot n) r new × (answer ≡ slot_answer r)
   AnswersSaid saids.Discard old new answer = (r : Result ℕ Refusal) × Asked Applied old Discard r new × (answer ≡ discard_answer r)

@@ -38,8 +38,8 @@ TalksOn zero a b = b ≡ a
 TalksOn (suc n) a b =
     (mid : DialogueEnds) × (said : Said) × TalksOn n a mid × Exchanged said mid b × (is_quit said ≡ false)
 
--- Lines and their answers, and then why the console left: the last line said `quit`, and was answered; no line was left;
--- or the answer to the last line could not be written.
+-- Lines and their answers, and then why the console left: the last line said `quit`, and was answered; no
+-- line was left; or the answer to the last line could not be written.
 abbrev pub Talks : Left → DialogueEnds → DialogueEnds → Type 0
 Talks lefts.Quit a b =
     (n : ℕ) × (mid : DialogueEnds) × (said : Said) × TalksOn n a mid × Exchanged said mid b × (is_quit said ≡ true)

@@ -12,8 +12,9 @@ use lib.Chars.{codes}
 abbrev pub HasNoFeed : List ℕ → Type 0
 HasNoFeed line = All (λ b. b ≢ 10) line
 
--- What is taken from an input where a line is asked for: the bytes of a line, and its line feed; or, where the input
--- ended or failed before one, the bytes until then, which are a line where there are some. The first 257 are kept.
+-- What is taken from an input where a line is asked for: the bytes of a line, and its line feed; or, where
+-- the input ended or failed before one, the bytes until then, which are a line where there are some. The
+-- first 257 are kept.
 abbrev pub TakesLine : Option (List ℕ) → Option (List ℕ) → List ℕ → Bool → Type 0
 TakesLine old new kept is_line =
     (line : List ℕ) × HasNoFeed line × (kept ≡ take 257 line)

@@ -9,9 +9,10 @@ use board_model::Command;
 use disk::Disk;
 use store::Store;
 
-/// Does what a line says, with the store that it is lent for this one moment: on a board of threads, under the store's
-/// lock. A command that was acknowledged is durable, and its receipt is its place in the journal of this life
-/// (`Store::entry` has it there from then on); after a refusal what stands is what `Store::apply` says.
+/// Does what a line says, with the store that it is lent for this one moment: on a board of threads, under
+/// the store's lock. A command that was acknowledged is durable, and its receipt is its place in the journal
+/// of this life (`Store::entry` has it there from then on); after a refusal what stands is what
+/// `Store::apply` says.
 pub fn obey<D: Disk + Drop>(store: &mut Store<D>, said: Said) -> Answer
     ensures asks { AnswersSaid said store.old store.new result }
     ensures fits { IsAnswerTo said result }

@@ -46,8 +46,8 @@ fn write_answer<W: Write>(out: &mut W, answer: Answer) -> Result<(), Refusal>
     out.flush().map_err(|_| Refusal::Output)
 }
 
-/// Takes one line after another from the input, obeys each in one hold of the store, and writes its answer with no lock
-/// held. It leaves after `quit`, at the end of input, and where an answer could not be written.
+/// Takes one line after another from the input, obeys each in one hold of the store, and writes its answer
+/// with no lock held. It leaves after `quit`, at the end of input, and where an answer could not be written.
 pub fn console<R: Wait, D: Disk + Drop, I: Read, W: Write>(
     rt: &R,
     store: &Mutex<Store<D>>,

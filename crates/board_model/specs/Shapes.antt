@@ -1,5 +1,5 @@
--- Shapes of boards, and the numbers that are valid on one.
--- Source: docs/ARCHITECTURE.md, "Limits"; for harts and addresses also the SBI specification 2.0, chapter HSM.
+-- Shapes of boards, and the numbers that are valid on one. Source: docs/ARCHITECTURE.md, "Limits"; for harts
+-- and addresses also the SBI specification 2.0, chapter HSM.
 use Rattle.std.specs.Prelude.{◌≡◌, ℕ, ◌+◌, ◌-◌, ◌*◌, ◌/◌, ◌%◌, ◌<◌, ◌≤◌}
 
 -- How many harts, pages of RAM and saver lanes a board has.

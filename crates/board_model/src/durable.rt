@@ -35,11 +35,13 @@ pub enum Command {
     Discard,
 }
 
-/// A durable command as a journal keeps it. A suspension stands there without its memory, which the image reads as.
+/// A durable command as a journal keeps it. A suspension stands there without its memory, which the image
+/// reads as.
 #[derive(Clone, Copy, Debug, PartialEq, Eq, Drop)]
 pub enum Entry {
     Command(Command),
-    /// The hart that suspended the board, the address at which it is resumed, and the value that it is given in a1.
+    /// The hart that suspended the board, the address at which it is resumed, and the value that it is given
+    /// in a1.
     Suspend(HartId, Addr, u64),
 }
 
@@ -67,8 +69,8 @@ pub struct Durable {
 }
 
 impl Durable {
-    /// The state after the command: docs/DURABLE.md, "Commands". Refused `BadSlot` for a slot above 3, and `NoImage` for
-    /// Consume or Discard without an image.
+    /// The state after the command: docs/DURABLE.md, "Commands". Refused `BadSlot` for a slot above 3, and
+    /// `NoImage` for Consume or Discard without an image.
     pub fn after(&self, command: Command) -> Result<Durable, Refusal>
         ensures { (s : DurableState) → durable_of s ≡ self.now → IsNextOf s (change_of command) result }
     {
@@ -83,8 +85,8 @@ impl Durable {
         }
     }
 
-    /// The state after a suspension by `hart`, to be resumed at `address` with `opaque` in a1, whatever the memory.
-    /// Refused `SerialsSpent` where the next serial is 2^64 - 1.
+    /// The state after a suspension by `hart`, to be resumed at `address` with `opaque` in a1, whatever the
+    /// memory. Refused `SerialsSpent` where the next serial is 2^64 - 1.
     pub fn after_suspend(
         &self,
         hart: HartId,

@@ -27,8 +27,8 @@ pub fn image_never_again()
         → (HasImage (after s c) serial → ⊥) → HasImage (fold (after s c) cs) serial → ⊥ }
 {}
 
-/// Where each suspension carries the memory of its board, so does each image that stands after it; and such a memory
-/// has bytes. What a format leaves has no image.
+/// Where each suspension carries the memory of its board, so does each image that stands after it; and such a
+/// memory has bytes. What a format leaves has no image.
 pub fn images_stay_whole()
     ensures first { (size : Size) → IsWhole size formatted }
     ensures next { (size : Size) (s : DurableState) (c : Change) → IsWhole size s → CarriesWhole size c → IsWhole size (after s c) }

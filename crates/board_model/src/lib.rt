@@ -1,5 +1,5 @@
-//! The words of the board that every crate above speaks: numbers in their range, the shape of a board, the durable
-//! state with its commands, and the refusals. docs/DURABLE.md tells the rules in plain words.
+//! The words of the board that every crate above speaks: numbers in their range, the shape of a board, the
+//! durable state with its commands, and the refusals. docs/DURABLE.md tells the rules in plain words.
 #![tactic(auto)]
 
 mod boot_mode;

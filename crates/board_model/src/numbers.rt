@@ -6,7 +6,8 @@ ghost use Rattle.board_model.specs.Shapes.{IsAddressIn};
 use crate::limits::{MAX_HARTS, MAX_PAGES, PAGE_BYTES, RAM_BASE, SLOTS};
 use std::marker::Model;
 
-/// The number of a hart, 0 to 7 (SBI specification 2.0, chapter HSM). `Shape::hart` tells whether a board has it.
+/// The number of a hart, 0 to 7 (SBI specification 2.0, chapter HSM). `Shape::hart` tells whether a board has
+/// it.
 #[derive(Clone, Copy, Debug, PartialEq, Eq, Drop)]
 pub struct HartId {
     number: u32,

@@ -82,7 +82,8 @@ impl Shape {
         self.pages as usize * PAGE_BYTES
     }
 
-    /// The places of a lane in one area of the disk: its pages by its lanes, rounded up. A place keeps one page.
+    /// The places of a lane in one area of the disk: its pages by its lanes, rounded up. A place keeps one
+    /// page.
     pub fn places(&self) -> usize
         ensures value { result ≡ places_of self.now }
         ensures range { (1 ≤ result) × (result ≤ 256) }

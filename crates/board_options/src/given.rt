@@ -12,7 +12,8 @@ pub struct Options {
     pub disk: String,
     /// How the board is powered on.
     pub mode: BootMode,
-    /// Whether a blank disk of the shape is made and formatted. Else the disk's file is read, and has the shape.
+    /// Whether a blank disk of the shape is made and formatted. Else the disk's file is read, and has the
+    /// shape.
     pub new: bool,
     /// The shape of a new disk.
     pub shape: Shape,

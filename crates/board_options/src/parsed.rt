@@ -83,8 +83,8 @@ fn turns(matches: &ArgMatches<'_>) -> Option<u64>
     Some(turns)
 }
 
-/// The options of a command line that was parsed. None where something that the command asks for is not there, which
-/// its own checks rule out.
+/// The options of a command line that was parsed. None where something that the command asks for is not
+/// there, which its own checks rule out.
 fn options_of(alloc: Global, matches: &ArgMatches<'_>) -> Result<Option<Options>, AllocError>
     ensures { IfOk result (λ found. IfSome found (ReadsOptions (found_of matches.now))) }
 {
@@ -111,9 +111,9 @@ fn options_of(alloc: Global, matches: &ArgMatches<'_>) -> Result<Option<Options>
     }))
 }
 
-/// Reads a command line, the program's name first. Where it answers `Ok` there is a path, one of the four boot modes,
-/// and each number is within its limit. The error is the command line's own text, which is the help or the version too,
-/// or says that memory was refused.
+/// Reads a command line, the program's name first. Where it answers `Ok` there is a path, one of the four
+/// boot modes, and each number is within its limit. The error is the command line's own text, which is the
+/// help or the version too, or says that memory was refused.
 pub fn read_options<'a, S: AsStr>(alloc: Global, words: &'a [S]) -> Result<Options, Error>
     ensures limits { IfOk result (λ o. (0 < string_len o.disk) × IsSize o.shape × AreTurns o.turns) }
     // And each option is what the words say, as the command line's parser reads them.

@@ -1,4 +1,5 @@
--- The text and the status of each fault with which the program ends. Source: docs/CONSOLE.md, "Statuses and faults".
+-- The text and the status of each fault with which the program ends. Source: docs/CONSOLE.md, "Statuses and
+-- faults".
 use Rattle.std.specs.Prelude.{ℕ, List, [], ◌++◌, Result, Ok, Err}
 use Rattle.std.specs.Fmt.{decimal}
 use Rattle.board_model.specs.Views.{number_of_refusal}

@@ -41,9 +41,9 @@ fn write_content(rt: &HostRuntime, path: &str, disk: &SimDisk) -> io::Result<()>
     out.get_ref().sync_all()
 }
 
-/// Writes the disk's file: into a file beside it, named `.new`, which is then renamed over it. So a host that crashes
-/// meanwhile leaves the file as it was or as it is written, and perhaps the other one. Where the other one cannot be
-/// written whole it is removed.
+/// Writes the disk's file: into a file beside it, named `.new`, which is then renamed over it. So a host that
+/// crashes meanwhile leaves the file as it was or as it is written, and perhaps the other one. Where the
+/// other one cannot be written whole it is removed.
 pub fn write_disk(rt: &HostRuntime, path: &str, disk: &SimDisk) -> Result<(), Fault> {
     let alloc = rt.alloc();
     let beside = format!(in alloc; "{path}.new").map_err(memory_fault)?;

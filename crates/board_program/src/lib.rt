@@ -18,8 +18,8 @@ use std::process::ExitCode;
 use std::sync::Wait;
 use std::thread::Threads;
 
-/// Runs the board that the options ask for, from its files to its disk's file. The disk's file is written wherever a
-/// disk was made or read, also after a refusal; of two faults the first is told.
+/// Runs the board that the options ask for, from its files to its disk's file. The disk's file is written
+/// wherever a disk was made or read, also after a refusal; of two faults the first is told.
 fn run<R: Threads + Wait + Sync>(
     rt: &HostRuntime,
     threads: &R,
@@ -55,9 +55,9 @@ fn operated<R: Threads + Wait + Sync>(rt: &HostRuntime, threads: &R) -> Result<(
     }
 }
 
-/// The whole program: runs a board on threads with the operator's console on standard input and output, or says on
-/// standard error why not. Answers the status that docs/CONSOLE.md, "Statuses and faults", has. The second handle makes
-/// the threads of harts and lanes, and waits for them.
+/// The whole program: runs a board on threads with the operator's console on standard input and output, or
+/// says on standard error why not. Answers the status that docs/CONSOLE.md, "Statuses and faults", has. The
+/// second handle makes the threads of harts and lanes, and waits for them.
 pub fn operate<R: Threads + Wait + Sync>(rt: &HostRuntime, threads: &R) -> ExitCode {
     let done = operated(rt, threads);
     if let Err(fault) = &done {

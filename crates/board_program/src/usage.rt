@@ -16,7 +16,8 @@ pub enum Wish {
     Shown,
 }
 
-/// Shows what the command line's own text says. Where nobody reads it, nothing is said of that: the status tells.
+/// Shows what the command line's own text says. Where nobody reads it, nothing is said of that: the status
+/// tells.
 fn show(rt: &HostRuntime, text: &Error) -> Result<Wish, Fault> {
     if text.kind() == ErrorKind::OutOfMemory {
         return Err(Fault::Refused(Refusal::Memory));

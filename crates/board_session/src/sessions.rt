@@ -23,8 +23,8 @@ use std::sync::{Mutex, Wait};
 use std::thread::Threads;
 use store::{Store, format};
 
-/// The console beside the harts. The gate is shut after `quit`, and where an answer could not be written; at the end of
-/// input the harts run out their turns.
+/// The console beside the harts. The gate is shut after `quit`, and where an answer could not be written; at
+/// the end of input the harts run out their turns.
 fn attend<R: Wait, I: Read, W: Write>(
     rt: &R,
     store: &Mutex<Store<SimDisk>>,
@@ -86,8 +86,8 @@ fn operate<R: Threads + Wait + Sync, I: Read, W: Write>(
     (store.into_inner().into_disk(), ended)
 }
 
-/// The disk that a board is powered on with: formatted, where it is new. A refusal is that of the format, and gives the
-/// disk back.
+/// The disk that a board is powered on with: formatted, where it is new. A refusal is that of the format, and
+/// gives the disk back.
 fn prepared(options: &Options, disk: SimDisk) -> Result<SimDisk, (SimDisk, Refusal)>
     requires { IsIdle (⟦<SimDisk as Disk>⟧.facts disk) }
     ensures new { OnOk result (options.now.new ≡ true → IsMarked (⟦<SimDisk as Disk>⟧.facts disk).content → ⊥) }
@@ -104,13 +104,14 @@ fn prepared(options: &Options, disk: SimDisk) -> Result<SimDisk, (SimDisk, Refus
     }
 }
 
-/// What the program does between the reading of its files and the writing of the disk's: formats the disk where it is
-/// new, powers the board on, runs its harts on threads and the console on this one until all have ended, and gives back
-/// the disk.
+/// What the program does between the reading of its files and the writing of the disk's: formats the disk
+/// where it is new, powers the board on, runs its harts on threads and the console on this one until all have
+/// ended, and gives back the disk.
 ///
-/// A refusal is the first in this order: that of the format, of the open and of the boot (`Board::power_on`); `Memory`
-/// where a thread could not be started; `Output` where an answer could not be written, which ends the session as `quit`
-/// does. Input that fails has ended, and then the harts run out their turns. The disk is given back in each case.
+/// A refusal is the first in this order: that of the format, of the open and of the boot (`Board::power_on`);
+/// `Memory` where a thread could not be started; `Output` where an answer could not be written, which ends
+/// the session as `quit` does. Input that fails has ended, and then the harts run out their turns. The disk
+/// is given back in each case.
 pub fn session<R: Threads + Wait + Sync, I: Read, W: Write>(
     rt: &R,
     alloc: Global,

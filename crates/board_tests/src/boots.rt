@@ -72,7 +72,8 @@ fn a_boot_leaves_the_payload_and_zeros(rt: HostRuntime) -> Result<(), Fail> {
     Ok(())
 }
 
-/// Hart 0 starts hart 1 and sends it an interrupt, which hart 1 takes as it enters (SBI specification 2.0, chapters 7 and 9).
+/// Hart 0 starts hart 1 and sends it an interrupt, which hart 1 takes as it enters (SBI specification 2.0,
+/// chapters 7 and 9).
 #[test]
 fn calls_reach_another_hart(rt: HostRuntime) -> Result<(), Fail> {
     let payloads = Payloads::new(rt.alloc());

@@ -1,5 +1,6 @@
-//! Harts that ask for a system reset or a system suspend (SBI specification 2.0, chapters 10 and 13; docs/BOARD.md), and what the
-//! next boot finds. A commit makes 4 calls of the disk: the record, a sync, the gate, a sync.
+//! Harts that ask for a system reset or a system suspend (SBI specification 2.0, chapters 10 and 13;
+//! docs/BOARD.md), and what the next boot finds. A commit makes 4 calls of the disk: the record, a sync, the
+//! gate, a sync.
 use crate::fixtures::{
     NEXT, booted, call, formatted_for, numbers, one_payload, powered, same, shown, turn, turns,
 };
@@ -34,14 +35,16 @@ fn a_call_resets_the_board(rt: HostRuntime) -> Result<(), Fail> {
     Ok(())
 }
 
-// LUI x17, 0x53525; ADDI x17, x17, 0x354; ADDI x10, x0, 0; ECALL; JAL x0, -8: asks for a shutdown again and again.
+// LUI x17, 0x53525; ADDI x17, x17, 0x354; ADDI x10, x0, 0; ECALL; JAL x0, -8: asks for a shutdown again and
+// again.
 const SHUTDOWN: [u8; 20] = [
     0xb7, 0x58, 0x52, 0x53, 0x93, 0x88, 0x48, 0x35, 0x13, 0x05, 0x00, 0x00, 0x73, 0x00, 0x00, 0x00,
     0x6f, 0xf0, 0x9f, 0xff,
 ];
 
-/// The fourth turn asks. Acknowledged, it is the last; where the disk failed before the gate, the guest goes on and asks again;
-/// where it failed at the gate, each reset is refused; and a turn in which a cut struck is the last, whatever the guest found.
+/// The fourth turn asks. Acknowledged, it is the last; where the disk failed before the gate, the guest goes
+/// on and asks again; where it failed at the gate, each reset is refused; and a turn in which a cut struck is
+/// the last, whatever the guest found.
 #[test]
 fn a_row_of_turns_ends_with_the_life_or_a_cut(rt: HostRuntime) -> Result<(), Fail> {
     let payloads = one_payload(rt.alloc(), 0, &SHUTDOWN)?;
@@ -61,8 +64,8 @@ fn a_row_of_turns_ends_with_the_life_or_a_cut(rt: HostRuntime) -> Result<(), Fai
     Ok(())
 }
 
-// A board of two harts, four pages and two lanes whose payload suspends it in its eighth turn: AUIPC, LUI, ADDI, ADDI x12, x0, -1,
-// ADDI, LUI, ADDI, ECALL.
+// A board of two harts, four pages and two lanes whose payload suspends it in its eighth turn: AUIPC, LUI,
+// ADDI, ADDI x12, x0, -1, ADDI, LUI, ADDI, ECALL.
 const SUSPENDS: [u8; 32] = [
     0x97, 0x15, 0x00, 0x00, 0x37, 0x05, 0x00, 0x80, 0x13, 0x05, 0x15, 0x00, 0x13, 0x06, 0xf0, 0xff,
     0x13, 0x08, 0x00, 0x00, 0xb7, 0x58, 0x55, 0x53, 0x93, 0x88, 0x08, 0x35, 0x73, 0x00, 0x00, 0x00,

@@ -1,5 +1,5 @@
-//! Faults that are armed on a board's disk (docs/STORE.md, "A commit"). An open makes 4 calls of the disk, a commit 4: the
-//! record, a sync, the gate, a sync.
+//! Faults that are armed on a board's disk (docs/STORE.md, "A commit"). An open makes 4 calls of the disk, a
+//! commit 4: the record, a sync, the gate, a sync.
 
 use crate::fixtures::{powered, same, unpowered, with_image};
 use board::Payloads;

@@ -72,8 +72,8 @@ fn record_with_image() -> Option<[u8; 512]> {
     Some(record_bytes(&record))
 }
 
-/// A disk of a board of one hart with an image, written by hand: the record of slot 3 is selected, in sector 3, and its
-/// image has serial 4.
+/// A disk of a board of one hart with an image, written by hand: the record of slot 3 is selected, in sector
+/// 3, and its image has serial 4.
 pub fn with_image(alloc: Global) -> Result<SimDisk, Fail>
     ensures { IfOk result (λ disk. (⟦<SimDisk as Disk>⟧.facts disk).lent.lanes ≡ 0) }
 {
@@ -171,7 +171,8 @@ pub fn in_turn<R: Threads + Sync>(_rt: &R) -> Option<Turns<R>> {
     }
 }
 
-/// So many turns of a hart that the board has, where no cut has struck: how many were made, and what is said of the last one.
+/// So many turns of a hart that the board has, where no cut has struck: how many were made, and what is said
+/// of the last one.
 pub fn turns<R: AllocGlobal + Threads + Sync>(
     rt: &R,
     board: &mut Board<SimDisk>,
@@ -197,8 +198,8 @@ pub fn turns_by<R: AllocGlobal, C: Crew>(
     }
 }
 
-/// What is said of a call in the place of a hart that the board has, and that is STARTED: the extension, the function and three
-/// arguments.
+/// What is said of a call in the place of a hart that the board has, and that is STARTED: the extension, the
+/// function and three arguments.
 pub fn call<R: AllocGlobal + Threads + Sync>(
     rt: &R,
     board: &mut Board<SimDisk>,

@@ -1,4 +1,5 @@
-//! Refused power-ons, in the order of docs/BOARD.md: the open, the mode, the payloads, and then what the mode does.
+//! Refused power-ons, in the order of docs/BOARD.md: the open, the mode, the payloads, and then what the mode
+//! does.
 ghost use Rattle.std.specs.Prelude.{◌≡◌};
 
 use crate::fixtures::{formatted, one_payload, powered, same, unpowered, with_image};
@@ -118,8 +119,9 @@ fn told(rt: &impl Abort, powered: Result<Board<SimDisk>, Unpowered<SimDisk>>) {
     }
 }
 
-/// By hand: with `rt try --test --fail-alloc N` for each N this fails where the open itself is refused its journal, and at no
-/// other N, since a board that is refused memory after a good open tells what the open found.
+/// By hand: with `rt try --test --fail-alloc N` for each N this fails where the open itself is refused its
+/// journal, and at no other N, since a board that is refused memory after a good open tells what the open
+/// found.
 #[test]
 fn memory_refused_after_the_open_tells_what_it_found(rt: HostRuntime) -> Result<(), Fail> {
     let payloads = Payloads::new(rt.alloc());

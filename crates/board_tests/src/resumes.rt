@@ -1,4 +1,5 @@
-//! A board that is suspended, powered off and resumed (SBI specification 2.0, chapter 13; docs/BOARD.md, "Power on"), with each crew.
+//! A board that is suspended, powered off and resumed (SBI specification 2.0, chapter 13; docs/BOARD.md,
+//! "Power on"), with each crew.
 
 ghost use Rattle.std.specs.Prelude.{◌≡◌, IfOk};
 
@@ -26,10 +27,10 @@ const SUSP: u64 = 0x5355_5350;
 
 const TO_DISK: u64 = 0x8000_0001;
 
-// ADDI x0, x0, 0, where a call in the hart's place is made first; AUIPC x5, 3; SD x5, 4(x5); and then AUIPC x11, 1; LUI x10, 0x80000;
-// ADDI x10, x10, 1; ADDI x12, x0, -1; ADDI x16, x0, 0; LUI x17, 0x53555; ADDI x17, x17, 0x350; ECALL: writes an address into the
-// fourth page, and asks for a suspend to disk, with the address of 0x1000 past its fourth instruction, and an opaque value of all
-// ones.
+// ADDI x0, x0, 0, where a call in the hart's place is made first; AUIPC x5, 3; SD x5, 4(x5); and then AUIPC
+// x11, 1; LUI x10, 0x80000; ADDI x10, x10, 1; ADDI x12, x0, -1; ADDI x16, x0, 0; LUI x17, 0x53555; ADDI x17,
+// x17, 0x350; ECALL: writes an address into the fourth page, and asks for a suspend to disk, with the address
+// of 0x1000 past its fourth instruction, and an opaque value of all ones.
 const SUSPENDS: [u8; 44] = [
     0x13, 0x00, 0x00, 0x00, 0x97, 0x32, 0x00, 0x00, 0x23, 0xb2, 0x52, 0x00, 0x97, 0x15, 0x00, 0x00,
     0x37, 0x05, 0x00, 0x80, 0x13, 0x05, 0x15, 0x00, 0x13, 0x06, 0xf0, 0xff, 0x13, 0x08, 0x00, 0x00,
@@ -50,7 +51,8 @@ fn suspending(alloc: Global) -> Result<Payloads, Fail> {
     one_payload(alloc, 0, &SUSPENDS)
 }
 
-/// The memory of a board that was suspended by its program: the program, the address that it wrote, and zeros at the end.
+/// The memory of a board that was suspended by its program: the program, the address that it wrote, and zeros
+/// at the end.
 fn holds_its_memory(rt: &impl Abort, board: &Board<SimDisk>) {
     let ram = board.ram();
     same(rt, ram.bytes().len(), 4 * 4096);
@@ -92,7 +94,8 @@ fn stopped<R: AllocGlobal + thread::Threads + Sync + Abort>(
     );
 }
 
-/// Hart 0 suspends the board while an interrupt is pending for hart 1, by that crew, and the board is resumed.
+/// Hart 0 suspends the board while an interrupt is pending for hart 1, by that crew, and the board is
+/// resumed.
 fn suspended_and_resumed<R: AllocGlobal + thread::Threads + Sync + Abort, C: Crew>(
     rt: &R,
     crew: &C,
@@ -190,7 +193,8 @@ fn payloads_come_before_the_image(rt: HostRuntime) -> Result<(), Fail> {
     Ok(())
 }
 
-/// Whether the image stands after a resume that was refused so, since that fault struck it, and a cut: an open makes 4 calls of the disk, a load of one page 2, and Consume 4: the record, a sync, the gate, a sync.
+/// Whether the image stands after a resume that was refused so, since that fault struck it, and a cut: an
+/// open makes 4 calls of the disk, a load of one page 2, and Consume 4: the record, a sync, the gate, a sync.
 fn unresumed<R: AllocGlobal + thread::Threads + Sync + Abort>(
     rt: &R,
     fault: ArmedFault,

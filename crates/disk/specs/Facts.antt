@@ -62,7 +62,8 @@ Stays old new = new ≡ old
 abbrev pub LeavesAfter : Facts → (Content → Content → Type 0) → Content → Type 0
 LeavesAfter old step c = (d : Content) × old.may_leave d × step d c
 
--- Calls went by. A crash then, or at some moment of them, leaves what it might have left before, after that step.
+-- Calls went by. A crash then, or at some moment of them, leaves what it might have left before, after that
+-- step.
 pub record Passes (old new : Facts) (step : Content → Content → Type 0) : Type 0 where
   pub later : old.moment ≤ new.moment
   pub now : (c : Content) → new.may_leave c → LeavesAfter old step c

@@ -16,7 +16,8 @@ armed_by (CutAt n) = CutArmed
 armed_by (FailLane lane n) = FaultArmed
 armed_by (CutLane lane n) = CutArmed
 
--- beside the facts of a disk: what is armed, whether an armed cut has struck, and how often it failed by itself
+-- beside the facts of a disk: what is armed, whether an armed cut has struck, and how often it failed by
+-- itself
 pub record FaultState : Type 0 where
   pub armed : Armed
   pub struck : Bool

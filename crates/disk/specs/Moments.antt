@@ -44,7 +44,8 @@ passes_weaker a b P Q p has = record {
     is : (x : Content) → LeavesAfter a P x → LeavesAfter a Q x
     is x step = (step.0, step.1, has step.0 x step.2)
 
--- a split, the lanes, which touch nothing of the disk, the join, and a sync: any bytes in what was lent, and all else as it was
+-- a split, the lanes, which touch nothing of the disk, the join, and a sync: any bytes in what was lent, and
+-- all else as it was
 pub passes_lanes : (a b c d : Facts) (first n : ℕ) → Passes a b (Torn first n) → Passes b c Stays → Passes c d Stays → Passes a d (Torn first n)
 passes_lanes a b c d first n split join sync = passes_stays a c d (Torn first n) (passes_stays a b c (Torn first n) split join) sync
 

@@ -1,4 +1,5 @@
-//! SBI calls that come to a durable command, and waking from an image, over the disk in memory: docs/SBI.md, row by row.
+//! SBI calls that come to a durable command, and waking from an image, over the disk in memory: docs/SBI.md,
+//! row by row.
 #![tactic(auto)]
 
 #[cfg(test)]

@@ -37,8 +37,8 @@ fn the_arguments_are_checked_in_order(rt: HostRuntime) -> Result<(), Fail> {
     Ok(())
 }
 
-/// Shutdown and cold reboot with either reason: the durable state has the reason, the hart stays at its call, and the life is
-/// over, so that another one is refused by the store.
+/// Shutdown and cold reboot with either reason: the durable state has the reason, the hart stays at its call,
+/// and the life is over, so that another one is refused by the store.
 #[test]
 fn a_reset_ends_the_life(rt: HostRuntime) -> Result<(), Fail> {
     let crew: Turns<HostRuntime> = Turns::new([0, 1, 2, 3])?;
@@ -65,7 +65,8 @@ fn a_reset_ends_the_life(rt: HostRuntime) -> Result<(), Fail> {
     Ok(())
 }
 
-/// A failure before the gate is written leaves the life, so that the next reset is made; one at the gate leaves it down.
+/// A failure before the gate is written leaves the life, so that the next reset is made; one at the gate
+/// leaves it down.
 #[test]
 fn what_the_store_refuses_is_minus_1(rt: HostRuntime) -> Result<(), Fail> {
     let crew: Turns<HostRuntime> = Turns::new([0, 1, 2, 3])?;

@@ -46,7 +46,8 @@ pub struct Asked {
     pub arguments: [u64; 3],
 }
 
-/// What a call came to: the firmware's word, a0 and a1 of the calling hart and how far its pc moved, and the durable state.
+/// What a call came to: the firmware's word, a0 and a1 of the calling hart and how far its pc moved, and the
+/// durable state.
 #[derive(Clone, Copy, Debug, PartialEq, Eq, Drop)]
 pub struct Told {
     pub held: Held,
@@ -132,7 +133,8 @@ fn made<R: Threads + Sync>(
     }
 }
 
-/// Makes the call by hart 0 on a board of two harts and one page whose bytes are all 7, with hart 1 as it is to be.
+/// Makes the call by hart 0 on a board of two harts and one page whose bytes are all 7, with hart 1 as it is
+/// to be.
 pub fn ask<R: Threads + Sync>(
     alloc: Global,
     store: &mut Store<SimDisk>,
@@ -156,7 +158,8 @@ pub fn ask<R: Threads + Sync>(
     Ok(made(alloc, seats, &tables, store, &ram, crew, zero, asked))
 }
 
-/// The same call made twice on a new board, under that fault: what each of them came to, and the state that was opened.
+/// The same call made twice on a new board, under that fault: what each of them came to, and the state that
+/// was opened.
 pub fn twice<R: Threads + Sync>(
     alloc: Global,
     crew: &Turns<R>,
@@ -171,8 +174,8 @@ pub fn twice<R: Threads + Sync>(
     Ok((first, second, found))
 }
 
-/// The call made on a new board, with hart 1 as it is to be: what it came to, the state that was opened, and whether no
-/// command was acknowledged.
+/// The call made on a new board, with hart 1 as it is to be: what it came to, the state that was opened, and
+/// whether no command was acknowledged.
 pub fn once<R: Threads + Sync>(
     alloc: Global,
     crew: &Turns<R>,

@@ -23,7 +23,8 @@ fn suspend(kind: u64, address: u64, opaque: u64) -> Asked {
     }
 }
 
-/// Type 0: -2. Any type but suspend to disk: -3. Then the address: -5. Then another hart that is not STOPPED: -4.
+/// Type 0: -2. Any type but suspend to disk: -3. Then the address: -5. Then another hart that is not STOPPED:
+/// -4.
 #[test]
 fn the_checks_are_made_in_order(rt: HostRuntime) -> Result<(), Fail> {
     let crew: Turns<HostRuntime> = Turns::new([0, 1, 2, 3])?;
@@ -77,8 +78,9 @@ fn asleep_after_the_command(rt: HostRuntime) -> Result<(), Fail> {
     Ok(())
 }
 
-/// Of the disk, a suspend makes five calls: the sync of the area, and the four of a commit. Of lane 0, two for its page. A
-/// failure before the gate leaves the life: the quiet has ended, and the same call then puts the board to sleep.
+/// Of the disk, a suspend makes five calls: the sync of the area, and the four of a commit. Of lane 0, two
+/// for its page. A failure before the gate leaves the life: the quiet has ended, and the same call then puts
+/// the board to sleep.
 #[test]
 fn what_the_store_refuses_is_minus_1(rt: HostRuntime) -> Result<(), Fail> {
     let crew: Turns<HostRuntime> = Turns::new([0, 1, 2, 3])?;
@@ -157,8 +159,9 @@ fn a_board_wakes(rt: HostRuntime) -> Result<(), Fail> {
     Ok(())
 }
 
-/// Two reads load the one page, and four calls consume the image. What is refused leaves the image, which wakes the board once
-/// the disk is well; at the gate the fate of the image is in doubt. A board wakes once, and not into a memory of another size.
+/// Two reads load the one page, and four calls consume the image. What is refused leaves the image, which
+/// wakes the board once the disk is well; at the gate the fate of the image is in doubt. A board wakes once,
+/// and not into a memory of another size.
 #[test]
 fn a_refused_wake_leaves_the_image(rt: HostRuntime) -> Result<(), Fail> {
     let crew: Turns<HostRuntime> = Turns::new([0, 1, 2, 3])?;

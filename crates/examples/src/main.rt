@@ -1,7 +1,6 @@
-//! `examples`: runs each script of a folder, once with each crew, and compares what it writes with the report beside it
-//! (README.md).
-//! Status 0 where each is as reported; else 1, and standard error names the first that is not. The folder is the word on
-//! the command line, or the one that the program runs in.
+//! `examples`: runs each script of a folder, once with each crew, and compares what it writes with the report
+//! beside it (README.md). Status 0 where each is as reported; else 1, and standard error names the first that
+//! is not. The folder is the word on the command line, or the one that the program runs in.
 #![tactic(auto)]
 
 mod reported;
@@ -38,7 +37,8 @@ fn file_of(rt: &HostRuntime, folder: &str, name: &str, ending: &str) -> io::Resu
     fs::read(rt, path)
 }
 
-/// Compares what the script writes, with savers that take turns and with one thread for each, with the report beside it.
+/// Compares what the script writes, with savers that take turns and with one thread for each, with the report
+/// beside it.
 fn compare<'a, A: Crew, B: Crew>(
     rt: &HostRuntime,
     turns: &A,

@@ -12,8 +12,8 @@ use std::alloc::Global;
 use std::{fmt, io};
 use thiserror::Error;
 
-/// A script that writes just the report that it was compared with. Only [`compare_report`] makes one, so nobody says
-/// "as reported" of a script that was not compared.
+/// A script that writes just the report that it was compared with. Only [`compare_report`] makes one, so
+/// nobody says "as reported" of a script that was not compared.
 #[derive(Drop)]
 pub struct AsReported<'a> {
     name: &'a str,
@@ -37,9 +37,9 @@ pub enum Fault {
     Differs(usize),
 }
 
-/// Runs the script of that name. `Ok` where it writes just this report, which is then one that the script may have. By the
-/// law `bench_report::one_report` it is the only such one, where none of its lines says that memory was refused, that the
-/// disk failed or that power was lost.
+/// Runs the script of that name. `Ok` where it writes just this report, which is then one that the script may
+/// have. By the law `bench_report::one_report` it is the only such one, where none of its lines says that
+/// memory was refused, that the disk failed or that power was lost.
 pub fn compare_report<'a, C: Crew>(
     alloc: Global,
     name: &'a str,

@@ -1,5 +1,5 @@
-//! Laws of the definitions, each the contract of a function that does nothing: the meaning of an instruction leaves
-//! nothing open.
+//! Laws of the definitions, each the contract of a function that does nothing: the meaning of an instruction
+//! leaves nothing open.
 
 ghost use Rattle.std.specs.Prelude.{◌≡◌, ℕ, List, Bool};
 ghost use Rattle.hart.specs.Values.{Computes};
@@ -14,8 +14,8 @@ pub fn one_result()
     ensures { (op : ArithOp) (a b r q : ℕ) → Computes op a b r → Computes op a b q → r ≡ q }
 {}
 
-/// What an instruction does is one outcome, for all sixty: from a state, a memory and the pending interrupt follow the
-/// state and the memory after it, and the answer.
+/// What an instruction does is one outcome, for all sixty: from a state, a memory and the pending interrupt
+/// follow the state and the memory after it, and the answer.
 pub fn one_outcome()
     ensures { (i : Instr) (w : ℕ) (p : Bool) (s t u : ArchState) (m n l : List ℕ) (o q : Outcome) → means i w p s m t n o → means i w p s m u l q → IsSame t u n l o q }
 {

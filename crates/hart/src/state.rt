@@ -10,8 +10,8 @@ use board_model::HartId;
 use rv_decode::{CsrNumber, Reg};
 use std::marker::Model;
 
-/// A hart, which contracts see as its `ArchState`: its number, the registers, the pc, and what the control and status
-/// registers keep.
+/// A hart, which contracts see as its `ArchState`: its number, the registers, the pc, and what the control
+/// and status registers keep.
 #[derive(Drop)]
 pub struct Hart {
     id: HartId,
@@ -55,9 +55,9 @@ impl Hart {
         }
     }
 
-    /// The one state of a hart that starts or resumes (SBI specification 2.0, chapters HSM and SUSP): at `pc`, with its
-    /// number in a0 and the opaque value in a1, interrupts off, and all else 0. A `pc` that is not a multiple of 4, or
-    /// outside of RAM, traps at the first step.
+    /// The one state of a hart that starts or resumes (SBI specification 2.0, chapters HSM and SUSP): at
+    /// `pc`, with its number in a0 and the opaque value in a1, interrupts off, and all else 0. A `pc` that is
+    /// not a multiple of 4, or outside of RAM, traps at the first step.
     pub fn fresh(id: HartId, pc: u64, a1: u64) -> Self
         ensures { result ≡ started id pc a1 }
     {
@@ -91,8 +91,8 @@ impl Hart {
         self.pc
     }
 
-    /// What is read of the control and status register of that number (docs/HART.md), where an interrupt is pending for
-    /// this hart or not; None where the profile has no such register.
+    /// What is read of the control and status register of that number (docs/HART.md), where an interrupt is
+    /// pending for this hart or not; None where the profile has no such register.
     pub fn csr(&self, number: CsrNumber, pending: bool) -> Option<u64>
         ensures found { (c : Csr) → csr_number c ≡ number → result ≡ Some (csr_read c self.now pending) }
         ensures none { ((c : Csr) → csr_number c ≢ number) → result ≡ None }
@@ -114,8 +114,8 @@ impl Hart {
         }
     }
 
-    /// Answers an SBI call (SBI specification 2.0, chapter 3): the error goes to a0, the value to a1, the pc moves on
-    /// behind the ECALL, and nothing else changes.
+    /// Answers an SBI call (SBI specification 2.0, chapter 3): the error goes to a0, the value to a1, the pc
+    /// moves on behind the ECALL, and nothing else changes.
     pub fn answer(&mut self, error: u64, value: u64)
         ensures { self.new ≡ answered self.old error value }
     {
@@ -139,7 +139,8 @@ impl Hart {
         self.pc = self.pc.wrapping_add(4);
     }
 
-    /// Traps: the interrupt enable goes to SPIE, and the pc to the handler. Out of the way of the common path.
+    /// Traps: the interrupt enable goes to SPIE, and the pc to the handler. Out of the way of the common
+    /// path.
     #[cold]
     #[inline(never)]
     pub(crate) fn trap(&mut self, code: u64, tval: u64)

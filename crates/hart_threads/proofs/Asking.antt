@@ -1,4 +1,5 @@
--- A hart that is told to stand at a durable call: its seats know what they knew before the call, and it is STARTED.
+-- A hart that is told to stand at a durable call: its seats know what they knew before the call, and it is
+-- STARTED.
 use Rattle.std.proofs.Common.{◌≡◌, ℕ, List, Ok, Err, refl, sym, ap, ◌∙◌, subst}
 use Rattle.board_model.specs.Shapes.{Size}
 use Rattle.hart.specs.State.{ArchState}

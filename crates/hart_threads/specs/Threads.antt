@@ -1,5 +1,5 @@
--- A hart's turns on a thread of its own: each turn's own steps on the tables and what came of it, whatever the other
--- threads do between two of them. Source: docs/THREADS.md; docs/BOARD.md, "A turn of a hart".
+-- A hart's turns on a thread of its own: each turn's own steps on the tables and what came of it, whatever
+-- the other threads do between two of them. Source: docs/THREADS.md; docs/BOARD.md, "A turn of a hart".
 use Rattle.std.specs.Prelude.{◌≡◌, ◌⊎◌, ◌<◌, ℕ, zero, suc, Bool, true, false, List, Ok, Err}
 use Rattle.board_model.specs.Durable.{Change, Reset, Suspend}
 use Rattle.board_model.specs.Shapes.{Size}
@@ -27,20 +27,22 @@ use Rattle.hart_threads.specs.declared.loops.Why.{Why}
 use Rattle.hart_threads.specs.declared.loops.Why.TheVariants as whys
 
 -- ---- the store, in one hold of its lock
--- It acknowledged the command: a life took it at the end of its journal, with that receipt. Which life that was, and what else
--- came before it, the other threads decide.
+-- It acknowledged the command: a life took it at the end of its journal, with that receipt. Which life that
+-- was, and what else came before it, the other threads decide.
 abbrev pub Acknowledges : Change → Type 0
 Acknowledges c = (old : Life) × (new : Life) × (n : ℕ) × Applied old c (Ok n) new
 
 -- ---- a call that comes to a durable command, made in one hold of the memory and of the store
--- what a suspend that was refused did on the hart table: nothing, or one look, and where the store was asked the end of the quiet
+-- what a suspend that was refused did on the hart table: nothing, or one look, and where the store was asked
+-- the end of the quiet
 abbrev pub LooksForQuiet : ℕ → ℕ → List HartView → List HartView → Type 0
 LooksForQuiet harts by vs vs' = (vs' ≡ vs)
     ⊎ ((found : ℕ) × (mid : List HartView) × HasNoted by (after_quiet harts by found) (Quieted found) vs mid
     × ((vs' ≡ mid) ⊎ ((later : ℕ) × HasNoted by Running (Unquieted later) mid vs')))
 
--- What it came to, by what was told of it: the hart found an error and goes on; or it stands where it stood, and its
--- command was acknowledged. A suspend was so with every other hart STOPPED at its one look, and keeps that hart quiet.
+-- What it came to, by what was told of it: the hart found an error and goes on; or it stands where it stood,
+-- and its command was acknowledged. A suspend was so with every other hart STOPPED at its one look, and keeps
+-- that hart quiet.
 abbrev pub HeldOnce : Size → ArchState → ArchState → Known → Known → Held → Type 0
 HeldOnce size s t k k' helds.Goes =
     (e : SbiError) × (t ≡ answered s (error_of (Err e)) 0)
@@ -86,8 +88,8 @@ TurnsOn size zero a b = b ≡ a
 TurnsOn size (suc n) a b =
     (mid : Seated) × (word : Word) × TurnsOn size n a mid × TurnOnce size mid b word × (loop_goes_on word ≡ true)
 
--- A loop of at most so many turns made that many, and ended so: by the life's end, which its last turn told; by the
--- gate, before it had made all; or with the last of them.
+-- A loop of at most so many turns made that many, and ended so: by the life's end, which its last turn told;
+-- by the gate, before it had made all; or with the last of them.
 abbrev pub LoopOnce : Size → ℕ → ℕ → Seated → Seated → Why → Type 0
 LoopOnce size turns made a b whys.Life =
     (n : ℕ) × (mid : Seated) × (word : Word) × (made ≡ suc n)

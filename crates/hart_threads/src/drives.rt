@@ -20,15 +20,15 @@ use std::sync::{Mutex, Wait};
 use std::thread::{self, Threads};
 use store::Store;
 
-/// Runs each hart's loop on a thread of its own, and the console on this one; returns once the console and all threads
-/// have ended.
+/// Runs each hart's loop on a thread of its own, and the console on this one; returns once the console and
+/// all threads have ended.
 ///
-/// The harts, seats, tables and memory are those of a board's parts. Once a loop ended with the life, the gate that the
-/// other loops see is shut: each ends before its next turn. The console goes on until it returns by itself, and where
-/// it returns first the harts run out their turns, as far as the gate lets them.
+/// The harts, seats, tables and memory are those of a board's parts. Once a loop ended with the life, the
+/// gate that the other loops see is shut: each ends before its next turn. The console goes on until it
+/// returns by itself, and where it returns first the harts run out their turns, as far as the gate lets them.
 ///
-/// Refused `Memory` where there is no room for the harts' seats, or where a thread could not be started: those that
-/// were started have then ended, and the console was not called.
+/// Refused `Memory` where there is no room for the harts' seats, or where a thread could not be started:
+/// those that were started have then ended, and the console was not called.
 pub fn drive<R: Threads + Wait + Sync, K: FnOnce()>(
     rt: &R,
     alloc: Global,

@@ -51,8 +51,8 @@ fn goes_on(word: Word) -> bool
     }
 }
 
-/// One turn of a hart, and the durable command that it may make: a system reset, or a system suspend with the memory of
-/// that moment.
+/// One turn of a hart, and the durable command that it may make: a system reset, or a system suspend with the
+/// memory of that moment.
 fn whole_turn<R: Wait, D: Disk + Drop, C: Crew>(
     rt: &R,
     alloc: Global,
@@ -86,13 +86,13 @@ fn whole_turn<R: Wait, D: Disk + Drop, C: Crew>(
     }
 }
 
-/// The turns of a hart, at most so many, one after another, until the gate ends them or a reset or a suspension of this
-/// hart was acknowledged. The gate is asked before each turn and told after it, with no lock held, also for a turn that
-/// did nothing and for the one that ended the life.
+/// The turns of a hart, at most so many, one after another, until the gate ends them or a reset or a
+/// suspension of this hart was acknowledged. The gate is asked before each turn and told after it, with no
+/// lock held, also for a turn that did nothing and for the one that ended the life.
 ///
-/// Each turn makes just its own steps on the tables and gives what those found, whatever other threads do; a step of a
-/// STARTED hart is one hold of the bus, and a durable call one of the bus and then of the store. Nothing is claimed of
-/// when a turn is made, nor that a lock is ever had.
+/// Each turn makes just its own steps on the tables and gives what those found, whatever other threads do; a
+/// step of a STARTED hart is one hold of the bus, and a durable call one of the bus and then of the store.
+/// Nothing is claimed of when a turn is made, nor that a lock is ever had.
 pub fn hart_loop<R: Wait, G: Gate, D: Disk + Drop, C: Crew>(
     rt: &R,
     alloc: Global,

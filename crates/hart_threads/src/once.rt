@@ -34,8 +34,8 @@ fn step<R: Wait>(rt: &R, hart: &mut Hart, bus: &Mutex<Ram>, pending: bool) -> Ou
     outcome
 }
 
-/// One turn of a hart up to the durable call that it may then stand at. The bus is taken for a step of a STARTED hart
-/// alone, and no lock is held where the turn looks at the tables or changes them.
+/// One turn of a hart up to the durable call that it may then stand at. The bus is taken for a step of a
+/// STARTED hart alone, and no lock is held where the turn looks at the tables or changes them.
 pub(crate) fn turn<R: Wait>(
     rt: &R,
     hart: &mut Hart,
@@ -70,8 +70,8 @@ pub(crate) fn turn<R: Wait>(
     }
 }
 
-/// The durable call at which a hart stands, made in one hold of the memory and of the store. The bus is taken first:
-/// whoever takes both does so, and no thread that holds the store waits for the bus.
+/// The durable call at which a hart stands, made in one hold of the memory and of the store. The bus is taken
+/// first: whoever takes both does so, and no thread that holds the store waits for the bus.
 pub(crate) fn make_held<R: Wait, D: Disk + Drop, C: Crew>(
     rt: &R,
     alloc: Global,

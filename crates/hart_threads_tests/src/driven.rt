@@ -11,8 +11,8 @@ use std::alloc::Global;
 use std::test::*;
 use store::Store;
 
-/// A suspension to disk by `system_suspend`: a1 is set to 0x80001000 by AUIPC, a0 to the type by LUI and ADDI, a2 to
-/// all ones, a6 to 0, a7 to 0x53555350 by LUI and ADDI, then ECALL, the eighth instruction.
+/// A suspension to disk by `system_suspend`: a1 is set to 0x80001000 by AUIPC, a0 to the type by LUI and
+/// ADDI, a2 to all ones, a6 to 0, a7 to 0x53555350 by LUI and ADDI, then ECALL, the eighth instruction.
 const SLEEPER: [u8; 32] = [
     0x97, 0x15, 0x00, 0x00, 0x37, 0x05, 0x00, 0x80, 0x13, 0x05, 0x15, 0x00, 0x13, 0x06, 0xf0, 0xff,
     0x13, 0x08, 0x00, 0x00, 0xb7, 0x58, 0x55, 0x53, 0x93, 0x88, 0x08, 0x35, 0x73, 0x00, 0x00, 0x00,

@@ -25,7 +25,8 @@ impl Gate for ShutAt {
     fn after(&self, _hart: HartId, _turn: u64) {}
 }
 
-/// The loops of a board's harts, one after another: how many turns each made, why it ended, and the hart's pc then.
+/// The loops of a board's harts, one after another: how many turns each made, why it ended, and the hart's pc
+/// then.
 fn looped<R: Threads + Wait + Sync, G: Gate>(
     rt: &R,
     alloc: Global,
@@ -56,8 +57,8 @@ fn looped<R: Threads + Wait + Sync, G: Gate>(
     Ok(ends)
 }
 
-/// A shutdown by `system_reset`: a0, a1 and a6 are set to 0, a7 to 0x53525354 by LUI and ADDI, then ECALL, the sixth
-/// instruction.
+/// A shutdown by `system_reset`: a0, a1 and a6 are set to 0, a7 to 0x53525354 by LUI and ADDI, then ECALL,
+/// the sixth instruction.
 const STOPPER: [u8; 28] = [
     0x13, 0x05, 0x00, 0x00, 0x93, 0x05, 0x00, 0x00, 0x13, 0x08, 0x00, 0x00, 0xb7, 0x58, 0x52, 0x53,
     0x93, 0x88, 0x48, 0x35, 0x73, 0x00, 0x00, 0x00, 0x6f, 0x00, 0x00, 0x00,

@@ -11,7 +11,8 @@ use store::Store;
 /// How many commands a thread issues.
 const COMMANDS: usize = 100;
 
-/// Issues the command that sets that slot, so many times: the receipts, 0 in the place of one that was refused.
+/// Issues the command that sets that slot, so many times: the receipts, 0 in the place of one that was
+/// refused.
 fn issue<R: Wait>(rt: &R, store: &Mutex<Store<SimDisk>>, slot: u32) -> [u32; COMMANDS] {
     let mut receipts = [0; COMMANDS];
     for receipt in receipts.iter_mut() {

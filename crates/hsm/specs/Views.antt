@@ -1,4 +1,5 @@
--- The state of each hart as a function of the view of a seat of all harts, so that a board may keep the states as a value.
+-- The state of each hart as a function of the view of a seat of all harts, so that a board may keep the
+-- states as a value.
 use Rattle.std.specs.Prelude.{◌≡◌, ℕ, List, [], ◌∷◌, ◌==◌, nat_lt, if◌then◌else◌, Option, Some, None, length, map, get_or}
 use Rattle.tallies.specs.Seats.{numbers_from}
 use Rattle.hsm_words.specs.declared.view.Stage.{Stage}

@@ -15,9 +15,9 @@ use board_model::{Addr, HartId};
 use hsm_steps::{HartSeat, HartTable, SeatTable};
 use std::marker::Brand;
 
-/// Starts the target at the address with the opaque value, if it is STOPPED, and says whether it was. The claim of the
-/// target is one step, so of all that start a hart at once just one is told true. The acting hart is STARTED and not
-/// quiet (SBI specification 2.0, `sbi_hart_start`).
+/// Starts the target at the address with the opaque value, if it is STOPPED, and says whether it was. The
+/// claim of the target is one step, so of all that start a hart at once just one is told true. The acting
+/// hart is STARTED and not quiet (SBI specification 2.0, `sbi_hart_start`).
 pub fn start(
     table: &HartTable,
     seat: HartSeat,
@@ -48,8 +48,9 @@ pub fn start(
     (seat, true)
 }
 
-/// Enters where the hart is START_PENDING and armed, and then answers the address and the opaque value of the one start
-/// that was granted. None where one look found it not armed, or entered already. The acting hart has not entered.
+/// Enters where the hart is START_PENDING and armed, and then answers the address and the opaque value of the
+/// one start that was granted. None where one look found it not armed, or entered already. The acting hart
+/// has not entered.
 pub fn try_enter(table: &HartTable, seat: HartSeat, by: HartId) -> (HartSeat, Option<(Addr, u64)>)
     requires seat { IsSeatOf table.now seat }
     requires acts { stands by Out (harts_in seat) }
@@ -76,7 +77,8 @@ pub fn try_enter(table: &HartTable, seat: HartSeat, by: HartId) -> (HartSeat, Op
     (seat, Some((address, opaque)))
 }
 
-/// Stops the hart, in one step. The acting hart is STARTED and not quiet (SBI specification 2.0, `sbi_hart_stop`).
+/// Stops the hart, in one step. The acting hart is STARTED and not quiet (SBI specification 2.0,
+/// `sbi_hart_stop`).
 pub fn stop(table: &HartTable, seat: HartSeat, by: HartId) -> HartSeat
     requires seat { IsSeatOf table.now seat }
     requires acts { stands by Running (harts_in seat) }
@@ -144,8 +146,9 @@ pub fn wake(table: &HartTable, seat: HartSeat, by: HartId) -> HartSeat
     seat
 }
 
-/// Whether every other hart is STOPPED, by one look. From an answer of true on the hart is quiet: until `unquiet` no
-/// other hart leaves STOPPED. The acting hart is STARTED; one that is quiet already is told true again.
+/// Whether every other hart is STOPPED, by one look. From an answer of true on the hart is quiet: until
+/// `unquiet` no other hart leaves STOPPED. The acting hart is STARTED; one that is quiet already is told true
+/// again.
 pub fn quiet(table: &HartTable, seat: HartSeat, by: HartId) -> (HartSeat, bool)
     requires seat { IsSeatOf table.now seat }
     requires acts { IsStarted by (harts_in seat) }

@@ -1,6 +1,7 @@
-//! The harts of a board, which any hart may start, in words that change in single steps (SBI specification 2.0,
-//! chapter HSM; docs/TABLES.md). Each call takes the table by reference and a seat by value, gives the seat back, and
-//! adds just its own steps to what the seat knows. No call waits, takes memory or tries a step again.
+//! The harts of a board, which any hart may start, in words that change in single steps (SBI specification
+//! 2.0, chapter HSM; docs/TABLES.md). Each call takes the table by reference and a seat by value, gives the
+//! seat back, and adds just its own steps to what the seat knows. No call waits, takes memory or tries a step
+//! again.
 #![tactic(auto)]
 
 mod calls;

@@ -1,11 +1,13 @@
-//! A law of the definitions, the contract of a function that does nothing: a view of all harts shows one table.
+//! A law of the definitions, the contract of a function that does nothing: a view of all harts shows one
+//! table.
 
 ghost use Rattle.std.specs.Prelude.{◌≡◌, ◌<◌, ℕ, List, length, slice_set};
 ghost use Rattle.hsm_words.specs.declared.view.HartSeatView.{HartSeatView};
 ghost use Rattle.hsm_rule.specs.States.{HartState, Shows, change_at};
 ghost use Rattle.hsm.specs.Views.{state_in, states_in, listed, AreStates};
 
-/// The states of all harts that the view of a seat of all harts shows are those that `state_in` computes of it.
+/// The states of all harts that the view of a seat of all harts shows are those that `state_in` computes of
+/// it.
 pub fn one_table()
     ensures one { (harts : ℕ) (c : HartSeatView) (states : ℕ → HartState) → Shows harts c states → (h : ℕ) → h < harts → state_in c h ≡ states h }
     ensures list { (harts : ℕ) (c : HartSeatView) (states : List HartState) → AreStates harts c states → states_in harts c ≡ states }

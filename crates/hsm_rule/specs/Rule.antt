@@ -1,4 +1,5 @@
--- The rule of the hart table, which holds between any two steps: a fact of the words and of the views of all seats.
+-- The rule of the hart table, which holds between any two steps: a fact of the words and of the views of all
+-- seats.
 use Rattle.std.specs.Prelude.{◌≡◌, ◌≢◌, ◌⊎◌, ℕ, ◌+◌, ◌-◌, ◌*◌, ◌%◌, ◌^◌, ◌<◌, ◌≤◌, List, [], ◌∷◌, ◌==◌, length, slice_index, bit_or, bit_and, if◌then◌else◌}
 use Rattle.std.specs.Int.{bit_at, bit_not}
 use Rattle.std.proofs.Common.{w64}
@@ -81,8 +82,9 @@ Fits harts m g h (Stored t a o) = (m.entered h ≡ 1) × (m.suspended h ≡ 0) �
 Fits harts m g h Asleep = (m.entered h ≡ 1) × (m.suspended h ≡ 1)
 Fits harts m g h Quiet = (m.entered h ≡ 1) × (m.suspended h ≡ 0) × ((t : ℕ) → t < harts → t ≢ h → m.claimed t ≡ 0)
 
--- The words and the views agree. `flying`: a claimed hart that is not armed is the start in flight of just one view. `armed`: until an armed hart enters,
--- its argument words are its claim's. `once`: every hart is in just one seat.
+-- The words and the views agree. `flying`: a claimed hart that is not armed is the start in flight of just
+-- one view. `armed`: until an armed hart enters, its argument words are its claim's. `once`: every hart is in
+-- just one seat.
 pub record Sound (harts : ℕ) (m : WordBits) (g : Grants) (views : List HartSeatView) : Type 0 where
   pub order : (h : ℕ) → h < harts → (m.suspended h ≤ m.entered h) × (m.entered h ≤ m.armed h) × (m.armed h ≤ m.claimed h) × (m.claimed h ≤ 1)
   pub flying : (t : ℕ) → t < harts → total (flights t) views + m.armed t ≡ m.claimed t

@@ -3,8 +3,9 @@
 ghost use Rattle.hsm_rule.specs.States.{StartsLedger, QuietLaw};
 ghost use Rattle.hsm_rule.specs.Truth.{StepsAreTrue, EarlierStepsStand, ChangesAreNoted};
 
-/// The ledger of starts; what a quiet hart knows; that each step that a seat notes found what the word held, and that
-/// nothing changes but by such steps. The rule of which they speak is that of `hsm_steps::HartTable`.
+/// The ledger of starts; what a quiet hart knows; that each step that a seat notes found what the word held,
+/// and that nothing changes but by such steps. The rule of which they speak is that of
+/// `hsm_steps::HartTable`.
 pub fn laws()
     ensures starts { StartsLedger }
     ensures quiet { QuietLaw }

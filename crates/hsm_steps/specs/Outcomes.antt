@@ -92,7 +92,8 @@ Quiets harts h st m found m' = Notes h (after_quiet harts h found) (Quieted foun
 abbrev pub Unquiets : ℕ → Step (Unit {0}) → SeatState → ℕ → SeatState → Type 0
 Unquiets h st m found m' = Notes h Running (Unquieted found) m m'
 
--- a look that a seat does not note: it stays as it was, and where it is of all harts and each is settled, it shows some states
+-- a look that a seat does not note: it stays as it was, and where it is of all harts and each is settled, it
+-- shows some states
 abbrev pub Sees : ℕ → Step (Unit {0}) → SeatState → ℕ → SeatState → Type 0
 Sees harts st m found m' = (m'.0 ≡ m.0) × (m'.1 ≡ m.1) × (((h : ℕ) → h < harts → IsSettled h m.0.harts) → (states : ℕ → HartState) × Shows harts m.0 states)
 

@@ -1,6 +1,6 @@
-//! The hart table over `atomic_table`, its seats, and one function for each kind of step. Each step is one exchange on
-//! one word and is never tried again; none waits and none takes memory. docs/TABLES.md tells the words and the steps.
-//! The calls of the SBI specification stand in the crate `hsm`.
+//! The hart table over `atomic_table`, its seats, and one function for each kind of step. Each step is one
+//! exchange on one word and is never tried again; none waits and none takes memory. docs/TABLES.md tells the
+//! words and the steps. The calls of the SBI specification stand in the crate `hsm`.
 #![tactic(auto)]
 
 mod seats;

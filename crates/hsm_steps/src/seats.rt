@@ -47,8 +47,9 @@ impl SeatTable for HartTable {
 }
 
 impl HartTable {
-    /// The table of a board of that shape, with the hart `started` alone STARTED and every other hart STOPPED, and one
-    /// seat of all harts. Refused `Memory` where the words could not be had, and then nothing was made.
+    /// The table of a board of that shape, with the hart `started` alone STARTED and every other hart
+    /// STOPPED, and one seat of all harts. Refused `Memory` where the words could not be had, and then
+    /// nothing was made.
     pub fn new(
         alloc: Global,
         shape: Shape,
@@ -88,8 +89,8 @@ impl HartTable {
         tallies::split(self, seat)
     }
 
-    /// The seats of a list in one, which has their harts in the order of the list. It undoes `split`: a seat for each hart, in
-    /// the order of their numbers, makes the seat of all harts again.
+    /// The seats of a list in one, which has their harts in the order of the list. It undoes `split`: a seat
+    /// for each hart, in the order of their numbers, makes the seat of all harts again.
     pub fn join(&self, seats: Seats) -> HartSeat
         requires seats { AreSeatsOf self.now seats.items }
         requires some { 0 < array_vec_len seats }

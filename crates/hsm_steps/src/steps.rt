@@ -1,4 +1,5 @@
-//! One function for each kind of step. Each changes at most one word, and the view of the acting hart's seat alone.
+//! One function for each kind of step. Each changes at most one word, and the view of the acting hart's seat
+//! alone.
 
 ghost use Rattle.std.specs.Prelude.{◌≡◌, ◌≢◌, ℕ, ◌+◌, ◌*◌, ◌<◌, ◌↔◌, true, IsTrue};
 ghost use Rattle.std.specs.Int.{bit_at};
@@ -135,7 +136,8 @@ impl<J: Acting> Play<(), HartSeatView> for SeeStep<J> {
     ghost then = { Sees J.harts };
 }
 
-/// A look that is not noted, by which a seat of all harts that are settled is known to show the table's states.
+/// A look that is not noted, by which a seat of all harts that are settled is known to show the table's
+/// states.
 pub(crate) fn see<J: Acting>(table: &HartTable, seat: &mut HartSeat)
     requires named { J.harts ≡ harts_of table.now }
     requires seat { IsSeatOf table.now seat.old }
@@ -146,8 +148,8 @@ pub(crate) fn see<J: Acting>(table: &HartTable, seat: &mut HartSeat)
     table.table.shared.load::<SeeStep<J>>(seat, 0);
 }
 
-/// Claims the target for a start, and answers the first word as the step found it. It was unclaimed where its bit of
-/// that word is clear.
+/// Claims the target for a start, and answers the first word as the step found it. It was unclaimed where its
+/// bit of that word is clear.
 pub fn claim<J: Acting>(
     table: &HartTable,
     seat: &mut HartSeat,
@@ -367,8 +369,8 @@ pub fn wake<J: Acting>(table: &HartTable, seat: &mut HartSeat, by: HartId) -> u6
         .fetch_and::<WakeStep<J>>(seat, 0, !(1u64 << bit))
 }
 
-/// One look by a hart that asks for quiet, or is quiet already. Where it alone is claimed, it is quiet from here on.
-/// Answers the first word as the step found it.
+/// One look by a hart that asks for quiet, or is quiet already. Where it alone is claimed, it is quiet from
+/// here on. Answers the first word as the step found it.
 pub fn quiet<J: Acting>(table: &HartTable, seat: &mut HartSeat, by: HartId) -> u64
     requires named { (J.harts ≡ harts_of table.now) × (J.by ≡ by) }
     requires seat { IsSeatOf table.now seat.old }

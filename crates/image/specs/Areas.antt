@@ -1,5 +1,5 @@
--- When an area holds a memory, in plain words: each page stands in one place in use, behind a header with the image's serial.
--- Source: docs/IMAGE.md, "Reading".
+-- When an area holds a memory, in plain words: each page stands in one place in use, behind a header with the
+-- image's serial. Source: docs/IMAGE.md, "Reading".
 use Rattle.std.specs.Prelude.{◌≡◌, ℕ, ◌+◌, ◌*◌, ◌<◌, List, length, slice_index}
 use Rattle.board_model.specs.Shapes.{Size, area_sectors_of}
 use Rattle.disk.specs.Facts.{Content, sector}
@@ -15,7 +15,8 @@ pub record IsArea (size : Size) (area : Content) : Type 0 where
 abbrev pub place_in_area : Size → ℕ → ℕ → ℕ
 place_in_area size lane place = lane * lane_sectors size + place_start place
 
--- In each place in use stands the one spelling of a header, with that serial, of a page of the board; and each page has one of these places.
+-- In each place in use stands the one spelling of a header, with that serial, of a page of the board; and
+-- each page has one of these places.
 pub record IsWholeArea (size : Size) (serial : ℕ) (counts : List ℕ) (area : Content) : Type 0 where
   -- the page of a place, by its lane and its number there
   pub page : ℕ → ℕ → ℕ

@@ -1,6 +1,7 @@
-//! How long it takes to write a memory into an area of a disk in memory, and to read it back, beside a copy of as many bytes
-//! (docs/IMAGE.md, "Speed"). With no argument each is done once, and what was read is compared with what was written. With a
-//! number each is done so often, and the microseconds that one took are written.
+//! How long it takes to write a memory into an area of a disk in memory, and to read it back, beside a copy
+//! of as many bytes (docs/IMAGE.md, "Speed"). With no argument each is done once, and what was read is
+//! compared with what was written. With a number each is done so often, and the microseconds that one took
+//! are written.
 #![tactic(auto)]
 
 mod work;
@@ -55,8 +56,8 @@ fn saved(counts: LaneCounts) -> Option<Saved>
     })
 }
 
-/// Writes the area by that crew so often, reads it back, and compares. Then it writes a line of what came of it, and where
-/// times are wanted one of the microseconds that one write and one read took.
+/// Writes the area by that crew so often, reads it back, and compares. Then it writes a line of what came of
+/// it, and where times are wanted one of the microseconds that one write and one read took.
 fn measure<C: Crew>(
     rt: &HostRuntime,
     name: &str,
@@ -88,7 +89,8 @@ fn measure<C: Crew>(
     Ok(())
 }
 
-/// What a copy of an area's sectors takes, over the same place and into new memory, and what the disk's record does.
+/// What a copy of an area's sectors takes, over the same place and into new memory, and what the disk's
+/// record does.
 fn compare(rt: &HostRuntime, count: NonZeroU32) -> anyhow::Result<()> {
     let alloc = rt.alloc();
     let shape = Shape::new(1, PAGES, 4)?;

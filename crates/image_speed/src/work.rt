@@ -22,8 +22,8 @@ pub fn copies(from: &[Sector], to: &mut [Sector], count: u32)
     }
 }
 
-/// Copies the sectors so often, each time into new memory, as the record of a disk in memory keeps them. All copies are
-/// answered.
+/// Copies the sectors so often, each time into new memory, as the record of a disk in memory keeps them. All
+/// copies are answered.
 pub fn new_copies(
     alloc: Global,
     from: &[Sector],
@@ -80,7 +80,8 @@ pub fn reads<D: Disk>(
     Ok(())
 }
 
-/// Lends area 0 in lanes that nobody writes, takes them back and syncs: what a write of an area costs the disk's record.
+/// Lends area 0 in lanes that nobody writes, takes them back and syncs: what a write of an area costs the
+/// disk's record.
 pub fn loans<D: Disk>(disk: &mut D, shape: &Shape, count: u32) -> Result<(), Refusal>
     requires none_out { (D.facts disk.old).lent.lanes ≡ 0 }
     requires enough { sectors_of shape.now ≤ length (D.facts disk.old).content }

@@ -1,5 +1,5 @@
-//! Areas written and read back (docs/IMAGE.md): through one to four lanes, in turn and on threads; a lane or the sync
-//! that fails; what a cut leaves.
+//! Areas written and read back (docs/IMAGE.md): through one to four lanes, in turn and on threads; a lane or
+//! the sync that fails; what a cut leaves.
 use crate::fixtures::{Site, same};
 use board_model::Refusal;
 use crew::{Crew, Threads, Turns};
@@ -44,8 +44,8 @@ fn threads_write_the_memory(rt: HostRuntime) -> Result<(), Fail> {
     Ok(())
 }
 
-/// Two pages in two lanes, written under that fault; then, where it was refused, once more. What the first write answered,
-/// whether the fault is still to strike, and whether the memory stands in the end.
+/// Two pages in two lanes, written under that fault; then, where it was refused, once more. What the first
+/// write answered, whether the fault is still to strike, and whether the memory stands in the end.
 fn written_under<C: Crew>(
     alloc: Global,
     crew: &C,
@@ -80,8 +80,8 @@ fn a_failure_is_refused_and_the_next_write_stands(rt: HostRuntime) -> Result<(),
     Ok(())
 }
 
-/// An image in one area, and a second one into the other, whose lane is cut at that call. What the write answered, what a
-/// read of its area answers after the cut, and whether the first image stands.
+/// An image in one area, and a second one into the other, whose lane is cut at that call. What the write
+/// answered, what a read of its area answers after the cut, and whether the first image stands.
 fn cut_beside<C: Crew>(
     alloc: Global,
     crew: &C,

@@ -43,7 +43,8 @@ fn threads_run_two_jobs_at_once(rt: HostRuntime) {
     same(&rt, both_begin(&rt, &Threads::new(&rt)), true);
 }
 
-/// Goes to work as the crew in it, and counts the lists of jobs, the jobs, and the lists that went to threads.
+/// Goes to work as the crew in it, and counts the lists of jobs, the jobs, and the lists that went to
+/// threads.
 #[derive(Drop)]
 struct Counting<C> {
     crew: C,

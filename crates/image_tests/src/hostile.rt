@@ -1,5 +1,5 @@
-//! Areas that are not whole are refused `BadImage` (docs/IMAGE.md, "Reading"), whatever stands in them. On a board of two
-//! pages and one lane area 0 has the headers in sectors 8 and 17.
+//! Areas that are not whole are refused `BadImage` (docs/IMAGE.md, "Reading"), whatever stands in them. On a
+//! board of two pages and one lane area 0 has the headers in sectors 8 and 17.
 use crate::fixtures::{Site, same};
 use board_model::Refusal;
 use crew::{Crew, Turns};
@@ -50,7 +50,8 @@ fn each_byte_of_a_header_counts(rt: HostRuntime) -> Result<(), Fail> {
     Ok(())
 }
 
-/// A page that came before, one that the board lacks, the serial of the image before; and data, in which any byte may stand.
+/// A page that came before, one that the board lacks, the serial of the image before; and data, in which any
+/// byte may stand.
 #[test]
 fn pages_come_once_each_under_the_serial(rt: HostRuntime) -> Result<(), Fail> {
     let bad = Err(Refusal::BadImage);
@@ -97,8 +98,8 @@ fn counts_that_lie(rt: HostRuntime) -> Result<(), Fail> {
     Ok(())
 }
 
-/// What a read answers whose call of that number fails, and whether that fault is still to strike. The byte stands in the
-/// second header.
+/// What a read answers whose call of that number fails, and whether that fault is still to strike. The byte
+/// stands in the second header.
 fn read_failing<C: Crew>(
     alloc: Global,
     crew: &C,

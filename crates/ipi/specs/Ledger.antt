@@ -92,8 +92,9 @@ first_word t = 0
 abbrev pub IsInLog : Log Action → PendingView → Type 0
 IsInLog log d = IsOfLog log d.hart d.actions d.places
 
--- The rule. The ledger: the raises that found a pair clear are the takes that answered it, and one more if it is pending.
--- The log: all steps in their order, the newest first, which the pending views fix, since each pending view has the steps of its hart with their places.
+-- The rule. The ledger: the raises that found a pair clear are the takes that answered it, and one more if it
+-- is pending. The log: all steps in their order, the newest first, which the pending views fix, since each
+-- pending view has the steps of its hart with their places.
 pub record PendingInvariant (harts : ℕ) (s : State (Unit {0}) PendingSeatView) : Type 0 where
   pub wide : length s.words ≡ harts
   pub ledger : (sender target : ℕ) → target < harts

@@ -1,4 +1,5 @@
--- The pending pairs as a function of the view of a seat of all harts, so that a board may keep them as a value.
+-- The pending pairs as a function of the view of a seat of all harts, so that a board may keep them as a
+-- value.
 use Rattle.std.specs.Prelude.{◌≡◌, ℕ, ◌<◌, Bool, true, false, List, [], length, map, get_or, slice_set, nat_lt}
 use Rattle.tallies.specs.Seats.{numbers_from}
 use Rattle.ipi.specs.declared.view.PendingSeatView.{PendingSeatView}

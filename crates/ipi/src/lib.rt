@@ -1,6 +1,7 @@
-//! Interrupts between harts (SBI specification 2.0, chapter IPI), as pairs of a sender and a target in words that change
-//! in single steps (docs/TABLES.md). Each call takes the table by reference and a seat by value, gives the seat back,
-//! and adds one step to what the seat knows. No call waits, takes memory or tries a step again.
+//! Interrupts between harts (SBI specification 2.0, chapter IPI), as pairs of a sender and a target in words
+//! that change in single steps (docs/TABLES.md). Each call takes the table by reference and a seat by value,
+//! gives the seat back, and adds one step to what the seat knows. No call waits, takes memory or tries a step
+//! again.
 #![tactic(auto)]
 
 mod calls;

@@ -44,8 +44,8 @@ impl SeatTable for PendingTable {
 }
 
 impl PendingTable {
-    /// The table of a board of that shape, with nothing pending, and one seat of all harts. Refused `Memory` where the
-    /// words could not be had, and then nothing was made.
+    /// The table of a board of that shape, with nothing pending, and one seat of all harts. Refused `Memory`
+    /// where the words could not be had, and then nothing was made.
     pub fn new(alloc: Global, shape: Shape) -> Result<(PendingTable, IpiSeat), Refusal>
         ensures seat { IfOk result (λ t. IsSeatOf t.0 t.1) }
         ensures harts { IfOk result (λ t. harts_of t.0 ≡ shape.harts) }
@@ -74,8 +74,8 @@ impl PendingTable {
         tallies::split(self, seat)
     }
 
-    /// The seats of a list in one, which has their harts in the order of the list. It undoes `split`: a seat for each hart, in
-    /// the order of their numbers, makes the seat of all harts again.
+    /// The seats of a list in one, which has their harts in the order of the list. It undoes `split`: a seat
+    /// for each hart, in the order of their numbers, makes the seat of all harts again.
     pub fn join(&self, seats: Seats) -> IpiSeat
         requires seats { AreSeatsOf self.now seats.items }
         requires some { 0 < array_vec_len seats }

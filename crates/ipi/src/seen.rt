@@ -1,4 +1,5 @@
-//! A law of the definitions, the contract of a function that does nothing: a view of all harts shows one set of pairs.
+//! A law of the definitions, the contract of a function that does nothing: a view of all harts shows one set
+//! of pairs.
 
 ghost use Rattle.std.specs.Prelude.{◌≡◌, ◌<◌, ◌≤◌, ℕ, Bool, false, List};
 ghost use Rattle.tallies.specs.Seats.{numbers_from};
@@ -7,8 +8,8 @@ ghost use Rattle.ipi.specs.Pairs.{Shows, with_pair, without_target};
 ghost use Rattle.ipi.specs.Views.{pair_in, pairs_in, pair_at, AreRows, ArePairs, pairs_with, pairs_without};
 ghost use Rattle.ipi.specs.declared.view.PendingSeatView.{PendingSeatView};
 
-/// The pending pairs that the view of a seat of all harts shows are those that `pair_in` computes of it, and `pairs_in`
-/// as a list. A pair with a sender that the board lacks is never pending.
+/// The pending pairs that the view of a seat of all harts shows are those that `pair_in` computes of it, and
+/// `pairs_in` as a list. A pair with a sender that the board lacks is never pending.
 pub fn one_set()
     ensures one { (harts : ℕ) (c : PendingSeatView) (pairs : ℕ → ℕ → Bool) → Shows harts c pairs → (sender target : ℕ) → pair_in c sender target ≡ pairs sender target }
     ensures seen { (harts : ℕ) (c : PendingSeatView) → HasEveryHart harts c → Shows harts c (pair_in c) }

@@ -7,8 +7,8 @@ ghost use Rattle.ipi.specs.Senders.{HasSender};
 use board_model::HartId;
 use std::marker::Model;
 
-/// The harts whose interrupts one `take` took. Contracts see it as a number whose bit `s` tells whether the hart `s` is
-/// in it (`HasSender`).
+/// The harts whose interrupts one `take` took. Contracts see it as a number whose bit `s` tells whether the
+/// hart `s` is in it (`HasSender`).
 #[derive(Clone, Copy, Debug, PartialEq, Eq, Drop)]
 pub struct SenderSet {
     bits: u64,

@@ -18,8 +18,8 @@ impl TableRule<(), PendingSeatView, u32> for Ledger {
     ghost first = { opening_pending_view };
 }
 
-/// What the contract of a step names beside the step's own operands. A caller names itself `Brand` and picks the values
-/// in its proof.
+/// What the contract of a step names beside the step's own operands. A caller names itself `Brand` and picks
+/// the values in its proof.
 pub(crate) trait Acting {
     ghost harts: { ℕ };
 

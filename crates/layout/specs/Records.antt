@@ -1,5 +1,5 @@
--- The gate, which selects one of two records, and the record, version 1: the durable state, and where its image stands.
--- Source: docs/STORE.md, "Gate" and "Record".
+-- The gate, which selects one of two records, and the record, version 1: the durable state, and where its
+-- image stands. Source: docs/STORE.md, "Gate" and "Record".
 use Rattle.std.specs.Prelude.{◌≡◌, ℕ, ◌%◌, ◌<◌, ◌≤◌, List, [], ◌∷◌, ◌++◌, Option, Some, None, length, sum, slice_index, nat_lt, if◌then◌else◌}
 use Rattle.std.specs.Option.{ForSome}
 use Rattle.board_model.specs.Shapes.{Size, IsValidAddress, places_of}

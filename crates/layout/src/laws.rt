@@ -1,4 +1,5 @@
-//! Each sector has one spelling, and is the spelling of one value: the contracts of functions that do nothing.
+//! Each sector has one spelling, and is the spelling of one value: the contracts of functions that do
+//! nothing.
 ghost use Rattle.std.specs.Prelude.{◌≡◌, ℕ, List, replicate};
 ghost use Rattle.board_model.specs.Shapes.{Size};
 ghost use Rattle.layout.specs.Superblocks.{HasMagic, IsSuperblock};

@@ -1,7 +1,8 @@
-//! What the sectors of a disk hold, to bytes and back: superblock, gate, record and place header (docs/STORE.md).
+//! What the sectors of a disk hold, to bytes and back: superblock, gate, record and place header
+//! (docs/STORE.md).
 //!
-//! Each sector has exactly one spelling: reading a sector back is an answer only where the sector is the spelling of
-//! what was read. Nothing here takes memory.
+//! Each sector has exactly one spelling: reading a sector back is an answer only where the sector is the
+//! spelling of what was read. Nothing here takes memory.
 #![tactic(auto)]
 
 mod fields;

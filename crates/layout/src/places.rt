@@ -25,8 +25,8 @@ pub fn place_head_bytes(head: &PlaceHead) -> [u8; 512]
     sector.finish()
 }
 
-/// The header that the sector is the one spelling of, on a board of that shape. Refused `BadImage` where there is none:
-/// a page that the board lacks, or a byte that is not 0 where the form has 0.
+/// The header that the sector is the one spelling of, on a board of that shape. Refused `BadImage` where
+/// there is none: a page that the board lacks, or a byte that is not 0 where the form has 0.
 pub fn parse_place_head(sector: &[u8; 512], shape: &Shape) -> Result<PlaceHead, Refusal>
     ensures ok { IfOk result (λ head. IsPlaceHead shape.now head sector.now) }
     ensures exact { (head : PlaceHead) → IsPlaceHead shape.now head sector.now → result ≡ Ok head }

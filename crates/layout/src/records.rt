@@ -124,8 +124,8 @@ fn fill_saved(sector: &mut Filling, saved: &Saved)
     sector.u32(three);
 }
 
-/// The record that the sector is the one spelling of, on a board of that shape. Refused `BadRecord` where there is none:
-/// another version, a number out of its range, or a byte that is not 0 where the form has 0.
+/// The record that the sector is the one spelling of, on a board of that shape. Refused `BadRecord` where
+/// there is none: another version, a number out of its range, or a byte that is not 0 where the form has 0.
 pub fn parse_record(sector: &[u8; 512], shape: &Shape) -> Result<Record, Refusal>
     ensures ok { IfOk result (λ r. IsRecord shape.now r sector.now) }
     ensures exact { (r : Record) → IsRecord shape.now r sector.now → result ≡ Ok r }

@@ -27,8 +27,9 @@ pub fn has_magic(sector: &[u8; 512]) -> bool
     sector.starts_with(&MAGIC)
 }
 
-/// The shape that sector 0 of a disk of so many sectors has. Refused `NotFormatted` where the sector does not begin with
-/// the mark; `BadShape` where a number is out of range, a byte of the rest is not 0, or the disk is too small.
+/// The shape that sector 0 of a disk of so many sectors has. Refused `NotFormatted` where the sector does not
+/// begin with the mark; `BadShape` where a number is out of range, a byte of the rest is not 0, or the disk
+/// is too small.
 pub fn parse_superblock(sector: &[u8; 512], sectors: usize) -> Result<Shape, Refusal>
     ensures ok { IfOk result (λ shape. IsSuperblock shape sector.now × (sectors_of shape ≤ sectors)) }
     ensures exact { (size : Size) → IsSuperblock size sector.now → sectors_of size ≤ sectors → result ≡ Ok size }

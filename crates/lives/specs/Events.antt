@@ -9,8 +9,8 @@ use Rattle.store.specs.Lives.{Life, now_of}
 pub data Event : Type 0 where
   -- an open answered Ok, and found this
   WasOpened : DurableState → Event
-  -- a command was acknowledged, was refused by a number but 6, or is in doubt: it answered 6 after it reached the disk, or was
-  -- under way when power failed
+  -- a command was acknowledged, was refused by a number but 6, or is in doubt: it answered 6 after it reached
+  -- the disk, or was under way when power failed
   WasAcknowledged : Change → Event
   WasRefused : Change → Event
   WasDoubtful : Change → Event
@@ -19,9 +19,10 @@ pub data Event : Type 0 where
   -- the hart of the image with that serial was answered
   WasResumed : ℕ → Event
 
--- The disk: the state that the acknowledged commands make and the command in doubt, so that an open may find one of the two; the
--- commands kept since the format; whether this life may go on; the serial that the last acknowledged Consume of this life dropped,
--- until its hart is resumed; and the serials of all images resumed.
+-- The disk: the state that the acknowledged commands make and the command in doubt, so that an open may find
+-- one of the two; the commands kept since the format; whether this life may go on; the serial that the last
+-- acknowledged Consume of this life dropped, until its hart is resumed; and the serials of all images
+-- resumed.
 pub record World : Type 0 where
   pub state : DurableState
   pub doubt : Option Change
@@ -38,7 +39,8 @@ new_world = record { state = formatted; doubt = None; kept = []; on = false; dro
 abbrev pub Finds : World → DurableState → List Change → Type 0
 Finds w s kept = ((s ≡ w.state) × (kept ≡ w.kept)) ⊎ ((c : Change) × (w.doubt ≡ Some c) × (s ≡ after w.state c) × (kept ≡ w.kept ++ c ∷ []))
 
--- a command reaches the disk: the life goes on, none is in doubt, and the table of commands does not refuse it
+-- a command reaches the disk: the life goes on, none is in doubt, and the table of commands does not refuse
+-- it
 abbrev pub Goes : World → Change → Type 0
 Goes w c = (w.on ≡ true) × (w.doubt ≡ None) × (refusal_of w.state c ≡ None)
 

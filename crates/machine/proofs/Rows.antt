@@ -10,7 +10,8 @@ use Rattle.turns.specs.Many.{NextTurns}
 use Rattle.machine.specs.Machine.{Machine}
 use Rattle.machine.specs.Turns.{moment_of, with_moment, MakesTurn, Rows, ends_row, IsLast, TurnsMany}
 
--- before the turn `made` of at most `count`, none has ended the row: what the turns that are left make of the machine, all make of it
+-- before the turn `made` of at most `count`, none has ended the row: what the turns that are left make of the
+-- machine, all make of it
 abbrev pub Continues : ℕ → ℕ → ℕ → Machine → Machine → Type 0
 Continues h count made old mid = (n k total : ℕ) (new : Machine) (word : Turned) → n + made ≡ count + 1 → total + 1 ≡ made + k → TurnsMany h n mid new k word → TurnsMany h count old new total word
 

@@ -1,4 +1,5 @@
--- A call that comes to a durable command, made with the store at hand. Source: SBI specification 2.0, chapters 10 and 13; docs/SBI.md.
+-- A call that comes to a durable command, made with the store at hand. Source: SBI specification 2.0,
+-- chapters 10 and 13; docs/SBI.md.
 use Rattle.std.specs.Prelude.{◌≡◌, ℕ}
 use Rattle.disk.specs.declared.device.Disk.{Ghosts}
 use Rattle.disk.specs.declared.device.Lane.{Ghosts as Lanes}

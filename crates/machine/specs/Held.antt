@@ -17,7 +17,8 @@ abbrev pub table_of : ℕ → Option Seats → TableState
 table_of harts None = record { states = []; pairs = [] }
 table_of harts (Some s) = shown_by harts s
 
--- The seats have every hart, and show a state of each and the pending interrupts; between two turns each hart rests.
+-- The seats have every hart, and show a state of each and the pending interrupts; between two turns each hart
+-- rests.
 pub record AreWhole (harts : ℕ) (t : Tables) (s : Seats) : Type 0 where
   pub seats : AreSeatsOfBoth t s
   pub all : AreOfAll t s

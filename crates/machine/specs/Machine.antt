@@ -1,4 +1,5 @@
--- The board as a model: its memory, its harts, and both tables. Source: SBI specification 2.0, chapters 7 and 9; docs/BOARD.md.
+-- The board as a model: its memory, its harts, and both tables. Source: SBI specification 2.0, chapters 7 and
+-- 9; docs/BOARD.md.
 use Rattle.std.specs.Prelude.{ℕ, zero, suc, Bool, false, List, [], ◌∷◌, ◌++◌, ◌-◌, length, replicate, get_or, slice_set}
 use Rattle.board_model.specs.Durable.{Image}
 use Rattle.board_model.specs.Shapes.{Size, ram_bytes_of}
@@ -9,8 +10,8 @@ use Rattle.hsm_rule.specs.States.{HartState, stopped, started}
 use Rattle.hsm.specs.Views.{listed}
 use Rattle.sbi_calls.specs.Both.{TableState}
 
--- How large the board is, the bytes of RAM, the harts by number, and the tables: the state of each hart, and for each the
--- senders of whom an interrupt is pending for it.
+-- How large the board is, the bytes of RAM, the harts by number, and the tables: the state of each hart, and
+-- for each the senders of whom an interrupt is pending for it.
 pub record Machine : Type 0 where
   pub size : Size
   pub memory : List ℕ
@@ -41,14 +42,15 @@ abbrev pub resting : Size → ℕ → Machine
 resting size first =
     record { size = size; memory = replicate (ram_bytes_of size) 0; harts = stopped_harts size.harts; table = record { states = only_first size.harts first; pairs = none_pending size.harts } }
 
--- What a boot of a payload leaves: RAM is the payload and zeros behind it, hart 0 stands at the start of RAM with its
--- number in a0 and the reset reason in a1, all else of it is 0, no other hart ever ran, and no interrupt is pending.
+-- What a boot of a payload leaves: RAM is the payload and zeros behind it, hart 0 stands at the start of RAM
+-- with its number in a0 and the reset reason in a1, all else of it is 0, no other hart ever ran, and no
+-- interrupt is pending.
 abbrev pub machine_begun : List ℕ → Reason → Size → Machine
 machine_begun payload reason size =
     record (resting size 0) { memory = payload ++ replicate (ram_bytes_of size - length payload) 0; harts = slice_set (stopped_harts size.harts) 0 (fresh 0 0x80000000 (reason_number reason)) }
 
--- What a resume leaves: the memory is the image's, its hart stands at its address with its number in a0 and its opaque value in a1,
--- all else of it is 0, no other hart ever ran, and no interrupt is pending.
+-- What a resume leaves: the memory is the image's, its hart stands at its address with its number in a0 and
+-- its opaque value in a1, all else of it is 0, no other hart ever ran, and no interrupt is pending.
 abbrev pub woken : Image → Size → Machine
 woken i size =
     record (resting size i.hart) { memory = i.memory; harts = slice_set (stopped_harts size.harts) i.hart (fresh i.hart i.address i.opaque) }

@@ -1,4 +1,5 @@
--- Turns of a hart, and calls that are made in its place. Source: docs/BOARD.md; SBI specification 2.0, chapters 3 and 9.
+-- Turns of a hart, and calls that are made in its place. Source: docs/BOARD.md; SBI specification 2.0,
+-- chapters 3 and 9.
 use Rattle.std.specs.Prelude.{◌≡◌, ◌⊎◌, ℕ, zero, suc, Bool, true, false, List, slice_set}
 use Rattle.board_model.specs.Shapes.{Size}
 use Rattle.hart.specs.State.{ArchState, put}
@@ -49,7 +50,8 @@ ends_row Durable = true
 abbrev pub IsLast : Turned → ℕ → Type 0
 IsLast word left = (ends_row word ≡ true) ⊎ (left ≡ 0)
 
--- at most n turns of hart h in a row, of which so many were made: one that ends the row is the last, and word is said of it
+-- at most n turns of hart h in a row, of which so many were made: one that ends the row is the last, and word
+-- is said of it
 abbrev pub TurnsMany : ℕ → ℕ → Machine → Machine → ℕ → Turned → Type 0
 TurnsMany h zero old new made word = ⊥
 TurnsMany h (suc n) old new made word =

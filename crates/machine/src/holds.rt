@@ -16,8 +16,8 @@ use sbi_calls::{Seats, Tables};
 use std::alloc::Global;
 use store::Store;
 
-/// Ends the quiet of a hart whose board sleeps, so that each hart of the seats is at rest. The life is over, and none of
-/// them acts any more.
+/// Ends the quiet of a hart whose board sleeps, so that each hart of the seats is at rest. The life is over,
+/// and none of them acts any more.
 fn settle(seats: Seats, tables: &Tables, by: HartId, held: Held) -> Seats
     requires seats { AreSeatsOfBoth tables.now seats }
     requires acts { Acts by (stage_by_held held) seats }
@@ -35,7 +35,8 @@ fn settle(seats: Seats, tables: &Tables, by: HartId, held: Held) -> Seats
     }
 }
 
-/// Makes the durable call at which a STARTED hart stands. Whatever comes of it, the seats are at rest after it.
+/// Makes the durable call at which a STARTED hart stands. Whatever comes of it, the seats are at rest after
+/// it.
 pub fn make_held<D: Disk + Drop, C: Crew>(
     alloc: Global,
     hart: &mut Hart,

@@ -1,4 +1,5 @@
-//! A law of the definitions, the contract of a function that does nothing: turns and calls of a hart leave nothing open.
+//! A law of the definitions, the contract of a function that does nothing: turns and calls of a hart leave
+//! nothing open.
 
 ghost use Rattle.std.specs.Prelude.{◌≡◌, ℕ};
 ghost use Rattle.turns.specs.declared.words.Turned.{Turned};
@@ -6,8 +7,8 @@ ghost use Rattle.machine.specs.Machine.{Machine};
 ghost use Rattle.machine.specs.Turns.{MakesTurn, TurnsMany, MakesOneCall};
 ghost use Rattle.machine.specs.declared.parts.Called.{Called};
 
-/// A board has one outcome of a turn of a hart, one of many in a row, and one of a call that is made in a hart's place: the
-/// memory, the harts and the tables, and what is said.
+/// A board has one outcome of a turn of a hart, one of many in a row, and one of a call that is made in a
+/// hart's place: the memory, the harts and the tables, and what is said.
 pub fn one_turn()
     ensures turn { (h : ℕ) (old new other : Machine) (word also : Turned) → MakesTurn h old new word → MakesTurn h old other also → (new ≡ other) × (word ≡ also) }
     ensures turns { (h n k l : ℕ) (old new other : Machine) (word also : Turned) → TurnsMany h n old new k word → TurnsMany h n old other l also → (new ≡ other) × (k ≡ l) × (word ≡ also) }

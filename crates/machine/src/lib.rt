@@ -1,6 +1,6 @@
-//! A board's memory, harts and tables on one thread: what a boot leaves, what a turn or a call of a hart does, and how a call
-//! that comes to a durable command is made with a store.
-//! docs/BOARD.md has it in plain words.
+//! A board's memory, harts and tables on one thread: what a boot leaves, what a turn or a call of a hart
+//! does, and how a call that comes to a durable command is made with a store. docs/BOARD.md has it in plain
+//! words.
 #![tactic(auto)]
 
 mod calls;

@@ -33,8 +33,8 @@ use store::Store;
 use susp::wake_image;
 use turns::Turned;
 
-/// A board's memory, harts and tables, which contracts see as the record `Machine` of specs/. The seats are out of their
-/// place only within a call.
+/// A board's memory, harts and tables, which contracts see as the record `Machine` of specs/. The seats are
+/// out of their place only within a call.
 #[derive(Drop)]
 pub struct Machine {
     ram: Ram,
@@ -70,8 +70,8 @@ fn stopped_harts(alloc: Global, shape: &Shape) -> Result<Vec<Hart>, Refusal>
 }
 
 impl Machine {
-    /// A board of that shape before a boot, whose hart `first` is to begin: RAM is zeros, every other hart is STOPPED,
-    /// and no interrupt is pending. Refused 11 where there is no room for it.
+    /// A board of that shape before a boot, whose hart `first` is to begin: RAM is zeros, every other hart is
+    /// STOPPED, and no interrupt is pending. Refused 11 where there is no room for it.
     pub fn new(alloc: Global, shape: &Shape, first: HartId) -> Result<Self, Refusal>
         requires { first < shape.now.harts }
         ensures resting { IfOk result (λ m. m ≡ resting shape.now first) }
@@ -110,9 +110,9 @@ impl Machine {
         }
     }
 
-    /// Wakes a board that was just made, whose first hart is that of the image that stands, as `susp::wake_image` has it: the
-    /// memory of the image is loaded, then the image is consumed, and only then its hart stands at its address. No memory is
-    /// taken. After a refusal the machine is of no use.
+    /// Wakes a board that was just made, whose first hart is that of the image that stands, as
+    /// `susp::wake_image` has it: the memory of the image is loaded, then the image is consumed, and only
+    /// then its hart stands at its address. No memory is taken. After a refusal the machine is of no use.
     pub fn wake<D: Disk + Drop>(&mut self, store: &mut Store<D>) -> Result<(), Refusal>
         requires resting { (i : Image) → (now_state store.old).image ≡ Some i → (self.old ≡ resting (size_of_store store.old) i.hart) × (i.hart < (size_of_store store.old).harts) }
         ensures woken { OnOk result ((i : Image) × ((now_state store.old).image ≡ Some i) × (self.new ≡ woken i (size_of_store store.old)) × (length i.memory ≡ length self.old.memory)) }
@@ -148,8 +148,8 @@ impl Machine {
         &self.harts[id.index()]
     }
 
-    /// Whether an interrupt is pending for a hart. It is one look at the table by that hart's seat, so it needs the whole
-    /// machine, and leaves it as it was.
+    /// Whether an interrupt is pending for a hart. It is one look at the table by that hart's seat, so it
+    /// needs the whole machine, and leaves it as it was.
     pub fn pending(&mut self, id: HartId) -> bool
         requires { id < length self.old.harts }
         ensures value { result ≡ has_pending id self.old.table.pairs }
@@ -185,8 +185,8 @@ impl Machine {
         turned
     }
 
-    /// Turns of a hart in a row by one look at the tables, `most` of them at most: how many were made, and what the last
-    /// one did. Each before it said `Next`.
+    /// Turns of a hart in a row by one look at the tables, `most` of them at most: how many were made, and
+    /// what the last one did. Each before it said `Next`.
     fn row(&mut self, id: HartId, most: u32) -> (u32, Turned)
         requires hart { id < length self.old.harts }
         requires some { 1 ≤ most }
@@ -209,8 +209,8 @@ impl Machine {
         (made, turned)
     }
 
-    /// At most so many turns of a hart, one after another: how many were made, and what the last one did. One that stops
-    /// the hart is the last, and so is one that leaves it at a durable call.
+    /// At most so many turns of a hart, one after another: how many were made, and what the last one did. One
+    /// that stops the hart is the last, and so is one that leaves it at a durable call.
     pub fn turns(&mut self, id: HartId, count: u32) -> (u32, Turned)
         requires hart { id < length self.old.harts }
         requires some { 1 ≤ count }
@@ -230,8 +230,8 @@ impl Machine {
         (made, turned)
     }
 
-    /// An SBI call that is made in the place of a hart: sets a0 to a2, a6 and a7, and acts as if ECALL stood at its pc. A
-    /// hart that is not STARTED makes none, and stays as it was.
+    /// An SBI call that is made in the place of a hart: sets a0 to a2, a6 and a7, and acts as if ECALL stood
+    /// at its pc. A hart that is not STARTED makes none, and stays as it was.
     pub fn call(&mut self, id: HartId, eid: u64, fid: u64, a0: u64, a1: u64, a2: u64) -> Called
         requires { id < length self.old.harts }
         ensures calls { MakesOneCall id eid fid a0 a1 a2 self.old self.new result }
@@ -259,8 +259,9 @@ impl Machine {
         called
     }
 
-    /// Makes the durable call at which a hart stands, as `sbi::dispatch_held` says, with a store and this memory: a turn or
-    /// a call told `Durable`. A reset and a suspend end the life, and no hart makes a turn after them.
+    /// Makes the durable call at which a hart stands, as `sbi::dispatch_held` says, with a store and this
+    /// memory: a turn or a call told `Durable`. A reset and a suspend end the life, and no hart makes a turn
+    /// after them.
     pub fn make_call<D: Disk + Drop, C: Crew>(
         &mut self,
         alloc: Global,

@@ -1,5 +1,5 @@
--- What the lines that show a board's memory and harts say, and what a line of turns makes of them. A line whose hart or whose
--- bytes the board lacks says `off`, and does nothing. Source: docs/SCRIPT.md.
+-- What the lines that show a board's memory and harts say, and what a line of turns makes of them. A line
+-- whose hart or whose bytes the board lacks says `off`, and does nothing. Source: docs/SCRIPT.md.
 use Rattle.std.specs.Prelude.{◌≡◌, ◌≢◌, ℕ, zero, suc, ◌+◌, ◌-◌, ◌^◌, ◌<◌, ◌≤◌, ◌++◌, Bool, Option, Some, None, length, replicate, slice_range, nat_lt, nat_le, ◌&&◌, if◌then◌else◌}
 use Rattle.hart.specs.State.{ArchState, reg}
 use Rattle.hart.specs.Csrs.{csr_number, csr_read}

@@ -1,4 +1,5 @@
-//! The report lines of a script that show a board's memory and harts, or have a hart make turns (docs/SCRIPT.md).
+//! The report lines of a script that show a board's memory and harts, or have a hart make turns
+//! (docs/SCRIPT.md).
 #![tactic(auto)]
 
 mod laws;

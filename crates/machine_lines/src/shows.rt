@@ -30,8 +30,8 @@ pub fn pc(machine: &Machine, hart: HartId) -> MachineLine
     MachineLine::Pc(hart, machine.hart(hart).pc())
 }
 
-/// `turn H N` of a machine without a store: at most so many turns of a hart, one after another. One that leaves the hart at a
-/// durable call is the last.
+/// `turn H N` of a machine without a store: at most so many turns of a hart, one after another. One that
+/// leaves the hart at a durable call is the last.
 pub fn turn(machine: &mut Machine, hart: HartId, count: u32) -> MachineLine
     ensures { TurnsLine hart count machine.old machine.new result }
 {
@@ -98,8 +98,8 @@ fn made(machine: &Machine, hart: HartId, word: Word) -> MachineLine
     }
 }
 
-/// What `call H EID FID A0 A1 A2` says of a call that is made in the place of a hart, by what is said of it; none was made
-/// where the hart is not STARTED.
+/// What `call H EID FID A0 A1 A2` says of a call that is made in the place of a hart, by what is said of it;
+/// none was made where the hart is not STARTED.
 pub fn called(machine: &Machine, hart: HartId, word: Option<Word>) -> MachineLine
     requires { hart < length machine.now.harts }
     ensures { result ≡ called_line hart (hart_at machine.now hart) word }
@@ -110,7 +110,8 @@ pub fn called(machine: &Machine, hart: HartId, word: Option<Word>) -> MachineLin
     }
 }
 
-/// Whether an interrupt is pending for the hart of that number, where the board has it. The machine stays as it was.
+/// Whether an interrupt is pending for the hart of that number, where the board has it. The machine stays as
+/// it was.
 fn waits(machine: &mut Machine, number: u64) -> bool
     requires { number < 8 }
     ensures value { result ≡ waits machine.old number }

@@ -1,5 +1,5 @@
-//! Calls that are made in a hart's place, and turns by the hart table. What is expected is that of the SBI specification 2.0,
-//! chapters 4, 7 and 9, and of docs/SBI.md.
+//! Calls that are made in a hart's place, and turns by the hart table. What is expected is that of the SBI
+//! specification 2.0, chapters 4, 7 and 9, and of docs/SBI.md.
 
 use crate::fixtures::{all_say, booted};
 use board_model::{HartId, Reason};
@@ -94,7 +94,8 @@ fn a_hart_is_started_once(rt: HostRuntime) -> Result<(), Fail> {
     )
 }
 
-/// A mask that names a hart that is none sends nothing; an empty one does nothing; a base of all ones means all.
+/// A mask that names a hart that is none sends nothing; an empty one does nothing; a base of all ones means
+/// all.
 #[test]
 fn a_mask_with_a_hart_that_is_none_sends_nothing(rt: HostRuntime) -> Result<(), Fail> {
     let asked = [
@@ -178,7 +179,8 @@ fn a_hart_that_stopped_is_not_started(rt: HostRuntime) -> Result<(), Fail> {
     )
 }
 
-/// Without a store a durable call is left as it is, and the line of turns ends there; on a board it is one of these words.
+/// Without a store a durable call is left as it is, and the line of turns ends there; on a board it is one of
+/// these words.
 #[test]
 fn a_durable_call_is_left_to_what_has_the_store(rt: HostRuntime) -> Result<(), Fail> {
     let asked = [

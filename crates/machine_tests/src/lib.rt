@@ -1,5 +1,5 @@
-//! Memory, steps of a hart, boots and turns of a board, and their report lines: programs that an outside assembler made, with
-//! what an outside emulator or the manual says that they do.
+//! Memory, steps of a hart, boots and turns of a board, and their report lines: programs that an outside
+//! assembler made, with what an outside emulator or the manual says that they do.
 #![tactic(auto)]
 
 #[cfg(test)]

@@ -79,8 +79,8 @@ fn edge_values_as_under_qemu(rt: HostRuntime) -> Result<(), Fail> {
     Ok(())
 }
 
-/// The cause and stval of each trap of data/traps.s in order; the saved pc is always as expected there, and in the
-/// handler interrupts are off and SPIE is set.
+/// The cause and stval of each trap of data/traps.s in order; the saved pc is always as expected there, and
+/// in the handler interrupts are off and SPIE is set.
 const TRAPS: [(u64, u64); 22] = [
     (4, BASE + 1),
     (4, BASE + 1),
@@ -235,7 +235,8 @@ fn goes_on(rt: &impl Abort, hart: &mut Hart, ram: &mut Ram) {
 /// A pending interrupt is taken where sstatus and sie let it, before the fetch, and not before.
 #[test]
 fn a_pending_interrupt(rt: HostRuntime) -> Result<(), Fail> {
-    // csrwi sie, 2; csrwi stvec, 0; addi x5, x0, 64; csrw stvec, x5; csrsi sstatus, 2; addi x6, x6, 1; at 64: sret
+    // csrwi sie, 2; csrwi stvec, 0; addi x5, x0, 64; csrw stvec, x5; csrsi sstatus, 2; addi x6, x6, 1; at 64:
+    // sret
     let program = [
         0x1041_5073,
         0x1050_5073,

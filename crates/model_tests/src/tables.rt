@@ -1,5 +1,5 @@
-//! Values from docs/DURABLE.md and docs/REFUSALS.md: each command against each kind of state, each refusal, each limit
-//! at its edges.
+//! Values from docs/DURABLE.md and docs/REFUSALS.md: each command against each kind of state, each refusal,
+//! each limit at its edges.
 use board_model::{
     Addr, Command, Durable, HartId, ImageHead, PageNo, Reason, Refusal, Shape, Slot,
 };

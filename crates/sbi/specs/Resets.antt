@@ -1,4 +1,5 @@
--- What a system reset asks for, with its checks in their order. Source: SBI specification 2.0, chapter 10; docs/SBI.md.
+-- What a system reset asks for, with its checks in their order. Source: SBI specification 2.0, chapter 10;
+-- docs/SBI.md.
 use Rattle.std.specs.Prelude.{ℕ, ◌==◌, nat_lt, if◌then◌else◌, Result, Ok, Err}
 use Rattle.board_model.specs.declared.durable.Reason.{Reason}
 use Rattle.board_model.specs.declared.durable.Reason.TheVariants.{NoReason, SystemFailure}

@@ -97,12 +97,12 @@ fn sleep<D: Disk + Drop, C: Crew>(
     }
 }
 
-/// Makes the call at which a hart stands, where `sbi_calls::dispatch` told that it comes to a durable command; any other
-/// call is not supported. The hart is STARTED and not quiet, and is one of the seats; memory and store are at hand for this
-/// one moment.
+/// Makes the call at which a hart stands, where `sbi_calls::dispatch` told that it comes to a durable
+/// command; any other call is not supported. The hart is STARTED and not quiet, and is one of the seats;
+/// memory and store are at hand for this one moment.
 ///
-/// A reset and a suspend are told only after their command was acknowledged. Where the store refuses, the hart finds -1, and
-/// goes on.
+/// A reset and a suspend are told only after their command was acknowledged. Where the store refuses, the
+/// hart finds -1, and goes on.
 pub fn dispatch_held<D: Disk + Drop, C: Crew>(
     alloc: Global,
     hart: &mut Hart,

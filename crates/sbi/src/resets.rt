@@ -15,8 +15,9 @@ pub enum ResetType {
     ColdReboot,
 }
 
-/// The reset of that type and reason, whose arguments are checked in this order: -3 for a type that the standard has not,
-/// or a reason other than none and system failure; -2 for a warm reboot, which this board has not.
+/// The reset of that type and reason, whose arguments are checked in this order: -3 for a type that the
+/// standard has not, or a reason other than none and system failure; -2 for a warm reboot, which this board
+/// has not.
 pub fn reset_of(kind: u32, reason: u32) -> Result<(ResetType, Reason), SbiError>
     ensures { result ≡ reset_of kind reason }
 {

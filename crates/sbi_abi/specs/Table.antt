@@ -1,4 +1,5 @@
--- The calls as a table, a row each. Source: SBI specification 2.0, chapters 4 (Base), 7 (IPI), 9 (HSM), 10 (SRST) and 13 (SUSP).
+-- The calls as a table, a row each. Source: SBI specification 2.0, chapters 4 (Base), 7 (IPI), 9 (HSM), 10
+-- (SRST) and 13 (SUSP).
 use Rattle.std.specs.Prelude.{◌≡◌, ℕ, Option, Some, None}
 use Rattle.sbi_abi.specs.Calls.{low}
 use Rattle.sbi_abi.specs.declared.call.Call.{Call}

@@ -21,8 +21,8 @@ pub enum Extension {
     Susp,
 }
 
-/// A call with its arguments as the registers hold them, not checked yet. What the standard declares 32 bits wide is the
-/// low half of its register.
+/// A call with its arguments as the registers hold them, not checked yet. What the standard declares 32 bits
+/// wide is the low half of its register.
 #[derive(Clone, Copy, Debug, PartialEq, Eq, Drop)]
 pub enum Call {
     /// `sbi_get_spec_version`.
@@ -146,7 +146,8 @@ impl Call {
         }
     }
 
-    /// The call that a hart's registers ask for: the extension in a7, the function in a6, the arguments from a0 on.
+    /// The call that a hart's registers ask for: the extension in a7, the function in a6, the arguments from
+    /// a0 on.
     pub fn of(hart: &Hart) -> Call
         ensures { result ≡ call_of hart.now }
     {

@@ -1,5 +1,5 @@
-//! The binary interface of SBI calls (SBI specification 2.0, chapter 3; docs/SBI.md): which call a hart's registers ask
-//! for, which harts a mask names, and how a call is answered. No call takes memory.
+//! The binary interface of SBI calls (SBI specification 2.0, chapter 3; docs/SBI.md): which call a hart's
+//! registers ask for, which harts a mask names, and how a call is answered. No call takes memory.
 #![tactic(auto)]
 
 mod call;

@@ -35,10 +35,10 @@ impl HartSet {
     }
 }
 
-/// The harts that a mask and its base name on a board of so many harts (SBI specification 2.0, chapter 3, hart list
-/// parameter): all of them, where every bit of the base is set, whatever the mask is; else bit `i` of the mask names the
-/// hart `base + i`, and an empty mask names none. Refused `InvalidParam` exactly where the base is no hart of the board,
-/// or a hart named is none; a sum past 64 bits is no hart's number.
+/// The harts that a mask and its base name on a board of so many harts (SBI specification 2.0, chapter 3,
+/// hart list parameter): all of them, where every bit of the base is set, whatever the mask is; else bit `i`
+/// of the mask names the hart `base + i`, and an empty mask names none. Refused `InvalidParam` exactly where
+/// the base is no hart of the board, or a hart named is none; a sum past 64 bits is no hart's number.
 pub fn targets(mask: u64, base: u64, harts: u32) -> Result<HartSet, SbiError>
     requires few { harts ≤ 8 }
     ensures value { result ≡ targets_of mask base harts }

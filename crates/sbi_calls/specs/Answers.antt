@@ -1,5 +1,5 @@
--- The table of answers: from the states of all harts, the pending pairs, the caller and the call to the answer and what the tables then are.
--- Source: SBI specification 2.0, chapters 4, 7 and 9; docs/SBI.md.
+-- The table of answers: from the states of all harts, the pending pairs, the caller and the call to the
+-- answer and what the tables then are. Source: SBI specification 2.0, chapters 4, 7 and 9; docs/SBI.md.
 use Rattle.std.specs.Prelude.{◌≡◌, ℕ, Bool, true, List, map, length, slice_set, ◌==◌, if◌then◌else◌, Ok, Err}
 use Rattle.std.specs.Int.{bit_at}
 use Rattle.board_model.specs.Shapes.{Size}
@@ -60,7 +60,8 @@ row by (Ok (SuspendAfresh a o)) t = record { ending = SuspendsAfresh a o; table 
 row by (Ok (Send targets)) t = record { ending = Answers (Ok 0); table = record t { pairs = pairs_sent by targets t.pairs } }
 row by (Ok Command) t = record { ending = Defers; table = t }
 
--- the table of answers: what a call of the hart `by` ends with on a board of that size, and what the tables then are
+-- the table of answers: what a call of the hart `by` ends with on a board of that size, and what the tables
+-- then are
 abbrev pub answer : Size → ℕ → Call → TableState → Row
 answer size by call t = row by (request_of size call) t
 

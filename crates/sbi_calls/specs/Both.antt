@@ -56,7 +56,8 @@ known s = record { harts = views s; pairs = pending_views s }
 abbrev pub Acts : ℕ → Stage → Seats → Type 0
 Acts by st s = stands by st (views s) × Sits by (pair_crew s)
 
--- The seats given back are of the same tables and have the same harts, and all but the acting one stand where they stood.
+-- The seats given back are of the same tables and have the same harts, and all but the acting one stand where
+-- they stood.
 pub record GivesBack (t : Tables) (by : ℕ) (s s' : Seats) : Type 0 where
   pub seats : AreSeatsOfBoth t s'
   pub others : KeepsOthers by (views s) (views s')

@@ -1,4 +1,5 @@
--- What each call asks for, once its arguments are checked, in this order. Source: SBI specification 2.0, chapters 4, 7 and 9; docs/SBI.md.
+-- What each call asks for, once its arguments are checked, in this order. Source: SBI specification 2.0,
+-- chapters 4, 7 and 9; docs/SBI.md.
 use Rattle.std.specs.Prelude.{ℕ, Bool, true, false, ◌+◌, ◌%◌, ◌<◌, ◌==◌, ◌&&◌, nat_lt, nat_le, if◌then◌else◌, Option, Some, None, Result, Ok, Err}
 use Rattle.board_model.specs.Shapes.{Size, ram_bytes_of}
 use Rattle.sbi_abi.specs.Calls.{extension_at}

@@ -1,4 +1,5 @@
--- A call's own steps, and its ending by what they found, whatever the other threads do. Source: docs/TABLES.md, docs/SBI.md.
+-- A call's own steps, and its ending by what they found, whatever the other threads do. Source:
+-- docs/TABLES.md, docs/SBI.md.
 use Rattle.std.specs.Prelude.{◌≡◌, ℕ, zero, suc, Bool, List, Ok, Err}
 use Rattle.board_model.specs.Shapes.{Size}
 use Rattle.hart.specs.State.{ArchState}

@@ -61,8 +61,8 @@ fn serve(
     }
 }
 
-/// Answers the SBI call at which a hart stands, by the tables (docs/SBI.md). The hart is STARTED and not quiet, and is
-/// one of the seats. A call that comes to a durable command is told so, with nothing changed.
+/// Answers the SBI call at which a hart stands, by the tables (docs/SBI.md). The hart is STARTED and not
+/// quiet, and is one of the seats. A call that comes to a durable command is told so, with nothing changed.
 pub fn dispatch(hart: &mut Hart, seats: Seats, tables: &Tables, shape: &Shape) -> (Seats, After)
     requires tables { AreTablesOf shape.now tables.now }
     requires seats { AreSeatsOfBoth tables.now seats }

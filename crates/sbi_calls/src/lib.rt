@@ -1,6 +1,6 @@
-//! SBI calls (SBI specification 2.0; docs/SBI.md), all but what a system reset and a system suspend make durable: what each
-//! asks for once its arguments are checked, and its answer by the tables of harts and of interrupts. Nothing here waits,
-//! locks or takes memory.
+//! SBI calls (SBI specification 2.0; docs/SBI.md), all but what a system reset and a system suspend make
+//! durable: what each asks for once its arguments are checked, and its answer by the tables of harts and of
+//! interrupts. Nothing here waits, locks or takes memory.
 #![tactic(auto)]
 
 mod dispatches;

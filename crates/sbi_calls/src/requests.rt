@@ -25,7 +25,8 @@ pub enum Request {
     SuspendAfresh(Addr, u64),
     /// An interrupt from the calling hart to each of these.
     Send(HartSet),
-    /// A durable command, if the arguments, the tables and the store allow it: what asks the store checks them.
+    /// A durable command, if the arguments, the tables and the store allow it: what asks the store checks
+    /// them.
     Command,
 }
 
@@ -38,11 +39,12 @@ const IMPLEMENTATION: u64 = 0x5242;
 /// The version of this implementation.
 const IMPLEMENTATION_VERSION: u64 = 1;
 
-/// Default non-retentive suspend (SBI specification 2.0, `sbi_hart_suspend`); the retentive one has the number 0.
+/// Default non-retentive suspend (SBI specification 2.0, `sbi_hart_suspend`); the retentive one has the
+/// number 0.
 const NON_RETENTIVE: u32 = 0x8000_0000;
 
-/// An arm for each call, of those that are answered with a value and of those that ask for more; the others are not
-/// supported.
+/// An arm for each call, of those that are answered with a value and of those that ask for more; the others
+/// are not supported.
 macro_rules! rows {
     ($call:expr; value { $($told:pat => $value:expr,)* } ask { $($asks:pat => $request:expr,)* }) => {
         match $call {

@@ -19,8 +19,8 @@ use Rattle.script_lang.specs.declared.line.Fill.{Fill}
 use Rattle.script_lang.specs.declared.line.Fill.TheVariants.{Old, New, Byte}
 use lib.Chars.{codes}
 
--- each byte of the word is a digit's code or a later one, so it is no space, no line feed and no `#`; a test that
--- computes on a text
+-- each byte of the word is a digit's code or a later one, so it is no space, no line feed and no `#`; a test
+-- that computes on a text
 abbrev pub is_word : List ℕ → Bool
 is_word [] = true
 is_word (b ∷ bs) = if nat_lt 47 b then is_word bs else false

@@ -15,8 +15,8 @@ pub fn lines_read_as_spelled()
         → line_of size (words_of (text_of line)) ≡ Some line }
 {}
 
-/// Lines after the board line are read in their order: what lines say is what the first of them say and then what the
-/// others say, and a fault among the first of them answers whatever the others are.
+/// Lines after the board line are read in their order: what lines say is what the first of them say and then
+/// what the others say, and a fault among the first of them answers whatever the others are.
 pub fn lines_read_in_order()
     ensures { (size : Size) (n : ℕ) (front back : List (List ℕ)) → rest_of size n (front ++ back)
         ≡ (rest_of size n front >>> λ said. rest_of size (n + length front) back >>> λ others. Ok (said ++ others)) }

@@ -150,8 +150,8 @@ fn head<'a, 'b>(words: &'b [&'a [u8]]) -> Option<(&'a [u8], &'a [u8], &'a [u8], 
     }
 }
 
-/// `call H EID FID [A0 [A1 [A2]]]`: the extension by its number or its name (SBI specification 2.0, chapters Base, HSM,
-/// IPI, SRST and SUSP); missing arguments are 0.
+/// `call H EID FID [A0 [A1 [A2]]]`: the extension by its number or its name (SBI specification 2.0, chapters
+/// Base, HSM, IPI, SRST and SUSP); missing arguments are 0.
 pub fn call(shape: &Shape, words: &[&[u8]]) -> Option<Line>
     ensures value { result ≡ call_line_of shape.now (map (λ w. w.now) words.now) }
     ensures range { IfSome result (IsLineInRange shape.now) }

@@ -42,8 +42,8 @@ fn words(alloc: Global, line: &[u8]) -> Result<Vec<&[u8]>, AllocError>
     line.split(|b| *b == b' ').collect(alloc)
 }
 
-/// The parts of a script between its line feeds, as far as they can tell anything: line 65,537 is a fault, whatever stands after
-/// it, and the last part may be the empty one behind a last line feed.
+/// The parts of a script between its line feeds, as far as they can tell anything: line 65,537 is a fault,
+/// whatever stands after it, and the last part may be the empty one behind a last line feed.
 fn first_parts(alloc: Global, script: &[u8]) -> Result<Vec<&[u8]>, AllocError>
     ensures { IfOk result (λ v. map (λ w. w.now) v.items ≡ take 65538 (slice_split (λ b. b == 10) script.now)) }
 {
@@ -195,10 +195,10 @@ fn checked(alloc: Global, lines: &[&[u8]]) -> Result<Script, Refusal>
     Err(Refusal::BadScript(1))
 }
 
-/// The script that the bytes say, by the grammar of docs/SCRIPT.md. Any bytes at all are answered: where they are no
-/// script, the refusal is that of the first fault in the order of the lines, `BadShape` for numbers of the board line
-/// that are out of range, and else `BadScript` with the number of the line, from 1. `Memory` is answered only where
-/// memory was refused.
+/// The script that the bytes say, by the grammar of docs/SCRIPT.md. Any bytes at all are answered: where they
+/// are no script, the refusal is that of the first fault in the order of the lines, `BadShape` for numbers of
+/// the board line that are out of range, and else `BadScript` with the number of the line, from 1. `Memory`
+/// is answered only where memory was refused.
 #[tactic(auto, using(crate::proofs::Enough::first_enough))]
 pub fn parse_script(alloc: Global, script: &[u8]) -> Result<Script, Refusal>
     ensures value { Gives view result (script_of script.now) }

@@ -1,5 +1,5 @@
-//! What the tests share. A test that finds no memory ends with that error, so that an allocation that fails shows as
-//! such and not as a wrong answer.
+//! What the tests share. A test that finds no memory ends with that error, so that an allocation that fails
+//! shows as such and not as a wrong answer.
 
 use board_model::{Refusal, Shape};
 use script_lang::{Line, Script, parse_script};

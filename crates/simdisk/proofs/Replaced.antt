@@ -83,7 +83,8 @@ replaced_inside (p ∷ ps) (suc i) new c k fits last le lt =
     replaced_inside ps i new (laid_over p c) k (subst (λ (n : ℕ). AreWithin n (ranges ps)) (sym (length-put p.0 p.1 c (fits_here (length c) p ps fits))) (fits_rest (length c) p ps fits))
     (record { noted = (omega (arith, last.noted.0), last.noted.1); apart = λ j more less. last.apart (suc j) (omega (arith, more)) (omega (arith, less)) }) le lt
 
--- the last piece of its range, with what stands there in a content that is torn there alone: then that content is what all give
+-- the last piece of its range, with what stands there in a content that is torn there alone: then that
+-- content is what all give
 pub replaced_torn : (ps : List Piece) (i first n : ℕ) (c now : Content) → AreWithin (length c) (ranges ps) → IsLatest (ranges ps) i (first, n) → Torn first n (replay ps c) now
     → replay (set ps i (first, take n (drop first now))) c ≡ now
 replaced_torn ps i first n c now fits last torn =

@@ -51,8 +51,8 @@ cuts (Some (CutAt n)) = true
 cuts (Some (FailLane lane n)) = false
 cuts (Some (CutLane lane n)) = true
 
--- Power and what is armed after a call that failed by them: where power was cut before all stays, and else what was armed is
--- gone, and took the power where it was a cut.
+-- Power and what is armed after a call that failed by them: where power was cut before all stays, and else
+-- what was armed is gone, and took the power where it was a cut.
 abbrev pub Struck : Bool → Option ArmedFault → Bool → Option ArmedFault → Type 0
 Struck true armed cut' armed' = (cut' ≡ true) × (armed' ≡ armed)
 Struck false armed cut' armed' = (cut' ≡ cuts armed) × (armed' ≡ None)

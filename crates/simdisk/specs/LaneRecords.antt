@@ -1,4 +1,5 @@
--- What a lane of the disk in memory keeps beside its facts, and how it comes from the disk and goes back to it.
+-- What a lane of the disk in memory keeps beside its facts, and how it comes from the disk and goes back to
+-- it.
 use Rattle.std.specs.Prelude.{◌≡◌, ◌==◌, if◌then◌else◌, ℕ, ◌+◌, ◌*◌, ◌<◌, Bool, true, false, Option, Some, None, List, [], length, take, drop, get_or, Result, OnOk, OnErr}
 use Rattle.disk.specs.declared.device.ArmedFault.{ArmedFault}
 use Rattle.disk.specs.declared.device.ArmedFault.TheVariants.{FailAt, CutAt, FailLane, CutLane}
@@ -44,7 +45,8 @@ pub record AreLent (l : Lent) (newest : Content) (armed : Option ArmedFault) (cu
   pub count : length lanes ≡ l.lanes
   pub each : (i : ℕ) → i < l.lanes → IsLent l.first l.each i newest armed cut (record_at lanes i)
 
--- what was written last on the disk, once those lanes came back: what was written last in each of them, and all else as it was
+-- what was written last on the disk, once those lanes came back: what was written last in each of them, and
+-- all else as it was
 pub record WrittenBack (l : Lent) (lanes : List LaneRecord) (old new : Content) : Type 0 where
   pub elsewhere : Torn l.first (lent_sectors l) old new
   pub there : (i j : ℕ) → i < l.lanes → j < l.each → sector (record_at lanes i).newest j ≡ sector new (l.first + i * l.each + j)
@@ -71,8 +73,8 @@ HasStruck (Some (CutAt n)) lanes = ⊥
 HasStruck (Some (FailLane lane n)) lanes = (record_at lanes lane).armed ≡ None
 HasStruck (Some (CutLane lane n)) lanes = (record_at lanes lane).armed ≡ None
 
--- What is armed and power, once lanes came back that failed so often, and how many failures by itself that makes: none but of
--- lanes that failed for no cause, which those of this disk don't.
+-- What is armed and power, once lanes came back that failed so often, and how many failures by itself that
+-- makes: none but of lanes that failed for no cause, which those of this disk don't.
 pub record CameBack (armed : Option ArmedFault) (cut : Bool) (lanes : List LaneRecord) (failures : ℕ) (armed' : Option ArmedFault) (cut' : Bool) (own : ℕ) : Type 0 where
   pub calm : failures ≡ 0 → (armed' ≡ counted_on armed lanes) × (cut' ≡ cut) × (own ≡ 0)
   pub dark : 0 < failures → cut ≡ true → (armed' ≡ armed) × (cut' ≡ true) × (own ≡ 0)

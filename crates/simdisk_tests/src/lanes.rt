@@ -97,7 +97,8 @@ fn write_first(lane: &mut SimLane, writes: u32)
     }
 }
 
-/// Lends sectors 1 and 2 as a lane, writes it so many times and joins it; the disk then counts so many failures.
+/// Lends sectors 1 and 2 as a lane, writes it so many times and joins it; the disk then counts so many
+/// failures.
 fn lent_and_joined(
     rt: &impl Abort,
     disk: &mut SimDisk,

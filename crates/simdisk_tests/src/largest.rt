@@ -8,7 +8,8 @@ use simdisk::SimDisk;
 use std::process::Abort;
 use std::test::Fail;
 
-/// Lends both areas of the largest board's disk, one after the other, as its four lanes of 64 places of 9 sectors.
+/// Lends both areas of the largest board's disk, one after the other, as its four lanes of 64 places of 9
+/// sectors.
 fn lend_largest(rt: &impl Abort, disk: &mut SimDisk) -> Result<(), Fail>
     requires { (⟦<SimDisk as Disk>⟧.facts disk.old).lent.lanes ≡ 0 }
     ensures { OnOk result ((⟦<SimDisk as Disk>⟧.facts disk.new).lent.lanes ≡ 0) }

@@ -1,5 +1,5 @@
--- A life that goes on has no suspension in its journal; and where no command of it dropped the image, that is still the one
--- which the open found.
+-- A life that goes on has no suspension in its journal; and where no command of it dropped the image, that is
+-- still the one which the open found.
 use Rattle.std.proofs.Common.{◌≡◌, ◌∙◌, ◌||◌, List, [], ◌∷◌, ◌++◌, Bool, true, false, refl, ap}
 use Rattle.board_model.specs.Durable.{ends_life}
 use Rattle.board_model.specs.Shapes.{Size}

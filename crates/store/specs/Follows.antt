@@ -24,8 +24,8 @@ suspended r hart address opaque area counts =
 abbrev pub FitsBoard : Size → List ℕ → ℕ → ℕ → Type 0
 FitsBoard size memory hart address = (length memory ≡ ram_bytes_of size) × (hart < size.harts) × IsValidAddress size address
 
--- the next record is that of the state after the command, and in range where the old one is; a command that keeps the image
--- keeps its area
+-- the next record is that of the state after the command, and in range where the old one is; a command that
+-- keeps the image keeps its area
 pub record Follows (size : Size) (r : Record) (entry : Entry) (next : Record) : Type 0 where
   pub state : (content : Content) → state_of size next content ≡ after (state_of size r content) (change_in entry (memory_in size next content))
   pub in_range : IsInRange size r → IsInRange size next

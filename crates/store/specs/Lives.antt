@@ -9,7 +9,8 @@ use Rattle.board_model.specs.Views.{number_of_refusal, durable_of}
 use Rattle.board_model.specs.declared.refusal.Refusal.{Refusal}
 use Rattle.board_model.specs.declared.refusal.Refusal.TheVariants.{BadShape, NoImage, BadImage, Device, Down, Over, JournalFull, Memory}
 
--- what the open found, the commands acknowledged since, the one whose fate is in doubt, and whether the life has ended
+-- what the open found, the commands acknowledged since, the one whose fate is in doubt, and whether the life
+-- has ended
 pub record Life : Type 0 where
   pub found : DurableState
   pub journal : List Change
@@ -41,20 +42,21 @@ Refused old c e new =
     ⊎ ((e ≡ JournalFull) × (old.over ≡ false) × (length old.journal ≡ 4096) × (new ≡ old))
     ⊎ ((refusal_of (now_of old) c ≡ Some (number_of_refusal e)) × (old.over ≡ false) × (length old.journal < 4096) × (new ≡ old))
 
--- the answer to a command that found no other in doubt, and the life then; a receipt is its place in the journal
+-- the answer to a command that found no other in doubt, and the life then; a receipt is its place in the
+-- journal
 abbrev pub Applied : Life → Change → Result ℕ Refusal → Life → Type 0
 Applied old c (Ok n) new =
     Reaches old c × (n ≡ length old.journal + 1) × (new ≡ record old { journal = old.journal ++ c ∷ []; over = ends_life c })
 Applied old c (Err e) new = Refused old c e new
 
--- The state found is shown anew once an area was written over: it is as before, but for the memory of an image that was dropped
--- since, and the state now is the same.
+-- The state found is shown anew once an area was written over: it is as before, but for the memory of an
+-- image that was dropped since, and the state now is the same.
 pub record IsReseen (old : Life) (found : DurableState) : Type 0 where
   pub heads : durable_of found ≡ durable_of old.found
   pub now : fold found old.journal ≡ now_of old
 
--- why a suspension is refused that found no other command in doubt: as other commands, or 3 for what is not of the board, and
--- 11 where memory was refused
+-- why a suspension is refused that found no other command in doubt: as other commands, or 3 for what is not
+-- of the board, and 11 where memory was refused
 abbrev pub SuspendRefused : Type 0 → Life → Change → Refusal → Life → Type 0
 SuspendRefused Fits old c e new =
     (Fits × Refused old c e new)
@@ -77,8 +79,8 @@ pub record Suspended (Fits : Type 0) (old : Life) (c : Change) (result : Result 
 abbrev pub IsLoaded : DurableState → List ℕ → Type 0
 IsLoaded s memory = (i : Image) × (s.image ≡ Some i) × (memory ≡ i.memory)
 
--- why the image is not loaded: 3 for a memory of another size, 8 without an image, 5 where the disk failed in this call, 13 for
--- an image that reads as no memory
+-- why the image is not loaded: 3 for a memory of another size, 8 without an image, 5 where the disk failed in
+-- this call, 13 for an image that reads as no memory
 abbrev pub LoadRefused : Size → DurableState → List ℕ → Facts → FaultState → Refusal → Facts → FaultState → Type 0
 LoadRefused size s memory old m BadShape new n = (length memory ≡ ram_bytes_of size → ⊥) × (new.failures ≡ old.failures) × (n ≡ m)
 LoadRefused size s memory old m NoImage new n = (length memory ≡ ram_bytes_of size) × (s.image ≡ None) × (new.failures ≡ old.failures) × (n ≡ m)

@@ -62,17 +62,18 @@ impl<D: Disk + Drop> Store<D> {
     ghost use Rattle.store.specs.Standing.{StandsFor, selected};
     ghost use Rattle.store.specs.Views.{device_of, disk_of, fault_state_of, arms_of, size_of_store, life_of, found_state, journal_of, now_state, receipts, doubt_of, failures_at_open, view_of, Stands, Doubts};
 
-    /// Opens a disk, and so begins a life. What the last life left in doubt is settled by a sync. Each crash since the
-    /// call's start, after a refusal too, leaves a content that a crash just before could have left, and after `Ok` only
-    /// what was found. Refused `NotFormatted`, `BadShape` and `BadRecord` by what the disk reads as (docs/STORE.md,
-    /// "Opening"), `Device` where the disk failed in this call, and `Memory` where there is no room for the journal. A
-    /// refusal gives the disk back.
+    /// Opens a disk, and so begins a life. What the last life left in doubt is settled by a sync. Each crash
+    /// since the call's start, after a refusal too, leaves a content that a crash just before could have
+    /// left, and after `Ok` only what was found. Refused `NotFormatted`, `BadShape` and `BadRecord` by what
+    /// the disk reads as (docs/STORE.md, "Opening"), `Device` where the disk failed in this call, and
+    /// `Memory` where there is no room for the journal. A refusal gives the disk back.
     pub fn open(alloc: Global, mut disk: D) -> Result<Store<D>, (D, Refusal)>
         requires none_out { IsIdle (D.facts disk) }
         ensures opened { IfOk result (λ store. Opened (D.facts disk) (view_of store)) }
         ensures refused { IfErr result (λ e. OpenRefused (D.facts disk) e.1 (D.facts e.0)) }
 
-        // And the other way: a disk that reads as a refusal is refused so, or by 5; one that stands for a state is opened, but for 5 and 11.
+        // And the other way: a disk that reads as a refusal is refused so, or by 5; one that stands for a
+        // state is opened, but for 5 and 11.
         ensures refuses { (e : Refusal) → ReadsAs (D.facts disk).content e → MatchResult result (λ store. ⊥) (λ f. (f.1 ≡ e) ⊎ (f.1 ≡ Refusal.Device)) }
         ensures opens { (size : Size) (s : DurableState) → StandsFor (D.facts disk).content size s → IfErr result (λ f. (f.1 ≡ Refusal.Device) ⊎ (f.1 ≡ Refusal.Memory)) }
 
@@ -141,13 +142,15 @@ impl<D: Disk + Drop> Store<D> {
         Some(self.journal[number as usize - 1])
     }
 
-    /// Issues a command: its record is made durable, and then the gate that selects it. The receipt is its place in the
-    /// journal of this life, from 1. Each crash since the call's start leaves the state before or the state after.
+    /// Issues a command: its record is made durable, and then the gate that selects it. The receipt is its
+    /// place in the journal of this life, from 1. Each crash since the call's start leaves the state before
+    /// or the state after.
     ///
-    /// Refused `Down` where an earlier command of this life is in doubt, and then nothing is done; `Over` after a reset;
-    /// `JournalFull` after 4,096 commands; `BadSlot` and `NoImage` by docs/DURABLE.md; `Device` where the disk failed
-    /// before the gate was written; `Down` where it failed at the gate, and then this command is in doubt until the next
-    /// open. After each refusal but `Down` a crash leaves the state before.
+    /// Refused `Down` where an earlier command of this life is in doubt, and then nothing is done; `Over`
+    /// after a reset; `JournalFull` after 4,096 commands; `BadSlot` and `NoImage` by docs/DURABLE.md;
+    /// `Device` where the disk failed before the gate was written; `Down` where it failed at the gate, and
+    /// then this command is in doubt until the next open. After each refusal but `Down` a crash leaves the
+    /// state before.
     pub fn apply(&mut self, command: Command) -> Result<Receipt, Refusal>
         ensures answered { doubt_of self.old ≡ None → Answered Applied (view_of self.old) (change_of command) result (view_of self.new) }
         ensures down { (c : Change) → doubt_of self.old ≡ Some c → (result ≡ Err Refusal.Down) × (self.new ≡ self.old) }
@@ -160,13 +163,15 @@ impl<D: Disk + Drop> Store<D> {
         self.issue(Entry::Command(command), next)
     }
 
-    /// Suspends the board to the disk: this memory goes to the area that the live image does not use, through lanes and by
-    /// that crew, and is made durable; then the command is committed as any other. The life is then over.
+    /// Suspends the board to the disk: this memory goes to the area that the live image does not use, through
+    /// lanes and by that crew, and is made durable; then the command is committed as any other. The life is
+    /// then over.
     ///
-    /// Refused `Down`, `Over` and `JournalFull` as other commands; then `BadShape` for a memory of another size, or a hart or
-    /// an address that the board has not; then `SerialsSpent` where no serial is left; `Memory`; `Device` where the disk
-    /// failed before the gate was written, and `Down` where it failed at the gate. After each refusal but `Down` a crash leaves
-    /// the state before, its image with all its bytes, also one that is then in the way of nothing but a later suspension.
+    /// Refused `Down`, `Over` and `JournalFull` as other commands; then `BadShape` for a memory of another
+    /// size, or a hart or an address that the board has not; then `SerialsSpent` where no serial is left;
+    /// `Memory`; `Device` where the disk failed before the gate was written, and `Down` where it failed at
+    /// the gate. After each refusal but `Down` a crash leaves the state before, its image with all its bytes,
+    /// also one that is then in the way of nothing but a later suspension.
     pub fn suspend<C: Crew>(
         &mut self,
         alloc: Global,
@@ -190,8 +195,8 @@ impl<D: Disk + Drop> Store<D> {
         self.issue(Entry::Suspend(hart, address, opaque), next)
     }
 
-    /// What each command is asked first: refused `Down` where one is in doubt, `Over` in a life that has ended, and
-    /// `JournalFull` where there is no room for another.
+    /// What each command is asked first: refused `Down` where one is in doubt, `Over` in a life that has
+    /// ended, and `JournalFull` where there is no room for another.
     fn takes(&self) -> Result<(), Refusal>
         ensures ok { OnOk result ((self.now.doubt ≡ None) × (self.now.over ≡ false) × (receipts self.now < 4096)) }
         ensures refused { IfErr result (λ e. doubt_of self.now ≡ None → TakesNone (life_of self.now) e) }
@@ -230,7 +235,8 @@ impl<D: Disk + Drop> Store<D> {
         Ok(())
     }
 
-    /// Writes the memory into the area that the live image does not use. The state stays, with all bytes of its image.
+    /// Writes the memory into the area that the live image does not use. The state stays, with all bytes of
+    /// its image.
     fn write_free<C: Crew>(
         &mut self,
         alloc: Global,
@@ -303,10 +309,12 @@ impl<D: Disk + Drop> Store<D> {
         record_after(&self.current, command)
     }
 
-    /// Loads the memory of the image that stands. Nothing of the disk changes, and no command is issued: the image stays.
+    /// Loads the memory of the image that stands. Nothing of the disk changes, and no command is issued: the
+    /// image stays.
     ///
-    /// Refused `BadShape` for a memory of another size, `NoImage` where no image stands, `Device` where the disk failed in this
-    /// call, and `BadImage` where the image reads as no memory. After `Device` and `BadImage` the memory is of no use.
+    /// Refused `BadShape` for a memory of another size, `NoImage` where no image stands, `Device` where the
+    /// disk failed in this call, and `BadImage` where the image reads as no memory. After `Device` and
+    /// `BadImage` the memory is of no use.
     pub fn load_image(&mut self, ram: &mut Ram) -> Result<(), Refusal>
         ensures loads { OnOk result (IsLoaded (now_state self.old) ram.new) }
         ensures refused { IfErr result (λ e. LoadRefused (size_of_store self.old) (now_state self.old) ram.old (disk_of self.old) (fault_state_of self.old) e (disk_of self.new) (fault_state_of self.new)) }
@@ -346,16 +354,17 @@ impl<D: Disk + Drop> Store<D> {
         self.disk.struck()
     }
 
-    /// What an open store keeps, from one call to the next: a crash leaves the state now, or with a command in doubt one of
-    /// two; such a command is one that the table of commands does not refuse. It does nothing.
+    /// What an open store keeps, from one call to the next: a crash leaves the state now, or with a command
+    /// in doubt one of two; such a command is one that the table of commands does not refuse. It does
+    /// nothing.
     pub fn stands(&self)
         ensures up { (s : DurableState) → Stands self.now s → LeavesOnly (disk_of self.now) (size_of_store self.now) s }
         ensures down { (s t : DurableState) → Doubts self.now s t → LeavesEither (disk_of self.now) (size_of_store self.now) s t }
         ensures allowed { (c : Change) → doubt_of self.now ≡ Some c → refusal_of (now_state self.now) c ≡ None }
     {}
 
-    /// Ends the life, and gives back the disk that the store held, as it is: a crash leaves the state now, or with a command in
-    /// doubt one of two.
+    /// Ends the life, and gives back the disk that the store held, as it is: a crash leaves the state now, or
+    /// with a command in doubt one of two.
     pub fn into_disk(self) -> D
         ensures disk { result ≡ device_of self }
         ensures up { (s : DurableState) → Stands self s → LeavesOnly (D.facts result) (size_of_store self) s }

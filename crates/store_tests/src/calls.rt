@@ -1,5 +1,5 @@
-//! Which calls of the disk are made, and in what order (docs/STORE.md): a fault is armed for one call, and what is
-//! answered says whether it was made.
+//! Which calls of the disk are made, and in what order (docs/STORE.md): a fault is armed for one call, and
+//! what is answered says whether it was made.
 ghost use Rattle.std.specs.Prelude.{◌≡◌, IfOk};
 
 use crate::fixtures::{
@@ -164,8 +164,8 @@ fn a_refused_format_makes_no_further_call(rt: HostRuntime) -> Result<(), Fail> {
     Ok(())
 }
 
-/// What a second format answers, after a first one whose call of that number failed and a cut with that fill; an open of the disk
-/// then has to find the formatted state.
+/// What a second format answers, after a first one whose call of that number failed and a cut with that fill;
+/// an open of the disk then has to find the formatted state.
 fn format_again(
     rt: &impl Abort,
     alloc: Global,
@@ -215,8 +215,8 @@ fn a_format_that_failed_is_made_again(rt: HostRuntime) -> Result<(), Fail> {
     Ok(())
 }
 
-/// What a command answers that changes nothing in value, as the first or the second of its life, whose call of that
-/// number fails.
+/// What a command answers that changes nothing in value, as the first or the second of its life, whose call
+/// of that number fails.
 fn nothing_new_failing(alloc: Global, first: bool, call: u64) -> Result<Option<Refusal>, Fail> {
     let mut store = opened(alloc)?;
     if !first && answer(&mut store, 0).is_some() {

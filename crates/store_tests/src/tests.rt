@@ -99,7 +99,8 @@ fn cut_slot(alloc: Global, call: u64, choice: Choice) -> Result<(Option<Refusal>
     Ok((answer, slot_after_cut(alloc, store, choice)?))
 }
 
-/// A commit that is cut within each of its calls, and after them. A cut within its last two leaves it in doubt.
+/// A commit that is cut within each of its calls, and after them. A cut within its last two leaves it in
+/// doubt.
 fn cut_at_each_call(
     rt: &impl Abort,
     alloc: Global,

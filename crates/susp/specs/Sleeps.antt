@@ -1,4 +1,5 @@
--- What a system suspend does, in its order: its arguments, the quiet, the store. Source: SBI specification 2.0, chapter 13; docs/SBI.md.
+-- What a system suspend does, in its order: its arguments, the quiet, the store. Source: SBI specification
+-- 2.0, chapter 13; docs/SBI.md.
 use Rattle.std.specs.Prelude.{◌≡◌, ◌≢◌, ◌⊎◌, ◌<◌, ℕ, List, Option, Some, None, Result, Ok, Err}
 use Rattle.std.specs.Int.{bit_at}
 use Rattle.atomic_table.specs.declared.shared.Seat.{Seat}

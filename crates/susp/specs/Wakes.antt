@@ -13,7 +13,8 @@ use Rattle.store.specs.Answers.{Answered}
 use Rattle.store.specs.Views.{disk_of, fault_state_of, size_of_store, life_of, now_state, doubt_of, view_of}
 use Rattle.store.specs.declared.stores.Store.{Store}
 
--- The memory is that of the image that stands, and the hart is the image's, as one that starts at its address with its opaque value.
+-- The memory is that of the image that stands, and the hart is the image's, as one that starts at its address
+-- with its opaque value.
 abbrev pub IsWoken : DurableState → List ℕ → HartState → Type 0
 IsWoken s memory hart = (i : Image) × (s.image ≡ Some i) × (memory ≡ i.memory) × (hart ≡ started i.hart i.address i.opaque)
 
@@ -33,8 +34,9 @@ module _ {D L : Type 0} {g : Ghosts D L} {l : Lanes L} where
     pub answered : doubt_of old ≡ None → Answered Applied (view_of old) Consume r (view_of new)
     pub down : (c : Change) → doubt_of old ≡ Some c → (r ≡ Err Down) × StoreIsLeft old new
 
-  -- Nothing stands against a wake: no command is in doubt, a Consume goes to the disk (so the life is not over, and an image stands),
-  -- the image has the memory of its board, and the memory that is lent is of its size.
+  -- Nothing stands against a wake: no command is in doubt, a Consume goes to the disk (so the life is not
+  -- over, and an image stands), the image has the memory of its board, and the memory that is lent is of its
+  -- size.
   pub record IsWakeable (store : Store D L g l) (memory : List ℕ) : Type 0 where
     pub up : doubt_of store ≡ None
     pub reaches : Reaches (life_of store) Consume

@@ -1,5 +1,5 @@
-//! A board is suspended to its disk, and wakes from it (SBI specification 2.0, chapter 13; docs/SBI.md): by the hart table, the
-//! memory and the store, which are at hand for one moment.
+//! A board is suspended to its disk, and wakes from it (SBI specification 2.0, chapter 13; docs/SBI.md): by
+//! the hart table, the memory and the store, which are at hand for one moment.
 #![tactic(auto)]
 
 mod sleeps;

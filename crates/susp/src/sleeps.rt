@@ -17,8 +17,8 @@ use sbi_abi::SbiError;
 use std::alloc::Global;
 use store::Store;
 
-/// A board that was suspended: its image is durable, and its life is over. No other hart leaves STOPPED while the seat is
-/// kept here.
+/// A board that was suspended: its image is durable, and its life is over. No other hart leaves STOPPED while
+/// the seat is kept here.
 #[derive(Drop)]
 pub struct Asleep {
     /// The seat of the hart that suspended it, which is quiet.
@@ -28,8 +28,8 @@ pub struct Asleep {
 /// Suspend to disk (SBI specification 2.0, `sbi_system_suspend`: a platform-specific type).
 const TO_DISK: u32 = 0x8000_0001;
 
-/// Where the board is resumed. Checked in this order: -2 for suspend to RAM, for want of a device that wakes the board; -3 for
-/// any other type but suspend to disk; -5 for an address that is not valid.
+/// Where the board is resumed. Checked in this order: -2 for suspend to RAM, for want of a device that wakes
+/// the board; -3 for any other type but suspend to disk; -5 for an address that is not valid.
 fn site_of(shape: &Shape, kind: u32, address: u64) -> Result<Addr, SbiError>
     ensures { IsChecked shape.now kind address result }
 {
@@ -45,12 +45,13 @@ fn site_of(shape: &Shape, kind: u32, address: u64) -> Result<Addr, SbiError>
     }
 }
 
-/// Suspends the board for a hart of it: `sbi_system_suspend` of that type, with the address at which the hart is resumed and
-/// its opaque value. The hart is STARTED and not quiet, and is one of the seat.
+/// Suspends the board for a hart of it: `sbi_system_suspend` of that type, with the address at which the hart
+/// is resumed and its opaque value. The hart is STARTED and not quiet, and is one of the seat.
 ///
-/// Its arguments are checked first, -2, -3 and -5; then one look at the hart table, -4 where another hart is not STOPPED; then
-/// the store is asked, -1 where it refuses, and the quiet of the hart ends. The board sleeps only once its suspension was
-/// acknowledged: the image has the memory that was lent, and the hart, address and opaque value.
+/// Its arguments are checked first, -2, -3 and -5; then one look at the hart table, -4 where another hart is
+/// not STOPPED; then the store is asked, -1 where it refuses, and the quiet of the hart ends. The board
+/// sleeps only once its suspension was acknowledged: the image has the memory that was lent, and the hart,
+/// address and opaque value.
 pub fn suspend<D: Disk + Drop, C: Crew>(
     alloc: Global,
     seat: HartSeat,

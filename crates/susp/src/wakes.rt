@@ -11,12 +11,14 @@ use hart::Hart;
 use ram::Ram;
 use store::{Store, kept_disks, whole_images_load};
 
-/// Wakes a board from the image that stands: loads its memory, then consumes the image, and only then answers its hart, as
-/// one that starts at the image's address with its opaque value (SBI specification 2.0, chapter 13).
+/// Wakes a board from the image that stands: loads its memory, then consumes the image, and only then answers
+/// its hart, as one that starts at the image's address with its opaque value (SBI specification 2.0, chapter
+/// 13).
 ///
-/// Refused as `Store::load_image` says, and then as `Store::apply` says of Consume. After each refusal but `Down` a crash
-/// leaves the state before, with the image; the memory is of use only after `Ok`. Where an image stands with its whole memory,
-/// and the store takes a command, only a disk that failed in this call stops the wake.
+/// Refused as `Store::load_image` says, and then as `Store::apply` says of Consume. After each refusal but
+/// `Down` a crash leaves the state before, with the image; the memory is of use only after `Ok`. Where an
+/// image stands with its whole memory, and the store takes a command, only a disk that failed in this call
+/// stops the wake.
 pub fn wake_image<D: Disk + Drop>(store: &mut Store<D>, ram: &mut Ram) -> Result<Hart, Refusal>
     ensures woken { IfOk result (λ hart. IsWoken (now_state store.old) ram.new hart) }
     ensures consumed { OnOk result ((n : ℕ) × IsConsumed store.old (Ok n) store.new) }

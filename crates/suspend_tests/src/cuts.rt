@@ -1,5 +1,5 @@
-//! A suspension over a standing image that is cut at each call of a lane and of the disk, with each fill, on a board of 5
-//! pages and 4 lanes: the next open finds the old image or the new one, with its whole memory.
+//! A suspension over a standing image that is cut at each call of a lane and of the disk, with each fill, on
+//! a board of 5 pages and 4 lanes: the next open finds the old image or the new one, with its whole memory.
 use crate::fixtures::{after_cut, holds, memory, same, standing, suspend, turns};
 use board_model::{Refusal, Shape};
 use crew::Crew;
@@ -27,8 +27,8 @@ fn make_case(alloc: Global) -> Result<Case, Fail> {
     })
 }
 
-/// What a suspension answers that meets this fault, and after a cut whether the new image stands; that one or the old one has to
-/// be whole.
+/// What a suspension answers that meets this fault, and after a cut whether the new image stands; that one or
+/// the old one has to be whole.
 fn cut<C: Crew>(
     rt: &impl Abort,
     alloc: Global,
@@ -77,8 +77,8 @@ fn a_cut_at_each_call_of_a_lane(rt: HostRuntime) -> Result<(), Fail> {
     Ok(())
 }
 
-/// The area's sync, the record, its sync, the gate, its sync. A cut at the last two leaves the command in doubt, and the
-/// gate by its parity settles it: the old image is that of record 1, the new one of record 0.
+/// The area's sync, the record, its sync, the gate, its sync. A cut at the last two leaves the command in
+/// doubt, and the gate by its parity settles it: the old image is that of record 1, the new one of record 0.
 fn cut_disk<C: Crew>(
     rt: &impl Abort,
     alloc: Global,

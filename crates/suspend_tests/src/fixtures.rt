@@ -1,4 +1,5 @@
-//! The boards, memories and stores that the tests begin with, and calls of which a test reads the answer alone.
+//! The boards, memories and stores that the tests begin with, and calls of which a test reads the answer
+//! alone.
 ghost use Rattle.std.specs.Prelude.{◌≡◌, IfOk};
 
 use board_model::{Addr, HartId, PageNo, Refusal, Shape};
@@ -82,7 +83,8 @@ pub fn suspend<C: Crew>(
     suspend_by(alloc, store, ram, crew, 0, 0x8000_0008)
 }
 
-/// The same by that hart, to be resumed at that address. Numbers that no board has are refused as the store does.
+/// The same by that hart, to be resumed at that address. Numbers that no board has are refused as the store
+/// does.
 pub fn suspend_by<C: Crew>(
     alloc: Global,
     store: &mut Store<SimDisk>,

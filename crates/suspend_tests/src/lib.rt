@@ -1,5 +1,5 @@
-//! Suspensions and loads over the disk in memory: what the contracts of the store, the savers and the disk say together,
-//! run once (docs/STORE.md, "Suspending" and "Loading").
+//! Suspensions and loads over the disk in memory: what the contracts of the store, the savers and the disk
+//! say together, run once (docs/STORE.md, "Suspending" and "Loading").
 #![tactic(auto)]
 
 #[cfg(test)]

@@ -12,8 +12,8 @@ use std::process::Abort;
 use std::test::Fail;
 use store::Store;
 
-/// This memory is suspended as the command of that place in its life, and found at the next open, where that many serials
-/// have been given out.
+/// This memory is suspended as the command of that place in its life, and found at the next open, where that
+/// many serials have been given out.
 fn suspended_and_found<C: Crew>(
     rt: &impl Abort,
     alloc: Global,
@@ -67,7 +67,8 @@ fn the_largest_board_is_suspended(rt: HostRuntime) -> Result<(), Fail> {
     found_and_loaded(&rt, rt.alloc(), Shape::new(8, 256, 4)?, &crew)
 }
 
-/// What a suspension by that hart and address is refused on a board of 1 hart and 2 pages, and with a memory of 2.
+/// What a suspension by that hart and address is refused on a board of 1 hart and 2 pages, and with a memory
+/// of 2.
 fn unfit<C: Crew>(alloc: Global, crew: &C, hart: u64, address: u64) -> Result<bool, Fail> {
     let shape = Shape::new(1, 2, 1)?;
     let mut store = opened(alloc, shape)?;
@@ -121,7 +122,8 @@ fn a_suspension_ends_the_life(rt: HostRuntime) -> Result<(), Fail> {
     Ok(())
 }
 
-/// A suspension over a store in which this image stood at the open is refused 5, leaves what stands, and is made again.
+/// A suspension over a store in which this image stood at the open is refused 5, leaves what stands, and is
+/// made again.
 fn failed_and_again<C: Crew>(
     rt: &impl Abort,
     alloc: Global,

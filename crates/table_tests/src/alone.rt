@@ -18,7 +18,8 @@ pub struct Seen {
     pub states: [State; 6],
 }
 
-/// Has a hart start another one twice, which then enters, suspends, wakes and stops. None where it did not enter.
+/// Has a hart start another one twice, which then enters, suspends, wakes and stops. None where it did not
+/// enter.
 pub fn run_of_one(
     table: &HartTable,
     seat: HartSeat,

@@ -35,8 +35,8 @@ fn noise(table: &PendingTable, seat: IpiSeat, rounds: u64) -> IpiSeat
     seat
 }
 
-/// Hart 1 raises for hart 2, which looks and takes: each raise is new, each look finds something, and each take has hart 1.
-/// How often it was not so.
+/// Hart 1 raises for hart 2, which looks and takes: each raise is new, each look finds something, and each
+/// take has hart 1. How often it was not so.
 fn pairs(table: &PendingTable, seat: IpiSeat, rounds: u64) -> (IpiSeat, u64)
     requires seat { IsSeatOf table.now seat }
     requires one { Sits 1 (pending_view_of_seat seat) }
@@ -124,8 +124,8 @@ fn again(
     (seat, refused)
 }
 
-/// Two teams of two harts: hart 1, which runs, with hart 0, and hart 2, which hart 1 started, with hart 3. None where that
-/// start was not entered.
+/// Two teams of two harts: hart 1, which runs, with hart 0, and hart 2, which hart 1 started, with hart 3.
+/// None where that start was not entered.
 fn teams(table: &HartTable, whole: HartSeat, address: Addr) -> Option<(HartSeat, HartSeat)>
     requires seat { IsHartSeatOf table.now whole }
     requires opening { hart_crew_of whole ≡ opening_harts 4 1 }
@@ -143,8 +143,8 @@ fn teams(table: &HartTable, whole: HartSeat, address: Addr) -> Option<(HartSeat,
     }
 }
 
-/// How many starts were refused in two teams at once, of which each has a hart of its own to start. None where the
-/// second team could not be made.
+/// How many starts were refused in two teams at once, of which each has a hart of its own to start. None
+/// where the second team could not be made.
 pub fn refused<R: Threads + Sync>(
     rt: &R,
     table: &HartTable,

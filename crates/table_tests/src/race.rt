@@ -47,8 +47,8 @@ fn attempt(table: &HartTable, seat: HartSeat, by: HartId, plan: Plan) -> (HartSe
     start(table, seat, by, hart(2), plan.address, plan.opaque)
 }
 
-/// One round: both start the third hart, which enters and stops. True where just one was told that it did, and what the
-/// third entered with is what that one asked for.
+/// One round: both start the third hart, which enters and stops. True where just one was told that it did,
+/// and what the third entered with is what that one asked for.
 pub fn round<R: Threads + Sync>(rt: &R, table: &HartTable, racers: Racers) -> (Racers, bool)
     requires { AreReady table.now racers.first racers.second racers.third }
     ensures { AreReady table.entry.now result.0.first result.0.second result.0.third }

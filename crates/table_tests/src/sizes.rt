@@ -7,8 +7,8 @@ use hsm::{HartTable, SeatTable};
 use ipi::PendingTable;
 use std::alloc::Global;
 
-/// How many harts the tables of a board of that many harts have: the hart table for each hart that has started, added up,
-/// and the pending table.
+/// How many harts the tables of a board of that many harts have: the hart table for each hart that has
+/// started, added up, and the pending table.
 fn harts_made(alloc: Global, harts: u64) -> Result<(u64, u64), Refusal>
     requires { (1 ≤ harts) × (harts ≤ 8) }
 {

@@ -124,7 +124,8 @@ module _ {D : Type 0} where
         let lt = under_length k (suc i) l x g in
         subst (IsTrueAt k x) (sym (before_less x.0 e l (omega arith))) (true_at k (suc i) l x t.2 g))
 
-    -- two logs with the same steps before a place, and a step of the hart at that place, in the same word: both found what that word held
+    -- two logs with the same steps before a place, and a step of the hart at that place, in the same word:
+    -- both found what that word held
     pub one_found : (l m : Log D) → IsTrueLog r first harts l → IsTrueLog r first harts m → (p h i j : ℕ) (x y : D)
         → ((k : ℕ) → k < harts → earlier p (placed_in k m) ≡ earlier p (placed_in k l))
         → get_elem? (placed_in h l) i ≡ some (p, x) → get_elem? (placed_in h m) j ≡ some (p, y) → r.word_of h y ≡ r.word_of h x

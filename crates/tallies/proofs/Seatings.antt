@@ -1,4 +1,5 @@
--- Lists of seats: one that grows by the first hart of the rest, and one that shrinks from its end. And lists of a value for each hart.
+-- Lists of seats: one that grows by the first hart of the rest, and one that shrinks from its end. And lists
+-- of a value for each hart.
 use Rattle.std.proofs.Common.{IsSome, List, None, Option, Some, [], ap, append-nil, append_assoc, arith, drop, get_or, length, map, refl, rules, slice_get, subst, suc, sym, take, zero, ℕ, ◌++◌, ◌+◌, ◌<◌, ◌≤◌, ◌∙◌, ◌∷◌, ◌≡◌, ◌≢◌}
 use Rattle.std.proofs.lemmas.List.{length-map, map-append}
 use mathlib.Core.Logic.{dite}

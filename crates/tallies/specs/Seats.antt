@@ -1,4 +1,5 @@
--- Lists of seats of a table. A seat has harts, and a view of each, which has its number. A seat that was taken out of a list leaves None.
+-- Lists of seats of a table. A seat has harts, and a view of each, which has its number. A seat that was
+-- taken out of a list leaves None.
 use Rattle.std.specs.Prelude.{◌≡◌, ℕ, zero, suc, List, [], ◌∷◌, Option, Some, None, map, slice_get}
 use Rattle.std.specs.List.{flat_map}
 

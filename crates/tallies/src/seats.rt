@@ -1,4 +1,5 @@
-//! Seats of a table, for any table: a seat of all harts is parted into one for each, and seats are joined into one.
+//! Seats of a table, for any table: a seat of all harts is parted into one for each, and seats are joined
+//! into one.
 
 ghost use Rattle.std.specs.Prelude.{◌≡◌, ℕ, ◌<◌, ◌≤◌, List, [], ◌++◌, take, drop, map};
 ghost use Rattle.arrayvec.specs.ArrayVec.{array_vec_len};
@@ -86,8 +87,8 @@ pub fn split<T: SeatTable>(table: &T, seat: T::Seat) -> ArrayVec<Option<T::Seat>
     seats
 }
 
-/// The seats of a list in one, which has their harts in the order of the list. It undoes `split`: a seat for each hart, in
-/// the order of their numbers, makes the seat of all harts again.
+/// The seats of a list in one, which has their harts in the order of the list. It undoes `split`: a seat for
+/// each hart, in the order of their numbers, makes the seat of all harts again.
 pub fn join<T: SeatTable>(table: &T, seats: ArrayVec<Option<T::Seat>, 8>) -> T::Seat
     requires seats { AreSeats (T.is_seat table.now) seats.items }
     requires some { 0 < array_vec_len seats }

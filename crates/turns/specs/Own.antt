@@ -32,7 +32,8 @@ abbrev pub TakesOwn : ℕ → Known → Known → Type 0
 TakesOwn by k k' = (k'.harts ≡ k.harts) × (found : ℕ) × HasNoted by (Took found) k.pairs k'.pairs
 
 -- ---- before the step
--- a hart that has not entered: it finds no start that is armed for it, or enters by that start and then takes what is pending
+-- a hart that has not entered: it finds no start that is armed for it, or enters by that start and then takes
+-- what is pending
 abbrev pub EntersOwn : ℕ → Known → Known → Ready → Type 0
 EntersOwn by k k' readies.Idle = FindsNone by k.harts k'.harts × (k'.pairs ≡ k.pairs)
 EntersOwn by k k' (readies.Enters a o) = (mid : Known) × EntersAs by k.harts a o mid.harts × (mid.pairs ≡ k.pairs) × TakesOwn by mid k'

@@ -60,7 +60,8 @@ abbrev pub woken_turn : Bool → ℕ → TableState → Begun
 woken_turn true by t = record { ready = readies.Woke; table = with_state t by started }
 woken_turn false by t = record { ready = readies.Idle; table = t }
 
--- a STOPPED hart is idle; a pending one enters, and its interrupts are taken; a suspended one wakes where an interrupt is pending, which stays
+-- a STOPPED hart is idle; a pending one enters, and its interrupts are taken; a suspended one wakes where an
+-- interrupt is pending, which stays
 abbrev pub begun_by : ℕ → TableState → HartState → Begun
 begun_by by t stopped = record { ready = readies.Idle; table = t }
 begun_by by t (start_pending a o) = record { ready = readies.Enters a o; table = after_take (with_state t by started) by }
@@ -70,7 +71,8 @@ begun_by by t suspended = woken_turn (has_pending by t.pairs) by t
 abbrev pub turn_begun : ℕ → TableState → Begun
 turn_begun by t = begun_by by t (listed t.states by)
 
--- with the one seat of all harts: a look, a take, and what follows where the hart has not entered or is SUSPENDED
+-- with the one seat of all harts: a look, a take, and what follows where the hart has not entered or is
+-- SUSPENDED
 abbrev pub LooksAlone : ℕ → ℕ → Seats → Seats → Bool → Type 0
 LooksAlone harts by s s' pending = (t : TableState) → IsTable harts s t → (pending ≡ has_pending by t.pairs) × IsTable harts s' t
 

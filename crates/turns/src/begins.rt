@@ -85,9 +85,9 @@ fn wake(seats: Seats, tables: &Tables, by: HartId) -> (Seats, Ready)
     }
 }
 
-/// What a turn of the hart comes to before the step, by one look at its own state: a STOPPED hart is idle; one that is
-/// START_PENDING enters where its start is armed; a suspended one wakes where an interrupt is pending for it; a STARTED
-/// one makes a step, for which one more look says whether an interrupt is pending.
+/// What a turn of the hart comes to before the step, by one look at its own state: a STOPPED hart is idle;
+/// one that is START_PENDING enters where its start is armed; a suspended one wakes where an interrupt is
+/// pending for it; a STARTED one makes a step, for which one more look says whether an interrupt is pending.
 #[inline(always)]
 pub fn begin(seats: Seats, tables: &Tables, by: HartId) -> (Seats, Ready)
     requires seats { AreSeatsOfBoth tables.now seats }

@@ -23,7 +23,8 @@ fn told(after: After) -> Turned
     }
 }
 
-/// What comes after the step: the call at which the hart stands is dispatched, and what the hart took is taken.
+/// What comes after the step: the call at which the hart stands is dispatched, and what the hart took is
+/// taken.
 #[inline(always)]
 pub fn finish(
     outcome: Outcome,

@@ -1,5 +1,6 @@
-//! One turn of a hart (docs/BOARD.md): by the tables, its memory, and the dispatch of its calls. The same code serves a
-//! board on one thread, with the one seat of all harts, and a hart's own thread, with the seat of that hart.
+//! One turn of a hart (docs/BOARD.md): by the tables, its memory, and the dispatch of its calls. The same
+//! code serves a board on one thread, with the one seat of all harts, and a hart's own thread, with the seat
+//! of that hart.
 #![tactic(auto)]
 
 mod begins;
