@@ -15,6 +15,11 @@ still_refused old m mid n Device new o same calm why = (omega (arith, same, why.
 still_refused old m mid n BadImage new o same calm why = (why.0 ∙ same, why.1 ∙ calm)
 still_refused old m mid n e new o same calm why = why
 
+refused_still : {T : Type 0} (old : Facts) (m : FaultState) (mid : Facts) (n : FaultState) (r : Result T Refusal) (new : Facts) (o : FaultState) → mid.failures ≡ old.failures → n ≡ m
+    → IfErr r (λ e. PlaceRefused mid n e new o) → IfErr r (λ e. PlaceRefused old m e new o)
+refused_still old m mid n (Ok v) new o same calm why = tt
+refused_still old m mid n (Err e) new o same calm why = still_refused old m mid n e new o same calm why
+
 onward : {T A : Type 0} (r : Result T Refusal) (x y z : A) → y ≡ x → OnOk r (z ≡ y) → OnOk r (z ≡ x)
 onward (Ok v) x y z was more = more ∙ was
 onward (Err e) x y z was more = tt
@@ -27,9 +32,5 @@ reads_more a m b n r c o was more = record {
   no_fewer = omega (arith, was.no_failure, more.no_fewer);
   no_failure = onward r a.failures b.failures c.failures was.no_failure more.no_failure;
   unmoved = onward r m n o was.unmoved more.unmoved;
-  refused = by r more.refused;
+  refused = refused_still a m b n r c o was.no_failure was.unmoved more.refused;
 }
-  where
-    by : (s : Result T Refusal) → IfErr s (λ e. PlaceRefused b n e c o) → IfErr s (λ e. PlaceRefused a m e c o)
-    by (Ok v) why = tt
-    by (Err e) why = still_refused a m b n e c o was.no_failure was.unmoved why
