@@ -72,7 +72,7 @@ now_by a size opened current journal = fold (state_of size opened a.content) (to
 pub record Issues (a b : Facts) (size : Size) (side : ℕ) (opened current next : Record) (journal : List Entry) (entry : Entry) : Type 0 where
   pub found : state_of size opened b.content ≡ state_of size opened a.content
   pub journal_still : told (memory_in size current b.content) journal ≡ told (memory_in size current a.content) journal
-  change_still : change_in entry (memory_in size next b.content) ≡ change_in entry (memory_in size next a.content)
+  pub change : change_in entry (memory_in size next b.content) ≡ change_in entry (memory_in size next a.content)
   pub folded : fold (state_of size opened b.content) (told (memory_in size current b.content) journal) ≡ state_of size current b.content
   pub allowed : refusal_of (now_by a size opened current journal) (change_in entry (memory_in size next a.content)) ≡ None → refusal_of (state_of size current b.content) (change_in entry (memory_in size next b.content)) ≡ None
   pub journal_with : are_plain journal ≡ true
