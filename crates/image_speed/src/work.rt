@@ -22,7 +22,7 @@ pub fn copies(from: &[Sector], to: &mut [Sector], count: u32)
     }
 }
 
-/// Copies the sectors so often, each time into new memory, as the record of a disk in memory keeps them. All
+/// Copies the sectors so often, each time into new memory: what memory costs that nobody has touched yet. All
 /// copies are answered.
 pub fn new_copies(
     alloc: Global,
