@@ -4,20 +4,13 @@ use Rattle.std.specs.Fmt.{decimal}
 use Rattle.board_model.specs.Views.{reason_number}
 use Rattle.board_model.specs.declared.durable.Durable.{Durable}
 use Rattle.board_model.specs.declared.durable.ImageHead.{ImageHead}
-use Rattle.board_model.specs.declared.boot_mode.BootMode.{BootMode}
-use Rattle.board_model.specs.declared.boot_mode.BootMode.TheVariants.{Fresh, Keep, Discard, Resume}
+use Rattle.script_lang.specs.Spellings.{mode_text}
 use Rattle.machine_lines.specs.Texts.{machine_line_text}
 use Rattle.bench_report.specs.declared.printed.ConsoleWord.{ConsoleWord}
 use Rattle.bench_report.specs.declared.printed.ConsoleWord.TheVariants as names
 use Rattle.bench_report.specs.declared.printed.Printed.{Printed}
 use Rattle.bench_report.specs.declared.printed.Printed.TheVariants as printed
 use lib.Chars.{codes}
-
-abbrev pub mode_text : BootMode → List ℕ
-mode_text Fresh = codes "fresh"
-mode_text Keep = codes "keep"
-mode_text Discard = codes "discard"
-mode_text Resume = codes "resume"
 
 abbrev pub console_text : ConsoleWord → List ℕ
 console_text names.Slot = codes "slot"
