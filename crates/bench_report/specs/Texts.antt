@@ -17,7 +17,9 @@ console_text names.Slot = codes "slot"
 console_text names.Discard = codes "discard"
 
 abbrev pub line_text : Printed → List ℕ
-line_text (printed.Board harts pages lanes sectors) = codes "board " ++ decimal harts ++ codes "/" ++ decimal pages ++ codes "/" ++ decimal lanes ++ codes " sectors " ++ decimal sectors
+line_text (printed.Board harts pages lanes sectors) =
+    codes "board " ++ decimal harts ++ codes "/" ++ decimal pages ++ codes "/" ++ decimal lanes
+    ++ codes " sectors " ++ decimal sectors
 line_text printed.Formatted = codes "format ok"
 line_text (printed.FormatRefused n) = codes "format refused " ++ decimal n
 line_text (printed.On mode) = codes "on " ++ mode_text mode
@@ -37,7 +39,9 @@ image_text None = codes "none"
 image_text (Some head) = decimal head.serial
 
 abbrev pub found_text : Durable → List ℕ
-found_text d = codes "found slot " ++ decimal d.slot ++ codes " reason " ++ decimal (reason_number d.reason) ++ codes " image " ++ image_text d.image ++ codes " next " ++ decimal d.next
+found_text d =
+    codes "found slot " ++ decimal d.slot ++ codes " reason " ++ decimal (reason_number d.reason)
+    ++ codes " image " ++ image_text d.image ++ codes " next " ++ decimal d.next
 
 abbrev pub found_line : Option Durable → List ℕ
 found_line None = []
