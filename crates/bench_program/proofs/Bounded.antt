@@ -1,6 +1,6 @@
 -- The script of an input that is read up to a bound: what more bytes than any script has say is told by the
 -- first of them.
-use Rattle.std.proofs.Common.{◌≡◌, ℕ, ◌+◌, ◌-◌, ◌*◌, ◌≤◌, ◌<◌, Bool, true, false, List, [], ◌∷◌, ◌++◌, length, take, All, Option, Some, None, IfSome, Result, Ok, Err, ◌⊎◌, inl, inr, ◌==◌, if◌then◌else◌, zero, suc, refl, ap, sym, ◌∙◌, arith}
+use Rattle.std.proofs.Common.{◌≡◌, ℕ, ◌+◌, ◌-◌, ◌*◌, ◌≤◌, ◌<◌, Bool, true, false, List, [], ◌∷◌, ◌++◌, length, take, All, Option, Some, None, IfSome, Ok, ◌⊎◌, inl, inr, ◌==◌, if◌then◌else◌, zero, suc, refl, ap, ◌∙◌, arith}
 use Rattle.std.proofs.lemmas.Bool.{cases_lt, eqb-true}
 use Rattle.std.proofs.lemmas.Bool.Decides.{nat_tests}
 use Rattle.std.proofs.lemmas.List.{take_all, length-take-le, take-append-le}
@@ -11,11 +11,9 @@ use Rattle.std.specs.List.{slice_split}
 use Rattle.std.specs.Option.{option_map}
 use Rattle.std.specs.Io.Take.{take_inner, take_limit, take_remaining}
 use Rattle.std.specs.declared.io.traits.Take.{Take}
-use Rattle.board_model.specs.declared.refusal.Refusal.{Refusal}
-use Rattle.board_model.specs.declared.refusal.Refusal.TheVariants.{BadScript}
 use Rattle.board_model.specs.Shapes.{Size}
 use Rattle.script_lang.specs.Words.{words_of}
-use Rattle.script_lang.specs.Scripts.{◌>>>◌, is_sound, is_passed, whole_lines, lines_of, rest_of, board_of, from_board, lines_from, script_of}
+use Rattle.script_lang.specs.Scripts.{◌>>>◌, is_sound, whole_lines, lines_of, rest_of, board_of, from_board, lines_from, script_of}
 
 abbrev Free : List ℕ → Type 0
 Free w = All (λ b. (b == 10) ≡ false) w

@@ -38,16 +38,19 @@ DiskIs size Formatted kept disk = IsKept disk size × ((s : DurableState) → Le
 abbrev pub LifeIs : Size → DiskState → Kept → BenchLife → Size → Type 0
 LifeIs size Blank kept life z = ⊥
 LifeIs size Unknown kept life z = life.machine.size ≡ z
-LifeIs size Formatted kept life z = (kept.doubt ≡ life.doubt) × (life.now ≡ found_of kept.changes) × (z ≡ size) × (life.machine.size ≡ z)
+LifeIs size Formatted kept life z =
+    (kept.doubt ≡ life.doubt) × (life.now ≡ found_of kept.changes) × (z ≡ size) × (life.machine.size ≡ z)
 
 -- a store that goes on with a life
 abbrev pub StoreIs : Size → DiskState → Kept → BenchLife → SimStore → Type 0
-StoreIs size disk_state kept life store = LifeIs size disk_state kept life (store_size store) × IsAs store life.now life.receipts life.doubt
+StoreIs size disk_state kept life store =
+    LifeIs size disk_state kept life (store_size store) × IsAs store life.now life.receipts life.doubt
 
 -- a board that is on
 abbrev pub BoardIs : Size → DiskState → Kept → Option BenchLife → SimBoard → Type 0
 BoardIs size disk_state kept None board = ⊥
-BoardIs size disk_state kept (Some life) board = StoreIs size disk_state kept life (store_in board) × (machine_in board ≡ life.machine)
+BoardIs size disk_state kept (Some life) board =
+    StoreIs size disk_state kept life (store_in board) × (machine_in board ≡ life.machine)
 
 -- the device below has the bench's fault state, counted each failure that was answered, and is of exactly the
 -- size needed
@@ -55,19 +58,26 @@ abbrev pub DeviceIs : Size → Bench → FaultState → Facts → Type 0
 DeviceIs size b m disk = (b.fault_state ≡ m) × (b.failures ≤ disk.failures) × (length disk.content ≡ sectors_of size)
 
 abbrev pub OffIs : Size → Bench → SimDisk → Type 0
-OffIs size b disk = (b.power ≡ None) × DiskIs size b.disk_state b.kept (facts disk) × DeviceIs size b (fault_state disk) (facts disk)
+OffIs size b disk =
+    (b.power ≡ None) × DiskIs size b.disk_state b.kept (facts disk) × DeviceIs size b (fault_state disk) (facts disk)
 
 abbrev pub OnIs : Size → Bench → SimBoard → Type 0
-OnIs size b board = BoardIs size b.disk_state b.kept b.power board × DeviceIs size b (store_fault_state (store_in board)) (store_facts (store_in board))
+OnIs size b board =
+    BoardIs size b.disk_state b.kept b.power board
+    × DeviceIs size b (store_fault_state (store_in board)) (store_facts (store_in board))
 
 -- the store of a life that its own command ended, over a disk that keeps that command
 abbrev pub IsOver : Size → DiskState → Kept → SimStore → Type 0
 IsOver size Blank kept store = ⊥
 IsOver size Unknown kept store = ⊤
-IsOver size Formatted kept store = (kept.doubt ≡ None) × (store_now store ≡ found_of kept.changes) × (store_size store ≡ size) × (store_doubt store ≡ None)
+IsOver size Formatted kept store =
+    (kept.doubt ≡ None) × (store_now store ≡ found_of kept.changes) × (store_size store ≡ size)
+    × (store_doubt store ≡ None)
 
 abbrev pub OverIs : Size → Bench → SimBoard → Type 0
-OverIs size b board = (b.power ≡ None) × IsOver size b.disk_state b.kept (store_in board) × DeviceIs size b (store_fault_state (store_in board)) (store_facts (store_in board))
+OverIs size b board =
+    (b.power ≡ None) × IsOver size b.disk_state b.kept (store_in board)
+    × DeviceIs size b (store_fault_state (store_in board)) (store_facts (store_in board))
 
 -- a board after what is said of a turn or a call
 abbrev pub BoardAfter : Size → Word → Bench → SimBoard → Type 0
@@ -100,7 +110,8 @@ HasDisk (On board) d = (facts d).content ≡ (store_facts (store_in board)).cont
 
 -- power was cut, and the disk holds exactly what the fill says of what was written since the last sync
 abbrev pub IsCutBy : Fill → SimDisk → Power → Type 0
-IsCutBy fill d (Off left) = (facts left).content ≡ left_by_choice (choice_by fill) (synced (sim_log_of d)) (sim_log_of d).written
+IsCutBy fill d (Off left) =
+    (facts left).content ≡ left_by_choice (choice_by fill) (synced (sim_log_of d)) (sim_log_of d).written
 IsCutBy fill d (On board) = ⊥
 
 -- that fault is armed on the disk, whether the board is off or on, and each call of it is still to come
@@ -119,7 +130,9 @@ ArmsIts line power = ⊤
 -- That sector of the disk of a board that is off stands with these bytes in it, from that one on, and nothing
 -- else has changed.
 abbrev pub Pokes : ℕ → ℕ → List ℕ → Power → Power → Type 0
-Pokes k offset bytes (Off old) (Off new) = PokeFits k offset bytes (facts old).content → StandsSo k (poked k offset bytes (facts old).content) (facts old) (facts new)
+Pokes k offset bytes (Off old) (Off new) =
+    PokeFits k offset bytes (facts old).content
+    → StandsSo k (poked k offset bytes (facts old).content) (facts old) (facts new)
 Pokes k offset bytes (Off old) (On board) = ⊥
 Pokes k offset bytes (On board) after = ⊤
 
@@ -139,7 +152,8 @@ fill_after line fill = fill
 abbrev pub EndsBy : Size → Line → Fill → Bench → Answer → Power → Type 0
 EndsBy size line fill b answer left =
     ((new : Bench) × Step size line b answer new × (new.fault_state.struck ≡ false))
-    ⊎ ((would : Answer) × (mid : Bench) × (after : Power) × (disk : SimDisk) × Step size line b would mid × (mid.fault_state.struck ≡ true) × Agrees size mid after × HasDisk after disk × IsCutBy fill disk left)
+    ⊎ ((would : Answer) × (mid : Bench) × (after : Power) × (disk : SimDisk) × Step size line b would mid
+    × (mid.fault_state.struck ≡ true) × Agrees size mid after × HasDisk after disk × IsCutBy fill disk left)
 
 -- no armed cut has struck the disk of a board that is on
 abbrev pub IsUnstruck : Power → Type 0

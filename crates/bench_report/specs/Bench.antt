@@ -42,4 +42,12 @@ no_payloads = [] ∷ [] ∷ [] ∷ [] ∷ []
 
 -- the bench after the board line
 abbrev pub blank_bench : Bench
-blank_bench = record { disk_state = Blank; kept = nothing_kept; power = None; payloads = no_payloads; growths = 0; failures = 0; fault_state = no_fault }
+blank_bench = record {
+  disk_state = Blank;
+  kept = nothing_kept;
+  power = None;
+  payloads = no_payloads;
+  growths = 0;
+  failures = 0;
+  fault_state = no_fault;
+}

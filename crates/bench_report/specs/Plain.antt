@@ -48,7 +48,8 @@ found_then s line = record { found = Some (durable_of s); line = line }
 
 -- a boot of the slot: no image stands in such a run, so a mode that goes on with one or drops it is refused
 abbrev pub plain_slot : BootMode → Size → DurableState → Bench → Answer × Bench
-plain_slot mode z s b = (found_then s (printed.On mode), on_with (has_machine (booted b.payloads s z) (life_begun s z)) b)
+plain_slot mode z s b =
+    (found_then s (printed.On mode), on_with (has_machine (booted b.payloads s z) (life_begun s z)) b)
 
 -- by the number with which the state refuses the mode
 abbrev pub plain_boot : Option ℕ → BootMode → Size → DurableState → Bench → Answer × Bench
@@ -59,7 +60,9 @@ plain_boot (Some n) mode z s b = (found_then s (printed.OnRefused n), b)
 abbrev pub plain_on : Size → DiskState → BootMode → Bench → Answer × Bench
 plain_on size Blank mode b = (says (printed.OnRefused 1), b)
 plain_on size Unknown mode b = (says (printed.OnRefused 1), b)
-plain_on size Formatted mode b = plain_boot (boot_refusal (found_of b.kept.changes) mode) mode size (found_of b.kept.changes) (settled b.kept.changes b)
+plain_on size Formatted mode b =
+    plain_boot (boot_refusal (found_of b.kept.changes) mode) mode size
+    (found_of b.kept.changes) (settled b.kept.changes b)
 
 abbrev pub plain_at : Size → Option BenchLife → Line → Bench → Answer × Bench
 plain_at size None lines.Format b = plain_format b.disk_state b
@@ -73,7 +76,8 @@ plain_at size p (lines.CutAt n fill) b = (says printed.Armed, armed_with CutArme
 plain_at size p (lines.CutLane i n fill) b = (says printed.Armed, armed_with CutArmed b)
 plain_at size p (lines.FailAt n) b = (says printed.Armed, armed_with FaultArmed b)
 plain_at size p (lines.FailLane i n) b = (says printed.Armed, armed_with FaultArmed b)
-plain_at size None (lines.Payload s bytes) b = (shows (shown.Payload s (length bytes)), record b { payloads = slice_set b.payloads s bytes })
+plain_at size None (lines.Payload s bytes) b =
+    (shows (shown.Payload s (length bytes)), record b { payloads = slice_set b.payloads s bytes })
 plain_at size (Some life) (lines.Payload s bytes) b = (shows shown.Busy, b)
 plain_at size p line b = (says printed.Off, b)
 

@@ -89,9 +89,11 @@ Lost Nothing s up t = t ≡ s
 -- The state s before a line and t after it, and whether a board that is on takes commands before and after,
 -- by what the line asked and what it says.
 abbrev pub LineImplies : AskedLine → Printed → DurableState → Bool → DurableState → Bool → Type 0
-LineImplies (Boot asked) (printed.On mode) s up t now = (mode ≡ asked) × (up ≡ false) × TakesAll (commands_of asked) s t × (now ≡ true)
+LineImplies (Boot asked) (printed.On mode) s up t now =
+    (mode ≡ asked) × (up ≡ false) × TakesAll (commands_of asked) s t × (now ≡ true)
 LineImplies (Boot mode) (printed.OnRefused n) s up t now =
-    (up ≡ false) × (now ≡ false) × ((t ≡ s) ⊎ TakesFewer (commands_of mode) s t ⊎ ((n ≡ 6) × TakesSome (commands_of mode) s t))
+    (up ≡ false) × (now ≡ false)
+    × ((t ≡ s) ⊎ TakesFewer (commands_of mode) s t ⊎ ((n ≡ 6) × TakesSome (commands_of mode) s t))
 LineImplies (Command c) (printed.Acknowledged word k) s up t now = (up ≡ true) × TakesAll (c ∷ []) s t × (now ≡ true)
 LineImplies (Command c) (printed.CommandRefused word n) s up t now = RefusedChange n c s up t now
 LineImplies Guest (printed.Shown line) s up t now = TellsLine line s up t now
@@ -110,7 +112,8 @@ ShowsIts (Some d) s = d ≡ durable_of s
 abbrev pub IsPrefixed : DurableState → Bool → List Line → List Answer → Type 0
 IsPrefixed s up [] [] = ⊤
 IsPrefixed s up (line ∷ more) (answer ∷ answers) =
-    ShowsIts answer.found s × (t : DurableState) × (now : Bool) × LineImplies (asked_by line) answer.line s up t now × IsPrefixed t now more answers
+    ShowsIts answer.found s × (t : DurableState) × (now : Bool)
+    × LineImplies (asked_by line) answer.line s up t now × IsPrefixed t now more answers
 IsPrefixed s up [] (answer ∷ answers) = ⊥
 IsPrefixed s up (line ∷ more) [] = ⊥
 
@@ -152,7 +155,9 @@ abbrev pub IsFoundByPrefix : List Line → List Answer → Type 0
 IsFoundByPrefix [] answers = ⊤
 IsFoundByPrefix (line ∷ more) [] = ⊥
 IsFoundByPrefix (line ∷ more) (answer ∷ answers) =
-    MatchBool (is_format_ok answer.line) (IsPrefixed formatted false more answers × RisesFrom 0 (resumes answers) × AreLoaded more answers) (IsFoundByPrefix more answers)
+    MatchBool (is_format_ok answer.line)
+    (IsPrefixed formatted false more answers × RisesFrom 0 (resumes answers) × AreLoaded more answers)
+    (IsFoundByPrefix more answers)
 
 -- a report: the first answer is the board line's
 abbrev pub KeepsPrefixLaw : List Line → List Answer → Type 0

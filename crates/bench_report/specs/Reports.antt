@@ -43,7 +43,8 @@ AreByFirmware (line ∷ more) = IsByFirmware line × AreByFirmware more
 -- these answers are a report of the script, and leave this bench
 abbrev pub IsReport : Script → List Answer → Bench → Type 0
 IsReport script [] end = ⊥
-IsReport script (board ∷ answers) end = (board ≡ board_answer script.size) × Run script.size blank_bench script.lines answers end
+IsReport script (board ∷ answers) end =
+    (board ≡ board_answer script.size) × Run script.size blank_bench script.lines answers end
 
 -- these answers are a report of the script cut short: some first of its lines ran, and leave this bench
 abbrev pub IsCutShort : Script → List Answer → Bench → Type 0

@@ -136,14 +136,18 @@ Issued c life b o new = IssuedBy life.doubt c life b o new
 -- commands in a row: the first that is refused ends it
 abbrev pub IssuesAll : List Change → Bench → Result ℕ ℕ → Bench → Type 0
 IssuesAll [] b o new = (o ≡ Ok 0) × (new ≡ b)
-IssuesAll (c ∷ cs) b o new = (life : BenchLife) × (b.power ≡ Some life) × (first : Result ℕ ℕ) × (mid : Bench) × Issued c life b first mid
+IssuesAll (c ∷ cs) b o new =
+    (life : BenchLife) × (b.power ≡ Some life) × (first : Result ℕ ℕ) × (mid : Bench) × Issued c life b first mid
     × (((n : ℕ) × (first ≡ Ok n) × IssuesAll cs mid o new) ⊎ ((n : ℕ) × (first ≡ Err n) × (o ≡ Err n) × (new ≡ mid)))
 
 -- ---- turns and calls of harts
 
 -- the hart is answered with the error, and goes on behind its call
 abbrev pub refused : ℕ → SbiError → BenchLife → BenchLife
-refused h e life = has_machine (record life.machine { harts = slice_set life.machine.harts h (answered (hart_at life.machine h) (error_of (Err e)) 0) }) life
+refused h e life =
+    has_machine (record life.machine {
+      harts = slice_set life.machine.harts h (answered (hart_at life.machine h) (error_of (Err e)) 0);
+    }) life
 
 abbrev pub AnswersError : SbiError → ℕ → BenchLife → Bench → Word → Bench → Type 0
 AnswersError e h life b word new = (word ≡ words.Own dids.Next) × (new ≡ on_with (refused h e life) b)
@@ -152,12 +156,15 @@ AnswersError e h life b word new = (word ≡ words.Own dids.Next) × (new ≡ on
 -- is off; refused, it is answered -1
 abbrev pub HartCommand : Result ℕ ℕ → Word → ℕ → Bench → Word → Bench → Type 0
 HartCommand (Ok n) said h b word new = (word ≡ said) × (new ≡ off b)
-HartCommand (Err n) said h b word new = (life : BenchLife) × (b.power ≡ Some life) × AnswersError Failed h life b word new
+HartCommand (Err n) said h b word new =
+    (life : BenchLife) × (b.power ≡ Some life) × AnswersError Failed h life b word new
 
 -- a reset, by what its arguments say
 abbrev pub Resets : Result (ResetType × Reason) SbiError → ℕ → BenchLife → Bench → Word → Bench → Type 0
 Resets (Err e) h life b word new = AnswersError e h life b word new
-Resets (Ok reset) h life b word new = (o : Result ℕ ℕ) × (mid : Bench) × Issued (Reset reset.1) life b o mid × HartCommand o (words.Reset reset.0) h mid word new
+Resets (Ok reset) h life b word new =
+    (o : Result ℕ ℕ) × (mid : Bench) × Issued (Reset reset.1) life b o mid
+    × HartCommand o (words.Reset reset.0) h mid word new
 
 -- the command of a suspension, where it fits the board or not: as other commands; or it is refused because
 -- memory ran out (11), or for what is not of the board (3)
@@ -177,7 +184,9 @@ abbrev pub BenchSleeps : ℕ → ℕ → ℕ → BenchLife → Bench → Word �
 BenchSleeps site opaque h life b word new =
     ((IsAlone (hart_at life.machine h).id life.machine → ⊥) × AnswersError Denied h life b word new)
     ⊎ (IsAlone (hart_at life.machine h).id life.machine × (o : Result ℕ ℕ) × (mid : Bench)
-    × SuspendIssued (FitsBoard life.machine.size life.machine.memory (hart_at life.machine h).id site) (Suspend (hart_at life.machine h).id site opaque life.machine.memory) life b o mid × HartCommand o words.Asleep h mid word new)
+    × SuspendIssued (FitsBoard life.machine.size life.machine.memory (hart_at life.machine h).id site)
+    (Suspend (hart_at life.machine h).id site opaque life.machine.memory) life b o mid
+    × HartCommand o words.Asleep h mid word new)
 
 abbrev pub BenchSleepsBy : Result ℕ SbiError → ℕ → ℕ → BenchLife → Bench → Word → Bench → Type 0
 BenchSleepsBy (Err e) opaque h life b word new = AnswersError e h life b word new
@@ -186,7 +195,9 @@ BenchSleepsBy (Ok site) opaque h life b word new = BenchSleeps site opaque h lif
 -- the durable call at which the hart stands
 abbrev pub BenchMakesCall : Call → ℕ → BenchLife → Bench → Word → Bench → Type 0
 BenchMakesCall (calls.SystemReset kind reason) h life b word new = Resets (reset_of kind reason) h life b word new
-BenchMakesCall (calls.SystemSuspend kind address opaque) h life b word new = (asked : Result ℕ SbiError) × IsChecked life.machine.size kind address asked × BenchSleepsBy asked opaque h life b word new
+BenchMakesCall (calls.SystemSuspend kind address opaque) h life b word new =
+    (asked : Result ℕ SbiError) × IsChecked life.machine.size kind address asked
+    × BenchSleepsBy asked opaque h life b word new
 BenchMakesCall call h life b word new = AnswersError NotSupported h life b word new
 
 -- What comes of what hart h did, once the life has the machine: it stands at a durable call, which is made;
@@ -196,7 +207,9 @@ ComesTo dids.Durable h life b word new = BenchMakesCall (call_of (hart_at life.m
 ComesTo did h life b word new = (word ≡ words.Own did) × (new ≡ b)
 
 abbrev pub GuestTurn : ℕ → BenchLife → Bench → Word → Bench → Type 0
-GuestTurn h life b word new = (m : Machine) × (did : Turned) × MakesTurn h life.machine m did × ComesTo did h (has_machine m life) (on_with (has_machine m life) b) word new
+GuestTurn h life b word new =
+    (m : Machine) × (did : Turned) × MakesTurn h life.machine m did
+    × ComesTo did h (has_machine m life) (on_with (has_machine m life) b) word new
 
 -- the turn is the last of its line, with so many that might follow: it ends the line, none is left, or a cut
 -- struck in it
@@ -209,7 +222,8 @@ GuestTurns h zero b made word new = ⊥
 GuestTurns h (suc n) b made word new =
     (life : BenchLife) × (b.power ≡ Some life) × (said : Word) × (mid : Bench) × GuestTurn h life b said mid
     × ((IsLastTurn said n mid × (made ≡ 1) × (word ≡ said) × (new ≡ mid))
-    ⊎ ((ends said ≡ false) × (mid.fault_state.struck ≡ false) × (rest : ℕ) × (made ≡ suc rest) × GuestTurns h n mid rest word new))
+    ⊎ ((ends said ≡ false) × (mid.fault_state.struck ≡ false) × (rest : ℕ) × (made ≡ suc rest)
+    × GuestTurns h n mid rest word new))
 
 -- ---- format
 
@@ -238,16 +252,20 @@ life_begun s z = record { now = s; receipts = 0; doubt = None; machine = resting
 -- the boot by the mode of a board of that size, from the state found, once its commands were issued
 abbrev pub IsBooted : Result ℕ ℕ → BootMode → Size → DurableState → Bench → Printed → Bench → Type 0
 IsBooted (Ok n) mode z s b line new =
-    (life : BenchLife) × (b.power ≡ Some life) × (line ≡ printed.On mode) × (m : Machine) × IsBegun mode z b.payloads s m × (new ≡ on_with (has_machine m life) b)
+    (life : BenchLife) × (b.power ≡ Some life) × (line ≡ printed.On mode) × (m : Machine)
+    × IsBegun mode z b.payloads s m × (new ≡ on_with (has_machine m life) b)
 IsBooted (Err n) mode z s b line new = (line ≡ printed.OnRefused n) × (new ≡ off b)
 
 abbrev pub BootsFrom : BootMode → Size → DurableState → Bench → Printed → Bench → Type 0
-BootsFrom mode z s b line new = (o : Result ℕ ℕ) × (mid : Bench) × IssuesAll (commands_of mode) (on_with (life_begun s z) b) o mid × IsBooted o mode z s mid line new
+BootsFrom mode z s b line new =
+    (o : Result ℕ ℕ) × (mid : Bench) × IssuesAll (commands_of mode) (on_with (life_begun s z) b) o mid
+    × IsBooted o mode z s mid line new
 
 -- The image is loaded and consumed, and the board goes on with it; a failure of the disk in the load is
 -- reported as one that kept the command from the disk (5). Or the image has not the memory of its board.
 abbrev pub Resumes : Size → DurableState → Bench → Printed → Bench → Type 0
-Resumes z s b line new = BootsFrom modes.Resume z s b line new ⊎ ((IsWhole z s → ⊥) × (line ≡ printed.OnRefused 13) × (new ≡ b))
+Resumes z s b line new =
+    BootsFrom modes.Resume z s b line new ⊎ ((IsWhole z s → ⊥) × (line ≡ printed.OnRefused 13) × (new ≡ b))
 
 -- the boot by a mode that is allowed, once there is memory for the board
 abbrev pub Begins : BootMode → Size → DurableState → Bench → Printed → Bench → Type 0
@@ -266,7 +284,8 @@ Boots None mode z s b line new = Begins mode z s b line new ⊎ ((line ≡ print
 abbrev pub Opens : Size → DiskState → Bench → DurableState → Size → Bench → Type 0
 Opens size Blank b s z new = ⊥
 Opens size Unknown b s z new = new ≡ b
-Opens size Formatted b s z new = (changes : List Change) × MayKeep b.kept changes × (s ≡ found_of changes) × (z ≡ size) × (new ≡ settled changes b)
+Opens size Formatted b s z new =
+    (changes : List Change) × MayKeep b.kept changes × (s ≡ found_of changes) × (z ≡ size) × (new ≡ settled changes b)
 
 -- the found line shows the state
 abbrev pub ShowsFound : Option Durable → DurableState → Type 0
@@ -288,7 +307,8 @@ MayStand Formatted = ⊤
 -- power on, with the board off, of a script whose board is of that size
 abbrev pub PowersOn : Size → BootMode → Bench → Answer → Bench → Type 0
 PowersOn size mode b answer new =
-    ((s : DurableState) × (z : Size) × (mid : Bench) × Opens size b.disk_state b s z mid × ShowsFound answer.found s × Boots (boot_refusal s mode) mode z s mid answer.line new)
+    ((s : DurableState) × (z : Size) × (mid : Bench) × Opens size b.disk_state b s z mid
+    × ShowsFound answer.found s × Boots (boot_refusal s mode) mode z s mid answer.line new)
     ⊎ ((n : ℕ) × IsOpenRefusal b.disk_state n × (answer ≡ says (printed.OnRefused n)) × (new ≡ b))
     ⊎ (MayStand b.disk_state × (answer ≡ says (printed.OnRefused 11)) × (new ≡ out_of_memory b))
     ⊎ ((answer ≡ says (printed.OnRefused 5)) × FailsByFault b new)
@@ -311,29 +331,35 @@ console_reported word (Err n) = says (printed.CommandRefused word n)
 -- a command of the console, which a line names by that word
 abbrev pub ConsoleStep : ConsoleWord → Change → Option BenchLife → Bench → Answer → Bench → Type 0
 ConsoleStep word c None b answer new = (answer ≡ says printed.Off) × (new ≡ b)
-ConsoleStep word c (Some life) b answer new = (o : Result ℕ ℕ) × Issued c life b o new × (answer ≡ console_reported word o)
+ConsoleStep word c (Some life) b answer new =
+    (o : Result ℕ ℕ) × Issued c life b o new × (answer ≡ console_reported word o)
 
 -- a payload is kept while the board is off
 abbrev pub PayloadStep : Option BenchLife → ℕ → List ℕ → Bench → Answer → Bench → Type 0
 PayloadStep (Some life) slot bytes b answer new = (answer ≡ shows shown.Busy) × (new ≡ b)
-PayloadStep None slot bytes b answer new = (answer ≡ shows (shown.Payload slot (length bytes))) × (new ≡ record b { payloads = slice_set b.payloads slot bytes })
+PayloadStep None slot bytes b answer new =
+    (answer ≡ shows (shown.Payload slot (length bytes)))
+    × (new ≡ record b { payloads = slice_set b.payloads slot bytes })
 
 abbrev pub TurnStep : Option BenchLife → ℕ → ℕ → Bench → Answer → Bench → Type 0
 TurnStep None h n b answer new = (answer ≡ shows shown.Off) × (new ≡ b)
 TurnStep (Some life) h n b answer new =
-    (HasHart life.machine h × (made : ℕ) × (word : Word) × GuestTurns h n b made word new × (answer ≡ shows (shown.Turn h made word)))
+    (HasHart life.machine h × (made : ℕ) × (word : Word) × GuestTurns h n b made word new
+    × (answer ≡ shows (shown.Turn h made word)))
     ⊎ ((HasHart life.machine h → ⊥) × (answer ≡ shows shown.Off) × (new ≡ b))
 
 -- what a line of a call says of its hart, on the bench after it
 abbrev pub CallReported : ℕ → Word → Bench → Answer → Type 0
-CallReported h (words.Own did) new answer = (life : BenchLife) × (new.power ≡ Some life) × (answer ≡ shows (own_line h (hart_at life.machine h) did))
+CallReported h (words.Own did) new answer =
+    (life : BenchLife) × (new.power ≡ Some life) × (answer ≡ shows (own_line h (hart_at life.machine h) did))
 CallReported h words.Asleep new answer = answer ≡ shows (shown.Called h words.Asleep)
 CallReported h (words.Reset kind) new answer = answer ≡ shows (shown.Called h (words.Reset kind))
 
 -- a call that the machine made in the place of hart h, once the life has the machine
 abbrev pub GuestCall : Called → ℕ → BenchLife → Bench → Answer → Bench → Type 0
 GuestCall NotStarted h life b answer new = (answer ≡ shows (shown.NotStarted h)) × (new ≡ b)
-GuestCall (Made did) h life b answer new = (word : Word) × ComesTo did h life b word new × CallReported h word new answer
+GuestCall (Made did) h life b answer new =
+    (word : Word) × ComesTo did h life b word new × CallReported h word new answer
 
 abbrev pub CallStep : Option BenchLife → ℕ → ℕ → ℕ → ℕ → ℕ → ℕ → Bench → Answer → Bench → Type 0
 CallStep None h e f x y z b answer new = (answer ≡ shows shown.Off) × (new ≡ b)
@@ -345,7 +371,8 @@ CallStep (Some life) h e f x y z b answer new =
 -- a line that shows something of memory and harts
 abbrev pub ReadStep : Option BenchLife → (Machine → MachineLine → Type 0) → Bench → Answer → Bench → Type 0
 ReadStep None says_so b answer new = (answer ≡ shows shown.Off) × (new ≡ b)
-ReadStep (Some life) says_so b answer new = (line : MachineLine) × says_so life.machine line × (answer ≡ shows line) × (new ≡ b)
+ReadStep (Some life) says_so b answer new =
+    (line : MachineLine) × says_so life.machine line × (answer ≡ shows line) × (new ≡ b)
 
 -- a line that arms a cut or a failure, of the disk or of one of its lanes, with the board on or off
 abbrev pub ArmStep : Armed → Bench → Answer → Bench → Type 0
@@ -381,11 +408,13 @@ Step size (lines.Poke k n bytes) b answer new = PokeStep b.power b answer new
 abbrev pub Moves : Size → Line → Bench → Answer → Bench → Type 0
 Moves size line b answer new =
     (Step size line b answer new × (new.fault_state.struck ≡ false))
-    ⊎ ((would : Answer) × (mid : Bench) × Step size line b would mid × (mid.fault_state.struck ≡ true) × (answer ≡ says printed.PowerLost) × (new ≡ unpowered mid))
+    ⊎ ((would : Answer) × (mid : Bench) × Step size line b would mid × (mid.fault_state.struck ≡ true)
+    × (answer ≡ says printed.PowerLost) × (new ≡ unpowered mid))
 
 -- lines that may answer so, one after another
 abbrev pub Run : Size → Bench → List Line → List Answer → Bench → Type 0
 Run size b [] [] new = new ≡ b
-Run size b (line ∷ more) (answer ∷ answers) new = (mid : Bench) × Moves size line b answer mid × Run size mid more answers new
+Run size b (line ∷ more) (answer ∷ answers) new =
+    (mid : Bench) × Moves size line b answer mid × Run size mid more answers new
 Run size b [] (answer ∷ answers) new = ⊥
 Run size b (line ∷ more) [] new = ⊥

@@ -4,8 +4,7 @@ use Rattle.std.specs.Fmt.{decimal}
 use Rattle.board_model.specs.Views.{reason_number}
 use Rattle.board_model.specs.declared.durable.Durable.{Durable}
 use Rattle.board_model.specs.declared.durable.ImageHead.{ImageHead}
-use Rattle.board_model.specs.declared.boot_mode.BootMode.{BootMode}
-use Rattle.board_model.specs.declared.boot_mode.BootMode.TheVariants.{Fresh, Keep, Discard, Resume}
+use Rattle.script_lang.specs.Spellings.{mode_text}
 use Rattle.machine_lines.specs.Texts.{machine_line_text}
 use Rattle.bench_report.specs.declared.printed.ConsoleWord.{ConsoleWord}
 use Rattle.bench_report.specs.declared.printed.ConsoleWord.TheVariants as names
@@ -13,18 +12,14 @@ use Rattle.bench_report.specs.declared.printed.Printed.{Printed}
 use Rattle.bench_report.specs.declared.printed.Printed.TheVariants as printed
 use lib.Chars.{codes}
 
-abbrev pub mode_text : BootMode → List ℕ
-mode_text Fresh = codes "fresh"
-mode_text Keep = codes "keep"
-mode_text Discard = codes "discard"
-mode_text Resume = codes "resume"
-
 abbrev pub console_text : ConsoleWord → List ℕ
 console_text names.Slot = codes "slot"
 console_text names.Discard = codes "discard"
 
 abbrev pub line_text : Printed → List ℕ
-line_text (printed.Board harts pages lanes sectors) = codes "board " ++ decimal harts ++ codes "/" ++ decimal pages ++ codes "/" ++ decimal lanes ++ codes " sectors " ++ decimal sectors
+line_text (printed.Board harts pages lanes sectors) =
+    codes "board " ++ decimal harts ++ codes "/" ++ decimal pages ++ codes "/" ++ decimal lanes
+    ++ codes " sectors " ++ decimal sectors
 line_text printed.Formatted = codes "format ok"
 line_text (printed.FormatRefused n) = codes "format refused " ++ decimal n
 line_text (printed.On mode) = codes "on " ++ mode_text mode
@@ -44,7 +39,9 @@ image_text None = codes "none"
 image_text (Some head) = decimal head.serial
 
 abbrev pub found_text : Durable → List ℕ
-found_text d = codes "found slot " ++ decimal d.slot ++ codes " reason " ++ decimal (reason_number d.reason) ++ codes " image " ++ image_text d.image ++ codes " next " ++ decimal d.next
+found_text d =
+    codes "found slot " ++ decimal d.slot ++ codes " reason " ++ decimal (reason_number d.reason)
+    ++ codes " image " ++ image_text d.image ++ codes " next " ++ decimal d.next
 
 abbrev pub found_line : Option Durable → List ℕ
 found_line None = []

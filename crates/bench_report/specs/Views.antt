@@ -72,7 +72,8 @@ store_doubt store = stores.doubt_of store
 -- a life that goes on: the durable state with what was acknowledged, how many commands that were, and the one
 -- in doubt
 abbrev pub IsLife : Life → DurableState → ℕ → Option Change → Type 0
-IsLife life s count doubt = (now_of life ≡ s) × (length life.journal ≡ count) × (life.doubt ≡ doubt) × (life.over ≡ false)
+IsLife life s count doubt =
+    (now_of life ≡ s) × (length life.journal ≡ count) × (life.doubt ≡ doubt) × (life.over ≡ false)
 
 abbrev pub IsAs : SimStore → DurableState → ℕ → Option Change → Type 0
 IsAs store s count doubt = IsLife (stores.life_of store) s count doubt

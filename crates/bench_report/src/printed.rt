@@ -1,7 +1,8 @@
 //! The lines of a report.
 
 ghost use Rattle.std.specs.Prelude.{◌≡◌, ◌++◌, Some, IfOk};
-ghost use Rattle.bench_report.specs.Texts.{line_text, found_text, mode_text, console_text, image_text};
+ghost use Rattle.script_lang.specs.Spellings.{mode_text};
+ghost use Rattle.bench_report.specs.Texts.{line_text, found_text, console_text, image_text};
 
 use board_model::{BootMode, Durable, ImageHead};
 use machine_lines::MachineLine;

@@ -45,10 +45,7 @@ fn write_found<W: Write>(out: &mut W, found: &Option<Durable>) -> Result<(), Ref
         None => Ok(()),
         Some(durable) => {
             let line = FoundLine(durable);
-            match writeln!(out, "{line}") {
-                Ok(()) => Ok(()),
-                Err(_) => Err(Refusal::Output),
-            }
+            writeln!(out, "{line}").map_err(|_| Refusal::Output)
         }
     }
 }
@@ -57,10 +54,7 @@ fn write_line<W: Write>(out: &mut W, line: Printed) -> Result<(), Refusal>
     ensures ok { OnOk result (Appends (W.contents out.old) (W.contents out.new) (line_text line ++ 10 ∷ [])) }
     ensures err { IfErr result (λ e. e ≡ Refusal.Output) }
 {
-    match writeln!(out, "{line}") {
-        Ok(()) => Ok(()),
-        Err(_) => Err(Refusal::Output),
-    }
+    writeln!(out, "{line}").map_err(|_| Refusal::Output)
 }
 
 /// Writes the lines of an answer.
@@ -70,8 +64,7 @@ fn write_answer<W: Write>(out: &mut W, answer: &Answer) -> Result<(), Refusal>
     ensures err { IfErr result (λ e. e ≡ Refusal.Output) }
 {
     write_found(out, &answer.found)?;
-    write_line(out, answer.line)?;
-    Ok(())
+    write_line(out, answer.line)
 }
 
 /// Writes an answer and counts its lines.

@@ -26,7 +26,8 @@ module _ {D L : Type 0} {g : Ghosts D L} {l : Lanes L} where
 
   -- a turn of hart h
   abbrev pub TurnsHeld : ℕ → Machine → Machine → Store D L g l → Store D L g l → Word → Type 0
-  TurnsHeld h m n old new word = (mid : Machine) × (did : Turned) × machines.MakesTurn h m mid did × Comes did h mid n old new word
+  TurnsHeld h m n old new word =
+      (mid : Machine) × (did : Turned) × machines.MakesTurn h m mid did × Comes did h mid n old new word
 
   -- the turn is the last of a line, with so many that might follow: it ends the line, none is left, or a cut
   -- struck in it
@@ -36,9 +37,11 @@ module _ {D L : Type 0} {g : Ghosts D L} {l : Lanes L} where
   -- at most n turns of hart h in a line, of which so many were made, and the word of the last
   abbrev pub TurnsManyHeld : ℕ → ℕ → Machine → Machine → Store D L g l → Store D L g l → ℕ → Word → Type 0
   TurnsManyHeld h zero m n old new made word = ⊥
-  TurnsManyHeld h (suc count) m n old new made word = (mid : Machine) × (store : Store D L g l) × (first : Word) × TurnsHeld h m mid old store first
+  TurnsManyHeld h (suc count) m n old new made word =
+      (mid : Machine) × (store : Store D L g l) × (first : Word) × TurnsHeld h m mid old store first
       × ((IsLastHeld first count store × (n ≡ mid) × (new ≡ store) × (made ≡ 1) × (word ≡ first))
-      ⊎ ((ends first ≡ false) × ((fault_state_of store).struck ≡ false) × (rest : ℕ) × (made ≡ suc rest) × TurnsManyHeld h count mid n store new rest word))
+      ⊎ ((ends first ≡ false) × ((fault_state_of store).struck ≡ false) × (rest : ℕ) × (made ≡ suc rest)
+      × TurnsManyHeld h count mid n store new rest word))
 
   -- what comes of a call that the machine made in the place of hart h, or did not
   abbrev pub ComesOf : Called → ℕ → Machine → Machine → Store D L g l → Store D L g l → Option Word → Type 0
@@ -46,11 +49,14 @@ module _ {D L : Type 0} {g : Ghosts D L} {l : Lanes L} where
   ComesOf (Made did) h m n old new said = (word : Word) × Comes did h m n old new word × (said ≡ Some word)
 
   -- a call in the place of hart h with these registers
-  abbrev pub CallsHeld : ℕ → ℕ → ℕ → ℕ → ℕ → ℕ → Machine → Machine → Store D L g l → Store D L g l → Option Word → Type 0
+  abbrev pub CallsHeld : ℕ → ℕ → ℕ → ℕ → ℕ → ℕ → Machine → Machine → Store D L g l → Store D L g l → Option Word
+      → Type 0
   CallsHeld h eid fid a0 a1 a2 m n old new said =
-      (mid : Machine) × (called : Called) × machines.MakesOneCall h eid fid a0 a1 a2 m mid called × ComesOf called h mid n old new said
+      (mid : Machine) × (called : Called) × machines.MakesOneCall h eid fid a0 a1 a2 m mid called
+      × ComesOf called h mid n old new said
 
   -- ---- a row within a line
   -- turns of which the last alone may ask the store
   abbrev pub RowsHeld : ℕ → ℕ → Machine → Machine → Store D L g l → Store D L g l → ℕ → Word → Type 0
-  RowsHeld h count m n old new made word = (mid : Machine) × (did : Turned) × machines.TurnsMany h count m mid made did × Comes did h mid n old new word
+  RowsHeld h count m n old new made word =
+      (mid : Machine) × (did : Turned) × machines.TurnsMany h count m mid made did × Comes did h mid n old new word

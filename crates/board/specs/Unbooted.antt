@@ -31,7 +31,8 @@ life_refused mode e s = record (begun s) { doubt = doubt_after mode e }
 -- the state now of a board that is not on, by the state found: that of the life which the refusal left
 abbrev pub IsNowAfter : BootMode → Refusal → Option Durable → Option Durable → Type 0
 IsNowAfter mode e None now = now ≡ None
-IsNowAfter mode e (Some found) now = (s : DurableState) × (found ≡ durable_of s) × (now ≡ Some (durable_of (now_of (life_refused mode e s))))
+IsNowAfter mode e (Some found) now =
+    (s : DurableState) × (found ≡ durable_of s) × (now ≡ Some (durable_of (now_of (life_refused mode e s))))
 
 -- the refusal of that number, or none
 abbrev pub RefusesMode : Option ℕ → Option Refusal → Type 0

@@ -30,8 +30,7 @@ fn mode_refusal(mode: BootMode, found: &Durable) -> Option<Refusal>
         } else {
             None
         },
-        BootMode::Discard => if stands { None } else { Some(Refusal::NoImage) },
-        BootMode::Resume => if stands { None } else { Some(Refusal::NoImage) },
+        BootMode::Discard | BootMode::Resume => if stands { None } else { Some(Refusal::NoImage) },
     }
 }
 
@@ -69,9 +68,7 @@ fn resting<D: Disk + Drop>(
     if !payloads.fit(&shape) {
         return Err(Refusal::BadShape);
     }
-    let first = first_hart(store, mode);
-    let machine = Machine::new(alloc, &shape, first)?;
-    Ok(machine)
+    Machine::new(alloc, &shape, first_hart(store, mode))
 }
 
 /// Boots the slot of the state now, on a board that was just made.
@@ -103,8 +100,7 @@ fn begin<D: Disk + Drop>(
     ensures unissued { IfErr result (λ e. IsUnissued mode (view_of store.old) e (view_of store.new)) }
 {
     match mode {
-        BootMode::Fresh => boot_slot(machine, store, payloads),
-        BootMode::Keep => boot_slot(machine, store, payloads),
+        BootMode::Fresh | BootMode::Keep => boot_slot(machine, store, payloads),
         BootMode::Discard => {
             store.apply(Command::Discard)?;
             boot_slot(machine, store, payloads);

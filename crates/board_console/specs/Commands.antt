@@ -37,8 +37,10 @@ module _ {D L : Type 0} {g : Ghosts D L} {l : Lanes L} where
   -- A line with a command asks the store once, and no other line asks it; `state` is the state now, without a
   -- command in doubt.
   abbrev pub AnswersSaid : Said → Store D L g l → Store D L g l → Answer → Type 0
-  AnswersSaid (saids.Slot n) old new answer = (r : Result ℕ Refusal) × Asked Applied old (Slot n) r new × (answer ≡ slot_answer r)
-  AnswersSaid saids.Discard old new answer = (r : Result ℕ Refusal) × Asked Applied old Discard r new × (answer ≡ discard_answer r)
+  AnswersSaid (saids.Slot n) old new answer =
+      (r : Result ℕ Refusal) × Asked Applied old (Slot n) r new × (answer ≡ slot_answer r)
+  AnswersSaid saids.Discard old new answer =
+      (r : Result ℕ Refusal) × Asked Applied old Discard r new × (answer ≡ discard_answer r)
   AnswersSaid saids.State old new answer = (new ≡ old) × (answer ≡ answers.State (durable_of (now_state old)))
   AnswersSaid saids.Quit old new answer = (new ≡ old) × (answer ≡ answers.Quit)
   AnswersSaid saids.Other old new answer = (new ≡ old) × (answer ≡ answers.Unknown)

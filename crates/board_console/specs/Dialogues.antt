@@ -44,6 +44,7 @@ abbrev pub Talks : Left → DialogueEnds → DialogueEnds → Type 0
 Talks lefts.Quit a b =
     (n : ℕ) × (mid : DialogueEnds) × (said : Said) × TalksOn n a mid × Exchanged said mid b × (is_quit said ≡ true)
 Talks lefts.EndOfInput a b =
-    (n : ℕ) × (mid : DialogueEnds) × (line : List ℕ) × TalksOn n a mid × TakesLine mid.input b.input line false × (b.output ≡ mid.output)
+    (n : ℕ) × (mid : DialogueEnds) × (line : List ℕ) × TalksOn n a mid × TakesLine mid.input b.input line false
+    × (b.output ≡ mid.output)
 Talks lefts.Unwritten a b =
     (n : ℕ) × (mid : DialogueEnds) × (line : List ℕ) × TalksOn n a mid × TakesLine mid.input b.input line true

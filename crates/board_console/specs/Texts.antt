@@ -17,7 +17,8 @@ reply_text (answers.SlotOk n) = codes "slot ok " ++ decimal n
 reply_text (answers.SlotRefused e) = codes "slot refused " ++ decimal (number_of_refusal e)
 reply_text (answers.DiscardOk n) = codes "discard ok " ++ decimal n
 reply_text (answers.DiscardRefused e) = codes "discard refused " ++ decimal (number_of_refusal e)
-reply_text (answers.State d) = codes "state slot " ++ decimal d.slot ++ codes " reason " ++ decimal (reason_number d.reason)
+reply_text (answers.State d) =
+    codes "state slot " ++ decimal d.slot ++ codes " reason " ++ decimal (reason_number d.reason)
     ++ codes " image " ++ serial_text d.image ++ codes " next " ++ decimal d.next
 reply_text answers.Quit = codes "quit"
 reply_text answers.Unknown = codes "?"

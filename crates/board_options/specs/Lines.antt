@@ -1,5 +1,5 @@
 -- The command as its parser reads it. Source: docs/CONSOLE.md, "The command line".
-use Rattle.std.specs.Prelude.{ℕ, List, [], ◌∷◌, Option, Some, true}
+use Rattle.std.specs.Prelude.{ℕ, [], ◌∷◌, Some, true}
 use Rattle.clap.specs.Words.{App, Rule, Text, new_app, new_rule, with_rule}
 use Rattle.clap.specs.declared.builder.action.ArgAction.TheVariants.{Set, SetTrue}
 use Rattle.clap.specs.declared.builder.value_parser.ValueParser.{ValueParser}

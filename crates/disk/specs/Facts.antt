@@ -144,7 +144,9 @@ pub record InRow (l : Lent) (lanes : List LaneFacts) : Type 0 where
 
 -- the lanes hold what stands in these sectors
 abbrev pub Hold : Lent → List LaneFacts → Content → Type 0
-Hold l lanes content = (i j : ℕ) → i < l.lanes → j < l.each → sector (lane_at lanes i).content j ≡ sector content (l.first + i * l.each + j)
+Hold l lanes content =
+    (i j : ℕ) → i < l.lanes → j < l.each
+    → sector (lane_at lanes i).content j ≡ sector content (l.first + i * l.each + j)
 
 -- the lanes that a split hands out
 pub record Handed (l : Lent) (content : Content) (lanes : List LaneFacts) : Type 0 where

@@ -29,11 +29,14 @@ passes_then a b c first second p q goes = record {
         (from.0, from.1, goes from.0 step.0 x from.2 step.2)
 
 -- and one in which a crash leaves what it might have left before
-pub passes_stays : (a b c : Facts) (step : Content → Content → Type 0) → Passes a b step → Passes b c Stays → Passes a c step
-passes_stays a b c step p q = passes_then a b c step Stays p q (λ x y z s same. subst (λ (w : Content). step x w) (sym same) s)
+pub passes_stays : (a b c : Facts) (step : Content → Content → Type 0) → Passes a b step → Passes b c Stays
+    → Passes a c step
+passes_stays a b c step p q =
+    passes_then a b c step Stays p q (λ x y z s same. subst (λ (w : Content). step x w) (sym same) s)
 
 -- what each step does of which more is known
-pub passes_weaker : (a b : Facts) (P Q : Content → Content → Type 0) → Passes a b P → ((x y : Content) → P x y → Q x y) → Passes a b Q
+pub passes_weaker : (a b : Facts) (P Q : Content → Content → Type 0) → Passes a b P
+    → ((x y : Content) → P x y → Q x y) → Passes a b Q
 passes_weaker a b P Q p has = record {
   later = p.later;
   now = λ x left. is x (p.now x left);
@@ -46,8 +49,10 @@ passes_weaker a b P Q p has = record {
 
 -- a split, the lanes, which touch nothing of the disk, the join, and a sync: any bytes in what was lent, and
 -- all else as it was
-pub passes_lanes : (a b c d : Facts) (first n : ℕ) → Passes a b (Torn first n) → Passes b c Stays → Passes c d Stays → Passes a d (Torn first n)
-passes_lanes a b c d first n split join sync = passes_stays a c d (Torn first n) (passes_stays a b c (Torn first n) split join) sync
+pub passes_lanes : (a b c d : Facts) (first n : ℕ) → Passes a b (Torn first n) → Passes b c Stays
+    → Passes c d Stays → Passes a d (Torn first n)
+passes_lanes a b c d first n split join sync =
+    passes_stays a c d (Torn first n) (passes_stays a b c (Torn first n) split join) sync
 
 -- arming a fault is no call
 pub passes_unchanged : (a b : Facts) → Unchanged a b → Passes a b Stays
@@ -59,11 +64,14 @@ passes_unchanged a b same = record {
 }
 
 -- before the first call
-pub leaves_none : (a : Facts) (P : Content → Type 0) → ((c : Content) → a.since a.moment c → a.may_leave c) → ((c : Content) → a.may_leave c → P c) → LeavesSince a a P
-leaves_none a P only here = record { later = omega arith; now = here; each = λ c left. here c (only c left); before = λ t c le left. inl left }
+pub leaves_none : (a : Facts) (P : Content → Type 0) → ((c : Content) → a.since a.moment c → a.may_leave c)
+    → ((c : Content) → a.may_leave c → P c) → LeavesSince a a P
+leaves_none a P only here =
+    record { later = omega arith; now = here; each = λ c left. here c (only c left); before = λ t c le left. inl left }
 
 -- one run more
-pub leaves_more : (a b c : Facts) (P : Content → Type 0) (step : Content → Content → Type 0) → LeavesSince a b P → Passes b c step
+pub leaves_more : (a b c : Facts) (P : Content → Type 0) (step : Content → Content → Type 0) → LeavesSince a b P
+    → Passes b c step
     → ((x y : Content) → b.may_leave x → step x y → P y) → LeavesSince a c P
 leaves_more a b c P step so_far p has = record {
   later = omega (arith, so_far.later, p.later);
@@ -76,7 +84,8 @@ leaves_more a b c P step so_far p has = record {
     is x s = has s.0 x s.1 s.2
 
 pub leaves_stays : (a b c : Facts) (P : Content → Type 0) → LeavesSince a b P → Passes b c Stays → LeavesSince a c P
-leaves_stays a b c P so_far p = leaves_more a b c P Stays so_far p (λ x y left same. subst P (sym same) (so_far.now x left))
+leaves_stays a b c P so_far p =
+    leaves_more a b c P Stays so_far p (λ x y left same. subst P (sym same) (so_far.now x left))
 
 -- what holds of two runs, one after the other
 pub leaves_then : (a b c : Facts) (P : Content → Type 0) → LeavesSince a b P → LeavesSince b c P → LeavesSince a c P
@@ -88,7 +97,8 @@ leaves_then a b c P first second = record {
 }
 
 -- what has P has Q
-pub leaves_weaker : (a b : Facts) (P Q : Content → Type 0) → LeavesSince a b P → ((c : Content) → P c → Q c) → LeavesSince a b Q
+pub leaves_weaker : (a b : Facts) (P Q : Content → Type 0) → LeavesSince a b P → ((c : Content) → P c → Q c)
+    → LeavesSince a b Q
 leaves_weaker a b P Q only has = record {
   later = only.later;
   now = λ x left. has x (only.now x left);
@@ -97,14 +107,18 @@ leaves_weaker a b P Q only has = record {
 }
 
 -- what a crash leaves from a split to the sync after the join
-pub leaves_lanes : (a b c d : Facts) (first n : ℕ) (P : Content → Type 0) → ((x : Content) → a.since a.moment x → a.may_leave x) → ((x : Content) → a.may_leave x → P x)
-    → ((x y : Content) → a.may_leave x → Torn first n x y → P y) → Passes a b (Torn first n) → Passes b c Stays → Passes c d Stays → LeavesSince a d P
+pub leaves_lanes : (a b c d : Facts) (first n : ℕ) (P : Content → Type 0)
+    → ((x : Content) → a.since a.moment x → a.may_leave x) → ((x : Content) → a.may_leave x → P x)
+    → ((x y : Content) → a.may_leave x → Torn first n x y → P y) → Passes a b (Torn first n) → Passes b c Stays
+    → Passes c d Stays → LeavesSince a d P
 leaves_lanes a b c d first n P only here has split join sync =
     leaves_more a a d P (Torn first n) (leaves_none a P only here) (passes_lanes a b c d first n split join sync) has
 
 -- calls that all answered Ok, and then some more
-pub called_then : {T E U F : Type 0} (n m : ℕ) (step : Content → Content → Type 0) (a b c : Facts) (x y z : FaultState) (v : T) (r : Result U F)
-    → ((p q s : Content) → step p q → step q s → step p s) → MakesCalls {T = T} {E = E} n step a b x y (Ok v) → MakesCalls {T = U} {E = F} m step b c y z r → MakesCalls {T = U} {E = F} (n + m) step a c x z r
+pub called_then : {T E U F : Type 0} (n m : ℕ) (step : Content → Content
+    → Type 0) (a b c : Facts) (x y z : FaultState) (v : T) (r : Result U F)
+    → ((p q s : Content) → step p q → step q s → step p s) → MakesCalls {T = T} {E = E} n step a b x y (Ok v)
+    → MakesCalls {T = U} {E = F} m step b c y z r → MakesCalls {T = U} {E = F} (n + m) step a c x z r
 called_then n m step a b c x y z v (Ok w) goes p q = record {
   content = goes a.content b.content c.content p.content q.content;
   crash = passes_then a b c step step p.crash q.crash goes;
@@ -118,14 +132,17 @@ called_then n m step a b c x y z v (Err f) goes p q = record {
   content = goes a.content b.content c.content p.content q.content;
   crash = passes_then a b c step step p.crash q.crash goes;
   lent = q.lent ∙ p.lent;
-  calls = record { ok = tt; err = (omega (arith, p.calls.ok, q.calls.err.0), omega (arith, p.calls.ok, q.calls.err.1)) };
+  calls =
+      record { ok = tt; err = (omega (arith, p.calls.ok, q.calls.err.0), omega (arith, p.calls.ok, q.calls.err.1)) };
   failures = record { ok = tt; err = rw (← p.failures.ok) q.failures.err };
   cause = record { ok = tt; err = subst (λ (w : FaultState). Cause w z) p.cause.ok q.cause.err };
   gone = tt;
 }
 
 -- calls of which one failed, where more would have come
-pub called_fewer : {T E U F : Type 0} (n m : ℕ) (step : Content → Content → Type 0) (a b : Facts) (x y : FaultState) (e : E) (f : F) → n ≤ m
+pub called_fewer : {T E U F : Type 0} (n m : ℕ) (step : Content → Content
+    → Type 0) (a b : Facts) (x y : FaultState) (e : E) (f : F)
+    → n ≤ m
     → MakesCalls {T = T} {E = E} n step a b x y (Err e) → MakesCalls {T = U} {E = F} m step a b x y (Err f)
 called_fewer n m step a b x y e f le p = record {
   content = p.content;

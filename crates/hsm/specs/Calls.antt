@@ -22,7 +22,8 @@ code_of Suspended = 4
 
 -- the state of a hart, by the first word
 abbrev pub state_in_word : ℕ → ℕ → State
-state_in_word h found = if bit_at found h == 0 then Stopped else (if bit_at found (16 + h) == 0 then StartPending else (if bit_at found (24 + h) == 0 then Started else Suspended))
+state_in_word h found =
+    if bit_at found h == 0 then Stopped else (if bit_at found (16 + h) == 0 then StartPending else (if bit_at found (24 + h) == 0 then Started else Suspended))
 
 -- a state without what a pending start is for
 abbrev pub named : HartState → State
@@ -78,7 +79,9 @@ IsGranted h t a o found vs vs' = (one two three : List HartView)
 
 -- the answer is true exactly where the claim found the target unclaimed
 abbrev pub Starts : ℕ → ℕ → ℕ → ℕ → List HartView → Bool → List HartView → Type 0
-Starts h t a o vs answer vs' = (found : ℕ) × (answer ≡ (bit_at found t == 0)) × MatchBool answer (IsGranted h t a o found vs vs') (IsRefused h t a o found vs vs')
+Starts h t a o vs answer vs' =
+    (found : ℕ) × (answer ≡ (bit_at found t == 0))
+    × MatchBool answer (IsGranted h t a o found vs vs') (IsRefused h t a o found vs vs')
 
 -- the word has the hart armed and not entered
 abbrev pub is_ready : ℕ → ℕ → Bool
@@ -97,5 +100,7 @@ FindsNone h vs vs' = (found : ℕ) × (is_ready h found ≡ false) × HasNoted h
 
 -- ---- with the one seat of all harts
 -- Whatever the states are, the answer is right of them, and the states after the call are those that follow.
-abbrev pub ActsAlone : ℕ → HartSeatView → HartSeatView → ((ℕ → HartState) → Type 0) → ((ℕ → HartState) → ℕ → HartState) → Type 0
-ActsAlone harts c c' Answers next = (states : ℕ → HartState) → Shows harts c states → Answers states × Shows harts c' (next states)
+abbrev pub ActsAlone : ℕ → HartSeatView → HartSeatView → ((ℕ → HartState) → Type 0)
+    → ((ℕ → HartState) → ℕ → HartState) → Type 0
+ActsAlone harts c c' Answers next =
+    (states : ℕ → HartState) → Shows harts c states → Answers states × Shows harts c' (next states)

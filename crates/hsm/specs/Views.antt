@@ -22,7 +22,8 @@ first_of f (x ∷ xs) = or_else (f x) (first_of f xs)
 
 -- what a claim of the hart was for, where more claims than entries are for it
 abbrev pub open_by : ℕ → HartSeatView → Action → Option (ℕ × ℕ)
-open_by h c (Claimed t a o found) = if t == h then (if nat_lt (did (entry_of h a o) c) (did (claim_of h a o) c) then Some (a, o) else None) else None
+open_by h c (Claimed t a o found) =
+    if t == h then (if nat_lt (did (entry_of h a o) c) (did (claim_of h a o) c) then Some (a, o) else None) else None
 open_by h c _ = None
 
 -- the start that the hart has not entered yet

@@ -27,12 +27,14 @@ pub record Grants : Type 0 where
   pub opaque : ℕ → ℕ
 
 abbrev pub granted : Grants → ℕ → ℕ → ℕ → Grants
-granted g t a o = record { address = λ h. if h == t then a else g.address h; opaque = λ h. if h == t then o else g.opaque h }
+granted g t a o =
+    record { address = λ h. if h == t then a else g.address h; opaque = λ h. if h == t then o else g.opaque h }
 
 -- ---- the ledger of starts
 -- 1 for a claim of this triple that found the target unclaimed
 abbrev pub claim_of : ℕ → ℕ → ℕ → Action → ℕ
-claim_of t a o (Claimed t' a' o' found) = if t' == t then (if a' == a then (if o' == o then 1 - bit_at found t else 0) else 0) else 0
+claim_of t a o (Claimed t' a' o' found) =
+    if t' == t then (if a' == a then (if o' == o then 1 - bit_at found t else 0) else 0) else 0
 claim_of t a o _ = 0
 
 -- 1 for an entry with this triple
@@ -77,8 +79,10 @@ Fits harts m g h (Addressed a) = (m.armed h ≡ 1) × (m.entered h ≡ 0) × (m.
 Fits harts m g h (Loaded a o) = (m.armed h ≡ 1) × (m.entered h ≡ 0) × (m.address h ≡ a) × (m.opaque h ≡ o)
 Fits harts m g h Running = (m.entered h ≡ 1) × (m.suspended h ≡ 0)
 Fits harts m g h (Claiming t a o) = (m.entered h ≡ 1) × (m.suspended h ≡ 0) × (t < harts) × IsGrantOf g t a o
-Fits harts m g h (Half t a o) = (m.entered h ≡ 1) × (m.suspended h ≡ 0) × (t < harts) × IsGrantOf g t a o × (m.address t ≡ a)
-Fits harts m g h (Stored t a o) = (m.entered h ≡ 1) × (m.suspended h ≡ 0) × (t < harts) × IsGrantOf g t a o × (m.address t ≡ a) × (m.opaque t ≡ o)
+Fits harts m g h (Half t a o) =
+    (m.entered h ≡ 1) × (m.suspended h ≡ 0) × (t < harts) × IsGrantOf g t a o × (m.address t ≡ a)
+Fits harts m g h (Stored t a o) =
+    (m.entered h ≡ 1) × (m.suspended h ≡ 0) × (t < harts) × IsGrantOf g t a o × (m.address t ≡ a) × (m.opaque t ≡ o)
 Fits harts m g h Asleep = (m.entered h ≡ 1) × (m.suspended h ≡ 1)
 Fits harts m g h Quiet = (m.entered h ≡ 1) × (m.suspended h ≡ 0) × ((t : ℕ) → t < harts → t ≢ h → m.claimed t ≡ 0)
 
@@ -86,13 +90,17 @@ Fits harts m g h Quiet = (m.entered h ≡ 1) × (m.suspended h ≡ 0) × ((t : �
 -- one view. `armed`: until an armed hart enters, its argument words are its claim's. `once`: every hart is in
 -- just one seat.
 pub record Sound (harts : ℕ) (m : WordBits) (g : Grants) (views : List HartSeatView) : Type 0 where
-  pub order : (h : ℕ) → h < harts → (m.suspended h ≤ m.entered h) × (m.entered h ≤ m.armed h) × (m.armed h ≤ m.claimed h) × (m.claimed h ≤ 1)
+  pub order : (h : ℕ) → h < harts
+      → (m.suspended h ≤ m.entered h) × (m.entered h ≤ m.armed h) × (m.armed h ≤ m.claimed h) × (m.claimed h ≤ 1)
   pub flying : (t : ℕ) → t < harts → total (flights t) views + m.armed t ≡ m.claimed t
-  pub ledger : (t a o : ℕ) → t < harts → total (did (claim_of t a o)) views ≡ total (did (entry_of t a o)) views + is_pending m g t a o
-  pub armed : (t : ℕ) → t < harts → m.armed t ≡ 1 → m.entered t ≡ 0 → (m.address t ≡ g.address t) × (m.opaque t ≡ g.opaque t)
+  pub ledger : (t a o : ℕ) → t < harts
+      → total (did (claim_of t a o)) views ≡ total (did (entry_of t a o)) views + is_pending m g t a o
+  pub armed : (t : ℕ) → t < harts → m.armed t ≡ 1 → m.entered t ≡ 0
+      → (m.address t ≡ g.address t) × (m.opaque t ≡ g.opaque t)
   pub once : (h : ℕ) → h < harts → total (seats h) views ≡ 1
   pub none_else : (h : ℕ) → harts ≤ h → total (seats h) views ≡ 0
-  pub fits : (id : ℕ) (c : HartSeatView) (k : ℕ) (v : HartView) → get_elem? views id ≡ some c → get_elem? c.harts k ≡ some v → Fits harts m g v.hart v.stage
+  pub fits : (id : ℕ) (c : HartSeatView) (k : ℕ) (v : HartView) → get_elem? views id ≡ some c
+      → get_elem? c.harts k ≡ some v → Fits harts m g v.hart v.stage
 
 -- ---- the actions as steps
 -- the word in which an action was
@@ -123,7 +131,8 @@ left_by h (Claimed t a o found) word = bit_or word (bit t)
 left_by h (Wrote i n) word = n
 left_by h (Armed t) word = bit_or word (bit (8 + t))
 left_by h (Entered k a o) word = bit_or word (bit (16 + k))
-left_by h (Stopped found) word = bit_and word (bit_and (bit_and (bit_and (bit_not w64 (bit h)) (bit_not w64 (bit (8 + h)))) (bit_not w64 (bit (16 + h)))) (bit_not w64 (bit (24 + h))))
+left_by h (Stopped found) word =
+    bit_and word (bit_and (bit_and (bit_and (bit_not w64 (bit h)) (bit_not w64 (bit (8 + h)))) (bit_not w64 (bit (16 + h)))) (bit_not w64 (bit (24 + h))))
 left_by h (Suspended found) word = bit_or word (bit (24 + h))
 left_by h (Woke found) word = bit_and word (bit_not w64 (bit (24 + h)))
 left_by h _ word = word
@@ -137,7 +146,9 @@ first_word started t = if t == 0 then bit_or (bit_or (bit started) (bit (8 + sta
 
 -- each hart of each seat has just its steps of the log, each with its place
 abbrev pub AreInLog : Log Action → List HartSeatView → Type 0
-AreInLog log views = (id : ℕ) (c : HartSeatView) (k : ℕ) (v : HartView) → get_elem? views id ≡ some c → get_elem? c.harts k ≡ some v → IsOfLog log v.hart v.actions v.places
+AreInLog log views =
+    (id : ℕ) (c : HartSeatView) (k : ℕ) (v : HartView) → get_elem? views id ≡ some c
+    → get_elem? c.harts k ≡ some v → IsOfLog log v.hart v.actions v.places
 
 -- The rule: some grants fit the words and the views, and a log of all steps.
 pub record HartInvariant (harts started : ℕ) (s : State (Unit {0}) HartSeatView) : Type 0 where
@@ -153,7 +164,8 @@ pub record HartInvariant (harts started : ℕ) (s : State (Unit {0}) HartSeatVie
 -- ---- one more action of the hart, which then stands at this stage
 abbrev pub noted : ℕ → Stage → ℕ → Action → List HartView → List HartView
 noted h st p x [] = []
-noted h st p x (v ∷ vs) = if v.hart == h then hart_view v.hart st (x ∷ v.actions) (p ∷ v.places) ∷ vs else v ∷ noted h st p x vs
+noted h st p x (v ∷ vs) =
+    if v.hart == h then hart_view v.hart st (x ∷ v.actions) (p ∷ v.places) ∷ vs else v ∷ noted h st p x vs
 
 -- a view that has one more action of the hart, at whatever place, and nothing else is new
 abbrev pub HasNoted : ℕ → Stage → Action → List HartView → List HartView → Type 0

@@ -30,7 +30,8 @@ abbrev pub after_look : ℕ → ℕ → Stage
 after_look h found = if bit_at found (8 + h) == 1 then (if bit_at found (16 + h) == 0 then Ready else Out) else Out
 
 abbrev pub Claims : ℕ → ℕ → ℕ → ℕ → ℕ → Step (Unit {0}) → SeatState → ℕ → SeatState → Type 0
-Claims harts h t a o st m found m' = Notes h (after_claim t a o found) (Claimed t a o found) m m' × Tells harts m.0 found
+Claims harts h t a o st m found m' =
+    Notes h (after_claim t a o found) (Claimed t a o found) m m' × Tells harts m.0 found
 
 abbrev pub PutsAddress : ℕ → ℕ → ℕ → ℕ → Step (Unit {0}) → SeatState → ℕ → SeatState → Type 0
 PutsAddress h t a o st m found m' = Notes h (Half t a o) (Wrote (1 + 2 * t) a) m m'
@@ -43,8 +44,10 @@ Arms h t st m found m' = Notes h Running (Armed t) m m'
 
 -- Freshness: what the first word says of the harts of the seat itself.
 pub record IsUpToDate (found : ℕ) (vs : List HartView) : Type 0 where
-  pub started : (k : ℕ) → IsStarted k vs → (bit_at found k ≡ 1) × (bit_at found (16 + k) ≡ 1) × (bit_at found (24 + k) ≡ 0)
-  pub asleep : (k : ℕ) → stands k Asleep vs → (bit_at found k ≡ 1) × (bit_at found (16 + k) ≡ 1) × (bit_at found (24 + k) ≡ 1)
+  pub started : (k : ℕ) → IsStarted k vs
+      → (bit_at found k ≡ 1) × (bit_at found (16 + k) ≡ 1) × (bit_at found (24 + k) ≡ 0)
+  pub asleep : (k : ℕ) → stands k Asleep vs
+      → (bit_at found k ≡ 1) × (bit_at found (16 + k) ≡ 1) × (bit_at found (24 + k) ≡ 1)
   pub outside : (k : ℕ) → stands k Out vs → bit_at found (16 + k) ≡ 0
 
 -- a look by a hart that stands at this stage, which it keeps
@@ -95,12 +98,15 @@ Unquiets h st m found m' = Notes h Running (Unquieted found) m m'
 -- a look that a seat does not note: it stays as it was, and where it is of all harts and each is settled, it
 -- shows some states
 abbrev pub Sees : ℕ → Step (Unit {0}) → SeatState → ℕ → SeatState → Type 0
-Sees harts st m found m' = (m'.0 ≡ m.0) × (m'.1 ≡ m.1) × (((h : ℕ) → h < harts → IsSettled h m.0.harts) → (states : ℕ → HartState) × Shows harts m.0 states)
+Sees harts st m found m' =
+    (m'.0 ≡ m.0) × (m'.1 ≡ m.1)
+    × (((h : ℕ) → h < harts → IsSettled h m.0.harts) → (states : ℕ → HartState) × Shows harts m.0 states)
 
 -- ---- the table at the start
 abbrev pub opening_from : ℕ → ℕ → ℕ → List HartView
 opening_from lone first zero = []
-opening_from lone first (suc n) = hart_view first (if first == lone then Running else Out) [] [] ∷ opening_from lone (suc first) n
+opening_from lone first (suc n) =
+    hart_view first (if first == lone then Running else Out) [] [] ∷ opening_from lone (suc first) n
 
 abbrev pub opening_view : ℕ → ℕ → HartSeatView
 opening_view harts lone = hart_seat_view (opening_from lone 0 harts)

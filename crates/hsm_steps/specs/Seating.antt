@@ -36,11 +36,15 @@ AreInOrder = AreByNumber harts_in (λ v. v.hart)
 
 -- and it stands where it stood in a list of all harts
 abbrev pub StandAsIn : List HartView → List (Option (Seat (Unit {0}) HartSeatView)) → Type 0
-StandAsIn vs ss = (i : ℕ) (s : Seat (Unit {0}) HartSeatView) (st : Stage) → slice_get ss i ≡ Some (Some s) → stands i st vs → stands i st (harts_in s)
+StandAsIn vs ss =
+    (i : ℕ) (s : Seat (Unit {0}) HartSeatView) (st : Stage) → slice_get ss i ≡ Some (Some s) → stands i st vs
+    → stands i st (harts_in s)
 
 -- each hart stands in a list of all harts where it stands in its seat
 abbrev pub StandTogether : List (Option (Seat (Unit {0}) HartSeatView)) → List HartView → Type 0
-StandTogether ss vs = (i : ℕ) (s : Seat (Unit {0}) HartSeatView) (st : Stage) → slice_get ss i ≡ Some (Some s) → stands i st (harts_in s) → stands i st vs
+StandTogether ss vs =
+    (i : ℕ) (s : Seat (Unit {0}) HartSeatView) (st : Stage) → slice_get ss i ≡ Some (Some s)
+    → stands i st (harts_in s) → stands i st vs
 
 -- every place of a list has a seat of the table; one that was taken out leaves None
 abbrev pub AreSeatsOf : HartTable → List (Option (Seat (Unit {0}) HartSeatView)) → Type 0

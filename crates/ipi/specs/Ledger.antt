@@ -110,7 +110,8 @@ pub record PendingInvariant (harts : ℕ) (s : State (Unit {0}) PendingSeatView)
 -- one more action of the hart, at its place
 abbrev pub noted : ℕ → ℕ → Action → List PendingView → List PendingView
 noted h p x [] = []
-noted h p x (d ∷ ds) = if d.hart == h then pending_view d.hart (x ∷ d.actions) (p ∷ d.places) ∷ ds else d ∷ noted h p x ds
+noted h p x (d ∷ ds) =
+    if d.hart == h then pending_view d.hart (x ∷ d.actions) (p ∷ d.places) ∷ ds else d ∷ noted h p x ds
 
 -- a view that has one more action of the hart, at whatever place, and nothing else is new
 abbrev pub HasNoted : ℕ → Action → List PendingView → List PendingView → Type 0
@@ -138,7 +139,8 @@ HasEveryHart harts c = (h : ℕ) → h < harts → seats h c ≡ 1
 
 -- The pairs of a seat of all harts are those of the word found
 abbrev pub Tells : ℕ → PendingSeatView → ℕ → ℕ → Type 0
-Tells harts c target found = HasEveryHart harts c → (sender : ℕ) → raised sender target c ≡ taken sender target c + bit_at found sender
+Tells harts c target found =
+    HasEveryHart harts c → (sender : ℕ) → raised sender target c ≡ taken sender target c + bit_at found sender
 
 -- what the hart did
 abbrev pub actions_of : ℕ → List PendingView → List Action
@@ -159,13 +161,19 @@ InRange harts found = (sender : ℕ) → harts ≤ sender → bit_at found sende
 
 -- what a step tells
 abbrev pub Raises : ℕ → ℕ → Step (Unit {0}) → SeatState → ℕ → SeatState → Type 0
-Raises harts by st m found m' = HasNoted by (Raised st.word found) m.0.pending_views m'.0.pending_views × (m'.1 ≡ m.1) × Tells harts m.0 st.word found
+Raises harts by st m found m' =
+    HasNoted by (Raised st.word found) m.0.pending_views m'.0.pending_views × (m'.1 ≡ m.1)
+    × Tells harts m.0 st.word found
 
 abbrev pub Takes : ℕ → Step (Unit {0}) → SeatState → ℕ → SeatState → Type 0
-Takes harts st m found m' = HasNoted st.word (Took found) m.0.pending_views m'.0.pending_views × (m'.1 ≡ m.1) × Tells harts m.0 st.word found × OwnsUp m.0 st.word found × InRange harts found
+Takes harts st m found m' =
+    HasNoted st.word (Took found) m.0.pending_views m'.0.pending_views × (m'.1 ≡ m.1)
+    × Tells harts m.0 st.word found × OwnsUp m.0 st.word found × InRange harts found
 
 abbrev pub Looks : ℕ → Step (Unit {0}) → SeatState → ℕ → SeatState → Type 0
-Looks harts st m found m' = HasNoted st.word (Looked found) m.0.pending_views m'.0.pending_views × (m'.1 ≡ m.1) × Tells harts m.0 st.word found × OwnsUp m.0 st.word found × InRange harts found
+Looks harts st m found m' =
+    HasNoted st.word (Looked found) m.0.pending_views m'.0.pending_views × (m'.1 ≡ m.1)
+    × Tells harts m.0 st.word found × OwnsUp m.0 st.word found × InRange harts found
 
 -- ---- seats
 -- the first hart of a seat, and the others

@@ -34,7 +34,9 @@ AreInOrder = AreByNumber pending_views_in (λ d. d.hart)
 
 -- and has it once
 abbrev pub AreSeated : List (Option (Seat (Unit {0}) PendingSeatView)) → Type 0
-AreSeated ss = (i : ℕ) (s : Seat (Unit {0}) PendingSeatView) → slice_get ss i ≡ Some (Some s) → seats i (pending_view_of_seat s) ≡ 1
+AreSeated ss =
+    (i : ℕ) (s : Seat (Unit {0}) PendingSeatView) → slice_get ss i ≡ Some (Some s)
+    → seats i (pending_view_of_seat s) ≡ 1
 
 -- every place of a list has a seat of the table; one that was taken out leaves None
 abbrev pub AreSeatsOf : PendingTable → List (Option (Seat (Unit {0}) PendingSeatView)) → Type 0

@@ -37,7 +37,9 @@ new_world = record { state = formatted; doubt = None; kept = []; on = false; dro
 
 -- an open may find the state, or what the command in doubt makes of it; and that is then kept
 abbrev pub Finds : World → DurableState → List Change → Type 0
-Finds w s kept = ((s ≡ w.state) × (kept ≡ w.kept)) ⊎ ((c : Change) × (w.doubt ≡ Some c) × (s ≡ after w.state c) × (kept ≡ w.kept ++ c ∷ []))
+Finds w s kept =
+    ((s ≡ w.state) × (kept ≡ w.kept))
+    ⊎ ((c : Change) × (w.doubt ≡ Some c) × (s ≡ after w.state c) × (kept ≡ w.kept ++ c ∷ []))
 
 -- a command reaches the disk: the life goes on, none is in doubt, and the table of commands does not refuse
 -- it
@@ -59,8 +61,18 @@ goes_on false = true
 
 -- what an event makes of the disk
 abbrev pub Happens : World → Event → World → Type 0
-Happens w (WasOpened s) v = (kept : List Change) × Finds w s kept × (v ≡ record { state = s; doubt = None; kept = kept; on = true; dropped = None; resumed = w.resumed })
-Happens w (WasAcknowledged c) v = Goes w c × (v ≡ record w { state = after w.state c; kept = w.kept ++ c ∷ []; on = goes_on (ends_life c); dropped = dropped_by w c })
+Happens w (WasOpened s) v =
+    (kept : List Change) × Finds w s kept
+    × (v ≡ record { state = s; doubt = None; kept = kept; on = true; dropped = None; resumed = w.resumed })
+Happens w (WasAcknowledged c) v =
+    Goes w c
+    × (v ≡ record w {
+      state = after w.state c;
+      kept = w.kept
+          ++ c ∷ [];
+      on = goes_on (ends_life c);
+      dropped = dropped_by w c;
+    })
 Happens w (WasRefused c) v = v ≡ w
 Happens w (WasDoubtful c) v = Goes w c × (v ≡ record w { doubt = Some c; on = false })
 Happens w WasCut v = v ≡ record w { on = false; dropped = None }

@@ -6,7 +6,6 @@ use Rattle.hart.specs.State.{ArchState}
 use Rattle.hart.specs.declared.Outcome.TheVariants.{Ecall}
 use Rattle.hsm_steps.specs.Seating as seating
 use Rattle.hsm_words.specs.declared.view.HartSeatView.{HartSeatView}
-use Rattle.hsm_rule.specs.States.{started}
 use Rattle.hsm.specs.Calls.{ActsAlone, KeepsAll, named}
 use Rattle.hsm.specs.Views.{listed}
 use Rattle.hsm.specs.declared.state.State.{State as Code}

@@ -1,5 +1,5 @@
 -- A turn of a hart is one outcome, and so are turns in a row, and a call.
-use Rattle.std.proofs.Common.{ℕ, zero, suc, Bool, ◌≡◌, ◌⊎◌, List, sym, ◌∙◌, ap, refl, subst, inl, inr, ⊎_elim}
+use Rattle.std.proofs.Common.{ℕ, zero, suc, Bool, ◌≡◌, ◌⊎◌, List, sym, ◌∙◌, ap, refl, subst, inl, inr}
 use Rattle.board_model.specs.Shapes.{Size}
 use Rattle.hart.specs.State.{ArchState}
 use Rattle.hart.specs.Means.{Steps, IsSame}
@@ -18,7 +18,7 @@ use Rattle.turns.specs.declared.words.Ready.{Ready}
 use Rattle.turns.specs.declared.words.Ready.TheVariants as readies
 use Rattle.turns.specs.Turns.{Moment, moment, turn_begun, turned_by, Finishes, TurnAs, TurnOf}
 use Rattle.machine.specs.declared.parts.Called.{Called}
-use Rattle.machine.specs.declared.parts.Called.TheVariants.{NotStarted, Made}
+use Rattle.machine.specs.declared.parts.Called.TheVariants.{Made}
 use Rattle.machine.specs.Machine.{Machine}
 use Rattle.machine.specs.Turns as turns
 

@@ -1,6 +1,6 @@
 -- A machine as it is made.
-use Rattle.std.proofs.Common.{◌≡◌, ◌↔◌, ℕ, zero, suc, ◌-◌, ◌<◌, Bool, true, false, List, [], ◌∷◌, Some, refl, sym, ap, ◌∙◌, subst, inl, inr, arith, IsTrue, if◌then◌else◌, eq-eqb, ne_eqb}
-use Rattle.std.specs.Prelude.{length, get_or, slice_set, replicate, ◌==◌}
+use Rattle.std.proofs.Common.{◌≡◌, ◌↔◌, ℕ, zero, suc, ◌-◌, ◌<◌, Bool, false, List, [], ◌∷◌, Some, refl, sym, ap, ◌∙◌, subst, inl, inr, arith, IsTrue, if◌then◌else◌, eq-eqb, ne_eqb}
+use Rattle.std.specs.Prelude.{length, get_or, replicate, ◌==◌}
 use Rattle.std.proofs.lemmas.List.{length-set, get_or-set_other, length-replicate, length-append, get_or-replicate, get_or_past, get_or_append_left, get_or-append_right}
 use Rattle.std.proofs.lemmas.Grind.{get_or-set_at}
 use mathlib.Core.Logic.{dite}

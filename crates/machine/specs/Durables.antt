@@ -21,7 +21,9 @@ IsHartStarted h m = listed m.table.states (hart_at m h).id ≡ started
 module _ {D L : Type 0} {g : Ghosts D L} {l : Lanes L} where
   -- the durable call at which its hart stands, by the table of answers: the tables and the memory stay
   abbrev pub HeldOf : Size → Moment → Moment → Store D L g l → Store D L g l → Held → Type 0
-  HeldOf size a b old new held = HeldIn size.harts a.memory (call_of a.hart) a.hart b.hart a.table old new held × (b.table ≡ a.table) × (b.memory ≡ a.memory)
+  HeldOf size a b old new held =
+      HeldIn size.harts a.memory (call_of a.hart) a.hart b.hart a.table old new held × (b.table ≡ a.table)
+      × (b.memory ≡ a.memory)
 
   -- the durable call at which hart h stands, made with a store
   abbrev pub MakesCall : ℕ → Machine → Machine → Store D L g l → Store D L g l → Held → Type 0

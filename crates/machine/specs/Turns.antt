@@ -56,7 +56,8 @@ abbrev pub TurnsMany : ℕ → ℕ → Machine → Machine → ℕ → Turned �
 TurnsMany h zero old new made word = ⊥
 TurnsMany h (suc n) old new made word =
     (mid : Machine) × (first : Turned) × MakesTurn h old mid first
-    × ((IsLast first n × (new ≡ mid) × (made ≡ 1) × (word ≡ first)) ⊎ ((IsLast first n → ⊥) × (rest : ℕ) × (made ≡ suc rest) × TurnsMany h n mid new rest word))
+    × ((IsLast first n × (new ≡ mid) × (made ≡ 1) × (word ≡ first))
+    ⊎ ((IsLast first n → ⊥) × (rest : ℕ) × (made ≡ suc rest) × TurnsMany h n mid new rest word))
 
 -- ---- a call that is made in the place of a hart
 -- the registers of a call: the extension in a7, the function in a6, the arguments in a0 to a2
@@ -65,7 +66,9 @@ calling s eid fid a0 a1 a2 = put (put (put (put (put s 10 a0) 11 a1) 12 a2) 16 f
 
 -- the call of a hart that then stands as u at an ECALL: none where the hart is not STARTED
 pub record CallOf (size : Size) (u : ArchState) (a b : Moment) (called : Called) : Type 0 where
-  pub made : listed a.table.states a.hart.id ≡ started → (word : Turned) × Finishes size Ecall a.table u b.table b.hart word × (b.memory ≡ a.memory) × (called ≡ Made word)
+  pub made : listed a.table.states a.hart.id ≡ started
+      → (word : Turned) × Finishes size Ecall a.table u b.table b.hart word × (b.memory ≡ a.memory)
+      × (called ≡ Made word)
   pub not_started : (listed a.table.states a.hart.id ≡ started → ⊥) → (b ≡ a) × (called ≡ NotStarted)
 
 -- with the one seat of all harts
@@ -75,4 +78,5 @@ MakesCallAlone size s u t m before after called = (x : TableState) → IsTable s
 
 -- a call of hart h with these registers
 abbrev pub MakesOneCall : ℕ → ℕ → ℕ → ℕ → ℕ → ℕ → Machine → Machine → Called → Type 0
-MakesOneCall h eid fid a0 a1 a2 old new called = DoneBy (λ a b. CallOf old.size (calling a.hart eid fid a0 a1 a2) a b called) h old new
+MakesOneCall h eid fid a0 a1 a2 old new called =
+    DoneBy (λ a b. CallOf old.size (calling a.hart eid fid a0 a1 a2) a b called) h old new

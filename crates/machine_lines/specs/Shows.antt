@@ -21,7 +21,8 @@ HasHart m h = h < length m.harts
 
 -- `turn H N`, with N at least 1, of a machine without a store
 pub record TurnsLine (h n : ℕ) (old new : Machine) (line : MachineLine) : Type 0 where
-  pub made : HasHart old h → 1 ≤ n → (k : ℕ) × (word : Turned) × TurnsMany h n old new k word × (line ≡ lines.Turn h k (Own word))
+  pub made : HasHart old h → 1 ≤ n
+      → (k : ℕ) × (word : Turned) × TurnsMany h n old new k word × (line ≡ lines.Turn h k (Own word))
   pub lacks : (HasHart old h → ⊥) → (new ≡ old) × (line ≡ lines.Off)
   pub none : n ≡ 0 → (new ≡ old) × (line ≡ lines.Off)
 
@@ -52,7 +53,9 @@ word_after_call (Made did) = Some (Own did)
 
 -- `call H EID FID A0 A1 A2`, of a machine without a store
 pub record CallLine (h eid fid a0 a1 a2 : ℕ) (old new : Machine) (line : MachineLine) : Type 0 where
-  pub made : HasHart old h → (called : Called) × MakesOneCall h eid fid a0 a1 a2 old new called × (line ≡ called_line h (hart_at new h) (word_after_call called))
+  pub made : HasHart old h
+      → (called : Called) × MakesOneCall h eid fid a0 a1 a2 old new called
+      × (line ≡ called_line h (hart_at new h) (word_after_call called))
   pub lacks : (HasHart old h → ⊥) → (new ≡ old) × (line ≡ lines.Off)
 
 -- the board has the hart, and an interrupt is pending for it
@@ -78,7 +81,8 @@ pc_line h m = if nat_lt h (length m.harts) then lines.Pc h (hart_at m h).pc else
 
 -- `csr H C`, with C the number of a control and status register of the profile
 pub record CsrLine (h n : ℕ) (m : Machine) (line : MachineLine) : Type 0 where
-  pub shown : HasHart m h → (c : Csr) → csr_number c ≡ n → line ≡ lines.Csr h n (csr_read c (hart_at m h) (has_pending h m.table.pairs))
+  pub shown : HasHart m h → (c : Csr) → csr_number c ≡ n
+      → line ≡ lines.Csr h n (csr_read c (hart_at m h) (has_pending h m.table.pairs))
   pub no_csr : ((c : Csr) → csr_number c ≢ n) → line ≡ lines.Off
   pub lacks : (HasHart m h → ⊥) → line ≡ lines.Off
 
@@ -86,5 +90,9 @@ pub record CsrLine (h n : ℕ) (m : Machine) (line : MachineLine) : Type 0 where
 abbrev pub mem_line : ℕ → ℕ → Machine → MachineLine
 mem_line a n m =
     if nat_le 0x80000000 a && (nat_le (a + n) (0x80000000 + length m.memory) && nat_le n 64)
-    then lines.Mem (record { bytes = slice_range m.memory (a - 0x80000000) (a - 0x80000000 + n) ++ replicate (64 - n) 0; count = n })
+    then lines.Mem (record {
+      bytes = slice_range m.memory (a - 0x80000000) (a - 0x80000000 + n)
+          ++ replicate (64 - n) 0;
+      count = n;
+    })
     else lines.Off

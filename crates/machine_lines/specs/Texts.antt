@@ -40,13 +40,18 @@ word_text Asleep = codes "asleep"
 word_text (Reset kind) = reset_text kind
 
 abbrev pub machine_line_text : MachineLine → List ℕ
-machine_line_text (lines.Turn h k word) = codes "turn " ++ decimal h ++ codes " " ++ decimal k ++ codes " " ++ word_text word
-machine_line_text (lines.Answered h e v) = codes "call " ++ decimal h ++ codes " error " ++ signed_decimal (cast_signed w64 e) ++ codes " value 0x" ++ hex_text 16 v
+machine_line_text (lines.Turn h k word) =
+    codes "turn " ++ decimal h ++ codes " " ++ decimal k ++ codes " " ++ word_text word
+machine_line_text (lines.Answered h e v) =
+    codes "call " ++ decimal h ++ codes " error " ++ signed_decimal (cast_signed w64 e) ++ codes " value 0x"
+    ++ hex_text 16 v
 machine_line_text (lines.Called h word) = codes "call " ++ decimal h ++ codes " " ++ word_text word
 machine_line_text (lines.NotStarted h) = codes "call " ++ decimal h ++ codes " not started"
-machine_line_text (lines.Reg h r v) = codes "reg " ++ decimal h ++ codes " " ++ decimal r ++ codes " 0x" ++ hex_text 16 v
+machine_line_text (lines.Reg h r v) =
+    codes "reg " ++ decimal h ++ codes " " ++ decimal r ++ codes " 0x" ++ hex_text 16 v
 machine_line_text (lines.Pc h v) = codes "pc " ++ decimal h ++ codes " 0x" ++ hex_text 16 v
-machine_line_text (lines.Csr h c v) = codes "csr " ++ decimal h ++ codes " 0x" ++ hex_text 3 c ++ codes " 0x" ++ hex_text 16 v
+machine_line_text (lines.Csr h c v) =
+    codes "csr " ++ decimal h ++ codes " 0x" ++ hex_text 3 c ++ codes " 0x" ++ hex_text 16 v
 machine_line_text (lines.Pending harts) = codes "pending 0x" ++ hex_text 2 harts
 machine_line_text (lines.Mem bytes) = codes "mem " ++ bytes_text (take bytes.count bytes.bytes)
 machine_line_text (lines.Payload slot count) = codes "payload " ++ decimal slot ++ codes " " ++ decimal count

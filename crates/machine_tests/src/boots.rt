@@ -1,3 +1,5 @@
+//! Boots of a board, and the turns of its harts after one.
+
 ghost use Rattle.std.specs.Prelude.{◌≤◌, length};
 
 use crate::fixtures::{booted as booted_for, same};

@@ -1,3 +1,5 @@
+//! The report lines of a board.
+
 ghost use Rattle.std.specs.Prelude.{◌≡◌, ◌≤◌, length, IfOk};
 
 use crate::fixtures::{all_say, booted as booted_for};

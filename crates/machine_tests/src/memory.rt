@@ -1,3 +1,5 @@
+//! The memory of a board, by its widths and at its edges.
+
 ghost use Rattle.std.specs.Prelude.{◌≡◌, ℕ, ◌*◌, ◌≤◌, length, IfOk};
 
 use crate::fixtures::same;

@@ -1,3 +1,5 @@
+//! The programs of data/, step by step.
+
 use crate::fixtures::same;
 use crate::{edges, traps};
 use board_model::{HartId, Shape};

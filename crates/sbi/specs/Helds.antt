@@ -47,34 +47,50 @@ stage_by_held (helds.Reset kind) = Running
 
 module _ {D L : Type 0} {g : Ghosts D L} {l : Lanes L} where
   -- a reset whose arguments were checked so
-  abbrev pub MakesReset : Result (ResetType × Reason) SbiError → ArchState → ArchState → Store D L g l → Store D L g l → Held → Type 0
+  abbrev pub MakesReset : Result (ResetType × Reason) SbiError → ArchState → ArchState → Store D L g l
+      → Store D L g l → Held → Type 0
   MakesReset (Err e) s t old new held = Refuses e s t held × (new ≡ old)
-  MakesReset (Ok reset) s t old new held = (r : Result ℕ Refusal) × Asked Applied old (Reset reset.1) r new × EndsReset reset.0 r s t held
+  MakesReset (Ok reset) s t old new held =
+      (r : Result ℕ Refusal) × Asked Applied old (Reset reset.1) r new × EndsReset reset.0 r s t held
 
   -- a suspend with this memory: its own steps, whatever other harts do
-  abbrev pub MakesSleep : ℕ → List ℕ → ℕ → ℕ → ℕ → ArchState → ArchState → Known → Known → Store D L g l → Store D L g l → Held → Type 0
+  abbrev pub MakesSleep : ℕ → List ℕ → ℕ → ℕ → ℕ → ArchState → ArchState → Known → Known → Store D L g l
+      → Store D L g l → Held → Type 0
   MakesSleep harts memory kind address opaque s t k k' old new held =
-      (error : Option SbiError) × Sleeps harts s.id kind address opaque memory k.harts old error k'.harts new × (k'.pairs ≡ k.pairs) × EndsSleep error s t held
+      (error : Option SbiError) × Sleeps harts s.id kind address opaque memory k.harts old error k'.harts new
+      × (k'.pairs ≡ k.pairs) × EndsSleep error s t held
 
   -- the call at which the hart s stands, which then is t
-  abbrev pub MakesHeld : ℕ → List ℕ → Call → ArchState → ArchState → Known → Known → Store D L g l → Store D L g l → Held → Type 0
-  MakesHeld harts memory (calls.SystemReset kind reason) s t k k' old new held = MakesReset (reset_of kind reason) s t old new held × (k' ≡ k)
-  MakesHeld harts memory (calls.SystemSuspend kind address opaque) s t k k' old new held = MakesSleep harts memory kind address opaque s t k k' old new held
+  abbrev pub MakesHeld : ℕ → List ℕ → Call → ArchState → ArchState → Known → Known → Store D L g l
+      → Store D L g l → Held → Type 0
+  MakesHeld harts memory (calls.SystemReset kind reason) s t k k' old new held =
+      MakesReset (reset_of kind reason) s t old new held × (k' ≡ k)
+  MakesHeld harts memory (calls.SystemSuspend kind address opaque) s t k k' old new held =
+      MakesSleep harts memory kind address opaque s t k k' old new held
   MakesHeld harts memory call s t k k' old new held = Refuses NotSupported s t held × (new ≡ old) × (k' ≡ k)
 
   -- ---- with the one seat of all harts: by the states of the tables, which stay
-  abbrev pub SleepsIn : ℕ → List ℕ → ℕ → ℕ → ℕ → ArchState → ArchState → TableState → Store D L g l → Store D L g l → Held → Type 0
+  abbrev pub SleepsIn : ℕ → List ℕ → ℕ → ℕ → ℕ → ArchState → ArchState → TableState → Store D L g l
+      → Store D L g l → Held → Type 0
   SleepsIn harts memory kind address opaque s t x old new held =
-      (error : Option SbiError) × SleepsAlone harts s.id kind address opaque memory (listed x.states) old error new × EndsSleep error s t held
+      (error : Option SbiError)
+      × SleepsAlone harts s.id kind address opaque memory (listed x.states) old error new
+      × EndsSleep error s t held
 
-  abbrev pub SleptAlone : ℕ → List ℕ → ℕ → ℕ → ℕ → ArchState → ArchState → Seats → Seats → Store D L g l → Store D L g l → Held → Type 0
+  abbrev pub SleptAlone : ℕ → List ℕ → ℕ → ℕ → ℕ → ArchState → ArchState → Seats → Seats → Store D L g l
+      → Store D L g l → Held → Type 0
   SleptAlone harts memory kind address opaque s t seats seats' old new held = (x : TableState) → IsTable harts seats x
       → SleepsIn harts memory kind address opaque s t x old new held × IsTable harts seats' x
 
-  abbrev pub HeldIn : ℕ → List ℕ → Call → ArchState → ArchState → TableState → Store D L g l → Store D L g l → Held → Type 0
-  HeldIn harts memory (calls.SystemReset kind reason) s t x old new held = MakesReset (reset_of kind reason) s t old new held
-  HeldIn harts memory (calls.SystemSuspend kind address opaque) s t x old new held = SleepsIn harts memory kind address opaque s t x old new held
+  abbrev pub HeldIn : ℕ → List ℕ → Call → ArchState → ArchState → TableState → Store D L g l → Store D L g l
+      → Held → Type 0
+  HeldIn harts memory (calls.SystemReset kind reason) s t x old new held =
+      MakesReset (reset_of kind reason) s t old new held
+  HeldIn harts memory (calls.SystemSuspend kind address opaque) s t x old new held =
+      SleepsIn harts memory kind address opaque s t x old new held
   HeldIn harts memory call s t x old new held = Refuses NotSupported s t held × (new ≡ old)
 
-  abbrev pub HeldAlone : ℕ → List ℕ → Call → ArchState → ArchState → Seats → Seats → Store D L g l → Store D L g l → Held → Type 0
-  HeldAlone harts memory call s t seats seats' old new held = (x : TableState) → IsTable harts seats x → HeldIn harts memory call s t x old new held × IsTable harts seats' x
+  abbrev pub HeldAlone : ℕ → List ℕ → Call → ArchState → ArchState → Seats → Seats → Store D L g l
+      → Store D L g l → Held → Type 0
+  HeldAlone harts memory call s t seats seats' old new held =
+      (x : TableState) → IsTable harts seats x → HeldIn harts memory call s t x old new held × IsTable harts seats' x

@@ -39,7 +39,8 @@ with_state t h x = record t { states = slice_set t.states h x }
 
 -- the row of a target, once the sender raised for each target of the set
 abbrev pub row_sent : ℕ → ℕ → List (List Bool) → ℕ → List Bool
-row_sent by targets pairs target = if bit_at targets target == 1 then slice_set (row_of pairs target) by true else row_of pairs target
+row_sent by targets pairs target =
+    if bit_at targets target == 1 then slice_set (row_of pairs target) by true else row_of pairs target
 
 -- the pairs, once the sender raised for each target of the set, or for this one where it is of the set
 abbrev pub pairs_sent : ℕ → ℕ → List (List Bool) → List (List Bool)
@@ -57,7 +58,8 @@ row by (Ok Stop) t = record { ending = Stops; table = with_state t by stopped }
 row by (Ok (Status h)) t = record { ending = Answers (Ok (code_of (named (listed t.states h)))); table = t }
 row by (Ok Suspend) t = record { ending = Suspends; table = with_state t by suspended }
 row by (Ok (SuspendAfresh a o)) t = record { ending = SuspendsAfresh a o; table = with_state t by suspended }
-row by (Ok (Send targets)) t = record { ending = Answers (Ok 0); table = record t { pairs = pairs_sent by targets t.pairs } }
+row by (Ok (Send targets)) t =
+    record { ending = Answers (Ok 0); table = record t { pairs = pairs_sent by targets t.pairs } }
 row by (Ok Command) t = record { ending = Defers; table = t }
 
 -- the table of answers: what a call of the hart `by` ends with on a board of that size, and what the tables
@@ -90,9 +92,11 @@ stage_by afters.Durable = Running
 -- ---- with the one seat of all harts
 -- whatever the tables are, the request ends by its row
 abbrev pub DoesAlone : ℕ → ℕ → Checked → Seats → Seats → Ending → Type 0
-DoesAlone harts by asked s s' end = (t : TableState) → IsTable harts s t → (end ≡ (row by asked t).ending) × IsTable harts s' (row by asked t).table
+DoesAlone harts by asked s s' end =
+    (t : TableState) → IsTable harts s t → (end ≡ (row by asked t).ending) × IsTable harts s' (row by asked t).table
 
 -- whatever the tables are, the call at which the hart stood was answered by the table of answers
 abbrev pub CallsAlone : Size → ArchState → ArchState → Seats → Seats → After → Type 0
 CallsAlone size old new s s' after = (t : TableState) → IsTable size.harts s t
-    → Ends (answer size old.id (call_of old) t).ending old new after × IsTable size.harts s' (answer size old.id (call_of old) t).table
+    → Ends (answer size old.id (call_of old) t).ending old new after
+    × IsTable size.harts s' (answer size old.id (call_of old) t).table

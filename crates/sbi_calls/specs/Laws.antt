@@ -12,13 +12,18 @@ use Rattle.sbi_calls.specs.Answers.{answer}
 
 -- an error changes no state and no pending interrupt
 abbrev pub ErrorsChangeNothing : Type 0
-ErrorsChangeNothing = (size : Size) (by : ℕ) (call : Call) (t : TableState) (e : SbiError) → (answer size by call t).ending ≡ Answers (Err e) → (answer size by call t).table ≡ t
+ErrorsChangeNothing =
+    (size : Size) (by : ℕ) (call : Call) (t : TableState) (e : SbiError)
+    → (answer size by call t).ending ≡ Answers (Err e) → (answer size by call t).table ≡ t
 
 -- hart_start answers 0 exactly where the hart and the address are valid and the hart is STOPPED
 abbrev pub StartsTheStopped : Type 0
 StartsTheStopped = (size : Size) (by h a o : ℕ) (t : TableState)
-    → (answer size by (HartStart h a o) t).ending ≡ Answers (Ok 0) ↔ ((h < size.harts) × IsValidAddress size a × (listed t.states h ≡ stopped))
+    → (answer size by (HartStart h a o) t).ending ≡ Answers (Ok 0)
+    ↔ ((h < size.harts) × IsValidAddress size a × (listed t.states h ≡ stopped))
 
 -- hart_get_status answers 0, 1, 2 or 4, and changes nothing
 abbrev pub StatusIsOne : Type 0
-StatusIsOne = (size : Size) (by h v : ℕ) (t : TableState) → (answer size by (HartStatus h) t).ending ≡ Answers (Ok v) → (v ≡ 0) ⊎ ((v ≡ 1) ⊎ ((v ≡ 2) ⊎ (v ≡ 4)))
+StatusIsOne =
+    (size : Size) (by h v : ℕ) (t : TableState) → (answer size by (HartStatus h) t).ending ≡ Answers (Ok v)
+    → (v ≡ 0) ⊎ ((v ≡ 1) ⊎ ((v ≡ 2) ⊎ (v ≡ 4)))

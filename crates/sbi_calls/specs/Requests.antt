@@ -21,7 +21,8 @@ hart_in size h = if nat_lt h size.harts then Ok h else Err InvalidParam
 
 -- an address in RAM that is a multiple of 4
 abbrev pub address_in : Size → ℕ → Result ℕ SbiError
-address_in size a = if nat_le 0x80000000 a && (nat_lt a (0x80000000 + ram_bytes_of size) && (a % 4 == 0)) then Ok a else Err InvalidAddress
+address_in size a =
+    if nat_le 0x80000000 a && (nat_lt a (0x80000000 + ram_bytes_of size) && (a % 4 == 0)) then Ok a else Err InvalidAddress
 
 -- 1 for an extension that has calls, else 0
 abbrev pub has_calls : Option Extension → ℕ
@@ -50,7 +51,8 @@ request_of size (calls.Probe extension) = Ok (Value (probed extension))
 request_of size calls.VendorId = Ok (Value 0)
 request_of size calls.ArchitectureId = Ok (Value 0)
 request_of size calls.MachineId = Ok (Value 0)
-request_of size (calls.HartStart h a o) = checked (hart_in size h) (λ target. checked (address_in size a) (λ site. Ok (Start target site o)))
+request_of size (calls.HartStart h a o) =
+    checked (hart_in size h) (λ target. checked (address_in size a) (λ site. Ok (Start target site o)))
 request_of size calls.HartStop = Ok Stop
 request_of size (calls.HartStatus h) = checked (hart_in size h) (λ hart. Ok (Status hart))
 request_of size (calls.HartSuspend kind a o) = suspend_of (kind == 0) (kind == 0x80000000) size a o

@@ -41,14 +41,21 @@ Sends by targets (suc n) ds ds' = (mid : List PendingView) × Sends by targets n
 abbrev pub Does : ℕ → ℕ → Checked → Known → Known → Ending → Type 0
 Does harts by (Err e) k k' end = (k' ≡ k) × (end ≡ Answers (Err e))
 Does harts by (Ok (Value v)) k k' end = (k' ≡ k) × (end ≡ Answers (Ok v))
-Does harts by (Ok (Start h a o)) k k' end = (granted : Bool) × Starts by h a o k.harts granted k'.harts × (k'.pairs ≡ k.pairs) × (end ≡ Answers (start_answer granted))
+Does harts by (Ok (Start h a o)) k k' end =
+    (granted : Bool) × Starts by h a o k.harts granted k'.harts × (k'.pairs ≡ k.pairs)
+    × (end ≡ Answers (start_answer granted))
 Does harts by (Ok Stop) k k' end = (found : ℕ) × OneStep by Out (DidStop found) k k' × (end ≡ Stops)
-Does harts by (Ok (Status h)) k k' end = (found : ℕ) × OneStep by (stage_of by k.harts) (Looked found) k k' × (end ≡ Answers (Ok (code_of (state_in_word h found))))
+Does harts by (Ok (Status h)) k k' end =
+    (found : ℕ) × OneStep by (stage_of by k.harts) (Looked found) k k'
+    × (end ≡ Answers (Ok (code_of (state_in_word h found))))
 Does harts by (Ok Suspend) k k' end = (found : ℕ) × OneStep by Asleep (DidSuspend found) k k' × (end ≡ Suspends)
-Does harts by (Ok (SuspendAfresh a o)) k k' end = (found : ℕ) × OneStep by Asleep (DidSuspend found) k k' × (end ≡ SuspendsAfresh a o)
-Does harts by (Ok (Send targets)) k k' end = (k'.harts ≡ k.harts) × Sends by targets harts k.pairs k'.pairs × (end ≡ Answers (Ok 0))
+Does harts by (Ok (SuspendAfresh a o)) k k' end =
+    (found : ℕ) × OneStep by Asleep (DidSuspend found) k k' × (end ≡ SuspendsAfresh a o)
+Does harts by (Ok (Send targets)) k k' end =
+    (k'.harts ≡ k.harts) × Sends by targets harts k.pairs k'.pairs × (end ≡ Answers (Ok 0))
 Does harts by (Ok Command) k k' end = (k' ≡ k) × (end ≡ Defers)
 
 -- the call at which the hart stood made its own steps, and ended by what they found
 abbrev pub Calls : Size → ArchState → ArchState → Known → Known → After → Type 0
-Calls size old new k k' after = (end : Ending) × Does size.harts old.id (request_of size (call_of old)) k k' end × Ends end old new after
+Calls size old new k k' after =
+    (end : Ending) × Does size.harts old.id (request_of size (call_of old)) k k' end × Ends end old new after

@@ -23,10 +23,12 @@ IsLineInRange size (Reg hart register) = (hart < size.harts) × (register ≤ 31
 IsLineInRange size (Pc hart) = hart < size.harts
 IsLineInRange size (Csr hart csr) = (hart < size.harts) × IsCsr csr
 IsLineInRange size Pending = Unit {0}
-IsLineInRange size (Mem address count) = (1 ≤ count) × (count ≤ 64) × (0x80000000 ≤ address) × (address + count ≤ 0x80000000 + ram_bytes_of size)
+IsLineInRange size (Mem address count) =
+    (1 ≤ count) × (count ≤ 64) × (0x80000000 ≤ address) × (address + count ≤ 0x80000000 + ram_bytes_of size)
 IsLineInRange size (CutAt calls fill) = IsCount calls
 IsLineInRange size (CutLane lane calls fill) = (lane < size.lanes) × IsCount calls
 IsLineInRange size (FailAt calls) = IsCount calls
 IsLineInRange size (FailLane lane calls) = (lane < size.lanes) × IsCount calls
 IsLineInRange size (Cut fill) = Unit {0}
-IsLineInRange size (Poke sector offset bytes) = (sector < sectors_of size) × (1 ≤ length bytes) × (offset + length bytes ≤ 512)
+IsLineInRange size (Poke sector offset bytes) =
+    (sector < sectors_of size) × (1 ≤ length bytes) × (offset + length bytes ≤ 512)

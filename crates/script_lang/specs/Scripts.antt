@@ -12,7 +12,8 @@ use lib.Chars.{codes}
 
 -- the parts between line feeds, without an empty one at the end
 abbrev pub whole_lines : List (List ℕ) → List (List ℕ)
-whole_lines parts = if length (slice_index_or parts (length parts - 1) []) == 0 then take (length parts - 1) parts else parts
+whole_lines parts =
+    if length (slice_index_or parts (length parts - 1) []) == 0 then take (length parts - 1) parts else parts
 
 abbrev pub lines_of : List ℕ → List (List ℕ)
 lines_of bytes = whole_lines (slice_split (λ b. b == 10) bytes)
@@ -32,10 +33,12 @@ abbrev pub ◌>>>◌ : {A B : Type 0} → Result A Refusal → (A → Result B R
 
 -- 1 to 8 harts, 1 to 256 pages, 1 to 4 lanes
 abbrev pub is_size : ℕ → ℕ → ℕ → Bool
-is_size harts pages lanes = (nat_le 1 harts && nat_le harts 8) && ((nat_le 1 pages && nat_le pages 256) && (nat_le 1 lanes && nat_le lanes 4))
+is_size harts pages lanes =
+    (nat_le 1 harts && nat_le harts 8) && ((nat_le 1 pages && nat_le pages 256) && (nat_le 1 lanes && nat_le lanes 4))
 
 abbrev pub size_of_numbers : ℕ → Option ℕ → Option ℕ → Option ℕ → Result Size Refusal
-size_of_numbers n (Some harts) (Some pages) (Some lanes) = if is_size harts pages lanes then Ok (board_size harts pages lanes) else Err BadShape
+size_of_numbers n (Some harts) (Some pages) (Some lanes) =
+    if is_size harts pages lanes then Ok (board_size harts pages lanes) else Err BadShape
 size_of_numbers n harts pages lanes = Err (BadScript n)
 
 abbrev pub size_of_words : ℕ → Option (List ℕ × List ℕ × List ℕ) → Result Size Refusal
@@ -45,7 +48,8 @@ size_of_words n (Some ws) = size_of_numbers n (number_of ws.0) (number_of ws.1) 
 -- the line `board H P L`, which is line number n
 abbrev pub board_of : ℕ → List (List ℕ) → Result Size Refusal
 board_of n [] = Err (BadScript n)
-board_of n (first ∷ words) = if bytes_eq first (codes "board") then size_of_words n (three_of words) else Err (BadScript n)
+board_of n (first ∷ words) =
+    if bytes_eq first (codes "board") then size_of_words n (three_of words) else Err (BadScript n)
 
 abbrev pub or_fault : ℕ → Option Line → Result Line Refusal
 or_fault n None = Err (BadScript n)
@@ -61,7 +65,8 @@ said_of size n line =
 -- the lines from number n on, after the board line
 unfoldable pub rest_of : Size → ℕ → List (List ℕ) → Result (List Line) Refusal
 rest_of size n [] = Ok []
-rest_of size n (line ∷ more) = said_of size n line >>> λ said. rest_of size (n + 1) more >>> λ others. Ok (said ++ others)
+rest_of size n (line ∷ more) =
+    said_of size n line >>> λ said. rest_of size (n + 1) more >>> λ others. Ok (said ++ others)
 
 -- the lines read before those that are left
 abbrev pub with_front : List Line → Result (List Line) Refusal → Result (List Line) Refusal
@@ -74,7 +79,8 @@ pub record Script : Type 0 where
 
 -- the board line, which is line number n, and those after it
 abbrev pub from_board : ℕ → List ℕ → List (List ℕ) → Result Script Refusal
-from_board n line more = board_of n (words_of line) >>> λ size. rest_of size (n + 1) more >>> λ lines. Ok (record { size = size; lines = lines })
+from_board n line more =
+    board_of n (words_of line) >>> λ size. rest_of size (n + 1) more >>> λ lines. Ok (record { size = size; lines = lines })
 
 -- the lines from number n on; the first that is not passed over is the board line
 unfoldable pub lines_from : ℕ → List (List ℕ) → Result Script Refusal

@@ -33,7 +33,8 @@ spelling_of (On mode) = codes "on" ∷ mode_text mode ∷ []
 spelling_of (Slot slot) = codes "slot" ∷ decimal slot ∷ []
 spelling_of Discard = codes "discard" ∷ []
 spelling_of (Turn hart turns) = codes "turn" ∷ decimal hart ∷ decimal turns ∷ []
-spelling_of (Call hart extension function a0 a1 a2) = codes "call" ∷ decimal hart ∷ decimal extension ∷ decimal function ∷ decimal a0 ∷ decimal a1 ∷ decimal a2 ∷ []
+spelling_of (Call hart extension function a0 a1 a2) =
+    codes "call" ∷ decimal hart ∷ decimal extension ∷ decimal function ∷ decimal a0 ∷ decimal a1 ∷ decimal a2 ∷ []
 spelling_of (Reg hart register) = codes "reg" ∷ decimal hart ∷ decimal register ∷ []
 spelling_of (Pc hart) = codes "pc" ∷ decimal hart ∷ []
 spelling_of (Csr hart csr) = codes "csr" ∷ decimal hart ∷ decimal csr ∷ []
@@ -63,7 +64,8 @@ FitsLine (On mode) = Unit {0}
 FitsLine (Slot slot) = Unit {0}
 FitsLine Discard = Unit {0}
 FitsLine (Turn hart turns) = Unit {0}
-FitsLine (Call hart extension function a0 a1 a2) = (extension < 2 ^ 64) × (function < 2 ^ 64) × (a0 < 2 ^ 64) × (a1 < 2 ^ 64) × (a2 < 2 ^ 64)
+FitsLine (Call hart extension function a0 a1 a2) =
+    (extension < 2 ^ 64) × (function < 2 ^ 64) × (a0 < 2 ^ 64) × (a1 < 2 ^ 64) × (a2 < 2 ^ 64)
 FitsLine (Reg hart register) = Unit {0}
 FitsLine (Pc hart) = Unit {0}
 FitsLine (Csr hart csr) = Unit {0}

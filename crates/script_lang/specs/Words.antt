@@ -21,7 +21,8 @@ words_of line = slice_split (λ b. b == 32) line
 -- the number that the digits in a radix write, after those of n; nothing where one is no digit
 abbrev pub digits_after : ℕ → ℕ → List ℕ → Option ℕ
 digits_after radix n [] = Some n
-digits_after radix n (c ∷ cs) = if nat_lt (digit_value c) radix then digits_after radix (n * radix + digit_value c) cs else None
+digits_after radix n (c ∷ cs) =
+    if nat_lt (digit_value c) radix then digits_after radix (n * radix + digit_value c) cs else None
 
 -- a number below a bound
 abbrev pub below : ℕ → Option ℕ → Option ℕ
@@ -30,7 +31,8 @@ below bound (Some n) = if nat_lt n bound then Some n else None
 
 -- a number of 1 to `most` digits, below 2 ^ 64
 abbrev pub numeral_of : ℕ → ℕ → List ℕ → Option ℕ
-numeral_of radix most digits = if nat_lt 0 (length digits) && nat_le (length digits) most then below (2 ^ 64) (digits_after radix 0 digits) else None
+numeral_of radix most digits =
+    if nat_lt 0 (length digits) && nat_le (length digits) most then below (2 ^ 64) (digits_after radix 0 digits) else None
 
 -- decimal digits (1 to 20), or 0x and hexadecimal digits (1 to 16)
 abbrev pub number_of : List ℕ → Option ℕ

@@ -49,7 +49,8 @@ pub record AreLent (l : Lent) (newest : Content) (armed : Option ArmedFault) (cu
 -- all else as it was
 pub record WrittenBack (l : Lent) (lanes : List LaneRecord) (old new : Content) : Type 0 where
   pub elsewhere : Torn l.first (lent_sectors l) old new
-  pub there : (i j : ℕ) → i < l.lanes → j < l.each → sector (record_at lanes i).newest j ≡ sector new (l.first + i * l.each + j)
+  pub there : (i j : ℕ) → i < l.lanes → j < l.each
+      → sector (record_at lanes i).newest j ≡ sector new (l.first + i * l.each + j)
 
 -- the fault of a lane with the calls that are left to it in that lane
 abbrev pub left_to : ArmedFault → Option ArmedFault → Option ArmedFault

@@ -9,7 +9,8 @@ none_left : (stood : Content) (past : List (List Piece)) (c : Content) → Had s
 none_left stood [] c had = had
 none_left stood (epoch ∷ past) c had = none_left stood past c had
 
-pub only_the_last : (stood : Content) (past : List (List Piece)) (c : Content) (Now : Type 0) → Now ⊎ Had stood (drop (length past) past) c → Now
+pub only_the_last : (stood : Content) (past : List (List Piece)) (c : Content) (Now : Type 0)
+    → Now ⊎ Had stood (drop (length past) past) c → Now
 only_the_last stood past c Now (inl now) = now
 only_the_last stood past c Now (inr had) = absurd (none_left stood past c had)
 

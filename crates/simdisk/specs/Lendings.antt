@@ -20,4 +20,5 @@ pub record Lends {T E : Type 0} (lanes_of : T → List LaneRecord) (l : Lent) (o
 pub record TakesBack (l : Lent) (lanes : List LaneRecord) (failures : ℕ) (old new : WriteLog) (was is : Option ArmedFault) (before after : FaultState) : Type 0 where
   pub ranges : SameRanges old new
   pub written : WrittenBack l lanes (newest old) (newest new)
-  pub faults : (own : ℕ) × (after.own ≡ counted before.own own) × CameBack was before.struck lanes (counted 0 failures) is after.struck own
+  pub faults : (own : ℕ) × (after.own ≡ counted before.own own)
+      × CameBack was before.struck lanes (counted 0 failures) is after.struck own

@@ -25,7 +25,9 @@ pub record StandsSo (k : ℕ) (bytes : List ℕ) (old new : Facts) : Type 0 wher
 
 -- by each choice a cut leaves what it would have left, with that sector
 abbrev pub StandsByEach : ℕ → List ℕ → WriteLog → WriteLog → Type 0
-StandsByEach k bytes old new = (choice : Choice) → left_by_choice choice (synced new) new.written ≡ laid_over (k, bytes ∷ []) (left_by_choice choice (synced old) old.written)
+StandsByEach k bytes old new =
+    (choice : Choice)
+    → left_by_choice choice (synced new) new.written ≡ laid_over (k, bytes ∷ []) (left_by_choice choice (synced old) old.written)
 
 -- the k-th sector is not in the piece
 abbrev pub misses : ℕ → Piece → Bool
@@ -45,4 +47,5 @@ parted k piece = (if misses k piece then piece ∷ [] else part_before k piece �
 -- The record begun anew with what stood at the last sync, in which the k-th sector holds these bytes, and
 -- without what was written to it since.
 abbrev pub poked_record : ℕ → List ℕ → WriteLog → WriteLog
-poked_record k bytes r = record { began = laid_over (k, bytes ∷ []) (synced r); past = []; written = flat_map (parted k) r.written }
+poked_record k bytes r =
+    record { began = laid_over (k, bytes ∷ []) (synced r); past = []; written = flat_map (parted k) r.written }

@@ -110,7 +110,8 @@ sim_facts now stood r failures calls lent = record {
   content = now;
   may_leave = λ c. AgreesOutside stood (ranges r.written) c;
   moment = length r.past;
-  since = λ t c. AgreesOutside stood (ranges r.written) c ⊎ Had (synced_after (take t r.past) r.began) (drop t r.past) c;
+  since =
+      λ t c. AgreesOutside stood (ranges r.written) c ⊎ Had (synced_after (take t r.past) r.began) (drop t r.past) c;
   failures = failures;
   calls = calls;
   lent = lent;

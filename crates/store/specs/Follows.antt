@@ -13,7 +13,8 @@ use Rattle.board_model.specs.declared.durable.Entry.{Entry}
 
 -- the record of that durable state, whose image, where it has one, is the old record's
 abbrev pub next_of : Record → Durable → Record
-next_of r d = record { slot = d.slot; reason = d.reason; next = d.next; image = (if is_some d.image then r.image else None) }
+next_of r d =
+    record { slot = d.slot; reason = d.reason; next = d.next; image = (if is_some d.image then r.image else None) }
 
 -- the record of the state after a suspension whose memory stands in that area
 abbrev pub suspended : Record → ℕ → ℕ → ℕ → ℕ → List ℕ → Record
@@ -22,11 +23,13 @@ suspended r hart address opaque area counts =
 
 -- the memory, the hart and the address are those of the board
 abbrev pub FitsBoard : Size → List ℕ → ℕ → ℕ → Type 0
-FitsBoard size memory hart address = (length memory ≡ ram_bytes_of size) × (hart < size.harts) × IsValidAddress size address
+FitsBoard size memory hart address =
+    (length memory ≡ ram_bytes_of size) × (hart < size.harts) × IsValidAddress size address
 
 -- the next record is that of the state after the command, and in range where the old one is; a command that
 -- keeps the image keeps its area
 pub record Follows (size : Size) (r : Record) (entry : Entry) (next : Record) : Type 0 where
-  pub state : (content : Content) → state_of size next content ≡ after (state_of size r content) (change_in entry (memory_in size next content))
+  pub state : (content : Content)
+      → state_of size next content ≡ after (state_of size r content) (change_in entry (memory_in size next content))
   pub in_range : IsInRange size r → IsInRange size next
   pub image : drops_image entry ≡ false → next.image ≡ r.image

@@ -31,7 +31,8 @@ Reaches life c = (life.over ≡ false) × (length life.journal < 4096) × (refus
 
 -- the life takes no command: it is over, or its journal is full
 abbrev pub TakesNone : Life → Refusal → Type 0
-TakesNone life e = ((e ≡ Over) × (life.over ≡ true)) ⊎ ((e ≡ JournalFull) × (life.over ≡ false) × (length life.journal ≡ 4096))
+TakesNone life e =
+    ((e ≡ Over) × (life.over ≡ true)) ⊎ ((e ≡ JournalFull) × (life.over ≡ false) × (length life.journal ≡ 4096))
 
 -- why a command is refused that found no other in doubt, and the life then
 abbrev pub Refused : Life → Change → Refusal → Life → Type 0
@@ -40,13 +41,15 @@ Refused old c e new =
     ⊎ ((e ≡ Down) × Reaches old c × (new ≡ record old { doubt = Some c }))
     ⊎ ((e ≡ Over) × (old.over ≡ true) × (new ≡ old))
     ⊎ ((e ≡ JournalFull) × (old.over ≡ false) × (length old.journal ≡ 4096) × (new ≡ old))
-    ⊎ ((refusal_of (now_of old) c ≡ Some (number_of_refusal e)) × (old.over ≡ false) × (length old.journal < 4096) × (new ≡ old))
+    ⊎ ((refusal_of (now_of old) c ≡ Some (number_of_refusal e)) × (old.over ≡ false)
+    × (length old.journal < 4096) × (new ≡ old))
 
 -- the answer to a command that found no other in doubt, and the life then; a receipt is its place in the
 -- journal
 abbrev pub Applied : Life → Change → Result ℕ Refusal → Life → Type 0
 Applied old c (Ok n) new =
-    Reaches old c × (n ≡ length old.journal + 1) × (new ≡ record old { journal = old.journal ++ c ∷ []; over = ends_life c })
+    Reaches old c × (n ≡ length old.journal + 1)
+    × (new ≡ record old { journal = old.journal ++ c ∷ []; over = ends_life c })
 Applied old c (Err e) new = Refused old c e new
 
 -- The state found is shown anew once an area was written over: it is as before, but for the memory of an
@@ -82,8 +85,13 @@ IsLoaded s memory = (i : Image) × (s.image ≡ Some i) × (memory ≡ i.memory)
 -- why the image is not loaded: 3 for a memory of another size, 8 without an image, 5 where the disk failed in
 -- this call, 13 for an image that reads as no memory
 abbrev pub LoadRefused : Size → DurableState → List ℕ → Facts → FaultState → Refusal → Facts → FaultState → Type 0
-LoadRefused size s memory old m BadShape new n = (length memory ≡ ram_bytes_of size → ⊥) × (new.failures ≡ old.failures) × (n ≡ m)
-LoadRefused size s memory old m NoImage new n = (length memory ≡ ram_bytes_of size) × (s.image ≡ None) × (new.failures ≡ old.failures) × (n ≡ m)
-LoadRefused size s memory old m Device new n = (length memory ≡ ram_bytes_of size) × Failed old.failures new.failures × Cause m n
-LoadRefused size s memory old m BadImage new n = (length memory ≡ ram_bytes_of size) × ((i : Image) × (s.image ≡ Some i) × (i.memory ≡ [])) × (new.failures ≡ old.failures) × (n ≡ m)
+LoadRefused size s memory old m BadShape new n =
+    (length memory ≡ ram_bytes_of size → ⊥) × (new.failures ≡ old.failures) × (n ≡ m)
+LoadRefused size s memory old m NoImage new n =
+    (length memory ≡ ram_bytes_of size) × (s.image ≡ None) × (new.failures ≡ old.failures) × (n ≡ m)
+LoadRefused size s memory old m Device new n =
+    (length memory ≡ ram_bytes_of size) × Failed old.failures new.failures × Cause m n
+LoadRefused size s memory old m BadImage new n =
+    (length memory ≡ ram_bytes_of size) × ((i : Image) × (s.image ≡ Some i) × (i.memory ≡ []))
+    × (new.failures ≡ old.failures) × (n ≡ m)
 LoadRefused size s memory old m e new n = ⊥

@@ -35,7 +35,8 @@ module _ {D L : Type 0} {g : Ghosts D L} {l : Lanes L} where
   abbrev pub life_of : Store D L g l → Life
   life_of store = record {
     found = state_of store.shape store.opened (g.facts store.disk).content;
-    journal = map (λ e. change_in e (memory_in store.shape store.current (g.facts store.disk).content)) store.journal.items;
+    journal =
+        map (λ e. change_in e (memory_in store.shape store.current (g.facts store.disk).content)) store.journal.items;
     doubt = option_map (λ x. change_in x.entry (memory_in store.shape x.next (g.facts store.disk).content)) store.doubt;
     over = store.over;
   }

@@ -63,14 +63,18 @@ Answers (Err e) error = error ≡ Some Failed
 module _ {D L : Type 0} {g : Ghosts D L} {l : Lanes L} where
   -- the store was asked to suspend the board, with this memory
   abbrev pub AsksToSleep : ℕ → ℕ → ℕ → List ℕ → Store D L g l → Result ℕ Refusal → Store D L g l → Type 0
-  AsksToSleep by site opaque memory old r new = Asked (Suspended (FitsBoard (size_of_store old) memory by site)) old (Suspend by site opaque memory) r new
+  AsksToSleep by site opaque memory old r new =
+      Asked (Suspended (FitsBoard (size_of_store old) memory by site)) old (Suspend by site opaque memory) r new
 
   -- ---- the call's own steps, whatever other harts do
-  abbrev pub SleepsAt : ℕ → ℕ → Result ℕ SbiError → ℕ → List ℕ → List HartView → Store D L g l → Option SbiError → List HartView → Store D L g l → Type 0
+  abbrev pub SleepsAt : ℕ → ℕ → Result ℕ SbiError → ℕ → List ℕ → List HartView → Store D L g l → Option SbiError
+      → List HartView → Store D L g l → Type 0
   SleepsAt harts by (Err e) opaque memory vs old error vs' new = (error ≡ Some e) × (vs' ≡ vs) × (new ≡ old)
-  SleepsAt harts by (Ok site) opaque memory vs old error vs' new = (found : ℕ) × (mid : List HartView) × HasNoted by (after_quiet harts by found) (Quieted found) vs mid
+  SleepsAt harts by (Ok site) opaque memory vs old error vs' new =
+      (found : ℕ) × (mid : List HartView) × HasNoted by (after_quiet harts by found) (Quieted found) vs mid
       × (((AreUnclaimed harts by found → ⊥) × (error ≡ Some Denied) × (vs' ≡ mid) × (new ≡ old))
-      ⊎ (AreUnclaimed harts by found × ((r : Result ℕ Refusal) × AsksToSleep by site opaque memory old r new × Settles by r mid error vs')))
+      ⊎ (AreUnclaimed harts by found
+      × ((r : Result ℕ Refusal) × AsksToSleep by site opaque memory old r new × Settles by r mid error vs')))
 
   pub record Sleeps (harts by kind address opaque : ℕ) (memory : List ℕ) (vs : List HartView) (old : Store D L g l) (error : Option SbiError) (vs' : List HartView) (new : Store D L g l) : Type 0 where
     pub asked : Result ℕ SbiError
@@ -78,11 +82,13 @@ module _ {D L : Type 0} {g : Ghosts D L} {l : Lanes L} where
     pub slept : SleepsAt harts by asked opaque memory vs old error vs' new
 
   -- ---- with the one seat of all harts, by the states that it shows
-  abbrev pub SleepsBy : ℕ → ℕ → Result ℕ SbiError → ℕ → List ℕ → (ℕ → HartState) → Store D L g l → Option SbiError → Store D L g l → Type 0
+  abbrev pub SleepsBy : ℕ → ℕ → Result ℕ SbiError → ℕ → List ℕ → (ℕ → HartState) → Store D L g l
+      → Option SbiError → Store D L g l → Type 0
   SleepsBy harts by (Err e) opaque memory states old error new = (error ≡ Some e) × (new ≡ old)
   SleepsBy harts by (Ok site) opaque memory states old error new =
       ((AreStopped harts by states → ⊥) × (error ≡ Some Denied) × (new ≡ old))
-      ⊎ (AreStopped harts by states × ((r : Result ℕ Refusal) × AsksToSleep by site opaque memory old r new × Answers r error))
+      ⊎ (AreStopped harts by states
+      × ((r : Result ℕ Refusal) × AsksToSleep by site opaque memory old r new × Answers r error))
 
   pub record SleepsAlone (harts by kind address opaque : ℕ) (memory : List ℕ) (states : ℕ → HartState) (old : Store D L g l) (error : Option SbiError) (new : Store D L g l) : Type 0 where
     pub asked : Result ℕ SbiError

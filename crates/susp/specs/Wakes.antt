@@ -16,7 +16,8 @@ use Rattle.store.specs.declared.stores.Store.{Store}
 -- The memory is that of the image that stands, and the hart is the image's, as one that starts at its address
 -- with its opaque value.
 abbrev pub IsWoken : DurableState → List ℕ → HartState → Type 0
-IsWoken s memory hart = (i : Image) × (s.image ≡ Some i) × (memory ≡ i.memory) × (hart ≡ started i.hart i.address i.opaque)
+IsWoken s memory hart =
+    (i : Image) × (s.image ≡ Some i) × (memory ≡ i.memory) × (hart ≡ started i.hart i.address i.opaque)
 
 module _ {D L : Type 0} {g : Ghosts D L} {l : Lanes L} where
   -- the life went on as it was, and a crash leaves what it might have left before

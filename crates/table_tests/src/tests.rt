@@ -1,3 +1,5 @@
+//! The tests of both tables.
+
 use crate::alone::{quiet_of_one, run_of_one};
 use crate::crowd::{all_harts, take_all};
 use crate::first_use::first_use;

@@ -25,7 +25,9 @@ use Rattle.turns.specs.Turns.{turned_by}
 
 -- one look at what is pending for the hart, and whether there was any
 abbrev pub LooksOwn : ℕ → Known → Known → Bool → Type 0
-LooksOwn by k k' is = (k'.harts ≡ k.harts) × (found : ℕ) × HasNoted by (LookedAt found) k.pairs k'.pairs × (IsTrue is ↔ ((sender : ℕ) × (bit_at found sender ≡ 1)))
+LooksOwn by k k' is =
+    (k'.harts ≡ k.harts) × (found : ℕ) × HasNoted by (LookedAt found) k.pairs k'.pairs
+    × (IsTrue is ↔ ((sender : ℕ) × (bit_at found sender ≡ 1)))
 
 -- one step that takes it
 abbrev pub TakesOwn : ℕ → Known → Known → Type 0
@@ -36,14 +38,16 @@ TakesOwn by k k' = (k'.harts ≡ k.harts) × (found : ℕ) × HasNoted by (Took 
 -- what is pending
 abbrev pub EntersOwn : ℕ → Known → Known → Ready → Type 0
 EntersOwn by k k' readies.Idle = FindsNone by k.harts k'.harts × (k'.pairs ≡ k.pairs)
-EntersOwn by k k' (readies.Enters a o) = (mid : Known) × EntersAs by k.harts a o mid.harts × (mid.pairs ≡ k.pairs) × TakesOwn by mid k'
+EntersOwn by k k' (readies.Enters a o) =
+    (mid : Known) × EntersAs by k.harts a o mid.harts × (mid.pairs ≡ k.pairs) × TakesOwn by mid k'
 EntersOwn by k k' readies.Woke = ⊥
 EntersOwn by k k' (readies.Steps pending) = ⊥
 
 -- a suspended one: it looks, and wakes in one step more where something is pending
 abbrev pub WakesOwn : ℕ → Known → Known → Ready → Type 0
 WakesOwn by k k' readies.Idle = LooksOwn by k k' false
-WakesOwn by k k' readies.Woke = (mid : Known) × LooksOwn by k mid true × (found : ℕ) × OneStep by Running (Woke found) mid k'
+WakesOwn by k k' readies.Woke =
+    (mid : Known) × LooksOwn by k mid true × (found : ℕ) × OneStep by Running (Woke found) mid k'
 WakesOwn by k k' (readies.Enters a o) = ⊥
 WakesOwn by k k' (readies.Steps pending) = ⊥
 
@@ -55,7 +59,9 @@ GoesOwn by codes.StartPending k k' ready = EntersOwn by k k' ready
 
 -- one look at its own state, and what follows by that
 abbrev pub BeginsOwn : ℕ → Known → Known → Ready → Type 0
-BeginsOwn by k k' ready = (found : ℕ) × (mid : Known) × OneStep by (stage_of by k.harts) (Looked found) k mid × GoesOwn by (state_in_word by found) mid k' ready
+BeginsOwn by k k' ready =
+    (found : ℕ) × (mid : Known) × OneStep by (stage_of by k.harts) (Looked found) k mid
+    × GoesOwn by (state_in_word by found) mid k' ready
 
 -- ---- after the step
 abbrev pub FinishesOwn : Size → Outcome → ArchState → ArchState → Known → Known → Turned → Type 0
@@ -67,8 +73,11 @@ FinishesOwn size outcomes.Ecall u v k k' word = (after : After) × Calls size u 
 abbrev pub TurnAsOwn : Size → Ready → ArchState → List ℕ → ArchState → List ℕ → Known → Known → Turned → Type 0
 TurnAsOwn size readies.Idle s m t n k k' word = (t ≡ s) × (n ≡ m) × (k' ≡ k) × (word ≡ words.Idle)
 TurnAsOwn size readies.Woke s m t n k k' word = (t ≡ s) × (n ≡ m) × (k' ≡ k) × (word ≡ words.Woke)
-TurnAsOwn size (readies.Enters a o) s m t n k k' word = (t ≡ fresh s.id a o) × (n ≡ m) × (k' ≡ k) × (word ≡ words.Entered)
-TurnAsOwn size (readies.Steps pending) s m t n k k' word = (u : ArchState) × (outcome : Outcome) × Steps pending s m u n outcome × FinishesOwn size outcome u t k k' word
+TurnAsOwn size (readies.Enters a o) s m t n k k' word =
+    (t ≡ fresh s.id a o) × (n ≡ m) × (k' ≡ k) × (word ≡ words.Entered)
+TurnAsOwn size (readies.Steps pending) s m t n k k' word =
+    (u : ArchState) × (outcome : Outcome) × Steps pending s m u n outcome × FinishesOwn size outcome u t k k' word
 
 abbrev pub TurnOwn : Size → ArchState → List ℕ → ArchState → List ℕ → Known → Known → Turned → Type 0
-TurnOwn size s m t n k k' word = (ready : Ready) × (mid : Known) × BeginsOwn s.id k mid ready × TurnAsOwn size ready s m t n mid k' word
+TurnOwn size s m t n k k' word =
+    (ready : Ready) × (mid : Known) × BeginsOwn s.id k mid ready × TurnAsOwn size ready s m t n mid k' word

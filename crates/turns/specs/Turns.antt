@@ -64,7 +64,8 @@ woken_turn false by t = record { ready = readies.Idle; table = t }
 -- interrupt is pending, which stays
 abbrev pub begun_by : ℕ → TableState → HartState → Begun
 begun_by by t stopped = record { ready = readies.Idle; table = t }
-begun_by by t (start_pending a o) = record { ready = readies.Enters a o; table = after_take (with_state t by started) by }
+begun_by by t (start_pending a o) =
+    record { ready = readies.Enters a o; table = after_take (with_state t by started) by }
 begun_by by t started = record { ready = readies.Steps (has_pending by t.pairs); table = t }
 begun_by by t suspended = woken_turn (has_pending by t.pairs) by t
 
@@ -74,7 +75,8 @@ turn_begun by t = begun_by by t (listed t.states by)
 -- with the one seat of all harts: a look, a take, and what follows where the hart has not entered or is
 -- SUSPENDED
 abbrev pub LooksAlone : ℕ → ℕ → Seats → Seats → Bool → Type 0
-LooksAlone harts by s s' pending = (t : TableState) → IsTable harts s t → (pending ≡ has_pending by t.pairs) × IsTable harts s' t
+LooksAlone harts by s s' pending =
+    (t : TableState) → IsTable harts s t → (pending ≡ has_pending by t.pairs) × IsTable harts s' t
 
 abbrev pub TakesAlone : ℕ → ℕ → Seats → Seats → Type 0
 TakesAlone harts by s s' = (t : TableState) → IsTable harts s t → IsTable harts s' (after_take t by)
@@ -86,13 +88,18 @@ IsOutside started = ⊥
 IsOutside suspended = ⊥
 
 abbrev pub EntersAlone : ℕ → ℕ → Seats → Seats → Ready → Type 0
-EntersAlone harts by s s' ready = (t : TableState) → IsTable harts s t → IsOutside (listed t.states by) → (ready ≡ (turn_begun by t).ready) × IsTable harts s' (turn_begun by t).table
+EntersAlone harts by s s' ready =
+    (t : TableState) → IsTable harts s t → IsOutside (listed t.states by)
+    → (ready ≡ (turn_begun by t).ready) × IsTable harts s' (turn_begun by t).table
 
 abbrev pub WakesAlone : ℕ → ℕ → Seats → Seats → Ready → Type 0
-WakesAlone harts by s s' ready = (t : TableState) → IsTable harts s t → listed t.states by ≡ suspended → (ready ≡ (turn_begun by t).ready) × IsTable harts s' (turn_begun by t).table
+WakesAlone harts by s s' ready =
+    (t : TableState) → IsTable harts s t → listed t.states by ≡ suspended
+    → (ready ≡ (turn_begun by t).ready) × IsTable harts s' (turn_begun by t).table
 
 abbrev pub BeginsAlone : ℕ → ℕ → Seats → Seats → Ready → Type 0
-BeginsAlone harts by s s' ready = (t : TableState) → IsTable harts s t → (ready ≡ (turn_begun by t).ready) × IsTable harts s' (turn_begun by t).table
+BeginsAlone harts by s s' ready =
+    (t : TableState) → IsTable harts s t → (ready ≡ (turn_begun by t).ready) × IsTable harts s' (turn_begun by t).table
 
 -- ---- after the step
 abbrev pub turned_by : After → Turned
@@ -106,10 +113,13 @@ abbrev pub Finishes : Size → Outcome → TableState → ArchState → TableSta
 Finishes size outcomes.Next x u y v word = (y ≡ x) × (v ≡ u) × (word ≡ words.Next)
 Finishes size outcomes.TakePending x u y v word = (y ≡ after_take x u.id) × (v ≡ u) × (word ≡ words.Next)
 Finishes size outcomes.Ecall x u y v word =
-    (after : After) × Ends (answer size u.id (call_of u) x).ending u v after × (y ≡ (answer size u.id (call_of u) x).table) × (word ≡ turned_by after)
+    (after : After) × Ends (answer size u.id (call_of u) x).ending u v after
+    × (y ≡ (answer size u.id (call_of u) x).table) × (word ≡ turned_by after)
 
 abbrev pub FinishesAlone : Size → Outcome → ArchState → ArchState → Seats → Seats → Turned → Type 0
-FinishesAlone size outcome u v s s' word = (x : TableState) → IsTable size.harts s x → (y : TableState) × Finishes size outcome x u y v word × IsTable size.harts s' y
+FinishesAlone size outcome u v s s' word =
+    (x : TableState) → IsTable size.harts s x
+    → (y : TableState) × Finishes size outcome x u y v word × IsTable size.harts s' y
 
 -- ---- a whole turn
 -- a hart, its board's tables and the memory, at one moment
@@ -125,9 +135,11 @@ moment t s m = record { table = t; hart = s; memory = m }
 abbrev pub TurnAs : Size → Ready → TableState → Moment → Moment → Turned → Type 0
 TurnAs size readies.Idle x a b word = (b ≡ record a { table = x }) × (word ≡ words.Idle)
 TurnAs size readies.Woke x a b word = (b ≡ record a { table = x }) × (word ≡ words.Woke)
-TurnAs size (readies.Enters site opaque) x a b word = (b ≡ record a { table = x; hart = fresh a.hart.id site opaque }) × (word ≡ words.Entered)
+TurnAs size (readies.Enters site opaque) x a b word =
+    (b ≡ record a { table = x; hart = fresh a.hart.id site opaque }) × (word ≡ words.Entered)
 TurnAs size (readies.Steps pending) x a b word =
-    (u : ArchState) × (outcome : Outcome) × Steps pending a.hart a.memory u b.memory outcome × Finishes size outcome x u b.table b.hart word
+    (u : ArchState) × (outcome : Outcome) × Steps pending a.hart a.memory u b.memory outcome
+    × Finishes size outcome x u b.table b.hart word
 
 -- what a turn of the hart makes of a moment, and what is said of it
 abbrev pub TurnOf : Size → Moment → Moment → Turned → Type 0

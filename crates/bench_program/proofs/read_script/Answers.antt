@@ -1,4 +1,3 @@
-use Rattle.std.proofs.Common.{rules, ◌≡◌, arith}
 use Rattle.bench_program.proofs.Bounded.{read_first, read_says}
 use Rattle.bench_program.proofs.read_script.Goals as goal
 

@@ -1,4 +1,4 @@
-use Rattle.std.proofs.Common.{◌≡◌, ◌≤◌, List, [], ◌∷◌, Some, length, ap, arith}
+use Rattle.std.proofs.Common.{◌≡◌, List, [], ◌∷◌, Some, length, ap, arith}
 use Rattle.std.specs.List.{All}
 use Rattle.std.proofs.lemmas.List.Elements.{All-head, All-tail}
 use Rattle.board_model.specs.Durable.{DurableState, Image, Change, Slot, Reset, Suspend, Consume, Discard, after, fold, IsWhole, CarriesWhole}

@@ -1,13 +1,13 @@
-use Rattle.std.proofs.Common.{◌≡◌, ◌<◌, ℕ, refl, sym, ap, ◌∙◌, subst}
+use Rattle.std.proofs.Common.{◌≡◌, ℕ, refl, sym, ap, ◌∙◌, subst}
 use Rattle.hart.specs.State.{ArchState}
 use Rattle.hsm_steps.specs.Seating.{harts_in}
 use Rattle.hsm_words.specs.declared.view.Stage.TheVariants.{Running}
 use Rattle.hsm_rule.specs.Rule.{stands}
-use Rattle.hsm.specs.Calls.{Sits, KeepsOthers}
+use Rattle.hsm.specs.Calls.{Sits}
 use Rattle.ipi.specs.Pairs.{Sits as SitsIn}
 use Rattle.sbi_calls.specs.Both.{GivesBack, views, pair_crew}
 use Rattle.turns.specs.Turns.{RestsAt}
-use Rattle.machine.proofs.Own.{sits, rests_kept, others_kept, kept_then, runs}
+use Rattle.machine.proofs.Own.{sits, rests_kept, runs}
 use Rattle.machine.proofs.Calling.{with_harts, made_alone, not_made_alone, as_was, given_then}
 use Rattle.machine.proofs.calls.make_call.Goals as goal
 

@@ -1,4 +1,4 @@
-use Rattle.std.proofs.Common.{ℕ, sym, ◌∙◌, subst, ◌<◌, inl, inr}
+use Rattle.std.proofs.Common.{sym, ◌∙◌, subst, ◌<◌, inl, inr}
 use Rattle.std.specs.Prelude.{length, slice_set}
 use Rattle.machine.specs.Machine.{Machine}
 use Rattle.machine.specs.Durables.{IsHartStarted, HeldOf, MakesCall}

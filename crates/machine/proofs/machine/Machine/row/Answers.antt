@@ -1,4 +1,4 @@
-use Rattle.std.proofs.Common.{ℕ, sym, ◌∙◌, subst, ◌<◌}
+use Rattle.std.proofs.Common.{sym, ◌∙◌, subst, ◌<◌}
 use Rattle.std.specs.Prelude.{length, slice_set}
 use Rattle.machine.specs.Machine.{Machine}
 use Rattle.turns.specs.Many.{RowOf}
