@@ -60,7 +60,7 @@ impl<D: Disk + Drop> Board<D> {
     ghost use Rattle.store.specs.Opens.{ReadsAs, OpenRefused, CausedRefusal};
     ghost use Rattle.store.specs.Lives.{Applied};
     ghost use Rattle.store.specs.Answers.{Answered, StaysOpen};
-    ghost use Rattle.store.specs.Views.{disk_of, fault_state_of, arms_of, size_of_store, life_of, found_state, now_state, doubt_of, failures_at_open, view_of, Stands, Doubts};
+    ghost use Rattle.store.specs.Views.{device_of, disk_of, fault_state_of, arms_of, size_of_store, life_of, found_state, now_state, doubt_of, failures_at_open, view_of, Stands, Doubts};
     ghost use Rattle.machine.specs.Machine.{hart_at};
     ghost use Rattle.machine.specs.Durables.{IsHartStarted};
     ghost use Rattle.turns.specs.declared.words.Turned.TheVariants as did;
@@ -312,9 +312,10 @@ impl<D: Disk + Drop> Board<D> {
         self.store.apply(command)
     }
 
-    /// Turns the board off, and gives the disk back: a crash leaves the state now, or with a command in doubt
-    /// one of two.
+    /// Turns the board off, and gives back the disk that its store held, as it is: a crash leaves the state
+    /// now, or with a command in doubt one of two.
     pub fn into_disk(self) -> D
+        ensures disk { result ≡ device_of (store_of self) }
         ensures up { (s : DurableState) → Stands (store_of self) s → LeavesOnly (D.facts result) (size_of_store (store_of self)) s }
         ensures down { (s t : DurableState) → Doubts (store_of self) s t → LeavesEither (D.facts result) (size_of_store (store_of self)) s t }
         ensures allowed { (c : Change) → doubt_of (store_of self) ≡ Some c → refusal_of (now_state (store_of self)) c ≡ None }
