@@ -23,7 +23,7 @@ use Rattle.machine.specs.declared.parts.Word.{Word}
 use Rattle.machine.specs.declared.parts.Word.TheVariants as words
 use Rattle.bench_report.specs.declared.power.Power.{Power}
 use Rattle.bench_report.specs.declared.power.Power.TheVariants.{Off, On}
-use Rattle.bench_report.specs.Views.{SimStore, SimBoard, store_in, machine_in, facts, arms, store_arms, sim_log_of, fault_state, store_facts, store_fault_state, store_size, store_now, store_doubt, IsAs}
+use Rattle.bench_report.specs.Views.{SimStore, SimBoard, store_in, machine_in, disk_in, facts, arms, store_arms, sim_log_of, fault_state, store_facts, store_fault_state, store_size, store_now, store_doubt, IsAs}
 use Rattle.bench_report.specs.Bench.{DiskState, Blank, Unknown, Formatted, BenchLife, Bench}
 use Rattle.bench_report.specs.Steps.{Step}
 use Rattle.bench_report.specs.declared.printed.Answer.{Answer}
@@ -103,10 +103,10 @@ choice_by fills.Old = choices.Old
 choice_by fills.New = choices.New
 choice_by (fills.Byte byte) = choices.Byte byte
 
--- the disk of a board that is off, or that of one that is on, as its store has it
+-- the disk of a board that is off, or the one that the store of a board holds that is on
 abbrev pub HasDisk : Power → SimDisk → Type 0
 HasDisk (Off disk) d = d ≡ disk
-HasDisk (On board) d = (facts d).content ≡ (store_facts (store_in board)).content
+HasDisk (On board) d = d ≡ disk_in board
 
 -- power was cut, and the disk holds exactly what the fill says of what was written since the last sync
 abbrev pub IsCutBy : Fill → SimDisk → Power → Type 0

@@ -33,7 +33,11 @@ store_in board = words.store_of board
 abbrev pub machine_in : SimBoard → Machine
 machine_in board = words.machine_of board
 
--- the facts of the disk, and why it failed
+-- the disk that it holds
+abbrev pub disk_in : SimBoard → SimDisk
+disk_in board = stores.device_of (words.store_of board)
+
+-- the facts of a disk, and why it failed
 abbrev pub facts : SimDisk → Facts
 facts disk = sim_disk.ghosts.facts disk
 
