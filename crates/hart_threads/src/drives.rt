@@ -10,10 +10,10 @@ use crate::gates::{Gate, UntilOver};
 use crate::loops::{Why, hart_loop};
 use crate::seated::{Acting, seat_harts};
 use board_model::{Refusal, Shape};
+use disk::Disk;
 use hart::Hart;
 use ram::Ram;
 use sbi_calls::{Seats, Tables};
-use simdisk::SimDisk;
 use std::alloc::Global;
 use std::sync::atomic::{AtomicBool, Ordering};
 use std::sync::{Mutex, Wait};
@@ -29,7 +29,7 @@ use store::Store;
 ///
 /// Refused `Memory` where there is no room for the harts' seats, or where a thread could not be started:
 /// those that were started have then ended, and the console was not called.
-pub fn drive<R: Threads + Wait + Sync, K: FnOnce()>(
+pub fn drive<R: Threads + Wait + Sync, D: Disk + Drop + Send, K: FnOnce()>(
     rt: &R,
     alloc: Global,
     gate: &(dyn Gate + Sync),
@@ -38,7 +38,7 @@ pub fn drive<R: Threads + Wait + Sync, K: FnOnce()>(
     tables: &Tables,
     shape: &Shape,
     bus: &Mutex<Ram>,
-    store: &Mutex<Store<SimDisk>>,
+    store: &Mutex<Store<D>>,
     crew: &crew::Threads<'_, R>,
     turns: u64,
     console: K,
@@ -54,7 +54,7 @@ pub fn drive<R: Threads + Wait + Sync, K: FnOnce()>(
 }
 
 /// The same, for harts with seats of their own.
-fn run_all<R: Threads + Wait + Sync, K: FnOnce()>(
+fn run_all<R: Threads + Wait + Sync, D: Disk + Drop + Send, K: FnOnce()>(
     rt: &R,
     alloc: Global,
     gate: &(dyn Gate + Sync),
@@ -62,7 +62,7 @@ fn run_all<R: Threads + Wait + Sync, K: FnOnce()>(
     tables: &Tables,
     shape: &Shape,
     bus: &Mutex<Ram>,
-    store: &Mutex<Store<SimDisk>>,
+    store: &Mutex<Store<D>>,
     crew: &crew::Threads<'_, R>,
     turns: u64,
     console: K,
