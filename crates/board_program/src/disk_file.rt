@@ -1,8 +1,12 @@
 //! The disk's file.
 
+ghost use Rattle.std.specs.Prelude.{IfOk};
+ghost use Rattle.store.specs.Leaves.{IsIdle};
+
 use crate::fault::Fault;
 use board_model::Refusal;
 use board_options::Options;
+use disk::Disk;
 use simdisk::SimDisk;
 use std::alloc::AllocError;
 use std::fs;
@@ -22,7 +26,9 @@ fn memory_fault(_refused: AllocError) -> Fault {
 }
 
 /// The disk that a session begins with: a blank one of the shape, or the file's bytes.
-pub fn disk_of(rt: &HostRuntime, options: &Options) -> Result<SimDisk, Fault> {
+pub fn disk_of(rt: &HostRuntime, options: &Options) -> Result<SimDisk, Fault>
+    ensures none_out { IfOk result (λ d. IsIdle (⟦<SimDisk as Disk>⟧.facts d)) }
+{
     if options.new {
         return SimDisk::blank(rt.alloc(), options.shape.sectors()).map_err(memory_fault);
     }
