@@ -1,3 +1,4 @@
+pub mod Crossing
 pub mod Epochs
 pub mod Notes
 pub mod Parts

@@ -76,7 +76,8 @@ HasStruck (Some (CutLane lane n)) lanes = (record_at lanes lane).armed ≡ None
 
 -- What is armed and power, once lanes came back that failed so often, and how many failures by itself that
 -- makes: none but of lanes that failed for no cause, which those of this disk don't.
-pub record CameBack (armed : Option ArmedFault) (cut : Bool) (lanes : List LaneRecord) (failures : ℕ) (armed' : Option ArmedFault) (cut' : Bool) (own : ℕ) : Type 0 where
+pub record CameBack (armed : Option ArmedFault) (cut : Bool) (lanes : List LaneRecord) (failures : ℕ)
+    (armed' : Option ArmedFault) (cut' : Bool) (own : ℕ) : Type 0 where
   pub calm : failures ≡ 0 → (armed' ≡ counted_on armed lanes) × (cut' ≡ cut) × (own ≡ 0)
   pub dark : 0 < failures → cut ≡ true → (armed' ≡ armed) × (cut' ≡ true) × (own ≡ 0)
   pub struck : 0 < failures → cut ≡ false → HasStruck armed lanes → (armed' ≡ None) × (cut' ≡ cuts armed) × (own ≡ 0)

@@ -9,7 +9,8 @@ use Rattle.simdisk.specs.WriteLog.{WriteLog, more_written, lent_piece, newest, S
 
 -- A split. With Ok what is lent counts as written, with what was written last in it, and so have it the
 -- lanes, each with its own faults; with an error the record stays. What is armed stays.
-pub record Lends {T E : Type 0} (lanes_of : T → List LaneRecord) (l : Lent) (old new : WriteLog) (was is : Option ArmedFault) (cut : Bool) (result : Result T E) : Type 0 where
+pub record Lends {T E : Type 0} (lanes_of : T → List LaneRecord) (l : Lent) (old new : WriteLog)
+    (was is : Option ArmedFault) (cut : Bool) (result : Result T E) : Type 0 where
   pub noted : OnOk result (new ≡ more_written (lent_piece l (newest old)) old)
   pub refused : OnErr result (new ≡ old)
   pub armed : is ≡ was
@@ -17,7 +18,8 @@ pub record Lends {T E : Type 0} (lanes_of : T → List LaneRecord) (l : Lent) (o
 
 -- A join of these lanes, which failed so often: no range is written that was not, what was written last in
 -- each lane is so on the disk, and the disk learns what has become of the faults.
-pub record TakesBack (l : Lent) (lanes : List LaneRecord) (failures : ℕ) (old new : WriteLog) (was is : Option ArmedFault) (before after : FaultState) : Type 0 where
+pub record TakesBack (l : Lent) (lanes : List LaneRecord) (failures : ℕ) (old new : WriteLog)
+    (was is : Option ArmedFault) (before after : FaultState) : Type 0 where
   pub ranges : SameRanges old new
   pub written : WrittenBack l lanes (newest old) (newest new)
   pub faults : (own : ℕ) × (after.own ≡ counted before.own own)

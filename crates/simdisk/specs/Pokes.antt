@@ -27,7 +27,8 @@ pub record StandsSo (k : ℕ) (bytes : List ℕ) (old new : Facts) : Type 0 wher
 abbrev pub StandsByEach : ℕ → List ℕ → WriteLog → WriteLog → Type 0
 StandsByEach k bytes old new =
     (choice : Choice)
-    → left_by_choice choice (synced new) new.written ≡ laid_over (k, bytes ∷ []) (left_by_choice choice (synced old) old.written)
+    → left_by_choice choice (synced new) new.written
+    ≡ laid_over (k, bytes ∷ []) (left_by_choice choice (synced old) old.written)
 
 -- the k-th sector is not in the piece
 abbrev pub misses : ℕ → Piece → Bool

@@ -28,7 +28,8 @@ impl Disk for SimDisk {
 
     type Lane = SimLane;
 
-    ghost facts = { λ d. sim_facts d.content.items (synced (log_of d.history)) (log_of d.history) d.failures d.calls (lent_of d.loan) };
+    ghost facts = { λ d. sim_facts d.content.items (synced (log_of d.history)) (log_of d.history) d.failures d.calls
+        (lent_of d.loan) };
 
     ghost fault_state = { λ d. fault_state_by d.faults d.refused };
 
@@ -42,12 +43,18 @@ impl Disk for SimDisk {
         requires within { first + length sectors.old ≤ length (⟦<SimDisk as Disk>⟧.facts self.old).content }
         requires apart { Apart first (length sectors.old) (⟦<SimDisk as Disk>⟧.facts self.old).lent }
         ensures found { OnOk result (AreSectorsAt first (⟦<SimDisk as Disk>⟧.facts self.old).content sectors.new) }
-        ensures called { MakesCalls 1 Stays (⟦<SimDisk as Disk>⟧.facts self.old) (⟦<SimDisk as Disk>⟧.facts self.new) (⟦<SimDisk as Disk>⟧.fault_state self.old) (⟦<SimDisk as Disk>⟧.fault_state self.new) result }
-        ensures not_its_own { (⟦<SimDisk as Disk>⟧.fault_state self.new).own ≡ (⟦<SimDisk as Disk>⟧.fault_state self.old).own }
+        ensures called { MakesCalls 1 Stays (⟦<SimDisk as Disk>⟧.facts self.old) (⟦<SimDisk as Disk>⟧.facts self.new)
+            (⟦<SimDisk as Disk>⟧.fault_state self.old) (⟦<SimDisk as Disk>⟧.fault_state self.new) result }
+        ensures not_its_own { (⟦<SimDisk as Disk>⟧.fault_state self.new).own
+            ≡ (⟦<SimDisk as Disk>⟧.fault_state self.old).own }
         ensures record { ⟦<SimDisk as Recorded>⟧.record self.new ≡ ⟦<SimDisk as Recorded>⟧.record self.old }
-        ensures due { OnOk result (FailsNext (⟦<SimDisk as Disk>⟧.fault_state self.old).struck (⟦<SimDisk as Recorded>⟧.armed self.old) → ⊥) }
-        ensures early { OnErr result (FailsNext (⟦<SimDisk as Disk>⟧.fault_state self.old).struck (⟦<SimDisk as Recorded>⟧.armed self.old)) }
-        ensures counts { (FailsNext (⟦<SimDisk as Disk>⟧.fault_state self.old).struck (⟦<SimDisk as Recorded>⟧.armed self.old) → ⊥) → ⟦<SimDisk as Recorded>⟧.armed self.new ≡ one_call_on (⟦<SimDisk as Recorded>⟧.armed self.old) }
+        ensures due { OnOk result
+            (FailsNext (⟦<SimDisk as Disk>⟧.fault_state self.old).struck (⟦<SimDisk as Recorded>⟧.armed self.old) → ⊥) }
+        ensures early { OnErr result
+            (FailsNext (⟦<SimDisk as Disk>⟧.fault_state self.old).struck (⟦<SimDisk as Recorded>⟧.armed self.old)) }
+        ensures counts { (FailsNext (⟦<SimDisk as Disk>⟧.fault_state self.old).struck
+            (⟦<SimDisk as Recorded>⟧.armed self.old) → ⊥)
+            → ⟦<SimDisk as Recorded>⟧.armed self.new ≡ one_call_on (⟦<SimDisk as Recorded>⟧.armed self.old) }
     {
         self.calls = self.calls.saturating_add(1);
         if self.faults.strikes() {
@@ -60,14 +67,30 @@ impl Disk for SimDisk {
     fn write(&mut self, first: usize, sectors: &[Sector]) -> Result<(), Fault>
         requires within { first + length sectors.now ≤ length (⟦<SimDisk as Disk>⟧.facts self.old).content }
         requires apart { Apart first (length sectors.now) (⟦<SimDisk as Disk>⟧.facts self.old).lent }
-        ensures written { OnOk result (Written first sectors.now (⟦<SimDisk as Disk>⟧.facts self.old).content (⟦<SimDisk as Disk>⟧.facts self.new).content) }
-        ensures called { MakesCalls 1 (Torn first (length sectors.now)) (⟦<SimDisk as Disk>⟧.facts self.old) (⟦<SimDisk as Disk>⟧.facts self.new) (⟦<SimDisk as Disk>⟧.fault_state self.old) (⟦<SimDisk as Disk>⟧.fault_state self.new) result }
-        ensures stays { OnErr result ((⟦<SimDisk as Disk>⟧.facts self.new).content ≡ (⟦<SimDisk as Disk>⟧.facts self.old).content) }
-        ensures record { OnOk result (⟦<SimDisk as Recorded>⟧.record self.new ≡ more_written (first, sectors.now) (⟦<SimDisk as Recorded>⟧.record self.old)) }
-        ensures record_failed { OnErr result (NotedOrRefused (first, sectors.now) (⟦<SimDisk as Recorded>⟧.record self.old) (⟦<SimDisk as Recorded>⟧.record self.new) (⟦<SimDisk as Disk>⟧.fault_state self.old).own (⟦<SimDisk as Disk>⟧.fault_state self.new).own) }
-        ensures due { OnOk result (FailsNext (⟦<SimDisk as Disk>⟧.fault_state self.old).struck (⟦<SimDisk as Recorded>⟧.armed self.old) → ⊥) }
-        ensures early { OnErr result (FailsNext (⟦<SimDisk as Disk>⟧.fault_state self.old).struck (⟦<SimDisk as Recorded>⟧.armed self.old) ⊎ ((⟦<SimDisk as Disk>⟧.fault_state self.new).own ≡ counted (⟦<SimDisk as Disk>⟧.fault_state self.old).own 1)) }
-        ensures counts { (FailsNext (⟦<SimDisk as Disk>⟧.fault_state self.old).struck (⟦<SimDisk as Recorded>⟧.armed self.old) → ⊥) → ⟦<SimDisk as Recorded>⟧.armed self.new ≡ one_call_on (⟦<SimDisk as Recorded>⟧.armed self.old) }
+        ensures written { OnOk result
+            (Written first sectors.now (⟦<SimDisk as Disk>⟧.facts self.old).content
+            (⟦<SimDisk as Disk>⟧.facts self.new).content) }
+        ensures called { MakesCalls 1 (Torn first (length sectors.now)) (⟦<SimDisk as Disk>⟧.facts self.old)
+            (⟦<SimDisk as Disk>⟧.facts self.new) (⟦<SimDisk as Disk>⟧.fault_state self.old)
+            (⟦<SimDisk as Disk>⟧.fault_state self.new) result }
+        ensures stays { OnErr result
+            ((⟦<SimDisk as Disk>⟧.facts self.new).content ≡ (⟦<SimDisk as Disk>⟧.facts self.old).content) }
+        ensures record { OnOk result
+            (⟦<SimDisk as Recorded>⟧.record self.new
+            ≡ more_written (first, sectors.now) (⟦<SimDisk as Recorded>⟧.record self.old)) }
+        ensures record_failed { OnErr result
+            (NotedOrRefused (first, sectors.now) (⟦<SimDisk as Recorded>⟧.record self.old)
+            (⟦<SimDisk as Recorded>⟧.record self.new) (⟦<SimDisk as Disk>⟧.fault_state self.old).own
+            (⟦<SimDisk as Disk>⟧.fault_state self.new).own) }
+        ensures due { OnOk result
+            (FailsNext (⟦<SimDisk as Disk>⟧.fault_state self.old).struck (⟦<SimDisk as Recorded>⟧.armed self.old) → ⊥) }
+        ensures early { OnErr result
+            (FailsNext (⟦<SimDisk as Disk>⟧.fault_state self.old).struck (⟦<SimDisk as Recorded>⟧.armed self.old)
+            ⊎ ((⟦<SimDisk as Disk>⟧.fault_state self.new).own
+            ≡ counted (⟦<SimDisk as Disk>⟧.fault_state self.old).own 1)) }
+        ensures counts { (FailsNext (⟦<SimDisk as Disk>⟧.fault_state self.old).struck
+            (⟦<SimDisk as Recorded>⟧.armed self.old) → ⊥)
+            → ⟦<SimDisk as Recorded>⟧.armed self.new ≡ one_call_on (⟦<SimDisk as Recorded>⟧.armed self.old) }
     {
         self.calls = self.calls.saturating_add(1);
         let Ok(()) = self.history.note(first, sectors) else {
@@ -85,14 +108,32 @@ impl Disk for SimDisk {
     }
 
     fn sync(&mut self) -> Result<(), Fault>
-        ensures durable { OnOk result ((⟦<SimDisk as Disk>⟧.facts self.old).lent.lanes ≡ 0 → Only (⟦<SimDisk as Disk>⟧.facts self.new).content (⟦<SimDisk as Disk>⟧.facts self.new).may_leave) }
-        ensures but_lent { OnOk result ((c : Content) → (⟦<SimDisk as Disk>⟧.facts self.new).may_leave c → Torn (⟦<SimDisk as Disk>⟧.facts self.old).lent.first (lent_sectors (⟦<SimDisk as Disk>⟧.facts self.old).lent) (⟦<SimDisk as Disk>⟧.facts self.new).content c) }
-        ensures called { MakesCalls 1 Stays (⟦<SimDisk as Disk>⟧.facts self.old) (⟦<SimDisk as Disk>⟧.facts self.new) (⟦<SimDisk as Disk>⟧.fault_state self.old) (⟦<SimDisk as Disk>⟧.fault_state self.new) result }
-        ensures record { OnOk result (⟦<SimDisk as Recorded>⟧.record self.new ≡ more_synced (⟦<SimDisk as Disk>⟧.facts self.old).content (lent_piece (⟦<SimDisk as Disk>⟧.facts self.old).lent (⟦<SimDisk as Disk>⟧.facts self.old).content ∷ []) (⟦<SimDisk as Recorded>⟧.record self.old)) }
-        ensures record_failed { OnErr result (⟦<SimDisk as Recorded>⟧.record self.new ≡ ⟦<SimDisk as Recorded>⟧.record self.old) }
-        ensures due { OnOk result (FailsNext (⟦<SimDisk as Disk>⟧.fault_state self.old).struck (⟦<SimDisk as Recorded>⟧.armed self.old) → ⊥) }
-        ensures early { OnErr result (FailsNext (⟦<SimDisk as Disk>⟧.fault_state self.old).struck (⟦<SimDisk as Recorded>⟧.armed self.old) ⊎ ((⟦<SimDisk as Disk>⟧.fault_state self.new).own ≡ counted (⟦<SimDisk as Disk>⟧.fault_state self.old).own 1)) }
-        ensures counts { (FailsNext (⟦<SimDisk as Disk>⟧.fault_state self.old).struck (⟦<SimDisk as Recorded>⟧.armed self.old) → ⊥) → ⟦<SimDisk as Recorded>⟧.armed self.new ≡ one_call_on (⟦<SimDisk as Recorded>⟧.armed self.old) }
+        ensures durable { OnOk result
+            ((⟦<SimDisk as Disk>⟧.facts self.old).lent.lanes ≡ 0
+            → Only (⟦<SimDisk as Disk>⟧.facts self.new).content (⟦<SimDisk as Disk>⟧.facts self.new).may_leave) }
+        ensures but_lent { OnOk result
+            ((c : Content) → (⟦<SimDisk as Disk>⟧.facts self.new).may_leave c
+            → Torn (⟦<SimDisk as Disk>⟧.facts self.old).lent.first
+            (lent_sectors (⟦<SimDisk as Disk>⟧.facts self.old).lent)
+            (⟦<SimDisk as Disk>⟧.facts self.new).content c) }
+        ensures called { MakesCalls 1 Stays (⟦<SimDisk as Disk>⟧.facts self.old) (⟦<SimDisk as Disk>⟧.facts self.new)
+            (⟦<SimDisk as Disk>⟧.fault_state self.old) (⟦<SimDisk as Disk>⟧.fault_state self.new) result }
+        ensures record { OnOk result
+            (⟦<SimDisk as Recorded>⟧.record self.new
+            ≡ more_synced (⟦<SimDisk as Disk>⟧.facts self.old).content
+            (lent_piece (⟦<SimDisk as Disk>⟧.facts self.old).lent (⟦<SimDisk as Disk>⟧.facts self.old).content
+            ∷ []) (⟦<SimDisk as Recorded>⟧.record self.old)) }
+        ensures record_failed { OnErr result
+            (⟦<SimDisk as Recorded>⟧.record self.new ≡ ⟦<SimDisk as Recorded>⟧.record self.old) }
+        ensures due { OnOk result
+            (FailsNext (⟦<SimDisk as Disk>⟧.fault_state self.old).struck (⟦<SimDisk as Recorded>⟧.armed self.old) → ⊥) }
+        ensures early { OnErr result
+            (FailsNext (⟦<SimDisk as Disk>⟧.fault_state self.old).struck (⟦<SimDisk as Recorded>⟧.armed self.old)
+            ⊎ ((⟦<SimDisk as Disk>⟧.fault_state self.new).own
+            ≡ counted (⟦<SimDisk as Disk>⟧.fault_state self.old).own 1)) }
+        ensures counts { (FailsNext (⟦<SimDisk as Disk>⟧.fault_state self.old).struck
+            (⟦<SimDisk as Recorded>⟧.armed self.old) → ⊥)
+            → ⟦<SimDisk as Recorded>⟧.armed self.new ≡ one_call_on (⟦<SimDisk as Recorded>⟧.armed self.old) }
     {
         self.calls = self.calls.saturating_add(1);
         if self.faults.strikes() {
@@ -111,15 +152,24 @@ impl Disk for SimDisk {
         requires none_out { (⟦<SimDisk as Disk>⟧.facts self.old).lent.lanes ≡ 0 }
         requires few { lanes ≤ 4 }
         requires within { first + lanes * each ≤ length (⟦<SimDisk as Disk>⟧.facts self.old).content }
-        ensures handed { IfOk result (λ out. Handed (record { first = first; lanes = lanes; each = each }) (⟦<SimDisk as Disk>⟧.facts self.old).content (map ⟦<SimLane as Lane>⟧.lane_facts out.items)) }
-        ensures out { OnOk result ((⟦<SimDisk as Disk>⟧.facts self.new).lent ≡ record { first = first; lanes = lanes; each = each }) }
-        ensures refused { OnErr result ((⟦<SimDisk as Disk>⟧.facts self.new).lent ≡ (⟦<SimDisk as Disk>⟧.facts self.old).lent) }
+        ensures handed { IfOk result (λ out. Handed (record { first = first; lanes = lanes; each = each })
+            (⟦<SimDisk as Disk>⟧.facts self.old).content (map ⟦<SimLane as Lane>⟧.lane_facts out.items)) }
+        ensures out { OnOk result
+            ((⟦<SimDisk as Disk>⟧.facts self.new).lent ≡ record { first = first; lanes = lanes; each = each }) }
+        ensures refused { OnErr result
+            ((⟦<SimDisk as Disk>⟧.facts self.new).lent ≡ (⟦<SimDisk as Disk>⟧.facts self.old).lent) }
         ensures content { (⟦<SimDisk as Disk>⟧.facts self.new).content ≡ (⟦<SimDisk as Disk>⟧.facts self.old).content }
-        ensures crash { Passes (⟦<SimDisk as Disk>⟧.facts self.old) (⟦<SimDisk as Disk>⟧.facts self.new) (Torn first (lanes * each)) }
-        ensures crash_refused { OnErr result (Passes (⟦<SimDisk as Disk>⟧.facts self.old) (⟦<SimDisk as Disk>⟧.facts self.new) Stays) }
-        ensures no_call { NoCall (⟦<SimDisk as Disk>⟧.facts self.old) (⟦<SimDisk as Disk>⟧.facts self.new) (⟦<SimDisk as Disk>⟧.fault_state self.old) (⟦<SimDisk as Disk>⟧.fault_state self.new) }
-        ensures lends { Lends (λ out. map ⟦<SimLane as RecordedLane>⟧.record out.items) (record { first = first; lanes = lanes; each = each }) (⟦<SimDisk as Recorded>⟧.record self.old) (⟦<SimDisk as Recorded>⟧.record self.new)
-            (⟦<SimDisk as Recorded>⟧.armed self.old) (⟦<SimDisk as Recorded>⟧.armed self.new) (⟦<SimDisk as Disk>⟧.fault_state self.old).struck result }
+        ensures crash { Passes (⟦<SimDisk as Disk>⟧.facts self.old) (⟦<SimDisk as Disk>⟧.facts self.new)
+            (Torn first (lanes * each)) }
+        ensures crash_refused { OnErr result
+            (Passes (⟦<SimDisk as Disk>⟧.facts self.old) (⟦<SimDisk as Disk>⟧.facts self.new) Stays) }
+        ensures no_call { NoCall (⟦<SimDisk as Disk>⟧.facts self.old) (⟦<SimDisk as Disk>⟧.facts self.new)
+            (⟦<SimDisk as Disk>⟧.fault_state self.old) (⟦<SimDisk as Disk>⟧.fault_state self.new) }
+        ensures lends { Lends (λ out. map ⟦<SimLane as RecordedLane>⟧.record out.items)
+            (record { first = first; lanes = lanes; each = each }) (⟦<SimDisk as Recorded>⟧.record self.old)
+            (⟦<SimDisk as Recorded>⟧.record self.new)
+            (⟦<SimDisk as Recorded>⟧.armed self.old) (⟦<SimDisk as Recorded>⟧.armed self.new)
+            (⟦<SimDisk as Disk>⟧.fault_state self.old).struck result }
     {
         let loan = Loan {
             first,
@@ -140,14 +190,24 @@ impl Disk for SimDisk {
 
     fn join(&mut self, lanes: Vec<SimLane>)
         requires { InRow (⟦<SimDisk as Disk>⟧.facts self.old).lent (map ⟦<SimLane as Lane>⟧.lane_facts lanes.items) }
-        ensures content { Joined (⟦<SimDisk as Disk>⟧.facts self.old).lent (map ⟦<SimLane as Lane>⟧.lane_facts lanes.items) (⟦<SimDisk as Disk>⟧.facts self.old).content (⟦<SimDisk as Disk>⟧.facts self.new).content }
+        ensures content { Joined (⟦<SimDisk as Disk>⟧.facts self.old).lent
+            (map ⟦<SimLane as Lane>⟧.lane_facts lanes.items) (⟦<SimDisk as Disk>⟧.facts self.old).content
+            (⟦<SimDisk as Disk>⟧.facts self.new).content }
         ensures back { (⟦<SimDisk as Disk>⟧.facts self.new).lent ≡ nothing }
         ensures crash { Passes (⟦<SimDisk as Disk>⟧.facts self.old) (⟦<SimDisk as Disk>⟧.facts self.new) Stays }
-        ensures failures { (⟦<SimDisk as Disk>⟧.facts self.new).failures ≡ counted (⟦<SimDisk as Disk>⟧.facts self.old).failures (lane_failures (map ⟦<SimLane as Lane>⟧.lane_facts lanes.items)) }
+        ensures failures { (⟦<SimDisk as Disk>⟧.facts self.new).failures
+            ≡ counted (⟦<SimDisk as Disk>⟧.facts self.old).failures
+            (lane_failures (map ⟦<SimLane as Lane>⟧.lane_facts lanes.items)) }
         ensures calls { (⟦<SimDisk as Disk>⟧.facts self.new).calls ≡ (⟦<SimDisk as Disk>⟧.facts self.old).calls }
-        ensures cause { CausedInLanes (⟦<SimDisk as Disk>⟧.fault_state self.old) (⟦<SimDisk as Disk>⟧.fault_state self.new) (lane_failures (map ⟦<SimLane as Lane>⟧.lane_facts lanes.items)) }
-        ensures takes_back { TakesBack (⟦<SimDisk as Disk>⟧.facts self.old).lent (map ⟦<SimLane as RecordedLane>⟧.record lanes.items) (lane_failures (map ⟦<SimLane as Lane>⟧.lane_facts lanes.items)) (⟦<SimDisk as Recorded>⟧.record self.old) (⟦<SimDisk as Recorded>⟧.record self.new)
-            (⟦<SimDisk as Recorded>⟧.armed self.old) (⟦<SimDisk as Recorded>⟧.armed self.new) (⟦<SimDisk as Disk>⟧.fault_state self.old) (⟦<SimDisk as Disk>⟧.fault_state self.new) }
+        ensures cause { CausedInLanes (⟦<SimDisk as Disk>⟧.fault_state self.old)
+            (⟦<SimDisk as Disk>⟧.fault_state self.new)
+            (lane_failures (map ⟦<SimLane as Lane>⟧.lane_facts lanes.items)) }
+        ensures takes_back { TakesBack (⟦<SimDisk as Disk>⟧.facts self.old).lent
+            (map ⟦<SimLane as RecordedLane>⟧.record lanes.items)
+            (lane_failures (map ⟦<SimLane as Lane>⟧.lane_facts lanes.items)) (⟦<SimDisk as Recorded>⟧.record self.old)
+            (⟦<SimDisk as Recorded>⟧.record self.new)
+            (⟦<SimDisk as Recorded>⟧.armed self.old) (⟦<SimDisk as Recorded>⟧.armed self.new)
+            (⟦<SimDisk as Disk>⟧.fault_state self.old) (⟦<SimDisk as Disk>⟧.fault_state self.new) }
     {
         let loan = self.loan;
         let failures = failures_of(&lanes);
@@ -174,7 +234,8 @@ impl Disk for SimDisk {
 
     fn arm(&mut self, fault: ArmedFault)
         ensures facts { Unchanged (⟦<SimDisk as Disk>⟧.facts self.old) (⟦<SimDisk as Disk>⟧.facts self.new) }
-        ensures armed { ⟦<SimDisk as Disk>⟧.fault_state self.new ≡ record (⟦<SimDisk as Disk>⟧.fault_state self.old) { armed = armed_by fault } }
+        ensures armed { ⟦<SimDisk as Disk>⟧.fault_state self.new
+            ≡ record (⟦<SimDisk as Disk>⟧.fault_state self.old) { armed = armed_by fault } }
         ensures arms { ⟦<SimDisk as Disk>⟧.arms self.new fault }
         ensures call { ⟦<SimDisk as Recorded>⟧.armed self.new ≡ Some fault }
         ensures record { ⟦<SimDisk as Recorded>⟧.record self.new ≡ ⟦<SimDisk as Recorded>⟧.record self.old }
@@ -190,7 +251,10 @@ impl Disk for SimDisk {
 
     ghost counts_now = { λ d t c le now. inl now };
 
-    ghost only_now = { λ d c left. only_the_last (synced_after (take (length d.history.past.epochs) d.history.past.epochs) d.history.past.began) d.history.past.epochs c (AgreesOutside (synced (log_of d.history)) (ranges (pieces d.history.written.items)) c) left };
+    ghost only_now = { λ d c left. only_the_last
+        (synced_after (take (length d.history.past.epochs) d.history.past.epochs) d.history.past.sectors)
+        d.history.past.epochs c (AgreesOutside (synced (log_of d.history)) (ranges (pieces d.history.written.items)) c)
+        left };
 
     ghost bounded = { λ d. below_most d.failures d.few };
 

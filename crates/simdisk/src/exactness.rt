@@ -11,11 +11,17 @@ use disk::Disk;
 /// outside the ranges written since, whatever bytes are in them, and no other; and the same for
 /// each moment since an earlier one. What is lent is among the ranges written.
 pub fn exactly_the_model(disk: &SimDisk)
-    ensures now { (c : Content) → (⟦<SimDisk as Disk>⟧.facts disk.now).may_leave c ↔ AgreesOutside (synced (⟦<SimDisk as Recorded>⟧.record disk.now)) (ranges (⟦<SimDisk as Recorded>⟧.record disk.now).written) c }
-    ensures moment { (⟦<SimDisk as Disk>⟧.facts disk.now).moment ≡ length (⟦<SimDisk as Recorded>⟧.record disk.now).past }
+    ensures now { (c : Content) → (⟦<SimDisk as Disk>⟧.facts disk.now).may_leave c
+        ↔ AgreesOutside (synced (⟦<SimDisk as Recorded>⟧.record disk.now))
+        (ranges (⟦<SimDisk as Recorded>⟧.record disk.now).written) c }
+    ensures moment { (⟦<SimDisk as Disk>⟧.facts disk.now).moment
+        ≡ length (⟦<SimDisk as Recorded>⟧.record disk.now).past }
     ensures since { (t : ℕ) (c : Content) → (⟦<SimDisk as Disk>⟧.facts disk.now).since t c
         ↔ ((⟦<SimDisk as Disk>⟧.facts disk.now).may_leave c
-        ⊎ Had (synced_after (take t (⟦<SimDisk as Recorded>⟧.record disk.now).past) (⟦<SimDisk as Recorded>⟧.record disk.now).began) (drop t (⟦<SimDisk as Recorded>⟧.record disk.now).past) c) }
-    ensures lent { (k : ℕ) → (⟦<SimDisk as Disk>⟧.facts disk.now).lent.first ≤ k → k < (⟦<SimDisk as Disk>⟧.facts disk.now).lent.first + lent_sectors (⟦<SimDisk as Disk>⟧.facts disk.now).lent
+        ⊎ Had (synced_after (take t (⟦<SimDisk as Recorded>⟧.record disk.now).past)
+        (⟦<SimDisk as Recorded>⟧.record disk.now).began)
+        (drop t (⟦<SimDisk as Recorded>⟧.record disk.now).past) c) }
+    ensures lent { (k : ℕ) → (⟦<SimDisk as Disk>⟧.facts disk.now).lent.first ≤ k
+        → k < (⟦<SimDisk as Disk>⟧.facts disk.now).lent.first + lent_sectors (⟦<SimDisk as Disk>⟧.facts disk.now).lent
         → Untouched (ranges (⟦<SimDisk as Recorded>⟧.record disk.now).written) k → ⊥ }
 {}

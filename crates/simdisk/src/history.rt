@@ -3,8 +3,8 @@ ghost use Rattle.std.specs.Prelude.{◌≡◌, length};
 ghost use Rattle.simdisk.specs.WriteLog.{ranges, synced_after, AreWithin};
 ghost use Rattle.simdisk.specs.Views.{pieces};
 
-use crate::past::Past;
 use crate::patch::Patch;
+use crate::remembered::Remembered;
 use disk::Sector;
 
 /// What a disk keeps of its writes and syncs: what stood at the last sync, and what was written
@@ -13,7 +13,7 @@ use disk::Sector;
 pub(crate) struct History {
     pub(crate) stood: Vec<Sector>,
     pub(crate) written: Vec<Patch>,
-    pub(crate) past: Past,
-    ghost stood_so: { synced_after past.epochs past.began ≡ stood.items },
+    pub(crate) past: Remembered,
+    ghost stood_so: { synced_after past.epochs past.sectors ≡ stood.items },
     ghost fits: { AreWithin (length stood.items) (ranges (pieces written.items)) },
 }

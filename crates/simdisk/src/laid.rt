@@ -7,7 +7,7 @@ ghost use Rattle.simdisk.specs.Views.{pieces};
 use crate::patch::Patch;
 use disk::Sector;
 
-// Writes these sectors over those from that place on.
+/// Writes these sectors over those from that place on.
 pub(crate) fn overwrite(content: &mut Vec<Sector>, first: usize, sectors: &[Sector])
     requires { first + length sectors.now ≤ length content.old.items }
     ensures written { Written first sectors.now content.old.items content.new.items }
@@ -16,7 +16,7 @@ pub(crate) fn overwrite(content: &mut Vec<Sector>, first: usize, sectors: &[Sect
     content[first..first + sectors.len()].copy_from_slice(sectors);
 }
 
-// Takes over from the content what stands in the sectors of these patches.
+/// Takes over from the content what stands in the sectors of these patches.
 #[tactic(auto, using(crate::proofs::Pieces::length_replay))]
 pub(crate) fn settle(stood: &mut Vec<Sector>, patches: &[Patch], content: &[Sector])
     requires as_long { length content.now ≡ length stood.old.items }
@@ -28,7 +28,7 @@ pub(crate) fn settle(stood: &mut Vec<Sector>, patches: &[Patch], content: &[Sect
     }
 }
 
-// Fills the sectors of these patches with that byte.
+/// Fills the sectors of these patches with that byte.
 #[tactic(auto, using(crate::proofs::Pieces::length_replay))]
 pub(crate) fn fill(content: &mut Vec<Sector>, patches: &[Patch], byte: u8)
     requires { AreWithin (length content.old.items) (ranges (pieces patches.now)) }
@@ -40,7 +40,7 @@ pub(crate) fn fill(content: &mut Vec<Sector>, patches: &[Patch], byte: u8)
     }
 }
 
-// Fills so many sectors from that one on with that byte.
+/// Fills so many sectors from that one on with that byte.
 pub(crate) fn fill_range(content: &mut Vec<Sector>, first: usize, count: usize, byte: u8)
     requires { first + count ≤ length content.old.items }
     ensures { content.new.items ≡ laid_over (first, replicate count (replicate 512 byte)) content.old.items }

@@ -39,7 +39,9 @@ impl Last {
     /// Takes over a write of these sectors from that one on.
     fn write(&mut self, first: usize, sectors: &[Sector])
         requires { HasRoom (first + length sectors.now) self.old }
-        ensures written { (c : Content) → last_of self.new (laid_over (first, sectors.now) c) ≡ laid_over (first, sectors.now) (last_of self.old c) }
+        ensures written { (c : Content)
+            → last_of self.new (laid_over (first, sectors.now) c)
+            ≡ laid_over (first, sectors.now) (last_of self.old c) }
         ensures as_read { IsAsRead self.new → IsAsRead self.old }
     {
         match self {
@@ -82,11 +84,16 @@ impl Lane for SimLane {
     fn read(&mut self, first: usize, sectors: &mut [Sector]) -> Result<(), Fault>
         requires { first + length sectors.old ≤ length (⟦<SimLane as Lane>⟧.lane_facts self.old).content }
         ensures found { OnOk result (AreSectorsAt first (⟦<SimLane as Lane>⟧.lane_facts self.old).content sectors.new) }
-        ensures content { (⟦<SimLane as Lane>⟧.lane_facts self.new).content ≡ (⟦<SimLane as Lane>⟧.lane_facts self.old).content }
-        ensures place { (⟦<SimLane as Lane>⟧.lane_facts self.new).first ≡ (⟦<SimLane as Lane>⟧.lane_facts self.old).first }
-        ensures failures { Counts (⟦<SimLane as Lane>⟧.lane_facts self.old).failures (⟦<SimLane as Lane>⟧.lane_facts self.new).failures result }
-        ensures newest { (⟦<SimLane as RecordedLane>⟧.record self.new).newest ≡ (⟦<SimLane as RecordedLane>⟧.record self.old).newest }
-        ensures called { LaneCalled (⟦<SimLane as RecordedLane>⟧.record self.old) (⟦<SimLane as RecordedLane>⟧.record self.new) result }
+        ensures content { (⟦<SimLane as Lane>⟧.lane_facts self.new).content
+            ≡ (⟦<SimLane as Lane>⟧.lane_facts self.old).content }
+        ensures place { (⟦<SimLane as Lane>⟧.lane_facts self.new).first
+            ≡ (⟦<SimLane as Lane>⟧.lane_facts self.old).first }
+        ensures failures { Counts (⟦<SimLane as Lane>⟧.lane_facts self.old).failures
+            (⟦<SimLane as Lane>⟧.lane_facts self.new).failures result }
+        ensures newest { (⟦<SimLane as RecordedLane>⟧.record self.new).newest
+            ≡ (⟦<SimLane as RecordedLane>⟧.record self.old).newest }
+        ensures called { LaneCalled (⟦<SimLane as RecordedLane>⟧.record self.old)
+            (⟦<SimLane as RecordedLane>⟧.record self.new) result }
     {
         if self.faults.strikes() {
             return Err(failed(&mut self.failures));
@@ -97,13 +104,21 @@ impl Lane for SimLane {
 
     fn write(&mut self, first: usize, sectors: &[Sector]) -> Result<(), Fault>
         requires { first + length sectors.now ≤ length (⟦<SimLane as Lane>⟧.lane_facts self.old).content }
-        ensures written { OnOk result (Written first sectors.now (⟦<SimLane as Lane>⟧.lane_facts self.old).content (⟦<SimLane as Lane>⟧.lane_facts self.new).content) }
-        ensures content { Torn first (length sectors.now) (⟦<SimLane as Lane>⟧.lane_facts self.old).content (⟦<SimLane as Lane>⟧.lane_facts self.new).content }
-        ensures place { (⟦<SimLane as Lane>⟧.lane_facts self.new).first ≡ (⟦<SimLane as Lane>⟧.lane_facts self.old).first }
-        ensures failures { Counts (⟦<SimLane as Lane>⟧.lane_facts self.old).failures (⟦<SimLane as Lane>⟧.lane_facts self.new).failures result }
-        ensures stays { OnErr result ((⟦<SimLane as Lane>⟧.lane_facts self.new).content ≡ (⟦<SimLane as Lane>⟧.lane_facts self.old).content) }
-        ensures newest { (⟦<SimLane as RecordedLane>⟧.record self.new).newest ≡ laid_over (first, sectors.now) (⟦<SimLane as RecordedLane>⟧.record self.old).newest }
-        ensures called { LaneCalled (⟦<SimLane as RecordedLane>⟧.record self.old) (⟦<SimLane as RecordedLane>⟧.record self.new) result }
+        ensures written { OnOk result
+            (Written first sectors.now (⟦<SimLane as Lane>⟧.lane_facts self.old).content
+            (⟦<SimLane as Lane>⟧.lane_facts self.new).content) }
+        ensures content { Torn first (length sectors.now) (⟦<SimLane as Lane>⟧.lane_facts self.old).content
+            (⟦<SimLane as Lane>⟧.lane_facts self.new).content }
+        ensures place { (⟦<SimLane as Lane>⟧.lane_facts self.new).first
+            ≡ (⟦<SimLane as Lane>⟧.lane_facts self.old).first }
+        ensures failures { Counts (⟦<SimLane as Lane>⟧.lane_facts self.old).failures
+            (⟦<SimLane as Lane>⟧.lane_facts self.new).failures result }
+        ensures stays { OnErr result
+            ((⟦<SimLane as Lane>⟧.lane_facts self.new).content ≡ (⟦<SimLane as Lane>⟧.lane_facts self.old).content) }
+        ensures newest { (⟦<SimLane as RecordedLane>⟧.record self.new).newest
+            ≡ laid_over (first, sectors.now) (⟦<SimLane as RecordedLane>⟧.record self.old).newest }
+        ensures called { LaneCalled (⟦<SimLane as RecordedLane>⟧.record self.old)
+            (⟦<SimLane as RecordedLane>⟧.record self.new) result }
     {
         self.last.write(first, sectors);
         if self.faults.strikes() {

@@ -24,7 +24,7 @@ impl Latest {
     ghost use Rattle.simdisk.specs.Latest.{latest_of};
     ghost use Rattle.simdisk.specs.Views.{lent_of};
 
-    // That of a disk on which no write has failed.
+    /// That of a disk on which no write has failed.
     pub(crate) fn begun(alloc: Global, content: &[Sector]) -> Result<Latest, AllocError>
         ensures { IfOk result (λ latest. (latest.as_read ≡ true) × (length latest.sectors.items ≡ length content.now)) }
     {
@@ -34,14 +34,14 @@ impl Latest {
         })
     }
 
-    // What it is on a disk of that content.
+    /// What it is on a disk of that content.
     pub(crate) fn over<'a>(&'a self, content: &'a [Sector]) -> &'a [Sector]
         ensures { result.now ≡ latest_of self.now content.now }
     {
         if self.as_read { content } else { &self.sectors }
     }
 
-    // Keeps it apart from what a read gives.
+    /// Keeps it apart from what a read gives.
     pub(crate) fn part(&mut self, content: &[Sector])
         requires { length self.old.sectors.items ≡ length content.now }
         ensures apart { self.new.as_read ≡ false }
@@ -54,11 +54,15 @@ impl Latest {
         }
     }
 
-    // Takes over a write of these sectors from that one on.
+    /// Takes over a write of these sectors from that one on.
     pub(crate) fn write(&mut self, first: usize, sectors: &[Sector])
         requires { first + length sectors.now ≤ length self.old.sectors.items }
-        ensures written { (c : Content) → latest_of self.new (laid_over (first, sectors.now) c) ≡ laid_over (first, sectors.now) (latest_of self.old c) }
-        ensures apart { self.old.as_read ≡ false → (self.new.as_read ≡ false) × (self.new.sectors.items ≡ laid_over (first, sectors.now) self.old.sectors.items) }
+        ensures written { (c : Content)
+            → latest_of self.new (laid_over (first, sectors.now) c)
+            ≡ laid_over (first, sectors.now) (latest_of self.old c) }
+        ensures apart { self.old.as_read ≡ false
+            → (self.new.as_read ≡ false)
+            × (self.new.sectors.items ≡ laid_over (first, sectors.now) self.old.sectors.items) }
         ensures as_long { length self.new.sectors.items ≡ length self.old.sectors.items }
     {
         if !self.as_read {
@@ -66,24 +70,27 @@ impl Latest {
         }
     }
 
-    // Takes over a failed write of these sectors, on a disk of that content.
+    /// Takes over a failed write of these sectors, on a disk of that content.
     pub(crate) fn write_failed(&mut self, content: &[Sector], first: usize, sectors: &[Sector])
         requires long { length self.old.sectors.items ≡ length content.now }
         requires within { first + length sectors.now ≤ length content.now }
-        ensures written { latest_of self.new content.now ≡ laid_over (first, sectors.now) (latest_of self.old content.now) }
+        ensures written { latest_of self.new content.now
+            ≡ laid_over (first, sectors.now) (latest_of self.old content.now) }
         ensures as_long { length self.new.sectors.items ≡ length self.old.sectors.items }
     {
         self.part(content);
         overwrite(&mut self.sectors, first, sectors);
     }
 
-    // Takes over what was written last in the lanes of that loan, which come back to a disk of that content.
+    /// Takes over what was written last in the lanes of that loan, which come back to a disk of that content.
     pub(crate) fn join(&mut self, content: &[Sector], loan: Loan, lanes: &[SimLane])
         requires long { length self.old.sectors.items ≡ length content.now }
         requires count { length lanes.now ≡ loan.lanes }
         requires each { (i : ℕ) → i < loan.lanes → length (lane_at (map newest_view lanes.now) i).content ≡ loan.each }
         requires within { loan.first + loan.lanes * loan.each ≤ length content.now }
-        ensures joined { (c : Content) → Joined (lent_of loan) (map lane_view lanes.now) content.now c → Joined (lent_of loan) (map newest_view lanes.now) (latest_of self.old content.now) (latest_of self.new c) }
+        ensures joined { (c : Content) → Joined (lent_of loan) (map lane_view lanes.now) content.now c
+            → Joined (lent_of loan) (map newest_view lanes.now) (latest_of self.old content.now)
+            (latest_of self.new c) }
         ensures as_long { length self.new.sectors.items ≡ length self.old.sectors.items }
     {
         if stays_in_step(self.as_read, lanes) {

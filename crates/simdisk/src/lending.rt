@@ -12,8 +12,8 @@ use crate::patch::copy_of;
 use disk::Sector;
 use std::alloc::{AllocError, Global};
 
-// Lanes over these sectors, in a row. Of the two contents, the second has failed writes too; where
-// they are in step there is none.
+/// Lanes over these sectors, in a row. Of the two contents, the second has failed writes too; where
+/// they are in step there is none.
 pub(crate) fn lend(
     alloc: Global,
     content: &[Sector],
@@ -28,8 +28,10 @@ pub(crate) fn lend(
     requires within { first + lanes * each ≤ length content.now }
     requires as_long { length newest.now ≡ length content.now }
     requires in_step { in_step ≡ true → newest.now ≡ content.now }
-    ensures handed { IfOk result (λ out. Handed (record { first = first; lanes = lanes; each = each }) content.now (map lane_view out.items)) }
-    ensures lent { IfOk result (λ out. AreLent (record { first = first; lanes = lanes; each = each }) newest.now faults.armed faults.cut (map lane_record out.items)) }
+    ensures handed { IfOk result (λ out. Handed (record { first = first; lanes = lanes; each = each }) content.now
+        (map lane_view out.items)) }
+    ensures lent { IfOk result (λ out. AreLent (record { first = first; lanes = lanes; each = each }) newest.now
+        faults.armed faults.cut (map lane_record out.items)) }
 {
     let mut out = Vec::new(alloc);
     for lane in 0..lanes {
@@ -49,7 +51,8 @@ pub(crate) fn lend(
 
 /// What was written last in a lane: these sectors, which are kept apart unless a read gives them.
 fn last_in(alloc: Global, newest: &[Sector], as_read: bool) -> Result<Last, AllocError>
-    ensures value { IfOk result (λ last. (c : Content) → (as_read ≡ true → newest.now ≡ c) → last_of last c ≡ newest.now) }
+    ensures value { IfOk result (λ last. (c : Content) → (as_read ≡ true → newest.now ≡ c)
+        → last_of last c ≡ newest.now) }
     ensures as_read { IfOk result (λ last. IsAsRead last → as_read ≡ true) }
 {
     if as_read {
@@ -58,7 +61,7 @@ fn last_in(alloc: Global, newest: &[Sector], as_read: bool) -> Result<Last, Allo
     Ok(Last::Apart(copy_of(alloc, newest)?))
 }
 
-// Whether a disk is in step once these lanes came back: it was, and so is each of them.
+/// Whether a disk is in step once these lanes came back: it was, and so is each of them.
 pub(crate) fn stays_in_step(in_step: bool, lanes: &[SimLane]) -> bool
     ensures now { IsTrue result → in_step ≡ true }
     ensures lanes { IsTrue result → map newest_view lanes.now ≡ map lane_view lanes.now }
@@ -79,7 +82,7 @@ fn as_read(lanes: &[SimLane]) -> bool
     }
 }
 
-// How often these lanes failed.
+/// How often these lanes failed.
 pub(crate) fn failures_of(lanes: &[SimLane]) -> u64
     ensures { result ≡ counted 0 (lane_failures (map lane_view lanes.now)) }
 {
@@ -90,7 +93,7 @@ pub(crate) fn failures_of(lanes: &[SimLane]) -> u64
     failures
 }
 
-// Lays what the lanes hold in a row from that place on.
+/// Lays what the lanes hold in a row from that place on.
 pub(crate) fn lay_row(
     content: &mut Vec<Sector>,
     first: usize,
@@ -102,7 +105,8 @@ pub(crate) fn lay_row(
     requires count { length lanes.now ≡ count }
     requires each { (i : ℕ) → i < count → length (lane_at (map (lane_view_of bytes) lanes.now) i).content ≡ each }
     requires within { first + count * each ≤ length content.old.items }
-    ensures { Joined (record { first = first; lanes = count; each = each }) (map (lane_view_of bytes) lanes.now) content.old.items content.new.items }
+    ensures { Joined (record { first = first; lanes = count; each = each }) (map (lane_view_of bytes) lanes.now)
+        content.old.items content.new.items }
 {
     for (i, lane) in lanes.iter().enumerate() {
         overwrite(content, first + i * each, lane.bytes(bytes));

@@ -14,7 +14,6 @@ mod latest;
 mod lending;
 mod loan;
 mod made;
-mod past;
 mod patch;
 mod poked;
 mod recorded;

@@ -22,12 +22,16 @@ impl SimDisk {
     /// A disk that holds these bytes, sector by sector, all of them durable. Refuses `BadShape`
     /// exactly where they are not whole sectors, and `Memory` where memory is refused.
     pub fn new(alloc: Global, bytes: &[u8]) -> Result<SimDisk, Refusal>
-        ensures fresh { IfOk result (λ disk. IsFresh (first_chunks 512 (length bytes.now / 512) bytes.now) (⟦<SimDisk as Disk>⟧.facts disk)) }
-        ensures record { IfOk result (λ disk. ⟦<SimDisk as Recorded>⟧.record disk ≡ new_record (first_chunks 512 (length bytes.now / 512) bytes.now)) }
-        ensures no_call { IfOk result (λ disk. ((⟦<SimDisk as Disk>⟧.facts disk).failures ≡ 0) × ((⟦<SimDisk as Disk>⟧.facts disk).calls ≡ 0)) }
+        ensures fresh { IfOk result (λ disk. IsFresh (first_chunks 512 (length bytes.now / 512) bytes.now)
+            (⟦<SimDisk as Disk>⟧.facts disk)) }
+        ensures record { IfOk result (λ disk. ⟦<SimDisk as Recorded>⟧.record disk
+            ≡ new_record (first_chunks 512 (length bytes.now / 512) bytes.now)) }
+        ensures no_call { IfOk result (λ disk. ((⟦<SimDisk as Disk>⟧.facts disk).failures ≡ 0)
+            × ((⟦<SimDisk as Disk>⟧.facts disk).calls ≡ 0)) }
         ensures no_fault { IfOk result (λ disk. ⟦<SimDisk as Disk>⟧.fault_state disk ≡ no_fault) }
         ensures whole { OnOk result (length bytes.now % 512 ≡ 0) }
-        ensures refused { IfErr result (λ e. ((e ≡ Refusal.BadShape) × (length bytes.now % 512 ≢ 0)) ⊎ ((e ≡ Refusal.Memory) × (length bytes.now % 512 ≡ 0))) }
+        ensures refused { IfErr result (λ e. ((e ≡ Refusal.BadShape) × (length bytes.now % 512 ≢ 0))
+            ⊎ ((e ≡ Refusal.Memory) × (length bytes.now % 512 ≡ 0))) }
     {
         let (sectors, rest) = bytes.as_chunks::<512>();
         if !rest.is_empty() {
@@ -39,9 +43,12 @@ impl SimDisk {
 
     /// A disk of so many sectors of zeros, all of them durable.
     pub fn blank(alloc: Global, sectors: usize) -> Result<SimDisk, AllocError>
-        ensures fresh { IfOk result (λ disk. IsFresh (replicate sectors (replicate 512 0)) (⟦<SimDisk as Disk>⟧.facts disk)) }
-        ensures record { IfOk result (λ disk. ⟦<SimDisk as Recorded>⟧.record disk ≡ new_record (replicate sectors (replicate 512 0))) }
-        ensures no_call { IfOk result (λ disk. ((⟦<SimDisk as Disk>⟧.facts disk).failures ≡ 0) × ((⟦<SimDisk as Disk>⟧.facts disk).calls ≡ 0)) }
+        ensures fresh { IfOk result (λ disk. IsFresh (replicate sectors (replicate 512 0))
+            (⟦<SimDisk as Disk>⟧.facts disk)) }
+        ensures record { IfOk result (λ disk. ⟦<SimDisk as Recorded>⟧.record disk
+            ≡ new_record (replicate sectors (replicate 512 0))) }
+        ensures no_call { IfOk result (λ disk. ((⟦<SimDisk as Disk>⟧.facts disk).failures ≡ 0)
+            × ((⟦<SimDisk as Disk>⟧.facts disk).calls ≡ 0)) }
         ensures no_fault { IfOk result (λ disk. ⟦<SimDisk as Disk>⟧.fault_state disk ≡ no_fault) }
     {
         let content = vec![in alloc; [0; 512]; sectors]?;
@@ -52,7 +59,8 @@ impl SimDisk {
     fn holding(alloc: Global, content: Vec<Sector>) -> Result<SimDisk, AllocError>
         ensures fresh { IfOk result (λ disk. IsFresh content.items (⟦<SimDisk as Disk>⟧.facts disk)) }
         ensures record { IfOk result (λ disk. ⟦<SimDisk as Recorded>⟧.record disk ≡ new_record content.items) }
-        ensures no_call { IfOk result (λ disk. ((⟦<SimDisk as Disk>⟧.facts disk).failures ≡ 0) × ((⟦<SimDisk as Disk>⟧.facts disk).calls ≡ 0)) }
+        ensures no_call { IfOk result (λ disk. ((⟦<SimDisk as Disk>⟧.facts disk).failures ≡ 0)
+            × ((⟦<SimDisk as Disk>⟧.facts disk).calls ≡ 0)) }
         ensures no_fault { IfOk result (λ disk. ⟦<SimDisk as Disk>⟧.fault_state disk ≡ no_fault) }
     {
         let history = History::begun(alloc, &content)?;
@@ -74,9 +82,12 @@ impl SimDisk {
     /// of it is lent, nothing is armed, and power is back. No memory is taken.
     pub fn after_cut(self, choice: Choice) -> SimDisk
         ensures left { IsLeft (⟦<SimDisk as Disk>⟧.facts self) (⟦<SimDisk as Disk>⟧.facts result) }
-        ensures exact { (⟦<SimDisk as Disk>⟧.facts result).content ≡ left_by_choice choice (synced (⟦<SimDisk as Recorded>⟧.record self)) (⟦<SimDisk as Recorded>⟧.record self).written }
+        ensures exact { (⟦<SimDisk as Disk>⟧.facts result).content
+            ≡ left_by_choice choice (synced (⟦<SimDisk as Recorded>⟧.record self))
+            (⟦<SimDisk as Recorded>⟧.record self).written }
         ensures record { ⟦<SimDisk as Recorded>⟧.record result ≡ new_record (⟦<SimDisk as Disk>⟧.facts result).content }
-        ensures fault_state { ⟦<SimDisk as Disk>⟧.fault_state result ≡ fault_state_left (⟦<SimDisk as Disk>⟧.fault_state self) }
+        ensures fault_state { ⟦<SimDisk as Disk>⟧.fault_state result
+            ≡ fault_state_left (⟦<SimDisk as Disk>⟧.fault_state self) }
     {
         let mut content = self.content;
         let mut latest = self.latest;
@@ -100,7 +111,8 @@ impl SimDisk {
     /// The n-th call of this disk from now on fails. It replaces what was armed.
     pub fn fail_at(&mut self, call: u64)
         ensures facts { Unchanged (⟦<SimDisk as Disk>⟧.facts self.old) (⟦<SimDisk as Disk>⟧.facts self.new) }
-        ensures armed { ⟦<SimDisk as Disk>⟧.fault_state self.new ≡ record (⟦<SimDisk as Disk>⟧.fault_state self.old) { armed = FaultArmed } }
+        ensures armed { ⟦<SimDisk as Disk>⟧.fault_state self.new
+            ≡ record (⟦<SimDisk as Disk>⟧.fault_state self.old) { armed = FaultArmed } }
         ensures call { ⟦<SimDisk as Recorded>⟧.armed self.new ≡ Some (ArmedFault.FailAt call) }
     {
         self.arm(ArmedFault::FailAt(call));
@@ -109,7 +121,8 @@ impl SimDisk {
     /// Power is lost within the n-th call of this disk from now on. It replaces what was armed.
     pub fn cut_at(&mut self, call: u64)
         ensures facts { Unchanged (⟦<SimDisk as Disk>⟧.facts self.old) (⟦<SimDisk as Disk>⟧.facts self.new) }
-        ensures armed { ⟦<SimDisk as Disk>⟧.fault_state self.new ≡ record (⟦<SimDisk as Disk>⟧.fault_state self.old) { armed = CutArmed } }
+        ensures armed { ⟦<SimDisk as Disk>⟧.fault_state self.new
+            ≡ record (⟦<SimDisk as Disk>⟧.fault_state self.old) { armed = CutArmed } }
         ensures call { ⟦<SimDisk as Recorded>⟧.armed self.new ≡ Some (ArmedFault.CutAt call) }
     {
         self.arm(ArmedFault::CutAt(call));
@@ -118,7 +131,8 @@ impl SimDisk {
     /// The n-th call from now on of the lane of that number fails. It replaces what was armed.
     pub fn fail_lane(&mut self, lane: usize, call: u64)
         ensures facts { Unchanged (⟦<SimDisk as Disk>⟧.facts self.old) (⟦<SimDisk as Disk>⟧.facts self.new) }
-        ensures armed { ⟦<SimDisk as Disk>⟧.fault_state self.new ≡ record (⟦<SimDisk as Disk>⟧.fault_state self.old) { armed = FaultArmed } }
+        ensures armed { ⟦<SimDisk as Disk>⟧.fault_state self.new
+            ≡ record (⟦<SimDisk as Disk>⟧.fault_state self.old) { armed = FaultArmed } }
         ensures call { ⟦<SimDisk as Recorded>⟧.armed self.new ≡ Some (ArmedFault.FailLane lane call) }
     {
         self.arm(ArmedFault::FailLane(lane, call));
@@ -128,7 +142,8 @@ impl SimDisk {
     /// was armed.
     pub fn cut_lane(&mut self, lane: usize, call: u64)
         ensures facts { Unchanged (⟦<SimDisk as Disk>⟧.facts self.old) (⟦<SimDisk as Disk>⟧.facts self.new) }
-        ensures armed { ⟦<SimDisk as Disk>⟧.fault_state self.new ≡ record (⟦<SimDisk as Disk>⟧.fault_state self.old) { armed = CutArmed } }
+        ensures armed { ⟦<SimDisk as Disk>⟧.fault_state self.new
+            ≡ record (⟦<SimDisk as Disk>⟧.fault_state self.old) { armed = CutArmed } }
         ensures call { ⟦<SimDisk as Recorded>⟧.armed self.new ≡ Some (ArmedFault.CutLane lane call) }
     {
         self.arm(ArmedFault::CutLane(lane, call));

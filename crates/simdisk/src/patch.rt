@@ -21,7 +21,7 @@ impl Patch {
     ghost use Rattle.simdisk.specs.WriteLog.{laid_over, piece_in, filled};
     ghost use Rattle.simdisk.specs.Views.{piece};
 
-    // These sectors, from that one on.
+    /// These sectors, from that one on.
     pub(crate) fn of(first: usize, sectors: &[Sector]) -> Patch
         ensures { piece result ≡ (first, sectors.now) }
     {
@@ -32,7 +32,7 @@ impl Patch {
         }
     }
 
-    // Takes over from that content what stands in its sectors.
+    /// Takes over from that content what stands in its sectors.
     pub(crate) fn settle(&self, stood: &mut Vec<Sector>, content: &[Sector])
         requires as_long { length content.now ≡ length stood.old.items }
         requires within { self.now.first + self.now.count ≤ length content.now }
@@ -43,7 +43,7 @@ impl Patch {
         overwrite(stood, self.first, &content[self.first..end]);
     }
 
-    // Fills its sectors of that content with a byte.
+    /// Fills its sectors of that content with a byte.
     pub(crate) fn fill(&self, content: &mut Vec<Sector>, byte: u8)
         requires { self.now.first + self.now.count ≤ length content.old.items }
         ensures put { content.new.items ≡ laid_over (filled byte (piece self.now)) content.old.items }
@@ -52,7 +52,7 @@ impl Patch {
         fill_range(content, self.first, self.count, byte);
     }
 
-    // Its sectors before that one of them.
+    /// Its sectors before that one of them.
     pub(crate) fn before(&self, at: usize) -> Patch
         requires { at ≤ self.now.count }
         ensures { piece result ≡ (self.now.first, take at (piece self.now).1) }
@@ -64,7 +64,7 @@ impl Patch {
         }
     }
 
-    // Its sectors from that one of them on.
+    /// Its sectors from that one of them on.
     pub(crate) fn behind(&self, at: usize) -> Patch
         requires within { at ≤ self.now.count }
         requires first { self.now.first + at < 2 ^ 64 }
@@ -78,7 +78,7 @@ impl Patch {
         }
     }
 
-    // Its sectors as they stand in that content.
+    /// Its sectors as they stand in that content.
     pub(crate) fn retake(&mut self, content: &[Sector])
         requires { self.old.first + self.old.count ≤ length content.now }
         ensures { piece self.new ≡ piece_in content.now (piece self.old) }
@@ -88,7 +88,7 @@ impl Patch {
     }
 }
 
-// The same sectors again.
+/// The same sectors again.
 pub(crate) fn copy_of(alloc: Global, sectors: &[Sector]) -> Result<Vec<Sector>, AllocError>
     ensures { IfOk result (λ copy. copy.items ≡ sectors.now) }
 {

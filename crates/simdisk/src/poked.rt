@@ -9,9 +9,9 @@ ghost use Rattle.simdisk.specs.Views.{piece, pieces};
 
 use crate::history::History;
 use crate::laid::overwrite;
-use crate::past::Past;
 use crate::patch::Patch;
 use crate::recorded::Recorded;
+use crate::remembered::Remembered;
 use crate::sim::SimDisk;
 use disk::{Disk, Sector};
 use std::alloc::{AllocError, Global};
@@ -72,7 +72,7 @@ impl History {
         let written = parts_of(alloc, &self.written, sector)?;
         overwrite(&mut self.stood, sector, &[bytes]);
         self.written = written;
-        self.past = Past::begun(&self.stood);
+        self.past = Remembered::of(&self.stood);
         Ok(())
     }
 }
@@ -87,17 +87,26 @@ impl SimDisk {
     pub fn poke(&mut self, sector: usize, offset: usize, bytes: &[u8]) -> Result<(), AllocError>
         requires { (⟦<SimDisk as Disk>⟧.facts self.old).lent.lanes ≡ 0 }
         ensures stands { OnOk result (PokeFits sector offset bytes.now (⟦<SimDisk as Disk>⟧.facts self.old).content
-            → StandsSo sector (poked sector offset bytes.now (⟦<SimDisk as Disk>⟧.facts self.old).content) (⟦<SimDisk as Disk>⟧.facts self.old) (⟦<SimDisk as Disk>⟧.facts self.new)) }
+            → StandsSo sector (poked sector offset bytes.now (⟦<SimDisk as Disk>⟧.facts self.old).content)
+            (⟦<SimDisk as Disk>⟧.facts self.old) (⟦<SimDisk as Disk>⟧.facts self.new)) }
         ensures choices { OnOk result (PokeFits sector offset bytes.now (⟦<SimDisk as Disk>⟧.facts self.old).content
-            → StandsByEach sector (poked sector offset bytes.now (⟦<SimDisk as Disk>⟧.facts self.old).content) (⟦<SimDisk as Recorded>⟧.record self.old) (⟦<SimDisk as Recorded>⟧.record self.new)) }
+            → StandsByEach sector (poked sector offset bytes.now (⟦<SimDisk as Disk>⟧.facts self.old).content)
+            (⟦<SimDisk as Recorded>⟧.record self.old) (⟦<SimDisk as Recorded>⟧.record self.new)) }
         ensures record { OnOk result (PokeFits sector offset bytes.now (⟦<SimDisk as Disk>⟧.facts self.old).content
-            → ⟦<SimDisk as Recorded>⟧.record self.new ≡ poked_record sector (poked sector offset bytes.now (⟦<SimDisk as Disk>⟧.facts self.old).content) (⟦<SimDisk as Recorded>⟧.record self.old)) }
+            → ⟦<SimDisk as Recorded>⟧.record self.new
+            ≡ poked_record sector (poked sector offset bytes.now (⟦<SimDisk as Disk>⟧.facts self.old).content)
+            (⟦<SimDisk as Recorded>⟧.record self.old)) }
         ensures outside { (PokeFits sector offset bytes.now (⟦<SimDisk as Disk>⟧.facts self.old).content → ⊥)
-            → IsOk result × Unchanged (⟦<SimDisk as Disk>⟧.facts self.old) (⟦<SimDisk as Disk>⟧.facts self.new) × (⟦<SimDisk as Recorded>⟧.record self.new ≡ ⟦<SimDisk as Recorded>⟧.record self.old) }
-        ensures refused { OnErr result (Unchanged (⟦<SimDisk as Disk>⟧.facts self.old) (⟦<SimDisk as Disk>⟧.facts self.new) × (⟦<SimDisk as Recorded>⟧.record self.new ≡ ⟦<SimDisk as Recorded>⟧.record self.old)) }
-        ensures no_call { NoCall (⟦<SimDisk as Disk>⟧.facts self.old) (⟦<SimDisk as Disk>⟧.facts self.new) (⟦<SimDisk as Disk>⟧.fault_state self.old) (⟦<SimDisk as Disk>⟧.fault_state self.new) }
+            → IsOk result × Unchanged (⟦<SimDisk as Disk>⟧.facts self.old) (⟦<SimDisk as Disk>⟧.facts self.new)
+            × (⟦<SimDisk as Recorded>⟧.record self.new ≡ ⟦<SimDisk as Recorded>⟧.record self.old) }
+        ensures refused { OnErr result
+            (Unchanged (⟦<SimDisk as Disk>⟧.facts self.old) (⟦<SimDisk as Disk>⟧.facts self.new)
+            × (⟦<SimDisk as Recorded>⟧.record self.new ≡ ⟦<SimDisk as Recorded>⟧.record self.old)) }
+        ensures no_call { NoCall (⟦<SimDisk as Disk>⟧.facts self.old) (⟦<SimDisk as Disk>⟧.facts self.new)
+            (⟦<SimDisk as Disk>⟧.fault_state self.old) (⟦<SimDisk as Disk>⟧.fault_state self.new) }
         ensures lent { (⟦<SimDisk as Disk>⟧.facts self.new).lent ≡ (⟦<SimDisk as Disk>⟧.facts self.old).lent }
-        ensures as_long { length (⟦<SimDisk as Disk>⟧.facts self.new).content ≡ length (⟦<SimDisk as Disk>⟧.facts self.old).content }
+        ensures as_long { length (⟦<SimDisk as Disk>⟧.facts self.new).content
+            ≡ length (⟦<SimDisk as Disk>⟧.facts self.old).content }
         ensures armed { ⟦<SimDisk as Recorded>⟧.armed self.new ≡ ⟦<SimDisk as Recorded>⟧.armed self.old }
     {
         if self.content.len() <= sector || 512 < offset || 512 - offset < bytes.len() {

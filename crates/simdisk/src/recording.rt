@@ -11,8 +11,8 @@ use crate::laid::{fill, settle};
 use crate::lane::SimLane;
 use crate::lending::lend;
 use crate::loan::Loan;
-use crate::past::Past;
 use crate::patch::{Patch, copy_of};
+use crate::remembered::Remembered;
 use disk::Sector;
 use std::alloc::{AllocError, Global};
 
@@ -22,18 +22,18 @@ impl History {
     ghost use Rattle.simdisk.specs.Lanes.{lane_view, lane_record};
     ghost use Rattle.simdisk.specs.LaneRecords.{AreLent};
 
-    // The record of a disk that begins with these sectors.
+    /// The record of a disk that begins with these sectors.
     pub(crate) fn begun(alloc: Global, sectors: &[Sector]) -> Result<History, AllocError>
         ensures { IfOk result (λ h. log_of h ≡ new_record sectors.now) }
     {
         Ok(History {
             stood: copy_of(alloc, sectors)?,
             written: Vec::new(alloc),
-            past: Past::begun(sectors),
+            past: Remembered::of(sectors),
         })
     }
 
-    // Notes a write of these sectors. At `Err` nothing has changed.
+    /// Notes a write of these sectors. At `Err` nothing has changed.
     pub(crate) fn note(&mut self, first: usize, sectors: &[Sector]) -> Result<(), AllocError>
         requires { first + length sectors.now ≤ length (synced (log_of self.old)) }
         ensures noted { OnOk result (log_of self.new ≡ more_written (first, sectors.now) (log_of self.old)) }
@@ -45,9 +45,10 @@ impl History {
         Ok(())
     }
 
-    // Notes a sync of that content. From now on these patches are written.
+    /// Notes a sync of that content. From now on these patches are written.
     pub(crate) fn sync(&mut self, content: &[Sector], next: Vec<Patch>)
-        requires agrees { AgreesOutside (synced (log_of self.old)) (ranges (pieces self.old.written.items)) content.now }
+        requires agrees { AgreesOutside (synced (log_of self.old)) (ranges (pieces self.old.written.items))
+            content.now }
         requires fits { AreWithin (length (synced (log_of self.old))) (ranges (pieces next.items)) }
         ensures noted { log_of self.new ≡ more_synced content.now (pieces next.items) (log_of self.old) }
         ensures synced { synced (log_of self.new) ≡ content.now }
@@ -57,18 +58,22 @@ impl History {
         self.written = next;
     }
 
-    // The same, where that is lent: it stays written.
+    /// The same, where that is lent: it stays written.
     pub(crate) fn end_epoch(
         &mut self,
         alloc: Global,
         content: &Vec<Sector>,
         loan: Loan,
     ) -> Result<(), AllocError>
-        requires agrees { AgreesOutside (synced (log_of self.old)) (ranges (pieces self.old.written.items)) content.now.items }
+        requires agrees { AgreesOutside (synced (log_of self.old)) (ranges (pieces self.old.written.items))
+            content.now.items }
         requires within { loan.first + loan.lanes * loan.each ≤ length content.now.items }
-        ensures noted { OnOk result (log_of self.new ≡ more_synced content.now.items (lent_piece (lent_of loan) content.now.items ∷ []) (log_of self.old)) }
+        ensures noted { OnOk result
+            (log_of self.new
+            ≡ more_synced content.now.items (lent_piece (lent_of loan) content.now.items ∷ []) (log_of self.old)) }
         ensures synced { OnOk result (synced (log_of self.new) ≡ content.now.items) }
-        ensures refused { OnErr result ((log_of self.new ≡ log_of self.old) × (synced (log_of self.new) ≡ synced (log_of self.old))) }
+        ensures refused { OnErr result
+            ((log_of self.new ≡ log_of self.old) × (synced (log_of self.new) ≡ synced (log_of self.old))) }
     {
         let end = loan.first + loan.lanes * loan.each;
         let lent = Patch::of(loan.first, &content[loan.first..end]);
@@ -77,9 +82,9 @@ impl History {
         Ok(())
     }
 
-    // Lends the lanes of that loan, of a disk with that content, and notes it. The second content would
-    // stand had each failed write gone through; where they are in step, it is the first. At `Err`
-    // nothing has changed.
+    /// Lends the lanes of that loan, of a disk with that content, and notes it. The second content would
+    /// stand had each failed write gone through; where they are in step, it is the first. At `Err`
+    /// nothing has changed.
     pub(crate) fn lend(
         &mut self,
         alloc: Global,
@@ -95,8 +100,10 @@ impl History {
         requires in_step { in_step ≡ true → last.now ≡ content.now }
         requires long { length content.now ≡ length (synced (log_of self.old)) }
         ensures handed { IfOk result (λ out. Handed (lent_of loan) content.now (map lane_view out.items)) }
-        ensures lent { IfOk result (λ out. AreLent (lent_of loan) last.now faults.armed faults.cut (map lane_record out.items)) }
-        ensures noted { OnOk result (log_of self.new ≡ more_written (lent_piece (lent_of loan) last.now) (log_of self.old)) }
+        ensures lent { IfOk result (λ out. AreLent (lent_of loan) last.now faults.armed faults.cut
+            (map lane_record out.items)) }
+        ensures noted { OnOk result
+            (log_of self.new ≡ more_written (lent_piece (lent_of loan) last.now) (log_of self.old)) }
         ensures refused { OnErr result (log_of self.new ≡ log_of self.old) }
         ensures synced { synced (log_of self.new) ≡ synced (log_of self.old) }
     {
@@ -108,11 +115,12 @@ impl History {
         Ok(out)
     }
 
-    // Takes over what would stand now, had each failed write gone through, after the lanes of that loan
-    // came back.
+    /// Takes over what would stand now, had each failed write gone through, after the lanes of that loan
+    /// came back.
     pub(crate) fn take_newest(&mut self, loan: Loan, last: &[Sector])
         requires torn { Torn loan.first (loan.lanes * loan.each) (newest (log_of self.old)) last.now }
-        requires noted { 0 < loan.lanes → IsLatest (ranges (pieces self.old.written.items)) loan.patch (loan.first, loan.lanes * loan.each) }
+        requires noted { 0 < loan.lanes
+            → IsLatest (ranges (pieces self.old.written.items)) loan.patch (loan.first, loan.lanes * loan.each) }
         ensures ranges { ranges (pieces self.new.written.items) ≡ ranges (pieces self.old.written.items) }
         ensures past { (log_of self.new).past ≡ (log_of self.old).past }
         ensures began { (log_of self.new).began ≡ (log_of self.old).began }
@@ -125,12 +133,14 @@ impl History {
         self.written[loan.patch].retake(last);
     }
 
-    // The record of the disk that a crash leaves by that choice, where those sectors would stand had each
-    // write gone through.
+    /// The record of the disk that a crash leaves by that choice, where those sectors would stand had each
+    /// write gone through.
     pub(crate) fn left(self, alloc: Global, choice: Choice, last: &[Sector]) -> History
         requires { last.now ≡ newest (log_of self) }
-        ensures record { log_of result ≡ new_record (left_by_choice choice (synced (log_of self)) (pieces self.written.items)) }
-        ensures content { result.stood.items ≡ left_by_choice choice (synced (log_of self)) (pieces self.written.items) }
+        ensures record { log_of result
+            ≡ new_record (left_by_choice choice (synced (log_of self)) (pieces self.written.items)) }
+        ensures content { result.stood.items
+            ≡ left_by_choice choice (synced (log_of self)) (pieces self.written.items) }
         ensures as_long { length result.stood.items ≡ length (synced (log_of self)) }
     {
         let mut content = self.stood;
@@ -139,7 +149,7 @@ impl History {
             Choice::Old => {}
             Choice::New => content.copy_from_slice(last),
         }
-        let past = Past::begun(&content);
+        let past = Remembered::of(&content);
         History {
             stood: content,
             written: Vec::new(alloc),

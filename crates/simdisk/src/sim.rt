@@ -30,5 +30,6 @@ pub struct SimDisk {
     ghost few: { failures < 2 ^ 64 },
     ghost few_calls: { calls < 2 ^ 64 },
     ghost within: { loan.first + loan.lanes * loan.each ≤ length content.items },
-    ghost noted: { 0 < loan.lanes → IsLatest (ranges (pieces history.written.items)) loan.patch (loan.first, loan.lanes * loan.each) },
+    ghost noted: { 0 < loan.lanes
+        → IsLatest (ranges (pieces history.written.items)) loan.patch (loan.first, loan.lanes * loan.each) },
 }

@@ -9,7 +9,7 @@ use crate::faults::Faults;
 use crate::lane::SimLane;
 use disk::{ArmedFault, Fault};
 
-// One failure more.
+/// One failure more.
 pub(crate) fn failed(failures: &mut u64) -> Fault
     ensures { failures.new ≡ counted failures.old 1 }
 {
@@ -103,8 +103,10 @@ impl Faults {
     /// them, else 0.
     pub(crate) fn come_back(&mut self, lanes: &[SimLane], failures: u64) -> u64
         ensures none { failures ≡ 0 → (result ≡ 0) × Waits self.old self.new }
-        ensures some { 0 < failures → ((result ≡ 0) × Strikes self.old self.new) ⊎ ((result ≡ 1) × Waits self.old self.new) }
-        ensures exact { CameBack self.old.armed self.old.cut (map lane_record lanes.now) failures self.new.armed self.new.cut result }
+        ensures some { 0 < failures
+            → ((result ≡ 0) × Strikes self.old self.new) ⊎ ((result ≡ 1) × Waits self.old self.new) }
+        ensures exact { CameBack self.old.armed self.old.cut (map lane_record lanes.now) failures self.new.armed
+            self.new.cut result }
     {
         if failures == 0 {
             self.count_on(lanes);
@@ -140,8 +142,10 @@ impl Faults {
         ensures strikes { IsTrue result → Strikes self.old self.new }
         ensures waits { IsFalse result → Waits self.old self.new }
         ensures dark { self.old.cut ≡ true → IsTrue result × (self.new ≡ self.old) }
-        ensures struck { self.old.cut ≡ false → HasStruck self.old.armed (map lane_record lanes.now) → IsTrue result × (self.new.armed ≡ None) × (self.new.cut ≡ cuts self.old.armed) }
-        ensures strange { self.old.cut ≡ false → (HasStruck self.old.armed (map lane_record lanes.now) → ⊥) → IsFalse result × (self.new ≡ self.old) }
+        ensures struck { self.old.cut ≡ false → HasStruck self.old.armed (map lane_record lanes.now)
+            → IsTrue result × (self.new.armed ≡ None) × (self.new.cut ≡ cuts self.old.armed) }
+        ensures strange { self.old.cut ≡ false → (HasStruck self.old.armed (map lane_record lanes.now) → ⊥)
+            → IsFalse result × (self.new ≡ self.old) }
     {
         if self.cut {
             return true;

@@ -13,7 +13,8 @@ use std::test::Fail;
 fn lane_write(lane: &mut SimLane, at: usize, byte: u8) -> Result<(), Fault>
     requires { at < length (⟦<SimLane as Lane>⟧.lane_facts lane.old).content }
     ensures first { (⟦<SimLane as Lane>⟧.lane_facts lane.new).first ≡ (⟦<SimLane as Lane>⟧.lane_facts lane.old).first }
-    ensures long { length (⟦<SimLane as Lane>⟧.lane_facts lane.new).content ≡ length (⟦<SimLane as Lane>⟧.lane_facts lane.old).content }
+    ensures long { length (⟦<SimLane as Lane>⟧.lane_facts lane.new).content
+        ≡ length (⟦<SimLane as Lane>⟧.lane_facts lane.old).content }
 {
     lane.write(at, &[[byte; 512]])
 }
@@ -21,7 +22,8 @@ fn lane_write(lane: &mut SimLane, at: usize, byte: u8) -> Result<(), Fault>
 /// Lends so many sectors of the disk as one lane.
 fn lend_one(rt: &impl Abort, disk: &mut SimDisk, first: usize, each: usize) -> Result<SimLane, Fail>
     requires { (⟦<SimDisk as Disk>⟧.facts disk.old).lent.lanes ≡ 0 }
-    ensures lent { OnOk result ((⟦<SimDisk as Disk>⟧.facts disk.new).lent ≡ record { first = first; lanes = 1; each = each }) }
+    ensures lent { OnOk result
+        ((⟦<SimDisk as Disk>⟧.facts disk.new).lent ≡ record { first = first; lanes = 1; each = each }) }
     ensures first { IfOk result (λ lane. (⟦<SimLane as Lane>⟧.lane_facts lane).first ≡ first) }
     ensures long { IfOk result (λ lane. length (⟦<SimLane as Lane>⟧.lane_facts lane).content ≡ each) }
 {
@@ -39,7 +41,8 @@ fn lend_one(rt: &impl Abort, disk: &mut SimDisk, first: usize, each: usize) -> R
 fn join_one(disk: &mut SimDisk, alloc: Global, lane: SimLane) -> Result<(), AllocError>
     requires one { (⟦<SimDisk as Disk>⟧.facts disk.old).lent.lanes ≡ 1 }
     requires first { (⟦<SimLane as Lane>⟧.lane_facts lane).first ≡ (⟦<SimDisk as Disk>⟧.facts disk.old).lent.first }
-    requires long { length (⟦<SimLane as Lane>⟧.lane_facts lane).content ≡ (⟦<SimDisk as Disk>⟧.facts disk.old).lent.each }
+    requires long { length (⟦<SimLane as Lane>⟧.lane_facts lane).content
+        ≡ (⟦<SimDisk as Disk>⟧.facts disk.old).lent.each }
     ensures { OnOk result ((⟦<SimDisk as Disk>⟧.facts disk.new).lent.lanes ≡ 0) }
 {
     let lanes = vec![in alloc; lane]?;
@@ -51,7 +54,8 @@ fn join_one(disk: &mut SimDisk, alloc: Global, lane: SimLane) -> Result<(), Allo
 fn write_last_three(rt: &impl Abort, lane: &mut SimLane)
     requires { length (⟦<SimLane as Lane>⟧.lane_facts lane.old).content ≡ 4 }
     ensures first { (⟦<SimLane as Lane>⟧.lane_facts lane.new).first ≡ (⟦<SimLane as Lane>⟧.lane_facts lane.old).first }
-    ensures long { length (⟦<SimLane as Lane>⟧.lane_facts lane.new).content ≡ length (⟦<SimLane as Lane>⟧.lane_facts lane.old).content }
+    ensures long { length (⟦<SimLane as Lane>⟧.lane_facts lane.new).content
+        ≡ length (⟦<SimLane as Lane>⟧.lane_facts lane.old).content }
 {
     same(rt, lane_write(lane, 1, 5), Ok(()));
     same(rt, lane_write(lane, 2, 6), Err(Fault));
@@ -90,7 +94,8 @@ fn a_cut_lane_takes_the_disk_along_at_the_join(rt: HostRuntime) -> Result<(), Fa
 fn write_first(lane: &mut SimLane, writes: u32)
     requires { 0 < length (⟦<SimLane as Lane>⟧.lane_facts lane.old).content }
     ensures first { (⟦<SimLane as Lane>⟧.lane_facts lane.new).first ≡ (⟦<SimLane as Lane>⟧.lane_facts lane.old).first }
-    ensures long { length (⟦<SimLane as Lane>⟧.lane_facts lane.new).content ≡ length (⟦<SimLane as Lane>⟧.lane_facts lane.old).content }
+    ensures long { length (⟦<SimLane as Lane>⟧.lane_facts lane.new).content
+        ≡ length (⟦<SimLane as Lane>⟧.lane_facts lane.old).content }
 {
     for _ in 0..writes {
         let _ = lane_write(lane, 0, 5);

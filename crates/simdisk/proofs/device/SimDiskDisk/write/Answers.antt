@@ -1,73 +1,76 @@
-use Rattle.std.proofs.Common.{◌≡◌, ◌∙◌, ◌++◌, ◌∷◌, [], ℕ, ◌*◌, length, ap, sym, rules}
-use Rattle.disk.specs.Facts.{Content}
-use Rattle.simdisk.specs.WriteLog.{ranges, synced}
-use Rattle.simdisk.specs.Views.{pieces, lent_of}
+use Rattle.std.proofs.Common.{◌≡◌, ◌∙◌, ◌++◌, ◌∷◌, [], ℕ, ◌*◌, ◌<◌, length, ap, sym, rules}
+use Rattle.disk.specs.Facts.{Content, Lent, Passes, Torn}
+use Rattle.simdisk.specs.WriteLog.{laid_over, newest, ranges, sim_facts, synced}
+use Rattle.simdisk.specs.Views.{pieces, lent_of, IsLatest}
 use Rattle.simdisk.specs.History.{log_of}
 use Rattle.simdisk.specs.Latest.{latest_of}
 use Rattle.simdisk.proofs.Ranges.{agrees_write, agrees_push}
 use Rattle.simdisk.proofs.Notes.{newest_more, ranges_written, last_push, apart_lent}
 use Rattle.simdisk.proofs.Stretches.{passes_range}
+use Rattle.simdisk.proofs.device.SimDiskDisk.write.Goals.{In-Ok}
 use Rattle.simdisk.proofs.device.SimDiskDisk.write.Goals as goal
+
+-- once the write is noted: its range comes last
+more : (c : In-Ok) → ranges (pieces c.note.new.self.written.items) ≡ ranges (pieces c.args.self.now.history.written.items) ++ (c.args.first, length c.args.sectors.now) ∷ []
+more c = ranges_written (log_of c.args.self.now.history) (log_of c.note.new.self) (c.args.first, c.args.sectors.now) c.in-Ok.ensures.noted
+
+-- what would stand has its bytes
+newest_with : (c : In-Ok) (now : Content) → now ≡ laid_over (c.args.first, c.args.sectors.now) (latest_of c.args.self.now.latest c.args.self.now.content.items) → newest (log_of c.note.new.self) ≡ now
+newest_with c now laid =
+    let s = c.args.self.now in
+    newest_more (log_of s.history) (log_of c.note.new.self) (c.args.first, c.args.sectors.now) (latest_of s.latest s.content.items) now c.in-Ok.ensures.noted s.newest laid
+
+-- no later range touches what is lent
+lent_stays : (c : In-Ok) → 0 < c.args.self.now.loan.lanes
+    → IsLatest (ranges (pieces c.note.new.self.written.items)) c.args.self.now.loan.patch (c.args.self.now.loan.first, c.args.self.now.loan.lanes * c.args.self.now.loan.each)
+lent_stays c lt =
+    let s = c.args.self.now in
+    let r : ℕ × ℕ = (c.args.first, length c.args.sectors.now) in
+    rw (more c) (last_push (ranges (pieces s.history.written.items)) r (s.loan.first, s.loan.lanes * s.loan.each) s.loan.patch (apart_lent (lent_of s.loan) c.args.first (length c.args.sectors.now) lt c.requires.apart) (s.noted lt))
+
+-- a crash may tear its sectors
+torn : (c : In-Ok) (now : Content) (f g i j : ℕ) (l m : Lent)
+    → Passes (sim_facts c.args.self.now.content.items (synced (log_of c.args.self.now.history)) (log_of c.args.self.now.history) f i l) (sim_facts now (synced (log_of c.note.new.self)) (log_of c.note.new.self) g j m) (Torn c.args.first (length c.args.sectors.now))
+torn c now f g i j l m =
+    let s = c.args.self.now in
+    passes_range s.content.items now (synced (log_of s.history)) (synced (log_of c.note.new.self)) (log_of s.history) (log_of c.note.new.self) f g i j l m (c.args.first, c.args.sectors.now) c.in-Ok.ensures.noted c.in-Ok.ensures.synced
+    (rw (← s.agrees.as_long) c.requires.within)
 
 pub invariant_of-self-then-strikes : goal.invariant_of-self-then-strikes
 invariant_of-self-then-strikes c =
+    let noted = (goal.at.invariant_of-self-then-strikes c).In-Ok in
     let s = c.args.self.now in
-    let rs = ranges (pieces s.history.written.items) in
-    let r : ℕ × ℕ = (c.args.first, length c.args.sectors.now) in
-    let more : ranges (pieces c.note.new.self.written.items) ≡ rs ++ r ∷ [] = ranges_written (log_of s.history) (log_of c.note.new.self) (c.args.first, c.args.sectors.now) c.in-Ok.ensures.noted in
     record {
-      newest = newest_more (log_of s.history) (log_of c.note.new.self) (c.args.first, c.args.sectors.now) (latest_of s.latest s.content.items) (latest_of c.write_failed.new.self s.content.items) c.in-Ok.ensures.noted s.newest
-          (rw (← c.deref.ensures.value) c.write_failed.ensures.written);
+      newest = newest_with noted (latest_of c.write_failed.new.self s.content.items) (rw (← c.deref.ensures.value) c.write_failed.ensures.written);
       room = c.write_failed.ensures.as_long ∙ s.room;
-      agrees = rw (c.in-Ok.ensures.synced, more) (agrees_push (synced (log_of s.history)) rs r s.content.items s.agrees);
+      agrees = rw (c.in-Ok.ensures.synced, more noted) (agrees_push (synced (log_of s.history)) (ranges (pieces s.history.written.items)) (c.args.first, length c.args.sectors.now) s.content.items s.agrees);
       few = search rules;
       few_calls = search rules;
       within = s.within;
-      noted = λ lt. rw more (last_push rs r (s.loan.first, s.loan.lanes * s.loan.each) s.loan.patch (apart_lent (lent_of s.loan) c.args.first (length c.args.sectors.now) lt c.requires.apart) (s.noted lt));
+      noted = lent_stays noted;
     }
 
 pub returns-then-strikes-clause-called : goal.returns-then-strikes-clause-called
 returns-then-strikes-clause-called c =
-    let s = c.args.self.now in
-    record {
-      content = search rules;
-      crash = passes_range s.content.items _ (synced (log_of s.history)) (synced (log_of c.note.new.self)) (log_of s.history) (log_of c.note.new.self) _ _ _ _ _ _ (c.args.first, c.args.sectors.now) c.in-Ok.ensures.noted c.in-Ok.ensures.synced
-          (rw (← s.agrees.as_long) c.requires.within);
-      lent = search rules;
-      calls = search rules;
-      failures = search rules;
-      cause = search rules;
-      gone = search rules;
-    }
+    let crash = torn (goal.at.returns-then-strikes-clause-called c).In-Ok in
+    record { content = search rules; crash = crash _ _ _ _ _ _ _; lent = search rules; calls = search rules; failures = search rules; cause = search rules; gone = search rules }
 
 pub invariant_of-self-2 : goal.invariant_of-self-2
 invariant_of-self-2 c =
+    let noted = (goal.at.invariant_of-self-2 c).In-Ok in
     let s = c.args.self.now in
-    let rs = ranges (pieces s.history.written.items) in
-    let r : ℕ × ℕ = (c.args.first, length c.args.sectors.now) in
-    let more : ranges (pieces c.note.new.self.written.items) ≡ rs ++ r ∷ [] = ranges_written (log_of s.history) (log_of c.note.new.self) (c.args.first, c.args.sectors.now) c.in-Ok.ensures.noted in
-    let torn = c.overwrite.ensures.written.elsewhere in
+    let elsewhere = c.overwrite.ensures.written.elsewhere in
     record {
-      newest = newest_more (log_of s.history) (log_of c.note.new.self) (c.args.first, c.args.sectors.now) (latest_of s.latest s.content.items) (latest_of c.write.new.self c.overwrite.new.content.items) c.in-Ok.ensures.noted s.newest
-          (ap (λ (k : Content). latest_of c.write.new.self k) c.overwrite.ensures.put ∙ c.write.ensures.written s.content.items);
-      room = c.write.ensures.as_long ∙ s.room ∙ sym torn.as_long;
-      agrees = rw (c.in-Ok.ensures.synced, more) (agrees_write (synced (log_of s.history)) rs c.args.first (length c.args.sectors.now) s.content.items c.overwrite.new.content.items s.agrees torn);
+      newest = newest_with noted (latest_of c.write.new.self c.overwrite.new.content.items) (ap (λ (k : Content). latest_of c.write.new.self k) c.overwrite.ensures.put ∙ c.write.ensures.written s.content.items);
+      room = c.write.ensures.as_long ∙ s.room ∙ sym elsewhere.as_long;
+      agrees = rw (c.in-Ok.ensures.synced, more noted) (agrees_write (synced (log_of s.history)) (ranges (pieces s.history.written.items)) c.args.first (length c.args.sectors.now) s.content.items c.overwrite.new.content.items s.agrees elsewhere);
       few = s.few;
       few_calls = search rules;
-      within = rw torn.as_long s.within;
-      noted = λ lt. rw more (last_push rs r (s.loan.first, s.loan.lanes * s.loan.each) s.loan.patch (apart_lent (lent_of s.loan) c.args.first (length c.args.sectors.now) lt c.requires.apart) (s.noted lt));
+      within = rw elsewhere.as_long s.within;
+      noted = lent_stays noted;
     }
 
 pub returns-clause-called : goal.returns-clause-called
 returns-clause-called c =
-    let s = c.args.self.now in
-    record {
-      content = search rules;
-      crash = passes_range s.content.items _ (synced (log_of s.history)) (synced (log_of c.note.new.self)) (log_of s.history) (log_of c.note.new.self) _ _ _ _ _ _ (c.args.first, c.args.sectors.now) c.in-Ok.ensures.noted c.in-Ok.ensures.synced
-          (rw (← s.agrees.as_long) c.requires.within);
-      lent = search rules;
-      calls = search rules;
-      failures = search rules;
-      cause = search rules;
-      gone = search rules;
-    }
+    let crash = torn (goal.at.returns-clause-called c).In-Ok in
+    record { content = search rules; crash = crash _ _ _ _ _ _ _; lent = search rules; calls = search rules; failures = search rules; cause = search rules; gone = search rules }
