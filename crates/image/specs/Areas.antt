@@ -21,7 +21,8 @@ pub record IsWholeArea (size : Size) (serial : ℕ) (counts : List ℕ) (area : 
   -- the page of a place, by its lane and its number there
   pub page : ℕ → ℕ → ℕ
   pub head : (lane place : ℕ) → place < slice_index counts lane
-      → IsPlaceHead size (record { page = page lane place; serial = serial }) (sector area (place_in_area size lane place))
+      → IsPlaceHead size (record { page = page lane place; serial = serial })
+      (sector area (place_in_area size lane place))
   pub each : (k : ℕ) → k < size.pages
       → (lane : ℕ) × (place : ℕ) × (place < slice_index counts lane) × (page lane place ≡ k)
   pub once : (i p j q : ℕ) → p < slice_index counts i → q < slice_index counts j → page i p ≡ page j q

@@ -10,9 +10,12 @@ ghost use Rattle.image.specs.Images.{memory_of, page_behind};
 /// use and each place in use has a header of that serial; and then each page of the memory is the 8 sectors
 /// behind its header.
 pub fn reads_where_whole()
-    ensures whole { (size : Size) (serial : ℕ) (counts : List ℕ) (area : Content) → IsSize size → serial < 2 ^ 64 → AreCounts size counts → IsArea size area
+    ensures whole { (size : Size) (serial : ℕ) (counts : List ℕ) (area : Content) → IsSize size → serial < 2 ^ 64
+        → AreCounts size counts → IsArea size area
         → (memory_of size serial counts area ≢ []) ↔ IsWholeArea size serial counts area }
-    ensures pages { (size : Size) (serial : ℕ) (counts : List ℕ) (area : Content) → IsSize size → serial < 2 ^ 64 → AreCounts size counts → IsArea size area
+    ensures pages { (size : Size) (serial : ℕ) (counts : List ℕ) (area : Content) → IsSize size → serial < 2 ^ 64
+        → AreCounts size counts → IsArea size area
         → (whole : IsWholeArea size serial counts area) (lane place : ℕ) → place < slice_index counts lane
-        → take 4096 (drop (4096 * whole.page lane place) (memory_of size serial counts area)) ≡ page_behind area (place_in_area size lane place) }
+        → take 4096 (drop (4096 * whole.page lane place) (memory_of size serial counts area))
+        ≡ page_behind area (place_in_area size lane place) }
 {}
