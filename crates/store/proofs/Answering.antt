@@ -5,15 +5,18 @@ use Rattle.board_model.specs.Durable.{DurableState, Change, after, refusal_of}
 use Rattle.board_model.specs.Shapes.{Size}
 use Rattle.board_model.specs.declared.refusal.Refusal.{Refusal}
 use Rattle.board_model.specs.declared.refusal.Refusal.TheVariants.{Device, Down, Memory}
-use Rattle.disk.specs.Facts.{Facts, LeavesSince}
+use Rattle.disk.specs.Facts.{Content, Facts, LeavesSince}
 use Rattle.disk.specs.FaultState.{FaultState}
-use Rattle.disk.specs.Moments.{leaves_then, leaves_weaker}
+use Rattle.disk.specs.Moments.{leaves_none, leaves_then, leaves_weaker}
 use Rattle.image.specs.Refusals.{WriteRefused}
-use Rattle.store.specs.Leaves.{LeavesOnly, StandsForEither, WroteACommand}
-use Rattle.store.specs.Lives.{Life, now_of, Reaches, Applied, Suspended, SuspendRefused, IsReseen}
+use Rattle.layout.specs.declared.records.Record.{Record}
+use Rattle.store.specs.Commits.{IsUp}
+use Rattle.store.specs.Leaves.{LeavesOnly, LeavesEither, StandsForEither, WroteACommand}
+use Rattle.store.specs.Lives.{Life, now_of, Reaches, Applied, Suspended, IsReseen}
 use Rattle.store.specs.Opens.{CausedRefusal}
-use Rattle.store.specs.Standing.{selected, StandsFor}
+use Rattle.store.specs.Standing.{selected, state_of, StandsFor}
 use Rattle.store.specs.Answers.{StoreView, GoesTo, CountedRefusal, Answered}
+use Rattle.store.proofs.States.{stands_for, up_leaves}
 use Rattle.store.proofs.Suspending.{told_so, applied_found, now_still}
 
 pub wrote : (old new : Facts) (side : ℕ) → selected old.content ≡ side → selected new.content ≡ 1 - side → WroteACommand old new
@@ -30,20 +33,43 @@ nothing_failed m n Device not_device not_down = absurd (not_device refl)
 nothing_failed m n Down not_device not_down = absurd (not_down refl)
 nothing_failed m n e not_device not_down = (refl, refl)
 
--- refused before the disk was asked
-pub refused_still : (Does : Life → Change → Result ℕ Refusal → Life → Type 0) (v : StoreView) (c : Change) (e : Refusal) → Does v.life c (Err e) v.life
-    → LeavesSince v.disk v.disk (StandsForEither v.size (now_of v.life) (after (now_of v.life) c)) → LeavesOnly v.disk v.size (now_of v.life)
-    → (e ≡ Device → ⊥) → (e ≡ Down → ⊥) → Answered Does v c (Err e) v
-refused_still Does v c e did moment only not_device not_down = record {
+-- what a crash leaves by the answer to a command that goes to the disk and makes t of s
+abbrev pub Settles : Facts → Size → DurableState → DurableState → Result ℕ Refusal → Type 0
+Settles new size s t (Ok n) = LeavesOnly new size t
+Settles new size s t (Err Down) = LeavesEither new size s t
+Settles new size s t (Err e) = LeavesOnly new size s
+
+pub goes_to : (old new : Facts) (size : Size) (s t : DurableState) (result : Result ℕ Refusal) → LeavesSince old new (StandsForEither size s t) → Settles new size s t result → GoesTo old new size s t result
+goes_to old new size s t (Ok n) moment settled = record { any_moment = moment; acknowledged = settled; unchanged = tt; in_doubt = λ is. cc }
+goes_to old new size s t (Err Down) moment settled = record { any_moment = moment; acknowledged = tt; unchanged = λ not_down. absurd (not_down refl); in_doubt = λ _. settled }
+goes_to old new size s t (Err e) moment settled = record { any_moment = moment; acknowledged = tt; unchanged = λ _. settled; in_doubt = λ is. cc }
+
+-- refused, whatever that makes of the life
+pub refused_so : {Does : Life → Change → Result ℕ Refusal → Life → Type 0} (old new : StoreView) (c : Change) (e : Refusal) → Does old.life c (Err e) new.life
+    → LeavesSince old.disk new.disk (StandsForEither old.size (now_of old.life) (after (now_of old.life) c)) → Settles new.disk old.size (now_of old.life) (after (now_of old.life) c) (Err e)
+    → CausedRefusal old.fault_state e new.fault_state → CountedRefusal old.disk.failures e new.disk.failures → Answered Does old c (Err e) new
+refused_so old new c e did moment settled cause counts = record {
   life = did;
-  leaves = record { any_moment = moment; acknowledged = tt; unchanged = λ _. only; in_doubt = λ is. absurd (not_down (one is)) };
+  leaves = goes_to old.disk new.disk old.size (now_of old.life) (after (now_of old.life) c) (Err e) moment settled;
   written = tt;
-  cause = (nothing_failed v.fault_state v.disk.failures e not_device not_down).0;
-  counts = (nothing_failed v.fault_state v.disk.failures e not_device not_down).1;
+  cause = cause;
+  counts = counts;
 }
-  where
-    one : ◌≡◌ {A = Result ℕ Refusal} (Err e) (Err Down) → e ≡ Down
-    one is = cc
+
+settled_before : (disk : Facts) (size : Size) (s t : DurableState) (e : Refusal) → (e ≡ Down → ⊥) → LeavesOnly disk size s → Settles disk size s t (Err e)
+settled_before disk size s t Down up only = absurd (up refl)
+settled_before disk size s t e up only = only
+
+-- refused by a store that is up, before the disk was asked
+pub refused_up : (Does : Life → Change → Result ℕ Refusal → Life → Type 0) (v : StoreView) (side : ℕ) (current : Record) (c : Change) (e : Refusal) → ((x : Content) → v.disk.since v.disk.moment x → v.disk.may_leave x)
+    → IsUp v.disk v.size side current → now_of v.life ≡ state_of v.size current v.disk.content → Does v.life c (Err e) v.life → (e ≡ Device → ⊥) → (e ≡ Down → ⊥) → Answered Does v c (Err e) v
+refused_up Does v side current c e only_now up folded did not_device not_down =
+    let now = now_of v.life in
+    let failed = nothing_failed v.fault_state v.disk.failures e not_device not_down in
+    refused_so v v c e did
+    (leaves_none v.disk (StandsForEither v.size now (after now c)) only_now (λ x left. inl (subst (StandsFor x v.size) (sym folded) (stands_for v.size side current v.disk.content x (up x left)))))
+    (settled_before v.disk v.size now (after now c) e not_down (subst (LeavesOnly v.disk v.size) (sym folded) (up_leaves v.disk v.size side current up)))
+    failed.0 failed.1
 
 -- an area was written, in which the state is as before, and then a command went on
 module _ (old mid : Facts) (size : Size) (s : DurableState) (first : LeavesSince old mid (λ c. StandsFor c size s)) where
@@ -90,24 +116,10 @@ unwritten Fits old mid c e fits life reseen going room allowed only first why = 
     reaches : Reaches again c
     reaches = (going, room, ap (λ (s : DurableState). refusal_of s c) reseen.now ∙ allowed)
 
-    made : (f : Refusal) → (f ≡ Down → ⊥) → SuspendRefused Fits again c f mid.life → CausedRefusal old.fault_state f mid.fault_state → CountedRefusal old.disk.failures f mid.disk.failures → Answered (Suspended Fits) old c (Err f) mid
-    made f up told cause counts = record {
-      life = record { reseen = reseen; told = told };
-      leaves = record {
-        any_moment = first_moment old.disk mid.disk old.size (now_of old.life) first (after (now_of old.life) c);
-        acknowledged = tt;
-        unchanged = λ _. only;
-        in_doubt = λ is. absurd (up (one f is));
-      };
-      written = tt;
-      cause = cause;
-      counts = counts;
-    }
-      where
-        one : (f : Refusal) → ◌≡◌ {A = Result ℕ Refusal} (Err f) (Err Down) → f ≡ Down
-        one f is = cc
+    moment : LeavesSince old.disk mid.disk (StandsForEither old.size (now_of old.life) (after (now_of old.life) c))
+    moment = first_moment old.disk mid.disk old.size (now_of old.life) first (after (now_of old.life) c)
 
     by : (f : Refusal) → WriteRefused old.disk old.fault_state f mid.disk mid.fault_state → Answered (Suspended Fits) old c (Err f) mid
-    by Device why = made Device (λ is. cc) (inl (fits, inl (refl, reaches, life))) why.1 why.0
-    by Memory why = made Memory (λ is. cc) (inr (inr (inl (refl, fits, reaches, life)))) why.1 why.0
+    by Device why = refused_so old mid c Device (record { reseen = reseen; told = inl (fits, inl (refl, reaches, life)) }) moment only why.1 why.0
+    by Memory why = refused_so old mid c Memory (record { reseen = reseen; told = inr (inr (inl (refl, fits, reaches, life))) }) moment only why.1 why.0
     by f why = absurd why

@@ -4,8 +4,9 @@ use Rattle.std.proofs.lemmas.Bool.{and_parts, and_from}
 use Rattle.board_model.specs.Durable.{DurableState, Change, refusal_of, after, fold}
 use Rattle.board_model.specs.Shapes.{Size}
 use Rattle.board_model.specs.Views.{change_in}
-use Rattle.disk.specs.Facts.{Content, Facts, LeavesSince}
-use Rattle.disk.specs.Moments.{leaves_none, leaves_weaker}
+use Rattle.disk.specs.Facts.{Facts, LeavesSince}
+use Rattle.disk.specs.Moments.{leaves_weaker}
+use Rattle.layout.specs.Records.{IsInRange}
 use Rattle.layout.specs.declared.records.Record.{Record}
 use Rattle.store.specs.Entries.{is_plain, are_plain}
 use Rattle.store.specs.Standing.{state_of, memory_in, StandsFor}
@@ -15,7 +16,7 @@ use Rattle.store.specs.Follows.{Follows}
 use Rattle.store.specs.Lives.{Life}
 use Rattle.board_model.specs.declared.durable.Entry.{Entry}
 use Rattle.board_model.specs.declared.durable.Entry.TheVariants as entries
-use Rattle.store.proofs.States.{state_same, memory_same, of_areas, stands_for, up_leaves, doubt_leaves, either_stands}
+use Rattle.store.proofs.States.{state_same, memory_same, of_areas, up_leaves, doubt_leaves, either_stands}
 
 -- the journal, where the image's memory is this one
 abbrev pub told : List ℕ → List Entry → List Change
@@ -57,13 +58,6 @@ life_is f g i j c d n o fg ij cd ends =
     made : DurableState → List Change → Option Change → Bool → Life
     made found journal doubt over = record { found = found; journal = journal; doubt = doubt; over = over }
 
--- a store that is up, before any call
-pub still_stands : (a : Facts) (size : Size) (side : ℕ) (current : Record) (now then : DurableState) → ((x : Content) → a.since a.moment x → a.may_leave x) → IsUp a size side current
-    → now ≡ state_of size current a.content → LeavesSince a a (StandsForEither size now then)
-still_stands a size side current now then only_now up is =
-    leaves_none a (StandsForEither size now then) only_now
-    (λ x left. inl (subst (StandsFor x size) (sym is) (stands_for size side current a.content x (up x left))))
-
 -- the state of a life, by the disk as a read gives it
 abbrev pub now_by : Facts → Size → Record → Record → List Entry → DurableState
 now_by a size opened current journal = fold (state_of size opened a.content) (told (memory_in size current a.content) journal)
@@ -78,15 +72,17 @@ pub record Issues (a b : Facts) (size : Size) (side : ℕ) (opened current next 
   pub journal_with : are_plain journal ≡ true
       → told (memory_in size next b.content) (journal ++ entry ∷ []) ≡ told (memory_in size current a.content) journal ++ change_in entry (memory_in size next a.content) ∷ []
   pub folded_with : are_plain journal ≡ true → fold (state_of size opened b.content) (told (memory_in size next b.content) (journal ++ entry ∷ [])) ≡ state_of size next b.content
-  pub any_moment : LeavesSince a b (SelectsEither size side current next a.content)
-      → LeavesSince a b (StandsForEither size (now_by a size opened current journal) (after (now_by a size opened current journal) (change_in entry (memory_in size next a.content))))
+  pub up : IsUp a size side current
+  pub range : IsInRange size next
+  pub any_moment : LeavesSince a b (StandsForEither size (now_by a size opened current journal) (after (now_by a size opened current journal) (change_in entry (memory_in size next a.content))))
   pub done : IsUp b size (1 - side) next → LeavesOnly b size (after (now_by a size opened current journal) (change_in entry (memory_in size next a.content)))
   pub undone : IsUp b size side current → LeavesOnly b size (now_by a size opened current journal)
   pub either : side < 2 → IsInDoubt b size side current next
       → LeavesEither b size (now_by a size opened current journal) (after (now_by a size opened current journal) (change_in entry (memory_in size next a.content)))
 
 module _ (a b : Facts) (size : Size) (side : ℕ) (opened current next : Record) (journal : List Entry) (entry : Entry) (follows : Follows size current entry next)
-    (areas : SameAreas a.content b.content) (folded : fold (state_of size opened a.content) (told (memory_in size current a.content) journal) ≡ state_of size current a.content) where
+    (areas : SameAreas a.content b.content) (folded : fold (state_of size opened a.content) (told (memory_in size current a.content) journal) ≡ state_of size current a.content)
+    (up : IsUp a size side current) (range : IsInRange size next) (only : LeavesSince a b (SelectsEither size side current next a.content)) where
   abbrev now : DurableState
   now = now_by a size opened current journal
 
@@ -146,15 +142,6 @@ module _ (a b : Facts) (size : Size) (side : ℕ) (opened current next : Record)
       subst (λ (s : DurableState). LeavesEither b size s (after now change)) now_still
       (subst (λ (s : DurableState). LeavesEither b size (state_of size current b.content) s) next_is (doubt_leaves b size side current next known doubt))
 
-  either_moment : LeavesSince a b (SelectsEither size side current next a.content) → LeavesSince a b (StandsForEither size now (after now change))
-  either_moment only =
-      leaves_weaker a b (SelectsEither size side current next a.content) (StandsForEither size now (after now change)) only
-      (λ x either.
-      ⊎_elim
-      (λ old. inl (subst (StandsFor x size) (sym folded) old))
-      (λ new. inr (subst (StandsFor x size) (follows.state a.content ∙ ap (λ (s : DurableState). after s change) (sym folded)) new))
-      (either_stands size side current next a.content x either))
-
   pub issues : Issues a b size side opened current next journal entry
   issues = record {
     found = found_still;
@@ -164,7 +151,14 @@ module _ (a b : Facts) (size : Size) (side : ℕ) (opened current next : Record)
     allowed = allowed_still;
     journal_with = told_next;
     folded_with = folded_more;
-    any_moment = either_moment;
+    up = up;
+    range = range;
+    any_moment = leaves_weaker a b (SelectsEither size side current next a.content) (StandsForEither size now (after now change)) only
+        (λ x either.
+        ⊎_elim
+        (λ old. inl (subst (StandsFor x size) (sym folded) old))
+        (λ new. inr (subst (StandsFor x size) (follows.state a.content ∙ ap (λ (s : DurableState). after s change) (sym folded)) new))
+        (either_stands size side current next a.content x either));
     done = leaves_next;
     undone = leaves_before;
     either = leaves_one;

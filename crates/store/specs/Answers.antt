@@ -48,12 +48,15 @@ CountedRefusal old e new = new ≡ old
 -- What a command did that found no other in doubt, where Does is what it makes of the life. Once acknowledged
 -- it is written, also where it changes nothing in value; and each failure of the disk is answered, has a
 -- cause, and is counted.
-pub record Answered (Does : Life → Change → Result ℕ Refusal → Life → Type 0) (old : StoreView) (c : Change) (result : Result ℕ Refusal) (new : StoreView) : Type 0 where
+pub record Answered (Does : Life → Change → Result ℕ Refusal → Life → Type 0) (old : StoreView) (c : Change)
+    (result : Result ℕ Refusal) (new : StoreView) : Type 0 where
   pub life : Does old.life c result new.life
   pub leaves : GoesTo old.disk new.disk old.size (now_of old.life) (after (now_of old.life) c) result
   pub written : OnOk result (WroteACommand old.disk new.disk)
-  pub cause : MatchResult result (λ n. new.fault_state ≡ old.fault_state) (λ e. CausedRefusal old.fault_state e new.fault_state)
-  pub counts : MatchResult result (λ n. new.disk.failures ≡ old.disk.failures) (λ e. CountedRefusal old.disk.failures e new.disk.failures)
+  pub cause : MatchResult result (λ n. new.fault_state ≡ old.fault_state) (λ e. CausedRefusal old.fault_state e
+      new.fault_state)
+  pub counts : MatchResult result (λ n. new.disk.failures ≡ old.disk.failures) (λ e. CountedRefusal old.disk.failures e
+      new.disk.failures)
 
 -- whatever a command answers: the board stays, its disk is as long, nothing of it is lent, and no failure is
 -- forgotten

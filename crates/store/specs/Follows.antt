@@ -19,7 +19,17 @@ next_of r d =
 -- the record of the state after a suspension whose memory stands in that area
 abbrev pub suspended : Record → ℕ → ℕ → ℕ → ℕ → List ℕ → Record
 suspended r hart address opaque area counts =
-    record { slot = r.slot; reason = r.reason; next = r.next + 1; image = Some (record { head = record { serial = r.next; hart = hart; address = address; opaque = opaque }; area = area; counts = counts }) }
+    record {
+      slot = r.slot;
+      reason = r.reason;
+      next = r.next + 1;
+      image = Some
+          (record {
+            head = record { serial = r.next; hart = hart; address = address; opaque = opaque };
+            area = area;
+            counts = counts;
+          });
+    }
 
 -- the memory, the hart and the address are those of the board
 abbrev pub FitsBoard : Size → List ℕ → ℕ → ℕ → Type 0

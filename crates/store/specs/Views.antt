@@ -70,4 +70,10 @@ module _ {D L : Type 0} {g : Ghosts D L} {l : Lanes L} where
 
   -- all of it
   abbrev pub view_of : Store D L g l → StoreView
-  view_of store = record { disk = disk_of store; fault_state = fault_state_of store; size = size_of_store store; life = life_of store; failures_at_open = failures_at_open store }
+  view_of store = record {
+    disk = disk_of store;
+    fault_state = fault_state_of store;
+    size = size_of_store store;
+    life = life_of store;
+    failures_at_open = failures_at_open store;
+  }

@@ -40,15 +40,22 @@ pub struct Store<D: Disk + Drop> {
     over: bool,
     failures_at_open: u64,
     ghost kept: { Keeps (D.facts disk) shape side current doubt },
-    ghost folded: { fold (state_of shape opened (D.facts disk).content) (map (λ e. change_in e (memory_in shape current (D.facts disk).content)) journal.items) ≡ state_of shape current (D.facts disk).content },
-    ghost doubted: { (x : Doubt) → doubt ≡ Some x → state_of shape x.next (D.facts disk).content ≡ after (state_of shape current (D.facts disk).content) (change_in x.entry (memory_in shape x.next (D.facts disk).content)) },
+    ghost folded: { fold (state_of shape opened (D.facts disk).content)
+        (map (λ e. change_in e (memory_in shape current (D.facts disk).content)) journal.items)
+        ≡ state_of shape current (D.facts disk).content },
+    ghost doubted: { (x : Doubt) → doubt ≡ Some x
+        → state_of shape x.next (D.facts disk).content
+        ≡ after (state_of shape current (D.facts disk).content)
+        (change_in x.entry (memory_in shape x.next (D.facts disk).content)) },
     ghost plain: { over ≡ false → are_plain journal.items ≡ true },
     ghost same_image: { over ≡ false → drop_image journal.items ≡ false → current.image ≡ opened.image },
     ghost room: { vec_capacity journal ≡ 4096 },
     ghost few: { vec_len journal ≤ 4096 },
     ghost failed: { (x : Doubt) → doubt ≡ Some x → Failed failures_at_open (D.facts disk).failures },
     ghost counted: { failures_at_open ≤ (D.facts disk).failures },
-    ghost allowed: { (x : Doubt) → doubt ≡ Some x → refusal_of (state_of shape current (D.facts disk).content) (change_in x.entry (memory_in shape x.next (D.facts disk).content)) ≡ None },
+    ghost allowed: { (x : Doubt) → doubt ≡ Some x
+        → refusal_of (state_of shape current (D.facts disk).content)
+        (change_in x.entry (memory_in shape x.next (D.facts disk).content)) ≡ None },
 }
 
 impl<D: Disk + Drop> Store<D> {
@@ -74,17 +81,23 @@ impl<D: Disk + Drop> Store<D> {
 
         // And the other way: a disk that reads as a refusal is refused so, or by 5; one that stands for a
         // state is opened, but for 5 and 11.
-        ensures refuses { (e : Refusal) → ReadsAs (D.facts disk).content e → MatchResult result (λ store. ⊥) (λ f. (f.1 ≡ e) ⊎ (f.1 ≡ Refusal.Device)) }
-        ensures opens { (size : Size) (s : DurableState) → StandsFor (D.facts disk).content size s → IfErr result (λ f. (f.1 ≡ Refusal.Device) ⊎ (f.1 ≡ Refusal.Memory)) }
+        ensures refuses { (e : Refusal) → ReadsAs (D.facts disk).content e
+            → MatchResult result (λ store. ⊥) (λ f. (f.1 ≡ e) ⊎ (f.1 ≡ Refusal.Device)) }
+        ensures opens { (size : Size) (s : DurableState) → StandsFor (D.facts disk).content size s
+            → IfErr result (λ f. (f.1 ≡ Refusal.Device) ⊎ (f.1 ≡ Refusal.Memory)) }
 
         // A disk without sectors is refused before any call.
-        ensures no_sectors { length (D.facts disk).content ≡ 0 → MatchResult result (λ store. ⊥) (λ f. (f.1 ≡ Refusal.BadShape) × (f.0 ≡ disk)) }
+        ensures no_sectors { length (D.facts disk).content ≡ 0
+            → MatchResult result (λ store. ⊥) (λ f. (f.1 ≡ Refusal.BadShape) × (f.0 ≡ disk)) }
 
         // Whatever it answers.
-        ensures reads_alone { MatchResult result (λ store. ReadsAlone (D.facts disk) (disk_of store)) (λ e. ReadsAlone (D.facts disk) (D.facts e.0)) }
+        ensures reads_alone { MatchResult result (λ store. ReadsAlone (D.facts disk) (disk_of store)) (λ e. ReadsAlone
+            (D.facts disk) (D.facts e.0)) }
         ensures calls { 0 < length (D.facts disk).content
-            → MatchResult result (λ store. (disk_of store).calls ≡ counted (D.facts disk).calls 4) (λ e. OpenCalls e.1 (D.facts disk).calls (D.facts e.0).calls) }
-        ensures cause { MatchResult result (λ store. fault_state_of store ≡ D.fault_state disk) (λ e. CausedRefusal (D.fault_state disk) e.1 (D.fault_state e.0)) }
+            → MatchResult result (λ store. (disk_of store).calls ≡ counted (D.facts disk).calls 4) (λ e. OpenCalls e.1
+            (D.facts disk).calls (D.facts e.0).calls) }
+        ensures cause { MatchResult result (λ store. fault_state_of store ≡ D.fault_state disk) (λ e. CausedRefusal
+            (D.fault_state disk) e.1 (D.fault_state e.0)) }
     {
         let found = match find(&mut disk) {
             Ok(found) => found,
@@ -130,7 +143,9 @@ impl<D: Disk + Drop> Store<D> {
 
     /// The entry of this life's journal at that place, from 1 as receipts count; none past its end.
     pub fn entry(&self, number: u32) -> Option<Entry>
-        ensures some { IfSome result (λ e. (1 ≤ number) × (number ≤ receipts self.now) × ((memory : List ℕ) × (get_or (journal_of self.now) (number - 1) (change_in e memory) ≡ change_in e memory))) }
+        ensures some { IfSome result (λ e. (1 ≤ number) × (number ≤ receipts self.now)
+            × ((memory : List ℕ)
+            × (get_or (journal_of self.now) (number - 1) (change_in e memory) ≡ change_in e memory))) }
         ensures none { result ≡ None → (number ≡ 0) ⊎ (receipts self.now < number) }
     {
         if number == 0 {
@@ -152,9 +167,11 @@ impl<D: Disk + Drop> Store<D> {
     /// then this command is in doubt until the next open. After each refusal but `Down` a crash leaves the
     /// state before.
     pub fn apply(&mut self, command: Command) -> Result<Receipt, Refusal>
-        ensures answered { doubt_of self.old ≡ None → Answered Applied (view_of self.old) (change_of command) result (view_of self.new) }
+        ensures answered { doubt_of self.old ≡ None
+            → Answered Applied (view_of self.old) (change_of command) result (view_of self.new) }
         ensures down { (c : Change) → doubt_of self.old ≡ Some c → (result ≡ Err Refusal.Down) × (self.new ≡ self.old) }
-        ensures untouched { IfErr result (λ e. (e ≡ Refusal.Device → ⊥) → (e ≡ Refusal.Down → ⊥) → self.new ≡ self.old) }
+        ensures untouched { IfErr result (λ e. (e ≡ Refusal.Device → ⊥) → (e ≡ Refusal.Down → ⊥)
+            → self.new ≡ self.old) }
         ensures calls { OnOk result ((disk_of self.new).calls ≡ counted (disk_of self.old).calls 4) }
         ensures life { IsErrOf result Refusal.Down → Failed (failures_at_open self.new) (disk_of self.new).failures }
         ensures stays { StaysOpen (view_of self.old) (view_of self.new) }
@@ -181,10 +198,12 @@ impl<D: Disk + Drop> Store<D> {
         address: Addr,
         opaque: u64,
     ) -> Result<Receipt, Refusal>
-        ensures answered { doubt_of self.old ≡ None → Answered (Suspended (FitsBoard (size_of_store self.old) ram.now hart address))
+        ensures answered { doubt_of self.old ≡ None
+            → Answered (Suspended (FitsBoard (size_of_store self.old) ram.now hart address))
             (view_of self.old) (Suspend hart address opaque ram.now) result (view_of self.new) }
         ensures down { (c : Change) → doubt_of self.old ≡ Some c → (result ≡ Err Refusal.Down) × (self.new ≡ self.old) }
-        ensures untouched { IfErr result (λ e. (e ≡ Refusal.Device → ⊥) → (e ≡ Refusal.Down → ⊥) → (e ≡ Refusal.Memory → ⊥) → self.new ≡ self.old) }
+        ensures untouched { IfErr result (λ e. (e ≡ Refusal.Device → ⊥) → (e ≡ Refusal.Down → ⊥)
+            → (e ≡ Refusal.Memory → ⊥) → self.new ≡ self.old) }
         ensures calls { OnOk result ((disk_of self.new).calls ≡ counted (disk_of self.old).calls 5) }
         ensures life { IsErrOf result Refusal.Down → Failed (failures_at_open self.new) (disk_of self.new).failures }
         ensures stays { StaysOpen (view_of self.old) (view_of self.new) }
@@ -218,9 +237,12 @@ impl<D: Disk + Drop> Store<D> {
 
     /// Whether a suspension may go to the disk.
     fn may_suspend(&self, ram: &Ram, hart: HartId, address: Addr) -> Result<(), Refusal>
-        ensures ok { OnOk result ((self.now.doubt ≡ None) × (self.now.over ≡ false) × (receipts self.now < 4096) × FitsBoard self.now.shape ram.now hart address × (self.now.current.next + 1 < 2 ^ 64)) }
+        ensures ok { OnOk result
+            ((self.now.doubt ≡ None) × (self.now.over ≡ false) × (receipts self.now < 4096)
+            × FitsBoard self.now.shape ram.now hart address × (self.now.current.next + 1 < 2 ^ 64)) }
         ensures refused { IfErr result (λ e. (opaque : ℕ) → doubt_of self.now ≡ None
-            → SuspendRefused (FitsBoard self.now.shape ram.now hart address) (life_of self.now) (Suspend hart address opaque ram.now) e (life_of self.now)) }
+            → SuspendRefused (FitsBoard self.now.shape ram.now hart address) (life_of self.now)
+            (Suspend hart address opaque ram.now) e (life_of self.now)) }
         ensures up { IfErr result (λ e. doubt_of self.now ≡ None → e ≡ Refusal.Down → ⊥) }
         ensures not_device { IsErrOf result Refusal.Device → ⊥ }
         ensures down { (c : Change) → doubt_of self.now ≡ Some c → result ≡ Err Refusal.Down }
@@ -248,16 +270,21 @@ impl<D: Disk + Drop> Store<D> {
         requires ram { length ram.now ≡ ram_bytes_of self.old.shape }
         ensures area { IfOk result (λ saved. saved.0 < 2) }
         ensures counts { IfOk result (λ saved. AreCounts self.old.shape saved.1) }
-        ensures reads { IfOk result (λ saved. memory_of self.old.shape self.old.current.next saved.1 (area_of self.old.shape saved.0 (disk_of self.new).content) ≡ ram.now) }
+        ensures reads { IfOk result (λ saved. memory_of self.old.shape self.old.current.next saved.1
+            (area_of self.old.shape saved.0 (disk_of self.new).content) ≡ ram.now) }
         ensures size { OnOk result (IsSize self.old.shape) }
         ensures life { life_of self.new ≡ record (life_of self.old) { found = found_state self.new } }
         ensures reseen { IsReseen (life_of self.old) (found_state self.new) }
-        ensures any_moment { LeavesSince (disk_of self.old) (disk_of self.new) (λ c. StandsFor c (size_of_store self.old) (now_state self.old)) }
-        ensures refused { IfErr result (λ e. WriteRefused (disk_of self.old) (fault_state_of self.old) e (disk_of self.new) (fault_state_of self.new)) }
+        ensures any_moment { LeavesSince (disk_of self.old) (disk_of self.new) (λ c. StandsFor c
+            (size_of_store self.old) (now_state self.old)) }
+        ensures refused { IfErr result (λ e. WriteRefused (disk_of self.old) (fault_state_of self.old) e
+            (disk_of self.new) (fault_state_of self.new)) }
         ensures no_failure { OnOk result ((disk_of self.new).failures ≡ (disk_of self.old).failures) }
         ensures unmoved { OnOk result (fault_state_of self.new ≡ fault_state_of self.old) }
         ensures calls { OnOk result ((disk_of self.new).calls ≡ counted (disk_of self.old).calls 1) }
-        ensures same { (self.new.doubt ≡ self.old.doubt) × (self.new.over ≡ self.old.over) × (self.new.current ≡ self.old.current) × (self.new.shape ≡ self.old.shape) × (self.new.journal ≡ self.old.journal) × (self.new.failures_at_open ≡ self.old.failures_at_open) }
+        ensures same { (self.new.doubt ≡ self.old.doubt) × (self.new.over ≡ self.old.over)
+            × (self.new.current ≡ self.old.current) × (self.new.shape ≡ self.old.shape)
+            × (self.new.journal ≡ self.old.journal) × (self.new.failures_at_open ≡ self.old.failures_at_open) }
         ensures selected { selected (disk_of self.new).content ≡ selected (disk_of self.old).content }
         ensures length { SameLength (disk_of self.old) (disk_of self.new) }
         ensures none_out { IsIdle (disk_of self.new) }
@@ -271,9 +298,11 @@ impl<D: Disk + Drop> Store<D> {
     /// Commits an entry that may go to the disk.
     fn issue(&mut self, entry: Entry, next: Record) -> Result<Receipt, Refusal>
         requires up { self.old.doubt ≡ None }
-        requires reaches { Reaches (life_of self.old) (change_in entry (memory_in self.old.shape next (disk_of self.old).content)) }
+        requires reaches { Reaches (life_of self.old)
+            (change_in entry (memory_in self.old.shape next (disk_of self.old).content)) }
         requires follows { Follows self.old.shape self.old.current entry next }
-        ensures answered { Answered Applied (view_of self.old) (change_in entry (memory_in self.old.shape next (disk_of self.old).content)) result (view_of self.new) }
+        ensures answered { Answered Applied (view_of self.old)
+            (change_in entry (memory_in self.old.shape next (disk_of self.old).content)) result (view_of self.new) }
         ensures few { IfErr result (λ e. (e ≡ Refusal.Device) ⊎ (e ≡ Refusal.Down)) }
         ensures calls { OnOk result ((disk_of self.new).calls ≡ counted (disk_of self.old).calls 4) }
         ensures life { IsErrOf result Refusal.Down → Failed (failures_at_open self.new) (disk_of self.new).failures }
@@ -300,7 +329,8 @@ impl<D: Disk + Drop> Store<D> {
     fn next_for(&self, command: Command) -> Result<Record, Refusal>
         ensures ok { IfOk result (λ next. (self.now.doubt ≡ None) × Reaches (life_of self.now) (change_of command)
             × Follows self.now.shape self.now.current (Entry.Command command) next) }
-        ensures refused { IfErr result (λ e. doubt_of self.now ≡ None → Refused (life_of self.now) (change_of command) e (life_of self.now)) }
+        ensures refused { IfErr result (λ e. doubt_of self.now ≡ None
+            → Refused (life_of self.now) (change_of command) e (life_of self.now)) }
         ensures up { IfErr result (λ e. doubt_of self.now ≡ None → e ≡ Refusal.Down → ⊥) }
         ensures not_device { IsErrOf result Refusal.Device → ⊥ }
         ensures down { (c : Change) → doubt_of self.now ≡ Some c → result ≡ Err Refusal.Down }
@@ -317,12 +347,16 @@ impl<D: Disk + Drop> Store<D> {
     /// `BadImage` the memory is of no use.
     pub fn load_image(&mut self, ram: &mut Ram) -> Result<(), Refusal>
         ensures loads { OnOk result (IsLoaded (now_state self.old) ram.new) }
-        ensures refused { IfErr result (λ e. LoadRefused (size_of_store self.old) (now_state self.old) ram.old (disk_of self.old) (fault_state_of self.old) e (disk_of self.new) (fault_state_of self.new)) }
+        ensures refused { IfErr result (λ e. LoadRefused (size_of_store self.old) (now_state self.old) ram.old
+            (disk_of self.old) (fault_state_of self.old) e (disk_of self.new) (fault_state_of self.new)) }
         ensures length { length ram.new ≡ length ram.old }
         ensures life { life_of self.new ≡ life_of self.old }
         ensures reads_alone { ReadsAlone (disk_of self.old) (disk_of self.new) }
-        ensures no_failure { OnOk result (((disk_of self.new).failures ≡ (disk_of self.old).failures) × (fault_state_of self.new ≡ fault_state_of self.old)) }
-        ensures calls { OnOk result ((disk_of self.new).calls ≡ counted (disk_of self.old).calls (2 * (size_of_store self.old).pages)) }
+        ensures no_failure { OnOk result
+            (((disk_of self.new).failures ≡ (disk_of self.old).failures)
+            × (fault_state_of self.new ≡ fault_state_of self.old)) }
+        ensures calls { OnOk result
+            ((disk_of self.new).calls ≡ counted (disk_of self.old).calls (2 * (size_of_store self.old).pages)) }
         ensures stays { StaysOpen (view_of self.old) (view_of self.new) }
     {
         if ram.pages() != self.shape.pages() {
@@ -359,7 +393,8 @@ impl<D: Disk + Drop> Store<D> {
     /// nothing.
     pub fn stands(&self)
         ensures up { (s : DurableState) → Stands self.now s → LeavesOnly (disk_of self.now) (size_of_store self.now) s }
-        ensures down { (s t : DurableState) → Doubts self.now s t → LeavesEither (disk_of self.now) (size_of_store self.now) s t }
+        ensures down { (s t : DurableState) → Doubts self.now s t
+            → LeavesEither (disk_of self.now) (size_of_store self.now) s t }
         ensures allowed { (c : Change) → doubt_of self.now ≡ Some c → refusal_of (now_state self.now) c ≡ None }
     {}
 
@@ -393,8 +428,11 @@ impl<D: Disk + Drop> Store<D> {
 
 /// The record that the command makes. Refused `BadSlot` and `NoImage` by the table of commands.
 fn record_after(old: &Record, command: Command) -> Result<Record, Refusal>
-    ensures ok { IfOk result (λ next. (size : Size) (content : Content) → (refusal_of (state_of size old.now content) (change_of command) ≡ None) × Follows size old.now (Entry.Command command) next) }
-    ensures refused { IfErr result (λ e. (size : Size) (content : Content) → refusal_of (state_of size old.now content) (change_of command) ≡ Some (number_of_refusal e)) }
+    ensures ok { IfOk result (λ next. (size : Size) (content : Content)
+        → (refusal_of (state_of size old.now content) (change_of command) ≡ None)
+        × Follows size old.now (Entry.Command command) next) }
+    ensures refused { IfErr result (λ e. (size : Size) (content : Content)
+        → refusal_of (state_of size old.now content) (change_of command) ≡ Some (number_of_refusal e)) }
     ensures few { IfErr result (λ e. (e ≡ Refusal.BadSlot) ⊎ (e ≡ Refusal.NoImage)) }
 {
     let durable = old.durable().after(command)?;
@@ -428,7 +466,8 @@ fn fits_board(shape: &Shape, ram: &Ram, hart: HartId, address: Addr) -> bool
 
 /// The area that the record's image does not use, area 0 where there is none.
 fn free_area(r: &Record) -> Side
-    ensures free { (saved : Saved) → r.now.image ≡ Some saved → (result ≡ 0 → saved.area ≡ 0 → ⊥) × (result ≡ 1 → saved.area ≡ 1 → ⊥) }
+    ensures free { (saved : Saved) → r.now.image ≡ Some saved
+        → (result ≡ 0 → saved.area ≡ 0 → ⊥) × (result ≡ 1 → saved.area ≡ 1 → ⊥) }
     ensures first { r.now.image ≡ None → result ≡ 0 }
     ensures range { result < 2 }
 {

@@ -8,24 +8,19 @@ use Rattle.store.specs.Standing.{state_of}
 use Rattle.board_model.specs.Shapes.{Size}
 use Rattle.store.specs.Views.{life_of, found_state, now_state, view_of}
 use Rattle.store.proofs.Suspending.{now_still}
-use Rattle.store.proofs.Answering.{refused_still, then_issued, unwritten}
+use Rattle.store.proofs.Answering.{refused_up, then_issued, unwritten}
 use Rattle.store.proofs.Found.{none_in_doubt}
 use Rattle.store.proofs.States.{up_leaves}
-use Rattle.store.proofs.Applies.{still_stands}
 use Rattle.store.proofs.stores.Store.suspend.Goals as goal
 
 pub returns-in_err-may_suspend-clause-answered : goal.returns-in_err-may_suspend-clause-answered
 returns-in_err-may_suspend-clause-answered g c none =
     let p = err_from_is_err_and c.from_residual.result c.from_residual.ensures.1 in
     let s = c.args.self.now in
-    let a = g.D.Disk.facts s.disk in
-    let up = s.kept.up (none_in_doubt _ s.doubt none) in
     let e = c.in_err-may_suspend.ensures in
     rw (p.1, p.2)
-    (refused_still (Suspended (FitsBoard s.shape c.args.ram.now c.args.hart c.args.address)) (view_of s) _ _
+    (refused_up (Suspended (FitsBoard s.shape c.args.ram.now c.args.hart c.args.address)) (view_of s) s.side s.current _ _ (g.met.D.Disk.only_now _) (s.kept.up (none_in_doubt _ s.doubt none)) s.folded
     (record { reseen = record { heads = refl; now = refl }; told = e.refused c.args.opaque none })
-    (still_stands a s.shape s.side s.current _ _ (g.met.D.Disk.only_now _) up s.folded)
-    (subst (LeavesOnly a s.shape) (sym s.folded) (up_leaves a s.shape s.side s.current up))
     (λ is. c.may_suspend.ensures.not_device (c.in_err-may_suspend.was ∙ ap Err is)) (e.up none))
 
 pub returns-in_err-area-clause-answered : goal.returns-in_err-area-clause-answered
