@@ -6,7 +6,7 @@ ghost use Rattle.hart_threads.specs.Seated.{IsSeated, StandsAfterTurn, StandsAft
 ghost use Rattle.hart_threads.specs.Threads.{seated, loop_goes_on, TurnOnce, LoopOnce};
 
 use crate::gates::Gate;
-use crate::once::{make_held, turn};
+use crate::once::{SharedBus, make_held};
 use board_model::Shape;
 use crew::Crew;
 use disk::Disk;
@@ -17,6 +17,7 @@ use sbi_calls::{Seats, Tables};
 use std::alloc::Global;
 use std::sync::{Mutex, Wait};
 use store::Store;
+use turns::turn_by_bus;
 
 /// Why a loop ended.
 #[derive(Clone, Copy, Debug, PartialEq, Eq, Drop)]
@@ -71,7 +72,8 @@ fn whole_turn<R: Wait, D: Disk + Drop, C: Crew>(
     ensures id { hart.new.id ≡ hart.old.id }
     ensures once { TurnOnce shape.now (seated hart.old (known seats)) (seated hart.new (known result.0)) result.1 }
 {
-    let (seats, turned) = turn(rt, hart, seats, tables, shape, bus);
+    let mut shared = SharedBus { rt, ram: bus };
+    let (seats, turned) = turn_by_bus(hart, seats, tables, &mut shared, shape);
     match turned {
         Turned::Durable => {
             let (seats, held) = make_held(rt, alloc, hart, seats, tables, shape, bus, store, crew);

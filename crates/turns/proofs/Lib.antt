@@ -1,3 +1,4 @@
+pub mod Asking
 pub mod Begun
 pub mod OneTurn
 pub mod Running

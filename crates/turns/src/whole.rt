@@ -1,11 +1,14 @@
-//! A whole turn, where the memory is at hand.
+//! A whole turn.
 
-ghost use Rattle.std.specs.Prelude.{◌≡◌, ◌<◌};
-ghost use Rattle.sbi_calls.specs.Both.{AreTablesOf, AreSeatsOfBoth, GivesBack, known};
+ghost use Rattle.std.specs.Prelude.{◌≡◌, ◌<◌, ℕ, List};
+ghost use Rattle.hsm_words.specs.declared.view.Stage.TheVariants.{Running};
+ghost use Rattle.sbi_calls.specs.Both.{AreTablesOf, AreSeatsOfBoth, GivesBack, Acts, known};
 ghost use Rattle.turns.specs.Own.{TurnOwn};
 ghost use Rattle.turns.specs.Turns.{Rests, TurnsAlone};
+ghost use Rattle.turns.specs.declared.words.Turned.TheVariants as did;
 
 use crate::begins::begin;
+use crate::buses::Bus;
 use crate::finishes::finish;
 use crate::words::{Ready, Turned};
 use board_model::Shape;
@@ -13,7 +16,45 @@ use hart::Hart;
 use ram::Ram;
 use sbi_calls::{Seats, Tables};
 
-/// One turn of a hart.
+/// One turn of a hart, wherever its step finds the memory. The bus is asked for a step of a STARTED hart
+/// alone.
+#[inline(always)]
+pub fn turn_by_bus<B: Bus>(
+    hart: &mut Hart,
+    seats: Seats,
+    tables: &Tables,
+    bus: &mut B,
+    shape: &Shape,
+) -> (Seats, Turned)
+    requires tables { AreTablesOf shape.now tables.now }
+    requires seats { AreSeatsOfBoth tables.now seats }
+    requires hart { hart.old.id < shape.now.harts }
+    requires rests { Rests hart.old.id seats }
+    ensures gives { GivesBack tables.entry.now hart.old.id seats result.0 }
+    ensures rests { Rests hart.old.id result.0 }
+    ensures id { hart.new.id ≡ hart.old.id }
+    ensures asks { result.1 ≡ did.Durable → Acts hart.old.id Running result.0 }
+    ensures turns { (found : List ℕ) × (left : List ℕ) × B.may_hold bus.old found × B.may_hold bus.new left
+        × TurnOwn shape.now hart.old found hart.new left (known seats) (known result.0) result.1
+        × TurnsAlone shape.now hart.old found hart.new left seats result.0 result.1 }
+{
+    let (seats, ready) = begin(seats, tables, hart.id());
+    match ready {
+        Ready::Idle => (seats, Turned::Idle),
+        Ready::Woke => (seats, Turned::Woke),
+        Ready::Enters(address, opaque) => {
+            *hart = Hart::fresh(hart.id(), address.value(), opaque);
+            (seats, Turned::Entered)
+        }
+        Ready::Steps(pending) => {
+            let outcome = bus.step(hart, pending);
+            hart::one_number();
+            finish(outcome, hart, seats, tables, shape)
+        }
+    }
+}
+
+/// One turn of a hart, where the memory is at hand.
 pub fn turn(
     hart: &mut Hart,
     seats: Seats,
@@ -31,18 +72,5 @@ pub fn turn(
     ensures own { TurnOwn shape.now hart.old ram.old hart.new ram.new (known seats) (known result.0) result.1 }
     ensures alone { TurnsAlone shape.now hart.old ram.old hart.new ram.new seats result.0 result.1 }
 {
-    let (seats, ready) = begin(seats, tables, hart.id());
-    match ready {
-        Ready::Idle => (seats, Turned::Idle),
-        Ready::Woke => (seats, Turned::Woke),
-        Ready::Enters(address, opaque) => {
-            *hart = Hart::fresh(hart.id(), address.value(), opaque);
-            (seats, Turned::Entered)
-        }
-        Ready::Steps(pending) => {
-            let outcome = hart.step(ram, pending);
-            hart::one_number();
-            finish(outcome, hart, seats, tables, shape)
-        }
-    }
+    turn_by_bus(hart, seats, tables, ram, shape)
 }
