@@ -1,23 +1,37 @@
 -- A call as something that a hart of a machine did.
-use Rattle.std.proofs.Common.{◌≡◌, ◌≢◌, ℕ, List, refl, sym, ap, ◌∙◌, subst}
+use Rattle.std.proofs.Common.{◌≡◌, ◌≢◌, ℕ, List, refl, sym, ap, ◌∙◌, subst, ⊎_elim, inl, inr}
 use Rattle.atomic_table.specs.declared.shared.Seat.{Seat}
 use Rattle.board_model.specs.Shapes.{Size}
 use Rattle.hart.specs.State.{ArchState}
 use Rattle.hart.specs.declared.Outcome.TheVariants.{Ecall}
 use Rattle.hsm_steps.specs.Seating as seating
 use Rattle.hsm_words.specs.declared.view.HartSeatView.{HartSeatView}
-use Rattle.hsm.specs.Calls.{ActsAlone, KeepsAll, named}
+use Rattle.hsm_words.specs.declared.view.HartView.{HartView}
+use Rattle.hsm_words.specs.declared.view.Stage.TheVariants.{Out, Running, Asleep}
+use Rattle.hsm_rule.specs.Rule.{stands}
+use Rattle.hsm.specs.Calls.{ActsAlone, KeepsAll, KeepsOthers, named}
 use Rattle.hsm.specs.Views.{listed}
 use Rattle.hsm.specs.declared.state.State.{State as Code}
 use Rattle.hsm.specs.declared.state.State.TheVariants as codes
 use Rattle.sbi_calls.specs.declared.tables.Tables.{Tables}
 use Rattle.sbi_calls.specs.declared.tables.Seats.{Seats}
 use Rattle.sbi_calls.specs.Both.{TableState, IsTable, AreSeatsOfBoth, GivesBack, views, harts_known}
-use Rattle.turns.specs.Turns.{Finishes, FinishesAlone}
+use Rattle.turns.specs.Turns.{RestsAt, Finishes, FinishesAlone}
 use Rattle.turns.specs.declared.words.Turned.{Turned}
 use Rattle.machine.specs.declared.parts.Called.TheVariants.{NotStarted, Made}
 use Rattle.machine.specs.Turns.{MakesCallAlone}
-use Rattle.machine.proofs.Own.{is_started, others_kept, kept_then}
+use Rattle.turns.proofs.Begun.{is_started}
+
+-- ---- a look keeps each hart where it stands
+pub rests_kept : (h : ℕ) (vs vs' : List HartView) → KeepsAll vs vs' → RestsAt h vs → RestsAt h vs'
+rests_kept h vs vs' k r =
+    ⊎_elim (λ (o : stands h Out vs). inl (k.stages h Out o)) (⊎_elim (λ (o : stands h Running vs). inr (inl (k.stages h Running o))) (λ (o : stands h Asleep vs). inr (inr (k.stages h Asleep o)))) r
+
+others_kept : (h : ℕ) (a b : List HartView) → KeepsAll a b → KeepsOthers h a b
+others_kept h a b k = record { harts = k.harts; stages = λ j st ne s. k.stages j st s }
+
+kept_then : (h : ℕ) (a b c : List HartView) → KeepsAll a b → KeepsOthers h b c → KeepsOthers h a c
+kept_then h a b c k o = record { harts = o.harts ∙ k.harts; stages = λ j st ne s. o.stages j st ne (k.stages j st s) }
 
 -- the same seats, but for that of the hart table
 abbrev pub with_harts : Seats → Seat (Unit {0}) HartSeatView → Seats

@@ -1,41 +1,28 @@
 -- A durable call as something that a hart of a machine did.
-use Rattle.std.proofs.Common.{◌≡◌, ℕ, ◌<◌, true≢false, List, [], ◌∷◌, Option, Some, refl, sym, ap, ◌∙◌, subst, ⊎_elim, inl, inr}
-use Rattle.std.specs.Prelude.{length, get_or}
+use Rattle.std.proofs.Common.{◌≡◌, ℕ, true≢false, List, [], ◌∷◌, Option, refl, sym, ap, ◌∙◌, subst, ⊎_elim, inl, inr}
 use Rattle.disk.specs.declared.device.Disk.{Ghosts}
 use Rattle.disk.specs.declared.device.Lane.{Ghosts as Lanes}
 use Rattle.board_model.specs.Shapes.{Size}
-use Rattle.hart.specs.State.{ArchState, never_started}
+use Rattle.hart.specs.State.{ArchState}
 use Rattle.hsm_words.specs.declared.view.HartSeatView.{HartSeatView}
 use Rattle.hsm_words.specs.declared.view.HartView.{HartView}
 use Rattle.hsm_words.specs.declared.view.Stage.{Stage}
 use Rattle.hsm_words.specs.declared.view.Stage.TheVariants.{Out, Running, Asleep}
 use Rattle.hsm_rule.specs.Rule.{stands}
 use Rattle.hsm_rule.specs.States.{HartState, started, is_running, IsIn}
-use Rattle.hsm.specs.Calls.{KeepsOthers}
 use Rattle.hsm.specs.Views.{listed}
 use Rattle.store.specs.declared.stores.Store.{Store}
 use Rattle.sbi_abi.specs.Calls.{call_of}
 use Rattle.sbi_abi.specs.declared.call.Call.{Call}
-use Rattle.sbi_calls.specs.declared.tables.Tables.{Tables}
 use Rattle.sbi_calls.specs.declared.tables.Seats.{Seats}
-use Rattle.sbi_calls.specs.Both.{TableState, IsTable, GivesBack, Acts, views, harts_known}
+use Rattle.sbi_calls.specs.Both.{TableState, IsTable, Acts, harts_known}
 use Rattle.sbi.specs.declared.dispatches.Held.{Held}
 use Rattle.sbi.specs.Helds.{HeldAlone}
 use Rattle.turns.specs.Turns.{RestsAt}
-use Rattle.machine.specs.Held.{table_of, shown_by, IsHeld}
-use Rattle.machine.specs.Durables.{HeldOf}
-use Rattle.machine.proofs.Holding.{all_seats, numbered_at, seat_rests, DoneAlone}
-
--- ---- one call after another
-others_then : (h : ℕ) (a b c : List HartView) → KeepsOthers h a b → KeepsOthers h b c → KeepsOthers h a c
-others_then h a b c p q = record { harts = q.harts ∙ p.harts; stages = λ k st ne s. q.stages k st ne (p.stages k st ne s) }
-
-pub gives_then : {t : Tables} (h : ℕ) (a b c : Seats) → GivesBack t h a b → GivesBack t h b c → GivesBack t h a c
-gives_then h a b c p q = record {
-  seats = q.seats;
-  others = others_then h (views a) (views b) (views c) p.others q.others;
-  pairs = record { harts = q.pairs.harts ∙ p.pairs.harts; each = λ k. q.pairs.each k ∙ p.pairs.each k };
-}
+use Rattle.machine.specs.declared.machine.Machine.TheInside.{Inside}
+use Rattle.machine.specs.Held.{table_of, shown_by}
+use Rattle.machine.specs.Durables.{IsHartStarted, HeldOf}
+use Rattle.machine.proofs.Holding.{Finds, shown_as, seats_found, low_number, seat_rests, DoneAlone}
 
 -- ---- a STARTED hart at rest has nothing in flight
 one_stage : (h : ℕ) (vs : List HartView) (a b : Stage) → stands h a vs → stands h b vs → a ≡ b
@@ -54,15 +41,12 @@ runs_at h c is rests =
     (λ (o : stands h Asleep c.harts). absurd (true≢false (sym is.2 ∙ ap is_running (one_stage h c.harts is.0 Asleep is.1 o)))))
     rests
 
-pub started_acts : (size : Size) (harts : List ArchState) (t : Tables) (os : Option Seats) (s : Seats) (id : ℕ) (x : ArchState) → IsHeld size harts t os → os ≡ Some s → id < length harts → x ≡ get_or harts id (never_started id)
-    → listed (table_of size.harts os).states (get_or harts id (never_started id)).id ≡ started → Acts x.id Running s
-started_acts size harts t os s id x held e lt read is =
-    let a = all_seats size harts t os s held e in
-    let rests = seat_rests size harts t os s id x held e lt read in
-    let low : x.id < size.harts = subst (λ (n : ℕ). x.id < n) held.long (subst (λ (k : ℕ). k < length harts) (sym (numbered_at harts id x held.numbered lt read)) lt) in
-    let at_x : listed (table_of size.harts os).states x.id ≡ started = subst (λ (z : ArchState). listed (table_of size.harts os).states z.id ≡ started) (sym read) is in
-    let at : listed (shown_by size.harts s).states x.id ≡ started = subst (λ (o : Option Seats). listed (table_of size.harts o).states x.id ≡ started) e at_x in
-    let shown : IsIn (harts_known s) x.id started = subst (λ (y : HartState). IsIn (harts_known s) x.id y) at (a.shows.0.1 x.id low) in
+pub started_acts : {a : Inside} {s : Seats} {i id : ℕ} {x : ArchState} → Finds a s i id x → IsHartStarted id (shown_as a) → Acts x.id Running s
+started_acts {a} {s} {i} {id} {x} found is =
+    let at_x : listed (table_of a.shape.harts a.seats).states x.id ≡ started = subst (λ (z : ArchState). listed (table_of a.shape.harts a.seats).states z.id ≡ started) (sym found.read) is in
+    let at : listed (shown_by a.shape.harts s).states x.id ≡ started = subst (λ (o : Option Seats). listed (table_of a.shape.harts o).states x.id ≡ started) found.taken at_x in
+    let shown : IsIn (harts_known s) x.id started = subst (λ (y : HartState). IsIn (harts_known s) x.id y) at ((seats_found found).shows.0.1 x.id (low_number found)) in
+    let rests = seat_rests found in
     (runs_at x.id (harts_known s) shown rests.0, rests.1)
 
 -- ---- with a store
@@ -74,5 +58,5 @@ module _ {D L : Type 0} {g : Ghosts D L} {l : Lanes L} where
       subst (λ (k : ℕ). HeldAlone k memory call s t a c old new held) e (λ x are. let r = did x are in (r.0, still x r.1))
 
   pub held_action : (size : Size) (memory : List ℕ) (s t : ArchState) (a b : Seats) (old new : Store D L g l) (held : Held) → HeldAlone size.harts memory (call_of s) s t a b old new held
-      → DoneAlone (λ x y. HeldOf size x y old new held) size.harts s memory t memory a b
+      → DoneAlone (λ z x y. HeldOf z x y old new held) size s memory t memory a b
   held_action size memory s t a b old new held did x are = let r = did x are in (x, (r.0, refl, refl), r.1)

@@ -20,6 +20,7 @@ use Rattle.sbi_calls.specs.declared.tables.Tables.{Tables}
 use Rattle.sbi_calls.specs.declared.tables.Seats.{Seats}
 use Rattle.sbi_calls.specs.Both.{TableState, IsTable, GivesBack, views, harts_known, pair_crew}
 use Rattle.turns.specs.Turns.{Moment, moment, Rests, RestsAt}
+use Rattle.machine.specs.declared.machine.Machine.TheInside.{Inside}
 use Rattle.machine.specs.Machine.{Machine}
 use Rattle.machine.specs.Turns.{DoneBy}
 use Rattle.machine.specs.Held.{shown_by, table_of, AreWhole, AreAllSeats, AreNumbered, IsHeld}
@@ -30,6 +31,10 @@ IsOneList = (harts : ℕ) (c : HartSeatView) (states : List HartState) → AreSt
 abbrev pub IsOneSet : Type 0
 IsOneSet = (harts : ℕ) (c : Pairs) (pairs : List (List Bool)) → ArePairs harts c pairs → pairs_in harts c ≡ pairs
 
+-- the machine that the fields show
+abbrev pub shown_as : Inside → Machine
+shown_as a = record { size = a.shape; memory = a.ram; harts = a.harts.items; table = table_of a.shape.harts a.seats }
+
 -- seats show one table
 pub one_shown : IsOneList → IsOneSet → (harts : ℕ) (s : Seats) (t : TableState) → IsTable harts s t → shown_by harts s ≡ t
 one_shown one set harts s t is =
@@ -38,20 +43,25 @@ one_shown one set harts s t is =
     ap (λ (l : List HartState). let r : TableState = record { states = l; pairs = pairs_in harts (pair_crew s) } in r) x
     ∙ ap (λ (p : List (List Bool)). let r : TableState = record { states = t.states; pairs = p } in r) y
 
-pub read_at : (harts : List ArchState) (i id : ℕ) (x : ArchState) → i ≡ id → id < length harts → x ≡ get_or harts i x → x ≡ get_or harts id (never_started id)
+read_at : (harts : List ArchState) (i id : ℕ) (x : ArchState) → i ≡ id → id < length harts → x ≡ get_or harts i x → x ≡ get_or harts id (never_started id)
 read_at harts i id x at lt e = e ∙ (ap (λ (k : ℕ). get_or harts k x) at ∙ get_or_default harts id x (never_started id) lt)
-
--- the number of a hart that was read at its place
-pub numbered_at : (harts : List ArchState) (id : ℕ) (x : ArchState) → AreNumbered harts → id < length harts → x ≡ get_or harts id (never_started id) → x.id ≡ id
-numbered_at harts id x all lt e = ap (λ (s : ArchState). s.id) e ∙ all id lt
 
 pub all_seats : (size : Size) (harts : List ArchState) (t : Tables) (os : Option Seats) (s : Seats) → IsHeld size harts t os → os ≡ Some s → AreWhole size.harts t s
 all_seats size harts t os s held e = subst (λ (o : Option Seats). AreAllSeats size.harts t o) e held.seats
 
-pub seat_rests : (size : Size) (harts : List ArchState) (t : Tables) (os : Option Seats) (s : Seats) (id : ℕ) (x : ArchState) → IsHeld size harts t os → os ≡ Some s → id < length harts → x ≡ get_or harts id (never_started id) → Rests x.id s
-seat_rests size harts t os s id x held e lt read =
-    let a = all_seats size harts t os s held e in
-    subst (λ (h : ℕ). Rests h s) (sym (numbered_at harts id x held.numbered lt read)) (a.rests id (subst (λ (n : ℕ). id < n) held.long lt))
+-- What a call of hart `id` finds in the fields of a machine: the seats of all harts, which it took out of their
+-- place, and the hart, which it read at its own.
+pub record Finds (a : Inside) (s : Seats) (i id : ℕ) (x : ArchState) : Type 0 where
+  pub held : IsHeld a.shape a.harts.items a.tables a.seats
+  pub taken : a.seats ≡ Some s
+  pub at : i ≡ id
+  pub low : id < length a.harts.items
+  pub read : x ≡ get_or a.harts.items id (never_started id)
+
+pub finds : {a : Inside} {old : Machine} {s : Seats} {i id : ℕ} {x : ArchState} → shown_as a ≡ old → IsHeld a.shape a.harts.items a.tables a.seats → a.seats ≡ Some s → i ≡ id → id < length old.harts → x ≡ get_or a.harts.items i x → Finds a s i id x
+finds {a} {old} {s} {i} {id} {x} view held taken at low read =
+    let within : id < length a.harts.items = subst (λ (m : Machine). id < length m.harts) (sym view) low in
+    record { held = held; taken = taken; at = at; low = within; read = read_at a.harts.items i id x at within read }
 
 others_rest_at : (h k : ℕ) (a b : List HartView) → KeepsOthers h a b → k ≢ h → RestsAt k a → RestsAt k b
 others_rest_at h k a b o ne r =
@@ -60,56 +70,76 @@ others_rest_at h k a b o ne r =
 others_rest : (h k : ℕ) (t : Tables) (s s' : Seats) → GivesBack t h s s' → k ≢ h → Rests k s → Rests k s'
 others_rest h k t s s' gives ne r = (others_rest_at h k (views s) (views s') gives.others ne r.0, gives.pairs.each k ∙ r.1)
 
--- what a hart did, as a relation of two moments
+-- what a hart did, as a relation of two moments, on a board of that size
 abbrev pub Action : Type 1
-Action = Moment → Moment → Type 0
+Action = Size → Moment → Moment → Type 0
 
 -- with the seats of all harts it was done: whatever they show before it, they show what it makes of that
-abbrev pub DoneAlone : Action → ℕ → ArchState → List ℕ → ArchState → List ℕ → Seats → Seats → Type 0
-DoneAlone Does harts x m y n s s' = (t : TableState) → IsTable harts s t → (t' : TableState) × Does (moment t x m) (moment t' y n) × IsTable harts s' t'
+abbrev pub DoneAlone : Action → Size → ArchState → List ℕ → ArchState → List ℕ → Seats → Seats → Type 0
+DoneAlone Does size x m y n s s' = (t : TableState) → IsTable size.harts s t → (t' : TableState) × Does size (moment t x m) (moment t' y n) × IsTable size.harts s' t'
 
-module _ (size : Size) (harts : List ArchState) (t : Tables) (os : Option Seats) (s s' : Seats) (i id : ℕ) (x y : ArchState) (m n : List ℕ) (Does : Action)
-    (one : IsOneList) (set : IsOneSet) (held : IsHeld size harts t os) (taken : os ≡ Some s) (at : i ≡ id) (lt : id < length harts) (read : x ≡ get_or harts id (never_started id))
-    (done : DoneAlone Does size.harts x m y n s s') where
-  before : AreWhole size.harts t s
-  before = all_seats size harts t os s held taken
+-- What it left of the machine: the hart at its place and the seats in theirs, which the machine may hold, and
+-- which show what the hart made of it.
+pub record Left (Does : Action) (a : Inside) (old : Machine) (s' : Seats) (i id : ℕ) (y : ArchState) (n : List ℕ) : Type 0 where
+  pub held : IsHeld a.shape (slice_set a.harts.items i y) a.tables (Some s')
+  pub made : DoneBy (Does old.size) id old (record { size = a.shape; memory = n; harts = slice_set a.harts.items i y; table = shown_by a.shape.harts s' })
 
-  after : (t' : TableState) × Does (moment (shown_by size.harts s) x m) (moment t' y n) × IsTable size.harts s' t'
-  after = done (shown_by size.harts s) before.shows
+module _ {a : Inside} {s : Seats} {i id : ℕ} {x : ArchState} (found : Finds a s i id x) where
+  pub seats_found : AreWhole a.shape.harts a.tables s
+  seats_found = all_seats a.shape a.harts.items a.tables a.seats s found.held found.taken
 
-  shown_after : shown_by size.harts s' ≡ after.0
-  shown_after = one_shown one set size.harts s' after.0 after.2
+  -- the hart that was read has that number
+  pub number_found : x.id ≡ id
+  number_found = ap (λ (z : ArchState). z.id) found.read ∙ found.held.numbered id found.low
 
-  did : Does (moment (shown_by size.harts s) x m) (moment (shown_by size.harts s') y n)
-  did = subst (λ (l : TableState). Does (moment (shown_by size.harts s) x m) (moment l y n)) (sym shown_after) after.1
+  pub low_number : x.id < a.shape.harts
+  low_number = subst (λ (n : ℕ). x.id < n) found.held.long (subst (λ (k : ℕ). k < length a.harts.items) (sym number_found) found.low)
 
-  abbrev machine : TableState → List ArchState → List ℕ → Machine
-  machine table all memory = record { size = size; memory = memory; harts = all; table = table }
+  pub seat_rests : Rests x.id s
+  seat_rests = seats_found.rests x.id low_number
 
-  pub made : DoneBy Does id (record { size = size; memory = m; harts = harts; table = table_of size.harts os }) (record { size = size; memory = n; harts = slice_set harts i y; table = shown_by size.harts s' })
-  made = (
-    moment (shown_by size.harts s') y n,
-    subst (λ (o : Option Seats). Does (moment (table_of size.harts o) (get_or harts id (never_started id)) m) (moment (shown_by size.harts s') y n)) (sym taken)
-        (subst (λ (z : ArchState). Does (moment (shown_by size.harts s) z m) (moment (shown_by size.harts s') y n)) read did),
-    ap (λ (k : ℕ). machine (shown_by size.harts s') (slice_set harts k y) n) at,
-  )
+  module _ (Does : Action) {old : Machine} {s' : Seats} {y : ArchState} {n : List ℕ}
+      (one : IsOneList) (set : IsOneSet) (view : shown_as a ≡ old) (done : DoneAlone Does a.shape x a.ram y n s s')
+      (same : y.id ≡ x.id) (gives : GivesBack a.tables x.id s s') (rests : Rests x.id s') where
+    after : (t' : TableState) × Does a.shape (moment (shown_by a.shape.harts s) x a.ram) (moment t' y n) × IsTable a.shape.harts s' t'
+    after = done (shown_by a.shape.harts s) seats_found.shows
 
-  numbered : y.id ≡ x.id → AreNumbered (slice_set harts i y)
-  numbered same h below =
-      let long = subst (λ (k : ℕ). h < k) (length-set harts i y) below in
-      dite (ℕ_discrete h i)
-      (λ hit. ap (λ (z : ArchState). z.id) (get_or-set_at harts i h y (never_started h) hit (subst (λ (k : ℕ). k < length harts) (sym at) lt)) ∙ (same ∙ (numbered_at harts id x held.numbered lt read ∙ (sym at ∙ sym hit))))
-      (λ miss. ap (λ (z : ArchState). z.id) (get_or-set_other harts i h y (never_started h) miss) ∙ held.numbered h long)
+    shown_after : shown_by a.shape.harts s' ≡ after.0
+    shown_after = one_shown one set a.shape.harts s' after.0 after.2
 
-  whole_after : GivesBack t x.id s s' → Rests x.id s' → AreWhole size.harts t s'
-  whole_after gives rests = record {
-    seats = gives.seats;
-    all = (gives.others.harts ∙ before.all.0, gives.pairs.harts ∙ before.all.1);
-    shows = subst (λ (l : TableState). IsTable size.harts s' l) (sym shown_after) after.2;
-    rests = λ h below. dite (ℕ_discrete h x.id)
-        (λ hit. subst (λ (k : ℕ). Rests k s') (sym hit) rests)
-        (λ miss. others_rest x.id h t s s' gives miss (before.rests h below));
-  }
+    did : Does a.shape (moment (shown_by a.shape.harts s) x a.ram) (moment (shown_by a.shape.harts s') y n)
+    did = subst (λ (l : TableState). Does a.shape (moment (shown_by a.shape.harts s) x a.ram) (moment l y n)) (sym shown_after) after.1
 
-  pub held_after : y.id ≡ x.id → GivesBack t x.id s s' → Rests x.id s' → IsHeld size (slice_set harts i y) t (Some s')
-  held_after id gives rests = record { long = length-set harts i y ∙ held.long; numbered = numbered id; tables = held.tables; seats = whole_after gives rests }
+    abbrev new : ℕ → Machine
+    new k = record { size = a.shape; memory = n; harts = slice_set a.harts.items k y; table = shown_by a.shape.harts s' }
+
+    made : DoneBy (Does a.shape) id (shown_as a) (new i)
+    made = (
+      moment (shown_by a.shape.harts s') y n,
+      subst (λ (o : Option Seats). Does a.shape (moment (table_of a.shape.harts o) (get_or a.harts.items id (never_started id)) a.ram) (moment (shown_by a.shape.harts s') y n)) (sym found.taken)
+          (subst (λ (z : ArchState). Does a.shape (moment (shown_by a.shape.harts s) z a.ram) (moment (shown_by a.shape.harts s') y n)) found.read did),
+      ap new found.at,
+    )
+
+    numbered : AreNumbered (slice_set a.harts.items i y)
+    numbered h below =
+        let long = subst (λ (k : ℕ). h < k) (length-set a.harts.items i y) below in
+        dite (ℕ_discrete h i)
+        (λ hit. ap (λ (z : ArchState). z.id) (get_or-set_at a.harts.items i h y (never_started h) hit (subst (λ (k : ℕ). k < length a.harts.items) (sym found.at) found.low)) ∙ (same ∙ (number_found ∙ (sym found.at ∙ sym hit))))
+        (λ miss. ap (λ (z : ArchState). z.id) (get_or-set_other a.harts.items i h y (never_started h) miss) ∙ found.held.numbered h long)
+
+    whole_after : AreWhole a.shape.harts a.tables s'
+    whole_after = record {
+      seats = gives.seats;
+      all = (gives.others.harts ∙ seats_found.all.0, gives.pairs.harts ∙ seats_found.all.1);
+      shows = subst (λ (l : TableState). IsTable a.shape.harts s' l) (sym shown_after) after.2;
+      rests = λ h below. dite (ℕ_discrete h x.id)
+          (λ hit. subst (λ (k : ℕ). Rests k s') (sym hit) rests)
+          (λ miss. others_rest x.id h a.tables s s' gives miss (seats_found.rests h below));
+    }
+
+    pub left : Left Does a old s' i id y n
+    left = record {
+      held = record { long = length-set a.harts.items i y ∙ found.held.long; numbered = numbered; tables = found.held.tables; seats = whole_after };
+      made = subst (λ (m : Machine). DoneBy (Does m.size) id m (new i)) view made;
+    }

@@ -40,17 +40,26 @@ none_pending harts = replicate harts (replicate harts false)
 -- a board of that size before a boot, whose hart `first` is to begin
 abbrev pub resting : Size → ℕ → Machine
 resting size first =
-    record { size = size; memory = replicate (ram_bytes_of size) 0; harts = stopped_harts size.harts; table = record { states = only_first size.harts first; pairs = none_pending size.harts } }
+    record {
+      size = size;
+      memory = replicate (ram_bytes_of size) 0;
+      harts = stopped_harts size.harts;
+      table = record { states = only_first size.harts first; pairs = none_pending size.harts };
+    }
 
 -- What a boot of a payload leaves: RAM is the payload and zeros behind it, hart 0 stands at the start of RAM
 -- with its number in a0 and the reset reason in a1, all else of it is 0, no other hart ever ran, and no
 -- interrupt is pending.
 abbrev pub machine_begun : List ℕ → Reason → Size → Machine
 machine_begun payload reason size =
-    record (resting size 0) { memory = payload ++ replicate (ram_bytes_of size - length payload) 0; harts = slice_set (stopped_harts size.harts) 0 (fresh 0 0x80000000 (reason_number reason)) }
+    record (resting size 0) {
+      memory = payload ++ replicate (ram_bytes_of size - length payload) 0;
+      harts = slice_set (stopped_harts size.harts) 0 (fresh 0 0x80000000 (reason_number reason));
+    }
 
 -- What a resume leaves: the memory is the image's, its hart stands at its address with its number in a0 and
 -- its opaque value in a1, all else of it is 0, no other hart ever ran, and no interrupt is pending.
 abbrev pub woken : Image → Size → Machine
 woken i size =
-    record (resting size i.hart) { memory = i.memory; harts = slice_set (stopped_harts size.harts) i.hart (fresh i.hart i.address i.opaque) }
+    record (resting size i.hart)
+    { memory = i.memory; harts = slice_set (stopped_harts size.harts) i.hart (fresh i.hart i.address i.opaque) }

@@ -9,7 +9,7 @@ use Rattle.hsm.specs.Views.{listed}
 use Rattle.sbi_calls.specs.declared.tables.Seats.{Seats}
 use Rattle.sbi_calls.specs.Both.{TableState, IsTable}
 use Rattle.turns.specs.declared.words.Turned.{Turned}
-use Rattle.turns.specs.declared.words.Turned.TheVariants.{Idle, Entered, Woke, Next, Suspended, Stopped, Durable}
+use Rattle.turns.specs.declared.words.Turned.TheVariants.{Stopped, Durable}
 use Rattle.turns.specs.Turns.{Moment, moment, TurnOf, Finishes}
 use Rattle.turns.specs.Many.{RowOf}
 use Rattle.machine.specs.declared.parts.Called.{Called}
@@ -39,12 +39,8 @@ Rows h count old new word = DoneBy (λ a b. RowOf old.size count a b word) h old
 -- a turn after which no other follows in a row: the hart stopped, or stands at a durable call
 abbrev pub ends_row : Turned → Bool
 ends_row Stopped = true
-ends_row Idle = false
-ends_row Entered = false
-ends_row Woke = false
-ends_row Next = false
-ends_row Suspended = false
 ends_row Durable = true
+ends_row word = false
 
 -- the turn is the last of a row, with so many that might follow
 abbrev pub IsLast : Turned → ℕ → Type 0

@@ -3,7 +3,7 @@ use Rattle.std.specs.Prelude.{Bool, true, false}
 use Rattle.sbi.specs.declared.dispatches.Held.{Held}
 use Rattle.sbi.specs.declared.dispatches.Held.TheVariants as helds
 use Rattle.turns.specs.declared.words.Turned.{Turned}
-use Rattle.turns.specs.declared.words.Turned.TheVariants.{Idle, Entered, Woke, Next, Suspended, Stopped, Durable}
+use Rattle.turns.specs.declared.words.Turned.TheVariants.{Next, Stopped}
 use Rattle.machine.specs.declared.parts.Word.{Word}
 use Rattle.machine.specs.declared.parts.Word.TheVariants.{Own, Asleep, Reset}
 
@@ -15,12 +15,7 @@ word_by (helds.Reset kind) = Reset kind
 
 abbrev pub stops : Turned → Bool
 stops Stopped = true
-stops Idle = false
-stops Entered = false
-stops Woke = false
-stops Next = false
-stops Suspended = false
-stops Durable = false
+stops word = false
 
 -- a word after which no turn follows in a line: the hart stopped, or the life ended
 abbrev pub ends : Word → Bool

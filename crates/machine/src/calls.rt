@@ -37,7 +37,7 @@ fn set_registers(hart: &mut Hart, call: &Registers)
 }
 
 /// Where the hart is STARTED, sets the registers and makes the call.
-pub fn make_call(
+pub fn call_in_place(
     hart: &mut Hart,
     seats: Seats,
     tables: &Tables,
@@ -51,7 +51,10 @@ pub fn make_call(
     ensures gives { GivesBack tables.entry.now hart.old.id seats result.0 }
     ensures rests { Rests hart.old.id result.0 }
     ensures id { hart.new.id ≡ hart.old.id }
-    ensures alone { (m : List ℕ) → MakesCallAlone shape.now hart.old (calling hart.old call.entry.now.eid call.entry.now.fid call.entry.now.a0 call.entry.now.a1 call.entry.now.a2) hart.new m seats result.0 result.1 }
+    ensures alone { (m : List ℕ)
+        → MakesCallAlone shape.now hart.old
+        (calling hart.old call.entry.now.eid call.entry.now.fid call.entry.now.a0 call.entry.now.a1
+        call.entry.now.a2) hart.new m seats result.0 result.1 }
 {
     let by = hart.id();
     let Seats { harts, pending } = seats;

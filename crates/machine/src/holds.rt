@@ -23,7 +23,8 @@ fn settle(seats: Seats, tables: &Tables, by: HartId, held: Held) -> Seats
     requires acts { Acts by (stage_by_held held) seats }
     ensures gives { GivesBack tables.entry.now by seats result }
     ensures acts { Acts by Running result }
-    ensures alone { (x : TableState) → IsTable (harts_of_both tables.entry.now) seats x → IsTable (harts_of_both tables.entry.now) result x }
+    ensures alone { (x : TableState) → IsTable (harts_of_both tables.entry.now) seats x
+        → IsTable (harts_of_both tables.entry.now) result x }
 {
     match held {
         Held::Goes | Held::Reset(_) => seats,
@@ -54,7 +55,8 @@ pub fn make_held<D: Disk + Drop, C: Crew>(
     ensures gives { GivesBack tables.entry.now hart.old.id seats result.0 }
     ensures acts { Acts hart.old.id Running result.0 }
     ensures id { hart.new.id ≡ hart.old.id }
-    ensures alone { HeldAlone shape.now.harts ram.now (call_of hart.old) hart.old hart.new seats result.0 store.old store.new result.1 }
+    ensures alone { HeldAlone shape.now.harts ram.now (call_of hart.old) hart.old hart.new seats result.0 store.old
+        store.new result.1 }
 {
     let by = hart.id();
     let (seats, held) = dispatch_held(alloc, hart, seats, tables, ram, store, crew);

@@ -15,7 +15,7 @@ ghost use Rattle.machine.specs.Turns.{MakesTurn, Rows, TurnsMany, MakesOneCall};
 ghost use Rattle.machine.specs.Held.{IsHeld, shown_by};
 ghost use Rattle.machine.specs.Durables.{IsHartStarted, MakesCall};
 
-use crate::calls::{Registers, make_call};
+use crate::calls::{Registers, call_in_place};
 use crate::holds::make_held;
 use crate::parts::{Called, Parts, ends_row};
 use board_model::{HartId, RAM_BASE, Reason, Refusal, Shape};
@@ -50,7 +50,8 @@ impl Model for Machine {
 
     ghost Value = { Machine };
 
-    ghost view = { λ m. record { size = m.shape; memory = m.ram; harts = m.harts.items; table = table_of m.shape.harts m.seats } };
+    ghost view = { λ m. record
+        { size = m.shape; memory = m.ram; harts = m.harts.items; table = table_of m.shape.harts m.seats } };
 
     ghost invariant = { λ m. IsHeld m.shape m.harts.items m.tables m.seats };
 }
@@ -114,10 +115,14 @@ impl Machine {
     /// `susp::wake_image` has it: the memory of the image is loaded, then the image is consumed, and only
     /// then its hart stands at its address. No memory is taken. After a refusal the machine is of no use.
     pub fn wake<D: Disk + Drop>(&mut self, store: &mut Store<D>) -> Result<(), Refusal>
-        requires resting { (i : Image) → (now_state store.old).image ≡ Some i → (self.old ≡ resting (size_of_store store.old) i.hart) × (i.hart < (size_of_store store.old).harts) }
-        ensures woken { OnOk result ((i : Image) × ((now_state store.old).image ≡ Some i) × (self.new ≡ woken i (size_of_store store.old)) × (length i.memory ≡ length self.old.memory)) }
+        requires resting { (i : Image) → (now_state store.old).image ≡ Some i
+            → (self.old ≡ resting (size_of_store store.old) i.hart) × (i.hart < (size_of_store store.old).harts) }
+        ensures woken { OnOk result
+            ((i : Image) × ((now_state store.old).image ≡ Some i) × (self.new ≡ woken i (size_of_store store.old))
+            × (length i.memory ≡ length self.old.memory)) }
         ensures consumed { OnOk result ((n : ℕ) × IsConsumed store.old (Ok n) store.new) }
-        ensures refused { IfErr result (λ e. IsUnloaded store.old self.old.memory e store.new ⊎ IsConsumed store.old (Err e) store.new) }
+        ensures refused { IfErr result (λ e. IsUnloaded store.old self.old.memory e store.new
+            ⊎ IsConsumed store.old (Err e) store.new) }
         ensures stays { StaysOpen (view_of store.old) (view_of store.new) }
     {
         let hart = wake_image(store, &mut self.ram)?;
@@ -246,7 +251,7 @@ impl Machine {
             a2,
         };
         let seats = self.seats.take().unwrap();
-        let (seats, called) = make_call(
+        let (seats, called) = call_in_place(
             &mut self.harts[id.index()],
             seats,
             &self.tables,

@@ -8,10 +8,13 @@ ghost use Rattle.machine_lines.specs.declared.line.MachineLine.{MachineLine};
 /// A line of turns and one of a call have one outcome on a board, and a line of a control and status register
 /// says one thing of it.
 pub fn one_line()
-    ensures turns { (h n : ℕ) (old new other : Machine) (line also : MachineLine) → TurnsLine h n old new line → TurnsLine h n old other also → (new ≡ other) × (line ≡ also) }
-    ensures call { (h eid fid a0 a1 a2 : ℕ) (old new other : Machine) (line also : MachineLine) → CallLine h eid fid a0 a1 a2 old new line → CallLine h eid fid a0 a1 a2 old other also
+    ensures turns { (h n : ℕ) (old new other : Machine) (line also : MachineLine) → TurnsLine h n old new line
+        → TurnsLine h n old other also → (new ≡ other) × (line ≡ also) }
+    ensures call { (h eid fid a0 a1 a2 : ℕ) (old new other : Machine) (line also : MachineLine)
+        → CallLine h eid fid a0 a1 a2 old new line → CallLine h eid fid a0 a1 a2 old other also
         → (new ≡ other) × (line ≡ also) }
-    ensures csr { (h n : ℕ) (m : Machine) (line also : MachineLine) → CsrLine h n m line → CsrLine h n m also → line ≡ also }
+    ensures csr { (h n : ℕ) (m : Machine) (line also : MachineLine) → CsrLine h n m line → CsrLine h n m also
+        → line ≡ also }
 {
     machine::one_turn();
 }

@@ -2,7 +2,8 @@ use Rattle.std.proofs.Common.{ℕ, sym, subst}
 use Rattle.sbi_abi.specs.Calls.{call_of}
 use Rattle.sbi_calls.specs.Both.{GivesBack, Acts, harts_of_both}
 use Rattle.sbi.specs.Helds.{stage_by_held}
-use Rattle.machine.proofs.Commands.{gives_then, held_then}
+use Rattle.turns.proofs.Begun.{gives_then}
+use Rattle.machine.proofs.Commands.{held_then}
 use Rattle.machine.proofs.holds.make_held.Goals as goal
 
 pub settle-requires-clause-acts : goal.settle-requires-clause-acts
@@ -10,7 +11,7 @@ settle-requires-clause-acts g c = subst (λ (h : ℕ). Acts h (stage_by_held c.d
 
 pub returns-clause-gives : goal.returns-clause-gives
 returns-clause-gives g c =
-    gives_then c.args.hart.now.id c.args.seats c.dispatch_held-seats.result.0 c.settle.result c.dispatch_held-seats.ensures.gives
+    gives_then c.args.tables.now c.args.hart.now.id c.args.seats c.dispatch_held-seats.result.0 c.settle.result c.dispatch_held-seats.ensures.gives
     (subst (λ (h : ℕ). GivesBack c.args.tables.now h c.dispatch_held-seats.result.0 c.settle.result) c.id-by.ensures c.settle.ensures.gives)
 
 pub returns-clause-alone : goal.returns-clause-alone

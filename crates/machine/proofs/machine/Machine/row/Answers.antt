@@ -1,36 +1,21 @@
-use Rattle.std.proofs.Common.{sym, ◌∙◌, subst, ◌<◌}
-use Rattle.std.specs.Prelude.{length, slice_set}
-use Rattle.machine.specs.Machine.{Machine}
+use Rattle.std.proofs.Common.{sym, ◌∙◌}
 use Rattle.turns.specs.Many.{RowOf}
-use Rattle.machine.specs.Turns.{Rows}
-use Rattle.machine.specs.Held.{shown_by}
-use Rattle.machine.proofs.Holding.{read_at, seat_rests, made, held_after}
+use Rattle.machine.proofs.Holding.{Finds, Left, finds, seat_rests, left}
+use Rattle.machine.proofs.machine.Machine.row.Goals.{After-index_mut, After-one_set}
 use Rattle.machine.proofs.machine.Machine.row.Goals as goal
 
+found : (c : After-index_mut) → Finds c.self.inside c.unwrap-seats.result c.index.result c.args.id c.index_mut.result.now
+found c = finds c.self.view_is c.self.invariant (sym c.take.ensures.value ∙ c.unwrap-seats.ensures) c.index.ensures.value c.requires.hart c.index_mut.ensures.value
+
+did : (c : After-one_set) → Finds c.self.inside c.unwrap-seats.result c.index.result c.args.id c.index_mut.result.now
+    → Left (λ size a b. RowOf size c.turns_by_one_look-seats.result.1 a b c.turns_by_one_look-seats.result.2) c.self.inside c.args.self.now c.turns_by_one_look-seats.result.0 c.index.result c.args.id c.turns_by_one_look-seats.new.hart c.turns_by_one_look-seats.new.ram
+did c it = let e = c.turns_by_one_look-seats.ensures in left it _ c.one_table.ensures.list c.one_set.ensures.list c.self.view_is e.alone e.id e.gives e.rests
+
 pub turns_by_one_look-seats-requires-clause-rests : goal.turns_by_one_look-seats-requires-clause-rests
-turns_by_one_look-seats-requires-clause-rests c =
-    let i = c.self.inside in
-    let lt : c.args.id < length i.harts.items = subst (λ (m : Machine). c.args.id < length m.harts) (sym c.self.view_is) c.requires.hart in
-    let read = read_at i.harts.items c.index.result c.args.id c.index_mut.result.now c.index.ensures.value lt c.index_mut.ensures.value in
-    seat_rests i.shape i.harts.items i.tables i.seats c.unwrap-seats.result c.args.id c.index_mut.result.now c.self.invariant (sym c.take.ensures.value ∙ c.unwrap-seats.ensures) lt read
+turns_by_one_look-seats-requires-clause-rests c = seat_rests (found (goal.at.turns_by_one_look-seats-requires-clause-rests c).After-index_mut)
 
 pub invariant_of-self : goal.invariant_of-self
-invariant_of-self c =
-    let i = c.self.inside in
-    let lt : c.args.id < length i.harts.items = subst (λ (m : Machine). c.args.id < length m.harts) (sym c.self.view_is) c.requires.hart in
-    let read = read_at i.harts.items c.index.result c.args.id c.index_mut.result.now c.index.ensures.value lt c.index_mut.ensures.value in
-    held_after i.shape i.harts.items i.tables i.seats c.unwrap-seats.result c.turns_by_one_look-seats.result.0 c.index.result c.args.id c.index_mut.result.now c.turns_by_one_look-seats.new.hart i.ram c.turns_by_one_look-seats.new.ram
-    (λ a b. RowOf i.shape c.turns_by_one_look-seats.result.1 a b c.turns_by_one_look-seats.result.2)
-    c.one_table.ensures.list c.one_set.ensures.list c.self.invariant (sym c.take.ensures.value ∙ c.unwrap-seats.ensures) c.index.ensures.value lt read c.turns_by_one_look-seats.ensures.alone
-    c.turns_by_one_look-seats.ensures.id c.turns_by_one_look-seats.ensures.gives c.turns_by_one_look-seats.ensures.rests
+invariant_of-self c = let at = goal.at.invariant_of-self c in (did at.After-one_set (found at.After-index_mut)).held
 
 pub returns-clause-row : goal.returns-clause-row
-returns-clause-row c =
-    let i = c.self.inside in
-    let lt : c.args.id < length i.harts.items = subst (λ (m : Machine). c.args.id < length m.harts) (sym c.self.view_is) c.requires.hart in
-    let read = read_at i.harts.items c.index.result c.args.id c.index_mut.result.now c.index.ensures.value lt c.index_mut.ensures.value in
-    let new : Machine = record { size = i.shape; memory = c.turns_by_one_look-seats.new.ram; harts = slice_set i.harts.items c.index.result c.turns_by_one_look-seats.new.hart; table = shown_by i.shape.harts c.turns_by_one_look-seats.result.0 } in
-    subst (λ (m : Machine). Rows c.args.id c.turns_by_one_look-seats.result.1 m new c.turns_by_one_look-seats.result.2) c.self.view_is
-    (made i.shape i.harts.items i.tables i.seats c.unwrap-seats.result c.turns_by_one_look-seats.result.0 c.index.result c.args.id c.index_mut.result.now c.turns_by_one_look-seats.new.hart i.ram c.turns_by_one_look-seats.new.ram
-    (λ a b. RowOf i.shape c.turns_by_one_look-seats.result.1 a b c.turns_by_one_look-seats.result.2)
-    c.one_table.ensures.list c.one_set.ensures.list c.self.invariant (sym c.take.ensures.value ∙ c.unwrap-seats.ensures) c.index.ensures.value lt read c.turns_by_one_look-seats.ensures.alone)
+returns-clause-row c = let at = goal.at.returns-clause-row c in (did at.After-one_set (found at.After-index_mut)).made

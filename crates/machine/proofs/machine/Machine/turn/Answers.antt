@@ -1,40 +1,25 @@
-use Rattle.std.proofs.Common.{sym, ◌∙◌, subst, ◌<◌}
-use Rattle.std.specs.Prelude.{length, slice_set}
-use Rattle.machine.specs.Machine.{Machine}
+use Rattle.std.proofs.Common.{sym, ◌∙◌}
 use Rattle.turns.specs.Turns.{TurnOf}
-use Rattle.machine.specs.Turns.{MakesTurn}
-use Rattle.machine.specs.Held.{shown_by}
-use Rattle.machine.proofs.Holding.{read_at, seat_rests, made, held_after}
+use Rattle.machine.proofs.Holding.{Finds, Left, finds, seat_rests, left}
 use Rattle.machine.proofs.Asking.{turn_asks}
+use Rattle.machine.proofs.machine.Machine.turn.Goals.{After-index_mut, After-one_set}
 use Rattle.machine.proofs.machine.Machine.turn.Goals as goal
 
+found : (c : After-index_mut) → Finds c.self.inside c.unwrap-seats.result c.index.result c.args.id c.index_mut.result.now
+found c = finds c.self.view_is c.self.invariant (sym c.take.ensures.value ∙ c.unwrap-seats.ensures) c.index.ensures.value c.requires c.index_mut.ensures.value
+
+did : (c : After-one_set) → Finds c.self.inside c.unwrap-seats.result c.index.result c.args.id c.index_mut.result.now
+    → Left (λ size a b. TurnOf size a b c.turn-seats.result.1) c.self.inside c.args.self.now c.turn-seats.result.0 c.index.result c.args.id c.turn-seats.new.hart c.turn-seats.new.ram
+did c it = let e = c.turn-seats.ensures in left it _ c.one_table.ensures.list c.one_set.ensures.list c.self.view_is e.alone e.id e.gives e.rests
+
 pub turn-seats-requires-clause-rests : goal.turn-seats-requires-clause-rests
-turn-seats-requires-clause-rests c =
-    let i = c.self.inside in
-    let lt : c.args.id < length i.harts.items = subst (λ (m : Machine). c.args.id < length m.harts) (sym c.self.view_is) c.requires in
-    let read = read_at i.harts.items c.index.result c.args.id c.index_mut.result.now c.index.ensures.value lt c.index_mut.ensures.value in
-    seat_rests i.shape i.harts.items i.tables i.seats c.unwrap-seats.result c.args.id c.index_mut.result.now c.self.invariant (sym c.take.ensures.value ∙ c.unwrap-seats.ensures) lt read
+turn-seats-requires-clause-rests c = seat_rests (found (goal.at.turn-seats-requires-clause-rests c).After-index_mut)
 
 pub invariant_of-self : goal.invariant_of-self
-invariant_of-self c =
-    let i = c.self.inside in
-    let lt : c.args.id < length i.harts.items = subst (λ (m : Machine). c.args.id < length m.harts) (sym c.self.view_is) c.requires in
-    let read = read_at i.harts.items c.index.result c.args.id c.index_mut.result.now c.index.ensures.value lt c.index_mut.ensures.value in
-    held_after i.shape i.harts.items i.tables i.seats c.unwrap-seats.result c.turn-seats.result.0 c.index.result c.args.id c.index_mut.result.now c.turn-seats.new.hart i.ram c.turn-seats.new.ram
-    (λ a b. TurnOf i.shape a b c.turn-seats.result.1)
-    c.one_table.ensures.list c.one_set.ensures.list c.self.invariant (sym c.take.ensures.value ∙ c.unwrap-seats.ensures) c.index.ensures.value lt read c.turn-seats.ensures.alone
-    c.turn-seats.ensures.id c.turn-seats.ensures.gives c.turn-seats.ensures.rests
+invariant_of-self c = let at = goal.at.invariant_of-self c in (did at.After-one_set (found at.After-index_mut)).held
 
 pub returns-clause-turns : goal.returns-clause-turns
-returns-clause-turns c =
-    let i = c.self.inside in
-    let lt : c.args.id < length i.harts.items = subst (λ (m : Machine). c.args.id < length m.harts) (sym c.self.view_is) c.requires in
-    let read = read_at i.harts.items c.index.result c.args.id c.index_mut.result.now c.index.ensures.value lt c.index_mut.ensures.value in
-    let new : Machine = record { size = i.shape; memory = c.turn-seats.new.ram; harts = slice_set i.harts.items c.index.result c.turn-seats.new.hart; table = shown_by i.shape.harts c.turn-seats.result.0 } in
-    subst (λ (m : Machine). MakesTurn c.args.id m new c.turn-seats.result.1) c.self.view_is
-    (made i.shape i.harts.items i.tables i.seats c.unwrap-seats.result c.turn-seats.result.0 c.index.result c.args.id c.index_mut.result.now c.turn-seats.new.hart i.ram c.turn-seats.new.ram
-    (λ a b. TurnOf i.shape a b c.turn-seats.result.1)
-    c.one_table.ensures.list c.one_set.ensures.list c.self.invariant (sym c.take.ensures.value ∙ c.unwrap-seats.ensures) c.index.ensures.value lt read c.turn-seats.ensures.alone)
+returns-clause-turns c = let at = goal.at.returns-clause-turns c in (did at.After-one_set (found at.After-index_mut)).made
 
 pub returns-clause-asks : goal.returns-clause-asks
 returns-clause-asks c = turn_asks c.one_number.ensures c.args.id _ _ _ c.requires (returns-clause-turns c)

@@ -7,9 +7,9 @@ use Rattle.hsm.specs.Calls.{Sits}
 use Rattle.ipi.specs.Pairs.{Sits as SitsIn}
 use Rattle.sbi_calls.specs.Both.{GivesBack, views, pair_crew}
 use Rattle.turns.specs.Turns.{RestsAt}
-use Rattle.machine.proofs.Own.{sits, rests_kept, runs}
-use Rattle.machine.proofs.Calling.{with_harts, made_alone, not_made_alone, as_was, given_then}
-use Rattle.machine.proofs.calls.make_call.Goals as goal
+use Rattle.turns.proofs.Begun.{sits, runs}
+use Rattle.machine.proofs.Calling.{rests_kept, with_harts, made_alone, not_made_alone, as_was, given_then}
+use Rattle.machine.proofs.calls.call_in_place.Goals as goal
 
 pub status-harts-requires-clause-acts : goal.status-harts-requires-clause-acts
 status-harts-requires-clause-acts c = subst (λ (h : ℕ). Sits h (views c.args.seats)) (sym c.id-by.ensures) (sits c.args.hart.now.id (views c.args.seats) c.requires.rests.0)
