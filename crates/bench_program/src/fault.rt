@@ -19,7 +19,7 @@ pub enum Fault {
     Closed,
 }
 
-// The number of a refusal, and of a malformed script the line too.
+/// The number of a refusal, and of a malformed script the line too.
 #[derive(Drop)]
 struct RefusalText(Refusal);
 

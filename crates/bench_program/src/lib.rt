@@ -19,9 +19,10 @@ ghost use Rattle.bench_report.specs.declared.printed.Answer.{Answer};
 
 use crate::fault::{Fault, status_of};
 use crate::pipe::Pipe;
-use crate::usage::{Savers, Wish, asked};
+use crate::usage::{Savers, asked};
 use bench_report::run;
 use board_model::{MAX_LINE_BYTES, MAX_SCRIPT_LINES, Refusal};
+use command_line::NoWork;
 use crew::{Crew, Turns};
 use std::alloc::Global;
 use std::io::{self, BufWriter, ErrorKind, IsTerminal, Read, Write};
@@ -39,7 +40,8 @@ const READ_AT_MOST: u64 = (MAX_SCRIPT_LINES * (MAX_LINE_BYTES + 1) + 1) as u64;
 /// input failed, and the refusal `Memory` where memory was refused.
 fn read_script<R: Read + Drop>(alloc: Global, input: R) -> Result<Vec<u8>, Fault>
     // It says what the whole input says, where its bytes are known: the script, or its first fault.
-    ensures said { IfOk result (λ script. IfSome (R.remaining input) (λ bytes. script_of script.items ≡ script_of bytes)) }
+    ensures said { IfOk result (λ script. IfSome (R.remaining input) (λ bytes. script_of script.items
+        ≡ script_of bytes)) }
     // It is the whole input, but for what is more than any script has.
     ensures bytes { IfOk result (λ script. IfSome (R.remaining input) (λ bytes. script.items ≡ take 268500993 bytes)) }
     ensures failed { IfErr result (λ e. (e ≡ Input) ⊎ (e ≡ Refused Memory)) }
@@ -61,13 +63,16 @@ fn report_to<C: Crew, W: Write + Drop>(
 ) -> Result<(), Refusal>
     // What was written is a report of the script, and nothing else.
     ensures report { OnOk result ((said : Said) × (answers : List Answer) × (end : Bench)
-        × (script_of script.now ≡ Ok said) × IsReport said answers end × Appends (writer_contents W.contents out.old) (writer_contents W.contents out.new) (report_text answers)) }
+        × (script_of script.now ≡ Ok said) × IsReport said answers end
+        × Appends (writer_contents W.contents out.old) (writer_contents W.contents out.new) (report_text answers)) }
     // Nothing of it is held back.
     ensures flushed { OnOk result (writer_buffer out.new ≡ []) }
     // A refusal is the script's fault, or out of memory, or the writer's.
     ensures refused { IfErr result (λ e. (e ≡ Refusal.Memory) ⊎ (e ≡ Refusal.Output) ⊎ (script_of script.now ≡ Err e)) }
     // A script with a fault writes nothing.
-    ensures nothing { (e : Refusal) → script_of script.now ≡ Err e → (writer_contents W.contents out.new ≡ writer_contents W.contents out.old) × ((result ≡ Err e) ⊎ (result ≡ Err Refusal.Memory)) }
+    ensures nothing { (e : Refusal) → script_of script.now ≡ Err e
+        → (writer_contents W.contents out.new ≡ writer_contents W.contents out.old)
+        × ((result ≡ Err e) ⊎ (result ≡ Err Refusal.Memory)) }
 {
     run(alloc, script, crew, out)?;
     out.flush().map_err(|_| Refusal::Output)
@@ -105,9 +110,11 @@ fn report<R: Threads + Sync>(rt: &HostRuntime, threads: &R, savers: Savers) -> R
 
 /// Does what the command line asks for.
 fn reported<R: Threads + Sync>(rt: &HostRuntime, threads: &R) -> Result<(), Fault> {
-    match asked(rt)? {
-        Wish::Shown => Ok(()),
-        Wish::Report(savers) => report(rt, threads, savers),
+    match asked(rt) {
+        Ok(savers) => report(rt, threads, savers),
+        Err(NoWork::Shown) => Ok(()),
+        Err(NoWork::Usage) => Err(Fault::Usage),
+        Err(NoWork::Memory) => Err(Fault::Refused(Refusal::Memory)),
     }
 }
 

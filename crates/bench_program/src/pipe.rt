@@ -51,7 +51,8 @@ impl<W: Write + Drop> Write for Pipe<W> {
         ensures bound { WritesAtMost result buf.now }
         ensures bytes { WriteAppends (W.contents self.old.inner) (W.contents self.new.inner) result buf.now }
         ensures open { OnOk result (self.new.closed ≡ self.old.closed) }
-        ensures closed { IfErr result (λ e. IsTrue self.new.closed ↔ (IsTrue self.old.closed ⊎ (error_kind e ≡ ErrorKind.BrokenPipe))) }
+        ensures closed { IfErr result (λ e. IsTrue self.new.closed
+            ↔ (IsTrue self.old.closed ⊎ (error_kind e ≡ ErrorKind.BrokenPipe))) }
     {
         match self.inner.write(buf) {
             Ok(n) => Ok(n),
@@ -62,7 +63,8 @@ impl<W: Write + Drop> Write for Pipe<W> {
     fn flush(&mut self) -> io::Result<()>
         ensures bytes { Keeps (W.contents self.old.inner) (W.contents self.new.inner) }
         ensures open { OnOk result (self.new.closed ≡ self.old.closed) }
-        ensures closed { IfErr result (λ e. IsTrue self.new.closed ↔ (IsTrue self.old.closed ⊎ (error_kind e ≡ ErrorKind.BrokenPipe))) }
+        ensures closed { IfErr result (λ e. IsTrue self.new.closed
+            ↔ (IsTrue self.old.closed ⊎ (error_kind e ≡ ErrorKind.BrokenPipe))) }
     {
         match self.inner.flush() {
             Ok(()) => Ok(()),

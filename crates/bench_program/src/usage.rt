@@ -1,11 +1,8 @@
 //! The command line, and what `--help` says.
 
-use crate::fault::Fault;
-use board_model::Refusal;
-use clap::error::ErrorKind;
 use clap::{Arg, ArgAction, ArgMatches, Command, Error};
+use command_line::{NoWork, show, words};
 use std::alloc::{AllocError, Global};
-use std::{env, io};
 
 /// The version of the firmware.
 const VERSION: &str = "1";
@@ -75,15 +72,6 @@ pub enum Savers {
     Threads,
 }
 
-/// What the words of the command line ask for.
-#[derive(Clone, Copy, Debug, Drop)]
-pub enum Wish {
-    /// The report of the script.
-    Report(Savers),
-    /// Nothing more: the help or the version was shown.
-    Shown,
-}
-
 fn command<'a>(alloc: Global) -> Result<Command<'a>, AllocError> {
     let crew = Arg::new(alloc, CREW)
         .long(CREW)
@@ -109,50 +97,15 @@ fn chosen(matches: &ArgMatches<'_>) -> Savers {
     }
 }
 
-/// The words of the command line, the program's name first.
-fn words(rt: &HostRuntime) -> io::Result<Vec<String>> {
-    let words = env::args(rt)?.collect(rt.alloc())?;
-    Ok(words)
-}
-
-/// Shows what the command line's own text says. Where nobody reads it, nothing is said of that: the status
-/// tells.
-fn show(rt: &HostRuntime, text: &Error) -> Result<Wish, Fault> {
-    if text.kind() == ErrorKind::OutOfMemory {
-        return Err(Fault::Refused(Refusal::Memory));
-    }
-    let _shown = text.print(rt);
-    if text.use_stderr() {
-        Err(Fault::Usage)
-    } else {
-        Ok(Wish::Shown)
-    }
-}
-
-/// A fault of the command line: a word that is no text.
-fn no_text(rt: &HostRuntime) -> Result<Wish, Fault> {
-    let message = "invalid UTF-8 was detected in one or more arguments";
-    let Ok(mut command) = command(rt.alloc()) else {
-        return Err(Fault::Refused(Refusal::Memory));
-    };
-    match command.error(ErrorKind::InvalidValue, message) {
-        Ok(text) => show(rt, &text),
-        Err(_) => Err(Fault::Refused(Refusal::Memory)),
-    }
+/// Who writes the lanes, as the words of a command line ask for, the program's name first. The error is the
+/// command line's own text, which is the help or the version too, or says that memory was refused.
+fn savers(alloc: Global, words: &[String]) -> Result<Savers, Error> {
+    let matches = command(alloc)?.try_get_matches_from(words)?;
+    Ok(chosen(&matches))
 }
 
 /// Reads the command line, and shows what it asks to be shown, or its fault.
-pub fn asked(rt: &HostRuntime) -> Result<Wish, Fault> {
-    let words = match words(rt) {
-        Ok(words) => words,
-        Err(e) if e.kind() == io::ErrorKind::InvalidData => return no_text(rt),
-        Err(_) => return Err(Fault::Refused(Refusal::Memory)),
-    };
-    let Ok(command) = command(rt.alloc()) else {
-        return Err(Fault::Refused(Refusal::Memory));
-    };
-    match command.try_get_matches_from(words.as_slice()) {
-        Ok(matches) => Ok(Wish::Report(chosen(&matches))),
-        Err(text) => show(rt, &text),
-    }
+pub fn asked(rt: &HostRuntime) -> Result<Savers, NoWork> {
+    let words = words(rt, USAGE)?;
+    savers(rt.alloc(), words.as_slice()).map_err(|text| show(rt, &text))
 }

@@ -1,9 +1,8 @@
 -- The exact text of the lines of a report.
 use Rattle.std.specs.Prelude.{ℕ, List, [], ◌∷◌, ◌++◌, Option, Some, None}
 use Rattle.std.specs.Fmt.{decimal}
-use Rattle.board_model.specs.Views.{reason_number}
 use Rattle.board_model.specs.declared.durable.Durable.{Durable}
-use Rattle.board_model.specs.declared.durable.ImageHead.{ImageHead}
+use Rattle.board_console.specs.Texts.{state_text}
 use Rattle.script_lang.specs.Spellings.{mode_text}
 use Rattle.machine_lines.specs.Texts.{machine_line_text}
 use Rattle.bench_report.specs.declared.printed.ConsoleWord.{ConsoleWord}
@@ -34,18 +33,9 @@ line_text printed.Off = codes "off"
 line_text (printed.Shown shown) = machine_line_text shown
 line_text printed.Poked = codes "poked"
 
-abbrev pub image_text : Option ImageHead → List ℕ
-image_text None = codes "none"
-image_text (Some head) = decimal head.serial
-
-abbrev pub found_text : Durable → List ℕ
-found_text d =
-    codes "found slot " ++ decimal d.slot ++ codes " reason " ++ decimal (reason_number d.reason)
-    ++ codes " image " ++ image_text d.image ++ codes " next " ++ decimal d.next
-
 abbrev pub found_line : Option Durable → List ℕ
 found_line None = []
-found_line (Some d) = found_text d ++ 10 ∷ []
+found_line (Some d) = codes "found " ++ (state_text d ++ 10 ∷ [])
 
 abbrev pub found_count : Option Durable → ℕ
 found_count None = 0

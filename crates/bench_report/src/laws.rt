@@ -26,10 +26,13 @@ ghost use Rattle.bench_report.specs.declared.printed.Printed.TheVariants as prin
 /// failed or that power was lost, and none of turns or of a call may hide that a hart's command was refused
 /// so.
 pub fn one_report()
-    ensures one { (script : Script) (answers others : List Answer) (end last : Bench) → AreByFirmware script.lines → IsReport script answers end → IsReport script others last → IsFailureFree end → IsFailureFree last
+    ensures one { (script : Script) (answers others : List Answer) (end last : Bench) → AreByFirmware script.lines
+        → IsReport script answers end → IsReport script others last → IsFailureFree end → IsFailureFree last
         → (answers ≡ others) × (end ≡ last) }
-    ensures failure_free { (script : Script) (answers : List Answer) (end : Bench) → IsReport script answers end → ShowNoFailure answers → IsFailureFree end }
-    ensures plain { (script : Script) (answers : List Answer) (end : Bench) → IsReport script answers end → IsFailureFree end → ArePlain script.lines → answers ≡ plain_report script }
+    ensures failure_free { (script : Script) (answers : List Answer) (end : Bench) → IsReport script answers end
+        → ShowNoFailure answers → IsFailureFree end }
+    ensures plain { (script : Script) (answers : List Answer) (end : Bench) → IsReport script answers end
+        → IsFailureFree end → ArePlain script.lines → answers ≡ plain_report script }
 {
     machine::one_turn();
     machine_lines::one_line();
@@ -43,7 +46,8 @@ pub fn one_report()
 /// was acknowledged is never resumed again; and no power-on is refused 13, since each image that stands has
 /// the memory of its board.
 pub fn prefix_law()
-    ensures { (script : Script) (answers : List Answer) (end : Bench) → AreByFirmware script.lines → IsReport script answers end → KeepsPrefixLaw script.lines answers }
+    ensures { (script : Script) (answers : List Answer) (end : Bench) → AreByFirmware script.lines
+        → IsReport script answers end → KeepsPrefixLaw script.lines answers }
 {}
 
 /// Each power-on over a formatted disk, at any point of a run: `b` is the bench that some first lines of a
@@ -55,12 +59,18 @@ pub fn prefix_law()
 /// all acknowledged commands (`all`). A board that is resumed has the memory of the suspension that made its
 /// image, byte for byte, and of its harts the image's alone runs (`resumes`).
 pub fn power_ons()
-    ensures finds { (script : Script) (answers : List Answer) (b : Bench) → IsReport script answers b → b.disk_state ≡ Formatted → (mode : BootMode) (a : Answer) (new : Bench) (d : Durable) → Moves script.size (lines.On mode) b a new
+    ensures finds { (script : Script) (answers : List Answer) (b : Bench) → IsReport script answers b
+        → b.disk_state ≡ Formatted → (mode : BootMode) (a : Answer) (new : Bench) (d : Durable)
+        → Moves script.size (lines.On mode) b a new
         → a.found ≡ Some d → (s : DurableState) × MayFind b.kept s × (d ≡ durable_of s) }
-    ensures sure { (script : Script) (answers : List Answer) (b : Bench) → AreByFirmware script.lines → IsReport script answers b → IsFailureFree b → b.disk_state ≡ Formatted → b.kept.doubt ≡ None }
-    ensures all { (script : Script) (answers : List Answer) (b : Bench) → AreByFirmware script.lines → IsReport script answers b → b.disk_state ≡ Formatted → b.power ≡ None → (mode : BootMode) (a : Answer) (new : Bench) → Moves script.size (lines.On mode) b a new
+    ensures sure { (script : Script) (answers : List Answer) (b : Bench) → AreByFirmware script.lines
+        → IsReport script answers b → IsFailureFree b → b.disk_state ≡ Formatted → b.kept.doubt ≡ None }
+    ensures all { (script : Script) (answers : List Answer) (b : Bench) → AreByFirmware script.lines
+        → IsReport script answers b → b.disk_state ≡ Formatted → b.power ≡ None
+        → (mode : BootMode) (a : Answer) (new : Bench) → Moves script.size (lines.On mode) b a new
         → a.line ≢ printed.PowerLost → IsFailureFree new → a.found ≡ Some (durable_of (found_of b.kept.changes)) }
-    ensures resumes { (script : Script) (answers : List Answer) (b : Bench) → IsReport script answers b → b.disk_state ≡ Formatted → (a : Answer) (new : Bench) → Moves script.size (lines.On modes.Resume) b a new
+    ensures resumes { (script : Script) (answers : List Answer) (b : Bench) → IsReport script answers b
+        → b.disk_state ≡ Formatted → (a : Answer) (new : Bench) → Moves script.size (lines.On modes.Resume) b a new
         → a.line ≡ printed.On modes.Resume → IsResumedFrom script.size b a new }
 {}
 
@@ -70,7 +80,8 @@ pub fn worked_scripts()
         ≡ Ok (codes "board 1/1/1 sectors 26\nformat ok\nfound slot 0 reason 0 image none next 0\non fresh\nslot ok 1\ncut\nfound slot 1 reason 0 image none next 0\non fresh\n") }
     ensures a_slot_above_three_is_refused { plain_text (codes "board 1 1 1\nformat\non fresh\nslot 4\nslot 3\n")
         ≡ Ok (codes "board 1/1/1 sectors 26\nformat ok\nfound slot 0 reason 0 image none next 0\non fresh\nslot refused 9\nslot ok 1\n") }
-    ensures formats_once { plain_text (codes "board 1 1 1\non fresh\nformat\nformat\n") ≡ Ok (codes "board 1/1/1 sectors 26\non refused 1\nformat ok\nformat refused 2\n") }
+    ensures formats_once { plain_text (codes "board 1 1 1\non fresh\nformat\nformat\n")
+        ≡ Ok (codes "board 1/1/1 sectors 26\non refused 1\nformat ok\nformat refused 2\n") }
     ensures an_empty_script { plain_text (codes "") ≡ Err (BadScript 1) }
     ensures a_line_in_no_form { plain_text (codes "board 1 1 1\nslot\n") ≡ Err (BadScript 2) }
 {}

@@ -2,9 +2,9 @@
 
 ghost use Rattle.std.specs.Prelude.{◌≡◌, ◌++◌, Some, IfOk};
 ghost use Rattle.script_lang.specs.Spellings.{mode_text};
-ghost use Rattle.bench_report.specs.Texts.{line_text, found_text, console_text, image_text};
+ghost use Rattle.bench_report.specs.Texts.{line_text, console_text};
 
-use board_model::{BootMode, Durable, ImageHead};
+use board_model::{BootMode, Durable};
 use machine_lines::MachineLine;
 use std::fmt;
 
@@ -108,41 +108,5 @@ impl fmt::Display for Printed {
             Printed::Shown(shown) => write!(f, "{shown}"),
             Printed::Poked => f.write_str("poked"),
         }
-    }
-}
-
-#[derive(Drop)]
-struct ImageName(Option<ImageHead>);
-
-impl fmt::Display for ImageName {
-    ghost output = { λ i. Some (image_text i.0) };
-
-    fn fmt<W: fmt::Write>(&self, f: &mut fmt::Formatter<W>) -> fmt::Result {
-        match self.0 {
-            None => f.write_str("none"),
-            Some(head) => {
-                let serial = head.serial;
-                write!(f, "{serial}")
-            }
-        }
-    }
-}
-
-/// The line that says what an open found: `found slot S reason R image X next N`.
-#[derive(Drop)]
-pub struct FoundLine(pub Durable);
-
-impl fmt::Display for FoundLine {
-    ghost output = { λ d. Some (found_text d.0) };
-
-    fn fmt<W: fmt::Write>(&self, f: &mut fmt::Formatter<W>) -> fmt::Result {
-        let slot = self.0.slot.number();
-        let reason = self.0.reason.number();
-        let image = ImageName(self.0.image);
-        let next = self.0.next;
-        write!(
-            f,
-            "found slot {slot} reason {reason} image {image} next {next}"
-        )
     }
 }

@@ -18,9 +18,10 @@ ghost use Rattle.board_model.specs.declared.refusal.Refusal.{Refusal};
 ghost use Rattle.bench_report.specs.Steps.{off, Moves, Run};
 
 use crate::power::Power;
-use crate::printed::{Answer, FoundLine, Printed};
+use crate::printed::{Answer, Printed};
 use crate::steps::{disk_left, moves};
 use board::Payloads;
+use board_console::StateText;
 use board_model::{Durable, Refusal, Shape};
 use crew::Crew;
 use script_lang::{Fill, Line, Script, parse_script};
@@ -44,8 +45,8 @@ fn write_found<W: Write>(out: &mut W, found: &Option<Durable>) -> Result<(), Ref
     match *found {
         None => Ok(()),
         Some(durable) => {
-            let line = FoundLine(durable);
-            writeln!(out, "{line}").map_err(|_| Refusal::Output)
+            let state = StateText(durable);
+            writeln!(out, "found {state}").map_err(|_| Refusal::Output)
         }
     }
 }
@@ -132,8 +133,10 @@ fn run_line<C: Crew, W: Write>(
     requires short { AreShort payloads.old }
     ensures resting { IsResting result.0 }
     ensures short { AreShort payloads.new }
-    ensures ok { OnOk result.1 ((b : Bench) → IsBench shape.now b power payloads.old → (answer : Answer) × (new : Bench) × Moves shape.now line.now b answer new
-        × IsBench shape.now new result.0 payloads.new × Adds (W.contents out.old) (W.contents out.new) report.old report.new answer) }
+    ensures ok { OnOk result.1 ((b : Bench) → IsBench shape.now b power payloads.old
+        → (answer : Answer) × (new : Bench) × Moves shape.now line.now b answer new
+        × IsBench shape.now new result.0 payloads.new
+        × Adds (W.contents out.old) (W.contents out.new) report.old report.new answer) }
     ensures few { OnOk result.1 (report.new.lines ≤ report.old.lines + 2) }
     ensures calm { OnOk result.1 (IsUnstruck result.0) }
     ensures stopped { OnErr result.1 ((b : Bench) → IsBench shape.now b power payloads.old → Agrees shape.now b result.0
@@ -169,10 +172,14 @@ fn run_lines<C: Crew, W: Write>(
     requires calm { IsUnstruck power }
     requires short { AreShort payloads.old }
     ensures resting { IsResting result.0 }
-    ensures ok { OnOk result.1 ((b : Bench) → IsBench shape.now b power payloads.old → (answers : List Answer) × (new : Bench) × Run shape.now b lines.now answers new × Agrees shape.now new result.0
-        × ((before : List Answer) (start : Option (List ℕ)) → Reported start (W.contents out.old) report.old before → Reported start (W.contents out.new) report.new (before ++ answers))) }
+    ensures ok { OnOk result.1 ((b : Bench) → IsBench shape.now b power payloads.old
+        → (answers : List Answer) × (new : Bench) × Run shape.now b lines.now answers new
+        × Agrees shape.now new result.0
+        × ((before : List Answer) (start : Option (List ℕ)) → Reported start (W.contents out.old) report.old before
+        → Reported start (W.contents out.new) report.new (before ++ answers))) }
     ensures stopped { OnErr result.1 ((b : Bench) → IsBench shape.now b power payloads.old
-        → (n : ℕ) × (answers : List Answer) × (new : Bench) × Run shape.now b (take n lines.now) answers new × Agrees shape.now new result.0) }
+        → (n : ℕ) × (answers : List Answer) × (new : Bench) × Run shape.now b (take n lines.now) answers new
+        × Agrees shape.now new result.0) }
     ensures err { IfErr result.1 (λ e. (e ≡ Refusal.Output) ⊎ (e ≡ Refusal.Memory)) }
 {
     let mut power = power;
@@ -198,9 +205,12 @@ fn run_script<C: Crew, W: Write>(
     requires ranges { All (IsLineInRange script.now.shape) script.now.lines.items }
     requires blank { OffIs script.now.shape blank_bench disk }
     requires idle { IsIdle (facts disk) }
-    ensures report { IfOk result.1 (λ report. (answers : List Answer) × (end : Bench) × IsReport (view script.now) answers end × Reported (W.contents out.old) (W.contents out.new) report answers
+    ensures report { IfOk result.1 (λ report. (answers : List Answer) × (end : Bench)
+        × IsReport (view script.now) answers end × Reported (W.contents out.old) (W.contents out.new) report answers
         × OffIs script.now.shape (off end) result.0) }
-    ensures stopped { OnErr result.1 ((answers : List Answer) × (end : Bench) × IsCutShort (view script.now) answers end × OffIs script.now.shape (off end) result.0) }
+    ensures stopped { OnErr result.1
+        ((answers : List Answer) × (end : Bench) × IsCutShort (view script.now) answers end
+        × OffIs script.now.shape (off end) result.0) }
     ensures idle { IsIdle (facts result.0) }
     ensures err { IfErr result.1 (λ e. (e ≡ Refusal.Output) ⊎ (e ≡ Refusal.Memory)) }
 {
@@ -250,15 +260,19 @@ pub fn run_left<C: Crew, W: Write>(
 ) -> Result<(Report, SimDisk), Stopped>
     // What was written is a report of the script, and so are the count and the states; the disk is the one of
     // its end.
-    ensures report { IfOk result (λ left. (said : Said) × (answers : List Answer) × (end : Bench) × (script_of script.now ≡ Ok said) × IsReport said answers end
+    ensures report { IfOk result (λ left. (said : Said) × (answers : List Answer) × (end : Bench)
+        × (script_of script.now ≡ Ok said) × IsReport said answers end
         × Reported (W.contents out.old) (W.contents out.new) left.0 answers × OffIs said.size (off end) left.1) }
     // Where it stopped, the disk is the one of the end of some first lines.
-    ensures stopped { IfErr result (λ s. IfSome s.disk (λ disk. (said : Said) × (answers : List Answer) × (end : Bench) × (script_of script.now ≡ Ok said) × IsCutShort said answers end
+    ensures stopped { IfErr result (λ s. IfSome s.disk (λ disk. (said : Said) × (answers : List Answer)
+        × (end : Bench) × (script_of script.now ≡ Ok said) × IsCutShort said answers end
         × OffIs said.size (off end) disk)) }
     // A board can be powered on over it.
-    ensures idle { MatchResult result (λ left. IsIdle (facts left.1)) (λ s. IfSome s.disk (λ disk. IsIdle (facts disk))) }
+    ensures idle { MatchResult result (λ left. IsIdle (facts left.1)) (λ s. IfSome s.disk (λ disk. IsIdle
+        (facts disk))) }
     // A refusal is the script's fault, or lack of memory, or the writer's.
-    ensures refused { IfErr result (λ s. (s.refusal ≡ Refusal.Memory) ⊎ (s.refusal ≡ Refusal.Output) ⊎ (script_of script.now ≡ Err s.refusal)) }
+    ensures refused { IfErr result (λ s. (s.refusal ≡ Refusal.Memory) ⊎ (s.refusal ≡ Refusal.Output)
+        ⊎ (script_of script.now ≡ Err s.refusal)) }
     // A script with a fault runs nothing.
     ensures nothing { (e : Refusal) → script_of script.now ≡ Err e → (W.contents out.new ≡ W.contents out.old)
         × MatchResult result (λ left. ⊥) (λ s. ((s.refusal ≡ e) ⊎ (s.refusal ≡ Refusal.Memory)) × (s.disk ≡ None)) }
@@ -289,15 +303,18 @@ pub fn run<C: Crew, W: Write>(
 ) -> Result<Report, Refusal>
     // What was written is a report of the script, and so are the count and the states.
     ensures report { IfOk result (λ report. (said : Said) × (answers : List Answer) × (end : Bench)
-        × (script_of script.now ≡ Ok said) × IsReport said answers end × Reported (W.contents out.old) (W.contents out.new) report answers) }
+        × (script_of script.now ≡ Ok said) × IsReport said answers end
+        × Reported (W.contents out.old) (W.contents out.new) report answers) }
     // From the script's bytes to those of the report: what was written keeps the prefix law, where no line is
     // a poke.
-    ensures law { IfOk result (λ report. (said : Said) × (answers : List Answer) × (script_of script.now ≡ Ok said) × (AreByFirmware said.lines → KeepsPrefixLaw said.lines answers)
+    ensures law { IfOk result (λ report. (said : Said) × (answers : List Answer) × (script_of script.now ≡ Ok said)
+        × (AreByFirmware said.lines → KeepsPrefixLaw said.lines answers)
         × Reported (W.contents out.old) (W.contents out.new) report answers) }
     // A refusal is the script's fault, or lack of memory, or the writer's.
     ensures refused { IfErr result (λ e. (e ≡ Refusal.Memory) ⊎ (e ≡ Refusal.Output) ⊎ (script_of script.now ≡ Err e)) }
     // A script with a fault runs nothing.
-    ensures nothing { (e : Refusal) → script_of script.now ≡ Err e → (W.contents out.new ≡ W.contents out.old) × ((result ≡ Err e) ⊎ (result ≡ Err Refusal.Memory)) }
+    ensures nothing { (e : Refusal) → script_of script.now ≡ Err e
+        → (W.contents out.new ≡ W.contents out.old) × ((result ≡ Err e) ⊎ (result ≡ Err Refusal.Memory)) }
 {
     match run_left(alloc, script, crew, out) {
         Ok((report, _disk)) => Ok(report),

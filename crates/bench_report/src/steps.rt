@@ -38,7 +38,8 @@ fn says(line: Printed) -> Answer
 /// Formats the disk of a board that is off.
 fn format_disk(shape: &Shape, mut disk: SimDisk) -> (Power, Answer)
     requires { IsIdle (facts disk) }
-    ensures reported { (b : Bench) → OffIs shape.now b disk → StepsTo shape.now b result.0 (FormatsOn b.disk_state b result.1) }
+    ensures reported { (b : Bench) → OffIs shape.now b disk
+        → StepsTo shape.now b result.0 (FormatsOn b.disk_state b result.1) }
     ensures resting { IsResting result.0 }
 {
     kept_disks::<SimDisk>();
@@ -53,7 +54,8 @@ fn format_disk(shape: &Shape, mut disk: SimDisk) -> (Power, Answer)
 fn power_on(alloc: Global, mode: BootMode, disk: SimDisk, payloads: &Payloads) -> (Power, Answer)
     requires idle { IsIdle (facts disk) }
     requires short { AreShort payloads.now }
-    ensures reported { (size : Size) (b : Bench) → OffIs size b disk → payloads.now ≡ b.payloads → StepsTo size b result.0 (PowersOn size mode b result.1) }
+    ensures reported { (size : Size) (b : Bench) → OffIs size b disk → payloads.now ≡ b.payloads
+        → StepsTo size b result.0 (PowersOn size mode b result.1) }
     ensures resting { IsResting result.0 }
 {
     kept_disks::<SimDisk>();
@@ -80,7 +82,8 @@ fn power_on(alloc: Global, mode: BootMode, disk: SimDisk, payloads: &Payloads) -
 fn issue(board: &mut Board<SimDisk>, word: ConsoleWord, command: Command) -> Answer
     requires { IsConsoleCommand command }
     ensures { (size : Size) (b : Bench) (life : BenchLife) → b.power ≡ Some life → OnIs size b board.old
-        → (new : Bench) × ConsoleStep word (change_of command) (Some life) b result new × OnIs size new board.new × (new.payloads ≡ b.payloads) }
+        → (new : Bench) × ConsoleStep word (change_of command) (Some life) b result new × OnIs size new board.new
+        × (new.payloads ≡ b.payloads) }
 {
     match board.console(command) {
         Ok(receipt) => says(Printed::Acknowledged(word, receipt.number())),
@@ -128,7 +131,8 @@ fn cut(power: Power, fill: Fill) -> Power
 /// on or off.
 fn arm(power: Power, fault: ArmedFault) -> (Power, Answer)
     requires { IsResting power }
-    ensures reported { (size : Size) (b : Bench) → Agrees size b power → StepsTo size b result.0 (ArmStep (armed_by fault) b result.1) }
+    ensures reported { (size : Size) (b : Bench) → Agrees size b power
+        → StepsTo size b result.0 (ArmStep (armed_by fault) b result.1) }
     ensures arms { IsArmed fault result.0 }
     ensures resting { IsResting result.0 }
 {
@@ -169,7 +173,8 @@ fn struck(power: &Power) -> bool
 
 fn format_line(shape: &Shape, power: Power) -> (Power, Answer)
     requires { IsResting power }
-    ensures reported { (b : Bench) → Agrees shape.now b power → StepsTo shape.now b result.0 (FormatStep b.power b result.1) }
+    ensures reported { (b : Bench) → Agrees shape.now b power
+        → StepsTo shape.now b result.0 (FormatStep b.power b result.1) }
     ensures resting { IsResting result.0 }
 {
     match power {
@@ -181,7 +186,8 @@ fn format_line(shape: &Shape, power: Power) -> (Power, Answer)
 fn on_line(alloc: Global, mode: BootMode, power: Power, payloads: &Payloads) -> (Power, Answer)
     requires resting { IsResting power }
     requires short { AreShort payloads.now }
-    ensures reported { (size : Size) (b : Bench) → IsBench size b power payloads.now → StepsTo size b result.0 (OnStep size b.power mode b result.1) }
+    ensures reported { (size : Size) (b : Bench) → IsBench size b power payloads.now
+        → StepsTo size b result.0 (OnStep size b.power mode b result.1) }
     ensures resting { IsResting result.0 }
 {
     match power {
@@ -193,7 +199,8 @@ fn on_line(alloc: Global, mode: BootMode, power: Power, payloads: &Payloads) -> 
 fn console_line(word: ConsoleWord, command: Command, power: Power) -> (Power, Answer)
     requires command { IsConsoleCommand command }
     requires resting { IsResting power }
-    ensures reported { (size : Size) (b : Bench) → Agrees size b power → StepsTo size b result.0 (ConsoleStep word (change_of command) b.power b result.1) }
+    ensures reported { (size : Size) (b : Bench) → Agrees size b power
+        → StepsTo size b result.0 (ConsoleStep word (change_of command) b.power b result.1) }
     ensures resting { IsResting result.0 }
 {
     match power {
@@ -216,7 +223,8 @@ fn payload_line(
     requires bytes { length bytes.now ≤ 1024 }
     requires short { AreShort payloads.old }
     ensures reported { IfOk result (λ line. (size : Size) (b : Bench) → IsBench size b power.now payloads.old
-        → (new : Bench) × PayloadStep b.power slot bytes.now b (shows line) new × Matches size new power.now payloads.new) }
+        → (new : Bench) × PayloadStep b.power slot bytes.now b (shows line) new
+        × Matches size new power.now payloads.new) }
     ensures short { OnOk result (AreShort payloads.new) }
     ensures refused { OnErr result ((result ≡ Err Memory) × (payloads.new ≡ payloads.old)) }
 {
@@ -254,7 +262,8 @@ fn turn<C: Crew>(
 ) -> (Power, MachineLine)
     requires some { 0 < count }
     requires calm { (store_fault_state (store_in board)).struck ≡ false }
-    ensures reported { (size : Size) (b : Bench) → OnIs size b board → StepsTo size b result.0 (TurnStep b.power hart count b (shows result.1)) }
+    ensures reported { (size : Size) (b : Bench) → OnIs size b board
+        → StepsTo size b result.0 (TurnStep b.power hart count b (shows result.1)) }
     ensures resting { IsResting result.0 }
 {
     if !board.machine().has(hart) {
@@ -274,7 +283,8 @@ fn turn_line<C: Crew>(
     requires some { 0 < count }
     requires resting { IsResting power }
     requires calm { IsUnstruck power }
-    ensures reported { (size : Size) (b : Bench) → Agrees size b power → StepsTo size b result.0 (TurnStep b.power hart count b (shows result.1)) }
+    ensures reported { (size : Size) (b : Bench) → Agrees size b power
+        → StepsTo size b result.0 (TurnStep b.power hart count b (shows result.1)) }
     ensures resting { IsResting result.0 }
 {
     match power {
@@ -295,7 +305,8 @@ fn call<C: Crew>(
     a1: u64,
     a2: u64,
 ) -> (Power, MachineLine)
-    ensures reported { (size : Size) (b : Bench) → OnIs size b board → StepsTo size b result.0 (CallStep b.power hart eid fid a0 a1 a2 b (shows result.1)) }
+    ensures reported { (size : Size) (b : Bench) → OnIs size b board
+        → StepsTo size b result.0 (CallStep b.power hart eid fid a0 a1 a2 b (shows result.1)) }
     ensures resting { IsResting result.0 }
 {
     if !board.machine().has(hart) {
@@ -332,7 +343,8 @@ fn call_line<C: Crew>(
 }
 
 fn reg_line(hart: HartId, register: u32, power: &Power) -> MachineLine
-    ensures { (size : Size) (b : Bench) → Agrees size b power.now → ReadStep b.power (λ m line. line ≡ reg_line hart register m) b (shows result) b }
+    ensures { (size : Size) (b : Bench) → Agrees size b power.now
+        → ReadStep b.power (λ m line. line ≡ reg_line hart register m) b (shows result) b }
 {
     match power {
         Power::Off(_) => MachineLine::Off,
@@ -341,7 +353,8 @@ fn reg_line(hart: HartId, register: u32, power: &Power) -> MachineLine
 }
 
 fn pc_line(hart: HartId, power: &Power) -> MachineLine
-    ensures { (size : Size) (b : Bench) → Agrees size b power.now → ReadStep b.power (λ m line. line ≡ pc_line hart m) b (shows result) b }
+    ensures { (size : Size) (b : Bench) → Agrees size b power.now
+        → ReadStep b.power (λ m line. line ≡ pc_line hart m) b (shows result) b }
 {
     match power {
         Power::Off(_) => MachineLine::Off,
@@ -431,7 +444,8 @@ fn pending_line(power: Power) -> (Power, MachineLine)
 }
 
 fn mem_line(address: u64, count: u32, power: &Power) -> MachineLine
-    ensures { (size : Size) (b : Bench) → Agrees size b power.now → ReadStep b.power (λ m line. line ≡ mem_line address count m) b (shows result) b }
+    ensures { (size : Size) (b : Bench) → Agrees size b power.now
+        → ReadStep b.power (λ m line. line ≡ mem_line address count m) b (shows result) b }
 {
     match power {
         Power::Off(_) => MachineLine::Off,
@@ -499,7 +513,9 @@ fn step<C: Crew>(
     requires calm { IsUnstruck power }
     requires short { AreShort payloads.old }
     ensures reported { (b : Bench) → IsBench shape.now b power payloads.old → MatchResult result.1
-        (λ answer. (new : Bench) × Step shape.now line.now b answer new × Matches shape.now new result.0 payloads.new) (λ e. (e ≡ Memory) × Matches shape.now b result.0 payloads.new) }
+        (λ answer. (new : Bench) × Step shape.now line.now b answer new
+        × Matches shape.now new result.0 payloads.new)
+        (λ e. (e ≡ Memory) × Matches shape.now b result.0 payloads.new) }
     ensures arms { ArmsIts line.now result.0 }
     ensures pokes { PokesIts line.now power result.1 result.0 }
     ensures resting { IsResting result.0 }
@@ -567,9 +583,12 @@ pub fn moves<C: Crew>(
     requires calm { IsUnstruck power }
     requires short { AreShort payloads.old }
     ensures reported { (b : Bench) → IsBench shape.now b power payloads.old → MatchResult result.1
-        (λ answer. (new : Bench) × Moves shape.now line.now b answer new × IsBench shape.now new result.0 payloads.new) (λ e. (e ≡ Memory) × Matches shape.now b result.0 payloads.new) }
+        (λ answer. (new : Bench) × Moves shape.now line.now b answer new
+        × IsBench shape.now new result.0 payloads.new)
+        (λ e. (e ≡ Memory) × Matches shape.now b result.0 payloads.new) }
     ensures fill { fill.new ≡ fill_after line.now fill.old }
-    ensures exact { (b : Bench) → IsBench shape.now b power payloads.old → IfOk result.1 (λ answer. EndsBy shape.now line.now fill.new b answer result.0) }
+    ensures exact { (b : Bench) → IsBench shape.now b power payloads.old
+        → IfOk result.1 (λ answer. EndsBy shape.now line.now fill.new b answer result.0) }
     ensures resting { IsResting result.0 }
     ensures calm { OnOk result.1 (IsUnstruck result.0) }
     ensures short { AreShort payloads.new }

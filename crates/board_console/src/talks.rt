@@ -54,7 +54,8 @@ pub fn console<R: Wait, D: Disk + Drop, I: Read, W: Write>(
     input: &mut I,
     out: &mut W,
 ) -> Left
-    ensures { Talks result (dialogue_ends (I.remaining input.old) (W.contents out.old)) (dialogue_ends (I.remaining input.new) (W.contents out.new)) }
+    ensures { Talks result (dialogue_ends (I.remaining input.old) (W.contents out.old))
+        (dialogue_ends (I.remaining input.new) (W.contents out.new)) }
 {
     let mut line = ArrayVec::new();
     for _ in rt.forever() {

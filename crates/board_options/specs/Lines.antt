@@ -29,7 +29,9 @@ named_app = record (new_app (codes "sbiboard")) { top = record (new_app (codes "
 -- with the disk, the mode and whether it is new
 abbrev pub board_line : ValueParser → App
 board_line modes =
-    with_rule (with_rule (with_rule named_app (required (path_rule (codes "disk")))) (required (value_rule (codes "mode") modes))) new_flag
+    with_rule
+    (with_rule (with_rule named_app (required (path_rule (codes "disk"))))
+    (required (value_rule (codes "mode") modes))) new_flag
 
 -- and all else
 abbrev pub sbiboard : ValueParser → App

@@ -12,7 +12,8 @@ use std::alloc::{AllocError, Global};
 /// The version of the firmware.
 const VERSION: &str = "1";
 
-const USAGE: &str = "sbiboard --disk PATH --mode MODE [--new] [OPTIONS]";
+/// How the program is called.
+pub const USAGE: &str = "sbiboard --disk PATH --mode MODE [--new] [OPTIONS]";
 
 const ABOUT: &str = "\
 Runs a modelled RISC-V board, each hart on a thread of its own, and takes the

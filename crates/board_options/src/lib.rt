@@ -6,4 +6,5 @@ mod help;
 mod parsed;
 
 pub use given::Options;
+pub use help::USAGE;
 pub use parsed::read_options as options;

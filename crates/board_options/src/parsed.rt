@@ -23,7 +23,8 @@ use std::convert::AsStr;
 /// A path that was given; none that is empty.
 fn path(alloc: Global, matches: &ArgMatches<'_>, id: &str) -> Result<Option<String>, AllocError>
     ensures some { IfOk result (λ path. IfSome path (λ text. 0 < string_len text)) }
-    ensures named { IfOk result (λ path. option_map string_bytes path ≡ path_named (first_value (found_of matches.now) id.now)) }
+    ensures named { IfOk result (λ path. option_map string_bytes path
+        ≡ path_named (first_value (found_of matches.now) id.now)) }
 {
     match matches.get_str(id) {
         Some(text) if !text.is_empty() => Ok(Some(text.to_string(alloc)?)),
@@ -34,8 +35,10 @@ fn path(alloc: Global, matches: &ArgMatches<'_>, id: &str) -> Result<Option<Stri
 /// The payload files, by slot.
 fn payloads(alloc: Global, matches: &ArgMatches<'_>) -> Result<[Option<String>; 4], AllocError>
     ensures { IfOk result (λ paths. map (option_map string_bytes) paths
-        ≡ path_named (first_value (found_of matches.now) (codes "p0")) ∷ path_named (first_value (found_of matches.now) (codes "p1"))
-        ∷ path_named (first_value (found_of matches.now) (codes "p2")) ∷ path_named (first_value (found_of matches.now) (codes "p3")) ∷ []) }
+        ≡ path_named (first_value (found_of matches.now) (codes "p0"))
+        ∷ path_named (first_value (found_of matches.now) (codes "p1"))
+        ∷ path_named (first_value (found_of matches.now) (codes "p2"))
+        ∷ path_named (first_value (found_of matches.now) (codes "p3")) ∷ []) }
 {
     Ok([
         path(alloc, matches, PAYLOADS[0])?,
@@ -61,9 +64,12 @@ fn number(matches: &ArgMatches<'_>, id: &str) -> Option<u64>
 
 /// The shape of a new disk.
 fn shape(matches: &ArgMatches<'_>) -> Option<Shape>
-    ensures harts { IfSome result (λ size. number_named (first_value (found_of matches.now) (codes "harts")) ≡ Some size.harts) }
-    ensures pages { IfSome result (λ size. number_named (first_value (found_of matches.now) (codes "pages")) ≡ Some size.pages) }
-    ensures lanes { IfSome result (λ size. number_named (first_value (found_of matches.now) (codes "lanes")) ≡ Some size.lanes) }
+    ensures harts { IfSome result (λ size. number_named (first_value (found_of matches.now) (codes "harts"))
+        ≡ Some size.harts) }
+    ensures pages { IfSome result (λ size. number_named (first_value (found_of matches.now) (codes "pages"))
+        ≡ Some size.pages) }
+    ensures lanes { IfSome result (λ size. number_named (first_value (found_of matches.now) (codes "lanes"))
+        ≡ Some size.lanes) }
 {
     let harts = number(matches, HARTS)?;
     let pages = number(matches, PAGES)?;
@@ -74,7 +80,8 @@ fn shape(matches: &ArgMatches<'_>) -> Option<Shape>
 /// How many turns a hart makes at most.
 fn turns(matches: &ArgMatches<'_>) -> Option<u64>
     ensures range { IfSome result AreTurns }
-    ensures named { IfSome result (λ turns. number_named (first_value (found_of matches.now) (codes "turns")) ≡ Some turns) }
+    ensures named { IfSome result (λ turns. number_named (first_value (found_of matches.now) (codes "turns"))
+        ≡ Some turns) }
 {
     let turns = number(matches, TURNS)?;
     if turns < 1 || MOST_TURNS < turns {
@@ -117,7 +124,8 @@ fn options_of(alloc: Global, matches: &ArgMatches<'_>) -> Result<Option<Options>
 pub fn read_options<'a, S: AsStr>(alloc: Global, words: &'a [S]) -> Result<Options, Error>
     ensures limits { IfOk result (λ o. (0 < string_len o.disk) × IsSize o.shape × AreTurns o.turns) }
     // And each option is what the words say, as the command line's parser reads them.
-    ensures reads { IfOk result (λ o. (modes : ValueParser) × (f : Found) × (rows_of f ≡ matches_of (sbiboard modes) (map S.text words.now)) × ReadsOptions f o) }
+    ensures reads { IfOk result (λ o. (modes : ValueParser) × (f : Found)
+        × (rows_of f ≡ matches_of (sbiboard modes) (map S.text words.now)) × ReadsOptions f o) }
 {
     let matches = command(alloc)?.try_get_matches_from(words)?;
     match options_of(alloc, &matches)? {

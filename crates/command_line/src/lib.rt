@@ -1,0 +1,68 @@
+//! The command line of a program: its words are read, and what it asks to be shown, or its fault, is shown.
+#![tactic(auto)]
+
+ghost use Rattle.std.specs.Prelude.{◌≡◌};
+ghost use Rattle.clap.specs.Values.{kind_of};
+ghost use Rattle.command_line.specs.Kinds.{no_work};
+
+use clap::Error;
+use clap::error::ErrorKind;
+use std::{env, io};
+
+/// Why a command line asks for no work.
+#[derive(Clone, Copy, Debug, Drop)]
+pub enum NoWork {
+    /// The help or the version was asked for, and was shown.
+    Shown,
+    /// The command line has a fault, which was told on standard error.
+    Usage,
+    /// Memory was refused.
+    Memory,
+}
+
+/// The words of the command line, the program's name first. A word that is no text is a fault of the command
+/// line, and is told with the usage, as `clap` tells the other faults.
+pub fn words(rt: &HostRuntime, usage: &str) -> Result<Vec<String>, NoWork> {
+    match words_in(rt) {
+        Ok(words) => Ok(words),
+        Err(e) if e.kind() == io::ErrorKind::InvalidData => {
+            let _told = eprint!(rt;
+                "error: invalid UTF-8 was detected in one or more arguments\n\n\
+                Usage: {usage}\n\n\
+                For more information, try '--help'.\n"
+            );
+            Err(NoWork::Usage)
+        }
+        Err(_) => Err(NoWork::Memory),
+    }
+}
+
+/// The words, as the host gives them.
+fn words_in(rt: &HostRuntime) -> io::Result<Vec<String>> {
+    let words = env::args(rt)?.collect(rt.alloc())?;
+    Ok(words)
+}
+
+/// Shows what the command line's own text says: the help and the version on standard output, a fault on
+/// standard error. Where nobody reads it, nothing is said of that: the status tells. Where memory was refused
+/// nothing is shown.
+pub fn show(rt: &HostRuntime, text: &Error) -> NoWork
+    ensures { result ≡ no_work (kind_of text.now) }
+{
+    let kind = text.kind();
+    if kind != ErrorKind::OutOfMemory {
+        let _shown = text.print(rt);
+    }
+    no_work(kind)
+}
+
+/// Why a command line with an error of this kind asks for no work.
+fn no_work(kind: ErrorKind) -> NoWork
+    ensures { result ≡ no_work kind }
+{
+    match kind {
+        ErrorKind::DisplayHelp | ErrorKind::DisplayVersion => NoWork::Shown,
+        ErrorKind::OutOfMemory => NoWork::Memory,
+        _ => NoWork::Usage,
+    }
+}
