@@ -1,6 +1,6 @@
 //! Why the program ends with a fault: the status for it, and the text that says so.
 
-ghost use Rattle.std.specs.Prelude.{◌≡◌, Some};
+ghost use Rattle.std.specs.Prelude.{◌≡◌, ◌≤◌, Some};
 ghost use Rattle.board_program.specs.Faults.{board_fault_text, first_fault, board_status};
 
 use board_model::Refusal;
@@ -35,7 +35,8 @@ impl fmt::Display for Fault {
 /// The program's status: 0 where it did what it was asked, 2 for a fault of the command line, and 1 for any
 /// other.
 pub fn status_of(done: &Result<(), Fault>) -> u8
-    ensures { result ≡ board_status done.now }
+    ensures status { result ≡ board_status done.now }
+    ensures range { result ≤ 2 }
 {
     match done {
         Ok(()) => 0,

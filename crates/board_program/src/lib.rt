@@ -4,15 +4,17 @@
 mod disk_file;
 mod fault;
 mod payload_files;
-mod usage;
+
+ghost use Rattle.std.specs.Prelude.{◌≤◌};
+ghost use Rattle.std.specs.Process.{exit_status};
 
 use crate::disk_file::{disk_of, write_disk};
 use crate::fault::{Fault, first_fault, status_of};
 use crate::payload_files::payloads_of;
-use crate::usage::{Wish, asked};
 use board_model::Refusal;
-use board_options::Options;
+use board_options::{Options, USAGE, options};
 use board_session::session;
+use command_line::{NoWork, show, words};
 use std::io::{self, BufReader};
 use std::process::ExitCode;
 use std::sync::Wait;
@@ -47,18 +49,28 @@ fn run<R: Threads + Wait + Sync>(
     first_fault(ran, write_disk(rt, &options.disk, &disk))
 }
 
+/// Reads the command line, and shows what it asks to be shown, or its fault.
+fn asked(rt: &HostRuntime) -> Result<Options, NoWork> {
+    let words = words(rt, USAGE)?;
+    options(rt.alloc(), words.as_slice()).map_err(|text| show(rt, &text))
+}
+
 /// Does what the command line asks for.
 fn operated<R: Threads + Wait + Sync>(rt: &HostRuntime, threads: &R) -> Result<(), Fault> {
-    match asked(rt)? {
-        Wish::Shown => Ok(()),
-        Wish::Run(options) => run(rt, threads, &options),
+    match asked(rt) {
+        Ok(options) => run(rt, threads, &options),
+        Err(NoWork::Shown) => Ok(()),
+        Err(NoWork::Usage) => Err(Fault::Usage),
+        Err(NoWork::Memory) => Err(Fault::Refused(Refusal::Memory)),
     }
 }
 
 /// The whole program: runs a board on threads with the operator's console on standard input and output, or
 /// says on standard error why not. Answers the status that docs/CONSOLE.md, "Statuses and faults", has. The
 /// second handle makes the threads of harts and lanes, and waits for them.
-pub fn operate<R: Threads + Wait + Sync>(rt: &HostRuntime, threads: &R) -> ExitCode {
+pub fn operate<R: Threads + Wait + Sync>(rt: &HostRuntime, threads: &R) -> ExitCode
+    ensures { exit_status result ≤ 2 }
+{
     let done = operated(rt, threads);
     if let Err(fault) = &done {
         let _told = eprint!(rt; "{fault}");

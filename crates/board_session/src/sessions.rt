@@ -1,13 +1,17 @@
 //! A board from its power-on to the end of its threads.
 
-ghost use Rattle.std.specs.Prelude.{◌≡◌, ◌⊎◌, Some, None, true, false, OnOk, IfOk, IfErr, MatchResult};
-ghost use Rattle.board_model.specs.Durable.{DurableState};
+ghost use Rattle.std.specs.Prelude.{◌≡◌, ◌⊎◌, Some, true, false, OnOk, IfOk, IfErr, MatchResult};
+ghost use Rattle.board_model.specs.Durable.{formatted};
 ghost use Rattle.board_model.specs.Shapes.{Size};
 ghost use Rattle.board_model.specs.declared.refusal.Refusal.TheVariants.{Memory, Output};
-ghost use Rattle.store.specs.Leaves.{IsIdle, IsMarked};
-ghost use Rattle.store.specs.Standing.{StandsFor};
+ghost use Rattle.store.specs.Formats.{WritesHead};
+ghost use Rattle.store.specs.Leaves.{IsIdle, IsKept, LeavesOnly};
+ghost use Rattle.store.specs.Opens.{FormatRefused};
+ghost use Rattle.store.specs.Views.{size_of_store, found_state};
 ghost use Rattle.machine.specs.Held.{IsHeld};
-ghost use Rattle.board.specs.Boots.{boot_refusal};
+ghost use Rattle.board.specs.Begins.{IsBegun};
+ghost use Rattle.board.specs.Views.{store_of, machine_of};
+ghost use Rattle.board_session.specs.Sessions.{facts, TakesFormat, RunsOver, RefusesDisk, IsOfLife};
 
 use crate::gate::UntilQuit;
 use board::{Board, Parts, Payloads};
@@ -21,7 +25,7 @@ use std::alloc::Global;
 use std::io::{Read, Write};
 use std::sync::{Mutex, Wait};
 use std::thread::Threads;
-use store::{Store, format};
+use store::{Store, format, kept_disks};
 
 /// The console beside the harts. The gate is shut after `quit`, and where an answer could not be written; at
 /// the end of input the harts run out their turns.
@@ -39,6 +43,14 @@ fn attend<R: Wait, I: Read, W: Write>(
     }
 }
 
+/// The disk of a store whose life ends here.
+fn disk_of<D: Disk + Drop>(store: Store<D>) -> D
+    ensures none_out { IsIdle (D.facts result) }
+    ensures left { IsOfLife (D.facts result) }
+{
+    store.into_disk()
+}
+
 /// Runs the harts of a board on threads and the console beside them, and gives back the disk.
 fn operate<R: Threads + Wait + Sync, I: Read, W: Write>(
     rt: &R,
@@ -50,7 +62,8 @@ fn operate<R: Threads + Wait + Sync, I: Read, W: Write>(
     out: &mut W,
 ) -> (SimDisk, Result<(), Refusal>)
     requires { IsHeld shape.now parts.harts.items parts.tables (Some parts.seats) }
-    ensures none_out { IsIdle (⟦<SimDisk as Disk>⟧.facts result.0) }
+    ensures none_out { IsIdle (facts result.0) }
+    ensures left { IsOfLife (facts result.0) }
     ensures refused { IfErr result.1 (λ e. (e ≡ Memory) ⊎ (e ≡ Output)) }
 {
     let Parts {
@@ -83,17 +96,22 @@ fn operate<R: Threads + Wait + Sync, I: Read, W: Write>(
     } else {
         driven
     };
-    (store.into_inner().into_disk(), ended)
+    (disk_of(store.into_inner()), ended)
 }
 
 /// The disk that a board is powered on with: formatted, where it is new. A refusal is that of the format, and
 /// gives the disk back.
 fn prepared(options: &Options, disk: SimDisk) -> Result<SimDisk, (SimDisk, Refusal)>
-    requires { IsIdle (⟦<SimDisk as Disk>⟧.facts disk) }
-    ensures new { OnOk result (options.now.new ≡ true → IsMarked (⟦<SimDisk as Disk>⟧.facts disk).content → ⊥) }
+    requires { IsIdle (facts disk) }
+    ensures new { OnOk result (options.now.new ≡ true → TakesFormat options.now.shape (facts disk).content) }
+    ensures formatted { IfOk result (λ d. options.now.new ≡ true → LeavesOnly (facts d) options.now.shape formatted) }
     ensures old { IfOk result (λ d. options.now.new ≡ false → d ≡ disk) }
-    ensures none_out { MatchResult result (λ d. IsIdle (⟦<SimDisk as Disk>⟧.facts d)) (λ e. IsIdle (⟦<SimDisk as Disk>⟧.facts e.0)) }
+    ensures refused { IfErr result (λ e. (options.now.new ≡ true)
+        × FormatRefused (facts disk) options.now.shape e.1 (facts e.0) × WritesHead (facts disk) (facts e.0)) }
+    ensures kept { IfErr result (λ e. (size : Size) → IsKept (facts disk) size → IsKept (facts e.0) size) }
+    ensures none_out { MatchResult result (λ d. IsIdle (facts d)) (λ e. IsIdle (facts e.0)) }
 {
+    kept_disks::<SimDisk>();
     if !options.new {
         return Ok(disk);
     }
@@ -101,6 +119,35 @@ fn prepared(options: &Options, disk: SimDisk) -> Result<SimDisk, (SimDisk, Refus
     match format(&mut disk, &options.shape) {
         Ok(()) => Ok(disk),
         Err(refusal) => Err((disk, refusal)),
+    }
+}
+
+/// The board of a session, which is on. A refusal is the first of the format's, the open's and the boot's, and
+/// gives the disk back.
+fn powered(
+    alloc: Global,
+    options: &Options,
+    disk: SimDisk,
+    payloads: &Payloads,
+) -> Result<Board<SimDisk>, (SimDisk, Refusal)>
+    requires { IsIdle (facts disk) }
+    ensures runs { OnOk result
+        (RunsOver options.now.new options.now.shape options.now.mode payloads.now (facts disk).content) }
+    ensures begun { IfOk result (λ b. IsBegun options.now.mode (size_of_store (store_of b)) payloads.now
+        (found_state (store_of b)) (machine_of b)) }
+    ensures refused { IfErr result (λ e. RefusesDisk options.now.new options.now.shape options.now.mode payloads.now
+        (facts disk) e.1 (facts e.0)) }
+    ensures kept { IfErr result (λ e. (size : Size) → IsKept (facts disk) size → (z : Size) × IsKept (facts e.0) z) }
+    ensures none_out { IfErr result (λ e. IsIdle (facts e.0)) }
+{
+    kept_disks::<SimDisk>();
+    let disk = match prepared(options, disk) {
+        Ok(disk) => disk,
+        Err(refused) => return Err(refused),
+    };
+    match Board::power_on(alloc, disk, options.mode, payloads) {
+        Ok(board) => Ok(board),
+        Err(unpowered) => Err((unpowered.disk, unpowered.refusal)),
     }
 }
 
@@ -121,22 +168,27 @@ pub fn session<R: Threads + Wait + Sync, I: Read, W: Write>(
     input: &mut I,
     out: &mut W,
 ) -> (SimDisk, Result<(), Refusal>)
-    requires { IsIdle (⟦<SimDisk as Disk>⟧.facts disk) }
-    ensures none_out { IsIdle (⟦<SimDisk as Disk>⟧.facts result.0) }
-    // It ends without a refusal only over a disk that was not formatted yet, where a new one is asked for,
-    ensures new { OnOk result.1 (options.now.new ≡ true → IsMarked (⟦<SimDisk as Disk>⟧.facts disk).content → ⊥) }
-    // and else over one that stands for a state which the mode allows.
-    ensures boots { OnOk result.1 (options.now.new ≡ false → (size : Size) × (s : DurableState)
-        × StandsFor (⟦<SimDisk as Disk>⟧.facts disk).content size s × (boot_refusal s options.now.mode ≡ None)) }
-    // A refusal but of memory or of the output comes before any line is read or answered.
-    ensures first { IfErr result.1 (λ e. (e ≡ Memory) ⊎ (e ≡ Output) ⊎ ((input.new ≡ input.old) × (out.new ≡ out.old))) }
+    requires { IsIdle (facts disk) }
+    ensures none_out { IsIdle (facts result.0) }
+    // It ends without a refusal only over a disk that was not formatted yet and is large enough, where a new one
+    // is asked for, and else over one that stands for a state. That state allows the mode, and all payloads fit.
+    ensures runs { OnOk result.1
+        (RunsOver options.now.new options.now.shape options.now.mode payloads.now (facts disk).content) }
+    // A refusal is the first of the format's, the open's and the boot's, before any line is read or answered; or
+    // the board was on, and it is that of the threads or of the output.
+    ensures refused { IfErr result.1 (λ e.
+        (RefusesDisk options.now.new options.now.shape options.now.mode payloads.now (facts disk) e (facts result.0)
+        × (input.new ≡ input.old) × (out.new ≡ out.old))
+        ⊎ (((e ≡ Memory) ⊎ (e ≡ Output))
+        × RunsOver options.now.new options.now.shape options.now.mode payloads.now (facts disk).content
+        × IsOfLife (facts result.0))) }
+    // Without a refusal the disk is that of a life which has ended: it stands for a state, and so after a crash.
+    ensures left { OnOk result.1 (IsOfLife (facts result.0)) }
+    // Whatever it answers, a disk of which each crash leaves a state is given back as one.
+    ensures kept { (size : Size) → IsKept (facts disk) size → (z : Size) × IsKept (facts result.0) z }
 {
-    let disk = match prepared(options, disk) {
-        Ok(disk) => disk,
-        Err((disk, refusal)) => return (disk, Err(refusal)),
-    };
-    match Board::power_on(alloc, disk, options.mode, payloads) {
-        Err(unpowered) => (unpowered.disk, Err(unpowered.refusal)),
+    match powered(alloc, options, disk, payloads) {
+        Err((disk, refusal)) => (disk, Err(refusal)),
         Ok(board) => {
             let shape = board.shape();
             operate(

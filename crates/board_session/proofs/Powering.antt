@@ -1,0 +1,89 @@
+-- What is made of a disk on the way to a board that is on, and what a board that is not on, or a life that has
+-- ended, leaves of it.
+use Rattle.std.proofs.Common.{◌≡◌, ◌⊎◌, inl, inr, ℕ, Bool, true, false, List, Option, Some, None, refl, sym, subst, subst₂}
+use Rattle.board_model.specs.Durable.{DurableState, Change, after, formatted}
+use Rattle.board_model.specs.Shapes.{Size}
+use Rattle.board_model.specs.declared.boot_mode.BootMode.{BootMode}
+use Rattle.board_model.specs.declared.durable.Durable.{Durable}
+use Rattle.board_model.specs.declared.refusal.Refusal.{Refusal}
+use Rattle.board_model.specs.declared.refusal.Refusal.TheVariants.{Device, Memory}
+use Rattle.disk.specs.Facts.{Content, Facts, Passes, Stays}
+use Rattle.store.specs.Leaves.{IsBlank, IsKept, IsMarked, LeavesEither, LeavesOnly, NoMore}
+use Rattle.store.specs.Answers.{StoreView}
+use Rattle.store.specs.Opens.{OpenRefused, FormatRefused}
+use Rattle.store.specs.Formats.{WritesHead}
+use Rattle.store.specs.Standing.{StandsFor}
+use Rattle.board.specs.Begins.{RefusesBoot}
+use Rattle.board.specs.PowersOn.{IsOn, IsUnpowered}
+use Rattle.machine.specs.Machine.{Machine}
+use Rattle.board.specs.Unbooted.{doubt_after, LeavesLife}
+use Rattle.board_session.specs.Sessions.{Allows, TakesFormat, RunsOver, RefusesNew, RefusesDisk, IsOfLife}
+
+-- ---- of a format
+-- what the law of kept disks says where a crash leaves no more than before
+abbrev pub GoesOn : Facts → Facts → Type 0
+GoesOn old new =
+    ((c : Content) → new.may_leave c → old.may_leave c)
+    → (IsBlank old → IsBlank new) × ((size : Size) → IsKept old size → IsKept new size) × NoMore old new
+
+-- a disk with the mark stays as it is, and so one that is kept
+pub format_keeps : (old new : Facts) → (IsMarked old.content → Passes old new Stays × (new.content ≡ old.content)) → GoesOn old new → ((size : Size) → IsKept old size → IsMarked old.content)
+    → (size : Size) → IsKept old size → IsKept new size
+format_keeps old new marked goes_on is_marked size kept =
+    let stays = (marked (is_marked size kept)).0 in
+    (goes_on (λ c left. let from = stays.now c left in subst old.may_leave (sym from.2) from.1)).1 size kept
+
+-- ---- of a life that has ended
+pub life_leaves : (doubt : Option Change) (disk : Facts) (size : Size) (s : DurableState) → (doubt ≡ None → LeavesOnly disk size s) → ((c : Change) → doubt ≡ Some c → LeavesEither disk size s (after s c)) → LeavesLife doubt disk size s
+life_leaves None disk size s up down = up refl
+life_leaves (Some c) disk size s up down = down c refl
+
+pub life_kept : (doubt : Option Change) (disk : Facts) (size : Size) (s : DurableState) → LeavesLife doubt disk size s → IsKept disk size
+life_kept None disk size s left = left.kept
+life_kept (Some c) disk size s left = left.kept
+
+pub kept_reads : (disk : Facts) (size : Size) → IsKept disk size → disk.may_leave disk.content → (s : DurableState) × StandsFor disk.content size s
+unfolding IsKept
+kept_reads disk size kept may_keep = kept disk.content may_keep
+
+pub of_life_kept : (disk : Facts) → IsOfLife disk → (z : Size) × IsKept disk z
+of_life_kept disk is = (is.size, life_kept is.doubt disk is.size is.now is.left)
+
+-- ---- of a board that is not on
+module _ (mid left : Facts) (goes_on : GoesOn mid left) (mode : BootMode) (payloads : List (List ℕ)) where
+  pub unpowered_kept : (found : Option Durable) (e : Refusal) → IsUnpowered mode payloads found mid e left → (size : Size) → IsKept mid size → (z : Size) × IsKept left z
+  unpowered_kept None e why size kept = (size, (goes_on why.any_moment.now).1 size kept)
+  unpowered_kept (Some f) e why size kept = (why.size, life_kept (doubt_after mode e) left why.size why.state why.left)
+
+  pub refuses_new : (shape : Size) (found : Option Durable) (e : Refusal) → (OpenRefused mid e left → (e ≡ Device) ⊎ (e ≡ Memory)) → LeavesOnly mid shape formatted → IsUnpowered mode payloads found mid e left
+      → RefusesNew shape mode payloads e left
+  refuses_new shape None e opens only why =
+      let more = goes_on why.any_moment.now in
+      inl (opens why.why, record { kept = more.1 shape only.kept; only = λ z t leaves. only.only z t (more.2 z t leaves) })
+  refuses_new shape (Some f) e opens only why =
+      let is = only.only why.size why.state why.earlier in
+      inr (subst₂ (λ (z : Size) (s : DurableState). RefusesBoot mode z payloads s e) is.0 is.1 why.why, subst₂ (λ (z : Size) (s : DurableState). LeavesLife (doubt_after mode e) left z s) is.0 is.1 why.left)
+
+  -- by whether a new disk was asked for
+  module _ (old : Facts) (shape : Size) (found : Option Durable) (e : Refusal) (why : IsUnpowered mode payloads found mid e left) where
+    pub refuses_disk : (new : Bool) → (new ≡ true → TakesFormat shape old.content) → (new ≡ true → LeavesOnly mid shape formatted) → (new ≡ false → IsUnpowered mode payloads found old e left)
+        → ((size : Size) → IsKept mid size → OpenRefused mid e left → (e ≡ Device) ⊎ (e ≡ Memory)) → RefusesDisk new shape mode payloads old e left
+    refuses_disk true takes only was opens = inr (takes refl, refuses_new shape found e (opens shape (only refl).kept) (only refl) why)
+    refuses_disk false takes only was opens = (found, was refl)
+
+    pub kept_off : (new : Bool) → (new ≡ true → LeavesOnly mid shape formatted) → (new ≡ false → (size : Size) → IsKept old size → IsKept mid size) → (size : Size) → IsKept old size → (z : Size) × IsKept left z
+    kept_off true only same size kept = unpowered_kept found e why shape (only refl).kept
+    kept_off false only same size kept = unpowered_kept found e why size (same refl size kept)
+
+-- a format that was refused, of a new disk
+pub format_refuses : (new : Bool) (shape : Size) (mode : BootMode) (payloads : List (List ℕ)) (old left : Facts) (e : Refusal) → new ≡ true → FormatRefused old shape e left → WritesHead old left → RefusesDisk new shape mode payloads old e left
+format_refuses new shape mode payloads old left e is why wrote = subst (λ (b : Bool). RefusesDisk b shape mode payloads old e left) (sym is) (inl (why, wrote))
+
+-- ---- of a board that is on
+pub runs_over : (new : Bool) (shape : Size) (mode : BootMode) (payloads : List (List ℕ)) (old mid : Facts) (store : StoreView) (machine : Machine) → (new ≡ true → TakesFormat shape old.content) → (new ≡ true → LeavesOnly mid shape formatted)
+    → (new ≡ false → mid.content ≡ old.content) → IsOn mode payloads mid store machine → RunsOver new shape mode payloads old.content
+runs_over true shape mode payloads old mid store machine takes only same on =
+    let is = (only refl).only store.size store.life.found on.found in
+    (takes refl, subst₂ (λ (z : Size) (s : DurableState). Allows z s mode payloads) is.0 is.1 (on.allowed, on.fits))
+runs_over false shape mode payloads old mid store machine takes only same on =
+    (store.size, store.life.found, subst (λ (c : Content). StandsFor c store.size store.life.found) (same refl) on.reads, (on.allowed, on.fits))

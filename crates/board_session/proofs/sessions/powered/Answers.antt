@@ -1,0 +1,48 @@
+use Rattle.std.proofs.Common.{ap, sym, subst}
+use Rattle.simdisk.specs.declared.SimDisk.{SimDisk}
+use Rattle.store.specs.Leaves.{IsKept}
+use Rattle.store.specs.Views.{view_of}
+use Rattle.board.specs.Views.{store_of, machine_of}
+use Rattle.board.specs.PowersOn.{IsUnpowered}
+use Rattle.board_session.specs.Sessions.{facts}
+use Rattle.board_session.proofs.Powering.{format_refuses, kept_off, refuses_disk, runs_over}
+use Rattle.board_session.proofs.sessions.powered.Goals as goal
+
+pub returns-in-Err-clause-refused : goal.returns-in-Err-clause-refused
+returns-in-Err-clause-refused c =
+    let o = c.args.options.now in
+    let why = c.in-Err.ensures.refused in
+    format_refuses o.new o.shape o.mode c.args.payloads.now (facts c.args.disk) (facts c.in-Err.refused.0) c.in-Err.refused.1 why.0 why.1 why.2
+
+pub returns-in-Err-clause-kept : goal.returns-in-Err-clause-kept
+returns-in-Err-clause-kept c = λ size kept. (size, c.in-Err.ensures.kept size kept)
+
+pub returns-in-Ok-power_on-clause-runs : goal.returns-in-Ok-power_on-clause-runs
+returns-in-Ok-power_on-clause-runs c =
+    let o = c.args.options.now in
+    let made = c.in-Ok.ensures in
+    let board = c.in-Ok-power_on.board in
+    runs_over o.new o.shape o.mode c.args.payloads.now (facts c.args.disk) (facts c.in-Ok.disk) (view_of (store_of board)) (machine_of board) made.new made.formatted
+    (λ is. ap (λ (d : SimDisk). (facts d).content) (made.old is)) c.in-Ok-power_on.ensures.on
+
+pub returns-in-Err-power_on-clause-refused : goal.returns-in-Err-power_on-clause-refused
+returns-in-Err-power_on-clause-refused c =
+    let o = c.args.options.now in
+    let made = c.in-Ok.ensures in
+    let k = c.kept_disks.ensures in
+    let mid = c.in-Ok.disk in
+    let off = c.in-Err-power_on.unpowered in
+    let why = c.in-Err-power_on.ensures.off in
+    refuses_disk (facts mid) (facts off.disk) (k.goes_on mid off.disk) o.mode c.args.payloads.now (facts c.args.disk) o.shape off.found off.refusal why o.new made.new made.formatted
+    (λ is. subst (λ (d : SimDisk). IsUnpowered o.mode c.args.payloads.now off.found (facts d) off.refusal (facts off.disk)) (made.old is) why)
+    (λ size kept refused. k.opens mid off.disk size off.refusal kept refused)
+
+pub returns-in-Err-power_on-clause-kept : goal.returns-in-Err-power_on-clause-kept
+returns-in-Err-power_on-clause-kept c =
+    let o = c.args.options.now in
+    let made = c.in-Ok.ensures in
+    let k = c.kept_disks.ensures in
+    let mid = c.in-Ok.disk in
+    let off = c.in-Err-power_on.unpowered in
+    kept_off (facts mid) (facts off.disk) (k.goes_on mid off.disk) o.mode c.args.payloads.now (facts c.args.disk) o.shape off.found off.refusal c.in-Err-power_on.ensures.off o.new made.formatted
+    (λ is size kept. subst (λ (d : SimDisk). IsKept (facts d) size) (sym (made.old is)) kept)
