@@ -1,0 +1,78 @@
+//! Two harts' turns overlap: at their gate each waits for the other, before and after every turn.
+
+use crate::fixtures::{driven, parts_of};
+use board_model::{HartId, Shape};
+use hart_threads::Gate;
+use std::sync::atomic::{AtomicBool, AtomicU64, Ordering};
+use std::test::*;
+use std::thread;
+use std::time::{Clock, Duration};
+
+/// The most sleeps of 1 ms for which a hart waits at once.
+const MOST_SLEEPS: u32 = 10_000;
+
+/// A gate at which each of two harts waits until the other has come as far.
+#[derive(Drop)]
+struct Meeting<'a, R> {
+    clock: &'a R,
+    before: [AtomicU64; 2],
+    after: [AtomicU64; 2],
+    missed: AtomicBool,
+}
+
+/// How many calls of that name a hart has made.
+fn calls_of(places: &[AtomicU64; 2], hart: usize) -> u64 {
+    places[hart % 2].load(Ordering::SeqCst)
+}
+
+impl<'a, R: Clock> Meeting<'a, R> {
+    fn new(clock: &'a R) -> Meeting<'a, R> {
+        Meeting {
+            clock,
+            before: [AtomicU64::new(0), AtomicU64::new(0)],
+            after: [AtomicU64::new(0), AtomicU64::new(0)],
+            missed: AtomicBool::new(false),
+        }
+    }
+
+    fn was_missed(&self) -> bool {
+        self.missed.load(Ordering::SeqCst)
+    }
+
+    /// Says that this hart has come so far, and waits until the other has.
+    fn meet(&self, places: &[AtomicU64; 2], hart: HartId, turn: u64) {
+        let mine = hart.index() % 2;
+        let so_far = turn.wrapping_add(1);
+        places[mine].store(so_far, Ordering::SeqCst);
+        for _ in 0..MOST_SLEEPS {
+            if calls_of(places, 1 - mine) >= so_far {
+                return;
+            }
+            thread::sleep(self.clock, Duration::from_millis(1));
+        }
+        self.missed.store(true, Ordering::SeqCst);
+    }
+}
+
+impl<'a, R: Clock> Gate for Meeting<'a, R> {
+    fn before(&self, hart: HartId, turn: u64) -> bool {
+        self.meet(&self.before, hart, turn);
+        !self.was_missed()
+    }
+
+    fn after(&self, hart: HartId, turn: u64) {
+        self.meet(&self.after, hart, turn);
+    }
+}
+
+#[test]
+fn two_harts_meet_before_and_after_every_turn(rt: HostRuntime) -> Result<(), Fail> {
+    let (parts, shape) = parts_of(rt.alloc(), &Shape::new(2, 1, 1)?, &[])?;
+    let gate = Meeting::new(&rt);
+    let (all, _disk) = driven(&rt, rt.alloc(), &gate, parts, &shape, 100);
+    assert!(&rt; all);
+    assert!(&rt; !gate.was_missed());
+    assert_eq!(&rt; calls_of(&gate.after, 0), 100);
+    assert_eq!(&rt; calls_of(&gate.after, 1), 100);
+    Ok(())
+}
