@@ -39,7 +39,8 @@ pub record IsOn (mode : BootMode) (payloads : List (List ℕ)) (disk : Facts) (s
 -- The board is off, after an open that found this state. A crash leaves that state alone, but after 6 that
 -- state or the one after the command of the mode; and at each moment since the call's start what one just
 -- before could have left, or where a command may have gone to the disk, the state found before or after it.
-pub record IsOff (mode : BootMode) (payloads : List (List ℕ)) (found : Durable) (old : Facts) (e : Refusal) (new : Facts) : Type 0 where
+pub record IsOff (mode : BootMode) (payloads : List (List ℕ)) (found : Durable) (old : Facts) (e : Refusal)
+    (new : Facts) : Type 0 where
   pub size : Size
   pub state : DurableState
   pub shows : found ≡ durable_of state

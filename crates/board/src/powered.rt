@@ -88,16 +88,23 @@ impl<D: Disk + Drop> Board<D> {
         payloads: &Payloads,
     ) -> Result<Board<D>, Unpowered<D>>
         requires { IsIdle (D.facts disk) }
-        ensures on { IfOk result (λ board. IsOn mode payloads.now (D.facts disk) (view_of (store_of board)) (machine_of board)) }
-        ensures off { IfErr result (λ e. IsUnpowered mode payloads.now e.found (D.facts disk) e.refusal (D.facts e.disk)) }
+        ensures on { IfOk result (λ board. IsOn mode payloads.now (D.facts disk) (view_of (store_of board))
+            (machine_of board)) }
+        ensures off { IfErr result (λ e. IsUnpowered mode payloads.now e.found (D.facts disk) e.refusal
+            (D.facts e.disk)) }
         ensures now { IfErr result (λ e. IsNowAfter mode e.refusal e.found e.now) }
 
         // A disk that reads as no state is refused so, or for its failure; one without sectors before any
         // call of it.
-        ensures refuses { (e : Refusal) → ReadsAs (D.facts disk).content e → MatchResult result (λ board. ⊥) (λ f. (f.found ≡ None) × ((f.refusal ≡ e) ⊎ (f.refusal ≡ Refusal.Device))) }
-        ensures no_sectors { length (D.facts disk).content ≡ 0 → MatchResult result (λ board. ⊥) (λ f. (f.refusal ≡ Refusal.BadShape) × (f.found ≡ None) × (f.disk ≡ disk)) }
+        ensures refuses { (e : Refusal) → ReadsAs (D.facts disk).content e
+            → MatchResult result (λ board. ⊥) (λ f. (f.found ≡ None)
+            × ((f.refusal ≡ e) ⊎ (f.refusal ≡ Refusal.Device))) }
+        ensures no_sectors { length (D.facts disk).content ≡ 0
+            → MatchResult result (λ board. ⊥) (λ f. (f.refusal ≡ Refusal.BadShape) × (f.found ≡ None)
+            × (f.disk ≡ disk)) }
 
-        ensures keeps { MatchResult result (λ board. KeepsDisk (D.facts disk) (D.fault_state disk) (disk_of (store_of board)) (fault_state_of (store_of board)))
+        ensures keeps { MatchResult result (λ board. KeepsDisk (D.facts disk) (D.fault_state disk)
+            (disk_of (store_of board)) (fault_state_of (store_of board)))
             (λ e. GivesDisk (D.facts disk) (D.fault_state disk) e.refusal (D.facts e.disk) (D.fault_state e.disk)) }
     {
         let mut store = match Store::open(alloc, disk) {
@@ -136,7 +143,8 @@ impl<D: Disk + Drop> Board<D> {
         ensures life { life_of (store_of self.new) ≡ life_of (store_of self.old) }
         ensures board { size_of_store (store_of self.new) ≡ size_of_store (store_of self.old) }
         ensures facts { Unchanged (disk_of (store_of self.old)) (disk_of (store_of self.new)) }
-        ensures armed { fault_state_of (store_of self.new) ≡ record (fault_state_of (store_of self.old)) { armed = armed_by fault } }
+        ensures armed { fault_state_of (store_of self.new)
+            ≡ record (fault_state_of (store_of self.old)) { armed = armed_by fault } }
         ensures arms { arms_of (store_of self.new) fault }
         ensures opened { failures_at_open (store_of self.new) ≡ failures_at_open (store_of self.old) }
     {
@@ -154,7 +162,8 @@ impl<D: Disk + Drop> Board<D> {
     fn settle<C: Crew>(&mut self, alloc: Global, crew: &C, hart: HartId, turned: Turned) -> Word
         requires hart { hart < length (machine_of self.old).harts }
         requires asks { turned ≡ did.Durable → IsHartStarted hart (machine_of self.old) }
-        ensures comes { Comes turned hart (machine_of self.old) (machine_of self.new) (store_of self.old) (store_of self.new) result }
+        ensures comes { Comes turned hart (machine_of self.old) (machine_of self.new) (store_of self.old)
+            (store_of self.new) result }
         ensures harts { length (machine_of self.new).harts ≡ length (machine_of self.old).harts }
     {
         match turned {
@@ -178,7 +187,8 @@ impl<D: Disk + Drop> Board<D> {
     #[inline(always)]
     pub fn turn<C: Crew>(&mut self, alloc: Global, crew: &C, hart: HartId) -> Word
         requires { hart < length (machine_of self.old).harts }
-        ensures turns { TurnsHeld hart (machine_of self.old) (machine_of self.new) (store_of self.old) (store_of self.new) result }
+        ensures turns { TurnsHeld hart (machine_of self.old) (machine_of self.new) (store_of self.old)
+            (store_of self.new) result }
         ensures harts { length (machine_of self.new).harts ≡ length (machine_of self.old).harts }
     {
         let turned = self.machine.turn(hart);
@@ -226,7 +236,8 @@ impl<D: Disk + Drop> Board<D> {
     fn row<C: Crew>(&mut self, alloc: Global, crew: &C, hart: HartId, most: u32) -> (u32, Word)
         requires hart { hart < length (machine_of self.old).harts }
         requires some { 1 ≤ most }
-        ensures row { RowsHeld hart most (machine_of self.old) (machine_of self.new) (store_of self.old) (store_of self.new) result.0 result.1 }
+        ensures row { RowsHeld hart most (machine_of self.old) (machine_of self.new) (store_of self.old)
+            (store_of self.new) result.0 result.1 }
         ensures range { (1 ≤ result.0) × (result.0 ≤ most) }
         ensures harts { length (machine_of self.new).harts ≡ length (machine_of self.old).harts }
     {
@@ -248,7 +259,8 @@ impl<D: Disk + Drop> Board<D> {
         requires hart { hart < length (machine_of self.old).harts }
         requires some { 1 ≤ count }
         requires calm { (fault_state_of (store_of self.old)).struck ≡ false }
-        ensures turns { TurnsManyHeld hart count (machine_of self.old) (machine_of self.new) (store_of self.old) (store_of self.new) result.0 result.1 }
+        ensures turns { TurnsManyHeld hart count (machine_of self.old) (machine_of self.new) (store_of self.old)
+            (store_of self.new) result.0 result.1 }
         ensures harts { length (machine_of self.new).harts ≡ length (machine_of self.old).harts }
     {
         let (first, said) = self.row(alloc, crew, hart, count);
@@ -277,7 +289,8 @@ impl<D: Disk + Drop> Board<D> {
         a2: u64,
     ) -> Option<Word>
         requires { hart < length (machine_of self.old).harts }
-        ensures calls { CallsHeld hart eid fid a0 a1 a2 (machine_of self.old) (machine_of self.new) (store_of self.old) (store_of self.new) result }
+        ensures calls { CallsHeld hart eid fid a0 a1 a2 (machine_of self.old) (machine_of self.new) (store_of self.old)
+            (store_of self.new) result }
         ensures harts { length (machine_of self.new).harts ≡ length (machine_of self.old).harts }
     {
         match self.machine.call(hart, eid, fid, a0, a1, a2) {
@@ -303,10 +316,14 @@ impl<D: Disk + Drop> Board<D> {
     pub fn console(&mut self, command: Command) -> Result<Receipt, Refusal>
         requires { IsConsoleCommand command }
         ensures machine { machine_of self.new ≡ machine_of self.old }
-        ensures answered { doubt_of (store_of self.old) ≡ None → Answered Applied (view_of (store_of self.old)) (change_of command) result (view_of (store_of self.new)) }
-        ensures down { (c : Change) → doubt_of (store_of self.old) ≡ Some c → (result ≡ Err Refusal.Down) × (store_of self.new ≡ store_of self.old) }
-        ensures untouched { IfErr result (λ e. (e ≡ Refusal.Device → ⊥) → (e ≡ Refusal.Down → ⊥) → store_of self.new ≡ store_of self.old) }
-        ensures life { IsErrOf result Refusal.Down → Failed (failures_at_open (store_of self.new)) (disk_of (store_of self.new)).failures }
+        ensures answered { doubt_of (store_of self.old) ≡ None
+            → Answered Applied (view_of (store_of self.old)) (change_of command) result (view_of (store_of self.new)) }
+        ensures down { (c : Change) → doubt_of (store_of self.old) ≡ Some c
+            → (result ≡ Err Refusal.Down) × (store_of self.new ≡ store_of self.old) }
+        ensures untouched { IfErr result (λ e. (e ≡ Refusal.Device → ⊥) → (e ≡ Refusal.Down → ⊥)
+            → store_of self.new ≡ store_of self.old) }
+        ensures life { IsErrOf result Refusal.Down
+            → Failed (failures_at_open (store_of self.new)) (disk_of (store_of self.new)).failures }
         ensures stays { StaysOpen (view_of (store_of self.old)) (view_of (store_of self.new)) }
     {
         self.store.apply(command)
@@ -316,9 +333,12 @@ impl<D: Disk + Drop> Board<D> {
     /// now, or with a command in doubt one of two.
     pub fn into_disk(self) -> D
         ensures disk { result ≡ device_of (store_of self) }
-        ensures up { (s : DurableState) → Stands (store_of self) s → LeavesOnly (D.facts result) (size_of_store (store_of self)) s }
-        ensures down { (s t : DurableState) → Doubts (store_of self) s t → LeavesEither (D.facts result) (size_of_store (store_of self)) s t }
-        ensures allowed { (c : Change) → doubt_of (store_of self) ≡ Some c → refusal_of (now_state (store_of self)) c ≡ None }
+        ensures up { (s : DurableState) → Stands (store_of self) s
+            → LeavesOnly (D.facts result) (size_of_store (store_of self)) s }
+        ensures down { (s t : DurableState) → Doubts (store_of self) s t
+            → LeavesEither (D.facts result) (size_of_store (store_of self)) s t }
+        ensures allowed { (c : Change) → doubt_of (store_of self) ≡ Some c
+            → refusal_of (now_state (store_of self)) c ≡ None }
         ensures none_out { IsIdle (D.facts result) }
         ensures facts { Unchanged (disk_of (store_of self)) (D.facts result) }
         ensures content { (D.facts result).content ≡ (disk_of (store_of self)).content }

@@ -61,7 +61,8 @@ fn resting<D: Disk + Drop>(
     requires { HasItsHart (size_of_store store.now) (found_state store.now) }
     ensures fits { OnOk result (PayloadsFit (size_of_store store.now) payloads.now) }
     ensures least { 4096 ≤ ram_bytes_of (size_of_store store.now) }
-    ensures machine { IfOk result (λ m. m ≡ resting (size_of_store store.now) (boot_hart mode (found_state store.now))) }
+    ensures machine { IfOk result (λ m. m
+        ≡ resting (size_of_store store.now) (boot_hart mode (found_state store.now))) }
     ensures refused { IfErr result (λ e. IsStartRefusal (size_of_store store.now) payloads.now e) }
 {
     let shape = store.shape();
@@ -95,8 +96,10 @@ fn begin<D: Disk + Drop>(
     requires least { 4096 ≤ ram_bytes_of (size_of_store store.old) }
     requires fits { PayloadsFit (size_of_store store.old) payloads.now }
     ensures issued { OnOk result (IsIssued mode (view_of store.old) (view_of store.new)) }
-    ensures begun { OnOk result (IsBegun mode (size_of_store store.old) payloads.now (found_state store.old) machine.new) }
-    ensures refused { IfErr result (λ e. IsLateRefusal mode (size_of_store store.old) payloads.now (found_state store.old) e) }
+    ensures begun { OnOk result
+        (IsBegun mode (size_of_store store.old) payloads.now (found_state store.old) machine.new) }
+    ensures refused { IfErr result (λ e. IsLateRefusal mode (size_of_store store.old) payloads.now
+        (found_state store.old) e) }
     ensures unissued { IfErr result (λ e. IsUnissued mode (view_of store.old) e (view_of store.new)) }
 {
     match mode {
@@ -123,7 +126,8 @@ pub fn ready<D: Disk + Drop>(
     ensures fits { OnOk result (PayloadsFit (size_of_store store.old) payloads.now) }
     ensures issued { OnOk result (IsIssued mode (view_of store.old) (view_of store.new)) }
     ensures begun { IfOk result (λ m. IsBegun mode (size_of_store store.old) payloads.now (found_state store.old) m) }
-    ensures refused { IfErr result (λ e. RefusesBoot mode (size_of_store store.old) payloads.now (found_state store.old) e) }
+    ensures refused { IfErr result (λ e. RefusesBoot mode (size_of_store store.old) payloads.now (found_state store.old)
+        e) }
     ensures unissued { IfErr result (λ e. IsUnissued mode (view_of store.old) e (view_of store.new)) }
 {
     if let Some(refusal) = mode_refusal(mode, &store.found()) {

@@ -45,7 +45,10 @@ abbrev pub after : DurableState → Change → DurableState
 after s (Slot n) = record s { slot = n }
 after s (Reset r) = record s { reason = r }
 after s (Suspend hart address opaque memory) =
-    record s { image = Some (record { serial = s.next; hart = hart; address = address; opaque = opaque; memory = memory }); next = s.next + 1 }
+    record s {
+      image = Some (record { serial = s.next; hart = hart; address = address; opaque = opaque; memory = memory });
+      next = s.next + 1;
+    }
 after s Consume = record s { image = None }
 after s Discard = record s { image = None }
 

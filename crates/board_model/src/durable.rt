@@ -93,7 +93,8 @@ impl Durable {
         address: Addr,
         opaque: u64,
     ) -> Result<Durable, Refusal>
-        ensures { (s : DurableState) (memory : List ℕ) → durable_of s ≡ self.now → IsNextOf s (Suspend hart address opaque memory) result }
+        ensures { (s : DurableState) (memory : List ℕ) → durable_of s ≡ self.now
+            → IsNextOf s (Suspend hart address opaque memory) result }
     {
         let serial = self.next;
         let next = serial.checked_add(1).ok_or(Refusal::SerialsSpent)?;

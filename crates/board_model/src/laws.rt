@@ -12,7 +12,8 @@ pub fn longer_list()
 
 /// The next serial never falls, and a standing image's serial stays below it.
 pub fn serials_rise()
-    ensures { (s : DurableState) (cs : List Change) → IsOrdered s → (s.next ≤ (fold s cs).next) × IsOrdered (fold s cs) }
+    ensures { (s : DurableState) (cs : List Change) → IsOrdered s
+        → (s.next ≤ (fold s cs).next) × IsOrdered (fold s cs) }
 {}
 
 /// Slot and Reset leave the image as it is.
@@ -31,7 +32,10 @@ pub fn image_never_again()
 /// memory has bytes. What a format leaves has no image.
 pub fn images_stay_whole()
     ensures first { (size : Size) → IsWhole size formatted }
-    ensures next { (size : Size) (s : DurableState) (c : Change) → IsWhole size s → CarriesWhole size c → IsWhole size (after s c) }
-    ensures all { (size : Size) (s : DurableState) (cs : List Change) → IsWhole size s → All (CarriesWhole size) cs → IsWhole size (fold s cs) }
-    ensures some { (size : Size) (s : DurableState) (i : Image) → IsSize size → IsWhole size s → s.image ≡ Some i → i.memory ≡ [] → ⊥ }
+    ensures next { (size : Size) (s : DurableState) (c : Change) → IsWhole size s → CarriesWhole size c
+        → IsWhole size (after s c) }
+    ensures all { (size : Size) (s : DurableState) (cs : List Change) → IsWhole size s → All (CarriesWhole size) cs
+        → IsWhole size (fold s cs) }
+    ensures some { (size : Size) (s : DurableState) (i : Image) → IsSize size → IsWhole size s → s.image ≡ Some i
+        → i.memory ≡ [] → ⊥ }
 {}

@@ -10,7 +10,8 @@ pub record CountsCalls {T E : Type 0} (n before now : ℕ) (result : Result T E)
 
 -- So many calls were made of a disk; with an error the last of them failed, and no other did. Each of them
 -- goes by that step.
-pub record MakesCalls {T E : Type 0} (n : ℕ) (step : Content → Content → Type 0) (old new : Facts) (was is : FaultState) (result : Result T E) : Type 0 where
+pub record MakesCalls {T E : Type 0} (n : ℕ) (step : Content → Content → Type 0) (old new : Facts) (was is : FaultState)
+    (result : Result T E) : Type 0 where
   -- what a read gives
   pub content : step old.content new.content
   -- what a crash leaves, at each moment of them

@@ -19,7 +19,8 @@ pub passes_then : (a b c : Facts) (first second : Content → Content → Type 0
 passes_then a b c first second p q goes = record {
   later = omega (arith, p.later, q.later);
   now = λ x left. both x (q.now x left);
-  nothing_else = λ t x le left. ⊎_elim (λ past. p.nothing_else t x le past) (λ step. inr (both x step)) (q.nothing_else t x (omega (arith, le, p.later)) left);
+  nothing_else = λ t x le left. ⊎_elim (λ past. p.nothing_else t x le past) (λ step. inr (both x step))
+      (q.nothing_else t x (omega (arith, le, p.later)) left);
   keeps = λ t x le past. q.keeps t x (omega (arith, le, p.later)) (p.keeps t x le past);
 }
   where
@@ -77,7 +78,8 @@ leaves_more a b c P step so_far p has = record {
   later = omega (arith, so_far.later, p.later);
   now = λ x left. is x (p.now x left);
   each = λ x left. ⊎_elim (so_far.each x) (is x) (p.nothing_else a.moment x so_far.later left);
-  before = λ t x le left. ⊎_elim (so_far.before t x le) (λ s. inr (is x s)) (p.nothing_else t x (omega (arith, le, so_far.later)) left);
+  before = λ t x le left. ⊎_elim (so_far.before t x le) (λ s. inr (is x s))
+      (p.nothing_else t x (omega (arith, le, so_far.later)) left);
 }
   where
     is : (x : Content) → LeavesAfter b step x → P x
@@ -93,7 +95,8 @@ leaves_then a b c P first second = record {
   later = omega (arith, first.later, second.later);
   now = second.now;
   each = λ x left. ⊎_elim (first.each x) (λ has. has) (second.before a.moment x first.later left);
-  before = λ t x le left. ⊎_elim (first.before t x le) (λ has. inr has) (second.before t x (omega (arith, le, first.later)) left);
+  before = λ t x le left. ⊎_elim (first.before t x le) (λ has. inr has)
+      (second.before t x (omega (arith, le, first.later)) left);
 }
 
 -- what has P has Q

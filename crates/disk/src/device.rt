@@ -45,7 +45,8 @@ pub trait Lane {
     /// until it is written again.
     fn write(&mut self, first: usize, sectors: &[Sector]) -> Result<(), Fault>
         requires { first + length sectors.now ≤ length (lane_facts self.old).content }
-        ensures written { OnOk result (Written first sectors.now (lane_facts self.old).content (lane_facts self.new).content) }
+        ensures written { OnOk result
+            (Written first sectors.now (lane_facts self.old).content (lane_facts self.new).content) }
         ensures content { Torn first (length sectors.now) (lane_facts self.old).content (lane_facts self.new).content }
         ensures place { (lane_facts self.new).first ≡ (lane_facts self.old).first }
         ensures failures { Counts (lane_facts self.old).failures (lane_facts self.new).failures result };
@@ -87,7 +88,8 @@ pub trait Disk {
         requires within { first + length sectors.old ≤ length (facts self.old).content }
         requires apart { Apart first (length sectors.old) (facts self.old).lent }
         ensures found { OnOk result (AreSectorsAt first (facts self.old).content sectors.new) }
-        ensures called { MakesCalls 1 Stays (facts self.old) (facts self.new) (fault_state self.old) (fault_state self.new) result };
+        ensures called { MakesCalls 1 Stays (facts self.old) (facts self.new) (fault_state self.old)
+            (fault_state self.new) result };
 
     /// Writes these sectors from that one on. Until a sync succeeds, a crash may leave any bytes in
     /// the range, at `Err` as at `Ok`. At `Err` the range reads as any bytes until it is written
@@ -96,14 +98,19 @@ pub trait Disk {
         requires within { first + length sectors.now ≤ length (facts self.old).content }
         requires apart { Apart first (length sectors.now) (facts self.old).lent }
         ensures written { OnOk result (Written first sectors.now (facts self.old).content (facts self.new).content) }
-        ensures called { MakesCalls 1 (Torn first (length sectors.now)) (facts self.old) (facts self.new) (fault_state self.old) (fault_state self.new) result };
+        ensures called { MakesCalls 1 (Torn first (length sectors.now)) (facts self.old) (facts self.new)
+            (fault_state self.old) (fault_state self.new) result };
 
     /// Makes durable what a read gives: at `Ok` a crash leaves that and nothing else, but for
     /// sectors that are lent. At `Err` it has made nothing durable.
     fn sync(&mut self) -> Result<(), Fault>
-        ensures durable { OnOk result ((facts self.old).lent.lanes ≡ 0 → Only (facts self.new).content (facts self.new).may_leave) }
-        ensures but_lent { OnOk result ((c : Content) → (facts self.new).may_leave c → Torn (facts self.old).lent.first (lent_sectors (facts self.old).lent) (facts self.new).content c) }
-        ensures called { MakesCalls 1 Stays (facts self.old) (facts self.new) (fault_state self.old) (fault_state self.new) result };
+        ensures durable { OnOk result
+            ((facts self.old).lent.lanes ≡ 0 → Only (facts self.new).content (facts self.new).may_leave) }
+        ensures but_lent { OnOk result
+            ((c : Content) → (facts self.new).may_leave c
+            → Torn (facts self.old).lent.first (lent_sectors (facts self.old).lent) (facts self.new).content c) }
+        ensures called { MakesCalls 1 Stays (facts self.old) (facts self.new) (fault_state self.old)
+            (fault_state self.new) result };
 
     /// Lends so many lanes, at most 4, of so many sectors each, in a row from the first. From now
     /// until a sync after the join succeeds, a crash may leave any bytes in them. At `Err` memory
@@ -117,7 +124,8 @@ pub trait Disk {
         requires none_out { (facts self.old).lent.lanes ≡ 0 }
         requires few { lanes ≤ 4 }
         requires within { first + lanes * each ≤ length (facts self.old).content }
-        ensures handed { IfOk result (λ out. Handed (record { first = first; lanes = lanes; each = each }) (facts self.old).content (map Self.Lane.lane_facts out.items)) }
+        ensures handed { IfOk result (λ out. Handed (record { first = first; lanes = lanes; each = each })
+            (facts self.old).content (map Self.Lane.lane_facts out.items)) }
         ensures out { OnOk result ((facts self.new).lent ≡ record { first = first; lanes = lanes; each = each }) }
         ensures refused { OnErr result ((facts self.new).lent ≡ (facts self.old).lent) }
         ensures content { (facts self.new).content ≡ (facts self.old).content }
@@ -128,12 +136,15 @@ pub trait Disk {
     /// Takes back all lanes that are lent, in their order, with what they hold and their failures.
     fn join(&mut self, lanes: Vec<Self::Lane>)
         requires { InRow (facts self.old).lent (map Self.Lane.lane_facts lanes.items) }
-        ensures content { Joined (facts self.old).lent (map Self.Lane.lane_facts lanes.items) (facts self.old).content (facts self.new).content }
+        ensures content { Joined (facts self.old).lent (map Self.Lane.lane_facts lanes.items) (facts self.old).content
+            (facts self.new).content }
         ensures back { (facts self.new).lent ≡ nothing }
         ensures crash { Passes (facts self.old) (facts self.new) Stays }
-        ensures failures { (facts self.new).failures ≡ counted (facts self.old).failures (lane_failures (map Self.Lane.lane_facts lanes.items)) }
+        ensures failures { (facts self.new).failures
+            ≡ counted (facts self.old).failures (lane_failures (map Self.Lane.lane_facts lanes.items)) }
         ensures calls { (facts self.new).calls ≡ (facts self.old).calls }
-        ensures cause { CausedInLanes (fault_state self.old) (fault_state self.new) (lane_failures (map Self.Lane.lane_facts lanes.items)) };
+        ensures cause { CausedInLanes (fault_state self.old) (fault_state self.new)
+            (lane_failures (map Self.Lane.lane_facts lanes.items)) };
 
     /// How often a call of the disk has failed, and of the lanes that it took back. At 2^64 - 1 the
     /// count stays, and then each call is held to have counted one.
@@ -155,10 +166,12 @@ pub trait Disk {
     ghost may_keep: { (disk : Self) → (facts disk).may_leave (facts disk).content };
 
     /// This moment is one of those since an earlier one.
-    ghost counts_now: { (disk : Self) (t : ℕ) (c : Content) → t ≤ (facts disk).moment → (facts disk).may_leave c → (facts disk).since t c };
+    ghost counts_now: { (disk : Self) (t : ℕ) (c : Content) → t ≤ (facts disk).moment → (facts disk).may_leave c
+        → (facts disk).since t c };
 
     /// Since this moment there is no other.
-    ghost only_now: { (disk : Self) (c : Content) → (facts disk).since (facts disk).moment c → (facts disk).may_leave c };
+    ghost only_now: { (disk : Self) (c : Content) → (facts disk).since (facts disk).moment c
+        → (facts disk).may_leave c };
 
     /// Both counts stay where they end.
     ghost bounded: { (disk : Self) → (facts disk).failures ≤ most };

@@ -12,7 +12,8 @@ pub fn write_synced<D: Disk>(disk: &mut D, at: usize, bytes: &Sector) -> Result<
     requires none_out { (D.facts disk.old).lent.lanes ≡ 0 }
     ensures written { OnOk result (Written at (bytes.now ∷ []) (D.facts disk.old).content (D.facts disk.new).content) }
     ensures durable { OnOk result (Only (D.facts disk.new).content (D.facts disk.new).may_leave) }
-    ensures called { MakesCalls 2 (Torn at 1) (D.facts disk.old) (D.facts disk.new) (D.fault_state disk.old) (D.fault_state disk.new) result }
+    ensures called { MakesCalls 2 (Torn at 1) (D.facts disk.old) (D.facts disk.new) (D.fault_state disk.old)
+        (D.fault_state disk.new) result }
 {
     disk.write(at, &[*bytes])?;
     disk.sync()
@@ -23,7 +24,8 @@ pub fn read_sector<D: Disk>(disk: &mut D, at: usize) -> Result<Sector, Fault>
     requires within { at < length (D.facts disk.old).content }
     requires none_out { (D.facts disk.old).lent.lanes ≡ 0 }
     ensures found { IfOk result (λ bytes. bytes ≡ sector (D.facts disk.old).content at) }
-    ensures called { MakesCalls 1 Stays (D.facts disk.old) (D.facts disk.new) (D.fault_state disk.old) (D.fault_state disk.new) result }
+    ensures called { MakesCalls 1 Stays (D.facts disk.old) (D.facts disk.new) (D.fault_state disk.old)
+        (D.fault_state disk.new) result }
 {
     let mut sectors = [[0; 512]];
     disk.read(at, &mut sectors)?;

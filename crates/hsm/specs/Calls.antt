@@ -23,7 +23,9 @@ code_of Suspended = 4
 -- the state of a hart, by the first word
 abbrev pub state_in_word : ℕ → ℕ → State
 state_in_word h found =
-    if bit_at found h == 0 then Stopped else (if bit_at found (16 + h) == 0 then StartPending else (if bit_at found (24 + h) == 0 then Started else Suspended))
+    if bit_at found h == 0 then Stopped
+    else (if bit_at found (16 + h) == 0 then StartPending
+    else (if bit_at found (24 + h) == 0 then Started else Suspended))
 
 -- a state without what a pending start is for
 abbrev pub named : HartState → State

@@ -33,7 +33,8 @@ pub fn start(
     ensures stands { stands by Running (harts_in result.0) }
     ensures others { KeepsOthers by (harts_in seat) (harts_in result.0) }
     ensures steps { Starts by target address opaque (harts_in seat) result.1 (harts_in result.0) }
-    ensures alone { ActsAlone (harts_of table.entry.now) (hart_view_of_seat seat) (hart_view_of_seat result.0) (λ states. result.1 ≡ is_stopped (states target)) (change_at target (grant address opaque)) }
+    ensures alone { ActsAlone (harts_of table.entry.now) (hart_view_of_seat seat) (hart_view_of_seat result.0)
+        (λ states. result.1 ≡ is_stopped (states target)) (change_at target (grant address opaque)) }
 {
     let mut seat = seat;
     let site = address.value();
@@ -56,10 +57,13 @@ pub fn try_enter(table: &HartTable, seat: HartSeat, by: HartId) -> (HartSeat, Op
     requires acts { stands by Out (harts_in seat) }
     requires by { by < harts_of table.now }
     ensures seat { IsSeatOf table.entry.now result.0 }
-    ensures stands { MatchOption result.1 (stands by Out (harts_in result.0)) (λ _. stands by Running (harts_in result.0)) }
+    ensures stands { MatchOption result.1 (stands by Out (harts_in result.0)) (λ _. stands by Running
+        (harts_in result.0)) }
     ensures others { KeepsOthers by (harts_in seat) (harts_in result.0) }
-    ensures steps { MatchOption result.1 (FindsNone by (harts_in seat) (harts_in result.0)) (λ e. EntersAs by (harts_in seat) e.0 e.1 (harts_in result.0)) }
-    ensures alone { ActsAlone (harts_of table.entry.now) (hart_view_of_seat seat) (hart_view_of_seat result.0) (λ states. result.1 ≡ entry (states by)) (change_at by begin) }
+    ensures steps { MatchOption result.1 (FindsNone by (harts_in seat) (harts_in result.0)) (λ e. EntersAs by
+        (harts_in seat) e.0 e.1 (harts_in result.0)) }
+    ensures alone { ActsAlone (harts_of table.entry.now) (hart_view_of_seat seat) (hart_view_of_seat result.0)
+        (λ states. result.1 ≡ entry (states by)) (change_at by begin) }
 {
     let mut seat = seat;
     let hart = by.number();
@@ -87,7 +91,8 @@ pub fn stop(table: &HartTable, seat: HartSeat, by: HartId) -> HartSeat
     ensures stands { stands by Out (harts_in result) }
     ensures others { KeepsOthers by (harts_in seat) (harts_in result) }
     ensures steps { (found : ℕ) × HasNoted by Out (DidStop found) (harts_in seat) (harts_in result) }
-    ensures alone { ActsAlone (harts_of table.entry.now) (hart_view_of_seat seat) (hart_view_of_seat result) (λ _. Unit {0}) (change_at by (λ _. stopped)) }
+    ensures alone { ActsAlone (harts_of table.entry.now) (hart_view_of_seat seat) (hart_view_of_seat result)
+        (λ _. Unit {0}) (change_at by (λ _. stopped)) }
 {
     let mut seat = seat;
     hsm_steps::stop::<Brand>(table, &mut seat, by);
@@ -102,10 +107,12 @@ pub fn status(table: &HartTable, seat: HartSeat, by: HartId, hart: HartId) -> (H
     requires hart { hart < harts_of table.now }
     ensures seat { IsSeatOf table.entry.now result.0 }
     ensures stays { KeepsAll (harts_in seat) (harts_in result.0) }
-    ensures steps { (found : ℕ) × (result.1 ≡ state_in_word hart found) × HasNoted by (stage_of by (harts_in seat)) (Looked found) (harts_in seat) (harts_in result.0) }
+    ensures steps { (found : ℕ) × (result.1 ≡ state_in_word hart found)
+        × HasNoted by (stage_of by (harts_in seat)) (Looked found) (harts_in seat) (harts_in result.0) }
     ensures fresh { IsOwnStatus hart (harts_in seat) result.1 }
     ensures own { IsSettled hart (harts_in seat) → StandsBy result.1 hart (harts_in result.0) }
-    ensures alone { ActsAlone (harts_of table.entry.now) (hart_view_of_seat seat) (hart_view_of_seat result.0) (λ states. result.1 ≡ named (states hart)) (λ states. states) }
+    ensures alone { ActsAlone (harts_of table.entry.now) (hart_view_of_seat seat) (hart_view_of_seat result.0)
+        (λ states. result.1 ≡ named (states hart)) (λ states. states) }
 {
     let mut seat = seat;
     let found = hsm_steps::look::<Brand>(table, &mut seat, by);
@@ -123,7 +130,8 @@ pub fn suspend(table: &HartTable, seat: HartSeat, by: HartId) -> HartSeat
     ensures stands { stands by Asleep (harts_in result) }
     ensures others { KeepsOthers by (harts_in seat) (harts_in result) }
     ensures steps { (found : ℕ) × HasNoted by Asleep (DidSuspend found) (harts_in seat) (harts_in result) }
-    ensures alone { ActsAlone (harts_of table.entry.now) (hart_view_of_seat seat) (hart_view_of_seat result) (λ _. Unit {0}) (change_at by (λ _. suspended)) }
+    ensures alone { ActsAlone (harts_of table.entry.now) (hart_view_of_seat seat) (hart_view_of_seat result)
+        (λ _. Unit {0}) (change_at by (λ _. suspended)) }
 {
     let mut seat = seat;
     hsm_steps::suspend::<Brand>(table, &mut seat, by);
@@ -139,7 +147,8 @@ pub fn wake(table: &HartTable, seat: HartSeat, by: HartId) -> HartSeat
     ensures stands { stands by Running (harts_in result) }
     ensures others { KeepsOthers by (harts_in seat) (harts_in result) }
     ensures steps { (found : ℕ) × HasNoted by Running (Woke found) (harts_in seat) (harts_in result) }
-    ensures alone { ActsAlone (harts_of table.entry.now) (hart_view_of_seat seat) (hart_view_of_seat result) (λ _. Unit {0}) (change_at by (λ _. started)) }
+    ensures alone { ActsAlone (harts_of table.entry.now) (hart_view_of_seat seat) (hart_view_of_seat result)
+        (λ _. Unit {0}) (change_at by (λ _. started)) }
 {
     let mut seat = seat;
     hsm_steps::wake::<Brand>(table, &mut seat, by);
@@ -157,8 +166,13 @@ pub fn quiet(table: &HartTable, seat: HartSeat, by: HartId) -> (HartSeat, bool)
     ensures stands { MatchBool result.1 (stands by Quiet (harts_in result.0)) (stands by Running (harts_in result.0)) }
     ensures still { stands by Quiet (harts_in seat) → result.1 ≡ true }
     ensures others { KeepsOthers by (harts_in seat) (harts_in result.0) }
-    ensures steps { (found : ℕ) × (IsTrue result.1 ↔ ((t : ℕ) → t < harts_of table.entry.now → t ≢ by → bit_at found t ≡ 0)) × HasNoted by (after_quiet (harts_of table.entry.now) by found) (Quieted found) (harts_in seat) (harts_in result.0) }
-    ensures alone { ActsAlone (harts_of table.entry.now) (hart_view_of_seat seat) (hart_view_of_seat result.0) (λ states. IsTrue result.1 ↔ ((t : ℕ) → t < harts_of table.entry.now → t ≢ by → states t ≡ stopped)) (λ states. states) }
+    ensures steps { (found : ℕ)
+        × (IsTrue result.1 ↔ ((t : ℕ) → t < harts_of table.entry.now → t ≢ by → bit_at found t ≡ 0))
+        × HasNoted by (after_quiet (harts_of table.entry.now) by found) (Quieted found) (harts_in seat)
+        (harts_in result.0) }
+    ensures alone { ActsAlone (harts_of table.entry.now) (hart_view_of_seat seat) (hart_view_of_seat result.0)
+        (λ states. IsTrue result.1 ↔ ((t : ℕ) → t < harts_of table.entry.now → t ≢ by → states t ≡ stopped))
+        (λ states. states) }
 {
     let mut seat = seat;
     let found = hsm_steps::quiet::<Brand>(table, &mut seat, by);
@@ -175,7 +189,8 @@ pub fn unquiet(table: &HartTable, seat: HartSeat, by: HartId) -> HartSeat
     ensures stands { stands by Running (harts_in result) }
     ensures others { KeepsOthers by (harts_in seat) (harts_in result) }
     ensures steps { (found : ℕ) × HasNoted by Running (Unquieted found) (harts_in seat) (harts_in result) }
-    ensures alone { ActsAlone (harts_of table.entry.now) (hart_view_of_seat seat) (hart_view_of_seat result) (λ _. Unit {0}) (λ states. states) }
+    ensures alone { ActsAlone (harts_of table.entry.now) (hart_view_of_seat seat) (hart_view_of_seat result)
+        (λ _. Unit {0}) (λ states. states) }
 {
     let mut seat = seat;
     hsm_steps::unquiet::<Brand>(table, &mut seat, by);

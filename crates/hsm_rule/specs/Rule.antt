@@ -132,7 +132,9 @@ left_by h (Wrote i n) word = n
 left_by h (Armed t) word = bit_or word (bit (8 + t))
 left_by h (Entered k a o) word = bit_or word (bit (16 + k))
 left_by h (Stopped found) word =
-    bit_and word (bit_and (bit_and (bit_and (bit_not w64 (bit h)) (bit_not w64 (bit (8 + h)))) (bit_not w64 (bit (16 + h)))) (bit_not w64 (bit (24 + h))))
+    bit_and word
+    (bit_and (bit_and (bit_and (bit_not w64 (bit h)) (bit_not w64 (bit (8 + h)))) (bit_not w64 (bit (16 + h))))
+    (bit_not w64 (bit (24 + h))))
 left_by h (Suspended found) word = bit_or word (bit (24 + h))
 left_by h (Woke found) word = bit_and word (bit_not w64 (bit (24 + h)))
 left_by h _ word = word

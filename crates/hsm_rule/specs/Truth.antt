@@ -15,13 +15,15 @@ use Rattle.hsm_rule.specs.Rule.{HartInvariant, noted, stands, word_of, found_by,
 -- found what its word held, changed only that word, and is the newest of all steps.
 abbrev pub StepsAreTrue : Type 0
 StepsAreTrue =
-    (harts boot : ℕ) (s s' : State (Unit {0}) HartSeatView) (kept : HartInvariant harts boot s) (kept' : HartInvariant harts boot s') (id h place : ℕ) (c : HartSeatView) (st st' : Stage) (x : Action)
+    (harts boot : ℕ) (s s' : State (Unit {0}) HartSeatView) (kept : HartInvariant harts boot s)
+    (kept' : HartInvariant harts boot s') (id h place : ℕ) (c : HartSeatView) (st st' : Stage) (x : Action)
     → get_elem? s.views id ≡ some c → stands h st c.harts → word_of h x < 1 + 2 * harts
     → get_elem? s'.views id ≡ some (hart_seat_view (noted h st' place x c.harts))
     → ((j : ℕ) → j ≢ id → get_elem? s'.views j ≡ get_elem? s.views j)
     → (found_by x (slice_index s.words (word_of h x)) ≡ slice_index s.words (word_of h x))
     × ((t : ℕ) → t < 1 + 2 * harts
-    → slice_index s'.words t ≡ (if word_of h x == t then left_by h x (slice_index s.words t) else slice_index s.words t))
+    → slice_index s'.words t
+    ≡ (if word_of h x == t then left_by h x (slice_index s.words t) else slice_index s.words t))
     × (place ≡ length kept.log) × (kept'.log ≡ (h, x) ∷ kept.log)
 
 -- No earlier step can be noted anew: where every hart has the same steps before a place in two states, and a

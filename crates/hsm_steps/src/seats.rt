@@ -59,7 +59,8 @@ impl HartTable {
         ensures seat { IfOk result (λ t. IsSeatOf t.0 t.1) }
         ensures harts { IfOk result (λ t. harts_of t.0 ≡ shape.harts) }
         ensures opening { IfOk result (λ t. hart_view_of_seat t.1 ≡ opening_view shape.harts started) }
-        ensures stands { IfOk result (λ t. (h : ℕ) → h < shape.harts → stands h (if h == started then Running else Out) (harts_in t.1)) }
+        ensures stands { IfOk result (λ t. (h : ℕ) → h < shape.harts
+            → stands h (if h == started then Running else Out) (harts_in t.1)) }
         ensures all { IfOk result (λ t. IsOfAll t.0 t.1) }
         ensures shows { IfOk result (λ t. Shows shape.harts (hart_view_of_seat t.1) (opening_states started)) }
         ensures memory { IfErr result (λ e. e ≡ Memory) }
@@ -98,7 +99,8 @@ impl HartTable {
         ensures harts { harts_in result ≡ all_harts seats.items }
         ensures all { AreInOrder seats.items → array_vec_len seats ≡ harts_of self.now → IsOfAll self.now result }
         ensures stands { AreInOrder seats.items → StandTogether seats.items (harts_in result) }
-        ensures shows { ((h : ℕ) → h < harts_of self.now → IsSettled h (harts_in result)) → (states : ℕ → HartState) × Shows (harts_of self.now) (hart_view_of_seat result) states }
+        ensures shows { ((h : ℕ) → h < harts_of self.now → IsSettled h (harts_in result))
+            → (states : ℕ → HartState) × Shows (harts_of self.now) (hart_view_of_seat result) states }
     {
         let mut whole = tallies::join(self, seats);
         see::<Brand>(self, &mut whole);

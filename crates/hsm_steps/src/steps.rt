@@ -143,7 +143,8 @@ pub(crate) fn see<J: Acting>(table: &HartTable, seat: &mut HartSeat)
     requires seat { IsSeatOf table.now seat.old }
     ensures seat { IsSeatOf table.now seat.new }
     ensures same { hart_view_of_seat seat.new ≡ hart_view_of_seat seat.old }
-    ensures shows { ((h : ℕ) → h < harts_of table.now → IsSettled h (harts_in seat.old)) → (states : ℕ → HartState) × Shows (harts_of table.now) (hart_view_of_seat seat.old) states }
+    ensures shows { ((h : ℕ) → h < harts_of table.now → IsSettled h (harts_in seat.old))
+        → (states : ℕ → HartState) × Shows (harts_of table.now) (hart_view_of_seat seat.old) states }
 {
     table.table.shared.load::<SeeStep<J>>(seat, 0);
 }
@@ -158,13 +159,15 @@ pub fn claim<J: Acting>(
     address: u64,
     opaque: u64,
 ) -> u64
-    requires named { (J.harts ≡ harts_of table.now) × (J.by ≡ by) × (J.target ≡ target) × (J.address ≡ address) × (J.opaque ≡ opaque) }
+    requires named { (J.harts ≡ harts_of table.now) × (J.by ≡ by) × (J.target ≡ target) × (J.address ≡ address)
+        × (J.opaque ≡ opaque) }
     requires seat { IsSeatOf table.now seat.old }
     requires acts { stands by Running (harts_in seat.old) }
     requires target { target < harts_of table.now }
     requires site { IsSite address }
     ensures seat { IsSeatOf table.now seat.new }
-    ensures told { HasNoted by (after_claim target address opaque result) (Claimed target address opaque result) (harts_in seat.old) (harts_in seat.new) }
+    ensures told { HasNoted by (after_claim target address opaque result) (Claimed target address opaque result)
+        (harts_in seat.old) (harts_in seat.new) }
     ensures tells { Tells (harts_of table.now) (hart_view_of_seat seat.old) result }
 {
     let bit = target.number();
@@ -188,7 +191,8 @@ pub fn put_address<J: Acting>(
     requires acts { stands by (Claiming target address opaque) (harts_in seat.old) }
     requires target { target < harts_of table.now }
     ensures seat { IsSeatOf table.now seat.new }
-    ensures told { HasNoted by (Half target address opaque) (Wrote (1 + 2 * target) address) (harts_in seat.old) (harts_in seat.new) }
+    ensures told { HasNoted by (Half target address opaque) (Wrote (1 + 2 * target) address) (harts_in seat.old)
+        (harts_in seat.new) }
 {
     let word = 1 + 2 * target.index();
     table
@@ -211,7 +215,8 @@ pub fn put_opaque<J: Acting>(
     requires acts { stands by (Half target address opaque) (harts_in seat.old) }
     requires target { target < harts_of table.now }
     ensures seat { IsSeatOf table.now seat.new }
-    ensures told { HasNoted by (Stored target address opaque) (Wrote (2 + 2 * target) opaque) (harts_in seat.old) (harts_in seat.new) }
+    ensures told { HasNoted by (Stored target address opaque) (Wrote (2 + 2 * target) opaque) (harts_in seat.old)
+        (harts_in seat.new) }
 {
     let word = 2 + 2 * target.index();
     table
@@ -291,7 +296,8 @@ pub fn read_opaque<J: Acting>(
     requires acts { stands by (Addressed address) (harts_in seat.old) }
     requires by { by < harts_of table.now }
     ensures seat { IsSeatOf table.now seat.new }
-    ensures told { HasNoted by (Loaded address result) (Read (2 + 2 * by) result) (harts_in seat.old) (harts_in seat.new) }
+    ensures told { HasNoted by (Loaded address result) (Read (2 + 2 * by) result) (harts_in seat.old)
+        (harts_in seat.new) }
 {
     let word = 2 + 2 * by.index();
     table.table.shared.load::<ReadOpaqueStep<J>>(seat, word)
@@ -376,8 +382,10 @@ pub fn quiet<J: Acting>(table: &HartTable, seat: &mut HartSeat, by: HartId) -> u
     requires seat { IsSeatOf table.now seat.old }
     requires acts { IsStarted by (harts_in seat.old) }
     ensures seat { IsSeatOf table.now seat.new }
-    ensures told { HasNoted by (after_quiet (harts_of table.now) by result) (Quieted result) (harts_in seat.old) (harts_in seat.new) }
-    ensures alone { IsTrue (is_alone (harts_of table.now) by result) ↔ ((t : ℕ) → t < harts_of table.now → t ≢ by → bit_at result t ≡ 0) }
+    ensures told { HasNoted by (after_quiet (harts_of table.now) by result) (Quieted result) (harts_in seat.old)
+        (harts_in seat.new) }
+    ensures alone { IsTrue (is_alone (harts_of table.now) by result)
+        ↔ ((t : ℕ) → t < harts_of table.now → t ≢ by → bit_at result t ≡ 0) }
     ensures still { stands by Quiet (harts_in seat.old) → is_alone (harts_of table.now) by result ≡ true }
     ensures tells { Tells (harts_of table.now) (hart_view_of_seat seat.old) result }
 {

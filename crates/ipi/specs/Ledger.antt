@@ -98,7 +98,8 @@ IsInLog log d = IsOfLog log d.hart d.actions d.places
 pub record PendingInvariant (harts : ℕ) (s : State (Unit {0}) PendingSeatView) : Type 0 where
   pub wide : length s.words ≡ harts
   pub ledger : (sender target : ℕ) → target < harts
-      → total (raised sender target) s.views ≡ total (taken sender target) s.views + bit_at (slice_index s.words target) sender
+      → total (raised sender target) s.views
+      ≡ total (taken sender target) s.views + bit_at (slice_index s.words target) sender
   pub once : (h : ℕ) → h < harts → total (seats h) s.views ≡ 1
   pub none_else : (h : ℕ) → harts ≤ h → total (seats h) s.views ≡ 0
   pub owed : (id : ℕ) (c : PendingSeatView) → get_elem? s.views id ≡ some c → Each (IsOwed s.words) c.pending_views

@@ -96,8 +96,11 @@ impl PendingTable {
         requires target { target < harts_of self.now }
         ensures seat { IsSeatOf self.entry.now result.0 }
         ensures harts { SameHarts (pending_view_of_seat seat) (pending_view_of_seat result.0) }
-        ensures steps { (found : ℕ) × HasNoted by (Raised target found) (pending_views_in seat) (pending_views_in result.0) × (IsTrue result.1 ↔ (bit_at found by ≡ 0)) }
-        ensures alone { ActsAlone (harts_of self.entry.now) (pending_view_of_seat seat) (pending_view_of_seat result.0) (λ pairs. result.1 ≡ not (pairs by target)) (with_pair by target) }
+        ensures steps { (found : ℕ)
+            × HasNoted by (Raised target found) (pending_views_in seat) (pending_views_in result.0)
+            × (IsTrue result.1 ↔ (bit_at found by ≡ 0)) }
+        ensures alone { ActsAlone (harts_of self.entry.now) (pending_view_of_seat seat) (pending_view_of_seat result.0)
+            (λ pairs. result.1 ≡ not (pairs by target)) (with_pair by target) }
     {
         let mut seat = seat;
         let found = raise_by::<Brand>(self, &mut seat, by, target);
@@ -115,7 +118,8 @@ impl PendingTable {
         ensures steps { HasNoted by (Took result.1) (pending_views_in seat) (pending_views_in result.0) }
         ensures own { IsOwing by (pending_view_of_seat seat) → HasSender by result.1 }
         ensures range { (sender : ℕ) → HasSender sender result.1 → sender < harts_of self.entry.now }
-        ensures alone { ActsAlone (harts_of self.entry.now) (pending_view_of_seat seat) (pending_view_of_seat result.0) (λ pairs. (sender : ℕ) → HasSender sender result.1 ↔ IsTrue (pairs sender by)) (without_target by) }
+        ensures alone { ActsAlone (harts_of self.entry.now) (pending_view_of_seat seat) (pending_view_of_seat result.0)
+            (λ pairs. (sender : ℕ) → HasSender sender result.1 ↔ IsTrue (pairs sender by)) (without_target by) }
     {
         let mut seat = seat;
         let found = take_by::<Brand>(self, &mut seat, by);
@@ -129,9 +133,11 @@ impl PendingTable {
         requires by { by < harts_of self.now }
         ensures seat { IsSeatOf self.entry.now result.0 }
         ensures harts { SameHarts (pending_view_of_seat seat) (pending_view_of_seat result.0) }
-        ensures steps { (found : ℕ) × HasNoted by (Looked found) (pending_views_in seat) (pending_views_in result.0) × (IsTrue result.1 ↔ ((sender : ℕ) × (bit_at found sender ≡ 1))) }
+        ensures steps { (found : ℕ) × HasNoted by (Looked found) (pending_views_in seat) (pending_views_in result.0)
+            × (IsTrue result.1 ↔ ((sender : ℕ) × (bit_at found sender ≡ 1))) }
         ensures own { IsOwing by (pending_view_of_seat seat) → result.1 ≡ true }
-        ensures alone { ActsAlone (harts_of self.entry.now) (pending_view_of_seat seat) (pending_view_of_seat result.0) (λ pairs. IsTrue result.1 ↔ ((sender : ℕ) × IsTrue (pairs sender by))) (λ pairs. pairs) }
+        ensures alone { ActsAlone (harts_of self.entry.now) (pending_view_of_seat seat) (pending_view_of_seat result.0)
+            (λ pairs. IsTrue result.1 ↔ ((sender : ℕ) × IsTrue (pairs sender by))) (λ pairs. pairs) }
     {
         let mut seat = seat;
         let found = look_by::<Brand>(self, &mut seat, by);

@@ -82,7 +82,8 @@ impl PendingTable {
         ensures seat { IsSeatOf self.now result }
         ensures harts { pending_views_in result ≡ all_pending_views seats.items }
         ensures all { AreInOrder seats.items → array_vec_len seats ≡ harts_of self.now → IsOfAll self.now result }
-        ensures shows { AreInOrder seats.items → array_vec_len seats ≡ harts_of self.now → Shows (harts_of self.now) (pending_view_of_seat result) (pair_in (pending_view_of_seat result)) }
+        ensures shows { AreInOrder seats.items → array_vec_len seats ≡ harts_of self.now
+            → Shows (harts_of self.now) (pending_view_of_seat result) (pair_in (pending_view_of_seat result)) }
     {
         tallies::join(self, seats)
     }

@@ -11,13 +11,19 @@ ghost use Rattle.ipi.specs.declared.view.PendingSeatView.{PendingSeatView};
 /// The pending pairs that the view of a seat of all harts shows are those that `pair_in` computes of it, and
 /// `pairs_in` as a list. A pair with a sender that the board lacks is never pending.
 pub fn one_set()
-    ensures one { (harts : ℕ) (c : PendingSeatView) (pairs : ℕ → ℕ → Bool) → Shows harts c pairs → (sender target : ℕ) → pair_in c sender target ≡ pairs sender target }
+    ensures one { (harts : ℕ) (c : PendingSeatView) (pairs : ℕ → ℕ → Bool) → Shows harts c pairs → (sender target : ℕ)
+        → pair_in c sender target ≡ pairs sender target }
     ensures seen { (harts : ℕ) (c : PendingSeatView) → HasEveryHart harts c → Shows harts c (pair_in c) }
-    ensures range { (harts : ℕ) (c : PendingSeatView) → numbers c.pending_views ≡ numbers_from 0 harts → (sender target : ℕ) → harts ≤ sender → pair_in c sender target ≡ false }
-    ensures list { (harts : ℕ) (c : PendingSeatView) (pairs : List (List Bool)) → ArePairs harts c pairs → pairs_in harts c ≡ pairs }
-    ensures read { (harts : ℕ) (c : PendingSeatView) (sender target : ℕ) → sender < harts → target < harts → pair_at (pairs_in harts c) sender target ≡ pair_in c sender target }
-    ensures raised { (harts : ℕ) (c : PendingSeatView) (sender target : ℕ) (pairs : List (List Bool)) → AreRows harts pairs → sender < harts → target < harts
+    ensures range { (harts : ℕ) (c : PendingSeatView) → numbers c.pending_views ≡ numbers_from 0 harts
+        → (sender target : ℕ) → harts ≤ sender → pair_in c sender target ≡ false }
+    ensures list { (harts : ℕ) (c : PendingSeatView) (pairs : List (List Bool)) → ArePairs harts c pairs
+        → pairs_in harts c ≡ pairs }
+    ensures read { (harts : ℕ) (c : PendingSeatView) (sender target : ℕ) → sender < harts → target < harts
+        → pair_at (pairs_in harts c) sender target ≡ pair_in c sender target }
+    ensures raised { (harts : ℕ) (c : PendingSeatView) (sender target : ℕ) (pairs : List (List Bool))
+        → AreRows harts pairs → sender < harts → target < harts
         → Shows harts c (with_pair sender target (pair_at pairs)) → ArePairs harts c (pairs_with sender target pairs) }
-    ensures taken { (harts : ℕ) (c : PendingSeatView) (target : ℕ) (pairs : List (List Bool)) → AreRows harts pairs → target < harts
+    ensures taken { (harts : ℕ) (c : PendingSeatView) (target : ℕ) (pairs : List (List Bool)) → AreRows harts pairs
+        → target < harts
         → Shows harts c (without_target target (pair_at pairs)) → ArePairs harts c (pairs_without target pairs) }
 {}

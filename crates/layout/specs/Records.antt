@@ -22,7 +22,8 @@ gate_of side = sector_of (side ∷ [])
 abbrev pub saved_fields : Saved → List Field
 saved_fields saved =
     (8, saved.head.serial) ∷ (4, saved.area) ∷ (4, saved.head.hart) ∷ (8, saved.head.address) ∷ (8, saved.head.opaque)
-    ∷ (4, slice_index saved.counts 0) ∷ (4, slice_index saved.counts 1) ∷ (4, slice_index saved.counts 2) ∷ (4, slice_index saved.counts 3) ∷ []
+    ∷ (4, slice_index saved.counts 0) ∷ (4, slice_index saved.counts 1) ∷ (4, slice_index saved.counts 2)
+    ∷ (4, slice_index saved.counts 3) ∷ []
 
 abbrev pub image_fields : Option Saved → List Field
 image_fields None = []

@@ -17,7 +17,8 @@ impl Model for Filling {
 
     ghost view = { λ f. take f.filled f.sector };
 
-    ghost invariant = { λ f. (f.filled ≤ 512) × (length f.sector ≡ 512) × (drop f.filled f.sector ≡ replicate (512 - f.filled) 0) };
+    ghost invariant = { λ f. (f.filled ≤ 512) × (length f.sector ≡ 512)
+        × (drop f.filled f.sector ≡ replicate (512 - f.filled) 0) };
 }
 
 impl Filling {

@@ -22,5 +22,6 @@ pub fn one_record()
 
 /// A sector is the header of one place, whatever the board.
 pub fn one_place_head()
-    ensures { (size : Size) (head other : PlaceHead) (sector : List ℕ) → IsPlaceHead size head sector → IsPlaceHead size other sector → head ≡ other }
+    ensures { (size : Size) (head other : PlaceHead) (sector : List ℕ) → IsPlaceHead size head sector
+        → IsPlaceHead size other sector → head ≡ other }
 {}

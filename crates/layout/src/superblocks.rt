@@ -34,7 +34,8 @@ pub fn parse_superblock(sector: &[u8; 512], sectors: usize) -> Result<Shape, Ref
     ensures ok { IfOk result (λ shape. IsSuperblock shape sector.now × (sectors_of shape ≤ sectors)) }
     ensures exact { (size : Size) → IsSuperblock size sector.now → sectors_of size ≤ sectors → result ≡ Ok size }
     ensures marked { IfOk result (λ shape. HasMagic sector.now) }
-    ensures refused { IfErr result (λ e. ((e ≡ Refusal.NotFormatted) × (HasMagic sector.now → ⊥)) ⊎ ((e ≡ Refusal.BadShape) × HasMagic sector.now)) }
+    ensures refused { IfErr result (λ e. ((e ≡ Refusal.NotFormatted) × (HasMagic sector.now → ⊥))
+        ⊎ ((e ≡ Refusal.BadShape) × HasMagic sector.now)) }
 {
     if !has_magic(sector) {
         return Err(Refusal::NotFormatted);

@@ -31,12 +31,16 @@ pub fn opens_are_events()
 /// leaves the state of a life, or one of two where a command of it is in doubt; and of one whose power failed
 /// at any moment of a command that went to the disk, which is then the event of a command in doubt.
 pub fn opens_find_what_stands<D: Disk>()
-    ensures up { (w : World) (life : Life) (disk : D) (size z : Size) (s : DurableState) → IsLived w life → life.doubt ≡ None → LeavesOnly (D.facts disk) size (now_of life)
+    ensures up { (w : World) (life : Life) (disk : D) (size z : Size) (s : DurableState) → IsLived w life
+        → life.doubt ≡ None → LeavesOnly (D.facts disk) size (now_of life)
         → Leaves (D.facts disk) z s → (kept : List Change) × Finds w s kept }
-    ensures down { (w : World) (life : Life) (c : Change) (disk : D) (size z : Size) (s : DurableState) → IsLived w life → life.doubt ≡ Some c → LeavesEither (D.facts disk) size (now_of life) (after (now_of life) c)
+    ensures down { (w : World) (life : Life) (c : Change) (disk : D) (size z : Size) (s : DurableState) → IsLived w life
+        → life.doubt ≡ Some c → LeavesEither (D.facts disk) size (now_of life) (after (now_of life) c)
         → Leaves (D.facts disk) z s → (kept : List Change) × Finds w s kept }
-    ensures under_way { (w : World) (life : Life) (c : Change) (old new : D) (left : Content) (size z : Size) (s : DurableState) → IsLived w life → life.doubt ≡ None → Reaches life c
-        → LeavesSince (D.facts old) (D.facts new) (StandsForEither size (now_of life) (after (now_of life) c)) → (D.facts new).since (D.facts old).moment left → StandsFor left z s
+    ensures under_way { (w : World) (life : Life) (c : Change) (old new : D) (left : Content) (size z : Size)
+        (s : DurableState) → IsLived w life → life.doubt ≡ None → Reaches life c
+        → LeavesSince (D.facts old) (D.facts new) (StandsForEither size (now_of life) (after (now_of life) c))
+        → (D.facts new).since (D.facts old).moment left → StandsFor left z s
         → (v : World) × Happens w (WasDoubtful c) v × ((kept : List Change) × Finds v s kept) }
 {
     one_standing();
@@ -45,7 +49,10 @@ pub fn opens_find_what_stands<D: Disk>()
 /// What the store says of a command, or of a suspension, that found no other in doubt, is the event of its
 /// answer.
 pub fn commands_are_events()
-    ensures applied { (w : World) (old new : Life) (c : Change) (result : Result ℕ Refusal) → IsLived w old → old.doubt ≡ None → Applied old c result new → Leads w (event_of c result) new }
-    ensures suspended { (w : World) (old new : Life) (size : Size) (hart address opaque : ℕ) (memory : List ℕ) (result : Result ℕ Refusal) → IsLived w old → old.doubt ≡ None
-        → Suspended (FitsBoard size memory hart address) old (Suspend hart address opaque memory) result new → Leads w (event_of (Suspend hart address opaque memory) result) new }
+    ensures applied { (w : World) (old new : Life) (c : Change) (result : Result ℕ Refusal) → IsLived w old
+        → old.doubt ≡ None → Applied old c result new → Leads w (event_of c result) new }
+    ensures suspended { (w : World) (old new : Life) (size : Size) (hart address opaque : ℕ) (memory : List ℕ)
+        (result : Result ℕ Refusal) → IsLived w old → old.doubt ≡ None
+        → Suspended (FitsBoard size memory hart address) old (Suspend hart address opaque memory) result new
+        → Leads w (event_of (Suspend hart address opaque memory) result) new }
 {}

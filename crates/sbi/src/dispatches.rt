@@ -68,8 +68,10 @@ fn sleep<D: Disk + Drop, C: Crew>(
     requires hart { hart.old.id < harts_of_both tables.now }
     ensures gives { GivesBack tables.entry.now hart.old.id seats result.0 }
     ensures acts { Acts hart.old.id (stage_by_held result.1) result.0 }
-    ensures makes { MakesSleep (harts_of_both tables.entry.now) ram.now kind address opaque hart.old hart.new (known seats) (known result.0) store.old store.new result.1 }
-    ensures alone { SleptAlone (harts_of_both tables.entry.now) ram.now kind address opaque hart.old hart.new seats result.0 store.old store.new result.1 }
+    ensures makes { MakesSleep (harts_of_both tables.entry.now) ram.now kind address opaque hart.old hart.new
+        (known seats) (known result.0) store.old store.new result.1 }
+    ensures alone { SleptAlone (harts_of_both tables.entry.now) ram.now kind address opaque hart.old hart.new seats
+        result.0 store.old store.new result.1 }
 {
     let Seats { harts, pending } = seats;
     let by = hart.id();
@@ -118,8 +120,10 @@ pub fn dispatch_held<D: Disk + Drop, C: Crew>(
     ensures gives { GivesBack tables.entry.now hart.old.id seats result.0 }
     ensures acts { Acts hart.old.id (stage_by_held result.1) result.0 }
     ensures id { hart.new.id ≡ hart.old.id }
-    ensures makes { MakesHeld (harts_of_both tables.entry.now) ram.now (call_of hart.old) hart.old hart.new (known seats) (known result.0) store.old store.new result.1 }
-    ensures alone { HeldAlone (harts_of_both tables.entry.now) ram.now (call_of hart.old) hart.old hart.new seats result.0 store.old store.new result.1 }
+    ensures makes { MakesHeld (harts_of_both tables.entry.now) ram.now (call_of hart.old) hart.old hart.new
+        (known seats) (known result.0) store.old store.new result.1 }
+    ensures alone { HeldAlone (harts_of_both tables.entry.now) ram.now (call_of hart.old) hart.old hart.new seats
+        result.0 store.old store.new result.1 }
 {
     match Call::of(hart) {
         Call::SystemReset { kind, reason } => (seats, reset(hart, store, kind, reason)),

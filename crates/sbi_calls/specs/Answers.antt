@@ -53,7 +53,10 @@ pairs_to by targets target pairs = if bit_at targets target == 1 then pairs_with
 abbrev pub row : ℕ → Checked → TableState → Row
 row by (Err e) t = record { ending = Answers (Err e); table = t }
 row by (Ok (Value v)) t = record { ending = Answers (Ok v); table = t }
-row by (Ok (Start h a o)) t = record { ending = Answers (start_answer (is_stopped (listed t.states h))); table = with_state t h (grant a o (listed t.states h)) }
+row by (Ok (Start h a o)) t = record {
+  ending = Answers (start_answer (is_stopped (listed t.states h)));
+  table = with_state t h (grant a o (listed t.states h));
+}
 row by (Ok Stop) t = record { ending = Stops; table = with_state t by stopped }
 row by (Ok (Status h)) t = record { ending = Answers (Ok (code_of (named (listed t.states h)))); table = t }
 row by (Ok Suspend) t = record { ending = Suspends; table = with_state t by suspended }

@@ -22,7 +22,8 @@ hart_in size h = if nat_lt h size.harts then Ok h else Err InvalidParam
 -- an address in RAM that is a multiple of 4
 abbrev pub address_in : Size → ℕ → Result ℕ SbiError
 address_in size a =
-    if nat_le 0x80000000 a && (nat_lt a (0x80000000 + ram_bytes_of size) && (a % 4 == 0)) then Ok a else Err InvalidAddress
+    if nat_le 0x80000000 a && (nat_lt a (0x80000000 + ram_bytes_of size) && (a % 4 == 0)) then Ok a
+    else Err InvalidAddress
 
 -- 1 for an extension that has calls, else 0
 abbrev pub has_calls : Option Extension → ℕ

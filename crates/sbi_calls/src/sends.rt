@@ -31,7 +31,10 @@ fn send_one(
     ensures seat { IsSeatOf tables.entry.now.pending result }
     ensures same { SameHarts (pending_view_of_seat pending) (pending_view_of_seat result) }
     ensures sends { SendsTo by targets target (pending_views_in pending) (pending_views_in result) }
-    ensures alone { (pairs : List (List Bool)) → ArePairs (harts_of tables.entry.now.pending) (pending_view_of_seat pending) pairs → ArePairs (harts_of tables.entry.now.pending) (pending_view_of_seat result) (pairs_to by targets target pairs) }
+    ensures alone { (pairs : List (List Bool))
+        → ArePairs (harts_of tables.entry.now.pending) (pending_view_of_seat pending) pairs
+        → ArePairs (harts_of tables.entry.now.pending) (pending_view_of_seat result)
+        (pairs_to by targets target pairs) }
 {
     ipi::one_set();
     if targets.contains(target) {
@@ -49,8 +52,11 @@ fn send_all(pending: IpiSeat, tables: &Tables, by: HartId, targets: HartSet) -> 
     requires by { by < harts_of tables.now.pending }
     ensures seat { IsSeatOf tables.entry.now.pending result }
     ensures same { SameHarts (pending_view_of_seat pending) (pending_view_of_seat result) }
-    ensures sends { Sends by targets (harts_of tables.entry.now.pending) (pending_views_in pending) (pending_views_in result) }
-    ensures alone { (pairs : List (List Bool)) → ArePairs (harts_of tables.entry.now.pending) (pending_view_of_seat pending) pairs → ArePairs (harts_of tables.entry.now.pending) (pending_view_of_seat result) (pairs_sent by targets pairs) }
+    ensures sends { Sends by targets (harts_of tables.entry.now.pending) (pending_views_in pending)
+        (pending_views_in result) }
+    ensures alone { (pairs : List (List Bool))
+        → ArePairs (harts_of tables.entry.now.pending) (pending_view_of_seat pending) pairs
+        → ArePairs (harts_of tables.entry.now.pending) (pending_view_of_seat result) (pairs_sent by targets pairs) }
 {
     let mut pending = pending;
     let count = u64::from(tables.pending.harts());

@@ -27,8 +27,10 @@ pub(crate) fn start(
     requires target { target < harts_of_both tables.now }
     ensures gives { GivesBack tables.entry.now by seats result.0 }
     ensures acts { Acts by Running result.0 }
-    ensures does { Does (harts_of_both tables.entry.now) by (Ok (Start target site opaque)) (known seats) (known result.0) result.1 }
-    ensures alone { DoesAlone (harts_of_both tables.entry.now) by (Ok (Start target site opaque)) seats result.0 result.1 }
+    ensures does { Does (harts_of_both tables.entry.now) by (Ok (Start target site opaque)) (known seats)
+        (known result.0) result.1 }
+    ensures alone { DoesAlone (harts_of_both tables.entry.now) by (Ok (Start target site opaque)) seats result.0
+        result.1 }
 {
     hsm::one_table();
     let Seats { harts, pending } = seats;
@@ -48,7 +50,8 @@ pub(crate) fn status(seats: Seats, tables: &Tables, by: HartId, target: HartId) 
     requires target { target < harts_of_both tables.now }
     ensures gives { GivesBack tables.entry.now by seats result.0 }
     ensures acts { Acts by Running result.0 }
-    ensures does { Does (harts_of_both tables.entry.now) by (Ok (Status target)) (known seats) (known result.0) result.1 }
+    ensures does { Does (harts_of_both tables.entry.now) by (Ok (Status target)) (known seats) (known result.0)
+        result.1 }
     ensures alone { DoesAlone (harts_of_both tables.entry.now) by (Ok (Status target)) seats result.0 result.1 }
 {
     let Seats { harts, pending } = seats;
@@ -103,9 +106,11 @@ pub(crate) fn suspend_afresh(
     requires by { by < harts_of_both tables.now }
     ensures gives { GivesBack tables.entry.now by seats result.0 }
     ensures acts { Acts by Asleep result.0 }
-    ensures does { Does (harts_of_both tables.entry.now) by (Ok (SuspendAfresh site opaque)) (known seats) (known result.0) result.1 }
+    ensures does { Does (harts_of_both tables.entry.now) by (Ok (SuspendAfresh site opaque)) (known seats)
+        (known result.0) result.1 }
     ensures ending { result.1 ≡ SuspendsAfresh site opaque }
-    ensures alone { DoesAlone (harts_of_both tables.entry.now) by (Ok (SuspendAfresh site opaque)) seats result.0 result.1 }
+    ensures alone { DoesAlone (harts_of_both tables.entry.now) by (Ok (SuspendAfresh site opaque)) seats result.0
+        result.1 }
 {
     let (seats, _) = suspend(seats, tables, by);
     (seats, Ending::SuspendsAfresh(site, opaque))

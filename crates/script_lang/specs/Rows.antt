@@ -120,7 +120,8 @@ mem_of size words = do
   pair ← two_of words
   address ← number_of pair.0
   count ← ranged 1 65 pair.1
-  if nat_le 0x80000000 address && nat_le (address + count) (0x80000000 + ram_bytes_of size) then Some (Mem address count) else None
+  if nat_le 0x80000000 address && nat_le (address + count) (0x80000000 + ram_bytes_of size)
+      then Some (Mem address count) else None
 
 -- `cutat N FILL`
 abbrev pub cutat_of : List (List ℕ) → Option Line

@@ -80,7 +80,8 @@ pub record Script : Type 0 where
 -- the board line, which is line number n, and those after it
 abbrev pub from_board : ℕ → List ℕ → List (List ℕ) → Result Script Refusal
 from_board n line more =
-    board_of n (words_of line) >>> λ size. rest_of size (n + 1) more >>> λ lines. Ok (record { size = size; lines = lines })
+    board_of n (words_of line) >>> λ size. rest_of size (n + 1) more >>> λ lines. Ok
+    (record { size = size; lines = lines })
 
 -- the lines from number n on; the first that is not passed over is the board line
 unfoldable pub lines_from : ℕ → List (List ℕ) → Result Script Refusal

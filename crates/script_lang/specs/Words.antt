@@ -32,7 +32,8 @@ below bound (Some n) = if nat_lt n bound then Some n else None
 -- a number of 1 to `most` digits, below 2 ^ 64
 abbrev pub numeral_of : ℕ → ℕ → List ℕ → Option ℕ
 numeral_of radix most digits =
-    if nat_lt 0 (length digits) && nat_le (length digits) most then below (2 ^ 64) (digits_after radix 0 digits) else None
+    if nat_lt 0 (length digits) && nat_le (length digits) most then below (2 ^ 64) (digits_after radix 0 digits)
+    else None
 
 -- decimal digits (1 to 20), or 0x and hexadecimal digits (1 to 16)
 abbrev pub number_of : List ℕ → Option ℕ

@@ -132,7 +132,8 @@ fn extension(word: &[u8]) -> Option<u64>
 
 /// The number of the next word, 0 where no word is left, and the words after it.
 fn argument<'a, 'b>(words: &'b [&'a [u8]]) -> Option<(u64, &'b [&'a [u8]])>
-    ensures { option_map (λ found. (found.0, map (λ w. w.now) found.1.now)) result ≡ argument_of (map (λ w. w.now) words.now) }
+    ensures { option_map (λ found. (found.0, map (λ w. w.now) found.1.now)) result
+        ≡ argument_of (map (λ w. w.now) words.now) }
 {
     match words {
         [] => Some((0, words)),
@@ -142,7 +143,8 @@ fn argument<'a, 'b>(words: &'b [&'a [u8]]) -> Option<(u64, &'b [&'a [u8]])>
 
 /// The first three words, and the others.
 fn head<'a, 'b>(words: &'b [&'a [u8]]) -> Option<(&'a [u8], &'a [u8], &'a [u8], &'b [&'a [u8]])>
-    ensures { option_map (λ h. (h.0.now, h.1.now, h.2.now, map (λ w. w.now) h.3.now)) result ≡ call_head_of (map (λ w. w.now) words.now) }
+    ensures { option_map (λ h. (h.0.now, h.1.now, h.2.now, map (λ w. w.now) h.3.now)) result
+        ≡ call_head_of (map (λ w. w.now) words.now) }
 {
     match words {
         [a, b, c, others @ ..] => Some((*a, *b, *c, others)),

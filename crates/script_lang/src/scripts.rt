@@ -65,7 +65,8 @@ fn drop_empty_end(parts: &mut Vec<&[u8]>)
 
 /// The lines of a script, as many as tell what all of them say.
 fn first_lines(alloc: Global, script: &[u8]) -> Result<Vec<&[u8]>, AllocError>
-    ensures { IfOk result (λ v. map (λ w. w.now) v.items ≡ whole_lines (take 65538 (slice_split (λ b. b == 10) script.now))) }
+    ensures { IfOk result (λ v. map (λ w. w.now) v.items
+        ≡ whole_lines (take 65538 (slice_split (λ b. b == 10) script.now))) }
 {
     let mut parts = first_parts(alloc, script)?;
     drop_empty_end(&mut parts);
@@ -129,10 +130,12 @@ fn keep(
     bytes: &[u8],
     found: &mut Vec<Line>,
 ) -> Result<(), Refusal>
-    ensures value { Gives (λ _. found.new.items) result (said_of shape.now n bytes.now >>> λ said. Ok (found.old.items ++ said)) }
+    ensures value { Gives (λ _. found.new.items) result
+        (said_of shape.now n bytes.now >>> λ said. Ok (found.old.items ++ said)) }
     ensures few { length found.new.items ≤ length found.old.items + 1 }
     ensures sound { OnOk result (n ≤ 65536) }
-    ensures ranges { All (IsLineInRange shape.now) found.old.items → OnOk result (All (IsLineInRange shape.now) found.new.items) }
+    ensures ranges { All (IsLineInRange shape.now) found.old.items
+        → OnOk result (All (IsLineInRange shape.now) found.new.items) }
 {
     if !is_sound(n, bytes) {
         return Err(Refusal::BadScript(n));

@@ -15,7 +15,8 @@ use Rattle.store.specs.declared.stores.Store.{Store}
 module _ {D L : Type 0} {g : Ghosts D L} {l : Lanes L} where
   -- Where Does is what the command makes of a life: a store without a command in doubt does that, and a power
   -- cut at any moment leaves what it may; one with a command in doubt refuses and stays as it is.
-  pub record Asked (Does : Life → Change → Result ℕ Refusal → Life → Type 0) (old : Store D L g l) (c : Change) (r : Result ℕ Refusal) (new : Store D L g l) : Type 0 where
+  pub record Asked (Does : Life → Change → Result ℕ Refusal → Life → Type 0) (old : Store D L g l) (c : Change)
+      (r : Result ℕ Refusal) (new : Store D L g l) : Type 0 where
     pub answered : doubt_of old ≡ None → Answered Does (view_of old) c r (view_of new)
     pub down : (d : Change) → doubt_of old ≡ Some d → (r ≡ Err Down) × (new ≡ old)
     pub untouched : IfErr r (λ e. (e ≡ Device → ⊥) → (e ≡ Down → ⊥) → (e ≡ Memory → ⊥) → new ≡ old)

@@ -76,7 +76,8 @@ module _ {D L : Type 0} {g : Ghosts D L} {l : Lanes L} where
       ⊎ (AreUnclaimed harts by found
       × ((r : Result ℕ Refusal) × AsksToSleep by site opaque memory old r new × Settles by r mid error vs')))
 
-  pub record Sleeps (harts by kind address opaque : ℕ) (memory : List ℕ) (vs : List HartView) (old : Store D L g l) (error : Option SbiError) (vs' : List HartView) (new : Store D L g l) : Type 0 where
+  pub record Sleeps (harts by kind address opaque : ℕ) (memory : List ℕ) (vs : List HartView) (old : Store D L g l)
+      (error : Option SbiError) (vs' : List HartView) (new : Store D L g l) : Type 0 where
     pub asked : Result ℕ SbiError
     pub checked : IsChecked (size_of_store old) kind address asked
     pub slept : SleepsAt harts by asked opaque memory vs old error vs' new
@@ -90,7 +91,8 @@ module _ {D L : Type 0} {g : Ghosts D L} {l : Lanes L} where
       ⊎ (AreStopped harts by states
       × ((r : Result ℕ Refusal) × AsksToSleep by site opaque memory old r new × Answers r error))
 
-  pub record SleepsAlone (harts by kind address opaque : ℕ) (memory : List ℕ) (states : ℕ → HartState) (old : Store D L g l) (error : Option SbiError) (new : Store D L g l) : Type 0 where
+  pub record SleepsAlone (harts by kind address opaque : ℕ) (memory : List ℕ) (states : ℕ → HartState)
+      (old : Store D L g l) (error : Option SbiError) (new : Store D L g l) : Type 0 where
     pub asked : Result ℕ SbiError
     pub checked : IsChecked (size_of_store old) kind address asked
     pub slept : SleepsBy harts by asked opaque memory states old error new

@@ -27,7 +27,8 @@ module _ {D L : Type 0} {g : Ghosts D L} {l : Lanes L} where
 
   -- the image was not loaded into that memory
   pub record IsUnloaded (old : Store D L g l) (memory : List ℕ) (e : Refusal) (new : Store D L g l) : Type 0 where
-    pub why : LoadRefused (size_of_store old) (now_state old) memory (disk_of old) (fault_state_of old) e (disk_of new) (fault_state_of new)
+    pub why : LoadRefused (size_of_store old) (now_state old) memory (disk_of old) (fault_state_of old) e (disk_of new)
+        (fault_state_of new)
     pub left : StoreIsLeft old new
 
   -- the image was loaded, and its consumption asked of the store

@@ -70,9 +70,12 @@ pub fn suspend<D: Disk + Drop, C: Crew>(
     ensures seat { IsSeatOf table.entry.now (seat_after result) }
     ensures stands { stands by (stage_after (error_after result)) (harts_in (seat_after result)) }
     ensures others { KeepsOthers by (harts_in seat) (harts_in (seat_after result)) }
-    ensures sleeps { Sleeps (harts_of table.entry.now) by kind address opaque ram.now (harts_in seat) store.old (error_after result) (harts_in (seat_after result)) store.new }
-    ensures alone { ActsAlone (harts_of table.entry.now) (hart_view_of_seat seat) (hart_view_of_seat (seat_after result))
-        (λ states. SleepsAlone (harts_of table.entry.now) by kind address opaque ram.now states store.old (error_after result) store.new) (λ states. states) }
+    ensures sleeps { Sleeps (harts_of table.entry.now) by kind address opaque ram.now (harts_in seat) store.old
+        (error_after result) (harts_in (seat_after result)) store.new }
+    ensures alone { ActsAlone (harts_of table.entry.now) (hart_view_of_seat seat)
+        (hart_view_of_seat (seat_after result))
+        (λ states. SleepsAlone (harts_of table.entry.now) by kind address opaque ram.now states store.old
+        (error_after result) store.new) (λ states. states) }
 {
     let site = match site_of(&store.shape(), kind, address) {
         Ok(site) => site,

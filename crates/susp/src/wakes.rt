@@ -22,7 +22,8 @@ use store::{Store, kept_disks, whole_images_load};
 pub fn wake_image<D: Disk + Drop>(store: &mut Store<D>, ram: &mut Ram) -> Result<Hart, Refusal>
     ensures woken { IfOk result (λ hart. IsWoken (now_state store.old) ram.new hart) }
     ensures consumed { OnOk result ((n : ℕ) × IsConsumed store.old (Ok n) store.new) }
-    ensures refused { IfErr result (λ e. IsUnloaded store.old ram.old e store.new ⊎ IsConsumed store.old (Err e) store.new) }
+    ensures refused { IfErr result (λ e. IsUnloaded store.old ram.old e store.new
+        ⊎ IsConsumed store.old (Err e) store.new) }
     ensures answers { IsWakeable store.old ram.old → IfErr result (λ e. DiskFailed store.old e store.new) }
     ensures stays { StaysOpen (view_of store.old) (view_of store.new) }
     ensures length { length ram.new ≡ length ram.old }

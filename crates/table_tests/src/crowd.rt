@@ -73,7 +73,8 @@ pub fn all_harts<R: Threads + Sync>(
     rounds: u64,
 ) -> (IpiSeat, Sums)
     requires seat { IsSeatOf table.now seat }
-    requires row { AreFrom first (pending_views_in seat) × (length (pending_views_in seat) ≡ harts) × (0 < harts) × (first + harts ≤ harts_of table.now) × (first + harts ≤ 8) }
+    requires row { AreFrom first (pending_views_in seat) × (length (pending_views_in seat) ≡ harts) × (0 < harts)
+        × (first + harts ≤ harts_of table.now) × (first + harts ≤ 8) }
     ensures seat { IsSeatOf table.entry.now result.0 }
     ensures harts { SameHarts (pending_view_of_seat seat) (pending_view_of_seat result.0) }
 {
@@ -86,11 +87,15 @@ pub fn all_harts<R: Threads + Sync>(
         rt,
         move || -> (IpiSeat, Sums)
             requires { IsSeatOf table.now one × Sits by (pending_view_of_seat one) × (by < harts_of table.now) }
-            ensures { IsSeatOf table.entry.now result.0 × SameHarts (pending_view_of_seat one) (pending_view_of_seat result.0) }
+            ensures { IsSeatOf table.entry.now result.0
+                × SameHarts (pending_view_of_seat one) (pending_view_of_seat result.0) }
         { one_hart(table, one, by, rounds) },
         move || -> (IpiSeat, Sums)
-            requires { IsSync R.row × IsSeatOf table.now others × AreFrom (first + 1) (pending_views_in others) × (length (pending_views_in others) + 1 ≡ harts) × (1 < harts) × (first + harts ≤ harts_of table.now) × (first + harts ≤ 8) }
-            ensures { IsSeatOf table.entry.now result.0 × SameHarts (pending_view_of_seat others) (pending_view_of_seat result.0) }
+            requires { IsSync R.row × IsSeatOf table.now others × AreFrom (first + 1) (pending_views_in others)
+                × (length (pending_views_in others) + 1 ≡ harts) × (1 < harts) × (first + harts ≤ harts_of table.now)
+                × (first + harts ≤ 8) }
+            ensures { IsSeatOf table.entry.now result.0
+                × SameHarts (pending_view_of_seat others) (pending_view_of_seat result.0) }
         { all_harts(rt, table, others, first + 1, harts - 1, rounds) },
     );
     (table.join_two(one, others), sums.plus(more))

@@ -72,7 +72,8 @@ pub fn lost<R: Threads + Sync>(rt: &R, table: &PendingTable, whole: IpiSeat, rou
             ensures { IsSeatOf table.entry.now result }
         { noise(table, zero, rounds) },
         move || -> (IpiSeat, u64)
-            requires { IsSeatOf table.now others × Sits 1 (pending_view_of_seat others) × Sits 2 (pending_view_of_seat others) × (2 < harts_of table.now) }
+            requires { IsSeatOf table.now others × Sits 1 (pending_view_of_seat others)
+                × Sits 2 (pending_view_of_seat others) × (2 < harts_of table.now) }
             ensures { IsSeatOf table.entry.now result.0 }
         { pairs(table, others, rounds) },
     );

@@ -56,15 +56,18 @@ pub trait SeatTable {
     /// The first hart of a seat by itself, and the others.
     fn split_first(&self, seat: Self::Seat) -> (Self::Seat, Self::Seat)
         requires { is_seat self.now seat }
-        ensures first { is_seat self.now result.0 × (known result.0 ≡ Self.View.of_harts (take 1 (Self.View.harts (known seat)))) }
-        ensures others { is_seat self.now result.1 × (known result.1 ≡ Self.View.of_harts (drop 1 (Self.View.harts (known seat)))) };
+        ensures first { is_seat self.now result.0
+            × (known result.0 ≡ Self.View.of_harts (take 1 (Self.View.harts (known seat)))) }
+        ensures others { is_seat self.now result.1
+            × (known result.1 ≡ Self.View.of_harts (drop 1 (Self.View.harts (known seat)))) };
 
     /// Two seats in one, which has the harts of the first before those of the other.
     fn join_two(&self, seat: Self::Seat, others: Self::Seat) -> Self::Seat
         requires seat { is_seat self.now seat }
         requires others { is_seat self.now others }
         ensures seat { is_seat self.now result }
-        ensures both { known result ≡ Self.View.of_harts (Self.View.harts (known seat) ++ Self.View.harts (known others)) };
+        ensures both { known result
+            ≡ Self.View.of_harts (Self.View.harts (known seat) ++ Self.View.harts (known others)) };
 }
 
 /// A seat for each hart of a seat of all harts, in the order of their numbers.
@@ -73,7 +76,8 @@ pub fn split<T: SeatTable>(table: &T, seat: T::Seat) -> ArrayVec<Option<T::Seat>
     requires all { map T.View.number (T.View.harts (T.known seat)) ≡ numbers_from 0 (T.count table.now) }
     ensures seats { AreSeats (T.is_seat table.now) result.items }
     ensures order { AreByNumber (λ s. T.View.harts (T.known s)) T.View.number result.items }
-    ensures apart { views_by_seat (λ s. T.View.harts (T.known s)) result.items ≡ one_by_one (T.View.harts (T.known seat)) }
+    ensures apart { views_by_seat (λ s. T.View.harts (T.known s)) result.items
+        ≡ one_by_one (T.View.harts (T.known seat)) }
     ensures harts { all_views (λ s. T.View.harts (T.known s)) result.items ≡ T.View.harts (T.known seat) }
 {
     let mut seats = ArrayVec::new();
@@ -94,7 +98,8 @@ pub fn join<T: SeatTable>(table: &T, seats: ArrayVec<Option<T::Seat>, 8>) -> T::
     requires some { 0 < array_vec_len seats }
     ensures seat { T.is_seat table.now result }
     ensures harts { T.View.harts (T.known result) ≡ all_views (λ s. T.View.harts (T.known s)) seats.items }
-    ensures all { AreByNumber (λ s. T.View.harts (T.known s)) T.View.number seats.items → array_vec_len seats ≡ T.count table.now
+    ensures all { AreByNumber (λ s. T.View.harts (T.known s)) T.View.number seats.items
+        → array_vec_len seats ≡ T.count table.now
         → map T.View.number (T.View.harts (T.known result)) ≡ numbers_from 0 (T.count table.now) }
 {
     let mut seats = seats;
