@@ -99,7 +99,7 @@ fn chosen(matches: &ArgMatches<'_>) -> Savers {
 
 /// Who writes the lanes, as the words of a command line ask for, the program's name first. The error is the
 /// command line's own text, which is the help or the version too, or says that memory was refused.
-fn savers(alloc: Global, words: &[String]) -> Result<Savers, Error> {
+fn savers_of(alloc: Global, words: &[String]) -> Result<Savers, Error> {
     let matches = command(alloc)?.try_get_matches_from(words)?;
     Ok(chosen(&matches))
 }
@@ -107,5 +107,5 @@ fn savers(alloc: Global, words: &[String]) -> Result<Savers, Error> {
 /// Reads the command line, and shows what it asks to be shown, or its fault.
 pub fn asked(rt: &HostRuntime) -> Result<Savers, NoWork> {
     let words = words(rt, USAGE)?;
-    savers(rt.alloc(), words.as_slice()).map_err(|text| show(rt, &text))
+    savers_of(rt.alloc(), words.as_slice()).map_err(|text| show(rt, &text))
 }
