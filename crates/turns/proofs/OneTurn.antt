@@ -9,31 +9,59 @@ use Rattle.turns.specs.declared.words.Turned.{Turned}
 use Rattle.turns.specs.declared.words.Turned.TheVariants as words
 use Rattle.turns.specs.declared.words.Ready.{Ready}
 use Rattle.turns.specs.declared.words.Ready.TheVariants as readies
+use Rattle.sbi_calls.specs.Both.{known}
+use Rattle.turns.specs.Own.{BeginsOwn, FinishesOwn, TurnOwn}
 use Rattle.turns.specs.Turns.{RestsAs, turn_begun, BeginsAlone, FinishesAlone, TurnAs, TurnsAlone, moment}
 
-pub begun_alone : (n m by id : ℕ) (b a : Seats) (r : Ready) → n ≡ m → by ≡ id → BeginsAlone n by b a r → BeginsAlone m id b a r
-begun_alone n m by id b a r e f x = subst (λ (k : ℕ). BeginsAlone k id b a r) e (subst (λ (k : ℕ). BeginsAlone n k b a r) f x)
+-- how a turn of the hart begins: its own steps, and with the one seat of all harts
+pub record Comes (size : Size) (s : ArchState) (b c : Seats) (r : Ready) : Type 0 where
+  pub own : BeginsOwn s.id (known b) (known c) r
+  pub alone : BeginsAlone size.harts s.id b c r
+
+-- as the code began it, for a hart of that number
+pub comes : (size : Size) (s : ArchState) (n by : ℕ) (b c : Seats) (r q : Ready) → n ≡ size.harts → by ≡ s.id → r ≡ q → BeginsOwn by (known b) (known c) r → BeginsAlone n by b c r → Comes size s b c q
+comes size s n by b c r q e f is own alone = record {
+  own = subst (λ (k : ℕ). BeginsOwn k (known b) (known c) q) f (subst (λ (p : Ready). BeginsOwn by (known b) (known c) p) is own);
+  alone = subst (λ (k : ℕ). BeginsAlone k s.id b c q) e (subst (λ (k : ℕ). BeginsAlone n k b c q) f (subst (λ (p : Ready). BeginsAlone n by b c p) is alone));
+}
 
 pub rests_as : (by id : ℕ) (r q : Ready) (s : Seats) → r ≡ q → by ≡ id → RestsAs by r s → RestsAs id q s
 rests_as by id r q s e f x = subst (λ (k : ℕ). RestsAs k q s) f (subst (λ (p : Ready). RestsAs by p s) e x)
 
-module _ (size : Size) (s : ArchState) (m : List ℕ) (b c : Seats) (r : Ready) (began : BeginsAlone size.harts s.id b c r) where
-  pub idle_turn : r ≡ readies.Idle → TurnsAlone size s m s m b c words.Idle
-  idle_turn is x are =
-      let a = began x are in let y = (turn_begun s.id x).table in
-      (y, subst (λ (q : Ready). TurnAs size q y (moment x s m) (moment y s m) words.Idle) (sym is ∙ a.0) (refl, refl), a.1)
+-- ---- a whole turn by its own steps, and with the one seat of all harts
+abbrev pub Turns : Size → ArchState → List ℕ → ArchState → List ℕ → Seats → Seats → Turned → Type 0
+Turns size s m t n b d word = TurnOwn size s m t n (known b) (known d) word × TurnsAlone size s m t n b d word
 
-  pub woke_turn : r ≡ readies.Woke → TurnsAlone size s m s m b c words.Woke
-  woke_turn is x are =
-      let a = began x are in let y = (turn_begun s.id x).table in
-      (y, subst (λ (q : Ready). TurnAs size q y (moment x s m) (moment y s m) words.Woke) (sym is ∙ a.0) (refl, refl), a.1)
+-- one that makes no step leaves the memory as it was
+pub idle_turn : (size : Size) (s : ArchState) (m : List ℕ) (b c : Seats) → Comes size s b c readies.Idle → Turns size s m s m b c words.Idle
+idle_turn size s m b c began = (
+  (readies.Idle, known c, began.own, (refl, refl, refl, refl)),
+  λ x are. let a = began.alone x are in let y = (turn_begun s.id x).table in
+      (y, subst (λ (q : Ready). TurnAs size q y (moment x s m) (moment y s m) words.Idle) a.0 (refl, refl), a.1),
+)
 
-  pub enters_turn : (site opaque : ℕ) (t : ArchState) → t ≡ fresh s.id site opaque → r ≡ readies.Enters site opaque → TurnsAlone size s m t m b c words.Entered
-  enters_turn site opaque t f is x are =
-      let a = began x are in let y = (turn_begun s.id x).table in
-      (y, subst (λ (q : Ready). TurnAs size q y (moment x s m) (moment y t m) words.Entered) (sym is ∙ a.0) (ap (λ (h : ArchState). moment y h m) f, refl), a.1)
+pub woke_turn : (size : Size) (s : ArchState) (m : List ℕ) (b c : Seats) → Comes size s b c readies.Woke → Turns size s m s m b c words.Woke
+woke_turn size s m b c began = (
+  (readies.Woke, known c, began.own, (refl, refl, refl, refl)),
+  λ x are. let a = began.alone x are in let y = (turn_begun s.id x).table in
+      (y, subst (λ (q : Ready). TurnAs size q y (moment x s m) (moment y s m) words.Woke) a.0 (refl, refl), a.1),
+)
 
-  pub steps_turn : (pending : Bool) (u t : ArchState) (n : List ℕ) (o : Outcome) (d : Seats) (word : Turned) → Steps pending s m u n o → FinishesAlone size o u t c d word → r ≡ readies.Steps pending → TurnsAlone size s m t n b d word
-  steps_turn pending u t n o d word step fin is x are =
-      let a = began x are in let z = (turn_begun s.id x).table in let f = fin z a.1 in
-      (f.0, subst (λ (q : Ready). TurnAs size q z (moment x s m) (moment f.0 t n) word) (sym is ∙ a.0) (u, o, step, f.1), f.2)
+-- the hart that the code makes, where it enters by these
+pub entered : (s t : ArchState) (id value site opaque : ℕ) → t ≡ fresh id value opaque → id ≡ s.id → value ≡ site → t ≡ fresh s.id site opaque
+entered s t id value site opaque made e f = made ∙ (ap (λ (k : ℕ). fresh k value opaque) e ∙ ap (λ (k : ℕ). fresh s.id k opaque) f)
+
+pub enters_turn : (size : Size) (s t : ArchState) (m : List ℕ) (b c : Seats) (site opaque : ℕ) → Comes size s b c (readies.Enters site opaque) → t ≡ fresh s.id site opaque → Turns size s m t m b c words.Entered
+enters_turn size s t m b c site opaque began f = (
+  (readies.Enters site opaque, known c, began.own, (f, refl, refl, refl)),
+  λ x are. let a = began.alone x are in let y = (turn_begun s.id x).table in
+      (y, subst (λ (q : Ready). TurnAs size q y (moment x s m) (moment y t m) words.Entered) a.0 (ap (λ (h : ArchState). moment y h m) f, refl), a.1),
+)
+
+pub steps_turn : (size : Size) (s u t : ArchState) (m n : List ℕ) (b c d : Seats) (pending : Bool) (o : Outcome) (word : Turned) → Comes size s b c (readies.Steps pending) → Steps pending s m u n o
+    → FinishesOwn size o u t (known c) (known d) word → FinishesAlone size o u t c d word → Turns size s m t n b d word
+steps_turn size s u t m n b c d pending o word began step own alone = (
+  (readies.Steps pending, known c, began.own, (u, o, step, own)),
+  λ x are. let a = began.alone x are in let z = (turn_begun s.id x).table in let f = alone z a.1 in
+      (f.0, subst (λ (q : Ready). TurnAs size q z (moment x s m) (moment f.0 t n) word) a.0 (u, o, step, f.1), f.2),
+)

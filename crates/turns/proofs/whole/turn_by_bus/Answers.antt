@@ -1,14 +1,11 @@
-use Rattle.std.proofs.Common.{refl, sym, ap, ◌∙◌, subst, ◌<◌, ℕ}
-use Rattle.hart.specs.State.{started}
+use Rattle.std.proofs.Common.{sym, ◌∙◌, subst, ◌<◌, ℕ}
 use Rattle.hsm_words.specs.declared.view.Stage.TheVariants.{Running}
-use Rattle.sbi_calls.specs.Both.{GivesBack, Acts, known}
-use Rattle.turns.specs.declared.words.Ready.{Ready}
+use Rattle.sbi_calls.specs.Both.{GivesBack, Acts}
 use Rattle.turns.specs.declared.words.Ready.TheVariants as readies
-use Rattle.turns.specs.Own.{BeginsOwn}
 use Rattle.turns.specs.Turns.{Rests}
 use Rattle.turns.proofs.Asking.{asks}
 use Rattle.turns.proofs.Begun.{gives_then}
-use Rattle.turns.proofs.OneTurn.{begun_alone, rests_as, idle_turn, woke_turn, enters_turn, steps_turn}
+use Rattle.turns.proofs.OneTurn.{rests_as, comes, entered, idle_turn, woke_turn, enters_turn, steps_turn}
 use Rattle.turns.proofs.whole.turn_by_bus.Goals as goal
 
 -- ---- a step leaves the hart's number
@@ -51,56 +48,29 @@ returns-in-Steps-clause-asks g c is =
 -- ---- what the turn made, of a memory that the bus may hold
 pub returns-in-Idle-clause-turns : goal.returns-in-Idle-clause-turns
 returns-in-Idle-clause-turns g c =
+    let began = comes c.args.shape.now c.args.hart.now _ c.id.result c.args.seats c.begin-seats.result.0 c.begin-seats.result.1 readies.Idle c.requires.tables c.id.ensures c.in-Idle.is c.begin-seats.ensures.own c.begin-seats.ensures.alone in
     let held = g.met.B.Bus.holds_one c.args.bus.now in
-    let size = c.args.shape.now in let b = c.args.seats in let a = c.begin-seats.result.0 in let r = c.begin-seats.result.1 in
-    let began = subst (λ (h : ℕ). BeginsOwn h (known b) (known a) readies.Idle) c.id.ensures (subst (λ (q : Ready). BeginsOwn c.id.result (known b) (known a) q) c.in-Idle.is c.begin-seats.ensures.own) in (
-      held.0,
-      held.0,
-      held.1,
-      held.1,
-      (readies.Idle, known a, began, (refl, refl, refl, refl)),
-      idle_turn size c.args.hart.now held.0 b a r (begun_alone _ size.harts c.id.result c.args.hart.now.id b a r c.requires.tables c.id.ensures c.begin-seats.ensures.alone) c.in-Idle.is,
-    )
+    let turned = idle_turn c.args.shape.now c.args.hart.now held.0 c.args.seats c.begin-seats.result.0 began in
+    (held.0, held.0, held.1, held.1, turned.0, turned.1)
 
 pub returns-in-Woke-clause-turns : goal.returns-in-Woke-clause-turns
 returns-in-Woke-clause-turns g c =
+    let began = comes c.args.shape.now c.args.hart.now _ c.id.result c.args.seats c.begin-seats.result.0 c.begin-seats.result.1 readies.Woke c.requires.tables c.id.ensures c.in-Woke.is c.begin-seats.ensures.own c.begin-seats.ensures.alone in
     let held = g.met.B.Bus.holds_one c.args.bus.now in
-    let size = c.args.shape.now in let b = c.args.seats in let a = c.begin-seats.result.0 in let r = c.begin-seats.result.1 in
-    let began = subst (λ (h : ℕ). BeginsOwn h (known b) (known a) readies.Woke) c.id.ensures (subst (λ (q : Ready). BeginsOwn c.id.result (known b) (known a) q) c.in-Woke.is c.begin-seats.ensures.own) in (
-      held.0,
-      held.0,
-      held.1,
-      held.1,
-      (readies.Woke, known a, began, (refl, refl, refl, refl)),
-      woke_turn size c.args.hart.now held.0 b a r (begun_alone _ size.harts c.id.result c.args.hart.now.id b a r c.requires.tables c.id.ensures c.begin-seats.ensures.alone) c.in-Woke.is,
-    )
+    let turned = woke_turn c.args.shape.now c.args.hart.now held.0 c.args.seats c.begin-seats.result.0 began in
+    (held.0, held.0, held.1, held.1, turned.0, turned.1)
 
 pub returns-in-Enters-clause-turns : goal.returns-in-Enters-clause-turns
 returns-in-Enters-clause-turns g c =
+    let began = comes c.args.shape.now c.args.hart.now _ c.id.result c.args.seats c.begin-seats.result.0 c.begin-seats.result.1 (readies.Enters c.in-Enters.address c.in-Enters.opaque) c.requires.tables c.id.ensures c.in-Enters.is c.begin-seats.ensures.own c.begin-seats.ensures.alone in
+    let fresh = entered c.args.hart.now c.fresh.result c.id-in-Enters.result c.value.result c.in-Enters.address c.in-Enters.opaque c.fresh.ensures c.id-in-Enters.ensures c.value.ensures.value in
     let held = g.met.B.Bus.holds_one c.args.bus.now in
-    let size = c.args.shape.now in let b = c.args.seats in let a = c.begin-seats.result.0 in let r = c.begin-seats.result.1 in
-    let ready : Ready = readies.Enters c.in-Enters.address c.in-Enters.opaque in
-    let began = subst (λ (h : ℕ). BeginsOwn h (known b) (known a) ready) c.id.ensures (subst (λ (q : Ready). BeginsOwn c.id.result (known b) (known a) q) c.in-Enters.is c.begin-seats.ensures.own) in
-    let f = c.fresh.ensures ∙ (ap (λ (k : ℕ). started k c.value.result c.in-Enters.opaque) c.id-in-Enters.ensures ∙ ap (λ (k : ℕ). started c.args.hart.now.id k c.in-Enters.opaque) c.value.ensures.value) in (
-      held.0,
-      held.0,
-      held.1,
-      held.1,
-      (ready, known a, began, (f, refl, refl, refl)),
-      enters_turn size c.args.hart.now held.0 b a r (begun_alone _ size.harts c.id.result c.args.hart.now.id b a r c.requires.tables c.id.ensures c.begin-seats.ensures.alone) c.in-Enters.address c.in-Enters.opaque c.fresh.result f c.in-Enters.is,
-    )
+    let turned = enters_turn c.args.shape.now c.args.hart.now c.fresh.result held.0 c.args.seats c.begin-seats.result.0 c.in-Enters.address c.in-Enters.opaque began fresh in
+    (held.0, held.0, held.1, held.1, turned.0, turned.1)
 
 pub returns-in-Steps-clause-turns : goal.returns-in-Steps-clause-turns
 returns-in-Steps-clause-turns g c =
+    let began = comes c.args.shape.now c.args.hart.now _ c.id.result c.args.seats c.begin-seats.result.0 c.begin-seats.result.1 (readies.Steps c.in-Steps.pending) c.requires.tables c.id.ensures c.in-Steps.is c.begin-seats.ensures.own c.begin-seats.ensures.alone in
     let step = c.step-outcome.ensures in
-    let size = c.args.shape.now in let b = c.args.seats in let a = c.begin-seats.result.0 in let r = c.begin-seats.result.1 in
-    let ready : Ready = readies.Steps c.in-Steps.pending in
-    let began = subst (λ (h : ℕ). BeginsOwn h (known b) (known a) ready) c.id.ensures (subst (λ (q : Ready). BeginsOwn c.id.result (known b) (known a) q) c.in-Steps.is c.begin-seats.ensures.own) in (
-      step.0,
-      step.1,
-      step.2,
-      step.3,
-      (ready, known a, began, (c.step-outcome.new.hart, c.step-outcome.result, step.4, c.finish.ensures.own)),
-      steps_turn size c.args.hart.now step.0 b a r (begun_alone _ size.harts c.id.result c.args.hart.now.id b a r c.requires.tables c.id.ensures c.begin-seats.ensures.alone)
-          c.in-Steps.pending c.step-outcome.new.hart c.finish.new.hart step.1 c.step-outcome.result c.finish.result.0 c.finish.result.1 step.4 c.finish.ensures.alone c.in-Steps.is,
-    )
+    let turned = steps_turn c.args.shape.now c.args.hart.now c.step-outcome.new.hart c.finish.new.hart step.0 step.1 c.args.seats c.begin-seats.result.0 c.finish.result.0 c.in-Steps.pending c.step-outcome.result c.finish.result.1 began step.4 c.finish.ensures.own c.finish.ensures.alone in
+    (step.0, step.1, step.2, step.3, turned.0, turned.1)
