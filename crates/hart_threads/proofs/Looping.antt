@@ -1,6 +1,7 @@
 -- Turns one after another.
 use Rattle.std.proofs.Common.{◌≡◌, ◌⊎◌, ◌+◌, ℕ, suc, List, true, false, arith, refl, sym, ◌∙◌, subst, inl, inr}
 use Rattle.board_model.specs.Shapes.{Size}
+use Rattle.sbi_abi.specs.Calls.{call_of}
 use Rattle.sbi.specs.Helds.{stage_by_held}
 use Rattle.sbi.specs.declared.dispatches.Held.{Held}
 use Rattle.sbi.specs.declared.dispatches.Held.TheVariants as helds
@@ -70,7 +71,7 @@ own_once size a b found left words.Durable ne own = absurd (ne refl)
 
 -- that asked for one
 pub held_turn : (size : Size) (a mid b : Seated) (found left : List ℕ) (did : Turned) (held : Held) (word : Word) → did ≡ words.Durable → TurnOwn size a.hart found mid.hart left a.known mid.known did
-    → HeldOnce size mid.hart b.hart mid.known b.known held → word ≡ word_by held → TurnOnce size a b word
+    → HeldOnce size (call_of mid.hart) mid.hart b.hart mid.known b.known held → word ≡ word_by held → TurnOnce size a b word
 held_turn size a mid b found left did held word is own once told =
     (found, left, words.Durable, mid, subst (λ (d : Turned). TurnOwn size a.hart found mid.hart left a.known mid.known d) is own, (held, once, told))
 

@@ -2,6 +2,7 @@
 
 ghost use Rattle.std.specs.Prelude.{◌≡◌, ◌<◌, []};
 ghost use Rattle.hsm_words.specs.declared.view.Stage.TheVariants.{Running};
+ghost use Rattle.sbi_abi.specs.Calls.{call_of};
 ghost use Rattle.sbi_calls.specs.Both.{AreTablesOf, AreSeatsOfBoth, GivesBack, Acts, known};
 ghost use Rattle.sbi.specs.Helds.{stage_by_held};
 ghost use Rattle.hart_threads.specs.Threads.{HeldOnce};
@@ -57,7 +58,7 @@ pub(crate) fn make_held<R: Wait, D: Disk + Drop, C: Crew>(
     ensures gives { GivesBack tables.entry.now hart.old.id seats result.0 }
     ensures acts { Acts hart.old.id (stage_by_held result.1) result.0 }
     ensures id { hart.new.id ≡ hart.old.id }
-    ensures once { HeldOnce shape.now hart.old hart.new (known seats) (known result.0) result.1 }
+    ensures once { HeldOnce shape.now (call_of hart.old) hart.old hart.new (known seats) (known result.0) result.1 }
 {
     let ram = bus.lock(rt);
     let mut store = store.lock(rt);
