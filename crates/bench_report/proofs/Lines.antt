@@ -1,7 +1,10 @@
 -- Lines that speak of memory and harts, or keep a payload, by what the code's board did.
-use Rattle.std.proofs.Common.{◌≡◌, inl, inr, slice_set, ℕ, List, length, Option, None, Some, refl, sym, ◌∙◌, ap, subst}
+use Rattle.std.proofs.Common.{◌≡◌, inl, inr, slice_set, ℕ, List, length, Option, None, Some, Result, Ok, MatchResult, refl, sym, ◌∙◌, ap, subst}
 use Rattle.board_model.specs.declared.boot_mode.BootMode.{BootMode}
 use Rattle.board_model.specs.Shapes.{Size}
+use Rattle.board_model.specs.declared.refusal.Refusal.{Refusal}
+use Rattle.board_model.specs.declared.refusal.Refusal.TheVariants.{Memory}
+use Rattle.script_lang.specs.declared.line.Line.{Line}
 use Rattle.simdisk.specs.declared.SimDisk.{SimDisk}
 use Rattle.machine.specs.Machine.{Machine, hart_at}
 use Rattle.machine.specs.Turns.{MakesOneCall}
@@ -18,7 +21,7 @@ use Rattle.bench_report.specs.declared.power.Power.TheVariants.{Off, On}
 use Rattle.bench_report.specs.declared.printed.Answer.{Answer}
 use Rattle.bench_report.specs.Views.{SimStore, SimBoard, store_in, machine_in, store_facts, store_fault_state}
 use Rattle.bench_report.specs.Bench.{BenchLife, Bench}
-use Rattle.bench_report.specs.Steps.{shows, on_with, has_machine, FormatsOn, FormatStep, PowersOn, OnStep, PayloadStep, CallReported, GuestCall, TurnStep, CallStep, ReadStep}
+use Rattle.bench_report.specs.Steps.{Step, shows, on_with, has_machine, FormatsOn, FormatStep, PowersOn, OnStep, PayloadStep, CallReported, GuestCall, TurnStep, CallStep, ReadStep}
 use Rattle.bench_report.proofs.Commanded.{Running, running_on}
 use Rattle.bench_report.proofs.Came.{Stands, has_other, comes, turns}
 use Rattle.bench_report.specs.Agree.{StoreIs, BoardIs, DeviceIs, OffIs, OnIs, BoardAfter, Agrees, IsBench, Matches, StepsTo}
@@ -157,3 +160,9 @@ busy_on size b power board (Some life) slot bytes old is was = (b, (refl, refl),
 
 pub keeps_on : (size : Size) (b : Bench) (power : Power) (board : SimBoard) (slot : ℕ) (bytes : List ℕ) (old : List (List ℕ)) → power ≡ On board → IsBench size b power old → Keeps size b power slot bytes shown.Busy old
 keeps_on size b power board slot bytes old at was = let Q : Power → Type 0 = λ p. Agrees size b p in let on : OnIs size b board = subst Q at was.0 in busy_on size b power board b.power slot bytes old on.0 was
+
+-- a row of the script's lines, which is never refused, by what the call that made it reported
+pub row_reported : (size : Size) (line said : Line) (b : Bench) (r : Result Answer Refusal) (answer : Answer) (after made : Power) (payloads : List (List ℕ)) → line ≡ said → r ≡ Ok answer → after ≡ made → payloads ≡ b.payloads
+    → StepsTo size b made (Step size said b answer)
+    → MatchResult r (λ a. (new : Bench) × Step size line b a new × Matches size new after payloads) (λ e. (e ≡ Memory) × Matches size b after payloads)
+row_reported size line said b r answer after made payloads is ok same kept did = rw ok (rw same (rw is (did.0, did.1, (did.2, kept ∙ sym did.3))))
