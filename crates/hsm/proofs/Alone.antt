@@ -4,30 +4,20 @@ use Rattle.std.specs.Int.{bit_at}
 use mathlib.Core.Logic.{dite}
 use native.Mathlib.Decide.{ℕ_discrete}
 use Rattle.tallies.specs.Sums.{total}
-use Rattle.hsm_words.specs.Words.{numbers}
-use Rattle.hsm_words.specs.declared.view.Stage.{Stage}
-use Rattle.hsm_words.specs.declared.view.Stage.TheVariants.{Out, Ready, Addressed, Loaded, Running, Claiming, Half, Stored, Asleep, Quiet}
-use Rattle.hsm_words.specs.declared.view.Action.{Action}
-use Rattle.hsm_words.specs.declared.view.Action.TheVariants.{Claimed, Wrote, Armed, Looked, Read, Entered, Quieted, Unquieted}
-use Rattle.hsm_words.specs.declared.view.HartView.{HartView}
-use Rattle.hsm_words.specs.declared.view.HartSeatView.{HartSeatView}
-use Rattle.hsm_rule.specs.Rule.{claim_of, entry_of, did, noted, HasNoted, stands}
+use Rattle.tallies.specs.Notes.{noted, HasNoted}
+use Rattle.hsm_rule.specs.declared.view.Stage.{Stage}
+use Rattle.hsm_rule.specs.declared.view.Stage.TheVariants.{Out, Ready, Addressed, Loaded, Running, Claiming, Half, Stored, Asleep, Quiet}
+use Rattle.hsm_rule.specs.declared.view.Action.{Action}
+use Rattle.hsm_rule.specs.declared.view.Action.TheVariants.{Claimed, Wrote, Armed, Looked, Read, Entered, Quieted, Unquieted}
+use Rattle.hsm_rule.specs.Words.{HartView, HartSeatView}
+use Rattle.hsm_rule.specs.Rule.{claim_of, entry_of, did, stands}
 use Rattle.hsm_rule.specs.States.{HartState, stopped, start_pending, started, suspended, awaits, Says, is_outside, is_running, is_asleep, IsAt, IsIn, IsStarted, Shows, Tells, change_at, is_stopped, grant, entry, begin}
 use Rattle.hsm_steps.specs.Outcomes.{after_claim, after_look, after_quiet, is_alone, IsOpenStart}
 use Rattle.hsm.specs.Calls.{state_in_word, named, is_ready, KeepsOthers}
+use Rattle.tallies.proofs.Noted.{numbered}
 use Rattle.hsm.proofs.Stand.{stands_after, stands_other}
 
 -- ---- one more action
-numbers_noted : (h : ℕ) (st : Stage) (p : ℕ) (x : Action) (vs : List HartView) → numbers (noted h st p x vs) ≡ numbers vs
-numbers_noted h st p x [] = refl
-numbers_noted h st p x (v ∷ vs) =
-    dite (ℕ_discrete v.hart h)
-    (λ hit. rw (eq-eqb v.hart h hit) refl)
-    (λ miss. rw (ne_eqb v.hart h miss) (ap (λ (l : List ℕ). v.hart ∷ l) (numbers_noted h st p x vs)))
-
-pub numbered : (h : ℕ) (st : Stage) (x : Action) (c c' : HartSeatView) → HasNoted h st x c.harts c'.harts → numbers c'.harts ≡ numbers c.harts
-numbered h st x c c' is = ap numbers is.1 ∙ numbers_noted h st is.0 x c.harts
-
 did_noted : (g : Action → ℕ) (h : ℕ) (st st' : Stage) (p : ℕ) (x : Action) (vs : List HartView) → stands h st vs
     → total (λ (v : HartView). total g v.actions) (noted h st' p x vs) ≡ g x + total (λ (v : HartView). total g v.actions) vs
 did_noted g h st st' p x [] s = absurd s
@@ -62,7 +52,7 @@ module _ (harts h : ℕ) (st st' : Stage) (x : Action) (c c' : HartSeatView) (is
   others k sk ne s = subst (stands k sk) (sym is.1) (stands_other h k st' sk is.0 x c.harts ne s)
 
   pub keeps : KeepsOthers h c.harts c'.harts
-  keeps = record { harts = numbered h st' x c c' is; stages = others }
+  keeps = record { harts = numbered h st' x c.harts c'.harts is; stages = others }
 
   pub shows_next : (states states' : ℕ → HartState) → Shows harts c states → ((k : ℕ) → k ≢ h → states' k ≡ states k)
       → (IsAt (states h) st → IsAt (states' h) st' × ((a o : ℕ) → claim_of h a o x + awaits (states h) a o ≡ entry_of h a o x + awaits (states' h) a o))

@@ -1,22 +1,19 @@
 -- A view shows one table of states, which `state_in` computes.
 use Rattle.std.proofs.Common.{rules, ◌≡◌, ◌≢◌, ◌⊎◌, ℕ, ◌+◌, ◌<◌, ◌≤◌, true, false, List, [], ◌∷◌, Option, Some, None, refl, sym, ap, ◌∙◌, subst, ⊎_elim, inl, inr, arith, eq-eqb, ne_eqb}
-use Rattle.std.specs.Prelude.{nat_lt}
+use Rattle.std.specs.Prelude.{nat_lt, length, slice_set}
 use mathlib.Core.Logic.{dite}
 use native.Mathlib.Decide.{ℕ_discrete}
 use Rattle.tallies.specs.Sums.{total}
 use Rattle.tallies.proofs.Seatings.{map_all}
-use Rattle.hsm_words.specs.declared.view.Stage.{Stage}
-use Rattle.hsm_words.specs.declared.view.Stage.TheVariants.{Out, Ready, Addressed, Loaded, Asleep}
-use Rattle.hsm_words.specs.declared.view.Action.{Action}
-use Rattle.hsm_words.specs.declared.view.Action.TheVariants.{Claimed, Wrote, Armed, Looked, Read, Entered, Stopped, Suspended, Woke, Quieted, Unquieted}
-use Rattle.hsm_words.specs.declared.view.HartView.{HartView}
-use Rattle.hsm_words.specs.declared.view.HartSeatView.{HartSeatView}
+use Rattle.hsm_rule.specs.declared.view.Stage.{Stage}
+use Rattle.hsm_rule.specs.declared.view.Stage.TheVariants.{Out, Ready, Addressed, Loaded, Asleep}
+use Rattle.hsm_rule.specs.declared.view.Action.{Action}
+use Rattle.hsm_rule.specs.declared.view.Action.TheVariants.{Claimed, Wrote, Armed, Looked, Read, Entered, Stopped, Suspended, Woke, Quieted, Unquieted}
+use Rattle.hsm_rule.specs.Words.{HartView, HartSeatView}
 use Rattle.hsm_rule.specs.Rule.{claim_of, entry_of, did}
-use Rattle.hsm_rule.specs.States.{HartState, stopped, start_pending, started, suspended, awaits, is_outside, is_running, is_asleep, IsIn, Shows}
-use Rattle.std.specs.Prelude.{length, slice_set}
+use Rattle.hsm_rule.specs.States.{HartState, stopped, start_pending, started, suspended, awaits, is_outside, is_running, is_asleep, IsIn, Shows, change_at}
 use Rattle.std.proofs.lemmas.List.{length-set, get_or-set_other}
 use Rattle.std.proofs.lemmas.Grind.{get_or-set_at}
-use Rattle.hsm_rule.specs.States.{change_at}
 use Rattle.hsm.specs.Views.{first_of, open_by, open_start, outside, state_by_stage, state_in, states_in, listed, AreStates}
 use Rattle.hsm.proofs.Stand.{stands_stage}
 

@@ -2,16 +2,16 @@
 use Rattle.std.proofs.Common.{◌≡◌, ◌≢◌, ◌⊎◌, ℕ, List, [], ◌∷◌, refl, sym, ◌∙◌, subst, ⊎_elim, inl, inr, eq-eqb, ne_eqb}
 use mathlib.Core.Logic.{dite}
 use native.Mathlib.Decide.{ℕ_discrete}
-use Rattle.hsm_words.specs.declared.view.Stage.{Stage}
-use Rattle.hsm_words.specs.declared.view.Stage.TheVariants.{Out, Running, Asleep, Quiet}
-use Rattle.hsm_words.specs.declared.view.Action.{Action}
-use Rattle.hsm_words.specs.declared.view.HartView.{HartView}
-use Rattle.hsm_words.specs.declared.view.HartSeatView.{HartSeatView}
+use Rattle.hsm_rule.specs.declared.view.Stage.{Stage}
+use Rattle.hsm_rule.specs.declared.view.Stage.TheVariants.{Out, Running, Asleep, Quiet}
+use Rattle.hsm_rule.specs.declared.view.Action.{Action}
+use Rattle.hsm_rule.specs.Words.{HartView, HartSeatView}
 use Rattle.hsm_rule.specs.States.{IsSettled}
-use Rattle.hsm_rule.specs.Rule.{noted, HasNoted, stands}
+use Rattle.hsm_rule.specs.Rule.{stands}
 use Rattle.hsm.specs.declared.state.State.{State}
 use Rattle.hsm.specs.declared.state.State.TheVariants.{Started, Stopped, StartPending, Suspended}
 use Rattle.hsm.specs.Calls.{stage_of, KeepsAll, IsOwnStatus, StandsBy}
+use Rattle.tallies.specs.Notes.{noted, HasNoted}
 
 stands_noted : (h : ℕ) (st st' : Stage) (p : ℕ) (x : Action) (vs : List HartView) → stands h st vs → stands h st' (noted h st' p x vs)
 stands_noted h st st' p x [] s = s

@@ -1,13 +1,12 @@
 -- What a call adds to the view of its seat, what it answers, and what it is with the one seat of all harts.
 use Rattle.std.specs.Prelude.{◌≡◌, ◌≢◌, ◌⊎◌, ℕ, ◌+◌, ◌*◌, Bool, true, false, List, [], ◌∷◌, ◌==◌, if◌then◌else◌, MatchBool}
 use Rattle.std.specs.Int.{bit_at}
-use Rattle.hsm_words.specs.Words.{numbers}
-use Rattle.hsm_words.specs.declared.view.Stage.{Stage}
-use Rattle.hsm_words.specs.declared.view.Stage.TheVariants.{Out, Ready, Addressed, Loaded, Running, Claiming, Half, Stored, Asleep, Quiet}
-use Rattle.hsm_words.specs.declared.view.Action.TheVariants.{Claimed, Wrote, Armed, Looked, Read, Entered}
-use Rattle.hsm_words.specs.declared.view.HartView.{HartView}
-use Rattle.hsm_words.specs.declared.view.HartSeatView.{HartSeatView}
-use Rattle.hsm_rule.specs.Rule.{HasNoted, stands}
+use Rattle.tallies.specs.Notes.{numbers, HasNoted}
+use Rattle.hsm_rule.specs.declared.view.Stage.{Stage}
+use Rattle.hsm_rule.specs.declared.view.Stage.TheVariants.{Out, Ready, Addressed, Loaded, Running, Claiming, Half, Stored, Asleep}
+use Rattle.hsm_rule.specs.declared.view.Action.TheVariants.{Claimed, Wrote, Armed, Looked, Read, Entered}
+use Rattle.hsm_rule.specs.Words.{HartView, HartSeatView}
+use Rattle.hsm_rule.specs.Rule.{stands}
 use Rattle.hsm_rule.specs.States.{HartState, stopped, start_pending, started, suspended, IsStarted, Shows}
 use Rattle.hsm.specs.declared.state.State.{State}
 use Rattle.hsm.specs.declared.state.State.TheVariants.{Started, Stopped, StartPending, Suspended}

@@ -2,11 +2,10 @@
 -- states as a value.
 use Rattle.std.specs.Prelude.{◌≡◌, ℕ, List, [], ◌∷◌, ◌==◌, nat_lt, if◌then◌else◌, Option, Some, None, length, map, get_or}
 use Rattle.tallies.specs.Seats.{numbers_from}
-use Rattle.hsm_words.specs.declared.view.Stage.{Stage}
-use Rattle.hsm_words.specs.declared.view.Action.{Action}
-use Rattle.hsm_words.specs.declared.view.Action.TheVariants.{Claimed}
-use Rattle.hsm_words.specs.declared.view.HartView.{HartView}
-use Rattle.hsm_words.specs.declared.view.HartSeatView.{HartSeatView}
+use Rattle.hsm_rule.specs.declared.view.Stage.{Stage}
+use Rattle.hsm_rule.specs.declared.view.Action.{Action}
+use Rattle.hsm_rule.specs.declared.view.Action.TheVariants.{Claimed}
+use Rattle.hsm_rule.specs.Words.{HartView, HartSeatView}
 use Rattle.hsm_rule.specs.Rule.{claim_of, entry_of, did}
 use Rattle.hsm_rule.specs.States.{HartState, stopped, start_pending, started, suspended, is_running, is_asleep, Shows}
 use Rattle.hsm.specs.Calls.{stage_of}

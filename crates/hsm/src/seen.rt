@@ -2,7 +2,7 @@
 //! table.
 
 ghost use Rattle.std.specs.Prelude.{◌≡◌, ◌<◌, ℕ, List, length, slice_set};
-ghost use Rattle.hsm_words.specs.declared.view.HartSeatView.{HartSeatView};
+ghost use Rattle.hsm_rule.specs.Words.{HartSeatView};
 ghost use Rattle.hsm_rule.specs.States.{HartState, Shows, change_at};
 ghost use Rattle.hsm.specs.Views.{state_in, states_in, listed, AreStates};
 

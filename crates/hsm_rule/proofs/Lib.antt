@@ -1,4 +1,4 @@
+pub mod Words
 pub mod Next
 pub mod Steps
 pub mod Whole
-pub mod Order

@@ -1,3 +1,4 @@
+pub mod Words
 pub mod Rule
 pub mod States
 pub mod Truth

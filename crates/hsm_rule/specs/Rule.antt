@@ -1,21 +1,19 @@
 -- The rule of the hart table, which holds between any two steps: a fact of the words and of the views of all
 -- seats.
-use Rattle.std.specs.Prelude.{◌≡◌, ◌≢◌, ◌⊎◌, ℕ, ◌+◌, ◌-◌, ◌*◌, ◌%◌, ◌^◌, ◌<◌, ◌≤◌, List, [], ◌∷◌, ◌==◌, length, slice_index, bit_or, bit_and, if◌then◌else◌}
+use Rattle.std.specs.Prelude.{◌≡◌, ◌≢◌, ◌⊎◌, ℕ, ◌+◌, ◌-◌, ◌*◌, ◌%◌, ◌^◌, ◌<◌, ◌≤◌, List, [], ◌∷◌, ◌==◌, bit_or, bit_and, if◌then◌else◌}
 use Rattle.std.specs.Int.{bit_at, bit_not}
 use Rattle.std.proofs.Common.{w64}
-use mathlib.Core.Option.{some}
-use lib.ListN.{get_elem?}
 use Rattle.atomic_table.specs.Table.{State}
 use Rattle.tallies.specs.Sums.{total}
-use Rattle.tallies.specs.Logs.{Log, Reading, IsOfLog, IsTrueLog, word_after}
+use Rattle.tallies.specs.Logs.{Reading}
+pub use Rattle.tallies.specs.Notes.{HasNoted}
+use Rattle.tallies.specs.Rules.{Everywhere, IsLogged}
 use Rattle.board_model.specs.Shapes.{IsAddressIn}
-use Rattle.hsm_words.specs.Words.{hart_view, WordBits, word_bits}
-use Rattle.hsm_words.specs.declared.view.Stage.{Stage}
-use Rattle.hsm_words.specs.declared.view.Stage.TheVariants.{Out, Ready, Addressed, Loaded, Running, Claiming, Half, Stored, Asleep, Quiet}
-use Rattle.hsm_words.specs.declared.view.Action.{Action}
-use Rattle.hsm_words.specs.declared.view.Action.TheVariants.{Claimed, Wrote, Armed, Looked, Read, Entered, Stopped, Suspended, Woke, Quieted, Unquieted}
-use Rattle.hsm_words.specs.declared.view.HartView.{HartView}
-use Rattle.hsm_words.specs.declared.view.HartSeatView.{HartSeatView}
+use Rattle.hsm_rule.specs.Words.{HartView, HartSeatView, WordBits, word_bits}
+use Rattle.hsm_rule.specs.declared.view.Stage.{Stage}
+use Rattle.hsm_rule.specs.declared.view.Stage.TheVariants.{Out, Ready, Addressed, Loaded, Running, Claiming, Half, Stored, Asleep, Quiet}
+use Rattle.hsm_rule.specs.declared.view.Action.{Action}
+use Rattle.hsm_rule.specs.declared.view.Action.TheVariants.{Claimed, Wrote, Armed, Looked, Read, Entered, Stopped, Suspended, Woke, Quieted, Unquieted}
 
 -- an address at which a hart can be started
 abbrev pub IsSite : ℕ → Type 0
@@ -61,13 +59,6 @@ in_flight t _ = 0
 abbrev pub flights : ℕ → HartSeatView → ℕ
 flights t c = total (λ (v : HartView). in_flight t v.stage) c.harts
 
--- how often the hart is in a seat
-abbrev pub is_of : ℕ → HartView → ℕ
-is_of h v = if v.hart == h then 1 else 0
-
-abbrev pub seats : ℕ → HartSeatView → ℕ
-seats h c = total (is_of h) c.harts
-
 abbrev pub IsGrantOf : Grants → ℕ → ℕ → ℕ → Type 0
 IsGrantOf g t a o = (g.address t ≡ a) × (g.opaque t ≡ o)
 
@@ -87,8 +78,7 @@ Fits harts m g h Asleep = (m.entered h ≡ 1) × (m.suspended h ≡ 1)
 Fits harts m g h Quiet = (m.entered h ≡ 1) × (m.suspended h ≡ 0) × ((t : ℕ) → t < harts → t ≢ h → m.claimed t ≡ 0)
 
 -- The words and the views agree. `flying`: a claimed hart that is not armed is the start in flight of just
--- one view. `armed`: until an armed hart enters, its argument words are its claim's. `once`: every hart is in
--- just one seat.
+-- one view. `armed`: until an armed hart enters, its argument words are its claim's.
 pub record Sound (harts : ℕ) (m : WordBits) (g : Grants) (views : List HartSeatView) : Type 0 where
   pub order : (h : ℕ) → h < harts
       → (m.suspended h ≤ m.entered h) × (m.entered h ≤ m.armed h) × (m.armed h ≤ m.claimed h) × (m.claimed h ≤ 1)
@@ -97,10 +87,7 @@ pub record Sound (harts : ℕ) (m : WordBits) (g : Grants) (views : List HartSea
       → total (did (claim_of t a o)) views ≡ total (did (entry_of t a o)) views + is_pending m g t a o
   pub armed : (t : ℕ) → t < harts → m.armed t ≡ 1 → m.entered t ≡ 0
       → (m.address t ≡ g.address t) × (m.opaque t ≡ g.opaque t)
-  pub once : (h : ℕ) → h < harts → total (seats h) views ≡ 1
-  pub none_else : (h : ℕ) → harts ≤ h → total (seats h) views ≡ 0
-  pub fits : (id : ℕ) (c : HartSeatView) (k : ℕ) (v : HartView) → get_elem? views id ≡ some c
-      → get_elem? c.harts k ≡ some v → Fits harts m g v.hart v.stage
+  pub fits : Everywhere (λ v. Fits harts m g v.hart v.stage) views
 
 -- ---- the actions as steps
 -- the word in which an action was
@@ -146,32 +133,12 @@ reading = record { word_of = word_of; found_by = found_by; left_by = left_by }
 abbrev pub first_word : ℕ → ℕ → ℕ
 first_word started t = if t == 0 then bit_or (bit_or (bit started) (bit (8 + started))) (bit (16 + started)) else 0
 
--- each hart of each seat has just its steps of the log, each with its place
-abbrev pub AreInLog : Log Action → List HartSeatView → Type 0
-AreInLog log views =
-    (id : ℕ) (c : HartSeatView) (k : ℕ) (v : HartView) → get_elem? views id ≡ some c
-    → get_elem? c.harts k ≡ some v → IsOfLog log v.hart v.actions v.places
-
--- The rule: some grants fit the words and the views, and a log of all steps.
+-- The rule: a log of all steps, and some grants that fit the words and the views.
 pub record HartInvariant (harts started : ℕ) (s : State (Unit {0}) HartSeatView) : Type 0 where
-  pub log : Log Action
-  pub is_true : IsTrueLog reading (first_word started) harts log
-  pub entered : AreInLog log s.views
-  pub left : (t : ℕ) → t < 1 + 2 * harts → slice_index s.words t ≡ word_after reading (first_word started) t log
-  pub wide : length s.words ≡ 1 + 2 * harts
+  pub steps : IsLogged reading (first_word started) harts (1 + 2 * harts) s
   pub grants : Grants
   pub sites : (h : ℕ) → IsSite (grants.address h)
   pub sound : Sound harts (word_bits s.words) grants s.views
-
--- ---- one more action of the hart, which then stands at this stage
-abbrev pub noted : ℕ → Stage → ℕ → Action → List HartView → List HartView
-noted h st p x [] = []
-noted h st p x (v ∷ vs) =
-    if v.hart == h then hart_view v.hart st (x ∷ v.actions) (p ∷ v.places) ∷ vs else v ∷ noted h st p x vs
-
--- a view that has one more action of the hart, at whatever place, and nothing else is new
-abbrev pub HasNoted : ℕ → Stage → Action → List HartView → List HartView → Type 0
-HasNoted h st x vs vs' = (place : ℕ) × (vs' ≡ noted h st place x vs)
 
 -- the seat has the hart, once, at this stage
 abbrev pub stands : ℕ → Stage → List HartView → Type 0

@@ -1,26 +1,16 @@
--- What each step of the table tells its seat, the table at the start, and seats that are parted and joined.
-use Rattle.std.specs.Prelude.{◌≡◌, ◌≢◌, ◌↔◌, ℕ, ◌+◌, ◌*◌, ◌<◌, ◌%◌, ◌^◌, zero, suc, Bool, true, List, [], ◌∷◌, ◌++◌, ◌==◌, if◌then◌else◌, IsTrue, take, drop}
+-- What each step of the table tells its seat, and the table at the start.
+use Rattle.std.specs.Prelude.{◌≡◌, ◌≢◌, ◌↔◌, ℕ, ◌+◌, ◌*◌, ◌<◌, ◌%◌, ◌^◌, Bool, true, List, [], ◌∷◌, ◌++◌, ◌==◌, if◌then◌else◌, IsTrue}
 use Rattle.std.specs.Int.{bit_at}
-use Rattle.atomic_table.specs.Table.{Me, Step}
-use Rattle.hsm_words.specs.Words.{hart_view, hart_seat_view}
-use Rattle.hsm_words.specs.declared.view.Stage.{Stage}
-use Rattle.hsm_words.specs.declared.view.Stage.TheVariants.{Out, Ready, Addressed, Loaded, Running, Claiming, Half, Stored, Asleep, Quiet}
-use Rattle.hsm_words.specs.declared.view.Action.{Action}
-use Rattle.hsm_words.specs.declared.view.Action.TheVariants.{Claimed, Wrote, Armed, Looked, Read, Entered, Stopped, Suspended, Woke, Quieted, Unquieted}
-use Rattle.hsm_words.specs.declared.view.HartView.{HartView}
-use Rattle.hsm_words.specs.declared.view.HartSeatView.{HartSeatView}
-use Rattle.hsm_rule.specs.Rule.{IsSite, HasNoted, stands}
+use Rattle.atomic_table.specs.Table.{Step}
+use Rattle.tallies.specs.Notes.{SeatState, seat_notes, Notes, opening_from}
+use Rattle.hsm_rule.specs.declared.view.Stage.{Stage}
+use Rattle.hsm_rule.specs.declared.view.Stage.TheVariants.{Out, Ready, Addressed, Loaded, Running, Claiming, Half, Stored, Asleep, Quiet}
+use Rattle.hsm_rule.specs.declared.view.Action.TheVariants.{Claimed, Wrote, Armed, Looked, Read, Entered, Stopped, Suspended, Woke, Quieted, Unquieted}
+use Rattle.hsm_rule.specs.Words.{HartView, HartSeatView}
+use Rattle.hsm_rule.specs.Rule.{IsSite, stands}
 use Rattle.hsm_rule.specs.States.{HartState, stopped, start_pending, started, IsStarted, IsSettled, Shows, Tells}
 
 -- ---- what each step tells
--- what the table keeps of a seat: its view, and the slots that it has taken, of which there are none
-abbrev pub SeatState : Type 0
-SeatState = Me (Unit {0}) HartSeatView
-
--- the view has one more action of the hart, and the hart then stands at this stage
-abbrev pub Notes : ℕ → Stage → Action → SeatState → SeatState → Type 0
-Notes h st x m m' = HasNoted h st x m.0.harts m'.0.harts × (m'.1 ≡ m.1)
-
 -- where a hart stands after a claim
 abbrev pub after_claim : ℕ → ℕ → ℕ → ℕ → Stage
 after_claim t a o found = if bit_at found t == 0 then Claiming t a o else Running
@@ -29,17 +19,17 @@ after_claim t a o found = if bit_at found t == 0 then Claiming t a o else Runnin
 abbrev pub after_look : ℕ → ℕ → Stage
 after_look h found = if bit_at found (8 + h) == 1 then (if bit_at found (16 + h) == 0 then Ready else Out) else Out
 
-abbrev pub Claims : ℕ → ℕ → ℕ → ℕ → ℕ → Step (Unit {0}) → SeatState → ℕ → SeatState → Type 0
+abbrev pub Claims : ℕ → ℕ → ℕ → ℕ → ℕ → Step (Unit {0}) → SeatState HartSeatView → ℕ → SeatState HartSeatView → Type 0
 Claims harts h t a o st m found m' =
     Notes h (after_claim t a o found) (Claimed t a o found) m m' × Tells harts m.0 found
 
-abbrev pub PutsAddress : ℕ → ℕ → ℕ → ℕ → Step (Unit {0}) → SeatState → ℕ → SeatState → Type 0
+abbrev pub PutsAddress : ℕ → ℕ → ℕ → ℕ → Step (Unit {0}) → SeatState HartSeatView → ℕ → SeatState HartSeatView → Type 0
 PutsAddress h t a o st m found m' = Notes h (Half t a o) (Wrote (1 + 2 * t) a) m m'
 
-abbrev pub PutsOpaque : ℕ → ℕ → ℕ → ℕ → Step (Unit {0}) → SeatState → ℕ → SeatState → Type 0
+abbrev pub PutsOpaque : ℕ → ℕ → ℕ → ℕ → Step (Unit {0}) → SeatState HartSeatView → ℕ → SeatState HartSeatView → Type 0
 PutsOpaque h t a o st m found m' = Notes h (Stored t a o) (Wrote (2 + 2 * t) o) m m'
 
-abbrev pub Arms : ℕ → ℕ → Step (Unit {0}) → SeatState → ℕ → SeatState → Type 0
+abbrev pub Arms : ℕ → ℕ → Step (Unit {0}) → SeatState HartSeatView → ℕ → SeatState HartSeatView → Type 0
 Arms h t st m found m' = Notes h Running (Armed t) m m'
 
 -- Freshness: what the first word says of the harts of the seat itself.
@@ -51,32 +41,32 @@ pub record IsUpToDate (found : ℕ) (vs : List HartView) : Type 0 where
   pub outside : (k : ℕ) → stands k Out vs → bit_at found (16 + k) ≡ 0
 
 -- a look by a hart that stands at this stage, which it keeps
-abbrev pub Looks : ℕ → ℕ → Stage → Step (Unit {0}) → SeatState → ℕ → SeatState → Type 0
+abbrev pub Looks : ℕ → ℕ → Stage → Step (Unit {0}) → SeatState HartSeatView → ℕ → SeatState HartSeatView → Type 0
 Looks harts h st s m found m' = Notes h st (Looked found) m m' × IsUpToDate found m.0.harts × Tells harts m.0 found
 
-abbrev pub PollsOutside : ℕ → ℕ → Step (Unit {0}) → SeatState → ℕ → SeatState → Type 0
+abbrev pub PollsOutside : ℕ → ℕ → Step (Unit {0}) → SeatState HartSeatView → ℕ → SeatState HartSeatView → Type 0
 PollsOutside harts h st m found m' = Notes h (after_look h found) (Looked found) m m' × Tells harts m.0 found
 
-abbrev pub ReadsAddress : ℕ → Step (Unit {0}) → SeatState → ℕ → SeatState → Type 0
+abbrev pub ReadsAddress : ℕ → Step (Unit {0}) → SeatState HartSeatView → ℕ → SeatState HartSeatView → Type 0
 ReadsAddress h st m found m' = Notes h (Addressed found) (Read (1 + 2 * h) found) m m' × IsSite found
 
-abbrev pub ReadsOpaque : ℕ → ℕ → Step (Unit {0}) → SeatState → ℕ → SeatState → Type 0
+abbrev pub ReadsOpaque : ℕ → ℕ → Step (Unit {0}) → SeatState HartSeatView → ℕ → SeatState HartSeatView → Type 0
 ReadsOpaque h a st m found m' = Notes h (Loaded a found) (Read (2 + 2 * h) found) m m'
 
 -- the triple entered is the open one
 abbrev pub IsOpenStart : ℕ → HartSeatView → ℕ → ℕ → ℕ → Type 0
 IsOpenStart harts c h a o = (table : ℕ → HartState) → Shows harts c table → table h ≡ start_pending a o
 
-abbrev pub Enters : ℕ → ℕ → ℕ → ℕ → Step (Unit {0}) → SeatState → ℕ → SeatState → Type 0
+abbrev pub Enters : ℕ → ℕ → ℕ → ℕ → Step (Unit {0}) → SeatState HartSeatView → ℕ → SeatState HartSeatView → Type 0
 Enters harts h a o st m found m' = Notes h Running (Entered h a o) m m' × IsOpenStart harts m.0 h a o
 
-abbrev pub Stops : ℕ → Step (Unit {0}) → SeatState → ℕ → SeatState → Type 0
+abbrev pub Stops : ℕ → Step (Unit {0}) → SeatState HartSeatView → ℕ → SeatState HartSeatView → Type 0
 Stops h st m found m' = Notes h Out (Stopped found) m m'
 
-abbrev pub Suspends : ℕ → Step (Unit {0}) → SeatState → ℕ → SeatState → Type 0
+abbrev pub Suspends : ℕ → Step (Unit {0}) → SeatState HartSeatView → ℕ → SeatState HartSeatView → Type 0
 Suspends h st m found m' = Notes h Asleep (Suspended found) m m'
 
-abbrev pub Wakes : ℕ → Step (Unit {0}) → SeatState → ℕ → SeatState → Type 0
+abbrev pub Wakes : ℕ → Step (Unit {0}) → SeatState HartSeatView → ℕ → SeatState HartSeatView → Type 0
 Wakes h st m found m' = Notes h Running (Woke found) m m'
 
 -- the hart alone is claimed
@@ -86,44 +76,30 @@ is_alone harts h found = found % 2 ^ harts == 2 ^ h
 abbrev pub after_quiet : ℕ → ℕ → ℕ → Stage
 after_quiet harts h found = if is_alone harts h found then Quiet else Running
 
-abbrev pub Quiets : ℕ → ℕ → Step (Unit {0}) → SeatState → ℕ → SeatState → Type 0
+abbrev pub Quiets : ℕ → ℕ → Step (Unit {0}) → SeatState HartSeatView → ℕ → SeatState HartSeatView → Type 0
 Quiets harts h st m found m' = Notes h (after_quiet harts h found) (Quieted found) m m'
     × (IsTrue (is_alone harts h found) ↔ ((t : ℕ) → t < harts → t ≢ h → bit_at found t ≡ 0))
     × (stands h Quiet m.0.harts → is_alone harts h found ≡ true)
     × Tells harts m.0 found
 
-abbrev pub Unquiets : ℕ → Step (Unit {0}) → SeatState → ℕ → SeatState → Type 0
+abbrev pub Unquiets : ℕ → Step (Unit {0}) → SeatState HartSeatView → ℕ → SeatState HartSeatView → Type 0
 Unquiets h st m found m' = Notes h Running (Unquieted found) m m'
 
 -- a look that a seat does not note: it stays as it was, and where it is of all harts and each is settled, it
 -- shows some states
-abbrev pub Sees : ℕ → Step (Unit {0}) → SeatState → ℕ → SeatState → Type 0
+abbrev pub Sees : ℕ → Step (Unit {0}) → SeatState HartSeatView → ℕ → SeatState HartSeatView → Type 0
 Sees harts st m found m' =
     (m'.0 ≡ m.0) × (m'.1 ≡ m.1)
     × (((h : ℕ) → h < harts → IsSettled h m.0.harts) → (states : ℕ → HartState) × Shows harts m.0 states)
 
 -- ---- the table at the start
-abbrev pub opening_from : ℕ → ℕ → ℕ → List HartView
-opening_from lone first zero = []
-opening_from lone first (suc n) =
-    hart_view first (if first == lone then Running else Out) [] [] ∷ opening_from lone (suc first) n
+-- one hart runs, and no other has entered
+abbrev pub opening_stage : ℕ → ℕ → Stage
+opening_stage lone h = if h == lone then Running else Out
 
 abbrev pub opening_view : ℕ → ℕ → HartSeatView
-opening_view harts lone = hart_seat_view (opening_from lone 0 harts)
+opening_view harts lone = seat_notes (opening_from (opening_stage lone) 0 harts)
 
 -- the states at the start
 abbrev pub opening_states : ℕ → ℕ → HartState
 opening_states first k = if k == first then started else stopped
-
--- ---- seats
-abbrev pub first_hart : HartSeatView → HartSeatView
-first_hart c = hart_seat_view (take 1 c.harts)
-
-abbrev pub other_harts : HartSeatView → HartSeatView
-other_harts c = hart_seat_view (drop 1 c.harts)
-
-abbrev pub together : HartSeatView → HartSeatView → HartSeatView
-together c d = hart_seat_view (c.harts ++ d.harts)
-
-abbrev pub nobody : HartSeatView
-nobody = hart_seat_view []

@@ -3,7 +3,8 @@
 ghost use Rattle.std.specs.Prelude.{◌≡◌, ◌≢◌, ℕ, ◌<◌, ◌≤◌, ◌==◌, if◌then◌else◌, [], length, IfOk, IfErr};
 ghost use Rattle.hsm_rule.specs.Rule.{stands};
 ghost use Rattle.hsm_rule.specs.States.{HartState, IsSettled, Shows};
-ghost use Rattle.hsm_words.specs.declared.view.Stage.TheVariants.{Out, Running};
+ghost use Rattle.hsm_rule.specs.declared.view.Stage.TheVariants.{Out, Running};
+ghost use Rattle.tallies.specs.Notes.{first_hart, other_harts, together};
 ghost use Rattle.hsm_steps.specs.Outcomes.{opening_states, opening_view};
 ghost use Rattle.hsm_steps.specs.Seating.{IsSeatOf, harts_of, hart_view_of_seat, harts_in, IsOfAll, AreInOrder, StandAsIn, StandTogether, AreSeatsOf, harts_by_seat, all_harts, one_by_one};
 ghost use Rattle.arrayvec.specs.ArrayVec.{array_vec_len};
@@ -13,33 +14,42 @@ use crate::steps::see;
 use crate::table::{HartSeat, HartTable, Seats, Setup};
 use atomic_table::Table;
 use board_model::{HartId, Refusal, Shape};
-use hsm_words::HartSeatView;
+use hsm_rule::{Action, Stage};
 use std::alloc::Global;
 use std::marker::Brand;
 use tallies::{ByHart, SeatTable};
 
 impl SeatTable for HartTable {
-    type View = HartSeatView;
+    type Stage = Stage;
 
-    type Seat = HartSeat;
+    type Action = Action;
 
-    ghost is_seat = { IsSeatOf };
+    ghost id = { λ t. t.table.shared.table_id };
 
     ghost count = { harts_of };
-
-    ghost known = { hart_view_of_seat };
 
     fn harts(&self) -> u32 {
         ((self.table.word_count() - 1) / 2) as u32
     }
 
-    fn split_first(&self, seat: HartSeat) -> (HartSeat, HartSeat) {
+    fn split_first(&self, seat: HartSeat) -> (HartSeat, HartSeat)
+        requires { IsSeatOf self.now seat }
+        ensures first { IsSeatOf self.now result.0
+            × (hart_view_of_seat result.0 ≡ first_hart (hart_view_of_seat seat)) }
+        ensures others { IsSeatOf self.now result.1
+            × (hart_view_of_seat result.1 ≡ other_harts (hart_view_of_seat seat)) }
+    {
         let mut seat = seat;
         let others = self.table.shared.split_seat::<ByHart>(&mut seat);
         (seat, others)
     }
 
-    fn join_two(&self, seat: HartSeat, others: HartSeat) -> HartSeat {
+    fn join_two(&self, seat: HartSeat, others: HartSeat) -> HartSeat
+        requires seat { IsSeatOf self.now seat }
+        requires others { IsSeatOf self.now others }
+        ensures seat { IsSeatOf self.now result }
+        ensures both { hart_view_of_seat result ≡ together (hart_view_of_seat seat) (hart_view_of_seat others) }
+    {
         let mut seat = seat;
         self.table.shared.join_seat::<ByHart>(&mut seat, others);
         seat

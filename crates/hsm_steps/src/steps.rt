@@ -3,17 +3,18 @@
 
 ghost use Rattle.std.specs.Prelude.{◌≡◌, ◌≢◌, ℕ, ◌+◌, ◌*◌, ◌<◌, ◌↔◌, true, IsTrue};
 ghost use Rattle.std.specs.Int.{bit_at};
-ghost use Rattle.hsm_rule.specs.Rule.{IsSite, HasNoted, stands};
+ghost use Rattle.hsm_rule.specs.Rule.{IsSite, stands};
 ghost use Rattle.hsm_rule.specs.States.{HartState, IsStarted, IsSettled, Shows, Tells};
 ghost use Rattle.hsm_steps.specs.Outcomes.{after_claim, after_look, Claims, PutsAddress, PutsOpaque, Arms, IsUpToDate, Looks, PollsOutside, ReadsAddress, ReadsOpaque, IsOpenStart, Enters, Stops, Suspends, Wakes, Quiets, Unquiets, Sees, is_alone, after_quiet};
 ghost use Rattle.hsm_steps.specs.Seating.{IsSeatOf, harts_of, hart_view_of_seat, harts_in};
-ghost use Rattle.hsm_words.specs.declared.view.Stage.TheVariants.{Out, Ready, Addressed, Loaded, Running, Claiming, Half, Stored, Asleep, Quiet};
-ghost use Rattle.hsm_words.specs.declared.view.Action.TheVariants.{Claimed, Wrote, Armed, Looked, Read, Entered, Stopped, Suspended, Woke, Quieted, Unquieted};
+ghost use Rattle.hsm_rule.specs.declared.view.Stage.TheVariants.{Out, Ready, Addressed, Loaded, Running, Claiming, Half, Stored, Asleep, Quiet};
+ghost use Rattle.hsm_rule.specs.declared.view.Action.TheVariants.{Claimed, Wrote, Armed, Looked, Read, Entered, Stopped, Suspended, Woke, Quieted, Unquieted};
+ghost use Rattle.tallies.specs.Notes.{HasNoted};
 
 use crate::table::{Acting, HartSeat, HartTable};
 use atomic_table::Play;
 use board_model::HartId;
-use hsm_words::HartSeatView;
+use hsm_rule::HartSeatView;
 use std::marker::PhantomData;
 
 struct ClaimStep<J> {

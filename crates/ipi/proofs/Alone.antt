@@ -1,8 +1,7 @@
 -- What the calls are with the one seat of all harts.
-use Rattle.std.proofs.Common.{List, [], ◌∷◌, ◌≡◌, ◌≢◌, ◌⊎◌, ◌↔◌, ℕ, ◌+◌, ◌-◌, ◌%◌, ◌^◌, ◌<◌, ◌≤◌, Bool, true, false, not, true≢false, IsTrue, if◌then◌else◌, ◌==◌, eqb, refl, sym, ap, ◌∙◌, subst, ⊎_elim, inl, inr, arith, eq-eqb, ne_eqb, w64}
+use Rattle.std.proofs.Common.{[], ◌∷◌, ◌≡◌, ◌≢◌, ◌⊎◌, ◌↔◌, ℕ, ◌+◌, ◌-◌, ◌%◌, ◌^◌, ◌<◌, ◌≤◌, Bool, true, false, not, true≢false, IsTrue, if◌then◌else◌, ◌==◌, eqb, refl, sym, ap, ◌∙◌, subst, ⊎_elim, inl, inr, arith, eq-eqb, ne_eqb, w64, ◌/◌, div-add-mod'}
 use Rattle.std.specs.Int.{bit_at}
 use Rattle.std.proofs.lemmas.Nat.Bits.{bit_at-lt, bit_at-zero, bit_at-trailing_zeros, bit_at_cat_low, bit_at_above, same_from_bits}
-use Rattle.std.proofs.Common.{◌/◌, div-add-mod'}
 use Rattle.std.proofs.Math.Nat.{mod-lt}
 use Rattle.std.proofs.Math.Pow.{pow_pos, pow-lt}
 use mathlib.Core.Logic.{dite}
@@ -10,39 +9,32 @@ use native.Mathlib.Decide.{ℕ_discrete, dec_le}
 use Rattle.tallies.specs.Sums.{total}
 use Rattle.ipi.specs.declared.view.Action.{Action}
 use Rattle.ipi.specs.declared.view.Action.TheVariants.{Raised, Took, Looked}
-use Rattle.ipi.specs.declared.view.PendingView.{PendingView}
-use Rattle.ipi.specs.declared.view.PendingSeatView.{PendingSeatView}
-use Rattle.ipi.specs.Ledger.{numbers, pending_seat_view, raise_of, take_of, raised, taken, is_of, seats, noted, HasNoted, HasEveryHart, InRange}
+use Rattle.tallies.specs.Notes.{seat_notes, is_of, seats, noted}
+use Rattle.ipi.specs.Ledger.{raise_of, take_of, raised, taken, HasNoted, HasEveryHart, InRange, PendingSeatView}
 use Rattle.ipi.specs.Pairs.{IsPending, SameHarts, Shows, with_pair, without_target}
 use Rattle.ipi.specs.Senders.{HasSender}
-use Rattle.ipi.proofs.Keeps.{weigh_noted, seats_noted}
+use Rattle.tallies.proofs.Noted.{numbered, seats_noted}
+use Rattle.ipi.proofs.Keeps.{weigh_noted}
 
 module _ (harts by : ℕ) (c : PendingSeatView) (whole : HasEveryHart harts c) (lt : by < harts) where
   sits : 0 < seats by c
   sits = let w = whole by lt in omega arith
 
-  raised_then : (p : ℕ) (x : Action) (s t : ℕ) → raised s t (pending_seat_view (noted by p x c.pending_views)) ≡ raised s t c + (if by == s then raise_of s t x else 0)
-  raised_then p x s t = weigh_noted s (raise_of s t) by p x c.pending_views sits
+  raised_then : (p : ℕ) (x : Action) (s t : ℕ) → raised s t (seat_notes (noted by tt p x c.harts)) ≡ raised s t c + (if by == s then raise_of s t x else 0)
+  raised_then p x s t = weigh_noted s (raise_of s t) by p x c.harts sits
 
-  taken_then : (p : ℕ) (x : Action) (s t : ℕ) → taken s t (pending_seat_view (noted by p x c.pending_views)) ≡ taken s t c + (if by == t then take_of s x else 0)
-  taken_then p x s t = weigh_noted t (take_of s) by p x c.pending_views sits
+  taken_then : (p : ℕ) (x : Action) (s t : ℕ) → taken s t (seat_notes (noted by tt p x c.harts)) ≡ taken s t c + (if by == t then take_of s x else 0)
+  taken_then p x s t = weigh_noted t (take_of s) by p x c.harts sits
 
 nothing : (b : Bool) → ◌≡◌ {A = ℕ} (if b then 0 else 0) 0
 nothing true = refl
 nothing false = refl
 
 -- ---- the harts of the seat stay
-numbers_noted : (by p : ℕ) (x : Action) (ds : List PendingView) → numbers (noted by p x ds) ≡ numbers ds
-numbers_noted by p x [] = refl
-numbers_noted by p x (d ∷ ds) =
-    dite (ℕ_discrete d.hart by)
-    (λ hit. rw (eq-eqb d.hart by hit) refl)
-    (λ miss. rw (ne_eqb d.hart by miss) (ap (λ (l : List ℕ). d.hart ∷ l) (numbers_noted by p x ds)))
-
-pub same_harts : (by : ℕ) (x : Action) (c c' : PendingSeatView) → HasNoted by x c.pending_views c'.pending_views → SameHarts c c'
+pub same_harts : (by : ℕ) (x : Action) (c c' : PendingSeatView) → HasNoted by x c.harts c'.harts → SameHarts c c'
 same_harts by x c c' is = record {
-  harts = ap numbers is.1 ∙ numbers_noted by is.0 x c.pending_views;
-  each = λ h. ap (total (is_of h)) is.1 ∙ seats_noted h by is.0 x c.pending_views;
+  harts = numbered by tt x c.harts c'.harts is;
+  each = λ h. ap (total (is_of h)) is.1 ∙ seats_noted h by tt is.0 x c.harts;
 }
 
 whole_still : (harts : ℕ) (c c' : PendingSeatView) → SameHarts c c' → HasEveryHart harts c → HasEveryHart harts c'
@@ -63,7 +55,7 @@ is_not false true e = refl
 is_not false false e = e.1 (λ f. true≢false (sym f))
 
 -- ---- raise
-module _ (harts by target found : ℕ) (c c' : PendingSeatView) (whole : HasEveryHart harts c) (lt : by < harts) (is : HasNoted by (Raised target found) c.pending_views c'.pending_views) (tells : raised by target c ≡ taken by target c + bit_at found by) where
+module _ (harts by target found : ℕ) (c c' : PendingSeatView) (whole : HasEveryHart harts c) (lt : by < harts) (is : HasNoted by (Raised target found) c.harts c'.harts) (tells : raised by target c ≡ taken by target c + bit_at found by) where
   newly : (bit_at found by ≡ 0) ↔ (IsPending c by target → ⊥)
   newly = let bit = bit_at-lt found by in (
     (λ z p. omega arith),
@@ -71,7 +63,7 @@ module _ (harts by target found : ℕ) (c c' : PendingSeatView) (whole : HasEver
   )
 
   raised_pairs : (s t : ℕ) → IsPending c' s t ↔ (IsPending c s t ⊎ ((s ≡ by) × (t ≡ target)))
-  raised_pairs s t = subst (λ (d : PendingSeatView). IsPending d s t ↔ (IsPending c s t ⊎ ((s ≡ by) × (t ≡ target)))) (sym (ap pending_seat_view is.1)) (pairs found tells s t)
+  raised_pairs s t = subst (λ (d : PendingSeatView). IsPending d s t ↔ (IsPending c s t ⊎ ((s ≡ by) × (t ≡ target)))) (sym (ap seat_notes is.1)) (pairs found tells s t)
     where
       other : (found s t : ℕ) → ((s ≡ by) × (t ≡ target) → ⊥) → (if by == s then raise_of s t (Raised target found) else 0) ≡ 0
       other found s t apart = dite (ℕ_discrete s by)
@@ -83,7 +75,7 @@ module _ (harts by target found : ℕ) (c c' : PendingSeatView) (whole : HasEver
       here : (found s t : ℕ) → s ≡ by → t ≡ target → (if by == s then raise_of s t (Raised target found) else 0) ≡ 1 - bit_at found s
       here found s t e f = rw (eq-eqb by s (sym e), eq-eqb target t (sym f)) refl
 
-      pairs : (found : ℕ) → raised by target c ≡ taken by target c + bit_at found by → (s t : ℕ) → IsPending (pending_seat_view (noted by is.0 (Raised target found) c.pending_views)) s t ↔ (IsPending c s t ⊎ ((s ≡ by) × (t ≡ target)))
+      pairs : (found : ℕ) → raised by target c ≡ taken by target c + bit_at found by → (s t : ℕ) → IsPending (seat_notes (noted by tt is.0 (Raised target found) c.harts)) s t ↔ (IsPending c s t ⊎ ((s ≡ by) × (t ≡ target)))
       pairs found tells s t =
           let up = raised_then harts by c whole lt is.0 (Raised target found) s t in
           let same = taken_then harts by c whole lt is.0 (Raised target found) s t in
@@ -120,14 +112,14 @@ module _ (harts by target found : ℕ) (c c' : PendingSeatView) (whole : HasEver
           ((λ p. r.1 (inl (old.0 (sym it ∙ p)))), (λ q. it ∙ old.1 (⊎_elim (λ (p : IsPending c s t). p) (λ (x : (s ≡ by) × (t ≡ target)). absurd (n x.0)) (r.0 q)))))
 
 -- ---- take
-module _ (harts by found : ℕ) (c c' : PendingSeatView) (whole : HasEveryHart harts c) (lt : by < harts) (is : HasNoted by (Took found) c.pending_views c'.pending_views) (tells : (sender : ℕ) → raised sender by c ≡ taken sender by c + bit_at found sender) where
+module _ (harts by found : ℕ) (c c' : PendingSeatView) (whole : HasEveryHart harts c) (lt : by < harts) (is : HasNoted by (Took found) c.harts c'.harts) (tells : (sender : ℕ) → raised sender by c ≡ taken sender by c + bit_at found sender) where
   found_pairs : (s : ℕ) → HasSender s found ↔ IsPending c s by
   found_pairs s = let e = tells s in let bit = bit_at-lt found s in ((λ one. omega arith), (λ p. omega arith))
 
   taken_pairs : (s t : ℕ) → IsPending c' s t ↔ (IsPending c s t × (t ≢ by))
-  taken_pairs s t = subst (λ (d : PendingSeatView). IsPending d s t ↔ (IsPending c s t × (t ≢ by))) (sym (ap pending_seat_view is.1)) (pairs s (tells s) t)
+  taken_pairs s t = subst (λ (d : PendingSeatView). IsPending d s t ↔ (IsPending c s t × (t ≢ by))) (sym (ap seat_notes is.1)) (pairs s (tells s) t)
     where
-      pairs : (s : ℕ) → raised s by c ≡ taken s by c + bit_at found s → (t : ℕ) → IsPending (pending_seat_view (noted by is.0 (Took found) c.pending_views)) s t ↔ (IsPending c s t × (t ≢ by))
+      pairs : (s : ℕ) → raised s by c ≡ taken s by c + bit_at found s → (t : ℕ) → IsPending (seat_notes (noted by tt is.0 (Took found) c.harts)) s t ↔ (IsPending c s t × (t ≢ by))
       pairs s tells t =
           let same = raised_then harts by c whole lt is.0 (Took found) s t in
           let up = taken_then harts by c whole lt is.0 (Took found) s t in
@@ -163,9 +155,9 @@ some_sender found small ne = let b = bit_at-trailing_zeros w64 found (omega arit
 pub no_sender : (found s : ℕ) → bit_at found s ≡ 1 → found ≢ 0
 no_sender found s one z = let e = ap (λ (n : ℕ). bit_at n s) z in let n = bit_at-zero s in omega arith
 
-module _ (harts by found : ℕ) (c c' : PendingSeatView) (whole : HasEveryHart harts c) (lt : by < harts) (is : HasNoted by (Looked found) c.pending_views c'.pending_views) (tells : (sender : ℕ) → raised sender by c ≡ taken sender by c + bit_at found sender) where
+module _ (harts by found : ℕ) (c c' : PendingSeatView) (whole : HasEveryHart harts c) (lt : by < harts) (is : HasNoted by (Looked found) c.harts c'.harts) (tells : (sender : ℕ) → raised sender by c ≡ taken sender by c + bit_at found sender) where
   looked_pairs : (s t : ℕ) → IsPending c' s t ↔ IsPending c s t
-  looked_pairs s t = subst (λ (d : PendingSeatView). IsPending d s t ↔ IsPending c s t) (sym (ap pending_seat_view is.1))
+  looked_pairs s t = subst (λ (d : PendingSeatView). IsPending d s t ↔ IsPending c s t) (sym (ap seat_notes is.1))
       (let p = raised_then harts by c whole lt is.0 (Looked found) s t in
       let q = taken_then harts by c whole lt is.0 (Looked found) s t in
       let y = nothing (eqb by s) in

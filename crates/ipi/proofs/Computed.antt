@@ -8,9 +8,8 @@ use mathlib.Core.Logic.{dite}
 use native.Mathlib.Decide.{ℕ_discrete}
 use Rattle.tallies.specs.Seats.{numbers_from}
 use Rattle.tallies.proofs.Seatings.{map_all, at_all, total_beyond, total_once}
-use Rattle.ipi.specs.declared.view.PendingView.{PendingView}
-use Rattle.ipi.specs.declared.view.PendingSeatView.{PendingSeatView}
-use Rattle.ipi.specs.Ledger.{numbers, is_of, raised_by, raised, taken, HasEveryHart}
+use Rattle.tallies.specs.Notes.{numbers, is_of}
+use Rattle.ipi.specs.Ledger.{raised_by, raised, taken, HasEveryHart, PendingView, PendingSeatView}
 use Rattle.ipi.specs.Pairs.{IsPending, Shows, with_pair, without_target}
 use Rattle.ipi.specs.Views.{pair_in, pairs_in, row_of, pair_at, AreRows, ArePairs, pairs_with, pairs_without}
 
@@ -37,9 +36,9 @@ one_set harts c pairs shown s t =
 pub shows_seen : (harts : ℕ) (c : PendingSeatView) → HasEveryHart harts c → Shows harts c (pair_in c)
 shows_seen harts c whole = (whole, (λ s t. lt_told (taken s t c) (raised s t c)))
 
-pub in_range : (harts : ℕ) (c : PendingSeatView) → numbers c.pending_views ≡ numbers_from 0 harts → (sender target : ℕ) → harts ≤ sender → pair_in c sender target ≡ false
+pub in_range : (harts : ℕ) (c : PendingSeatView) → numbers c.harts ≡ numbers_from 0 harts → (sender target : ℕ) → harts ≤ sender → pair_in c sender target ≡ false
 in_range harts c all s t le =
-    let none : raised s t c ≡ 0 = total_beyond (λ (d : PendingView). d.hart) (raised_by s t) s harts c.pending_views (λ d ne. rw (ne_eqb d.hart s ne) refl) all le in
+    let none : raised s t c ≡ 0 = total_beyond (λ (d : PendingView). d.hart) (raised_by s t) s harts c.harts (λ d ne. rw (ne_eqb d.hart s ne) refl) all le in
     lt_false (taken s t c) (raised s t c) (omega arith)
 
 -- ---- the pairs as a list
@@ -115,5 +114,5 @@ one_less harts c target pairs rows lt shown =
     )
 
 -- a seat of every hart, in the order of their numbers, has each once
-pub whole_of : (harts : ℕ) (c : PendingSeatView) → numbers c.pending_views ≡ numbers_from 0 harts → HasEveryHart harts c
-whole_of harts c all h lt = total_once (λ (d : PendingView). d.hart) (is_of h) h (λ d e. rw (eq-eqb d.hart h e) refl) (λ d ne. rw (ne_eqb d.hart h ne) refl) c.pending_views harts all lt
+pub whole_of : (harts : ℕ) (c : PendingSeatView) → numbers c.harts ≡ numbers_from 0 harts → HasEveryHart harts c
+whole_of harts c all h lt = total_once (λ (d : PendingView). d.hart) (is_of h) h (λ d e. rw (eq-eqb d.hart h e) refl) (λ d ne. rw (ne_eqb d.hart h ne) refl) c.harts harts all lt

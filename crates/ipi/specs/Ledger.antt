@@ -1,25 +1,24 @@
 -- The rule of the pending table. Word t has a bit for each sender of the hart t.
-use Rattle.std.specs.Prelude.{◌≡◌, ℕ, ◌+◌, ◌-◌, ◌^◌, ◌<◌, ◌≤◌, zero, suc, Bool, true, false, List, [], ◌∷◌, ◌++◌, ◌==◌, length, map, slice_index, bit_or, if◌then◌else◌, take, drop}
+use Rattle.std.specs.Prelude.{◌≡◌, ℕ, ◌+◌, ◌-◌, ◌^◌, ◌<◌, ◌≤◌, Bool, true, false, List, [], ◌∷◌, ◌==◌, slice_index, bit_or, if◌then◌else◌}
 use Rattle.std.specs.Int.{bit_at}
-use mathlib.Core.Option.{some}
-use lib.ListN.{get_elem?}
-use Rattle.atomic_table.specs.Table.{State, Me, Step}
+use Rattle.atomic_table.specs.Table.{State, Step}
 use Rattle.tallies.specs.Sums.{total}
-use Rattle.tallies.specs.Logs.{Log, Reading, IsOfLog, IsTrueLog, word_after}
+use Rattle.tallies.specs.Notes as notes
+use Rattle.tallies.specs.Notes.{SeatState, seat_notes, seats, Notes, opening_from}
+use Rattle.tallies.specs.Logs.{Reading}
+use Rattle.tallies.specs.Rules.{Everywhere, IsLogged}
+use Rattle.tallies.specs.declared.view.HartNotes.{HartNotes}
+use Rattle.tallies.specs.declared.view.SeatNotes.{SeatNotes}
 use Rattle.ipi.specs.declared.view.Action.{Action}
 use Rattle.ipi.specs.declared.view.Action.TheVariants.{Raised, Took, Looked}
-use Rattle.ipi.specs.declared.view.PendingView.{PendingView}
-use Rattle.ipi.specs.declared.view.PendingSeatView.{PendingSeatView}
 
-abbrev pub Each : {A : Type 0} → (A → Type 0) → List A → Type 0
-Each P [] = Unit {0}
-Each P (x ∷ xs) = P x × Each P xs
+-- a hart of a seat, with its steps; it has one stage
+abbrev pub PendingView : Type 0
+PendingView = HartNotes (Unit {0}) Action
 
-abbrev pub pending_view : ℕ → List Action → List ℕ → PendingView
-pending_view h ds ps = record { hart = h; actions = ds; places = ps }
-
-abbrev pub pending_seat_view : List PendingView → PendingSeatView
-pending_seat_view ds = record { pending_views = ds }
+-- the harts of a seat
+abbrev pub PendingSeatView : Type 0
+PendingSeatView = SeatNotes (Unit {0}) Action
 
 -- a raise of the target that found the sender's bit clear
 abbrev pub raise_of : ℕ → ℕ → Action → ℕ
@@ -40,17 +39,10 @@ abbrev pub taken_by : ℕ → ℕ → PendingView → ℕ
 taken_by sender target d = if d.hart == target then total (take_of sender) d.actions else 0
 
 abbrev pub raised : ℕ → ℕ → PendingSeatView → ℕ
-raised sender target c = total (raised_by sender target) c.pending_views
+raised sender target c = total (raised_by sender target) c.harts
 
 abbrev pub taken : ℕ → ℕ → PendingSeatView → ℕ
-taken sender target c = total (taken_by sender target) c.pending_views
-
-abbrev pub is_of : ℕ → PendingView → ℕ
-is_of h d = if d.hart == h then 1 else 0
-
--- how often the hart is in the seat
-abbrev pub seats : ℕ → PendingSeatView → ℕ
-seats h c = total (is_of h) c.pending_views
+taken sender target c = total (taken_by sender target) c.harts
 
 -- the hart raised for itself and has not taken since
 abbrev pub owes : ℕ → List Action → Bool
@@ -88,51 +80,22 @@ reading = record { word_of = word_of; found_by = found_by; left_by = left_by }
 abbrev pub first_word : ℕ → ℕ
 first_word t = 0
 
--- the pending view has just the steps of its hart, each with its place
-abbrev pub IsInLog : Log Action → PendingView → Type 0
-IsInLog log d = IsOfLog log d.hart d.actions d.places
-
 -- The rule. The ledger: the raises that found a pair clear are the takes that answered it, and one more if it
--- is pending. The log: all steps in their order, the newest first, which the pending views fix, since each
--- pending view has the steps of its hart with their places.
+-- is pending. And a log of all steps.
 pub record PendingInvariant (harts : ℕ) (s : State (Unit {0}) PendingSeatView) : Type 0 where
-  pub wide : length s.words ≡ harts
+  pub steps : IsLogged reading first_word harts harts s
   pub ledger : (sender target : ℕ) → target < harts
       → total (raised sender target) s.views
       ≡ total (taken sender target) s.views + bit_at (slice_index s.words target) sender
-  pub once : (h : ℕ) → h < harts → total (seats h) s.views ≡ 1
-  pub none_else : (h : ℕ) → harts ≤ h → total (seats h) s.views ≡ 0
-  pub owed : (id : ℕ) (c : PendingSeatView) → get_elem? s.views id ≡ some c → Each (IsOwed s.words) c.pending_views
-  pub log : Log Action
-  pub is_true : IsTrueLog reading first_word harts log
-  pub entered : (id : ℕ) (c : PendingSeatView) → get_elem? s.views id ≡ some c → Each (IsInLog log) c.pending_views
-  pub left : (t : ℕ) → t < harts → slice_index s.words t ≡ word_after reading first_word t log
-
--- one more action of the hart, at its place
-abbrev pub noted : ℕ → ℕ → Action → List PendingView → List PendingView
-noted h p x [] = []
-noted h p x (d ∷ ds) =
-    if d.hart == h then pending_view d.hart (x ∷ d.actions) (p ∷ d.places) ∷ ds else d ∷ noted h p x ds
+  pub owed : Everywhere (IsOwed s.words) s.views
 
 -- a view that has one more action of the hart, at whatever place, and nothing else is new
 abbrev pub HasNoted : ℕ → Action → List PendingView → List PendingView → Type 0
-HasNoted h x ds ds' = (place : ℕ) × (ds' ≡ noted h place x ds)
-
--- what the table keeps of a seat: its view, and the slots that it has taken, of which there are none
-abbrev pub SeatState : Type 0
-SeatState = Me (Unit {0}) PendingSeatView
-
--- the numbers of the harts, in the order of the list
-abbrev pub numbers : List PendingView → List ℕ
-numbers = map (λ d. d.hart)
+HasNoted h x = notes.HasNoted h tt x
 
 -- no step yet
-abbrev pub fresh_from : ℕ → ℕ → List PendingView
-fresh_from first zero = []
-fresh_from first (suc n) = pending_view first [] [] ∷ fresh_from (suc first) n
-
 abbrev pub opening_pending_view : ℕ → PendingSeatView
-opening_pending_view harts = pending_seat_view (fresh_from 0 harts)
+opening_pending_view harts = seat_notes (opening_from (λ _. tt) 0 harts)
 
 -- the seat has every hart
 abbrev pub HasEveryHart : ℕ → PendingSeatView → Type 0
@@ -150,7 +113,7 @@ actions_of h (d ∷ ds) = if d.hart == h then d.actions else actions_of h ds
 
 -- the hart of the seat raised for itself and has not taken since
 abbrev pub IsOwing : ℕ → PendingSeatView → Type 0
-IsOwing h c = owes h (actions_of h c.pending_views) ≡ true
+IsOwing h c = owes h (actions_of h c.harts) ≡ true
 
 -- Freshness: then the word of the hart has its own bit
 abbrev pub OwnsUp : PendingSeatView → ℕ → ℕ → Type 0
@@ -161,31 +124,14 @@ abbrev pub InRange : ℕ → ℕ → Type 0
 InRange harts found = (sender : ℕ) → harts ≤ sender → bit_at found sender ≡ 0
 
 -- what a step tells
-abbrev pub Raises : ℕ → ℕ → Step (Unit {0}) → SeatState → ℕ → SeatState → Type 0
-Raises harts by st m found m' =
-    HasNoted by (Raised st.word found) m.0.pending_views m'.0.pending_views × (m'.1 ≡ m.1)
-    × Tells harts m.0 st.word found
+abbrev pub Raises : ℕ → ℕ → Step (Unit {0}) → SeatState PendingSeatView → ℕ → SeatState PendingSeatView → Type 0
+Raises harts by st m found m' = Notes by tt (Raised st.word found) m m' × Tells harts m.0 st.word found
 
-abbrev pub Takes : ℕ → Step (Unit {0}) → SeatState → ℕ → SeatState → Type 0
+abbrev pub Takes : ℕ → Step (Unit {0}) → SeatState PendingSeatView → ℕ → SeatState PendingSeatView → Type 0
 Takes harts st m found m' =
-    HasNoted st.word (Took found) m.0.pending_views m'.0.pending_views × (m'.1 ≡ m.1)
-    × Tells harts m.0 st.word found × OwnsUp m.0 st.word found × InRange harts found
+    Notes st.word tt (Took found) m m' × Tells harts m.0 st.word found × OwnsUp m.0 st.word found × InRange harts found
 
-abbrev pub Looks : ℕ → Step (Unit {0}) → SeatState → ℕ → SeatState → Type 0
+abbrev pub Looks : ℕ → Step (Unit {0}) → SeatState PendingSeatView → ℕ → SeatState PendingSeatView → Type 0
 Looks harts st m found m' =
-    HasNoted st.word (Looked found) m.0.pending_views m'.0.pending_views × (m'.1 ≡ m.1)
-    × Tells harts m.0 st.word found × OwnsUp m.0 st.word found × InRange harts found
-
--- ---- seats
--- the first hart of a seat, and the others
-abbrev pub first_hart : PendingSeatView → PendingSeatView
-first_hart c = pending_seat_view (take 1 c.pending_views)
-
-abbrev pub other_harts : PendingSeatView → PendingSeatView
-other_harts c = pending_seat_view (drop 1 c.pending_views)
-
-abbrev pub together : PendingSeatView → PendingSeatView → PendingSeatView
-together c d = pending_seat_view (c.pending_views ++ d.pending_views)
-
-abbrev pub nobody : PendingSeatView
-nobody = pending_seat_view []
+    Notes st.word tt (Looked found) m m' × Tells harts m.0 st.word found × OwnsUp m.0 st.word found
+    × InRange harts found

@@ -2,8 +2,7 @@
 -- value.
 use Rattle.std.specs.Prelude.{◌≡◌, ℕ, ◌<◌, Bool, true, false, List, [], length, map, get_or, slice_set, nat_lt}
 use Rattle.tallies.specs.Seats.{numbers_from}
-use Rattle.ipi.specs.declared.view.PendingSeatView.{PendingSeatView}
-use Rattle.ipi.specs.Ledger.{raised, taken}
+use Rattle.ipi.specs.Ledger.{PendingSeatView, raised, taken}
 use Rattle.ipi.specs.Pairs.{Shows}
 
 -- the pair is pending

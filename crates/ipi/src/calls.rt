@@ -2,11 +2,12 @@
 
 ghost use Rattle.std.specs.Prelude.{◌≡◌, ◌≢◌, ◌↔◌, ℕ, ◌<◌, ◌≤◌, true, not, IsTrue};
 ghost use Rattle.std.specs.Int.{bit_at};
-ghost use Rattle.ipi.specs.Ledger.{Raises, Takes, Looks, HasNoted, seats, Tells, OwnsUp, InRange, IsOwing};
+ghost use Rattle.ipi.specs.Ledger.{Raises, Takes, Looks, HasNoted, Tells, OwnsUp, InRange, IsOwing};
 ghost use Rattle.ipi.specs.Pairs.{Sits, SameHarts, ActsAlone, with_pair, without_target};
 ghost use Rattle.ipi.specs.Senders.{HasSender};
 ghost use Rattle.ipi.specs.Seating.{IsSeatOf, harts_of, pending_view_of_seat, pending_views_in};
 ghost use Rattle.ipi.specs.declared.view.Action.TheVariants.{Raised, Took, Looked};
+ghost use Rattle.tallies.specs.Notes.{seats};
 
 use crate::senders::SenderSet;
 use crate::table::{Acting, IpiSeat, PendingTable};

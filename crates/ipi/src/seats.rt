@@ -2,6 +2,7 @@
 
 ghost use Rattle.std.specs.Prelude.{◌≡◌, ℕ, ◌<◌, ◌≤◌, false, IfOk, IfErr};
 ghost use Rattle.arrayvec.specs.ArrayVec.{array_vec_len};
+ghost use Rattle.tallies.specs.Notes.{first_hart, other_harts, together};
 ghost use Rattle.ipi.specs.Ledger.{opening_pending_view};
 ghost use Rattle.ipi.specs.Pairs.{Sits, Shows};
 ghost use Rattle.ipi.specs.Views.{pair_in};
@@ -9,34 +10,44 @@ ghost use Rattle.ipi.specs.Seating.{IsSeatOf, harts_of, pending_view_of_seat, pe
 ghost use Rattle.board_model.specs.declared.refusal.Refusal.TheVariants.{Memory};
 
 use crate::table::{IpiSeat, PendingTable, Seats};
-use crate::view::PendingSeatView;
+use crate::view::Action;
 use atomic_table::Table;
 use board_model::{Refusal, Shape};
 use std::alloc::Global;
 use tallies::{ByHart, SeatTable};
 
 impl SeatTable for PendingTable {
-    type View = PendingSeatView;
+    type Stage = ();
 
-    type Seat = IpiSeat;
+    type Action = Action;
 
-    ghost is_seat = { IsSeatOf };
+    ghost id = { λ t. t.table.shared.table_id };
 
     ghost count = { harts_of };
-
-    ghost known = { pending_view_of_seat };
 
     fn harts(&self) -> u32 {
         self.table.word_count() as u32
     }
 
-    fn split_first(&self, seat: IpiSeat) -> (IpiSeat, IpiSeat) {
+    fn split_first(&self, seat: IpiSeat) -> (IpiSeat, IpiSeat)
+        requires { IsSeatOf self.now seat }
+        ensures first { IsSeatOf self.now result.0
+            × (pending_view_of_seat result.0 ≡ first_hart (pending_view_of_seat seat)) }
+        ensures others { IsSeatOf self.now result.1
+            × (pending_view_of_seat result.1 ≡ other_harts (pending_view_of_seat seat)) }
+    {
         let mut seat = seat;
         let others = self.table.shared.split_seat::<ByHart>(&mut seat);
         (seat, others)
     }
 
-    fn join_two(&self, seat: IpiSeat, others: IpiSeat) -> IpiSeat {
+    fn join_two(&self, seat: IpiSeat, others: IpiSeat) -> IpiSeat
+        requires seat { IsSeatOf self.now seat }
+        requires others { IsSeatOf self.now others }
+        ensures seat { IsSeatOf self.now result }
+        ensures both { pending_view_of_seat result
+            ≡ together (pending_view_of_seat seat) (pending_view_of_seat others) }
+    {
         let mut seat = seat;
         self.table.shared.join_seat::<ByHart>(&mut seat, others);
         seat

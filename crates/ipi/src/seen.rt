@@ -3,10 +3,10 @@
 
 ghost use Rattle.std.specs.Prelude.{◌≡◌, ◌<◌, ◌≤◌, ℕ, Bool, false, List};
 ghost use Rattle.tallies.specs.Seats.{numbers_from};
-ghost use Rattle.ipi.specs.Ledger.{numbers, HasEveryHart};
+ghost use Rattle.ipi.specs.Ledger.{HasEveryHart, PendingSeatView};
 ghost use Rattle.ipi.specs.Pairs.{Shows, with_pair, without_target};
 ghost use Rattle.ipi.specs.Views.{pair_in, pairs_in, pair_at, AreRows, ArePairs, pairs_with, pairs_without};
-ghost use Rattle.ipi.specs.declared.view.PendingSeatView.{PendingSeatView};
+ghost use Rattle.tallies.specs.Notes.{numbers};
 
 /// The pending pairs that the view of a seat of all harts shows are those that `pair_in` computes of it, and
 /// `pairs_in` as a list. A pair with a sender that the board lacks is never pending.
@@ -14,7 +14,7 @@ pub fn one_set()
     ensures one { (harts : ℕ) (c : PendingSeatView) (pairs : ℕ → ℕ → Bool) → Shows harts c pairs → (sender target : ℕ)
         → pair_in c sender target ≡ pairs sender target }
     ensures seen { (harts : ℕ) (c : PendingSeatView) → HasEveryHart harts c → Shows harts c (pair_in c) }
-    ensures range { (harts : ℕ) (c : PendingSeatView) → numbers c.pending_views ≡ numbers_from 0 harts
+    ensures range { (harts : ℕ) (c : PendingSeatView) → numbers c.harts ≡ numbers_from 0 harts
         → (sender target : ℕ) → harts ≤ sender → pair_in c sender target ≡ false }
     ensures list { (harts : ℕ) (c : PendingSeatView) (pairs : List (List Bool)) → ArePairs harts c pairs
         → pairs_in harts c ≡ pairs }

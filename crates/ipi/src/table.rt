@@ -3,11 +3,11 @@
 ghost use Rattle.std.specs.Prelude.{◌≡◌, ℕ, ◌<◌, ◌≤◌};
 ghost use Rattle.ipi.specs.Ledger.{PendingInvariant, opening_pending_view};
 
-use crate::view::PendingSeatView;
-use arrayvec::ArrayVec;
-use atomic_table::{Seat, Table, TableRule};
+use crate::view::{Action, PendingSeatView};
+use atomic_table::{Table, TableRule};
 use std::alloc::Global;
 use std::marker::Brand;
+use tallies::{NotedSeat, NotedSeats};
 
 /// The ledger of interrupts, which is the rule of the table.
 pub struct Ledger;
@@ -33,10 +33,10 @@ impl Acting for Brand {
 }
 
 /// A seat of some of the harts: the right to act as them. It takes no bytes, and may go to another thread.
-pub type IpiSeat = Seat<(), PendingSeatView>;
+pub type IpiSeat = NotedSeat<(), Action>;
 
 /// A seat for each hart of a board, in a list. A seat that is out with its hart leaves `None`.
-pub type Seats = ArrayVec<Option<IpiSeat>, 8>;
+pub type Seats = NotedSeats<(), Action>;
 
 /// The pending interrupts of one board. Threads share it by reference, each with seats of its own.
 #[derive(Drop)]

@@ -6,8 +6,7 @@ use Rattle.std.proofs.lemmas.List.{get_or-set_other, get_or-set_same, length-set
 use mathlib.Core.Logic.{dite}
 use native.Mathlib.Decide.{ℕ_discrete}
 use Rattle.tallies.proofs.Seatings.{map_all}
-use Rattle.ipi.specs.declared.view.PendingSeatView.{PendingSeatView}
-use Rattle.ipi.specs.declared.view.PendingView.{PendingView}
+use Rattle.ipi.specs.Ledger.{PendingSeatView, PendingView}
 use Rattle.ipi.specs.Pairs.{SameHarts}
 use Rattle.ipi.specs.Views.{ArePairs, row_of}
 use Rattle.sbi_calls.specs.Answers.{row_sent, pairs_sent, pairs_to}

@@ -2,9 +2,8 @@
 use Rattle.std.specs.Prelude.{◌≡◌, ℕ, Bool, List}
 use Rattle.board_model.specs.Shapes.{Size}
 use Rattle.hsm_steps.specs.Seating as harts
-use Rattle.hsm_words.specs.declared.view.Stage.{Stage}
-use Rattle.hsm_words.specs.declared.view.HartView.{HartView}
-use Rattle.hsm_words.specs.declared.view.HartSeatView.{HartSeatView}
+use Rattle.hsm_rule.specs.declared.view.Stage.{Stage}
+use Rattle.hsm_rule.specs.Words.{HartSeatView, HartView}
 use Rattle.hsm_rule.specs.Rule.{stands}
 use Rattle.hsm_rule.specs.States.{HartState}
 use Rattle.hsm.specs.Calls.{KeepsOthers}
@@ -12,8 +11,7 @@ use Rattle.hsm.specs.Views.{AreStates}
 use Rattle.ipi.specs.Seating as pairs
 use Rattle.ipi.specs.Pairs.{Sits, SameHarts}
 use Rattle.ipi.specs.Views.{ArePairs}
-use Rattle.ipi.specs.declared.view.PendingView.{PendingView}
-use Rattle.ipi.specs.declared.view.PendingSeatView.{PendingSeatView}
+use Rattle.ipi.specs.Ledger.{PendingView, PendingSeatView}
 use Rattle.sbi_calls.specs.declared.tables.Tables.{Tables}
 use Rattle.sbi_calls.specs.declared.tables.Seats.{Seats}
 

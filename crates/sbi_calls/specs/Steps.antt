@@ -3,14 +3,13 @@
 use Rattle.std.specs.Prelude.{◌≡◌, ℕ, zero, suc, Bool, List, Ok, Err}
 use Rattle.board_model.specs.Shapes.{Size}
 use Rattle.hart.specs.State.{ArchState}
-use Rattle.hsm_words.specs.declared.view.Stage.{Stage}
-use Rattle.hsm_words.specs.declared.view.Stage.TheVariants.{Out, Asleep}
-use Rattle.hsm_words.specs.declared.view.Action.{Action}
-use Rattle.hsm_words.specs.declared.view.Action.TheVariants.{Looked, Stopped as DidStop, Suspended as DidSuspend}
+use Rattle.hsm_rule.specs.declared.view.Stage.{Stage}
+use Rattle.hsm_rule.specs.declared.view.Stage.TheVariants.{Out, Asleep}
+use Rattle.hsm_rule.specs.declared.view.Action.{Action}
+use Rattle.hsm_rule.specs.declared.view.Action.TheVariants.{Looked, Stopped as DidStop, Suspended as DidSuspend}
 use Rattle.hsm_rule.specs.Rule.{HasNoted as HartHasNoted}
 use Rattle.hsm.specs.Calls.{code_of, state_in_word, stage_of, Starts}
-use Rattle.ipi.specs.Ledger.{HasNoted}
-use Rattle.ipi.specs.declared.view.PendingView.{PendingView}
+use Rattle.ipi.specs.Ledger.{HasNoted, PendingView}
 use Rattle.ipi.specs.declared.view.Action.TheVariants.{Raised}
 use Rattle.sbi_abi.specs.Calls.{call_of}
 use Rattle.sbi_abi.specs.Masks.{Has}

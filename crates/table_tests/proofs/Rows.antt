@@ -3,9 +3,8 @@ use Rattle.std.proofs.Common.{◌≡◌, ℕ, ◌+◌, ◌<◌, List, [], ◌∷
 use Rattle.std.proofs.lemmas.List.{map-append, take-append-drop}
 use Rattle.tallies.specs.Sums.{total}
 use Rattle.tallies.proofs.Totals.{total-append}
-use Rattle.ipi.specs.declared.view.PendingView.{PendingView}
-use Rattle.ipi.specs.declared.view.PendingSeatView.{PendingSeatView}
-use Rattle.ipi.specs.Ledger.{numbers, is_of, seats, first_hart, other_harts, together}
+use Rattle.ipi.specs.Ledger.{PendingView, PendingSeatView}
+use Rattle.tallies.specs.Notes.{numbers, is_of, seats, first_hart, other_harts, together}
 use Rattle.ipi.specs.Pairs.{SameHarts}
 use Rattle.table_tests.specs.Crowd.{AreFrom}
 
@@ -23,19 +22,19 @@ sits_first first (d ∷ ds) row pos = let e : is_of first d ≡ 1 = rw (eq-eqb d
 pub same_whole : (c one others one' others' c' : PendingSeatView) → one ≡ first_hart c → others ≡ other_harts c → SameHarts one one' → SameHarts others others' → c' ≡ together one' others' → SameHarts c c'
 same_whole c one others one' others' c' is_one is_others same more is = record {
   harts =
-      ap (λ (d : PendingSeatView). numbers d.pending_views) is
-      ∙ (map-append (λ (d : PendingView). d.hart) one'.pending_views others'.pending_views
-      ∙ (ap (λ (l : List ℕ). l ++ numbers others'.pending_views) (same.harts ∙ ap (λ (d : PendingSeatView). numbers d.pending_views) is_one)
-      ∙ (ap (λ (l : List ℕ). numbers (take 1 c.pending_views) ++ l) (more.harts ∙ ap (λ (d : PendingSeatView). numbers d.pending_views) is_others)
-      ∙ (sym (map-append (λ (d : PendingView). d.hart) (take 1 c.pending_views) (drop 1 c.pending_views)) ∙ ap numbers (take-append-drop 1 c.pending_views)))));
+      ap (λ (d : PendingSeatView). numbers d.harts) is
+      ∙ (map-append (λ (d : PendingView). d.hart) one'.harts others'.harts
+      ∙ (ap (λ (l : List ℕ). l ++ numbers others'.harts) (same.harts ∙ ap (λ (d : PendingSeatView). numbers d.harts) is_one)
+      ∙ (ap (λ (l : List ℕ). numbers (take 1 c.harts) ++ l) (more.harts ∙ ap (λ (d : PendingSeatView). numbers d.harts) is_others)
+      ∙ (sym (map-append (λ (d : PendingView). d.hart) (take 1 c.harts) (drop 1 c.harts)) ∙ ap numbers (take-append-drop 1 c.harts)))));
   each = λ h.
       ap (seats h) is
-      ∙ (total-append (is_of h) one'.pending_views others'.pending_views
+      ∙ (total-append (is_of h) one'.harts others'.harts
       ∙ (let p = same.each h in let q = more.each h in
-      let r : total (is_of h) one.pending_views + total (is_of h) others.pending_views ≡ total (is_of h) c.pending_views =
-      ap (λ (d : PendingSeatView). total (is_of h) d.pending_views + total (is_of h) others.pending_views) is_one
-      ∙ (ap (λ (d : PendingSeatView). total (is_of h) (take 1 c.pending_views) + total (is_of h) d.pending_views) is_others
-      ∙ (sym (total-append (is_of h) (take 1 c.pending_views) (drop 1 c.pending_views)) ∙ ap (λ (ds : List PendingView). total (is_of h) ds) (take-append-drop 1 c.pending_views))) in
+      let r : total (is_of h) one.harts + total (is_of h) others.harts ≡ total (is_of h) c.harts =
+      ap (λ (d : PendingSeatView). total (is_of h) d.harts + total (is_of h) others.harts) is_one
+      ∙ (ap (λ (d : PendingSeatView). total (is_of h) (take 1 c.harts) + total (is_of h) d.harts) is_others
+      ∙ (sym (total-append (is_of h) (take 1 c.harts) (drop 1 c.harts)) ∙ ap (λ (ds : List PendingView). total (is_of h) ds) (take-append-drop 1 c.harts))) in
       omega arith));
 }
 

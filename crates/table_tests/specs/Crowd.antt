@@ -1,6 +1,6 @@
 -- The harts of a seat in a row.
 use Rattle.std.specs.Prelude.{◌≡◌, ℕ, ◌+◌, List, [], ◌∷◌}
-use Rattle.ipi.specs.declared.view.PendingView.{PendingView}
+use Rattle.ipi.specs.Ledger.{PendingView}
 
 -- they are the harts from `first` on
 abbrev pub AreFrom : ℕ → List PendingView → Type 0

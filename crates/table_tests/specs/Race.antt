@@ -3,8 +3,8 @@ use Rattle.std.specs.Prelude.{◌<◌}
 use Rattle.hsm_rule.specs.Rule.{stands}
 use Rattle.hsm_steps.specs.Seating.{IsSeatOf, harts_of, harts_in}
 use Rattle.hsm_steps.specs.declared.table.HartTable.{HartTable}
-use Rattle.hsm_words.specs.declared.view.Stage.TheVariants.{Out, Running}
-use Rattle.hsm_words.specs.declared.view.HartSeatView.{HartSeatView}
+use Rattle.hsm_rule.specs.declared.view.Stage.TheVariants.{Out, Running}
+use Rattle.hsm_rule.specs.Words.{HartSeatView}
 use Rattle.atomic_table.specs.declared.shared.Seat.{Seat}
 
 pub record AreReady (t : HartTable) (one two three : Seat (Unit {0}) HartSeatView) : Type 0 where

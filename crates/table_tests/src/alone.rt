@@ -3,7 +3,7 @@
 ghost use Rattle.std.specs.Prelude.{◌≡◌, ◌≢◌, ◌<◌, ℕ};
 ghost use Rattle.hsm_rule.specs.Rule.{stands};
 ghost use Rattle.hsm_steps.specs.Seating.{IsSeatOf, harts_of, harts_in};
-ghost use Rattle.hsm_words.specs.declared.view.Stage.TheVariants.{Out, Running};
+ghost use Rattle.hsm_rule.specs.declared.view.Stage.TheVariants.{Out, Running};
 
 use board_model::{Addr, HartId};
 use hsm::{

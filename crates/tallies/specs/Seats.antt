@@ -2,6 +2,11 @@
 -- taken out of a list leaves None.
 use Rattle.std.specs.Prelude.{◌≡◌, ℕ, zero, suc, List, [], ◌∷◌, Option, Some, None, map, slice_get}
 use Rattle.std.specs.List.{flat_map}
+use Rattle.atomic_table.specs.declared.shared.Seat.{Seat}
+use Rattle.atomic_table.specs.Seated.{TableId}
+use Rattle.tallies.specs.Notes.{numbers}
+use Rattle.tallies.specs.declared.view.HartNotes.{HartNotes}
+use Rattle.tallies.specs.declared.view.SeatNotes.{SeatNotes}
 
 -- the n numbers from first on
 abbrev pub numbers_from : ℕ → ℕ → List ℕ
@@ -38,3 +43,35 @@ module _ {S V : Type 0} (views : S → List V) where
   -- each seat of a list has just the hart of its place
   abbrev pub AreByNumber : (V → ℕ) → List (Option S) → Type 0
   AreByNumber hart ss = (i : ℕ) (s : S) → slice_get ss i ≡ Some (Some s) → map hart (views s) ≡ i ∷ []
+
+-- ---- seats of a table of any views
+module _ {V : Type 0} where
+  -- the seat is one of the table of this identity, and holds nothing else
+  abbrev pub IsSeatIn : TableId → Seat (Unit {0}) V → Type 0
+  IsSeatIn id s = (s.table_id ≡ id) × (s.me.1 ≡ [])
+
+  -- what the seat knows
+  abbrev pub view_of_seat : Seat (Unit {0}) V → V
+  view_of_seat s = s.me.0
+
+-- ---- seats of a table of harts
+module _ {S D : Type 0} where
+  -- the harts of the seat, each with its stage and its steps
+  abbrev pub harts_in : Seat (Unit {0}) (SeatNotes S D) → List (HartNotes S D)
+  harts_in s = s.me.0.harts
+
+  -- the seat has n harts, in the order of their numbers
+  abbrev pub HasHarts : ℕ → Seat (Unit {0}) (SeatNotes S D) → Type 0
+  HasHarts n s = numbers (harts_in s) ≡ numbers_from 0 n
+
+  -- each seat of a list has just the hart of its place
+  abbrev pub AreInOrder : List (Option (Seat (Unit {0}) (SeatNotes S D))) → Type 0
+  AreInOrder = AreByNumber harts_in (λ v. v.hart)
+
+  -- the harts of each seat of a list
+  abbrev pub harts_by_seat : List (Option (Seat (Unit {0}) (SeatNotes S D))) → List (List (HartNotes S D))
+  harts_by_seat = views_by_seat harts_in
+
+  -- the harts of all seats of a list
+  abbrev pub all_harts : List (Option (Seat (Unit {0}) (SeatNotes S D))) → List (HartNotes S D)
+  all_harts = all_views harts_in

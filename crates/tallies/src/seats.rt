@@ -1,52 +1,48 @@
-//! Seats of a table, for any table: a seat of all harts is parted into one for each, and seats are joined
-//! into one.
+//! Seats of a table, for any table of harts: a seat of all harts is parted into one for each, and seats are
+//! joined into one.
 
-ghost use Rattle.std.specs.Prelude.{◌≡◌, ℕ, ◌<◌, ◌≤◌, List, [], ◌++◌, take, drop, map};
+ghost use Rattle.std.specs.Prelude.{◌≡◌, ℕ, ◌<◌, ◌≤◌, ◌++◌};
 ghost use Rattle.arrayvec.specs.ArrayVec.{array_vec_len};
-ghost use Rattle.tallies.specs.Seats.{numbers_from, one_by_one, AreSeats, views_by_seat, all_views, AreByNumber};
+ghost use Rattle.atomic_table.specs.Seated.{TableId};
+ghost use Rattle.tallies.specs.Notes.{first_hart, other_harts, together, nobody};
+ghost use Rattle.tallies.specs.Seats.{one_by_one, AreSeats, IsSeatIn, view_of_seat, harts_in, HasHarts, AreInOrder, harts_by_seat, all_harts};
 
+use crate::view::SeatNotes;
 use arrayvec::ArrayVec;
-use atomic_table::{Join, Split};
+use atomic_table::{Join, Seat, Split};
 
-/// What a seat knows: the view of each of its harts, in an order. Views stand in contracts alone.
-pub trait SeatView {
-    type Hart;
+/// A seat of some of the harts: the right to act as them. It takes no bytes, and may go to another thread.
+pub type NotedSeat<S, D> = Seat<(), SeatNotes<S, D>>;
 
-    ghost harts: { Self → List Self.Hart };
-
-    ghost of_harts: { List Self.Hart → Self };
-
-    ghost number: { Self.Hart → ℕ };
-
-    ghost has_them: { (vs : List Self.Hart) → harts (of_harts vs) ≡ vs };
-}
+/// A seat for each hart of a board, in a list. A seat that is out with its hart leaves `None`.
+pub type NotedSeats<S, D> = ArrayVec<Option<NotedSeat<S, D>>, 8>;
 
 /// How a seat is parted and joined: its first hart by itself, and the others.
 pub struct ByHart;
 
-impl<V: SeatView> Split<V> for ByHart {
-    ghost left = { λ v. V.of_harts (take 1 (V.harts v)) };
+impl<S, D> Split<SeatNotes<S, D>> for ByHart {
+    ghost left = { first_hart };
 
-    ghost right = { λ v. V.of_harts (drop 1 (V.harts v)) };
+    ghost right = { other_harts };
 }
 
-impl<V: SeatView> Join<V> for ByHart {
-    ghost both = { λ v w. V.of_harts (V.harts v ++ V.harts w) };
+impl<S, D> Join<SeatNotes<S, D>> for ByHart {
+    ghost both = { together };
 
-    ghost spent = { V.of_harts [] };
+    ghost spent = { nobody };
 }
 
 /// A table of the harts of a board, 1 to 8, of which each seat has some.
 pub trait SeatTable {
-    type View: SeatView;
+    /// Where a hart stands.
+    type Stage;
 
-    type Seat: Drop;
+    /// What a hart does to the table.
+    type Action;
 
-    ghost is_seat: { Self → Self.Seat → Type 0 };
+    ghost id: { Self → TableId };
 
     ghost count: { Self → ℕ };
-
-    ghost known: { Self.Seat → Self.View };
 
     /// The number of harts, 1 to 8.
     fn harts(&self) -> u32
@@ -54,31 +50,40 @@ pub trait SeatTable {
         ensures range { (1 ≤ result) × (result ≤ 8) };
 
     /// The first hart of a seat by itself, and the others.
-    fn split_first(&self, seat: Self::Seat) -> (Self::Seat, Self::Seat)
-        requires { is_seat self.now seat }
-        ensures first { is_seat self.now result.0
-            × (known result.0 ≡ Self.View.of_harts (take 1 (Self.View.harts (known seat)))) }
-        ensures others { is_seat self.now result.1
-            × (known result.1 ≡ Self.View.of_harts (drop 1 (Self.View.harts (known seat)))) };
+    fn split_first(
+        &self,
+        seat: NotedSeat<Self::Stage, Self::Action>,
+    ) -> (
+        NotedSeat<Self::Stage, Self::Action>,
+        NotedSeat<Self::Stage, Self::Action>,
+    )
+        requires { IsSeatIn (id self.now) seat }
+        ensures first { IsSeatIn (id self.now) result.0 × (view_of_seat result.0 ≡ first_hart (view_of_seat seat)) }
+        ensures others { IsSeatIn (id self.now) result.1 × (view_of_seat result.1 ≡ other_harts (view_of_seat seat)) };
 
     /// Two seats in one, which has the harts of the first before those of the other.
-    fn join_two(&self, seat: Self::Seat, others: Self::Seat) -> Self::Seat
-        requires seat { is_seat self.now seat }
-        requires others { is_seat self.now others }
-        ensures seat { is_seat self.now result }
-        ensures both { known result
-            ≡ Self.View.of_harts (Self.View.harts (known seat) ++ Self.View.harts (known others)) };
+    fn join_two(
+        &self,
+        seat: NotedSeat<Self::Stage, Self::Action>,
+        others: NotedSeat<Self::Stage, Self::Action>,
+    ) -> NotedSeat<Self::Stage, Self::Action>
+        requires seat { IsSeatIn (id self.now) seat }
+        requires others { IsSeatIn (id self.now) others }
+        ensures seat { IsSeatIn (id self.now) result }
+        ensures both { view_of_seat result ≡ together (view_of_seat seat) (view_of_seat others) };
 }
 
 /// A seat for each hart of a seat of all harts, in the order of their numbers.
-pub fn split<T: SeatTable>(table: &T, seat: T::Seat) -> ArrayVec<Option<T::Seat>, 8>
-    requires seat { T.is_seat table.now seat }
-    requires all { map T.View.number (T.View.harts (T.known seat)) ≡ numbers_from 0 (T.count table.now) }
-    ensures seats { AreSeats (T.is_seat table.now) result.items }
-    ensures order { AreByNumber (λ s. T.View.harts (T.known s)) T.View.number result.items }
-    ensures apart { views_by_seat (λ s. T.View.harts (T.known s)) result.items
-        ≡ one_by_one (T.View.harts (T.known seat)) }
-    ensures harts { all_views (λ s. T.View.harts (T.known s)) result.items ≡ T.View.harts (T.known seat) }
+pub fn split<T: SeatTable>(
+    table: &T,
+    seat: NotedSeat<T::Stage, T::Action>,
+) -> NotedSeats<T::Stage, T::Action>
+    requires seat { IsSeatIn (T.id table.now) seat }
+    requires all { HasHarts (T.count table.now) seat }
+    ensures seats { AreSeats (IsSeatIn (T.id table.now)) result.items }
+    ensures order { AreInOrder result.items }
+    ensures apart { harts_by_seat result.items ≡ one_by_one (harts_in seat) }
+    ensures harts { all_harts result.items ≡ harts_in seat }
 {
     let mut seats = ArrayVec::new();
     let mut rest = seat;
@@ -93,14 +98,15 @@ pub fn split<T: SeatTable>(table: &T, seat: T::Seat) -> ArrayVec<Option<T::Seat>
 
 /// The seats of a list in one, which has their harts in the order of the list. It undoes `split`: a seat for
 /// each hart, in the order of their numbers, makes the seat of all harts again.
-pub fn join<T: SeatTable>(table: &T, seats: ArrayVec<Option<T::Seat>, 8>) -> T::Seat
-    requires seats { AreSeats (T.is_seat table.now) seats.items }
+pub fn join<T: SeatTable>(
+    table: &T,
+    seats: NotedSeats<T::Stage, T::Action>,
+) -> NotedSeat<T::Stage, T::Action>
+    requires seats { AreSeats (IsSeatIn (T.id table.now)) seats.items }
     requires some { 0 < array_vec_len seats }
-    ensures seat { T.is_seat table.now result }
-    ensures harts { T.View.harts (T.known result) ≡ all_views (λ s. T.View.harts (T.known s)) seats.items }
-    ensures all { AreByNumber (λ s. T.View.harts (T.known s)) T.View.number seats.items
-        → array_vec_len seats ≡ T.count table.now
-        → map T.View.number (T.View.harts (T.known result)) ≡ numbers_from 0 (T.count table.now) }
+    ensures seat { IsSeatIn (T.id table.now) result }
+    ensures harts { harts_in result ≡ all_harts seats.items }
+    ensures all { AreInOrder seats.items → array_vec_len seats ≡ T.count table.now → HasHarts (T.count table.now) result }
 {
     let mut seats = seats;
     let last = seats.pop().unwrap();

@@ -1,12 +1,13 @@
 use Rattle.std.proofs.Common.{ℕ, rules, refl, sym, ap, ◌∙◌, subst}
 use mathlib.Core.Logic.{dite}
 use native.Mathlib.Decide.{ℕ_discrete}
-use Rattle.hsm_words.specs.declared.view.Stage.{Stage}
-use Rattle.hsm_words.specs.declared.view.Action.TheVariants.{Looked}
+use Rattle.hsm_rule.specs.declared.view.Stage.{Stage}
+use Rattle.hsm_rule.specs.declared.view.Action.TheVariants.{Looked}
 use Rattle.hsm_rule.specs.Rule.{stands}
 use Rattle.hsm.specs.Calls.{stage_of, state_in_word, IsOwnStatus}
 use Rattle.hsm.proofs.Stand.{stands_after, stands_own, stands_stage, stands_by}
-use Rattle.hsm.proofs.Alone.{numbered, others, shows_same, named_is}
+use Rattle.tallies.proofs.Noted.{numbered}
+use Rattle.hsm.proofs.Alone.{others, shows_same, named_is}
 use Rattle.hsm.proofs.calls.status.Goals as goal
 
 pub look-found-requires-clause-acts : goal.look-found-requires-clause-acts
@@ -14,7 +15,7 @@ look-found-requires-clause-acts c = stands_own c.args.by c.requires.acts.0 c.arg
 
 pub returns-clause-stays : goal.returns-clause-stays
 returns-clause-stays c = record {
-  harts = numbered c.args.by (stage_of c.args.by c.args.seat.me.0.harts) (Looked c.look-found.result) c.args.seat.me.0 c.look-found.new.seat.me.0 c.look-found.ensures.told;
+  harts = numbered c.args.by (stage_of c.args.by c.args.seat.me.0.harts) (Looked c.look-found.result) c.args.seat.me.0.harts c.look-found.new.seat.me.0.harts c.look-found.ensures.told;
   stages = λ k sk s.
       let vs = c.args.seat.me.0.harts in
       let st = stage_of c.args.by vs in

@@ -1,6 +1,6 @@
 use Rattle.std.proofs.Common.{refl}
-use Rattle.hsm_words.specs.declared.view.Stage.TheVariants.{Running, Out}
-use Rattle.hsm_words.specs.declared.view.Action.TheVariants.{Stopped}
+use Rattle.hsm_rule.specs.declared.view.Stage.TheVariants.{Running, Out}
+use Rattle.hsm_rule.specs.declared.view.Action.TheVariants.{Stopped}
 use Rattle.hsm.proofs.Stand.{stands_after}
 use Rattle.hsm_rule.specs.States.{stopped}
 use Rattle.hsm.proofs.Alone.{keeps, shows_turned, runs_settled}

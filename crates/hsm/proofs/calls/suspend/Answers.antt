@@ -1,6 +1,6 @@
 use Rattle.std.proofs.Common.{refl}
-use Rattle.hsm_words.specs.declared.view.Stage.TheVariants.{Running, Asleep}
-use Rattle.hsm_words.specs.declared.view.Action.TheVariants.{Suspended}
+use Rattle.hsm_rule.specs.declared.view.Stage.TheVariants.{Running, Asleep}
+use Rattle.hsm_rule.specs.declared.view.Action.TheVariants.{Suspended}
 use Rattle.hsm.proofs.Stand.{stands_after}
 use Rattle.hsm_rule.specs.States.{suspended}
 use Rattle.hsm.proofs.Alone.{keeps, shows_turned, runs_settled}

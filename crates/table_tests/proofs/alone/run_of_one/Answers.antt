@@ -1,5 +1,5 @@
 use Rattle.std.proofs.Common.{◌≢◌, sym}
-use Rattle.hsm_words.specs.declared.view.Stage.TheVariants.{Out, Running, Asleep}
+use Rattle.hsm_rule.specs.declared.view.Stage.TheVariants.{Out, Running, Asleep}
 use Rattle.table_tests.proofs.alone.run_of_one.Goals as goal
 
 pub start-seat-requires-clause-acts : goal.start-seat-requires-clause-acts

@@ -5,7 +5,7 @@ use Rattle.table_tests.proofs.crowd.+all_harts+fn-all_harts-join+arg3.Goals as g
 pub one_hart-requires-clause-acts : goal.one_hart-requires-clause-acts
 one_hart-requires-clause-acts g t c =
     let by : c.unwrap-by.result ≡ c.args.first = (rw c.unwrap-by.ensures at c.new.ensures.some).0 in
-    rw by (sits_alone c.args.first c.args.seat.me.0.pending_views c.requires.row.0 (c.requires.row.1 ∙ c.if-harts-eq1.true))
+    rw by (sits_alone c.args.first c.args.seat.me.0.harts c.requires.row.0 (c.requires.row.1 ∙ c.if-harts-eq1.true))
 
 pub returns-clause-harts : goal.returns-clause-harts
 returns-clause-harts g t c =

@@ -1,12 +1,12 @@
 use Rattle.std.proofs.Common.{◌≡◌, ◌++◌, length}
-use Rattle.tallies.specs.Seats.{AreSeats, all_views}
+use Rattle.tallies.specs.Seats.{IsSeatIn, harts_in, AreSeats, all_views}
 use Rattle.tallies.proofs.seats.join.Given as goal
 
 abbrev pub invariant-loop-before : goal.invariant-loop-before
 invariant-loop-before g l = record {
-  seat : g.T.SeatTable.is_seat l.table l.whole;
-  are : AreSeats (g.T.SeatTable.is_seat l.table) l.seats.items;
-  harts : all_views (λ s. g.T.View.SeatView.harts (g.T.SeatTable.known s)) l.seats.items ++ g.T.View.SeatView.harts (g.T.SeatTable.known l.whole) ≡ all_views (λ s. g.T.View.SeatView.harts (g.T.SeatTable.known s)) l.fn.seats.items;
+  seat : IsSeatIn (g.T.SeatTable.id l.table) l.whole;
+  are : AreSeats (IsSeatIn (g.T.SeatTable.id l.table)) l.seats.items;
+  harts : all_views harts_in l.seats.items ++ harts_in l.whole ≡ all_views harts_in l.fn.seats.items;
 }
 
 abbrev pub decreases-loop-before : goal.decreases-loop-before

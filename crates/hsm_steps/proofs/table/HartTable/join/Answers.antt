@@ -1,7 +1,6 @@
 use Rattle.std.proofs.Common.{List, sym, ap, subst, ◌∙◌}
-use Rattle.hsm_words.specs.Words.{numbers}
-use Rattle.hsm_words.specs.declared.view.HartView.{HartView}
-use Rattle.hsm_words.specs.declared.view.HartSeatView.{HartSeatView}
+use Rattle.tallies.specs.Notes.{numbers}
+use Rattle.hsm_rule.specs.Words.{HartView, HartSeatView}
 use Rattle.hsm_steps.specs.Seating.{harts_of}
 use Rattle.hsm_rule.specs.Rule.{stands}
 use Rattle.hsm_rule.specs.States.{IsSettled, Shows}

@@ -1,11 +1,12 @@
-use Rattle.std.proofs.Common.{◌≡◌, ℕ, [], ◌∷◌, arith, take, zero, suc, refl, replicate, length-take}
+use Rattle.std.proofs.Common.{◌≡◌, ℕ, [], ◌∷◌, arith, take, zero, suc, refl, replicate, length-take, false, sym, ap, ◌∙◌, subst}
 use Rattle.std.specs.Prelude.{slice_index}
-use Rattle.std.proofs.Common.{false, sym, ap, ◌∙◌, subst}
 use Rattle.tallies.specs.Seats.{numbers_from}
-use Rattle.ipi.specs.declared.view.PendingSeatView.{PendingSeatView}
-use Rattle.ipi.specs.Ledger.{SeatState, seats, numbers, opening_pending_view}
+use Rattle.tallies.specs.Notes.{SeatState, seats, numbers}
+use Rattle.ipi.specs.Ledger.{opening_pending_view, PendingSeatView}
 use Rattle.ipi.specs.Pairs.{Shows}
-use Rattle.ipi.proofs.Keeps.{opens, opens_numbered, opens_seated, opens_shown}
+use Rattle.tallies.proofs.Noted.{opens_numbered, opens_seated}
+use Rattle.ipi.specs.declared.view.Action.{Action}
+use Rattle.ipi.proofs.Keeps.{opens, opens_shown}
 use Rattle.ipi.proofs.table.PendingTable.new.Goals as goal
 
 zeros : (n m i : ℕ) → slice_index (take n (replicate m 0)) i ≡ 0
@@ -21,15 +22,15 @@ of_words-requires c =
 
 pub returns-clause-all : goal.returns-clause-all
 returns-clause-all c =
-    ap (λ (m : SeatState). numbers m.0.pending_views) c.in_ok-table.ensures.4 ∙ (opens_numbered 0 c.harts-harts.result ∙ ap (λ (n : ℕ). numbers_from 0 n) (sym c.in_ok-table.ensures.5))
+    ap (λ (m : SeatState PendingSeatView). numbers m.0.harts) c.in_ok-table.ensures.4 ∙ (opens_numbered Action (λ _. tt) c.harts-harts.result ∙ ap (λ (n : ℕ). numbers_from 0 n) (sym c.in_ok-table.ensures.5))
 
 pub returns-clause-sits : goal.returns-clause-sits
 returns-clause-sits c = λ h lt.
     let size = c.harts-harts.ensures.value in
-    ap (λ (m : SeatState). seats h m.0) c.in_ok-table.ensures.4 ∙ opens_seated c.harts-harts.result h (rw size lt)
+    ap (λ (m : SeatState PendingSeatView). seats h m.0) c.in_ok-table.ensures.4 ∙ opens_seated Action (λ _. tt) c.harts-harts.result h (rw size lt)
 
 pub returns-clause-shows : goal.returns-clause-shows
 returns-clause-shows c =
     let size = c.harts-harts.ensures.value in
-    let crew = ap (λ (m : SeatState). m.0) c.in_ok-table.ensures.4 in
+    let crew = ap (λ (m : SeatState PendingSeatView). m.0) c.in_ok-table.ensures.4 in
     subst (λ (d : PendingSeatView). Shows c.args.shape.harts d (λ _ _. false)) (sym crew) (subst (λ (n : ℕ). Shows n (opening_pending_view c.harts-harts.result) (λ _ _. false)) size (opens_shown c.harts-harts.result))

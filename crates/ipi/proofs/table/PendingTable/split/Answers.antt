@@ -1,5 +1,5 @@
 use Rattle.ipi.specs.Seating.{pending_views_in}
-use Rattle.ipi.proofs.Lists.{seated_alone}
+use Rattle.tallies.proofs.Noted.{seated_alone}
 use Rattle.ipi.proofs.table.PendingTable.split.Goals as goal
 
 pub returns-clause-sits : goal.returns-clause-sits
