@@ -7,14 +7,13 @@ use mathlib.Core.Logic.{dite}
 use native.Mathlib.Decide.{ℕ_discrete}
 use Rattle.board_model.specs.Shapes.{Size}
 use Rattle.hart.specs.State.{ArchState, never_started}
-use Rattle.hsm_words.specs.declared.view.HartSeatView.{HartSeatView}
-use Rattle.hsm_words.specs.declared.view.HartView.{HartView}
-use Rattle.hsm_words.specs.declared.view.Stage.TheVariants.{Out, Running, Asleep}
+use Rattle.hsm_rule.specs.Words.{HartSeatView, HartView}
+use Rattle.hsm_rule.specs.declared.view.Stage.TheVariants.{Out, Running, Asleep}
 use Rattle.hsm_rule.specs.Rule.{stands}
 use Rattle.hsm_rule.specs.States.{HartState}
 use Rattle.hsm.specs.Calls.{KeepsOthers}
 use Rattle.hsm.specs.Views.{states_in, AreStates}
-use Rattle.ipi.specs.declared.view.PendingSeatView.{PendingSeatView as Pairs}
+use Rattle.ipi.specs.Ledger.{PendingSeatView as Pairs}
 use Rattle.ipi.specs.Views.{pairs_in, ArePairs}
 use Rattle.sbi_calls.specs.declared.tables.Tables.{Tables}
 use Rattle.sbi_calls.specs.declared.tables.Seats.{Seats}

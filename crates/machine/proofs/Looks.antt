@@ -2,7 +2,7 @@
 use Rattle.std.proofs.Common.{◌≡◌, ℕ, Bool, List, Option, Some, sym, ap, ◌∙◌, subst}
 use Rattle.atomic_table.specs.declared.shared.Seat.{Seat}
 use Rattle.board_model.specs.Shapes.{Size}
-use Rattle.hsm_words.specs.declared.view.HartSeatView.{HartSeatView}
+use Rattle.hsm_rule.specs.Words.{HartSeatView}
 use Rattle.hart.specs.State.{ArchState}
 use Rattle.sbi_calls.specs.declared.tables.Tables.{Tables}
 use Rattle.sbi_calls.specs.declared.tables.Seats.{Seats}

@@ -7,14 +7,14 @@ use mathlib.Core.Logic.{dite}
 use native.Mathlib.Decide.{ℕ_discrete, dec_le}
 use Rattle.board_model.specs.Shapes.{Size, ram_bytes_of}
 use Rattle.hart.specs.State.{ArchState, never_started}
-use Rattle.hsm_words.specs.declared.view.Stage.{Stage}
-use Rattle.hsm_words.specs.declared.view.Stage.TheVariants.{Out, Running}
-use Rattle.hsm_words.specs.declared.view.HartSeatView.{HartSeatView}
+use Rattle.hsm_rule.specs.declared.view.Stage.{Stage}
+use Rattle.hsm_rule.specs.declared.view.Stage.TheVariants.{Out, Running}
+use Rattle.hsm_rule.specs.Words.{HartSeatView}
 use Rattle.hsm_rule.specs.Rule.{stands}
 use Rattle.hsm_rule.specs.States.{HartState, stopped, started, Shows, IsIn}
 use Rattle.hsm_steps.specs.Outcomes.{opening_states}
 use Rattle.hsm.specs.Views.{listed, AreStates}
-use Rattle.ipi.specs.declared.view.PendingSeatView.{PendingSeatView as Pairs}
+use Rattle.ipi.specs.Ledger.{PendingSeatView as Pairs}
 use Rattle.ipi.specs.Pairs as shown
 use Rattle.ipi.specs.Views.{pair_at, ArePairs}
 use Rattle.sbi_calls.specs.declared.tables.Tables.{Tables}

@@ -111,10 +111,10 @@ impl Machine {
         }
     }
 
-    /// Wakes a board that was just made, whose first hart is that of the image that stands, as
+    /// Resumes a board that was just made, whose first hart is that of the image that stands, as
     /// `susp::wake_image` has it: the memory of the image is loaded, then the image is consumed, and only
     /// then its hart stands at its address. No memory is taken. After a refusal the machine is of no use.
-    pub fn wake<D: Disk + Drop>(&mut self, store: &mut Store<D>) -> Result<(), Refusal>
+    pub fn resume<D: Disk + Drop>(&mut self, store: &mut Store<D>) -> Result<(), Refusal>
         requires resting { (i : Image) → (now_state store.old).image ≡ Some i
             → (self.old ≡ resting (size_of_store store.old) i.hart) × (i.hart < (size_of_store store.old).harts) }
         ensures woken { OnOk result

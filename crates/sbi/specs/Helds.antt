@@ -7,8 +7,8 @@ use Rattle.disk.specs.declared.device.Disk.{Ghosts}
 use Rattle.disk.specs.declared.device.Lane.{Ghosts as Lanes}
 use Rattle.hart.specs.State.{ArchState, answered}
 use Rattle.hsm.specs.Views.{listed}
-use Rattle.hsm_words.specs.declared.view.Stage.{Stage}
-use Rattle.hsm_words.specs.declared.view.Stage.TheVariants.{Running, Quiet}
+use Rattle.hsm_rule.specs.declared.view.Stage.{Stage}
+use Rattle.hsm_rule.specs.declared.view.Stage.TheVariants.{Running, Quiet}
 use Rattle.store.specs.Lives.{Applied}
 use Rattle.store.specs.declared.stores.Store.{Store}
 use Rattle.sbi_abi.specs.Answers.{error_of}
@@ -18,7 +18,7 @@ use Rattle.sbi_abi.specs.declared.ret.SbiError.{SbiError}
 use Rattle.sbi_abi.specs.declared.ret.SbiError.TheVariants.{Failed, NotSupported}
 use Rattle.sbi_calls.specs.declared.tables.Seats.{Seats}
 use Rattle.sbi_calls.specs.Both.{Known, TableState, IsTable}
-use Rattle.susp.specs.Asked.{Asked}
+use Rattle.store.specs.Asked.{Asked}
 use Rattle.susp.specs.Sleeps.{Sleeps, SleepsAlone}
 use Rattle.sbi.specs.declared.resets.ResetType.{ResetType}
 use Rattle.sbi.specs.declared.dispatches.Held.{Held}

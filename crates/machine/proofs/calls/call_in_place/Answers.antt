@@ -1,7 +1,7 @@
 use Rattle.std.proofs.Common.{◌≡◌, ℕ, refl, sym, ap, ◌∙◌, subst}
 use Rattle.hart.specs.State.{ArchState}
 use Rattle.hsm_steps.specs.Seating.{harts_in}
-use Rattle.hsm_words.specs.declared.view.Stage.TheVariants.{Running}
+use Rattle.hsm_rule.specs.declared.view.Stage.TheVariants.{Running}
 use Rattle.hsm_rule.specs.Rule.{stands}
 use Rattle.hsm.specs.Calls.{Sits}
 use Rattle.ipi.specs.Pairs.{Sits as SitsIn}

@@ -4,7 +4,7 @@ use Rattle.board_model.specs.Shapes.{Size}
 use Rattle.hart.specs.State.{ArchState}
 use Rattle.store.specs.Views.{size_of_store}
 use Rattle.machine.specs.Machine.{Machine}
-use Rattle.machine.proofs.machine.Machine.wake.Goals as goal
+use Rattle.machine.proofs.machine.Machine.resume.Goals as goal
 
 pub index_mut-requires : goal.index_mut-requires
 index_mut-requires g c =
