@@ -33,10 +33,17 @@ fn memory(alloc: Global, shape: &Shape) -> Result<Ram, Refusal>
         bytes.extend_from_slice(&[(number % 251) as u8; 4096])?;
     }
     let mut ram = Ram::new(alloc, *shape)?;
-    if bytes.len() <= ram.bytes().len() {
-        ram.boot(&bytes);
-    }
+    boot_within(&mut ram, &bytes);
     Ok(ram)
+}
+
+/// The bytes at the memory's begin, where they fit.
+fn boot_within(ram: &mut Ram, bytes: &[u8])
+    ensures { length ram.new ≡ length ram.old }
+{
+    if bytes.len() <= ram.bytes().len() {
+        ram.boot(bytes);
+    }
 }
 
 /// What a record has of an image with those counts.

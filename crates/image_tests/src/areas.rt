@@ -8,7 +8,9 @@ use layout::Side;
 use savers::LaneCounts;
 use simdisk::Choice;
 use std::alloc::Global;
+use std::process::Abort;
 use std::test::Fail;
+use std::thread;
 
 /// Five pages written through so many lanes: how many places are in use, and whether a cut leaves the memory.
 fn written<C: Crew>(alloc: Global, crew: &C, lanes: u64) -> Result<(LaneCounts, bool), Refusal> {
@@ -19,28 +21,84 @@ fn written<C: Crew>(alloc: Global, crew: &C, lanes: u64) -> Result<(LaneCounts, 
     Ok((counts, holds))
 }
 
-const STRIPES: [(u64, LaneCounts); 4] = [
-    (1, [5, 0, 0, 0]),
-    (2, [3, 2, 0, 0]),
-    (3, [2, 2, 1, 0]),
-    (4, [2, 1, 1, 1]),
+/// Fewer lanes than four, by turns: each lane in its order is filled while pages are left.
+const FEW_LANES: [(u64, [usize; 4], LaneCounts); 5] = [
+    (1, [2, 0, 3, 1], [5, 0, 0, 0]),
+    (2, [2, 0, 3, 1], [3, 2, 0, 0]),
+    (2, [2, 3, 1, 0], [2, 3, 0, 0]),
+    (3, [2, 0, 3, 1], [2, 1, 2, 0]),
+    (3, [1, 3, 2, 0], [1, 2, 2, 0]),
 ];
 
 #[test]
-fn turns_in_any_order_write_the_memory(rt: HostRuntime) -> Result<(), Fail> {
-    let turns: Turns<HostRuntime> = Turns::new([2, 0, 3, 1])?;
-    for (lanes, counts) in STRIPES {
+fn lanes_are_filled_in_their_turn(rt: HostRuntime) -> Result<(), Fail> {
+    for (lanes, order, counts) in FEW_LANES {
+        let turns: Turns<HostRuntime> = Turns::new(order)?;
         same(&rt, written(rt.alloc(), &turns, lanes)?, (counts, true));
     }
     Ok(())
 }
 
+/// How many of 5 pages four lanes have after turns in that order: the first two are full, the third has one.
+fn counts_after(order: [usize; 4]) -> LaneCounts {
+    let pages = [2, 2, 1, 0];
+    let mut counts = [0; 4];
+    for turn in 0..4 {
+        if let Some(count) = counts.get_mut(order[turn]) {
+            *count = pages[turn];
+        }
+    }
+    counts
+}
+
+/// Whether turns in that order, where it is one, write the memory and answer those counts.
+fn order_writes<R: Abort + thread::Threads + Sync>(
+    rt: &R,
+    alloc: Global,
+    order: [usize; 4],
+) -> Result<bool, Refusal> {
+    let Ok(turns) = Turns::<R>::new(order) else {
+        return Ok(false);
+    };
+    let answer = written(alloc, &turns, 4)?;
+    same(rt, answer, (counts_after(order), true));
+    Ok(true)
+}
+
+#[test]
+fn turns_in_any_order_write_the_memory(rt: HostRuntime) -> Result<(), Fail> {
+    let mut orders = 0u32;
+    for number in 0..256usize {
+        let order = [number % 4, number / 4 % 4, number / 16 % 4, number / 64];
+        if order_writes(&rt, rt.alloc(), order)? {
+            orders = orders.saturating_add(1);
+        }
+    }
+    same(&rt, orders, 24);
+    same(&rt, counts_after([0, 1, 2, 3]), [2, 2, 1, 0]);
+    same(&rt, counts_after([3, 2, 1, 0]), [0, 1, 2, 2]);
+    Ok(())
+}
+
+/// Which lane has how many is left to the threads.
 #[test]
 fn threads_write_the_memory(rt: HostRuntime) -> Result<(), Fail> {
     let threads = Threads::new(&rt);
-    for (lanes, counts) in STRIPES {
-        same(&rt, written(rt.alloc(), &threads, lanes)?, (counts, true));
+    for lanes in 1..5 {
+        let (_counts, holds) = written(rt.alloc(), &threads, lanes)?;
+        same(&rt, holds, true);
     }
+    Ok(())
+}
+
+/// An area in which page k stands in lane `k mod L`, as savers wrote it before they drew their pages.
+#[test]
+fn fixed_stripes_read_as_the_memory(rt: HostRuntime) -> Result<(), Fail> {
+    let mut site = Site::new(rt.alloc(), 5, 4)?;
+    let counts = site.write_stripes(rt.alloc(), Side::first(), 9, 7)?;
+    same(&rt, counts, [2, 1, 1, 1]);
+    let holds = site.holds(rt.alloc(), Side::first(), 9, 7, counts)?;
+    same(&rt, holds, true);
     Ok(())
 }
 

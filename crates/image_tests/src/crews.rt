@@ -1,4 +1,6 @@
-//! Crews at work: jobs that meet, and how often a crew is asked.
+//! Crews at work: jobs that meet, turns in their order, and how often a crew is asked.
+ghost use Rattle.std.specs.Prelude.{◌≤◌, length};
+
 use crate::fixtures::{Site, same};
 use board_model::Refusal;
 use crew::{Crew, Plan, Threads, Turns};
@@ -11,11 +13,11 @@ use std::time::{Clock, Duration};
 
 const MOST_SLEEPS: u32 = 10_000;
 
-/// Says that one more has begun, and waits for the other, a millisecond at a time.
-fn begin<R: Clock>(clock: &R, begun: &AtomicU64, missed: &AtomicBool) {
+/// Says that one more has begun, and waits until so many have, a millisecond at a time.
+fn begin<R: Clock>(clock: &R, begun: &AtomicU64, all: u64, missed: &AtomicBool) {
     begun.fetch_add(1, Ordering::SeqCst);
     for _ in 0..MOST_SLEEPS {
-        if begun.load(Ordering::SeqCst) >= 2 {
+        if begun.load(Ordering::SeqCst) >= all {
             return;
         }
         thread::sleep(clock, Duration::from_millis(1));
@@ -23,24 +25,62 @@ fn begin<R: Clock>(clock: &R, begun: &AtomicU64, missed: &AtomicBool) {
     missed.store(true, Ordering::SeqCst);
 }
 
-/// Whether each of two jobs saw the other begin.
-fn both_begin<R: Clock + Sync, C: Crew>(clock: &R, crew: &C) -> bool {
+/// Whether each of these jobs, at most 4, saw all others begin. A job's number plus one is left in it.
+fn all_begin<R: Clock + Sync, C: Crew>(clock: &R, crew: &C, jobs: &mut [u8]) -> bool
+    requires { length jobs.old ≤ 4 }
+{
+    let all = jobs.len() as u64;
     let begun = AtomicU64::new(0);
     let missed = AtomicBool::new(false);
-    let mut jobs = [0u8; 2];
     crew.each(
-        &mut jobs,
+        jobs,
         &|i: usize, job: &mut u8| {
-            begin(clock, &begun, &missed);
-            *job = if i == 0 { 1 } else { 2 };
+            begin(clock, &begun, all, &missed);
+            *job = (i % 4) as u8 + 1;
         },
     );
-    jobs == [1, 2] && !missed.load(Ordering::SeqCst)
+    !missed.load(Ordering::SeqCst)
 }
 
 #[test]
 fn threads_run_two_jobs_at_once(rt: HostRuntime) {
-    same(&rt, both_begin(&rt, &Threads::new(&rt)), true);
+    let mut jobs = [0; 2];
+    same(&rt, all_begin(&rt, &Threads::new(&rt), &mut jobs), true);
+    same(&rt, jobs, [1, 2]);
+}
+
+#[test]
+fn threads_run_four_jobs_at_once(rt: HostRuntime) {
+    let mut jobs = [0; 4];
+    same(&rt, all_begin(&rt, &Threads::new(&rt), &mut jobs), true);
+    same(&rt, jobs, [1, 2, 3, 4]);
+}
+
+/// The turn, from 0, in which that crew calls each of four jobs.
+fn turns_of<C: Crew>(crew: &C) -> [u64; 4] {
+    let next = AtomicU64::new(0);
+    let mut jobs = [9; 4];
+    crew.each(
+        &mut jobs,
+        &|_i: usize, job: &mut u64| {
+            *job = next.fetch_add(1, Ordering::SeqCst);
+        },
+    );
+    jobs
+}
+
+#[test]
+fn turns_go_in_the_order_given(rt: HostRuntime) -> Result<(), Fail> {
+    for (order, turns) in [
+        ([0, 1, 2, 3], [0, 1, 2, 3]),
+        ([3, 2, 1, 0], [3, 2, 1, 0]),
+        ([2, 0, 3, 1], [1, 3, 0, 2]),
+        ([1, 2, 3, 0], [3, 0, 1, 2]),
+    ] {
+        let crew: Turns<HostRuntime> = Turns::new(order)?;
+        same(&rt, turns_of(&crew), turns);
+    }
+    Ok(())
 }
 
 /// Goes to work as the crew in it, and counts the lists of jobs, the jobs, and the lists that went to

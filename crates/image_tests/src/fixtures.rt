@@ -7,7 +7,9 @@ use board_model::{Addr, HartId, ImageHead, Reason, Refusal, Shape, Slot};
 use crew::Crew;
 use disk::{ArmedFault, Disk, read_sector};
 use image::{read_area, write_area};
-use layout::{Record, Saved, Side, parse_record, record_bytes};
+use layout::{
+    PlaceHead, Record, Saved, Side, area_start, parse_record, place_head_bytes, record_bytes,
+};
 use ram::Ram;
 use savers::LaneCounts;
 use simdisk::{Choice, SimDisk};
@@ -35,10 +37,17 @@ fn memory(alloc: Global, shape: &Shape, first: u8) -> Result<Ram, Refusal>
         byte = byte.wrapping_add(1);
     }
     let mut ram = Ram::new(alloc, *shape)?;
-    if bytes.len() <= ram.bytes().len() {
-        ram.boot(&bytes);
-    }
+    boot_within(&mut ram, &bytes);
     Ok(ram)
+}
+
+/// The bytes at the memory's begin, where they fit.
+fn boot_within(ram: &mut Ram, bytes: &[u8])
+    ensures { length ram.new ≡ length ram.old }
+{
+    if bytes.len() <= ram.bytes().len() {
+        ram.boot(bytes);
+    }
 }
 
 /// A record with an image in that area.
@@ -101,6 +110,37 @@ impl Site {
     ) -> Result<LaneCounts, Refusal> {
         let ram = memory(alloc, &self.shape, first)?;
         write_area(alloc, &mut self.disk, crew, &self.shape, area, &ram, serial)
+    }
+
+    /// Writes the memory that begins with that byte as fixed stripes do: page k into lane `k mod L`.
+    pub fn write_stripes(
+        &mut self,
+        alloc: Global,
+        area: Side,
+        first: u8,
+        serial: u64,
+    ) -> Result<LaneCounts, Refusal> {
+        let ram = memory(alloc, &self.shape, first)?;
+        let lanes = self.shape.lanes() as usize;
+        let mut counts = [0; 4];
+        for number in 0..self.shape.pages() as usize {
+            let page = self.shape.page(number as u64).ok_or(Refusal::BadShape)?;
+            let (lane, place) = (number % lanes, number / lanes);
+            let sector = area_start(&self.shape, area) + 9 * (lane * self.shape.places() + place);
+            if self.disk.sectors() < sector + 9 || 4 <= lane {
+                return Err(Refusal::BadShape);
+            }
+            let head = PlaceHead { page, serial };
+            let (sectors, _) = ram.page(page).as_chunks::<512>();
+            self.disk
+                .write(sector, &[place_head_bytes(&head)])
+                .map_err(|_| Refusal::Device)?;
+            self.disk
+                .write(sector + 1, sectors)
+                .map_err(|_| Refusal::Device)?;
+            counts[lane] = place as u32 + 1;
+        }
+        Ok(counts)
     }
 
     /// Whether the area reads as that memory.

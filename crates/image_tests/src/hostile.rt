@@ -84,9 +84,9 @@ fn counts_that_lie(rt: HostRuntime) -> Result<(), Fail> {
     let mut site = Site::new(rt.alloc(), 5, 4)?;
     site.write(rt.alloc(), &turns, Side::first(), 9, 7)?;
     for (counts, answer) in [
-        ([2, 1, 1, 1], Ok(true)),
-        ([1, 2, 1, 1], Err(Refusal::BadImage)),
-        ([2, 2, 1, 0], Err(Refusal::BadImage)),
+        ([2, 2, 1, 0], Ok(true)),
+        ([2, 1, 1, 1], Err(Refusal::BadImage)),
+        ([1, 2, 2, 0], Err(Refusal::BadImage)),
         ([2, 2, 1, 1], Err(Refusal::BadRecord)),
     ] {
         same(
