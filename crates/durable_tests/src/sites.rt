@@ -1,6 +1,6 @@
 //! The board on which the tests make their calls.
 ghost use Rattle.std.specs.Prelude.{◌≡◌, ◌≢◌, ◌<◌, IfOk};
-ghost use Rattle.hsm_words.specs.declared.view.Stage.TheVariants.{Out, Running};
+ghost use Rattle.hsm_rule.specs.declared.view.Stage.TheVariants.{Out, Running};
 ghost use Rattle.hsm_rule.specs.Rule.{stands};
 ghost use Rattle.hsm_steps.specs.Seating.{IsSeatOf, harts_of, harts_in};
 ghost use Rattle.sbi_calls.specs.Both.{AreSeatsOfBoth, Acts, harts_of_both as hart_count};

@@ -1,10 +1,12 @@
 -- What the store says of its calls, as events.
 use Rattle.std.proofs.Common.{◌≡◌, ◌∙◌, ◌⊎◌, inl, inr, ℕ, List, [], ◌∷◌, ◌++◌, Option, Some, None, Result, Ok, Err, Bool, true, false, nat_lt, is_some, if◌then◌else◌, refl, sym, ap, subst}
-use Rattle.board_model.specs.Durable.{DurableState, Change, Slot, Reset, Suspend, Consume, Discard, refusal_of, after, fold, ends_life}
+use Rattle.board_model.specs.Durable.{DurableState, Image, Change, Slot, Reset, Suspend, Consume, Discard, refusal_of, after, fold, ends_life}
 use Rattle.board_model.specs.declared.refusal.Refusal.{Refusal}
 use Rattle.board_model.specs.declared.refusal.Refusal.TheVariants.{BadShape, Device, Down, Over, JournalFull, Memory}
+use Rattle.hart.specs.State.{ArchState as HartState}
+use Rattle.susp.specs.Wakes.{IsWoken}
 use Rattle.store.specs.Lives.{Life, now_of, begun, Reaches, Refused, Applied, SuspendRefused, SuspendApplied, Suspended}
-use Rattle.lives.specs.Events.{World, WasOpened, WasAcknowledged, WasDoubtful, Finds, Goes, Happens, dropped_by, goes_on, goes_with, event_of, IsLived, Leads}
+use Rattle.lives.specs.Events.{World, WasOpened, WasAcknowledged, WasDoubtful, WasResumed, Finds, Goes, Happens, serial_of, dropped_by, goes_on, goes_with, event_of, IsLived, Leads}
 
 one_more : (s : DurableState) (cs : List Change) (c : Change) → fold s (cs ++ c ∷ []) ≡ after (fold s cs) c
 one_more s [] c = refl
@@ -49,7 +51,7 @@ under_way w life c s lived calm reaches is = (record w { doubt = Some c; on = fa
     found (inl same) = (w.kept, inl (same ∙ sym lived.state, refl))
     found (inr next) = (w.kept ++ c ∷ [], inr (c, refl, next ∙ ap (λ (t : DurableState). after t c) (sym lived.state), refl))
 
-acknowledged : (w : World) (old new : Life) (c : Change) → IsLived w old → old.doubt ≡ None → Reaches old c → new ≡ record old { journal = old.journal ++ c ∷ []; over = ends_life c } → Leads w (WasAcknowledged c) new
+pub acknowledged : (w : World) (old new : Life) (c : Change) → IsLived w old → old.doubt ≡ None → Reaches old c → new ≡ record old { journal = old.journal ++ c ∷ []; over = ends_life c } → Leads w (WasAcknowledged c) new
 acknowledged w old new c lived calm reaches is = (
   record w { state = after w.state c; kept = w.kept ++ c ∷ []; on = goes_on (ends_life c); dropped = dropped_by w c },
   (may_go w old c lived calm reaches, refl),
@@ -129,3 +131,13 @@ told Fits w old new c (Err e) lived calm did = by_refusal w old new c e lived ca
 pub suspended : (Fits : Type 0) (w : World) (old new : Life) (c : Change) (result : Result ℕ Refusal) → IsLived w old → old.doubt ≡ None → Suspended Fits old c result new → Leads w (event_of c result) new
 suspended Fits w old new c result lived calm did =
     told Fits w (record old { found = new.found }) new c result (record { state = lived.state ∙ sym did.reseen.now; doubt = lived.doubt; on = lived.on }) calm did.told
+
+-- a wake is its Consume, and then the answer
+pub woken : (w : World) (old new : Life) (n : ℕ) (memory : List ℕ) (hart : HartState) → IsLived w old → old.doubt ≡ None → IsWoken (now_of old) memory hart → Applied old Consume (Ok n) new
+    → (i : Image) × ((now_of old).image ≡ Some i) × (hart.id ≡ i.hart) × (u v : World) × Happens w (WasAcknowledged Consume) u × Happens u (WasResumed i.serial) v × IsLived v new
+woken w old new n memory hart lived calm was did =
+    let i : Image = was.0 in
+    let next = acknowledged w old new Consume lived calm did.0 did.2 in
+    let u : World = next.0 in
+    let dropped : u.dropped ≡ Some i.serial = ap (λ (x : World). x.dropped) next.1.1 ∙ ap (λ (s : DurableState). serial_of s.image) lived.state ∙ ap serial_of was.1 in
+    (i, was.1, ap (λ (h : HartState). h.id) was.3, u, record u { dropped = None; resumed = u.resumed ++ i.serial ∷ [] }, next.1, (dropped, refl), record { state = next.2.state; doubt = next.2.doubt; on = next.2.on })

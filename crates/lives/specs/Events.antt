@@ -1,7 +1,7 @@
 -- Many lives of one disk, told as events: what opens find, how commands fare, and which images' harts go on.
 -- Source: docs/DURABLE.md, "What an open finds".
 use Rattle.std.specs.Prelude.{◌≡◌, ◌⊎◌, ℕ, ◌<◌, Bool, true, false, List, [], ◌∷◌, ◌++◌, Option, Some, None, Result, Ok, Err, ⊤}
-use Rattle.board_model.specs.Durable.{DurableState, Image, Change, Consume, formatted, refusal_of, after, ends_life}
+use Rattle.board_model.specs.Durable.{DurableState, Image, Change, Consume, Discard, formatted, refusal_of, after, ends_life}
 use Rattle.board_model.specs.declared.refusal.Refusal.{Refusal}
 use Rattle.board_model.specs.declared.refusal.Refusal.TheVariants.{Down}
 use Rattle.store.specs.Lives.{Life, now_of}
@@ -46,13 +46,14 @@ Finds w s kept =
 abbrev pub Goes : World → Change → Type 0
 Goes w c = (w.on ≡ true) × (w.doubt ≡ None) × (refusal_of w.state c ≡ None)
 
--- the serial that a command drops to resume its hart
+-- the serial that a Consume drops to resume its hart; what a Discard drops is never resumed
 abbrev pub serial_of : Option Image → Option ℕ
 serial_of None = None
 serial_of (Some i) = Some i.serial
 
 abbrev pub dropped_by : World → Change → Option ℕ
 dropped_by w Consume = serial_of w.state.image
+dropped_by w Discard = w.dropped
 dropped_by w c = w.dropped
 
 abbrev pub goes_on : Bool → Bool

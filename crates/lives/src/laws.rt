@@ -1,15 +1,18 @@
 //! The contracts of functions that do nothing: what holds over all lives of a disk, and that what the clauses
 //! of the store say of an open and of a command is an event of them.
-ghost use Rattle.std.specs.Prelude.{◌≡◌, ℕ, List, None, Some, Result};
-ghost use Rattle.board_model.specs.Durable.{DurableState, Change, Suspend, formatted, after, fold};
+ghost use Rattle.std.specs.Prelude.{◌≡◌, ◌⊎◌, ℕ, List, None, Some, Ok, Result};
+ghost use Rattle.board_model.specs.Durable.{DurableState, Image, Change, Suspend, Consume, formatted, refusal_of, after, fold};
 ghost use Rattle.board_model.specs.Shapes.{Size};
 ghost use Rattle.board_model.specs.declared.refusal.Refusal.{Refusal};
 ghost use Rattle.disk.specs.Facts.{Content, LeavesSince};
+ghost use Rattle.hart.specs.State.{ArchState as HartState};
+ghost use Rattle.susp.specs.Wakes.{IsWoken};
 ghost use Rattle.store.specs.Follows.{FitsBoard};
 ghost use Rattle.store.specs.Leaves.{Leaves, LeavesOnly, LeavesEither, StandsForEither};
 ghost use Rattle.store.specs.Lives.{Life, now_of, begun, Reaches, Applied, Suspended};
 ghost use Rattle.store.specs.Standing.{StandsFor};
-ghost use Rattle.lives.specs.Events.{Event, WasOpened, WasDoubtful, World, new_world, Finds, Happens, Runs, Rises, event_of, IsLived, Leads};
+ghost use Rattle.lives.specs.Events.{Event, WasOpened, WasAcknowledged, WasDoubtful, WasResumed, World, new_world, Finds, Happens, Runs, Rises, event_of, IsLived, Leads};
+ghost use Rattle.lives.specs.Histories.{AnswersOnce, EndsCommands, HaveNoOpen, HaveNoCommand};
 
 use disk::Disk;
 use store::one_standing;
@@ -20,6 +23,19 @@ use store::one_standing;
 pub fn lives()
     ensures prefix { (events : List Event) (w : World) → Runs new_world events w → w.state ≡ fold formatted w.kept }
     ensures never_again { (events : List Event) (w : World) → Runs new_world events w → Rises w.resumed }
+{}
+
+/// What the events do not allow, told of the list alone. A hart is answered only in the life in which a Consume
+/// was acknowledged that dropped the image with its serial, behind that Consume and once. A command that the
+/// table of commands refuses is neither acknowledged nor in doubt; and until the next open no command goes to
+/// the disk behind one in doubt, a reset or a suspension that was acknowledged, or a cut.
+pub fn events_in_order()
+    ensures answers { (events : List Event) (w v : World) (n : ℕ) → Runs new_world events w
+        → Happens w (WasResumed n) v → AnswersOnce events n }
+    ensures taken { (w v : World) (c : Change) → Happens w (WasAcknowledged c) v ⊎ Happens w (WasDoubtful c) v
+        → refusal_of w.state c ≡ None }
+    ensures ended { (w v u : World) (e : Event) (events : List Event) → EndsCommands e → Happens w e v
+        → Runs v events u → HaveNoOpen events → HaveNoCommand events }
 {}
 
 /// An open that finds what the world lets it find begins a life in it.
@@ -55,4 +71,13 @@ pub fn commands_are_events()
         (result : Result ℕ Refusal) → IsLived w old → old.doubt ≡ None
         → Suspended (FitsBoard size memory hart address) old (Suspend hart address opaque memory) result new
         → Leads w (event_of (Suspend hart address opaque memory) result) new }
+{}
+
+/// A wake of the store is two events: its Consume was acknowledged, and then the hart of the image was answered
+/// that the Consume dropped.
+pub fn wakes_are_events()
+    ensures { (w : World) (old new : Life) (n : ℕ) (memory : List ℕ) (hart : HartState) → IsLived w old
+        → old.doubt ≡ None → IsWoken (now_of old) memory hart → Applied old Consume (Ok n) new
+        → (i : Image) × ((now_of old).image ≡ Some i) × (hart.id ≡ i.hart) × (u v : World)
+        × Happens w (WasAcknowledged Consume) u × Happens u (WasResumed i.serial) v × IsLived v new }
 {}

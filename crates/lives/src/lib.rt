@@ -3,4 +3,7 @@
 
 mod laws;
 
-pub use laws::{commands_are_events, lives, opens_are_events, opens_find_what_stands};
+pub use laws::{
+    commands_are_events, events_in_order, lives, opens_are_events, opens_find_what_stands,
+    wakes_are_events,
+};

@@ -1,11 +1,11 @@
 -- What a command does, put together from its steps.
-use Rattle.std.proofs.Common.{◌≡◌, ◌∙◌, inl, inr, ℕ, ◌-◌, ◌<◌, length, Result, Ok, Err, None, OnOk, refl, sym, ap, subst, false}
+use Rattle.std.proofs.Common.{◌≡◌, ◌∙◌, inl, inr, ℕ, ◌+◌, ◌-◌, ◌<◌, arith, length, Result, Ok, Err, None, OnOk, refl, sym, ap, subst, false}
 use Rattle.std.specs.Result.{MatchResult}
 use Rattle.board_model.specs.Durable.{DurableState, Change, after, refusal_of}
 use Rattle.board_model.specs.Shapes.{Size}
 use Rattle.board_model.specs.declared.refusal.Refusal.{Refusal}
 use Rattle.board_model.specs.declared.refusal.Refusal.TheVariants.{Device, Down, Memory}
-use Rattle.disk.specs.Facts.{Content, Facts, LeavesSince}
+use Rattle.disk.specs.Facts.{Content, Facts, sector, LeavesSince}
 use Rattle.disk.specs.FaultState.{FaultState}
 use Rattle.disk.specs.Moments.{leaves_none, leaves_then, leaves_weaker}
 use Rattle.image.specs.Refusals.{WriteRefused}
@@ -14,18 +14,24 @@ use Rattle.store.specs.Commits.{IsUp}
 use Rattle.store.specs.Leaves.{LeavesOnly, LeavesEither, StandsForEither, WroteACommand}
 use Rattle.store.specs.Lives.{Life, now_of, Reaches, Applied, Suspended, IsReseen}
 use Rattle.store.specs.Opens.{CausedRefusal}
-use Rattle.store.specs.Standing.{selected, state_of, StandsFor}
+use Rattle.store.specs.Standing.{selected, live_sector, state_of, StandsFor}
 use Rattle.store.specs.Answers.{StoreView, GoesTo, CountedRefusal, Answered}
 use Rattle.store.proofs.States.{stands_for, up_leaves}
 use Rattle.store.proofs.Suspending.{told_so, applied_found, now_still}
 
-pub wrote : (old new : Facts) (side : ℕ) → selected old.content ≡ side → selected new.content ≡ 1 - side → WroteACommand old new
+pub wrote : (old new : Facts) (side : ℕ) → side < 2 → selected old.content ≡ side
+    → ((c : Content) → new.may_leave c → (selected c ≡ 1 - side) × (sector c (2 + side) ≡ sector old.content (2 + side))) → WroteACommand old new
 unfolding WroteACommand
-wrote old new side was is = is ∙ ap (λ (k : ℕ). 1 - k) (sym was)
+wrote old new side known was is c left =
+    let w = is c left in
+    let back : 1 - selected c ≡ side = omega (arith, known, w.0) in (
+      w.0 ∙ ap (λ (k : ℕ). 1 - k) (sym was),
+      ap (λ (k : ℕ). sector c (2 + k)) back ∙ w.1 ∙ ap (λ (k : ℕ). sector old.content (2 + k)) (sym was),
+    )
 
-wrote_later : (old mid new : Facts) → selected mid.content ≡ selected old.content → WroteACommand mid new → WroteACommand old new
+wrote_later : (old mid new : Facts) → selected mid.content ≡ selected old.content → live_sector mid.content ≡ live_sector old.content → WroteACommand mid new → WroteACommand old new
 unfolding WroteACommand
-wrote_later old mid new same wrote = wrote ∙ ap (λ (k : ℕ). 1 - k) same
+wrote_later old mid new same live wrote c left = let w = wrote c left in (w.0 ∙ ap (λ (k : ℕ). 1 - k) same, w.1 ∙ live)
 
 -- a refusal but 5 and 6 has no cause, and the disk did not fail
 nothing_failed : (m : FaultState) (n : ℕ) (e : Refusal) → (e ≡ Device → ⊥) → (e ≡ Down → ⊥) → CausedRefusal m e m × CountedRefusal n e n
@@ -86,20 +92,20 @@ module _ (old mid : Facts) (size : Size) (s : DurableState) (first : LeavesSince
         in_doubt = here.in_doubt;
       }
 
-written_on : (old mid new : Facts) (result : Result ℕ Refusal) → selected mid.content ≡ selected old.content → OnOk result (WroteACommand mid new) → OnOk result (WroteACommand old new)
-written_on old mid new (Ok n) same wrote = wrote_later old mid new same wrote
-written_on old mid new (Err e) same wrote = tt
+written_on : (old mid new : Facts) (result : Result ℕ Refusal) → selected mid.content ≡ selected old.content → live_sector mid.content ≡ live_sector old.content → OnOk result (WroteACommand mid new) → OnOk result (WroteACommand old new)
+written_on old mid new (Ok n) same live wrote = wrote_later old mid new same live wrote
+written_on old mid new (Err e) same live wrote = tt
 
 pub then_issued : (Fits : Type 0) (old mid new : StoreView) (c : Change) (result : Result ℕ Refusal) → Fits → mid.life ≡ record old.life { found = mid.life.found } → IsReseen old.life mid.life.found
-    → mid.size ≡ old.size → mid.fault_state ≡ old.fault_state → mid.disk.failures ≡ old.disk.failures → selected mid.disk.content ≡ selected old.disk.content
+    → mid.size ≡ old.size → mid.fault_state ≡ old.fault_state → mid.disk.failures ≡ old.disk.failures → selected mid.disk.content ≡ selected old.disk.content → live_sector mid.disk.content ≡ live_sector old.disk.content
     → LeavesSince old.disk mid.disk (λ c. StandsFor c old.size (now_of old.life)) → Answered Applied mid c result new → Answered (Suspended Fits) old c result new
-then_issued Fits old mid new c result fits life reseen sized calm counted same first did = record {
+then_issued Fits old mid new c result fits life reseen sized calm counted same live first did = record {
   life = record {
     reseen = subst (IsReseen old.life) (sym (applied_found mid.life c result new.life did.life)) reseen;
     told = told_so Fits old.life mid.life c result new.life fits life did.life;
   };
   leaves = goes_on old.disk mid.disk old.size (now_of old.life) first new.disk mid.size (now_of mid.life) c result sized (now_still old.life mid.life mid.life.found life reseen) did.leaves;
-  written = written_on old.disk mid.disk new.disk result same did.written;
+  written = written_on old.disk mid.disk new.disk result same live did.written;
   cause = subst (λ (m : FaultState). MatchResult result (λ n. new.fault_state ≡ m) (λ e. CausedRefusal m e new.fault_state)) calm did.cause;
   counts = subst (λ (k : ℕ). MatchResult result (λ n. new.disk.failures ≡ k) (λ e. CountedRefusal k e new.disk.failures)) counted did.counts;
 }

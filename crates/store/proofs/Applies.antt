@@ -9,6 +9,7 @@ use Rattle.disk.specs.Moments.{leaves_weaker}
 use Rattle.layout.specs.Records.{IsInRange}
 use Rattle.layout.specs.declared.records.Record.{Record}
 use Rattle.store.specs.Entries.{is_plain, are_plain}
+use Rattle.store.specs.Taken.{are_taken}
 use Rattle.store.specs.Standing.{state_of, memory_in, StandsFor}
 use Rattle.store.specs.Leaves.{LeavesOnly, LeavesEither, StandsForEither}
 use Rattle.store.specs.Commits.{SameAreas, SelectsEither, IsUp, IsInDoubt}
@@ -16,6 +17,7 @@ use Rattle.store.specs.Follows.{Follows}
 use Rattle.store.specs.Lives.{Life}
 use Rattle.board_model.specs.declared.durable.Entry.{Entry}
 use Rattle.board_model.specs.declared.durable.Entry.TheVariants as entries
+use Rattle.store.proofs.Taken.{taken_more}
 use Rattle.store.proofs.States.{state_same, memory_same, of_areas, up_leaves, doubt_leaves, either_stands}
 
 -- the journal, where the image's memory is this one
@@ -69,6 +71,9 @@ pub record Issues (a b : Facts) (size : Size) (side : ℕ) (opened current next 
   pub change : change_in entry (memory_in size next b.content) ≡ change_in entry (memory_in size next a.content)
   pub folded : fold (state_of size opened b.content) (told (memory_in size current b.content) journal) ≡ state_of size current b.content
   pub allowed : refusal_of (now_by a size opened current journal) (change_in entry (memory_in size next a.content)) ≡ None → refusal_of (state_of size current b.content) (change_in entry (memory_in size next b.content)) ≡ None
+  pub legal : are_taken (state_of size opened a.content) (told (memory_in size current a.content) journal) ≡ true → are_taken (state_of size opened b.content) (told (memory_in size current b.content) journal) ≡ true
+  pub legal_with : are_plain journal ≡ true → are_taken (state_of size opened a.content) (told (memory_in size current a.content) journal) ≡ true
+      → refusal_of (now_by a size opened current journal) (change_in entry (memory_in size next a.content)) ≡ None → are_taken (state_of size opened b.content) (told (memory_in size next b.content) (journal ++ entry ∷ [])) ≡ true
   pub journal_with : are_plain journal ≡ true
       → told (memory_in size next b.content) (journal ++ entry ∷ []) ≡ told (memory_in size current a.content) journal ++ change_in entry (memory_in size next a.content) ∷ []
   pub folded_with : are_plain journal ≡ true → fold (state_of size opened b.content) (told (memory_in size next b.content) (journal ++ entry ∷ [])) ≡ state_of size next b.content
@@ -131,6 +136,17 @@ module _ (a b : Facts) (size : Size) (side : ℕ) (opened current next : Record)
       ∙ one_more (state_of size opened a.content) (told (memory_in size current a.content) journal) change
       ∙ sym next_is
 
+  legal_still : are_taken (state_of size opened a.content) (told (memory_in size current a.content) journal) ≡ true → are_taken (state_of size opened b.content) (told (memory_in size current b.content) journal) ≡ true
+  legal_still legal =
+      ap (are_taken (state_of size opened b.content)) told_still ∙ ap (λ (s : DurableState). are_taken s (told (memory_in size current a.content) journal)) found_still ∙ legal
+
+  legal_more : are_plain journal ≡ true → are_taken (state_of size opened a.content) (told (memory_in size current a.content) journal) ≡ true → refusal_of now change ≡ None
+      → are_taken (state_of size opened b.content) (told (memory_in size next b.content) (journal ++ entry ∷ [])) ≡ true
+  legal_more plain legal free =
+      ap (are_taken (state_of size opened b.content)) (told_next plain)
+      ∙ ap (λ (s : DurableState). are_taken s (told (memory_in size current a.content) journal ++ change ∷ [])) found_still
+      ∙ taken_more (state_of size opened a.content) (told (memory_in size current a.content) journal) change legal free
+
   leaves_next : IsUp b size (1 - side) next → LeavesOnly b size (after now change)
   leaves_next up = subst (LeavesOnly b size) next_is (up_leaves b size (1 - side) next up)
 
@@ -149,6 +165,8 @@ module _ (a b : Facts) (size : Size) (side : ℕ) (opened current next : Record)
     change = change_still;
     folded = folded_still;
     allowed = allowed_still;
+    legal = legal_still;
+    legal_with = legal_more;
     journal_with = told_next;
     folded_with = folded_more;
     up = up;

@@ -17,7 +17,7 @@ use Rattle.layout.specs.Records.{durable_in, head_in, AreCounts, IsSaved, IsInRa
 use Rattle.layout.specs.declared.records.Saved.{Saved}
 use Rattle.layout.specs.declared.records.Record.{Record}
 use Rattle.store.specs.Standing.{image_of, state_of}
-use Rattle.store.specs.Follows.{next_of, suspended, Follows}
+use Rattle.store.specs.Follows.{next_of, durable_after, suspended, Follows}
 
 -- the record's durable state is that of its state
 head_same : (size : Size) (image : Option Saved) (content : Content) → head_of (image_of size image content) ≡ head_in image
@@ -96,7 +96,7 @@ image_saved serial hart address opaque area counts = record { head = record { se
 pub suspend_follows : (size : Size) (r : Record) (hart address opaque area : ℕ) (counts : List ℕ) → IsSize size → r.next + 1 < 2 ^ 64 → hart < size.harts → IsValidAddress size address
     → opaque < 2 ^ 64 → area < 2 → AreCounts size counts
     → Follows size r (entries.Suspend hart address opaque)
-    (suspended r hart address opaque area counts)
+    (suspended (durable_after r hart address opaque) area counts)
 suspend_follows size r hart address opaque area counts is room small valid wide two are = record {
   state = λ content. refl;
   in_range = λ range. record {

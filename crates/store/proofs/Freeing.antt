@@ -14,12 +14,14 @@ use Rattle.layout.specs.Sizes.{area_start}
 use Rattle.layout.specs.declared.records.Saved.{Saved}
 use Rattle.layout.specs.declared.records.Record.{Record}
 use Rattle.store.specs.Entries.{drop_image}
+use Rattle.store.specs.Taken.{are_taken}
 use Rattle.store.specs.Standing.{image_of, state_of, memory_in, Selects, StandsFor}
 use Rattle.store.specs.Commits.{SameImage, IsUp}
 use Rattle.board_model.specs.declared.durable.Entry.{Entry}
 use Rattle.board_model.specs.declared.durable.Entry.TheVariants as entries
 use Rattle.store.proofs.Applies.{told, now_by}
 use Rattle.store.proofs.Following.{durable_same}
+use Rattle.store.proofs.Taken.{taken_so}
 use Rattle.store.proofs.States.{image_then, state_same, memory_same, stands_for}
 
 -- the two areas have no sector in common
@@ -96,6 +98,13 @@ module _ (a b : Facts) (size : Size) (side : ℕ) (opened current : Record) (jou
 
   free_heads : durable_of (state_of size opened b.content) ≡ durable_of (state_of size opened a.content)
   free_heads = durable_same size opened b.content ∙ sym (durable_same size opened a.content)
+
+  -- the table of commands refuses none of the journal, as before
+  pub free_legal : are_taken (state_of size opened a.content) (told (memory_in size current a.content) journal) ≡ true → are_taken (state_of size opened b.content) (told (memory_in size current b.content) journal) ≡ true
+  free_legal legal =
+      ap (are_taken (state_of size opened b.content)) free_told
+      ∙ taken_so (state_of size opened b.content) (state_of size opened a.content) (told (memory_in size current a.content) journal) free_heads
+      ∙ legal
 
   module _ (same : drop_image journal ≡ false → current.image ≡ opened.image) where
     free_fold : fold (state_of size opened b.content) (told (memory_in size current a.content) journal) ≡ now_by a size opened current journal

@@ -15,3 +15,5 @@ pub mod Reading
 pub mod Bridges
 pub mod Armed
 pub mod Kept
+pub mod Inspecting
+pub mod Taken

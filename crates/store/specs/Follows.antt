@@ -1,5 +1,5 @@
 -- The record that a command makes.
-use Rattle.std.specs.Prelude.{◌≡◌, ℕ, ◌+◌, ◌<◌, List, length, Some, None, false, is_some, if◌then◌else◌}
+use Rattle.std.specs.Prelude.{◌≡◌, ℕ, ◌+◌, ◌<◌, List, length, Some, None, false, is_some, option_map, if◌then◌else◌}
 use Rattle.board_model.specs.Durable.{after}
 use Rattle.board_model.specs.Shapes.{Size, IsValidAddress, ram_bytes_of}
 use Rattle.board_model.specs.declared.durable.Durable.{Durable}
@@ -16,19 +16,24 @@ abbrev pub next_of : Record → Durable → Record
 next_of r d =
     record { slot = d.slot; reason = d.reason; next = d.next; image = (if is_some d.image then r.image else None) }
 
--- the record of the state after a suspension whose memory stands in that area
-abbrev pub suspended : Record → ℕ → ℕ → ℕ → ℕ → List ℕ → Record
-suspended r hart address opaque area counts =
+-- the durable state after a suspension, whatever the memory
+abbrev pub durable_after : Record → ℕ → ℕ → ℕ → Durable
+durable_after r hart address opaque =
     record {
+      image = Some (record { serial = r.next; hart = hart; address = address; opaque = opaque });
       slot = r.slot;
       reason = r.reason;
       next = r.next + 1;
-      image = Some
-          (record {
-            head = record { serial = r.next; hart = hart; address = address; opaque = opaque };
-            area = area;
-            counts = counts;
-          });
+    }
+
+-- the record of that durable state, where the memory of its image stands in that area
+abbrev pub suspended : Durable → ℕ → List ℕ → Record
+suspended d area counts =
+    record {
+      slot = d.slot;
+      reason = d.reason;
+      next = d.next;
+      image = option_map (λ head. record { head = head; area = area; counts = counts }) d.image;
     }
 
 -- the memory, the hart and the address are those of the board

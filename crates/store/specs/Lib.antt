@@ -1,10 +1,13 @@
 pub mod Entries
+pub mod Taken
 pub mod Standing
 pub mod Leaves
 pub mod Commits
 pub mod Opens
 pub mod Lives
 pub mod Answers
+pub mod Inspects
 pub mod Views
+pub mod Asked
 pub mod Follows
 pub mod Formats

@@ -1,5 +1,5 @@
 //! The store: one life of the durable state.
-ghost use Rattle.std.specs.Prelude.{◌≡◌, ◌≤◌, ◌≢◌, ◌<◌, ◌+◌, ◌-◌, ◌*◌, ◌^◌, ◌⊎◌, ◌↔◌, IsTrue, ℕ, List, get_or, false, true, length, map, vec_len, vec_capacity, Some, None, Err, IfSome, IfOk, IfErr, OnOk, OnErr, IsErrOf, MatchResult};
+ghost use Rattle.std.specs.Prelude.{◌≡◌, ◌≤◌, ◌≢◌, ◌<◌, ◌+◌, ◌-◌, ◌*◌, ◌^◌, ◌⊎◌, ◌↔◌, IsTrue, ℕ, List, get_or, false, true, length, map, vec_len, vec_capacity, Some, None, Err, IfSome, IfOk, IfErr, OnOk, OnErr, IsErrOf, MatchResult, MatchOption};
 ghost use Rattle.board_model.specs.Durable.{DurableState, Change, Suspend, after, fold, ends_life, refusal_of};
 ghost use Rattle.board_model.specs.Views.{change_of, change_in, number_of_refusal};
 ghost use Rattle.board_model.specs.Shapes.{Size, IsSize, ram_bytes_of};
@@ -10,15 +10,16 @@ ghost use Rattle.image.specs.Refusals.{WriteRefused};
 ghost use Rattle.disk.specs.Facts.{Failed, Content};
 ghost use Rattle.store.specs.Standing.{state_of, memory_in};
 ghost use Rattle.store.specs.Entries.{are_plain, drop_image};
+ghost use Rattle.store.specs.Taken.{are_taken};
 ghost use Rattle.store.specs.Commits.{Keeps};
-ghost use Rattle.store.specs.Follows.{next_of, suspended, FitsBoard, Follows};
+ghost use Rattle.store.specs.Follows.{next_of, durable_after, suspended, FitsBoard, Follows};
 ghost use Rattle.store.specs.declared.doubts.Doubt.{Doubt};
 
 use crate::commits::{Uncommitted, commit};
 use crate::doubts::Doubt;
 use crate::opens::find;
 use crate::receipts::Receipt;
-use board_model::{Addr, Command, Durable, Entry, HartId, ImageHead, MAX_COMMANDS, Refusal, Shape};
+use board_model::{Addr, Command, Durable, Entry, HartId, MAX_COMMANDS, Refusal, Shape};
 use crew::Crew;
 use disk::{ArmedFault, Disk};
 use image::{read_area, write_area};
@@ -53,6 +54,8 @@ pub struct Store<D: Disk + Drop> {
     ghost few: { vec_len journal ≤ 4096 },
     ghost failed: { (x : Doubt) → doubt ≡ Some x → Failed failures_at_open (D.facts disk).failures },
     ghost counted: { failures_at_open ≤ (D.facts disk).failures },
+    ghost legal: { are_taken (state_of shape opened (D.facts disk).content)
+        (map (λ e. change_in e (memory_in shape current (D.facts disk).content)) journal.items) ≡ true },
     ghost allowed: { (x : Doubt) → doubt ≡ Some x
         → refusal_of (state_of shape current (D.facts disk).content)
         (change_in x.entry (memory_in shape x.next (D.facts disk).content)) ≡ None },
@@ -64,9 +67,10 @@ impl<D: Disk + Drop> Store<D> {
     ghost use Rattle.store.specs.Opens.{ReadsAs, OpenRefused, OpenCalls, CausedRefusal};
     ghost use Rattle.store.specs.Lives.{Reaches, TakesNone, Refused, Applied, IsReseen, SuspendRefused, Suspended, IsLoaded, LoadRefused};
     ghost use Rattle.store.specs.Answers.{Opened, Answered, StaysOpen};
+    ghost use Rattle.store.specs.Asked.{Asked};
     ghost use Rattle.disk.specs.Facts.{LeavesSince, Unchanged, Passes, Stays, counted};
     ghost use Rattle.disk.specs.FaultState.{armed_by};
-    ghost use Rattle.store.specs.Standing.{StandsFor, selected};
+    ghost use Rattle.store.specs.Standing.{StandsFor, selected, live_sector};
     ghost use Rattle.store.specs.Views.{device_of, disk_of, fault_state_of, arms_of, size_of_store, life_of, found_state, journal_of, now_state, receipts, doubt_of, failures_at_open, view_of, Stands, Doubts};
 
     /// Opens a disk, and so begins a life. What the last life left in doubt is settled by a sync. Each crash
@@ -141,8 +145,17 @@ impl<D: Disk + Drop> Store<D> {
         self.current.durable()
     }
 
+    /// The command of this life that is in doubt, a suspension without its memory; none where the store is up.
+    pub fn in_doubt(&self) -> Option<Entry>
+        ensures { MatchOption result (doubt_of self.now ≡ None) (λ e. (memory : List ℕ)
+            × (doubt_of self.now ≡ Some (change_in e memory))) }
+    {
+        let doubt = self.doubt?;
+        Some(doubt.entry)
+    }
+
     /// The entry of this life's journal at that place, from 1 as receipts count; none past its end.
-    pub fn entry(&self, number: u32) -> Option<Entry>
+    pub fn entry(&self, number: u64) -> Option<Entry>
         ensures some { IfSome result (λ e. (1 ≤ number) × (number ≤ receipts self.now)
             × ((memory : List ℕ)
             × (get_or (journal_of self.now) (number - 1) (change_in e memory) ≡ change_in e memory))) }
@@ -151,7 +164,7 @@ impl<D: Disk + Drop> Store<D> {
         if number == 0 {
             return None;
         }
-        if self.journal.len() < number as usize {
+        if (self.journal.len() as u64) < number {
             return None;
         }
         Some(self.journal[number as usize - 1])
@@ -167,14 +180,9 @@ impl<D: Disk + Drop> Store<D> {
     /// then this command is in doubt until the next open. After each refusal but `Down` a crash leaves the
     /// state before.
     pub fn apply(&mut self, command: Command) -> Result<Receipt, Refusal>
-        ensures answered { doubt_of self.old ≡ None
-            → Answered Applied (view_of self.old) (change_of command) result (view_of self.new) }
-        ensures down { (c : Change) → doubt_of self.old ≡ Some c → (result ≡ Err Refusal.Down) × (self.new ≡ self.old) }
-        ensures untouched { IfErr result (λ e. (e ≡ Refusal.Device → ⊥) → (e ≡ Refusal.Down → ⊥)
-            → self.new ≡ self.old) }
+        ensures asked { Asked Applied self.old (change_of command) result self.new }
+        ensures not_memory { IsErrOf result Refusal.Memory → ⊥ }
         ensures calls { OnOk result ((disk_of self.new).calls ≡ counted (disk_of self.old).calls 4) }
-        ensures life { IsErrOf result Refusal.Down → Failed (failures_at_open self.new) (disk_of self.new).failures }
-        ensures stays { StaysOpen (view_of self.old) (view_of self.new) }
     {
         let next = self.next_for(command)?;
         self.issue(Entry::Command(command), next)
@@ -198,19 +206,13 @@ impl<D: Disk + Drop> Store<D> {
         address: Addr,
         opaque: u64,
     ) -> Result<Receipt, Refusal>
-        ensures answered { doubt_of self.old ≡ None
-            → Answered (Suspended (FitsBoard (size_of_store self.old) ram.now hart address))
-            (view_of self.old) (Suspend hart address opaque ram.now) result (view_of self.new) }
-        ensures down { (c : Change) → doubt_of self.old ≡ Some c → (result ≡ Err Refusal.Down) × (self.new ≡ self.old) }
-        ensures untouched { IfErr result (λ e. (e ≡ Refusal.Device → ⊥) → (e ≡ Refusal.Down → ⊥)
-            → (e ≡ Refusal.Memory → ⊥) → self.new ≡ self.old) }
+        ensures asked { Asked (Suspended (FitsBoard (size_of_store self.old) ram.now hart address)) self.old
+            (Suspend hart address opaque ram.now) result self.new }
         ensures calls { OnOk result ((disk_of self.new).calls ≡ counted (disk_of self.old).calls 5) }
-        ensures life { IsErrOf result Refusal.Down → Failed (failures_at_open self.new) (disk_of self.new).failures }
-        ensures stays { StaysOpen (view_of self.old) (view_of self.new) }
     {
-        self.may_suspend(ram, hart, address)?;
+        let durable = self.may_suspend(ram, hart, address, opaque)?;
         let (area, counts) = self.write_free(alloc, ram, crew)?;
-        let next = suspended(&self.current, hart, address, opaque, area, counts);
+        let next = suspended(&durable, area, counts);
         self.issue(Entry::Suspend(hart, address, opaque), next)
     }
 
@@ -235,12 +237,19 @@ impl<D: Disk + Drop> Store<D> {
         Ok(())
     }
 
-    /// Whether a suspension may go to the disk.
-    fn may_suspend(&self, ram: &Ram, hart: HartId, address: Addr) -> Result<(), Refusal>
+    /// The durable state after a suspension that may go to the disk.
+    fn may_suspend(
+        &self,
+        ram: &Ram,
+        hart: HartId,
+        address: Addr,
+        opaque: u64,
+    ) -> Result<Durable, Refusal>
         ensures ok { OnOk result
             ((self.now.doubt ≡ None) × (self.now.over ≡ false) × (receipts self.now < 4096)
             × FitsBoard self.now.shape ram.now hart address × (self.now.current.next + 1 < 2 ^ 64)) }
-        ensures refused { IfErr result (λ e. (opaque : ℕ) → doubt_of self.now ≡ None
+        ensures after { IfOk result (λ durable. durable ≡ durable_after self.now.current hart address opaque) }
+        ensures refused { IfErr result (λ e. doubt_of self.now ≡ None
             → SuspendRefused (FitsBoard self.now.shape ram.now hart address) (life_of self.now)
             (Suspend hart address opaque ram.now) e (life_of self.now)) }
         ensures up { IfErr result (λ e. doubt_of self.now ≡ None → e ≡ Refusal.Down → ⊥) }
@@ -251,14 +260,11 @@ impl<D: Disk + Drop> Store<D> {
         if !fits_board(&self.shape, ram, hart, address) {
             return Err(Refusal::BadShape);
         }
-        if self.current.next == u64::MAX {
-            return Err(Refusal::SerialsSpent);
-        }
-        Ok(())
+        suspended_state(&self.current, hart, address, opaque)
     }
 
-    /// Writes the memory into the area that the live image does not use. The state stays, with all bytes of
-    /// its image.
+    /// Writes the memory into the area that the live image does not use, area 0 where no image stands. The state
+    /// stays, with all bytes of its image.
     fn write_free<C: Crew>(
         &mut self,
         alloc: Global,
@@ -269,6 +275,7 @@ impl<D: Disk + Drop> Store<D> {
         requires going { self.old.over ≡ false }
         requires ram { length ram.now ≡ ram_bytes_of self.old.shape }
         ensures area { IfOk result (λ saved. saved.0 < 2) }
+        ensures first { IfOk result (λ saved. self.old.current.image ≡ None → saved.0 ≡ 0) }
         ensures counts { IfOk result (λ saved. AreCounts self.old.shape saved.1) }
         ensures reads { IfOk result (λ saved. memory_of self.old.shape self.old.current.next saved.1
             (area_of self.old.shape saved.0 (disk_of self.new).content) ≡ ram.now) }
@@ -286,6 +293,7 @@ impl<D: Disk + Drop> Store<D> {
             × (self.new.current ≡ self.old.current) × (self.new.shape ≡ self.old.shape)
             × (self.new.journal ≡ self.old.journal) × (self.new.failures_at_open ≡ self.old.failures_at_open) }
         ensures selected { selected (disk_of self.new).content ≡ selected (disk_of self.old).content }
+        ensures live { live_sector (disk_of self.new).content ≡ live_sector (disk_of self.old).content }
         ensures length { SameLength (disk_of self.old) (disk_of self.new) }
         ensures none_out { IsIdle (disk_of self.new) }
     {
@@ -343,12 +351,14 @@ impl<D: Disk + Drop> Store<D> {
     /// image stays.
     ///
     /// Refused `BadShape` for a memory of another size, `NoImage` where no image stands, `Device` where the
-    /// disk failed in this call, and `BadImage` where the image reads as no memory. After `Device` and
-    /// `BadImage` the memory is of no use.
+    /// disk failed in this call, and `BadImage` where the image reads as no memory. After `BadShape` and
+    /// `NoImage` memory and store are as they were; after `Device` and `BadImage` the memory is of no use.
     pub fn load_image(&mut self, ram: &mut Ram) -> Result<(), Refusal>
         ensures loads { OnOk result (IsLoaded (now_state self.old) ram.new) }
         ensures refused { IfErr result (λ e. LoadRefused (size_of_store self.old) (now_state self.old) ram.old
             (disk_of self.old) (fault_state_of self.old) e (disk_of self.new) (fault_state_of self.new)) }
+        ensures untouched { IfErr result (λ e. (e ≡ Refusal.Device → ⊥) → (e ≡ Refusal.BadImage → ⊥)
+            → (ram.new ≡ ram.old) × (self.new ≡ self.old)) }
         ensures length { length ram.new ≡ length ram.old }
         ensures life { life_of self.new ≡ life_of self.old }
         ensures reads_alone { ReadsAlone (disk_of self.old) (disk_of self.new) }
@@ -389,13 +399,14 @@ impl<D: Disk + Drop> Store<D> {
     }
 
     /// What an open store keeps, from one call to the next: a crash leaves the state now, or with a command
-    /// in doubt one of two; such a command is one that the table of commands does not refuse. It does
-    /// nothing.
+    /// in doubt one of two. The table of commands refuses neither such a command nor, each in the state that
+    /// those before it made, one of the journal. It does nothing.
     pub fn stands(&self)
         ensures up { (s : DurableState) → Stands self.now s → LeavesOnly (disk_of self.now) (size_of_store self.now) s }
         ensures down { (s t : DurableState) → Doubts self.now s t
             → LeavesEither (disk_of self.now) (size_of_store self.now) s t }
         ensures allowed { (c : Change) → doubt_of self.now ≡ Some c → refusal_of (now_state self.now) c ≡ None }
+        ensures journal { are_taken (found_state self.now) (journal_of self.now) ≡ true }
     {}
 
     /// Ends the life, and gives back the disk that the store held, as it is: a crash leaves the state now, or
@@ -477,29 +488,30 @@ fn free_area(r: &Record) -> Side
     }
 }
 
-/// The record of the state after a suspension whose memory stands in that area.
-fn suspended(
+/// The durable state that a suspension makes of a record's. Refused `SerialsSpent` by the table of commands.
+fn suspended_state(
     old: &Record,
     hart: HartId,
     address: Addr,
     opaque: u64,
-    area: Side,
-    counts: LaneCounts,
-) -> Record
-    requires { old.now.next + 1 < 2 ^ 64 }
-    ensures { result ≡ suspended old.now hart address opaque area counts }
+) -> Result<Durable, Refusal>
+    ensures ok { OnOk result (old.now.next + 1 < 2 ^ 64) }
+    ensures after { IfOk result (λ durable. durable ≡ durable_after old.now hart address opaque) }
+    ensures refused { IfErr result (λ e. (e ≡ Refusal.SerialsSpent) × (old.now.next ≡ 2 ^ 64 - 1)) }
 {
-    let head = ImageHead {
-        serial: old.next,
-        hart,
-        address,
-        opaque,
-    };
+    let _serial = old.next;
+    old.durable().after_suspend(hart, address, opaque)
+}
+
+/// The record of that durable state, where the memory of its image stands in that area.
+fn suspended(durable: &Durable, area: Side, counts: LaneCounts) -> Record
+    ensures { result ≡ suspended durable.now area counts }
+{
     Record {
-        slot: old.slot,
-        reason: old.reason,
-        next: old.next + 1,
-        image: Some(Saved { head, area, counts }),
+        slot: durable.slot,
+        reason: durable.reason,
+        next: durable.next,
+        image: durable.image.map(|head| Saved { head, area, counts }),
     }
 }
 

@@ -8,4 +8,6 @@ mod first_use;
 #[cfg(test)]
 mod fixtures;
 #[cfg(test)]
+mod inspects;
+#[cfg(test)]
 mod tests;

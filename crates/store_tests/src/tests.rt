@@ -202,6 +202,7 @@ fn a_reset_ends_the_life(rt: HostRuntime) -> Result<(), Fail> {
         &[
             (Command::Slot(2), Ok(1)),
             (Command::Reset(Reason::SystemFailure), Ok(2)),
+            (Command::Slot(1), Err(Refusal::Over)),
             (Command::Slot(4), Err(Refusal::Over)),
         ],
     );

@@ -4,10 +4,9 @@ use Rattle.disk.specs.declared.device.Disk.{Ghosts}
 use Rattle.disk.specs.declared.device.Lane.{Ghosts as Lanes}
 use Rattle.board_model.specs.declared.refusal.Refusal.{Refusal}
 use Rattle.hsm.specs.Calls.{KeepsOthers, ActsAlone}
-use Rattle.hsm_words.specs.declared.view.HartSeatView.{HartSeatView}
-use Rattle.hsm_words.specs.declared.view.Stage.TheVariants.{Running}
-use Rattle.hsm_words.specs.declared.view.Action.TheVariants.{Quieted, Unquieted}
-use Rattle.hsm_words.specs.declared.view.HartView.{HartView}
+use Rattle.hsm_rule.specs.Words.{HartSeatView, HartView}
+use Rattle.hsm_rule.specs.declared.view.Stage.TheVariants.{Running}
+use Rattle.hsm_rule.specs.declared.view.Action.TheVariants.{Quieted, Unquieted}
 use Rattle.hsm_rule.specs.Rule.{HasNoted}
 use Rattle.hsm_rule.specs.States.{HartState, Shows}
 use Rattle.hsm_steps.specs.Outcomes.{after_quiet}

@@ -11,7 +11,7 @@ use Rattle.disk.specs.Moments.{leaves_then, leaves_weaker}
 use Rattle.store.specs.Leaves.{Leaves, IsKept, LeavesOnly, StandsForEither, WroteACommand}
 use Rattle.store.specs.Lives.{Life, now_of, Applied, Reaches, Refused, LoadRefused}
 use Rattle.store.specs.Opens.{CausedRefusal}
-use Rattle.store.specs.Standing.{selected, StandsFor}
+use Rattle.store.specs.Standing.{selected, live_sector, StandsFor}
 use Rattle.store.specs.Answers.{StoreView, GoesTo, CountedRefusal, Answered}
 
 -- each content that a crash may leave stands for that state
@@ -23,7 +23,8 @@ stands_so disk size s only c left =
 
 wrote_later : (old mid new : Facts) → mid.content ≡ old.content → WroteACommand mid new → WroteACommand old new
 unfolding WroteACommand
-wrote_later old mid new same wrote = wrote ∙ ap (λ (c : Content). 1 - selected c) same
+wrote_later old mid new same wrote c left =
+    let w = wrote c left in (w.0 ∙ ap (λ (d : Content). 1 - selected d) same, w.1 ∙ ap (λ (d : Content). live_sector d) same)
 
 wrote_on : (old mid new : Facts) (result : Result ℕ Refusal) → mid.content ≡ old.content → OnOk result (WroteACommand mid new) → OnOk result (WroteACommand old new)
 wrote_on old mid new (Ok n) same wrote = wrote_later old mid new same wrote

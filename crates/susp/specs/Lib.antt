@@ -1,4 +1,3 @@
-pub mod Asked
 pub mod Checks
 pub mod Sleeps
 pub mod Wakes

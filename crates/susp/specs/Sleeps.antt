@@ -7,11 +7,10 @@ use Rattle.board_model.specs.Durable.{Suspend}
 use Rattle.board_model.specs.declared.refusal.Refusal.{Refusal}
 use Rattle.disk.specs.declared.device.Disk.{Ghosts}
 use Rattle.disk.specs.declared.device.Lane.{Ghosts as Lanes}
-use Rattle.hsm_words.specs.declared.view.HartSeatView.{HartSeatView}
-use Rattle.hsm_words.specs.declared.view.Stage.{Stage}
-use Rattle.hsm_words.specs.declared.view.Stage.TheVariants.{Running, Quiet}
-use Rattle.hsm_words.specs.declared.view.Action.TheVariants.{Quieted, Unquieted}
-use Rattle.hsm_words.specs.declared.view.HartView.{HartView}
+use Rattle.hsm_rule.specs.Words.{HartSeatView, HartView}
+use Rattle.hsm_rule.specs.declared.view.Stage.{Stage}
+use Rattle.hsm_rule.specs.declared.view.Stage.TheVariants.{Running, Quiet}
+use Rattle.hsm_rule.specs.declared.view.Action.TheVariants.{Quieted, Unquieted}
 use Rattle.hsm_rule.specs.Rule.{HasNoted}
 use Rattle.hsm_rule.specs.States.{HartState, stopped}
 use Rattle.hsm_steps.specs.Outcomes.{after_quiet}
@@ -22,7 +21,7 @@ use Rattle.store.specs.Lives.{Suspended}
 use Rattle.store.specs.Views.{size_of_store}
 use Rattle.store.specs.declared.stores.Store.{Store}
 use Rattle.susp.specs.declared.sleeps.Asleep.{Asleep}
-use Rattle.susp.specs.Asked.{Asked}
+use Rattle.store.specs.Asked.{Asked}
 use Rattle.susp.specs.Checks.{IsChecked}
 
 -- ---- what the call answers

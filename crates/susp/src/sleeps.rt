@@ -1,7 +1,7 @@
 //! A board is suspended.
 
 ghost use Rattle.std.specs.Prelude.{◌≡◌, ◌<◌, ℕ};
-ghost use Rattle.hsm_words.specs.declared.view.Stage.TheVariants.{Running};
+ghost use Rattle.hsm_rule.specs.declared.view.Stage.TheVariants.{Running};
 ghost use Rattle.hsm_rule.specs.Rule.{stands};
 ghost use Rattle.hsm.specs.Calls.{KeepsOthers, ActsAlone};
 ghost use Rattle.hsm_steps.specs.Seating.{IsSeatOf, harts_of, hart_view_of_seat, harts_in};

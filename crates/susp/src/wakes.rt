@@ -1,7 +1,8 @@
 //! A board wakes from its image.
 
-ghost use Rattle.std.specs.Prelude.{◌≡◌, ◌⊎◌, ℕ, length, Ok, Err, IfOk, IfErr, OnOk};
-ghost use Rattle.store.specs.Views.{now_state, view_of};
+ghost use Rattle.std.specs.Prelude.{◌≡◌, ◌⊎◌, ◌+◌, ◌*◌, ℕ, length, Ok, Err, IfOk, IfErr, OnOk};
+ghost use Rattle.disk.specs.Facts.{counted};
+ghost use Rattle.store.specs.Views.{disk_of, size_of_store, now_state, view_of};
 ghost use Rattle.store.specs.Answers.{StaysOpen};
 ghost use Rattle.susp.specs.Wakes.{IsWoken, IsUnloaded, IsConsumed, IsWakeable, DiskFailed};
 
@@ -18,7 +19,7 @@ use store::{Store, kept_disks, whole_images_load};
 /// Refused as `Store::load_image` says, and then as `Store::apply` says of Consume. After each refusal but
 /// `Down` a crash leaves the state before, with the image; the memory is of use only after `Ok`. Where an
 /// image stands with its whole memory, and the store takes a command, only a disk that failed in this call
-/// stops the wake.
+/// stops the wake. With `Ok` it makes two calls of the disk for each page, and the four of a commit.
 pub fn wake_image<D: Disk + Drop>(store: &mut Store<D>, ram: &mut Ram) -> Result<Hart, Refusal>
     ensures woken { IfOk result (λ hart. IsWoken (now_state store.old) ram.new hart) }
     ensures consumed { OnOk result ((n : ℕ) × IsConsumed store.old (Ok n) store.new) }
@@ -27,6 +28,9 @@ pub fn wake_image<D: Disk + Drop>(store: &mut Store<D>, ram: &mut Ram) -> Result
     ensures answers { IsWakeable store.old ram.old → IfErr result (λ e. DiskFailed store.old e store.new) }
     ensures stays { StaysOpen (view_of store.old) (view_of store.new) }
     ensures length { length ram.new ≡ length ram.old }
+    ensures calls { OnOk result
+        ((disk_of store.new).calls
+        ≡ counted (disk_of store.old).calls (2 * (size_of_store store.old).pages + 4)) }
 {
     kept_disks::<D>();
     whole_images_load::<D>();

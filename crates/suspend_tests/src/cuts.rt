@@ -46,7 +46,7 @@ fn cut<C: Crew>(
     Ok((answer, new))
 }
 
-/// Lane 0 has two pages and the others one; a page takes two calls.
+/// Lanes 2 and 0 come first and have two pages each, lane 3 has one and lane 1 none; a page takes two calls.
 fn cut_lane<C: Crew>(
     rt: &impl Abort,
     alloc: Global,
@@ -54,7 +54,7 @@ fn cut_lane<C: Crew>(
     crew: &C,
     choice: Choice,
 ) -> Result<(), Fail> {
-    for (lane, calls) in [(0, 4), (1, 2), (2, 2), (3, 2)] {
+    for (lane, calls) in [(0, 4), (1, 0), (2, 4), (3, 2)] {
         for call in 1..calls + 1 {
             let fault = ArmedFault::CutLane(lane, call);
             let found = cut(rt, alloc, case, crew, fault, choice)?;

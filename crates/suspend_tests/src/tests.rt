@@ -1,16 +1,18 @@
-//! Suspensions that are found and loaded, refused and made again.
+//! Suspensions that are found and loaded, refused and made again, and examined.
+ghost use Rattle.std.specs.Prelude.{◌≡◌};
+
 use crate::fixtures::{
     holds, memory, opened, reopened, same, standing, suspend, suspend_by, turns,
 };
 use board_model::{Command, Refusal, Shape};
 use crew::{Crew, Threads};
-use disk::ArmedFault;
+use disk::{ArmedFault, Disk};
 use ram::Ram;
 use simdisk::SimDisk;
 use std::alloc::Global;
 use std::process::Abort;
 use std::test::Fail;
-use store::Store;
+use store::{ImageSeen, Store, inspect};
 
 /// This memory is suspended as the command of that place in its life, and found at the next open, where that
 /// many serials have been given out.
@@ -94,6 +96,8 @@ fn a_memory_of_another_size_is_refused(rt: HostRuntime) -> Result<(), Fail> {
     let shape = Err(Refusal::BadShape);
     same(&rt, suspend(rt.alloc(), &mut store, &small, &crew), shape);
     same(&rt, store.load_image(&mut small), Err(Refusal::BadShape));
+    let before = memory(rt.alloc(), Shape::new(1, 1, 1)?, 9)?;
+    same(&rt, small.bytes() == before.bytes(), true);
     Ok(())
 }
 
@@ -103,6 +107,8 @@ fn nothing_is_loaded_without_an_image(rt: HostRuntime) -> Result<(), Fail> {
     let mut store = opened(rt.alloc(), shape)?;
     let mut ram = memory(rt.alloc(), shape, 9)?;
     same(&rt, store.load_image(&mut ram), Err(Refusal::NoImage));
+    let before = memory(rt.alloc(), shape, 9)?;
+    same(&rt, ram.bytes() == before.bytes(), true);
     Ok(())
 }
 
@@ -179,5 +185,36 @@ fn a_load_makes_two_calls_a_page(rt: HostRuntime) -> Result<(), Fail> {
     same(&rt, load_failing(rt.alloc(), &crew, 1)?, device);
     same(&rt, load_failing(rt.alloc(), &crew, 2)?, device);
     same(&rt, load_failing(rt.alloc(), &crew, 3)?, None);
+    Ok(())
+}
+
+/// What is said of the image of the two pages of this disk.
+fn image_seen(alloc: Global, disk: &mut SimDisk) -> Result<ImageSeen, Refusal>
+    requires { (⟦<SimDisk as Disk>⟧.facts disk.old).lent.lanes ≡ 0 }
+    ensures { (⟦<SimDisk as Disk>⟧.facts disk.new).lent.lanes ≡ 0 }
+{
+    Ok(inspect(alloc, disk)?.image)
+}
+
+#[test]
+fn an_image_is_examined(rt: HostRuntime) -> Result<(), Fail> {
+    let crew = turns(&rt)?;
+    let shape = Shape::new(1, 2, 1)?;
+    let ram = memory(rt.alloc(), shape, 9)?;
+    let mut store = opened(rt.alloc(), shape)?;
+    same(&rt, suspend(rt.alloc(), &mut store, &ram, &crew), Ok(1));
+    let mut disk = store.into_disk();
+    let whole = Ok(ImageSeen::Whole);
+    same(&rt, image_seen(rt.alloc(), &mut disk), whole);
+    // four calls for gate and records, and two a page
+    disk.arm(ArmedFault::FailAt(9));
+    same(&rt, image_seen(rt.alloc(), &mut disk), whole);
+    disk.arm(ArmedFault::FailAt(8));
+    let refused = Err(Refusal::Device);
+    same(&rt, image_seen(rt.alloc(), &mut disk), refused);
+    // the header of the first place now names page 5
+    disk.poke(8, 0, &[5])?;
+    let bad = Ok(ImageSeen::Bad);
+    same(&rt, image_seen(rt.alloc(), &mut disk), bad);
     Ok(())
 }

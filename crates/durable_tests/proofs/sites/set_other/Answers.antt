@@ -1,5 +1,5 @@
 use Rattle.std.proofs.Common.{◌≢◌, sym}
-use Rattle.hsm_words.specs.declared.view.Stage.TheVariants.{Out, Running}
+use Rattle.hsm_rule.specs.declared.view.Stage.TheVariants.{Out, Running}
 use Rattle.durable_tests.proofs.sites.set_other.Goals as goal
 
 pub try_enter-seat-requires-clause-acts : goal.try_enter-seat-requires-clause-acts

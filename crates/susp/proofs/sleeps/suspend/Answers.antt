@@ -14,7 +14,7 @@ pub returns-in-Ok-suspend-clause-sleeps : goal.returns-in-Ok-suspend-clause-slee
 returns-in-Ok-suspend-clause-sleeps g c =
     let e = c.in-Ok-suspend.ensures in
     asleep_steps _ c.args.by c.args.kind c.args.address c.args.opaque c.args.ram.now c.args.store.now c.in-Ok.site (search rules) c.quiet-seat.result.1 _ _ c.in-Ok-suspend.field-0 _ (search rules) c.quiet-seat.ensures.steps
-    (record { answered = e.answered; down = e.down; untouched = e.untouched; life = e.life; stays = e.stays })
+    e.asked
 
 pub returns-in-Err-suspend-clause-others : goal.returns-in-Err-suspend-clause-others
 returns-in-Err-suspend-clause-others g c = others_then c.args.by _ _ _ c.quiet-seat.ensures.others c.unquiet.ensures.others
@@ -23,10 +23,10 @@ pub returns-in-Err-suspend-clause-sleeps : goal.returns-in-Err-suspend-clause-sl
 returns-in-Err-suspend-clause-sleeps g c =
     let e = c.in-Err-suspend.ensures in
     refused_steps _ c.args.by c.args.kind c.args.address c.args.opaque c.args.ram.now c.args.store.now c.in-Ok.site (search rules) c.quiet-seat.result.1 _ _ _ c.in-Err-suspend.field-0 _ (search rules) c.quiet-seat.ensures.steps
-    (record { answered = e.answered; down = e.down; untouched = e.untouched; life = e.life; stays = e.stays }) c.unquiet.ensures.steps
+    e.asked c.unquiet.ensures.steps
 
 pub returns-in-Err-suspend-clause-alone : goal.returns-in-Err-suspend-clause-alone
 returns-in-Err-suspend-clause-alone g c =
     let e = c.in-Err-suspend.ensures in
     refused_alone _ c.args.by c.args.kind c.args.address c.args.opaque c.args.ram.now c.args.store.now c.in-Ok.site (search rules) c.quiet-seat.result.1 _ _ _ c.in-Err-suspend.field-0 _ (search rules) c.quiet-seat.ensures.alone
-    (record { answered = e.answered; down = e.down; untouched = e.untouched; life = e.life; stays = e.stays }) c.unquiet.ensures.alone
+    e.asked c.unquiet.ensures.alone

@@ -14,7 +14,7 @@ returns-in_err-apply-clause-refused g c =
     let old = c.args.store.now in
     let mid = c.load_image.new.self in
     let e = c.in_ok-load_image.ensures in
-    let a = c.in_err-apply.ensures in
+    let a = c.in_err-apply.ensures.asked in
     let first : LeavesSince (g.D.Disk.facts old.disk) (g.D.Disk.facts mid.disk) (g.D.Disk.facts old.disk).may_leave =
     e.reads_alone.any_moment in
     rw (p.1, p.2)
@@ -29,7 +29,7 @@ returns-clause-consumed g c =
     let old = c.args.store.now in
     let mid = c.load_image.new.self in
     let e = c.in_ok-load_image.ensures in
-    let a = c.in_ok-apply.ensures in
+    let a = c.in_ok-apply.ensures.asked in
     let first : LeavesSince (g.D.Disk.facts old.disk) (g.D.Disk.facts mid.disk) (g.D.Disk.facts old.disk).may_leave =
     e.reads_alone.any_moment in (
       _,
@@ -58,7 +58,7 @@ returns-in_err-apply-clause-answers g c wakes =
     let old = c.args.store.now in
     let mid = c.load_image.new.self in
     let e = c.in_ok-load_image.ensures in
-    let a = c.in_err-apply.ensures in
+    let a = c.in_err-apply.ensures.asked in
     rw (p.1, p.2)
     (unconsumed (view_of old) (view_of c.apply.new.self) _ wakes.reaches
     (answered_on (view_of old) (view_of mid) (view_of c.apply.new.self) Consume _ e.life e.stays.board e.no_failure.1 e.no_failure.0 e.reads_alone.content e.reads_alone.any_moment

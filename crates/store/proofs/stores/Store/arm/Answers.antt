@@ -1,7 +1,8 @@
-use Rattle.std.proofs.Common.{◌≡◌, ◌≤◌, ℕ, None, map, sym, subst}
+use Rattle.std.proofs.Common.{◌≡◌, ◌≤◌, ℕ, None, map, true, sym, subst}
 use Rattle.board_model.specs.Durable.{refusal_of, after, fold}
 use Rattle.board_model.specs.Views.{change_in}
 use Rattle.disk.specs.Facts.{Content}
+use Rattle.store.specs.Taken.{are_taken}
 use Rattle.store.specs.Standing.{state_of, memory_in}
 use Rattle.store.proofs.Armed.{still_keeps, still_failed}
 use Rattle.store.proofs.stores.Store.arm.Goals as goal
@@ -22,5 +23,6 @@ invariant_of-self g c =
       few = s.few;
       failed = λ x is. still_failed s.failures_at_open a.failures b.failures same.failures (s.failed x is);
       counted = subst (λ (n : ℕ). s.failures_at_open ≤ n) (sym same.failures) s.counted;
+      legal = subst (λ (d : Content). are_taken (state_of s.shape s.opened d) (map (λ e. change_in e (memory_in s.shape s.current d)) s.journal.items) ≡ true) (sym same.content) s.legal;
       allowed = λ x is. subst (λ (d : Content). refusal_of (state_of s.shape s.current d) (change_in x.entry (memory_in s.shape x.next d)) ≡ None) (sym same.content) (s.allowed x is);
     }

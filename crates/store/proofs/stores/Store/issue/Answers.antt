@@ -43,6 +43,7 @@ invariant_of-self g c =
       room = c.push_reserved.ensures.capacity ∙ s.room;
       few = search rules;
       failed = of_no_doubt _ s.doubt none;
+      legal = rw c.push_reserved.ensures.items (did.legal_with plain s.legal c.requires.reaches.2);
       allowed = of_no_doubt _ s.doubt none;
       counted = omega (arith, s.counted, c.commit.ensures.no_fewer);
     }
@@ -60,7 +61,7 @@ returns-in-Ok-clause-answered g c =
     record {
       life = (c.requires.reaches, place, life_is _ _ _ _ _ _ _ _ did.found journal (none_maps Doubt _ _ s.doubt c.requires.up) (c.ends_life-ends.ensures _));
       leaves = goes_to _ _ _ _ _ _ did.any_moment (did.done (c.in-Ok.ensures.done s.shape s.current did.up did.range));
-      written = wrote a b s.side (did.up a.content (g.met.D.Disk.may_keep _)).selects.gate c.in-Ok.ensures.written;
+      written = wrote a b s.side s.kept.known (did.up a.content (g.met.D.Disk.may_keep _)).selects.gate c.in-Ok.ensures.written;
       cause = c.in-Ok.ensures.cause.ok;
       counts = c.in-Ok.ensures.no_failure;
     }
@@ -75,6 +76,9 @@ invariant_of-self-in-Err-Unchanged-clause-kept g c =
 pub invariant_of-self-in-Err-Unchanged-clause-folded : goal.invariant_of-self-in-Err-Unchanged-clause-folded
 invariant_of-self-in-Err-Unchanged-clause-folded g c = (issued g (goal.at.invariant_of-self-in-Err-Unchanged-clause-folded g c).After-commit).folded
 
+pub invariant_of-self-in-Err-Unchanged-clause-legal : goal.invariant_of-self-in-Err-Unchanged-clause-legal
+invariant_of-self-in-Err-Unchanged-clause-legal g c = (issued g (goal.at.invariant_of-self-in-Err-Unchanged-clause-legal g c).After-commit).legal c.args.self.now.legal
+
 pub invariant_of-self-in-Err-InDoubt-clause-kept : goal.invariant_of-self-in-Err-InDoubt-clause-kept
 invariant_of-self-in-Err-InDoubt-clause-kept g c =
     let did = issued g (goal.at.invariant_of-self-in-Err-InDoubt-clause-kept g c).After-commit in
@@ -83,6 +87,9 @@ invariant_of-self-in-Err-InDoubt-clause-kept g c =
 
 pub invariant_of-self-in-Err-InDoubt-clause-folded : goal.invariant_of-self-in-Err-InDoubt-clause-folded
 invariant_of-self-in-Err-InDoubt-clause-folded g c = (issued g (goal.at.invariant_of-self-in-Err-InDoubt-clause-folded g c).After-commit).folded
+
+pub invariant_of-self-in-Err-InDoubt-clause-legal : goal.invariant_of-self-in-Err-InDoubt-clause-legal
+invariant_of-self-in-Err-InDoubt-clause-legal g c = (issued g (goal.at.invariant_of-self-in-Err-InDoubt-clause-legal g c).After-commit).legal c.args.self.now.legal
 
 pub invariant_of-self-in-Err-InDoubt-clause-doubted : goal.invariant_of-self-in-Err-InDoubt-clause-doubted
 invariant_of-self-in-Err-InDoubt-clause-doubted g c = of_one_doubt _ _ (c.requires.follows.state (g.D.Disk.facts c.commit.new.disk).content)

@@ -1,9 +1,10 @@
-use Rattle.std.proofs.Common.{◌≡◌, ◌∙◌, ◌≤◌, Some, None, length, map, sym, subst, arith, rules}
+use Rattle.std.proofs.Common.{◌≡◌, ◌∙◌, ◌≤◌, Some, None, length, map, true, sym, subst, arith, rules}
 use Rattle.std.proofs.lemmas.Result.{err_from_is_err_and}
 use Rattle.board_model.specs.Durable.{refusal_of, after, fold}
 use Rattle.board_model.specs.Shapes.{ram_bytes_of}
 use Rattle.disk.specs.Facts.{Content}
 use Rattle.board_model.specs.Views.{change_in}
+use Rattle.store.specs.Taken.{are_taken}
 use Rattle.store.specs.Standing.{state_of, memory_in, saved_memory}
 use Rattle.store.specs.Views.{now_state}
 use Rattle.store.proofs.Loading.{read_alone, none_read, stays_keeps, kept_range, kept_counts, image_now, load_refused}
@@ -37,6 +38,7 @@ invariant_of-self g c =
       few = s.few;
       failed = λ x is. (let was = s.failed x is in omega (arith, was, more));
       counted = omega (arith, s.counted, more);
+      legal = subst (λ (d : Content). are_taken (state_of s.shape s.opened d) (map (λ e. change_in e (memory_in s.shape s.current d)) s.journal.items) ≡ true) (sym same) s.legal;
       allowed = λ x is. subst (λ (d : Content). refusal_of (state_of s.shape s.current d) (change_in x.entry (memory_in s.shape x.next d)) ≡ None) (sym same) (s.allowed x is);
     }
 

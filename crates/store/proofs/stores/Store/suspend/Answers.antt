@@ -13,35 +13,56 @@ use Rattle.store.proofs.Found.{none_in_doubt}
 use Rattle.store.proofs.States.{up_leaves}
 use Rattle.store.proofs.stores.Store.suspend.Goals as goal
 
-pub returns-in_err-may_suspend-clause-answered : goal.returns-in_err-may_suspend-clause-answered
-returns-in_err-may_suspend-clause-answered g c none =
+pub returns-in_err-durable-clause-asked : goal.returns-in_err-durable-clause-asked
+returns-in_err-durable-clause-asked g c =
     let p = err_from_is_err_and c.from_residual.result c.from_residual.ensures.1 in
     let s = c.args.self.now in
-    let e = c.in_err-may_suspend.ensures in
-    rw (p.1, p.2)
-    (refused_up (Suspended (FitsBoard s.shape c.args.ram.now c.args.hart c.args.address)) (view_of s) s.side s.current _ _ (g.met.D.Disk.only_now _) (s.kept.up (none_in_doubt _ s.doubt none)) s.folded
-    (record { reseen = record { heads = refl; now = refl }; told = e.refused c.args.opaque none })
-    (λ is. c.may_suspend.ensures.not_device (c.in_err-may_suspend.was ∙ ap Err is)) (e.up none))
+    let e = c.in_err-durable.ensures in
+    record {
+      answered = λ none.
+          rw (p.1, p.2)
+          (refused_up (Suspended (FitsBoard s.shape c.args.ram.now c.args.hart c.args.address)) (view_of s) s.side s.current _ _ (g.met.D.Disk.only_now _) (s.kept.up (none_in_doubt _ s.doubt none)) s.folded
+          (record { reseen = record { heads = refl; now = refl }; told = e.refused none })
+          (λ is. c.may_suspend.ensures.not_device (c.in_err-durable.was ∙ ap Err is)) (e.up none));
+      down = search rules;
+      untouched = search rules;
+      life = search rules;
+      stays = search rules;
+    }
 
-pub returns-in_err-area-clause-answered : goal.returns-in_err-area-clause-answered
-returns-in_err-area-clause-answered g c none =
+pub returns-in_err-area-clause-asked : goal.returns-in_err-area-clause-asked
+returns-in_err-area-clause-asked g c =
     let p = err_from_is_err_and c.from_residual-in_err-area.result c.from_residual-in_err-area.ensures.1 in
     let s = c.args.self.now in
     let m = c.write_free.new.self in
     let b = g.D.Disk.facts m.disk in
     let did = c.write_free.ensures in
     let same = did.same in
-    let ok = c.in_ok-may_suspend.ensures.ok in
+    let ok = c.in_ok-durable.ensures.ok in
     let now : now_state s ≡ state_of m.shape m.current b.content = sym (now_still (life_of s) (life_of m) (found_state m) did.life did.reseen) ∙ m.folded in
     let only : LeavesOnly b s.shape (now_state s) = subst (λ (z : Size). LeavesOnly b z (now_state s)) same.3 (subst (LeavesOnly b m.shape) (sym now) (up_leaves b m.shape m.side m.current (m.kept.up (same.0 ∙ ok.0)))) in
-    rw (p.1, p.2)
-    (unwritten (FitsBoard s.shape c.args.ram.now c.args.hart c.args.address) (view_of s) (view_of m) (Suspend c.args.hart c.args.address c.args.opaque c.args.ram.now) _ (search rules) did.life did.reseen
-    (search rules) (search rules) (search rules) only did.any_moment c.in_err-area.ensures.refused)
+    record {
+      answered = λ none.
+          rw (p.1, p.2)
+          (unwritten (FitsBoard s.shape c.args.ram.now c.args.hart c.args.address) (view_of s) (view_of m) (Suspend c.args.hart c.args.address c.args.opaque c.args.ram.now) _ (search rules) did.life did.reseen
+          (search rules) (search rules) (search rules) only did.any_moment c.in_err-area.ensures.refused);
+      down = search rules;
+      untouched = search rules;
+      life = search rules;
+      stays = search rules;
+    }
 
-pub returns-clause-answered : goal.returns-clause-answered
-returns-clause-answered g c none =
+pub returns-clause-asked : goal.returns-clause-asked
+returns-clause-asked g c =
     let s = c.args.self.now in
     let m = c.write_free.new.self in
     let did = c.write_free.ensures in
-    then_issued (FitsBoard s.shape c.args.ram.now c.args.hart c.args.address) (view_of s) (view_of m) (view_of c.issue.new.self) (Suspend c.args.hart c.args.address c.args.opaque c.args.ram.now) _ (search rules) did.life did.reseen
-    did.same.3 c.in_ok-area.ensures.unmoved c.in_ok-area.ensures.no_failure did.selected did.any_moment (search rules)
+    record {
+      answered = λ none.
+          then_issued (FitsBoard s.shape c.args.ram.now c.args.hart c.args.address) (view_of s) (view_of m) (view_of c.issue.new.self) (Suspend c.args.hart c.args.address c.args.opaque c.args.ram.now) _ (search rules) did.life did.reseen
+          did.same.3 c.in_ok-area.ensures.unmoved c.in_ok-area.ensures.no_failure did.selected did.live did.any_moment (search rules);
+      down = search rules;
+      untouched = search rules;
+      life = search rules;
+      stays = search rules;
+    }

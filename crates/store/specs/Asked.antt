@@ -1,4 +1,4 @@
--- A store was asked for a command: all that its contract says of the answer.
+-- A store was asked for a command: what every answer to it says, of a command and of a suspension alike.
 -- Source: docs/STORE.md, "A commit" and "A life".
 use Rattle.std.specs.Prelude.{◌≡◌, ℕ, Result, Err, Some, None, IfErr, IsErrOf}
 use Rattle.board_model.specs.Durable.{Change}

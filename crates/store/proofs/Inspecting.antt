@@ -1,0 +1,91 @@
+-- Whether a sector is a record, by what the parser answers; and that a content is inspected in one way.
+use Rattle.std.proofs.Common.{◌≡◌, ◌∙◌, ◌↔◌, ⊎_elim, ℕ, ◌<◌, List, length, Bool, true, false, IsTrue, Some, Result, Ok, Err, refl, sym, ap, subst, arith}
+use Rattle.std.specs.Prelude.{IfOk, IfErr, is_ok}
+use Rattle.std.specs.Result.{MatchResult}
+use Rattle.board_model.specs.declared.refusal.Refusal.{Refusal}
+use Rattle.board_model.specs.declared.refusal.Refusal.TheVariants.{NotFormatted, BadShape, Memory}
+use Rattle.board_model.specs.Shapes.{Size}
+use Rattle.layout.specs.Records.{IsRecord}
+use Rattle.layout.specs.declared.records.Record.{Record}
+use Rattle.layout.specs.declared.records.Saved.{Saved}
+use Rattle.layout.proofs.Spellings.{one_size, superblock_has_magic}
+use Rattle.layout.proofs.OneSpelling.{one_record}
+use Rattle.disk.specs.Facts.{Content, Facts, sector, counted}
+use Rattle.store.specs.Opens.{IsBoard}
+use Rattle.store.specs.Standing.{live_sector, saved_memory}
+use Rattle.store.specs.Inspects.{HasRecord, KeepsImage, IsImageSeen, IsInspected, InspectRefused, SeenCalls, InspectCalls}
+use Rattle.store.specs.declared.inspects.ImageSeen.{ImageSeen}
+use Rattle.store.specs.declared.inspects.ImageSeen.TheVariants.{Absent, Whole, Bad}
+use Rattle.store.specs.declared.inspects.Inspection.{Inspection}
+
+pub parses : {E : Type 0} (size : Size) (bytes there : List ℕ) (result : Result Record E) (told : Bool) → bytes ≡ there → told ≡ is_ok result → IfOk result (λ r. IsRecord size r bytes)
+    → ((r : Record) → IsRecord size r bytes → result ≡ Ok r) → IsTrue told ↔ HasRecord size there
+parses size bytes there (Ok r) told same is found exact = (λ t. (r, subst (IsRecord size r) same found), λ has. is)
+parses size bytes there (Err e) told same is found exact = (
+  λ t. (let never : false ≡ true = sym is ∙ t in cc),
+  λ has. absurd (let read = exact has.0 (subst (IsRecord size has.0) (sym same) has.1) in cc),
+)
+
+-- ---- the calls of an inspection, after that of sector 0
+four : (n : ℕ) → counted (counted n 1) 3 ≡ counted n 4
+four n = omega arith
+
+sized : (y z : Size) (c : Content) (seen : ImageSeen) (old new : ℕ) → IsBoard y c → IsBoard z c → SeenCalls y (Ok seen) old new → SeenCalls z (Ok seen) old new
+sized y z c seen old new first second calls = subst (λ (s : Size). SeenCalls s (Ok seen) old new) (one_size y z (sector c 0) first.0 second.0) calls
+
+pub inspect_calls : (a b : Facts) (z : Size) (old mid new : ℕ) (result : Result Inspection Refusal) → IsBoard z a.content → mid ≡ counted old 1 → 0 < length a.content
+    → IfErr result (λ e. InspectRefused a e b)
+    → MatchResult result (λ i. SeenCalls z (Ok i.image) (counted mid 3) new) (λ e. e ≡ Memory → new ≡ counted mid 3)
+    → InspectCalls a.content result old new
+inspect_calls a b z old mid new result board first some refused calls =
+    by result refused (subst (λ (n : ℕ). MatchResult result (λ i. SeenCalls z (Ok i.image) n new) (λ e. e ≡ Memory → new ≡ n)) (ap (λ (n : ℕ). counted n 3) first ∙ four old) calls)
+  where
+    by : (r : Result Inspection Refusal) → IfErr r (λ e. InspectRefused a e b) → MatchResult r (λ i. SeenCalls z (Ok i.image) (counted old 4) new) (λ e. e ≡ Memory → new ≡ counted old 4) → InspectCalls a.content r old new
+    by (Ok i) never calls = λ size also. sized z size a.content i.image (counted old 4) new board also calls
+    by (Err NotFormatted) never calls = absurd (never.1 (superblock_has_magic z (sector a.content 0) board.0))
+    by (Err BadShape) never calls = absurd (⊎_elim (λ none. omega (arith, none, some)) (λ bad. bad.1 z board) never)
+    by (Err Memory) never calls = calls refl
+    by (Err e) never calls = tt
+
+-- ---- one inspection of a content
+same_told : (a b : Bool) (P : Type 0) → IsTrue a ↔ P → IsTrue b ↔ P → a ≡ b
+same_told true b P first second = sym (second.1 (first.0 refl))
+same_told false true P first second = first.1 (second.0 refl)
+same_told false false P first second = refl
+
+-- the live record has one image
+one_saved : (size : Size) (c : Content) (x y : Saved) → KeepsImage size c x → KeepsImage size c y → x ≡ y
+one_saved size c x y first second =
+    let same = one_record size first.0 second.0 (live_sector c) first.1 second.1 in
+    some_is x y (sym first.2 ∙ ap (λ (r : Record). r.image) same ∙ second.2)
+  where
+    some_is : (a b : Saved) → Some a ≡ Some b → a ≡ b
+    some_is a b is = cc
+
+apart : (size : Size) (c : Content) → IsImageSeen size c Whole → IsImageSeen size c Bad → ⊥
+apart size c whole bad =
+    let same = one_saved size c whole.0 bad.0 whole.1 bad.1 in
+    whole.2 (ap (λ (saved : Saved). saved_memory size saved c) same ∙ bad.2)
+
+same_seen : (size : Size) (c : Content) (i j : ImageSeen) → IsImageSeen size c i → IsImageSeen size c j → i ≡ j
+same_seen size c Absent Absent first second = refl
+same_seen size c Absent Whole first second = absurd (first second.0 second.1)
+same_seen size c Absent Bad first second = absurd (first second.0 second.1)
+same_seen size c Whole Absent first second = absurd (second first.0 first.1)
+same_seen size c Whole Whole first second = refl
+same_seen size c Whole Bad first second = absurd (apart size c first second)
+same_seen size c Bad Absent first second = absurd (second first.0 first.1)
+same_seen size c Bad Whole first second = absurd (apart size c second first)
+same_seen size c Bad Bad first second = refl
+
+pub one_inspection : (y z : Size) (c : Content) (i j : Inspection) → IsBoard y c → IsInspected y c i → IsBoard z c → IsInspected z c j → i ≡ j
+one_inspection y z c i j board first other second =
+    let size : z ≡ y = one_size z y (sector c 0) other.0 board.0 in
+    let here : IsInspected y c j = subst (λ (s : Size). IsInspected s c j) size second in
+    ap (λ (n : ℕ). made n i.live i.other i.image) (first.gate ∙ sym here.gate)
+    ∙ ap (λ (b : Bool). made j.gate b i.other i.image) (same_told i.live j.live _ first.live here.live)
+    ∙ ap (λ (b : Bool). made j.gate j.live b i.image) (same_told i.other j.other _ first.other here.other)
+    ∙ ap (λ (s : ImageSeen). made j.gate j.live j.other s) (same_seen y c i.image j.image first.image here.image)
+  where
+    made : ℕ → Bool → Bool → ImageSeen → Inspection
+    made gate live other image = record { gate = gate; live = live; other = other; image = image }
