@@ -59,7 +59,7 @@ impl<D: Disk + Drop> Board<D> {
     ghost use Rattle.store.specs.Leaves.{IsIdle, SameLength, Leaves, LeavesOnly, LeavesEither};
     ghost use Rattle.store.specs.Opens.{ReadsAs, OpenRefused, CausedRefusal};
     ghost use Rattle.store.specs.Lives.{Applied};
-    ghost use Rattle.store.specs.Answers.{Answered, StaysOpen};
+    ghost use Rattle.store.specs.Asked.{Asked};
     ghost use Rattle.store.specs.Views.{device_of, disk_of, fault_state_of, arms_of, size_of_store, life_of, found_state, now_state, doubt_of, failures_at_open, view_of, Stands, Doubts};
     ghost use Rattle.machine.specs.Machine.{hart_at};
     ghost use Rattle.machine.specs.Durables.{IsHartStarted};
@@ -316,15 +316,8 @@ impl<D: Disk + Drop> Board<D> {
     pub fn console(&mut self, command: Command) -> Result<Receipt, Refusal>
         requires { IsConsoleCommand command }
         ensures machine { machine_of self.new ≡ machine_of self.old }
-        ensures answered { doubt_of (store_of self.old) ≡ None
-            → Answered Applied (view_of (store_of self.old)) (change_of command) result (view_of (store_of self.new)) }
-        ensures down { (c : Change) → doubt_of (store_of self.old) ≡ Some c
-            → (result ≡ Err Refusal.Down) × (store_of self.new ≡ store_of self.old) }
-        ensures untouched { IfErr result (λ e. (e ≡ Refusal.Device → ⊥) → (e ≡ Refusal.Down → ⊥)
-            → store_of self.new ≡ store_of self.old) }
-        ensures life { IsErrOf result Refusal.Down
-            → Failed (failures_at_open (store_of self.new)) (disk_of (store_of self.new)).failures }
-        ensures stays { StaysOpen (view_of (store_of self.old)) (view_of (store_of self.new)) }
+        ensures asked { Asked Applied (store_of self.old) (change_of command) result (store_of self.new) }
+        ensures not_memory { IsErrOf result Refusal.Memory → ⊥ }
     {
         self.store.apply(command)
     }

@@ -108,7 +108,7 @@ fn begin<D: Disk + Drop>(
             store.apply(Command::Discard)?;
             boot_slot(machine, store, payloads);
         }
-        BootMode::Resume => machine.wake(store)?,
+        BootMode::Resume => machine.resume(store)?,
     }
     Ok(())
 }

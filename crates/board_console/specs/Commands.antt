@@ -1,7 +1,7 @@
 -- What the console makes of a line, with the store at hand. Source: docs/CONSOLE.md, "The console";
 -- docs/DURABLE.md.
 use Rattle.std.specs.Prelude.{◌≡◌, ℕ, Result, Ok, Err}
-use Rattle.board_model.specs.Durable.{Slot, Discard}
+use Rattle.board_model.specs.Durable.{DurableState, Slot, Discard}
 use Rattle.board_model.specs.Views.{durable_of}
 use Rattle.board_model.specs.declared.durable.Durable.{Durable}
 use Rattle.board_model.specs.declared.refusal.Refusal.{Refusal}
@@ -10,7 +10,8 @@ use Rattle.disk.specs.declared.device.Lane.{Ghosts as Lanes}
 use Rattle.store.specs.Lives.{Applied}
 use Rattle.store.specs.Views.{now_state}
 use Rattle.store.specs.declared.stores.Store.{Store}
-use Rattle.susp.specs.Asked.{Asked}
+use Rattle.store.specs.Asked.{Asked}
+use Rattle.shared_store.specs.Legal.{MayAnswer, MayShow}
 use Rattle.board_console.specs.declared.words.Said.{Said}
 use Rattle.board_console.specs.declared.words.Said.TheVariants as saids
 use Rattle.board_console.specs.declared.answer.Answer.{Answer}
@@ -25,13 +26,16 @@ abbrev pub discard_answer : Result ℕ Refusal → Answer
 discard_answer (Ok n) = answers.DiscardOk n
 discard_answer (Err e) = answers.DiscardRefused e
 
--- what a line may be answered, whatever the store is
-abbrev pub IsAnswerTo : Said → Answer → Type 0
-IsAnswerTo (saids.Slot n) answer = (r : Result ℕ Refusal) × (answer ≡ slot_answer r)
-IsAnswerTo saids.Discard answer = (r : Result ℕ Refusal) × (answer ≡ discard_answer r)
-IsAnswerTo saids.State answer = (d : Durable) × (answer ≡ answers.State d)
-IsAnswerTo saids.Quit answer = answer ≡ answers.Quit
-IsAnswerTo saids.Other answer = answer ≡ answers.Unknown
+-- what a line may be answered in a life that began in that state: as some commands explain it that the table
+-- takes, one after another from there
+abbrev pub IsAnswerTo : DurableState → Said → Answer → Type 0
+IsAnswerTo found (saids.Slot n) answer =
+    (r : Result ℕ Refusal) × MayAnswer found (Slot n) r × (answer ≡ slot_answer r)
+IsAnswerTo found saids.Discard answer =
+    (r : Result ℕ Refusal) × MayAnswer found Discard r × (answer ≡ discard_answer r)
+IsAnswerTo found saids.State answer = (d : Durable) × MayShow found d × (answer ≡ answers.State d)
+IsAnswerTo found saids.Quit answer = answer ≡ answers.Quit
+IsAnswerTo found saids.Other answer = answer ≡ answers.Unknown
 
 module _ {D L : Type 0} {g : Ghosts D L} {l : Lanes L} where
   -- A line with a command asks the store once, and no other line asks it; `state` is the state now, without a

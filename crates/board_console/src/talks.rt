@@ -13,9 +13,9 @@ use crate::words::{Said, line_said};
 use arrayvec::ArrayVec;
 use board_model::Refusal;
 use disk::Disk;
+use shared_store::{Journal, SharedStore};
 use std::io::{Read, Write};
 use std::sync::{Mutex, Wait};
-use store::Store;
 
 /// Why the console left.
 #[derive(Clone, Copy, Debug, PartialEq, Eq, Drop)]
@@ -48,13 +48,13 @@ fn write_answer<W: Write>(out: &mut W, answer: Answer) -> Result<(), Refusal>
 
 /// Takes one line after another from the input, obeys each in one hold of the store, and writes its answer
 /// with no lock held. It leaves after `quit`, at the end of input, and where an answer could not be written.
-pub fn console<R: Wait, D: Disk + Drop, I: Read, W: Write>(
+pub fn console<R: Wait, D: Disk + Drop, J: Journal, I: Read, W: Write>(
     rt: &R,
-    store: &Mutex<Store<D>>,
+    store: &Mutex<SharedStore<D, J>>,
     input: &mut I,
     out: &mut W,
 ) -> Left
-    ensures { Talks result (dialogue_ends (I.remaining input.old) (W.contents out.old))
+    ensures { Talks J.found result (dialogue_ends (I.remaining input.old) (W.contents out.old))
         (dialogue_ends (I.remaining input.new) (W.contents out.new)) }
 {
     let mut line = ArrayVec::new();

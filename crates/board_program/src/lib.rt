@@ -29,24 +29,16 @@ fn run<R: Threads + Wait + Sync>(
 ) -> Result<(), Fault> {
     let payloads = payloads_of(rt, options)?;
     let disk = disk_of(rt, options)?;
-    let Ok(mut input) = BufReader::new(rt.alloc(), rt.reader()) else {
+    let Ok(input) = BufReader::new(rt.alloc(), rt.reader()) else {
         return first_fault(
             Err(Fault::Refused(Refusal::Memory)),
             write_disk(rt, &options.disk, &disk),
         );
     };
-    let mut out = io::writer(rt);
-    let (disk, ran) = session(
-        threads,
-        rt.alloc(),
-        options,
-        disk,
-        &payloads,
-        &mut input,
-        &mut out,
-    );
-    let ran = ran.map_err(Fault::Refused);
-    first_fault(ran, write_disk(rt, &options.disk, &disk))
+    let out = io::writer(rt);
+    let ended = session(threads, rt.alloc(), options, disk, &payloads, input, out);
+    let ran = ended.ran.map_err(Fault::Refused);
+    first_fault(ran, write_disk(rt, &options.disk, &ended.disk))
 }
 
 /// Reads the command line, and shows what it asks to be shown, or its fault.

@@ -1,7 +1,10 @@
 -- What is made of a disk on the way to a board that is on, and what a board that is not on, or a life that has
 -- ended, leaves of it.
-use Rattle.std.proofs.Common.{◌≡◌, ◌⊎◌, inl, inr, ℕ, Bool, true, false, List, Option, Some, None, refl, sym, subst, subst₂}
-use Rattle.board_model.specs.Durable.{DurableState, Change, after, formatted}
+use Rattle.std.proofs.Common.{◌≡◌, ◌⊎◌, ◌≤◌, ◌&&◌, inl, inr, ℕ, Bool, true, false, List, ◌++◌, Option, Some, None, length, drop, arith, ap, refl, sym, ◌∙◌, subst, subst₂}
+use Rattle.std.proofs.lemmas.List.{take-append-drop}
+use Rattle.std.specs.Option.{option_to_list}
+use Rattle.std.specs.Prelude.{is_none}
+use Rattle.board_model.specs.Durable.{DurableState, Change, after, fold, formatted}
 use Rattle.board_model.specs.Shapes.{Size}
 use Rattle.board_model.specs.declared.boot_mode.BootMode.{BootMode}
 use Rattle.board_model.specs.declared.durable.Durable.{Durable}
@@ -17,7 +20,13 @@ use Rattle.board.specs.Begins.{RefusesBoot}
 use Rattle.board.specs.PowersOn.{IsOn, IsUnpowered}
 use Rattle.machine.specs.Machine.{Machine}
 use Rattle.board.specs.Unbooted.{doubt_after, LeavesLife}
-use Rattle.board_session.specs.Sessions.{Allows, TakesFormat, RunsOver, RefusesNew, RefusesDisk, IsOfLife}
+use Rattle.board_model.specs.declared.boot_mode.BootMode.TheVariants as modes
+use Rattle.store.specs.Lives.{Life}
+use Rattle.store.specs.Taken.{are_taken}
+use Rattle.shared_store.specs.Legal.{BeginsWith}
+use Rattle.board.specs.Boots.{boot_refusal, life_after}
+use Rattle.board.specs.Moments.{issued_by}
+use Rattle.board_session.specs.Sessions.{Begins, Allows, TakesFormat, RunsOver, RefusesNew, RefusesDisk, IsOfLife}
 
 -- ---- of a format
 -- what the law of kept disks says where a crash leaves no more than before
@@ -46,8 +55,8 @@ pub kept_reads : (disk : Facts) (size : Size) → IsKept disk size → disk.may_
 unfolding IsKept
 kept_reads disk size kept may_keep = kept disk.content may_keep
 
-pub of_life_kept : (disk : Facts) → IsOfLife disk → (z : Size) × IsKept disk z
-of_life_kept disk is = (is.size, life_kept is.doubt disk is.size is.now is.left)
+pub of_life_kept : (size : Size) (found : DurableState) (issued : List Change) (disk : Facts) → IsOfLife size found issued disk → (z : Size) × IsKept disk z
+of_life_kept size found issued disk is = (size, life_kept is.doubt disk size (fold found is.journal) is.left)
 
 -- ---- of a board that is not on
 module _ (mid left : Facts) (goes_on : GoesOn mid left) (mode : BootMode) (payloads : List (List ℕ)) where
@@ -87,3 +96,34 @@ runs_over true shape mode payloads old mid store machine takes only same on =
     (takes refl, subst₂ (λ (z : Size) (s : DurableState). Allows z s mode payloads) is.0 is.1 (on.allowed, on.fits))
 runs_over false shape mode payloads old mid store machine takes only same on =
     (store.size, store.life.found, subst (λ (c : Content). StandsFor c store.size store.life.found) (same refl) on.reads, (on.allowed, on.fits))
+
+-- the session began over the disk that it was given
+pub begins : (new : Bool) (shape : Size) (mode : BootMode) (payloads : List (List ℕ)) (old mid : Facts) (store : StoreView) (machine : Machine) → (new ≡ true → LeavesOnly mid shape formatted)
+    → (new ≡ false → mid.content ≡ old.content) → IsOn mode payloads mid store machine → Begins new shape old.content store.size store.life.found
+begins true shape mode payloads old mid store machine only same on =
+    let is = (only refl).only store.size store.life.found on.found in (is.0, is.1)
+begins false shape mode payloads old mid store machine only same on = subst (λ (c : Content). StandsFor c store.size store.life.found) (same refl) on.reads
+
+-- the journal that a boot begins with
+pub boot_taken : (mode : BootMode) (s : DurableState) → boot_refusal s mode ≡ None → are_taken s (option_to_list (issued_by mode)) ≡ true
+boot_taken modes.Fresh s free = refl
+boot_taken modes.Keep s free = refl
+boot_taken modes.Discard s free = ap (λ (o : Option ℕ). is_none o && true) free
+boot_taken modes.Resume s free = ap (λ (o : Option ℕ). is_none o && true) free
+
+-- a life that the boot began
+pub life_taken : (mode : BootMode) (life : Life) → life ≡ life_after mode life.found → boot_refusal life.found mode ≡ None → are_taken life.found life.journal ≡ true
+life_taken mode life is free = subst (λ (cs : List Change). are_taken life.found cs ≡ true) (sym (ap (λ (x : Life). x.journal) is)) (boot_taken mode life.found free)
+
+pub life_issued : (mode : BootMode) (life : Life) → life ≡ life_after mode life.found → life.journal ≡ option_to_list (issued_by mode)
+life_issued mode life is = ap (λ (x : Life). x.journal) is
+
+-- what the boot's command makes a journal begin with
+pub begins_so : (issued journal : List Change) → BeginsWith issued journal → (later : List Change) × (journal ≡ issued ++ later)
+begins_so issued journal begins = (drop (length issued) journal, sym (take-append-drop (length issued) journal) ∙ ap (λ (cs : List Change). cs ++ drop (length issued) journal) begins)
+
+pub few_issued : (mode : BootMode) → length (option_to_list (issued_by mode)) ≤ 1
+few_issued modes.Fresh = omega arith
+few_issued modes.Keep = omega arith
+few_issued modes.Discard = omega arith
+few_issued modes.Resume = omega arith

@@ -1,12 +1,13 @@
 -- What a session makes of its disk: over which disks its board runs, why it is refused before any thread, and
 -- what the disk that it gives back stands for. Source: docs/CONSOLE.md, "Statuses and faults".
-use Rattle.std.specs.Prelude.{◌≡◌, ◌⊎◌, ◌≤◌, ℕ, Bool, true, false, List, Option, Some, None, length}
-use Rattle.board_model.specs.Durable.{DurableState, Change, formatted, refusal_of}
+use Rattle.std.specs.Prelude.{◌≡◌, ◌⊎◌, ◌≤◌, ℕ, Bool, true, false, List, ◌++◌, Option, Some, None, Result, Ok, Err, length}
+use Rattle.std.specs.Option.{option_to_list}
+use Rattle.board_model.specs.Durable.{DurableState, Change, formatted, fold, refusal_of}
 use Rattle.board_model.specs.Shapes.{Size, sectors_of}
 use Rattle.board_model.specs.declared.boot_mode.BootMode.{BootMode}
 use Rattle.board_model.specs.declared.durable.Durable.{Durable}
 use Rattle.board_model.specs.declared.refusal.Refusal.{Refusal}
-use Rattle.board_model.specs.declared.refusal.Refusal.TheVariants.{Device, Memory}
+use Rattle.board_model.specs.declared.refusal.Refusal.TheVariants.{Device, Memory, Output}
 use Rattle.disk.specs.Facts.{Content, Facts}
 use Rattle.simdisk.specs.declared.SimDisk.{SimDisk}
 use Rattle.simdisk.specs.contracts.device.SimDiskDisk.TheImpl as sim_disk
@@ -14,10 +15,15 @@ use Rattle.store.specs.Formats.{WritesHead}
 use Rattle.store.specs.Leaves.{IsMarked, LeavesOnly}
 use Rattle.store.specs.Opens.{FormatRefused}
 use Rattle.store.specs.Standing.{StandsFor}
+use Rattle.store.specs.Taken.{are_taken}
 use Rattle.board.specs.Begins.{RefusesBoot}
 use Rattle.board.specs.Boots.{boot_refusal, PayloadsFit}
+use Rattle.board.specs.Moments.{issued_by}
 use Rattle.board.specs.PowersOn.{IsUnpowered}
 use Rattle.board.specs.Unbooted.{doubt_after, LeavesLife}
+use Rattle.board_console.specs.Dialogues.{DialogueEnds, Talks}
+use Rattle.board_console.specs.declared.talks.Left.{Left}
+use Rattle.board_console.specs.declared.talks.Left.TheVariants as lefts
 
 -- the facts of a disk in memory
 abbrev pub facts : SimDisk → Facts
@@ -53,13 +59,51 @@ RefusesDisk true shape mode payloads old e new =
     ⊎ (TakesFormat shape old.content × RefusesNew shape mode payloads e new)
 RefusesDisk false shape mode payloads old e new = (found : Option Durable) × IsUnpowered mode payloads found old e new
 
--- ---- the disk that is given back
--- The disk of a life that has ended. A crash leaves the state now, or with a command in doubt, which the table
--- of commands does not refuse, that state or the one after it; and a read gives one of them.
-pub record IsOfLife (disk : Facts) : Type 0 where
-  pub size : Size
-  pub now : DurableState
+-- the same, of a session that ended so
+abbrev pub RefusesSession : Bool → Size → BootMode → List (List ℕ) → Facts → Result (Unit {0}) Refusal → Facts → Type 0
+RefusesSession new shape mode payloads old (Ok done) disk = ⊥
+RefusesSession new shape mode payloads old (Err e) disk = RefusesDisk new shape mode payloads old e disk
+
+-- ---- the life of the session
+-- What its open found, on a board of that size: what a format of the shape makes where a new disk is asked for;
+-- else what the content stood for.
+abbrev pub Begins : Bool → Size → Content → Size → DurableState → Type 0
+Begins true shape c size s = (size ≡ shape) × (s ≡ formatted)
+Begins false shape c size s = StandsFor c size s
+
+-- The disk of a life that began in that state and has ended. Its journal begins with what the boot issued, and is
+-- of commands that the table takes, one after another from there. A crash leaves the state that they make of it, or
+-- with a command in doubt, which the table does not refuse, that state or the one after it; and a read gives one of
+-- them.
+pub record IsOfLife (size : Size) (found : DurableState) (issued : List Change) (disk : Facts) : Type 0 where
+  pub journal : List Change
+  pub begun : (later : List Change) × (journal ≡ issued ++ later)
+  pub taken : are_taken found journal ≡ true
   pub doubt : Option Change
-  pub left : LeavesLife doubt disk size now
-  pub allowed : (c : Change) → doubt ≡ Some c → refusal_of now c ≡ None
+  pub left : LeavesLife doubt disk size (fold found journal)
+  pub allowed : (c : Change) → doubt ≡ Some c → refusal_of (fold found journal) c ≡ None
   pub reads : (s : DurableState) × StandsFor disk.content size s
+
+-- what was read and answered in a life that began in that state, by why the console left: nothing where it was not
+-- begun
+abbrev pub TalksIf : DurableState → Option Left → DialogueEnds → DialogueEnds → Type 0
+TalksIf found None a b = b ≡ a
+TalksIf found (Some left) a b = Talks found left a b
+
+-- whether the session was refused: where no thread could be started, and where an answer could not be written
+abbrev pub outcome_of : Option Left → Result (Unit {0}) Refusal
+outcome_of None = Err Memory
+outcome_of (Some lefts.Quit) = Ok tt
+outcome_of (Some lefts.EndOfInput) = Ok tt
+outcome_of (Some lefts.Unwritten) = Err Output
+
+-- The board was on, over a disk that allows it. The disk given back is that of the life that it then began, and what
+-- was read and answered is of that life.
+pub record RanOver (new : Bool) (shape : Size) (mode : BootMode) (payloads : List (List ℕ)) (old disk : Facts)
+    (left : Option Left) (a b : DialogueEnds) : Type 0 where
+  pub allowed : RunsOver new shape mode payloads old.content
+  pub size : Size
+  pub found : DurableState
+  pub begins : Begins new shape old.content size found
+  pub life : IsOfLife size found (option_to_list (issued_by mode)) disk
+  pub talks : TalksIf found left a b

@@ -1,17 +1,20 @@
 //! A board from its power-on to the end of its threads.
 
-ghost use Rattle.std.specs.Prelude.{◌≡◌, ◌⊎◌, Some, true, false, OnOk, IfOk, IfErr, MatchResult};
+ghost use Rattle.std.specs.Prelude.{◌≡◌, ◌⊎◌, ◌≤◌, length, Some, None, true, false, OnOk, IfOk, IfErr, MatchResult};
+ghost use Rattle.std.specs.Option.{option_to_list};
 ghost use Rattle.board_model.specs.Durable.{formatted};
 ghost use Rattle.board_model.specs.Shapes.{Size};
-ghost use Rattle.board_model.specs.declared.refusal.Refusal.TheVariants.{Memory, Output};
 ghost use Rattle.store.specs.Formats.{WritesHead};
 ghost use Rattle.store.specs.Leaves.{IsIdle, IsKept, LeavesOnly};
 ghost use Rattle.store.specs.Opens.{FormatRefused};
-ghost use Rattle.store.specs.Views.{size_of_store, found_state};
+ghost use Rattle.store.specs.Views.{size_of_store, found_state, journal_of};
 ghost use Rattle.machine.specs.Held.{IsHeld};
 ghost use Rattle.board.specs.Begins.{IsBegun};
+ghost use Rattle.board.specs.Moments.{issued_by};
 ghost use Rattle.board.specs.Views.{store_of, machine_of};
-ghost use Rattle.board_session.specs.Sessions.{facts, TakesFormat, RunsOver, RefusesDisk, IsOfLife};
+ghost use Rattle.store.specs.Taken.{are_taken};
+ghost use Rattle.board_console.specs.Dialogues.{Talks, dialogue_ends};
+ghost use Rattle.board_session.specs.Sessions.{facts, TakesFormat, RunsOver, RefusesDisk, RefusesSession, Begins, IsOfLife, RanOver, TalksIf, outcome_of};
 
 use crate::gate::UntilQuit;
 use board::{Board, Parts, Payloads};
@@ -20,51 +23,111 @@ use board_model::{Refusal, Shape};
 use board_options::Options;
 use disk::Disk;
 use hart_threads::drive;
+use shared_store::{Journal, SharedStore};
 use simdisk::SimDisk;
 use std::alloc::Global;
 use std::io::{Read, Write};
+use std::marker::Brand;
 use std::sync::{Mutex, Wait};
 use std::thread::Threads;
-use store::{Store, format, kept_disks};
+use store::{format, kept_disks};
+
+/// What a session gives back.
+#[derive(Drop)]
+pub struct SessionEnd<I: Read + Drop, W: Write + Drop> {
+    /// The disk, as the session leaves it.
+    pub disk: SimDisk,
+    /// Why it was refused, if it was.
+    pub ran: Result<(), Refusal>,
+    /// What the console left of its input.
+    pub input: I,
+    /// What it wrote its answers to.
+    pub out: W,
+    /// Why the console left; `None` where it was not begun.
+    pub left: Option<Left>,
+}
+
+/// The input and the output of a console.
+#[derive(Drop)]
+struct Ends<I: Read + Drop, W: Write + Drop> {
+    input: I,
+    out: W,
+}
+
+/// A console that has left.
+#[derive(Drop)]
+struct Talked<I: Read + Drop, W: Write + Drop> {
+    ends: Ends<I, W>,
+    left: Left,
+}
 
 /// The console beside the harts. The gate is shut after `quit`, and where an answer could not be written; at
 /// the end of input the harts run out their turns.
-fn attend<R: Wait, I: Read, W: Write>(
+fn attend<R: Wait, J: Journal, I: Read + Drop, W: Write + Drop>(
     rt: &R,
-    store: &Mutex<Store<SimDisk>>,
+    store: &Mutex<SharedStore<SimDisk, J>>,
     gate: &UntilQuit,
-    input: &mut I,
-    out: &mut W,
-) {
-    match console(rt, store, input, out) {
-        Left::Quit => gate.shut(),
-        Left::Unwritten => gate.shut_unwritten(),
+    ends: Ends<I, W>,
+) -> Talked<I, W>
+    ensures { Talks J.found result.left (dialogue_ends (I.remaining ends.input) (W.contents ends.out))
+        (dialogue_ends (I.remaining result.ends.input) (W.contents result.ends.out)) }
+{
+    let Ends { mut input, mut out } = ends;
+    let left = console(rt, store, &mut input, &mut out);
+    match left {
+        Left::Quit | Left::Unwritten => gate.shut(),
         Left::EndOfInput => {}
+    }
+    Talked {
+        ends: Ends { input, out },
+        left,
+    }
+}
+
+/// Whether the session was refused, by why its console left: by `Output`, where an answer could not be
+/// written.
+fn outcome(left: Left) -> Result<(), Refusal>
+    ensures { result ≡ outcome_of (Some left) }
+{
+    match left {
+        Left::Quit | Left::EndOfInput => Ok(()),
+        Left::Unwritten => Err(Refusal::Output),
     }
 }
 
 /// The disk of a store whose life ends here.
-fn disk_of<D: Disk + Drop>(store: Store<D>) -> D
+fn disk_of<D: Disk + Drop, J: Journal>(store: SharedStore<D, J>) -> D
     ensures none_out { IsIdle (D.facts result) }
-    ensures left { IsOfLife (D.facts result) }
+    ensures left { IsOfLife J.size J.found J.issued (D.facts result) }
 {
-    store.into_disk()
+    store.into_store().into_disk()
 }
 
-/// Runs the harts of a board on threads and the console beside them, and gives back the disk.
-fn operate<R: Threads + Wait + Sync, I: Read, W: Write>(
+/// Runs the harts of a board on threads and the console beside them, and gives back the disk, the input and
+/// the output. Refused `Memory` where a thread could not be started, and `Output` where an answer could not be
+/// written.
+fn operate<J: Journal + Send + Sync, R: Threads + Wait + Sync, I: Read + Drop, W: Write + Drop>(
     rt: &R,
     alloc: Global,
     parts: Parts<SimDisk>,
     shape: &Shape,
     turns: u64,
-    input: &mut I,
-    out: &mut W,
-) -> (SimDisk, Result<(), Refusal>)
-    requires { IsHeld shape.now parts.harts.items parts.tables (Some parts.seats) }
-    ensures none_out { IsIdle (facts result.0) }
-    ensures left { IsOfLife (facts result.0) }
-    ensures refused { IfErr result.1 (λ e. (e ≡ Memory) ⊎ (e ≡ Output)) }
+    input: I,
+    out: W,
+) -> SessionEnd<I, W>
+    requires held { IsHeld shape.now parts.harts.items parts.tables (Some parts.seats) }
+    requires shape { shape.now ≡ J.size }
+    requires board { size_of_store parts.store ≡ J.size }
+    requires found { found_state parts.store ≡ J.found }
+    requires issued { journal_of parts.store ≡ J.issued }
+    requires taken { are_taken J.found J.issued ≡ true }
+    requires few { length J.issued ≤ 1 }
+    ensures none_out { IsIdle (facts result.disk) }
+    ensures left { IsOfLife J.size J.found J.issued (facts result.disk) }
+    ensures ran { result.ran ≡ outcome_of result.left }
+    ensures talks { TalksIf J.found result.left (dialogue_ends (I.remaining input) (W.contents out))
+        (dialogue_ends (I.remaining result.input) (W.contents result.out)) }
+    ensures unheard { result.left ≡ None → (result.input ≡ input) × (result.out ≡ out) }
 {
     let Parts {
         harts,
@@ -74,9 +137,10 @@ fn operate<R: Threads + Wait + Sync, I: Read, W: Write>(
         store,
     } = parts;
     let bus = Mutex::new(ram);
-    let store = Mutex::new(store);
+    let store: Mutex<SharedStore<SimDisk, J>> = Mutex::new(SharedStore::new(store));
     let gate = UntilQuit::new();
     let crew = crew::Threads::new(rt);
+    let (shared, shut) = (&store, &gate);
     let driven = drive(
         rt,
         alloc,
@@ -89,14 +153,33 @@ fn operate<R: Threads + Wait + Sync, I: Read, W: Write>(
         &store,
         &crew,
         turns,
-        || attend(rt, &store, &gate, input, out),
+        Ends { input, out },
+        move |ends: Ends<I, W>| -> Talked<I, W>
+            ensures { Talks J.found result.left (dialogue_ends (I.remaining ends.input) (W.contents ends.out))
+                (dialogue_ends (I.remaining result.ends.input) (W.contents result.ends.out)) }
+        { attend(rt, shared, shut, ends) },
     );
-    let ended = if driven.is_ok() && gate.is_unwritten() {
-        Err(Refusal::Output)
-    } else {
-        driven
-    };
-    (disk_of(store.into_inner()), ended)
+    let disk = disk_of(store.into_inner());
+    match driven {
+        Ok((_loops, Talked { ends, left })) => {
+            let Ends { input, out } = ends;
+            let ran = outcome(left);
+            SessionEnd {
+                disk,
+                ran,
+                input,
+                out,
+                left: Some(left),
+            }
+        }
+        Err((Ends { input, out }, refusal)) => SessionEnd {
+            disk,
+            ran: Err(refusal),
+            input,
+            out,
+            left: None,
+        },
+    }
 }
 
 /// The disk that a board is powered on with: formatted, where it is new. A refusal is that of the format, and
@@ -135,6 +218,10 @@ fn powered(
         (RunsOver options.now.new options.now.shape options.now.mode payloads.now (facts disk).content) }
     ensures begun { IfOk result (λ b. IsBegun options.now.mode (size_of_store (store_of b)) payloads.now
         (found_state (store_of b)) (machine_of b)) }
+    ensures found { IfOk result (λ b. Begins options.now.new options.now.shape (facts disk).content
+        (size_of_store (store_of b)) (found_state (store_of b))) }
+    ensures issued { IfOk result (λ b. journal_of (store_of b) ≡ option_to_list (issued_by options.now.mode)) }
+    ensures taken { IfOk result (λ b. are_taken (found_state (store_of b)) (journal_of (store_of b)) ≡ true) }
     ensures refused { IfErr result (λ e. RefusesDisk options.now.new options.now.shape options.now.mode payloads.now
         (facts disk) e.1 (facts e.0)) }
     ensures kept { IfErr result (λ e. (size : Size) → IsKept (facts disk) size → (z : Size) × IsKept (facts e.0) z) }
@@ -157,41 +244,42 @@ fn powered(
 ///
 /// A refusal is the first in this order: that of the format, of the open and of the boot (`Board::power_on`);
 /// `Memory` where a thread could not be started; `Output` where an answer could not be written, which ends
-/// the session as `quit` does. Input that fails has ended, and then the harts run out their turns. The disk
-/// is given back in each case.
-pub fn session<R: Threads + Wait + Sync, I: Read, W: Write>(
+/// the session as `quit` does. Input that fails has ended, and then the harts run out their turns. The disk,
+/// the input and the output are given back in each case.
+pub fn session<R: Threads + Wait + Sync, I: Read + Drop, W: Write + Drop>(
     rt: &R,
     alloc: Global,
     options: &Options,
     disk: SimDisk,
     payloads: &Payloads,
-    input: &mut I,
-    out: &mut W,
-) -> (SimDisk, Result<(), Refusal>)
+    input: I,
+    out: W,
+) -> SessionEnd<I, W>
     requires { IsIdle (facts disk) }
-    ensures none_out { IsIdle (facts result.0) }
-    // It ends without a refusal only over a disk that was not formatted yet and is large enough, where a new one
-    // is asked for, and else over one that stands for a state. That state allows the mode, and all payloads fit.
-    ensures runs { OnOk result.1
-        (RunsOver options.now.new options.now.shape options.now.mode payloads.now (facts disk).content) }
+    ensures none_out { IsIdle (facts result.disk) }
     // A refusal is the first of the format's, the open's and the boot's, before any line is read or answered; or
-    // the board was on, and it is that of the threads or of the output.
-    ensures refused { IfErr result.1 (λ e.
-        (RefusesDisk options.now.new options.now.shape options.now.mode payloads.now (facts disk) e (facts result.0)
-        × (input.new ≡ input.old) × (out.new ≡ out.old))
-        ⊎ (((e ≡ Memory) ⊎ (e ≡ Output))
-        × RunsOver options.now.new options.now.shape options.now.mode payloads.now (facts disk).content
-        × IsOfLife (facts result.0))) }
-    // Without a refusal the disk is that of a life which has ended: it stands for a state, and so after a crash.
-    ensures left { OnOk result.1 (IsOfLife (facts result.0)) }
+    // the board was on over the disk that was given, and the disk given back is that of its life, to which what
+    // was read and answered belongs. It is then refused by why the console left alone.
+    ensures ended { (RefusesSession options.now.new options.now.shape options.now.mode payloads.now (facts disk)
+        result.ran (facts result.disk) × (result.left ≡ None))
+        ⊎ (RanOver options.now.new options.now.shape options.now.mode payloads.now (facts disk) (facts result.disk)
+        result.left (dialogue_ends (I.remaining input) (W.contents out))
+        (dialogue_ends (I.remaining result.input) (W.contents result.out)) × (result.ran ≡ outcome_of result.left)) }
+    ensures unheard { result.left ≡ None → (result.input ≡ input) × (result.out ≡ out) }
     // Whatever it answers, a disk of which each crash leaves a state is given back as one.
-    ensures kept { (size : Size) → IsKept (facts disk) size → (z : Size) × IsKept (facts result.0) z }
+    ensures kept { (size : Size) → IsKept (facts disk) size → (z : Size) × IsKept (facts result.disk) z }
 {
     match powered(alloc, options, disk, payloads) {
-        Err((disk, refusal)) => (disk, Err(refusal)),
+        Err((disk, refusal)) => SessionEnd {
+            disk,
+            ran: Err(refusal),
+            input,
+            out,
+            left: None,
+        },
         Ok(board) => {
             let shape = board.shape();
-            operate(
+            operate::<Brand, R, I, W>(
                 rt,
                 alloc,
                 board.into_parts(),

@@ -1,4 +1,5 @@
-//! A guest in C on two harts (crates/examples/data/counters.c), from its boot to the image that it leaves.
+//! A guest in C on two harts (crates/examples/data/counters.c), from its boot to the image that it leaves, which
+//! stands until the console drops it.
 
 use crate::runs::ran;
 use board::Payloads;
@@ -42,10 +43,16 @@ const RESUMED: [&str; 7] = [
     "1000000000",
 ];
 
+/// A shutdown for a failure of the system: a0 and a6 are set to 0, a1 to 1, a7 to 0x53525354 by LUI and ADDI,
+/// then ECALL, the sixth instruction.
+const FAILS: &str = "130500009305100013080000b75852539388483573000000";
+
+const FAILED: [&str; 7] = ["sbiboard", "--disk", "D", "--mode", "keep", "--turns", "6"];
+
 const KEPT: [&str; 7] = ["sbiboard", "--disk", "D", "--mode", "keep", "--turns", "1"];
 
 #[test]
-fn a_guest_suspends_its_board_is_resumed_and_its_image_dropped(
+fn a_guest_is_suspended_and_resumed_and_its_image_outlives_a_reset(
     rt: HostRuntime,
 ) -> Result<(), Fail> {
     let alloc = rt.alloc();
@@ -59,10 +66,16 @@ fn a_guest_suspends_its_board_is_resumed_and_its_image_dropped(
     let (out, ended, disk) = ran(&rt, alloc, RESUMED.as_slice(), disk, &payloads, b"")?;
     assert!(&rt; out.is_empty());
     assert_eq!(&rt; ended, Ok(()));
+    let mut failing = Payloads::new(alloc);
+    let fails = hex::decode(alloc, FAILS).ok().ok_or("the reset")?;
+    failing.set(Slot::new(0).ok_or("the slot")?, fails);
+    let (out, ended, disk) = ran(&rt, alloc, FAILED.as_slice(), disk, &failing, b"")?;
+    assert!(&rt; out.is_empty());
+    assert_eq!(&rt; ended, Ok(()));
     let lines = b"state\ndiscard\nstate\n";
     let (out, ended, _disk) = ran(&rt, alloc, KEPT.as_slice(), disk, &payloads, lines)?;
     let told =
-        b"state slot 0 reason 0 image 1 next 2\ndiscard ok 1\nstate slot 0 reason 0 image none next 2\n";
+        b"state slot 0 reason 1 image 1 next 2\ndiscard ok 1\nstate slot 0 reason 1 image none next 2\n";
     assert_eq!(&rt; out.as_slice(), told.as_slice());
     assert_eq!(&rt; ended, Ok(()));
     Ok(())

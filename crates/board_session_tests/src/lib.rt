@@ -5,3 +5,5 @@
 mod guest;
 #[cfg(test)]
 mod runs;
+#[cfg(test)]
+mod streams;

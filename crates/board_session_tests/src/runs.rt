@@ -4,6 +4,7 @@ ghost use Rattle.std.specs.Prelude.{◌≡◌, IfOk};
 ghost use Rattle.store.specs.Leaves.{IsIdle};
 
 use board::Payloads;
+use board_console::Left;
 use board_model::{Refusal, Shape};
 use board_options::options;
 use board_session::session;
@@ -15,11 +16,18 @@ use std::sync::Wait;
 use std::test::*;
 use std::thread::Threads;
 
-const NEW: [&str; 8] = [
+pub const NEW: [&str; 8] = [
     "sbiboard", "--disk", "D", "--mode", "fresh", "--new", "--turns", "1",
 ];
 
 const OLD: [&str; 7] = ["sbiboard", "--disk", "D", "--mode", "fresh", "--turns", "1"];
+
+/// A blank disk, large enough for three harts with a page.
+pub fn disk_of(alloc: Global) -> Result<SimDisk, Fail>
+    ensures { IfOk result (λ disk. IsIdle (⟦<SimDisk as Disk>⟧.facts disk)) }
+{
+    Ok(SimDisk::blank(alloc, Shape::new(3, 1, 1)?.sectors())?)
+}
 
 /// A session over that disk: what it wrote, how it ended, and the disk.
 pub fn ran<R: Threads + Wait + Sync>(
@@ -36,10 +44,9 @@ pub fn ran<R: Threads + Wait + Sync>(
     let given = options(alloc, words)
         .ok()
         .ok_or("the command line has a fault")?;
-    let mut input = lines;
-    let mut out = Vec::new(alloc);
-    let (disk, ended) = session(rt, alloc, &given, disk, payloads, &mut input, &mut out);
-    Ok((out, ended, disk))
+    let out = Vec::new(alloc);
+    let ended = session(rt, alloc, &given, disk, payloads, lines, out);
+    Ok((ended.out, ended.ran, ended.disk))
 }
 
 #[test]
@@ -98,9 +105,10 @@ fn an_answer_that_is_not_written_ends_the_session(rt: HostRuntime) -> Result<(),
         .ok()
         .ok_or("the command line has a fault")?;
     let payloads = Payloads::new(alloc);
-    let mut input = b"slot 1\nslot 2\n".as_slice();
-    let (_disk, ended) = session(&rt, alloc, &given, disk, &payloads, &mut input, &mut Full);
-    assert_eq!(&rt; ended, Err(Refusal::Output));
-    assert_eq!(&rt; input, b"slot 2\n".as_slice());
+    let input = b"slot 1\nslot 2\n".as_slice();
+    let ended = session(&rt, alloc, &given, disk, &payloads, input, Full);
+    assert_eq!(&rt; ended.ran, Err(Refusal::Output));
+    assert_eq!(&rt; ended.left, Some(Left::Unwritten));
+    assert_eq!(&rt; ended.input, b"slot 2\n".as_slice());
     Ok(())
 }

@@ -1,6 +1,9 @@
 -- Turns one after another.
-use Rattle.std.proofs.Common.{◌≡◌, ◌⊎◌, ◌+◌, ℕ, suc, List, true, false, arith, refl, sym, ◌∙◌, subst, inl, inr}
+use Rattle.std.proofs.Common.{◌≡◌, ◌⊎◌, ◌+◌, ℕ, suc, Bool, List, Option, None, is_some, ap, true, false, arith, refl, sym, ◌∙◌, subst, inl, inr}
 use Rattle.board_model.specs.Shapes.{Size}
+use Rattle.board_model.specs.declared.durable.Entry.{Entry}
+use Rattle.sbi_abi.specs.declared.call.Call.{Call}
+use Rattle.shared_store.specs.Called.{IsToldBy}
 use Rattle.sbi_abi.specs.Calls.{call_of}
 use Rattle.sbi.specs.Helds.{stage_by_held}
 use Rattle.sbi.specs.declared.dispatches.Held.{Held}
@@ -16,7 +19,7 @@ use Rattle.machine.specs.Words.{word_by}
 use Rattle.machine.specs.declared.parts.Word.{Word}
 use Rattle.machine.specs.declared.parts.Word.TheVariants.{Own, Asleep, Reset}
 use Rattle.hart_threads.specs.Seated.{StandsAfterTurn, StandsAfter}
-use Rattle.hart_threads.specs.Threads.{Seated, HeldOnce, TurnOnce, TurnsOn, LoopOnce, loop_goes_on}
+use Rattle.hart_threads.specs.Threads.{Seated, HeldOnce, ComesOnce, TurnOnce, TurnsOn, LoopOnce, loop_goes_on}
 use Rattle.hart_threads.specs.declared.loops.Why.TheVariants as whys
 
 -- ---- nothing was done yet
@@ -60,27 +63,65 @@ not_durable did (inr (inr (inr (inr (inl e))))) f = let z : words.Suspended ≡ 
 not_durable did (inr (inr (inr (inr (inr e))))) f = let z : words.Stopped ≡ words.Durable = sym e ∙ f in let n : ⊥ = cc in n
 
 -- that asked for no durable call
-pub own_once : (size : Size) (a b : Seated) (found left : List ℕ) (did : Turned) → (did ≡ words.Durable → ⊥) → TurnOwn size a.hart found b.hart left a.known b.known did → TurnOnce size a b (Own did)
-own_once size a b found left words.Idle ne own = (found, left, words.Idle, b, own, (refl, refl))
-own_once size a b found left words.Entered ne own = (found, left, words.Entered, b, own, (refl, refl))
-own_once size a b found left words.Woke ne own = (found, left, words.Woke, b, own, (refl, refl))
-own_once size a b found left words.Next ne own = (found, left, words.Next, b, own, (refl, refl))
-own_once size a b found left words.Suspended ne own = (found, left, words.Suspended, b, own, (refl, refl))
-own_once size a b found left words.Stopped ne own = (found, left, words.Stopped, b, own, (refl, refl))
+pub own_once : (size : Size) (a b : Seated) (found left : List ℕ) (did : Turned) → (did ≡ words.Durable → ⊥) → TurnOwn size a.hart found b.hart left a.known b.known did → TurnOnce size a b (Own did) None
+own_once size a b found left words.Idle ne own = (found, left, words.Idle, b, own, (refl, refl, refl))
+own_once size a b found left words.Entered ne own = (found, left, words.Entered, b, own, (refl, refl, refl))
+own_once size a b found left words.Woke ne own = (found, left, words.Woke, b, own, (refl, refl, refl))
+own_once size a b found left words.Next ne own = (found, left, words.Next, b, own, (refl, refl, refl))
+own_once size a b found left words.Suspended ne own = (found, left, words.Suspended, b, own, (refl, refl, refl))
+own_once size a b found left words.Stopped ne own = (found, left, words.Stopped, b, own, (refl, refl, refl))
 own_once size a b found left words.Durable ne own = absurd (ne refl)
 
 -- that asked for one
-pub held_turn : (size : Size) (a mid b : Seated) (found left : List ℕ) (did : Turned) (held : Held) (word : Word) → did ≡ words.Durable → TurnOwn size a.hart found mid.hart left a.known mid.known did
-    → HeldOnce size (call_of mid.hart) mid.hart b.hart mid.known b.known held → word ≡ word_by held → TurnOnce size a b word
-held_turn size a mid b found left did held word is own once told =
-    (found, left, words.Durable, mid, subst (λ (d : Turned). TurnOwn size a.hart found mid.hart left a.known mid.known d) is own, (held, once, told))
+pub held_turn : (size : Size) (a mid b : Seated) (found left : List ℕ) (did : Turned) (held : Held) (word : Word) (told : Option (ℕ × Entry)) → did ≡ words.Durable → TurnOwn size a.hart found mid.hart left a.known mid.known did
+    → HeldOnce size (call_of mid.hart) mid.hart b.hart mid.known b.known held → IsToldBy size (call_of mid.hart) mid.hart.id held told → word ≡ word_by held → TurnOnce size a b word told
+held_turn size a mid b found left did held word told is own once has tells =
+    (found, left, words.Durable, mid, subst (λ (d : Turned). TurnOwn size a.hart found mid.hart left a.known mid.known d) is own, (held, once, has, tells))
+
+-- the receipt that a turn has, by whether the life goes on
+held_none : (size : Size) (call : Call) (by : ℕ) (held : Held) (word : Word) (told : Option (ℕ × Entry)) → IsToldBy size call by held told → word ≡ word_by held → loop_goes_on word ≡ true → told ≡ None
+held_none size call by helds.Goes word told is e on = is
+held_none size call by helds.Asleep word told is e on = let f = subst (λ (w : Word). loop_goes_on w ≡ true) e on in let n : ⊥ = cc in absurd n
+held_none size call by (helds.Reset kind) word told is e on = let f = subst (λ (w : Word). loop_goes_on w ≡ true) e on in let n : ⊥ = cc in absurd n
+
+comes_none : (size : Size) (did : Turned) (a b : Seated) (word : Word) (told : Option (ℕ × Entry)) → ComesOnce size did a b word told → loop_goes_on word ≡ true → told ≡ None
+comes_none size words.Idle a b word told p on = p.2
+comes_none size words.Entered a b word told p on = p.2
+comes_none size words.Woke a b word told p on = p.2
+comes_none size words.Next a b word told p on = p.2
+comes_none size words.Suspended a b word told p on = p.2
+comes_none size words.Stopped a b word told p on = p.2
+comes_none size words.Durable a b word told p on = held_none size (call_of a.hart) a.hart.id p.0 word told p.2 p.3 on
+
+held_some : (size : Size) (call : Call) (by : ℕ) (held : Held) (word : Word) (told : Option (ℕ × Entry)) → IsToldBy size call by held told → word ≡ word_by held → loop_goes_on word ≡ false → is_some told ≡ true
+held_some size call by helds.Goes word told is e off = let f = subst (λ (w : Word). loop_goes_on w ≡ false) e off in let n : ⊥ = cc in absurd n
+held_some size call by helds.Asleep word told is e off = ap (λ (o : Option (ℕ × Entry)). is_some o) is.3.1
+held_some size call by (helds.Reset kind) word told is e off = ap (λ (o : Option (ℕ × Entry)). is_some o) is.2.1
+
+own_some : (did : Turned) (word : Word) (told : Option (ℕ × Entry)) → word ≡ Own did → loop_goes_on word ≡ false → is_some told ≡ true
+own_some did word told e off = let f = subst (λ (w : Word). loop_goes_on w ≡ false) e off in let n : ⊥ = cc in absurd n
+
+comes_some : (size : Size) (did : Turned) (a b : Seated) (word : Word) (told : Option (ℕ × Entry)) → ComesOnce size did a b word told → loop_goes_on word ≡ false → is_some told ≡ true
+comes_some size words.Idle a b word told p off = own_some words.Idle word told p.1 off
+comes_some size words.Entered a b word told p off = own_some words.Entered word told p.1 off
+comes_some size words.Woke a b word told p off = own_some words.Woke word told p.1 off
+comes_some size words.Next a b word told p off = own_some words.Next word told p.1 off
+comes_some size words.Suspended a b word told p off = own_some words.Suspended word told p.1 off
+comes_some size words.Stopped a b word told p off = own_some words.Stopped word told p.1 off
+comes_some size words.Durable a b word told p off = held_some size (call_of a.hart) a.hart.id p.0 word told p.2 p.3 off
+
+pub turn_some : (size : Size) (a b : Seated) (word : Word) (told : Option (ℕ × Entry)) → TurnOnce size a b word told → loop_goes_on word ≡ false → is_some told ≡ true
+turn_some size a b word told p off = comes_some size p.2 p.3 b word told p.5 off
 
 -- ---- one turn more
-pub one_more : (size : Size) (n : ℕ) (a mid b : Seated) (word : Word) → TurnsOn size n a mid → TurnOnce size mid b word → loop_goes_on word ≡ true → TurnsOn size (n + 1) a b
-one_more size n a mid b word many once on =
+pub one_more : (size : Size) (answers : ℕ → Bool → Type 0) (hears : ℕ → Type 0) (n : ℕ) (a mid b : Seated) (word : Word) (told : Option (ℕ × Entry)) → TurnsOn size answers hears n a mid → TurnOnce size mid b word told → loop_goes_on word ≡ true
+    → answers n true → hears n → TurnsOn size answers hears (n + 1) a b
+one_more size answers hears n a mid b word told many once on said heard =
     let e : suc n ≡ n + 1 = omega arith in
-    subst (λ (k : ℕ). TurnsOn size k a b) e (mid, word, many, once, on)
+    let none = comes_none size once.2 once.3 b word told once.5 on in
+    subst (λ (k : ℕ). TurnsOn size answers hears k a b) e (mid, word, many, subst (λ (o : Option (ℕ × Entry)). TurnOnce size mid b word o) none once, on, said, heard)
 
 -- that ended the life
-pub ended_life : (size : Size) (turns n : ℕ) (a mid b : Seated) (word : Word) → TurnsOn size n a mid → TurnOnce size mid b word → loop_goes_on word ≡ false → LoopOnce size turns (n + 1) a b whys.Life
-ended_life size turns n a mid b word many once off = let e : n + 1 ≡ suc n = omega arith in (n, mid, word, e, many, once, off)
+pub ended_life : (size : Size) (answers : ℕ → Bool → Type 0) (hears : ℕ → Type 0) (turns n : ℕ) (a mid b : Seated) (word : Word) (told : Option (ℕ × Entry)) → TurnsOn size answers hears n a mid → TurnOnce size mid b word told → loop_goes_on word ≡ false
+    → answers n true → hears n → LoopOnce size answers hears turns (n + 1) a b whys.Life told
+ended_life size answers hears turns n a mid b word told many once off said heard = let e : n + 1 ≡ suc n = omega arith in (n, mid, word, e, many, once, off, said, heard)

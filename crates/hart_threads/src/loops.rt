@@ -1,7 +1,8 @@
 //! A hart's loop.
 
-ghost use Rattle.std.specs.Prelude.{◌≡◌, ◌≤◌};
+ghost use Rattle.std.specs.Prelude.{◌≡◌, ◌≤◌, IsTrue, is_some};
 ghost use Rattle.sbi_calls.specs.Both.{AreTablesOf, GivesBack, known};
+ghost use Rattle.hart_threads.specs.declared.loops.Why.TheVariants.{Life};
 ghost use Rattle.hart_threads.specs.Seated.{IsSeated, StandsAfterTurn, StandsAfter};
 ghost use Rattle.hart_threads.specs.Threads.{seated, loop_goes_on, TurnOnce, LoopOnce};
 
@@ -14,9 +15,9 @@ use hart::Hart;
 use machine::{Turned, Word, word_by};
 use ram::Ram;
 use sbi_calls::{Seats, Tables};
+use shared_store::{Journal, SharedStore, Told};
 use std::alloc::Global;
 use std::sync::{Mutex, Wait};
-use store::Store;
 use turns::turn_by_bus;
 
 /// Why a loop ended.
@@ -32,7 +33,7 @@ pub enum Why {
 
 /// A loop that ended.
 #[derive(Drop)]
-pub struct Ended {
+pub struct Ended<J: Journal> {
     /// The hart, as its last turn left it.
     pub hart: Hart,
     /// Its seats.
@@ -40,6 +41,9 @@ pub struct Ended {
     /// How many turns it made.
     pub made: u64,
     pub why: Why,
+    /// The receipt of the command that ended the life, where this loop ended with it.
+    pub told: Option<Told<J>>,
+    pub ghost receipt: { (why ≡ Life → IsTrue (is_some told)) },
 }
 
 /// Whether the life goes on after a turn of which that is said.
@@ -54,7 +58,7 @@ fn goes_on(word: Word) -> bool
 
 /// One turn of a hart, and the durable command that it may make: a system reset, or a system suspend with the
 /// memory of that moment.
-fn whole_turn<R: Wait, D: Disk + Drop, C: Crew>(
+fn whole_turn<R: Wait, D: Disk + Drop, J: Journal, C: Crew>(
     rt: &R,
     alloc: Global,
     hart: &mut Hart,
@@ -62,29 +66,33 @@ fn whole_turn<R: Wait, D: Disk + Drop, C: Crew>(
     tables: &Tables,
     shape: &Shape,
     bus: &Mutex<Ram>,
-    store: &Mutex<Store<D>>,
+    store: &Mutex<SharedStore<D, J>>,
     crew: &C,
-) -> (Seats, Word)
+) -> (Seats, Word, Option<Told<J>>)
     requires tables { AreTablesOf shape.now tables.now }
+    requires board { shape.now ≡ J.size }
     requires seated { IsSeated tables.now hart.old.id seats }
     ensures gives { GivesBack tables.entry.now hart.old.id seats result.0 }
     ensures stands { StandsAfterTurn result.1 hart.old.id result.0 }
     ensures id { hart.new.id ≡ hart.old.id }
-    ensures once { TurnOnce shape.now (seated hart.old (known seats)) (seated hart.new (known result.0)) result.1 }
+    ensures once { TurnOnce shape.now (seated hart.old (known seats)) (seated hart.new (known result.0)) result.1
+        result.2 }
 {
     let mut shared = SharedBus { rt, ram: bus };
     let (seats, turned) = turn_by_bus(hart, seats, tables, &mut shared, shape);
     match turned {
         Turned::Durable => {
-            let (seats, held) = make_held(rt, alloc, hart, seats, tables, shape, bus, store, crew);
-            (seats, word_by(held))
+            let (seats, held, told) = make_held(
+                rt, alloc, hart, seats, tables, shape, bus, store, crew,
+            );
+            (seats, word_by(held), told)
         }
         Turned::Idle
         | Turned::Entered
         | Turned::Woke
         | Turned::Next
         | Turned::Suspended
-        | Turned::Stopped => (seats, Word::Own(turned)),
+        | Turned::Stopped => (seats, Word::Own(turned), None),
     }
 }
 
@@ -95,7 +103,7 @@ fn whole_turn<R: Wait, D: Disk + Drop, C: Crew>(
 /// Each turn makes just its own steps on the tables and gives what those found, whatever other threads do; a
 /// step of a STARTED hart is one hold of the bus, and a durable call one of the bus and then of the store.
 /// Nothing is claimed of when a turn is made, nor that a lock is ever had.
-pub fn hart_loop<R: Wait, G: Gate, D: Disk + Drop, C: Crew>(
+pub fn hart_loop<R: Wait, G: Gate, D: Disk + Drop, J: Journal, C: Crew>(
     rt: &R,
     alloc: Global,
     gate: &G,
@@ -104,18 +112,19 @@ pub fn hart_loop<R: Wait, G: Gate, D: Disk + Drop, C: Crew>(
     tables: &Tables,
     shape: &Shape,
     bus: &Mutex<Ram>,
-    store: &Mutex<Store<D>>,
+    store: &Mutex<SharedStore<D, J>>,
     crew: &C,
     turns: u64,
-) -> Ended
+) -> Ended<J>
     requires tables { AreTablesOf shape.now tables.now }
+    requires board { shape.now ≡ J.size }
     requires seated { IsSeated tables.now hart.id seats }
     ensures gives { GivesBack tables.entry.now hart.id seats result.seats }
     ensures stands { StandsAfter result.why hart.id result.seats }
     ensures id { result.hart.id ≡ hart.id }
     ensures range { result.made ≤ turns }
-    ensures once { LoopOnce shape.now turns result.made
-        (seated hart (known seats)) (seated result.hart (known result.seats)) result.why }
+    ensures once { LoopOnce shape.now (G.answers gate.now hart.id) (G.hears gate.now hart.id) turns result.made
+        (seated hart (known seats)) (seated result.hart (known result.seats)) result.why result.told }
 {
     let mut hart = hart;
     let mut seats = seats;
@@ -127,9 +136,12 @@ pub fn hart_loop<R: Wait, G: Gate, D: Disk + Drop, C: Crew>(
                 seats,
                 made,
                 why,
+                told: None,
             };
         }
-        let (next, word) = whole_turn(rt, alloc, &mut hart, seats, tables, shape, bus, store, crew);
+        let (next, word, told) = whole_turn(
+            rt, alloc, &mut hart, seats, tables, shape, bus, store, crew,
+        );
         seats = next;
         gate.after(hart.id(), made);
         if !goes_on(word) {
@@ -139,6 +151,7 @@ pub fn hart_loop<R: Wait, G: Gate, D: Disk + Drop, C: Crew>(
                 seats,
                 made: made + 1,
                 why,
+                told,
             };
         }
     }
@@ -148,5 +161,6 @@ pub fn hart_loop<R: Wait, G: Gate, D: Disk + Drop, C: Crew>(
         seats,
         made: turns,
         why,
+        told: None,
     }
 }

@@ -1,10 +1,11 @@
 //! What a turn of a hart on its thread takes a lock for: a step, and a durable call.
 
 ghost use Rattle.std.specs.Prelude.{◌≡◌, ◌<◌, []};
-ghost use Rattle.hsm_words.specs.declared.view.Stage.TheVariants.{Running};
+ghost use Rattle.hsm_rule.specs.declared.view.Stage.TheVariants.{Running};
 ghost use Rattle.sbi_abi.specs.Calls.{call_of};
 ghost use Rattle.sbi_calls.specs.Both.{AreTablesOf, AreSeatsOfBoth, GivesBack, Acts, known};
 ghost use Rattle.sbi.specs.Helds.{stage_by_held};
+ghost use Rattle.shared_store.specs.Called.{IsToldBy};
 ghost use Rattle.hart_threads.specs.Threads.{HeldOnce};
 
 use board_model::Shape;
@@ -13,11 +14,10 @@ use disk::Disk;
 use hart::{Hart, Outcome};
 use machine::Held;
 use ram::Ram;
-use sbi::dispatch_held;
 use sbi_calls::{Seats, Tables};
+use shared_store::{Journal, SharedStore, Told};
 use std::alloc::Global;
 use std::sync::{Mutex, Wait};
-use store::Store;
 use turns::Bus;
 
 /// The bus of a board on threads. One step of a hart is one hold of it.
@@ -40,7 +40,7 @@ impl<'a, R: Wait> Bus for SharedBus<'a, R> {
 
 /// The durable call at which a hart stands, made in one hold of the memory and of the store. The bus is taken
 /// first: whoever takes both does so, and no thread that holds the store waits for the bus.
-pub(crate) fn make_held<R: Wait, D: Disk + Drop, C: Crew>(
+pub(crate) fn make_held<R: Wait, D: Disk + Drop, J: Journal, C: Crew>(
     rt: &R,
     alloc: Global,
     hart: &mut Hart,
@@ -48,19 +48,21 @@ pub(crate) fn make_held<R: Wait, D: Disk + Drop, C: Crew>(
     tables: &Tables,
     shape: &Shape,
     bus: &Mutex<Ram>,
-    store: &Mutex<Store<D>>,
+    store: &Mutex<SharedStore<D, J>>,
     crew: &C,
-) -> (Seats, Held)
+) -> (Seats, Held, Option<Told<J>>)
     requires tables { AreTablesOf shape.now tables.now }
     requires seats { AreSeatsOfBoth tables.now seats }
     requires hart { hart.old.id < shape.now.harts }
+    requires board { shape.now ≡ J.size }
     requires acts { Acts hart.old.id Running seats }
     ensures gives { GivesBack tables.entry.now hart.old.id seats result.0 }
     ensures acts { Acts hart.old.id (stage_by_held result.1) result.0 }
     ensures id { hart.new.id ≡ hart.old.id }
+    ensures told { IsToldBy shape.now (call_of hart.old) hart.old.id result.1 result.2 }
     ensures once { HeldOnce shape.now (call_of hart.old) hart.old hart.new (known seats) (known result.0) result.1 }
 {
     let ram = bus.lock(rt);
     let mut store = store.lock(rt);
-    dispatch_held(alloc, hart, seats, tables, &ram, &mut store, crew)
+    store.call(alloc, hart, seats, tables, &ram, crew)
 }

@@ -1,15 +1,19 @@
 //! Boards that are about to be run, and gates.
 
-ghost use Rattle.std.specs.Prelude.{◌≡◌, Some, IfOk};
+ghost use Rattle.std.specs.Prelude.{◌≡◌, [], Some, IfOk};
 ghost use Rattle.store.specs.Leaves.{IsIdle};
+ghost use Rattle.store.specs.Views.{found_state};
 ghost use Rattle.machine.specs.Held.{IsHeld};
+ghost use Rattle.hart_threads_tests.specs.Begun.{IsBegun};
 
 use board::{Board, Parts, Payloads};
 use board_model::{BootMode, HartId, Shape, Slot};
 use disk::Disk;
 use hart_threads::{Gate, drive};
+use shared_store::{Journal, SharedStore};
 use simdisk::SimDisk;
 use std::alloc::Global;
+use std::marker::Brand;
 use std::sync::{Mutex, Wait};
 use std::test::Fail;
 use std::thread::Threads;
@@ -20,6 +24,10 @@ use store::format;
 pub struct Open;
 
 impl Gate for Open {
+    ghost answers = { λ gate hart turn answer. Unit {0} };
+
+    ghost hears = { λ gate hart turn. Unit {0} };
+
     fn before(&self, _hart: HartId, _turn: u64) -> bool {
         true
     }
@@ -51,7 +59,8 @@ pub fn parts_of(
     shape: &Shape,
     payload: &[u8],
 ) -> Result<(Parts<SimDisk>, Shape), Fail>
-    ensures { IfOk result (λ p. IsHeld p.1 p.0.harts.items p.0.tables (Some p.0.seats)) }
+    ensures held { IfOk result (λ p. IsHeld p.1 p.0.harts.items p.0.tables (Some p.0.seats)) }
+    ensures begun { IfOk result (λ p. IsBegun p.1 p.0.store) }
 {
     let disk = formatted(alloc, shape)?;
     let payloads = booting(alloc, payload)?;
@@ -73,7 +82,25 @@ pub fn driven<R: Threads + Wait + Sync>(
     shape: &Shape,
     turns: u64,
 ) -> (bool, SimDisk)
-    requires { IsHeld shape.now parts.harts.items parts.tables (Some parts.seats) }
+    requires held { IsHeld shape.now parts.harts.items parts.tables (Some parts.seats) }
+    requires begun { IsBegun shape.now parts.store }
+    ensures { IsIdle (⟦<SimDisk as Disk>⟧.facts result.1) }
+{
+    driven_as::<Brand, R>(rt, alloc, gate, parts, shape, turns)
+}
+
+/// The same, of a journal that has a name.
+fn driven_as<J: Journal + Send + Sync, R: Threads + Wait + Sync>(
+    rt: &R,
+    alloc: Global,
+    gate: &(dyn Gate + Sync),
+    parts: Parts<SimDisk>,
+    shape: &Shape,
+    turns: u64,
+) -> (bool, SimDisk)
+    requires held { IsHeld shape.now parts.harts.items parts.tables (Some parts.seats) }
+    requires begun { IsBegun shape.now parts.store }
+    requires named { (J.size ≡ shape.now) × (J.found ≡ found_state parts.store) × (J.issued ≡ []) }
     ensures { IsIdle (⟦<SimDisk as Disk>⟧.facts result.1) }
 {
     let Parts {
@@ -84,7 +111,7 @@ pub fn driven<R: Threads + Wait + Sync>(
         store,
     } = parts;
     let bus = Mutex::new(ram);
-    let store = Mutex::new(store);
+    let store: Mutex<SharedStore<SimDisk, J>> = Mutex::new(SharedStore::new(store));
     let crew = crew::Threads::new(rt);
     let done = drive(
         rt,
@@ -98,7 +125,8 @@ pub fn driven<R: Threads + Wait + Sync>(
         &store,
         &crew,
         turns,
-        || (),
+        (),
+        |()| (),
     );
-    (done.is_ok(), store.into_inner().into_disk())
+    (done.is_ok(), store.into_inner().into_store().into_disk())
 }

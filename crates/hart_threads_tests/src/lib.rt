@@ -8,6 +8,8 @@ mod fixtures;
 #[cfg(test)]
 mod looped;
 #[cfg(test)]
+mod many;
+#[cfg(test)]
 mod meeting;
 #[cfg(test)]
 mod receipts;

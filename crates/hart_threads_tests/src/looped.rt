@@ -1,14 +1,18 @@
 //! One loop, by how it ends.
 
-ghost use Rattle.std.specs.Prelude.{◌≡◌, Some};
+ghost use Rattle.std.specs.Prelude.{◌≡◌, [], Some};
+ghost use Rattle.store.specs.Views.{found_state};
 ghost use Rattle.machine.specs.Held.{IsHeld};
+ghost use Rattle.hart_threads_tests.specs.Begun.{IsBegun};
 
 use crate::fixtures::{Open, parts_of};
 use board::Parts;
 use board_model::{HartId, Shape};
 use hart_threads::{Acting, Gate, Why, hart_loop, seat_harts};
+use shared_store::{Journal, SharedStore};
 use simdisk::SimDisk;
 use std::alloc::Global;
+use std::marker::Brand;
 use std::sync::{Mutex, Wait};
 use std::test::*;
 use std::thread::Threads;
@@ -18,6 +22,10 @@ use std::thread::Threads;
 struct ShutAt(u64);
 
 impl Gate for ShutAt {
+    ghost answers = { λ gate hart turn answer. Unit {0} };
+
+    ghost hears = { λ gate hart turn. Unit {0} };
+
     fn before(&self, _hart: HartId, turn: u64) -> bool {
         turn < self.0
     }
@@ -25,8 +33,10 @@ impl Gate for ShutAt {
     fn after(&self, _hart: HartId, _turn: u64) {}
 }
 
-/// The loops of a board's harts, one after another: how many turns each made, why it ended, and the hart's pc
-/// then.
+/// How a loop ended: how many turns it made, why it ended, the hart's pc then, and the number of its receipt.
+type End = (u64, Why, u64, Option<u32>);
+
+/// The loops of a board's harts, one after another.
 fn looped<R: Threads + Wait + Sync, G: Gate>(
     rt: &R,
     alloc: Global,
@@ -34,8 +44,25 @@ fn looped<R: Threads + Wait + Sync, G: Gate>(
     parts: Parts<SimDisk>,
     shape: &Shape,
     turns: u64,
-) -> Result<Vec<(u64, Why, u64)>, Fail>
-    requires { IsHeld shape.now parts.harts.items parts.tables (Some parts.seats) }
+) -> Result<Vec<End>, Fail>
+    requires held { IsHeld shape.now parts.harts.items parts.tables (Some parts.seats) }
+    requires begun { IsBegun shape.now parts.store }
+{
+    looped_as::<Brand, R, G>(rt, alloc, gate, parts, shape, turns)
+}
+
+/// The same, of a journal that has a name.
+fn looped_as<J: Journal + Send + Sync, R: Threads + Wait + Sync, G: Gate>(
+    rt: &R,
+    alloc: Global,
+    gate: &G,
+    parts: Parts<SimDisk>,
+    shape: &Shape,
+    turns: u64,
+) -> Result<Vec<End>, Fail>
+    requires held { IsHeld shape.now parts.harts.items parts.tables (Some parts.seats) }
+    requires begun { IsBegun shape.now parts.store }
+    requires named { (J.size ≡ shape.now) × (J.found ≡ found_state parts.store) × (J.issued ≡ []) }
 {
     let Parts {
         harts,
@@ -44,7 +71,8 @@ fn looped<R: Threads + Wait + Sync, G: Gate>(
         ram,
         store,
     } = parts;
-    let (bus, store) = (Mutex::new(ram), Mutex::new(store));
+    let bus = Mutex::new(ram);
+    let store: Mutex<SharedStore<SimDisk, J>> = Mutex::new(SharedStore::new(store));
     let crew = crew::Threads::new(rt);
     let mut ends = Vec::new(alloc);
     for acting in seat_harts(alloc, harts, seats, &tables)? {
@@ -52,14 +80,15 @@ fn looped<R: Threads + Wait + Sync, G: Gate>(
         let ended = hart_loop(
             rt, alloc, gate, hart, seats, &tables, shape, &bus, &store, &crew, turns,
         );
-        ends.push((ended.made, ended.why, ended.hart.pc()))?;
+        let receipt = ended.told.map(|told| told.number());
+        ends.push((ended.made, ended.why, ended.hart.pc(), receipt))?;
     }
     Ok(ends)
 }
 
 /// A shutdown by `system_reset`: a0, a1 and a6 are set to 0, a7 to 0x53525354 by LUI and ADDI, then ECALL,
 /// the sixth instruction.
-const STOPPER: [u8; 28] = [
+pub const STOPPER: [u8; 28] = [
     0x13, 0x05, 0x00, 0x00, 0x93, 0x05, 0x00, 0x00, 0x13, 0x08, 0x00, 0x00, 0xb7, 0x58, 0x52, 0x53,
     0x93, 0x88, 0x48, 0x35, 0x73, 0x00, 0x00, 0x00, 0x6f, 0x00, 0x00, 0x00,
 ];
@@ -69,12 +98,12 @@ fn a_loop_ends_as_it_is_told(rt: HostRuntime) -> Result<(), Fail> {
     let alloc = rt.alloc();
     let (parts, shape) = parts_of(alloc, &Shape::new(1, 1, 1)?, &STOPPER)?;
     let mut made = looped(&rt, alloc, &Open, parts, &shape, 3)?;
-    assert_eq!(&rt; made.pop(), Some((3, Why::Turns, 0x8000_000c)));
+    assert_eq!(&rt; made.pop(), Some((3, Why::Turns, 0x8000_000c, None)));
     let (parts, shape) = parts_of(alloc, &Shape::new(1, 1, 1)?, &STOPPER)?;
     let mut made = looped(&rt, alloc, &ShutAt(2), parts, &shape, 100)?;
-    assert_eq!(&rt; made.pop(), Some((2, Why::Gate, 0x8000_0008)));
+    assert_eq!(&rt; made.pop(), Some((2, Why::Gate, 0x8000_0008, None)));
     let (parts, shape) = parts_of(alloc, &Shape::new(1, 1, 1)?, &STOPPER)?;
     let mut made = looped(&rt, alloc, &Open, parts, &shape, 100)?;
-    assert_eq!(&rt; made.pop(), Some((6, Why::Life, 0x8000_0014)));
+    assert_eq!(&rt; made.pop(), Some((6, Why::Life, 0x8000_0014, Some(1))));
     Ok(())
 }

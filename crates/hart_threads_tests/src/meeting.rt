@@ -55,6 +55,10 @@ impl<'a, R: Clock> Meeting<'a, R> {
 }
 
 impl<'a, R: Clock> Gate for Meeting<'a, R> {
+    ghost answers = { λ gate hart turn answer. Unit {0} };
+
+    ghost hears = { λ gate hart turn. Unit {0} };
+
     fn before(&self, hart: HartId, turn: u64) -> bool {
         self.meet(&self.before, hart, turn);
         !self.was_missed()

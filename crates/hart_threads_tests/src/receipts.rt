@@ -39,7 +39,9 @@ fn times(receipts: &[u32], number: u32) -> usize {
 /// Whether the journal has that command at the place of each receipt.
 fn are_of(store: &Store<SimDisk>, receipts: &[u32], slot: u32) -> bool {
     let wanted = Some(Entry::Command(Command::Slot(slot)));
-    receipts.iter().all(|n| store.entry(*n) == wanted)
+    receipts
+        .iter()
+        .all(|n| store.entry(u64::from(*n)) == wanted)
 }
 
 #[test]

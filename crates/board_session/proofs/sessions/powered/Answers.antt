@@ -1,11 +1,11 @@
 use Rattle.std.proofs.Common.{ap, sym, subst}
 use Rattle.simdisk.specs.declared.SimDisk.{SimDisk}
 use Rattle.store.specs.Leaves.{IsKept}
-use Rattle.store.specs.Views.{view_of}
+use Rattle.store.specs.Views.{view_of, life_of}
 use Rattle.board.specs.Views.{store_of, machine_of}
 use Rattle.board.specs.PowersOn.{IsUnpowered}
 use Rattle.board_session.specs.Sessions.{facts}
-use Rattle.board_session.proofs.Powering.{format_refuses, kept_off, refuses_disk, runs_over}
+use Rattle.board_session.proofs.Powering.{begins, life_issued, life_taken, format_refuses, kept_off, refuses_disk, runs_over}
 use Rattle.board_session.proofs.sessions.powered.Goals as goal
 
 pub returns-in-Err-clause-refused : goal.returns-in-Err-clause-refused
@@ -46,3 +46,19 @@ returns-in-Err-power_on-clause-kept c =
     let off = c.in-Err-power_on.unpowered in
     kept_off (facts mid) (facts off.disk) (k.goes_on mid off.disk) o.mode c.args.payloads.now (facts c.args.disk) o.shape off.found off.refusal c.in-Err-power_on.ensures.off o.new made.formatted
     (λ is size kept. subst (λ (d : SimDisk). IsKept (facts d) size) (sym (made.old is)) kept)
+
+pub returns-in-Ok-power_on-clause-found : goal.returns-in-Ok-power_on-clause-found
+returns-in-Ok-power_on-clause-found c =
+    let o = c.args.options.now in
+    let made = c.in-Ok.ensures in
+    let board = c.in-Ok-power_on.board in
+    begins o.new o.shape o.mode c.args.payloads.now (facts c.args.disk) (facts c.in-Ok.disk) (view_of (store_of board)) (machine_of board) made.formatted
+    (λ is. ap (λ (d : SimDisk). (facts d).content) (made.old is)) c.in-Ok-power_on.ensures.on
+
+pub returns-in-Ok-power_on-clause-taken : goal.returns-in-Ok-power_on-clause-taken
+returns-in-Ok-power_on-clause-taken c =
+    let on = c.in-Ok-power_on.ensures.on in life_taken c.args.options.now.mode (life_of (store_of c.in-Ok-power_on.board)) on.life on.allowed
+
+pub returns-in-Ok-power_on-clause-issued : goal.returns-in-Ok-power_on-clause-issued
+returns-in-Ok-power_on-clause-issued c =
+    life_issued c.args.options.now.mode (life_of (store_of c.in-Ok-power_on.board)) c.in-Ok-power_on.ensures.on.life

@@ -1,4 +1,4 @@
-use Rattle.std.proofs.Common.{ℕ, refl, sym, ◌∙◌, subst}
+use Rattle.std.proofs.Common.{ℕ, ◌<◌, true, false, arith, refl, sym, ◌∙◌, subst}
 use Rattle.sbi_calls.specs.Both.{GivesBack, known}
 use Rattle.turns.proofs.Begun.{gives_then}
 use Rattle.hart_threads.specs.Seated.{IsSeated, StandsAfterTurn, StandsAfter}
@@ -19,18 +19,25 @@ pub loop-made-preserved : goal.loop-made-preserved
 loop-made-preserved g c =
     let i = c.loop-made.invariant in let by = c.args.hart.id in let t = c.whole_turn-next in
     let on = sym c.goes_on.ensures ∙ c.if-not-goes_on.false in
+    let gate = c.args.gate.now in
+    let said = subst (λ (k : ℕ). g.G.Gate.answers gate k c.loop-made.made true) (c.id.ensures ∙ i.id) c.if-not-before.ensures in
+    let heard = subst (λ (k : ℕ). g.G.Gate.hears gate k c.loop-made.made) (c.id-in-loop-made.ensures ∙ (t.ensures.id ∙ i.id)) c.after.ensures in
     record {
       gives = gives_then c.args.tables.now by c.args.seats c.loop-made.seats t.result.0 i.gives (subst (λ (k : ℕ). GivesBack c.args.tables.now k c.loop-made.seats t.result.0) i.id t.ensures.gives);
       rests = rests_on by t.result.0 t.result.1 on (subst (λ (k : ℕ). StandsAfterTurn t.result.1 k t.result.0) i.id t.ensures.stands);
       id = t.ensures.id ∙ i.id;
-      turns = one_more c.args.shape.now c.loop-made.made (seated c.args.hart (known c.args.seats)) (seated c.loop-made.hart (known c.loop-made.seats)) (seated t.new.hart (known t.result.0)) t.result.1 i.turns t.ensures.once on;
+      turns = one_more c.args.shape.now (g.G.Gate.answers gate by) (g.G.Gate.hears gate by) c.loop-made.made (seated c.args.hart (known c.args.seats)) (seated c.loop-made.hart (known c.loop-made.seats)) (seated t.new.hart (known t.result.0)) t.result.1 t.result.2 i.turns t.ensures.once on said heard;
     }
 
 pub returns-then-not-goes_on-clause-once : goal.returns-then-not-goes_on-clause-once
 returns-then-not-goes_on-clause-once g c =
     let i = c.loop-made.invariant in let t = c.whole_turn-next in
     let off = sym c.goes_on.ensures ∙ c.if-not-goes_on.true in
-    ended_life c.args.shape.now c.args.turns c.loop-made.made (seated c.args.hart (known c.args.seats)) (seated c.loop-made.hart (known c.loop-made.seats)) (seated t.new.hart (known t.result.0)) t.result.1 i.turns t.ensures.once off
+    let by = c.args.hart.id in
+    let gate = c.args.gate.now in
+    let said = subst (λ (k : ℕ). g.G.Gate.answers gate k c.loop-made.made true) (c.id.ensures ∙ i.id) c.if-not-before.ensures in
+    let heard = subst (λ (k : ℕ). g.G.Gate.hears gate k c.loop-made.made) (c.id-in-loop-made.ensures ∙ (t.ensures.id ∙ i.id)) c.after.ensures in
+    ended_life c.args.shape.now (g.G.Gate.answers gate by) (g.G.Gate.hears gate by) c.args.turns c.loop-made.made (seated c.args.hart (known c.args.seats)) (seated c.loop-made.hart (known c.loop-made.seats)) (seated t.new.hart (known t.result.0)) t.result.1 t.result.2 i.turns t.ensures.once off said heard
 
 pub whole_turn-next-requires-clause-seated : goal.whole_turn-next-requires-clause-seated
 whole_turn-next-requires-clause-seated g c κs within =
@@ -47,3 +54,9 @@ returns-then-not-goes_on-clause-stands g c =
     let i = c.loop-made.invariant in let t = c.whole_turn-next in
     let off = sym c.goes_on.ensures ∙ c.if-not-goes_on.true in
     subst (λ (k : ℕ). StandsAfter whys.Life k t.result.0) i.id (stands_over c.loop-made.hart.id t.result.0 t.result.1 off t.ensures.stands)
+
+pub returns-then-not-before-clause-once : goal.returns-then-not-before-clause-once
+returns-then-not-before-clause-once g c =
+    let i = c.loop-made.invariant in
+    let within : c.loop-made.made < c.args.turns = omega arith in
+    (i.turns, within, refl, subst (λ (k : ℕ). g.G.Gate.answers c.args.gate.now k c.loop-made.made false) (c.id.ensures ∙ i.id) c.if-not-before.ensures)

@@ -1,5 +1,5 @@
 use Rattle.std.proofs.Common.{ℕ, ◌<◌, sym, ◌∙◌, subst}
-use Rattle.hsm_words.specs.declared.view.Stage.TheVariants.{Running}
+use Rattle.hsm_rule.specs.declared.view.Stage.TheVariants.{Running}
 use Rattle.sbi_calls.specs.Both.{GivesBack, Acts, known}
 use Rattle.sbi.specs.Helds.{stage_by_held}
 use Rattle.machine.specs.declared.parts.Word.{Word}
@@ -30,7 +30,7 @@ pub returns-in-Durable-clause-once : goal.returns-in-Durable-clause-once
 returns-in-Durable-clause-once g c =
     let turn = c.turn_by_bus-seats.ensures.turns in
     held_turn c.args.shape.now (seated c.args.hart.now (known c.args.seats)) (seated c.turn_by_bus-seats.new.hart (known c.turn_by_bus-seats.result.0)) (seated c.make_held-seats.new.hart (known c.make_held-seats.result.0))
-    turn.0 turn.1 c.turn_by_bus-seats.result.1 c.make_held-seats.result.1 c.word_by.result c.in-Durable.is turn.4 c.make_held-seats.ensures.once c.word_by.ensures
+    turn.0 turn.1 c.turn_by_bus-seats.result.1 c.make_held-seats.result.1 c.word_by.result c.make_held-seats.result.2 c.in-Durable.is turn.4 c.make_held-seats.ensures.once c.make_held-seats.ensures.told c.word_by.ensures
 
 pub returns-in-Idle-clause-once : goal.returns-in-Idle-clause-once
 returns-in-Idle-clause-once g c =

@@ -1,0 +1,7 @@
+use Rattle.std.proofs.Common.{[]}
+use Rattle.store.specs.Views.{found_state}
+use Rattle.hart_threads_tests.proofs.looped.looped.Given as goal
+
+-- the life that the board has just begun
+abbrev pub ghosts-looped_as : goal.ghosts-looped_as
+ghosts-looped_as g a = record { found = found_state a.parts.store; size = a.shape.now; issued = [] }

@@ -1,0 +1,75 @@
+//! Boards of three harts and of eight: each hart makes its turns, and the life of all ends with one's.
+
+use crate::fixtures::{driven, parts_of};
+use crate::looped::STOPPER;
+use board_model::{HartId, Shape};
+use hart_threads::Gate;
+use std::sync::atomic::{AtomicU64, Ordering};
+use std::test::*;
+
+/// More turns than a test has time for.
+const ENDLESS: u64 = 1_000_000_000_000;
+
+/// It lets every turn begin, and counts the turns of each hart.
+#[derive(Drop)]
+struct Counting {
+    made: [AtomicU64; 8],
+}
+
+impl Counting {
+    fn new() -> Counting {
+        Counting {
+            made: [
+                AtomicU64::new(0),
+                AtomicU64::new(0),
+                AtomicU64::new(0),
+                AtomicU64::new(0),
+                AtomicU64::new(0),
+                AtomicU64::new(0),
+                AtomicU64::new(0),
+                AtomicU64::new(0),
+            ],
+        }
+    }
+
+    /// How many turns a hart made.
+    fn made_by(&self, hart: usize) -> u64 {
+        self.made[hart % 8].load(Ordering::SeqCst)
+    }
+}
+
+impl Gate for Counting {
+    ghost answers = { λ gate hart turn answer. Unit {0} };
+
+    ghost hears = { λ gate hart turn. Unit {0} };
+
+    fn before(&self, _hart: HartId, _turn: u64) -> bool {
+        true
+    }
+
+    fn after(&self, hart: HartId, _turn: u64) {
+        self.made[hart.index() % 8].fetch_add(1, Ordering::SeqCst);
+    }
+}
+
+#[test]
+fn each_of_eight_harts_makes_its_turns(rt: HostRuntime) -> Result<(), Fail> {
+    let (parts, shape) = parts_of(rt.alloc(), &Shape::new(8, 1, 1)?, &[])?;
+    let gate = Counting::new();
+    let (all, _disk) = driven(&rt, rt.alloc(), &gate, parts, &shape, 20);
+    assert!(&rt; all);
+    for hart in 0..8 {
+        assert_eq!(&rt; gate.made_by(hart), 20);
+    }
+    Ok(())
+}
+
+#[test]
+fn the_life_of_all_harts_ends_with_a_reset_of_one(rt: HostRuntime) -> Result<(), Fail> {
+    let (parts, shape) = parts_of(rt.alloc(), &Shape::new(3, 1, 1)?, &STOPPER)?;
+    let gate = Counting::new();
+    let (all, _disk) = driven(&rt, rt.alloc(), &gate, parts, &shape, ENDLESS);
+    assert!(&rt; all);
+    assert_eq!(&rt; gate.made_by(0), 6);
+    Ok(())
+}
