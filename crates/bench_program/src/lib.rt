@@ -6,20 +6,26 @@ mod fault;
 mod pipe;
 mod usage;
 
-ghost use Rattle.std.specs.Prelude.{◌≡◌, ◌⊎◌, List, [], OnOk, IfOk, IfErr, IfSome, Ok, Err, take};
+ghost use Rattle.std.specs.Prelude.{◌≡◌, ◌⊎◌, List, [], Result, OnOk, IfOk, IfErr, IfSome, Ok, Err, take};
 ghost use Rattle.std.specs.Io.Buffered.{writer_buffer, writer_contents};
 ghost use Rattle.std.specs.Io.KnownBytes.{Appends};
 ghost use Rattle.board_model.specs.declared.refusal.Refusal.{Refusal};
 ghost use Rattle.board_model.specs.declared.refusal.Refusal.TheVariants.{Memory};
+ghost use Rattle.std.specs.Process.{exit_status};
+ghost use Rattle.bench_program.specs.Faults.{status_after};
+ghost use Rattle.bench_program.specs.declared.fault.Fault.{Fault};
 ghost use Rattle.bench_program.specs.declared.fault.Fault.TheVariants.{Input, Refused};
 ghost use Rattle.script_lang.specs.Scripts.{script_of, Script as Said};
 ghost use Rattle.bench_report.specs.Bench.{Bench};
-ghost use Rattle.bench_report.specs.Reports.{IsReport, report_text};
+ghost use Rattle.bench_report.specs.Prefix.{KeepsPrefixLaw};
+ghost use Rattle.bench_report.specs.Reports.{AreByFirmware, IsReport, report_text};
 ghost use Rattle.bench_report.specs.declared.printed.Answer.{Answer};
 
-use crate::fault::{Fault, status_of};
+pub use crate::fault::Fault;
+use crate::fault::status_of;
 use crate::pipe::Pipe;
-use crate::usage::{Savers, asked};
+use crate::usage::asked;
+pub use crate::usage::{Savers, savers_of};
 use bench_report::run;
 use board_model::{MAX_LINE_BYTES, MAX_SCRIPT_LINES, Refusal};
 use command_line::NoWork;
@@ -38,7 +44,7 @@ const READ_AT_MOST: u64 = (MAX_SCRIPT_LINES * (MAX_LINE_BYTES + 1) + 1) as u64;
 
 /// The script: the input to its end, or as much of it as tells its first fault. Answers `Input` where the
 /// input failed, and the refusal `Memory` where memory was refused.
-fn read_script<R: Read + Drop>(alloc: Global, input: R) -> Result<Vec<u8>, Fault>
+pub fn read_script<R: Read + Drop>(alloc: Global, input: R) -> Result<Vec<u8>, Fault>
     // It says what the whole input says, where its bytes are known: the script, or its first fault.
     ensures said { IfOk result (λ script. IfSome (R.remaining input) (λ bytes. script_of script.items
         ≡ script_of bytes)) }
@@ -55,16 +61,20 @@ fn read_script<R: Read + Drop>(alloc: Global, input: R) -> Result<Vec<u8>, Fault
 }
 
 /// Runs the script, and writes its report to the end.
-fn report_to<C: Crew, W: Write + Drop>(
+///
+/// Refused as `bench_report::run` is, and `Output` also where what the writer held back could not be written.
+pub fn report_to<C: Crew, W: Write + Drop>(
     alloc: Global,
     script: &[u8],
     crew: &C,
     out: &mut BufWriter<W>,
 ) -> Result<(), Refusal>
-    // What was written is a report of the script, and nothing else.
+    // What was written is a report of the script, and nothing else; where no line is a poke, it keeps the prefix
+    // law.
     ensures report { OnOk result ((said : Said) × (answers : List Answer) × (end : Bench)
         × (script_of script.now ≡ Ok said) × IsReport said answers end
-        × Appends (writer_contents W.contents out.old) (writer_contents W.contents out.new) (report_text answers)) }
+        × Appends (writer_contents W.contents out.old) (writer_contents W.contents out.new) (report_text answers)
+        × (AreByFirmware said.lines → KeepsPrefixLaw said.lines answers)) }
     // Nothing of it is held back.
     ensures flushed { OnOk result (writer_buffer out.new ≡ []) }
     // A refusal is the script's fault, or out of memory, or the writer's.
@@ -121,7 +131,10 @@ fn reported<R: Threads + Sync>(rt: &HostRuntime, threads: &R) -> Result<(), Faul
 /// The whole program: reads a script from standard input and writes its report to standard output
 /// (docs/SCRIPT.md), or says why not on standard error. Answers the status that README.md, "The program",
 /// has. The second handle makes the threads of lanes, where the command line asks for these.
-pub fn bench<R: Threads + Sync>(rt: &HostRuntime, threads: &R) -> ExitCode {
+pub fn bench<R: Threads + Sync>(rt: &HostRuntime, threads: &R) -> ExitCode
+    // The status is the one of what was done.
+    ensures status { (done : Result (Unit {0}) Fault) × (exit_status result ≡ status_after done) }
+{
     let done = reported(rt, threads);
     if let Err(fault) = &done {
         let _told = eprint!(rt; "{fault}");

@@ -1,8 +1,15 @@
 //! The command line, and what `--help` says.
 
+ghost use Rattle.std.specs.Prelude.{◌≡◌, false, map, string_bytes, codes, IfOk};
+ghost use Rattle.clap.specs.Words.{app_of, first_value, found_of, matches_of, rows_of, rule_of};
+ghost use Rattle.clap.specs.declared.builder.value_parser.ValueParser.{ValueParser};
+ghost use Rattle.clap.specs.declared.parser.matches.Found.{Found};
+ghost use Rattle.bench_program.specs.Usage.{crew_rule, sbibench, savers_named};
+
 use clap::{Arg, ArgAction, ArgMatches, Command, Error};
 use command_line::{NoWork, show, words};
 use std::alloc::{AllocError, Global};
+use std::convert::AsStr;
 
 /// The version of the firmware.
 const VERSION: &str = "1";
@@ -16,8 +23,8 @@ The script comes on standard input, and its report goes to standard output.";
 
 const NUMBERS: &str = "\
 Status:
-  0  the script ran and its report was written; what was refused or is not
-     built stands in the report
+  0  the script ran and its report was written; what was refused stands in the
+     report
   1  the script did not run, or its report was not written: standard error has
      'sbibench: refusal N', for a malformed script 'sbibench: refusal 14 line K',
      for failed input 'sbibench: input', and nothing where no one reads the
@@ -72,34 +79,49 @@ pub enum Savers {
     Threads,
 }
 
-fn command<'a>(alloc: Global) -> Result<Command<'a>, AllocError> {
-    let crew = Arg::new(alloc, CREW)
+/// The option that chooses the crew.
+fn crew<'a>(alloc: Global) -> Arg<'a>
+    ensures rule { (crews : ValueParser) × (rule_of result ≡ crew_rule crews) }
+    ensures local { result.global ≡ false }
+{
+    Arg::new(alloc, CREW)
         .long(CREW)
         .value_name("CREW")
         .value_parser([TURNS, THREADS].as_slice())
         .default_value(TURNS)
         .action(ArgAction::Set)
-        .help("Who writes the lanes of an image: one after another, or a thread each");
+        .help("Who writes the lanes of an image: one after another, or a thread each")
+}
+
+fn command<'a>(alloc: Global) -> Result<Command<'a>, AllocError>
+    ensures { IfOk result (λ c. (crews : ValueParser) × (app_of c ≡ sbibench crews)) }
+{
     Command::new(alloc, "sbibench")
         .version(VERSION)
         .override_usage(USAGE)
         .about(ABOUT)
         .after_help(NUMBERS)
-        .arg(crew)
+        .arg(crew(alloc))
 }
 
 /// The crew that was chosen.
-fn chosen(matches: &ArgMatches<'_>) -> Savers {
-    if matches.get_str(CREW) == Some(THREADS) {
-        Savers::Threads
-    } else {
-        Savers::Turns
+fn chosen(matches: &ArgMatches<'_>) -> Savers
+    ensures { result ≡ savers_named (first_value (found_of matches.now) (codes "crew")) }
+{
+    match matches.get_str(CREW) {
+        Some(word) if word == THREADS => Savers::Threads,
+        _ => Savers::Turns,
     }
 }
 
 /// Who writes the lanes, as the words of a command line ask for, the program's name first. The error is the
 /// command line's own text, which is the help or the version too, or says that memory was refused.
-fn savers_of(alloc: Global, words: &[String]) -> Result<Savers, Error> {
+pub fn savers_of<'a, S: AsStr>(alloc: Global, words: &'a [S]) -> Result<Savers, Error>
+    // The crew is the one that the words name, as the command line's parser reads them.
+    ensures { IfOk result (λ savers. (crews : ValueParser) × (f : Found)
+        × (rows_of f ≡ matches_of (sbibench crews) (map S.text words.now))
+        × (savers ≡ savers_named (first_value f (codes "crew")))) }
+{
     let matches = command(alloc)?.try_get_matches_from(words)?;
     Ok(chosen(&matches))
 }

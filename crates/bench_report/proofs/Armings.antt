@@ -8,7 +8,7 @@ use Rattle.store.specs.Lives.{Life as StoreLife}
 use Rattle.store.specs.Views.{life_of}
 use Rattle.bench_report.specs.Views.{SimBoard, store_in, machine_in, facts, fault_state, store_size, store_facts, store_fault_state, IsLife}
 use Rattle.bench_report.specs.Bench.{BenchLife, Bench}
-use Rattle.bench_report.specs.Steps.{armed_with}
+use Rattle.bench_report.specs.Happens.{armed_with}
 use Rattle.bench_report.specs.Agree.{LifeIs, BoardIs, DeviceIs, OffIs, OnIs}
 use Rattle.bench_report.proofs.Ended.{left_on}
 use Rattle.bench_report.proofs.KeptDisks.{GoesOn}

@@ -14,7 +14,7 @@ use Rattle.store.specs.Follows.{FitsBoard}
 use Rattle.store.specs.Opens.{CausedRefusal}
 use Rattle.store.specs.Views.{life_of, doubt_of}
 use Rattle.store.specs.Answers.{CountedRefusal}
-use Rattle.susp.specs.Asked.{Asked}
+use Rattle.store.specs.Asked.{Asked}
 use Rattle.susp.specs.Checks.{IsChecked}
 use Rattle.susp.specs.Sleeps.{SleepsBy as StoreSleeps, Answers}
 use Rattle.sbi_abi.specs.Answers.{error_of}
@@ -38,7 +38,9 @@ use Rattle.machine.specs.declared.parts.Word.TheVariants as words
 use Rattle.board.specs.Turns as boards
 use Rattle.bench_report.specs.Views.{SimStore, IsLife, IsAs, store_size, store_fault_state, store_facts}
 use Rattle.bench_report.specs.Bench.{BenchLife, Bench}
-use Rattle.bench_report.specs.Steps.{out_of_memory, off, on_with, has_machine, acknowledged, Issued, refused, AnswersError, HartCommand, Resets, SuspendIssued, IsAlone, BenchSleeps, BenchSleepsBy, BenchMakesCall, ComesTo, GuestTurn, IsLastTurn, GuestTurns}
+use Rattle.bench_report.specs.Happens.{out_of_memory, off, on_with, has_machine, acknowledged}
+use Rattle.bench_report.specs.Commands.{Issued}
+use Rattle.bench_report.specs.Turns.{refused, AnswersError, HartCommand, Resets, SuspendIssued, IsAlone, BenchSleeps, BenchSleepsBy, BenchMakesCall, ComesTo, GuestTurn, IsLastTurn, GuestTurns}
 use Rattle.bench_report.specs.Agree.{StoreIs, DeviceIs, IsOver}
 use Rattle.bench_report.proofs.Adapted.{calm as untouched}
 use Rattle.bench_report.proofs.Commanded.{Running, follows_with, sized_for, reported_end, reported_err, reported_up, reported_down, again, calm_device, unmoved}

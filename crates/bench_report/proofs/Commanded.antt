@@ -18,7 +18,8 @@ use Rattle.store.specs.Views.{life_of, doubt_of}
 use Rattle.store.specs.Answers.{CountedRefusal}
 use Rattle.bench_report.specs.Views.{SimStore, SimBoard, store_in, machine_in, IsLife, IsAs, store_size, store_now, store_doubt, store_fault_state, store_facts}
 use Rattle.bench_report.specs.Bench.{DiskState, Blank, Unknown, Formatted, BenchLife, Bench}
-use Rattle.bench_report.specs.Steps.{failed, acknowledged, in_doubt, Writes, IssuedBy, Issued}
+use Rattle.bench_report.specs.Happens.{failed, acknowledged, in_doubt}
+use Rattle.bench_report.specs.Commands.{Writes, IssuedBy, Issued}
 use Rattle.bench_report.specs.Agree.{StoreIs, BoardIs, LifeIs, DeviceIs, OnIs, IsOver}
 use Rattle.bench_report.proofs.Adapted.{Reaches, Acknowledges, Refuses, acknowledged as acknowledges, ended, refused, struck, downed, calm as untouched}
 use Rattle.bench_report.proofs.Devices.{fails_by_fault, stays}

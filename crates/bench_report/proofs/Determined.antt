@@ -1,6 +1,6 @@
 -- Where memory was never refused and no failure was answered, two runs of the same lines answer the same:
 -- commands and power on.
-use Rattle.std.proofs.Common.{◌≡◌, ◌⊎◌, ℕ, ◌+◌, ◌<◌, inl, inr, List, [], ◌∷◌, Option, None, Some, IfSome, Result, Ok, Err, length, refl, sym, ◌∙◌, ap, subst, arith}
+use Rattle.std.proofs.Common.{◌≡◌, ◌⊎◌, ℕ, ◌+◌, ◌<◌, inl, inr, List, [], ◌∷◌, Option, None, Some, IfSome, Result, Ok, Err, length, refl, sym, ◌∙◌, ap, subst, arith, false}
 use Rattle.std.specs.Bool.{⊤}
 use Rattle.board_model.specs.Durable.{DurableState, Image, Change, Consume, IsWhole, refusal_of}
 use Rattle.board_model.specs.Kept.{Kept, found_of, MayKeep, TakesIn}
@@ -17,7 +17,9 @@ use Rattle.bench_report.specs.declared.printed.Printed.{Printed}
 use Rattle.bench_report.specs.declared.printed.Printed.TheVariants as printed
 use Rattle.bench_report.specs.declared.printed.Answer.{Answer}
 use Rattle.bench_report.specs.Bench.{DiskState, Blank, Unknown, Formatted, BenchLife, Bench}
-use Rattle.bench_report.specs.Steps.{says, out_of_memory, FailsByFault, off, on_with, formatted_anew, unknown, settled, has_machine, acknowledged, in_doubt, life_begun, commands_of, Writes, IssuedBy, Issued, IssuesAll, FormatsOn, IsBooted, BootsFrom, Resumes, Begins, Boots, Opens, ShowsFound, IsOpenRefusal, PowersOn}
+use Rattle.bench_report.specs.Happens.{says, out_of_memory, FailsByFault, off, on_with, formatted_anew, unknown, settled, has_machine, acknowledged, in_doubt}
+use Rattle.bench_report.specs.Commands.{Writes, IssuedBy, Issued, IssuesAll}
+use Rattle.bench_report.specs.PowerOns.{life_begun, commands_of, FormatsOn, IsBooted, BootsFrom, Resumes, Begins, Boots, Opens, ShowsFound, IsOpenRefusal, PowersOn}
 
 abbrev pub HasFailed : Bench → Type 0
 HasFailed b = (0 < b.growths) ⊎ (0 < b.failures)
@@ -28,41 +30,51 @@ CalmDisk Blank doubt = ⊤
 CalmDisk Unknown doubt = ⊥
 CalmDisk Formatted doubt = doubt ≡ None
 
+-- and no armed cut has struck
 abbrev pub IsCalm : Bench → Type 0
-IsCalm b = CalmDisk b.disk_state b.kept.doubt
+IsCalm b = CalmDisk b.disk_state b.kept.doubt × (b.fault_state.struck ≡ false)
 
--- what was spoilt stays so; what was calm stays so, or is spoilt
+abbrev pub DiskHasFailed : Bench → Type 0
+DiskHasFailed b = 0 < b.failures
+
+-- what was spoilt stays so; what was calm stays so, or the disk failed
 abbrev pub Fair : Bench → Bench → Type 0
-Fair b new = (HasFailed b → HasFailed new) × (IsCalm b → HasFailed new ⊎ IsCalm new)
+Fair b new = (HasFailed b → HasFailed new) × (IsCalm b → DiskHasFailed new ⊎ IsCalm new) × (DiskHasFailed b → DiskHasFailed new)
 
 pub fair_then : (b mid new : Bench) → Fair b mid → Fair mid new → Fair b new
-fair_then b mid new x y = (λ s. y.0 (x.0 s), λ c. on (x.1 c))
+fair_then b mid new x y = (λ s. y.0 (x.0 s), λ c. on (x.1 c), λ s. y.2 (x.2 s))
   where
-    on : HasFailed mid ⊎ IsCalm mid → HasFailed new ⊎ IsCalm new
-    on (inl s) = inl (y.0 s)
+    on : DiskHasFailed mid ⊎ IsCalm mid → DiskHasFailed new ⊎ IsCalm new
+    on (inl s) = inl (y.2 s)
     on (inr c) = y.1 c
 
 pub fair_to : (b new x : Bench) → new ≡ x → Fair b x → Fair b new
 fair_to b new x e h = let P : Bench → Type 0 = Fair b in subst P (sym e) h
 
 pub unmoved : (b new : Bench) → new ≡ b → Fair b new
-unmoved b new e = fair_to b new b e (λ s. s, λ c. inr c)
+unmoved b new e = fair_to b new b e (λ s. s, λ c. inr c, λ s. s)
 
-pub spoils : (b new : Bench) → HasFailed new → Fair b new
-spoils b new s = (λ h. s, λ c. inl s)
+pub spoils : (b new : Bench) → DiskHasFailed new → Fair b new
+spoils b new s = (λ h. inr s, λ c. inl s, λ h. s)
 
 pub starves : (c new : Bench) → new ≡ out_of_memory c → HasFailed new
 starves c new e = let g : new.growths ≡ c.growths + 1 = ap (λ x. x.growths) e in inl (omega arith)
 
+pub fails : (c new : Bench) → FailsByFault c new → DiskHasFailed new
+fails c new h = let g : new.failures ≡ counted c.failures 1 = ap (λ x. x.failures) h.2 in omega (arith, g)
+
 pub hinders : (c new : Bench) → FailsByFault c new → HasFailed new
-hinders c new h = let g : new.failures ≡ counted c.failures 1 = ap (λ x. x.failures) h.2 in inr (omega (arith, g))
+hinders c new h = inr (fails c new h)
+
+pub starved : (b new : Bench) → new ≡ out_of_memory b → Fair b new
+starved b new e = fair_to b new (out_of_memory b) e (λ s. starves b (out_of_memory b) refl, λ c. inr c, λ s. s)
 
 -- ---- fair
 writes_fair : (r : Option ℕ) (c : Change) (life : BenchLife) (b : Bench) (o : Result ℕ ℕ) (new : Bench) → Writes r c life b o new → Fair b new
 writes_fair (Some n) c life b o new w = unmoved b new w.1
-writes_fair None c life b o new (inl w) = fair_to b new (acknowledged c life b) w.1 (λ s. s, λ c. inr c)
-writes_fair None c life b o new (inr (inl w)) = spoils b new (hinders b new w.1)
-writes_fair None c life b o new (inr (inr w)) = spoils b new (hinders (in_doubt c life b) new w.1)
+writes_fair None c life b o new (inl w) = fair_to b new (acknowledged c life b) w.1 (λ s. s, λ c. inr c, λ s. s)
+writes_fair None c life b o new (inr (inl w)) = spoils b new (fails b new w.1)
+writes_fair None c life b o new (inr (inr w)) = spoils b new (fails (in_doubt c life b) new w.1)
 
 by_fair : (d : Option Change) (c : Change) (life : BenchLife) (b : Bench) (o : Result ℕ ℕ) (new : Bench) → IssuedBy d c life b o new → Fair b new
 by_fair (Some d) c life b o new i = unmoved b new i.1
@@ -134,13 +146,13 @@ answers_as a o line e f = ap (λ (x : Option Durable). let r : Answer = record {
 
 -- ---- format
 pub formats_fair : (m : DiskState) (b : Bench) (a : Answer) (new : Bench) → FormatsOn m b a new → Fair b new
-formats_fair Blank b a new (inl h) = fair_to b new (formatted_anew b) h.1 (λ s. s, λ c. inr refl)
-formats_fair Blank b a new (inr h) = spoils b new (hinders (unknown b) new h.1)
-formats_fair Unknown b a new (inl h) = fair_to b new (formatted_anew b) h.1 (λ s. s, λ c. inr refl)
-formats_fair Unknown b a new (inr (inl h)) = spoils b new (hinders b new h.1)
+formats_fair Blank b a new (inl h) = fair_to b new (formatted_anew b) h.1 (λ s. s, λ c. inr (refl, c.1), λ s. s)
+formats_fair Blank b a new (inr h) = spoils b new (fails (unknown b) new h.1)
+formats_fair Unknown b a new (inl h) = fair_to b new (formatted_anew b) h.1 (λ s. s, λ c. inr (refl, c.1), λ s. s)
+formats_fair Unknown b a new (inr (inl h)) = spoils b new (fails b new h.1)
 formats_fair Unknown b a new (inr (inr h)) = unmoved b new h.3
 formats_fair Formatted b a new (inl h) = unmoved b new h.1
-formats_fair Formatted b a new (inr h) = spoils b new (hinders b new h.1)
+formats_fair Formatted b a new (inr h) = spoils b new (fails b new h.1)
 
 pub formats : (m : DiskState) (b : Bench) (a z : Answer) (new last : Bench) → CalmDisk m b.kept.doubt → FormatsOn m b a new → FormatsOn m b z last → Agree a z new last
 formats Blank b a z new last calm (inl h) (inl k) = same a z _ new last _ h.0 k.0 h.1 k.1
@@ -153,14 +165,14 @@ formats Formatted b a z new last calm (inl h) (inr k) = inr (inl (hinders b last
 
 -- ---- power on
 on_fair : (o : Result ℕ ℕ) (mode : BootMode) (z : Size) (s : DurableState) (b : Bench) (line : Printed) (new : Bench) → IsBooted o mode z s b line new → Fair b new
-on_fair (Ok n) mode z s b line new (life, on, said, m, boots, e) = fair_to b new (on_with (has_machine m life) b) e (λ s. s, λ c. inr c)
-on_fair (Err n) mode z s b line new x = fair_to b new (off b) x.1 (λ s. s, λ c. inr c)
+on_fair (Ok n) mode z s b line new (life, on, said, m, boots, e) = fair_to b new (on_with (has_machine m life) b) e (λ s. s, λ c. inr c, λ s. s)
+on_fair (Err n) mode z s b line new x = fair_to b new (off b) x.1 (λ s. s, λ c. inr c, λ s. s)
 
 slot_fair : (mode : BootMode) (z : Size) (s : DurableState) (b : Bench) (line : Printed) (new : Bench) → BootsFrom mode z s b line new → Fair b new
 slot_fair mode z s b line new (o, mid, h, on) =
     let start : Bench = on_with (life_begun s z) b in
     let one : Fair start new = fair_then start mid new (all_fair (commands_of mode) start o mid h) (on_fair o mode z s mid line new on) in
-    (λ s. one.0 s, λ c. one.1 c)
+    (λ s. one.0 s, λ c. one.1 c, λ s. one.2 s)
 
 resumes_fair : (z : Size) (s : DurableState) (b : Bench) (line : Printed) (new : Bench) → Resumes z s b line new → Fair b new
 resumes_fair z s b line new (inl h) = slot_fair modes.Resume z s b line new h
@@ -175,12 +187,12 @@ begins_fair modes.Resume z s b line new h = resumes_fair z s b line new h
 boots_fair : (r : Option ℕ) (mode : BootMode) (z : Size) (s : DurableState) (b : Bench) (line : Printed) (new : Bench) → Boots r mode z s b line new → Fair b new
 boots_fair (Some n) mode z s b line new x = unmoved b new x.1
 boots_fair None mode z s b line new (inl x) = begins_fair mode z s b line new x
-boots_fair None mode z s b line new (inr x) = spoils b new (starves b new x.1)
+boots_fair None mode z s b line new (inr x) = starved b new x.1
 
 settled_fair : (changes : List Change) (m : DiskState) (b mid : Bench) → b.disk_state ≡ m → CalmDisk m None → mid ≡ settled changes b → Fair b mid
 settled_fair changes m b mid at calm e =
     let P : DiskState → Type 0 = λ x. CalmDisk x None in
-    fair_to b mid (settled changes b) e (λ s. s, λ c. inr (subst P (sym at) calm))
+    fair_to b mid (settled changes b) e (λ s. s, λ c. inr (subst P (sym at) calm, c.1), λ s. s)
 
 opens_fair : (size : Size) (m : DiskState) (b : Bench) (s : DurableState) (z : Size) (mid : Bench) → b.disk_state ≡ m → Opens size m b s z mid → Fair b mid
 opens_fair size Blank b s z mid at h = absurd h
@@ -190,8 +202,8 @@ opens_fair size Formatted b s z mid at h = settled_fair h.0 Formatted b mid at r
 pub powers_fair : (size : Size) (mode : BootMode) (b : Bench) (a : Answer) (new : Bench) → PowersOn size mode b a new → Fair b new
 powers_fair size mode b a new (inl (s, z, mid, found, shows, x)) = fair_then b mid new (opens_fair size b.disk_state b s z mid refl found) (boots_fair (boot_refusal s mode) mode z s mid a.line new x)
 powers_fair size mode b a new (inr (inl x)) = unmoved b new x.3
-powers_fair size mode b a new (inr (inr (inl x))) = spoils b new (starves b new x.2)
-powers_fair size mode b a new (inr (inr (inr x))) = spoils b new (hinders b new x.1)
+powers_fair size mode b a new (inr (inr (inl x))) = starved b new x.2
+powers_fair size mode b a new (inr (inr (inr x))) = spoils b new (fails b new x.1)
 
 -- the machine that the mode begins is of the board's size
 pub begun_size : (mode : BootMode) (z : Size) (payloads : List (List ℕ)) (s : DurableState) (m : Machine) → IsBegun mode z payloads s m → m.size ≡ z
@@ -319,11 +331,11 @@ powers size mode b a c new last calm (inr (inl x)) (inr (inr (inl y))) = inr (in
 powers size mode b a c new last calm (inl x) (inr (inr (inr y))) = inr (inl (hinders b last y.1))
 powers size mode b a c new last calm (inr (inl x)) (inr (inr (inr y))) = inr (inl (hinders b last y.1))
 powers size mode b a c new last calm (inr (inl x)) (inr (inl y)) =
-    same a c (says (printed.OnRefused x.0)) new last b x.2 (y.2 ∙ ap (λ n. says (printed.OnRefused n)) (one_number b.disk_state b y.0 x.0 calm y.1 x.1)) x.3 y.3
-powers size mode b a c new last calm (inl x) (inr (inl y)) = absurd (no_open size b.disk_state b x.0 x.1 x.2 y.0 calm x.3 y.1)
-powers size mode b a c new last calm (inr (inl x)) (inl y) = absurd (no_open size b.disk_state b y.0 y.1 y.2 x.0 calm y.3 x.1)
+    same a c (says (printed.OnRefused x.0)) new last b x.2 (y.2 ∙ ap (λ n. says (printed.OnRefused n)) (one_number b.disk_state b y.0 x.0 calm.0 y.1 x.1)) x.3 y.3
+powers size mode b a c new last calm (inl x) (inr (inl y)) = absurd (no_open size b.disk_state b x.0 x.1 x.2 y.0 calm.0 x.3 y.1)
+powers size mode b a c new last calm (inr (inl x)) (inl y) = absurd (no_open size b.disk_state b y.0 y.1 y.2 x.0 calm.0 y.3 x.1)
 powers size mode b a c new last calm (inl (s, z, mid, found, shows, x)) (inl (t, w, other, found2, shows2, y)) =
-    let one = one_open size b.disk_state b s z mid t w other calm found found2 in
+    let one = one_open size b.disk_state b s z mid t w other calm.0 found found2 in
     let P : DurableState → Type 0 = λ u. ShowsFound c.found u × Boots (boot_refusal u mode) mode w u other c.line last in
     let Q : Size → Type 0 = λ u. Boots (boot_refusal s mode) mode u s other c.line last in
     let R : Bench → Type 0 = λ u. Boots (boot_refusal s mode) mode z s u c.line last in

@@ -8,7 +8,7 @@ use Rattle.disk.specs.Facts.{Facts, counted, Failed}
 use Rattle.disk.specs.FaultState.{FaultState, Cause}
 use Rattle.store.specs.Leaves.{SameLength}
 use Rattle.bench_report.specs.Bench.{Bench}
-use Rattle.bench_report.specs.Steps.{failed, FailsByFault}
+use Rattle.bench_report.specs.Happens.{failed, FailsByFault}
 use Rattle.bench_report.specs.Agree.{DeviceIs}
 
 pub is_device : (e : Refusal) → (e ≡ Device) ⊎ (e ≢ Device)

@@ -34,8 +34,13 @@ use Rattle.bench_report.specs.declared.printed.Printed.TheVariants as printed
 use Rattle.disk.specs.FaultState.{FaultArmed, CutArmed}
 use Rattle.bench_report.specs.declared.printed.Answer.{Answer}
 use Rattle.bench_report.specs.Bench.{DiskState, Blank, Unknown, Formatted, BenchLife, Bench, IsFailureFree, blank_bench}
-use Rattle.bench_report.specs.Steps.{says, off, on_with, unpowered, unknown, armed_with, formatted_anew, settled, has_machine, acknowledged, life_begun, commands_of, console_reported, Writes, IssuedBy, IssuesAll, FormatsOn, IsBooted, BootsFrom, Resumes, Begins, Boots, Opens, PowersOn, FormatStep, OnStep, ConsoleStep, PayloadStep, ReadStep, PokeStep, Issued, AnswersError, HartCommand, Resets, SuspendIssued, BenchSleepsBy, BenchMakesCall, ComesTo, GuestTurn, GuestTurns, TurnStep, CallReported, GuestCall, CallStep, Step, Moves, Run}
+use Rattle.bench_report.specs.Happens.{says, off, on_with, unpowered, unknown, armed_with, formatted_anew, settled, has_machine, acknowledged}
+use Rattle.bench_report.specs.Commands.{Writes, IssuedBy, IssuesAll, Issued}
+use Rattle.bench_report.specs.Turns.{AnswersError, HartCommand, Resets, SuspendIssued, BenchSleepsBy, BenchMakesCall, ComesTo, GuestTurn, GuestTurns}
+use Rattle.bench_report.specs.PowerOns.{life_begun, commands_of, FormatsOn, IsBooted, BootsFrom, Resumes, Begins, Boots, Opens, PowersOn}
+use Rattle.bench_report.specs.Steps.{console_reported, FormatStep, OnStep, ConsoleStep, PayloadStep, ReadStep, PokeStep, TurnStep, CallReported, GuestCall, CallStep, Step, Moves, Run}
 use Rattle.bench_report.specs.Reports.{IsReport}
+use Rattle.bench_report.proofs.Unsaid.{none_made}
 use Rattle.bench_report.specs.Plain.{ShowsNoFailure, ShowNoFailure}
 
 -- as many growths were refused and failures answered as before
@@ -198,11 +203,6 @@ comes_free did h life b word new x free = as_many b b new refl refl x.1
 
 turn_free : (h : ℕ) (life : BenchLife) (b : Bench) (word : Word) (new : Bench) → GuestTurn h life b word new → IsFree word → AsMany b new
 turn_free h life b word new (m, did, turned, x) free = let rest = comes_free did h (has_machine m life) (on_with (has_machine m life) b) word new x free in (rest.0, rest.1)
-
-none_made : {A : Type 0} (h n : ℕ) (b : Bench) (word : Word) (new : Bench) → GuestTurns h n b 0 word new → A
-none_made h zero b word new x = absurd x
-none_made h (suc n) b word new (life, on, said, mid, turned, inl x) = absurd (let e : 0 ≡ 1 = x.1 in let no : ⊥ = cc in no)
-none_made h (suc n) b word new (life, on, said, mid, turned, inr x) = absurd (omega (arith, x.3))
 
 -- one turn
 turns_free : (h n : ℕ) (b : Bench) (made : ℕ) (word : Word) (new : Bench) → GuestTurns h n b made word new → made ≡ 1 → IsFree word → AsMany b new

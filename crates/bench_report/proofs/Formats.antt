@@ -15,7 +15,8 @@ use Rattle.bench_report.specs.declared.printed.Answer.{Answer}
 use Rattle.bench_report.specs.declared.printed.Printed.TheVariants as printed
 use Rattle.bench_report.specs.Views.{facts, fault_state}
 use Rattle.bench_report.specs.Bench.{DiskState, Blank, Unknown, Formatted, Bench}
-use Rattle.bench_report.specs.Steps.{says, failed, formatted_anew, unknown, FormatsOn}
+use Rattle.bench_report.specs.Happens.{says, failed, formatted_anew, unknown}
+use Rattle.bench_report.specs.PowerOns.{FormatsOn}
 use Rattle.bench_report.specs.Agree.{DiskIs, DeviceIs, OffIs}
 use Rattle.bench_report.proofs.Devices.{is_device, five, fails_by_fault, stays}
 use Rattle.bench_report.proofs.Adapted.{struck, calm, failed_format, no_down}

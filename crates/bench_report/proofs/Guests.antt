@@ -20,18 +20,19 @@ use Rattle.sbi_abi.specs.Calls.{call_of}
 use Rattle.sbi.specs.declared.resets.ResetType.{ResetType}
 use Rattle.sbi.specs.Resets.{reset_of}
 use Rattle.bench_report.specs.Bench.{BenchLife, Bench}
-use Rattle.bench_report.specs.Steps.{off, on_with, has_machine, refused, AnswersError, HartCommand, Resets, SuspendIssued, BenchSleeps, BenchSleepsBy, BenchMakesCall, ComesTo, GuestTurn, IsLastTurn, GuestTurns}
-use Rattle.bench_report.proofs.Determined.{Fair, fair_to, fair_then, unmoved, spoils, starves, issued_fair, Agree, same, issued, some_inj}
+use Rattle.bench_report.specs.Happens.{off, on_with, has_machine}
+use Rattle.bench_report.specs.Turns.{refused, AnswersError, HartCommand, Resets, SuspendIssued, BenchSleeps, BenchSleepsBy, BenchMakesCall, ComesTo, GuestTurn, IsLastTurn, GuestTurns}
+use Rattle.bench_report.proofs.Determined.{Fair, fair_to, fair_then, unmoved, starves, starved, issued_fair, Agree, same, issued, some_inj}
 
 abbrev pub IsOneTurn : Type 0
 IsOneTurn = (h : ℕ) (old new other : Machine) (word also : Turned) → MakesTurn h old new word → MakesTurn h old other also → (new ≡ other) × (word ≡ also)
 
 -- ---- fair
 refuses_fair : (e : SbiError) (h : ℕ) (life : BenchLife) (b : Bench) (word : Word) (new : Bench) → AnswersError e h life b word new → Fair b new
-refuses_fair e h life b word new x = fair_to b new (on_with (refused h e life) b) x.1 (λ s. s, λ c. inr c)
+refuses_fair e h life b word new x = fair_to b new (on_with (refused h e life) b) x.1 (λ s. s, λ c. inr c, λ s. s)
 
 held_fair : (o : Result ℕ ℕ) (said : Word) (h : ℕ) (b : Bench) (word : Word) (new : Bench) → HartCommand o said h b word new → Fair b new
-held_fair (Ok n) said h b word new x = fair_to b new (off b) x.1 (λ s. s, λ c. inr c)
+held_fair (Ok n) said h b word new x = fair_to b new (off b) x.1 (λ s. s, λ c. inr c, λ s. s)
 held_fair (Err n) said h b word new (life, on, x) = refuses_fair Failed h life b word new x
 
 resets_fair : (asked : Result (ResetType × Reason) SbiError) (h : ℕ) (life : BenchLife) (b : Bench) (word : Word) (new : Bench) → Resets asked h life b word new → Fair b new
@@ -40,7 +41,7 @@ resets_fair (Ok reset) h life b word new (o, mid, i, x) = fair_then b mid new (i
 
 suspends_fair : (Fits : Type 0) (c : Change) (life : BenchLife) (b : Bench) (o : Result ℕ ℕ) (new : Bench) → SuspendIssued Fits c life b o new → Fair b new
 suspends_fair Fits c life b o new (inl x) = issued_fair c life b o new x.1
-suspends_fair Fits c life b o new (inr (inl x)) = spoils b new (starves b new x.2)
+suspends_fair Fits c life b o new (inr (inl x)) = starved b new x.2
 suspends_fair Fits c life b o new (inr (inr x)) = unmoved b new x.2
 
 sleeps_fair : (site opaque h : ℕ) (life : BenchLife) (b : Bench) (word : Word) (new : Bench) → BenchSleeps site opaque h life b word new → Fair b new
@@ -61,7 +62,7 @@ comes_fair Durable h life b word new x = makes_fair (call_of (hart_at life.machi
 comes_fair did h life b word new x = unmoved b new x.1
 
 turn_fair : (h : ℕ) (life : BenchLife) (b : Bench) (word : Word) (new : Bench) → GuestTurn h life b word new → Fair b new
-turn_fair h life b word new (m, did, turn, x) = let rest = comes_fair did h (has_machine m life) (on_with (has_machine m life) b) word new x in (λ s. rest.0 s, λ c. rest.1 c)
+turn_fair h life b word new (m, did, turn, x) = let rest = comes_fair did h (has_machine m life) (on_with (has_machine m life) b) word new x in (λ s. rest.0 s, λ c. rest.1 c, λ s. rest.2 s)
 
 pub turns_fair : (h n : ℕ) (b : Bench) (made : ℕ) (word : Word) (new : Bench) → GuestTurns h n b made word new → Fair b new
 turns_fair h zero b made word new x = absurd x

@@ -6,7 +6,8 @@ use Rattle.board_model.specs.Durable.{DurableState, Change, formatted, refusal_o
 use Rattle.board_model.specs.Kept.{Kept, found_of, MayFind, TakesIn}
 use Rattle.bench_report.specs.Taken.{TakesAll, TakesSome, TakesFewer}
 use Rattle.bench_report.specs.Bench.{Formatted, BenchLife, Bench}
-use Rattle.bench_report.specs.Steps.{failed, acknowledged, in_doubt, Writes, IssuedBy, Issued, IssuesAll}
+use Rattle.bench_report.specs.Happens.{failed, acknowledged, in_doubt}
+use Rattle.bench_report.specs.Commands.{Writes, IssuedBy, Issued, IssuesAll}
 use Rattle.bench_report.proofs.Adapted.{grows}
 use Rattle.bench_report.proofs.Table.{table_not_six}
 

@@ -14,6 +14,7 @@ pub mod Determined
 pub mod FailureFree
 pub mod Guests
 pub mod Single
+pub mod Refused
 pub mod Unsaid
 pub mod Lost
 pub mod Serials
@@ -26,3 +27,4 @@ pub mod Started
 pub mod Came
 pub mod Lines
 pub mod RunLines
+pub mod Found

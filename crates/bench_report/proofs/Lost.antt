@@ -1,6 +1,6 @@
 -- Whatever a line tells, power that was lost within it would have left: some first of its commands took
 -- effect.
-use Rattle.std.proofs.Common.{◌≡◌, ◌⊎◌, ℕ, inl, inr, List, [], ◌∷◌, Bool, true}
+use Rattle.std.proofs.Common.{◌≡◌, ◌⊎◌, ℕ, inl, inr, ◌-◌, ◌^◌, ◌==◌, List, [], ◌∷◌, Bool, true, false, MatchBool}
 use Rattle.board_model.specs.Durable.{DurableState, Change, after}
 use Rattle.board_model.specs.declared.boot_mode.BootMode.{BootMode}
 use Rattle.machine.specs.declared.parts.Word.{Word}
@@ -9,9 +9,9 @@ use Rattle.machine_lines.specs.declared.line.MachineLine.{MachineLine}
 use Rattle.machine_lines.specs.declared.line.MachineLine.TheVariants as shown_lines
 use Rattle.bench_report.specs.declared.printed.Printed.{Printed}
 use Rattle.bench_report.specs.declared.printed.Printed.TheVariants as printed
-use Rattle.bench_report.specs.Steps.{commands_of}
+use Rattle.bench_report.specs.PowerOns.{commands_of}
 use Rattle.bench_report.specs.Taken.{TakesAll, TakesSome, TakesFewer}
-use Rattle.bench_report.specs.Prefix.{AskedLine, Boot, Command, Guest, Nothing, IsOfHarts, Hides, TellsWord, TellsLine, RefusedChange, Lost, LineImplies}
+use Rattle.bench_report.specs.Prefix.{AskedLine, Boot, Command, Guest, Nothing, IsOfHarts, Keeps, Hides, may_hide, TellsTurns, TellsCall, TellsLine, RefusedChange, Lost, LineImplies}
 
 none_some : (cs : List Change) (s t : DurableState) → t ≡ s → TakesSome cs s t
 none_some [] s t e = e
@@ -53,15 +53,25 @@ lost_hides : (s t : DurableState) (up now : Bool) → Hides s up t now → LostG
 lost_hides s t up now (inl h) = inl h.0
 lost_hides s t up now (inr h) = inr (h.0, h.2, h.3, h.4)
 
-lost_word : (word : Word) (s t : DurableState) (up now : Bool) → TellsWord word s up t now → LostGuest s up t
-lost_word (words.Own did) s t up now h = lost_hides s t up now h
-lost_word words.Asleep s t up now h = inr (h.0, h.2, inr h.3, all_some (h.2 ∷ []) s t h.4)
-lost_word (words.Reset kind) s t up now h = inr (h.0, h.2, inl h.3, all_some (h.2 ∷ []) s t h.4)
+lost_either : (hidden : Bool) (s t : DurableState) (up now : Bool) → MatchBool hidden (Hides s up t now) (Keeps s up t now) → LostGuest s up t
+lost_either true s t up now h = lost_hides s t up now h
+lost_either false s t up now h = inl h.0
+
+lost_turns : (made : ℕ) (word : Word) (s t : DurableState) (up now : Bool) → TellsTurns made word s up t now → LostGuest s up t
+lost_turns made (words.Own did) s t up now h = lost_either (may_hide made did) s t up now h
+lost_turns made words.Asleep s t up now h = inr (h.0, h.2, inr h.3, all_some (h.2 ∷ []) s t h.4)
+lost_turns made (words.Reset kind) s t up now h = inr (h.0, h.2, inl h.3, all_some (h.2 ∷ []) s t h.4)
+
+lost_call : (word : Word) (s t : DurableState) (up now : Bool) → TellsCall word s up t now → LostGuest s up t
+lost_call (words.Own did) s t up now h = inl h.0
+lost_call words.Asleep s t up now h = inr (h.0, h.2, inr h.3, all_some (h.2 ∷ []) s t h.4)
+lost_call (words.Reset kind) s t up now h = inr (h.0, h.2, inl h.3, all_some (h.2 ∷ []) s t h.4)
 
 lost_line : (line : MachineLine) (s t : DurableState) (up now : Bool) → TellsLine line s up t now → LostGuest s up t
-lost_line (shown_lines.Turn h made word) s t up now x = lost_word word s t up now x
-lost_line (shown_lines.Called h word) s t up now x = lost_word word s t up now x
-lost_line line s t up now x = lost_hides s t up now x
+lost_line (shown_lines.Turn h made word) s t up now x = lost_turns made word s t up now x
+lost_line (shown_lines.Called h word) s t up now x = lost_call word s t up now x
+lost_line (shown_lines.Answered h error value) s t up now x = lost_either (error == 2 ^ 64 - 1) s t up now x
+lost_line line s t up now x = inl x.0
 
 lost_guest : (x : Printed) (s t : DurableState) (up now : Bool) → LineImplies Guest x s up t now → LostGuest s up t
 lost_guest (printed.Shown line) s t up now h = lost_line line s t up now h

@@ -15,7 +15,8 @@ use Rattle.bench_report.specs.declared.printed.Answer.{Answer}
 use Rattle.bench_report.specs.declared.printed.Printed.TheVariants as printed
 use Rattle.bench_report.specs.Views.{facts, fault_state}
 use Rattle.bench_report.specs.Bench.{DiskState, Blank, Unknown, Formatted, Bench}
-use Rattle.bench_report.specs.Steps.{says, out_of_memory, failed, life_begun, MayStand, Opens, PowersOn}
+use Rattle.bench_report.specs.Happens.{says, out_of_memory, failed}
+use Rattle.bench_report.specs.PowerOns.{life_begun, MayStand, Opens, PowersOn}
 use Rattle.bench_report.specs.Agree.{DiskIs, DeviceIs, LifeIs, OffIs}
 use Rattle.bench_report.proofs.Devices.{is_device, is_memory, five, eleven, fails_by_fault, stays}
 use Rattle.bench_report.proofs.Adapted.{struck, calm, failed_open, never_down}

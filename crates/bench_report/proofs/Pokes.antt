@@ -13,7 +13,8 @@ use Rattle.bench_report.specs.declared.printed.Answer.{Answer}
 use Rattle.bench_report.specs.declared.printed.Printed.TheVariants as printed
 use Rattle.bench_report.specs.Views.{facts, fault_state}
 use Rattle.bench_report.specs.Bench.{BenchLife, Bench}
-use Rattle.bench_report.specs.Steps.{says, unknown, PokeStep}
+use Rattle.bench_report.specs.Happens.{says, unknown}
+use Rattle.bench_report.specs.Steps.{PokeStep}
 use Rattle.bench_report.specs.Agree.{DeviceIs, OffIs, Agrees, Matches, StepsTo}
 use Rattle.bench_report.proofs.Devices.{stays}
 use Rattle.bench_report.proofs.Ended.{left_on}

@@ -1,6 +1,6 @@
 -- The prefix law, one induction over the lines, backwards: the state before a line comes of the one after it,
 -- so that the fate of a command in doubt is reported by the open that settles it.
-use Rattle.std.proofs.Common.{◌≡◌, ℕ, inl, inr, List, [], ◌∷◌, Option, None, Some, Result, Ok, Err, refl, sym, ◌∙◌, ap, subst, Bool, true, false, MatchBool}
+use Rattle.std.proofs.Common.{◌≡◌, ◌⊎◌, ℕ, ◌-◌, ◌^◌, ◌==◌, inl, inr, List, [], ◌∷◌, Option, None, Some, Result, Ok, Err, refl, sym, ◌∙◌, ap, subst, Bool, true, false, MatchBool}
 use Rattle.board_model.specs.Durable.{DurableState, Change, Slot, Discard, formatted}
 use Rattle.board_model.specs.Kept.{Kept, nothing_kept, found_of, MayKeep, MayFind}
 use Rattle.board_model.specs.Shapes.{Size}
@@ -16,7 +16,7 @@ use Rattle.machine.specs.Machine.{Machine, hart_at}
 use Rattle.machine_lines.specs.Shows.{own_line}
 use Rattle.machine.specs.declared.parts.Called.{Called}
 use Rattle.machine.specs.declared.parts.Called.TheVariants.{NotStarted, Made}
-use Rattle.hart.specs.State.{ArchState as HartState}
+use Rattle.hart.specs.State.{reg}
 use Rattle.turns.specs.declared.words.Turned.{Turned}
 use Rattle.turns.specs.declared.words.Turned.TheVariants as dids
 use Rattle.machine.specs.declared.parts.Word.{Word}
@@ -30,10 +30,13 @@ use Rattle.bench_report.specs.declared.printed.Printed.TheVariants as printed
 use Rattle.disk.specs.FaultState.{FaultArmed, CutArmed}
 use Rattle.bench_report.specs.declared.printed.Answer.{Answer}
 use Rattle.bench_report.specs.Bench.{DiskState, Blank, Unknown, Formatted, BenchLife, Bench, blank_bench}
-use Rattle.bench_report.specs.Steps.{says, shows, out_of_memory, failed, on_with, unpowered, armed_with, formatted_anew, settled, has_machine, life_begun, commands_of, console_reported, IsBooted, BootsFrom, Resumes, Begins, Boots, Opens, ShowsFound, IsOpenRefusal, PowersOn, FormatsOn, FormatStep, OnStep, ConsoleStep, PayloadStep, CallReported, GuestCall, TurnStep, CallStep, ReadStep, PokeStep, Step, Moves, Run}
+use Rattle.bench_report.specs.Happens.{says, shows, out_of_memory, failed, on_with, unpowered, armed_with, formatted_anew, settled, has_machine}
+use Rattle.bench_report.specs.PowerOns.{life_begun, commands_of, IsBooted, BootsFrom, Resumes, Begins, Boots, Opens, ShowsFound, IsOpenRefusal, PowersOn, FormatsOn}
+use Rattle.bench_report.specs.Steps.{console_reported, FormatStep, OnStep, ConsoleStep, PayloadStep, CallReported, GuestCall, TurnStep, CallStep, ReadStep, PokeStep, Step, Moves, Run}
 use Rattle.bench_report.specs.Reports.{IsByFirmware, AreByFirmware, IsReport}
-use Rattle.bench_report.specs.Prefix.{AskedLine, Boot, Command, Guest, Nothing, Hides, TellsWord, TellsLine, asked_by, RefusedChange, Lost, LineImplies, ShowsIts, IsPrefixed, resumes, RisesFrom, AreLoaded, is_format_ok, IsFoundByPrefix, KeepsPrefixLaw}
-use Rattle.bench_report.proofs.Unsaid.{GoesBy, comes_back, turns_back}
+use Rattle.bench_report.specs.Prefix.{AskedLine, Boot, Command, Guest, Nothing, Keeps, Hides, TellsTurns, TellsLine, asked_by, RefusedChange, Lost, LineImplies, ShowsIts, IsPrefixed, resumes, RisesFrom, AreLoaded, is_format_ok, IsFoundByPrefix, KeepsPrefixLaw}
+use Rattle.bench_report.proofs.Refused.{WasRefused, one_life}
+use Rattle.bench_report.proofs.Unsaid.{Hidden, TellsOne, GoesBy, TurnsGoBy, comes_back, turns_back}
 use Rattle.bench_report.proofs.Lost.{lost}
 use Rattle.bench_report.proofs.Serials.{serials_rise}
 use Rattle.bench_report.proofs.Wholes.{IsKeptWhole, all_loaded}
@@ -202,31 +205,44 @@ payload_at (Some life) slot bytes b a new sound h = shows_on _ b a new sound h.0
 payload_at None slot bytes b a new sound h = same Nothing b a _ new _ h.0 h.1 refl refl refl sound.1 sound (λ s t e. (e, refl))
 
 -- turns and calls
-turn_says : (word : Word) (h made : ℕ) (b : Bench) (a : Answer) (new : Bench) → GoesBy word b new → a ≡ shows (shown_lines.Turn h made word) → Tell Guest b a new
+turn_says : (word : Word) (h made : ℕ) (b : Bench) (a : Answer) (new : Bench) → TurnsGoBy made word b new → a ≡ shows (shown_lines.Turn h made word) → Tell Guest b a new
 turn_says word h made b a new back e =
-    by_eqs Guest b a _ new new e refl (said b new (λ s t. TellsWord word s (is_up b.power) t (is_up new.power)) (λ s t. LineReports Guest (shows (shown_lines.Turn h made word)) (is_up b.power) (is_up new.power) s t) back (λ s t w. (tt, w)))
+    by_eqs Guest b a _ new new e refl (said b new (λ s t. TellsTurns made word s (is_up b.power) t (is_up new.power)) (λ s t. LineReports Guest (shows (shown_lines.Turn h made word)) (is_up b.power) (is_up new.power) s t) back (λ s t w. (tt, w)))
 
-line_says : (word : Word) (line : MachineLine) (b : Bench) (a : Answer) (new : Bench) → GoesBy word b new → a ≡ shows line → ((s t : DurableState) → TellsWord word s (is_up b.power) t (is_up new.power) → TellsLine line s (is_up b.power) t (is_up new.power)) → Tell Guest b a new
-line_says word line b a new back e tells =
-    by_eqs Guest b a _ new new e refl (said b new (λ s t. TellsWord word s (is_up b.power) t (is_up new.power)) (λ s t. LineReports Guest (shows line) (is_up b.power) (is_up new.power) s t) back (λ s t w. (tt, tells s t w)))
+line_says : (h : ℕ) (word : Word) (line : MachineLine) (b : Bench) (a : Answer) (new : Bench) → GoesBy h word b new → a ≡ shows line → ((s t : DurableState) → TellsOne h new word s (is_up b.power) t (is_up new.power) → TellsLine line s (is_up b.power) t (is_up new.power)) → Tell Guest b a new
+line_says h word line b a new back e tells =
+    by_eqs Guest b a _ new new e refl (said b new (λ s t. TellsOne h new word s (is_up b.power) t (is_up new.power)) (λ s t. LineReports Guest (shows line) (is_up b.power) (is_up new.power) s t) back (λ s t w. (tt, tells s t w)))
 
-own_tells : (h : ℕ) (hart : HartState) (did : Turned) (s t : DurableState) (up now : Bool) → Hides s up t now → TellsLine (own_line h hart did) s up t now
-own_tells h hart dids.Next s t up now w = w
-own_tells h hart dids.Idle s t up now w = w
-own_tells h hart dids.Entered s t up now w = w
-own_tells h hart dids.Woke s t up now w = w
-own_tells h hart dids.Suspended s t up now w = w
-own_tells h hart dids.Stopped s t up now w = w
-own_tells h hart dids.Durable s t up now w = w
+keeps_either : (hidden : Bool) (s t : DurableState) (up now : Bool) → Keeps s up t now → MatchBool hidden (Hides s up t now) (Keeps s up t now)
+keeps_either true s t up now k = inl k
+keeps_either false s t up now k = k
 
-call_says : (word : Word) (h : ℕ) (b : Bench) (a : Answer) (new : Bench) → GoesBy word b new → CallReported h word new a → Tell Guest b a new
+-- the line of a call shows the hart as the bench has it
+module _ (h : ℕ) (new : Bench) (life : BenchLife) (on : new.power ≡ Some life) (s t : DurableState) (up now : Bool) where
+  answer_tells : Keeps s up t now ⊎ (WasRefused h new × Hidden s up t now) → TellsLine (own_line h (hart_at life.machine h) dids.Next) s up t now
+  answer_tells (inl k) = keeps_either _ s t up now k
+  answer_tells (inr ((other, also, is), hid)) =
+      let L : BenchLife → Type 0 = λ l. reg (hart_at l.machine h) 10 ≡ 2 ^ 64 - 1 in
+      let P : ℕ → Type 0 = λ n. MatchBool (n == 2 ^ 64 - 1) (Hides s up t now) (Keeps s up t now) in
+      subst P (sym (subst L (one_life new.power life other on also) is)) (inr hid)
+
+  own_tells : (did : Turned) → TellsOne h new (words.Own did) s up t now → TellsLine (own_line h (hart_at life.machine h) did) s up t now
+  own_tells dids.Next w = answer_tells w
+  own_tells dids.Idle w = w
+  own_tells dids.Entered w = w
+  own_tells dids.Woke w = w
+  own_tells dids.Suspended w = w
+  own_tells dids.Stopped w = w
+  own_tells dids.Durable w = w
+
+call_says : (word : Word) (h : ℕ) (b : Bench) (a : Answer) (new : Bench) → GoesBy h word b new → CallReported h word new a → Tell Guest b a new
 call_says (words.Own did) h b a new back (life, on, e) =
-    line_says (words.Own did) (own_line h (hart_at life.machine h) did) b a new back e (λ s t w. own_tells h (hart_at life.machine h) did s t (is_up b.power) (is_up new.power) w)
-call_says words.Asleep h b a new back e = line_says words.Asleep (shown_lines.Called h words.Asleep) b a new back e (λ s t w. w)
-call_says (words.Reset kind) h b a new back e = line_says (words.Reset kind) (shown_lines.Called h (words.Reset kind)) b a new back e (λ s t w. w)
+    line_says h (words.Own did) (own_line h (hart_at life.machine h) did) b a new back e (λ s t w. own_tells h new life on s t (is_up b.power) (is_up new.power) did w)
+call_says words.Asleep h b a new back e = line_says h words.Asleep (shown_lines.Called h words.Asleep) b a new back e (λ s t w. w)
+call_says (words.Reset kind) h b a new back e = line_says h (words.Reset kind) (shown_lines.Called h (words.Reset kind)) b a new back e (λ s t w. w)
 
 stays_off : (b : Bench) (a : Answer) (new : Bench) → IsSound b → a ≡ shows shown_lines.Off → new ≡ b → Tell Guest b a new
-stays_off b a new sound e f = stays Guest b a (printed.Shown shown_lines.Off) new e f sound (λ s t e. inl (e, refl))
+stays_off b a new sound e f = stays Guest b a (printed.Shown shown_lines.Off) new e f sound (λ s t e. (e, refl))
 
 turn_at : (p : Option BenchLife) (h n : ℕ) (b : Bench) (a : Answer) (new : Bench) → IsSound b → TurnStep p h n b a new → Tell Guest b a new
 turn_at None h n b a new sound x = stays_off b a new sound x.0 x.1
@@ -236,7 +252,7 @@ turn_at (Some life) h n b a new sound (inr x) = stays_off b a new sound x.1 x.2
 called_at : (called : Called) (h : ℕ) (m : Machine) (life : BenchLife) (b : Bench) (a : Answer) (new : Bench) → IsSound b → b.power ≡ Some life → GuestCall called h (has_machine m life) (on_with (has_machine m life) b) a new → Tell Guest b a new
 called_at NotStarted h m life b a new sound on x =
     let F : Option BenchLife → Type 0 = λ p. GoesOn b.kept p in
-    same Guest b a (printed.Shown (shown_lines.NotStarted h)) new (on_with (has_machine m life) b) x.0 x.1 refl refl (sym (ap is_up on)) (subst F on sound.1) sound (λ s t e. inl (e, refl))
+    same Guest b a (printed.Shown (shown_lines.NotStarted h)) new (on_with (has_machine m life) b) x.0 x.1 refl refl (sym (ap is_up on)) (subst F on sound.1) sound (λ s t e. (e, refl))
 called_at (Made did) h m life b a new sound on (word, x, e) = call_says word h b a new (comes_back did h life (has_machine m life) b word new sound on refl refl x) e
 
 call_at : (p : Option BenchLife) (h e f x y z : ℕ) (b : Bench) (a : Answer) (new : Bench) → IsSound b → b.power ≡ p → CallStep p h e f x y z b a new → Tell Guest b a new
@@ -248,7 +264,7 @@ read_at : (p : Option BenchLife) (says_so : Machine → MachineLine → Type 0) 
 read_at None says_so b a new sound x = shows_on _ b a new sound x.0 x.1
 read_at (Some life) says_so b a new sound x = shows_on x.0 b a new sound x.2 x.3
 
-steps : (size : Size) (line : Line) (b : Bench) (a : Answer) (new : Bench) → IsByFirmware line → IsSound b → Step size line b a new → Tell (asked_by line) b a new
+pub steps : (size : Size) (line : Line) (b : Bench) (a : Answer) (new : Bench) → IsByFirmware line → IsSound b → Step size line b a new → Tell (asked_by line) b a new
 steps size (lines.Payload x y) b a new by sound h = payload_at b.power x y b a new sound h
 steps size lines.Format b a new by sound h = format_at b.power b a new sound h
 steps size (lines.On mode) b a new by sound h = on_at size b.power mode b a new sound refl h
@@ -299,7 +315,7 @@ by_line : {T : Type 0} (x y : Printed) → x ≡ y → is_format_ok y ≡ false 
 by_line x y e differs ok = let P : Printed → Type 0 = λ z. is_format_ok z ≡ true in absurd (let never : true ≡ false = sym (subst P e ok) ∙ differs in let bad : ⊥ = cc in bad)
 
 -- a board that is off over a disk that was formatted anew
-abbrev IsFresh : Bench → Type 0
+abbrev pub IsFresh : Bench → Type 0
 IsFresh new = (new.disk_state ≡ Formatted) × (new.kept ≡ nothing_kept) × (new.power ≡ None)
 
 fresh : (new b : Bench) → b.power ≡ None → new ≡ formatted_anew b → IsFresh new
@@ -403,7 +419,7 @@ step_formats size (lines.FailLane x y) b a new h ok = other a _ h.0 refl ok
 step_formats size (lines.Cut x) b a new h ok = other a _ h.0 refl ok
 step_formats size (lines.Poke x y z) b a new h ok = poke_no b.power b a new h ok
 
-moves_format : (size : Size) (line : Line) (b : Bench) (a : Answer) (new : Bench) → Moves size line b a new → is_format_ok a.line ≡ true → IsFresh new
+pub moves_format : (size : Size) (line : Line) (b : Bench) (a : Answer) (new : Bench) → Moves size line b a new → is_format_ok a.line ≡ true → IsFresh new
 moves_format size line b a new (inl h) ok = step_formats size line b a new h.0 ok
 moves_format size line b a new (inr h) ok = other a _ h.4 refl ok
 
@@ -428,7 +444,7 @@ anew size ls b answers end by (disk_state, kept, on) run =
     first s (cs, inl e, is) = is ∙ ap found_of e
     first s (cs, inr e, is) = absurd e
 
-either : (t : Bool) (P Q : Type 0) → (t ≡ true → P) → Q → MatchBool t P Q
+pub either : (t : Bool) (P Q : Type 0) → (t ≡ true → P) → Q → MatchBool t P Q
 either true P Q p q = p refl
 either false P Q p q = q
 

@@ -14,7 +14,10 @@ use Rattle.bench_report.specs.declared.printed.Answer.{Answer}
 use Rattle.bench_report.specs.declared.printed.Printed.{Printed}
 use Rattle.bench_report.specs.declared.printed.Printed.TheVariants as printed
 use Rattle.bench_report.specs.Bench.{DiskState, Blank, Unknown, Formatted, BenchLife, Bench, IsFailureFree, blank_bench}
-use Rattle.bench_report.specs.Steps.{says, on_with, settled, has_machine, acknowledged, life_begun, Writes, Issued, IssuesAll, ShowsFound, IsBooted, BootsFrom, Resumes, Boots, Opens, IsOpenRefusal, PowersOn, OnStep, Moves}
+use Rattle.bench_report.specs.Happens.{says, on_with, settled, has_machine, acknowledged}
+use Rattle.bench_report.specs.Commands.{Writes, Issued, IssuesAll}
+use Rattle.bench_report.specs.PowerOns.{life_begun, ShowsFound, IsBooted, BootsFrom, Resumes, Boots, Opens, IsOpenRefusal, PowersOn}
+use Rattle.bench_report.specs.Steps.{OnStep, Moves}
 use Rattle.bench_report.specs.Reports.{AreByFirmware, IsReport}
 use Rattle.bench_report.specs.Resumed.{IsMadeIn, IsResumedFrom}
 use Rattle.bench_report.proofs.Determined.{HasFailed, CalmDisk, starves, hinders, some_inj}
@@ -142,7 +145,7 @@ pub sure : (script : Script) (answers : List Answer) (b : Bench) → AreByFirmwa
 sure script [] b by h failure_free_bench disk_state = absurd h
 sure script (board ∷ answers) b by h failure_free_bench disk_state =
     let P : DiskState → Type 0 = λ m. CalmDisk m b.kept.doubt in
-    elim ((run_fair script.size script.lines blank_bench answers b by h.1).1 tt) [ inl spoilt ↦ clean b failure_free_bench spoilt | inr calm ↦ subst P disk_state calm ]
+    elim ((run_fair script.size script.lines blank_bench answers b by h.1).1 (tt, refl)) [ inl spoilt ↦ clean b failure_free_bench (inr spoilt) | inr calm ↦ subst P disk_state calm.0 ]
 
 kept_as : (k : Kept) (changes : List Change) → k.doubt ≡ None → MayKeep k changes → changes ≡ k.changes
 kept_as k changes calm (inl e) = e

@@ -21,10 +21,11 @@ use Rattle.bench_report.specs.declared.printed.ConsoleWord.{ConsoleWord}
 use Rattle.bench_report.specs.declared.printed.ConsoleWord.TheVariants as names
 use Rattle.bench_report.specs.declared.printed.Answer.{Answer}
 use Rattle.bench_report.specs.Bench.{BenchLife, Bench, IsFailureFree, blank_bench}
-use Rattle.bench_report.specs.Steps.{shows, unpowered, unknown, armed_with, on_with, has_machine, console_reported, FormatStep, OnStep, ConsoleStep, PayloadStep, CallReported, GuestCall, TurnStep, CallStep, ReadStep, PokeStep, Step, Moves, Run}
+use Rattle.bench_report.specs.Happens.{shows, unpowered, unknown, armed_with, on_with, has_machine}
+use Rattle.bench_report.specs.Steps.{console_reported, FormatStep, OnStep, ConsoleStep, PayloadStep, CallReported, GuestCall, TurnStep, CallStep, ReadStep, PokeStep, Step, Moves, Run}
 use Rattle.bench_report.specs.Reports.{IsByFirmware, AreByFirmware, IsReport}
 use Rattle.bench_report.proofs.Guests.{IsOneTurn, Row, row, comes_fair, comes_one, turns_fair, turns_one}
-use Rattle.bench_report.proofs.Determined.{some_inj, HasFailed, IsCalm, Fair, fair_to, fair_then, unmoved, issued_fair, Agree, same, issued, formats_fair, formats, powers_fair, powers}
+use Rattle.bench_report.proofs.Determined.{some_inj, HasFailed, DiskHasFailed, IsCalm, Fair, fair_to, fair_then, unmoved, issued_fair, Agree, same, issued, formats_fair, formats, powers_fair, powers}
 
 -- what the lines leave nothing open of
 abbrev pub IsOneCall : Type 0
@@ -47,7 +48,7 @@ console_fair word c None b a new h = unmoved b new h.1
 console_fair word c (Some life) b a new h = issued_fair c life b h.0 new h.1
 
 payload_fair : (p : Option BenchLife) (slot : ℕ) (bytes : List ℕ) (b : Bench) (a : Answer) (new : Bench) → PayloadStep p slot bytes b a new → Fair b new
-payload_fair None slot bytes b a new h = fair_to b new _ h.1 (λ s. s, λ c. inr c)
+payload_fair None slot bytes b a new h = fair_to b new _ h.1 (λ s. s, λ c. inr c, λ s. s)
 payload_fair (Some life) slot bytes b a new h = unmoved b new h.1
 
 turn_fair : (p : Option BenchLife) (h n : ℕ) (b : Bench) (a : Answer) (new : Bench) → TurnStep p h n b a new → Fair b new
@@ -62,7 +63,7 @@ called_fair (Made did) h life b a new (word, x, e) = comes_fair did h life b wor
 call_fair : (p : Option BenchLife) (h e f x y z : ℕ) (b : Bench) (a : Answer) (new : Bench) → CallStep p h e f x y z b a new → Fair b new
 call_fair None h e f x y z b a new g = unmoved b new g.1
 call_fair (Some life) h e f x y z b a new (inl (has, m, called, did, g)) =
-    let rest = called_fair called h (has_machine m life) (on_with (has_machine m life) b) a new g in (λ s. rest.0 s, λ c. rest.1 c)
+    let rest = called_fair called h (has_machine m life) (on_with (has_machine m life) b) a new g in (λ s. rest.0 s, λ c. rest.1 c, λ s. rest.2 s)
 call_fair (Some life) h e f x y z b a new (inr g) = unmoved b new g.2
 
 read_fair : (p : Option BenchLife) (says_so : Machine → MachineLine → Type 0) (b : Bench) (a : Answer) (new : Bench) → ReadStep p says_so b a new → Fair b new
@@ -82,16 +83,28 @@ step_fair size (lines.Pc x) b a new by h = read_fair b.power _ b a new h
 step_fair size (lines.Csr x y) b a new by h = read_fair b.power _ b a new h
 step_fair size lines.Pending b a new by h = read_fair b.power _ b a new h
 step_fair size (lines.Mem x y) b a new by h = read_fair b.power _ b a new h
-step_fair size (lines.CutAt x y) b a new by h = fair_to b new (armed_with CutArmed b) h.1 (λ s. s, λ c. inr c)
-step_fair size (lines.CutLane x y z) b a new by h = fair_to b new (armed_with CutArmed b) h.1 (λ s. s, λ c. inr c)
-step_fair size (lines.FailAt x) b a new by h = fair_to b new (armed_with FaultArmed b) h.1 (λ s. s, λ c. inr c)
-step_fair size (lines.FailLane x y) b a new by h = fair_to b new (armed_with FaultArmed b) h.1 (λ s. s, λ c. inr c)
-step_fair size (lines.Cut fill) b a new by h = fair_to b new (unpowered b) h.1 (λ s. s, λ c. inr c)
+step_fair size (lines.CutAt x y) b a new by h = fair_to b new (armed_with CutArmed b) h.1 (λ s. s, λ c. inr c, λ s. s)
+step_fair size (lines.CutLane x y z) b a new by h = fair_to b new (armed_with CutArmed b) h.1 (λ s. s, λ c. inr c, λ s. s)
+step_fair size (lines.FailAt x) b a new by h = fair_to b new (armed_with FaultArmed b) h.1 (λ s. s, λ c. inr c, λ s. s)
+step_fair size (lines.FailLane x y) b a new by h = fair_to b new (armed_with FaultArmed b) h.1 (λ s. s, λ c. inr c, λ s. s)
+step_fair size (lines.Cut fill) b a new by h = fair_to b new (unpowered b) h.1 (λ s. s, λ c. inr (c.0, refl), λ s. s)
 step_fair size (lines.Poke x y z) b a new by h = absurd by
 
 pub moves_fair : (size : Size) (line : Line) (b : Bench) (a : Answer) (new : Bench) → IsByFirmware line → Moves size line b a new → Fair b new
 moves_fair size line b a new by (inl x) = step_fair size line b a new by x.0
-moves_fair size line b a new by (inr (would, mid, x, struck, e, is)) = let one = step_fair size line b would mid by x in fair_to b new (unpowered mid) is (λ s. one.0 s, λ c. one.1 c)
+moves_fair size line b a new by (inr (would, mid, x, struck, e, is)) = let one = step_fair size line b would mid by x in fair_to b new (unpowered mid) is (λ s. one.0 s, λ c. cut_off (one.1 c), λ s. one.2 s)
+  where
+    cut_off : DiskHasFailed mid ⊎ IsCalm mid → DiskHasFailed mid ⊎ IsCalm (unpowered mid)
+    cut_off (inl s) = inl s
+    cut_off (inr c) = inr (c.0, refl)
+
+-- a cut that struck had the disk fail
+pub struck_fails : (size : Size) (line : Line) (b : Bench) (would : Answer) (mid : Bench) → IsByFirmware line → IsCalm b → Step size line b would mid → mid.fault_state.struck ≡ true → DiskHasFailed mid
+struck_fails size line b would mid by calm x struck = by_calm ((step_fair size line b would mid by x).1 calm)
+  where
+    by_calm : DiskHasFailed mid ⊎ IsCalm mid → DiskHasFailed mid
+    by_calm (inl s) = s
+    by_calm (inr c) = absurd (let e : true ≡ false = sym struck ∙ c.1 in let no : ⊥ = cc in no)
 
 spoilt_as : (x y : Bench) → x ≡ y → HasFailed y → HasFailed x
 spoilt_as x y e s = let P : Bench → Type 0 = HasFailed in subst P (sym e) s
@@ -112,7 +125,7 @@ by_word f o p a z new last e g (inr (inl s)) = inr (inl s)
 by_word f o p a z new last e g (inr (inr h)) = inr (inr (e ∙ ap f h.0 ∙ sym g, h.1))
 
 format_at : (p : Option BenchLife) (b : Bench) (a z : Answer) (new last : Bench) → IsCalm b → FormatStep p b a new → FormatStep p b z last → Agree a z new last
-format_at None b a z new last calm x y = formats b.disk_state b a z new last calm x y
+format_at None b a z new last calm x y = formats b.disk_state b a z new last calm.0 x y
 format_at (Some life) b a z new last calm x y = same a z _ new last b x.0 y.0 x.1 y.1
 
 on_at : (size : Size) (p : Option BenchLife) (mode : BootMode) (b : Bench) (a z : Answer) (new last : Bench) → IsCalm b → OnStep size p mode b a new → OnStep size p mode b z last → Agree a z new last
@@ -230,10 +243,10 @@ runs turns call csr size (l ∷ ls) b (a ∷ answers) (z ∷ others) end last by
     go (moves turns call csr size l b a z x.0 y.0 calm x.1 y.1) ((moves_fair size l b a x.0 by.0 x.1).1 calm)
     (λ calm e. (let M : Bench → Type 0 = λ m. Run size m ls others last in runs turns call csr size ls x.0 answers others end last by.1 calm u v x.2 (subst M (sym e) y.2)))
   where
-    go : Agree a z x.0 y.0 → HasFailed x.0 ⊎ IsCalm x.0 → (IsCalm x.0 → x.0 ≡ y.0 → (answers ≡ others) × (end ≡ last)) → ((a ∷ answers) ≡ (z ∷ others)) × (end ≡ last)
+    go : Agree a z x.0 y.0 → DiskHasFailed x.0 ⊎ IsCalm x.0 → (IsCalm x.0 → x.0 ≡ y.0 → (answers ≡ others) × (end ≡ last)) → ((a ∷ answers) ≡ (z ∷ others)) × (end ≡ last)
     go (inl s) c more = clean end u (run_spoilt size ls x.0 answers end by.1 x.2 s)
     go (inr (inl s)) c more = clean last v (run_spoilt size ls y.0 others last by.1 y.2 s)
-    go (inr (inr e)) (inl s) more = clean end u (run_spoilt size ls x.0 answers end by.1 x.2 s)
+    go (inr (inr e)) (inl s) more = clean end u (run_spoilt size ls x.0 answers end by.1 x.2 (inr s))
     go (inr (inr e)) (inr c) more = let rest = more c e.1 in (ap (λ h. h ∷ answers) e.0 ∙ ap (λ t. z ∷ t) rest.0, rest.1)
 runs turns call csr size [] b (a ∷ answers) others end last by calm u v x y = absurd x
 runs turns call csr size [] b [] (z ∷ others) end last by calm u v x y = absurd y
@@ -244,5 +257,5 @@ pub one_report : IsOneTurn → IsOneCall → IsOneCsr → (script : Script) (ans
 one_report turns call csr script [] others end last by x y u v = absurd x
 one_report turns call csr script (b ∷ answers) [] end last by x y u v = absurd y
 one_report turns call csr script (b ∷ answers) (d ∷ others) end last by x y u v =
-    let rest = runs turns call csr script.size script.lines blank_bench answers others end last by tt u v x.1 y.1 in
+    let rest = runs turns call csr script.size script.lines blank_bench answers others end last by (tt, refl) u v x.1 y.1 in
     (ap (λ q. q ∷ answers) (x.0 ∙ sym y.0) ∙ ap (λ qs. d ∷ qs) rest.0, rest.1)

@@ -25,7 +25,9 @@ use Rattle.bench_report.specs.declared.printed.Printed.{Printed}
 use Rattle.bench_report.specs.declared.printed.Printed.TheVariants as printed
 use Rattle.bench_report.specs.Views.{SimStore, SimBoard, store_in, machine_in, facts, fault_state, store_size, store_facts, store_fault_state, IsLife, IsAs}
 use Rattle.bench_report.specs.Bench.{DiskState, Blank, Unknown, Formatted, BenchLife, Bench}
-use Rattle.bench_report.specs.Steps.{says, out_of_memory, failed, off, on_with, has_machine, life_begun, acknowledged, in_doubt, commands_of, Writes, Issued, IssuesAll, ShowsFound, Opens, BootsFrom, Begins, Boots, PowersOn}
+use Rattle.bench_report.specs.Happens.{says, out_of_memory, failed, off, on_with, has_machine, acknowledged, in_doubt}
+use Rattle.bench_report.specs.Commands.{Writes, Issued, IssuesAll}
+use Rattle.bench_report.specs.PowerOns.{life_begun, commands_of, ShowsFound, Opens, BootsFrom, Begins, Boots, PowersOn}
 use Rattle.bench_report.specs.Agree.{AreShort, DiskIs, DeviceIs, LifeIs, OffIs, OnIs}
 use Rattle.bench_report.proofs.Adapted.{calm}
 use Rattle.bench_report.proofs.Commanded.{follows_more, follows_with}

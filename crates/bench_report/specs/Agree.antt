@@ -1,5 +1,5 @@
 -- How the code's disk and board stand for the bench of the model.
-use Rattle.std.specs.Prelude.{◌≡◌, false, ◌⊎◌, true, false, ℕ, List, All, ◌≤◌, Option, Some, None, Result, OnOk, length, ⊤}
+use Rattle.std.specs.Prelude.{◌≡◌, false, ◌⊎◌, true, false, ℕ, List, [], ◌∷◌, All, ◌≤◌, Option, Some, None, Result, OnOk, length, ⊤}
 use Rattle.board_model.specs.Durable.{DurableState}
 use Rattle.board_model.specs.Kept.{Kept, MayFind, found_of}
 use Rattle.board_model.specs.Shapes.{Size, sectors_of}
@@ -146,6 +146,10 @@ abbrev pub fill_after : Line → Fill → Fill
 fill_after (lines.CutAt n newest) fill = newest
 fill_after (lines.CutLane i n newest) fill = newest
 fill_after line fill = fill
+
+abbrev pub fills_after : List Line → Fill → Fill
+fills_after [] fill = fill
+fills_after (line ∷ more) fill = fills_after more (fill_after line fill)
 
 -- A line was run to its end; or an armed cut struck within it, and then power was cut by the fill, whatever
 -- the line would have answered and left.

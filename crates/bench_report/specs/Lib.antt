@@ -1,6 +1,14 @@
 -- In reading order.
 -- The bench as a model: disk, board, payloads, fault state.
 pub mod Bench
+-- What a line says, and the bench after one thing that happened.
+pub mod Happens
+-- A durable command: its receipt, or the number with which it is refused.
+pub mod Commands
+-- Turns and calls of harts.
+pub mod Turns
+-- A format, and a power-on.
+pub mod PowerOns
 -- What each line of a script may answer, and the bench after it; whole runs.
 pub mod Steps
 -- The exact text of each line of a report.
@@ -13,6 +21,10 @@ pub mod Plain
 pub mod Taken
 -- The prefix law, in the words of the report alone.
 pub mod Prefix
+-- Without failures: each power-on finds what all acknowledged commands make.
+pub mod AllFound
+-- What of both a whole report keeps.
+pub mod Laws
 -- A power-on at any point of a run, and the board that goes on with an image.
 pub mod Resumed
 -- What the layers below say of a disk in memory and of a board over it.

@@ -22,7 +22,9 @@ use Rattle.bench_report.specs.declared.printed.ConsoleWord.TheVariants as names
 use Rattle.bench_report.specs.declared.printed.Printed.{Printed}
 use Rattle.bench_report.specs.declared.printed.Printed.TheVariants as printed
 use Rattle.bench_report.specs.Bench.{DiskState, Blank, Unknown, Formatted, BenchLife, Bench, blank_bench}
-use Rattle.bench_report.specs.Steps.{says, shows, on_with, unpowered, armed_with, formatted_anew, settled, has_machine, acknowledged, life_begun, console_reported}
+use Rattle.bench_report.specs.Happens.{says, shows, on_with, unpowered, armed_with, formatted_anew, settled, has_machine, acknowledged}
+use Rattle.bench_report.specs.PowerOns.{life_begun}
+use Rattle.bench_report.specs.Steps.{console_reported}
 use Rattle.bench_report.specs.Reports.{board_answer, report_text}
 
 -- a command's receipt or number, and the bench after it, by the number with which the table refuses it

@@ -3,7 +3,7 @@
 -- into the state after those of its commands that took effect, the first of them first: all, where it says
 -- so; where it was refused, some but not all; where it was refused 6 or lost power, some first of them. A
 -- life takes commands from its power-on to its first command in doubt, its end or a cut.
-use Rattle.std.specs.Prelude.{◌≡◌, ◌≢◌, ◌⊎◌, ℕ, ◌+◌, ◌≤◌, Bool, true, false, List, [], ◌∷◌, Option, Some, None, MatchBool, ⊤}
+use Rattle.std.specs.Prelude.{◌≡◌, ◌≢◌, ◌⊎◌, ℕ, zero, suc, ◌+◌, ◌-◌, ◌^◌, ◌==◌, ◌≤◌, Bool, true, false, List, [], ◌∷◌, Option, Some, None, MatchBool, ⊤}
 use Rattle.board_model.specs.Durable.{DurableState, Change, Slot, Reset, Suspend, Discard, formatted}
 use Rattle.bench_report.specs.Taken.{TakesAll, TakesSome, TakesFewer}
 use Rattle.board_model.specs.Views.{durable_of}
@@ -14,6 +14,8 @@ use Rattle.board_model.specs.declared.boot_mode.BootMode.{BootMode}
 use Rattle.board_model.specs.declared.boot_mode.BootMode.TheVariants as modes
 use Rattle.machine.specs.declared.parts.Word.{Word}
 use Rattle.machine.specs.declared.parts.Word.TheVariants as words
+use Rattle.turns.specs.declared.words.Turned.{Turned}
+use Rattle.turns.specs.declared.words.Turned.TheVariants.{Next}
 use Rattle.machine_lines.specs.declared.line.MachineLine.{MachineLine}
 use Rattle.machine_lines.specs.declared.line.MachineLine.TheVariants as shown
 use Rattle.script_lang.specs.declared.line.Line.{Line}
@@ -21,7 +23,7 @@ use Rattle.script_lang.specs.declared.line.Line.TheVariants as lines
 use Rattle.bench_report.specs.declared.printed.Answer.{Answer}
 use Rattle.bench_report.specs.declared.printed.Printed.{Printed}
 use Rattle.bench_report.specs.declared.printed.Printed.TheVariants as printed
-use Rattle.bench_report.specs.Steps.{commands_of}
+use Rattle.bench_report.specs.PowerOns.{commands_of}
 
 -- what a line asks of the disk: a boot with its commands, one command of the console, at most one that a hart
 -- makes, or none
@@ -60,23 +62,45 @@ IsOfHarts c = IsReset c ⊎ IsSuspension c
 abbrev pub EndsLife : (Change → Type 0) → DurableState → Bool → DurableState → Bool → Type 0
 EndsLife Is s up t now = (up ≡ true) × (now ≡ false) × (c : Change) × Is c × TakesAll (c ∷ []) s t
 
--- Harts went on: none of them made a durable command; or one is in doubt, of which the report does not tell,
--- and the life takes no more.
+-- the line tells of no command, and none was made
+abbrev pub Keeps : DurableState → Bool → DurableState → Bool → Type 0
+Keeps s up t now = (t ≡ s) × (now ≡ up)
+
+-- A hart's command is in doubt of which the report does not tell, and the life takes no more; or none was
+-- made.
 abbrev pub Hides : DurableState → Bool → DurableState → Bool → Type 0
-Hides s up t now =
-    ((t ≡ s) × (now ≡ up))
+Hides s up t now = Keeps s up t now
     ⊎ ((up ≡ true) × (now ≡ false) × (c : Change) × IsOfHarts c × TakesSome (c ∷ []) s t)
 
--- what the word of a turn or a call tells
-abbrev pub TellsWord : Word → DurableState → Bool → DurableState → Bool → Type 0
-TellsWord (words.Own did) s up t now = Hides s up t now
-TellsWord words.Asleep s up t now = EndsLife IsSuspension s up t now
-TellsWord (words.Reset kind) s up t now = EndsLife IsReset s up t now
+abbrev pub is_next : Turned → Bool
+is_next Next = true
+is_next did = false
 
+-- A hart whose command is in doubt is answered -1, and goes on. So one turn that ended otherwise hides none; of a
+-- row of turns the line tells the last alone.
+abbrev pub may_hide : ℕ → Turned → Bool
+may_hide (suc zero) did = is_next did
+may_hide made did = true
+
+-- what a line of so many turns tells by the word of the last
+abbrev pub TellsTurns : ℕ → Word → DurableState → Bool → DurableState → Bool → Type 0
+TellsTurns made (words.Own did) s up t now = MatchBool (may_hide made did) (Hides s up t now) (Keeps s up t now)
+TellsTurns made words.Asleep s up t now = EndsLife IsSuspension s up t now
+TellsTurns made (words.Reset kind) s up t now = EndsLife IsReset s up t now
+
+-- what the word of a call tells that was not answered
+abbrev pub TellsCall : Word → DurableState → Bool → DurableState → Bool → Type 0
+TellsCall (words.Own did) s up t now = Keeps s up t now
+TellsCall words.Asleep s up t now = EndsLife IsSuspension s up t now
+TellsCall (words.Reset kind) s up t now = EndsLife IsReset s up t now
+
+-- what a line of harts tells; a call that was answered hides a command where the answer is -1
 abbrev pub TellsLine : MachineLine → DurableState → Bool → DurableState → Bool → Type 0
-TellsLine (shown.Turn h made word) s up t now = TellsWord word s up t now
-TellsLine (shown.Called h word) s up t now = TellsWord word s up t now
-TellsLine line s up t now = Hides s up t now
+TellsLine (shown.Turn h made word) s up t now = TellsTurns made word s up t now
+TellsLine (shown.Called h word) s up t now = TellsCall word s up t now
+TellsLine (shown.Answered h error value) s up t now =
+    MatchBool (error == 2 ^ 64 - 1) (Hides s up t now) (Keeps s up t now)
+TellsLine line s up t now = Keeps s up t now
 
 -- power was lost within the line: some first of its commands took effect, of which a board takes none that is
 -- off or in doubt
@@ -102,7 +126,7 @@ LineImplies Guest (printed.On mode) s up t now = ⊥
 LineImplies (Command c) (printed.On mode) s up t now = ⊥
 LineImplies asked printed.Cut s up t now = (t ≡ s) × (now ≡ false)
 LineImplies asked printed.PowerLost s up t now = Lost asked s up t × (now ≡ false)
-LineImplies asked said s up t now = (t ≡ s) × (now ≡ up)
+LineImplies asked said s up t now = Keeps s up t now
 
 abbrev pub ShowsIts : Option Durable → DurableState → Type 0
 ShowsIts None s = ⊤

@@ -10,7 +10,8 @@ use Rattle.bench_report.specs.declared.printed.Printed.TheVariants as printed
 use Rattle.bench_report.specs.declared.printed.Answer.{Answer}
 use Rattle.bench_report.specs.Texts.{found_line, line_text, found_count}
 use Rattle.bench_report.specs.Bench.{Bench, blank_bench}
-use Rattle.bench_report.specs.Steps.{says, Run}
+use Rattle.bench_report.specs.Happens.{says}
+use Rattle.bench_report.specs.Steps.{Run}
 
 -- the lines that one line of a script makes
 abbrev pub answer_text : Answer → List ℕ

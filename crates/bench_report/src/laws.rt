@@ -1,6 +1,6 @@
 //! Laws of the reports, each the contract of a function that does nothing.
 
-ghost use Rattle.std.specs.Prelude.{◌≡◌, ◌≢◌, List, Ok, Err, None, Some, codes};
+ghost use Rattle.std.specs.Prelude.{◌≡◌, ◌≢◌, ◌≤◌, ℕ, suc, List, length, take, drop, Ok, Err, None, Some, codes};
 ghost use Rattle.board_model.specs.Durable.{DurableState};
 ghost use Rattle.board_model.specs.Kept.{MayFind, found_of};
 ghost use Rattle.board_model.specs.Views.{durable_of};
@@ -12,10 +12,11 @@ ghost use Rattle.script_lang.specs.Scripts.{Script};
 ghost use Rattle.script_lang.specs.declared.line.Line.TheVariants as lines;
 ghost use Rattle.bench_report.specs.Bench.{Bench, Formatted, IsFailureFree};
 ghost use Rattle.bench_report.specs.Plain.{ArePlain, ShowNoFailure, plain_report, plain_text};
+ghost use Rattle.bench_report.specs.AllFound.{FindsAll};
 ghost use Rattle.bench_report.specs.Prefix.{KeepsPrefixLaw};
 ghost use Rattle.bench_report.specs.Reports.{AreByFirmware, IsReport};
 ghost use Rattle.bench_report.specs.Resumed.{IsResumedFrom};
-ghost use Rattle.bench_report.specs.Steps.{Moves};
+ghost use Rattle.bench_report.specs.Steps.{Moves, Run};
 ghost use Rattle.bench_report.specs.declared.printed.Answer.{Answer};
 ghost use Rattle.bench_report.specs.declared.printed.Printed.TheVariants as printed;
 
@@ -48,6 +49,23 @@ pub fn one_report()
 pub fn prefix_law()
     ensures { (script : Script) (answers : List Answer) (end : Bench) → AreByFirmware script.lines
         → IsReport script answers end → KeepsPrefixLaw script.lines answers }
+{}
+
+/// Where no failure of the disk was answered, each power-on of a whole run without `poke` finds what all commands
+/// that were acknowledged since the format make, in order, and none beside; and no armed cut struck in a line
+/// that asks something of the disk. It may be that memory was refused.
+pub fn all_are_found()
+    ensures { (script : Script) (answers : List Answer) (end : Bench) → AreByFirmware script.lines
+        → IsReport script answers end → end.failures ≡ 0 → FindsAll script.lines answers }
+{}
+
+/// A report is one of its first lines, which leave a bench, and the lines that are left run on from that: so
+/// what a law says of a bench, and of a line after it, it says of each line of a whole report.
+pub fn reports_split()
+    ensures { (script : Script) (answers : List Answer) (end : Bench) (k : ℕ) → k ≤ length script.lines
+        → IsReport script answers end → (b : Bench)
+        × IsReport (record script { lines = take k script.lines }) (take (suc k) answers) b
+        × Run script.size b (drop k script.lines) (drop (suc k) answers) end }
 {}
 
 /// Each power-on over a formatted disk, at any point of a run: `b` is the bench that some first lines of a

@@ -8,6 +8,6 @@ mod printed;
 mod runs;
 mod steps;
 
-pub use laws::{one_report, power_ons, prefix_law, worked_scripts};
+pub use laws::{all_are_found, one_report, power_ons, prefix_law, reports_split, worked_scripts};
 pub use printed::{Answer, ConsoleWord, Printed};
 pub use runs::{Report, Stopped, run, run_left};

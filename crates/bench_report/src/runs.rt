@@ -12,10 +12,12 @@ ghost use Rattle.bench_report.specs.Counts.{Adds, Reported};
 ghost use Rattle.bench_report.specs.Prefix.{KeepsPrefixLaw};
 ghost use Rattle.bench_report.specs.Bench.{Bench, blank_bench};
 ghost use Rattle.bench_report.specs.Views.{facts};
-ghost use Rattle.bench_report.specs.Agree.{Agrees, IsResting, OffIs, AreShort, IsBench, IsUnstruck};
+ghost use Rattle.bench_report.specs.Agree.{fill_after, fills_after, EndsBy, Agrees, IsResting, OffIs, AreShort, IsBench, IsUnstruck};
+ghost use Rattle.bench_report.specs.Laws.{KeepsLaws};
 ghost use Rattle.bench_report.specs.declared.printed.Answer.{Answer};
 ghost use Rattle.board_model.specs.declared.refusal.Refusal.{Refusal};
-ghost use Rattle.bench_report.specs.Steps.{off, Moves, Run};
+ghost use Rattle.bench_report.specs.Happens.{off};
+ghost use Rattle.bench_report.specs.Steps.{Moves, Run};
 
 use crate::power::Power;
 use crate::printed::{Answer, Printed};
@@ -135,8 +137,9 @@ fn run_line<C: Crew, W: Write>(
     ensures short { AreShort payloads.new }
     ensures ok { OnOk result.1 ((b : Bench) → IsBench shape.now b power payloads.old
         → (answer : Answer) × (new : Bench) × Moves shape.now line.now b answer new
-        × IsBench shape.now new result.0 payloads.new
+        × EndsBy shape.now line.now fill.new b answer result.0 × IsBench shape.now new result.0 payloads.new
         × Adds (W.contents out.old) (W.contents out.new) report.old report.new answer) }
+    ensures fill { fill.new ≡ fill_after line.now fill.old }
     ensures few { OnOk result.1 (report.new.lines ≤ report.old.lines + 2) }
     ensures calm { OnOk result.1 (IsUnstruck result.0) }
     ensures stopped { OnErr result.1 ((b : Bench) → IsBench shape.now b power payloads.old → Agrees shape.now b result.0
@@ -172,6 +175,7 @@ fn run_lines<C: Crew, W: Write>(
     requires calm { IsUnstruck power }
     requires short { AreShort payloads.old }
     ensures resting { IsResting result.0 }
+    ensures fill { OnOk result.1 (fill.new ≡ fills_after lines.now fill.old) }
     ensures ok { OnOk result.1 ((b : Bench) → IsBench shape.now b power payloads.old
         → (answers : List Answer) × (new : Bench) × Run shape.now b lines.now answers new
         × Agrees shape.now new result.0
@@ -207,7 +211,7 @@ fn run_script<C: Crew, W: Write>(
     requires idle { IsIdle (facts disk) }
     ensures report { IfOk result.1 (λ report. (answers : List Answer) × (end : Bench)
         × IsReport (view script.now) answers end × Reported (W.contents out.old) (W.contents out.new) report answers
-        × OffIs script.now.shape (off end) result.0) }
+        × OffIs script.now.shape (off end) result.0 × KeepsLaws (view script.now) answers (facts result.0)) }
     ensures stopped { OnErr result.1
         ((answers : List Answer) × (end : Bench) × IsCutShort (view script.now) answers end
         × OffIs script.now.shape (off end) result.0) }
@@ -258,11 +262,14 @@ pub fn run_left<C: Crew, W: Write>(
     crew: &C,
     out: &mut W,
 ) -> Result<(Report, SimDisk), Stopped>
-    // What was written is a report of the script, and so are the count and the states; the disk is the one of
-    // its end.
+    // What was written is a report of the script and nothing else, and so are the count and the states; the disk
+    // is the one of its end. Where no line is a poke, that report keeps the prefix law, from the script's bytes
+    // to its own; and where the disk that is left counted no failure, each power-on finds what all acknowledged
+    // commands make.
     ensures report { IfOk result (λ left. (said : Said) × (answers : List Answer) × (end : Bench)
         × (script_of script.now ≡ Ok said) × IsReport said answers end
-        × Reported (W.contents out.old) (W.contents out.new) left.0 answers × OffIs said.size (off end) left.1) }
+        × Reported (W.contents out.old) (W.contents out.new) left.0 answers × OffIs said.size (off end) left.1
+        × KeepsLaws said answers (facts left.1)) }
     // Where it stopped, the disk is the one of the end of some first lines.
     ensures stopped { IfErr result (λ s. IfSome s.disk (λ disk. (said : Said) × (answers : List Answer)
         × (end : Bench) × (script_of script.now ≡ Ok said) × IsCutShort said answers end
@@ -301,15 +308,12 @@ pub fn run<C: Crew, W: Write>(
     crew: &C,
     out: &mut W,
 ) -> Result<Report, Refusal>
-    // What was written is a report of the script, and so are the count and the states.
+    // What was written is a report of the script and nothing else, and so are the count and the states. Where no
+    // line is a poke, that report keeps the prefix law, from the script's bytes to its own.
     ensures report { IfOk result (λ report. (said : Said) × (answers : List Answer) × (end : Bench)
         × (script_of script.now ≡ Ok said) × IsReport said answers end
-        × Reported (W.contents out.old) (W.contents out.new) report answers) }
-    // From the script's bytes to those of the report: what was written keeps the prefix law, where no line is
-    // a poke.
-    ensures law { IfOk result (λ report. (said : Said) × (answers : List Answer) × (script_of script.now ≡ Ok said)
-        × (AreByFirmware said.lines → KeepsPrefixLaw said.lines answers)
-        × Reported (W.contents out.old) (W.contents out.new) report answers) }
+        × Reported (W.contents out.old) (W.contents out.new) report answers
+        × (AreByFirmware said.lines → KeepsPrefixLaw said.lines answers)) }
     // A refusal is the script's fault, or lack of memory, or the writer's.
     ensures refused { IfErr result (λ e. (e ≡ Refusal.Memory) ⊎ (e ≡ Refusal.Output) ⊎ (script_of script.now ≡ Err e)) }
     // A script with a fault runs nothing.

@@ -1,5 +1,5 @@
 //! Power lost, and a failure, at each call that a guest's suspension makes, over a board of 5 pages and 4
-//! lanes. Lane 0 saves pages 0 and 4 and each other lane one page: its header, and then its data. Then come
+//! lanes. By turns lanes 0 and 1 save two pages each and lane 2 one: its header, and then its data. Then come
 //! the disk's sync and a commit: record, sync, gate, sync (docs/STORE.md). Whatever a cut leaves, the next
 //! open finds the state before or the one with the image.
 
@@ -11,7 +11,7 @@ use std::thread::Threads;
 
 /// The calls of the lanes: a lane, and the number of its call.
 const LANE_CALLS: [&[u8]; 10] = [
-    b"0 1", b"0 2", b"0 3", b"0 4", b"1 1", b"1 2", b"2 1", b"2 2", b"3 1", b"3 2",
+    b"0 1", b"0 2", b"0 3", b"0 4", b"1 1", b"1 2", b"1 3", b"1 4", b"2 1", b"2 2",
 ];
 
 /// The disk's calls before the gate is written.
@@ -196,7 +196,7 @@ fn the_calls_of_a_lane_are_counted_over_suspensions(rt: HostRuntime) -> Result<(
         rt.alloc(),
         &[
             GUEST,
-            b"cutlane 1 3 00\nturn 0 20\non keep\nturn 0 20\non keep\n",
+            b"cutlane 2 3 00\nturn 0 20\non keep\nturn 0 20\non keep\n",
         ],
         &[
             GUEST_STARTED,
@@ -206,4 +206,33 @@ fn the_calls_of_a_lane_are_counted_over_suspensions(rt: HostRuntime) -> Result<(
             IMAGE_0,
         ],
     )
+}
+
+/// A suspension in the first instruction of a board of 5 pages and 4 lanes, cut as that lane writes the header of
+/// its second page.
+fn second_page_is_cut(
+    rt: &(impl Abort + Threads + Sync),
+    alloc: Global,
+    lane: &'static [u8],
+) -> Result<(), Fail> {
+    told(
+        rt,
+        alloc,
+        &[
+            b"board 1 5 4\nformat\non fresh\ncutlane ",
+            lane,
+            b" 3 ff\ncall 0 susp 0 0x80000001 0x80000000 0\non fresh\n",
+        ],
+        &[
+            b"board 1/5/4 sectors 152\nformat ok\nfound slot 0 reason 0 image none next 0\non fresh\n",
+            b"armed\npower lost\nfound slot 0 reason 0 image none next 0\non fresh\n",
+        ],
+    )
+}
+
+#[test]
+fn a_cut_in_the_second_page_of_lane_zero_or_one(rt: HostRuntime) -> Result<(), Fail> {
+    second_page_is_cut(&rt, rt.alloc(), b"0")?;
+    second_page_is_cut(&rt, rt.alloc(), b"1")?;
+    Ok(())
 }

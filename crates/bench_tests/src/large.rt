@@ -66,7 +66,7 @@ fn a_full_journal_refuses_a_guests_reset(rt: HostRuntime) -> Result<(), Fail> {
     let mut script = Vec::new(alloc);
     script.extend_from_slice(b"board 1 1 1\nformat\non fresh\n")?;
     add_times(&mut script, b"slot 1\n", 4_097)?;
-    script.extend_from_slice(b"call 0 srst 0 1 0\ncut 00\non fresh\nslot 1\n")?;
+    script.extend_from_slice(b"call 0 srst 0 0 0\ncut 00\non fresh\nslot 2\n")?;
     let mut text = Vec::new(alloc);
     text.extend_from_slice(
         b"board 1/1/1 sectors 26\nformat ok\nfound slot 0 reason 0 image none next 0\non fresh\n",

@@ -22,6 +22,8 @@ mod resume;
 #[cfg(test)]
 mod rows;
 #[cfg(test)]
+mod sizes;
+#[cfg(test)]
 mod stopped;
 #[cfg(test)]
 mod told;

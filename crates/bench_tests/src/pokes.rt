@@ -209,7 +209,7 @@ fn counts_that_lie_are_found_out(rt: HostRuntime) -> Result<(), Fail> {
     reports(
         &rt,
         rt.alloc(),
-        b"board 1 3 2\nformat\non fresh\ncall 0 susp 0 0x80000001 0x80000000 7\npoke 3 56 0100000002\non resume\non keep\ncut 00\npoke 35 0 02\non resume\nreg 0 11\n",
+        b"board 1 3 2\nformat\non fresh\ncall 0 susp 0 0x80000001 0x80000000 7\npoke 3 56 0100000002\non resume\non keep\ncut 00\npoke 35 0 01\non resume\nreg 0 11\n",
         b"board 1/3/2 sectors 80\nformat ok\nfound slot 0 reason 0 image none next 0\non fresh\ncall 0 asleep\npoked\nfound slot 0 reason 0 image 0 next 1\non refused 13\nfound slot 0 reason 0 image 0 next 1\non keep\ncut\npoked\nfound slot 0 reason 0 image 0 next 1\non resume\nreg 0 11 0x0000000000000007\n",
     )
 }

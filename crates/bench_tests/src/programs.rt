@@ -66,3 +66,15 @@ fn a_board_that_is_off_shows_nothing(rt: HostRuntime) -> Result<(), Fail> {
         b"busy\ncut\noff\noff\noff\noff\noff\noff\noff\npayload 3 2\n",
     )
 }
+
+/// AUIPC x5, 0; ADDI x10, x10, 1; LW x6, 20(x5); SW x6, 4(x5); JAL x0, -12; and the word of ADDI x10, x10, 16 as data,
+/// by which the program replaces the word that it has just made, and goes back to it.
+#[test]
+fn a_word_that_is_replaced_is_read_anew(rt: HostRuntime) -> Result<(), Fail> {
+    reports(
+        &rt,
+        rt.alloc(),
+        b"board 1 1 1\npayload 0 970200001305150003a3420123a262006ff05fff13050501\nformat\non fresh\nturn 0 6\nreg 0 10\npc 0\nmem 0x80000004 4\n",
+        b"board 1/1/1 sectors 26\npayload 0 24\nformat ok\nfound slot 0 reason 0 image none next 0\non fresh\nturn 0 6 next\nreg 0 10 0x0000000000000011\npc 0 0x0000000080000008\nmem 13050501\n",
+    )
+}

@@ -1,6 +1,7 @@
 /* A count in memory that outlives power. The program counts ten times, asks for a suspension to disk, and when the board is
    resumed it goes on to count where it was. The words from 0x80000800 on tell the count, how often the board was resumed, and what
-   its last resume found in a1. The bytes of counter.sbi come of these commands (clang 14):
+   its last resume found in a1. The bytes of counter.sbi come of these commands (clang 14;
+   by GCC as docs/KERNEL.md, "In C", says):
 
    clang --target=riscv64 -march=rv64i -mabi=lp64 -mcmodel=medany -Os -ffreestanding -fno-pic -nostdlib \
        -c counter.c -o counter.o

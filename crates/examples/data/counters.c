@@ -1,6 +1,7 @@
 /* Two harts count by turns: each adds 1 to a counter of its own, interrupts the other, and suspends itself until it is interrupted.
    After a hundred rounds hart 1 stops, and hart 0 suspends the board to disk; a board that goes on with the image counts on.
-   sbiboard runs it (docs/CONSOLE.md). counters.bin comes of these commands (clang 14):
+   sbiboard runs it (docs/CONSOLE.md). counters.bin comes of these commands (clang 14;
+   by GCC as docs/KERNEL.md, "In C", says):
 
    clang --target=riscv64 -march=rv64i -mabi=lp64 -mcmodel=medany -O2 -ffreestanding -fno-pic -nostdlib \
        -c counters.c -o counters.o

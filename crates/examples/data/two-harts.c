@@ -1,5 +1,6 @@
 /* Hart 0 starts hart 1, waits until it has begun, sends it an interrupt, and waits until it was taken.
-   The words from 0x80000800 on tell what each saw. The bytes of two-harts.sbi come of these commands (clang 14):
+   The words from 0x80000800 on tell what each saw. The bytes of two-harts.sbi come of these commands (clang 14;
+   by GCC as docs/KERNEL.md, "In C", says):
 
    clang --target=riscv64 -march=rv64i -mabi=lp64 -mcmodel=medany -O2 -ffreestanding -fno-pic -nostdlib \
        -c two-harts.c -o two-harts.o

@@ -1,10 +1,13 @@
-use Rattle.std.proofs.Common.{◌≡◌, List, [], ◌∷◌, None, refl, subst, take}
+use Rattle.std.proofs.Common.{◌≡◌, List, [], ◌∷◌, None, refl, subst, take, arith}
 use Rattle.script_lang.specs.declared.line.Line.{Line}
 use Rattle.bench_report.specs.Steps.{Run}
 use Rattle.bench_report.specs.declared.printed.Answer.{Answer}
 use Rattle.bench_report.specs.declared.printed.Printed.TheVariants as printed
 use Rattle.bench_report.specs.Bench.{blank_bench}
-use Rattle.bench_report.specs.Reports.{board_answer}
+use Rattle.bench_report.specs.Reports.{board_answer, IsReport}
+use Rattle.script_lang.specs.Views.{view}
+use Rattle.bench_report.proofs.Prefixed.{prefix_law}
+use Rattle.bench_report.proofs.Found.{all_found}
 use Rattle.bench_report.proofs.Written.{unwritten}
 use Rattle.bench_report.proofs.Told.{reported_more}
 use Rattle.bench_report.proofs.runs.run_script.Goals as goal
@@ -25,7 +28,18 @@ returns-in-Ok-clause-report g c =
     let ok = rw c.in-Ok.is at c.run_lines-power.ensures.ok in
     let ran = ok blank_bench (c.requires.blank, c.new-payloads.ensures, refl) in
     let P : List Line → Type 0 = λ ls. Run size blank_bench ls ran.0 ran.1 in
-    (board ∷ ran.0, ran.1, (is_board, subst P c.deref.ensures.value ran.2), ran.4 (board ∷ []) start first, c.disk_left-left.ensures.reported size ran.1 ran.3)
+    let is : IsReport (view c.args.script.now) (board ∷ ran.0) ran.1 = (is_board, subst P c.deref.ensures.value ran.2) in
+    let left = c.disk_left-left.ensures.reported size ran.1 ran.3 in (
+      board ∷ ran.0,
+      ran.1,
+      is,
+      ran.4 (board ∷ []) start first,
+      left,
+      record {
+        prefix = λ by. prefix_law (view c.args.script.now) (board ∷ ran.0) ran.1 by is;
+        all = λ by none. all_found (view c.args.script.now) (board ∷ ran.0) ran.1 by is (omega (arith, left.2.1, none));
+      },
+    )
 
 pub returns-in-Err-ran-clause-stopped : goal.returns-in-Err-ran-clause-stopped
 returns-in-Err-ran-clause-stopped g c =

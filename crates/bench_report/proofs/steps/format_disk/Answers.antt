@@ -1,6 +1,6 @@
 use Rattle.std.proofs.Common.{refl, ◌∙◌, ap}
 use Rattle.bench_report.specs.Views.{facts, fault_state}
-use Rattle.bench_report.specs.Steps.{says}
+use Rattle.bench_report.specs.Happens.{says}
 use Rattle.bench_report.specs.declared.printed.Printed.TheVariants as printed
 use Rattle.bench_report.proofs.Devices.{stays}
 use Rattle.bench_report.proofs.Formats.{formats_ok, formats_err}

@@ -4,7 +4,7 @@ use Rattle.board_model.specs.Views.{number_of_refusal, change_of}
 use Rattle.store.specs.Views.{life_of}
 use Rattle.bench_report.specs.Bench.{BenchLife}
 use Rattle.bench_report.specs.Views.{store_in, IsAs}
-use Rattle.bench_report.specs.Steps.{says}
+use Rattle.bench_report.specs.Happens.{says}
 use Rattle.bench_report.specs.Agree.{BoardIs}
 use Rattle.bench_report.specs.declared.printed.Printed.TheVariants as printed
 use Rattle.bench_report.proofs.Commanded.{reported_ok, reported_err, goes_on, console_goes_on}
@@ -18,8 +18,8 @@ returns-in-Ok c = λ size b life on h.
     let P : Option BenchLife → Type 0 = λ p. BoardIs size b.disk_state b.kept p c.args.board.now in
     let Q : Option Change → Type 0 = λ d. IsAs old life.now life.receipts d in
     let was = subst P on h.0 in
-    let reported = reported_ok size b life (change_of c.args.command) old new (life_of old) on was.0 h.1 did.stays.board did.stays.length did.stays.no_fewer (λ none. subst Q none was.0.1) (console_goes_on c.args.command c.requires) life.doubt refl c.in-Ok.receipt
-    (λ none. (did.answered none).life) did.down (λ none. (did.answered none).cause) in
+    let reported = reported_ok size b life (change_of c.args.command) old new (life_of old) on was.0 h.1 did.asked.stays.board did.asked.stays.length did.asked.stays.no_fewer (λ none. subst Q none was.0.1) (console_goes_on c.args.command c.requires) life.doubt refl c.in-Ok.receipt
+    (λ none. (did.asked.answered none).life) did.asked.down (λ none. (did.asked.answered none).cause) in
     (reported.0, (Ok c.in-Ok.receipt, reported.1, c.says.ensures ∙ ap (λ n. says (printed.Acknowledged c.args.word n)) c.number.ensures), goes_on size reported.0 life.machine c.console.new.self reported.2 (did.machine ∙ was.1), reported.3)
 
 pub returns-in-Err : goal.returns-in-Err
@@ -30,6 +30,6 @@ returns-in-Err c = λ size b life on h.
     let P : Option BenchLife → Type 0 = λ p. BoardIs size b.disk_state b.kept p c.args.board.now in
     let Q : Option Change → Type 0 = λ d. IsAs old life.now life.receipts d in
     let was = subst P on h.0 in
-    let reported = reported_err size b life (change_of c.args.command) old new (life_of old) on was.0 h.1 did.stays.board did.stays.length did.stays.no_fewer (λ none. subst Q none was.0.1) life.doubt refl c.in-Err.e
-    (λ none. (did.answered none).life) did.down (λ none. (did.answered none).cause) (λ none. (did.answered none).counts) in
+    let reported = reported_err size b life (change_of c.args.command) old new (life_of old) on was.0 h.1 did.asked.stays.board did.asked.stays.length did.asked.stays.no_fewer (λ none. subst Q none was.0.1) life.doubt refl c.in-Err.e
+    (λ none. (did.asked.answered none).life) did.asked.down (λ none. (did.asked.answered none).cause) (λ none. (did.asked.answered none).counts) in
     (reported.0, (Err (number_of_refusal c.in-Err.e), reported.1, c.says-in-Err.ensures ∙ ap (λ n. says (printed.CommandRefused c.args.word n)) c.code.ensures), goes_on size reported.0 life.machine c.console.new.self reported.2 (did.machine ∙ was.1), reported.3)

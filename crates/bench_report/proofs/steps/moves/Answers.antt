@@ -1,5 +1,5 @@
 use Rattle.std.proofs.Common.{refl, sym, ◌∙◌, inl, inr}
-use Rattle.bench_report.specs.Steps.{unpowered}
+use Rattle.bench_report.specs.Happens.{unpowered}
 use Rattle.bench_report.proofs.steps.moves.Goals as goal
 
 pub returns-in_default-clause-reported : goal.returns-in_default-clause-reported

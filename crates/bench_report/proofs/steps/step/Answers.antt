@@ -1,5 +1,5 @@
 use Rattle.std.proofs.Common.{refl}
-use Rattle.bench_report.specs.Steps.{unpowered}
+use Rattle.bench_report.specs.Happens.{unpowered}
 use Rattle.bench_report.proofs.Lines.{row_reported}
 use Rattle.bench_report.proofs.Pokes.{poke_matches}
 use Rattle.bench_report.proofs.steps.step.Goals as goal

@@ -1,0 +1,379 @@
+-- Where the disk never failed, each power-on finds what all acknowledged commands make.
+use Rattle.std.proofs.Common.{◌≡◌, ◌≢◌, ◌⊎◌, ℕ, zero, suc, ◌+◌, ◌-◌, ◌^◌, ◌==◌, inl, inr, List, [], ◌∷◌, Option, None, Some, Result, Ok, Err, refl, sym, ◌∙◌, ap, subst, arith, Bool, true, false, MatchBool, is_some, if◌then◌else◌}
+use Rattle.std.specs.Bool.{⊤}
+use Rattle.board_model.specs.Durable.{DurableState, Change, Slot, Consume, Discard, formatted, refusal_of}
+use Rattle.board_model.specs.Kept.{Kept, found_of, MayFind, TakesIn}
+use Rattle.board_model.specs.Shapes.{Size}
+use Rattle.board_model.specs.declared.boot_mode.BootMode.{BootMode}
+use Rattle.board_model.specs.declared.boot_mode.BootMode.TheVariants as modes
+use Rattle.board_model.specs.declared.durable.Reason.{Reason}
+use Rattle.board.specs.Boots.{boot_refusal}
+use Rattle.script_lang.specs.Scripts.{Script}
+use Rattle.script_lang.specs.declared.line.Line.{Line}
+use Rattle.script_lang.specs.declared.line.Line.TheVariants as lines
+use Rattle.machine.specs.Machine.{hart_at}
+use Rattle.hart.specs.State.{ArchState}
+use Rattle.machine_lines.specs.Shows.{own_line}
+use Rattle.machine.specs.declared.parts.Called.{Called}
+use Rattle.machine.specs.declared.parts.Called.TheVariants.{NotStarted, Made}
+use Rattle.turns.specs.declared.words.Turned.{Turned}
+use Rattle.turns.specs.declared.words.Turned.TheVariants as dids
+use Rattle.machine.specs.declared.parts.Word.{Word}
+use Rattle.machine.specs.declared.parts.Word.TheVariants as words
+use Rattle.sbi_abi.specs.Calls.{call_of}
+use Rattle.sbi_abi.specs.declared.call.Call.{Call}
+use Rattle.sbi_abi.specs.declared.call.Call.TheVariants as calls
+use Rattle.sbi_abi.specs.declared.ret.SbiError.{SbiError}
+use Rattle.sbi_abi.specs.declared.ret.SbiError.TheVariants.{Failed, NotSupported, Denied}
+use Rattle.sbi.specs.declared.resets.ResetType.{ResetType}
+use Rattle.sbi.specs.Resets.{reset_of}
+use Rattle.machine_lines.specs.declared.line.MachineLine.{MachineLine}
+use Rattle.machine_lines.specs.declared.line.MachineLine.TheVariants as shown_lines
+use Rattle.bench_report.specs.declared.printed.ConsoleWord.{ConsoleWord}
+use Rattle.bench_report.specs.declared.printed.ConsoleWord.TheVariants as names
+use Rattle.bench_report.specs.declared.printed.Printed.{Printed}
+use Rattle.bench_report.specs.declared.printed.Printed.TheVariants as printed
+use Rattle.bench_report.specs.declared.printed.Answer.{Answer}
+use Rattle.bench_report.specs.Bench.{BenchLife, Bench, blank_bench}
+use Rattle.bench_report.specs.Happens.{says, shows, failed, on_with, has_machine, acknowledged, in_doubt}
+use Rattle.bench_report.specs.Commands.{Writes, IssuedBy, Issued, IssuesAll}
+use Rattle.bench_report.specs.Turns.{refused, AnswersError, HartCommand, Resets, BenchSleepsBy, BenchMakesCall, ComesTo, GuestTurns}
+use Rattle.bench_report.specs.PowerOns.{life_begun, commands_of, IsBooted, BootsFrom, Begins, Boots, IsOpenRefusal}
+use Rattle.bench_report.specs.Steps.{console_reported, CallReported, GuestCall, OnStep, ConsoleStep, TurnStep, CallStep, Step, Run}
+use Rattle.bench_report.specs.Reports.{AreByFirmware, IsReport}
+use Rattle.bench_report.specs.Taken.{TakesFewer}
+use Rattle.bench_report.specs.Prefix.{AskedLine, Boot, Command, Guest, Nothing, Keeps, Hides, TellsLine, may_hide, asked_by, LineImplies, ShowsIts, is_format_ok}
+use Rattle.bench_report.specs.AllFound.{LineMakes, ShownMakes, AreAllFound, FindAll, FindsAll}
+use Rattle.bench_report.proofs.Table.{table_not_six}
+use Rattle.bench_report.proofs.Issues.{is_up, takes_more, GoesOn, IsSound}
+use Rattle.bench_report.proofs.Refused.{one_life}
+use Rattle.bench_report.proofs.Determined.{CalmDisk, IsCalm, DiskHasFailed, fails}
+use Rattle.bench_report.proofs.Single.{moves_fair, run_fair, struck_fails}
+use Rattle.bench_report.proofs.Prefixed.{Tell, steps, IsFresh, moves_format, either}
+
+-- ---- a board that is on stays on where its line says that it goes on
+abbrev IsPowered : Option BenchLife → Type 0
+IsPowered None = ⊥
+IsPowered (Some life) = ⊤
+
+abbrev IsOwn : Word → Type 0
+IsOwn (words.Own did) = ⊤
+IsOwn words.Asleep = ⊥
+IsOwn (words.Reset kind) = ⊥
+
+powered : (p : Option BenchLife) (life : BenchLife) → p ≡ Some life → IsPowered p
+powered p life e = subst IsPowered (sym e) tt
+
+as_powered : (new x : Bench) → new ≡ x → IsPowered x.power → IsPowered new.power
+as_powered new x e on = subst (λ (m : Bench). IsPowered m.power) (sym e) on
+
+answers_on : (e : SbiError) (h : ℕ) (life : BenchLife) (b : Bench) (word : Word) (new : Bench) → AnswersError e h life b word new → IsPowered new.power
+answers_on e h life b word new x = as_powered new (on_with (refused h e life) b) x.1 tt
+
+held_on : (o : Result ℕ ℕ) (said : Word) (h : ℕ) (b : Bench) (word : Word) (new : Bench) → (IsOwn said → ⊥) → HartCommand o said h b word new → IsOwn word → IsPowered new.power
+held_on (Ok n) said h b word new ends x own = absurd (ends (subst IsOwn x.0 own))
+held_on (Err n) said h b word new ends (life, on, x) own = answers_on Failed h life b word new x
+
+resets_on : (asked : Result (ResetType × Reason) SbiError) (h : ℕ) (life : BenchLife) (b : Bench) (word : Word) (new : Bench) → Resets asked h life b word new → IsOwn word → IsPowered new.power
+resets_on (Err e) h life b word new x own = answers_on e h life b word new x
+resets_on (Ok reset) h life b word new (o, mid, i, x) own = held_on o (words.Reset reset.0) h mid word new (λ no. no) x own
+
+sleeps_on : (asked : Result ℕ SbiError) (opaque h : ℕ) (life : BenchLife) (b : Bench) (word : Word) (new : Bench) → BenchSleepsBy asked opaque h life b word new → IsOwn word → IsPowered new.power
+sleeps_on (Err e) opaque h life b word new x own = answers_on e h life b word new x
+sleeps_on (Ok site) opaque h life b word new (inl x) own = answers_on Denied h life b word new x.1
+sleeps_on (Ok site) opaque h life b word new (inr (alone, o, mid, i, x)) own = held_on o words.Asleep h mid word new (λ no. no) x own
+
+makes_on : (call : Call) (h : ℕ) (life : BenchLife) (b : Bench) (word : Word) (new : Bench) → BenchMakesCall call h life b word new → IsOwn word → IsPowered new.power
+makes_on (calls.SystemReset kind reason) h life b word new x own = resets_on (reset_of kind reason) h life b word new x own
+makes_on (calls.SystemSuspend kind address opaque) h life b word new (asked, checked, x) own = sleeps_on asked opaque h life b word new x own
+makes_on call h life b word new x own = answers_on NotSupported h life b word new x
+
+comes_on : (did : Turned) (h : ℕ) (life : BenchLife) (b : Bench) (word : Word) (new : Bench) → IsPowered b.power → ComesTo did h life b word new → IsOwn word → IsPowered new.power
+comes_on dids.Durable h life b word new on x own = makes_on (call_of (hart_at life.machine h)) h life b word new x own
+comes_on did h life b word new on x own = as_powered new b x.1 on
+
+turns_on : (h n : ℕ) (b : Bench) (made : ℕ) (word : Word) (new : Bench) → GuestTurns h n b made word new → IsOwn word → IsPowered new.power
+turns_on h zero b made word new x own = absurd x
+turns_on h (suc n) b made word new (life, on, said, mid, (m, did, turned, x), inl last) own =
+    as_powered new mid last.3 (comes_on did h (has_machine m life) (on_with (has_machine m life) b) said mid tt x (subst IsOwn last.2 own))
+turns_on h (suc n) b made word new (life, on, said, mid, turn, inr more) own = turns_on h n mid more.2 word new more.4 own
+
+writes_on : (r : Option ℕ) (c : Change) (life : BenchLife) (b : Bench) (o : Result ℕ ℕ) (new : Bench) → IsPowered b.power → Writes r c life b o new → IsPowered new.power
+writes_on (Some n) c life b o new on w = as_powered new b w.1 on
+writes_on None c life b o new on (inl w) = as_powered new (acknowledged c life b) w.1 tt
+writes_on None c life b o new on (inr (inl w)) = as_powered new (failed w.1.0 b) w.1.2 on
+writes_on None c life b o new on (inr (inr w)) = as_powered new (failed w.1.0 (in_doubt c life b)) w.1.2 tt
+
+issued_on : (d : Option Change) (c : Change) (life : BenchLife) (b : Bench) (o : Result ℕ ℕ) (new : Bench) → IsPowered b.power → IssuedBy d c life b o new → IsPowered new.power
+issued_on (Some d) c life b o new on i = as_powered new b i.1 on
+issued_on None c life b o new on (inl i) = as_powered new b i.2 on
+issued_on None c life b o new on (inr i) = writes_on (refusal_of life.now c) c life b o new on i.1
+
+-- and then it takes commands, where none is in doubt
+up_now : (k : Kept) (p : Option BenchLife) → GoesOn k p → k.doubt ≡ None → IsPowered p → is_up p ≡ true
+up_now k None goes calm on = absurd on
+up_now k (Some life) goes calm on = ap takes_more (sym goes.0 ∙ calm)
+
+-- ---- a boot is refused 6 only by the disk
+ok_six : {A : Type 0} (n : ℕ) (o : Result ℕ ℕ) → o ≡ Ok n → o ≡ Err 6 → A
+ok_six n o e f = let g : ◌≡◌ {A = Result ℕ ℕ} (Ok n) (Err 6) = sym e ∙ f in absurd (let no : ⊥ = cc in no)
+
+err_six : (n : ℕ) (o : Result ℕ ℕ) → o ≡ Err n → o ≡ Err 6 → n ≡ 6
+err_six n o e f = let g : ◌≡◌ {A = Result ℕ ℕ} (Err n) (Err 6) = sym e ∙ f in let h : n ≡ 6 = cc in h
+
+writes_six : (r : Option ℕ) (c : Change) (life : BenchLife) (b : Bench) (o : Result ℕ ℕ) (new : Bench) → refusal_of life.now c ≡ r → Writes r c life b o new → o ≡ Err 6 → DiskHasFailed new
+writes_six (Some n) c life b o new table w six = absurd (table_not_six life.now c n table (err_six n o w.0 six))
+writes_six None c life b o new table (inl w) six = ok_six (life.receipts + 1) o w.0 six
+writes_six None c life b o new table (inr (inl w)) six = fails b new w.1
+writes_six None c life b o new table (inr (inr w)) six = fails (in_doubt c life b) new w.1
+
+issued_six : (c : Change) (s : DurableState) (z : Size) (b : Bench) (o : Result ℕ ℕ) (new : Bench) → Issued c (life_begun s z) b o new → o ≡ Err 6 → DiskHasFailed new
+issued_six c s z b o new (inl i) six = absurd (let e : 10 ≡ 6 = err_six 10 o i.1 six in omega (arith, e))
+issued_six c s z b o new (inr i) six = writes_six (refusal_of s c) c (life_begun s z) b o new refl i.1 six
+
+one_six : (c : Change) (s : DurableState) (z : Size) (b : Bench) (o : Result ℕ ℕ) (mid : Bench) → IssuesAll (c ∷ []) (on_with (life_begun s z) b) o mid → o ≡ Err 6 → DiskHasFailed mid
+one_six c s z b o mid (life, on, first, last, i, inl (k, ok, rest)) six = ok_six 0 o rest.0 six
+one_six c s z b o mid (life, on, first, last, i, inr (n, err, same, e)) six =
+    let start : Bench = on_with (life_begun s z) b in
+    let L : BenchLife → Type 0 = λ l. Issued c l start first last in
+    let at : Issued c (life_begun s z) start first last = subst L (one_life start.power (life_begun s z) life refl on) i in
+    subst DiskHasFailed (sym e) (issued_six c s z start first last at (err ∙ ap (λ k. Err k) (err_six n o same six)))
+
+boot_six : (mode : BootMode) (s : DurableState) (z : Size) (b : Bench) (o : Result ℕ ℕ) (mid : Bench) → IssuesAll (commands_of mode) (on_with (life_begun s z) b) o mid → o ≡ Err 6 → DiskHasFailed mid
+boot_six modes.Fresh s z b o mid all six = ok_six 0 o all.0 six
+boot_six modes.Keep s z b o mid all six = ok_six 0 o all.0 six
+boot_six modes.Discard s z b o mid all six = one_six Discard s z b o mid all six
+boot_six modes.Resume s z b o mid all six = one_six Consume s z b o mid all six
+
+-- ---- what is known of a line beside what it says: a line that goes on leaves a board that takes commands
+abbrev IsQuiet : AskedLine → Printed → Bool → Type 0
+IsQuiet (Boot mode) (printed.OnRefused n) now = n ≢ 6
+IsQuiet (Command c) (printed.CommandRefused word n) now = now ≡ true
+IsQuiet Guest (printed.Shown (shown_lines.Turn h made (words.Own did))) now = now ≡ true
+IsQuiet Guest (printed.Shown (shown_lines.Answered h e v)) now = now ≡ true
+IsQuiet Nothing printed.PowerLost now = ⊤
+IsQuiet asked printed.PowerLost now = ⊥
+IsQuiet asked said now = ⊤
+
+quiet : (asked : AskedLine) (a : Answer) (x : Printed) (now : Bool) → a ≡ says x → IsQuiet asked x now → IsQuiet asked a.line now
+quiet asked a x now e q = subst (λ (y : Answer). IsQuiet asked y.line now) (sym e) q
+
+quiet_line : (asked : AskedLine) (x y : Printed) (now : Bool) → x ≡ y → IsQuiet asked y now → IsQuiet asked x now
+quiet_line asked x y now e q = subst (λ (l : Printed). IsQuiet asked l now) (sym e) q
+
+module _ (now : Bool) where
+  booted_quiet : (o : Result ℕ ℕ) (mode : BootMode) (z : Size) (s : DurableState) (b mid : Bench) (x : Printed) (new : Bench) → (DiskHasFailed new → ⊥) → IssuesAll (commands_of mode) (on_with (life_begun s z) b) o mid → IsBooted o mode z s mid x new → IsQuiet (Boot mode) x now
+  booted_quiet (Ok n) mode z s b mid x new well all (life, on, line, m, is, e) = quiet_line (Boot mode) x (printed.On mode) now line tt
+  booted_quiet (Err n) mode z s b mid x new well all (line, e) =
+      quiet_line (Boot mode) x (printed.OnRefused n) now line (λ six. well (subst DiskHasFailed (sym e) (boot_six mode s z b (Err n) mid all (ap (λ k. Err k) six))))
+
+  starts_quiet : (mode : BootMode) (z : Size) (s : DurableState) (b : Bench) (x : Printed) (new : Bench) → (DiskHasFailed new → ⊥) → BootsFrom mode z s b x new → IsQuiet (Boot mode) x now
+  starts_quiet mode z s b x new well (o, mid, all, on) = booted_quiet o mode z s b mid x new well all on
+
+  begins_quiet : (mode : BootMode) (z : Size) (s : DurableState) (b : Bench) (x : Printed) (new : Bench) → (DiskHasFailed new → ⊥) → Begins mode z s b x new → IsQuiet (Boot mode) x now
+  begins_quiet modes.Fresh z s b x new well h = starts_quiet modes.Fresh z s b x new well h
+  begins_quiet modes.Keep z s b x new well h = starts_quiet modes.Keep z s b x new well h
+  begins_quiet modes.Discard z s b x new well h = starts_quiet modes.Discard z s b x new well h
+  begins_quiet modes.Resume z s b x new well (inl h) = starts_quiet modes.Resume z s b x new well h
+  begins_quiet modes.Resume z s b x new well (inr h) = quiet_line (Boot modes.Resume) x (printed.OnRefused 13) now h.1 (λ six. omega (arith, six))
+
+  refused_boot : (s : DurableState) (mode : BootMode) (n : ℕ) → boot_refusal s mode ≡ Some n → n ≢ 6
+  refused_boot s mode n at six = by_mode mode at
+    where
+      some : (k : ℕ) → k ≢ 6 → (t : Bool) → (if t then Some k else None) ≡ Some n → ⊥
+      some k differs true e = differs (let f : k ≡ n = cc in f ∙ six)
+      some k differs false e = (let no : ⊥ = cc in no)
+
+      none : (k : ℕ) → k ≢ 6 → (t : Bool) → (if t then None else Some k) ≡ Some n → ⊥
+      none k differs false e = differs (let f : k ≡ n = cc in f ∙ six)
+      none k differs true e = (let no : ⊥ = cc in no)
+
+      by_mode : (mode : BootMode) → boot_refusal s mode ≡ Some n → ⊥
+      by_mode modes.Fresh e = some 15 (λ f. omega (arith, f)) (is_some s.image) e
+      by_mode modes.Keep e = (let no : ⊥ = cc in no)
+      by_mode modes.Discard e = none 8 (λ f. omega (arith, f)) (is_some s.image) e
+      by_mode modes.Resume e = none 8 (λ f. omega (arith, f)) (is_some s.image) e
+
+  boots_quiet : (r : Option ℕ) (mode : BootMode) (z : Size) (s : DurableState) (b : Bench) (x : Printed) (new : Bench) → boot_refusal s mode ≡ r → (DiskHasFailed new → ⊥) → Boots r mode z s b x new → IsQuiet (Boot mode) x now
+  boots_quiet (Some n) mode z s b x new at well h = quiet_line (Boot mode) x (printed.OnRefused n) now h.0 (refused_boot s mode n at)
+  boots_quiet None mode z s b x new at well (inl h) = begins_quiet mode z s b x new well h
+  boots_quiet None mode z s b x new at well (inr h) = quiet_line (Boot mode) x (printed.OnRefused 11) now h.0 (λ six. omega (arith, six))
+
+  on_quiet : (size : Size) (p : Option BenchLife) (mode : BootMode) (b : Bench) (a : Answer) (new : Bench) → IsSound b → (DiskHasFailed new → ⊥) → OnStep size p mode b a new → IsQuiet (Boot mode) a.line now
+  on_quiet size (Some life) mode b a new sound well h = quiet (Boot mode) a printed.Busy now h.0 tt
+  on_quiet size None mode b a new sound well (inl (s, z, mid, found, shows, boot)) = boots_quiet (boot_refusal s mode) mode z s mid a.line new refl well boot
+  on_quiet size None mode b a new sound well (inr (inl (n, is, e, same))) = absurd (subst (λ m. IsOpenRefusal m n) sound.0 is)
+  on_quiet size None mode b a new sound well (inr (inr (inl h))) = quiet (Boot mode) a (printed.OnRefused 11) now h.1 (λ six. omega (arith, six))
+  on_quiet size None mode b a new sound well (inr (inr (inr h))) = absurd (well (fails b new h.1))
+
+  reported_quiet : (word : ConsoleWord) (c : Change) (o : Result ℕ ℕ) (a : Answer) → now ≡ true → a ≡ console_reported word o → IsQuiet (Command c) a.line now
+  reported_quiet word c (Ok n) a up e = quiet (Command c) a (printed.Acknowledged word n) now e tt
+  reported_quiet word c (Err n) a up e = quiet (Command c) a (printed.CommandRefused word n) now e up
+
+  console_quiet : (word : ConsoleWord) (c : Change) (p : Option BenchLife) (b : Bench) (a : Answer) (new : Bench) → b.power ≡ p → (IsPowered new.power → now ≡ true) → ConsoleStep word c p b a new → IsQuiet (Command c) a.line now
+  console_quiet word c None b a new on up h = quiet (Command c) a printed.Off now h.0 tt
+  console_quiet word c (Some life) b a new on up (o, i, e) = reported_quiet word c o a (up (issued_on life.doubt c life b o new (powered b.power life on) i)) e
+
+  word_quiet : (h made : ℕ) (word : Word) → (IsOwn word → now ≡ true) → IsQuiet Guest (printed.Shown (shown_lines.Turn h made word)) now
+  word_quiet h made (words.Own did) up = up tt
+  word_quiet h made words.Asleep up = tt
+  word_quiet h made (words.Reset kind) up = tt
+
+  turn_quiet : (p : Option BenchLife) (h n : ℕ) (b : Bench) (a : Answer) (new : Bench) → (IsPowered new.power → now ≡ true) → TurnStep p h n b a new → IsQuiet Guest a.line now
+  turn_quiet None h n b a new up x = quiet Guest a (printed.Shown shown_lines.Off) now x.0 tt
+  turn_quiet (Some life) h n b a new up (inl (has, made, word, x, e)) = quiet Guest a (printed.Shown (shown_lines.Turn h made word)) now e (word_quiet h made word (λ own. up (turns_on h n b made word new x own)))
+  turn_quiet (Some life) h n b a new up (inr x) = quiet Guest a (printed.Shown shown_lines.Off) now x.1 tt
+
+  own_quiet : (h : ℕ) (hart : ArchState) (did : Turned) → now ≡ true → IsQuiet Guest (printed.Shown (own_line h hart did)) now
+  own_quiet h hart dids.Next up = up
+  own_quiet h hart dids.Idle up = tt
+  own_quiet h hart dids.Entered up = tt
+  own_quiet h hart dids.Woke up = tt
+  own_quiet h hart dids.Suspended up = tt
+  own_quiet h hart dids.Stopped up = tt
+  own_quiet h hart dids.Durable up = tt
+
+  reported_call : (word : Word) (h : ℕ) (new : Bench) (a : Answer) → (IsOwn word → now ≡ true) → CallReported h word new a → IsQuiet Guest a.line now
+  reported_call (words.Own did) h new a up (life, on, e) = quiet Guest a (printed.Shown (own_line h (hart_at life.machine h) did)) now e (own_quiet h (hart_at life.machine h) did (up tt))
+  reported_call words.Asleep h new a up e = quiet Guest a (printed.Shown (shown_lines.Called h words.Asleep)) now e tt
+  reported_call (words.Reset kind) h new a up e = quiet Guest a (printed.Shown (shown_lines.Called h (words.Reset kind))) now e tt
+
+  called_quiet : (called : Called) (h : ℕ) (life : BenchLife) (b : Bench) (a : Answer) (new : Bench) → IsPowered b.power → (IsPowered new.power → now ≡ true) → GuestCall called h life b a new → IsQuiet Guest a.line now
+  called_quiet NotStarted h life b a new on up x = quiet Guest a (printed.Shown (shown_lines.NotStarted h)) now x.0 tt
+  called_quiet (Made did) h life b a new on up (word, x, e) = reported_call word h new a (λ own. up (comes_on did h life b word new on x own)) e
+
+  call_quiet : (p : Option BenchLife) (h e f x y z : ℕ) (b : Bench) (a : Answer) (new : Bench) → (IsPowered new.power → now ≡ true) → CallStep p h e f x y z b a new → IsQuiet Guest a.line now
+  call_quiet None h e f x y z b a new up g = quiet Guest a (printed.Shown shown_lines.Off) now g.0 tt
+  call_quiet (Some life) h e f x y z b a new up (inl (has, m, called, did, g)) = called_quiet called h (has_machine m life) (on_with (has_machine m life) b) a new tt up g
+  call_quiet (Some life) h e f x y z b a new up (inr g) = quiet Guest a (printed.Shown shown_lines.Off) now g.1 tt
+
+nothing_quiet : (x : Printed) (now : Bool) → IsQuiet Nothing x now
+nothing_quiet printed.PowerLost now = tt
+nothing_quiet x now = tt
+
+step_quiet : (size : Size) (line : Line) (b : Bench) (a : Answer) (new : Bench) → IsSound b → (DiskHasFailed new → ⊥) → (IsPowered new.power → is_up new.power ≡ true) → Step size line b a new → IsQuiet (asked_by line) a.line (is_up new.power)
+step_quiet size (lines.On mode) b a new sound well up h = on_quiet (is_up new.power) size b.power mode b a new sound well h
+step_quiet size (lines.Slot n) b a new sound well up h = console_quiet (is_up new.power) names.Slot (Slot n) b.power b a new refl up h
+step_quiet size lines.Discard b a new sound well up h = console_quiet (is_up new.power) names.Discard Discard b.power b a new refl up h
+step_quiet size (lines.Turn x y) b a new sound well up h = turn_quiet (is_up new.power) b.power x y b a new up h
+step_quiet size (lines.Call x y z u v w) b a new sound well up h = call_quiet (is_up new.power) b.power x y z u v w b a new up h
+step_quiet size line b a new sound well up h = nothing_quiet a.line (is_up new.power)
+
+-- ---- so a line makes just what it says
+not_now : {A : Type 0} (now : Bool) → now ≡ true → now ≡ false → A
+not_now now e f = let g : true ≡ false = sym e ∙ f in absurd (let no : ⊥ = cc in no)
+
+fewer_none : (mode : BootMode) (s t : DurableState) → TakesFewer (commands_of mode) s t → t ≡ s
+fewer_none modes.Fresh s t h = absurd h
+fewer_none modes.Keep s t h = absurd h
+fewer_none modes.Discard s t (inl e) = e
+fewer_none modes.Discard s t (inr h) = absurd h.1
+fewer_none modes.Resume s t (inl e) = e
+fewer_none modes.Resume s t (inr h) = absurd h.1
+
+module _ (s t : DurableState) (up now : Bool) where
+  makes_boot : (mode : BootMode) (x : Printed) → IsQuiet (Boot mode) x now → LineImplies (Boot mode) x s up t now → LineMakes (Boot mode) x s t
+  makes_boot mode (printed.On m) q h = (h.0, h.2)
+  makes_boot mode (printed.OnRefused n) q (a, b, inl e) = e
+  makes_boot mode (printed.OnRefused n) q (a, b, inr (inl h)) = fewer_none mode s t h
+  makes_boot mode (printed.OnRefused n) q (a, b, inr (inr h)) = absurd (q h.0)
+  makes_boot mode printed.PowerLost q h = absurd q
+  makes_boot mode x q h = h.0
+
+  makes_command : (c : Change) (x : Printed) → IsQuiet (Command c) x now → LineImplies (Command c) x s up t now → LineMakes (Command c) x s t
+  makes_command c (printed.Acknowledged word k) q h = h.1
+  makes_command c (printed.CommandRefused word n) q (inl h) = h.1
+  makes_command c (printed.CommandRefused word n) q (inr h) = not_now now q h.1
+  makes_command c (printed.On m) q h = absurd h
+  makes_command c printed.PowerLost q h = absurd q
+  makes_command c x q h = h.0
+
+  either_keeps : (hidden : Bool) → now ≡ true → MatchBool hidden (Hides s up t now) (Keeps s up t now) → t ≡ s
+  either_keeps true on (inl k) = k.0
+  either_keeps true on (inr h) = not_now now on h.1
+  either_keeps false on k = k.0
+
+  makes_shown : (line : MachineLine) → IsQuiet Guest (printed.Shown line) now → TellsLine line s up t now → ShownMakes line s t
+  makes_shown (shown_lines.Turn h made (words.Own did)) q x = either_keeps (may_hide made did) q x
+  makes_shown (shown_lines.Turn h made words.Asleep) q x = (x.2, x.3, x.4)
+  makes_shown (shown_lines.Turn h made (words.Reset kind)) q x = (x.2, x.3, x.4)
+  makes_shown (shown_lines.Called h (words.Own did)) q x = x.0
+  makes_shown (shown_lines.Called h words.Asleep) q x = (x.2, x.3, x.4)
+  makes_shown (shown_lines.Called h (words.Reset kind)) q x = (x.2, x.3, x.4)
+  makes_shown (shown_lines.Answered h e v) q x = either_keeps (e == 2 ^ 64 - 1) q x
+  makes_shown line q x = x.0
+
+  makes_guest : (x : Printed) → IsQuiet Guest x now → LineImplies Guest x s up t now → LineMakes Guest x s t
+  makes_guest (printed.Shown line) q h = makes_shown line q h
+  makes_guest (printed.On m) q h = absurd h
+  makes_guest printed.PowerLost q h = absurd q
+  makes_guest x q h = h.0
+
+  makes_nothing : (x : Printed) → LineImplies Nothing x s up t now → LineMakes Nothing x s t
+  makes_nothing (printed.On m) h = absurd h
+  makes_nothing x h = h.0
+
+  makes : (asked : AskedLine) (x : Printed) → IsQuiet asked x now → LineImplies asked x s up t now → LineMakes asked x s t
+  makes (Boot mode) x q h = makes_boot mode x q h
+  makes (Command c) x q h = makes_command c x q h
+  makes Guest x q h = makes_guest x q h
+  makes Nothing x q h = makes_nothing x h
+
+-- ---- whole runs
+alone : (k : Kept) (s : DurableState) → k.doubt ≡ None → MayFind k s → s ≡ found_of k.changes
+alone k s calm (changes, inl e, is) = is ∙ ap found_of e
+alone k s calm (changes, inr e, is) = let P : Option Change → Type 0 = λ d. TakesIn d k.changes changes in absurd (subst P calm e)
+
+line_found : (asked : AskedLine) (b : Bench) (a : Answer) (new : Bench) → b.kept.doubt ≡ None → Tell asked b a new → IsQuiet asked a.line (is_up new.power)
+    → ShowsIts a.found (found_of b.kept.changes) × LineMakes asked a.line (found_of b.kept.changes) (found_of new.kept.changes)
+line_found asked b a new calm tell q =
+    let t : DurableState = found_of new.kept.changes in
+    let was = tell.1 t (new.kept.changes, inl refl, refl) in
+    let P : DurableState → Type 0 = λ s. ShowsIts a.found s × LineMakes asked a.line s t in
+    subst P (alone b.kept was.0 calm was.1) (was.2.0, makes was.0 t (is_up b.power) (is_up new.power) asked a.line q was.2.1)
+
+abbrev pub IsWell : Bench → Type 0
+IsWell b = DiskHasFailed b → ⊥
+
+run_found : (size : Size) (ls : List Line) (b : Bench) (answers : List Answer) (end : Bench) → AreByFirmware ls → IsSound b → IsCalm b → IsWell end → Run size b ls answers end → AreAllFound (found_of b.kept.changes) ls answers
+run_found size [] b [] end by sound calm well run = tt
+run_found size (l ∷ ls) b (a ∷ answers) end by sound calm well (new, inr (would, mid, x, struck, e, is), run) =
+    let P : Bench → Type 0 = DiskHasFailed in
+    absurd (well ((run_fair size ls new answers end by.1 run).2 (subst P (sym is) (struck_fails size l b would mid by.0 calm x struck))))
+run_found size (l ∷ ls) b (a ∷ answers) end by sound calm well (new, inl (x, unstruck), run) =
+    by_calm ((moves_fair size l b a new by.0 (inl (x, unstruck))).1 calm) (λ sound c. run_found size ls new answers end by.1 sound c well run)
+  where
+    well_now : IsWell new
+    well_now s = well ((run_fair size ls new answers end by.1 run).2 s)
+
+    by_calm : DiskHasFailed new ⊎ IsCalm new → (IsSound new → IsCalm new → AreAllFound (found_of new.kept.changes) ls answers) → AreAllFound (found_of b.kept.changes) (l ∷ ls) (a ∷ answers)
+    by_calm (inl s) more = absurd (well_now s)
+    by_calm (inr c) more =
+        let tell : Tell (asked_by l) b a new = steps size l b a new by.0 sound x in
+        let now_calm : new.kept.doubt ≡ None = subst (λ m. CalmDisk m new.kept.doubt) tell.0.0 c.0 in
+        let was_calm : b.kept.doubt ≡ None = subst (λ m. CalmDisk m b.kept.doubt) sound.0 calm.0 in
+        let q = step_quiet size l b a new sound well_now (λ on. up_now new.kept new.power tell.0.1 now_calm on) x in
+        let one = line_found (asked_by l) b a new was_calm tell q in
+        (one.0, found_of new.kept.changes, one.1, more tell.0 c)
+run_found size [] b (a ∷ answers) end by sound calm well run = absurd run
+run_found size (l ∷ ls) b [] end by sound calm well run = absurd run
+
+anew_found : (size : Size) (ls : List Line) (b : Bench) (answers : List Answer) (end : Bench) → AreByFirmware ls → IsFresh b → IsCalm b → IsWell end → Run size b ls answers end → AreAllFound formatted ls answers
+anew_found size ls b answers end by (disk_state, kept, on) calm well run =
+    let F : Option BenchLife → Type 0 = λ p. GoesOn b.kept p in
+    subst (λ (k : Kept). AreAllFound (found_of k.changes) ls answers) kept (run_found size ls b answers end by (disk_state, subst F (sym on) tt) calm well run)
+
+from_format : (size : Size) (ls : List Line) (b : Bench) (answers : List Answer) (end : Bench) → AreByFirmware ls → IsCalm b → IsWell end → Run size b ls answers end → FindAll ls answers
+from_format size [] b answers end by calm well run = tt
+from_format size (l ∷ ls) b [] end by calm well run = absurd run
+from_format size (l ∷ ls) b (a ∷ answers) end by calm well run = by_calm ((moves_fair size l b a run.0 by.0 run.1).1 calm) (λ c. from_format size ls run.0 answers end by.1 c well run.2)
+  where
+    by_calm : DiskHasFailed run.0 ⊎ IsCalm run.0 → (IsCalm run.0 → FindAll ls answers) → FindAll (l ∷ ls) (a ∷ answers)
+    by_calm (inl s) more = absurd (well ((run_fair size ls run.0 answers end by.1 run.2).2 s))
+    by_calm (inr c) more =
+        either (is_format_ok a.line) (AreAllFound formatted ls answers) (FindAll ls answers)
+        (λ ok. anew_found size ls run.0 answers end by.1 (moves_format size l b a run.0 run.1 ok) c well run.2) (more c)
+
+pub all_found : (script : Script) (answers : List Answer) (end : Bench) → AreByFirmware script.lines → IsReport script answers end → end.failures ≡ 0 → FindsAll script.lines answers
+all_found script [] end by h none = absurd h
+all_found script (board ∷ answers) end by h none = from_format script.size script.lines blank_bench answers end by (tt, refl) (λ failed. omega (arith, none, failed)) h.1

@@ -1,0 +1,60 @@
+-- Without a failure of the disk, in the words of the report alone: from the first `format ok` on there is one
+-- state before each line, a found line shows it, and it is what all commands that were acknowledged since the
+-- format make of the formatted one, and no other.
+use Rattle.std.specs.Prelude.{◌≡◌, List, [], ◌∷◌, MatchBool, ⊤}
+use Rattle.board_model.specs.Durable.{DurableState, Change, formatted}
+use Rattle.machine.specs.declared.parts.Word.{Word}
+use Rattle.machine.specs.declared.parts.Word.TheVariants as words
+use Rattle.machine_lines.specs.declared.line.MachineLine.{MachineLine}
+use Rattle.machine_lines.specs.declared.line.MachineLine.TheVariants as shown
+use Rattle.script_lang.specs.declared.line.Line.{Line}
+use Rattle.bench_report.specs.declared.printed.Answer.{Answer}
+use Rattle.bench_report.specs.declared.printed.Printed.{Printed}
+use Rattle.bench_report.specs.declared.printed.Printed.TheVariants as printed
+use Rattle.bench_report.specs.PowerOns.{commands_of}
+use Rattle.bench_report.specs.Taken.{TakesAll}
+use Rattle.bench_report.specs.Prefix.{AskedLine, Boot, Command, Guest, Nothing, asked_by, IsReset, IsSuspension, ShowsIts, is_format_ok}
+
+-- a hart's command of this kind was acknowledged
+abbrev pub Acknowledges : (Change → Type 0) → DurableState → DurableState → Type 0
+Acknowledges Is s t = (c : Change) × Is c × TakesAll (c ∷ []) s t
+
+abbrev pub WordMakes : Word → DurableState → DurableState → Type 0
+WordMakes (words.Own did) s t = t ≡ s
+WordMakes words.Asleep s t = Acknowledges IsSuspension s t
+WordMakes (words.Reset kind) s t = Acknowledges IsReset s t
+
+abbrev pub ShownMakes : MachineLine → DurableState → DurableState → Type 0
+ShownMakes (shown.Turn h made word) s t = WordMakes word s t
+ShownMakes (shown.Called h word) s t = WordMakes word s t
+ShownMakes line s t = t ≡ s
+
+-- The state s before a line and t after it, by what the line asked and what it says. No cut strikes in a line
+-- that asks something of the disk.
+abbrev pub LineMakes : AskedLine → Printed → DurableState → DurableState → Type 0
+LineMakes (Boot asked) (printed.On mode) s t = (mode ≡ asked) × TakesAll (commands_of asked) s t
+LineMakes (Command c) (printed.Acknowledged word k) s t = TakesAll (c ∷ []) s t
+LineMakes Guest (printed.Shown line) s t = ShownMakes line s t
+LineMakes Nothing said s t = t ≡ s
+LineMakes asked printed.PowerLost s t = ⊥
+LineMakes asked said s t = t ≡ s
+
+-- the lines that are left, where the commands that were acknowledged make s
+abbrev pub AreAllFound : DurableState → List Line → List Answer → Type 0
+AreAllFound s [] [] = ⊤
+AreAllFound s (line ∷ more) (answer ∷ answers) =
+    ShowsIts answer.found s × (t : DurableState) × LineMakes (asked_by line) answer.line s t × AreAllFound t more answers
+AreAllFound s [] (answer ∷ answers) = ⊥
+AreAllFound s (line ∷ more) [] = ⊥
+
+-- from the first format that answered Ok on
+abbrev pub FindAll : List Line → List Answer → Type 0
+FindAll [] answers = ⊤
+FindAll (line ∷ more) [] = ⊥
+FindAll (line ∷ more) (answer ∷ answers) =
+    MatchBool (is_format_ok answer.line) (AreAllFound formatted more answers) (FindAll more answers)
+
+-- a report: the first answer is the board line's
+abbrev pub FindsAll : List Line → List Answer → Type 0
+FindsAll script [] = ⊥
+FindsAll script (board ∷ answers) = FindAll script answers
