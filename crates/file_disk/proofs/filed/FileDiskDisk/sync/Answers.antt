@@ -1,0 +1,5 @@
+use Rattle.file_disk.proofs.Beside.{call_beside}
+use Rattle.file_disk.proofs.filed.FileDiskDisk.sync.Goals as goal
+
+pub returns-clause-called : goal.returns-clause-called
+returns-clause-called g c = call_beside _ _ _ _ _ _ _ c.sync.ensures.called
