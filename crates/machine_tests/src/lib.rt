@@ -17,6 +17,8 @@ mod lines;
 #[cfg(test)]
 mod memory;
 #[cfg(test)]
+mod rewritten;
+#[cfg(test)]
 mod steps;
 #[cfg(test)]
 mod traps;

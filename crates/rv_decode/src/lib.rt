@@ -5,6 +5,7 @@
 //! What an instruction is written as stands in `specs/Spells.antt`, as a relation between
 //! instructions and numbers: fields times powers of two. [`one_reading`] is the law that the
 //! relation is one to one. An instruction prints as an assembler writes it.
+//! [`flatten`] gives an instruction in one flat form, for who carries it out.
 //!
 //! The source is the RISC-V Unprivileged ISA 20191213, chapters 2, 5, 9 and the tables of
 //! chapter 24. M, A, F, D, C, FENCE.I and the privileged instructions other than SRET and WFI are
@@ -14,6 +15,7 @@
 mod code;
 mod display;
 mod fields;
+mod flat;
 mod instr;
 mod opcode;
 mod tables;
@@ -23,6 +25,7 @@ pub use code::{decode, encode, one_reading};
 pub use fields::{
     BranchOffset, CsrNumber, CsrUimm, Imm12, Imm20, JumpOffset, Reg, Shamt, WordShamt,
 };
+pub use flat::{FlatInstr, FlatOp, flatten};
 pub use instr::{
     ArithOp, ArithWordOp, BranchOp, CsrOp, ImmOp, Instr, LoadOp, ShiftOp, StoreOp, SystemOp,
     UpperOp,
