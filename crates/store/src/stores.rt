@@ -6,7 +6,7 @@ ghost use Rattle.board_model.specs.Shapes.{Size, IsSize, ram_bytes_of};
 ghost use Rattle.layout.specs.Records.{AreCounts};
 ghost use Rattle.layout.specs.declared.records.Saved.{Saved};
 ghost use Rattle.image.specs.Images.{area_of, memory_of};
-ghost use Rattle.image.specs.Refusals.{WriteRefused};
+ghost use Rattle.image.specs.Refusals.{WriteRefused, StopsWithin};
 ghost use Rattle.disk.specs.Facts.{Failed, Content};
 ghost use Rattle.store.specs.Standing.{state_of, memory_in};
 ghost use Rattle.store.specs.Entries.{are_plain, drop_image};
@@ -367,6 +367,8 @@ impl<D: Disk + Drop> Store<D> {
             × (fault_state_of self.new ≡ fault_state_of self.old)) }
         ensures calls { OnOk result
             ((disk_of self.new).calls ≡ counted (disk_of self.old).calls (2 * (size_of_store self.old).pages)) }
+        ensures stops { IfErr result (λ e. StopsWithin (size_of_store self.old).pages e (disk_of self.old).calls
+            (disk_of self.new).calls) }
         ensures stays { StaysOpen (view_of self.old) (view_of self.new) }
     {
         if ram.pages() != self.shape.pages() {

@@ -74,3 +74,8 @@ returns-in_err-read_area-clause-reads_alone g c = let did = c.read_area.ensures 
 
 pub returns-clause-reads_alone : goal.returns-clause-reads_alone
 returns-clause-reads_alone g c = let did = c.read_area.ensures in read_alone _ _ (g.met.D.Disk.only_now _) did.content did.crash did.none_out did.no_fewer
+
+pub returns-in_err-read_area-clause-stops : goal.returns-in_err-read_area-clause-stops
+returns-in_err-read_area-clause-stops g c =
+    let p = err_from_is_err_and c.from_residual.result c.from_residual.ensures.1 in
+    rw (p.1, p.2) c.in_err-read_area.ensures.stops
