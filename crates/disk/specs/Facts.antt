@@ -1,5 +1,6 @@
 -- What a disk is, to a contract: what a read gives, what a crash may leave, and how often it has failed.
 use Rattle.std.specs.Prelude.{◌≡◌, ◌⊎◌, ℕ, ◌+◌, ◌*◌, ◌-◌, ◌^◌, ◌≤◌, ◌<◌, min, List, [], ◌∷◌, length, get_or, Result, OnOk, OnErr}
+use Rattle.disk.specs.declared.device.LaneCall.{LaneCall}
 
 -- the sectors in order, each a list of its 512 bytes
 abbrev pub Content : Type 0
@@ -42,6 +43,8 @@ pub record LaneFacts : Type 0 where
   pub failures : ℕ
   -- where on the disk it begins
   pub first : ℕ
+  -- each call that was made of it since the split, in order
+  pub calls : List LaneCall
 
 -- new is old but for n sectors in a row, which are any
 pub record Torn (first n : ℕ) (old new : Content) : Type 0 where
@@ -131,7 +134,7 @@ Failed before now = counted before 1 ≤ now
 
 -- past the end of a list of lanes
 abbrev pub no_lane : LaneFacts
-no_lane = record { content = []; failures = 0; first = 0 }
+no_lane = record { content = []; failures = 0; first = 0; calls = [] }
 
 abbrev pub lane_at : List LaneFacts → ℕ → LaneFacts
 lane_at lanes i = get_or lanes i no_lane
@@ -153,6 +156,7 @@ pub record Handed (l : Lent) (content : Content) (lanes : List LaneFacts) : Type
   pub row : InRow l lanes
   pub same : Hold l lanes content
   pub no_failure : (i : ℕ) → i < l.lanes → (lane_at lanes i).failures ≡ 0
+  pub no_call : (i : ℕ) → i < l.lanes → (lane_at lanes i).calls ≡ []
 
 -- the content after a join
 pub record Joined (l : Lent) (lanes : List LaneFacts) (old new : Content) : Type 0 where

@@ -1,5 +1,5 @@
 //! The disk and the lanes that it lends, as traits.
-ghost use Rattle.std.specs.Prelude.{◌≡◌, ◌⊎◌, ◌≤◌, ◌<◌, ◌+◌, ◌*◌, ℕ, length, map, OnOk, OnErr, IfOk};
+ghost use Rattle.std.specs.Prelude.{◌≡◌, ◌⊎◌, ◌≤◌, ◌<◌, ◌+◌, ◌*◌, ◌++◌, ◌∷◌, [], ℕ, length, map, is_ok, OnOk, OnErr, IfOk};
 
 use std::alloc::AllocError;
 
@@ -26,8 +26,15 @@ pub enum ArmedFault {
     CutLane(usize, u64),
 }
 
+/// A call of a lane: from which of its sectors on, how many of them, and whether it answered `Ok`.
+/// Calls stand in contracts alone: no value of this type is ever made.
+pub enum LaneCall {
+    Read(usize, usize, bool),
+    Write(usize, usize, bool),
+}
+
 /// Some sectors in a row, lent by a disk until a join takes them back. What a crash leaves in them
-/// is a matter of the disk alone.
+/// is a matter of the disk alone. Contracts note each call that is made of a lane, in order.
 pub trait Lane {
     ghost use Rattle.disk.specs.Facts.{LaneFacts, Torn, Written, AreSectorsAt, Counts};
 
@@ -39,7 +46,9 @@ pub trait Lane {
         ensures found { OnOk result (AreSectorsAt first (lane_facts self.old).content sectors.new) }
         ensures content { (lane_facts self.new).content ≡ (lane_facts self.old).content }
         ensures place { (lane_facts self.new).first ≡ (lane_facts self.old).first }
-        ensures failures { Counts (lane_facts self.old).failures (lane_facts self.new).failures result };
+        ensures failures { Counts (lane_facts self.old).failures (lane_facts self.new).failures result }
+        ensures calls { (lane_facts self.new).calls
+            ≡ (lane_facts self.old).calls ++ LaneCall.Read first (length sectors.old) (is_ok result) ∷ [] };
 
     /// Writes these sectors from that one of the lane on. At `Err` the range reads as any bytes
     /// until it is written again.
@@ -49,7 +58,9 @@ pub trait Lane {
             (Written first sectors.now (lane_facts self.old).content (lane_facts self.new).content) }
         ensures content { Torn first (length sectors.now) (lane_facts self.old).content (lane_facts self.new).content }
         ensures place { (lane_facts self.new).first ≡ (lane_facts self.old).first }
-        ensures failures { Counts (lane_facts self.old).failures (lane_facts self.new).failures result };
+        ensures failures { Counts (lane_facts self.old).failures (lane_facts self.new).failures result }
+        ensures calls { (lane_facts self.new).calls
+            ≡ (lane_facts self.old).calls ++ LaneCall.Write first (length sectors.now) (is_ok result) ∷ [] };
 
     /// How often a call of this lane has failed since the split.
     fn failures(&self) -> u64

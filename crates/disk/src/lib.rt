@@ -6,5 +6,5 @@
 mod device;
 mod synced;
 
-pub use device::{ArmedFault, Disk, Fault, Lane, Sector};
+pub use device::{ArmedFault, Disk, Fault, Lane, LaneCall, Sector};
 pub use synced::{read_sector, write_synced};

@@ -1,5 +1,7 @@
 //! Areas written and read back (docs/IMAGE.md): through one to four lanes, in turn and on threads; a lane or
 //! the sync that fails; what a cut leaves.
+ghost use Rattle.std.specs.Prelude.{◌≤◌};
+
 use crate::fixtures::{Site, same};
 use board_model::Refusal;
 use crew::{Crew, Threads, Turns};
@@ -168,6 +170,65 @@ fn a_cut_leaves_the_other_area(rt: HostRuntime) -> Result<(), Fail> {
                 answer,
                 (Some(Refusal::Device), Some(Refusal::BadImage), true),
             );
+        }
+    }
+    Ok(())
+}
+
+/// Over how many places a memory of so many pages is written through so many lanes.
+fn places_in_use<C: Crew>(alloc: Global, crew: &C, pages: u64, lanes: u64) -> Result<u64, Refusal> {
+    let mut site = Site::new(alloc, pages, lanes)?;
+    let counts = site.write(alloc, crew, Side::first(), 9, 7)?;
+    let mut places = 0u64;
+    for count in counts {
+        places = places.saturating_add(u64::from(count));
+    }
+    Ok(places)
+}
+
+/// No number of pages from that one on, 64 in all, is refused memory that there is.
+fn are_written<R: Abort + thread::Threads + Sync>(
+    rt: &R,
+    alloc: Global,
+    first: u64,
+) -> Result<(), Fail>
+    requires { first ≤ 256 }
+{
+    let turns: Turns<R> = Turns::new([1, 3, 0, 2])?;
+    for pages in first..first + 64 {
+        let places = places_in_use(alloc, &turns, pages, pages % 4 + 1)?;
+        same(rt, places, pages);
+    }
+    Ok(())
+}
+
+#[test]
+fn each_number_of_pages_to_64(rt: HostRuntime) -> Result<(), Fail> {
+    are_written(&rt, rt.alloc(), 1)
+}
+
+#[test]
+fn each_number_of_pages_to_128(rt: HostRuntime) -> Result<(), Fail> {
+    are_written(&rt, rt.alloc(), 65)
+}
+
+#[test]
+fn each_number_of_pages_to_192(rt: HostRuntime) -> Result<(), Fail> {
+    are_written(&rt, rt.alloc(), 129)
+}
+
+#[test]
+fn each_number_of_pages_to_256(rt: HostRuntime) -> Result<(), Fail> {
+    are_written(&rt, rt.alloc(), 193)
+}
+
+#[test]
+fn each_number_of_lanes(rt: HostRuntime) -> Result<(), Fail> {
+    let turns: Turns<HostRuntime> = Turns::new([1, 3, 0, 2])?;
+    for pages in [1, 2, 3, 4, 5, 64, 65, 256] {
+        for lanes in 1..5 {
+            let places = places_in_use(rt.alloc(), &turns, pages, lanes)?;
+            same(&rt, places, pages);
         }
     }
     Ok(())

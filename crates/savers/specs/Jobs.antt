@@ -2,6 +2,7 @@
 use Rattle.std.specs.Prelude.{◌≡◌, ℕ, List, [], length}
 use Rattle.board_model.specs.Shapes.{Size}
 use Rattle.disk.specs.Facts.{LaneFacts}
+use Rattle.savers.specs.Calls.{IsFilledBy}
 use Rattle.savers.specs.Pages.{Fills}
 use Rattle.savers.specs.declared.saver.Saver.{Saver}
 use Rattle.tickets.specs.Draws.{ticket_view, share_of, draws_each}
@@ -30,5 +31,6 @@ module _ {L : Type 0} (facts : L → LaneFacts) where
     pub seated : IsSeated t new
     pub first : (lane_of new).first ≡ (lane_of old).first
     pub as_long : length (lane_of new).content ≡ length (lane_of old).content
+    pub calls : (lane_of old).failures ≡ 0 → IsFilledBy size new.filled (lane_of old) (lane_of new)
     pub done : (lane_of old).failures ≡ 0 → (lane_of new).failures ≡ 0
         → Fills size memory serial (drawn_by new) new.filled (lane_of new).content

@@ -1,8 +1,9 @@
 //! Saving: a saver for each lane, which draws its pages from one ticket.
-ghost use Rattle.std.specs.Prelude.{◌≡◌, ◌==◌, ◌<◌, ◌≤◌, ◌*◌, ℕ, [], All, length, map, vec_capacity, slice_index_or, OnOk, IfOk, IfErr};
+ghost use Rattle.std.specs.Prelude.{◌≡◌, ◌==◌, ◌<◌, ◌≤◌, ◌*◌, ◌++◌, ℕ, [], All, length, map, vec_capacity, slice_index, slice_index_or, OnOk, IfOk, IfErr};
 ghost use Rattle.board_model.specs.Shapes.{ram_bytes_of};
 ghost use Rattle.disk.specs.Facts.{lane_at, lane_failures};
 ghost use Rattle.layout.specs.Sizes.{lane_sectors};
+ghost use Rattle.savers.specs.Calls.{filling_calls, IsFilledBy};
 ghost use Rattle.savers.specs.Saved.{SamePlaces, LanesHold, SaveRefused};
 ghost use Rattle.savers.specs.Pages.{DrawnPages};
 ghost use Rattle.savers.specs.Jobs.{IsReady, IsSeated, JobDone, lane_of};
@@ -32,11 +33,12 @@ pub struct SavedPages {
 }
 
 /// Saves the memory through the lanes, each lane by one job of the crew, and gives the lanes back, each where
-/// it was. Each job draws pages from one ticket and writes each into the next place of its lane: what all of
-/// them drew, put together, is each page of the board once. `Ok` has how many places of each lane are in use;
-/// each page stands in one of them, under that serial. A lane of which a call fails is left as it is, and the
-/// others go on; then `Device` is refused, and any bytes may stand in the lanes. `Memory` is refused where none
-/// was had for the ticket or for the list of savers; then no job began (docs/IMAGE.md, "The ticket").
+/// it was. Each job draws pages from one ticket and writes each into the next place of its lane, its header and
+/// then its data: what all of them drew, put together, is each page of the board once. `Ok` has how many
+/// places of each lane are in use; each page stands in one of them, under that serial. The first call of a lane
+/// that fails is its last, and the others go on; then `Device` is refused, and any bytes may stand in the lanes.
+/// `Memory` is refused where none was had for the ticket or for the list of savers; then no job began, and no
+/// lane was called (docs/IMAGE.md, "The ticket").
 pub fn save<C: Crew, L: Lane + Send + Drop>(
     alloc: Global,
     crew: &C,
@@ -55,6 +57,14 @@ pub fn save<C: Crew, L: Lane + Send + Drop>(
         (map L.lane_facts result.0.items)) }
     ensures saved { IfOk result.1 (λ saved. LanesHold shape.now ram.now serial saved.counts
         (map L.lane_facts result.0.items)) }
+    ensures calls { IfOk result.1 (λ saved. (i : ℕ) → i < length lanes.items
+        → (lane_at (map L.lane_facts result.0.items) i).calls
+        ≡ (lane_at (map L.lane_facts lanes.items) i).calls ++ filling_calls (slice_index saved.counts i)) }
+    ensures ended { IfErr result.1 (λ e. e ≡ Refusal.Device → (i : ℕ) → i < length lanes.items
+        → (filled : ℕ) × IsFilledBy shape.now filled (lane_at (map L.lane_facts lanes.items) i)
+        (lane_at (map L.lane_facts result.0.items) i)) }
+    ensures untouched { IfErr result.1 (λ e. e ≡ Refusal.Memory
+        → map L.lane_facts result.0.items ≡ map L.lane_facts lanes.items) }
     ensures failures { OnOk result.1 (lane_failures (map L.lane_facts result.0.items) ≡ 0) }
     ensures refused { IfErr result.1 (λ e. SaveRefused e (lane_failures (map L.lane_facts result.0.items))) }
 {
@@ -98,6 +108,9 @@ fn save_by<C: Crew, L: Lane + Send + Drop>(
         (map L.lane_facts result.0.items) }
     ensures saved { lane_failures (map L.lane_facts result.0.items) ≡ 0
         → LanesHold shape.now ram.now serial result.1.counts (map L.lane_facts result.0.items) }
+    ensures calls { (i : ℕ) → i < length lanes.items
+        → IsFilledBy shape.now (slice_index result.1.counts i) (lane_at (map L.lane_facts lanes.items) i)
+        (lane_at (map L.lane_facts result.0.items) i) }
 {
     let mut seat = seat;
     let mut lanes = lanes;

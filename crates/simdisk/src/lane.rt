@@ -1,5 +1,5 @@
 //! A lane, which owns its sectors.
-ghost use Rattle.std.specs.Prelude.{◌≡◌, ◌≤◌, ◌+◌, length, None, false, OnOk, OnErr};
+ghost use Rattle.std.specs.Prelude.{◌≡◌, ◌≤◌, ◌+◌, ◌++◌, ◌∷◌, [], length, None, false, is_ok, OnOk, OnErr};
 ghost use Rattle.disk.specs.Facts.{Torn, Written, AreSectorsAt, Counts};
 ghost use Rattle.simdisk.specs.LaneRecords.{LaneCalled};
 ghost use Rattle.simdisk.specs.WriteLog.{laid_over};
@@ -8,8 +8,9 @@ ghost use Rattle.simdisk.specs.Views.{last_of, IsAsRead};
 use crate::faults::Faults;
 use crate::laid::overwrite;
 use crate::recorded::RecordedLane;
+use crate::remembered::Remembered;
 use crate::striking::failed;
-use disk::{Fault, Lane, Sector};
+use disk::{Fault, Lane, LaneCall, Sector};
 
 /// A lane of a [`SimDisk`](crate::SimDisk), which owns its sectors until the join.
 #[derive(Drop)]
@@ -19,6 +20,7 @@ pub struct SimLane {
     pub(crate) last: Last,
     pub(crate) failures: u64,
     pub(crate) faults: Faults,
+    pub(crate) log: Remembered,
     ghost as_long: { length (last_of last sectors.items) ≡ length sectors.items },
     ghost calm: { IsAsRead last → (faults.armed ≡ None) × (faults.cut ≡ false) },
 }
@@ -90,12 +92,17 @@ impl Lane for SimLane {
             ≡ (⟦<SimLane as Lane>⟧.lane_facts self.old).first }
         ensures failures { Counts (⟦<SimLane as Lane>⟧.lane_facts self.old).failures
             (⟦<SimLane as Lane>⟧.lane_facts self.new).failures result }
+        ensures calls { (⟦<SimLane as Lane>⟧.lane_facts self.new).calls
+            ≡ (⟦<SimLane as Lane>⟧.lane_facts self.old).calls
+            ++ LaneCall.Read first (length sectors.old) (is_ok result) ∷ [] }
         ensures newest { (⟦<SimLane as RecordedLane>⟧.record self.new).newest
             ≡ (⟦<SimLane as RecordedLane>⟧.record self.old).newest }
         ensures called { LaneCalled (⟦<SimLane as RecordedLane>⟧.record self.old)
             (⟦<SimLane as RecordedLane>⟧.record self.new) result }
     {
-        if self.faults.strikes() {
+        let strikes = self.faults.strikes();
+        self.log.note_read(first, sectors.len(), !strikes);
+        if strikes {
             return Err(failed(&mut self.failures));
         }
         sectors.copy_from_slice(&self.sectors[first..first + sectors.len()]);
@@ -113,6 +120,9 @@ impl Lane for SimLane {
             ≡ (⟦<SimLane as Lane>⟧.lane_facts self.old).first }
         ensures failures { Counts (⟦<SimLane as Lane>⟧.lane_facts self.old).failures
             (⟦<SimLane as Lane>⟧.lane_facts self.new).failures result }
+        ensures calls { (⟦<SimLane as Lane>⟧.lane_facts self.new).calls
+            ≡ (⟦<SimLane as Lane>⟧.lane_facts self.old).calls
+            ++ LaneCall.Write first (length sectors.now) (is_ok result) ∷ [] }
         ensures stays { OnErr result
             ((⟦<SimLane as Lane>⟧.lane_facts self.new).content ≡ (⟦<SimLane as Lane>⟧.lane_facts self.old).content) }
         ensures newest { (⟦<SimLane as RecordedLane>⟧.record self.new).newest
@@ -121,7 +131,9 @@ impl Lane for SimLane {
             (⟦<SimLane as RecordedLane>⟧.record self.new) result }
     {
         self.last.write(first, sectors);
-        if self.faults.strikes() {
+        let strikes = self.faults.strikes();
+        self.log.note_write(first, sectors.len(), !strikes);
+        if strikes {
             return Err(failed(&mut self.failures));
         }
         overwrite(&mut self.sectors, first, sectors);

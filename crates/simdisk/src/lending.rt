@@ -9,6 +9,7 @@ use crate::faults::Faults;
 use crate::laid::overwrite;
 use crate::lane::{Bytes, Last, SimLane};
 use crate::patch::copy_of;
+use crate::remembered::Remembered;
 use disk::Sector;
 use std::alloc::{AllocError, Global};
 
@@ -38,12 +39,14 @@ pub(crate) fn lend(
         let start = first + lane * each;
         let faults = faults.of_lane(lane);
         let as_read = faults.stays_in_step(in_step);
+        let log = Remembered::no_call();
         out.push(SimLane {
             first: start,
             sectors: copy_of(alloc, &content[start..start + each])?,
             last: last_in(alloc, &newest[start..start + each], as_read)?,
             failures: 0,
             faults,
+            log,
         })?;
     }
     Ok(out)

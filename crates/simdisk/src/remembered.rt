@@ -1,24 +1,30 @@
-//! Sectors that only contracts remember. They take no memory, and nothing is done for them at run time.
+//! Sectors and calls that only contracts remember. They take no memory, and nothing is done for them at run
+//! time.
 ghost use Rattle.std.specs.Prelude.{◌≡◌, List, [], ◌∷◌, ◌++◌, map, take, drop};
 ghost use Rattle.std.specs.Borrow.{ftrue};
 ghost use Rattle.disk.specs.Facts.{Content};
+ghost use Rattle.disk.specs.declared.device.LaneCall.{LaneCall};
 ghost use Rattle.simdisk.specs.WriteLog.{Piece, piece_in};
 
 use crate::patch::Patch;
-use disk::Sector;
+use disk::{LaneCall, Sector};
 use std::marker::{Model, PhantomData};
 
-/// Sectors as they stood once, and what each sync since then made durable.
+/// Sectors as they stood once, what each sync since then made durable, and the calls of a lane.
 #[derive(Drop)]
 pub(crate) struct Remembered {
     marker: PhantomData<u8>,
     pub(crate) ghost sectors: { Content },
     pub(crate) ghost epochs: { List (List Piece) },
+    pub(crate) ghost calls: { List LaneCall },
 }
 
 impl Model for Remembered {
     ghost also_owns = { λ _. ftrue };
 }
+
+// It holds no data, so it may go to any thread.
+unsafe impl Send for Remembered {}
 
 impl Remembered {
     ghost use Rattle.simdisk.specs.Views.{pieces};
@@ -53,11 +59,32 @@ impl Remembered {
         Remembered::picked(&(patches, content))
     }
 
+    /// No call of a lane.
+    pub(crate) fn no_call() -> Remembered
+        ensures { result.calls ≡ [] }
+    {
+        Remembered::picked(&())
+    }
+
+    /// One more call of a lane, a read.
+    pub(crate) fn note_read(&mut self, first: usize, count: usize, ok: bool)
+        ensures { self.new.calls ≡ self.old.calls ++ LaneCall.Read first count ok ∷ [] }
+    {
+        *self = Remembered::picked(&(&*self, first, count, ok));
+    }
+
+    /// One more call of a lane, a write.
+    pub(crate) fn note_write(&mut self, first: usize, count: usize, ok: bool)
+        ensures { self.new.calls ≡ self.old.calls ++ LaneCall.Write first count ok ∷ [] }
+    {
+        *self = Remembered::picked(&(&*self, first, count, ok));
+    }
+
     /// What the caller's proof picks, from the values that are passed. No other function makes the struct, so
     /// that one proof by hand is enough.
     fn picked<T>(_values: &T) -> Remembered
-        ghost past: { Content × List (List Piece) }
-        ensures { (result.sectors ≡ past.0) × (result.epochs ≡ past.1) }
+        ghost past: { Content × List (List Piece) × List LaneCall }
+        ensures { (result.sectors ≡ past.0) × (result.epochs ≡ past.1) × (result.calls ≡ past.2) }
     {
         Remembered {
             marker: PhantomData,

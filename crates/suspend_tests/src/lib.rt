@@ -7,4 +7,6 @@ mod cuts;
 #[cfg(test)]
 mod fixtures;
 #[cfg(test)]
+mod sizes;
+#[cfg(test)]
 mod tests;

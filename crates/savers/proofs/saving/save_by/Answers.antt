@@ -1,12 +1,13 @@
-use Rattle.std.proofs.Common.{◌≡◌, ◌∙◌, length, map, sym, ap, subst, arith, List}
+use Rattle.std.proofs.Common.{◌≡◌, ◌∙◌, length, map, slice_index, sym, ap, subst, arith, List}
 use Rattle.std.proofs.lemmas.List.{length-map}
-use Rattle.disk.specs.Facts.{LaneFacts, lane_failures}
+use Rattle.disk.specs.Facts.{LaneFacts, lane_at, lane_failures}
 use Rattle.layout.specs.Sizes.{lane_sectors}
 use Rattle.savers.specs.Saved.{SamePlaces}
 use Rattle.savers.specs.Pages.{DrawnPages}
+use Rattle.savers.specs.Calls.{IsFilledBy}
 use Rattle.savers.specs.Jobs.{lane_of}
 use Rattle.savers.proofs.Drawn.{lanes_hold}
-use Rattle.savers.proofs.Jobs.{all_of_lanes, same_places, drawn_by_all}
+use Rattle.savers.proofs.Jobs.{all_of_lanes, same_places, drawn_by_all, filled_by_all}
 use Rattle.tickets.specs.Ended.{numbers_of}
 use Rattle.savers.proofs.saving.save_by.Goals as goal
 
@@ -52,3 +53,16 @@ returns-clause-saved g c none =
     let value = c.lanes-lanes.ensures.value in
     let many : length lanes ≡ size.lanes = ap (λ (l : List LaneFacts). length l) c.take_back-counts.ensures.lanes ∙ (length-map c.run_jobs.new.savers.items (lane_of facts) ∙ (c.run_jobs.ensures.as_many ∙ (c.hand_out.ensures.many ∙ c.requires.many))) in
     lanes_hold size c.args.ram.now c.args.serial (numbers_of c.end-drawn.result) c.take_back-counts.result lanes (omega (arith, range.0, value)) (omega (arith, range.1, value)) many (returns-clause-drawn g c none)
+
+pub returns-clause-calls : goal.returns-clause-calls
+returns-clause-calls g c i lt =
+    let facts = g.L.Lane.lane_facts in
+    let size = c.args.shape.now in
+    let counts = c.take_back-counts.result in
+    let before = c.hand_out.new.savers.items in
+    let after = c.run_jobs.new.savers.items in
+    let back = c.take_back-counts.ensures in
+    let was : lane_failures (map (lane_of facts) before) ≡ 0 = ap lane_failures c.hand_out.ensures.lanes ∙ c.requires.fresh in
+    let filled = filled_by_all facts c.args.ticket size c.args.ram.now c.args.serial counts before after c.run_jobs.ensures.as_many c.run_jobs.ensures.each was back.counts i (omega (arith, lt, c.hand_out.ensures.many)) in
+    subst (λ (l : List LaneFacts). IsFilledBy size (slice_index counts i) (lane_at l i) (lane_at (map facts c.take_back-counts.new.lanes.items) i)) c.hand_out.ensures.lanes
+    (subst (λ (l : List LaneFacts). IsFilledBy size (slice_index counts i) (lane_at (map (lane_of facts) before) i) (lane_at l i)) (sym back.lanes) filled)

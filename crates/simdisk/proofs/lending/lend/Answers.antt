@@ -21,7 +21,7 @@ loop-lane-preserved c =
     let written = take c.args.each (drop start c.args.newest.now) in
     let faults = c.of_lane-faults.result in
     let last = last_of c.in_ok-last_in.field-0 held in
-    let x : LaneFacts = record { content = held; failures = 0; first = start } in
+    let x : LaneFacts = record { content = held; failures = 0; first = start; calls = c.no_call-log.result.calls } in
     let y : LaneRecord = record { newest = last; armed = faults.armed; cut = faults.cut } in
     let held_is : held ≡ take c.args.each (drop start c.args.content.now) = grind (arith, common_steps) in
     let in_step : c.stays_in_step-as_read.result ≡ true → written ≡ held =
@@ -33,6 +33,6 @@ loop-lane-preserved c =
     let views : map lane_view c.push.new.self.items ≡ map lane_view c.loop-lane.out.items ++ x ∷ [] = search (rules, map-append) in
     let records : map lane_record c.push.new.self.items ≡ map lane_record c.loop-lane.out.items ++ y ∷ [] = search (rules, map-append) in
     record {
-      handed = rw views (handed_more c.args.first n c.args.each c.args.content.now (map lane_view c.loop-lane.out.items) x c.loop-lane.invariant.handed refl long same refl);
+      handed = rw views (handed_more c.args.first n c.args.each c.args.content.now (map lane_view c.loop-lane.out.items) x c.loop-lane.invariant.handed refl long same refl c.no_call-log.ensures);
       lent = rw records (lent_more c.args.first n c.args.each c.args.newest.now c.args.faults.armed c.args.faults.cut (map lane_record c.loop-lane.out.items) y c.loop-lane.invariant.lent lent);
     }
