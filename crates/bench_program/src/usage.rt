@@ -49,6 +49,7 @@ Refusals, on standard error and in reports:
   14  line K of the script is not in its form
   15  an image stands, and a fresh boot would leave it behind
   16  the report could not be written
+  17  the script has a line that no bench runs, or formats no disk
 
 A first script:
   board 1 1 1

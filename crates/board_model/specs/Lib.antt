@@ -2,3 +2,4 @@ pub mod Shapes
 pub mod Durable
 pub mod Kept
 pub mod Views
+pub mod Plains

@@ -7,6 +7,7 @@ mod durable;
 mod laws;
 mod limits;
 mod numbers;
+mod plain;
 mod refusal;
 mod shape;
 
@@ -20,5 +21,6 @@ pub use limits::{
     RAM_BASE, SECTOR_BYTES, SLOTS,
 };
 pub use numbers::{Addr, HartId, PageNo, Slot};
+pub use plain::{ImageMemory, Plain, PlainImage};
 pub use refusal::Refusal;
 pub use shape::Shape;

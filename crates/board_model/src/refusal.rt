@@ -42,6 +42,8 @@ pub enum Refusal {
     ImageThere,
     #[error("the report could not be written")]
     Output,
+    #[error("the script has a line that no bench runs, or formats no disk")]
+    NotPlain,
 }
 
 impl Refusal {
@@ -66,6 +68,7 @@ impl Refusal {
             Refusal::BadScript(_) => 14,
             Refusal::ImageThere => 15,
             Refusal::Output => 16,
+            Refusal::NotPlain => 17,
         }
     }
 }

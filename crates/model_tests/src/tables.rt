@@ -176,6 +176,11 @@ fn refusals_have_their_numbers_and_texts(rt: HostRuntime) -> Result<(), Fail> {
             "an image stands, and a fresh boot would leave it behind",
         ),
         (Refusal::Output, 16, "the report could not be written"),
+        (
+            Refusal::NotPlain,
+            17,
+            "the script has a line that no bench runs, or formats no disk",
+        ),
     ];
     for (refusal, code, text) in table {
         reads(&rt, alloc, refusal, code, text)?;

@@ -1,0 +1,238 @@
+//! The durable state with the memory of its image: what the benches compare with what an open finds.
+
+ghost use Rattle.std.specs.Prelude.{◌≡◌, ◌↔◌, ℕ, List, IfOk, IsTrue};
+ghost use Rattle.std.specs.Str.{bytes_eq};
+ghost use Rattle.std.specs.Cmp.{partial_equiv_from_equiv};
+ghost use Rattle.std.specs.Cmp.Lexicographic.{nat_list_eq_equiv};
+ghost use Rattle.board_model.specs.Views.{change_in};
+
+use crate::durable::{Command, Durable, Entry, ImageHead, Reason};
+use crate::numbers::{Addr, HartId, Slot};
+use crate::refusal::Refusal;
+use std::alloc::{AllocError, Global};
+use std::marker::Model;
+
+/// The memory of an image, the byte at address 0x80000000 first; contracts see the list of its bytes.
+#[derive(Debug, Drop)]
+pub struct ImageMemory {
+    bytes: Vec<u8>,
+}
+
+impl Model for ImageMemory {
+    ghost Value = { List ℕ };
+
+    ghost view = { λ m. m.bytes.items };
+}
+
+impl ImageMemory {
+    /// The memory of these bytes.
+    pub fn new(bytes: Vec<u8>) -> ImageMemory
+        ensures { result ≡ bytes.items }
+    {
+        ImageMemory { bytes }
+    }
+
+    /// The bytes.
+    pub fn as_slice(&self) -> &[u8]
+        ensures { result.now ≡ self.now }
+    {
+        &self.bytes
+    }
+
+    fn copy(&self, alloc: Global) -> Result<ImageMemory, AllocError>
+        ensures { IfOk result (λ copy. copy ≡ self.now) }
+    {
+        Ok(ImageMemory::new(Vec::from_slice(alloc, self.as_slice())?))
+    }
+}
+
+impl PartialEq for ImageMemory {
+    ghost eq = { λ a b. bytes_eq a b };
+
+    ghost laws = { partial_equiv_from_equiv nat_list_eq_equiv };
+
+    fn eq(&self, other: &ImageMemory) -> bool {
+        self.as_slice() == other.as_slice()
+    }
+}
+
+impl Eq for ImageMemory {
+    ghost laws = { nat_list_eq_equiv };
+}
+
+/// An image with its memory.
+#[derive(Debug, PartialEq, Eq, Drop)]
+pub struct PlainImage {
+    pub head: ImageHead,
+    pub memory: ImageMemory,
+}
+
+/// The durable state with the memory of its image.
+#[derive(Debug, PartialEq, Eq, Drop)]
+pub struct Plain {
+    pub slot: Slot,
+    pub reason: Reason,
+    /// The serial of the next suspension.
+    pub next: u64,
+    pub image: Option<PlainImage>,
+}
+
+impl Plain {
+    ghost use Rattle.board_model.specs.Durable.{Suspend, Consume, Discard, formatted};
+    ghost use Rattle.board_model.specs.Views.{change_of, durable_of, head_of};
+    ghost use Rattle.board_model.specs.Plains.{state_in, IsPlainNext, IsPlainOf};
+
+    /// What a format leaves.
+    pub fn formatted() -> Plain
+        ensures { state_in result ≡ formatted }
+    {
+        Plain {
+            slot: Slot::new(0).unwrap(),
+            reason: Reason::NoReason,
+            next: 0,
+            image: None,
+        }
+    }
+
+    /// The state after a command, as docs/DURABLE.md, "Commands", says it; a suspension carries this memory,
+    /// and no other command reads it.
+    ///
+    /// Refused `BadSlot` for a slot above 3, `NoImage` for Consume or Discard without an image,
+    /// `SerialsSpent` where the next serial is 2^64 - 1, and else `Memory` where memory is refused.
+    pub fn after(&self, alloc: Global, entry: Entry, memory: &[u8]) -> Result<Plain, Refusal>
+        ensures { IsPlainNext (state_in self.now) (change_in entry memory.now) result }
+    {
+        match entry {
+            Entry::Command(command) => self.after_command(alloc, command),
+            Entry::Suspend(hart, address, opaque) => {
+                self.suspended(alloc, hart, address, opaque, memory)
+            }
+        }
+    }
+
+    fn after_command(&self, alloc: Global, command: Command) -> Result<Plain, Refusal>
+        ensures { IsPlainNext (state_in self.now) (change_of command) result }
+    {
+        match command {
+            Command::Slot(number) => {
+                let slot = Slot::new(number).ok_or(Refusal::BadSlot)?;
+                let same = self.copy(alloc)?;
+                Ok(Plain { slot, ..same })
+            }
+            Command::Reset(reason) => {
+                let same = self.copy(alloc)?;
+                Ok(Plain { reason, ..same })
+            }
+            Command::Consume => self.without_image(),
+            Command::Discard => self.without_image(),
+        }
+    }
+
+    fn image_copy(&self, alloc: Global) -> Result<Option<PlainImage>, AllocError>
+        ensures { IfOk result (λ copy. copy ≡ self.now.image) }
+    {
+        let Some(image) = &self.image else {
+            return Ok(None);
+        };
+        let memory = image.memory.copy(alloc)?;
+        Ok(Some(PlainImage {
+            head: image.head,
+            memory,
+        }))
+    }
+
+    fn without_image(&self) -> Result<Plain, Refusal>
+        ensures consume { IsPlainNext (state_in self.now) Consume result }
+        ensures discard { IsPlainNext (state_in self.now) Discard result }
+    {
+        if self.image.is_none() {
+            return Err(Refusal::NoImage);
+        }
+        Ok(Plain {
+            slot: self.slot,
+            reason: self.reason,
+            next: self.next,
+            image: None,
+        })
+    }
+
+    fn suspended(
+        &self,
+        alloc: Global,
+        hart: HartId,
+        address: Addr,
+        opaque: u64,
+        memory: &[u8],
+    ) -> Result<Plain, Refusal>
+        ensures { IsPlainNext (state_in self.now) (Suspend hart address opaque memory.now) result }
+    {
+        let serial = self.next;
+        let next = serial.checked_add(1).ok_or(Refusal::SerialsSpent)?;
+        let memory = ImageMemory::new(Vec::from_slice(alloc, memory)?);
+        let head = ImageHead {
+            serial,
+            hart,
+            address,
+            opaque,
+        };
+        Ok(Plain {
+            slot: self.slot,
+            reason: self.reason,
+            next,
+            image: Some(PlainImage { head, memory }),
+        })
+    }
+
+    /// The same state again.
+    pub fn copy(&self, alloc: Global) -> Result<Plain, AllocError>
+        ensures { IfOk result (λ copy. copy ≡ self.now) }
+    {
+        let image = self.image_copy(alloc)?;
+        Ok(Plain {
+            slot: self.slot,
+            reason: self.reason,
+            next: self.next,
+            image,
+        })
+    }
+
+    /// The durable state, without the memory.
+    pub fn durable(&self) -> Durable
+        ensures { result ≡ durable_of (state_in self.now) }
+    {
+        Durable {
+            image: self.head(),
+            slot: self.slot,
+            reason: self.reason,
+            next: self.next,
+        }
+    }
+
+    fn head(&self) -> Option<ImageHead>
+        ensures { result ≡ head_of (state_in self.now).image }
+    {
+        match &self.image {
+            None => None,
+            Some(image) => Some(image.head),
+        }
+    }
+
+    /// A durable state with that memory, where it has an image.
+    pub fn of(alloc: Global, durable: &Durable, memory: &[u8]) -> Result<Plain, AllocError>
+        ensures { IfOk result (λ plain. IsPlainOf durable.now memory.now plain) }
+    {
+        let image = match durable.image {
+            None => None,
+            Some(head) => {
+                let memory = ImageMemory::new(Vec::from_slice(alloc, memory)?);
+                Some(PlainImage { head, memory })
+            }
+        };
+        Ok(Plain {
+            slot: durable.slot,
+            reason: durable.reason,
+            next: durable.next,
+            image,
+        })
+    }
+}
