@@ -1,9 +1,10 @@
 -- What was written since the last sync, beside what stood at it.
-use Rattle.std.proofs.Common.{◌≡◌, length, sym, subst}
+use Rattle.std.proofs.Common.{◌≡◌, ◌∙◌, List, length, ap, sym, subst}
 use Rattle.disk.specs.Facts.{Content}
 use Rattle.simdisk.specs.declared.history.History.{History}
+use Rattle.simdisk.specs.declared.patch.Patch.{Patch}
 use Rattle.simdisk.specs.History.{log_of}
-use Rattle.simdisk.specs.WriteLog.{synced, newest, ranges, AreWithin}
+use Rattle.simdisk.specs.WriteLog.{synced, newest, ranges, replay, AreWithin}
 use Rattle.simdisk.specs.Views.{pieces}
 use Rattle.simdisk.proofs.Pieces.{length_replay}
 
@@ -14,3 +15,19 @@ fits_synced h = subst (λ (c : Content). AreWithin (length c) (ranges (pieces h.
 -- what was written last is as long as what stood then
 pub length_newest : (h : History) → length (newest (log_of h)) ≡ length (synced (log_of h))
 length_newest h = length_replay (pieces h.written.items) (synced (log_of h)) (fits_synced h)
+
+-- what a crash leaves is made of a copy of what stood, of the patches that were written, and of what was written
+-- last
+module _ (h : History) (content : Content) (written : List Patch) (stood : content ≡ h.stood.items) (same : written ≡ h.written.items) where
+  pub leave_fits : AreWithin (length content) (ranges (pieces written))
+  leave_fits =
+      subst (λ (c : Content). AreWithin (length c) (ranges (pieces written))) (sym stood)
+      (subst (λ (w : List Patch). AreWithin (length h.stood.items) (ranges (pieces w))) (sym same) h.fits)
+
+  pub leave_last : (last : Content) → last ≡ newest (log_of h) → last ≡ replay (pieces written) content
+  leave_last last is =
+      is ∙ ap (λ (c : Content). replay (pieces h.written.items) c) (h.stood_so ∙ sym stood)
+      ∙ ap (λ (w : List Patch). replay (pieces w) content) (sym same)
+
+  pub leave_long : (last : Content) → last ≡ newest (log_of h) → length last ≡ length content
+  leave_long last is = ap (λ (c : Content). length c) is ∙ length_newest h ∙ ap (λ (c : Content). length c) (h.stood_so ∙ sym stood)

@@ -7,8 +7,8 @@ use Rattle.std.specs.List.{flat_map}
 use Rattle.disk.specs.Facts.{Content, sector}
 use Rattle.simdisk.specs.declared.patch.Patch.{Patch}
 use Rattle.simdisk.specs.declared.choice.Choice.{Choice}
-use Rattle.simdisk.specs.declared.choice.Choice.TheVariants.{Byte, Old, New}
-use Rattle.simdisk.specs.Views.{left_by_choice, piece, pieces}
+use Rattle.simdisk.specs.declared.choice.Choice.TheVariants.{Byte, Alternating, Old, New}
+use Rattle.simdisk.specs.Views.{alternating, left_by_choice, piece, pieces}
 use Rattle.simdisk.specs.WriteLog.{Piece, WriteLog, laid_over, replay, synced, filled, ranges, Untouched, AgreesOutside, AreWithin}
 use Rattle.simdisk.specs.Pokes.{misses, part_before, part_behind, parted, poked_record}
 use Rattle.simdisk.proofs.Pieces.{length-put, put_low, put_mid, put_high, fits_here, fits_rest, ranges_filled}
@@ -207,37 +207,41 @@ module _ (k : ℕ) (v : List ℕ) where
       (λ le less. ap (λ (d : Content). replay (flat_map (parted k) ps) d) (commute_in p c lt here le less) ∙ rest)
 
 -- to fill the parts is to part what is filled
-filled_parted : (byte k : ℕ) (p : Piece) → map (filled byte) (parted k p) ≡ parted k (filled byte p)
-filled_parted byte k p =
-    parted_by k p (λ (qs : List Piece). map (filled byte) qs ≡ parted k (filled byte p)) (λ out. sym (parted_out k (filled byte p) (still out))) (λ le less.
-    ap (λ (s : Content). (p.0, s) ∷ filled byte (part_behind k p) ∷ []) (first le less) ∙ ap (λ (s : Content). part_before k (filled byte p) ∷ (k + 1, s) ∷ []) second
-    ∙ sym (parted_in k (filled byte p) le (omega (arith, less, long))))
+filled_parted : (bytes : List ℕ) (k : ℕ) (p : Piece) → map (filled bytes) (parted k p) ≡ parted k (filled bytes p)
+filled_parted bytes k p =
+    parted_by k p (λ (qs : List Piece). map (filled bytes) qs ≡ parted k (filled bytes p)) (λ out. sym (parted_out k (filled bytes p) (still out))) (λ le less.
+    ap (λ (s : Content). (p.0, s) ∷ filled bytes (part_behind k p) ∷ []) (first le less) ∙ ap (λ (s : Content). part_before k (filled bytes p) ∷ (k + 1, s) ∷ []) second
+    ∙ sym (parted_in k (filled bytes p) le (omega (arith, less, long))))
   where
-    long : length (replicate (length p.1) (replicate 512 byte)) ≡ length p.1
-    long = length-replicate (length p.1) (replicate 512 byte)
+    long : length (replicate (length p.1) bytes) ≡ length p.1
+    long = length-replicate (length p.1) bytes
 
-    still : Outside k p → Outside k (filled byte p)
+    still : Outside k p → Outside k (filled bytes p)
     still (inl low) = inl low
     still (inr high) = inr (omega (arith, high, long))
 
-    first : p.0 ≤ k → k < p.0 + length p.1 → replicate (length (take (k - p.0) p.1)) (replicate 512 byte) ≡ take (k - p.0) (replicate (length p.1) (replicate 512 byte))
-    first le less = ap (λ (n : ℕ). replicate n (replicate 512 byte)) (long_before k p le less) ∙ sym (take-replicate (k - p.0) (length p.1) (replicate 512 byte) (omega (arith, le, less)))
+    first : p.0 ≤ k → k < p.0 + length p.1 → replicate (length (take (k - p.0) p.1)) bytes ≡ take (k - p.0) (replicate (length p.1) bytes)
+    first le less = ap (λ (n : ℕ). replicate n bytes) (long_before k p le less) ∙ sym (take-replicate (k - p.0) (length p.1) bytes (omega (arith, le, less)))
 
-    second : replicate (length (drop (k - p.0 + 1) p.1)) (replicate 512 byte) ≡ drop (k - p.0 + 1) (replicate (length p.1) (replicate 512 byte))
-    second = ap (λ (n : ℕ). replicate n (replicate 512 byte)) (length-drop (k - p.0 + 1) p.1) ∙ sym (drop-replicate (k - p.0 + 1) (length p.1) (replicate 512 byte))
+    second : replicate (length (drop (k - p.0 + 1) p.1)) bytes ≡ drop (k - p.0 + 1) (replicate (length p.1) bytes)
+    second = ap (λ (n : ℕ). replicate n bytes) (length-drop (k - p.0 + 1) p.1) ∙ sym (drop-replicate (k - p.0 + 1) (length p.1) bytes)
 
-filled_parts : (byte k : ℕ) (ps : List Piece) → map (filled byte) (flat_map (parted k) ps) ≡ flat_map (parted k) (map (filled byte) ps)
-filled_parts byte k [] = refl
-filled_parts byte k (p ∷ ps) =
-    map-append (filled byte) (parted k p) (flat_map (parted k) ps) ∙ ap (λ (qs : List Piece). qs ++ map (filled byte) (flat_map (parted k) ps)) (filled_parted byte k p)
-    ∙ ap (λ (qs : List Piece). parted k (filled byte p) ++ qs) (filled_parts byte k ps)
+filled_parts : (bytes : List ℕ) (k : ℕ) (ps : List Piece) → map (filled bytes) (flat_map (parted k) ps) ≡ flat_map (parted k) (map (filled bytes) ps)
+filled_parts bytes k [] = refl
+filled_parts bytes k (p ∷ ps) =
+    map-append (filled bytes) (parted k p) (flat_map (parted k) ps) ∙ ap (λ (qs : List Piece). qs ++ map (filled bytes) (flat_map (parted k) ps)) (filled_parted bytes k p)
+    ∙ ap (λ (qs : List Piece). parted k (filled bytes p) ++ qs) (filled_parts bytes k ps)
 
 -- what a crash leaves of a content with the k-th sector so
 module _ (k : ℕ) (v : List ℕ) (stood : Content) (ps : List Piece) (lt : k < length stood) where
+  filled_poked : AreWithin (length stood) (ranges ps) → (bytes : List ℕ) → replay (map (filled bytes) (flat_map (parted k) ps)) (laid_over (k, v ∷ []) stood) ≡ laid_over (k, v ∷ []) (replay (map (filled bytes) ps) stood)
+  filled_poked fits bytes =
+      ap (λ (qs : List Piece). replay qs (laid_over (k, v ∷ []) stood)) (filled_parts bytes k ps)
+      ∙ replay_parted k v (map (filled bytes) ps) stood lt (subst (λ (rs : List (ℕ × ℕ)). AreWithin (length stood) rs) (sym (ranges_filled bytes ps)) fits)
+
   pub left_poked : AreWithin (length stood) (ranges ps) → (choice : Choice) → left_by_choice choice (laid_over (k, v ∷ []) stood) (flat_map (parted k) ps) ≡ laid_over (k, v ∷ []) (left_by_choice choice stood ps)
-  left_poked fits (Byte byte) =
-      ap (λ (qs : List Piece). replay qs (laid_over (k, v ∷ []) stood)) (filled_parts byte k ps)
-      ∙ replay_parted k v (map (filled byte) ps) stood lt (subst (λ (rs : List (ℕ × ℕ)). AreWithin (length stood) rs) (sym (ranges_filled byte ps)) fits)
+  left_poked fits (Byte byte) = filled_poked fits (replicate 512 byte)
+  left_poked fits Alternating = filled_poked fits alternating
   left_poked fits Old = refl
   left_poked fits New = replay_parted k v ps stood lt fits
 

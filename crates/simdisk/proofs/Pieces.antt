@@ -1,5 +1,5 @@
 -- Pieces laid over a content.
-use Rattle.std.proofs.Common.{◌≡◌, ◌∙◌, inl, inr, refl, ℕ, ◌+◌, ◌-◌, ◌<◌, ◌≤◌, suc, List, [], ◌∷◌, ◌++◌, length, get_or, take, drop, map, replicate, sym, ap, subst, arith, rules, length-append, length-drop}
+use Rattle.std.proofs.Common.{◌≡◌, ◌∙◌, inl, inr, refl, ℕ, ◌+◌, ◌-◌, ◌<◌, ◌≤◌, suc, List, [], ◌∷◌, ◌++◌, length, get_or, take, drop, map, sym, ap, subst, arith, rules, length-append, length-drop}
 use Rattle.std.proofs.Math.ListN.{get_or-map}
 use Rattle.std.proofs.lemmas.List.{places, get_or_append_left, get_or_push, ext_get_or, length-map, length-replicate, length-take-le}
 use Rattle.std.proofs.lemmas.Bool.{cases_lt}
@@ -67,10 +67,10 @@ pub agrees_replay : (ps : List Piece) (stood : Content) → AreWithin (length st
 agrees_replay ps stood fits = record { as_long = length_replay ps stood fits; same = λ k u. replay_outside ps stood k fits u }
 
 -- to fill or settle a piece leaves its range
-pub ranges_filled : (byte : ℕ) (ps : List Piece) → ranges (map (filled byte) ps) ≡ ranges ps
-ranges_filled byte [] = refl
-ranges_filled byte (p ∷ ps) =
-    ap (λ (n : ℕ). (p.0, n) ∷ ranges (map (filled byte) ps)) (length-replicate (length p.1) (replicate 512 byte)) ∙ ap (λ (rs : List (ℕ × ℕ)). (p.0, length p.1) ∷ rs) (ranges_filled byte ps)
+pub ranges_filled : (bytes : List ℕ) (ps : List Piece) → ranges (map (filled bytes) ps) ≡ ranges ps
+ranges_filled bytes [] = refl
+ranges_filled bytes (p ∷ ps) =
+    ap (λ (n : ℕ). (p.0, n) ∷ ranges (map (filled bytes) ps)) (length-replicate (length p.1) bytes) ∙ ap (λ (rs : List (ℕ × ℕ)). (p.0, length p.1) ∷ rs) (ranges_filled bytes ps)
 
 pub length-settled : (now : Content) (p : Piece) → p.0 + length p.1 ≤ length now → length (piece_in now p).1 ≡ length p.1
 length-settled now p within = length-take-le (length p.1) (drop p.0 now) (omega (arith, within, length-drop p.0 now))

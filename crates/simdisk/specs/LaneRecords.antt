@@ -3,7 +3,7 @@
 use Rattle.std.specs.Prelude.{◌≡◌, ◌==◌, if◌then◌else◌, ℕ, ◌+◌, ◌*◌, ◌<◌, Bool, true, false, Option, Some, None, List, [], length, take, drop, get_or, Result, OnOk, OnErr}
 use Rattle.disk.specs.declared.device.ArmedFault.{ArmedFault}
 use Rattle.disk.specs.declared.device.ArmedFault.TheVariants.{FailAt, CutAt, FailLane, CutLane}
-use Rattle.disk.specs.Facts.{Content, Lent, Torn, lent_sectors, sector}
+use Rattle.disk.specs.Facts.{Content, Lent, Torn, counted, lent_sectors, sector}
 use Rattle.simdisk.specs.Armings.{FailsNext, one_call_on, Struck, cuts}
 
 pub record LaneRecord : Type 0 where
@@ -13,10 +13,12 @@ pub record LaneRecord : Type 0 where
   pub armed : Option ArmedFault
   -- whether its power was cut
   pub cut : Bool
+  -- how many calls were made of it
+  pub calls : ℕ
 
 -- past the end of a list of lanes
 abbrev pub no_record : LaneRecord
-no_record = record { newest = []; armed = None; cut = false }
+no_record = record { newest = []; armed = None; cut = false; calls = 0 }
 
 abbrev pub record_at : List LaneRecord → ℕ → LaneRecord
 record_at lanes i = get_or lanes i no_record
@@ -25,6 +27,7 @@ record_at lanes i = get_or lanes i no_record
 pub record LaneCalled {T E : Type 0} (old new : LaneRecord) (result : Result T E) : Type 0 where
   pub ok : OnOk result ((FailsNext old.cut old.armed → ⊥) × (new.armed ≡ one_call_on old.armed) × (new.cut ≡ old.cut))
   pub err : OnErr result (FailsNext old.cut old.armed × Struck old.cut old.armed new.cut new.armed)
+  pub calls : new.calls ≡ counted old.calls 1
 
 -- what is armed of the disk, as the lane of that number has it
 abbrev pub armed_in : ℕ → Option ArmedFault → Option ArmedFault
@@ -39,6 +42,7 @@ pub record IsLent (first each i : ℕ) (newest : Content) (armed : Option ArmedF
   pub written : lane.newest ≡ take each (drop (first + i * each) newest)
   pub arms : lane.armed ≡ armed_in i armed
   pub power : lane.cut ≡ cut
+  pub none : lane.calls ≡ 0
 
 -- the lanes that a split hands out
 pub record AreLent (l : Lent) (newest : Content) (armed : Option ArmedFault) (cut : Bool) (lanes : List LaneRecord) : Type 0 where
@@ -51,6 +55,11 @@ pub record WrittenBack (l : Lent) (lanes : List LaneRecord) (old new : Content) 
   pub elsewhere : Torn l.first (lent_sectors l) old new
   pub there : (i j : ℕ) → i < l.lanes → j < l.each
       → sector (record_at lanes i).newest j ≡ sector new (l.first + i * l.each + j)
+
+-- the calls of these lanes, by their numbers, are counted
+abbrev pub CountsLanes : List LaneRecord → List ℕ → List ℕ → Type 0
+CountsLanes lanes old new =
+    (length new ≡ length old) × ((i : ℕ) → i < length old → get_or new i 0 ≡ counted (get_or old i 0) (record_at lanes i).calls)
 
 -- the fault of a lane with the calls that are left to it in that lane
 abbrev pub left_to : ArmedFault → Option ArmedFault → Option ArmedFault

@@ -19,9 +19,9 @@ pub record WriteLog : Type 0 where
 abbrev pub piece_in : Content → Piece → Piece
 piece_in c piece = (piece.0, take (length piece.1) (drop piece.0 c))
 
--- the piece with that byte throughout
-abbrev pub filled : ℕ → Piece → Piece
-filled byte piece = (piece.0, replicate (length piece.1) (replicate 512 byte))
+-- the piece with these bytes in each of its sectors
+abbrev pub filled : List ℕ → Piece → Piece
+filled bytes piece = (piece.0, replicate (length piece.1) bytes)
 
 -- the content with that piece laid over it
 abbrev pub laid_over : Piece → Content → Content

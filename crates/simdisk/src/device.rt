@@ -4,12 +4,13 @@ ghost use Rattle.disk.specs.Facts.{Content, Torn, Written, Passes, Stays, Only, 
 ghost use Rattle.disk.specs.FaultState.{CausedInLanes, armed_by};
 ghost use Rattle.disk.specs.Calls.{MakesCalls, NoCall};
 ghost use Rattle.simdisk.specs.Armings.{FailsNext, one_call_on};
+ghost use Rattle.simdisk.specs.LaneRecords.{CountsLanes};
 ghost use Rattle.simdisk.specs.Lendings.{Lends, TakesBack};
 ghost use Rattle.simdisk.specs.WriteLog.{more_written, more_synced, lent_piece, NotedOrRefused};
 
 use crate::laid::overwrite;
 use crate::lane::{Bytes, SimLane};
-use crate::lending::{failures_of, lay_row};
+use crate::lending::{count_calls, failures_of, lay_row};
 use crate::loan::Loan;
 use crate::recorded::{Recorded, RecordedLane};
 use crate::sim::SimDisk;
@@ -208,6 +209,8 @@ impl Disk for SimDisk {
             (⟦<SimDisk as Recorded>⟧.record self.new)
             (⟦<SimDisk as Recorded>⟧.armed self.old) (⟦<SimDisk as Recorded>⟧.armed self.new)
             (⟦<SimDisk as Disk>⟧.fault_state self.old) (⟦<SimDisk as Disk>⟧.fault_state self.new) }
+        ensures counts_lanes { CountsLanes (map ⟦<SimLane as RecordedLane>⟧.record lanes.items)
+            (⟦<SimDisk as Recorded>⟧.lane_calls self.old) (⟦<SimDisk as Recorded>⟧.lane_calls self.new) }
     {
         let loan = self.loan;
         let failures = failures_of(&lanes);
@@ -226,6 +229,7 @@ impl Disk for SimDisk {
         self.failures = self.failures.saturating_add(failures);
         let own = self.faults.come_back(&lanes, failures);
         self.refused = self.refused.saturating_add(own);
+        count_calls(&mut self.lane_calls, &lanes);
     }
 
     fn failures(&self) -> u64 {

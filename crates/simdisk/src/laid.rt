@@ -2,7 +2,7 @@
 ghost use Rattle.std.specs.Prelude.{◌≡◌, ◌≤◌, ◌<◌, ◌+◌, length, map, replicate};
 ghost use Rattle.disk.specs.Facts.{Written};
 ghost use Rattle.simdisk.specs.WriteLog.{laid_over, replay, piece_in, filled, ranges, AreWithin};
-ghost use Rattle.simdisk.specs.Views.{pieces};
+ghost use Rattle.simdisk.specs.Views.{alternating, pieces};
 
 use crate::patch::Patch;
 use disk::Sector;
@@ -28,31 +28,41 @@ pub(crate) fn settle(stood: &mut Vec<Sector>, patches: &[Patch], content: &[Sect
     }
 }
 
-/// Fills the sectors of these patches with that byte.
+/// Fills the sectors of these patches each with those bytes.
 #[tactic(auto, using(crate::proofs::Pieces::length_replay))]
-pub(crate) fn fill(content: &mut Vec<Sector>, patches: &[Patch], byte: u8)
+pub(crate) fn fill(content: &mut Vec<Sector>, patches: &[Patch], bytes: &Sector)
     requires { AreWithin (length content.old.items) (ranges (pieces patches.now)) }
-    ensures content { content.new.items ≡ replay (map (filled byte) (pieces patches.now)) content.old.items }
+    ensures content { content.new.items ≡ replay (map (filled bytes.now) (pieces patches.now)) content.old.items }
     ensures as_long { length content.new.items ≡ length content.old.items }
 {
     for patch in patches {
-        patch.fill(content, byte);
+        patch.fill(content, bytes);
     }
 }
 
-/// Fills so many sectors from that one on with that byte.
-pub(crate) fn fill_range(content: &mut Vec<Sector>, first: usize, count: usize, byte: u8)
+/// Fills so many sectors from that one on each with those bytes.
+pub(crate) fn fill_range(content: &mut Vec<Sector>, first: usize, count: usize, bytes: &Sector)
     requires { first + count ≤ length content.old.items }
-    ensures { content.new.items ≡ laid_over (first, replicate count (replicate 512 byte)) content.old.items }
+    ensures { content.new.items ≡ laid_over (first, replicate count bytes.now) content.old.items }
 {
-    fill_all(&mut content[first..first + count], byte);
+    fill_all(&mut content[first..first + count], bytes);
 }
 
-/// Fills all these sectors with that byte.
-fn fill_all(sectors: &mut [Sector], byte: u8)
-    ensures { sectors.new ≡ replicate (length sectors.old) (replicate 512 byte) }
+/// Fills all these sectors each with those bytes.
+fn fill_all(sectors: &mut [Sector], bytes: &Sector)
+    ensures { sectors.new ≡ replicate (length sectors.old) bytes.now }
 {
     for sector in sectors.iter_mut() {
-        *sector = [byte; 512];
+        *sector = *bytes;
     }
+}
+
+/// A sector with 0x55 at each even place of it, and 0xaa at each odd one.
+pub(crate) fn alternating() -> Sector
+    ensures { result ≡ alternating }
+{
+    let pairs = [[0x55, 0xaa]; 256];
+    let mut sector = [0; 512];
+    sector.copy_from_slice(pairs.as_flattened());
+    sector
 }

@@ -19,6 +19,7 @@ pub struct SimLane {
     pub(crate) sectors: Vec<Sector>,
     pub(crate) last: Last,
     pub(crate) failures: u64,
+    pub(crate) calls: u64,
     pub(crate) faults: Faults,
     pub(crate) log: Remembered,
     ghost as_long: { length (last_of last sectors.items) ≡ length sectors.items },
@@ -100,6 +101,7 @@ impl Lane for SimLane {
         ensures called { LaneCalled (⟦<SimLane as RecordedLane>⟧.record self.old)
             (⟦<SimLane as RecordedLane>⟧.record self.new) result }
     {
+        self.calls = self.calls.saturating_add(1);
         let strikes = self.faults.strikes();
         self.log.note_read(first, sectors.len(), !strikes);
         if strikes {
@@ -130,6 +132,7 @@ impl Lane for SimLane {
         ensures called { LaneCalled (⟦<SimLane as RecordedLane>⟧.record self.old)
             (⟦<SimLane as RecordedLane>⟧.record self.new) result }
     {
+        self.calls = self.calls.saturating_add(1);
         self.last.write(first, sectors);
         let strikes = self.faults.strikes();
         self.log.note_write(first, sectors.len(), !strikes);

@@ -3,7 +3,7 @@ ghost use Rattle.std.specs.Prelude.{◌≡◌, ◌≤◌, ◌<◌, ◌+◌, ◌*
 ghost use Rattle.disk.specs.Facts.{Content, Handed, Joined, counted, lane_failures, lane_at};
 ghost use Rattle.simdisk.specs.Lanes.{lane_view, newest_view, lane_record, lane_view_of};
 ghost use Rattle.simdisk.specs.Views.{last_of, IsAsRead};
-ghost use Rattle.simdisk.specs.LaneRecords.{AreLent};
+ghost use Rattle.simdisk.specs.LaneRecords.{AreLent, record_at, CountsLanes};
 
 use crate::faults::Faults;
 use crate::laid::overwrite;
@@ -45,6 +45,7 @@ pub(crate) fn lend(
             sectors: copy_of(alloc, &content[start..start + each])?,
             last: last_in(alloc, &newest[start..start + each], as_read)?,
             failures: 0,
+            calls: 0,
             faults,
             log,
         })?;
@@ -94,6 +95,25 @@ pub(crate) fn failures_of(lanes: &[SimLane]) -> u64
         failures = failures.saturating_add(lane.failures);
     }
     failures
+}
+
+/// How many calls were made of the lane of that number, where there is one.
+fn calls_of(lanes: &[SimLane], lane: usize) -> u64
+    ensures { result ≡ (record_at (map lane_record lanes.now) lane).calls }
+{
+    match lanes.get(lane) {
+        None => 0,
+        Some(lane) => lane.calls,
+    }
+}
+
+/// Counts the calls that were made of these lanes.
+pub(crate) fn count_calls(counts: &mut [u64; 4], lanes: &[SimLane])
+    ensures { CountsLanes (map lane_record lanes.now) counts.old counts.new }
+{
+    for (i, count) in counts.iter_mut().enumerate() {
+        *count = count.saturating_add(calls_of(lanes, i));
+    }
 }
 
 /// Lays what the lanes hold in a row from that place on.

@@ -1,5 +1,5 @@
 //! How a disk in memory is made, and what a crash leaves of it.
-ghost use Rattle.std.specs.Prelude.{◌≡◌, ◌≢◌, ◌⊎◌, ◌/◌, ◌%◌, ℕ, length, replicate, OnOk, IfOk, IfErr};
+ghost use Rattle.std.specs.Prelude.{◌≡◌, ◌≢◌, ◌⊎◌, ◌/◌, ◌%◌, ℕ, get_or, length, replicate, OnOk, IfOk, IfErr};
 ghost use Rattle.std.specs.Simd.{first_chunks};
 ghost use Rattle.disk.specs.Facts.{IsFresh, IsLeft, Unchanged};
 ghost use Rattle.disk.specs.FaultState.{FaultArmed, CutArmed, no_fault, fault_state_left};
@@ -72,6 +72,7 @@ impl SimDisk {
             latest,
             failures: 0,
             calls: 0,
+            lane_calls: [0; 4],
             refused: 0,
             loan: Loan::nothing(),
             faults: Faults::none(),
@@ -88,6 +89,7 @@ impl SimDisk {
         ensures record { ⟦<SimDisk as Recorded>⟧.record result ≡ new_record (⟦<SimDisk as Disk>⟧.facts result).content }
         ensures fault_state { ⟦<SimDisk as Disk>⟧.fault_state result
             ≡ fault_state_left (⟦<SimDisk as Disk>⟧.fault_state self) }
+        ensures lane_calls { ⟦<SimDisk as Recorded>⟧.lane_calls result ≡ ⟦<SimDisk as Recorded>⟧.lane_calls self }
     {
         let mut content = self.content;
         let mut latest = self.latest;
@@ -95,6 +97,7 @@ impl SimDisk {
         let history = self.history.left(self.alloc, choice, last);
         latest.as_read = true;
         content.copy_from_slice(&history.stood);
+        let lane_calls = self.lane_calls;
         SimDisk {
             alloc: self.alloc,
             content,
@@ -102,10 +105,52 @@ impl SimDisk {
             latest,
             failures: self.failures,
             calls: self.calls,
+            lane_calls,
             refused: self.refused,
             loan: Loan::nothing(),
             faults: Faults::none(),
         }
+    }
+
+    /// The same, as a disk of its own: this one stays as it is.
+    pub fn left(&self, choice: Choice) -> Result<SimDisk, AllocError>
+        ensures left { IfOk result (λ disk. IsLeft (⟦<SimDisk as Disk>⟧.facts self.now) (⟦<SimDisk as Disk>⟧.facts disk)) }
+        ensures exact { IfOk result (λ disk. (⟦<SimDisk as Disk>⟧.facts disk).content
+            ≡ left_by_choice choice (synced (⟦<SimDisk as Recorded>⟧.record self.now))
+            (⟦<SimDisk as Recorded>⟧.record self.now).written) }
+        ensures record { IfOk result (λ disk. ⟦<SimDisk as Recorded>⟧.record disk
+            ≡ new_record (⟦<SimDisk as Disk>⟧.facts disk).content) }
+        ensures fault_state { IfOk result (λ disk. ⟦<SimDisk as Disk>⟧.fault_state disk
+            ≡ fault_state_left (⟦<SimDisk as Disk>⟧.fault_state self.now)) }
+        ensures lane_calls { IfOk result (λ disk. ⟦<SimDisk as Recorded>⟧.lane_calls disk
+            ≡ ⟦<SimDisk as Recorded>⟧.lane_calls self.now) }
+    {
+        let content = self.content_left(choice)?;
+        let history = History::begun(self.alloc, &content)?;
+        let latest = Latest::begun(self.alloc, &content)?;
+        let lane_calls = self.lane_calls;
+        Ok(SimDisk {
+            alloc: self.alloc,
+            content,
+            history,
+            latest,
+            failures: self.failures,
+            calls: self.calls,
+            lane_calls,
+            refused: self.refused,
+            loan: Loan::nothing(),
+            faults: Faults::none(),
+        })
+    }
+
+    /// What a crash now leaves by that choice.
+    fn content_left(&self, choice: Choice) -> Result<Vec<Sector>, AllocError>
+        ensures { IfOk result (λ content. content.items
+            ≡ left_by_choice choice (synced (⟦<SimDisk as Recorded>⟧.record self.now))
+            (⟦<SimDisk as Recorded>⟧.record self.now).written) }
+    {
+        let last = self.latest.over(&self.content);
+        self.history.content_left(self.alloc, choice, last)
     }
 
     /// The n-th call of this disk from now on fails. It replaces what was armed.
@@ -163,6 +208,18 @@ impl SimDisk {
         ensures { result ≡ (⟦<SimDisk as Disk>⟧.facts self.now).calls }
     {
         self.calls
+    }
+
+    /// How many calls were made of the lanes of that number, counted from 0, which this disk has taken
+    /// back: reads and writes, those that failed too. At 2^64 - 1 the count stays. A disk that a crash
+    /// left goes on counting.
+    pub fn lane_calls(&self, lane: usize) -> u64
+        ensures { result ≡ get_or (⟦<SimDisk as Recorded>⟧.lane_calls self.now) lane 0 }
+    {
+        match self.lane_calls.get(lane) {
+            None => 0,
+            Some(count) => *count,
+        }
     }
 
     /// What a read gives, sector by sector.

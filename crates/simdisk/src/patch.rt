@@ -43,13 +43,13 @@ impl Patch {
         overwrite(stood, self.first, &content[self.first..end]);
     }
 
-    /// Fills its sectors of that content with a byte.
-    pub(crate) fn fill(&self, content: &mut Vec<Sector>, byte: u8)
+    /// Fills its sectors of that content each with those bytes.
+    pub(crate) fn fill(&self, content: &mut Vec<Sector>, bytes: &Sector)
         requires { self.now.first + self.now.count ≤ length content.old.items }
-        ensures put { content.new.items ≡ laid_over (filled byte (piece self.now)) content.old.items }
+        ensures put { content.new.items ≡ laid_over (filled bytes.now (piece self.now)) content.old.items }
         ensures as_long { length content.new.items ≡ length content.old.items }
     {
-        fill_range(content, self.first, self.count, byte);
+        fill_range(content, self.first, self.count, bytes);
     }
 
     /// Its sectors before that one of them.

@@ -1,5 +1,5 @@
 //! The record of a disk in memory, for contracts.
-ghost use Rattle.std.specs.Prelude.{Option};
+ghost use Rattle.std.specs.Prelude.{ℕ, List, Option};
 ghost use Rattle.disk.specs.declared.device.ArmedFault.{ArmedFault};
 ghost use Rattle.simdisk.specs.WriteLog.{WriteLog};
 ghost use Rattle.simdisk.specs.LaneRecords.{LaneRecord};
@@ -7,12 +7,14 @@ ghost use Rattle.simdisk.specs.LaneRecords.{LaneRecord};
 use crate::lane::SimLane;
 use crate::sim::SimDisk;
 
-/// A disk that keeps a record of its writes and syncs, and the fault that is armed, with the calls
-/// that are left to it.
+/// A disk that keeps a record of its writes and syncs, the fault that is armed, with the calls that
+/// are left to it, and how many calls were made of the lanes of each number.
 pub trait Recorded {
     ghost record: { Self → WriteLog };
 
     ghost armed: { Self → Option ArmedFault };
+
+    ghost lane_calls: { Self → List ℕ };
 }
 
 impl Recorded for SimDisk {
@@ -21,6 +23,8 @@ impl Recorded for SimDisk {
     ghost record = { λ d. log_of d.history };
 
     ghost armed = { λ d. d.faults.armed };
+
+    ghost lane_calls = { λ d. d.lane_calls };
 }
 
 /// A lane that keeps what was written last beside what a read gives, and what is armed in it.

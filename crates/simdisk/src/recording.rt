@@ -2,12 +2,12 @@
 ghost use Rattle.std.specs.Prelude.{◌≡◌, ◌≤◌, ◌<◌, ◌+◌, ◌*◌, ℕ, [], ◌∷◌, length, map, true, OnOk, OnErr, IfOk};
 ghost use Rattle.disk.specs.Facts.{Handed, Torn};
 ghost use Rattle.simdisk.specs.Views.{IsLatest, left_by_choice, pieces};
-ghost use Rattle.simdisk.specs.WriteLog.{new_record, more_written, more_synced, lent_piece, newest, synced, ranges, AgreesOutside, AreWithin};
+ghost use Rattle.simdisk.specs.WriteLog.{new_record, more_written, more_synced, lent_piece, newest, replay, synced, ranges, AgreesOutside, AreWithin};
 
 use crate::choice::Choice;
 use crate::faults::Faults;
 use crate::history::History;
-use crate::laid::{fill, settle};
+use crate::laid::{alternating, fill, settle};
 use crate::lane::SimLane;
 use crate::lending::lend;
 use crate::loan::Loan;
@@ -15,6 +15,22 @@ use crate::patch::{Patch, copy_of};
 use crate::remembered::Remembered;
 use disk::Sector;
 use std::alloc::{AllocError, Global};
+
+/// What a crash leaves by that choice of a disk on which those sectors were written, and these would stand had
+/// each write gone through.
+fn leave(content: &mut Vec<Sector>, written: &[Patch], choice: Choice, last: &[Sector])
+    requires fits { AreWithin (length content.old.items) (ranges (pieces written.now)) }
+    requires last { last.now ≡ replay (pieces written.now) content.old.items }
+    requires as_long { length last.now ≡ length content.old.items }
+    ensures { content.new.items ≡ left_by_choice choice content.old.items (pieces written.now) }
+{
+    match choice {
+        Choice::Byte(byte) => fill(content, written, &[byte; 512]),
+        Choice::Alternating => fill(content, written, &alternating()),
+        Choice::Old => {}
+        Choice::New => content.copy_from_slice(last),
+    }
+}
 
 impl History {
     ghost use Rattle.simdisk.specs.History.{log_of};
@@ -133,6 +149,22 @@ impl History {
         self.written[loan.patch].retake(last);
     }
 
+    /// What a crash leaves by that choice, where those sectors would stand had each write gone through.
+    pub(crate) fn content_left(
+        &self,
+        alloc: Global,
+        choice: Choice,
+        last: &[Sector],
+    ) -> Result<Vec<Sector>, AllocError>
+        requires { last.now ≡ newest (log_of self.now) }
+        ensures { IfOk result (λ content. content.items
+            ≡ left_by_choice choice (synced (log_of self.now)) (pieces self.now.written.items)) }
+    {
+        let mut content = copy_of(alloc, &self.stood)?;
+        leave(&mut content, &self.written, choice, last);
+        Ok(content)
+    }
+
     /// The record of the disk that a crash leaves by that choice, where those sectors would stand had each
     /// write gone through.
     pub(crate) fn left(self, alloc: Global, choice: Choice, last: &[Sector]) -> History
@@ -144,11 +176,7 @@ impl History {
         ensures as_long { length result.stood.items ≡ length (synced (log_of self)) }
     {
         let mut content = self.stood;
-        match choice {
-            Choice::Byte(byte) => fill(&mut content, &self.written, byte),
-            Choice::Old => {}
-            Choice::New => content.copy_from_slice(last),
-        }
+        leave(&mut content, &self.written, choice, last);
         let past = Remembered::of(&content);
         History {
             stood: content,

@@ -21,6 +21,7 @@ pub struct SimDisk {
     pub(crate) latest: Latest,
     pub(crate) failures: u64,
     pub(crate) calls: u64,
+    pub(crate) lane_calls: [u64; 4],
     pub(crate) refused: u64,
     pub(crate) loan: Loan,
     pub(crate) faults: Faults,

@@ -49,6 +49,20 @@ fn each_choice_leaves_its_bytes(rt: HostRuntime) -> Result<(), Fail> {
 }
 
 #[test]
+fn a_disk_is_left_by_each_choice_and_stays(rt: HostRuntime) -> Result<(), Fail> {
+    let disk = written_disk(&rt, rt.alloc())?;
+    let left = disk.left(Choice::Alternating)?;
+    same(&rt, contents(&rt, &left), [0, 0xaa, 0xaa, 0]);
+    let Some(sector) = left.content().get(1) else {
+        return Err(Fail::new("no sector"));
+    };
+    same(&rt, sector[510], 0x55);
+    same(&rt, contents(&rt, &disk.left(Choice::Old)?), [0, 1, 0, 0]);
+    same(&rt, contents(&rt, &disk), [0, 2, 3, 0]);
+    Ok(())
+}
+
+#[test]
 fn a_failed_write_stays_and_counts_as_written(rt: HostRuntime) -> Result<(), Fail> {
     for (choice, left) in [
         (Choice::Byte(8), [0, 8, 0, 0]),

@@ -72,6 +72,7 @@ fn cut_in_lane(rt: &impl Abort, alloc: Global) -> Result<SimDisk, Fail> {
     join_one(&mut disk, alloc, lane)?;
     same(rt, disk.struck(), true);
     same(rt, (disk.failures(), disk.refused()), (2, 0));
+    same(rt, (disk.lane_calls(0), disk.lane_calls(1)), (3, 0));
     same(rt, disk.sync(), Err(Fault));
     Ok(disk)
 }

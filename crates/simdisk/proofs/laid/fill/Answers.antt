@@ -10,6 +10,6 @@ fill-requires c =
 pub loop-patch-preserved : goal.loop-patch-preserved
 loop-patch-preserved c =
     record {
-      rest = laid_more (filled c.args.byte) c.args.patches.now c.loop-patch.patch-index c.patch-item.result c.loop-patch.content.items c.fill.new.content.items _ c.loop-patch-test.true c.patch-item.is c.loop-patch.invariant.rest c.fill.ensures.put;
+      rest = laid_more (filled c.args.bytes.now) c.args.patches.now c.loop-patch.patch-index c.patch-item.result c.loop-patch.content.items c.fill.new.content.items _ c.loop-patch-test.true c.patch-item.is c.loop-patch.invariant.rest c.fill.ensures.put;
       as_long = c.fill.ensures.as_long ∙ c.loop-patch.invariant.as_long;
     }

@@ -4,5 +4,5 @@ use Rattle.simdisk.proofs.laid.fill_all.Given as goal
 abbrev pub invariant-loop-sector : goal.invariant-loop-sector
 invariant-loop-sector l = record {
   length : length l.sectors ≡ length l.initial.sectors;
-  filled : take l.sector-index l.sectors ≡ replicate l.sector-index (replicate 512 l.byte);
+  filled : take l.sector-index l.sectors ≡ replicate l.sector-index l.bytes;
 }

@@ -4,5 +4,5 @@ use Rattle.simdisk.proofs.laid.fill_range.Goals as goal
 
 pub returns : goal.returns
 returns c =
-    let filled : c.fill_all.new.sectors ≡ replicate c.args.count (replicate 512 c.args.byte) = c.fill_all.ensures ∙ ap (λ (n : ℕ). replicate n (replicate 512 c.args.byte)) (search (rules, places, arith)) in
+    let filled : c.fill_all.new.sectors ≡ replicate c.args.count c.args.bytes.now = c.fill_all.ensures ∙ ap (λ (n : ℕ). replicate n c.args.bytes.now) (search (rules, places, arith)) in
     rw filled (search (rules, places, arith))

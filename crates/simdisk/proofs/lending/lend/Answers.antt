@@ -22,14 +22,14 @@ loop-lane-preserved c =
     let faults = c.of_lane-faults.result in
     let last = last_of c.in_ok-last_in.field-0 held in
     let x : LaneFacts = record { content = held; failures = 0; first = start; calls = c.no_call-log.result.calls } in
-    let y : LaneRecord = record { newest = last; armed = faults.armed; cut = faults.cut } in
+    let y : LaneRecord = record { newest = last; armed = faults.armed; cut = faults.cut; calls = 0 } in
     let held_is : held ≡ take c.args.each (drop start c.args.content.now) = grind (arith, common_steps) in
     let in_step : c.stays_in_step-as_read.result ≡ true → written ≡ held =
     λ is. ap (λ (k : Content). take c.args.each (drop start k)) (c.requires.in_step (c.stays_in_step-as_read.ensures.now is)) ∙ sym held_is in
     let value : last ≡ written = value_of c.in_ok-last_in.field-0 _ written held c.stays_in_step-as_read.result c.in_ok-last_in.ensures.value (grind (arith, common_steps)) in_step in
     let long : length held ≡ c.args.each = search (rules, places, arith) in
     let same : (j : ℕ) → j < c.args.each → sector held j ≡ sector c.args.content.now (start + j) = λ j lt. search (rules, places, arith) in
-    let lent : IsLent c.args.first c.args.each n c.args.newest.now c.args.faults.armed c.args.faults.cut y = record { written = value; arms = c.of_lane-faults.ensures.0; power = c.of_lane-faults.ensures.1 } in
+    let lent : IsLent c.args.first c.args.each n c.args.newest.now c.args.faults.armed c.args.faults.cut y = record { written = value; arms = c.of_lane-faults.ensures.0; power = c.of_lane-faults.ensures.1; none = refl } in
     let views : map lane_view c.push.new.self.items ≡ map lane_view c.loop-lane.out.items ++ x ∷ [] = search (rules, map-append) in
     let records : map lane_record c.push.new.self.items ≡ map lane_record c.loop-lane.out.items ++ y ∷ [] = search (rules, map-append) in
     record {
