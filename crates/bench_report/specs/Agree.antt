@@ -102,6 +102,7 @@ abbrev pub choice_by : Fill → Choice
 choice_by fills.Old = choices.Old
 choice_by fills.New = choices.New
 choice_by (fills.Byte byte) = choices.Byte byte
+choice_by fills.Alternating = choices.Alternating
 
 -- the disk of a board that is off, or the one that the store of a board holds that is on
 abbrev pub HasDisk : Power → SimDisk → Type 0

@@ -114,6 +114,7 @@ fn choice(fill: Fill) -> Choice
         Fill::Old => Choice::Old,
         Fill::New => Choice::New,
         Fill::Byte(byte) => Choice::Byte(byte),
+        Fill::Alternating => Choice::Alternating,
     }
 }
 

@@ -16,7 +16,7 @@ use Rattle.hex.proofs.HexLemmas.{decode_of-encode_lower, length-encode_with}
 use Rattle.script_lang.specs.Words.{words_of, digits_after, number_of, ranged, hex_of, fill_of}
 use Rattle.script_lang.specs.Spellings.{fill_text, FitsFill}
 use Rattle.script_lang.specs.declared.line.Fill.{Fill}
-use Rattle.script_lang.specs.declared.line.Fill.TheVariants.{Old, New, Byte}
+use Rattle.script_lang.specs.declared.line.Fill.TheVariants.{Old, New, Byte, Alternating}
 use lib.Chars.{codes}
 
 -- each byte of the word is a digit's code or a later one, so it is no space, no line feed and no `#`; a test
@@ -155,12 +155,14 @@ abbrev byte_of : Option Fill → ℕ
 byte_of None = 256
 byte_of (Some Old) = 256
 byte_of (Some New) = 256
+byte_of (Some Alternating) = 256
 byte_of (Some (Byte b)) = b
 
 fill_from_byte : (fill : Option Fill) (b : ℕ) → b < 256 → byte_of fill ≡ b → fill ≡ Some (Byte b)
 fill_from_byte None b h e = absurd (omega arith)
 fill_from_byte (Some Old) b h e = absurd (omega arith)
 fill_from_byte (Some New) b h e = absurd (omega arith)
+fill_from_byte (Some Alternating) b h e = absurd (omega arith)
 fill_from_byte (Some (Byte c)) b h e = ap (λ n. Some (Byte n)) e
 
 fill_byte_back : (b : ℕ) → b < 256 → fill_of (encode_lower (b ∷ [])) ≡ Some (Byte b)
@@ -173,6 +175,7 @@ fill_byte_back b h =
 pub fill_of-text : (fill : Fill) → FitsFill fill → fill_of (fill_text fill) ≡ Some fill
 fill_of-text Old h = refl
 fill_of-text New h = refl
+fill_of-text Alternating h = refl
 fill_of-text (Byte b) h = fill_byte_back b h
 
 one_byte : (b : ℕ) → b < 256 → IsBytes (b ∷ [])
@@ -182,4 +185,5 @@ one_byte b h (suc i) = lit< tt
 pub IsWord-fill : (fill : Fill) → FitsFill fill → IsWord (fill_text fill)
 IsWord-fill Old h = refl
 IsWord-fill New h = refl
+IsWord-fill Alternating h = refl
 IsWord-fill (Byte b) h = IsWord-encode (b ∷ []) (one_byte b h)

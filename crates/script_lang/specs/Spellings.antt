@@ -7,7 +7,7 @@ use Rattle.hex.specs.Hex.{encode_lower, IsBytes}
 use Rattle.board_model.specs.declared.boot_mode.BootMode.{BootMode}
 use Rattle.board_model.specs.declared.boot_mode.BootMode.TheVariants as modes
 use Rattle.script_lang.specs.declared.line.Fill.{Fill}
-use Rattle.script_lang.specs.declared.line.Fill.TheVariants.{Old, New, Byte}
+use Rattle.script_lang.specs.declared.line.Fill.TheVariants.{Old, New, Byte, Alternating}
 use Rattle.script_lang.specs.declared.line.Line.{Line}
 use Rattle.script_lang.specs.declared.line.Line.TheVariants.{Payload, Format, On, Slot, Discard, Turn, Call, Reg, Pc, Csr, Pending, Mem, CutAt, CutLane, FailAt, FailLane, Cut, Poke}
 use Rattle.script_lang.specs.Ranges.{IsLineInRange}
@@ -23,6 +23,7 @@ mode_text modes.Resume = codes "resume"
 abbrev pub fill_text : Fill → List ℕ
 fill_text Old = codes "old"
 fill_text New = codes "new"
+fill_text Alternating = codes "alt"
 fill_text (Byte b) = encode_lower (b ∷ [])
 
 -- the words of a line
@@ -55,6 +56,7 @@ text_of line = join_with_byte 32 (spelling_of line)
 abbrev pub FitsFill : Fill → Type 0
 FitsFill Old = Unit {0}
 FitsFill New = Unit {0}
+FitsFill Alternating = Unit {0}
 FitsFill (Byte b) = b < 256
 
 abbrev pub FitsLine : Line → Type 0

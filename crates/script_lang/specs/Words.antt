@@ -6,7 +6,7 @@ use Rattle.std.specs.Str.{bytes_eq}
 use Rattle.hex.specs.Hex.{decode_of}
 use Rattle.hex.specs.declared.FromHexError.{FromHexError}
 use Rattle.script_lang.specs.declared.line.Fill.{Fill}
-use Rattle.script_lang.specs.declared.line.Fill.TheVariants.{Old, New, Byte}
+use Rattle.script_lang.specs.declared.line.Fill.TheVariants.{Old, New, Byte, Alternating}
 use lib.Chars.{codes}
 
 infixl 10 ◌>>=◌
@@ -45,7 +45,7 @@ ranged least bound word = do
   n ← number_of word
   if nat_le least n && nat_lt n bound then Some n else None
 
--- `old`, `new` or two hexadecimal digits
+-- `old`, `new`, `alt` or two hexadecimal digits
 abbrev pub fill_byte : Option ℕ → Option Fill
 fill_byte None = None
 fill_byte (Some b) = Some (Byte b)
@@ -54,7 +54,8 @@ abbrev pub fill_of : List ℕ → Option Fill
 fill_of word =
     if bytes_eq word (codes "old") then Some Old else
     (if bytes_eq word (codes "new") then Some New else
-    (if length word == 2 then fill_byte (digits_after 16 0 word) else None))
+    (if bytes_eq word (codes "alt") then Some Alternating else
+    (if length word == 2 then fill_byte (digits_after 16 0 word) else None)))
 
 abbrev pub decoded : Result (List ℕ) FromHexError → Option (List ℕ)
 decoded (Ok bytes) = Some bytes

@@ -12,6 +12,8 @@ pub enum Fill {
     New,
     /// This byte throughout.
     Byte(u8),
+    /// 0x55 at each even place of a sector, and 0xaa at each odd one.
+    Alternating,
 }
 
 /// The first word of a line.

@@ -67,7 +67,7 @@ pub fn in_range(least: u64, bound: u64, word: &[u8]) -> Option<u32>
     }
 }
 
-/// `old`, `new` or two hexadecimal digits.
+/// `old`, `new`, `alt` or two hexadecimal digits.
 pub fn fill(word: &[u8]) -> Option<Fill>
     ensures { result ≡ fill_of word.now }
 {
@@ -76,6 +76,9 @@ pub fn fill(word: &[u8]) -> Option<Fill>
     }
     if word == b"new".as_slice() {
         return Some(Fill::New);
+    }
+    if word == b"alt".as_slice() {
+        return Some(Fill::Alternating);
     }
     if word.len() != 2 {
         return None;

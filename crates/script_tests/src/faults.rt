@@ -121,7 +121,7 @@ cut 0\n\
 cut 000\n\
 cut 0g\n\
 cut OLD\n\
-cut alt\n\
+cut Alt\n\
 payload 0 0\n\
 payload 0 000\n\
 payload 0 0x00\n\
@@ -132,8 +132,7 @@ const OTHER_KEYWORDS: &[u8] = b"\
 inspect\n\
 wake\n\
 tries 1\n\
-good\n\
-cutat 1 alt";
+good";
 
 // Scripts, between bars, of which a number of the board line is out of its range.
 const BAD_SHAPES: &[u8] = b"\

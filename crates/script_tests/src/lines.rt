@@ -76,7 +76,7 @@ fn harts(rt: HostRuntime) -> Result<(), Fail> {
 
 #[test]
 fn memory_and_disk(rt: HostRuntime) -> Result<(), Fail> {
-    let cases: [(&[u8], Line); 19] = [
+    let cases: [(&[u8], Line); 20] = [
         (b"mem 0x80000000 1", Line::Mem(0x8000_0000, 1)),
         (b"mem 2147483648 64", Line::Mem(0x8000_0000, 64)),
         (b"mem 0x80003fff 1", Line::Mem(0x8000_3fff, 1)),
@@ -85,6 +85,7 @@ fn memory_and_disk(rt: HostRuntime) -> Result<(), Fail> {
         (b"cut fF", Line::Cut(Fill::Byte(255))),
         (b"cut old", Line::Cut(Fill::Old)),
         (b"cut new", Line::Cut(Fill::New)),
+        (b"cut alt", Line::Cut(Fill::Alternating)),
         (b"cutat 1 old", Line::CutAt(1, Fill::Old)),
         (
             b"cutat 1000000 9a",
