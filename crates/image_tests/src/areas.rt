@@ -140,6 +140,34 @@ fn a_failure_is_refused_and_the_next_write_stands(rt: HostRuntime) -> Result<(),
     Ok(())
 }
 
+/// What a write of 5 pages through four lanes answers under that fault, and how many calls it made of each lane.
+fn calls_under<C: Crew>(
+    alloc: Global,
+    crew: &C,
+    fault: ArmedFault,
+) -> Result<(Option<Refusal>, [u64; 4]), Refusal> {
+    let mut site = Site::new(alloc, 5, 4)?;
+    site.arm(fault);
+    let refusal = site.write(alloc, crew, Side::first(), 9, 7).err();
+    Ok((refusal, site.lane_calls()))
+}
+
+/// The page whose write failed stands in no place, and the lanes behind take the pages that are left.
+#[test]
+fn a_lane_ends_at_its_failure_and_the_others_go_on(rt: HostRuntime) -> Result<(), Fail> {
+    let turns: Turns<HostRuntime> = Turns::new([0, 1, 2, 3])?;
+    for (fault, calls) in [
+        (ArmedFault::FailLane(0, 1), [1, 4, 4, 0]),
+        (ArmedFault::FailLane(0, 2), [2, 4, 4, 0]),
+        (ArmedFault::FailLane(1, 3), [4, 3, 2, 0]),
+        (ArmedFault::FailLane(2, 2), [4, 4, 2, 0]),
+    ] {
+        let answer = calls_under(rt.alloc(), &turns, fault)?;
+        same(&rt, answer, (Some(Refusal::Device), calls));
+    }
+    Ok(())
+}
+
 /// An image in one area, and a second one into the other, whose lane is cut at that call. What the write
 /// answered, what a read of its area answers after the cut, and whether the first image stands.
 fn cut_beside<C: Crew>(
@@ -186,7 +214,7 @@ fn places_in_use<C: Crew>(alloc: Global, crew: &C, pages: u64, lanes: u64) -> Re
     Ok(places)
 }
 
-/// No number of pages from that one on, 64 in all, is refused memory that there is.
+/// No number of pages from that one on, 32 in all, is refused memory that there is.
 fn are_written<R: Abort + thread::Threads + Sync>(
     rt: &R,
     alloc: Global,
@@ -195,7 +223,7 @@ fn are_written<R: Abort + thread::Threads + Sync>(
     requires { first ≤ 256 }
 {
     let turns: Turns<R> = Turns::new([1, 3, 0, 2])?;
-    for pages in first..first + 64 {
+    for pages in first..first + 32 {
         let places = places_in_use(alloc, &turns, pages, pages % 4 + 1)?;
         same(rt, places, pages);
     }
@@ -203,23 +231,43 @@ fn are_written<R: Abort + thread::Threads + Sync>(
 }
 
 #[test]
-fn each_number_of_pages_to_64(rt: HostRuntime) -> Result<(), Fail> {
+fn each_number_of_pages_to_32(rt: HostRuntime) -> Result<(), Fail> {
     are_written(&rt, rt.alloc(), 1)
 }
 
 #[test]
-fn each_number_of_pages_to_128(rt: HostRuntime) -> Result<(), Fail> {
+fn each_number_of_pages_to_64(rt: HostRuntime) -> Result<(), Fail> {
+    are_written(&rt, rt.alloc(), 33)
+}
+
+#[test]
+fn each_number_of_pages_to_96(rt: HostRuntime) -> Result<(), Fail> {
     are_written(&rt, rt.alloc(), 65)
 }
 
 #[test]
-fn each_number_of_pages_to_192(rt: HostRuntime) -> Result<(), Fail> {
+fn each_number_of_pages_to_128(rt: HostRuntime) -> Result<(), Fail> {
+    are_written(&rt, rt.alloc(), 97)
+}
+
+#[test]
+fn each_number_of_pages_to_160(rt: HostRuntime) -> Result<(), Fail> {
     are_written(&rt, rt.alloc(), 129)
 }
 
 #[test]
-fn each_number_of_pages_to_256(rt: HostRuntime) -> Result<(), Fail> {
+fn each_number_of_pages_to_192(rt: HostRuntime) -> Result<(), Fail> {
+    are_written(&rt, rt.alloc(), 161)
+}
+
+#[test]
+fn each_number_of_pages_to_224(rt: HostRuntime) -> Result<(), Fail> {
     are_written(&rt, rt.alloc(), 193)
+}
+
+#[test]
+fn each_number_of_pages_to_256(rt: HostRuntime) -> Result<(), Fail> {
+    are_written(&rt, rt.alloc(), 225)
 }
 
 #[test]

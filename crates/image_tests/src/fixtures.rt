@@ -178,6 +178,16 @@ impl Site {
         self.disk.arm(fault);
     }
 
+    /// How many calls were made of lanes 0 to 3.
+    pub fn lane_calls(&self) -> [u64; 4] {
+        [
+            self.disk.lane_calls(0),
+            self.disk.lane_calls(1),
+            self.disk.lane_calls(2),
+            self.disk.lane_calls(3),
+        ]
+    }
+
     /// Whether the disk's next call fails.
     pub fn fails(&mut self) -> bool {
         self.disk.sync().is_err()

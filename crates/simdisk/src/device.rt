@@ -1,5 +1,5 @@
 //! The disk in memory as a disk.
-ghost use Rattle.std.specs.Prelude.{◌≡◌, ◌⊎◌, ◌≤◌, ◌+◌, ◌*◌, ℕ, [], ◌∷◌, length, map, OnOk, OnErr, IfOk};
+ghost use Rattle.std.specs.Prelude.{◌≡◌, ◌⊎◌, ◌≤◌, ◌<◌, ◌+◌, ◌*◌, ℕ, [], ◌∷◌, length, map, OnOk, OnErr, IfOk};
 ghost use Rattle.disk.specs.Facts.{Content, Torn, Written, Passes, Stays, Only, Apart, AreSectorsAt, Handed, InRow, Joined, Unchanged, counted, nothing, lent_sectors, lane_failures};
 ghost use Rattle.disk.specs.FaultState.{CausedInLanes, armed_by};
 ghost use Rattle.disk.specs.Calls.{MakesCalls, NoCall};
@@ -92,6 +92,10 @@ impl Disk for SimDisk {
         ensures counts { (FailsNext (⟦<SimDisk as Disk>⟧.fault_state self.old).struck
             (⟦<SimDisk as Recorded>⟧.armed self.old) → ⊥)
             → ⟦<SimDisk as Recorded>⟧.armed self.new ≡ one_call_on (⟦<SimDisk as Recorded>⟧.armed self.old) }
+        ensures spared { OnErr result
+            ((⟦<SimDisk as Disk>⟧.fault_state self.old).own < (⟦<SimDisk as Disk>⟧.fault_state self.new).own
+            → FailsNext (⟦<SimDisk as Disk>⟧.fault_state self.old).struck (⟦<SimDisk as Recorded>⟧.armed self.old)
+            → ⟦<SimDisk as Recorded>⟧.armed self.new ≡ ⟦<SimDisk as Recorded>⟧.armed self.old) }
     {
         self.calls = self.calls.saturating_add(1);
         let Ok(()) = self.history.note(first, sectors) else {

@@ -77,6 +77,7 @@ impl Faults {
     pub(crate) fn pass(&mut self)
         ensures waits { Waits self.old self.new }
         ensures counts { (FailsNext self.old.cut self.old.armed → ⊥) → self.new.armed ≡ one_call_on self.old.armed }
+        ensures due { FailsNext self.old.cut self.old.armed → self.new ≡ self.old }
     {
         let before = *self;
         if self.strikes() {

@@ -1,10 +1,10 @@
 //! The disk of the largest board, and many writes: no memory is refused where there is some.
 ghost use Rattle.std.specs.Prelude.{◌≡◌, OnOk};
 
-use crate::fixtures::{same, write_byte};
+use crate::fixtures::{contents, same, write_byte};
 use board_model::Shape;
 use disk::{Disk, write_synced};
-use simdisk::SimDisk;
+use simdisk::{Choice, SimDisk};
 use std::process::Abort;
 use std::test::Fail;
 
@@ -64,5 +64,9 @@ fn each_of_many_writes_is_made(rt: HostRuntime) -> Result<(), Fail> {
         (disk.calls(), disk.failures(), disk.refused()),
         (10_002, 0, 0),
     );
+    // A poke finds memory after as many calls.
+    disk.poke(3, 511, &[7])?;
+    let disk = disk.after_cut(Choice::Old);
+    same(&rt, contents(&rt, &disk), [0, 5, 6, 7]);
     Ok(())
 }

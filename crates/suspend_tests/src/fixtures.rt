@@ -59,6 +59,14 @@ pub fn opened(alloc: Global, shape: Shape) -> Result<Store<SimDisk>, Fail> {
     Ok(open(alloc, disk)?)
 }
 
+/// The same where somebody wrote the next serial into its record past the firmware.
+pub fn opened_at(alloc: Global, shape: Shape, next: u64) -> Result<Store<SimDisk>, Fail> {
+    let mut disk = SimDisk::blank(alloc, shape.sectors())?;
+    format(&mut disk, &shape)?;
+    disk.poke(2, 16, &next.to_le_bytes())?;
+    Ok(open(alloc, disk)?)
+}
+
 /// The next open of the same disk.
 pub fn reopened(alloc: Global, store: Store<SimDisk>) -> Result<Store<SimDisk>, Refusal> {
     open(alloc, store.into_disk())

@@ -2,7 +2,7 @@
 ghost use Rattle.std.specs.Prelude.{◌≡◌};
 
 use crate::fixtures::{
-    holds, memory, opened, reopened, same, standing, suspend, suspend_by, turns,
+    holds, memory, opened, opened_at, reopened, same, standing, suspend, suspend_by, turns,
 };
 use board_model::{Command, Refusal, Shape};
 use crew::{Crew, Threads};
@@ -167,6 +167,21 @@ fn a_discarded_image_is_written_over(rt: HostRuntime) -> Result<(), Fail> {
     let receipt = store.apply(Command::Discard)?;
     same(&rt, receipt.number(), 1);
     failed_and_again(&rt, rt.alloc(), store, 2, &crew)
+}
+
+/// The last serial is never given out: where it is the next one, a suspension is refused 12, and changes nothing.
+#[test]
+fn serials_are_spent(rt: HostRuntime) -> Result<(), Fail> {
+    let crew = turns(&rt)?;
+    let shape = Shape::new(1, 1, 1)?;
+    let ram = memory(rt.alloc(), shape, 9)?;
+    let mut store = opened_at(rt.alloc(), shape, u64::MAX)?;
+    let spent = Err(Refusal::SerialsSpent);
+    same(&rt, suspend(rt.alloc(), &mut store, &ram, &crew), spent);
+    same(&rt, store.now().next, u64::MAX);
+    let mut store = opened_at(rt.alloc(), shape, u64::MAX - 1)?;
+    same(&rt, suspend(rt.alloc(), &mut store, &ram, &crew), Ok(1));
+    Ok(())
 }
 
 /// What a load of an image of one page answers whose call of that number fails.
