@@ -4,4 +4,7 @@ mod Moments
 mod Refused
 mod Unmoved
 mod Off
+mod On
 pub mod Rows
+pub mod Issued
+pub mod Few

@@ -1,24 +1,36 @@
--- A boot that is refused before it did anything leaves the store as the open made it.
-use Rattle.std.proofs.Common.{Option, refl, sym, ap, ◌∙◌, arith}
+-- A boot that is refused before it issued anything leaves the life as the open made it.
+use Rattle.std.proofs.Common.{◌≡◌, ◌∙◌, List, [], Option, None, refl, sym, ap, arith}
 use Rattle.disk.specs.Moments.{passes_none}
 use Rattle.board_model.specs.Durable.{DurableState, Change}
 use Rattle.board_model.specs.declared.boot_mode.BootMode.{BootMode}
 use Rattle.board_model.specs.declared.refusal.Refusal.{Refusal}
 use Rattle.store.specs.Lives.{Life, begun}
 use Rattle.store.specs.Answers.{StoreView}
-use Rattle.board.specs.Moments.{gone_before}
+use Rattle.board.specs.Moments.{commands_by, gone_before}
 use Rattle.board.specs.Readies.{IsOpen, IsUnissued}
+use Rattle.board.specs.Unbooted.{doubt_by, IsLifeLeft}
 use Rattle.board.proofs.Moments.{IsNow, untouched_moments}
 use Rattle.board.proofs.Refused.{IsQuiet}
 
 abbrev in_doubt_of : DurableState → Option Change → Life
 in_doubt_of s doubt = record (begun s) { doubt = doubt }
 
-pub unmoved : (mode : BootMode) (e : Refusal) (old : StoreView) → IsNow old.disk → IsOpen old → IsQuiet mode e → IsUnissued mode old e old
+-- none of its commands was issued
+pub none_issued : (cs : List Change) (e : Refusal) (s : DurableState) (life : Life) → life ≡ begun s → doubt_by e cs ≡ None → IsLifeLeft cs e s life
+none_issued cs e s life is calm = record {
+  done = [];
+  later = cs;
+  parts = refl;
+  refused = λ none. none;
+  is = is ∙ ap (in_doubt_of s) (sym calm);
+  by_disk = λ device down. refl;
+}
+
+pub unmoved : (mode : BootMode) (e : Refusal) (old : StoreView) → IsNow old.disk → IsOpen old → IsQuiet e → IsUnissued mode old e old
 unmoved mode e old now opened quiet = record {
   size = refl;
-  life = opened.begins ∙ ap (in_doubt_of old.life.found) (sym quiet.no_doubt);
-  any_moment = untouched_moments old.disk old.disk old.size old.life.found (gone_before mode e) now (passes_none old.disk);
+  life = none_issued (commands_by mode old.life.found) e old.life.found old.life opened.begins (quiet.no_doubt (commands_by mode old.life.found));
+  any_moment = untouched_moments old.disk old.disk old.size old.life.found (gone_before e (commands_by mode old.life.found)) now (passes_none old.disk);
   opened = refl;
   length = refl;
   no_fewer = omega arith;

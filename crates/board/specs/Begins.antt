@@ -1,6 +1,6 @@
 -- Which board a power-on begins by its mode, and which refusals there are, in their order, once the disk was
 -- opened. Source: docs/BOARD.md, "Power on"; SBI specification 2.0, chapter 13.
-use Rattle.std.specs.Prelude.{◌≡◌, ◌<◌, ℕ, List, Option, None, Some, is_some, IfSome, length, IsTrue}
+use Rattle.std.specs.Prelude.{◌≡◌, ◌<◌, ℕ, List, [], Option, None, Some, IfSome, length}
 use Rattle.board_model.specs.Durable.{DurableState, Image, IsWhole}
 use Rattle.board_model.specs.Shapes.{Size, ram_bytes_of}
 use Rattle.board_model.specs.Views.{number_of_refusal}
@@ -9,8 +9,9 @@ use Rattle.board_model.specs.declared.boot_mode.BootMode.TheVariants as modes
 use Rattle.board_model.specs.declared.refusal.Refusal.{Refusal}
 use Rattle.board_model.specs.declared.refusal.Refusal.TheVariants.{BadShape, Memory, Device, Down, BadImage}
 use Rattle.machine.specs.Machine.{Machine, woken}
-use Rattle.board.specs.Boots.{PayloadsFit, boot_refusal, booted}
-use Rattle.board.specs.Moments.{issued_by}
+use Rattle.store.specs.Lives.{now_of}
+use Rattle.board.specs.Boots.{PayloadsFit, boot_refusal, life_after, booted}
+use Rattle.board.specs.Moments.{commands_by}
 
 -- the hart of an image that stands is one of the board
 abbrev pub HasItsHart : Size → DurableState → Type 0
@@ -36,17 +37,17 @@ pub record IsResumed (size : Size) (s : DurableState) (m : Machine) : Type 0 whe
   pub whole : length image.memory ≡ ram_bytes_of size
   pub is : m ≡ woken image size
 
--- the board that the mode begins where the open found that state: the slot's payload is booted, or the image
--- goes on
+-- The board that the mode begins where the open found that state: the payload of the slot is booted that
+-- stands once the mode's commands were issued, or the image goes on.
 abbrev pub IsBegun : BootMode → Size → List (List ℕ) → DurableState → Machine → Type 0
-IsBegun modes.Fresh size payloads s m = m ≡ booted payloads s size
-IsBegun modes.Keep size payloads s m = m ≡ booted payloads s size
-IsBegun modes.Discard size payloads s m = m ≡ booted payloads s size
+IsBegun modes.Fresh size payloads s m = m ≡ booted payloads (now_of (life_after modes.Fresh s)) size
+IsBegun modes.Keep size payloads s m = m ≡ booted payloads (now_of (life_after modes.Keep s)) size
+IsBegun modes.Discard size payloads s m = m ≡ booted payloads (now_of (life_after modes.Discard s)) size
 IsBegun modes.Resume size payloads s m = IsResumed size s m
 
--- the mode issues a command
-abbrev pub Issues : BootMode → Type 0
-Issues mode = IsTrue (is_some (issued_by mode))
+-- the mode issues a command in that state
+abbrev pub Issues : BootMode → DurableState → Type 0
+Issues mode s = commands_by mode s ≡ [] → ⊥
 
 -- of a mode that the state allows, in this order: a payload that does not fit, memory, an image that has not
 -- the memory of its board, and the disk, where the mode issues a command
@@ -54,8 +55,8 @@ abbrev pub IsLateRefusal : BootMode → Size → List (List ℕ) → DurableStat
 IsLateRefusal mode size payloads s BadShape = PayloadsFit size payloads → ⊥
 IsLateRefusal mode size payloads s Memory = PayloadsFit size payloads
 IsLateRefusal mode size payloads s BadImage = PayloadsFit size payloads × (mode ≡ modes.Resume) × (IsWhole size s → ⊥)
-IsLateRefusal mode size payloads s Device = PayloadsFit size payloads × Issues mode
-IsLateRefusal mode size payloads s Down = PayloadsFit size payloads × Issues mode
+IsLateRefusal mode size payloads s Device = PayloadsFit size payloads × Issues mode s
+IsLateRefusal mode size payloads s Down = PayloadsFit size payloads × Issues mode s
 IsLateRefusal mode size payloads s e = ⊥
 
 -- by the number with which the state refuses the mode, where it does

@@ -1,7 +1,6 @@
 -- Power on by mode: which modes are refused, what is issued, and what is booted.
 -- Source: docs/BOARD.md.
 use Rattle.std.specs.Prelude.{ℕ, List, [], ◌≤◌, length, Option, None, Some, is_some, if◌then◌else◌, All, get_or}
-use Rattle.std.specs.Option.{option_to_list}
 use Rattle.board_model.specs.Durable.{DurableState}
 use Rattle.board_model.specs.Shapes.{Size, ram_bytes_of}
 use Rattle.board_model.specs.declared.boot_mode.BootMode.{BootMode}
@@ -10,7 +9,7 @@ use Rattle.board_model.specs.declared.durable.Command.{Command}
 use Rattle.board_model.specs.declared.durable.Command.TheVariants as commands
 use Rattle.machine.specs.Machine.{Machine, machine_begun as begun_machine}
 use Rattle.store.specs.Lives.{Life, begun}
-use Rattle.board.specs.Moments.{issued_by}
+use Rattle.board.specs.Moments.{commands_by}
 
 -- the number with which a mode is refused in a state
 abbrev pub boot_refusal : DurableState → BootMode → Option ℕ
@@ -19,9 +18,9 @@ boot_refusal s modes.Keep = None
 boot_refusal s modes.Discard = if is_some s.image then None else Some 8
 boot_refusal s modes.Resume = if is_some s.image then None else Some 8
 
--- the life that a boot begins in a state: with the command that the mode issues
+-- the life that a boot begins in a state: with the commands that the mode issues there
 abbrev pub life_after : BootMode → DurableState → Life
-life_after mode s = record (begun s) { journal = option_to_list (issued_by mode) }
+life_after mode s = record (begun s) { journal = commands_by mode s }
 
 -- the commands that the console may issue: the others are the guest's and the boot's
 abbrev pub IsConsoleCommand : Command → Type 0

@@ -10,8 +10,8 @@ use Rattle.store.specs.Opens.{CausedRefusal}
 use Rattle.store.specs.Answers.{StoreView}
 use Rattle.board.specs.Boots.{life_after}
 use Rattle.board.specs.Begins.{HasItsHart}
-use Rattle.board.specs.Moments.{issued_by, gone_before, MayLeave}
-use Rattle.board.specs.Unbooted.{life_refused, CountsRefusal}
+use Rattle.board.specs.Moments.{commands_by, gone_before, MayLeave}
+use Rattle.board.specs.Unbooted.{IsLifeLeft, CountsRefusal}
 
 -- it was just opened
 pub record IsOpen (store : StoreView) : Type 0 where
@@ -20,12 +20,13 @@ pub record IsOpen (store : StoreView) : Type 0 where
   pub none_out : IsIdle store.disk
   pub has : HasItsHart store.size store.life.found
 
--- the store of a boot by the mode, once its command was acknowledged
+-- the store of a boot by the mode, once its commands were acknowledged
 pub record IsIssued (mode : BootMode) (old new : StoreView) : Type 0 where
   pub size : new.size ≡ old.size
   pub life : new.life ≡ life_after mode old.life.found
   pub only : LeavesOnly new.disk new.size (now_of new.life)
-  pub any_moment : LeavesSince old.disk new.disk (MayLeave old.disk old.size old.life.found (issued_by mode))
+  pub any_moment : LeavesSince old.disk new.disk (MayLeave old.disk old.size old.life.found
+      (commands_by mode old.life.found))
   pub opened : new.failures_at_open ≡ old.failures_at_open
   pub length : SameLength old.disk new.disk
   pub none_out : IsIdle new.disk
@@ -35,8 +36,9 @@ pub record IsIssued (mode : BootMode) (old new : StoreView) : Type 0 where
 -- the store of a boot by the mode that was refused so
 pub record IsUnissued (mode : BootMode) (old : StoreView) (e : Refusal) (new : StoreView) : Type 0 where
   pub size : new.size ≡ old.size
-  pub life : new.life ≡ life_refused mode e old.life.found
-  pub any_moment : LeavesSince old.disk new.disk (MayLeave old.disk old.size old.life.found (gone_before mode e))
+  pub life : IsLifeLeft (commands_by mode old.life.found) e old.life.found new.life
+  pub any_moment : LeavesSince old.disk new.disk (MayLeave old.disk old.size old.life.found
+      (gone_before e (commands_by mode old.life.found)))
   pub opened : new.failures_at_open ≡ old.failures_at_open
   pub length : SameLength old.disk new.disk
   pub no_fewer : old.disk.failures ≤ new.disk.failures

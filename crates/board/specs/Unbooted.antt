@@ -1,18 +1,15 @@
 -- Why a board whose disk was opened is not powered on, and what is then left on the disk.
 -- Source: docs/BOARD.md.
-use Rattle.std.specs.Prelude.{◌≡◌, ◌⊎◌, ◌≤◌, ℕ, List, Option, None, Some}
+use Rattle.std.specs.Prelude.{◌≡◌, ◌⊎◌, ◌≤◌, ◌++◌, ℕ, List, [], ◌∷◌, Option, None, Some}
 use Rattle.disk.specs.Facts.{Facts, Failed}
 use Rattle.board_model.specs.Durable.{DurableState, Change, after}
 use Rattle.board_model.specs.Shapes.{Size}
-use Rattle.board_model.specs.Views.{number_of_refusal, durable_of}
-use Rattle.board_model.specs.declared.durable.Durable.{Durable}
-use Rattle.board_model.specs.declared.boot_mode.BootMode.{BootMode}
+use Rattle.board_model.specs.Views.{number_of_refusal}
 use Rattle.board_model.specs.declared.refusal.Refusal.{Refusal}
 use Rattle.board_model.specs.declared.refusal.Refusal.TheVariants.{BadShape, Memory, Device, Down, NoImage, ImageThere}
 use Rattle.store.specs.Leaves.{LeavesOnly, LeavesEither}
-use Rattle.store.specs.Lives.{Life, begun, now_of}
+use Rattle.store.specs.Lives.{Life, begun}
 use Rattle.board.specs.Boots.{PayloadsFit}
-use Rattle.board.specs.Moments.{issued_by}
 
 -- of a store that is open: a payload that does not fit, or memory
 abbrev pub IsStartRefusal : Size → List (List ℕ) → Refusal → Type 0
@@ -20,19 +17,22 @@ IsStartRefusal size payloads BadShape = PayloadsFit size payloads → ⊥
 IsStartRefusal size payloads Memory = PayloadsFit size payloads
 IsStartRefusal size payloads e = ⊥
 
--- the life after a refusal: the command that the mode issues may be in doubt
-abbrev pub doubt_after : BootMode → Refusal → Option Change
-doubt_after mode Down = issued_by mode
-doubt_after mode e = None
+-- the command in doubt after a refusal at the first of these commands
+abbrev pub doubt_by : Refusal → List Change → Option Change
+doubt_by Down [] = None
+doubt_by Down (c ∷ cs) = Some c
+doubt_by e cs = None
 
-abbrev pub life_refused : BootMode → Refusal → DurableState → Life
-life_refused mode e s = record (begun s) { doubt = doubt_after mode e }
-
--- the state now of a board that is not on, by the state found: that of the life which the refusal left
-abbrev pub IsNowAfter : BootMode → Refusal → Option Durable → Option Durable → Type 0
-IsNowAfter mode e None now = now ≡ None
-IsNowAfter mode e (Some found) now =
-    (s : DurableState) × (found ≡ durable_of s) × (now ≡ Some (durable_of (now_of (life_refused mode e s))))
+-- The life that a refused boot leaves, of one that issues these commands in that state: some first of them
+-- are acknowledged, but not all, and the next one was refused, which after 6 is in doubt. Where the refusal
+-- is not the disk's, none was issued.
+pub record IsLifeLeft (cs : List Change) (e : Refusal) (s : DurableState) (life : Life) : Type 0 where
+  pub done : List Change
+  pub later : List Change
+  pub parts : cs ≡ done ++ later
+  pub refused : later ≡ [] → cs ≡ []
+  pub is : life ≡ record (begun s) { journal = done; doubt = doubt_by e later }
+  pub by_disk : (e ≡ Device → ⊥) → (e ≡ Down → ⊥) → done ≡ []
 
 -- the refusal of that number, or none
 abbrev pub RefusesMode : Option ℕ → Option Refusal → Type 0

@@ -2,7 +2,7 @@
 
 use crate::payloads::Payloads;
 use crate::ready::ready;
-use board_model::{BootMode, Command, Durable, HartId, Refusal, Shape};
+use board_model::{BootMode, Command, Durable, Entry, HartId, Refusal, Shape};
 use crew::Crew;
 use disk::{ArmedFault, Disk};
 use hart::Hart;
@@ -48,10 +48,10 @@ pub struct Parts<D: Disk + Drop> {
 }
 
 impl<D: Disk + Drop> Board<D> {
-    ghost use Rattle.std.specs.Prelude.{◌≡◌, ◌⊎◌, ◌<◌, ◌≤◌, false, length, Some, None, Err, IfSome, OnOk, IfOk, IfErr, IsErrOf, MatchResult};
+    ghost use Rattle.std.specs.Prelude.{◌≡◌, ◌⊎◌, ◌<◌, ◌≤◌, ℕ, List, false, length, Some, None, Err, IfSome, OnOk, IfOk, IfErr, IsErrOf, MatchResult, MatchOption};
     ghost use Rattle.board_model.specs.Durable.{DurableState, Change, refusal_of};
     ghost use Rattle.board_model.specs.Shapes.{Size};
-    ghost use Rattle.board_model.specs.Views.{durable_of, change_of};
+    ghost use Rattle.board_model.specs.Views.{durable_of, change_of, change_in};
     ghost use Rattle.board_model.specs.declared.refusal.Refusal.{Refusal};
     ghost use Rattle.disk.specs.Facts.{LeavesSince, Failed, Unchanged};
     ghost use Rattle.disk.specs.FaultState.{armed_by};
@@ -70,7 +70,6 @@ impl<D: Disk + Drop> Board<D> {
     ghost use Rattle.board.specs.Views.{store_of, machine_of};
     ghost use Rattle.board.specs.Turns.{Comes, TurnsHeld, RowsHeld, TurnsManyHeld, CallsHeld};
     ghost use Rattle.board.specs.PowersOn.{IsOn, IsUnpowered, KeepsDisk, GivesDisk};
-    ghost use Rattle.board.specs.Unbooted.{IsNowAfter};
 
     /// Powers a board on: opens the disk, and begins by the mode (docs/BOARD.md, "Power on"). Fresh, keep and
     /// discard boot the slot, discard once the image is dropped. Resume goes on with the image: its memory is
@@ -90,9 +89,8 @@ impl<D: Disk + Drop> Board<D> {
         requires { IsIdle (D.facts disk) }
         ensures on { IfOk result (λ board. IsOn mode payloads.now (D.facts disk) (view_of (store_of board))
             (machine_of board)) }
-        ensures off { IfErr result (λ e. IsUnpowered mode payloads.now e.found (D.facts disk) e.refusal
+        ensures off { IfErr result (λ e. IsUnpowered mode payloads.now e.found e.now (D.facts disk) e.refusal
             (D.facts e.disk)) }
-        ensures now { IfErr result (λ e. IsNowAfter mode e.refusal e.found e.now) }
 
         // A disk that reads as no state is refused so, or for its failure; one without sectors before any
         // call of it.
@@ -207,6 +205,14 @@ impl<D: Disk + Drop> Board<D> {
         ensures { result ≡ durable_of (now_state (store_of self.now)) }
     {
         self.store.now()
+    }
+
+    /// The command of this life that is in doubt, a suspension without its memory; none where its store is up.
+    pub fn in_doubt(&self) -> Option<Entry>
+        ensures { MatchOption result (doubt_of (store_of self.now) ≡ None) (λ e. (memory : List ℕ)
+            × (doubt_of (store_of self.now) ≡ Some (change_in e memory))) }
+    {
+        self.store.in_doubt()
     }
 
     /// The shape of the board, by its disk.

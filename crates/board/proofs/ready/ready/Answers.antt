@@ -9,4 +9,4 @@ use Rattle.board.proofs.ready.ready.Goals as goal
 pub returns-in-Some-clause-unissued : goal.returns-in-Some-clause-unissued
 returns-in-Some-clause-unissued g c =
     let refuses : RefusesMode (boot_refusal (found_state c.args.store.now) c.args.mode) (Some c.in-Some.refusal) = search rules in
-    unmoved _ _ (view_of c.args.store.now) (g.met.D.Disk.only_now _) c.requires (refusal_is_quiet _ _ _ refuses)
+    unmoved _ _ (view_of c.args.store.now) (g.met.D.Disk.only_now _) c.requires (refusal_is_quiet _ _ refuses)
