@@ -1,9 +1,12 @@
 -- What the console makes of a line, with the store at hand. Source: docs/CONSOLE.md, "The console";
 -- docs/DURABLE.md.
-use Rattle.std.specs.Prelude.{◌≡◌, ℕ, Result, Ok, Err}
+use Rattle.std.specs.Prelude.{◌≡◌, ℕ, List, ◌∷◌, Result, Ok, Err}
 use Rattle.board_model.specs.Durable.{DurableState, Slot, Discard}
 use Rattle.board_model.specs.Views.{durable_of}
+use Rattle.board_model.specs.declared.durable.Command.TheVariants as commands
 use Rattle.board_model.specs.declared.durable.Durable.{Durable}
+use Rattle.board_model.specs.declared.durable.Entry.{Entry}
+use Rattle.board_model.specs.declared.durable.Entry.TheVariants as entries
 use Rattle.board_model.specs.declared.refusal.Refusal.{Refusal}
 use Rattle.disk.specs.declared.device.Disk.{Ghosts}
 use Rattle.disk.specs.declared.device.Lane.{Ghosts as Lanes}
@@ -26,16 +29,25 @@ abbrev pub discard_answer : Result ℕ Refusal → Answer
 discard_answer (Ok n) = answers.DiscardOk n
 discard_answer (Err e) = answers.DiscardRefused e
 
--- what a line may be answered in a life that began in that state: as some commands explain it that the table
--- takes, one after another from there
-abbrev pub IsAnswerTo : DurableState → Said → Answer → Type 0
-IsAnswerTo found (saids.Slot n) answer =
+-- the receipts, the newest first, once a command was answered
+abbrev pub told_by : Entry → Result ℕ Refusal → List (ℕ × Entry) → List (ℕ × Entry)
+told_by entry (Ok n) told = (n, entry) ∷ told
+told_by entry (Err e) told = told
+
+-- What a line may be answered in a life that began in that state: as some commands explain it that the table
+-- takes, one after another from there. The receipts that were told before it, and those that were told then: a
+-- receipt is answered where it is told, with just that command, and none else is told.
+abbrev pub IsAnswerTo : DurableState → Said → Answer → List (ℕ × Entry) → List (ℕ × Entry) → Type 0
+IsAnswerTo found (saids.Slot n) answer old new =
     (r : Result ℕ Refusal) × MayAnswer found (Slot n) r × (answer ≡ slot_answer r)
-IsAnswerTo found saids.Discard answer =
+    × (new ≡ told_by (entries.Command (commands.Slot n)) r old)
+IsAnswerTo found saids.Discard answer old new =
     (r : Result ℕ Refusal) × MayAnswer found Discard r × (answer ≡ discard_answer r)
-IsAnswerTo found saids.State answer = (d : Durable) × MayShow found d × (answer ≡ answers.State d)
-IsAnswerTo found saids.Quit answer = answer ≡ answers.Quit
-IsAnswerTo found saids.Other answer = answer ≡ answers.Unknown
+    × (new ≡ told_by (entries.Command commands.Discard) r old)
+IsAnswerTo found saids.State answer old new =
+    (d : Durable) × MayShow found d × (answer ≡ answers.State d) × (new ≡ old)
+IsAnswerTo found saids.Quit answer old new = (answer ≡ answers.Quit) × (new ≡ old)
+IsAnswerTo found saids.Other answer old new = (answer ≡ answers.Unknown) × (new ≡ old)
 
 module _ {D L : Type 0} {g : Ghosts D L} {l : Lanes L} where
   -- A line with a command asks the store once, and no other line asks it; `state` is the state now, without a

@@ -13,7 +13,7 @@ use crate::words::{Said, line_said};
 use arrayvec::ArrayVec;
 use board_model::Refusal;
 use disk::Disk;
-use shared_store::{Journal, SharedStore};
+use shared_store::{Journal, Part, SharedStore};
 use std::io::{Read, Write};
 use std::sync::{Mutex, Wait};
 
@@ -47,28 +47,32 @@ fn write_answer<W: Write>(out: &mut W, answer: Answer) -> Result<(), Refusal>
 }
 
 /// Takes one line after another from the input, obeys each in one hold of the store, and writes its answer
-/// with no lock held. It leaves after `quit`, at the end of input, and where an answer could not be written.
+/// with no lock held. It leaves after `quit`, at the end of input, and where an answer could not be written. Its
+/// part of the journal's receipts is told those that it answers.
 pub fn console<R: Wait, D: Disk + Drop, J: Journal, I: Read, W: Write>(
     rt: &R,
     store: &Mutex<SharedStore<D, J>>,
+    part: Part<J>,
     input: &mut I,
     out: &mut W,
-) -> Left
-    ensures { Talks J.found result (dialogue_ends (I.remaining input.old) (W.contents out.old))
-        (dialogue_ends (I.remaining input.new) (W.contents out.new)) }
+) -> (Part<J>, Left)
+    ensures { Talks J.found result.1 (dialogue_ends (I.remaining input.old) (W.contents out.old) part.told)
+        (dialogue_ends (I.remaining input.new) (W.contents out.new) result.0.told) }
 {
     let mut line = ArrayVec::new();
+    let mut part = part;
     for _ in rt.forever() {
         if !next_line(input, &mut line) {
-            return Left::EndOfInput;
+            return (part, Left::EndOfInput);
         }
         let said = line_said(line.as_slice());
-        let answer = obey(&mut store.lock(rt), said);
+        let (told, answer) = obey(&mut store.lock(rt), part, said);
+        part = told;
         let Ok(()) = write_answer(out, answer) else {
-            return Left::Unwritten;
+            return (part, Left::Unwritten);
         };
         if is_quit(said) {
-            return Left::Quit;
+            return (part, Left::Quit);
         }
     }
     unreachable!()

@@ -28,6 +28,10 @@ const WHOLE: [&str; 18] = [
     "1000000000",
 ];
 
+const SYNCED: [&str; 8] = [
+    "sbiboard", "--disk", "D", "--mode", "fresh", "--sync", "--pages", "1",
+];
+
 const NO_DISK: [&str; 3] = ["sbiboard", "--mode", "fresh"];
 
 const NO_MODE: [&str; 3] = ["sbiboard", "--disk", "D"];
@@ -67,7 +71,10 @@ fn is_fault(alloc: Global, words: &'static [&'static str]) -> bool {
 fn what_is_not_given_has_its_default(rt: HostRuntime) -> Result<(), Fail> {
     let given = options(rt.alloc(), PLAIN.as_slice()).ok().ok_or("options")?;
     assert_eq!(&rt; given.disk.as_str(), "D");
-    assert_eq!(&rt; (given.mode, given.new), (BootMode::Resume, false));
+    assert_eq!(&rt;
+        (given.mode, given.new, given.sync),
+        (BootMode::Resume, false, false)
+    );
     assert_eq!(&rt;
         (given.shape, given.turns),
         (Shape::new(1, 1, 1)?, 1_000_000)
@@ -79,7 +86,10 @@ fn what_is_not_given_has_its_default(rt: HostRuntime) -> Result<(), Fail> {
 #[test]
 fn what_is_given_stands(rt: HostRuntime) -> Result<(), Fail> {
     let given = options(rt.alloc(), WHOLE.as_slice()).ok().ok_or("options")?;
-    assert_eq!(&rt; (given.mode, given.new), (BootMode::Keep, true));
+    assert_eq!(&rt;
+        (given.mode, given.new, given.sync),
+        (BootMode::Keep, true, false)
+    );
     assert_eq!(&rt;
         (given.shape, given.turns),
         (Shape::new(8, 256, 4)?, 1_000_000_000)
@@ -88,6 +98,23 @@ fn what_is_given_stands(rt: HostRuntime) -> Result<(), Fail> {
     for slot in 0..4 {
         assert_eq!(&rt; given.payloads[slot].is_some(), told[slot]);
     }
+    Ok(())
+}
+
+#[test]
+fn a_number_that_is_given_is_told_from_its_default(rt: HostRuntime) -> Result<(), Fail> {
+    let read = options(rt.alloc(), SYNCED.as_slice())
+        .ok()
+        .ok_or("options")?;
+    assert_eq!(&rt;
+        (read.new, read.sync, read.shape),
+        (false, true, Shape::new(1, 1, 1)?)
+    );
+    let given = read.given;
+    assert_eq!(&rt;
+        (given.harts, given.pages, given.lanes),
+        (false, true, false)
+    );
     Ok(())
 }
 

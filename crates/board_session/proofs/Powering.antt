@@ -1,15 +1,16 @@
 -- What is made of a disk on the way to a board that is on, and what a board that is not on, or a life that has
 -- ended, leaves of it.
-use Rattle.std.proofs.Common.{◌≡◌, ◌⊎◌, ◌≤◌, ◌&&◌, inl, inr, ℕ, Bool, true, false, List, ◌++◌, Option, Some, None, length, drop, arith, ap, refl, sym, ◌∙◌, subst, subst₂}
+use Rattle.std.proofs.Common.{◌≡◌, ◌⊎◌, ◌&&◌, inl, inr, ℕ, Bool, true, false, List, [], ◌++◌, Option, Some, None, length, drop, arith, ap, refl, sym, ◌∙◌, subst, subst₂}
 use Rattle.std.proofs.lemmas.List.{take-append-drop}
-use Rattle.std.specs.Option.{option_to_list}
 use Rattle.std.specs.Prelude.{is_none}
 use Rattle.board_model.specs.Durable.{DurableState, Change, after, fold, formatted}
 use Rattle.board_model.specs.Shapes.{Size}
 use Rattle.board_model.specs.declared.boot_mode.BootMode.{BootMode}
 use Rattle.board_model.specs.declared.durable.Durable.{Durable}
+use Rattle.board_model.specs.declared.durable.Entry.{Entry}
 use Rattle.board_model.specs.declared.refusal.Refusal.{Refusal}
-use Rattle.board_model.specs.declared.refusal.Refusal.TheVariants.{Device, Memory}
+use Rattle.board_model.specs.Views.{number_of_refusal}
+use Rattle.board_model.specs.declared.refusal.Refusal.TheVariants.{Device, Down, Memory}
 use Rattle.disk.specs.Facts.{Content, Facts, Passes, Stays}
 use Rattle.store.specs.Leaves.{IsBlank, IsKept, IsMarked, LeavesEither, LeavesOnly, NoMore}
 use Rattle.store.specs.Answers.{StoreView}
@@ -19,13 +20,14 @@ use Rattle.store.specs.Standing.{StandsFor}
 use Rattle.board.specs.Begins.{RefusesBoot}
 use Rattle.board.specs.PowersOn.{IsOn, IsUnpowered}
 use Rattle.machine.specs.Machine.{Machine}
-use Rattle.board.specs.Unbooted.{doubt_after, LeavesLife}
+use Rattle.board.specs.Unbooted.{doubt_by, LeavesLife}
 use Rattle.board_model.specs.declared.boot_mode.BootMode.TheVariants as modes
-use Rattle.store.specs.Lives.{Life}
+use Rattle.store.specs.Lives.{Life, now_of}
 use Rattle.store.specs.Taken.{are_taken}
 use Rattle.shared_store.specs.Legal.{BeginsWith}
 use Rattle.board.specs.Boots.{boot_refusal, life_after}
-use Rattle.board.specs.Moments.{issued_by}
+use Rattle.board.specs.Moments.{commands_by}
+use Rattle.board.proofs.Few.{left_at}
 use Rattle.board_session.specs.Sessions.{Begins, Allows, TakesFormat, RunsOver, RefusesNew, RefusesDisk, IsOfLife}
 
 -- ---- of a format
@@ -55,34 +57,63 @@ pub kept_reads : (disk : Facts) (size : Size) → IsKept disk size → disk.may_
 unfolding IsKept
 kept_reads disk size kept may_keep = kept disk.content may_keep
 
-pub of_life_kept : (size : Size) (found : DurableState) (issued : List Change) (disk : Facts) → IsOfLife size found issued disk → (z : Size) × IsKept disk z
-of_life_kept size found issued disk is = (size, life_kept is.doubt disk size (fold found is.journal) is.left)
+pub of_life_kept : (size : Size) (found : DurableState) (issued : List Change) (told : List (ℕ × Entry)) (disk : Facts) → IsOfLife size found issued told disk → (z : Size) × IsKept disk z
+of_life_kept size found issued told disk is = (size, life_kept is.doubt disk size (fold found is.journal) is.left)
 
 -- ---- of a board that is not on
-module _ (mid left : Facts) (goes_on : GoesOn mid left) (mode : BootMode) (payloads : List (List ℕ)) where
-  pub unpowered_kept : (found : Option Durable) (e : Refusal) → IsUnpowered mode payloads found mid e left → (size : Size) → IsKept mid size → (z : Size) × IsKept left z
-  unpowered_kept None e why size kept = (size, (goes_on why.any_moment.now).1 size kept)
-  unpowered_kept (Some f) e why size kept = (why.size, life_kept (doubt_after mode e) left why.size why.state why.left)
+-- The formatted state has no image: a mode that issues a command is refused 8 there, and nothing is in doubt.
+calm : (e : Refusal) (cs : List Change) → number_of_refusal e ≡ 8 → doubt_by e cs ≡ None
+calm Down cs eight = absurd (omega (arith, eight))
+calm e cs eight = refl
 
-  pub refuses_new : (shape : Size) (found : Option Durable) (e : Refusal) → (OpenRefused mid e left → (e ≡ Device) ⊎ (e ≡ Memory)) → LeavesOnly mid shape formatted → IsUnpowered mode payloads found mid e left
+none_to_doubt : (e : Refusal) → doubt_by e [] ≡ None
+none_to_doubt Down = refl
+none_to_doubt e = refl
+
+formatted_calm : (mode : BootMode) (shape : Size) (payloads : List (List ℕ)) (e : Refusal) → RefusesBoot mode shape payloads formatted e → doubt_by e (commands_by mode formatted) ≡ None
+formatted_calm modes.Fresh shape payloads e why = none_to_doubt e
+formatted_calm modes.Keep shape payloads e why = none_to_doubt e
+formatted_calm modes.Discard shape payloads e why = calm e (commands_by modes.Discard formatted) why
+formatted_calm modes.Resume shape payloads e why = calm e (commands_by modes.Resume formatted) why
+
+-- a boot of the formatted state that is refused has left it
+formatted_left : (mode : BootMode) (shape : Size) (payloads : List (List ℕ)) (e : Refusal) (disk : Facts) → RefusesBoot mode shape payloads formatted e → LeavesLife (doubt_by e (commands_by mode formatted)) disk shape formatted → LeavesOnly disk shape formatted
+formatted_left mode shape payloads e disk why left = subst (λ (d : Option Change). LeavesLife d disk shape formatted) (formatted_calm mode shape payloads e why) left
+
+module _ (mid left : Facts) (goes_on : GoesOn mid left) (mode : BootMode) (payloads : List (List ℕ)) where
+  pub unpowered_kept : (found now : Option Durable) (e : Refusal) → IsUnpowered mode payloads found now mid e left → (size : Size) → IsKept mid size → (z : Size) × IsKept left z
+  unpowered_kept None None e why size kept = (size, (goes_on why.any_moment.now).1 size kept)
+  unpowered_kept (Some f) (Some n) e why size kept = (why.size, life_kept why.life.doubt left why.size (now_of why.life) why.left)
+  unpowered_kept None (Some n) e why size kept = absurd why
+  unpowered_kept (Some f) None e why size kept = absurd why
+
+  by_open : (e : Refusal) → (e ≡ Device) ⊎ (e ≡ Memory) → (Boot : Type 0) → (e ≡ Device) ⊎ (e ≡ Memory) ⊎ Boot
+  by_open e (inl device) Boot = inl device
+  by_open e (inr memory) Boot = inr (inl memory)
+
+  pub refuses_new : (shape : Size) (found now : Option Durable) (e : Refusal) → (OpenRefused mid e left → (e ≡ Device) ⊎ (e ≡ Memory)) → LeavesOnly mid shape formatted → IsUnpowered mode payloads found now mid e left
       → RefusesNew shape mode payloads e left
-  refuses_new shape None e opens only why =
+  refuses_new shape None None e opens only why =
       let more = goes_on why.any_moment.now in
-      inl (opens why.why, record { kept = more.1 shape only.kept; only = λ z t leaves. only.only z t (more.2 z t leaves) })
-  refuses_new shape (Some f) e opens only why =
+      (by_open e (opens why.why) (RefusesBoot mode shape payloads formatted e), record { kept = more.1 shape only.kept; only = λ z t leaves. only.only z t (more.2 z t leaves) })
+  refuses_new shape (Some f) (Some n) e opens only why =
       let is = only.only why.size why.state why.earlier in
-      inr (subst₂ (λ (z : Size) (s : DurableState). RefusesBoot mode z payloads s e) is.0 is.1 why.why, subst₂ (λ (z : Size) (s : DurableState). LeavesLife (doubt_after mode e) left z s) is.0 is.1 why.left)
+      let refused : RefusesBoot mode shape payloads formatted e = subst₂ (λ (z : Size) (s : DurableState). RefusesBoot mode z payloads s e) is.0 is.1 why.why in
+      let at = left_at mode e why.state why.life left why.size why.stopped why.left in
+      (inr (inr refused), formatted_left mode shape payloads e left refused (subst₂ (λ (z : Size) (s : DurableState). LeavesLife (doubt_by e (commands_by mode s)) left z s) is.0 is.1 at))
+  refuses_new shape None (Some n) e opens only why = absurd why
+  refuses_new shape (Some f) None e opens only why = absurd why
 
   -- by whether a new disk was asked for
-  module _ (old : Facts) (shape : Size) (found : Option Durable) (e : Refusal) (why : IsUnpowered mode payloads found mid e left) where
-    pub refuses_disk : (new : Bool) → (new ≡ true → TakesFormat shape old.content) → (new ≡ true → LeavesOnly mid shape formatted) → (new ≡ false → IsUnpowered mode payloads found old e left)
+  module _ (old : Facts) (shape : Size) (found now : Option Durable) (e : Refusal) (why : IsUnpowered mode payloads found now mid e left) where
+    pub refuses_disk : (new : Bool) → (new ≡ true → TakesFormat shape old.content) → (new ≡ true → LeavesOnly mid shape formatted) → (new ≡ false → IsUnpowered mode payloads found now old e left)
         → ((size : Size) → IsKept mid size → OpenRefused mid e left → (e ≡ Device) ⊎ (e ≡ Memory)) → RefusesDisk new shape mode payloads old e left
-    refuses_disk true takes only was opens = inr (takes refl, refuses_new shape found e (opens shape (only refl).kept) (only refl) why)
-    refuses_disk false takes only was opens = (found, was refl)
+    refuses_disk true takes only was opens = inr (takes refl, refuses_new shape found now e (opens shape (only refl).kept) (only refl) why)
+    refuses_disk false takes only was opens = (found, now, was refl)
 
     pub kept_off : (new : Bool) → (new ≡ true → LeavesOnly mid shape formatted) → (new ≡ false → (size : Size) → IsKept old size → IsKept mid size) → (size : Size) → IsKept old size → (z : Size) × IsKept left z
-    kept_off true only same size kept = unpowered_kept found e why shape (only refl).kept
-    kept_off false only same size kept = unpowered_kept found e why size (same refl size kept)
+    kept_off true only same size kept = unpowered_kept found now e why shape (only refl).kept
+    kept_off false only same size kept = unpowered_kept found now e why size (same refl size kept)
 
 -- a format that was refused, of a new disk
 pub format_refuses : (new : Bool) (shape : Size) (mode : BootMode) (payloads : List (List ℕ)) (old left : Facts) (e : Refusal) → new ≡ true → FormatRefused old shape e left → WritesHead old left → RefusesDisk new shape mode payloads old e left
@@ -105,7 +136,7 @@ begins true shape mode payloads old mid store machine only same on =
 begins false shape mode payloads old mid store machine only same on = subst (λ (c : Content). StandsFor c store.size store.life.found) (same refl) on.reads
 
 -- the journal that a boot begins with
-pub boot_taken : (mode : BootMode) (s : DurableState) → boot_refusal s mode ≡ None → are_taken s (option_to_list (issued_by mode)) ≡ true
+pub boot_taken : (mode : BootMode) (s : DurableState) → boot_refusal s mode ≡ None → are_taken s (commands_by mode s) ≡ true
 boot_taken modes.Fresh s free = refl
 boot_taken modes.Keep s free = refl
 boot_taken modes.Discard s free = ap (λ (o : Option ℕ). is_none o && true) free
@@ -115,15 +146,9 @@ boot_taken modes.Resume s free = ap (λ (o : Option ℕ). is_none o && true) fre
 pub life_taken : (mode : BootMode) (life : Life) → life ≡ life_after mode life.found → boot_refusal life.found mode ≡ None → are_taken life.found life.journal ≡ true
 life_taken mode life is free = subst (λ (cs : List Change). are_taken life.found cs ≡ true) (sym (ap (λ (x : Life). x.journal) is)) (boot_taken mode life.found free)
 
-pub life_issued : (mode : BootMode) (life : Life) → life ≡ life_after mode life.found → life.journal ≡ option_to_list (issued_by mode)
+pub life_issued : (mode : BootMode) (life : Life) → life ≡ life_after mode life.found → life.journal ≡ commands_by mode life.found
 life_issued mode life is = ap (λ (x : Life). x.journal) is
 
 -- what the boot's command makes a journal begin with
 pub begins_so : (issued journal : List Change) → BeginsWith issued journal → (later : List Change) × (journal ≡ issued ++ later)
 begins_so issued journal begins = (drop (length issued) journal, sym (take-append-drop (length issued) journal) ∙ ap (λ (cs : List Change). cs ++ drop (length issued) journal) begins)
-
-pub few_issued : (mode : BootMode) → length (option_to_list (issued_by mode)) ≤ 1
-few_issued modes.Fresh = omega arith
-few_issued modes.Keep = omega arith
-few_issued modes.Discard = omega arith
-few_issued modes.Resume = omega arith

@@ -1,16 +1,15 @@
 -- What a session makes of its disk: over which disks its board runs, why it is refused before any thread, and
 -- what the disk that it gives back stands for. Source: docs/CONSOLE.md, "Statuses and faults".
-use Rattle.std.specs.Prelude.{◌≡◌, ◌⊎◌, ◌≤◌, ℕ, Bool, true, false, List, ◌++◌, Option, Some, None, Result, Ok, Err, length}
+use Rattle.std.specs.Prelude.{◌≡◌, ◌⊎◌, ◌≤◌, ℕ, Bool, true, false, List, [], ◌∷◌, ◌++◌, All, Option, Some, None, Result, Ok, Err, length}
 use Rattle.std.specs.Option.{option_to_list}
 use Rattle.board_model.specs.Durable.{DurableState, Change, formatted, fold, refusal_of}
 use Rattle.board_model.specs.Shapes.{Size, sectors_of}
 use Rattle.board_model.specs.declared.boot_mode.BootMode.{BootMode}
 use Rattle.board_model.specs.declared.durable.Durable.{Durable}
+use Rattle.board_model.specs.declared.durable.Entry.{Entry}
 use Rattle.board_model.specs.declared.refusal.Refusal.{Refusal}
 use Rattle.board_model.specs.declared.refusal.Refusal.TheVariants.{Device, Memory, Output}
 use Rattle.disk.specs.Facts.{Content, Facts}
-use Rattle.simdisk.specs.declared.SimDisk.{SimDisk}
-use Rattle.simdisk.specs.contracts.device.SimDiskDisk.TheImpl as sim_disk
 use Rattle.store.specs.Formats.{WritesHead}
 use Rattle.store.specs.Leaves.{IsMarked, LeavesOnly}
 use Rattle.store.specs.Opens.{FormatRefused}
@@ -18,16 +17,15 @@ use Rattle.store.specs.Standing.{StandsFor}
 use Rattle.store.specs.Taken.{are_taken}
 use Rattle.board.specs.Begins.{RefusesBoot}
 use Rattle.board.specs.Boots.{boot_refusal, PayloadsFit}
-use Rattle.board.specs.Moments.{issued_by}
+use Rattle.board.specs.Moments.{commands_by}
 use Rattle.board.specs.PowersOn.{IsUnpowered}
-use Rattle.board.specs.Unbooted.{doubt_after, LeavesLife}
-use Rattle.board_console.specs.Dialogues.{DialogueEnds, Talks}
+use Rattle.board.specs.Unbooted.{LeavesLife}
+use Rattle.receipts.specs.Settled.{AreReceiptsOf}
+use Rattle.shared_store.specs.Noted.{boot_told, entries_in}
+use Rattle.hart_threads.specs.Threads.{ends_life}
+use Rattle.board_console.specs.Dialogues.{DialogueEnds, Talks, dialogue_ends}
 use Rattle.board_console.specs.declared.talks.Left.{Left}
 use Rattle.board_console.specs.declared.talks.Left.TheVariants as lefts
-
--- the facts of a disk in memory
-abbrev pub facts : SimDisk → Facts
-facts disk = sim_disk.ghosts.facts disk
 
 -- ---- over which disks a board runs
 -- that state allows the mode, and all payloads fit
@@ -46,18 +44,19 @@ RunsOver false shape mode payloads c =
     (size : Size) × (s : DurableState) × StandsFor c size s × Allows size s mode payloads
 
 -- ---- why none runs
--- a new disk was formatted, and then refused by the open, by 5 or 11, or by the boot; what a crash then leaves
+-- A new disk was formatted, and then refused by the open, by 5 or 11, or by the boot. A crash leaves what the
+-- format made: where a boot of the formatted state is refused, no command went to the disk.
 abbrev pub RefusesNew : Size → BootMode → List (List ℕ) → Refusal → Facts → Type 0
 RefusesNew shape mode payloads e new =
-    (((e ≡ Device) ⊎ (e ≡ Memory)) × LeavesOnly new shape formatted)
-    ⊎ (RefusesBoot mode shape payloads formatted e × LeavesLife (doubt_after mode e) new shape formatted)
+    ((e ≡ Device) ⊎ (e ≡ Memory) ⊎ RefusesBoot mode shape payloads formatted e) × LeavesOnly new shape formatted
 
 -- The first refusal of the disk, in the order format, open, boot; and the disk then.
 abbrev pub RefusesDisk : Bool → Size → BootMode → List (List ℕ) → Facts → Refusal → Facts → Type 0
 RefusesDisk true shape mode payloads old e new =
     (FormatRefused old shape e new × WritesHead old new)
     ⊎ (TakesFormat shape old.content × RefusesNew shape mode payloads e new)
-RefusesDisk false shape mode payloads old e new = (found : Option Durable) × IsUnpowered mode payloads found old e new
+RefusesDisk false shape mode payloads old e new =
+    (found now : Option Durable) × IsUnpowered mode payloads found now old e new
 
 -- the same, of a session that ended so
 abbrev pub RefusesSession : Bool → Size → BootMode → List (List ℕ) → Facts → Result (Unit {0}) Refusal → Facts → Type 0
@@ -71,12 +70,29 @@ abbrev pub Begins : Bool → Size → Content → Size → DurableState → Type
 Begins true shape c size s = (size ≡ shape) × (s ≡ formatted)
 Begins false shape c size s = StandsFor c size s
 
--- The disk of a life that began in that state and has ended. Its journal begins with what the boot issued, and is
--- of commands that the table takes, one after another from there. A crash leaves the state that they make of it, or
+-- the receipts of the harts, each of which has one at most
+abbrev pub hart_receipts : List (Option (ℕ × Entry)) → List (ℕ × Entry)
+hart_receipts [] = []
+hart_receipts (told ∷ harts) = option_to_list told ++ hart_receipts harts
+
+-- Who was told the receipts of a journal: the boot those of the commands that it issued, the console its own, and
+-- each hart of the board the one of the reset or suspension that ended the life, if it was told one. They are those of the
+-- journal's commands: each command stands at the place of its receipt, each has one, and none has two.
+pub record IsAcknowledged (size : Size) (issued journal : List Change) (console : List (ℕ × Entry)) : Type 0 where
+  pub harts : List (Option (ℕ × Entry))
+  pub many : length harts ≡ size.harts
+  pub each : All (λ told. ends_life told ≡ true) harts
+  pub receipts : AreReceiptsOf (entries_in journal) (boot_told issued ++ (console ++ hart_receipts harts))
+
+-- The disk of a life that began in that state and has ended, of which the console was told those receipts. Its
+-- journal begins with what the boot issued, and is of commands that the table takes, one after another from there:
+-- just those that were acknowledged, in the order of their receipts. A crash leaves the state that they make of it, or
 -- with a command in doubt, which the table does not refuse, that state or the one after it; and a read gives one of
 -- them.
-pub record IsOfLife (size : Size) (found : DurableState) (issued : List Change) (disk : Facts) : Type 0 where
+pub record IsOfLife (size : Size) (found : DurableState) (issued : List Change) (console : List (ℕ × Entry))
+    (disk : Facts) : Type 0 where
   pub journal : List Change
+  pub acknowledged : IsAcknowledged size issued journal console
   pub begun : (later : List Change) × (journal ≡ issued ++ later)
   pub taken : are_taken found journal ≡ true
   pub doubt : Option Change
@@ -98,12 +114,13 @@ outcome_of (Some lefts.EndOfInput) = Ok tt
 outcome_of (Some lefts.Unwritten) = Err Output
 
 -- The board was on, over a disk that allows it. The disk given back is that of the life that it then began, and what
--- was read and answered is of that life.
+-- was read and answered is of that life, with its receipts.
 pub record RanOver (new : Bool) (shape : Size) (mode : BootMode) (payloads : List (List ℕ)) (old disk : Facts)
-    (left : Option Left) (a b : DialogueEnds) : Type 0 where
+    (left : Option Left) (a : DialogueEnds) (input output : Option (List ℕ)) : Type 0 where
   pub allowed : RunsOver new shape mode payloads old.content
   pub size : Size
   pub found : DurableState
   pub begins : Begins new shape old.content size found
-  pub life : IsOfLife size found (option_to_list (issued_by mode)) disk
-  pub talks : TalksIf found left a b
+  pub console : List (ℕ × Entry)
+  pub life : IsOfLife size found (commands_by mode found) console disk
+  pub talks : TalksIf found left a (dialogue_ends input output console)

@@ -1,30 +1,36 @@
 //! A board from its power-on to the end of its threads.
 
-ghost use Rattle.std.specs.Prelude.{◌≡◌, ◌⊎◌, ◌≤◌, length, Some, None, true, false, OnOk, IfOk, IfErr, MatchResult};
+ghost use Rattle.std.specs.Prelude.{◌≡◌, ◌⊎◌, ◌≤◌, ◌+◌, ℕ, List, [], All, length, Some, None, true, false, OnOk, IfOk, IfErr, MatchResult, vec_len};
 ghost use Rattle.std.specs.Option.{option_to_list};
 ghost use Rattle.board_model.specs.Durable.{formatted};
 ghost use Rattle.board_model.specs.Shapes.{Size};
+ghost use Rattle.board_model.specs.declared.durable.Entry.{Entry};
+ghost use Rattle.board_model.specs.declared.refusal.Refusal.TheVariants.{Memory};
+ghost use Rattle.receipts.specs.Views.{id_of, parts_of};
+ghost use Rattle.shared_store.specs.Noted.{boot_told};
+ghost use Rattle.shared_store.specs.Views.{parts_with};
 ghost use Rattle.store.specs.Formats.{WritesHead};
 ghost use Rattle.store.specs.Leaves.{IsIdle, IsKept, LeavesOnly};
 ghost use Rattle.store.specs.Opens.{FormatRefused};
 ghost use Rattle.store.specs.Views.{size_of_store, found_state, journal_of};
 ghost use Rattle.machine.specs.Held.{IsHeld};
 ghost use Rattle.board.specs.Begins.{IsBegun};
-ghost use Rattle.board.specs.Moments.{issued_by};
+ghost use Rattle.board.specs.Moments.{commands_by};
 ghost use Rattle.board.specs.Views.{store_of, machine_of};
 ghost use Rattle.store.specs.Taken.{are_taken};
 ghost use Rattle.board_console.specs.Dialogues.{Talks, dialogue_ends};
-ghost use Rattle.board_session.specs.Sessions.{facts, TakesFormat, RunsOver, RefusesDisk, RefusesSession, Begins, IsOfLife, RanOver, TalksIf, outcome_of};
+ghost use Rattle.board_session.specs.Backs.{AreBack};
+ghost use Rattle.board_session.specs.Sessions.{TakesFormat, RunsOver, RefusesDisk, RefusesSession, Begins, IsOfLife, RanOver, TalksIf, outcome_of};
 
+use crate::ends::{disk_at_once, disk_of};
 use crate::gate::UntilQuit;
 use board::{Board, Parts, Payloads};
 use board_console::{Left, console};
 use board_model::{Refusal, Shape};
 use board_options::Options;
 use disk::Disk;
-use hart_threads::drive;
-use shared_store::{Journal, SharedStore};
-use simdisk::SimDisk;
+use hart_threads::{Ended, Undriven, drive};
+use shared_store::{Journal, NewBook, Part, SharedStore, Unshared};
 use std::alloc::Global;
 use std::io::{Read, Write};
 use std::marker::Brand;
@@ -34,9 +40,9 @@ use store::{format, kept_disks};
 
 /// What a session gives back.
 #[derive(Drop)]
-pub struct SessionEnd<I: Read + Drop, W: Write + Drop> {
+pub struct SessionEnd<D: Disk + Drop, I: Read + Drop, W: Write + Drop> {
     /// The disk, as the session leaves it.
-    pub disk: SimDisk,
+    pub disk: D,
     /// Why it was refused, if it was.
     pub ran: Result<(), Refusal>,
     /// What the console left of its input.
@@ -47,74 +53,80 @@ pub struct SessionEnd<I: Read + Drop, W: Write + Drop> {
     pub left: Option<Left>,
 }
 
-/// The input and the output of a console.
+/// The input and the output of a console, and its part of the receipts.
 #[derive(Drop)]
-struct Ends<I: Read + Drop, W: Write + Drop> {
+struct Ends<J: Journal, I: Read + Drop, W: Write + Drop> {
     input: I,
     out: W,
+    part: Part<J>,
 }
 
 /// A console that has left.
 #[derive(Drop)]
-struct Talked<I: Read + Drop, W: Write + Drop> {
-    ends: Ends<I, W>,
+struct Talked<J: Journal, I: Read + Drop, W: Write + Drop> {
+    ends: Ends<J, I, W>,
     left: Left,
 }
 
 /// The console beside the harts. The gate is shut after `quit`, and where an answer could not be written; at
 /// the end of input the harts run out their turns.
-fn attend<R: Wait, J: Journal, I: Read + Drop, W: Write + Drop>(
+fn attend<R: Wait, D: Disk + Drop, J: Journal, I: Read + Drop, W: Write + Drop>(
     rt: &R,
-    store: &Mutex<SharedStore<SimDisk, J>>,
+    store: &Mutex<SharedStore<D, J>>,
     gate: &UntilQuit,
-    ends: Ends<I, W>,
-) -> Talked<I, W>
-    ensures { Talks J.found result.left (dialogue_ends (I.remaining ends.input) (W.contents ends.out))
-        (dialogue_ends (I.remaining result.ends.input) (W.contents result.ends.out)) }
+    ends: Ends<J, I, W>,
+) -> Talked<J, I, W>
+    ensures { Talks J.found result.left
+        (dialogue_ends (I.remaining ends.input) (W.contents ends.out) ends.part.told)
+        (dialogue_ends (I.remaining result.ends.input) (W.contents result.ends.out) result.ends.part.told) }
 {
-    let Ends { mut input, mut out } = ends;
-    let left = console(rt, store, &mut input, &mut out);
+    let Ends {
+        mut input,
+        mut out,
+        part,
+    } = ends;
+    let (part, left) = console(rt, store, part, &mut input, &mut out);
     match left {
         Left::Quit | Left::Unwritten => gate.shut(),
         Left::EndOfInput => {}
     }
     Talked {
-        ends: Ends { input, out },
+        ends: Ends { input, out, part },
         left,
     }
 }
 
-/// Whether the session was refused, by why its console left: by `Output`, where an answer could not be
-/// written.
-fn outcome(left: Left) -> Result<(), Refusal>
-    ensures { result ≡ outcome_of (Some left) }
+/// Whether the session was refused, by why its console left: `Memory` where it was not begun, and `Output` where
+/// an answer could not be written.
+fn outcome(left: Option<Left>) -> Result<(), Refusal>
+    ensures { result ≡ outcome_of left }
 {
     match left {
-        Left::Quit | Left::EndOfInput => Ok(()),
-        Left::Unwritten => Err(Refusal::Output),
+        Some(Left::Quit | Left::EndOfInput) => Ok(()),
+        Some(Left::Unwritten) => Err(Refusal::Output),
+        None => Err(Refusal::Memory),
     }
-}
-
-/// The disk of a store whose life ends here.
-fn disk_of<D: Disk + Drop, J: Journal>(store: SharedStore<D, J>) -> D
-    ensures none_out { IsIdle (D.facts result) }
-    ensures left { IsOfLife J.size J.found J.issued (D.facts result) }
-{
-    store.into_store().into_disk()
 }
 
 /// Runs the harts of a board on threads and the console beside them, and gives back the disk, the input and
 /// the output. Refused `Memory` where a thread could not be started, and `Output` where an answer could not be
-/// written.
-fn operate<J: Journal + Send + Sync, R: Threads + Wait + Sync, I: Read + Drop, W: Write + Drop>(
+/// written. The book of receipts has a part for each hart, one for the console and one for the boot.
+fn operate<
+    D: Disk + Drop + Send,
+    J: Journal + Send + Sync,
+    R: Threads + Wait + Sync,
+    I: Read + Drop,
+    W: Write + Drop,
+>(
     rt: &R,
     alloc: Global,
-    parts: Parts<SimDisk>,
+    parts: Parts<D>,
+    book: NewBook,
     shape: &Shape,
     turns: u64,
     input: I,
     out: W,
-) -> SessionEnd<I, W>
+) -> SessionEnd<D, I, W>
     requires held { IsHeld shape.now parts.harts.items parts.tables (Some parts.seats) }
     requires shape { shape.now ≡ J.size }
     requires board { size_of_store parts.store ≡ J.size }
@@ -122,11 +134,15 @@ fn operate<J: Journal + Send + Sync, R: Threads + Wait + Sync, I: Read + Drop, W
     requires issued { journal_of parts.store ≡ J.issued }
     requires taken { are_taken J.found J.issued ≡ true }
     requires few { length J.issued ≤ 1 }
-    ensures none_out { IsIdle (facts result.disk) }
-    ensures left { IsOfLife J.size J.found J.issued (facts result.disk) }
+    requires book { id_of book ≡ J.book }
+    requires count { parts_of book ≡ J.parts }
+    requires all { J.parts ≡ J.size.harts + 2 }
+    requires harts { vec_len parts.harts ≡ J.size.harts }
+    ensures none_out { IsIdle (D.facts result.disk) }
+    ensures left { (console : List (ℕ × Entry)) × IsOfLife J.size J.found J.issued console (D.facts result.disk)
+        × TalksIf J.found result.left (dialogue_ends (I.remaining input) (W.contents out) [])
+        (dialogue_ends (I.remaining result.input) (W.contents result.out) console) }
     ensures ran { result.ran ≡ outcome_of result.left }
-    ensures talks { TalksIf J.found result.left (dialogue_ends (I.remaining input) (W.contents out))
-        (dialogue_ends (I.remaining result.input) (W.contents result.out)) }
     ensures unheard { result.left ≡ None → (result.input ≡ input) × (result.out ≡ out) }
 {
     let Parts {
@@ -136,8 +152,14 @@ fn operate<J: Journal + Send + Sync, R: Threads + Wait + Sync, I: Read + Drop, W
         ram,
         store,
     } = parts;
+    let (mut whole, boot) = Unshared::<D, J>::new(store, book);
+    let part = whole.hand_out();
+    let ends = Ends { input, out, part };
+    let Ok(given) = whole.hand_out_all(alloc, harts.len()) else {
+        return over(whole, Vec::new(alloc), Vec::new(alloc), ends, boot, None);
+    };
     let bus = Mutex::new(ram);
-    let store: Mutex<SharedStore<SimDisk, J>> = Mutex::new(SharedStore::new(store));
+    let store: Mutex<SharedStore<D, J>> = Mutex::new(whole.share());
     let gate = UntilQuit::new();
     let crew = crew::Threads::new(rt);
     let (shared, shut) = (&store, &gate);
@@ -153,48 +175,77 @@ fn operate<J: Journal + Send + Sync, R: Threads + Wait + Sync, I: Read + Drop, W
         &store,
         &crew,
         turns,
-        Ends { input, out },
-        move |ends: Ends<I, W>| -> Talked<I, W>
-            ensures { Talks J.found result.left (dialogue_ends (I.remaining ends.input) (W.contents ends.out))
-                (dialogue_ends (I.remaining result.ends.input) (W.contents result.ends.out)) }
+        given,
+        ends,
+        move |ends: Ends<J, I, W>| -> Talked<J, I, W>
+            ensures { Talks J.found result.left
+                (dialogue_ends (I.remaining ends.input) (W.contents ends.out) ends.part.told)
+                (dialogue_ends (I.remaining result.ends.input) (W.contents result.ends.out) result.ends.part.told) }
         { attend(rt, shared, shut, ends) },
     );
-    let disk = disk_of(store.into_inner());
+    let whole = store.into_inner().unshare();
     match driven {
-        Ok((_loops, Talked { ends, left })) => {
-            let Ends { input, out } = ends;
-            let ran = outcome(left);
-            SessionEnd {
-                disk,
-                ran,
-                input,
-                out,
-                left: Some(left),
-            }
+        Ok(done) => {
+            let (loops, talked) = done;
+            let Talked { ends, left } = talked;
+            over(whole, loops, Vec::new(alloc), ends, boot, Some(left))
         }
-        Err((Ends { input, out }, refusal)) => SessionEnd {
-            disk,
-            ran: Err(refusal),
-            input,
-            out,
-            left: None,
-        },
+        Err(undriven) => {
+            let Undriven {
+                ends,
+                refusal: _,
+                loops,
+                parts,
+            } = undriven;
+            over(whole, loops, parts, ends, boot, None)
+        }
+    }
+}
+
+/// What a session gives back once all threads have ended, or where none has begun.
+fn over<D: Disk + Drop, J: Journal, I: Read + Drop, W: Write + Drop>(
+    whole: Unshared<D, J>,
+    loops: Vec<Ended<J>>,
+    parts: Vec<Part<J>>,
+    ends: Ends<J, I, W>,
+    boot: Part<J>,
+    left: Option<Left>,
+) -> SessionEnd<D, I, W>
+    requires back { AreBack (parts_with whole) }
+    requires fresh { All (λ p. p.told ≡ []) parts.items }
+    requires harts { length (parts_with whole) + vec_len loops + vec_len parts ≡ J.size.harts }
+    requires boot { boot.told ≡ boot_told J.issued }
+    requires all { J.parts ≡ J.size.harts + 2 }
+    ensures none_out { IsIdle (D.facts result.disk) }
+    ensures life { IsOfLife J.size J.found J.issued ends.part.told (D.facts result.disk) }
+    ensures ends { (result.input ≡ ends.input) × (result.out ≡ ends.out) }
+    ensures left { result.left ≡ left }
+    ensures ran { result.ran ≡ outcome_of left }
+{
+    let Ends { input, out, part } = ends;
+    let disk = disk_of(whole, loops, parts, part, boot);
+    SessionEnd {
+        disk,
+        ran: outcome(left),
+        input,
+        out,
+        left,
     }
 }
 
 /// The disk that a board is powered on with: formatted, where it is new. A refusal is that of the format, and
 /// gives the disk back.
-fn prepared(options: &Options, disk: SimDisk) -> Result<SimDisk, (SimDisk, Refusal)>
-    requires { IsIdle (facts disk) }
-    ensures new { OnOk result (options.now.new ≡ true → TakesFormat options.now.shape (facts disk).content) }
-    ensures formatted { IfOk result (λ d. options.now.new ≡ true → LeavesOnly (facts d) options.now.shape formatted) }
+fn prepared<D: Disk + Drop>(options: &Options, disk: D) -> Result<D, (D, Refusal)>
+    requires { IsIdle (D.facts disk) }
+    ensures new { OnOk result (options.now.new ≡ true → TakesFormat options.now.shape (D.facts disk).content) }
+    ensures formatted { IfOk result (λ d. options.now.new ≡ true → LeavesOnly (D.facts d) options.now.shape formatted) }
     ensures old { IfOk result (λ d. options.now.new ≡ false → d ≡ disk) }
     ensures refused { IfErr result (λ e. (options.now.new ≡ true)
-        × FormatRefused (facts disk) options.now.shape e.1 (facts e.0) × WritesHead (facts disk) (facts e.0)) }
-    ensures kept { IfErr result (λ e. (size : Size) → IsKept (facts disk) size → IsKept (facts e.0) size) }
-    ensures none_out { MatchResult result (λ d. IsIdle (facts d)) (λ e. IsIdle (facts e.0)) }
+        × FormatRefused (D.facts disk) options.now.shape e.1 (D.facts e.0) × WritesHead (D.facts disk) (D.facts e.0)) }
+    ensures kept { IfErr result (λ e. (size : Size) → IsKept (D.facts disk) size → IsKept (D.facts e.0) size) }
+    ensures none_out { MatchResult result (λ d. IsIdle (D.facts d)) (λ e. IsIdle (D.facts e.0)) }
 {
-    kept_disks::<SimDisk>();
+    kept_disks::<D>();
     if !options.new {
         return Ok(disk);
     }
@@ -207,27 +258,28 @@ fn prepared(options: &Options, disk: SimDisk) -> Result<SimDisk, (SimDisk, Refus
 
 /// The board of a session, which is on. A refusal is the first of the format's, the open's and the boot's, and
 /// gives the disk back.
-fn powered(
+fn powered<D: Disk + Drop>(
     alloc: Global,
     options: &Options,
-    disk: SimDisk,
+    disk: D,
     payloads: &Payloads,
-) -> Result<Board<SimDisk>, (SimDisk, Refusal)>
-    requires { IsIdle (facts disk) }
+) -> Result<Board<D>, (D, Refusal)>
+    requires { IsIdle (D.facts disk) }
     ensures runs { OnOk result
-        (RunsOver options.now.new options.now.shape options.now.mode payloads.now (facts disk).content) }
+        (RunsOver options.now.new options.now.shape options.now.mode payloads.now (D.facts disk).content) }
     ensures begun { IfOk result (λ b. IsBegun options.now.mode (size_of_store (store_of b)) payloads.now
         (found_state (store_of b)) (machine_of b)) }
-    ensures found { IfOk result (λ b. Begins options.now.new options.now.shape (facts disk).content
+    ensures found { IfOk result (λ b. Begins options.now.new options.now.shape (D.facts disk).content
         (size_of_store (store_of b)) (found_state (store_of b))) }
-    ensures issued { IfOk result (λ b. journal_of (store_of b) ≡ option_to_list (issued_by options.now.mode)) }
+    ensures issued { IfOk result (λ b. journal_of (store_of b)
+        ≡ commands_by options.now.mode (found_state (store_of b))) }
     ensures taken { IfOk result (λ b. are_taken (found_state (store_of b)) (journal_of (store_of b)) ≡ true) }
     ensures refused { IfErr result (λ e. RefusesDisk options.now.new options.now.shape options.now.mode payloads.now
-        (facts disk) e.1 (facts e.0)) }
-    ensures kept { IfErr result (λ e. (size : Size) → IsKept (facts disk) size → (z : Size) × IsKept (facts e.0) z) }
-    ensures none_out { IfErr result (λ e. IsIdle (facts e.0)) }
+        (D.facts disk) e.1 (D.facts e.0)) }
+    ensures kept { IfErr result (λ e. (size : Size) → IsKept (D.facts disk) size → (z : Size) × IsKept (D.facts e.0) z) }
+    ensures none_out { IfErr result (λ e. IsIdle (D.facts e.0)) }
 {
-    kept_disks::<SimDisk>();
+    kept_disks::<D>();
     let disk = match prepared(options, disk) {
         Ok(disk) => disk,
         Err(refused) => return Err(refused),
@@ -246,28 +298,29 @@ fn powered(
 /// `Memory` where a thread could not be started; `Output` where an answer could not be written, which ends
 /// the session as `quit` does. Input that fails has ended, and then the harts run out their turns. The disk,
 /// the input and the output are given back in each case.
-pub fn session<R: Threads + Wait + Sync, I: Read + Drop, W: Write + Drop>(
+pub fn session<R: Threads + Wait + Sync, D: Disk + Drop + Send, I: Read + Drop, W: Write + Drop>(
     rt: &R,
     alloc: Global,
     options: &Options,
-    disk: SimDisk,
+    disk: D,
     payloads: &Payloads,
     input: I,
     out: W,
-) -> SessionEnd<I, W>
-    requires { IsIdle (facts disk) }
-    ensures none_out { IsIdle (facts result.disk) }
+) -> SessionEnd<D, I, W>
+    requires { IsIdle (D.facts disk) }
+    ensures none_out { IsIdle (D.facts result.disk) }
     // A refusal is the first of the format's, the open's and the boot's, before any line is read or answered; or
     // the board was on over the disk that was given, and the disk given back is that of its life, to which what
-    // was read and answered belongs. It is then refused by why the console left alone.
-    ensures ended { (RefusesSession options.now.new options.now.shape options.now.mode payloads.now (facts disk)
-        result.ran (facts result.disk) × (result.left ≡ None))
-        ⊎ (RanOver options.now.new options.now.shape options.now.mode payloads.now (facts disk) (facts result.disk)
-        result.left (dialogue_ends (I.remaining input) (W.contents out))
-        (dialogue_ends (I.remaining result.input) (W.contents result.out)) × (result.ran ≡ outcome_of result.left)) }
+    // was read and answered belongs: each command of its journal was acknowledged to the boot, the console or a
+    // hart, and no other was. It is then refused by why the console left alone.
+    ensures ended { (RefusesSession options.now.new options.now.shape options.now.mode payloads.now (D.facts disk)
+        result.ran (D.facts result.disk) × (result.left ≡ None))
+        ⊎ (RanOver options.now.new options.now.shape options.now.mode payloads.now (D.facts disk) (D.facts result.disk)
+        result.left (dialogue_ends (I.remaining input) (W.contents out) []) (I.remaining result.input)
+        (W.contents result.out) × (result.ran ≡ outcome_of result.left)) }
     ensures unheard { result.left ≡ None → (result.input ≡ input) × (result.out ≡ out) }
     // Whatever it answers, a disk of which each crash leaves a state is given back as one.
-    ensures kept { (size : Size) → IsKept (facts disk) size → (z : Size) × IsKept (facts result.disk) z }
+    ensures kept { (size : Size) → IsKept (D.facts disk) size → (z : Size) × IsKept (D.facts result.disk) z }
 {
     match powered(alloc, options, disk, payloads) {
         Err((disk, refusal)) => SessionEnd {
@@ -279,15 +332,35 @@ pub fn session<R: Threads + Wait + Sync, I: Read + Drop, W: Write + Drop>(
         },
         Ok(board) => {
             let shape = board.shape();
-            operate::<Brand, R, I, W>(
-                rt,
-                alloc,
-                board.into_parts(),
-                &shape,
-                options.turns,
-                input,
-                out,
-            )
+            let parts = board.into_parts();
+            match NewBook::new(alloc, shape.harts() + 2) {
+                Ok(book) => operate::<D, Brand, R, I, W>(
+                    rt,
+                    alloc,
+                    parts,
+                    book,
+                    &shape,
+                    options.turns,
+                    input,
+                    out,
+                ),
+                Err(_) => {
+                    let Parts {
+                        harts: _,
+                        seats: _,
+                        tables: _,
+                        ram: _,
+                        store,
+                    } = parts;
+                    SessionEnd {
+                        disk: disk_at_once(store),
+                        ran: Err(Refusal::Memory),
+                        input,
+                        out,
+                        left: None,
+                    }
+                }
+            }
         }
     }
 }

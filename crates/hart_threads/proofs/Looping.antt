@@ -1,9 +1,12 @@
 -- Turns one after another.
-use Rattle.std.proofs.Common.{◌≡◌, ◌⊎◌, ◌+◌, ℕ, suc, Bool, List, Option, None, is_some, ap, true, false, arith, refl, sym, ◌∙◌, subst, inl, inr}
+use Rattle.std.proofs.Common.{◌≡◌, ◌⊎◌, ◌+◌, ℕ, suc, Bool, List, [], ◌∷◌, Option, Some, None, is_some, ap, true, false, arith, refl, sym, ◌∙◌, subst, inl, inr}
 use Rattle.board_model.specs.Shapes.{Size}
 use Rattle.board_model.specs.declared.durable.Entry.{Entry}
 use Rattle.sbi_abi.specs.declared.call.Call.{Call}
 use Rattle.shared_store.specs.Called.{IsToldBy}
+use Rattle.shared_store.specs.Noted.{part_after}
+use Rattle.receipts.specs.declared.views.PartView.{PartView}
+use Rattle.std.specs.Option.{option_to_list}
 use Rattle.sbi_abi.specs.Calls.{call_of}
 use Rattle.sbi.specs.Helds.{stage_by_held}
 use Rattle.sbi.specs.declared.dispatches.Held.{Held}
@@ -19,7 +22,7 @@ use Rattle.machine.specs.Words.{word_by}
 use Rattle.machine.specs.declared.parts.Word.{Word}
 use Rattle.machine.specs.declared.parts.Word.TheVariants.{Own, Asleep, Reset}
 use Rattle.hart_threads.specs.Seated.{StandsAfterTurn, StandsAfter}
-use Rattle.hart_threads.specs.Threads.{Seated, HeldOnce, ComesOnce, TurnOnce, TurnsOn, LoopOnce, loop_goes_on}
+use Rattle.hart_threads.specs.Threads.{Seated, HeldOnce, ComesOnce, TurnOnce, TurnsOn, LoopOnce, ends_life, loop_goes_on}
 use Rattle.hart_threads.specs.declared.loops.Why.TheVariants as whys
 
 -- ---- nothing was done yet
@@ -125,3 +128,31 @@ one_more size answers hears n a mid b word told many once on said heard =
 pub ended_life : (size : Size) (answers : ℕ → Bool → Type 0) (hears : ℕ → Type 0) (turns n : ℕ) (a mid b : Seated) (word : Word) (told : Option (ℕ × Entry)) → TurnsOn size answers hears n a mid → TurnOnce size mid b word told → loop_goes_on word ≡ false
     → answers n true → hears n → LoopOnce size answers hears turns (n + 1) a b whys.Life told
 ended_life size answers hears turns n a mid b word told many once off said heard = let e : n + 1 ≡ suc n = omega arith in (n, mid, word, e, many, once, off, said, heard)
+
+-- ---- what a receipt is of
+told_ends : (size : Size) (call : Call) (by : ℕ) (held : Held) (told : Option (ℕ × Entry)) → IsToldBy size call by held told → ends_life told ≡ true
+told_ends size call by helds.Goes told is = ap ends_life is
+told_ends size call by (helds.Reset kind) told is = ap ends_life is.2.1
+told_ends size call by helds.Asleep told is = ap ends_life is.3.1
+
+comes_ends : (size : Size) (did : Turned) (a b : Seated) (word : Word) (told : Option (ℕ × Entry)) → ComesOnce size did a b word told → ends_life told ≡ true
+comes_ends size words.Idle a b word told p = ap ends_life p.2
+comes_ends size words.Entered a b word told p = ap ends_life p.2
+comes_ends size words.Woke a b word told p = ap ends_life p.2
+comes_ends size words.Next a b word told p = ap ends_life p.2
+comes_ends size words.Suspended a b word told p = ap ends_life p.2
+comes_ends size words.Stopped a b word told p = ap ends_life p.2
+comes_ends size words.Durable a b word told p = told_ends size (call_of a.hart) a.hart.id p.0 told p.2
+
+pub turn_ends : (size : Size) (a b : Seated) (word : Word) (told : Option (ℕ × Entry)) → TurnOnce size a b word told → ends_life told ≡ true
+turn_ends size a b word told p = comes_ends size p.2 p.3 b word told p.5
+
+-- ---- a part that a turn was told nothing for
+pub kept_part : (size : Size) (a b : Seated) (word : Word) (told : Option (ℕ × Entry)) (first now next : PartView) → TurnOnce size a b word told → loop_goes_on word ≡ true → now ≡ first → next ≡ part_after told now → next ≡ first
+kept_part size a b word told first now next once on same is =
+    let none = comes_none size once.2 once.3 b word told once.5 on in
+    is ∙ (ap (λ (o : Option (ℕ × Entry)). part_after o now) none ∙ same)
+
+pub noted_fresh : (told : Option (ℕ × Entry)) (first part : PartView) → first.told ≡ [] → part ≡ part_after told first → part.told ≡ option_to_list told
+noted_fresh None first part fresh is = ap (λ (d : PartView). d.told) is ∙ fresh
+noted_fresh (Some t) first part fresh is = ap (λ (d : PartView). d.told) is ∙ ap (λ (ts : List (ℕ × Entry)). t ∷ ts) fresh

@@ -1,7 +1,9 @@
 -- A hart's turns on a thread of its own: each turn's own steps on the tables and what came of it, whatever
 -- the other threads do between two of them. Source: docs/THREADS.md; docs/BOARD.md, "A turn of a hart".
-use Rattle.std.specs.Prelude.{◌≡◌, ◌⊎◌, ◌<◌, ℕ, zero, suc, Bool, true, false, List, Option, None, Result, Ok, Err}
+use Rattle.std.specs.Prelude.{◌≡◌, ◌⊎◌, ◌<◌, ℕ, zero, suc, Bool, true, false, List, Option, Some, None, Result, Ok, Err}
+use Rattle.board_model.specs.declared.durable.Command.TheVariants as commands
 use Rattle.board_model.specs.declared.durable.Entry.{Entry}
+use Rattle.board_model.specs.declared.durable.Entry.TheVariants as entries
 use Rattle.board_model.specs.Shapes.{Size}
 use Rattle.board_model.specs.declared.durable.Reason.{Reason}
 use Rattle.hart.specs.State.{ArchState, answered}
@@ -115,3 +117,16 @@ LoopOnce size answers hears turns made a b whys.Gate told =
     TurnsOn size answers hears made a b × (made < turns) × (told ≡ None) × answers made false
 LoopOnce size answers hears turns made a b whys.Turns told =
     TurnsOn size answers hears made a b × (made ≡ turns) × (told ≡ None)
+
+-- a reset or a suspension
+abbrev pub is_end : Entry → Bool
+is_end (entries.Command (commands.Slot n)) = false
+is_end (entries.Command (commands.Reset cause)) = true
+is_end (entries.Command commands.Consume) = false
+is_end (entries.Command commands.Discard) = false
+is_end (entries.Suspend hart address opaque) = true
+
+-- the receipt that a loop has, if it has one, is that of such a command
+abbrev pub ends_life : Option (ℕ × Entry) → Bool
+ends_life None = true
+ends_life (Some t) = is_end t.1

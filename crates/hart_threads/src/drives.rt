@@ -1,6 +1,6 @@
 //! The harts' threads and the console, until all have ended.
 
-ghost use Rattle.std.specs.Prelude.{◌≡◌, ◌≤◌, ◌+◌, Some, All, IfOk, IfErr, vec_len, vec_capacity};
+ghost use Rattle.std.specs.Prelude.{◌≡◌, ◌≤◌, ◌<◌, ◌+◌, [], Some, All, IfOk, IfErr, vec_len, vec_capacity};
 ghost use Rattle.board_model.specs.declared.refusal.Refusal.TheVariants.{Memory};
 ghost use Rattle.sbi_calls.specs.Both.{AreTablesOf};
 ghost use Rattle.machine.specs.Held.{IsHeld};
@@ -14,11 +14,43 @@ use disk::Disk;
 use hart::Hart;
 use ram::Ram;
 use sbi_calls::{Seats, Tables};
-use shared_store::{Journal, SharedStore};
+use shared_store::{Journal, Part, SharedStore};
 use std::alloc::{AllocError, Global};
 use std::sync::atomic::{AtomicBool, Ordering};
 use std::sync::{Mutex, Wait};
 use std::thread::{self, JoinHandle, Threads};
+
+/// What comes back where no console could be begun.
+#[derive(Drop)]
+pub struct Undriven<J: Journal, E: Drop> {
+    /// What the console was to be given.
+    pub ends: E,
+    /// Why.
+    pub refusal: Refusal,
+    /// The loops, which have ended: of each hart, or none.
+    pub loops: Vec<Ended<J>>,
+    /// The parts that no loop had; they were told nothing.
+    pub parts: Vec<Part<J>>,
+}
+
+/// No loop was begun.
+fn unbegun<J: Journal, E: Drop>(
+    alloc: Global,
+    refusal: Refusal,
+    parts: Vec<Part<J>>,
+    ends: E,
+) -> Undriven<J, E>
+    ensures refused { (result.ends ≡ ends) × (result.refusal ≡ refusal) }
+    ensures loops { vec_len result.loops ≡ 0 }
+    ensures parts { result.parts.items ≡ parts.items }
+{
+    Undriven {
+        ends,
+        refusal,
+        loops: Vec::new(alloc),
+        parts,
+    }
+}
 
 /// Runs each hart's loop on a thread of its own, and the console on this one; returns once the console and
 /// all threads have ended.
@@ -28,9 +60,9 @@ use std::thread::{self, JoinHandle, Threads};
 /// returns by itself, and where it returns first the harts run out their turns, as far as the gate lets them.
 ///
 /// The console is given `ends`, as its input and its output, and what it gives back comes back with the loops
-/// that ended, one for each hart. Refused `Memory` where there is no room for the harts' seats, or where a
-/// thread could not be started: those that were started have then ended, the console was not called, and
-/// `ends` comes back.
+/// that ended, one for each hart. Each has one of `parts`, which were told nothing yet. Refused `Memory` where
+/// there is no room for the harts' seats, or where a thread could not be started: the loops of all harts have
+/// then ended, or none has begun, and the console was not called.
 pub fn drive<
     R: Threads + Wait + Sync,
     D: Disk + Drop + Send,
@@ -50,21 +82,26 @@ pub fn drive<
     store: &Mutex<SharedStore<D, J>>,
     crew: &crew::Threads<'_, R>,
     turns: u64,
+    parts: Vec<Part<J>>,
     ends: E,
     console: K,
-) -> Result<(Vec<Ended<J>>, T), (E, Refusal)>
+) -> Result<(Vec<Ended<J>>, T), Undriven<J, E>>
     requires console { K.IsAlwaysCallable console }
     requires board { shape.now ≡ J.size }
+    requires parts { vec_len parts ≡ vec_len harts }
+    requires fresh { All (λ p. p.told ≡ []) parts.items }
     requires held { IsHeld shape.now harts.items tables.now (Some seats) }
     ensures said { IfOk result (λ r. K.post console ends r.1) }
     ensures loops { IfOk result (λ r. vec_len r.0 ≡ vec_len harts) }
-    ensures refused { IfErr result (λ e. (e.0 ≡ ends) × (e.1 ≡ Memory)) }
+    ensures refused { IfErr result (λ e. (e.ends ≡ ends) × (e.refusal ≡ Memory)) }
+    ensures back { IfErr result (λ e. vec_len e.loops + vec_len e.parts ≡ vec_len harts) }
+    ensures fresh { IfErr result (λ e. All (λ p. p.told ≡ []) e.parts.items) }
 {
     match seat_harts(alloc, harts, seats, tables) {
         Ok(all) => run_all(
-            rt, alloc, gate, all, tables, shape, bus, store, crew, turns, ends, console,
+            rt, alloc, gate, all, tables, shape, bus, store, crew, turns, parts, ends, console,
         ),
-        Err(refusal) => Err((ends, refusal)),
+        Err(refusal) => Err(unbegun(alloc, refusal, parts, ends)),
     }
 }
 
@@ -87,41 +124,52 @@ fn run_all<
     store: &Mutex<SharedStore<D, J>>,
     crew: &crew::Threads<'_, R>,
     turns: u64,
+    parts: Vec<Part<J>>,
     ends: E,
     console: K,
-) -> Result<(Vec<Ended<J>>, T), (E, Refusal)>
+) -> Result<(Vec<Ended<J>>, T), Undriven<J, E>>
     requires console { K.IsAlwaysCallable console }
     requires board { shape.now ≡ J.size }
+    requires parts { vec_len parts ≡ vec_len all }
+    requires fresh { All (λ p. p.told ≡ []) parts.items }
     requires tables { AreTablesOf shape.now tables.now }
     requires seated { All (λ a. IsSeated tables.now a.hart.id a.seats) all.items }
     ensures said { IfOk result (λ r. K.post console ends r.1) }
     ensures loops { IfOk result (λ r. vec_len r.0 ≡ vec_len all) }
-    ensures refused { IfErr result (λ e. (e.0 ≡ ends) × (e.1 ≡ Memory)) }
+    ensures refused { IfErr result (λ e. (e.ends ≡ ends) × (e.refusal ≡ Memory)) }
+    ensures back { IfErr result (λ e. vec_len e.loops + vec_len e.parts ≡ vec_len all) }
+    ensures fresh { IfErr result (λ e. All (λ p. p.told ≡ []) e.parts.items) }
 {
     let over = AtomicBool::new(false);
     let over = &over;
     thread::scope(
         thread::scope_env(),
         rt,
-        move |scope| -> Result<(Vec<Ended<J>>, T), (E, Refusal)>
+        move |scope| -> Result<(Vec<Ended<J>>, T), Undriven<J, E>>
             requires { K.IsAlwaysCallable console × (shape.now ≡ J.size) × AreTablesOf shape.now tables.now
-                × All (λ a. IsSeated tables.now a.hart.id a.seats) all.items }
+                × All (λ a. IsSeated tables.now a.hart.id a.seats) all.items
+                × (vec_len parts ≡ vec_len all) × All (λ p. p.told ≡ []) parts.items }
             ensures { IfOk result (λ r. K.post console ends r.1 × (vec_len r.0 ≡ vec_len all))
-                × IfErr result (λ e. (e.0 ≡ ends) × (e.1 ≡ Memory)) }
+                × IfErr result (λ e. (e.ends ≡ ends) × (e.refusal ≡ Memory)
+                × (vec_len e.loops + vec_len e.parts ≡ vec_len all) × All (λ p. p.told ≡ []) e.parts.items) }
         {
-            let Ok((mut handles, loops)) = rooms::<J>(alloc, all.len()) else {
-                return Err((ends, Refusal::Memory));
+            let Ok((mut handles, mut loops)) = rooms::<J>(alloc, all.len()) else {
+                return Err(unbegun(alloc, Refusal::Memory, parts, ends));
             };
+            let mut parts = parts;
+            let mut unstarted = false;
             for acting in all {
-                let Acting { hart, seats } = acting;
+                let (hart, seats) = taken(acting, tables);
+                let part = next_part(&mut parts);
                 let started = scope.spawn(
                     move || -> Ended<J>
                         requires { (shape.now ≡ J.size) × AreTablesOf shape.now tables.now
-                            × IsSeated tables.now hart.id seats }
+                            × IsSeated tables.now hart.id seats × (part.told ≡ []) }
                     {
                         let gate = UntilOver { gate, over };
                         let ended = hart_loop(
                             rt, alloc, &gate, hart, seats, tables, shape, bus, store, crew, turns,
+                            part,
                         );
                         if ended.why == Why::Life {
                             over.store(true, Ordering::SeqCst);
@@ -129,16 +177,54 @@ fn run_all<
                         ended
                     },
                 );
-                let Ok(handle) = started else {
-                    over.store(true, Ordering::SeqCst);
-                    return Err((ends, Refusal::Memory));
-                };
-                handles.push_reserved(handle);
+                match started {
+                    Ok(handle) => handles.push_reserved(handle),
+                    // Its loop ends before its first turn.
+                    Err(refused) => {
+                        over.store(true, Ordering::SeqCst);
+                        loops.push_reserved((refused.value)());
+                        unstarted = true;
+                    }
+                }
+            }
+            if unstarted {
+                let loops = joined(rt, handles, loops);
+                let refusal = Refusal::Memory;
+                return Err(Undriven {
+                    ends,
+                    refusal,
+                    loops,
+                    parts,
+                });
             }
             let said = console(ends);
             Ok((joined(rt, handles, loops), said))
         },
     )
+}
+
+/// A hart and its seats.
+fn taken(acting: Acting, tables: &Tables) -> (Hart, Seats)
+    requires { IsSeated tables.now acting.hart.id acting.seats }
+    ensures { IsSeated tables.now result.0.id result.1 }
+{
+    let _ = tables;
+    let Acting { hart, seats } = acting;
+    (hart, seats)
+}
+
+/// One of the parts.
+fn next_part<J: Journal>(parts: &mut Vec<Part<J>>) -> Part<J>
+    requires some { 0 < vec_len parts.old }
+    requires fresh { All (λ p. p.told ≡ []) parts.old.items }
+    ensures told { result.told ≡ [] }
+    ensures fresh { All (λ p. p.told ≡ []) parts.new.items }
+    ensures rest { vec_len parts.new + 1 ≡ vec_len parts.old }
+{
+    let Some(part) = parts.pop() else {
+        unreachable!()
+    };
+    part
 }
 
 /// The threads of so many loops.
@@ -157,7 +243,7 @@ fn rooms<J: Journal + Send>(
     Ok((handles, loops))
 }
 
-/// The loops that ended, in the order of their threads.
+/// Those loops, and then those of the threads, in their order.
 fn joined<R: Threads + Wait, J: Journal + Send + Sync>(
     rt: &R,
     handles: Handles<J>,

@@ -1,10 +1,12 @@
 //! A hart's loop.
 
-ghost use Rattle.std.specs.Prelude.{◌≡◌, ◌≤◌, IsTrue, is_some};
+ghost use Rattle.std.specs.Prelude.{◌≡◌, ◌≤◌, [], true, IsTrue, is_some};
+ghost use Rattle.std.specs.Option.{option_to_list};
 ghost use Rattle.sbi_calls.specs.Both.{AreTablesOf, GivesBack, known};
+ghost use Rattle.shared_store.specs.Noted.{part_after};
 ghost use Rattle.hart_threads.specs.declared.loops.Why.TheVariants.{Life};
 ghost use Rattle.hart_threads.specs.Seated.{IsSeated, StandsAfterTurn, StandsAfter};
-ghost use Rattle.hart_threads.specs.Threads.{seated, loop_goes_on, TurnOnce, LoopOnce};
+ghost use Rattle.hart_threads.specs.Threads.{seated, loop_goes_on, ends_life, TurnOnce, LoopOnce};
 
 use crate::gates::Gate;
 use crate::once::{SharedBus, make_held};
@@ -15,7 +17,7 @@ use hart::Hart;
 use machine::{Turned, Word, word_by};
 use ram::Ram;
 use sbi_calls::{Seats, Tables};
-use shared_store::{Journal, SharedStore, Told};
+use shared_store::{Journal, Part, SharedStore, Told};
 use std::alloc::Global;
 use std::sync::{Mutex, Wait};
 use turns::turn_by_bus;
@@ -43,7 +45,11 @@ pub struct Ended<J: Journal> {
     pub why: Why,
     /// The receipt of the command that ended the life, where this loop ended with it.
     pub told: Option<Told<J>>,
+    /// Its part of the journal's receipts, which was told that one alone.
+    pub part: Part<J>,
     pub ghost receipt: { (why ≡ Life → IsTrue (is_some told)) },
+    pub ghost noted: { part.told ≡ option_to_list told },
+    pub ghost asked: { ends_life told ≡ true },
 }
 
 /// Whether the life goes on after a turn of which that is said.
@@ -68,13 +74,15 @@ fn whole_turn<R: Wait, D: Disk + Drop, J: Journal, C: Crew>(
     bus: &Mutex<Ram>,
     store: &Mutex<SharedStore<D, J>>,
     crew: &C,
-) -> (Seats, Word, Option<Told<J>>)
+    part: Part<J>,
+) -> (Seats, Word, Option<Told<J>>, Part<J>)
     requires tables { AreTablesOf shape.now tables.now }
     requires board { shape.now ≡ J.size }
     requires seated { IsSeated tables.now hart.old.id seats }
     ensures gives { GivesBack tables.entry.now hart.old.id seats result.0 }
     ensures stands { StandsAfterTurn result.1 hart.old.id result.0 }
     ensures id { hart.new.id ≡ hart.old.id }
+    ensures noted { result.3 ≡ part_after result.2 part }
     ensures once { TurnOnce shape.now (seated hart.old (known seats)) (seated hart.new (known result.0)) result.1
         result.2 }
 {
@@ -82,17 +90,17 @@ fn whole_turn<R: Wait, D: Disk + Drop, J: Journal, C: Crew>(
     let (seats, turned) = turn_by_bus(hart, seats, tables, &mut shared, shape);
     match turned {
         Turned::Durable => {
-            let (seats, held, told) = make_held(
-                rt, alloc, hart, seats, tables, shape, bus, store, crew,
+            let (seats, held, told, part) = make_held(
+                rt, alloc, hart, seats, tables, shape, bus, store, crew, part,
             );
-            (seats, word_by(held), told)
+            (seats, word_by(held), told, part)
         }
         Turned::Idle
         | Turned::Entered
         | Turned::Woke
         | Turned::Next
         | Turned::Suspended
-        | Turned::Stopped => (seats, Word::Own(turned), None),
+        | Turned::Stopped => (seats, Word::Own(turned), None, part),
     }
 }
 
@@ -103,6 +111,9 @@ fn whole_turn<R: Wait, D: Disk + Drop, J: Journal, C: Crew>(
 /// Each turn makes just its own steps on the tables and gives what those found, whatever other threads do; a
 /// step of a STARTED hart is one hold of the bus, and a durable call one of the bus and then of the store.
 /// Nothing is claimed of when a turn is made, nor that a lock is ever had.
+///
+/// `part` goes with the hart, and was told nothing yet; it comes back with the receipt of the command that ended
+/// the life, where this loop ended with it.
 pub fn hart_loop<R: Wait, G: Gate, D: Disk + Drop, J: Journal, C: Crew>(
     rt: &R,
     alloc: Global,
@@ -115,19 +126,23 @@ pub fn hart_loop<R: Wait, G: Gate, D: Disk + Drop, J: Journal, C: Crew>(
     store: &Mutex<SharedStore<D, J>>,
     crew: &C,
     turns: u64,
+    part: Part<J>,
 ) -> Ended<J>
     requires tables { AreTablesOf shape.now tables.now }
     requires board { shape.now ≡ J.size }
     requires seated { IsSeated tables.now hart.id seats }
+    requires fresh { part.told ≡ [] }
     ensures gives { GivesBack tables.entry.now hart.id seats result.seats }
     ensures stands { StandsAfter result.why hart.id result.seats }
     ensures id { result.hart.id ≡ hart.id }
+    ensures noted { result.part ≡ part_after result.told part }
     ensures range { result.made ≤ turns }
     ensures once { LoopOnce shape.now (G.answers gate.now hart.id) (G.hears gate.now hart.id) turns result.made
         (seated hart (known seats)) (seated result.hart (known result.seats)) result.why result.told }
 {
     let mut hart = hart;
     let mut seats = seats;
+    let mut part = part;
     for made in 0..turns {
         if !gate.before(hart.id(), made) {
             let why = Why::Gate;
@@ -137,12 +152,14 @@ pub fn hart_loop<R: Wait, G: Gate, D: Disk + Drop, J: Journal, C: Crew>(
                 made,
                 why,
                 told: None,
+                part,
             };
         }
-        let (next, word, told) = whole_turn(
-            rt, alloc, &mut hart, seats, tables, shape, bus, store, crew,
+        let (next, word, told, noted) = whole_turn(
+            rt, alloc, &mut hart, seats, tables, shape, bus, store, crew, part,
         );
         seats = next;
+        part = noted;
         gate.after(hart.id(), made);
         if !goes_on(word) {
             let why = Why::Life;
@@ -152,6 +169,7 @@ pub fn hart_loop<R: Wait, G: Gate, D: Disk + Drop, J: Journal, C: Crew>(
                 made: made + 1,
                 why,
                 told,
+                part,
             };
         }
     }
@@ -162,5 +180,6 @@ pub fn hart_loop<R: Wait, G: Gate, D: Disk + Drop, J: Journal, C: Crew>(
         made: turns,
         why,
         told: None,
+        part,
     }
 }

@@ -6,6 +6,7 @@ ghost use Rattle.sbi_abi.specs.Calls.{call_of};
 ghost use Rattle.sbi_calls.specs.Both.{AreTablesOf, AreSeatsOfBoth, GivesBack, Acts, known};
 ghost use Rattle.sbi.specs.Helds.{stage_by_held};
 ghost use Rattle.shared_store.specs.Called.{IsToldBy};
+ghost use Rattle.shared_store.specs.Noted.{part_after};
 ghost use Rattle.hart_threads.specs.Threads.{HeldOnce};
 
 use board_model::Shape;
@@ -15,7 +16,7 @@ use hart::{Hart, Outcome};
 use machine::Held;
 use ram::Ram;
 use sbi_calls::{Seats, Tables};
-use shared_store::{Journal, SharedStore, Told};
+use shared_store::{Journal, Part, SharedStore, Told};
 use std::alloc::Global;
 use std::sync::{Mutex, Wait};
 use turns::Bus;
@@ -50,7 +51,8 @@ pub(crate) fn make_held<R: Wait, D: Disk + Drop, J: Journal, C: Crew>(
     bus: &Mutex<Ram>,
     store: &Mutex<SharedStore<D, J>>,
     crew: &C,
-) -> (Seats, Held, Option<Told<J>>)
+    part: Part<J>,
+) -> (Seats, Held, Option<Told<J>>, Part<J>)
     requires tables { AreTablesOf shape.now tables.now }
     requires seats { AreSeatsOfBoth tables.now seats }
     requires hart { hart.old.id < shape.now.harts }
@@ -60,9 +62,10 @@ pub(crate) fn make_held<R: Wait, D: Disk + Drop, J: Journal, C: Crew>(
     ensures acts { Acts hart.old.id (stage_by_held result.1) result.0 }
     ensures id { hart.new.id ≡ hart.old.id }
     ensures told { IsToldBy shape.now (call_of hart.old) hart.old.id result.1 result.2 }
+    ensures noted { result.3 ≡ part_after result.2 part }
     ensures once { HeldOnce shape.now (call_of hart.old) hart.old hart.new (known seats) (known result.0) result.1 }
 {
     let ram = bus.lock(rt);
     let mut store = store.lock(rt);
-    store.call(alloc, hart, seats, tables, &ram, crew)
+    store.call(alloc, hart, seats, tables, &ram, crew, part)
 }

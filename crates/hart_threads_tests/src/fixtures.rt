@@ -1,23 +1,24 @@
 //! Boards that are about to be run, and gates.
 
-ghost use Rattle.std.specs.Prelude.{◌≡◌, [], Some, IfOk};
+ghost use Rattle.std.specs.Prelude.{◌≡◌, ◌+◌, [], All, Some, IfOk, IfSome};
 ghost use Rattle.store.specs.Leaves.{IsIdle};
 ghost use Rattle.store.specs.Views.{found_state};
 ghost use Rattle.machine.specs.Held.{IsHeld};
+ghost use Rattle.receipts.specs.Views.{id_of, parts_of};
 ghost use Rattle.hart_threads_tests.specs.Begun.{IsBegun};
 
 use board::{Board, Parts, Payloads};
 use board_model::{BootMode, HartId, Shape, Slot};
 use disk::Disk;
 use hart_threads::{Gate, drive};
-use shared_store::{Journal, SharedStore};
+use shared_store::{Journal, NewBook, Part, Unshared};
 use simdisk::SimDisk;
 use std::alloc::Global;
 use std::marker::Brand;
 use std::sync::{Mutex, Wait};
 use std::test::Fail;
 use std::thread::Threads;
-use store::format;
+use store::{Store, format};
 
 /// It lets every turn begin.
 #[derive(Drop)]
@@ -73,6 +74,29 @@ pub fn parts_of(
     }
 }
 
+/// One of the parts, which was told nothing.
+pub fn next_part<J: Journal>(parts: &mut Vec<Part<J>>) -> Option<Part<J>>
+    requires fresh { All (λ p. p.told ≡ []) parts.old.items }
+    ensures told { IfSome result (λ p. p.told ≡ []) }
+    ensures fresh { All (λ p. p.told ≡ []) parts.new.items }
+{
+    parts.pop()
+}
+
+/// The store of a board's parts.
+pub fn store_of(parts: Parts<SimDisk>) -> Store<SimDisk>
+    ensures { result ≡ parts.store }
+{
+    let Parts {
+        harts: _,
+        seats: _,
+        tables: _,
+        ram: _,
+        store,
+    } = parts;
+    store
+}
+
 /// Runs the harts of a board with a console that returns at once: whether all threads were had, and the disk.
 pub fn driven<R: Threads + Wait + Sync>(
     rt: &R,
@@ -86,7 +110,10 @@ pub fn driven<R: Threads + Wait + Sync>(
     requires begun { IsBegun shape.now parts.store }
     ensures { IsIdle (⟦<SimDisk as Disk>⟧.facts result.1) }
 {
-    driven_as::<Brand, R>(rt, alloc, gate, parts, shape, turns)
+    match NewBook::new(alloc, shape.harts() + 1) {
+        Ok(book) => driven_as::<Brand, R>(rt, alloc, gate, parts, book, shape, turns),
+        Err(_) => (false, store_of(parts).into_disk()),
+    }
 }
 
 /// The same, of a journal that has a name.
@@ -95,12 +122,14 @@ fn driven_as<J: Journal + Send + Sync, R: Threads + Wait + Sync>(
     alloc: Global,
     gate: &(dyn Gate + Sync),
     parts: Parts<SimDisk>,
+    book: NewBook,
     shape: &Shape,
     turns: u64,
 ) -> (bool, SimDisk)
     requires held { IsHeld shape.now parts.harts.items parts.tables (Some parts.seats) }
     requires begun { IsBegun shape.now parts.store }
     requires named { (J.size ≡ shape.now) × (J.found ≡ found_state parts.store) × (J.issued ≡ []) }
+    requires book { (id_of book ≡ J.book) × (parts_of book ≡ J.parts) × (J.parts ≡ shape.now.harts + 1) }
     ensures { IsIdle (⟦<SimDisk as Disk>⟧.facts result.1) }
 {
     let Parts {
@@ -110,8 +139,12 @@ fn driven_as<J: Journal + Send + Sync, R: Threads + Wait + Sync>(
         ram,
         store,
     } = parts;
+    let (mut whole, _boot) = Unshared::<SimDisk, J>::new(store, book);
+    let Ok(given) = whole.hand_out_all(alloc, harts.len()) else {
+        return (false, whole.settle().into_disk());
+    };
     let bus = Mutex::new(ram);
-    let store: Mutex<SharedStore<SimDisk, J>> = Mutex::new(SharedStore::new(store));
+    let store = Mutex::new(whole.share());
     let crew = crew::Threads::new(rt);
     let done = drive(
         rt,
@@ -125,8 +158,10 @@ fn driven_as<J: Journal + Send + Sync, R: Threads + Wait + Sync>(
         &store,
         &crew,
         turns,
+        given,
         (),
         |()| (),
     );
-    (done.is_ok(), store.into_inner().into_store().into_disk())
+    let all = done.is_ok();
+    (all, store.into_inner().unshare().settle().into_disk())
 }

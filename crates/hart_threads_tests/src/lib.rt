@@ -12,4 +12,6 @@ mod many;
 #[cfg(test)]
 mod meeting;
 #[cfg(test)]
-mod receipts;
+mod two_threads;
+#[cfg(test)]
+mod unheld;

@@ -1,15 +1,16 @@
 //! One loop, by how it ends.
 
-ghost use Rattle.std.specs.Prelude.{◌≡◌, [], Some};
+ghost use Rattle.std.specs.Prelude.{◌≡◌, ◌+◌, [], Some};
 ghost use Rattle.store.specs.Views.{found_state};
 ghost use Rattle.machine.specs.Held.{IsHeld};
+ghost use Rattle.receipts.specs.Views.{id_of, parts_of};
 ghost use Rattle.hart_threads_tests.specs.Begun.{IsBegun};
 
-use crate::fixtures::{Open, parts_of};
+use crate::fixtures::{Open, next_part, parts_of};
 use board::Parts;
 use board_model::{HartId, Shape};
 use hart_threads::{Acting, Gate, Why, hart_loop, seat_harts};
-use shared_store::{Journal, SharedStore};
+use shared_store::{Journal, NewBook, Unshared};
 use simdisk::SimDisk;
 use std::alloc::Global;
 use std::marker::Brand;
@@ -48,7 +49,8 @@ fn looped<R: Threads + Wait + Sync, G: Gate>(
     requires held { IsHeld shape.now parts.harts.items parts.tables (Some parts.seats) }
     requires begun { IsBegun shape.now parts.store }
 {
-    looped_as::<Brand, R, G>(rt, alloc, gate, parts, shape, turns)
+    let book = NewBook::new(alloc, shape.harts() + 1)?;
+    looped_as::<Brand, R, G>(rt, alloc, gate, parts, book, shape, turns)
 }
 
 /// The same, of a journal that has a name.
@@ -57,12 +59,14 @@ fn looped_as<J: Journal + Send + Sync, R: Threads + Wait + Sync, G: Gate>(
     alloc: Global,
     gate: &G,
     parts: Parts<SimDisk>,
+    book: NewBook,
     shape: &Shape,
     turns: u64,
 ) -> Result<Vec<End>, Fail>
     requires held { IsHeld shape.now parts.harts.items parts.tables (Some parts.seats) }
     requires begun { IsBegun shape.now parts.store }
     requires named { (J.size ≡ shape.now) × (J.found ≡ found_state parts.store) × (J.issued ≡ []) }
+    requires book { (id_of book ≡ J.book) × (parts_of book ≡ J.parts) × (J.parts ≡ shape.now.harts + 1) }
 {
     let Parts {
         harts,
@@ -71,14 +75,20 @@ fn looped_as<J: Journal + Send + Sync, R: Threads + Wait + Sync, G: Gate>(
         ram,
         store,
     } = parts;
+    let (mut whole, _boot) = Unshared::<SimDisk, J>::new(store, book);
+    let mut given = whole.hand_out_all(alloc, harts.len())?;
     let bus = Mutex::new(ram);
-    let store: Mutex<SharedStore<SimDisk, J>> = Mutex::new(SharedStore::new(store));
+    let store = Mutex::new(whole.share());
     let crew = crew::Threads::new(rt);
     let mut ends = Vec::new(alloc);
     for acting in seat_harts(alloc, harts, seats, &tables)? {
         let Acting { hart, seats } = acting;
+        let part = match next_part(&mut given) {
+            Some(part) => part,
+            None => Err("a part for each hart")?,
+        };
         let ended = hart_loop(
-            rt, alloc, gate, hart, seats, &tables, shape, &bus, &store, &crew, turns,
+            rt, alloc, gate, hart, seats, &tables, shape, &bus, &store, &crew, turns, part,
         );
         let receipt = ended.told.map(|told| told.number());
         ends.push((ended.made, ended.why, ended.hart.pc(), receipt))?;

@@ -13,6 +13,10 @@ use Rattle.sbi.specs.declared.dispatches.Held.TheVariants as helds
 use Rattle.store.specs.Taken.{are_taken}
 use Rattle.shared_store.specs.Legal.{BeginsWith, IsToldOf}
 use Rattle.shared_store.proofs.Naming.{begins_on, begins_still}
+use Rattle.tallies.specs.Logs.{Log}
+use Rattle.receipts.specs.Books.{entries_of}
+use Rattle.shared_store.specs.Noted.{entry_in, entries_in}
+use Rattle.shared_store.proofs.Noting.{entry_of_change, number, tied_on}
 use Rattle.shared_store.specs.Called.{AddsBy, IsLastOf, IsToldBy, added}
 
 pub one_longer : (xs ys : List Change) (c : Change) → ys ≡ xs ++ c ∷ [] → length ys ≡ length xs + 1
@@ -106,3 +110,30 @@ receipt_of size call by helds.Asleep old new (Some t) more adds some none =
     let is = last_is old new (Suspend by adds.0 adds.1 adds.2) t.0 t.1 adds.4 some in
     (adds.0, adds.1, adds.3, (t.0, ap (λ (e : Entry). Some (t.0, e)) (suspend_is t.1 is.0 by adds.0 adds.1 adds.2 is.1)))
 receipt_of size call by helds.Asleep old new None more adds some none = absurd (empty_no old new (Suspend by adds.0 adds.1 adds.2) adds.4 (none refl))
+
+-- ---- the book stays the journal's
+one_more : (size : Size) (call : Call) (by : ℕ) (held : Held) (old new : List Change) → (added held ≡ 0 → ⊥) → AddsBy size call by held old new → (c : Change) × (new ≡ old ++ c ∷ [])
+one_more size call by helds.Goes old new some_of adds = absurd (some_of refl)
+one_more size call by (helds.Reset type) old new some_of adds = (Reset adds.0, adds.2)
+one_more size call by helds.Asleep old new some_of adds = (Suspend by adds.0 adds.1 adds.2, adds.4)
+
+pub tied_after : (size : Size) (call : Call) (by : ℕ) (held : Held) (old new : List Change) (log : Log Entry) (n : ℕ) (entry : Entry) (who : ℕ) → (added held ≡ 0 → ⊥) → AddsBy size call by held old new → IsLastOf new n entry
+    → entries_in old ≡ entries_of log → entries_in new ≡ entries_of ((who, entry) ∷ log)
+tied_after size call by held old new log n entry who some_of adds last tied =
+    let one = one_more size call by held old new some_of adds in
+    let is = last_is old new one.0 n entry one.1 last in
+    tied_on old new log one.0 entry who tied (sym (ap entry_in is.1) ∙ entry_of_change entry is.0) one.1
+
+pub place_after : (size : Size) (call : Call) (by : ℕ) (held : Held) (old new : List Change) (log : Log Entry) (n : ℕ) → (added held ≡ 0 → ⊥) → AddsBy size call by held old new → n ≡ length new → entries_in old ≡ entries_of log → n ≡ suc (length log)
+place_after size call by held old new log n some_of adds is tied =
+    let one = one_more size call by held old new some_of adds in
+    let longer = one_longer old new one.0 one.1 in
+    number old log n tied (is ∙ longer)
+
+pub none_added : (size : Size) (call : Call) (by : ℕ) (held : Held) (old new : List Change) → added held ≡ 0 → AddsBy size call by held old new → new ≡ old
+none_added size call by helds.Goes old new none adds = adds
+none_added size call by (helds.Reset type) old new none adds = let no : ⊥ = omega (arith, none) in absurd no
+none_added size call by helds.Asleep old new none adds = let no : ⊥ = omega (arith, none) in absurd no
+
+pub some_not_none : (t : ℕ × Entry) → Some t ≡ None → ⊥
+some_not_none t e = cc

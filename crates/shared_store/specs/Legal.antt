@@ -15,10 +15,6 @@ use Rattle.store.specs.Taken.{are_taken}
 use Rattle.store.specs.Views.{size_of_store, life_of}
 use Rattle.store.specs.declared.stores.Store.{Store}
 
--- a size, for want of a better
-abbrev pub one_page : Size
-one_page = record { harts = 1; pages = 1; lanes = 1 }
-
 -- a journal begins with those commands
 abbrev pub BeginsWith : List Change → List Change → Type 0
 BeginsWith issued journal = take (length issued) journal ≡ issued

@@ -1,10 +1,20 @@
--- The store that a named one holds.
+-- What a contract sees of a store that is shared, and of one that is not.
 use Rattle.disk.specs.declared.device.Disk.{Ghosts}
 use Rattle.disk.specs.declared.device.Lane.{Ghosts as Lanes}
 use Rattle.store.specs.declared.stores.Store.{Store}
-use Rattle.shared_store.specs.declared.journal.Journal.{Ghosts as Named}
+use Rattle.receipts.specs.declared.journal.Journal.{Ghosts as Named}
+use Rattle.std.specs.Prelude.{List}
+use Rattle.receipts.specs.declared.views.PartView.{PartView}
 use Rattle.shared_store.specs.declared.shared.SharedStore.{SharedStore}
+use Rattle.shared_store.specs.declared.unshared.Unshared.{Unshared}
 
 module _ {D J L : Type 0} {g : Ghosts D L} {j : Named J} {l : Lanes L} where
   abbrev pub store_in : SharedStore D J L g l j → Store D L g l
   store_in kept = kept.store
+
+  abbrev pub inside : Unshared D J L g l j → Store D L g l
+  inside whole = whole.store
+
+  -- the parts that were not handed out, or are back
+  abbrev pub parts_with : Unshared D J L g l j → List PartView
+  parts_with whole = whole.keeper.parts

@@ -1,6 +1,6 @@
 //! A store that knows of which life its journal is.
 
-ghost use Rattle.std.specs.Prelude.{◌≡◌, ◌≤◌, ◌<◌, true, length, None, IfOk, IfSome};
+ghost use Rattle.std.specs.Prelude.{◌≡◌, ◌≤◌, ◌<◌, length, None, IfOk, IfSome};
 ghost use Rattle.board_model.specs.Durable.{DurableState, Change, fold, refusal_of};
 ghost use Rattle.board_model.specs.Shapes.{Size};
 ghost use Rattle.board_model.specs.Views.{change_of, durable_of};
@@ -11,21 +11,22 @@ ghost use Rattle.hsm_rule.specs.declared.view.Stage.TheVariants.{Running};
 ghost use Rattle.sbi_abi.specs.Calls.{call_of};
 ghost use Rattle.sbi_calls.specs.Both.{AreSeatsOfBoth, GivesBack, Acts, harts_of_both, known};
 ghost use Rattle.sbi.specs.Helds.{MakesHeld, stage_by_held};
+ghost use Rattle.receipts.specs.Books.{entries_of};
+ghost use Rattle.shared_store.specs.Noted.{entries_in, part_after, part_by};
 ghost use Rattle.shared_store.specs.Called.{IsToldBy, IsLastOf, added};
-ghost use Rattle.store.specs.Taken.{are_taken};
 ghost use Rattle.shared_store.specs.Legal.{BeginsWith, IsNamed, MayAnswer, MayShow, number_told};
 
-use crate::journal::Journal;
 use crate::told::Told;
+use crate::unshared::Unshared;
 use board_model::{Command, Durable, Entry, Refusal, Shape};
 use crew::Crew;
 use disk::Disk;
 use hart::Hart;
 use ram::Ram;
+use receipts::{Book, Journal, Keeper, Part};
 use sbi::{Held, dispatch_held};
 use sbi_calls::{Seats, Tables};
 use std::alloc::Global;
-use std::marker::PhantomData;
 use store::Store;
 
 /// A store whose journal is J's: its open found what J says, its board has that size, its journal begins with
@@ -36,34 +37,20 @@ use store::Store;
 /// gives, whatever other threads did.
 #[derive(Drop)]
 pub struct SharedStore<D: Disk + Drop, J: Journal> {
-    store: Store<D>,
-    count: u32,
-    of: PhantomData<J>,
+    pub(crate) store: Store<D>,
+    pub(crate) count: u32,
+    pub(crate) book: Book<J>,
+    pub(crate) keeper: Keeper<J>,
     ghost named: { IsNamed J.found J.size store },
     ghost issued: { BeginsWith J.issued (journal_of store) },
     ghost counted: { count ≡ receipts store },
     ghost few: { count ≤ 4096 },
+    ghost tied: { entries_in (journal_of store) ≡ entries_of keeper.log },
+    ghost none: { length keeper.parts ≡ 0 },
 }
 
 impl<D: Disk + Drop, J: Journal> SharedStore<D, J> {
-    ghost use Rattle.shared_store.specs.Views.{store_in};
-
-    /// The store of a life that has just begun: its journal has what the boot issued, one command at most.
-    pub fn new(store: Store<D>) -> SharedStore<D, J>
-        requires board { size_of_store store ≡ J.size }
-        requires found { found_state store ≡ J.found }
-        requires issued { journal_of store ≡ J.issued }
-        requires taken { are_taken J.found J.issued ≡ true }
-        requires few { length J.issued ≤ 1 }
-        ensures { store_in result ≡ store }
-    {
-        let count = if store.entry(1).is_some() { 1 } else { 0 };
-        SharedStore {
-            store,
-            count,
-            of: PhantomData,
-        }
-    }
+    ghost use Rattle.shared_store.specs.Views.{store_in, inside, parts_with};
 
     /// What is kept from one holder of the lock to the next.
     pub fn stands(&self)
@@ -86,19 +73,25 @@ impl<D: Disk + Drop, J: Journal> SharedStore<D, J> {
         self.store.now()
     }
 
-    /// Issues a command, as `Store::apply`.
-    pub fn apply(&mut self, command: Command) -> Result<Told<J>, Refusal>
-        ensures asked { Asked Applied (store_in self.old) (change_of command) (number_told result)
+    /// Issues a command, as `Store::apply`, for the holder of that part, which is told its receipt.
+    pub fn apply(&mut self, part: Part<J>, command: Command) -> (Part<J>, Result<Told<J>, Refusal>)
+        ensures asked { Asked Applied (store_in self.old) (change_of command) (number_told result.1)
             (store_in self.new) }
-        ensures may { MayAnswer J.found (change_of command) (number_told result) }
-        ensures told { IfOk result (λ t. t.1 ≡ Entry.Command command) }
+        ensures may { MayAnswer J.found (change_of command) (number_told result.1) }
+        ensures told { IfOk result.1 (λ t. t.1 ≡ Entry.Command command) }
+        ensures noted { result.0 ≡ part_by result.1 part }
     {
         match self.store.apply(command) {
             Ok(receipt) => {
                 self.count = receipt.number();
-                Ok(Told::new(receipt.number(), Entry::Command(command)))
+                let entry = Entry::Command(command);
+                let part = self.book.note(&mut self.keeper, part, entry);
+                (
+                    part,
+                    Ok(Told::new(receipt.number(), Entry::Command(command))),
+                )
             }
-            Err(refusal) => Err(refusal),
+            Err(refusal) => (part, Err(refusal)),
         }
     }
 
@@ -112,7 +105,8 @@ impl<D: Disk + Drop, J: Journal> SharedStore<D, J> {
         tables: &Tables,
         ram: &Ram,
         crew: &C,
-    ) -> (Seats, Held, Option<Told<J>>)
+        part: Part<J>,
+    ) -> (Seats, Held, Option<Told<J>>, Part<J>)
         requires seats { AreSeatsOfBoth tables.now seats }
         requires acts { Acts hart.old.id Running seats }
         requires hart { hart.old.id < harts_of_both tables.now }
@@ -123,40 +117,50 @@ impl<D: Disk + Drop, J: Journal> SharedStore<D, J> {
             (known seats) (known result.0) (store_in self.old) (store_in self.new) result.1 }
         ensures board { size_of_store (store_in self.old) ≡ J.size }
         ensures told { IsToldBy J.size (call_of hart.old) hart.old.id result.1 result.2 }
+        ensures noted { result.3 ≡ part_after result.2 part }
     {
         let (seats, held) = dispatch_held(alloc, hart, seats, tables, ram, &mut self.store, crew);
         let more = added(held);
         self.count += more;
         if more == 0 {
-            return (seats, held, None);
+            return (seats, held, None, part);
         }
-        (seats, held, self.last())
+        let Some(entry) = last_entry(&self.store, self.count) else {
+            unreachable!()
+        };
+        let told = Told::new(self.count, entry);
+        let noted = told.entry();
+        let part = self.book.note(&mut self.keeper, part, noted);
+        (seats, held, Some(told), part)
     }
 
-    /// The receipt of the last command of the journal.
-    fn last(&self) -> Option<Told<J>>
-        ensures some { IfSome result (λ t. IsLastOf (journal_of (store_in self.now)) t.0 t.1) }
-        ensures none { result ≡ None → receipts (store_in self.now) ≡ 0 }
-    {
-        match self.store.entry(u64::from(self.count)) {
-            Some(entry) => Some(Told::new(self.count, entry)),
-            None => None,
-        }
-    }
-
-    /// The store, whose life ends here.
-    pub fn into_store(self) -> Store<D>
-        ensures named { IsNamed J.found J.size result }
-        ensures issued { BeginsWith J.issued (journal_of result) }
-        ensures same { result ≡ store_in self }
+    /// The store and its book, no longer shared.
+    pub fn unshare(self) -> Unshared<D, J>
+        ensures store { inside result ≡ store_in self }
+        ensures none { length (parts_with result) ≡ 0 }
     {
         let SharedStore {
             store,
-            count: _,
-            of: _,
+            count,
+            book,
+            keeper,
         } = self;
-        store
+        Unshared {
+            store,
+            count,
+            book,
+            keeper,
+        }
     }
+}
+
+/// The last command of a journal of so many.
+fn last_entry<D: Disk + Drop>(store: &Store<D>, count: u32) -> Option<Entry>
+    requires { count ≡ receipts store.now }
+    ensures some { IfSome result (λ e. IsLastOf (journal_of store.now) count e) }
+    ensures none { result ≡ None → count ≡ 0 }
+{
+    store.entry(u64::from(count))
 }
 
 /// How many commands a durable call added to the journal, by what was told of it.

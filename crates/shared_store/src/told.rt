@@ -4,8 +4,8 @@ ghost use Rattle.std.specs.Prelude.{◌≡◌, ℕ};
 ghost use Rattle.board_model.specs.declared.durable.Entry.{Entry};
 ghost use Rattle.shared_store.specs.Legal.{IsToldOf};
 
-use crate::journal::Journal;
 use board_model::Entry;
+use receipts::Journal;
 use std::marker::{Model, PhantomData};
 
 /// The receipt of a command that a store of the life J acknowledged: its place, and the command. Only a store

@@ -3,4 +3,5 @@ use Rattle.board_console.proofs.Talking.{Talking}
 use Rattle.board_console.proofs.talks.console.Given as goal
 
 abbrev pub invariant-loop : goal.invariant-loop
-invariant-loop g l = Talking g.J.Journal.found (dialogue_ends (g.I.Read.remaining l.fn.input) (g.W.Write.contents l.fn.out)) (dialogue_ends (g.I.Read.remaining l.input) (g.W.Write.contents l.out))
+invariant-loop g l = Talking g.J.Journal.found (dialogue_ends (g.I.Read.remaining l.fn.input) (g.W.Write.contents l.fn.out) l.fn.part.told)
+    (dialogue_ends (g.I.Read.remaining l.input) (g.W.Write.contents l.out) l.part.told)

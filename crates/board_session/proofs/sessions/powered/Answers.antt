@@ -1,64 +1,62 @@
 use Rattle.std.proofs.Common.{ap, sym, subst}
-use Rattle.simdisk.specs.declared.SimDisk.{SimDisk}
 use Rattle.store.specs.Leaves.{IsKept}
 use Rattle.store.specs.Views.{view_of, life_of}
 use Rattle.board.specs.Views.{store_of, machine_of}
 use Rattle.board.specs.PowersOn.{IsUnpowered}
-use Rattle.board_session.specs.Sessions.{facts}
 use Rattle.board_session.proofs.Powering.{begins, life_issued, life_taken, format_refuses, kept_off, refuses_disk, runs_over}
 use Rattle.board_session.proofs.sessions.powered.Goals as goal
 
 pub returns-in-Err-clause-refused : goal.returns-in-Err-clause-refused
-returns-in-Err-clause-refused c =
+returns-in-Err-clause-refused g c =
     let o = c.args.options.now in
     let why = c.in-Err.ensures.refused in
-    format_refuses o.new o.shape o.mode c.args.payloads.now (facts c.args.disk) (facts c.in-Err.refused.0) c.in-Err.refused.1 why.0 why.1 why.2
+    format_refuses o.new o.shape o.mode c.args.payloads.now (g.D.Disk.facts c.args.disk) (g.D.Disk.facts c.in-Err.refused.0) c.in-Err.refused.1 why.0 why.1 why.2
 
 pub returns-in-Err-clause-kept : goal.returns-in-Err-clause-kept
-returns-in-Err-clause-kept c = λ size kept. (size, c.in-Err.ensures.kept size kept)
+returns-in-Err-clause-kept g c = λ size kept. (size, c.in-Err.ensures.kept size kept)
 
 pub returns-in-Ok-power_on-clause-runs : goal.returns-in-Ok-power_on-clause-runs
-returns-in-Ok-power_on-clause-runs c =
+returns-in-Ok-power_on-clause-runs g c =
     let o = c.args.options.now in
     let made = c.in-Ok.ensures in
     let board = c.in-Ok-power_on.board in
-    runs_over o.new o.shape o.mode c.args.payloads.now (facts c.args.disk) (facts c.in-Ok.disk) (view_of (store_of board)) (machine_of board) made.new made.formatted
-    (λ is. ap (λ (d : SimDisk). (facts d).content) (made.old is)) c.in-Ok-power_on.ensures.on
+    runs_over o.new o.shape o.mode c.args.payloads.now (g.D.Disk.facts c.args.disk) (g.D.Disk.facts c.in-Ok.disk) (view_of (store_of board)) (machine_of board) made.new made.formatted
+    (λ is. ap (λ d. (g.D.Disk.facts d).content) (made.old is)) c.in-Ok-power_on.ensures.on
 
 pub returns-in-Err-power_on-clause-refused : goal.returns-in-Err-power_on-clause-refused
-returns-in-Err-power_on-clause-refused c =
+returns-in-Err-power_on-clause-refused g c =
     let o = c.args.options.now in
     let made = c.in-Ok.ensures in
     let k = c.kept_disks.ensures in
     let mid = c.in-Ok.disk in
     let off = c.in-Err-power_on.unpowered in
     let why = c.in-Err-power_on.ensures.off in
-    refuses_disk (facts mid) (facts off.disk) (k.goes_on mid off.disk) o.mode c.args.payloads.now (facts c.args.disk) o.shape off.found off.refusal why o.new made.new made.formatted
-    (λ is. subst (λ (d : SimDisk). IsUnpowered o.mode c.args.payloads.now off.found (facts d) off.refusal (facts off.disk)) (made.old is) why)
+    refuses_disk (g.D.Disk.facts mid) (g.D.Disk.facts off.disk) (k.goes_on mid off.disk) o.mode c.args.payloads.now (g.D.Disk.facts c.args.disk) o.shape off.found off.now off.refusal why o.new made.new made.formatted
+    (λ is. subst (λ d. IsUnpowered o.mode c.args.payloads.now off.found off.now (g.D.Disk.facts d) off.refusal (g.D.Disk.facts off.disk)) (made.old is) why)
     (λ size kept refused. k.opens mid off.disk size off.refusal kept refused)
 
 pub returns-in-Err-power_on-clause-kept : goal.returns-in-Err-power_on-clause-kept
-returns-in-Err-power_on-clause-kept c =
+returns-in-Err-power_on-clause-kept g c =
     let o = c.args.options.now in
     let made = c.in-Ok.ensures in
     let k = c.kept_disks.ensures in
     let mid = c.in-Ok.disk in
     let off = c.in-Err-power_on.unpowered in
-    kept_off (facts mid) (facts off.disk) (k.goes_on mid off.disk) o.mode c.args.payloads.now (facts c.args.disk) o.shape off.found off.refusal c.in-Err-power_on.ensures.off o.new made.formatted
-    (λ is size kept. subst (λ (d : SimDisk). IsKept (facts d) size) (sym (made.old is)) kept)
+    kept_off (g.D.Disk.facts mid) (g.D.Disk.facts off.disk) (k.goes_on mid off.disk) o.mode c.args.payloads.now (g.D.Disk.facts c.args.disk) o.shape off.found off.now off.refusal c.in-Err-power_on.ensures.off o.new made.formatted
+    (λ is size kept. subst (λ d. IsKept (g.D.Disk.facts d) size) (sym (made.old is)) kept)
 
 pub returns-in-Ok-power_on-clause-found : goal.returns-in-Ok-power_on-clause-found
-returns-in-Ok-power_on-clause-found c =
+returns-in-Ok-power_on-clause-found g c =
     let o = c.args.options.now in
     let made = c.in-Ok.ensures in
     let board = c.in-Ok-power_on.board in
-    begins o.new o.shape o.mode c.args.payloads.now (facts c.args.disk) (facts c.in-Ok.disk) (view_of (store_of board)) (machine_of board) made.formatted
-    (λ is. ap (λ (d : SimDisk). (facts d).content) (made.old is)) c.in-Ok-power_on.ensures.on
+    begins o.new o.shape o.mode c.args.payloads.now (g.D.Disk.facts c.args.disk) (g.D.Disk.facts c.in-Ok.disk) (view_of (store_of board)) (machine_of board) made.formatted
+    (λ is. ap (λ d. (g.D.Disk.facts d).content) (made.old is)) c.in-Ok-power_on.ensures.on
 
 pub returns-in-Ok-power_on-clause-taken : goal.returns-in-Ok-power_on-clause-taken
-returns-in-Ok-power_on-clause-taken c =
+returns-in-Ok-power_on-clause-taken g c =
     let on = c.in-Ok-power_on.ensures.on in life_taken c.args.options.now.mode (life_of (store_of c.in-Ok-power_on.board)) on.life on.allowed
 
 pub returns-in-Ok-power_on-clause-issued : goal.returns-in-Ok-power_on-clause-issued
-returns-in-Ok-power_on-clause-issued c =
+returns-in-Ok-power_on-clause-issued g c =
     life_issued c.args.options.now.mode (life_of (store_of c.in-Ok-power_on.board)) c.in-Ok-power_on.ensures.on.life

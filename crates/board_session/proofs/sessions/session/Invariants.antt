@@ -1,6 +1,7 @@
 use Rattle.store.specs.Views.{found_state, journal_of, size_of_store}
+use Rattle.receipts.specs.Views.{id_of, parts_of}
 use Rattle.board_session.proofs.sessions.session.Given as goal
 
 -- the life that the board has just begun
 abbrev pub ghosts-operate : goal.ghosts-operate
-ghosts-operate g a = record { found = found_state a.parts.store; size = size_of_store a.parts.store; issued = journal_of a.parts.store }
+ghosts-operate g a = record { found = found_state a.parts.store; size = size_of_store a.parts.store; issued = journal_of a.parts.store; book = id_of a.book; parts = parts_of a.book }

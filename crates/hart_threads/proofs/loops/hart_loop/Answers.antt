@@ -4,7 +4,7 @@ use Rattle.turns.proofs.Begun.{gives_then}
 use Rattle.hart_threads.specs.Seated.{IsSeated, StandsAfterTurn, StandsAfter}
 use Rattle.hart_threads.specs.Threads.{seated}
 use Rattle.hart_threads.specs.declared.loops.Why.TheVariants as whys
-use Rattle.hart_threads.proofs.Looping.{gives_none, rests_on, stands_over, one_more, ended_life}
+use Rattle.hart_threads.proofs.Looping.{gives_none, rests_on, stands_over, one_more, ended_life, kept_part}
 use Rattle.hart_threads.proofs.loops.hart_loop.Goals as goal
 
 pub loop-made-init : goal.loop-made-init
@@ -12,6 +12,7 @@ loop-made-init g c = record {
   gives = gives_none c.args.tables.now c.args.hart.id c.args.seats c.requires.seated.0;
   rests = c.requires.seated.2;
   id = refl;
+  part = refl;
   turns = refl;
 }
 
@@ -26,6 +27,7 @@ loop-made-preserved g c =
       gives = gives_then c.args.tables.now by c.args.seats c.loop-made.seats t.result.0 i.gives (subst (λ (k : ℕ). GivesBack c.args.tables.now k c.loop-made.seats t.result.0) i.id t.ensures.gives);
       rests = rests_on by t.result.0 t.result.1 on (subst (λ (k : ℕ). StandsAfterTurn t.result.1 k t.result.0) i.id t.ensures.stands);
       id = t.ensures.id ∙ i.id;
+      part = kept_part c.args.shape.now (seated c.loop-made.hart (known c.loop-made.seats)) (seated t.new.hart (known t.result.0)) t.result.1 t.result.2 c.args.part c.loop-made.part t.result.3 t.ensures.once on i.part t.ensures.noted;
       turns = one_more c.args.shape.now (g.G.Gate.answers gate by) (g.G.Gate.hears gate by) c.loop-made.made (seated c.args.hart (known c.args.seats)) (seated c.loop-made.hart (known c.loop-made.seats)) (seated t.new.hart (known t.result.0)) t.result.1 t.result.2 i.turns t.ensures.once on said heard;
     }
 

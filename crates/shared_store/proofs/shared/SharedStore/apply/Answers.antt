@@ -1,10 +1,16 @@
-use Rattle.std.proofs.Common.{Ok, Err, List, ap, length, arith, refl}
+use Rattle.std.proofs.Common.{◌∙◌, ℕ, Ok, Err, List, ap, length, arith, refl, sym}
 use Rattle.board_model.specs.Durable.{Change}
 use Rattle.board_model.specs.Views.{change_of}
 use Rattle.store.specs.Lives.{Applied}
 use Rattle.store.specs.Views.{doubt_of, journal_of}
 use Rattle.store.specs.Asked.{Asked}
 use Rattle.shared_store.proofs.Naming.{asked_named, asked_may, begins_on, begins_still}
+use Rattle.board_model.specs.declared.durable.Entry.{Entry}
+use Rattle.board_model.specs.declared.durable.Entry.TheVariants as entries
+use Rattle.receipts.specs.Books.{entries_of, told_after}
+use Rattle.receipts.specs.declared.views.BookView.{BookView}
+use Rattle.shared_store.specs.Noted.{entries_in}
+use Rattle.shared_store.proofs.Noting.{entry_of_command, number, tied_on}
 use Rattle.shared_store.proofs.Lasting.{one_longer}
 use Rattle.shared_store.proofs.shared.SharedStore.apply.Goals as goal
 
@@ -20,7 +26,10 @@ invariant_of-self g c =
     let is = c.number-self.ensures in
     let a = did.1.1 in
     let b = did.1.2 in
-    record { named = did.0; issued = begins_on g.J.Journal.issued (journal_of old.store) (journal_of new) (change_of c.args.command) old.issued did.1.0; counted = omega (arith, is, a, longer); few = omega (arith, is, a, b) }
+    let note = c.note-part.ensures in
+    let tied = tied_on (journal_of old.store) (journal_of new) old.keeper.log (change_of c.args.command) (entries.Command c.args.command) c.args.part.who old.tied (entry_of_command c.args.command) did.1.0
+    ∙ sym (ap (λ (v : BookView). entries_of v.log) note.keeper) in
+    record { named = did.0; issued = begins_on g.J.Journal.issued (journal_of old.store) (journal_of new) (change_of c.args.command) old.issued did.1.0; counted = omega (arith, is, a, longer); few = omega (arith, is, a, b); tied = tied; none = ap (λ (v : BookView). length v.parts) note.keeper ∙ old.none }
 
 pub invariant_of-self-in-Err-1 : goal.invariant_of-self-in-Err-1
 invariant_of-self-in-Err-1 g c =
@@ -32,7 +41,7 @@ invariant_of-self-in-Err-1 g c =
     let did = asked_named g.J.Journal.found g.J.Journal.size old.store new (change_of c.args.command) (Err r) (doubt_of old.store) refl old.named asked in
     let same = ap (λ (cs : List Change). length cs) did.1 in
     let is = old.counted in
-    record { named = did.0; issued = begins_still g.J.Journal.issued (journal_of old.store) (journal_of new) old.issued did.1; counted = omega (arith, is, same); few = old.few }
+    record { named = did.0; issued = begins_still g.J.Journal.issued (journal_of old.store) (journal_of new) old.issued did.1; counted = omega (arith, is, same); few = old.few; tied = ap entries_in did.1 ∙ old.tied; none = old.none }
 
 pub returns-in-Err-clause-may : goal.returns-in-Err-clause-may
 returns-in-Err-clause-may g c =
@@ -42,3 +51,14 @@ returns-in-Err-clause-may g c =
     let r = c.in-Err.refusal in
     let asked : Asked Applied old.store (change_of c.args.command) (Err r) new = e.asked in
     asked_may g.J.Journal.found g.J.Journal.size old.store new (change_of c.args.command) (Err r) (doubt_of old.store) refl old.named asked
+
+pub returns-in-Ok-clause-noted : goal.returns-in-Ok-clause-noted
+returns-in-Ok-clause-noted g c =
+    let old = c.args.self.now in
+    let new = c.apply.new.self in
+    let e = c.in-Ok.ensures in
+    let asked : Asked Applied old.store (change_of c.args.command) (Ok c.in-Ok.receipt) new = e.asked in
+    let did = asked_named g.J.Journal.found g.J.Journal.size old.store new (change_of c.args.command) (Ok c.in-Ok.receipt) (doubt_of old.store) refl old.named asked in
+    let place = number (journal_of old.store) old.keeper.log c.in-Ok.receipt old.tied did.1.1 in
+    c.note-part.ensures.part ∙ ap (λ k. told_after k (entries.Command c.args.command) c.args.part) (sym place ∙ sym c.number.ensures)
+    ∙ ap (λ (t : ℕ × Entry). told_after t.0 t.1 c.args.part) (sym c.new.ensures)

@@ -1,0 +1,101 @@
+-- Parts that come back to the store, and the receipts that they were told.
+use Rattle.std.proofs.Common.{◌≡◌, ◌∙◌, ℕ, zero, suc, ◌≤◌, List, [], ◌∷◌, ◌++◌, All, Option, Some, None, true, length, arith, refl, sym, ap, subst}
+use Rattle.std.specs.Prelude.{slice_get}
+use Rattle.std.specs.Option.{option_to_list}
+use Rattle.board_model.specs.Durable.{Change}
+use Rattle.board_model.specs.Shapes.{Size}
+use Rattle.board_model.specs.declared.durable.Entry.{Entry}
+use Rattle.receipts.specs.Settled.{AreReceiptsOf, told_in}
+use Rattle.receipts.specs.declared.views.PartView.{PartView}
+use Rattle.shared_store.specs.Noted.{boot_told, entries_in}
+use Rattle.hart_threads.specs.Threads.{ends_life}
+use Rattle.board_session.specs.Backs.{AreBack}
+use Rattle.board_session.specs.Sessions.{IsAcknowledged, hart_receipts}
+
+abbrev HartsTold : List (Option (ℕ × Entry)) → Type 0
+HartsTold harts = All (λ told. ends_life told ≡ true) harts
+
+harts_none : HartsTold []
+harts_none k d lt = absurd (omega (arith, lt))
+
+harts_more : (told : Option (ℕ × Entry)) (harts : List (Option (ℕ × Entry))) → ends_life told ≡ true → HartsTold harts → HartsTold (told ∷ harts)
+harts_more told harts one all zero d lt = one
+harts_more told harts one all (suc k) d lt = all k d (omega (arith, lt))
+
+pub none_back : (ds : List PartView) → length ds ≡ 0 → AreBack ds
+none_back [] e = record { harts = []; many = refl; each = harts_none; told = refl }
+none_back (d ∷ ds) e = absurd (omega (arith, e))
+
+-- one part more, with the receipt of a run, or none
+pub one_back : (d : PartView) (ds : List PartView) (told : Option (ℕ × Entry)) → ends_life told ≡ true → d.told ≡ option_to_list told → AreBack ds → AreBack (d ∷ ds)
+one_back d ds told ran is b = record {
+  harts = told ∷ b.harts;
+  many = let m = b.many in omega (arith, m);
+  each = harts_more told b.harts ran b.each;
+  told = ap (λ (ts : List (ℕ × Entry)). ts ++ told_in ds) is ∙ ap (λ (ts : List (ℕ × Entry)). option_to_list told ++ ts) b.told;
+}
+
+-- and one that was told nothing
+pub fresh_back : (d : PartView) (ds : List PartView) → d.told ≡ [] → AreBack ds → AreBack (d ∷ ds)
+fresh_back d ds is b = one_back d ds None refl is b
+
+pub all_fresh : (ds : List PartView) → All (λ d. d.told ≡ []) ds → AreBack ds
+all_fresh [] all = none_back [] refl
+all_fresh (d ∷ ds) all = fresh_back d ds (all 0 d (omega arith)) (all_fresh ds (λ k x lt. all (suc k) x (omega (arith, lt))))
+
+-- all are back: the harts', the console's and the boot's
+pub acknowledged : (size : Size) (issued journal : List Change) (boot console : PartView) (ds : List PartView) → AreBack ds → length ds ≡ size.harts → boot.told ≡ boot_told issued
+    → AreReceiptsOf (entries_in journal) (told_in (boot ∷ console ∷ ds)) → IsAcknowledged size issued journal console.told
+acknowledged size issued journal boot console ds b many is all = record {
+  harts = b.harts;
+  many = b.many ∙ many;
+  each = b.each;
+  receipts = subst (λ (ts : List (ℕ × Entry)). AreReceiptsOf (entries_in journal) ts)
+      (ap (λ (ts : List (ℕ × Entry)). ts ++ (console.told ++ told_in ds)) is ∙ ap (λ (ts : List (ℕ × Entry)). boot_told issued ++ (console.told ++ ts)) b.told) all;
+}
+
+-- ---- a life that ends where the boot left it
+nones : ℕ → List (Option (ℕ × Entry))
+nones zero = []
+nones (suc n) = None ∷ nones n
+
+nones_many : (n : ℕ) → length (nones n) ≡ n
+unfolding nones
+nones_many zero = refl
+nones_many (suc n) = let rest = nones_many n in omega (arith, rest)
+
+nones_told : (n : ℕ) → HartsTold (nones n)
+unfolding nones
+nones_told zero = harts_none
+nones_told (suc n) = harts_more None (nones n) refl (nones_told n)
+
+nones_receipts : (n : ℕ) → hart_receipts (nones n) ≡ []
+unfolding nones
+nones_receipts zero = refl
+nones_receipts (suc n) = nones_receipts n
+
+paired : Option Entry → Option (ℕ × Entry)
+paired None = None
+paired (Some e) = Some (1, e)
+
+boot_one : (c : Change) (k : ℕ) (entry : Entry) → slice_get (entries_in (c ∷ [])) k ≡ Some entry → (i : ℕ) × (slice_get (boot_told (c ∷ []) ++ ([] ++ [])) i ≡ Some (suc k, entry))
+unfolding paired
+boot_one c zero entry at = (0, ap (λ (o : Option Entry). paired o) at)
+boot_one c (suc k) entry at = absurd (cc)
+
+boot_receipts : (issued : List Change) → length issued ≤ 1 → AreReceiptsOf (entries_in issued) (boot_told issued ++ ([] ++ []))
+boot_receipts [] few = record { stand = tt; all = λ k entry at. absurd (cc); many = refl }
+boot_receipts (c ∷ []) few = record { stand = ((0, refl, refl), tt); all = boot_one c; many = refl }
+boot_receipts (c ∷ d ∷ cs) few = absurd (omega (arith, few))
+
+pub at_once : (size : Size) (issued : List Change) → length issued ≤ 1 → IsAcknowledged size issued issued []
+at_once size issued few = record {
+  harts = nones size.harts;
+  many = nones_many size.harts;
+  each = nones_told size.harts;
+  receipts = subst (λ (ts : List (ℕ × Entry)). AreReceiptsOf (entries_in issued) (boot_told issued ++ ([] ++ ts))) (sym (nones_receipts size.harts)) (boot_receipts issued few);
+}
+
+pub none_later : (xs : List Change) → xs ≡ xs ++ []
+none_later [] = refl
+none_later (x ∷ xs) = ap (λ (ys : List Change). x ∷ ys) (none_later xs)

@@ -1,0 +1,23 @@
+use Rattle.std.proofs.Common.{[], refl}
+use Rattle.store.specs.Views.{size_of_store, now_state, journal_of, doubt_of}
+use Rattle.board_session.proofs.Backing.{at_once, none_later}
+use Rattle.board_session.proofs.Powering.{kept_reads, life_kept, life_leaves}
+use Rattle.board_session.proofs.ends.disk_at_once.Goals as goal
+
+pub returns-clause-left : goal.returns-clause-left
+returns-clause-left g c =
+    let store = c.args.store in
+    let o = c.into_disk.ensures in
+    let disk = g.D.Disk.facts c.into_disk.result in
+    let size = size_of_store store in
+    let left = life_leaves (doubt_of store) disk size (now_state store) (λ up. o.up (now_state store) (up, refl)) (λ d down. o.down (now_state store) _ (d, down, refl, refl)) in
+    record {
+      journal = journal_of store;
+      acknowledged = at_once size (journal_of store) c.requires.few;
+      begun = ([], none_later (journal_of store));
+      taken = c.requires.taken;
+      doubt = doubt_of store;
+      left = left;
+      allowed = o.allowed;
+      reads = kept_reads disk size (life_kept (doubt_of store) disk size (now_state store) left) (g.met.D.Disk.may_keep c.into_disk.result);
+    }

@@ -1,0 +1,43 @@
+use Rattle.std.proofs.Common.{◌≡◌, List, None, length, refl, ap, subst, arith}
+use Rattle.board_model.specs.Durable.{DurableState, fold, refusal_of}
+use Rattle.board_model.specs.Shapes.{Size}
+use Rattle.board.specs.Unbooted.{LeavesLife}
+use Rattle.receipts.specs.Settled.{AreReceiptsOf, told_in}
+use Rattle.receipts.specs.declared.views.PartView.{PartView}
+use Rattle.shared_store.specs.Noted.{entries_in}
+use Rattle.shared_store.specs.Views.{parts_with}
+use Rattle.store.specs.Views.{size_of_store, now_state, journal_of, doubt_of}
+use Rattle.board_session.proofs.Backing.{acknowledged}
+use Rattle.board_session.proofs.Powering.{begins_so, kept_reads, life_kept, life_leaves}
+use Rattle.board_session.proofs.ends.disk_of.Goals as goal
+
+pub returns-clause-left : goal.returns-clause-left
+returns-clause-left g c =
+    let store = c.settle.result in
+    let o = c.into_disk.ensures in
+    let named = c.settle.ensures.named in
+    let disk = g.D.Disk.facts c.into_disk.result in
+    let size = g.J.Journal.size in
+    let now = fold g.J.Journal.found (journal_of store) in
+    let left = life_leaves (doubt_of store) disk (size_of_store store) (now_state store) (λ up. o.up (now_state store) (up, refl)) (λ d down. o.down (now_state store) _ (d, down, refl, refl)) in
+    let left' = subst (λ (z : Size). LeavesLife (doubt_of store) disk z now) named.board (subst (λ (s : DurableState). LeavesLife (doubt_of store) disk (size_of_store store) s) named.life.now left) in
+    let ds = parts_with c.gather_parts.new.whole in
+    let a = c.gather_loops.ensures.many in
+    let b = c.gather_parts.ensures.many in
+    let h = c.requires.harts in
+    let many : length ds ≡ size.harts = omega (arith, a, b, h) in
+    let last = c.gather_last.ensures.parts in
+    let long = ap (λ (ps : List PartView). length ps) last in
+    let all = c.requires.all in
+    let count : length (parts_with c.gather_last.new.whole) ≡ g.J.Journal.parts = omega (arith, long, many, all) in
+    let receipts = subst (λ (ps : List PartView). AreReceiptsOf (entries_in (journal_of store)) (told_in ps)) last (c.settle.ensures.all count) in
+    record {
+      journal = journal_of store;
+      acknowledged = acknowledged size g.J.Journal.issued (journal_of store) c.args.boot c.args.console ds c.gather_parts.ensures.back many c.requires.boot receipts;
+      begun = begins_so g.J.Journal.issued (journal_of store) c.settle.ensures.issued;
+      taken = named.life.taken;
+      doubt = doubt_of store;
+      left = left';
+      allowed = λ x is. subst (λ (s : DurableState). refusal_of s x ≡ None) named.life.now (o.allowed x is);
+      reads = kept_reads disk size (life_kept (doubt_of store) disk size now left') (g.met.D.Disk.may_keep c.into_disk.result);
+    }

@@ -1,0 +1,22 @@
+use Rattle.std.proofs.Common.{◌≡◌, ◌∙◌, List, [], Some, length, sym, ap, subst, arith}
+use Rattle.std.proofs.lemmas.List.Elements.{All-pop}
+use Rattle.receipts.specs.declared.views.PartView.{PartView}
+use Rattle.shared_store.specs.Views.{parts_with}
+use Rattle.board_session.specs.Backs.{AreBack}
+use Rattle.board_session.proofs.Backing.{fresh_back}
+use Rattle.board_session.proofs.ends.gather_parts.Goals as goal
+
+pub loop-part-preserved : goal.loop-part-preserved
+loop-part-preserved g c =
+    let i = c.loop-part.invariant in
+    let parts = c.gather.ensures.parts in
+    let long = ap (λ (ps : List PartView). length ps) parts in
+    let was = i.many in
+    let fewer = c.in-Some.ensures.cases in
+    let popped = All-pop (λ (p : PartView). p.told ≡ []) c.loop-part.parts.items c.pop.new.self.items (Some c.in-Some.part) c.in-Some.ensures.items i.fresh in
+    record {
+      store = c.gather.ensures.store ∙ i.store;
+      back = subst (λ (ps : List PartView). AreBack ps) (sym parts) (fresh_back c.in-Some.part (parts_with c.loop-part.whole) popped.1 i.back);
+      fresh = popped.0;
+      many = omega (arith, long, was, fewer);
+    }

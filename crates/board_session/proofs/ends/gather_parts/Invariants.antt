@@ -1,0 +1,15 @@
+use Rattle.std.proofs.Common.{◌≡◌, ◌+◌, [], All, length, vec_len}
+use Rattle.shared_store.specs.Views.{inside, parts_with}
+use Rattle.board_session.specs.Backs.{AreBack}
+use Rattle.board_session.proofs.ends.gather_parts.Given as goal
+
+abbrev pub invariant-loop-part : goal.invariant-loop-part
+invariant-loop-part g l = record {
+  store : inside l.whole ≡ inside l.fn.whole;
+  back : AreBack (parts_with l.whole);
+  fresh : All (λ p. p.told ≡ []) l.parts.items;
+  many : length (parts_with l.whole) + vec_len l.parts ≡ length (parts_with l.fn.whole) + vec_len l.fn.parts;
+}
+
+abbrev pub decreases-loop-part : goal.decreases-loop-part
+decreases-loop-part g l = vec_len l.parts

@@ -1,0 +1,96 @@
+//! The end of a life: the receipts that were told, and the disk.
+
+ghost use Rattle.std.specs.Prelude.{◌≡◌, ◌≤◌, ◌+◌, [], ◌∷◌, true, All, length, vec_len};
+ghost use Rattle.store.specs.Leaves.{IsIdle};
+ghost use Rattle.store.specs.Taken.{are_taken};
+ghost use Rattle.store.specs.Views.{size_of_store, found_state, journal_of};
+ghost use Rattle.shared_store.specs.Noted.{boot_told};
+ghost use Rattle.shared_store.specs.Views.{inside, parts_with};
+ghost use Rattle.board_session.specs.Backs.{AreBack};
+ghost use Rattle.board_session.specs.Sessions.{IsOfLife};
+
+use disk::Disk;
+use hart_threads::Ended;
+use shared_store::{Journal, Part, Unshared};
+use store::Store;
+
+/// The parts of loops that ended come back to the store.
+fn gather_loops<D: Disk + Drop, J: Journal>(whole: &mut Unshared<D, J>, loops: Vec<Ended<J>>)
+    requires back { AreBack (parts_with whole.old) }
+    ensures store { inside whole.new ≡ inside whole.old }
+    ensures back { AreBack (parts_with whole.new) }
+    ensures many { length (parts_with whole.new) ≡ length (parts_with whole.old) + vec_len loops }
+{
+    let mut loops = loops;
+    while let Some(ended) = loops.pop() {
+        let Ended {
+            hart: _,
+            seats: _,
+            made: _,
+            why: _,
+            told: _,
+            part,
+        } = ended;
+        whole.gather(part);
+    }
+}
+
+/// Parts that no loop had come back to the store.
+fn gather_parts<D: Disk + Drop, J: Journal>(whole: &mut Unshared<D, J>, parts: Vec<Part<J>>)
+    requires back { AreBack (parts_with whole.old) }
+    requires fresh { All (λ p. p.told ≡ []) parts.items }
+    ensures store { inside whole.new ≡ inside whole.old }
+    ensures back { AreBack (parts_with whole.new) }
+    ensures many { length (parts_with whole.new) ≡ length (parts_with whole.old) + vec_len parts }
+{
+    let mut parts = parts;
+    while let Some(part) = parts.pop() {
+        whole.gather(part);
+    }
+}
+
+/// The console's part and the boot's come back.
+fn gather_last<D: Disk + Drop, J: Journal>(
+    whole: &mut Unshared<D, J>,
+    console: Part<J>,
+    boot: Part<J>,
+)
+    ensures store { inside whole.new ≡ inside whole.old }
+    ensures parts { parts_with whole.new ≡ boot ∷ console ∷ parts_with whole.old }
+{
+    whole.gather(console);
+    whole.gather(boot);
+}
+
+/// The disk of a store whose life ends here, once the harts' parts, the console's and the boot's are back.
+pub(crate) fn disk_of<D: Disk + Drop, J: Journal>(
+    whole: Unshared<D, J>,
+    loops: Vec<Ended<J>>,
+    parts: Vec<Part<J>>,
+    console: Part<J>,
+    boot: Part<J>,
+) -> D
+    requires back { AreBack (parts_with whole) }
+    requires fresh { All (λ p. p.told ≡ []) parts.items }
+    requires harts { length (parts_with whole) + vec_len loops + vec_len parts ≡ J.size.harts }
+    requires boot { boot.told ≡ boot_told J.issued }
+    requires all { J.parts ≡ J.size.harts + 2 }
+    ensures none_out { IsIdle (D.facts result) }
+    ensures left { IsOfLife J.size J.found J.issued console.told (D.facts result) }
+{
+    let mut whole = whole;
+    gather_loops(&mut whole, loops);
+    gather_parts(&mut whole, parts);
+    gather_last(&mut whole, console, boot);
+    whole.settle().into_disk()
+}
+
+/// The disk of a store of a life that ends where the boot left it.
+pub(crate) fn disk_at_once<D: Disk + Drop>(store: Store<D>) -> D
+    requires taken { are_taken (found_state store) (journal_of store) ≡ true }
+    requires few { length (journal_of store) ≤ 1 }
+    ensures none_out { IsIdle (D.facts result) }
+    ensures left { IsOfLife (size_of_store store) (found_state store) (journal_of store) [] (D.facts result) }
+{
+    store.into_disk()
+}

@@ -1,0 +1,8 @@
+use Rattle.receipts.proofs.Settles.{are_standing, are_receipts}
+use Rattle.receipts.proofs.book.Book.settle.Goals as goal
+
+pub returns-clause-told : goal.returns-clause-told
+returns-clause-told g c = are_standing c.args.keeper.log c.args.keeper.parts c.look.ensures.told
+
+pub returns-clause-all : goal.returns-clause-all
+returns-clause-all g c = λ count. are_receipts g.J.Journal.parts c.args.keeper.log c.args.keeper.parts c.look.ensures.of c.look.ensures.told (c.look.ensures.all count)

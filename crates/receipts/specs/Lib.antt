@@ -1,0 +1,3 @@
+pub mod Books
+pub mod Settled
+pub mod Views

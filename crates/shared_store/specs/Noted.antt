@@ -1,0 +1,34 @@
+-- The receipts of a journal's commands, and whom they were told. Source: docs/THREADS.md, "Receipts".
+use Rattle.std.specs.Prelude.{ℕ, List, [], ◌∷◌, Option, Some, None, Result, Ok, Err, map}
+use Rattle.board_model.specs.Durable.{Change, Slot, Reset, Suspend, Consume, Discard}
+use Rattle.board_model.specs.declared.durable.Command.TheVariants as commands
+use Rattle.board_model.specs.declared.durable.Entry.{Entry}
+use Rattle.board_model.specs.declared.durable.Entry.TheVariants as entries
+use Rattle.board_model.specs.declared.refusal.Refusal.{Refusal}
+use Rattle.receipts.specs.Books.{told_after}
+use Rattle.receipts.specs.declared.views.PartView.{PartView}
+
+-- a command of a journal without the memory of a suspension
+abbrev pub entry_in : Change → Entry
+entry_in (Slot n) = entries.Command (commands.Slot n)
+entry_in (Reset r) = entries.Command (commands.Reset r)
+entry_in Consume = entries.Command commands.Consume
+entry_in Discard = entries.Command commands.Discard
+entry_in (Suspend hart address opaque memory) = entries.Suspend hart address opaque
+
+abbrev pub entries_in : List Change → List Entry
+entries_in = map entry_in
+
+-- a part, after what was told
+abbrev pub part_after : Option (ℕ × Entry) → PartView → PartView
+part_after None d = d
+part_after (Some t) d = told_after t.0 t.1 d
+
+abbrev pub part_by : Result (ℕ × Entry) Refusal → PartView → PartView
+part_by (Ok t) d = told_after t.0 t.1 d
+part_by (Err e) d = d
+
+-- what the boot's part was told of the commands that it issued
+abbrev pub boot_told : List Change → List (ℕ × Entry)
+boot_told [] = []
+boot_told (c ∷ cs) = (1, entry_in c) ∷ []

@@ -1,0 +1,155 @@
+//! A store with its book, before it is shared and after.
+
+ghost use Rattle.std.specs.Prelude.{◌≡◌, ◌≤◌, ◌<◌, ◌+◌, [], ◌∷◌, true, length, All, IfOk, IfErr, vec_len};
+ghost use Rattle.store.specs.Views.{size_of_store, found_state, journal_of, receipts};
+ghost use Rattle.receipts.specs.Books.{entries_of};
+ghost use Rattle.receipts.specs.Settled.{AreStanding, AreReceiptsOf, told_in};
+ghost use Rattle.receipts.specs.Views.{id_of, parts_of};
+ghost use Rattle.store.specs.Taken.{are_taken};
+ghost use Rattle.shared_store.specs.Legal.{BeginsWith, IsNamed};
+ghost use Rattle.shared_store.specs.Noted.{boot_told, entries_in};
+
+use crate::shared::SharedStore;
+use disk::Disk;
+use receipts::{Book, Journal, Keeper, NewBook, Part};
+use std::alloc::{AllocError, Global};
+use store::Store;
+
+/// A store of the life J with the book of its receipts, which one holder has: it hands out the book's parts
+/// before it is shared, and takes them back when the life has ended.
+#[derive(Drop)]
+pub struct Unshared<D: Disk + Drop, J: Journal> {
+    pub(crate) store: Store<D>,
+    pub(crate) count: u32,
+    pub(crate) book: Book<J>,
+    pub(crate) keeper: Keeper<J>,
+    pub ghost named: { IsNamed J.found J.size store },
+    pub ghost issued: { BeginsWith J.issued (journal_of store) },
+    pub ghost counted: { count ≡ receipts store },
+    pub ghost few: { count ≤ 4096 },
+    pub ghost tied: { entries_in (journal_of store) ≡ entries_of keeper.log },
+}
+
+impl<D: Disk + Drop, J: Journal> Unshared<D, J> {
+    ghost use Rattle.shared_store.specs.Views.{store_in, inside, parts_with};
+
+    /// The store of a life that has just begun, with a new book: its journal has what the boot issued, one
+    /// command at most, and the boot's part, which goes off first, is told its receipt.
+    pub fn new(store: Store<D>, book: NewBook) -> (Unshared<D, J>, Part<J>)
+        requires board { size_of_store store ≡ J.size }
+        requires found { found_state store ≡ J.found }
+        requires issued { journal_of store ≡ J.issued }
+        requires taken { are_taken J.found J.issued ≡ true }
+        requires few { length J.issued ≤ 1 }
+        requires book { id_of book ≡ J.book }
+        requires parts { parts_of book ≡ J.parts }
+        requires some { 0 < J.parts }
+        ensures store { inside result.0 ≡ store }
+        ensures rest { length (parts_with result.0) + 1 ≡ J.parts }
+        ensures fresh { All (λ d. d.told ≡ []) (parts_with result.0) }
+        ensures boot { result.1.told ≡ boot_told J.issued }
+    {
+        let (book, mut keeper) = book.named::<J>();
+        let part = book.hand_out(&mut keeper);
+        match store.entry(1) {
+            Some(entry) => {
+                let part = book.note(&mut keeper, part, entry);
+                let whole = Unshared {
+                    store,
+                    count: 1,
+                    book,
+                    keeper,
+                };
+                (whole, part)
+            }
+            None => {
+                let whole = Unshared {
+                    store,
+                    count: 0,
+                    book,
+                    keeper,
+                };
+                (whole, part)
+            }
+        }
+    }
+
+    /// The next part goes off, which was told nothing.
+    pub fn hand_out(&mut self) -> Part<J>
+        requires some { 0 < length (parts_with self.old) }
+        requires fresh { All (λ d. d.told ≡ []) (parts_with self.old) }
+        ensures store { inside self.new ≡ inside self.old }
+        ensures rest { length (parts_with self.new) + 1 ≡ length (parts_with self.old) }
+        ensures fresh { All (λ d. d.told ≡ []) (parts_with self.new) }
+        ensures told { result.told ≡ [] }
+    {
+        self.book.hand_out(&mut self.keeper)
+    }
+
+    /// So many parts go off; none does where there is no room for them.
+    pub fn hand_out_all(&mut self, alloc: Global, count: usize) -> Result<Vec<Part<J>>, AllocError>
+        requires some { count ≤ length (parts_with self.old) }
+        requires fresh { All (λ d. d.told ≡ []) (parts_with self.old) }
+        ensures store { inside self.new ≡ inside self.old }
+        ensures fresh { All (λ d. d.told ≡ []) (parts_with self.new) }
+        ensures count { IfOk result (λ ps. vec_len ps ≡ count) }
+        ensures told { IfOk result (λ ps. All (λ d. d.told ≡ []) ps.items) }
+        ensures rest { IfOk result (λ ps. length (parts_with self.new) + count ≡ length (parts_with self.old)) }
+        ensures none { IfErr result (λ e. length (parts_with self.new) ≡ length (parts_with self.old)) }
+    {
+        let mut parts = Vec::with_capacity(alloc, count)?;
+        for made in 0..count {
+            let part = self.hand_out();
+            parts.push_reserved(part);
+        }
+        Ok(parts)
+    }
+
+    /// The store, to be shared: all parts are handed out.
+    pub fn share(self) -> SharedStore<D, J>
+        requires none { length (parts_with self) ≡ 0 }
+        ensures { store_in result ≡ inside self }
+    {
+        let Unshared {
+            store,
+            count,
+            book,
+            keeper,
+        } = self;
+        SharedStore {
+            store,
+            count,
+            book,
+            keeper,
+        }
+    }
+
+    /// A part comes back.
+    pub fn gather(&mut self, part: Part<J>)
+        ensures store { inside self.new ≡ inside self.old }
+        ensures parts { parts_with self.new ≡ part ∷ parts_with self.old }
+    {
+        self.book.gather(&mut self.keeper, part);
+    }
+
+    /// The store, whose life ends here. What the parts that are back were told stands in its journal, each
+    /// command at the place of its receipt; and where all parts are back, their receipts are those of the journal's
+    /// commands, one for each.
+    pub fn settle(self) -> Store<D>
+        ensures named { IsNamed J.found J.size result }
+        ensures issued { BeginsWith J.issued (journal_of result) }
+        ensures same { result ≡ inside self }
+        ensures told { AreStanding (entries_in (journal_of result)) (told_in (parts_with self)) }
+        ensures all { length (parts_with self) ≡ J.parts
+            → AreReceiptsOf (entries_in (journal_of result)) (told_in (parts_with self)) }
+    {
+        let Unshared {
+            store,
+            count: _,
+            book,
+            keeper,
+        } = self;
+        book.settle(keeper);
+        store
+    }
+}
