@@ -11,6 +11,7 @@ use Rattle.board_model.specs.declared.boot_mode.BootMode.{BootMode}
 use Rattle.board_model.specs.declared.boot_mode.BootMode.TheVariants as modes
 use Rattle.machine.specs.Machine.{Machine, woken}
 use Rattle.board.specs.Boots.{boot_refusal}
+use Rattle.board.specs.Moments.{commands_by}
 use Rattle.board.specs.Begins.{IsResumed, IsBegun}
 use Rattle.disk.specs.Facts.{counted}
 use Rattle.bench_report.specs.declared.printed.Printed.{Printed}
@@ -19,7 +20,7 @@ use Rattle.bench_report.specs.declared.printed.Answer.{Answer}
 use Rattle.bench_report.specs.Bench.{DiskState, Blank, Unknown, Formatted, BenchLife, Bench}
 use Rattle.bench_report.specs.Happens.{says, out_of_memory, FailsByFault, off, on_with, formatted_anew, unknown, settled, has_machine, acknowledged, in_doubt}
 use Rattle.bench_report.specs.Commands.{Writes, IssuedBy, Issued, IssuesAll}
-use Rattle.bench_report.specs.PowerOns.{life_begun, commands_of, FormatsOn, IsBooted, BootsFrom, Resumes, Begins, Boots, Opens, ShowsFound, IsOpenRefusal, PowersOn}
+use Rattle.bench_report.specs.PowerOns.{life_begun, FormatsOn, IsBooted, BootsFrom, Resumes, Begins, Boots, Opens, ShowsFound, IsOpenRefusal, PowersOn}
 
 abbrev pub HasFailed : Bench → Type 0
 HasFailed b = (0 < b.growths) ⊎ (0 < b.failures)
@@ -171,7 +172,7 @@ on_fair (Err n) mode z s b line new x = fair_to b new (off b) x.1 (λ s. s, λ c
 slot_fair : (mode : BootMode) (z : Size) (s : DurableState) (b : Bench) (line : Printed) (new : Bench) → BootsFrom mode z s b line new → Fair b new
 slot_fair mode z s b line new (o, mid, h, on) =
     let start : Bench = on_with (life_begun s z) b in
-    let one : Fair start new = fair_then start mid new (all_fair (commands_of mode) start o mid h) (on_fair o mode z s mid line new on) in
+    let one : Fair start new = fair_then start mid new (all_fair (commands_by mode s) start o mid h) (on_fair o mode z s mid line new on) in
     (λ s. one.0 s, λ c. one.1 c, λ s. one.2 s)
 
 resumes_fair : (z : Size) (s : DurableState) (b : Bench) (line : Printed) (new : Bench) → Resumes z s b line new → Fair b new
@@ -238,7 +239,7 @@ is_on o p mode z s b d line said new last (inr (inr e)) x y =
     alike (Err n) x y = same line said (printed.OnRefused n) new last (off b) x.0 y.0 x.1 y.1
 
 slot_boots : (mode : BootMode) (z : Size) (s : DurableState) (b : Bench) (line said : Printed) (new last : Bench) → BootsFrom mode z s b line new → BootsFrom mode z s b said last → Agree line said new last
-slot_boots mode z s b line said new last (o, mid, h, x) (p, mid2, k, y) = is_on o p mode z s mid mid2 line said new last (all (commands_of mode) (on_with (life_begun s z) b) o p mid mid2 h k) x y
+slot_boots mode z s b line said new last (o, mid, h, x) (p, mid2, k, y) = is_on o p mode z s mid mid2 line said new last (all (commands_by mode s) (on_with (life_begun s z) b) o p mid mid2 h k) x y
 
 -- a resume whose command was not refused for its disk goes on with an image that has the memory of its board
 whole_image : (z : Size) (s : DurableState) (m : Machine) → IsResumed z s m → IsWhole z s

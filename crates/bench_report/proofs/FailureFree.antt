@@ -4,6 +4,7 @@ use Rattle.std.specs.Bool.{⊤}
 use Rattle.board_model.specs.Durable.{DurableState, Change, Slot, Reset, Discard, refusal_of}
 use Rattle.board_model.specs.Shapes.{Size}
 use Rattle.board.specs.Boots.{boot_refusal}
+use Rattle.board.specs.Moments.{commands_by}
 use Rattle.board_model.specs.declared.boot_mode.BootMode.{BootMode}
 use Rattle.board_model.specs.declared.boot_mode.BootMode.TheVariants as modes
 use Rattle.machine.specs.Machine.{Machine}
@@ -37,7 +38,8 @@ use Rattle.bench_report.specs.Bench.{DiskState, Blank, Unknown, Formatted, Bench
 use Rattle.bench_report.specs.Happens.{says, off, on_with, unpowered, unknown, armed_with, formatted_anew, settled, has_machine, acknowledged}
 use Rattle.bench_report.specs.Commands.{Writes, IssuedBy, IssuesAll, Issued}
 use Rattle.bench_report.specs.Turns.{AnswersError, HartCommand, Resets, SuspendIssued, BenchSleepsBy, BenchMakesCall, ComesTo, GuestTurn, GuestTurns}
-use Rattle.bench_report.specs.PowerOns.{life_begun, commands_of, FormatsOn, IsBooted, BootsFrom, Resumes, Begins, Boots, Opens, PowersOn}
+use Rattle.bench_report.specs.PowerOns.{life_begun, FormatsOn, IsBooted, BootsFrom, Resumes, Begins, Boots, Opens, PowersOn}
+use Rattle.bench_report.specs.Examined.{InspectStep}
 use Rattle.bench_report.specs.Steps.{console_reported, FormatStep, OnStep, ConsoleStep, PayloadStep, ReadStep, PokeStep, TurnStep, CallReported, GuestCall, CallStep, Step, Moves, Run}
 use Rattle.bench_report.specs.Reports.{IsReport}
 use Rattle.bench_report.proofs.Unsaid.{none_made}
@@ -108,7 +110,7 @@ slot_failure_free : (mode : BootMode) (z : Size) (s : DurableState) (b : Bench) 
 slot_failure_free mode z s b line new (o, mid, h, on) failure_free =
     let last = is_on_failure_free o mode z s mid line new on failure_free in
     let start : Bench = on_with (life_begun s z) b in
-    many_then b mid new (let first = all_failure_free (commands_of mode) start o mid h last.0 in (first.0, first.1)) last.1
+    many_then b mid new (let first = all_failure_free (commands_by mode s) start o mid h last.0 in (first.0, first.1)) last.1
 
 resumes_failure_free : (z : Size) (s : DurableState) (b : Bench) (line : Printed) (new : Bench) → Resumes z s b line new → ShowsNoFailure line → AsMany b new
 resumes_failure_free z s b line new (inl h) failure_free = slot_failure_free modes.Resume z s b line new h failure_free
@@ -245,6 +247,12 @@ poke_at : (p : Option BenchLife) (b : Bench) (a : Answer) (new : Bench) → Poke
 poke_at None b a new h = as_many b (unknown b) new refl refl h.1
 poke_at (Some life) b a new h = as_many b b new refl refl h.1
 
+inspect_at : (size : Size) (p : Option BenchLife) (b : Bench) (a : Answer) (new : Bench) → InspectStep size p b a new → ShowsNoFailure a.line → AsMany b new
+inspect_at size None b a new (inl (c, reads, inl (line, tells, e, is))) failure_free = as_many b b new refl refl is
+inspect_at size None b a new (inl (c, reads, inr x)) failure_free = absurd ((of_answer a (printed.InspectRefused 11) x.1 failure_free).1 refl)
+inspect_at size None b a new (inr x) failure_free = absurd ((of_answer a (printed.InspectRefused 5) x.0 failure_free).0 refl)
+inspect_at size (Some life) b a new x failure_free = as_many b b new refl refl x.1
+
 step_failure_free : (size : Size) (line : Line) (b : Bench) (a : Answer) (new : Bench) → Step size line b a new → ShowsNoFailure a.line → AsMany b new
 step_failure_free size (lines.Payload x y) b a new h failure_free = payload_at b.power x y b a new h
 step_failure_free size lines.Format b a new h failure_free = format_at b.power b a new h failure_free
@@ -264,6 +272,7 @@ step_failure_free size (lines.FailAt x) b a new h failure_free = as_many b (arme
 step_failure_free size (lines.FailLane x y) b a new h failure_free = as_many b (armed_with FaultArmed b) new refl refl h.1
 step_failure_free size (lines.Cut fill) b a new h failure_free = as_many b (unpowered b) new refl refl h.1
 step_failure_free size (lines.Poke x y z) b a new h failure_free = poke_at b.power b a new h
+step_failure_free size lines.Inspect b a new h failure_free = inspect_at size b.power b a new h failure_free
 
 -- within a failure-free line no cut struck
 moves_failure_free : (size : Size) (line : Line) (b : Bench) (a : Answer) (new : Bench) → Moves size line b a new → ShowsNoFailure a.line → AsMany b new

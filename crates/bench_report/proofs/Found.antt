@@ -8,6 +8,7 @@ use Rattle.board_model.specs.declared.boot_mode.BootMode.{BootMode}
 use Rattle.board_model.specs.declared.boot_mode.BootMode.TheVariants as modes
 use Rattle.board_model.specs.declared.durable.Reason.{Reason}
 use Rattle.board.specs.Boots.{boot_refusal}
+use Rattle.board.specs.Moments.{commands_by}
 use Rattle.script_lang.specs.Scripts.{Script}
 use Rattle.script_lang.specs.declared.line.Line.{Line}
 use Rattle.script_lang.specs.declared.line.Line.TheVariants as lines
@@ -139,7 +140,7 @@ one_six c s z b o mid (life, on, first, last, i, inr (n, err, same, e)) six =
     let at : Issued c (life_begun s z) start first last = subst L (one_life start.power (life_begun s z) life refl on) i in
     subst DiskHasFailed (sym e) (issued_six c s z start first last at (err ∙ ap (λ k. Err k) (err_six n o same six)))
 
-boot_six : (mode : BootMode) (s : DurableState) (z : Size) (b : Bench) (o : Result ℕ ℕ) (mid : Bench) → IssuesAll (commands_of mode) (on_with (life_begun s z) b) o mid → o ≡ Err 6 → DiskHasFailed mid
+boot_six : (mode : BootMode) (s : DurableState) (z : Size) (b : Bench) (o : Result ℕ ℕ) (mid : Bench) → IssuesAll (commands_by mode s) (on_with (life_begun s z) b) o mid → o ≡ Err 6 → DiskHasFailed mid
 boot_six modes.Fresh s z b o mid all six = ok_six 0 o all.0 six
 boot_six modes.Keep s z b o mid all six = ok_six 0 o all.0 six
 boot_six modes.Discard s z b o mid all six = one_six Discard s z b o mid all six
@@ -162,7 +163,7 @@ quiet_line : (asked : AskedLine) (x y : Printed) (now : Bool) → x ≡ y → Is
 quiet_line asked x y now e q = subst (λ (l : Printed). IsQuiet asked l now) (sym e) q
 
 module _ (now : Bool) where
-  booted_quiet : (o : Result ℕ ℕ) (mode : BootMode) (z : Size) (s : DurableState) (b mid : Bench) (x : Printed) (new : Bench) → (DiskHasFailed new → ⊥) → IssuesAll (commands_of mode) (on_with (life_begun s z) b) o mid → IsBooted o mode z s mid x new → IsQuiet (Boot mode) x now
+  booted_quiet : (o : Result ℕ ℕ) (mode : BootMode) (z : Size) (s : DurableState) (b mid : Bench) (x : Printed) (new : Bench) → (DiskHasFailed new → ⊥) → IssuesAll (commands_by mode s) (on_with (life_begun s z) b) o mid → IsBooted o mode z s mid x new → IsQuiet (Boot mode) x now
   booted_quiet (Ok n) mode z s b mid x new well all (life, on, line, m, is, e) = quiet_line (Boot mode) x (printed.On mode) now line tt
   booted_quiet (Err n) mode z s b mid x new well all (line, e) =
       quiet_line (Boot mode) x (printed.OnRefused n) now line (λ six. well (subst DiskHasFailed (sym e) (boot_six mode s z b (Err n) mid all (ap (λ k. Err k) six))))
@@ -263,17 +264,24 @@ step_quiet size line b a new sound well up h = nothing_quiet a.line (is_up new.p
 not_now : {A : Type 0} (now : Bool) → now ≡ true → now ≡ false → A
 not_now now e f = let g : true ≡ false = sym e ∙ f in absurd (let no : ⊥ = cc in no)
 
-fewer_none : (mode : BootMode) (s t : DurableState) → TakesFewer (commands_of mode) s t → t ≡ s
-fewer_none modes.Fresh s t h = absurd h
-fewer_none modes.Keep s t h = absurd h
-fewer_none modes.Discard s t (inl e) = e
-fewer_none modes.Discard s t (inr h) = absurd h.1
-fewer_none modes.Resume s t (inl e) = e
-fewer_none modes.Resume s t (inr h) = absurd h.1
+fewer_alone : (mode : BootMode) (s t : DurableState) → TakesFewer (commands_by mode s) s t → t ≡ s
+fewer_alone modes.Fresh s t h = absurd h
+fewer_alone modes.Keep s t h = absurd h
+fewer_alone modes.Discard s t (inl e) = e
+fewer_alone modes.Discard s t (inr h) = absurd h.1
+fewer_alone modes.Resume s t (inl e) = e
+fewer_alone modes.Resume s t (inr h) = absurd h.1
+
+fewer_if : (refused : Bool) (cs : List Change) (s t : DurableState) → (TakesFewer cs s t → t ≡ s) → TakesFewer (if refused then [] else cs) s t → t ≡ s
+fewer_if true cs s t alone h = absurd h
+fewer_if false cs s t alone h = alone h
+
+fewer_none : (mode : BootMode) (s t : DurableState) → TakesFewer (commands_of mode s) s t → t ≡ s
+fewer_none mode s t h = fewer_if (is_some (boot_refusal s mode)) (commands_by mode s) s t (fewer_alone mode s t) h
 
 module _ (s t : DurableState) (up now : Bool) where
   makes_boot : (mode : BootMode) (x : Printed) → IsQuiet (Boot mode) x now → LineImplies (Boot mode) x s up t now → LineMakes (Boot mode) x s t
-  makes_boot mode (printed.On m) q h = (h.0, h.2)
+  makes_boot mode (printed.On m) q h = (h.0, h.2, h.4)
   makes_boot mode (printed.OnRefused n) q (a, b, inl e) = e
   makes_boot mode (printed.OnRefused n) q (a, b, inr (inl h)) = fewer_none mode s t h
   makes_boot mode (printed.OnRefused n) q (a, b, inr (inr h)) = absurd (q h.0)

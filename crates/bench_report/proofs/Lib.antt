@@ -5,6 +5,7 @@ pub mod Adapted
 pub mod Formats
 pub mod Armings
 pub mod Pokes
+pub mod Examining
 pub mod Opening
 pub mod Commanded
 pub mod Ended
@@ -22,6 +23,7 @@ pub mod Wholes
 pub mod Resumed
 pub mod Prefixed
 pub mod Issues
+pub mod Allowed
 pub mod PlainRun
 pub mod Started
 pub mod Came

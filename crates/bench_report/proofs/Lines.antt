@@ -23,6 +23,7 @@ use Rattle.bench_report.specs.Views.{SimStore, SimBoard, store_in, machine_in, s
 use Rattle.bench_report.specs.Bench.{BenchLife, Bench}
 use Rattle.bench_report.specs.Happens.{shows, on_with, has_machine}
 use Rattle.bench_report.specs.PowerOns.{FormatsOn, PowersOn}
+use Rattle.bench_report.specs.Examined.{InspectsOn, InspectStep}
 use Rattle.bench_report.specs.Steps.{Step, FormatStep, OnStep, PayloadStep, CallReported, GuestCall, TurnStep, CallStep, ReadStep}
 use Rattle.bench_report.proofs.Commanded.{Running, running_on}
 use Rattle.bench_report.proofs.Came.{Stands, has_other, comes, turns}
@@ -34,6 +35,9 @@ off_formats size b a after none did = let P : Option BenchLife → Type 0 = λ p
 
 pub off_powers : (size : Size) (b : Bench) (mode : BootMode) (a : Answer) (after : Power) → b.power ≡ None → StepsTo size b after (PowersOn size mode b a) → StepsTo size b after (OnStep size b.power mode b a)
 off_powers size b mode a after none did = let P : Option BenchLife → Type 0 = λ p. OnStep size p mode b a did.0 in (did.0, subst P (sym none) did.1, did.2, did.3)
+
+pub off_inspects : (size : Size) (b : Bench) (a : Answer) (after : Power) → b.power ≡ None → StepsTo size b after (InspectsOn size b a) → StepsTo size b after (InspectStep size b.power b a)
+off_inspects size b a after none did = let P : Option BenchLife → Type 0 = λ p. InspectStep size p b a did.0 in (did.0, subst P (sym none) did.1, did.2, did.3)
 
 -- a board that is on has a life
 life_by : {X : Type 0} (size : Size) (b : Bench) (board : SimBoard) (p : Option BenchLife) → b.power ≡ p → OnIs size b board → ((life : BenchLife) → b.power ≡ Some life → X) → X

@@ -30,13 +30,13 @@ lost_refused : (n : ℕ) (c : Change) (s t : DurableState) (up now : Bool) → R
 lost_refused n c s t up now (inl h) = inl h.1
 lost_refused n c s t up now (inr h) = h.2
 
-lost_boot : (mode : BootMode) (x : Printed) (s t : DurableState) (up now : Bool) → LineImplies (Boot mode) x s up t now → TakesSome (commands_of mode) s t
-lost_boot mode (printed.On m) s t up now h = all_some (commands_of mode) s t h.2
-lost_boot mode (printed.OnRefused n) s t up now (a, b, inl e) = none_some (commands_of mode) s t e
-lost_boot mode (printed.OnRefused n) s t up now (a, b, inr (inl h)) = fewer_some (commands_of mode) s t h
+lost_boot : (mode : BootMode) (x : Printed) (s t : DurableState) (up now : Bool) → LineImplies (Boot mode) x s up t now → TakesSome (commands_of mode s) s t
+lost_boot mode (printed.On m) s t up now h = all_some (commands_of mode s) s t h.2
+lost_boot mode (printed.OnRefused n) s t up now (a, b, inl e) = none_some (commands_of mode s) s t e
+lost_boot mode (printed.OnRefused n) s t up now (a, b, inr (inl h)) = fewer_some (commands_of mode s) s t h
 lost_boot mode (printed.OnRefused n) s t up now (a, b, inr (inr h)) = h.1
 lost_boot mode printed.PowerLost s t up now h = h.0
-lost_boot mode x s t up now h = none_some (commands_of mode) s t h.0
+lost_boot mode x s t up now h = none_some (commands_of mode s) s t h.0
 
 lost_command : (c : Change) (x : Printed) (s t : DurableState) (up now : Bool) → LineImplies (Command c) x s up t now → (t ≡ s) ⊎ ((up ≡ true) × TakesSome (c ∷ []) s t)
 lost_command c (printed.Acknowledged word k) s t up now h = inr (h.0, all_some (c ∷ []) s t h.1)

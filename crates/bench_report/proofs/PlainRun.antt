@@ -19,7 +19,7 @@ use Rattle.bench_report.specs.Happens.{on_with, settled, acknowledged}
 use Rattle.bench_report.specs.Commands.{Writes, Issued, IssuedBy}
 use Rattle.bench_report.specs.PowerOns.{life_begun, ShowsFound, FormatsOn, Boots, Begins, Opens, IsOpenRefusal, PowersOn}
 use Rattle.bench_report.specs.Steps.{ArmStep, FormatStep, OnStep, ConsoleStep, PayloadStep, Step, Run}
-use Rattle.bench_report.specs.Reports.{IsByFirmware, AreByFirmware, IsReport}
+use Rattle.bench_report.specs.Reports.{IsByFirmware, AreByFirmware, IsNoExaminer, AreNoExaminers, IsReport}
 use Rattle.bench_report.specs.Plain.{plain_written, plain_issued, plain_console, plain_format, plain_slot, plain_boot, plain_on, plain_at, plain, plain_answers, plain_report, IsPlain, ArePlain}
 use Rattle.bench_report.proofs.Adapted.{grows}
 use Rattle.bench_report.proofs.Determined.{CalmDisk}
@@ -155,6 +155,7 @@ steps size (lines.CutLane x y z) b plain good = by_power b.power (λ p. Well b (
 steps size (lines.FailAt x) b plain good = by_power b.power (λ p. Well b (ArmStep FaultArmed b) (plain_at size p (lines.FailAt x) b)) ((refl, refl), good, (refl, refl)) (λ life. ((refl, refl), good, (refl, refl)))
 steps size (lines.FailLane x y) b plain good = by_power b.power (λ p. Well b (ArmStep FaultArmed b) (plain_at size p (lines.FailLane x y) b)) ((refl, refl), good, (refl, refl)) (λ life. ((refl, refl), good, (refl, refl)))
 steps size (lines.Poke x y z) b plain good = absurd plain
+steps size lines.Inspect b plain good = absurd plain
 steps size (lines.Cut fill) b plain good =
     by_power b.power (λ p. Well b (Step size (lines.Cut fill) b) (plain_at size p (lines.Cut fill) b)) ((refl, refl), (good.0, tt, refl, good.3), (refl, refl)) (λ life. ((refl, refl), (good.0, tt, refl, good.3), (refl, refl)))
 steps size (lines.Turn x y) b plain good = absurd plain
@@ -182,7 +183,16 @@ are_by : (ls : List Line) → ArePlain ls → AreByFirmware ls
 are_by [] are = tt
 are_by (l ∷ ls) are = (plain_by l are.0, are_by ls are.1)
 
+-- nor examines it
+plain_blind : (line : Line) → IsPlain line → IsNoExaminer line
+plain_blind lines.Inspect plain = absurd plain
+plain_blind line plain = tt
+
+are_blind : (ls : List Line) → ArePlain ls → AreNoExaminers ls
+are_blind [] are = tt
+are_blind (l ∷ ls) are = (plain_blind l are.0, are_blind ls are.1)
+
 pub plain_alone : IsOneTurn → IsOneCall → IsOneCsr → (script : Script) (answers : List Answer) (end : Bench) → IsReport script answers end → IsFailureFree end → ArePlain script.lines → answers ≡ plain_report script
 plain_alone turns call csr script answers end h failure_free_bench plain =
     let run = runs script.size script.lines blank_bench plain (tt, tt, refl, refl) in
-    (one_report turns call csr script answers (plain_report script) end run.0 (are_by script.lines plain) h (refl, run.1) failure_free_bench run.2).0
+    (one_report turns call csr script answers (plain_report script) end run.0 (are_by script.lines plain) (are_blind script.lines plain) h (refl, run.1) failure_free_bench run.2).0

@@ -9,6 +9,7 @@ use Rattle.board_model.specs.declared.durable.Durable.{Durable}
 use Rattle.board_model.specs.declared.boot_mode.BootMode.{BootMode}
 use Rattle.board_model.specs.declared.boot_mode.BootMode.TheVariants as modes
 use Rattle.board.specs.Boots.{boot_refusal}
+use Rattle.board.specs.Moments.{commands_by}
 use Rattle.script_lang.specs.Scripts.{Script}
 use Rattle.script_lang.specs.declared.line.Line.{Line}
 use Rattle.script_lang.specs.declared.line.Line.TheVariants as lines
@@ -32,6 +33,8 @@ use Rattle.bench_report.specs.declared.printed.Answer.{Answer}
 use Rattle.bench_report.specs.Bench.{DiskState, Blank, Unknown, Formatted, BenchLife, Bench, blank_bench}
 use Rattle.bench_report.specs.Happens.{says, shows, out_of_memory, failed, on_with, unpowered, armed_with, formatted_anew, settled, has_machine}
 use Rattle.bench_report.specs.PowerOns.{life_begun, commands_of, IsBooted, BootsFrom, Resumes, Begins, Boots, Opens, ShowsFound, IsOpenRefusal, PowersOn, FormatsOn}
+use Rattle.bench_report.specs.Examined.{Tells, InspectStep}
+use Rattle.disk.specs.Facts.{Content}
 use Rattle.bench_report.specs.Steps.{console_reported, FormatStep, OnStep, ConsoleStep, PayloadStep, CallReported, GuestCall, TurnStep, CallStep, ReadStep, PokeStep, Step, Moves, Run}
 use Rattle.bench_report.specs.Reports.{IsByFirmware, AreByFirmware, IsReport}
 use Rattle.bench_report.specs.Prefix.{AskedLine, Boot, Command, Guest, Nothing, Keeps, Hides, TellsTurns, TellsLine, asked_by, RefusedChange, Lost, LineImplies, ShowsIts, IsPrefixed, resumes, RisesFrom, AreLoaded, is_format_ok, IsFoundByPrefix, KeepsPrefixLaw}
@@ -40,6 +43,7 @@ use Rattle.bench_report.proofs.Unsaid.{Hidden, TellsOne, GoesBy, TurnsGoBy, come
 use Rattle.bench_report.proofs.Lost.{lost}
 use Rattle.bench_report.proofs.Serials.{serials_rise}
 use Rattle.bench_report.proofs.Wholes.{IsKeptWhole, all_loaded}
+use Rattle.bench_report.proofs.Allowed.{all_issued}
 use Rattle.bench_report.proofs.Issues.{takes_more, is_up, GoesOn, IsSound, Back, joined, said, Went, Does, issued_back, AllWent, all_back}
 
 -- ---- a line that leaves what the disk stands for
@@ -104,9 +108,13 @@ module _ (b : Bench) (changes : List Change) (may : MayKeep b.kept changes) (dis
       subst Q (sym e) (said b x (λ s t. (t ≡ s) × (s ≡ found_of changes)) (λ s t. LineReports (Boot mode) a (is_up b.power) (is_up x.power) s t) back
       (λ s t h. by_parts mode a _ (printed.OnRefused n) (is_up b.power) (is_up x.power) s t found line (shown s h.1) (off_now, ap is_up same_power ∙ off_now, inl h.0)))
 
-  is_on : (o : Result ℕ ℕ) (mode : BootMode) (z : Size) (a : Answer) (mid new : Bench) → a.found ≡ Some (durable_of (found_of changes))
-      → Back b mid (λ s t. (s ≡ found_of changes) × AllWent o (commands_of mode) (is_up mid.power) s t) → IsBooted o mode z (found_of changes) mid a.line new → Tell (Boot mode) b a new
-  is_on (Ok n) mode z a mid new found back (life, at, line, m, boots, e) =
+  -- what a power-on finds by a mode that it allows, and the commands that were then issued
+  abbrev WentFrom : Result ℕ ℕ → BootMode → Bool → DurableState → DurableState → Type 0
+  WentFrom o mode up s t = (s ≡ found_of changes) × AllWent o (commands_of mode s) up s t
+
+  is_on : (o : Result ℕ ℕ) (mode : BootMode) (z : Size) (a : Answer) (mid new : Bench) → boot_refusal (found_of changes) mode ≡ None → a.found ≡ Some (durable_of (found_of changes))
+      → Back b mid (WentFrom o mode (is_up mid.power)) → IsBooted o mode z (found_of changes) mid a.line new → Tell (Boot mode) b a new
+  is_on (Ok n) mode z a mid new allowed found back (life, at, line, m, boots, e) =
       let Q : Bench → Type 0 = λ m. Tell (Boot mode) b a m in
       let F : Option BenchLife → Type 0 = λ p. GoesOn mid.kept p in
       subst Q (sym e) (
@@ -115,42 +123,49 @@ module _ (b : Bench) (changes : List Change) (may : MayKeep b.kept changes) (dis
             let s = back.1 t f in (
               s.0,
               s.1,
-              by_parts mode a _ (printed.On mode) (is_up b.power) (takes_more life.doubt) s.0 t found line (shown s.0 s.2.0) (refl, off_now, s.2.1.0, sym (ap is_up at) ∙ s.2.1.1),
+              by_parts mode a _ (printed.On mode) (is_up b.power) (takes_more life.doubt) s.0 t found line (shown s.0 s.2.0) (refl, off_now, s.2.1.0, sym (ap is_up at) ∙ s.2.1.1, ap (λ (u : DurableState). boot_refusal u mode) s.2.0 ∙ allowed),
             )
             ),
       )
-  is_on (Err n) mode z a mid new found back (line, e) =
+  is_on (Err n) mode z a mid new allowed found back (line, e) =
       let Q : Bench → Type 0 = λ m. Tell (Boot mode) b a m in
       subst Q (sym e) (
         (back.0.0, tt),
         λ t f. (let s = back.1 t f in (s.0, s.1, by_parts mode a _ (printed.OnRefused n) (is_up b.power) false s.0 t found line (shown s.0 s.2.0) (off_now, refl, inr s.2.1))),
       )
 
-  starts : (mode : BootMode) (z : Size) (a : Answer) (new : Bench) → a.found ≡ Some (durable_of (found_of changes)) → BootsFrom mode z (found_of changes) (settled changes b) a.line new → Tell (Boot mode) b a new
-  starts mode z a new found (o, mid, all, on_h) =
+  -- the commands of the state found are those of any that it is
+  went_from : (o : Result ℕ ℕ) (mode : BootMode) (up : Bool) (s u t : DurableState) → boot_refusal (found_of changes) mode ≡ None → u ≡ s → s ≡ found_of changes → AllWent o (commands_by mode (found_of changes)) up u t → WentFrom o mode up s t
+  went_from o mode up s u t allowed same is went =
+      let F : DurableState → Type 0 = λ v. AllWent o (commands_by mode (found_of changes)) up v t in
+      let G : List Change → Type 0 = λ cs. AllWent o cs up s t in
+      (is, subst G (all_issued mode (found_of changes) allowed ∙ ap (commands_of mode) (sym is)) (subst F same went))
+
+  starts : (mode : BootMode) (z : Size) (a : Answer) (new : Bench) → boot_refusal (found_of changes) mode ≡ None → a.found ≡ Some (durable_of (found_of changes)) → BootsFrom mode z (found_of changes) (settled changes b) a.line new → Tell (Boot mode) b a new
+  starts mode z a new allowed found (o, mid, all, on_h) =
       let start : Bench = on_with (life_begun (found_of changes) z) (settled changes b) in
       let sound : IsSound start = (disk_state, (refl, refl)) in
-      let rest : Back start mid (AllWent o (commands_of mode) (is_up mid.power)) = all_back (commands_of mode) start o mid sound refl all in
-      let whole : Back b mid (λ s t. (s ≡ found_of changes) × AllWent o (commands_of mode) (is_up mid.power) s t) =
-      joined b start mid (λ s t. (t ≡ s) × (s ≡ found_of changes)) (AllWent o (commands_of mode) (is_up mid.power)) (λ s t. (s ≡ found_of changes) × AllWent o (commands_of mode) (is_up mid.power) s t)
-      (opened start refl sound) rest
-      (λ s u t x w. (x.1, (let R : DurableState → Type 0 = λ v. AllWent o (commands_of mode) (is_up mid.power) v t in subst R x.0 w))) in
-      is_on o mode z a mid new found whole on_h
+      let issued : List Change = commands_by mode (found_of changes) in
+      let rest : Back start mid (AllWent o issued (is_up mid.power)) = all_back issued start o mid sound refl all in
+      let whole : Back b mid (WentFrom o mode (is_up mid.power)) =
+      joined b start mid (λ s t. (t ≡ s) × (s ≡ found_of changes)) (AllWent o issued (is_up mid.power)) (WentFrom o mode (is_up mid.power)) (opened start refl sound) rest
+      (λ s u t x w. went_from o mode (is_up mid.power) s u t allowed x.0 x.1 w) in
+      is_on o mode z a mid new allowed found whole on_h
 
-  resumes_at : (z : Size) (a : Answer) (new : Bench) → a.found ≡ Some (durable_of (found_of changes)) → Resumes z (found_of changes) (settled changes b) a.line new → Tell (Boot modes.Resume) b a new
-  resumes_at z a new found (inl h) = starts modes.Resume z a new found h
-  resumes_at z a new found (inr h) = refused_boot 13 modes.Resume a (settled changes b) new found h.1 h.2 refl refl refl
+  resumes_at : (z : Size) (a : Answer) (new : Bench) → boot_refusal (found_of changes) modes.Resume ≡ None → a.found ≡ Some (durable_of (found_of changes)) → Resumes z (found_of changes) (settled changes b) a.line new → Tell (Boot modes.Resume) b a new
+  resumes_at z a new allowed found (inl h) = starts modes.Resume z a new allowed found h
+  resumes_at z a new allowed found (inr h) = refused_boot 13 modes.Resume a (settled changes b) new found h.1 h.2 refl refl refl
 
-  begins : (mode : BootMode) (z : Size) (a : Answer) (new : Bench) → a.found ≡ Some (durable_of (found_of changes)) → Begins mode z (found_of changes) (settled changes b) a.line new → Tell (Boot mode) b a new
-  begins modes.Fresh z a new found h = starts modes.Fresh z a new found h
-  begins modes.Keep z a new found h = starts modes.Keep z a new found h
-  begins modes.Discard z a new found h = starts modes.Discard z a new found h
-  begins modes.Resume z a new found h = resumes_at z a new found h
+  begins : (mode : BootMode) (z : Size) (a : Answer) (new : Bench) → boot_refusal (found_of changes) mode ≡ None → a.found ≡ Some (durable_of (found_of changes)) → Begins mode z (found_of changes) (settled changes b) a.line new → Tell (Boot mode) b a new
+  begins modes.Fresh z a new allowed found h = starts modes.Fresh z a new allowed found h
+  begins modes.Keep z a new allowed found h = starts modes.Keep z a new allowed found h
+  begins modes.Discard z a new allowed found h = starts modes.Discard z a new allowed found h
+  begins modes.Resume z a new allowed found h = resumes_at z a new allowed found h
 
-  boots : (r : Option ℕ) (mode : BootMode) (z : Size) (a : Answer) (new : Bench) → a.found ≡ Some (durable_of (found_of changes)) → Boots r mode z (found_of changes) (settled changes b) a.line new → Tell (Boot mode) b a new
-  boots (Some n) mode z a new found h = refused_boot n mode a (settled changes b) new found h.0 h.1 refl refl refl
-  boots None mode z a new found (inl h) = begins mode z a new found h
-  boots None mode z a new found (inr h) = refused_boot 11 mode a (out_of_memory (settled changes b)) new found h.0 h.1 refl refl refl
+  boots : (r : Option ℕ) (mode : BootMode) (z : Size) (a : Answer) (new : Bench) → boot_refusal (found_of changes) mode ≡ r → a.found ≡ Some (durable_of (found_of changes)) → Boots r mode z (found_of changes) (settled changes b) a.line new → Tell (Boot mode) b a new
+  boots (Some n) mode z a new at found h = refused_boot n mode a (settled changes b) new found h.0 h.1 refl refl refl
+  boots None mode z a new allowed found (inl h) = begins mode z a new allowed found h
+  boots None mode z a new allowed found (inr h) = refused_boot 11 mode a (out_of_memory (settled changes b)) new found h.0 h.1 refl refl refl
 
 opens : (size : Size) (m : DiskState) (mode : BootMode) (b : Bench) (a : Answer) (new mid : Bench) (s : DurableState) (z : Size) → b.disk_state ≡ m → b.disk_state ≡ Formatted → b.power ≡ None → Opens size m b s z mid → ShowsFound a.found s
     → Boots (boot_refusal s mode) mode z s mid a.line new → Tell (Boot mode) b a new
@@ -159,7 +174,7 @@ opens size Unknown mode b a new mid s z at disk_state on h shows boot = absurd (
 opens size Formatted mode b a new mid s z at disk_state on (changes, may, is, sized, e) shows boot =
     let P : DurableState → Type 0 = λ x. Boots (boot_refusal x mode) mode z x mid a.line new in
     let Q : Bench → Type 0 = λ x. Boots (boot_refusal (found_of changes) mode) mode z (found_of changes) x a.line new in
-    boots b changes may disk_state on (boot_refusal (found_of changes) mode) mode z a new (found_as a.found s shows ∙ ap (λ x. Some (durable_of x)) is) (subst Q e (subst P is boot))
+    boots b changes may disk_state on (boot_refusal (found_of changes) mode) mode z a new refl (found_as a.found s shows ∙ ap (λ x. Some (durable_of x)) is) (subst Q e (subst P is boot))
 
 powers : (size : Size) (mode : BootMode) (b : Bench) (a : Answer) (new : Bench) → IsSound b → b.power ≡ None → PowersOn size mode b a new → Tell (Boot mode) b a new
 powers size mode b a new sound on (inl (s, z, mid, found, shows, boot)) = opens size b.disk_state mode b a new mid s z refl sound.0 on found shows boot
@@ -264,6 +279,17 @@ read_at : (p : Option BenchLife) (says_so : Machine → MachineLine → Type 0) 
 read_at None says_so b a new sound x = shows_on _ b a new sound x.0 x.1
 read_at (Some life) says_so b a new sound x = shows_on x.0 b a new sound x.2 x.3
 
+told_at : (c : Content) (line : Printed) (b : Bench) (a : Answer) (new : Bench) → IsSound b → Tells c line → a ≡ says line → new ≡ b → Tell Nothing b a new
+told_at c (printed.Inspected i) b a new sound tells e is = stays Nothing b a (printed.Inspected i) new e is sound (λ s t e. (e, refl))
+told_at c (printed.InspectRefused n) b a new sound tells e is = stays Nothing b a (printed.InspectRefused n) new e is sound (λ s t e. (e, refl))
+told_at c line b a new sound tells e is = absurd tells
+
+inspect_at : (size : Size) (p : Option BenchLife) (b : Bench) (a : Answer) (new : Bench) → IsSound b → InspectStep size p b a new → Tell Nothing b a new
+inspect_at size None b a new sound (inl (c, reads, inl (line, tells, e, is))) = told_at c line b a new sound tells e is
+inspect_at size None b a new sound (inl (c, reads, inr x)) = same Nothing b a (printed.InspectRefused 11) new (out_of_memory b) x.1 x.2 refl refl refl sound.1 sound (λ s t e. (e, refl))
+inspect_at size None b a new sound (inr x) = same Nothing b a (printed.InspectRefused 5) new (failed x.1.0 b) x.0 x.1.2 refl refl refl sound.1 sound (λ s t e. (e, refl))
+inspect_at size (Some life) b a new sound x = stays Nothing b a printed.Busy new x.0 x.1 sound (λ s t e. (e, refl))
+
 pub steps : (size : Size) (line : Line) (b : Bench) (a : Answer) (new : Bench) → IsByFirmware line → IsSound b → Step size line b a new → Tell (asked_by line) b a new
 steps size (lines.Payload x y) b a new by sound h = payload_at b.power x y b a new sound h
 steps size lines.Format b a new by sound h = format_at b.power b a new sound h
@@ -283,6 +309,7 @@ steps size (lines.FailAt x) b a new by sound h = same Nothing b a _ new (armed_w
 steps size (lines.FailLane x y) b a new by sound h = same Nothing b a _ new (armed_with FaultArmed b) h.0 h.1 refl refl refl sound.1 sound (λ s t e. (e, refl))
 steps size (lines.Cut fill) b a new by sound h = by_eqs Nothing b a _ new (unpowered b) h.0 h.1 ((sound.0, tt), λ t f. (t, f, (tt, (refl, refl))))
 steps size (lines.Poke x y z) b a new by sound h = absurd by
+steps size lines.Inspect b a new by sound h = inspect_at size b.power b a new sound h
 
 lost_tells : (asked : AskedLine) (s t : DurableState) (up : Bool) → Lost asked s up t → LineImplies asked printed.PowerLost s up t false
 lost_tells (Boot mode) s t up h = (h, refl)
@@ -399,6 +426,17 @@ poke_no : {T : Type 0} (p : Option BenchLife) (b : Bench) (a : Answer) (new : Be
 poke_no None b a new x ok = other a _ x.0 refl ok
 poke_no (Some life) b a new x ok = other a _ x.0 refl ok
 
+told_no : {T : Type 0} (c : Content) (line : Printed) (a : Answer) → Tells c line → a ≡ says line → is_format_ok a.line ≡ true → T
+told_no c (printed.Inspected i) a tells e ok = other a _ e refl ok
+told_no c (printed.InspectRefused n) a tells e ok = other a _ e refl ok
+told_no c line a tells e ok = absurd tells
+
+inspect_no : {T : Type 0} (size : Size) (p : Option BenchLife) (b : Bench) (a : Answer) (new : Bench) → InspectStep size p b a new → is_format_ok a.line ≡ true → T
+inspect_no size None b a new (inl (c, reads, inl (line, tells, e, is))) ok = told_no c line a tells e ok
+inspect_no size None b a new (inl (c, reads, inr x)) ok = other a _ x.1 refl ok
+inspect_no size None b a new (inr x) ok = other a _ x.0 refl ok
+inspect_no size (Some life) b a new x ok = other a _ x.0 refl ok
+
 step_formats : (size : Size) (line : Line) (b : Bench) (a : Answer) (new : Bench) → Step size line b a new → is_format_ok a.line ≡ true → IsFresh new
 step_formats size (lines.Payload x y) b a new h ok = payload_no b.power x y b a new h ok
 step_formats size lines.Format b a new h ok = formatted_at b.power b a new refl h ok
@@ -418,6 +456,7 @@ step_formats size (lines.FailAt x) b a new h ok = other a _ h.0 refl ok
 step_formats size (lines.FailLane x y) b a new h ok = other a _ h.0 refl ok
 step_formats size (lines.Cut x) b a new h ok = other a _ h.0 refl ok
 step_formats size (lines.Poke x y z) b a new h ok = poke_no b.power b a new h ok
+step_formats size lines.Inspect b a new h ok = inspect_no size b.power b a new h ok
 
 pub moves_format : (size : Size) (line : Line) (b : Bench) (a : Answer) (new : Bench) → Moves size line b a new → is_format_ok a.line ≡ true → IsFresh new
 moves_format size line b a new (inl h) ok = step_formats size line b a new h.0 ok

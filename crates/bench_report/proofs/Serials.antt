@@ -5,6 +5,7 @@ use Rattle.board_model.specs.Views.{head_of}
 use Rattle.board_model.specs.declared.durable.Durable.{Durable}
 use Rattle.board_model.specs.declared.boot_mode.BootMode.{BootMode}
 use Rattle.board_model.specs.declared.boot_mode.BootMode.TheVariants as modes
+use Rattle.board.specs.Boots.{boot_refusal}
 use Rattle.script_lang.specs.declared.line.Line.{Line}
 use Rattle.bench_report.specs.declared.printed.Answer.{Answer}
 use Rattle.bench_report.specs.declared.printed.Printed.{Printed}
@@ -13,6 +14,7 @@ use Rattle.bench_report.specs.PowerOns.{commands_of}
 use Rattle.bench_report.specs.Taken.{TakesAll, TakesSome}
 use Rattle.bench_report.specs.Prefix.{AskedLine, Boot, Command, Guest, Nothing, asked_by, Lost, LineImplies, ShowsIts, IsPrefixed, serial_then, resumed, resumes, RisesFrom}
 use Rattle.bench_report.proofs.Lost.{lost}
+use Rattle.bench_report.proofs.Allowed.{all_issued}
 
 -- no serial below n will be resumed again
 abbrev Above : ℕ → DurableState → Type 0
@@ -34,7 +36,7 @@ some (c ∷ cs) n s t (inl e) a = same n s t e a
 some (c ∷ cs) n s t (inr h) a = some cs n (after s c) t h.1 (above_after n s c a)
 
 above_lost : (asked : AskedLine) (up : Bool) (n : ℕ) (s t : DurableState) → Lost asked s up t → Above n s → Above n t
-above_lost (Boot mode) up n s t h a = some (commands_of mode) n s t h a
+above_lost (Boot mode) up n s t h a = some (commands_of mode s) n s t h a
 above_lost (Command c) up n s t (inl e) a = same n s t e a
 above_lost (Command c) up n s t (inr h) a = some (c ∷ []) n s t h.1 a
 above_lost Guest up n s t (inl e) a = same n s t e a
@@ -56,9 +58,10 @@ line_rises : (found : Option Durable) (said : Printed) (asked : AskedLine) (up n
     → ((k : ℕ) → Above k t → RisesFrom k rest) → RisesFrom n (resumed found said rest)
 line_rises None said asked up now n s t rest shows h a more = goes_on asked said up now n s t rest h a more
 line_rises (Some d) (printed.On modes.Resume) (Boot mode) up now n s t rest shows h a more =
-    let P : BootMode → Type 0 = λ m. TakesAll (commands_of m) s t in
+    let P : BootMode → Type 0 = λ m. (boot_refusal s m ≡ None) × TakesAll (commands_of m s) s t in
+    let at : P modes.Resume = subst P (sym h.0) (h.4, h.2) in
     let Q : Durable → Type 0 = λ d. RisesFrom n (serial_then d.image rest) in
-    subst Q (sym shows) (consumed n s t s.image rest refl (subst P (sym h.0) h.2) a more)
+    subst Q (sym shows) (consumed n s t s.image rest refl (subst (λ (cs : List Change). TakesAll cs s t) (sym (all_issued modes.Resume s at.0)) at.1) a more)
 line_rises (Some d) (printed.On modes.Resume) (Command c) up now n s t rest shows h a more = absurd h
 line_rises (Some d) (printed.On modes.Resume) Guest up now n s t rest shows h a more = absurd h
 line_rises (Some d) (printed.On modes.Resume) Nothing up now n s t rest shows h a more = absurd h

@@ -18,8 +18,10 @@ use Rattle.store.specs.Views.{life_of, view_of}
 use Rattle.machine.specs.Machine.{Machine}
 use Rattle.board.specs.Boots.{boot_refusal, life_after, PayloadsFit}
 use Rattle.board.specs.Begins.{IsBegun, Issues, IsLateRefusal, IsBootRefusal}
+use Rattle.board.specs.Moments.{commands_by}
 use Rattle.board.specs.PowersOn.{IsOn, IsUnpowered, KeepsDisk, GivesDisk}
-use Rattle.board.specs.Unbooted.{doubt_after, LeavesLife, CountsRefusal}
+use Rattle.board.specs.Unbooted.{doubt_by, LeavesLife, CountsRefusal}
+use Rattle.board.proofs.Few.{left_at}
 use Rattle.bench_report.specs.declared.printed.Answer.{Answer}
 use Rattle.bench_report.specs.declared.printed.Printed.{Printed}
 use Rattle.bench_report.specs.declared.printed.Printed.TheVariants as printed
@@ -27,7 +29,7 @@ use Rattle.bench_report.specs.Views.{SimStore, SimBoard, store_in, machine_in, f
 use Rattle.bench_report.specs.Bench.{DiskState, Blank, Unknown, Formatted, BenchLife, Bench}
 use Rattle.bench_report.specs.Happens.{says, out_of_memory, failed, off, on_with, has_machine, acknowledged, in_doubt}
 use Rattle.bench_report.specs.Commands.{Writes, Issued, IssuesAll}
-use Rattle.bench_report.specs.PowerOns.{life_begun, commands_of, ShowsFound, Opens, BootsFrom, Begins, Boots, PowersOn}
+use Rattle.bench_report.specs.PowerOns.{life_begun, ShowsFound, Opens, BootsFrom, Begins, Boots, PowersOn}
 use Rattle.bench_report.specs.Agree.{AreShort, DiskIs, DeviceIs, LifeIs, OffIs, OnIs}
 use Rattle.bench_report.proofs.Adapted.{calm}
 use Rattle.bench_report.proofs.Commanded.{follows_more, follows_with}
@@ -41,9 +43,9 @@ use Rattle.bench_report.proofs.Table.{mode_not_device, mode_not_down}
 pub roomy : (size : Size) (payloads : List (List ℕ)) → IsSize size → AreShort payloads → PayloadsFit size payloads
 roomy size payloads is short = λ k d lt. omega (arith, is.2, short k d lt)
 
-no_doubt : (mode : BootMode) (e : Refusal) → e ≢ Down → doubt_after mode e ≡ None
-no_doubt mode Down up = absurd (up refl)
-no_doubt mode e up = refl
+no_doubt : (cs : List Change) (e : Refusal) → e ≢ Down → doubt_by e cs ≡ None
+no_doubt cs Down up = absurd (up refl)
+no_doubt cs e up = refl
 
 as_begun : (store : SimStore) (s : DurableState) → life_of store ≡ started s → IsAs store s 0 None
 as_begun store s e = let P : StoreLife → Type 0 = λ life. IsLife life s 0 None in subst P (sym e) (refl, refl, refl, refl)
@@ -86,7 +88,7 @@ module _ (size : Size) (b : Bench) (s : DurableState) (board : SimBoard) (line :
   start = on_with (life_begun s z) b
 
   -- by a mode without a command
-  by_none : (mode : BootMode) → commands_of mode ≡ [] → IsBegun mode z b.payloads s machine → life_of (store_in board) ≡ started s → line ≡ printed.On mode → BoardStarts size mode z s b line board
+  by_none : (mode : BootMode) → commands_by mode s ≡ [] → IsBegun mode z b.payloads s machine → life_of (store_in board) ≡ started s → line ≡ printed.On mode → BoardStarts size mode z s b line board
   by_none mode none begins life h =
       let P : List Change → Type 0 = λ cs. IssuesAll cs start (Ok 0) start in (
         on_with (has_machine machine (life_begun s z)) b,
@@ -96,7 +98,7 @@ module _ (size : Size) (b : Bench) (s : DurableState) (board : SimBoard) (line :
       )
 
   -- by a mode with that command
-  by_one : (mode : BootMode) (c : Change) → commands_of mode ≡ c ∷ [] → refusal_of s c ≡ None → IsBegun mode z b.payloads s machine → life_of (store_in board) ≡ record (started s) { journal = c ∷ [] } → line ≡ printed.On mode
+  by_one : (mode : BootMode) (c : Change) → commands_by mode s ≡ c ∷ [] → refusal_of s c ≡ None → IsBegun mode z b.payloads s machine → life_of (store_in board) ≡ record (started s) { journal = c ∷ [] } → line ≡ printed.On mode
       → BoardStarts size mode z s b line board
   by_one mode c only allowed begins life h =
       let mid : Bench = acknowledged c (life_begun s z) start in
@@ -137,13 +139,13 @@ module _ (size : Size) (b : Bench) (old new : SimDisk) (z : Size) (s : DurableSt
   abbrev Left : Option ℕ → BootMode → Type 0
   Left o mode = (x : Bench) × Boots o mode z s b line x × OffIs size x new × (x.payloads ≡ b.payloads)
 
-  quiet : (mode : BootMode) (e : Refusal) → e ≢ Down → e ≢ Device → CausedRefusal (fault_state old) e (fault_state new) → LeavesLife (doubt_after mode e) (facts new) z s → OffIs size b new
+  quiet : (mode : BootMode) (e : Refusal) → e ≢ Down → e ≢ Device → CausedRefusal (fault_state old) e (fault_state new) → LeavesLife (doubt_by e (commands_by mode s)) (facts new) z s → OffIs size b new
   quiet mode e up is cause left =
       let P : Option Change → Type 0 = λ d. LeavesLife d (facts new) z s in
-      (none, kept_only size z b.disk_state b.kept s (facts new) follows (subst P (no_doubt mode e up) left), stays size b (fault_state old) (fault_state new) (facts old) (facts new) device (calm e (fault_state old) (fault_state new) cause up is) no_fewer long)
+      (none, kept_only size z b.disk_state b.kept s (facts new) follows (subst P (no_doubt (commands_by mode s) e up) left), stays size b (fault_state old) (fault_state new) (facts old) (facts new) device (calm e (fault_state old) (fault_state new) cause up is) no_fewer long)
 
   -- by a mode with that command, which the disk refused
-  refuses_it : (mode : BootMode) (c : Change) (o : ℕ) (mid : Bench) → commands_of mode ≡ c ∷ [] → refusal_of s c ≡ None → Writes None c (life_begun s z) (on_with (life_begun s z) b) (Err o) mid → line ≡ printed.OnRefused o
+  refuses_it : (mode : BootMode) (c : Change) (o : ℕ) (mid : Bench) → commands_by mode s ≡ c ∷ [] → refusal_of s c ≡ None → Writes None c (life_begun s z) (on_with (life_begun s z) b) (Err o) mid → line ≡ printed.OnRefused o
       → BootsFrom mode z s b line (off mid)
   refuses_it mode c o mid only allowed writes h =
       let first : Bench = on_with (life_begun s z) b in
@@ -157,7 +159,7 @@ module _ (size : Size) (b : Bench) (old new : SimDisk) (z : Size) (s : DurableSt
   StartsOff mode = (x : Bench) × BootsFrom mode z s b line x × OffIs size x new × (x.payloads ≡ b.payloads)
 
   -- the disk failed before the command could take effect
-  failed_at : (mode : BootMode) (c : Change) → commands_of mode ≡ c ∷ [] → refusal_of s c ≡ None → line ≡ printed.OnRefused 5 → LeavesOnly (facts new) z s → CausedRefusal (fault_state old) Device (fault_state new)
+  failed_at : (mode : BootMode) (c : Change) → commands_by mode s ≡ c ∷ [] → refusal_of s c ≡ None → line ≡ printed.OnRefused 5 → LeavesOnly (facts new) z s → CausedRefusal (fault_state old) Device (fault_state new)
       → CountsRefusal (facts old).failures Device (facts new).failures → StartsOff mode
   failed_at mode c only allowed h left cause counts =
       let first : Bench = on_with (life_begun s z) b in
@@ -166,7 +168,7 @@ module _ (size : Size) (b : Bench) (old new : SimDisk) (z : Size) (s : DurableSt
       (off mid, refuses_it mode c 5 mid only allowed (inr (inl (refl, did.0))) h, (refl, kept_only size z b.disk_state b.kept s (facts new) follows left, did.1), refl)
 
   -- it failed where the command may have taken effect
-  doubted_at : (mode : BootMode) (c : Change) → commands_of mode ≡ c ∷ [] → refusal_of s c ≡ None → line ≡ printed.OnRefused 6 → LeavesEither (facts new) z s (after s c) → CausedRefusal (fault_state old) Down (fault_state new)
+  doubted_at : (mode : BootMode) (c : Change) → commands_by mode s ≡ c ∷ [] → refusal_of s c ≡ None → line ≡ printed.OnRefused 6 → LeavesEither (facts new) z s (after s c) → CausedRefusal (fault_state old) Down (fault_state new)
       → CountsRefusal (facts old).failures Down (facts new).failures → StartsOff mode
   doubted_at mode c only allowed h left cause counts =
       let d : Bench = in_doubt c (life_begun s z) (on_with (life_begun s z) b) in
@@ -174,21 +176,21 @@ module _ (size : Size) (b : Bench) (old new : SimDisk) (z : Size) (s : DurableSt
       let mid = failed (fault_state new) d in
       (off mid, refuses_it mode c 6 mid only allowed (inr (inr (refl, did.0))) h, (refl, kept_either size z b.disk_state b.kept s c (facts new) follows allowed left, did.1), refl)
 
-  late_device : (mode : BootMode) → boot_refusal s mode ≡ None → line ≡ printed.OnRefused 5 → Issues mode → LeavesOnly (facts new) z s → CausedRefusal (fault_state old) Device (fault_state new)
+  late_device : (mode : BootMode) → boot_refusal s mode ≡ None → line ≡ printed.OnRefused 5 → Issues mode s → LeavesOnly (facts new) z s → CausedRefusal (fault_state old) Device (fault_state new)
       → CountsRefusal (facts old).failures Device (facts new).failures → Left None mode
-  late_device modes.Fresh allowed h issues left cause counts = absurd (let no : ⊥ = cc in no)
-  late_device modes.Keep allowed h issues left cause counts = absurd (let no : ⊥ = cc in no)
+  late_device modes.Fresh allowed h issues left cause counts = absurd (issues refl)
+  late_device modes.Keep allowed h issues left cause counts = absurd (issues refl)
   late_device modes.Discard allowed h issues left cause counts = let did = failed_at modes.Discard Discard refl allowed h left cause counts in (did.0, inl did.1, did.2, did.3)
   late_device modes.Resume allowed h issues left cause counts = let did = failed_at modes.Resume Consume refl allowed h left cause counts in (did.0, inl (inl did.1), did.2, did.3)
 
-  late_down : (mode : BootMode) → boot_refusal s mode ≡ None → line ≡ printed.OnRefused 6 → Issues mode → LeavesLife (doubt_after mode Down) (facts new) z s → CausedRefusal (fault_state old) Down (fault_state new)
+  late_down : (mode : BootMode) → boot_refusal s mode ≡ None → line ≡ printed.OnRefused 6 → Issues mode s → LeavesLife (doubt_by Down (commands_by mode s)) (facts new) z s → CausedRefusal (fault_state old) Down (fault_state new)
       → CountsRefusal (facts old).failures Down (facts new).failures → Left None mode
-  late_down modes.Fresh allowed h issues left cause counts = absurd (let no : ⊥ = cc in no)
-  late_down modes.Keep allowed h issues left cause counts = absurd (let no : ⊥ = cc in no)
+  late_down modes.Fresh allowed h issues left cause counts = absurd (issues refl)
+  late_down modes.Keep allowed h issues left cause counts = absurd (issues refl)
   late_down modes.Discard allowed h issues left cause counts = let did = doubted_at modes.Discard Discard refl allowed h left cause counts in (did.0, inl did.1, did.2, did.3)
   late_down modes.Resume allowed h issues left cause counts = let did = doubted_at modes.Resume Consume refl allowed h left cause counts in (did.0, inl (inl did.1), did.2, did.3)
 
-  late : (mode : BootMode) (e : Refusal) → boot_refusal s mode ≡ None → line ≡ printed.OnRefused (number_of_refusal e) → IsLateRefusal mode z payloads s e → LeavesLife (doubt_after mode e) (facts new) z s → CausedRefusal (fault_state old) e (fault_state new)
+  late : (mode : BootMode) (e : Refusal) → boot_refusal s mode ≡ None → line ≡ printed.OnRefused (number_of_refusal e) → IsLateRefusal mode z payloads s e → LeavesLife (doubt_by e (commands_by mode s)) (facts new) z s → CausedRefusal (fault_state old) e (fault_state new)
       → CountsRefusal (facts old).failures e (facts new).failures → Left None mode
   late mode BadShape allowed h why left cause counts = absurd (why fits)
   late mode Memory allowed h why left cause counts = (out_of_memory b, inr (h, refl), quiet mode Memory (λ f. (let no : ⊥ = cc in no)) (λ f. (let no : ⊥ = cc in no)) cause left, refl)
@@ -199,7 +201,7 @@ module _ (size : Size) (b : Bench) (old new : SimDisk) (z : Size) (s : DurableSt
       (b, subst P (sym why.1) (inl (inr (why.2, h, refl))), quiet mode BadImage (λ f. (let no : ⊥ = cc in no)) (λ f. (let no : ⊥ = cc in no)) cause left, refl)
   late mode e allowed h why left cause counts = absurd why
 
-  refused : (mode : BootMode) (o : Option ℕ) (e : Refusal) → boot_refusal s mode ≡ o → line ≡ printed.OnRefused (number_of_refusal e) → IsBootRefusal o mode z payloads s e → LeavesLife (doubt_after mode e) (facts new) z s
+  refused : (mode : BootMode) (o : Option ℕ) (e : Refusal) → boot_refusal s mode ≡ o → line ≡ printed.OnRefused (number_of_refusal e) → IsBootRefusal o mode z payloads s e → LeavesLife (doubt_by e (commands_by mode s)) (facts new) z s
       → CausedRefusal (fault_state old) e (fault_state new) → CountsRefusal (facts old).failures e (facts new).failures → Left o mode
   refused mode None e at h why left cause counts = late mode e at h why left cause counts
   refused mode (Some n) e at h why left cause counts =
@@ -210,15 +212,17 @@ abbrev pub Unpowered : Size → BootMode → Bench → Answer → SimDisk → Ty
 Unpowered size mode b a new = (x : Bench) × PowersOn size mode b a x × OffIs size x new × (x.payloads ≡ b.payloads)
 
 -- the board stays off, whether the open found a state or not
-pub unpowered : KeptLaw → BlankLaw → (size : Size) (mode : BootMode) (b : Bench) (old new : SimDisk) (payloads : List (List ℕ)) (e : Refusal) (n : ℕ) (o : Option Durable) → OffIs size b old → AreShort payloads → n ≡ number_of_refusal e
-    → IsUnpowered mode payloads o (facts old) e (facts new) → GivesDisk (facts old) (fault_state old) e (facts new) (fault_state new) → Unpowered size mode b (record { found = o; line = printed.OnRefused n }) new
-unpowered kept blank size mode b old new payloads e n None off short code is gives =
+pub unpowered : KeptLaw → BlankLaw → (size : Size) (mode : BootMode) (b : Bench) (old new : SimDisk) (payloads : List (List ℕ)) (e : Refusal) (n : ℕ) (o p : Option Durable) → OffIs size b old → AreShort payloads → n ≡ number_of_refusal e
+    → IsUnpowered mode payloads o p (facts old) e (facts new) → GivesDisk (facts old) (fault_state old) e (facts new) (fault_state new) → Unpowered size mode b (record { found = o; line = printed.OnRefused n }) new
+unpowered kept blank size mode b old new payloads e n None None off short code is gives =
     open_err kept blank size mode b old new (says (printed.OnRefused n)) e off.0 off.2 is.why gives.cause gives.no_fewer gives.length is.any_moment.now (ap (λ k. says (printed.OnRefused k)) code) off.1
-unpowered kept blank size mode b old new payloads e n (Some d) off short code is gives =
+unpowered kept blank size mode b old new payloads e n (Some d) (Some now) off short code is gives =
     let z : Size = is.size in
     let s : DurableState = is.state in
     let m = opened kept blank size b old z s off is.earlier in
     let c : Bench = record b { kept = m.0 } in
     let did = refused size c old new z s payloads (printed.OnRefused n) off.0 off.2 m.2 (roomy z payloads (kept.sized old z s is.earlier) short) gives.no_fewer gives.length mode (boot_refusal s mode) e refl
-    (ap (λ k. printed.OnRefused k) code) is.why is.left gives.cause gives.counts in
+    (ap (λ k. printed.OnRefused k) code) is.why (left_at mode e s is.life (facts new) z is.stopped is.left) gives.cause gives.counts in
     (did.0, inl (s, z, c, m.1, is.shows, did.1), did.2, did.3)
+unpowered kept blank size mode b old new payloads e n None (Some now) off short code is gives = absurd is
+unpowered kept blank size mode b old new payloads e n (Some d) None off short code is gives = absurd is

@@ -9,6 +9,7 @@ use Rattle.board_model.specs.declared.boot_mode.BootMode.{BootMode}
 use Rattle.board_model.specs.declared.boot_mode.BootMode.TheVariants as modes
 use Rattle.board_model.specs.declared.durable.Reason.{Reason}
 use Rattle.board.specs.Boots.{boot_refusal}
+use Rattle.board.specs.Moments.{commands_by}
 use Rattle.machine.specs.Machine.{Machine, hart_at}
 use Rattle.machine.specs.declared.parts.Word.{Word}
 use Rattle.machine.specs.declared.parts.Called.{Called}
@@ -38,7 +39,8 @@ use Rattle.bench_report.specs.Reports.{IsByFirmware, AreByFirmware}
 use Rattle.bench_report.specs.Happens.{out_of_memory, failed, off, on_with, unpowered, armed_with, settled, has_machine, acknowledged, in_doubt}
 use Rattle.bench_report.specs.Commands.{Writes, IssuedBy, Issued, IssuesAll}
 use Rattle.bench_report.specs.Turns.{refused, AnswersError, HartCommand, Resets, SuspendIssued, BenchSleeps, BenchSleepsBy, BenchMakesCall, ComesTo, GuestTurn, GuestTurns}
-use Rattle.bench_report.specs.PowerOns.{life_begun, commands_of, FormatsOn, IsBooted, BootsFrom, Begins, Boots, Opens, IsOpenRefusal, PowersOn}
+use Rattle.bench_report.specs.PowerOns.{life_begun, FormatsOn, IsBooted, BootsFrom, Begins, Boots, Opens, IsOpenRefusal, PowersOn}
+use Rattle.bench_report.specs.Examined.{InspectStep}
 use Rattle.bench_report.specs.Steps.{FormatStep, OnStep, ConsoleStep, PayloadStep, GuestCall, TurnStep, CallStep, ReadStep, Step, Moves, Run}
 use Rattle.bench_report.proofs.Adapted.{grows}
 use Rattle.bench_report.proofs.Determined.{begun_size}
@@ -175,18 +177,18 @@ module _ (size : Size) where
   call_line (Some life) h e f x y z b a new on k (inr g) = same_as b new g.2 k
 
   -- ---- power on
-  each_carries : (mode : BootMode) → AllCarry (commands_of mode)
-  each_carries modes.Fresh = tt
-  each_carries modes.Keep = tt
-  each_carries modes.Discard = (tt, tt)
-  each_carries modes.Resume = (tt, tt)
+  each_carries : (mode : BootMode) (s : DurableState) → AllCarry (commands_by mode s)
+  each_carries modes.Fresh s = tt
+  each_carries modes.Keep s = tt
+  each_carries modes.Discard s = (tt, tt)
+  each_carries modes.Resume s = (tt, tt)
 
   is_on : (o : Result ℕ ℕ) (mode : BootMode) (z : Size) (s : DurableState) (b : Bench) (line : Printed) (new : Bench) → z ≡ size → IsKeptWhole size b → IsBooted o mode z s b line new → IsKeptWhole size new
   is_on (Ok n) mode z s b line new same k (life, on, said, m, is, e) = same_as (on_with (has_machine m life) b) new e (k.0, k.1, k.2, begun_size mode z b.payloads s m is ∙ same)
   is_on (Err n) mode z s b line new same k x = same_as (off b) new x.1 (k.0, k.1, k.2, tt)
 
   starts : (mode : BootMode) (z : Size) (s : DurableState) (b : Bench) (line : Printed) (new : Bench) → z ≡ size → IsKeptWhole size b → BootsFrom mode z s b line new → IsKeptWhole size new
-  starts mode z s b line new same k (o, mid, x, on) = is_on o mode z s mid line new same (all (commands_of mode) (on_with (life_begun s z) b) o mid (each_carries mode) (k.0, k.1, k.2, same) x) on
+  starts mode z s b line new same k (o, mid, x, on) = is_on o mode z s mid line new same (all (commands_by mode s) (on_with (life_begun s z) b) o mid (each_carries mode s) (k.0, k.1, k.2, same) x) on
 
   begins : (mode : BootMode) (z : Size) (s : DurableState) (b : Bench) (line : Printed) (new : Bench) → z ≡ size → IsKeptWhole size b → Begins mode z s b line new → IsKeptWhole size new
   begins modes.Fresh z s b line new same k x = starts modes.Fresh z s b line new same k x
@@ -244,6 +246,12 @@ module _ (size : Size) where
   reads None says_so b a new k x = same_as b new x.1 k
   reads (Some life) says_so b a new k x = same_as b new x.3 k
 
+  inspects : (p : Option BenchLife) (b : Bench) (a : Answer) (new : Bench) → IsKeptWhole size b → InspectStep size p b a new → IsKeptWhole size new
+  inspects None b a new k (inl (c, reads, inl (line, tells, e, is))) = same_as b new is k
+  inspects None b a new k (inl (c, reads, inr x)) = same_as (out_of_memory b) new x.2 k
+  inspects None b a new k (inr x) = same_as (failed x.1.0 b) new x.1.2 k
+  inspects (Some life) b a new k x = same_as b new x.1 k
+
   step : (line : Line) (b : Bench) (a : Answer) (new : Bench) → IsByFirmware line → IsKeptWhole size b → Step size line b a new → IsKeptWhole size new
   step (lines.Payload x y) b a new by k h = payload b.power x y b a new k h
   step lines.Format b a new by k h = format_line b.power b a new k h
@@ -263,6 +271,7 @@ module _ (size : Size) where
   step (lines.FailLane x y) b a new by k h = same_as (armed_with FaultArmed b) new h.1 k
   step (lines.Cut fill) b a new by k h = same_as (unpowered b) new h.1 (k.0, k.1, k.2, tt)
   step (lines.Poke x y z) b a new by k h = absurd by
+  step lines.Inspect b a new by k h = inspects b.power b a new k h
 
   moves : (line : Line) (b : Bench) (a : Answer) (new : Bench) → IsByFirmware line → IsKeptWhole size b → Moves size line b a new → IsKeptWhole size new
   moves line b a new by k (inl h) = step line b a new by k h.0
@@ -306,7 +315,7 @@ module _ (size : Size) where
   is_on_not (Err n) mode z s b line new differs x = number line n x.0 (λ e. differs (ap (λ k. Err k) e))
 
   starts_not : (mode : BootMode) (z : Size) (s : DurableState) (b : Bench) (line : Printed) (new : Bench) → BootsFrom mode z s b line new → NotThirteen line
-  starts_not mode z s b line new (o, mid, x, on) = is_on_not o mode z s mid line new (all_not (commands_of mode) (on_with (life_begun s z) b) o mid x) on
+  starts_not mode z s b line new (o, mid, x, on) = is_on_not o mode z s mid line new (all_not (commands_by mode s) (on_with (life_begun s z) b) o mid x) on
 
   begins_not : (mode : BootMode) (z : Size) (s : DurableState) (b : Bench) (line : Printed) (new : Bench) → IsWhole z s → Begins mode z s b line new → NotThirteen line
   begins_not modes.Fresh z s b line new whole x = starts_not modes.Fresh z s b line new x
@@ -356,6 +365,7 @@ module _ (size : Size) where
   loaded (lines.FailLane x y) b a new k h = tt
   loaded (lines.Cut fill) b a new k h = tt
   loaded (lines.Poke x y z) b a new k h = tt
+  loaded lines.Inspect b a new k h = tt
 
   pub all_loaded : (ls : List Line) (b : Bench) (answers : List Answer) (end : Bench) → AreByFirmware ls → IsKeptWhole size b → Run size b ls answers end → AreLoaded ls answers
   all_loaded [] b [] end by k run = tt

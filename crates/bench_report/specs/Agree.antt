@@ -1,5 +1,5 @@
 -- How the code's disk and board stand for the bench of the model.
-use Rattle.std.specs.Prelude.{◌≡◌, false, ◌⊎◌, true, false, ℕ, List, [], ◌∷◌, All, ◌≤◌, Option, Some, None, Result, OnOk, length, ⊤}
+use Rattle.std.specs.Prelude.{◌≡◌, false, ◌⊎◌, true, false, ℕ, List, [], ◌∷◌, All, ◌≤◌, Option, Some, None, Result, OnOk, IfOk, length, ⊤}
 use Rattle.board_model.specs.Durable.{DurableState}
 use Rattle.board_model.specs.Kept.{Kept, MayFind, found_of}
 use Rattle.board_model.specs.Shapes.{Size, sectors_of}
@@ -26,6 +26,7 @@ use Rattle.bench_report.specs.declared.power.Power.TheVariants.{Off, On}
 use Rattle.bench_report.specs.Views.{SimStore, SimBoard, store_in, machine_in, disk_in, facts, arms, store_arms, sim_log_of, fault_state, store_facts, store_fault_state, store_size, store_now, store_doubt, IsAs}
 use Rattle.bench_report.specs.Bench.{DiskState, Blank, Unknown, Formatted, BenchLife, Bench}
 use Rattle.bench_report.specs.Steps.{Step}
+use Rattle.bench_report.specs.Examined.{AnswersOf}
 use Rattle.bench_report.specs.declared.printed.Answer.{Answer}
 
 -- what a crash may leave of the disk is what an open may find of the commands that it keeps
@@ -141,6 +142,16 @@ Pokes k offset bytes (On board) after = ⊤
 abbrev pub PokesIts : Line → Power → Result Answer Refusal → Power → Type 0
 PokesIts (lines.Poke k offset bytes) before did after = OnOk did (Pokes k offset bytes before after)
 PokesIts line before did after = ⊤
+
+-- what is said of the disk of a board that is off, by its content itself
+abbrev pub Inspects : Power → Answer → Type 0
+Inspects (Off disk) answer = AnswersOf (facts disk).content answer
+Inspects (On board) answer = ⊤
+
+-- what a line says that examines the disk
+abbrev pub InspectsIts : Line → Power → Result Answer Refusal → Type 0
+InspectsIts lines.Inspect before did = IfOk did (Inspects before)
+InspectsIts line before did = ⊤
 
 -- what an armed cut is to leave after a line: as the line says that armed the newest one
 abbrev pub fill_after : Line → Fill → Fill

@@ -1,8 +1,9 @@
 -- Without a failure of the disk, in the words of the report alone: from the first `format ok` on there is one
 -- state before each line, a found line shows it, and it is what all commands that were acknowledged since the
 -- format make of the formatted one, and no other.
-use Rattle.std.specs.Prelude.{◌≡◌, List, [], ◌∷◌, MatchBool, ⊤}
+use Rattle.std.specs.Prelude.{◌≡◌, List, [], ◌∷◌, None, MatchBool, ⊤}
 use Rattle.board_model.specs.Durable.{DurableState, Change, formatted}
+use Rattle.board.specs.Boots.{boot_refusal}
 use Rattle.machine.specs.declared.parts.Word.{Word}
 use Rattle.machine.specs.declared.parts.Word.TheVariants as words
 use Rattle.machine_lines.specs.declared.line.MachineLine.{MachineLine}
@@ -32,7 +33,8 @@ ShownMakes line s t = t ≡ s
 -- The state s before a line and t after it, by what the line asked and what it says. No cut strikes in a line
 -- that asks something of the disk.
 abbrev pub LineMakes : AskedLine → Printed → DurableState → DurableState → Type 0
-LineMakes (Boot asked) (printed.On mode) s t = (mode ≡ asked) × TakesAll (commands_of asked) s t
+LineMakes (Boot asked) (printed.On mode) s t =
+    (mode ≡ asked) × TakesAll (commands_of asked s) s t × (boot_refusal s asked ≡ None)
 LineMakes (Command c) (printed.Acknowledged word k) s t = TakesAll (c ∷ []) s t
 LineMakes Guest (printed.Shown line) s t = ShownMakes line s t
 LineMakes Nothing said s t = t ≡ s

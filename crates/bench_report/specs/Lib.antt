@@ -9,6 +9,8 @@ pub mod Commands
 pub mod Turns
 -- A format, and a power-on.
 pub mod PowerOns
+-- What a line that examines the disk may answer.
+pub mod Examined
 -- What each line of a script may answer, and the bench after it; whole runs.
 pub mod Steps
 -- The exact text of each line of a report.

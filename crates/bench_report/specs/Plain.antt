@@ -94,7 +94,8 @@ plain_answers size (line ∷ more) b = (plain size line b).0 ∷ plain_answers s
 abbrev pub plain_report : Script → List Answer
 plain_report script = board_answer script.size ∷ plain_answers script.size script.lines blank_bench
 
--- a line that neither moves a hart, nor shows memory or harts, nor writes the disk past the firmware
+-- a line that neither moves a hart, nor shows memory or harts, nor examines the disk, nor writes it past the
+-- firmware
 abbrev pub IsPlain : Line → Type 0
 IsPlain (lines.Turn h n) = ⊥
 IsPlain (lines.Call h e f x y z) = ⊥
@@ -104,6 +105,7 @@ IsPlain (lines.Csr h c) = ⊥
 IsPlain lines.Pending = ⊥
 IsPlain (lines.Mem a n) = ⊥
 IsPlain (lines.Poke k n bytes) = ⊥
+IsPlain lines.Inspect = ⊥
 IsPlain line = ⊤
 
 abbrev pub ArePlain : List Line → Type 0
@@ -124,6 +126,7 @@ abbrev pub ShowsNoFailure : Printed → Type 0
 ShowsNoFailure (printed.FormatRefused n) = n ≢ 5
 ShowsNoFailure (printed.OnRefused n) = (n ≢ 5) × (n ≢ 6) × (n ≢ 11)
 ShowsNoFailure (printed.CommandRefused word n) = (n ≢ 5) × (n ≢ 6)
+ShowsNoFailure (printed.InspectRefused n) = (n ≢ 5) × (n ≢ 11)
 ShowsNoFailure printed.PowerLost = ⊥
 ShowsNoFailure (printed.Shown line) = IsFailureFreeLine line
 ShowsNoFailure line = ⊤

@@ -1,6 +1,5 @@
 -- What a format and a power-on answer, and the bench after them. Source: docs/BOARD.md, "Power on".
-use Rattle.std.specs.Prelude.{◌≡◌, ◌≢◌, ℕ, ◌⊎◌, ⊤, List, Option, Some, None, Result, Ok, Err}
-use Rattle.std.specs.Option.{option_to_list}
+use Rattle.std.specs.Prelude.{◌≡◌, ◌≢◌, ℕ, ◌⊎◌, ⊤, List, [], Option, Some, None, is_some, if◌then◌else◌, Result, Ok, Err}
 use Rattle.board_model.specs.Durable.{DurableState, Change, IsWhole}
 use Rattle.board_model.specs.Kept.{MayKeep, found_of}
 use Rattle.board_model.specs.Shapes.{Size}
@@ -10,7 +9,7 @@ use Rattle.board_model.specs.declared.boot_mode.BootMode.{BootMode}
 use Rattle.board_model.specs.declared.boot_mode.BootMode.TheVariants as modes
 use Rattle.board.specs.Boots.{boot_refusal}
 use Rattle.board.specs.Begins.{IsBegun}
-use Rattle.board.specs.Moments.{issued_by}
+use Rattle.board.specs.Moments.{commands_by}
 use Rattle.machine.specs.Machine.{Machine, resting}
 use Rattle.bench_report.specs.declared.printed.Printed.{Printed}
 use Rattle.bench_report.specs.declared.printed.Printed.TheVariants as printed
@@ -35,15 +34,16 @@ FormatsOn Formatted b answer new =
 
 -- ---- power on
 
--- the commands that a boot by the mode issues
-abbrev pub commands_of : BootMode → List Change
-commands_of mode = option_to_list (issued_by mode)
+-- the commands that a power-on by the mode issues where the open finds that state, the first of them first:
+-- none where the state refuses the mode
+abbrev pub commands_of : BootMode → DurableState → List Change
+commands_of mode s = if is_some (boot_refusal s mode) then [] else commands_by mode s
 
 -- a life that an open begins, before the boot
 abbrev pub life_begun : DurableState → Size → BenchLife
 life_begun s z = record { now = s; receipts = 0; doubt = None; machine = resting z 0 }
 
--- the boot by the mode of a board of that size, from the state found, once its commands were issued
+-- the boot by the mode of a board of that size, from the state found, once its commands were issued there
 abbrev pub IsBooted : Result ℕ ℕ → BootMode → Size → DurableState → Bench → Printed → Bench → Type 0
 IsBooted (Ok n) mode z s b line new =
     (life : BenchLife) × (b.power ≡ Some life) × (line ≡ printed.On mode) × (m : Machine)
@@ -52,7 +52,7 @@ IsBooted (Err n) mode z s b line new = (line ≡ printed.OnRefused n) × (new �
 
 abbrev pub BootsFrom : BootMode → Size → DurableState → Bench → Printed → Bench → Type 0
 BootsFrom mode z s b line new =
-    (o : Result ℕ ℕ) × (mid : Bench) × IssuesAll (commands_of mode) (on_with (life_begun s z) b) o mid
+    (o : Result ℕ ℕ) × (mid : Bench) × IssuesAll (commands_by mode s) (on_with (life_begun s z) b) o mid
     × IsBooted o mode z s mid line new
 
 -- The image is loaded and consumed, and the board goes on with it; a failure of the disk in the load is

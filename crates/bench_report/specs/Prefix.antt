@@ -12,6 +12,7 @@ use Rattle.board_model.specs.declared.durable.Reason.{Reason}
 use Rattle.board_model.specs.declared.durable.ImageHead.{ImageHead}
 use Rattle.board_model.specs.declared.boot_mode.BootMode.{BootMode}
 use Rattle.board_model.specs.declared.boot_mode.BootMode.TheVariants as modes
+use Rattle.board.specs.Boots.{boot_refusal}
 use Rattle.machine.specs.declared.parts.Word.{Word}
 use Rattle.machine.specs.declared.parts.Word.TheVariants as words
 use Rattle.turns.specs.declared.words.Turned.{Turned}
@@ -105,7 +106,7 @@ TellsLine line s up t now = Keeps s up t now
 -- power was lost within the line: some first of its commands took effect, of which a board takes none that is
 -- off or in doubt
 abbrev pub Lost : AskedLine → DurableState → Bool → DurableState → Type 0
-Lost (Boot mode) s up t = TakesSome (commands_of mode) s t
+Lost (Boot mode) s up t = TakesSome (commands_of mode s) s t
 Lost (Command c) s up t = (t ≡ s) ⊎ ((up ≡ true) × TakesSome (c ∷ []) s t)
 Lost Guest s up t = (t ≡ s) ⊎ ((up ≡ true) × (c : Change) × IsOfHarts c × TakesSome (c ∷ []) s t)
 Lost Nothing s up t = t ≡ s
@@ -114,10 +115,10 @@ Lost Nothing s up t = t ≡ s
 -- by what the line asked and what it says.
 abbrev pub LineImplies : AskedLine → Printed → DurableState → Bool → DurableState → Bool → Type 0
 LineImplies (Boot asked) (printed.On mode) s up t now =
-    (mode ≡ asked) × (up ≡ false) × TakesAll (commands_of asked) s t × (now ≡ true)
+    (mode ≡ asked) × (up ≡ false) × TakesAll (commands_of asked s) s t × (now ≡ true) × (boot_refusal s asked ≡ None)
 LineImplies (Boot mode) (printed.OnRefused n) s up t now =
     (up ≡ false) × (now ≡ false)
-    × ((t ≡ s) ⊎ TakesFewer (commands_of mode) s t ⊎ ((n ≡ 6) × TakesSome (commands_of mode) s t))
+    × ((t ≡ s) ⊎ TakesFewer (commands_of mode s) s t ⊎ ((n ≡ 6) × TakesSome (commands_of mode s) s t))
 LineImplies (Command c) (printed.Acknowledged word k) s up t now = (up ≡ true) × TakesAll (c ∷ []) s t × (now ≡ true)
 LineImplies (Command c) (printed.CommandRefused word n) s up t now = RefusedChange n c s up t now
 LineImplies Guest (printed.Shown line) s up t now = TellsLine line s up t now

@@ -24,6 +24,7 @@ use Rattle.bench_report.specs.Happens.{says, shows, on_with, unpowered, armed_wi
 use Rattle.bench_report.specs.Commands.{Issued}
 use Rattle.bench_report.specs.Turns.{ComesTo, GuestTurns}
 use Rattle.bench_report.specs.PowerOns.{FormatsOn, PowersOn}
+use Rattle.bench_report.specs.Examined.{InspectStep}
 
 abbrev pub FormatStep : Option BenchLife → Bench → Answer → Bench → Type 0
 FormatStep (Some life) b answer new = (answer ≡ says printed.Busy) × (new ≡ b)
@@ -113,6 +114,7 @@ Step size (lines.FailAt n) b answer new = ArmStep FaultArmed b answer new
 Step size (lines.FailLane i n) b answer new = ArmStep FaultArmed b answer new
 Step size (lines.Cut fill) b answer new = (answer ≡ says printed.Cut) × (new ≡ unpowered b)
 Step size (lines.Poke k n bytes) b answer new = PokeStep b.power b answer new
+Step size lines.Inspect b answer new = InspectStep size b.power b answer new
 
 -- the same, where an armed cut that struck within the line makes its whole report `power lost`
 abbrev pub Moves : Size → Line → Bench → Answer → Bench → Type 0

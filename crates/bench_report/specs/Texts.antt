@@ -5,6 +5,7 @@ use Rattle.board_model.specs.declared.durable.Durable.{Durable}
 use Rattle.board_console.specs.Texts.{state_text}
 use Rattle.script_lang.specs.Spellings.{mode_text}
 use Rattle.machine_lines.specs.Texts.{machine_line_text}
+use Rattle.examined.specs.Texts.{inspection_text}
 use Rattle.bench_report.specs.declared.printed.ConsoleWord.{ConsoleWord}
 use Rattle.bench_report.specs.declared.printed.ConsoleWord.TheVariants as names
 use Rattle.bench_report.specs.declared.printed.Printed.{Printed}
@@ -32,6 +33,8 @@ line_text printed.Busy = codes "busy"
 line_text printed.Off = codes "off"
 line_text (printed.Shown shown) = machine_line_text shown
 line_text printed.Poked = codes "poked"
+line_text (printed.Inspected i) = codes "inspect " ++ inspection_text i
+line_text (printed.InspectRefused n) = codes "inspect refused " ++ decimal n
 
 abbrev pub found_line : Option Durable → List ℕ
 found_line None = []

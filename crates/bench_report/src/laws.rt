@@ -14,7 +14,7 @@ ghost use Rattle.bench_report.specs.Bench.{Bench, Formatted, IsFailureFree};
 ghost use Rattle.bench_report.specs.Plain.{ArePlain, ShowNoFailure, plain_report, plain_text};
 ghost use Rattle.bench_report.specs.AllFound.{FindsAll};
 ghost use Rattle.bench_report.specs.Prefix.{KeepsPrefixLaw};
-ghost use Rattle.bench_report.specs.Reports.{AreByFirmware, IsReport};
+ghost use Rattle.bench_report.specs.Reports.{AreByFirmware, AreNoExaminers, IsReport};
 ghost use Rattle.bench_report.specs.Resumed.{IsResumedFrom};
 ghost use Rattle.bench_report.specs.Steps.{Moves, Run};
 ghost use Rattle.bench_report.specs.declared.printed.Answer.{Answer};
@@ -22,13 +22,14 @@ ghost use Rattle.bench_report.specs.declared.printed.Printed.TheVariants as prin
 
 /// There is one report of a script without `poke` where memory was never refused and no failure of the disk
 /// was answered, so that no armed cut struck: any two such runs of it wrote the same and left the same. For
-/// lines that neither make turns nor show memory or harts it is computed by the plain report. A report shows
+/// lines that neither make turns nor show memory or harts it is computed by the plain report. Of a script with
+/// `inspect` this is not said: the bench does not know the gate and the other record of its disk. A report shows
 /// that it is one by its lines, where they are failure-free: none says that memory was refused, that the disk
 /// failed or that power was lost, and none of turns or of a call may hide that a hart's command was refused
 /// so.
 pub fn one_report()
     ensures one { (script : Script) (answers others : List Answer) (end last : Bench) → AreByFirmware script.lines
-        → IsReport script answers end → IsReport script others last → IsFailureFree end → IsFailureFree last
+        → AreNoExaminers script.lines → IsReport script answers end → IsReport script others last → IsFailureFree end → IsFailureFree last
         → (answers ≡ others) × (end ≡ last) }
     ensures failure_free { (script : Script) (answers : List Answer) (end : Bench) → IsReport script answers end
         → ShowNoFailure answers → IsFailureFree end }

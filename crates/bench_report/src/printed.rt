@@ -5,8 +5,10 @@ ghost use Rattle.script_lang.specs.Spellings.{mode_text};
 ghost use Rattle.bench_report.specs.Texts.{line_text, console_text};
 
 use board_model::{BootMode, Durable};
+use examined::InspectionText;
 use machine_lines::MachineLine;
 use std::fmt;
+use store::Inspection;
 
 /// The word by which a line names a command of the console.
 #[derive(Clone, Copy, Debug, PartialEq, Eq)]
@@ -46,6 +48,10 @@ pub enum Printed {
     Shown(MachineLine),
     /// `poked`: the disk was written past the firmware.
     Poked,
+    /// `inspect gate G live Y other Z image I`: what stands on the disk.
+    Inspected(Inspection),
+    /// `inspect refused N`
+    InspectRefused(u32),
 }
 
 /// All lines that a line of a script makes.
@@ -107,6 +113,11 @@ impl fmt::Display for Printed {
             Printed::Off => f.write_str("off"),
             Printed::Shown(shown) => write!(f, "{shown}"),
             Printed::Poked => f.write_str("poked"),
+            Printed::Inspected(inspection) => {
+                let text = InspectionText(inspection);
+                write!(f, "inspect {text}")
+            }
+            Printed::InspectRefused(n) => write!(f, "inspect refused {n}"),
         }
     }
 }

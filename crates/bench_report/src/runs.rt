@@ -1,7 +1,8 @@
 //! Whole scripts.
 
-ghost use Rattle.std.specs.Prelude.{◌≡◌, ◌⊎◌, ◌+◌, ◌++◌, ◌∷◌, [], ◌<◌, ◌≤◌, ◌^◌, length, take, Option, Result, ℕ, List, All, IfOk, IfErr, IfSome, OnErr, OnOk, Ok, Err, None, MatchResult};
+ghost use Rattle.std.specs.Prelude.{◌≡◌, ◌≢◌, ◌⊎◌, ◌+◌, ◌++◌, ◌∷◌, [], ◌<◌, ◌≤◌, ◌^◌, length, take, Option, Result, ℕ, List, All, IfOk, IfErr, IfSome, OnErr, OnOk, Ok, Err, None, MatchResult};
 ghost use Rattle.std.specs.Io.KnownBytes.{Appends};
+ghost use Rattle.std.specs.IoError.{error_kind};
 ghost use Rattle.script_lang.specs.Ranges.{IsLineInRange};
 ghost use Rattle.script_lang.specs.Scripts.{script_of, Script as Said};
 ghost use Rattle.script_lang.specs.Views.{view};
@@ -29,7 +30,7 @@ use crew::Crew;
 use script_lang::{Fill, Line, Script, parse_script};
 use simdisk::SimDisk;
 use std::alloc::{AllocError, Global};
-use std::io::Write;
+use std::io::{self, ErrorKind, Write};
 use store::blank_disks;
 
 /// How many lines a run wrote, and what each power-on found.
@@ -39,32 +40,44 @@ pub struct Report {
     pub found: Vec<Durable>,
 }
 
+/// Why a line was not written: `Memory` where the writer was refused memory, and else `Output`.
+pub fn unwritten(error: io::Error) -> Refusal
+    ensures { ((error_kind error ≡ ErrorKind.OutOfMemory) × (result ≡ Refusal.Memory))
+        ⊎ ((error_kind error ≢ ErrorKind.OutOfMemory) × (result ≡ Refusal.Output)) }
+{
+    if error.kind() == ErrorKind::OutOfMemory {
+        Refusal::Memory
+    } else {
+        Refusal::Output
+    }
+}
+
 /// Writes what an open found.
 fn write_found<W: Write>(out: &mut W, found: &Option<Durable>) -> Result<(), Refusal>
     ensures ok { OnOk result (Appends (W.contents out.old) (W.contents out.new) (found_line found.now)) }
-    ensures err { IfErr result (λ e. e ≡ Refusal.Output) }
+    ensures err { IfErr result (λ e. (e ≡ Refusal.Output) ⊎ (e ≡ Refusal.Memory)) }
 {
     match *found {
         None => Ok(()),
         Some(durable) => {
             let state = StateText(durable);
-            writeln!(out, "found {state}").map_err(|_| Refusal::Output)
+            writeln!(out, "found {state}").map_err(unwritten)
         }
     }
 }
 
 fn write_line<W: Write>(out: &mut W, line: Printed) -> Result<(), Refusal>
     ensures ok { OnOk result (Appends (W.contents out.old) (W.contents out.new) (line_text line ++ 10 ∷ [])) }
-    ensures err { IfErr result (λ e. e ≡ Refusal.Output) }
+    ensures err { IfErr result (λ e. (e ≡ Refusal.Output) ⊎ (e ≡ Refusal.Memory)) }
 {
-    writeln!(out, "{line}").map_err(|_| Refusal::Output)
+    writeln!(out, "{line}").map_err(unwritten)
 }
 
 /// Writes the lines of an answer.
 #[tactic(auto, using(crate::proofs::Written::appended))]
 fn write_answer<W: Write>(out: &mut W, answer: &Answer) -> Result<(), Refusal>
     ensures ok { OnOk result (Appends (W.contents out.old) (W.contents out.new) (answer_text answer.now)) }
-    ensures err { IfErr result (λ e. e ≡ Refusal.Output) }
+    ensures err { IfErr result (λ e. (e ≡ Refusal.Output) ⊎ (e ≡ Refusal.Memory)) }
 {
     write_found(out, &answer.found)?;
     write_line(out, answer.line)
@@ -300,8 +313,8 @@ pub fn run_left<C: Crew, W: Write>(
 /// it is the same for each.
 ///
 /// Refused `BadShape` or `BadScript` where the script has a fault, and then nothing ran and nothing is
-/// written; `Memory` where memory was refused; `Output` where the writer failed. After the last two any part
-/// of the report may stand in the writer.
+/// written; `Memory` where memory was refused, to the writer too; `Output` where the writer failed else. After
+/// the last two any part of the report may stand in the writer.
 pub fn run<C: Crew, W: Write>(
     alloc: Global,
     script: &[u8],

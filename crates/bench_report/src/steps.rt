@@ -10,10 +10,11 @@ ghost use Rattle.bench_report.specs.Views.{store_in, machine_in, facts, store_fa
 ghost use Rattle.bench_report.specs.Bench.{Bench, BenchLife};
 ghost use Rattle.bench_report.specs.Happens.{off, unpowered, says, shows};
 ghost use Rattle.bench_report.specs.PowerOns.{FormatsOn, PowersOn};
+ghost use Rattle.bench_report.specs.Examined.{InspectsOn, InspectStep, AnswersOf};
 ghost use Rattle.bench_report.specs.Steps.{FormatStep, OnStep, ConsoleStep, PayloadStep, TurnStep, CallStep, ReadStep, ArmStep, PokeStep, Step, Moves};
 ghost use Rattle.disk.specs.FaultState.{armed_by};
 ghost use Rattle.simdisk.specs.declared.SimDisk.{SimDisk};
-ghost use Rattle.bench_report.specs.Agree.{choice_by, HasDisk, IsCutBy, IsArmed, ArmsIts, Pokes, PokesIts, fill_after, EndsBy, Agrees, IsResting, OffIs, OnIs, BoardAfter, AreShort, IsBench, IsUnstruck, Matches, StepsTo};
+ghost use Rattle.bench_report.specs.Agree.{choice_by, HasDisk, IsCutBy, IsArmed, ArmsIts, Pokes, PokesIts, Inspects, InspectsIts, fill_after, EndsBy, Agrees, IsResting, OffIs, OnIs, BoardAfter, AreShort, IsBench, IsUnstruck, Matches, StepsTo};
 ghost use Rattle.machine_lines.specs.Shows.{waits, reg_line, pc_line, CsrLine, pending_line, mem_line};
 ghost use Rattle.machine.specs.Machine.{Machine};
 ghost use Rattle.board_model.specs.declared.refusal.Refusal.TheVariants.{Memory};
@@ -29,7 +30,7 @@ use machine_lines::MachineLine;
 use script_lang::{Bytes, Fill, Line};
 use simdisk::{Choice, SimDisk};
 use std::alloc::Global;
-use store::{blank_disks, format, kept_disks};
+use store::{blank_disks, format, inspect, kept_disks};
 
 fn says(line: Printed) -> Answer
     ensures { result ≡ says line }
@@ -80,6 +81,21 @@ fn power_on(alloc: Global, mode: BootMode, disk: SimDisk, payloads: &Payloads) -
     }
 }
 
+/// Examines the disk of a board that is off.
+fn inspect_disk(alloc: Global, mut disk: SimDisk) -> (Power, Answer)
+    requires { IsIdle (facts disk) }
+    ensures reported { (size : Size) (b : Bench) → OffIs size b disk
+        → StepsTo size b result.0 (InspectsOn size b result.1) }
+    ensures exact { AnswersOf (facts disk).content result.1 }
+    ensures resting { IsResting result.0 }
+{
+    kept_disks::<SimDisk>();
+    match inspect(alloc, &mut disk) {
+        Ok(inspection) => (Power::Off(disk), says(Printed::Inspected(inspection))),
+        Err(e) => (Power::Off(disk), says(Printed::InspectRefused(e.code()))),
+    }
+}
+
 /// Issues a command of the console on a board that is on.
 fn issue(board: &mut Board<SimDisk>, word: ConsoleWord, command: Command) -> Answer
     requires { IsConsoleCommand command }
@@ -93,7 +109,7 @@ fn issue(board: &mut Board<SimDisk>, word: ConsoleWord, command: Command) -> Ans
     }
 }
 
-/// The disk of a board whose life ends here.
+/// The disk of a board whose life ends here, with nothing of it lent.
 pub fn disk_left(power: Power) -> SimDisk
     requires { IsResting power }
     ensures reported { (size : Size) (b : Bench) → Agrees size b power → OffIs size (off b) result }
@@ -107,7 +123,7 @@ pub fn disk_left(power: Power) -> SimDisk
 }
 
 /// What a crash leaves by a fill.
-fn choice(fill: Fill) -> Choice
+pub fn choice(fill: Fill) -> Choice
     ensures { result ≡ choice_by fill }
 {
     match fill {
@@ -132,7 +148,7 @@ fn cut(power: Power, fill: Fill) -> Power
 
 /// Arms a cut or a failure of the disk, or of one of its lanes, in the place of an older one, with the board
 /// on or off.
-fn arm(power: Power, fault: ArmedFault) -> (Power, Answer)
+pub fn arm(power: Power, fault: ArmedFault) -> (Power, Answer)
     requires { IsResting power }
     ensures reported { (size : Size) (b : Bench) → Agrees size b power
         → StepsTo size b result.0 (ArmStep (armed_by fault) b result.1) }
@@ -164,7 +180,7 @@ fn newest_fill(line: &Line, fill: Fill) -> Fill
 }
 
 /// Whether an armed cut has struck.
-fn struck(power: &Power) -> bool
+pub fn struck(power: &Power) -> bool
     ensures reported { (size : Size) (b : Bench) → Agrees size b power.now → result ≡ b.fault_state.struck }
     ensures calm { result ≡ false → IsUnstruck power.now }
 {
@@ -182,6 +198,19 @@ fn format_line(shape: &Shape, power: Power) -> (Power, Answer)
 {
     match power {
         Power::Off(disk) => format_disk(shape, disk),
+        Power::On(board) => (Power::On(board), says(Printed::Busy)),
+    }
+}
+
+fn inspect_line(alloc: Global, power: Power) -> (Power, Answer)
+    requires { IsResting power }
+    ensures reported { (size : Size) (b : Bench) → Agrees size b power
+        → StepsTo size b result.0 (InspectStep size b.power b result.1) }
+    ensures exact { Inspects power result.1 }
+    ensures resting { IsResting result.0 }
+{
+    match power {
+        Power::Off(disk) => inspect_disk(alloc, disk),
         Power::On(board) => (Power::On(board), says(Printed::Busy)),
     }
 }
@@ -244,7 +273,7 @@ fn payload_line(
 }
 
 /// A board after what is said of a turn or a call of a hart: off where that ended the life.
-fn after(board: Board<SimDisk>, word: Word) -> Power
+pub fn after(board: Board<SimDisk>, word: Word) -> Power
     ensures reported { (size : Size) (b : Bench) → BoardAfter size word b board → Agrees size b result }
     ensures resting { IsResting result }
 {
@@ -503,7 +532,7 @@ fn shown(did: (Power, MachineLine)) -> (Power, Result<Answer, Refusal>)
 
 /// One line of a script, as far as no armed cut strikes. Refused only where there is no memory for a payload
 /// or a poke, and then the bench is as it was.
-fn step<C: Crew>(
+pub fn step<C: Crew>(
     alloc: Global,
     crew: &C,
     shape: &Shape,
@@ -521,6 +550,7 @@ fn step<C: Crew>(
         (λ e. (e ≡ Memory) × Matches shape.now b result.0 payloads.new) }
     ensures arms { ArmsIts line.now result.0 }
     ensures pokes { PokesIts line.now power result.1 result.0 }
+    ensures inspects { InspectsIts line.now power result.1 }
     ensures resting { IsResting result.0 }
     ensures short { AreShort payloads.new }
     ensures refused { OnErr result.1 (result.1 ≡ Err Memory) }
@@ -567,6 +597,7 @@ fn step<C: Crew>(
             ))
         }
         Line::Poke(sector, offset, bytes) => poke_line(*sector, *offset, bytes, power),
+        Line::Inspect => answered(inspect_line(alloc, power)),
     }
 }
 

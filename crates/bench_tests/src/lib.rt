@@ -6,6 +6,8 @@ mod cuts;
 #[cfg(test)]
 mod faults;
 #[cfg(test)]
+mod inspects;
+#[cfg(test)]
 mod lanes;
 #[cfg(test)]
 mod large;

@@ -7,7 +7,7 @@ use Rattle.script_lang.specs.Rows.{payload_of, on_of, slot_of, turn_of, call_lin
 use Rattle.script_lang.specs.declared.line.Keyword.{Keyword}
 use Rattle.script_lang.specs.declared.line.Keyword.TheVariants as keywords
 use Rattle.script_lang.specs.declared.line.Line.{Line}
-use Rattle.script_lang.specs.declared.line.Line.TheVariants.{Format, Discard, Pending}
+use Rattle.script_lang.specs.declared.line.Line.TheVariants.{Format, Discard, Pending, Inspect}
 use lib.Chars.{codes}
 
 -- the keywords by their words
@@ -31,6 +31,7 @@ keywords_by_word =
     (codes "faillane", keywords.FailLane) ∷
     (codes "cut", keywords.Cut) ∷
     (codes "poke", keywords.Poke) ∷
+    (codes "inspect", keywords.Inspect) ∷
     []
 
 -- the keyword of the first row with this word
@@ -67,6 +68,7 @@ body_of size keywords.FailAt words = failat_of words
 body_of size keywords.FailLane words = faillane_of size words
 body_of size keywords.Cut words = cut_of words
 body_of size keywords.Poke words = poke_of size words
+body_of size keywords.Inspect words = alone Inspect words
 
 -- what the words of a line say
 abbrev pub line_of : Size → List (List ℕ) → Option Line

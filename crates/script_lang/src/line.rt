@@ -37,6 +37,7 @@ pub enum Keyword {
     FailLane,
     Cut,
     Poke,
+    Inspect,
 }
 
 /// A line after the board line. Harts, lanes, addresses and sectors are in the ranges of that board.
@@ -78,4 +79,6 @@ pub enum Line {
     Cut(Fill),
     /// `poke SECTOR OFFSET HEX`: bytes written into one sector past the firmware.
     Poke(u32, u32, Bytes),
+    /// `inspect`: what stands on the disk.
+    Inspect,
 }

@@ -11,7 +11,7 @@ use board_model::Shape;
 use std::alloc::{AllocError, Global};
 
 /// The keywords by their words.
-const KEYWORDS: [(&[u8], Keyword); 18] = [
+const KEYWORDS: [(&[u8], Keyword); 19] = [
     (b"payload", Keyword::Payload),
     (b"format", Keyword::Format),
     (b"on", Keyword::On),
@@ -30,6 +30,7 @@ const KEYWORDS: [(&[u8], Keyword); 18] = [
     (b"faillane", Keyword::FailLane),
     (b"cut", Keyword::Cut),
     (b"poke", Keyword::Poke),
+    (b"inspect", Keyword::Inspect),
 ];
 
 /// The keyword of the first row with this word.
@@ -88,6 +89,7 @@ fn body(
         Keyword::FailLane => Ok(rows::faillane(shape, words)),
         Keyword::Cut => Ok(rows::cut(words)),
         Keyword::Poke => rows::poke(alloc, shape, words),
+        Keyword::Inspect => Ok(alone(Line::Inspect, words)),
     }
 }
 

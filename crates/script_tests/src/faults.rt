@@ -69,6 +69,7 @@ pc 0 0\n\
 csr 0\n\
 csr 0 0x100 0\n\
 pending 0\n\
+inspect 0\n\
 mem 0x80000000\n\
 mem 0x80000000 1 1\n\
 cutat 1\n\
@@ -129,7 +130,6 @@ payload 0 zz\n\
 slot \xb1";
 
 const OTHER_KEYWORDS: &[u8] = b"\
-inspect\n\
 wake\n\
 tries 1\n\
 good";

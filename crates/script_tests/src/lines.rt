@@ -15,7 +15,7 @@ fn bytes(alloc: Global, items: &[u8]) -> Result<Bytes, AllocError> {
 
 #[test]
 fn power_and_slots(rt: HostRuntime) -> Result<(), Fail> {
-    let cases: [(&[u8], Line); 10] = [
+    let cases: [(&[u8], Line); 11] = [
         (b"format", Line::Format),
         (b"on fresh", Line::On(BootMode::Fresh)),
         (b"on keep", Line::On(BootMode::Keep)),
@@ -26,6 +26,7 @@ fn power_and_slots(rt: HostRuntime) -> Result<(), Fail> {
         (b"slot 0xFFFFffff", Line::Slot(4_294_967_295)),
         (b"discard", Line::Discard),
         (b"pending", Line::Pending),
+        (b"inspect", Line::Inspect),
     ];
     for (text, line) in &cases {
         says(&rt, rt.alloc(), BOARD, text, line)?;

@@ -70,3 +70,7 @@ returns-in-FailLane-clause-reported g c = λ b h.
 pub returns-in-Poke-clause-reported : goal.returns-in-Poke-clause-reported
 returns-in-Poke-clause-reported g c = λ b h.
     rw c.in-Poke.is (poke_matches c.args.shape.now b c.poke_line.result.1 c.poke_line.result.0 _ h.1 (c.poke_line.ensures.reported c.args.shape.now b h.0))
+
+pub returns-in-Inspect-clause-reported : goal.returns-in-Inspect-clause-reported
+returns-in-Inspect-clause-reported g c = λ b h.
+    row_reported c.args.shape.now _ _ b _ _ _ _ _ c.in-Inspect.is c.answered-in-Inspect.ensures.answer c.answered-in-Inspect.ensures.power h.1 (c.inspect_line.ensures.reported c.args.shape.now b h.0)

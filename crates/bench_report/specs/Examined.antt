@@ -1,0 +1,59 @@
+-- What a line that examines the disk answers: a function of the disk's content, which the bench knows as far as
+-- a read may give it. Source: docs/SCRIPT.md, "The report"; docs/STORE.md, "Examining".
+use Rattle.std.specs.Prelude.{◌≡◌, ◌≢◌, ◌⊎◌, ⊤, None, Option, Some, length}
+use Rattle.board_model.specs.Durable.{DurableState}
+use Rattle.board_model.specs.Kept.{Kept, MayFind}
+use Rattle.board_model.specs.Shapes.{Size, sectors_of}
+use Rattle.board_model.specs.declared.refusal.Refusal.TheVariants.{NotFormatted, BadShape}
+use Rattle.disk.specs.Facts.{Content}
+use Rattle.store.specs.Leaves.{IsMarked}
+use Rattle.store.specs.Opens.{IsBoard, ReadsAs}
+use Rattle.store.specs.Standing.{StandsFor}
+use Rattle.store.specs.Inspects.{IsInspected}
+use Rattle.bench_report.specs.declared.printed.Printed.{Printed}
+use Rattle.bench_report.specs.declared.printed.Printed.TheVariants as printed
+use Rattle.bench_report.specs.declared.printed.Answer.{Answer}
+use Rattle.bench_report.specs.Bench.{DiskState, Blank, Unknown, Formatted, BenchLife, Bench}
+use Rattle.bench_report.specs.Happens.{says, out_of_memory, FailsByFault}
+
+-- What a read may give of a disk of which so much is known. (A crash may leave what a read gives.)
+abbrev pub ReadsOf : DiskState → Kept → Size → Content → Type 0
+ReadsOf Blank kept size c = IsMarked c → ⊥
+ReadsOf Unknown kept size c = ⊤
+ReadsOf Formatted kept size c = (s : DurableState) × MayFind kept s × StandsFor c size s
+
+abbrev pub MayRead : Size → Bench → Content → Type 0
+MayRead size b c = (length c ≡ sectors_of size) × ReadsOf b.disk_state b.kept size c
+
+-- what an examiner says of a content, which is one thing (law `one_inspection` of `store`)
+abbrev pub Tells : Content → Printed → Type 0
+Tells c (printed.Inspected i) = (size : Size) × IsBoard size c × IsInspected size c i
+Tells c (printed.InspectRefused n) = ((n ≡ 1) × ReadsAs c NotFormatted) ⊎ ((n ≡ 3) × ReadsAs c BadShape)
+Tells c line = ⊥
+
+-- an image stands, for whose memory there may be no room
+abbrev pub HasImage : Content → Type 0
+HasImage c = (size : Size) × (s : DurableState) × StandsFor c size s × (s.image ≢ None)
+
+-- by a content: what is said of it, or that memory was refused
+abbrev pub TellsOf : Content → Bench → Answer → Bench → Type 0
+TellsOf c b answer new =
+    ((line : Printed) × Tells c line × (answer ≡ says line) × (new ≡ b))
+    ⊎ (HasImage c × (answer ≡ says (printed.InspectRefused 11)) × (new ≡ out_of_memory b))
+
+-- of a board that is off; a failure of the disk is answered 5, and nothing of the disk changes
+abbrev pub InspectsOn : Size → Bench → Answer → Bench → Type 0
+InspectsOn size b answer new =
+    ((c : Content) × MayRead size b c × TellsOf c b answer new)
+    ⊎ ((answer ≡ says (printed.InspectRefused 5)) × FailsByFault b new)
+
+abbrev pub InspectStep : Size → Option BenchLife → Bench → Answer → Bench → Type 0
+InspectStep size (Some life) b answer new = (answer ≡ says printed.Busy) × (new ≡ b)
+InspectStep size None b answer new = InspectsOn size b answer new
+
+-- by the content itself: what is said of it, or 5, or where an image stands 11
+abbrev pub AnswersOf : Content → Answer → Type 0
+AnswersOf c answer =
+    ((line : Printed) × Tells c line × (answer ≡ says line))
+    ⊎ (answer ≡ says (printed.InspectRefused 5))
+    ⊎ (HasImage c × (answer ≡ says (printed.InspectRefused 11)))

@@ -1,0 +1,5 @@
+-- In reading order.
+-- The text of an inspection.
+pub mod Texts
+-- What any content is to an open and to an examiner.
+pub mod Contents
