@@ -19,19 +19,21 @@ number_rule id most default = record (value_rule id (Unsigned 1 most)) { default
 abbrev pub required : Rule → Rule
 required r = record r { required = true }
 
-abbrev pub new_flag : Rule
-new_flag = record (new_rule (codes "new")) { long = Some (codes "new"); action = Some SetTrue }
+-- an option without a value
+abbrev pub flag_rule : Text → Rule
+flag_rule id = record (new_rule id) { long = Some id; action = Some SetTrue }
 
 -- the command by its name alone, with a version
 abbrev pub named_app : App
 named_app = record (new_app (codes "sbiboard")) { top = record (new_app (codes "sbiboard")).top { has_version = true } }
 
--- with the disk, the mode and whether it is new
+-- with the disk, the mode, whether it is new, and whether its file goes along
 abbrev pub board_line : ValueParser → App
 board_line modes =
     with_rule
+    (with_rule
     (with_rule (with_rule named_app (required (path_rule (codes "disk"))))
-    (required (value_rule (codes "mode") modes))) new_flag
+    (required (value_rule (codes "mode") modes))) (flag_rule (codes "new"))) (flag_rule (codes "sync"))
 
 -- and all else
 abbrev pub sbiboard : ValueParser → App

@@ -5,6 +5,14 @@ ghost use Rattle.board_options.specs.Limits.{AreTurns};
 
 use board_model::{BootMode, Shape};
 
+/// Which numbers of a shape the words of a command line give. Of the others the default stands.
+#[derive(Clone, Copy)]
+pub struct ShapeGiven {
+    pub harts: bool,
+    pub pages: bool,
+    pub lanes: bool,
+}
+
 /// A board that is to be run, and the files that it is run with.
 #[derive(Drop)]
 pub struct Options {
@@ -15,8 +23,12 @@ pub struct Options {
     /// Whether a blank disk of the shape is made and formatted. Else the disk's file is read, and has the
     /// shape.
     pub new: bool,
+    /// Whether each sync of the disk waits for its file. Else the file is written at the end.
+    pub sync: bool,
     /// The shape of a new disk.
     pub shape: Shape,
+    /// Which of its numbers were given.
+    pub given: ShapeGiven,
     /// The file of each boot slot's payload, where one is named. The others are empty.
     pub payloads: [Option<String>; 4],
     /// How many turns each hart makes at most, 1 to 1,000,000,000.

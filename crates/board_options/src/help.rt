@@ -3,7 +3,7 @@
 ghost use Rattle.std.specs.Prelude.{◌≡◌, false, IfOk};
 ghost use Rattle.clap.specs.Words.{app_of, rule_of};
 ghost use Rattle.clap.specs.declared.builder.value_parser.ValueParser.{ValueParser as Parser};
-ghost use Rattle.board_options.specs.Lines.{path_rule, number_rule, board_line, sbiboard};
+ghost use Rattle.board_options.specs.Lines.{path_rule, number_rule, flag_rule, board_line, sbiboard};
 
 use clap::builder::ValueParser;
 use clap::{Arg, ArgAction, Command};
@@ -13,14 +13,15 @@ use std::alloc::{AllocError, Global};
 const VERSION: &str = "1";
 
 /// How the program is called.
-pub const USAGE: &str = "sbiboard --disk PATH --mode MODE [--new] [OPTIONS]";
+pub const USAGE: &str = "sbiboard --disk PATH --mode MODE [--new] [--sync] [OPTIONS]";
 
 const ABOUT: &str = "\
 Runs a modelled RISC-V board, each hart on a thread of its own, and takes the
 operator's commands from standard input.
 
 The disk is a file: it is read at the start, or made with --new, and written at
-the end.";
+the end. So leave by 'quit' or the end of input: a session that is killed
+(Ctrl-C) LOSES all that it acknowledged. With --sync it loses nothing of it.";
 
 const NUMBERS: &str = "\
 Console, a line each:
@@ -29,11 +30,13 @@ Console, a line each:
   state    'state slot S reason R image X next N'
   quit     ends the harts after their turn, and the program
 Anything else answers '?'. At the end of input the harts run out their turns.
+After 'refused 7' the guest has ended its life by a reset or a suspension.
 
 Status:
-  0  the board was run, and the disk's file was written
+  0  the board was run, and the disk's file holds the disk
   1  standard error has 'sbiboard: refusal N', or 'sbiboard: file' where a file
-     could not be read or written
+     could not be read or written: a payload's, or the disk's, which is not
+     there, no regular file, or another session's, or PATH.new beside it
   2  a fault of the command line
 
 Refusals:
@@ -55,7 +58,7 @@ Refusals:
   16  an answer could not be written
 
 A first session:
-  printf 'slot 1\\nstate\\nquit\\n' | sbiboard --disk board.disk --mode fresh --new
+  printf 'slot 1\\nstate\\nquit\\n' | sbiboard --disk board.disk --mode fresh --new --sync
 
 docs/CONSOLE.md of the source has the rest.";
 
@@ -64,6 +67,8 @@ pub const DISK: &str = "disk";
 pub const MODE: &str = "mode";
 
 pub const NEW: &str = "new";
+
+pub const SYNC: &str = "sync";
 
 pub const HARTS: &str = "harts";
 
@@ -106,6 +111,17 @@ fn path<'a>(alloc: Global, id: &'a str, help: &'a str) -> Arg<'a>
         .help(help)
 }
 
+/// An option without a value.
+fn flag<'a>(alloc: Global, id: &'a str, help: &'a str) -> Arg<'a>
+    ensures rule { rule_of result ≡ flag_rule id.entry.now }
+    ensures local { result.global ≡ false }
+{
+    Arg::new(alloc, id)
+        .long(id)
+        .action(ArgAction::SetTrue)
+        .help(help)
+}
+
 /// The command without its payload files.
 fn board<'a>(alloc: Global) -> Result<Command<'a>, AllocError>
     ensures { IfOk result (λ c. (modes : Parser) × (app_of c ≡ board_line modes)) }
@@ -117,10 +133,6 @@ fn board<'a>(alloc: Global) -> Result<Command<'a>, AllocError>
         .required(true)
         .action(ArgAction::Set)
         .help("How the board is powered on");
-    let new = Arg::new(alloc, NEW)
-        .long(NEW)
-        .action(ArgAction::SetTrue)
-        .help("Makes a blank disk of the shape below, and formats it");
     Command::new(alloc, "sbiboard")
         .version(VERSION)
         .override_usage(USAGE)
@@ -128,7 +140,16 @@ fn board<'a>(alloc: Global) -> Result<Command<'a>, AllocError>
         .after_help(NUMBERS)
         .arg(path(alloc, DISK, "The disk's file").required(true))?
         .arg(mode)?
-        .arg(new)
+        .arg(flag(
+            alloc,
+            NEW,
+            "Makes and formats a blank disk of the shape below: REPLACES a disk that is there",
+        ))?
+        .arg(flag(
+            alloc,
+            SYNC,
+            "Each sync of the disk waits for its file: a killed session loses nothing acknowledged",
+        ))
 }
 
 /// The command.

@@ -5,6 +5,6 @@ mod given;
 mod help;
 mod parsed;
 
-pub use given::Options;
+pub use given::{Options, ShapeGiven};
 pub use help::USAGE;
 pub use parsed::read_options as options;

@@ -3,6 +3,7 @@
 ghost use Rattle.std.specs.Prelude.{◌≡◌, ◌<◌, [], ◌∷◌, map, string_bytes, string_len, codes, Some, IfOk, IfSome};
 ghost use Rattle.std.specs.Option.{option_map};
 ghost use Rattle.board_model.specs.Shapes.{IsSize};
+ghost use Rattle.clap.specs.Facts.{is_present};
 ghost use Rattle.clap.specs.Words.{first_value, found_of, rows_of, matches_of};
 ghost use Rattle.clap.specs.declared.builder.value_parser.ValueParser.{ValueParser};
 ghost use Rattle.clap.specs.declared.parser.matches.Found.{Found};
@@ -11,10 +12,13 @@ ghost use Rattle.board_options.specs.Lines.{sbiboard};
 ghost use Rattle.board_options.specs.Modes.{mode_named};
 ghost use Rattle.board_options.specs.Reads.{ReadsOptions, path_named, number_named};
 
-use crate::given::Options;
-use crate::help::{DISK, HARTS, LANES, MODE, MOST_TURNS, NEW, PAGES, PAYLOADS, TURNS, command};
+use crate::given::{Options, ShapeGiven};
+use crate::help::{
+    DISK, HARTS, LANES, MODE, MOST_TURNS, NEW, PAGES, PAYLOADS, SYNC, TURNS, command,
+};
 use board_model::{BootMode, Shape};
 use clap::error::ErrorKind;
+use clap::parser::ValueSource;
 use clap::{ArgMatches, Error};
 use script_lang::{mode, number as number_of};
 use std::alloc::{AllocError, Global};
@@ -77,6 +81,26 @@ fn shape(matches: &ArgMatches<'_>) -> Option<Shape>
     Shape::new(harts, pages, lanes).ok()
 }
 
+/// Whether the words give a value of that name. A default does not count.
+fn is_given(matches: &ArgMatches<'_>, id: &str) -> bool
+    ensures { result ≡ is_present (found_of matches.now) id.now }
+{
+    matches.contains_id(id) && matches.value_source(id) != Some(ValueSource::DefaultValue)
+}
+
+/// Which numbers of the shape the words give.
+fn shape_given(matches: &ArgMatches<'_>) -> ShapeGiven
+    ensures harts { result.harts ≡ is_present (found_of matches.now) (codes "harts") }
+    ensures pages { result.pages ≡ is_present (found_of matches.now) (codes "pages") }
+    ensures lanes { result.lanes ≡ is_present (found_of matches.now) (codes "lanes") }
+{
+    ShapeGiven {
+        harts: is_given(matches, HARTS),
+        pages: is_given(matches, PAGES),
+        lanes: is_given(matches, LANES),
+    }
+}
+
 /// How many turns a hart makes at most.
 fn turns(matches: &ArgMatches<'_>) -> Option<u64>
     ensures range { IfSome result AreTurns }
@@ -112,7 +136,9 @@ fn options_of(alloc: Global, matches: &ArgMatches<'_>) -> Result<Option<Options>
         disk,
         mode,
         new: matches.get_flag(NEW),
+        sync: matches.get_flag(SYNC),
         shape,
+        given: shape_given(matches),
         payloads,
         turns,
     }))

@@ -1,61 +1,60 @@
-//! The disk's file.
+//! The disk that a session begins with, from its file.
 
 ghost use Rattle.std.specs.Prelude.{IfOk};
 ghost use Rattle.store.specs.Leaves.{IsIdle};
 
-use crate::fault::Fault;
-use board_model::Refusal;
+use crate::fault::{Fault, file_fault, memory_fault};
+use crate::held::Held;
+use board_model::{Refusal, Shape};
 use board_options::Options;
-use disk::Disk;
+use disk::{Disk, Sector};
+use layout::parse_superblock;
 use simdisk::SimDisk;
-use std::alloc::AllocError;
-use std::fs;
-use std::io::{self, BufWriter, ErrorKind, Write};
+use std::fs::File;
+use std::io::Read;
+use std::os::unix::fs::FileExt;
 
-/// The fault of a file that could not be read or written: a refusal where it was memory that was refused.
-pub fn file_fault(e: io::Error) -> Fault {
-    if e.kind() == ErrorKind::OutOfMemory {
-        Fault::Refused(Refusal::Memory)
-    } else {
-        Fault::File
+/// Says on standard error where the command line asks for another board than the disk's.
+fn tell_shape(rt: &HostRuntime, options: &Options, found: &Shape) {
+    let (harts, pages, lanes) = (found.harts(), found.pages(), found.lanes());
+    let (asked, given) = (&options.shape, options.given);
+    if given.harts && asked.harts() != harts
+        || given.pages && asked.pages() != pages
+        || given.lanes && asked.lanes() != lanes
+    {
+        let _told = eprintln!(rt;
+            "sbiboard: the disk's board is {harts}/{pages}/{lanes} (harts, pages, lanes): other numbers are for --new"
+        );
     }
 }
 
-fn memory_fault(_refused: AllocError) -> Fault {
-    Fault::Refused(Refusal::Memory)
+/// The disk in a file of whole sectors. No more than the first is read of a file whose first sector is not that of
+/// a disk of its size.
+fn read_disk(rt: &HostRuntime, options: &Options, file: &mut File) -> Result<SimDisk, Fault>
+    ensures none_out { IfOk result (λ d. IsIdle (⟦<SimDisk as Disk>⟧.facts d)) }
+{
+    let bytes = file.metadata().map_err(file_fault)?.len();
+    if bytes == 0 || bytes % 512 != 0 {
+        return Err(Fault::Refused(Refusal::BadShape));
+    }
+    let mut first: Sector = [0; 512];
+    file.read_exact_at(&mut first, 0).map_err(file_fault)?;
+    let found = parse_superblock(&first, (bytes / 512) as usize).map_err(Fault::Refused)?;
+    tell_shape(rt, options, &found);
+    let mut content = Vec::new(rt.alloc());
+    let _count = file.read_to_end(&mut content).map_err(file_fault)?;
+    SimDisk::new(rt.alloc(), &content).map_err(Fault::Refused)
 }
 
-/// The disk that a session begins with: a blank one of the shape, or the file's bytes.
-pub fn disk_of(rt: &HostRuntime, options: &Options) -> Result<SimDisk, Fault>
+/// The disk that a session begins with: a blank one of the shape, or the file's.
+pub fn disk_of(rt: &HostRuntime, options: &Options, held: &mut Held) -> Result<SimDisk, Fault>
     ensures none_out { IfOk result (λ d. IsIdle (⟦<SimDisk as Disk>⟧.facts d)) }
 {
     if options.new {
         return SimDisk::blank(rt.alloc(), options.shape.sectors()).map_err(memory_fault);
     }
-    let bytes = fs::read(rt, options.disk.as_str()).map_err(file_fault)?;
-    SimDisk::new(rt.alloc(), &bytes).map_err(Fault::Refused)
-}
-
-/// Makes a file of what a read of the disk gives, and makes it durable.
-fn write_content(rt: &HostRuntime, path: &str, disk: &SimDisk) -> io::Result<()> {
-    let file = fs::create(rt, path)?;
-    let mut out = BufWriter::new(rt.alloc(), file)?;
-    for sector in disk.content() {
-        out.write_all(sector)?;
+    match &mut held.file {
+        Some(file) => read_disk(rt, options, file),
+        None => Err(Fault::File),
     }
-    out.flush()?;
-    out.get_ref().sync_all()
-}
-
-/// Writes the disk's file: into a file beside it, named `.new`, which is then renamed over it. So a host that
-/// crashes meanwhile leaves the file as it was or as it is written, and perhaps the other one. Where the
-/// other one cannot be written whole it is removed.
-pub fn write_disk(rt: &HostRuntime, path: &str, disk: &SimDisk) -> Result<(), Fault> {
-    let alloc = rt.alloc();
-    let beside = format!(in alloc; "{path}.new").map_err(memory_fault)?;
-    if let Err(e) = write_content(rt, beside.as_str(), disk) {
-        let _gone = fs::remove_file(rt, beside.as_str());
-        return Err(file_fault(e));
-    }
-    fs::rename(rt, beside.as_str(), path).map_err(file_fault)
 }

@@ -4,7 +4,9 @@ ghost use Rattle.std.specs.Prelude.{◌≡◌, ◌≤◌, Some};
 ghost use Rattle.board_program.specs.Faults.{board_fault_text, first_fault, board_status};
 
 use board_model::Refusal;
+use std::alloc::AllocError;
 use std::fmt;
+use std::io::{self, ErrorKind};
 
 /// Why the program ends with a fault. It prints as a whole line, or as nothing.
 #[derive(Clone, Copy, Debug, Drop)]
@@ -53,4 +55,18 @@ pub fn first_fault(ran: Result<(), Fault>, written: Result<(), Fault>) -> Result
         Err(fault) => Err(fault),
         Ok(()) => written,
     }
+}
+
+/// The fault of a file that could not be read or written: a refusal where it was memory that was refused.
+pub fn file_fault(e: io::Error) -> Fault {
+    if e.kind() == ErrorKind::OutOfMemory {
+        Fault::Refused(Refusal::Memory)
+    } else {
+        Fault::File
+    }
+}
+
+/// The fault where memory was refused.
+pub fn memory_fault(_refused: AllocError) -> Fault {
+    Fault::Refused(Refusal::Memory)
 }

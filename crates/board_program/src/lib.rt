@@ -3,42 +3,100 @@
 
 mod disk_file;
 mod fault;
+mod held;
+mod hints;
 mod payload_files;
+mod written;
 
 ghost use Rattle.std.specs.Prelude.{◌≤◌};
 ghost use Rattle.std.specs.Process.{exit_status};
+ghost use Rattle.store.specs.Leaves.{IsIdle};
 
-use crate::disk_file::{disk_of, write_disk};
-use crate::fault::{Fault, first_fault, status_of};
+use crate::disk_file::disk_of;
+use crate::fault::{Fault, first_fault, memory_fault, status_of};
+use crate::held::{Held, hold};
+use crate::hints::Hints;
 use crate::payload_files::payloads_of;
+use crate::written::{blank_file, write_disk};
+use board::Payloads;
 use board_model::Refusal;
 use board_options::{Options, USAGE, options};
 use board_session::session;
 use command_line::{NoWork, show, words};
+use disk::Disk;
+use file_disk::FileDisk;
+use simdisk::SimDisk;
+use std::fs::File;
 use std::io::{self, BufReader};
 use std::process::ExitCode;
 use std::sync::Wait;
 use std::thread::Threads;
 
-/// Runs the board that the options ask for, from its files to its disk's file. The disk's file is written
-/// wherever a disk was made or read, also after a refusal; of two faults the first is told.
+/// The session over that disk, with the console on standard input and output. The disk is given back.
+fn ran<R: Threads + Wait + Sync, D: Disk + Drop + Send>(
+    rt: &HostRuntime,
+    threads: &R,
+    options: &Options,
+    disk: D,
+    payloads: &Payloads,
+) -> (D, Result<(), Fault>)
+    requires { IsIdle (D.facts disk) }
+{
+    let Ok(input) = BufReader::new(rt.alloc(), rt.reader()) else {
+        return (disk, Err(Fault::Refused(Refusal::Memory)));
+    };
+    let out = Hints::new(rt, io::writer(rt), options.sync);
+    let ended = session(threads, rt.alloc(), options, disk, payloads, input, out);
+    let ran = ended.ran.map_err(Fault::Refused);
+    (ended.disk, ran)
+}
+
+/// The file that a session keeps its disk in: of a new disk a blank one, in the place of what was there.
+fn kept_file(
+    rt: &HostRuntime,
+    options: &Options,
+    held: Held,
+    sectors: usize,
+) -> Result<File, Fault> {
+    if options.new {
+        return blank_file(rt, &held, sectors);
+    }
+    held.file.ok_or(Fault::File)
+}
+
+/// The session over the disk in memory, kept in its file: each sync of the disk waits for the file.
+fn ran_in_file<R: Threads + Wait + Sync>(
+    rt: &HostRuntime,
+    threads: &R,
+    options: &Options,
+    held: Held,
+    memory: SimDisk,
+    payloads: &Payloads,
+) -> Result<(), Fault>
+    requires { IsIdle (⟦<SimDisk as Disk>⟧.facts memory) }
+{
+    let file = kept_file(rt, options, held, memory.sectors())?;
+    let disk = FileDisk::new(rt.alloc(), memory, file).map_err(memory_fault)?;
+    let (_disk, ran) = ran(rt, threads, options, disk, payloads);
+    ran
+}
+
+/// Runs the board that the options ask for, from its files to its disk's file. The disk is kept in its file all
+/// along, where that is asked for; else the file is written wherever a disk was made or read and its bytes have
+/// changed, also after a refusal. Of two faults the first is told.
 fn run<R: Threads + Wait + Sync>(
     rt: &HostRuntime,
     threads: &R,
     options: &Options,
 ) -> Result<(), Fault> {
     let payloads = payloads_of(rt, options)?;
-    let disk = disk_of(rt, options)?;
-    let Ok(input) = BufReader::new(rt.alloc(), rt.reader()) else {
-        return first_fault(
-            Err(Fault::Refused(Refusal::Memory)),
-            write_disk(rt, &options.disk, &disk),
-        );
-    };
-    let out = io::writer(rt);
-    let ended = session(threads, rt.alloc(), options, disk, &payloads, input, out);
-    let ran = ended.ran.map_err(Fault::Refused);
-    first_fault(ran, write_disk(rt, &options.disk, &ended.disk))
+    let mut held = hold(rt, options)?;
+    let disk = disk_of(rt, options, &mut held)?;
+    if options.sync {
+        return ran_in_file(rt, threads, options, held, disk, &payloads);
+    }
+    let (disk, ran) = ran(rt, threads, options, disk, &payloads);
+    first_fault(ran, write_disk(rt, &held, &disk))
 }
 
 /// Reads the command line, and shows what it asks to be shown, or its fault.

@@ -1,7 +1,6 @@
 //! The payloads' files.
 
-use crate::disk_file::file_fault;
-use crate::fault::Fault;
+use crate::fault::{Fault, file_fault};
 use board::Payloads;
 use board_model::{SLOTS, Slot};
 use board_options::Options;

@@ -2,10 +2,10 @@ use Rattle.std.proofs.Common.{◌≡◌, ◌∙◌, Bool, Option, Some, true, fa
 use Rattle.std.proofs.lemmas.Result.{IfOk-weaker}
 use Rattle.clap.specs.Simple.{app_of_fields}
 use Rattle.clap.specs.Words.{App, Rule, app_of, new_rule, rule_of, with_rule}
-use Rattle.clap.specs.declared.builder.action.ArgAction.TheVariants.{Set, SetTrue}
+use Rattle.clap.specs.declared.builder.action.ArgAction.TheVariants.{Set}
 use Rattle.clap.specs.declared.builder.arg.Arg.{Arg}
 use Rattle.clap.specs.declared.builder.value_parser.ValueParser.{ValueParser}
-use Rattle.board_options.specs.Lines.{named_app, new_flag, path_rule, required, value_rule}
+use Rattle.board_options.specs.Lines.{named_app, path_rule, required, value_rule}
 use Rattle.board_options.proofs.help.board.Goals as goal
 
 abbrev with_version : App → App
@@ -24,19 +24,15 @@ returns c =
     let m4 = ap rule_of c.required.ensures ∙ ap (λ (r : Rule). record r { required = true }) m3 in
     let m5 = ap rule_of c.action.ensures ∙ ap (λ (r : Rule). record r { action = Some Set }) m4 in
     let mode_is : rule_of c.help-mode.result ≡ required (value_rule (codes "mode") modes) = ap rule_of c.help-mode.ensures ∙ m5 in
-    let n1 : rule_of c.long-2.result ≡ record (new_rule (codes "new")) { long = Some (codes "new") } =
-    ap rule_of c.long-2.ensures ∙ ap (λ (r : Rule). record r { long = Some (codes "new") }) c.new-2.ensures.rule in
-    let n2 = ap rule_of c.action-2.ensures ∙ ap (λ (r : Rule). record r { action = Some SetTrue }) n1 in
-    let new_is : rule_of c.help-new.result ≡ new_flag = ap rule_of c.help-new.ensures ∙ n2 in
     let disk_is : rule_of c.required-2.result ≡ required (path_rule (codes "disk")) = ap rule_of c.required-2.ensures ∙ ap required c.path.ensures.rule in
-    let a1 : app_of c.version.result ≡ named_app = ap app_of_fields c.version.ensures ∙ ap with_version c.new-3.ensures.app in
+    let a1 : app_of c.version.result ≡ named_app = ap app_of_fields c.version.ensures ∙ ap with_version c.new-2.ensures.app in
     let a2 : app_of c.override_usage.result ≡ named_app = ap app_of_fields c.override_usage.ensures ∙ a1 in
     let a3 : app_of c.about.result ≡ named_app = ap app_of_fields c.about.ensures ∙ a2 in
     let named_is : app_of c.after_help.result ≡ named_app = ap app_of_fields c.after_help.ensures ∙ a3 in
     let mode_local : c.help-mode.result.global ≡ false =
     ap is_global c.help-mode.ensures ∙ ap is_global c.action.ensures ∙ ap is_global c.required.ensures ∙ ap is_global c.value_parser.ensures.others ∙ ap is_global c.value_name.ensures ∙ ap is_global c.long.ensures ∙ c.new.ensures.optional.1 in
-    let new_local : c.help-new.result.global ≡ false = ap is_global c.help-new.ensures ∙ ap is_global c.action-2.ensures ∙ ap is_global c.long-2.ensures ∙ c.new-2.ensures.optional.1 in
     let disk_local : c.required-2.result.global ≡ false = ap is_global c.required-2.ensures ∙ c.path.ensures.local in
     let one = c.in_ok-arg.ensures.shape disk_local ∙ ap₂ with_rule named_is disk_is in
     let two = c.in_ok-arg-2.ensures.shape mode_local ∙ ap₂ with_rule one mode_is in
-    IfOk-weaker c.arg-3.result _ _ (λ r h. (modes, h.shape new_local ∙ ap₂ with_rule two new_is)) c.arg-3.ensures
+    let three = c.in_ok-arg-3.ensures.shape c.flag.ensures.local ∙ ap₂ with_rule two c.flag.ensures.rule in
+    IfOk-weaker c.arg-4.result _ _ (λ r h. (modes, h.shape c.flag-2.ensures.local ∙ ap₂ with_rule three c.flag-2.ensures.rule)) c.arg-4.ensures

@@ -1,0 +1,88 @@
+//! What a person at a terminal is told beside the answers, on standard error.
+
+ghost use Rattle.std.specs.Io.KnownBytes.{Keeps, WriteAppends};
+ghost use Rattle.std.specs.Io.{WritesAtMost};
+
+use arrayvec::ArrayVec;
+use std::io::{self, IsTerminal, Write};
+
+const WELCOME: &str = "\
+slot S, discard, state, quit: a line each. 'quit' or Ctrl-D ends the session.";
+
+const UNSYNCED: &str = "\
+Ctrl-C would lose what was acknowledged: the disk's file is written at the end (--sync).";
+
+const UNKNOWN: &str = "? is no answer but to: slot S, discard, state, quit.";
+
+const OVER: &str = "\
+7: the guest has ended this life by a reset or a suspension. 'quit' ends the session.";
+
+/// A writer of answers that explains some of them to a person at a terminal.
+#[derive(Drop)]
+pub struct Hints<'a, W: Write + Drop> {
+    inner: W,
+    rt: &'a HostRuntime,
+    is_on: bool,
+    line: ArrayVec<u8, 64>,
+}
+
+impl<'a, W: Write + Drop> Hints<'a, W> {
+    /// It explains where lines are typed and standard error is seen, and begins with how to leave.
+    pub fn new(rt: &'a HostRuntime, inner: W, is_synced: bool) -> Hints<'a, W> {
+        let is_on = rt.stdin().is_terminal() && rt.stderr().is_terminal();
+        if is_on {
+            let _told = eprintln!(rt; "{WELCOME}");
+            if !is_synced {
+                let _told = eprintln!(rt; "{UNSYNCED}");
+            }
+        }
+        Hints {
+            inner,
+            rt,
+            is_on,
+            line: ArrayVec::new(),
+        }
+    }
+}
+
+/// Explains an answer.
+fn explain(rt: &HostRuntime, answer: &[u8]) {
+    if answer == b"?".as_slice() {
+        let _told = eprintln!(rt; "{UNKNOWN}");
+    } else if answer.ends_with(b" refused 7") {
+        let _told = eprintln!(rt; "{OVER}");
+    }
+}
+
+/// Goes over what was written, an answer after another.
+fn follow(rt: &HostRuntime, line: &mut ArrayVec<u8, 64>, written: &[u8]) {
+    for byte in written {
+        if *byte == b'\n' {
+            explain(rt, line.as_slice());
+            line.clear();
+        } else if !line.is_full() {
+            line.push(*byte);
+        }
+    }
+}
+
+impl<'a, W: Write + Drop> Write for Hints<'a, W> {
+    ghost contents = { λ h. W.contents h.inner };
+
+    fn write(&mut self, buf: &[u8]) -> io::Result<usize>
+        ensures bound { WritesAtMost result buf.now }
+        ensures bytes { WriteAppends (W.contents self.old.inner) (W.contents self.new.inner) result buf.now }
+    {
+        let count = self.inner.write(buf)?;
+        if self.is_on {
+            follow(self.rt, &mut self.line, &buf[..count]);
+        }
+        Ok(count)
+    }
+
+    fn flush(&mut self) -> io::Result<()>
+        ensures bytes { Keeps (W.contents self.old.inner) (W.contents self.new.inner) }
+    {
+        self.inner.flush()
+    }
+}
