@@ -1,0 +1,10 @@
+//! `sbidisk`: says what stands in the file of a disk (docs/CONSOLE.md). Status 0; 1 for a refusal or a file
+//! that could not be read; 2 for a fault of the command line.
+#![tactic(auto)]
+
+use disk_program::examine;
+use std::process::ExitCode;
+
+fn main(rt: HostRuntime) -> ExitCode {
+    examine(&rt)
+}
