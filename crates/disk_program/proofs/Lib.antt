@@ -1,3 +1,2 @@
-pub mod Written
-pub mod Padded
-pub mod Shown
+-- What a disk reads as is said or refused.
+pub mod Seeing

@@ -1,5 +1,7 @@
 -- In reading order.
 -- Why the program ends with a fault.
 pub mod Faults
--- The lines that it writes of a disk.
-pub mod Lines
+-- What stands on a disk.
+pub mod Sights
+-- The lines that it writes of that.
+pub mod Texts

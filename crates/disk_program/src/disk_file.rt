@@ -3,17 +3,20 @@
 ghost use Rattle.std.specs.Prelude.{◌≤◌, IfOk};
 ghost use Rattle.store.specs.Leaves.{IsIdle};
 
-use crate::fault::{Fault, file_fault};
+use crate::fault::{Fault, file_fault, memory_fault};
 use board_model::{Refusal, SECTOR_BYTES};
-use disk::Disk;
+use disk::{Disk, Sector};
 use layout::parse_superblock;
 use simdisk::SimDisk;
-use std::alloc::AllocError;
 use std::fs::{self, File};
 use std::os::unix::fs::FileExt;
 
-fn memory_fault(_refused: AllocError) -> Fault {
-    Fault::Refused(Refusal::Memory)
+/// The file, open for reading alone. What is no regular file, as a folder, a device or a pipe, is a fault.
+fn opened(rt: &HostRuntime, path: &str) -> Result<File, Fault> {
+    if !fs::metadata(rt, path).map_err(file_fault)?.is_file() {
+        return Err(Fault::File);
+    }
+    fs::open(rt, path).map_err(file_fault)
 }
 
 /// How many sectors of a file of so many are looked at: those of the board whose superblock it begins with, and
@@ -24,7 +27,7 @@ fn looked_at(file: &File, sectors: usize) -> Result<usize, Fault>
     if sectors == 0 {
         return Ok(0);
     }
-    let mut first = [0; 512];
+    let mut first: Sector = [0; 512];
     file.read_exact_at(&mut first, 0).map_err(file_fault)?;
     match parse_superblock(&first, sectors) {
         Ok(shape) => Ok(shape.sectors()),
@@ -37,7 +40,7 @@ fn looked_at(file: &File, sectors: usize) -> Result<usize, Fault>
 pub fn disk_of(rt: &HostRuntime, path: &str) -> Result<SimDisk, Fault>
     ensures none_out { IfOk result (λ d. IsIdle (⟦<SimDisk as Disk>⟧.facts d)) }
 {
-    let file = fs::open(rt, path).map_err(file_fault)?;
+    let file = opened(rt, path)?;
     let length = file.metadata().map_err(file_fault)?.len();
     if length % SECTOR_BYTES as u64 != 0 {
         return Err(Fault::Refused(Refusal::BadShape));

@@ -4,6 +4,7 @@ ghost use Rattle.std.specs.Prelude.{◌≡◌, ◌≤◌, Some};
 ghost use Rattle.disk_program.specs.Faults.{disk_fault_text, disk_status};
 
 use board_model::Refusal;
+use std::alloc::AllocError;
 use std::fmt;
 use std::io::{self, ErrorKind};
 
@@ -40,6 +41,11 @@ pub fn file_fault(e: io::Error) -> Fault {
     } else {
         Fault::File
     }
+}
+
+/// The fault where memory was refused.
+pub fn memory_fault(_refused: AllocError) -> Fault {
+    Fault::Refused(Refusal::Memory)
 }
 
 /// The program's status: 0 where it said what stands on the disk, 2 for a fault of the command line, and 1 for

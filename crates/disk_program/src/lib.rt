@@ -4,6 +4,7 @@
 
 mod disk_file;
 mod fault;
+mod sees;
 mod shows;
 mod usage;
 
@@ -12,21 +13,23 @@ ghost use Rattle.std.specs.Process.{exit_status};
 
 use crate::disk_file::disk_of;
 use crate::fault::{Fault, status_of};
-pub use crate::shows::show_disk;
+pub use crate::sees::{Found, Seen, see_disk};
+pub use crate::shows::write_seen;
 use crate::usage::{USAGE, path_of};
 use board_model::Refusal;
 use command_line::{NoWork, show, words};
-use std::io::{self, BufWriter, Write};
+use std::io::{self, BufWriter};
 use std::process::ExitCode;
 
 /// Says what stands in the file.
 fn look(rt: &HostRuntime, path: &str) -> Result<(), Fault> {
     let disk = disk_of(rt, path)?;
+    let (_disk, seen) = see_disk(rt.alloc(), disk);
+    let seen = seen.map_err(Fault::Refused)?;
     let Ok(mut out) = BufWriter::new(rt.alloc(), io::writer(rt)) else {
         return Err(Fault::Refused(Refusal::Memory));
     };
-    show_disk(rt.alloc(), disk, &mut out).map_err(Fault::Refused)?;
-    out.flush().map_err(|_| Fault::Refused(Refusal::Output))
+    write_seen(&seen, &mut out).map_err(Fault::Refused)
 }
 
 /// Does what the command line asks for.

@@ -7,5 +7,5 @@ mod line;
 mod shows;
 
 pub use laws::one_line;
-pub use line::{MachineLine, MemBytes};
+pub use line::{MachineLine, MemBytes, Value};
 pub use shows::{call, called, csr, csr_of, mem, pc, pending, reg, turn};

@@ -99,9 +99,9 @@ impl fmt::Display for WordText {
     }
 }
 
-/// A register in 16 hexadecimal digits.
+/// A value of 64 bits in 16 hexadecimal digits, in lower case and without a prefix.
 #[derive(Drop)]
-struct Value(u64);
+pub struct Value(pub u64);
 
 impl fmt::Display for Value {
     ghost output = { λ v. Some (hex_text 16 v.0) };
