@@ -56,6 +56,7 @@ number_of_refusal (refusals.BadScript line) = 14
 number_of_refusal refusals.ImageThere = 15
 number_of_refusal refusals.Output = 16
 number_of_refusal refusals.NotPlain = 17
+number_of_refusal refusals.NotDozing = 18
 
 -- What a call that computes the next state answers: the table's refusal, or the state after the command.
 pub record IsNextOf (s : DurableState) (c : Change) (result : Result Durable Refusal) : Type 0 where

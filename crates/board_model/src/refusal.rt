@@ -44,6 +44,8 @@ pub enum Refusal {
     Output,
     #[error("the script has a line that no bench runs, or formats no disk")]
     NotPlain,
+    #[error("the board does not doze, or was woken already")]
+    NotDozing,
 }
 
 impl Refusal {
@@ -69,6 +71,7 @@ impl Refusal {
             Refusal::ImageThere => 15,
             Refusal::Output => 16,
             Refusal::NotPlain => 17,
+            Refusal::NotDozing => 18,
         }
     }
 }

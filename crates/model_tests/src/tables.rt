@@ -181,6 +181,11 @@ fn refusals_have_their_numbers_and_texts(rt: HostRuntime) -> Result<(), Fail> {
             17,
             "the script has a line that no bench runs, or formats no disk",
         ),
+        (
+            Refusal::NotDozing,
+            18,
+            "the board does not doze, or was woken already",
+        ),
     ];
     for (refusal, code, text) in table {
         reads(&rt, alloc, refusal, code, text)?;
