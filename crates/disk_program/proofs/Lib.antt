@@ -1,2 +1,2 @@
--- What a disk reads as is said or refused.
+-- Why a disk is not seen, and that it was read alone.
 pub mod Seeing

@@ -81,8 +81,9 @@ pub fn see_disk<D: Disk + Drop>(alloc: Global, mut disk: D) -> (D, Result<Seen, 
         Ok(inspection) => inspection,
         Err(refusal) => return (disk, Err(refusal)),
     };
-    match find(alloc, disk) {
-        (disk, Ok(found)) => (disk, Ok(Seen { inspection, found })),
-        (disk, Err(refusal)) => (disk, Err(refusal)),
+    let (disk, found) = find(alloc, disk);
+    match found {
+        Ok(found) => (disk, Ok(Seen { inspection, found })),
+        Err(refusal) => (disk, Err(refusal)),
     }
 }
