@@ -1,4 +1,4 @@
--- What is said of a disk, and why it is not.
+-- Why a disk is not seen, and that it was read alone.
 use Rattle.std.proofs.Common.{◌∙◌, subst, arith}
 use Rattle.std.specs.Prelude.{IfErr}
 use Rattle.board_model.specs.Shapes.{Size}
