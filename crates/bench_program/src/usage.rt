@@ -50,6 +50,7 @@ Refusals, on standard error and in reports:
   15  an image stands, and a fresh boot would leave it behind
   16  the report could not be written
   17  the script has a line that no bench runs, or formats no disk
+  18  the board does not doze, or was woken already
 
 A first script:
   board 1 1 1
