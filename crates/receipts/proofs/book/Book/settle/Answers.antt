@@ -1,8 +1,9 @@
+use Rattle.std.proofs.Common.{rules}
 use Rattle.receipts.proofs.Settles.{are_standing, are_receipts}
 use Rattle.receipts.proofs.book.Book.settle.Goals as goal
 
 pub returns-clause-told : goal.returns-clause-told
-returns-clause-told g c = are_standing c.args.keeper.log c.args.keeper.parts c.look.ensures.told
+returns-clause-told g c = are_standing c.args.keeper.log c.args.keeper.parts (search rules)
 
 pub returns-clause-all : goal.returns-clause-all
-returns-clause-all g c = λ count. are_receipts g.J.Journal.parts c.args.keeper.log c.args.keeper.parts c.look.ensures.of c.look.ensures.told (c.look.ensures.all count)
+returns-clause-all g c = λ count. are_receipts g.J.Journal.parts c.args.keeper.log c.args.keeper.parts (search rules) (search rules) (search rules)
