@@ -7,7 +7,8 @@ use Rattle.board_model.specs.Views.{number_of_refusal}
 use Rattle.board_model.specs.declared.durable.Reason.{Reason}
 use Rattle.board_model.specs.declared.refusal.Refusal.{Refusal}
 use Rattle.board_model.specs.declared.refusal.Refusal.TheVariants.{Device, Down, Memory, BadShape, JournalFull}
-use Rattle.hart.specs.State.{ArchState, answered}
+use Rattle.std.proofs.lemmas.List.{set-get_or}
+use Rattle.hart.specs.State.{ArchState, answered, never_started}
 use Rattle.hsm.specs.Views.{listed}
 use Rattle.store.specs.Lives.{Life as StoreLife, Applied, Refused, Suspended, SuspendRefused}
 use Rattle.store.specs.Follows.{FitsBoard}
@@ -16,7 +17,12 @@ use Rattle.store.specs.Views.{life_of, doubt_of}
 use Rattle.store.specs.Answers.{CountedRefusal}
 use Rattle.store.specs.Asked.{Asked}
 use Rattle.susp.specs.Checks.{IsChecked}
-use Rattle.susp.specs.Sleeps.{SleepsBy as StoreSleeps, Answers}
+use Rattle.susp.specs.Sleeps.{FallsAsleepBy, SleepsBy as StoreSleeps, Answers}
+use Rattle.susp.specs.Dozes.{dozing, doze_of}
+use Rattle.susp.specs.declared.buses.Bus.{Bus}
+use Rattle.susp.specs.declared.buses.Doze.{Doze}
+use Rattle.susp.specs.declared.sleeps.Sleep.{Sleep}
+use Rattle.susp.specs.declared.sleeps.Sleep.TheVariants.{ToRam, ToDisk}
 use Rattle.sbi_abi.specs.Answers.{error_of}
 use Rattle.sbi_abi.specs.Calls.{call_of}
 use Rattle.sbi_abi.specs.declared.call.Call.{Call}
@@ -40,9 +46,10 @@ use Rattle.bench_report.specs.Views.{SimStore, IsLife, IsAs, store_size, store_f
 use Rattle.bench_report.specs.Bench.{BenchLife, Bench}
 use Rattle.bench_report.specs.Happens.{out_of_memory, off, on_with, has_machine, acknowledged}
 use Rattle.bench_report.specs.Commands.{Issued}
-use Rattle.bench_report.specs.Turns.{refused, AnswersError, HartCommand, Resets, SuspendIssued, IsAlone, BenchSleeps, BenchSleepsBy, BenchMakesCall, ComesTo, GuestTurn, IsLastTurn, GuestTurns}
+use Rattle.bench_report.specs.Turns.{refused, AnswersError, HartCommand, Resets, SuspendIssued, IsAlone, dozes, BenchSleeps, BenchSleepsBy, BenchMakesCall, ComesTo, GuestTurn, IsLastTurn, GuestTurns}
 use Rattle.bench_report.specs.Agree.{StoreIs, DeviceIs, IsOver}
 use Rattle.bench_report.proofs.Adapted.{calm as untouched}
+use Rattle.bench_report.proofs.Dozed.{turn_size}
 use Rattle.bench_report.proofs.Commanded.{Running, follows_with, sized_for, reported_end, reported_err, reported_up, reported_down, again, calm_device, unmoved}
 
 -- the store of a life that its own command ended
@@ -52,6 +59,7 @@ IsEnded size b store = (b.power ≡ None) × IsOver size b.disk_state b.kept sto
 -- a board after what is said of a turn or a call
 abbrev pub Stands : Size → Word → Bench → Machine → SimStore → Type 0
 Stands size (words.Own did) b m store = Running size b m store
+Stands size words.Dozing b m store = Running size b m store
 Stands size words.Asleep b m store = IsEnded size b store
 Stands size (words.Reset kind) b m store = IsEnded size b store
 
@@ -59,9 +67,13 @@ Stands size (words.Reset kind) b m store = IsEnded size b store
 abbrev answering : ℕ → SbiError → Machine → Machine
 answering h e m = record m { harts = slice_set m.harts h (answered (hart_at m h) (error_of (Err e)) 0) }
 
+-- the board with another machine of its size
+pub has_other : (size : Size) (b : Bench) (life : BenchLife) (m : Machine) (store : SimStore) → m.size ≡ life.machine.size → StoreIs size b.disk_state b.kept life store → StoreIs size b.disk_state b.kept (has_machine m life) store
+has_other size b life m store same is = (follows_with size b.disk_state b.kept life m (store_size store) same is.0, is.1)
+
 -- a command of hart h, which the store was asked for on a board that is on
 module _ (size : Size) (b : Bench) (life : BenchLife) (h : ℕ) (n : Machine) (old new : SimStore) (on : b.power ≡ Some life) (was : StoreIs size b.disk_state b.kept life old) (device : DeviceIs size b (store_fault_state old) (store_facts old))
-    (t : ArchState) (made : n ≡ record life.machine { harts = slice_set life.machine.harts h t }) where
+    (t : ArchState) (doze : Option Doze) (made : n ≡ record life.machine { doze = doze; harts = slice_set life.machine.harts h t }) where
   -- it came to that
   abbrev pub Came : (Word → Bench → Type 0) → Made → Type 0
   Came step held = (x : Bench) × step (word_by held) x × Stands size (word_by held) x n new × (x.payloads ≡ b.payloads)
@@ -70,18 +82,19 @@ module _ (size : Size) (b : Bench) (life : BenchLife) (h : ℕ) (n : Machine) (o
   by_held step held reported e came = let P : Made → Type 0 = Came step in subst P (sym e) came
 
   -- the hart was answered so, and goes on
-  goes : (e : SbiError) (mid : Bench) → Running size mid life.machine new → t ≡ answered (hart_at life.machine h) (error_of (Err e)) 0
+  goes : (e : SbiError) (mid : Bench) → doze ≡ life.machine.doze → Running size mid life.machine new → t ≡ answered (hart_at life.machine h) (error_of (Err e)) 0
       → (next : BenchLife) × (mid.power ≡ Some next) × Running size (on_with (refused h e next) mid) n new
-  goes e mid (next, at, store, same, now) is =
-      let F : ArchState → Machine = λ s. record life.machine { harts = slice_set life.machine.harts h s } in
-      (next, at, (refused h e next, refl, (follows_with size mid.disk_state mid.kept next (answering h e next.machine) (store_size new) refl store.0, store.1), made ∙ ap F is ∙ ap (answering h e) same, now))
+  goes e mid still (next, at, store, same, now) is =
+      let F : ArchState → Machine = λ s. record life.machine { doze = doze; harts = slice_set life.machine.harts h s } in
+      let G : Option Doze → Machine = λ d. record (answering h e life.machine) { doze = d } in
+      (next, at, (refused h e next, refl, (follows_with size mid.disk_state mid.kept next (answering h e next.machine) (store_size new) refl store.0, store.1), made ∙ ap F is ∙ ap G still ∙ ap (answering h e) same, now))
 
   -- it was refused by its arguments
-  refuses : (e : SbiError) (held : Made) → Refused_to e (hart_at life.machine h) t held → new ≡ old → Came (λ word x. AnswersError e h life b word x) held
-  refuses e held (is, at) same =
+  refuses : (e : SbiError) (held : Made) → Refused_to e (hart_at life.machine h) t held → doze ≡ life.machine.doze → new ≡ old → Came (λ word x. AnswersError e h life b word x) held
+  refuses e held (is, at) still same =
       let Q : SimStore → Type 0 = λ store. StoreIs size b.disk_state b.kept life store in
       let S : SimStore → Type 0 = λ store. DeviceIs size b (store_fault_state store) (store_facts store) in
-      let did = goes e b (life, on, subst Q (sym same) was, refl, subst S (sym same) device) is in
+      let did = goes e b still (life, on, subst Q (sym same) was, refl, subst S (sym same) device) is in
       let next : did.0 ≡ life = one did.0 did.1 in
       let P : BenchLife → Type 0 = λ l. Running size (on_with (refused h e l) b) n new in
       by_held (λ word x. AnswersError e h life b word x) held helds.Goes at (on_with (refused h e life) b, (refl, refl), subst P next did.2, refl)
@@ -90,10 +103,10 @@ module _ (size : Size) (b : Bench) (life : BenchLife) (h : ℕ) (n : Machine) (o
       one l f = let g : Some l ≡ Some life = sym f ∙ on in let i : l ≡ life = cc in i
 
   -- its command was refused by the store
-  fails : (n : ℕ) (said : Word) (mid : Bench) (held : Made) → Running size mid life.machine new → mid.payloads ≡ b.payloads → Refused_to Failed (hart_at life.machine h) t held
+  fails : (n : ℕ) (said : Word) (mid : Bench) (held : Made) → doze ≡ life.machine.doze → Running size mid life.machine new → mid.payloads ≡ b.payloads → Refused_to Failed (hart_at life.machine h) t held
       → Came (λ word x. HartCommand (Err n) said h mid word x) held
-  fails n said mid held is payloads (at, e) =
-      let did = goes Failed mid is at in
+  fails n said mid held still is payloads (at, e) =
+      let did = goes Failed mid still is at in
       by_held (λ word x. HartCommand (Err n) said h mid word x) held helds.Goes e (on_with (refused h Failed did.0) mid, (did.0, did.1, (refl, refl)), did.2, payloads)
 
   calm_life : life.doubt ≡ None → IsLife (life_of old) life.now life.receipts None
@@ -107,20 +120,20 @@ module _ (size : Size) (b : Bench) (life : BenchLife) (h : ℕ) (n : Machine) (o
       let mid = acknowledged (Reset r) life b in
       by_held (λ word x. Resets (Ok (kind, r)) h life b word x) held (helds.Reset kind) e (off mid, (Ok k, mid, did.0, (refl, refl)), (refl, did.1, did.2), refl)
 
-  resets_err : (kind : ResetType) (r : Reason) (e : Refusal) (held : Made) → Asked Applied old (Reset r) (Err e) new → Refused_to Failed (hart_at life.machine h) t held → Came (λ word x. Resets (Ok (kind, r)) h life b word x) held
-  resets_err kind r e held asked refused =
+  resets_err : (kind : ResetType) (r : Reason) (e : Refusal) (held : Made) → doze ≡ life.machine.doze → Asked Applied old (Reset r) (Err e) new → Refused_to Failed (hart_at life.machine h) t held → Came (λ word x. Resets (Ok (kind, r)) h life b word x) held
+  resets_err kind r e held still asked refused =
       let did = reported_err size b life (Reset r) old new (life_of old) on was device asked.stays.board asked.stays.length asked.stays.no_fewer calm_life life.doubt refl e
       (λ none. (asked.answered none).life) asked.down (λ none. (asked.answered none).cause) (λ none. (asked.answered none).counts) in
-      let last = fails (number_of_refusal e) (words.Reset kind) did.0 held did.2 did.3 refused in
+      let last = fails (number_of_refusal e) (words.Reset kind) did.0 held still did.2 did.3 refused in
       (last.0, (Err (number_of_refusal e), did.0, did.1, last.1), last.2, last.3)
 
-  resets_by : (kind : ResetType) (r : Reason) (o : Result ℕ Refusal) (held : Made) → Asked Applied old (Reset r) o new → EndsReset kind o (hart_at life.machine h) t held → Came (λ word x. Resets (Ok (kind, r)) h life b word x) held
-  resets_by kind r (Ok k) held asked ended = resets_ok kind r k held asked ended.1
-  resets_by kind r (Err e) held asked ended = resets_err kind r e held asked ended
+  resets_by : (kind : ResetType) (r : Reason) (o : Result ℕ Refusal) (held : Made) → doze ≡ life.machine.doze → Asked Applied old (Reset r) o new → EndsReset kind o (hart_at life.machine h) t held → Came (λ word x. Resets (Ok (kind, r)) h life b word x) held
+  resets_by kind r (Ok k) held still asked ended = resets_ok kind r k held asked ended.1
+  resets_by kind r (Err e) held still asked ended = resets_err kind r e held still asked ended
 
-  resets : (asked : Result (ResetType × Reason) SbiError) (held : Made) → MakesReset asked (hart_at life.machine h) t old new held → Came (λ word x. Resets asked h life b word x) held
-  resets (Err e) held x = refuses e held x.0 x.1
-  resets (Ok reset) held (o, asked, ended) = resets_by reset.0 reset.1 o held asked ended
+  resets : (asked : Result (ResetType × Reason) SbiError) (held : Made) → doze ≡ life.machine.doze → MakesReset asked (hart_at life.machine h) t old new held → Came (λ word x. Resets asked h life b word x) held
+  resets (Err e) held still x = refuses e held x.0 still x.1
+  resets (Ok reset) held still (o, asked, ended) = resets_by reset.0 reset.1 o held still asked ended
 
   -- ---- a suspension
   module _ (id site opaque : ℕ) (memory : List ℕ) (address : IsValidAddress life.machine.size site) where
@@ -222,50 +235,81 @@ module _ (size : Size) (b : Bench) (life : BenchLife) (h : ℕ) (n : Machine) (o
   abbrev the_hart : ArchState
   the_hart = hart_at life.machine h
 
-  -- once every other hart is STOPPED
-  sleeps_by : (site opaque : ℕ) (r : Result ℕ Refusal) (error : Option SbiError) (held : Made) → IsValidAddress life.machine.size site → IsAlone the_hart.id life.machine
-      → Asked (Suspended (FitsBoard life.machine.size life.machine.memory the_hart.id site)) old (Suspend the_hart.id site opaque life.machine.memory) r new
-      → Answers r error → EndsSleep error the_hart t held → Came (λ word x. BenchSleeps site opaque h life b word x) held
-  sleeps_by site opaque (Ok k) error held address alone asked e ended =
-      let P : Option SbiError → Type 0 = λ o. EndsSleep o the_hart t held in
-      let did = suspend_ok the_hart.id site opaque life.machine.memory address k asked in
-      by_held (λ word x. BenchSleeps site opaque h life b word x) held helds.Asleep (subst P e ended).1 (off did.0, inr (alone, Ok k, did.0, did.1, (refl, refl)), did.3, ap (λ (y : Bench). y.payloads) did.2)
-  sleeps_by site opaque (Err f) error held address alone asked e ended =
-      let P : Option SbiError → Type 0 = λ o. EndsSleep o the_hart t held in
-      let did = suspend_err the_hart.id site opaque life.machine.memory address f asked in
-      let last = fails did.0 words.Asleep did.1.0 held did.1.2 did.1.3 (subst P e ended) in
-      (last.0, inr (alone, Err did.0, did.1.0, did.1.1, last.1), last.2, last.3)
+  -- the bus of the board's memory, with that doze
+  abbrev bus : Option Doze → Bus
+  bus d = record { ram = life.machine.memory; doze = d }
 
-  sleeps : (kind address opaque : ℕ) (asked : Result ℕ SbiError) (error : Option SbiError) (held : Made) → IsChecked life.machine.size kind address asked
-      → StoreSleeps life.machine.size.harts the_hart.id asked opaque life.machine.memory (listed life.machine.table.states) old error new → life.machine.size ≡ store_size old → EndsSleep error the_hart t held
-      → Came (λ word x. BenchSleepsBy asked opaque h life b word x) held
-  sleeps kind address opaque (Err e) error held checked (is, same) sized ended =
-      let P : Option SbiError → Type 0 = λ o. EndsSleep o the_hart t held in refuses e held (subst P is ended) same
-  sleeps kind address opaque (Ok site) error held checked (inl (busy, is, same)) sized ended =
-      let P : Option SbiError → Type 0 = λ o. EndsSleep o the_hart t held in
-      let did = refuses Denied held (subst P is ended) same in
-      (did.0, inl (busy, did.1), did.2, did.3)
-  sleeps kind address opaque (Ok site) error held checked (inr (alone, (r, asked, answers))) sized ended =
+  same_doze : bus doze ≡ bus life.machine.doze → doze ≡ life.machine.doze
+  same_doze e = ap (λ (x : Bus). x.doze) e
+
+  -- once every other hart is STOPPED: to RAM
+  dozes_so : (site opaque : ℕ) (held : Made) → IsAlone the_hart.id life.machine → doze ≡ Some (dozing the_hart.id site opaque) → new ≡ old → t ≡ the_hart → held ≡ helds.Dozing
+      → Came (λ word x. BenchSleeps ToRam site opaque h life b word x) held
+  dozes_so site opaque held alone fell same as_before at =
+      let next : BenchLife = dozes h site opaque life in
+      let G : Option Doze → Machine = λ d. record life.machine { doze = d; harts = slice_set life.machine.harts h t } in
+      let F : ArchState → Machine = λ s. record next.machine { harts = slice_set life.machine.harts h s } in
+      let H : List ArchState → Machine = λ hs. record next.machine { harts = hs } in
+      let is : n ≡ next.machine = made ∙ ap G fell ∙ ap F as_before ∙ ap H (set-get_or life.machine.harts h (never_started h)) in
+      let Q : SimStore → Type 0 = λ store. StoreIs size b.disk_state b.kept life store in
+      let S : SimStore → Type 0 = λ store. DeviceIs size b (store_fault_state store) (store_facts store) in
+      by_held (λ word x. BenchSleeps ToRam site opaque h life b word x) held helds.Dozing at
+      (on_with next b, inr (alone, (refl, refl)), (next, refl, has_other size b life next.machine new refl (subst Q (sym same) was), is, subst S (sym same) device), refl)
+
+  -- to disk
+  sleeps_by : (site opaque : ℕ) (r : Result ℕ Refusal) (fell : Result Sleep SbiError) (held : Made) → doze ≡ life.machine.doze → IsValidAddress life.machine.size site → IsAlone the_hart.id life.machine
+      → Asked (Suspended (FitsBoard life.machine.size life.machine.memory the_hart.id site)) old (Suspend the_hart.id site opaque life.machine.memory) r new
+      → Answers r fell → EndsSleep fell the_hart t held → Came (λ word x. BenchSleeps ToDisk site opaque h life b word x) held
+  sleeps_by site opaque (Ok k) fell held still address alone asked e ended =
+      let P : Result Sleep SbiError → Type 0 = λ o. EndsSleep o the_hart t held in
+      let did = suspend_ok the_hart.id site opaque life.machine.memory address k asked in
+      by_held (λ word x. BenchSleeps ToDisk site opaque h life b word x) held helds.Asleep (subst P e ended).1 (off did.0, inr (alone, (Ok k, did.0, did.1, (refl, refl))), did.3, ap (λ (y : Bench). y.payloads) did.2)
+  sleeps_by site opaque (Err f) fell held still address alone asked e ended =
+      let P : Result Sleep SbiError → Type 0 = λ o. EndsSleep o the_hart t held in
+      let did = suspend_err the_hart.id site opaque life.machine.memory address f asked in
+      let last = fails did.0 words.Asleep did.1.0 held still did.1.2 did.1.3 (subst P e ended) in
+      (last.0, inr (alone, (Err did.0, did.1.0, did.1.1, last.1)), last.2, last.3)
+
+  falls : (sleep : Sleep) (site opaque : ℕ) (fell : Result Sleep SbiError) (held : Made) → IsValidAddress life.machine.size site → IsAlone the_hart.id life.machine
+      → FallsAsleepBy sleep the_hart.id site opaque (bus life.machine.doze) old fell (bus doze) new → life.machine.size ≡ store_size old → EndsSleep fell the_hart t held
+      → Came (λ word x. BenchSleeps sleep site opaque h life b word x) held
+  falls ToRam site opaque fell held address alone (is, dozed, same) sized ended =
+      let P : Result Sleep SbiError → Type 0 = λ o. EndsSleep o the_hart t held in
+      let did = subst P is ended in
+      dozes_so site opaque held alone (ap (λ (x : Bus). x.doze) dozed) same did.0 did.1
+  falls ToDisk site opaque fell held address alone (r, asked, answers, kept) sized ended =
       let P : Size → Type 0 = λ z. Asked (Suspended (FitsBoard z life.machine.memory the_hart.id site)) old (Suspend the_hart.id site opaque life.machine.memory) r new in
+      sleeps_by site opaque r fell held (same_doze kept) address alone (subst P (sym sized) asked) answers ended
+
+  sleeps : (kind address opaque : ℕ) (asked : Result (Sleep × ℕ) SbiError) (fell : Result Sleep SbiError) (held : Made) → IsChecked life.machine.size kind address asked
+      → StoreSleeps life.machine.size.harts the_hart.id asked opaque (listed life.machine.table.states) (bus life.machine.doze) old fell (bus doze) new → life.machine.size ≡ store_size old → EndsSleep fell the_hart t held
+      → Came (λ word x. BenchSleepsBy asked opaque h life b word x) held
+  sleeps kind address opaque (Err e) fell held checked (is, kept, same) sized ended =
+      let P : Result Sleep SbiError → Type 0 = λ o. EndsSleep o the_hart t held in refuses e held (subst P is ended) (same_doze kept) same
+  sleeps kind address opaque (Ok asked) fell held checked (inl (busy, is, kept, same)) sized ended =
+      let P : Result Sleep SbiError → Type 0 = λ o. EndsSleep o the_hart t held in
+      let did = refuses Denied held (subst P is ended) (same_doze kept) same in
+      (did.0, inl (busy, did.1), did.2, did.3)
+  sleeps kind address opaque (Ok asked) fell held checked (inr (alone, so)) sized ended =
       let Q : ℕ → Type 0 = λ a. IsValidAddress life.machine.size a in
-      sleeps_by site opaque r error held (subst Q (sym checked.1) (valid checked)) alone (subst P (sym sized) asked) answers ended
+      falls asked.0 asked.1 opaque fell held (subst Q (sym checked.1) (valid checked)) alone so sized ended
     where
-      valid : IsChecked life.machine.size kind address (Ok site) → IsValidAddress life.machine.size address
+      valid : IsChecked life.machine.size kind address (Ok asked) → IsValidAddress life.machine.size address
       valid x = x.2
 
   -- ---- the call
-  suspends : (kind address opaque : ℕ) (held : Made) → SleepsIn life.machine.size.harts life.machine.memory kind address opaque the_hart t life.machine.table old new held → life.machine.size ≡ store_size old
-      → Came (λ word x. (asked : Result ℕ SbiError) × IsChecked life.machine.size kind address asked × BenchSleepsBy asked opaque h life b word x) held
-  suspends kind address opaque held (error, alone, ended) sized =
+  suspends : (kind address opaque : ℕ) (held : Made) → SleepsIn life.machine.size.harts kind address opaque the_hart t life.machine.table (bus life.machine.doze) (bus doze) old new held → life.machine.size ≡ store_size old
+      → Came (λ word x. (asked : Result (Sleep × ℕ) SbiError) × IsChecked life.machine.size kind address asked × BenchSleepsBy asked opaque h life b word x) held
+  suspends kind address opaque held (fell, alone, ended) sized =
       let P : Size → Type 0 = λ z. IsChecked z kind address alone.asked in
       let checked = subst P (sym sized) alone.checked in
-      let did = sleeps kind address opaque alone.asked error held checked alone.slept sized ended in
+      let did = sleeps kind address opaque alone.asked fell held checked alone.slept sized ended in
       (did.0, (alone.asked, checked, did.1), did.2, did.3)
 
-  makes : (call : Call) (held : Made) → HeldIn life.machine.size.harts life.machine.memory call the_hart t life.machine.table old new held → life.machine.size ≡ store_size old → Came (λ word x. BenchMakesCall call h life b word x) held
-  makes (calls.SystemReset kind reason) held x sized = resets (reset_of kind reason) held x
+  makes : (call : Call) (held : Made) → HeldIn life.machine.size.harts call the_hart t life.machine.table (bus life.machine.doze) (bus doze) old new held → life.machine.size ≡ store_size old → Came (λ word x. BenchMakesCall call h life b word x) held
+  makes (calls.SystemReset kind reason) held x sized = resets (reset_of kind reason) held (same_doze x.1) x.0
   makes (calls.SystemSuspend kind address opaque) held x sized = suspends kind address opaque held x sized
-  makes call held x sized = refuses NotSupported held x.0 x.1
+  makes call held x sized = refuses NotSupported held x.0 (same_doze x.2) x.1
 
 -- ---- what comes of what a hart did
 abbrev Comes_so : Size → (Word → Bench → Type 0) → Bench → Word → Machine → SimStore → Type 0
@@ -273,11 +317,13 @@ Comes_so size step b word n new = (x : Bench) × step word x × Stands size word
 
 module _ (size : Size) (b : Bench) (life : BenchLife) (h : ℕ) (n : Machine) (old new : SimStore) (on : b.power ≡ Some life) (was : StoreIs size b.disk_state b.kept life old) (device : DeviceIs size b (store_fault_state old) (store_facts old)) where
   called : (held : Made) → MachineCall h life.machine n old new held → Comes_so size (λ word x. ComesTo Durable h life b word x) b (word_by held) n new
-  called held (after, is, e) =
-      let F : Machine = record life.machine { harts = slice_set life.machine.harts h after.hart } in
-      let made : n ≡ F = e ∙ ap (λ x. record { size = life.machine.size; memory = after.memory; harts = slice_set life.machine.harts h after.hart; table = x }) is.1
-      ∙ ap (λ y. record { size = life.machine.size; memory = y; harts = slice_set life.machine.harts h after.hart; table = life.machine.table }) is.2 in
-      makes size b life h n old new on was device after.hart made (call_of (hart_at life.machine h)) held is.0 (sized_for size b.disk_state b.kept life (store_size old) was.0)
+  called held (doze, after, is, e) =
+      let F : Machine = record life.machine { doze = doze; harts = slice_set life.machine.harts h after.hart } in
+      let made : n ≡ F = e ∙ ap (λ x. record { size = life.machine.size; memory = after.memory; doze = doze; harts = slice_set life.machine.harts h after.hart; table = x }) is.1
+      ∙ ap (λ y. record { size = life.machine.size; memory = y; doze = doze; harts = slice_set life.machine.harts h after.hart; table = life.machine.table }) is.2 in
+      let P : List ℕ → Type 0 = λ m. HeldIn life.machine.size.harts (call_of (hart_at life.machine h)) (hart_at life.machine h) after.hart life.machine.table
+      (record { ram = life.machine.memory; doze = life.machine.doze }) (record { ram = m; doze = doze }) old new held in
+      makes size b life h n old new on was device after.hart doze made (call_of (hart_at life.machine h)) held (subst P is.2 is.0) (sized_for size b.disk_state b.kept life (store_size old) was.0)
 
   pub comes : (did : Turned) (word : Word) → boards.Comes did h life.machine n old new word → Comes_so size (λ word x. ComesTo did h life b word x) b word n new
   comes Durable word (held, made, e) =
@@ -290,24 +336,22 @@ module _ (size : Size) (b : Bench) (life : BenchLife) (h : ℕ) (n : Machine) (o
       subst P (sym e) (b, (refl, refl), (life, on, subst Q (sym still) was, same, subst S (sym still) device), refl)
 
 -- ---- turns
--- the board with another machine of its size
-pub has_other : (size : Size) (b : Bench) (life : BenchLife) (m : Machine) (store : SimStore) → m.size ≡ life.machine.size → StoreIs size b.disk_state b.kept life store → StoreIs size b.disk_state b.kept (has_machine m life) store
-has_other size b life m store same is = (follows_with size b.disk_state b.kept life m (store_size store) same is.0, is.1)
-
 turn : (size : Size) (h : ℕ) (b : Bench) (life : BenchLife) (n : Machine) (old new : SimStore) (word : Word) → b.power ≡ Some life → StoreIs size b.disk_state b.kept life old → DeviceIs size b (store_fault_state old) (store_facts old)
     → boards.TurnsHeld h life.machine n old new word → Comes_so size (λ word x. GuestTurn h life b word x) b word n new
 turn size h b life n old new word on was device (m, did, turned, came) =
-    let same : m.size ≡ life.machine.size = ap (λ (k : Machine). k.size) turned.2 in
+    let same : m.size ≡ life.machine.size = turn_size (doze_of h life.machine.doze) h life.machine m did turned in
     let rest = comes size (on_with (has_machine m life) b) (has_machine m life) h n old new refl (has_other size b life m old same was) device did word came in
     (rest.0, (m, did, turned, rest.1), rest.2, rest.3)
 
 struck_as : (size : Size) (word : Word) (b : Bench) (m : Machine) (store : SimStore) → Stands size word b m store → b.fault_state.struck ≡ (store_fault_state store).struck
 struck_as size (words.Own did) b m store (life, on, is, same, device) = ap (λ x. x.struck) device.0
+struck_as size words.Dozing b m store (life, on, is, same, device) = ap (λ x. x.struck) device.0
 struck_as size words.Asleep b m store (off, is, device) = ap (λ x. x.struck) device.0
 struck_as size (words.Reset kind) b m store (off, is, device) = ap (λ x. x.struck) device.0
 
 runs : (size : Size) (word : Word) (b : Bench) (m : Machine) (store : SimStore) → ends word ≡ false → Stands size word b m store → Running size b m store
 runs size (words.Own did) b m store e is = is
+runs size words.Dozing b m store e is = absurd (let no : ⊥ = cc in no)
 runs size words.Asleep b m store e is = absurd (let no : ⊥ = cc in no)
 runs size (words.Reset kind) b m store e is = absurd (let no : ⊥ = cc in no)
 

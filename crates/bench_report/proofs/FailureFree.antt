@@ -1,5 +1,5 @@
 -- A report whose lines are failure-free: no power-on was refused memory, and no failure was answered.
-use Rattle.std.proofs.Common.{◌≡◌, ◌≢◌, ℕ, zero, suc, arith, inl, inr, List, [], ◌∷◌, Option, None, Some, Result, Ok, Err, refl, ◌∙◌, ap, subst}
+use Rattle.std.proofs.Common.{◌≡◌, ◌≢◌, ℕ, zero, suc, arith, inl, inr, List, [], ◌∷◌, Bool, true, false, Option, None, Some, Result, Ok, Err, refl, ◌∙◌, ap, subst}
 use Rattle.std.specs.Bool.{⊤}
 use Rattle.board_model.specs.Durable.{DurableState, Change, Slot, Reset, Discard, refusal_of}
 use Rattle.board_model.specs.Shapes.{Size}
@@ -37,10 +37,13 @@ use Rattle.bench_report.specs.declared.printed.Answer.{Answer}
 use Rattle.bench_report.specs.Bench.{DiskState, Blank, Unknown, Formatted, BenchLife, Bench, IsFailureFree, blank_bench}
 use Rattle.bench_report.specs.Happens.{says, off, on_with, unpowered, unknown, armed_with, formatted_anew, settled, has_machine, acknowledged}
 use Rattle.bench_report.specs.Commands.{Writes, IssuedBy, IssuesAll, Issued}
-use Rattle.bench_report.specs.Turns.{AnswersError, HartCommand, Resets, SuspendIssued, BenchSleepsBy, BenchMakesCall, ComesTo, GuestTurn, GuestTurns}
+use Rattle.susp.specs.declared.sleeps.Sleep.{Sleep}
+use Rattle.susp.specs.declared.sleeps.Sleep.TheVariants.{ToRam, ToDisk}
+use Rattle.susp.specs.Dozes.{can_wake}
+use Rattle.bench_report.specs.Turns.{AnswersError, HartCommand, Resets, SuspendIssued, dozes, BenchFallsAsleep, BenchSleepsBy, BenchMakesCall, ComesTo, GuestTurn, GuestTurns}
 use Rattle.bench_report.specs.PowerOns.{life_begun, FormatsOn, IsBooted, BootsFrom, Resumes, Begins, Boots, Opens, PowersOn}
 use Rattle.bench_report.specs.Examined.{InspectStep}
-use Rattle.bench_report.specs.Steps.{console_reported, FormatStep, OnStep, ConsoleStep, PayloadStep, ReadStep, PokeStep, TurnStep, CallReported, GuestCall, CallStep, Step, Moves, Run}
+use Rattle.bench_report.specs.Steps.{console_reported, FormatStep, OnStep, ConsoleStep, PayloadStep, ReadStep, PokeStep, TurnStep, CallReported, GuestCall, CallStep, Wakes, WakeStep, Step, Moves, Run}
 use Rattle.bench_report.specs.Reports.{IsReport}
 use Rattle.bench_report.proofs.Unsaid.{none_made}
 use Rattle.bench_report.specs.Plain.{ShowsNoFailure, ShowNoFailure}
@@ -189,10 +192,14 @@ sleeps_held Fits c o h life b mid word new (inl i) x free = held_free c o words.
 sleeps_held Fits c o h life b mid word new (inr (inl i)) x free = refused_held 11 o h mid word new i.1 x free
 sleeps_held Fits c o h life b mid word new (inr (inr i)) x free = refused_held 3 o h mid word new i.1 x free
 
-by_free : (asked : Result ℕ SbiError) (opaque h : ℕ) (life : BenchLife) (b : Bench) (word : Word) (new : Bench) → BenchSleepsBy asked opaque h life b word new → IsFree word → AsMany b new
+falls_free : (sleep : Sleep) (site opaque h : ℕ) (life : BenchLife) (b : Bench) (word : Word) (new : Bench) → BenchFallsAsleep sleep site opaque h life b word new → IsFree word → AsMany b new
+falls_free ToRam site opaque h life b word new x free = as_many b (on_with (dozes h site opaque life) b) new refl refl x.1
+falls_free ToDisk site opaque h life b word new (o, mid, i, x) free = sleeps_held _ _ o h life b mid word new i x free
+
+by_free : (asked : Result (Sleep × ℕ) SbiError) (opaque h : ℕ) (life : BenchLife) (b : Bench) (word : Word) (new : Bench) → BenchSleepsBy asked opaque h life b word new → IsFree word → AsMany b new
 by_free (Err e) opaque h life b word new x free = refuses_free e h life b word new x free
-by_free (Ok site) opaque h life b word new (inl x) free = refuses_free Denied h life b word new x.1 free
-by_free (Ok site) opaque h life b word new (inr (alone, o, mid, i, x)) free = sleeps_held _ _ o h life b mid word new i x free
+by_free (Ok asked) opaque h life b word new (inl x) free = refuses_free Denied h life b word new x.1 free
+by_free (Ok asked) opaque h life b word new (inr x) free = falls_free asked.0 asked.1 opaque h life b word new x.1 free
 
 makes_free : (call : Call) (h : ℕ) (life : BenchLife) (b : Bench) (word : Word) (new : Bench) → BenchMakesCall call h life b word new → IsFree word → AsMany b new
 makes_free (calls.SystemReset kind reason) h life b word new x free = resets_free (reset_of kind reason) h life b word new x free
@@ -253,6 +260,14 @@ inspect_at size None b a new (inl (c, reads, inr x)) failure_free = absurd ((of_
 inspect_at size None b a new (inr x) failure_free = absurd ((of_answer a (printed.InspectRefused 5) x.0 failure_free).0 refl)
 inspect_at size (Some life) b a new x failure_free = as_many b b new refl refl x.1
 
+wakes_at : (can : Bool) (life : BenchLife) (b : Bench) (a : Answer) (new : Bench) → Wakes can life b a new → AsMany b new
+wakes_at true life b a new x = as_many b _ new refl refl x.1
+wakes_at false life b a new x = as_many b b new refl refl x.1
+
+wake_at : (p : Option BenchLife) (b : Bench) (a : Answer) (new : Bench) → WakeStep p b a new → AsMany b new
+wake_at None b a new x = as_many b b new refl refl x.1
+wake_at (Some life) b a new x = wakes_at (can_wake life.machine.doze) life b a new x
+
 step_failure_free : (size : Size) (line : Line) (b : Bench) (a : Answer) (new : Bench) → Step size line b a new → ShowsNoFailure a.line → AsMany b new
 step_failure_free size (lines.Payload x y) b a new h failure_free = payload_at b.power x y b a new h
 step_failure_free size lines.Format b a new h failure_free = format_at b.power b a new h failure_free
@@ -273,6 +288,7 @@ step_failure_free size (lines.FailLane x y) b a new h failure_free = as_many b (
 step_failure_free size (lines.Cut fill) b a new h failure_free = as_many b (unpowered b) new refl refl h.1
 step_failure_free size (lines.Poke x y z) b a new h failure_free = poke_at b.power b a new h
 step_failure_free size lines.Inspect b a new h failure_free = inspect_at size b.power b a new h failure_free
+step_failure_free size lines.Wake b a new h failure_free = wake_at b.power b a new h
 
 -- within a failure-free line no cut struck
 moves_failure_free : (size : Size) (line : Line) (b : Bench) (a : Answer) (new : Bench) → Moves size line b a new → ShowsNoFailure a.line → AsMany b new

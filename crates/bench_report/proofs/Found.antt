@@ -38,12 +38,14 @@ use Rattle.bench_report.specs.declared.printed.Answer.{Answer}
 use Rattle.bench_report.specs.Bench.{BenchLife, Bench, blank_bench}
 use Rattle.bench_report.specs.Happens.{says, shows, failed, on_with, has_machine, acknowledged, in_doubt}
 use Rattle.bench_report.specs.Commands.{Writes, IssuedBy, Issued, IssuesAll}
-use Rattle.bench_report.specs.Turns.{refused, AnswersError, HartCommand, Resets, BenchSleepsBy, BenchMakesCall, ComesTo, GuestTurns}
+use Rattle.susp.specs.declared.sleeps.Sleep.{Sleep}
+use Rattle.susp.specs.declared.sleeps.Sleep.TheVariants.{ToRam, ToDisk}
+use Rattle.bench_report.specs.Turns.{refused, AnswersError, HartCommand, Resets, dozes, BenchFallsAsleep, BenchSleepsBy, BenchMakesCall, ComesTo, GuestTurns}
 use Rattle.bench_report.specs.PowerOns.{life_begun, commands_of, IsBooted, BootsFrom, Begins, Boots, IsOpenRefusal}
 use Rattle.bench_report.specs.Steps.{console_reported, CallReported, GuestCall, OnStep, ConsoleStep, TurnStep, CallStep, Step, Run}
 use Rattle.bench_report.specs.Reports.{AreByFirmware, IsReport}
 use Rattle.bench_report.specs.Taken.{TakesFewer}
-use Rattle.bench_report.specs.Prefix.{AskedLine, Boot, Command, Guest, Nothing, Keeps, Hides, TellsLine, may_hide, asked_by, LineImplies, ShowsIts, is_format_ok}
+use Rattle.bench_report.specs.Prefix.{AskedLine, Boot, Command, Guest, Nothing, Keeps, Hides, TellsLine, may_hide, may_hide_before, asked_by, LineImplies, ShowsIts, is_format_ok}
 use Rattle.bench_report.specs.AllFound.{LineMakes, ShownMakes, AreAllFound, FindAll, FindsAll}
 use Rattle.bench_report.proofs.Table.{table_not_six}
 use Rattle.bench_report.proofs.Issues.{is_up, takes_more, GoesOn, IsSound}
@@ -59,6 +61,7 @@ IsPowered (Some life) = ⊤
 
 abbrev IsOwn : Word → Type 0
 IsOwn (words.Own did) = ⊤
+IsOwn words.Dozing = ⊤
 IsOwn words.Asleep = ⊥
 IsOwn (words.Reset kind) = ⊥
 
@@ -79,10 +82,14 @@ resets_on : (asked : Result (ResetType × Reason) SbiError) (h : ℕ) (life : Be
 resets_on (Err e) h life b word new x own = answers_on e h life b word new x
 resets_on (Ok reset) h life b word new (o, mid, i, x) own = held_on o (words.Reset reset.0) h mid word new (λ no. no) x own
 
-sleeps_on : (asked : Result ℕ SbiError) (opaque h : ℕ) (life : BenchLife) (b : Bench) (word : Word) (new : Bench) → BenchSleepsBy asked opaque h life b word new → IsOwn word → IsPowered new.power
+falls_on : (sleep : Sleep) (site opaque h : ℕ) (life : BenchLife) (b : Bench) (word : Word) (new : Bench) → BenchFallsAsleep sleep site opaque h life b word new → IsOwn word → IsPowered new.power
+falls_on ToRam site opaque h life b word new x own = as_powered new (on_with (dozes h site opaque life) b) x.1 tt
+falls_on ToDisk site opaque h life b word new (o, mid, i, x) own = held_on o words.Asleep h mid word new (λ no. no) x own
+
+sleeps_on : (asked : Result (Sleep × ℕ) SbiError) (opaque h : ℕ) (life : BenchLife) (b : Bench) (word : Word) (new : Bench) → BenchSleepsBy asked opaque h life b word new → IsOwn word → IsPowered new.power
 sleeps_on (Err e) opaque h life b word new x own = answers_on e h life b word new x
-sleeps_on (Ok site) opaque h life b word new (inl x) own = answers_on Denied h life b word new x.1
-sleeps_on (Ok site) opaque h life b word new (inr (alone, o, mid, i, x)) own = held_on o words.Asleep h mid word new (λ no. no) x own
+sleeps_on (Ok asked) opaque h life b word new (inl x) own = answers_on Denied h life b word new x.1
+sleeps_on (Ok asked) opaque h life b word new (inr x) own = falls_on asked.0 asked.1 opaque h life b word new x.1 own
 
 makes_on : (call : Call) (h : ℕ) (life : BenchLife) (b : Bench) (word : Word) (new : Bench) → BenchMakesCall call h life b word new → IsOwn word → IsPowered new.power
 makes_on (calls.SystemReset kind reason) h life b word new x own = resets_on (reset_of kind reason) h life b word new x own
@@ -151,6 +158,7 @@ abbrev IsQuiet : AskedLine → Printed → Bool → Type 0
 IsQuiet (Boot mode) (printed.OnRefused n) now = n ≢ 6
 IsQuiet (Command c) (printed.CommandRefused word n) now = now ≡ true
 IsQuiet Guest (printed.Shown (shown_lines.Turn h made (words.Own did))) now = now ≡ true
+IsQuiet Guest (printed.Shown (shown_lines.Turn h made words.Dozing)) now = now ≡ true
 IsQuiet Guest (printed.Shown (shown_lines.Answered h e v)) now = now ≡ true
 IsQuiet Nothing printed.PowerLost now = ⊤
 IsQuiet asked printed.PowerLost now = ⊥
@@ -217,6 +225,7 @@ module _ (now : Bool) where
 
   word_quiet : (h made : ℕ) (word : Word) → (IsOwn word → now ≡ true) → IsQuiet Guest (printed.Shown (shown_lines.Turn h made word)) now
   word_quiet h made (words.Own did) up = up tt
+  word_quiet h made words.Dozing up = up tt
   word_quiet h made words.Asleep up = tt
   word_quiet h made (words.Reset kind) up = tt
 
@@ -230,12 +239,14 @@ module _ (now : Bool) where
   own_quiet h hart dids.Idle up = tt
   own_quiet h hart dids.Entered up = tt
   own_quiet h hart dids.Woke up = tt
+  own_quiet h hart dids.Resumed up = tt
   own_quiet h hart dids.Suspended up = tt
   own_quiet h hart dids.Stopped up = tt
   own_quiet h hart dids.Durable up = tt
 
   reported_call : (word : Word) (h : ℕ) (new : Bench) (a : Answer) → (IsOwn word → now ≡ true) → CallReported h word new a → IsQuiet Guest a.line now
   reported_call (words.Own did) h new a up (life, on, e) = quiet Guest a (printed.Shown (own_line h (hart_at life.machine h) did)) now e (own_quiet h (hart_at life.machine h) did (up tt))
+  reported_call words.Dozing h new a up e = quiet Guest a (printed.Shown (shown_lines.Called h words.Dozing)) now e tt
   reported_call words.Asleep h new a up e = quiet Guest a (printed.Shown (shown_lines.Called h words.Asleep)) now e tt
   reported_call (words.Reset kind) h new a up e = quiet Guest a (printed.Shown (shown_lines.Called h (words.Reset kind))) now e tt
 
@@ -303,9 +314,11 @@ module _ (s t : DurableState) (up now : Bool) where
 
   makes_shown : (line : MachineLine) → IsQuiet Guest (printed.Shown line) now → TellsLine line s up t now → ShownMakes line s t
   makes_shown (shown_lines.Turn h made (words.Own did)) q x = either_keeps (may_hide made did) q x
+  makes_shown (shown_lines.Turn h made words.Dozing) q x = either_keeps (may_hide_before made) q x
   makes_shown (shown_lines.Turn h made words.Asleep) q x = (x.2, x.3, x.4)
   makes_shown (shown_lines.Turn h made (words.Reset kind)) q x = (x.2, x.3, x.4)
   makes_shown (shown_lines.Called h (words.Own did)) q x = x.0
+  makes_shown (shown_lines.Called h words.Dozing) q x = x.0
   makes_shown (shown_lines.Called h words.Asleep) q x = (x.2, x.3, x.4)
   makes_shown (shown_lines.Called h (words.Reset kind)) q x = (x.2, x.3, x.4)
   makes_shown (shown_lines.Answered h e v) q x = either_keeps (e == 2 ^ 64 - 1) q x

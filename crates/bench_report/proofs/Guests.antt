@@ -1,10 +1,12 @@
 -- Turns and calls of harts: what was spoilt stays so, and where nothing is, two runs of the same turns are
 -- one.
-use Rattle.std.proofs.Common.{◌≡◌, ◌⊎◌, ℕ, zero, suc, inl, inr, Bool, true, false, Result, Ok, Err, sym, ◌∙◌, ap, subst, arith}
+use Rattle.std.proofs.Common.{◌≡◌, ◌≢◌, ◌⊎◌, ℕ, zero, suc, inl, inr, Bool, true, false, Result, Ok, Err, refl, sym, ◌∙◌, ap, subst, arith}
 use Rattle.board_model.specs.Durable.{Change, Reset}
 use Rattle.board_model.specs.Shapes.{Size}
 use Rattle.board_model.specs.declared.durable.Reason.{Reason}
-use Rattle.susp.specs.Checks.{IsChecked}
+use Rattle.susp.specs.Checks.{IsChecked, to_ram, to_disk, kind_of}
+use Rattle.susp.specs.declared.sleeps.Sleep.{Sleep}
+use Rattle.susp.specs.declared.sleeps.Sleep.TheVariants.{ToRam, ToDisk}
 use Rattle.machine.specs.Machine.{Machine, hart_at}
 use Rattle.machine.specs.Turns.{MakesTurn}
 use Rattle.machine.specs.Words.{ends}
@@ -21,7 +23,7 @@ use Rattle.sbi.specs.declared.resets.ResetType.{ResetType}
 use Rattle.sbi.specs.Resets.{reset_of}
 use Rattle.bench_report.specs.Bench.{BenchLife, Bench}
 use Rattle.bench_report.specs.Happens.{off, on_with, has_machine}
-use Rattle.bench_report.specs.Turns.{refused, AnswersError, HartCommand, Resets, SuspendIssued, BenchSleeps, BenchSleepsBy, BenchMakesCall, ComesTo, GuestTurn, IsLastTurn, GuestTurns}
+use Rattle.bench_report.specs.Turns.{refused, AnswersError, HartCommand, Resets, SuspendIssued, dozes, BenchFallsAsleep, BenchSleeps, BenchSleepsBy, BenchMakesCall, ComesTo, GuestTurn, IsLastTurn, GuestTurns}
 use Rattle.bench_report.proofs.Determined.{Fair, fair_to, fair_then, unmoved, starves, starved, issued_fair, Agree, same, issued, some_inj}
 
 abbrev pub IsOneTurn : Type 0
@@ -44,13 +46,17 @@ suspends_fair Fits c life b o new (inl x) = issued_fair c life b o new x.1
 suspends_fair Fits c life b o new (inr (inl x)) = starved b new x.2
 suspends_fair Fits c life b o new (inr (inr x)) = unmoved b new x.2
 
-sleeps_fair : (site opaque h : ℕ) (life : BenchLife) (b : Bench) (word : Word) (new : Bench) → BenchSleeps site opaque h life b word new → Fair b new
-sleeps_fair site opaque h life b word new (inl x) = refuses_fair Denied h life b word new x.1
-sleeps_fair site opaque h life b word new (inr (alone, o, mid, i, x)) = fair_then b mid new (suspends_fair _ _ life b o mid i) (held_fair o words.Asleep h mid word new x)
+falls_fair : (sleep : Sleep) (site opaque h : ℕ) (life : BenchLife) (b : Bench) (word : Word) (new : Bench) → BenchFallsAsleep sleep site opaque h life b word new → Fair b new
+falls_fair ToRam site opaque h life b word new x = fair_to b new (on_with (dozes h site opaque life) b) x.1 (λ s. s, λ c. inr c, λ s. s)
+falls_fair ToDisk site opaque h life b word new (o, mid, i, x) = fair_then b mid new (suspends_fair _ _ life b o mid i) (held_fair o words.Asleep h mid word new x)
 
-by_fair : (asked : Result ℕ SbiError) (opaque h : ℕ) (life : BenchLife) (b : Bench) (word : Word) (new : Bench) → BenchSleepsBy asked opaque h life b word new → Fair b new
+sleeps_fair : (sleep : Sleep) (site opaque h : ℕ) (life : BenchLife) (b : Bench) (word : Word) (new : Bench) → BenchSleeps sleep site opaque h life b word new → Fair b new
+sleeps_fair sleep site opaque h life b word new (inl x) = refuses_fair Denied h life b word new x.1
+sleeps_fair sleep site opaque h life b word new (inr x) = falls_fair sleep site opaque h life b word new x.1
+
+by_fair : (asked : Result (Sleep × ℕ) SbiError) (opaque h : ℕ) (life : BenchLife) (b : Bench) (word : Word) (new : Bench) → BenchSleepsBy asked opaque h life b word new → Fair b new
 by_fair (Err e) opaque h life b word new x = refuses_fair e h life b word new x
-by_fair (Ok site) opaque h life b word new x = sleeps_fair site opaque h life b word new x
+by_fair (Ok asked) opaque h life b word new x = sleeps_fair asked.0 asked.1 opaque h life b word new x
 
 makes_fair : (call : Call) (h : ℕ) (life : BenchLife) (b : Bench) (word : Word) (new : Bench) → BenchMakesCall call h life b word new → Fair b new
 makes_fair (calls.SystemReset kind reason) h life b word new x = resets_fair (reset_of kind reason) h life b word new x
@@ -98,35 +104,50 @@ suspends_one Fits c life b o p new last (inl x) (inr (inr y)) = absurd (y.0 x.0)
 suspends_one Fits c life b o p new last (inr (inr x)) (inl y) = absurd (x.0 y.0)
 suspends_one Fits c life b o p new last (inr (inr x)) (inr (inr y)) = same o p (Err 3) new last b x.1 y.1 x.2 y.2
 
-sleeps_one : (site opaque h : ℕ) (life : BenchLife) (b : Bench) (word also : Word) (new last : Bench) → BenchSleeps site opaque h life b word new → BenchSleeps site opaque h life b also last → Agree word also new last
-sleeps_one site opaque h life b word also new last (inl x) (inl y) = refuses_one Denied h life b word also new last x.1 y.1
-sleeps_one site opaque h life b word also new last (inl x) (inr y) = absurd (x.0 y.0)
-sleeps_one site opaque h life b word also new last (inr x) (inl y) = absurd (y.0 x.0)
-sleeps_one site opaque h life b word also new last (inr (alone, o, mid, i, x)) (inr (also_alone, p, mid2, j, y)) = held_one o p words.Asleep h mid mid2 word also new last (suspends_one _ _ life b o p mid mid2 i j) x y
+falls_one : (sleep : Sleep) (site opaque h : ℕ) (life : BenchLife) (b : Bench) (word also : Word) (new last : Bench) → BenchFallsAsleep sleep site opaque h life b word new → BenchFallsAsleep sleep site opaque h life b also last → Agree word also new last
+falls_one ToRam site opaque h life b word also new last x y = same word also words.Dozing new last (on_with (dozes h site opaque life) b) x.0 y.0 x.1 y.1
+falls_one ToDisk site opaque h life b word also new last (o, mid, i, x) (p, mid2, j, y) = held_one o p words.Asleep h mid mid2 word also new last (suspends_one _ _ life b o p mid mid2 i j) x y
 
-by_one : (asked : Result ℕ SbiError) (opaque h : ℕ) (life : BenchLife) (b : Bench) (word also : Word) (new last : Bench) → BenchSleepsBy asked opaque h life b word new → BenchSleepsBy asked opaque h life b also last → Agree word also new last
+sleeps_one : (sleep : Sleep) (site opaque h : ℕ) (life : BenchLife) (b : Bench) (word also : Word) (new last : Bench) → BenchSleeps sleep site opaque h life b word new → BenchSleeps sleep site opaque h life b also last → Agree word also new last
+sleeps_one sleep site opaque h life b word also new last (inl x) (inl y) = refuses_one Denied h life b word also new last x.1 y.1
+sleeps_one sleep site opaque h life b word also new last (inl x) (inr y) = absurd (x.0 y.0)
+sleeps_one sleep site opaque h life b word also new last (inr x) (inl y) = absurd (y.0 x.0)
+sleeps_one sleep site opaque h life b word also new last (inr x) (inr y) = falls_one sleep site opaque h life b word also new last x.1 y.1
+
+by_one : (asked : Result (Sleep × ℕ) SbiError) (opaque h : ℕ) (life : BenchLife) (b : Bench) (word also : Word) (new last : Bench) → BenchSleepsBy asked opaque h life b word new → BenchSleepsBy asked opaque h life b also last → Agree word also new last
 by_one (Err e) opaque h life b word also new last x y = refuses_one e h life b word also new last x y
-by_one (Ok site) opaque h life b word also new last x y = sleeps_one site opaque h life b word also new last x y
+by_one (Ok asked) opaque h life b word also new last x y = sleeps_one asked.0 asked.1 opaque h life b word also new last x y
 
 -- the arguments are checked in one order
+a_kind : (kind : ℕ) (sleep : Sleep) → kind ≡ kind_of sleep → (kind ≡ to_ram) ⊎ (kind ≡ to_disk)
+a_kind kind ToRam e = inl e
+a_kind kind ToDisk e = inr e
+
+no_kind : {A : Type 0} (kind : ℕ) → kind ≢ to_ram → kind ≢ to_disk → (kind ≡ to_ram) ⊎ (kind ≡ to_disk) → A
+no_kind kind ram disk (inl e) = absurd (ram e)
+no_kind kind ram disk (inr e) = absurd (disk e)
+
+one_kind : (kind : ℕ) (sleep also : Sleep) → kind ≡ kind_of sleep → kind ≡ kind_of also → sleep ≡ also
+one_kind kind ToRam ToRam e f = refl
+one_kind kind ToDisk ToDisk e f = refl
+one_kind kind ToRam ToDisk e f = absurd (omega (arith, e, f))
+one_kind kind ToDisk ToRam e f = absurd (omega (arith, e, f))
+
 checked_err : (size : Size) (kind address : ℕ) (e f : SbiError) → IsChecked size kind address (Err e) → IsChecked size kind address (Err f) → e ≡ f
-checked_err size kind address e f (inl x) (inl y) = x.1 ∙ sym y.1
-checked_err size kind address e f (inl x) (inr (inl y)) = absurd (y.0 x.0)
-checked_err size kind address e f (inl x) (inr (inr y)) = absurd (omega (arith, x.0, y.0))
-checked_err size kind address e f (inr (inl x)) (inl y) = absurd (x.0 y.0)
-checked_err size kind address e f (inr (inl x)) (inr (inl y)) = x.2 ∙ sym y.2
-checked_err size kind address e f (inr (inl x)) (inr (inr y)) = absurd (x.1 y.0)
-checked_err size kind address e f (inr (inr x)) (inl y) = absurd (omega (arith, x.0, y.0))
-checked_err size kind address e f (inr (inr x)) (inr (inl y)) = absurd (y.1 x.0)
-checked_err size kind address e f (inr (inr x)) (inr (inr y)) = x.2 ∙ sym y.2
+checked_err size kind address e f (inl x) (inl y) = x.2 ∙ sym y.2
+checked_err size kind address e f (inl x) (inr y) = no_kind kind x.0 x.1 y.0
+checked_err size kind address e f (inr x) (inl y) = no_kind kind y.0 y.1 x.0
+checked_err size kind address e f (inr x) (inr y) = x.2 ∙ sym y.2
 
-never_both : {A : Type 0} (size : Size) (kind address site : ℕ) (e : SbiError) → IsChecked size kind address (Ok site) → IsChecked size kind address (Err e) → A
-never_both size kind address site e x (inl y) = absurd (omega (arith, x.0, y.0))
-never_both size kind address site e x (inr (inl y)) = absurd (y.1 x.0)
-never_both size kind address site e x (inr (inr y)) = absurd (y.1 x.2)
+never_both : {A : Type 0} (size : Size) (kind address : ℕ) (asked : Sleep × ℕ) (e : SbiError) → IsChecked size kind address (Ok asked) → IsChecked size kind address (Err e) → A
+never_both size kind address asked e x (inl y) = no_kind kind y.0 y.1 (a_kind kind asked.0 x.0)
+never_both size kind address asked e x (inr y) = absurd (y.1 x.2)
 
-checked_one : (size : Size) (kind address : ℕ) (asked also : Result ℕ SbiError) → IsChecked size kind address asked → IsChecked size kind address also → asked ≡ also
-checked_one size kind address (Ok a) (Ok c) x y = ap (λ k. Ok k) (x.1 ∙ sym y.1)
+pairs : (a c : Sleep × ℕ) → a.0 ≡ c.0 → a.1 ≡ c.1 → a ≡ c
+pairs a c e f = ap (λ (s : Sleep). let p : Sleep × ℕ = (s, a.1) in p) e ∙ ap (λ (n : ℕ). let p : Sleep × ℕ = (c.0, n) in p) f
+
+checked_one : (size : Size) (kind address : ℕ) (asked also : Result (Sleep × ℕ) SbiError) → IsChecked size kind address asked → IsChecked size kind address also → asked ≡ also
+checked_one size kind address (Ok a) (Ok c) x y = ap (λ k. Ok k) (pairs a c (one_kind kind a.0 c.0 x.0 y.0) (x.1 ∙ sym y.1))
 checked_one size kind address (Ok a) (Err e) x y = never_both size kind address a e x y
 checked_one size kind address (Err e) (Ok a) x y = never_both size kind address a e y x
 checked_one size kind address (Err e) (Err f) x y = ap (λ k. Err k) (checked_err size kind address e f x y)
@@ -134,7 +155,7 @@ checked_one size kind address (Err e) (Err f) x y = ap (λ k. Err k) (checked_er
 makes_one : (call : Call) (h : ℕ) (life : BenchLife) (b : Bench) (word also : Word) (new last : Bench) → BenchMakesCall call h life b word new → BenchMakesCall call h life b also last → Agree word also new last
 makes_one (calls.SystemReset kind reason) h life b word also new last x y = resets_one (reset_of kind reason) h life b word also new last x y
 makes_one (calls.SystemSuspend kind address opaque) h life b word also new last (asked, checked, x) (other, checked2, y) =
-    let P : Result ℕ SbiError → Type 0 = λ r. BenchSleepsBy r opaque h life b also last in
+    let P : Result (Sleep × ℕ) SbiError → Type 0 = λ r. BenchSleepsBy r opaque h life b also last in
     by_one asked opaque h life b word also new last x (subst P (sym (checked_one life.machine.size kind address asked other checked checked2)) y)
 makes_one call h life b word also new last x y = refuses_one NotSupported h life b word also new last x y
 

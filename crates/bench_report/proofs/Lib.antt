@@ -8,6 +8,7 @@ pub mod Pokes
 pub mod Examining
 pub mod Opening
 pub mod Commanded
+pub mod Dozed
 pub mod Ended
 pub mod Written
 pub mod Told

@@ -1,5 +1,5 @@
 -- Lines that speak of memory and harts, or keep a payload, by what the code's board did.
-use Rattle.std.proofs.Common.{◌≡◌, inl, inr, slice_set, ℕ, List, length, Option, None, Some, Result, Ok, MatchResult, refl, sym, ◌∙◌, ap, subst}
+use Rattle.std.proofs.Common.{◌≡◌, inl, inr, slice_set, ℕ, List, length, Bool, true, false, Option, None, Some, Result, Ok, MatchResult, refl, sym, ◌∙◌, ap, subst}
 use Rattle.board_model.specs.declared.boot_mode.BootMode.{BootMode}
 use Rattle.board_model.specs.Shapes.{Size}
 use Rattle.board_model.specs.declared.refusal.Refusal.{Refusal}
@@ -7,7 +7,8 @@ use Rattle.board_model.specs.declared.refusal.Refusal.TheVariants.{Memory}
 use Rattle.script_lang.specs.declared.line.Line.{Line}
 use Rattle.simdisk.specs.declared.SimDisk.{SimDisk}
 use Rattle.machine.specs.Machine.{Machine, hart_at}
-use Rattle.machine.specs.Turns.{MakesOneCall}
+use Rattle.machine.specs.Turns.{MakesOneCall, calling}
+use Rattle.susp.specs.Dozes.{doze_of, can_wake, after_wake}
 use Rattle.machine.specs.declared.parts.Word.{Word}
 use Rattle.machine.specs.declared.parts.Word.TheVariants as words
 use Rattle.board.specs.Turns as boards
@@ -21,11 +22,13 @@ use Rattle.bench_report.specs.declared.power.Power.TheVariants.{Off, On}
 use Rattle.bench_report.specs.declared.printed.Answer.{Answer}
 use Rattle.bench_report.specs.Views.{SimStore, SimBoard, store_in, machine_in, store_facts, store_fault_state}
 use Rattle.bench_report.specs.Bench.{BenchLife, Bench}
-use Rattle.bench_report.specs.Happens.{shows, on_with, has_machine}
+use Rattle.bench_report.specs.Happens.{says, shows, on_with, has_machine}
+use Rattle.bench_report.specs.declared.printed.Printed.TheVariants as printed
 use Rattle.bench_report.specs.PowerOns.{FormatsOn, PowersOn}
 use Rattle.bench_report.specs.Examined.{InspectsOn, InspectStep}
-use Rattle.bench_report.specs.Steps.{Step, FormatStep, OnStep, PayloadStep, CallReported, GuestCall, TurnStep, CallStep, ReadStep}
+use Rattle.bench_report.specs.Steps.{Step, FormatStep, OnStep, PayloadStep, CallReported, GuestCall, TurnStep, CallStep, ReadStep, Wakes, WakeStep}
 use Rattle.bench_report.proofs.Commanded.{Running, running_on}
+use Rattle.bench_report.proofs.Dozed.{call_size}
 use Rattle.bench_report.proofs.Came.{Stands, has_other, comes, turns}
 use Rattle.bench_report.specs.Agree.{StoreIs, BoardIs, DeviceIs, OffIs, OnIs, BoardAfter, Agrees, IsBench, Matches, StepsTo}
 
@@ -71,6 +74,7 @@ on_runs size b life board on is device = (life, on, is.0, is.1, device)
 
 stands_by : (size : Size) (word : Word) (b : Bench) (board : SimBoard) → Stands size word b (machine_in board) (store_in board) → BoardAfter size word b board
 stands_by size (words.Own did) b board is = running_on size b board is
+stands_by size words.Dozing b board is = running_on size b board is
 stands_by size words.Asleep b board is = is
 stands_by size (words.Reset kind) b board is = is
 
@@ -101,6 +105,7 @@ calls_off size b board h e f x y z was not = (b, lacks size b board h b.power wa
 -- a line of a call, by what the board did
 reported_as : (size : Size) (h : ℕ) (word : Word) (b : Bench) (n : Machine) (store : SimStore) (line : MachineLine) → Stands size word b n store → line ≡ made_line h (hart_at n h) word → CallReported h word b (shows line)
 reported_as size h (words.Own did) b n store line (life, on, is, same, device) e = (life, on, ap shows (e ∙ ap (λ m. own_line h (hart_at m h) did) same))
+reported_as size h words.Dozing b n store line is e = ap shows e
 reported_as size h words.Asleep b n store line is e = ap shows e
 reported_as size h (words.Reset kind) b n store line is e = ap shows e
 
@@ -135,7 +140,7 @@ module _ (size : Size) (b : Bench) (old new : SimBoard) (h e f x y z : ℕ) (sai
       by (Some life) is on =
           let P : Machine → Type 0 = λ k. HasHart k h in
           let C : Machine → Type 0 = λ k. MakesOneCall h e f x y z k m called in
-          let sized : m.size ≡ life.machine.size = ap (λ (k : Machine). k.size) call.2 ∙ ap (λ (k : Machine). k.size) is.1 in
+          let sized : m.size ≡ life.machine.size = call_size (doze_of h (machine_in old).doze) h (calling (hart_at (machine_in old) h) e f x y z) (machine_in old) m called call ∙ ap (λ (k : Machine). k.size) is.1 in
           let did = came life m called on is sized comes_of follows in
           (did.0, inl (subst P is.1 has, m, called, subst C is.1 call, did.1), did.2, did.3)
 
@@ -143,6 +148,36 @@ module _ (size : Size) (b : Bench) (old new : SimBoard) (h e f x y z : ℕ) (sai
 pub on_looks : (size : Size) (b : Bench) (old new : SimBoard) (says_so : Machine → MachineLine → Type 0) (line : MachineLine) → OnIs size b old → says_so (machine_in old) line → machine_in new ≡ machine_in old → store_in new ≡ store_in old
     → StepsTo size b (On new) (ReadStep b.power says_so b (shows line))
 on_looks size b old new says_so line was so still same = (b, on_reads size b old says_so line was so, as_it_was size b old new was still same, refl)
+
+-- the wake-up device of a board that is on
+module _ (size : Size) (b : Bench) (life : BenchLife) (old new : SimBoard) (on : b.power ≡ Some life) (was : OnIs size b old) (still : store_in new ≡ store_in old) where
+  -- it answers so, and the board is on
+  abbrev pub Woke : Answer → Type 0
+  Woke answer = (x : Bench) × WakeStep (Some life) b answer x × OnIs size x new × (x.payloads ≡ b.payloads)
+
+  here : BoardIs size b.disk_state b.kept (Some life) old
+  here = let P : Option BenchLife → Type 0 = λ p. BoardIs size b.disk_state b.kept p old in subst P on was.0
+
+  can : can_wake (machine_in old).doze ≡ can_wake life.machine.doze
+  can = ap (λ (m : Machine). can_wake m.doze) here.1
+
+  pub on_wakes : can_wake (machine_in old).doze ≡ true → machine_in new ≡ record (machine_in old) { doze = after_wake (machine_in old).doze } → Woke (says printed.Woken)
+  on_wakes dozes made =
+      let next : BenchLife = has_machine (record life.machine { doze = after_wake life.machine.doze }) life in
+      let F : Machine → Machine = λ m. record m { doze = after_wake m.doze } in
+      let W : Bool → Type 0 = λ k. Wakes k life b (says printed.Woken) (on_with next b) in
+      let Q : SimStore → Type 0 = λ store. StoreIs size b.disk_state b.kept life store in
+      let S : SimStore → Type 0 = λ store. DeviceIs size b (store_fault_state store) (store_facts store) in
+      (on_with next b, subst W (sym dozes ∙ can) (refl, refl), ((has_other size b life next.machine (store_in new) refl (subst Q (sym still) here.0), made ∙ ap F here.1), subst S (sym still) was.1), refl)
+
+  pub on_sleeps_on : (can_wake (machine_in old).doze ≡ true → ⊥) → machine_in new ≡ machine_in old → Woke (says (printed.WakeRefused 18))
+  on_sleeps_on not same =
+      let W : Bool → Type 0 = λ k. Wakes k life b (says (printed.WakeRefused 18)) b in
+      (b, subst W (sym (not_true (can_wake (machine_in old).doze) not) ∙ can) (refl, refl), as_it_was size b old new was same still, refl)
+    where
+      not_true : (k : Bool) → (k ≡ true → ⊥) → k ≡ false
+      not_true true never = absurd (never refl)
+      not_true false never = refl
 
 -- a payload
 abbrev pub Keeps : Size → Bench → Power → ℕ → List ℕ → MachineLine → List (List ℕ) → Type 0

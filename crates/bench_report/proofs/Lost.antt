@@ -11,7 +11,7 @@ use Rattle.bench_report.specs.declared.printed.Printed.{Printed}
 use Rattle.bench_report.specs.declared.printed.Printed.TheVariants as printed
 use Rattle.bench_report.specs.PowerOns.{commands_of}
 use Rattle.bench_report.specs.Taken.{TakesAll, TakesSome, TakesFewer}
-use Rattle.bench_report.specs.Prefix.{AskedLine, Boot, Command, Guest, Nothing, IsOfHarts, Keeps, Hides, may_hide, TellsTurns, TellsCall, TellsLine, RefusedChange, Lost, LineImplies}
+use Rattle.bench_report.specs.Prefix.{AskedLine, Boot, Command, Guest, Nothing, IsOfHarts, Keeps, Hides, may_hide, may_hide_before, TellsTurns, TellsCall, TellsLine, RefusedChange, Lost, LineImplies}
 
 none_some : (cs : List Change) (s t : DurableState) → t ≡ s → TakesSome cs s t
 none_some [] s t e = e
@@ -59,11 +59,13 @@ lost_either false s t up now h = inl h.0
 
 lost_turns : (made : ℕ) (word : Word) (s t : DurableState) (up now : Bool) → TellsTurns made word s up t now → LostGuest s up t
 lost_turns made (words.Own did) s t up now h = lost_either (may_hide made did) s t up now h
+lost_turns made words.Dozing s t up now h = lost_either (may_hide_before made) s t up now h
 lost_turns made words.Asleep s t up now h = inr (h.0, h.2, inr h.3, all_some (h.2 ∷ []) s t h.4)
 lost_turns made (words.Reset kind) s t up now h = inr (h.0, h.2, inl h.3, all_some (h.2 ∷ []) s t h.4)
 
 lost_call : (word : Word) (s t : DurableState) (up now : Bool) → TellsCall word s up t now → LostGuest s up t
 lost_call (words.Own did) s t up now h = inl h.0
+lost_call words.Dozing s t up now h = inl h.0
 lost_call words.Asleep s t up now h = inr (h.0, h.2, inr h.3, all_some (h.2 ∷ []) s t h.4)
 lost_call (words.Reset kind) s t up now h = inr (h.0, h.2, inl h.3, all_some (h.2 ∷ []) s t h.4)
 

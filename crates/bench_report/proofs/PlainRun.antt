@@ -18,9 +18,10 @@ use Rattle.bench_report.specs.Bench.{DiskState, Blank, Unknown, Formatted, Bench
 use Rattle.bench_report.specs.Happens.{on_with, settled, acknowledged}
 use Rattle.bench_report.specs.Commands.{Writes, Issued, IssuedBy}
 use Rattle.bench_report.specs.PowerOns.{life_begun, ShowsFound, FormatsOn, Boots, Begins, Opens, IsOpenRefusal, PowersOn}
-use Rattle.bench_report.specs.Steps.{ArmStep, FormatStep, OnStep, ConsoleStep, PayloadStep, Step, Run}
+use Rattle.susp.specs.Dozes.{can_wake}
+use Rattle.bench_report.specs.Steps.{ArmStep, FormatStep, OnStep, ConsoleStep, PayloadStep, Wakes, WakeStep, Step, Run}
 use Rattle.bench_report.specs.Reports.{IsByFirmware, AreByFirmware, IsNoExaminer, AreNoExaminers, IsReport}
-use Rattle.bench_report.specs.Plain.{plain_written, plain_issued, plain_console, plain_format, plain_slot, plain_boot, plain_on, plain_at, plain, plain_answers, plain_report, IsPlain, ArePlain}
+use Rattle.bench_report.specs.Plain.{plain_written, plain_issued, plain_console, plain_format, plain_slot, plain_boot, plain_on, plain_wake, plain_at, plain, plain_answers, plain_report, IsPlain, ArePlain}
 use Rattle.bench_report.proofs.Adapted.{grows}
 use Rattle.bench_report.proofs.Determined.{CalmDisk}
 use Rattle.bench_report.proofs.FailureFree.{AsMany, many_then}
@@ -135,6 +136,10 @@ payload_at : (size : Size) (p : Option BenchLife) (slot : ℕ) (bytes : List ℕ
 payload_at size None slot bytes b good = ((refl, refl), good, (refl, refl))
 payload_at size (Some life) slot bytes b good = ((refl, refl), good, (refl, refl))
 
+wakes_at : (can : Bool) (life : BenchLife) (b : Bench) → CalmPower (Some life) → IsGood b → Well b (Wakes can life b) (plain_wake can life b)
+wakes_at true life b calm good = ((refl, refl), (good.0, calm, good.2, good.3), (refl, refl))
+wakes_at false life b calm good = ((refl, refl), good, (refl, refl))
+
 -- ---- lines
 by_power : (p : Option BenchLife) (P : Option BenchLife → Type 0) → P None → ((life : BenchLife) → P (Some life)) → P p
 by_power None P x y = x
@@ -156,6 +161,7 @@ steps size (lines.FailAt x) b plain good = by_power b.power (λ p. Well b (ArmSt
 steps size (lines.FailLane x y) b plain good = by_power b.power (λ p. Well b (ArmStep FaultArmed b) (plain_at size p (lines.FailLane x y) b)) ((refl, refl), good, (refl, refl)) (λ life. ((refl, refl), good, (refl, refl)))
 steps size (lines.Poke x y z) b plain good = absurd plain
 steps size lines.Inspect b plain good = absurd plain
+steps size lines.Wake b plain good = by_power b.power (λ p. CalmPower p → Well b (WakeStep p b) (plain_at size p lines.Wake b)) (λ calm. ((refl, refl), good, (refl, refl))) (λ life calm. wakes_at (can_wake life.machine.doze) life b calm good) good.1
 steps size (lines.Cut fill) b plain good =
     by_power b.power (λ p. Well b (Step size (lines.Cut fill) b) (plain_at size p (lines.Cut fill) b)) ((refl, refl), (good.0, tt, refl, good.3), (refl, refl)) (λ life. ((refl, refl), (good.0, tt, refl, good.3), (refl, refl)))
 steps size (lines.Turn x y) b plain good = absurd plain

@@ -35,7 +35,8 @@ use Rattle.bench_report.specs.Happens.{says, shows, out_of_memory, failed, on_wi
 use Rattle.bench_report.specs.PowerOns.{life_begun, commands_of, IsBooted, BootsFrom, Resumes, Begins, Boots, Opens, ShowsFound, IsOpenRefusal, PowersOn, FormatsOn}
 use Rattle.bench_report.specs.Examined.{Tells, InspectStep}
 use Rattle.disk.specs.Facts.{Content}
-use Rattle.bench_report.specs.Steps.{console_reported, FormatStep, OnStep, ConsoleStep, PayloadStep, CallReported, GuestCall, TurnStep, CallStep, ReadStep, PokeStep, Step, Moves, Run}
+use Rattle.susp.specs.Dozes.{can_wake}
+use Rattle.bench_report.specs.Steps.{console_reported, FormatStep, OnStep, ConsoleStep, PayloadStep, CallReported, GuestCall, TurnStep, CallStep, ReadStep, Wakes, WakeStep, PokeStep, Step, Moves, Run}
 use Rattle.bench_report.specs.Reports.{IsByFirmware, AreByFirmware, IsReport}
 use Rattle.bench_report.specs.Prefix.{AskedLine, Boot, Command, Guest, Nothing, Keeps, Hides, TellsTurns, TellsLine, asked_by, RefusedChange, Lost, LineImplies, ShowsIts, IsPrefixed, resumes, RisesFrom, AreLoaded, is_format_ok, IsFoundByPrefix, KeepsPrefixLaw}
 use Rattle.bench_report.proofs.Refused.{WasRefused, one_life}
@@ -246,6 +247,7 @@ module _ (h : ℕ) (new : Bench) (life : BenchLife) (on : new.power ≡ Some lif
   own_tells dids.Idle w = w
   own_tells dids.Entered w = w
   own_tells dids.Woke w = w
+  own_tells dids.Resumed w = w
   own_tells dids.Suspended w = w
   own_tells dids.Stopped w = w
   own_tells dids.Durable w = w
@@ -253,6 +255,7 @@ module _ (h : ℕ) (new : Bench) (life : BenchLife) (on : new.power ≡ Some lif
 call_says : (word : Word) (h : ℕ) (b : Bench) (a : Answer) (new : Bench) → GoesBy h word b new → CallReported h word new a → Tell Guest b a new
 call_says (words.Own did) h b a new back (life, on, e) =
     line_says h (words.Own did) (own_line h (hart_at life.machine h) did) b a new back e (λ s t w. own_tells h new life on s t (is_up b.power) (is_up new.power) did w)
+call_says words.Dozing h b a new back e = line_says h words.Dozing (shown_lines.Called h words.Dozing) b a new back e (λ s t w. w)
 call_says words.Asleep h b a new back e = line_says h words.Asleep (shown_lines.Called h words.Asleep) b a new back e (λ s t w. w)
 call_says (words.Reset kind) h b a new back e = line_says h (words.Reset kind) (shown_lines.Called h (words.Reset kind)) b a new back e (λ s t w. w)
 
@@ -290,6 +293,16 @@ inspect_at size None b a new sound (inl (c, reads, inr x)) = same Nothing b a (p
 inspect_at size None b a new sound (inr x) = same Nothing b a (printed.InspectRefused 5) new (failed x.1.0 b) x.0 x.1.2 refl refl refl sound.1 sound (λ s t e. (e, refl))
 inspect_at size (Some life) b a new sound x = stays Nothing b a printed.Busy new x.0 x.1 sound (λ s t e. (e, refl))
 
+wakes_at : (can : Bool) (life : BenchLife) (b : Bench) (a : Answer) (new : Bench) → IsSound b → b.power ≡ Some life → Wakes can life b a new → Tell Nothing b a new
+wakes_at true life b a new sound on x =
+    let F : Option BenchLife → Type 0 = λ p. GoesOn b.kept p in
+    same Nothing b a printed.Woken new _ x.0 x.1 refl refl (sym (ap is_up on)) (subst F on sound.1) sound (λ s t e. (e, refl))
+wakes_at false life b a new sound on x = stays Nothing b a (printed.WakeRefused 18) new x.0 x.1 sound (λ s t e. (e, refl))
+
+wake_at : (p : Option BenchLife) (b : Bench) (a : Answer) (new : Bench) → IsSound b → b.power ≡ p → WakeStep p b a new → Tell Nothing b a new
+wake_at None b a new sound on x = stays Nothing b a printed.Off new x.0 x.1 sound (λ s t e. (e, refl))
+wake_at (Some life) b a new sound on x = wakes_at (can_wake life.machine.doze) life b a new sound on x
+
 pub steps : (size : Size) (line : Line) (b : Bench) (a : Answer) (new : Bench) → IsByFirmware line → IsSound b → Step size line b a new → Tell (asked_by line) b a new
 steps size (lines.Payload x y) b a new by sound h = payload_at b.power x y b a new sound h
 steps size lines.Format b a new by sound h = format_at b.power b a new sound h
@@ -310,6 +323,7 @@ steps size (lines.FailLane x y) b a new by sound h = same Nothing b a _ new (arm
 steps size (lines.Cut fill) b a new by sound h = by_eqs Nothing b a _ new (unpowered b) h.0 h.1 ((sound.0, tt), λ t f. (t, f, (tt, (refl, refl))))
 steps size (lines.Poke x y z) b a new by sound h = absurd by
 steps size lines.Inspect b a new by sound h = inspect_at size b.power b a new sound h
+steps size lines.Wake b a new by sound h = wake_at b.power b a new sound refl h
 
 lost_tells : (asked : AskedLine) (s t : DurableState) (up : Bool) → Lost asked s up t → LineImplies asked printed.PowerLost s up t false
 lost_tells (Boot mode) s t up h = (h, refl)
@@ -406,6 +420,7 @@ turn_no (Some life) h n b a new (inr x) ok = other a _ x.1 refl ok
 
 call_word_no : {T : Type 0} (word : Word) (h : ℕ) (new : Bench) (a : Answer) → CallReported h word new a → is_format_ok a.line ≡ true → T
 call_word_no (words.Own did) h new a (life, on, e) ok = other a _ e refl ok
+call_word_no words.Dozing h new a e ok = other a _ e refl ok
 call_word_no words.Asleep h new a e ok = other a _ e refl ok
 call_word_no (words.Reset kind) h new a e ok = other a _ e refl ok
 
@@ -437,6 +452,14 @@ inspect_no size None b a new (inl (c, reads, inr x)) ok = other a _ x.1 refl ok
 inspect_no size None b a new (inr x) ok = other a _ x.0 refl ok
 inspect_no size (Some life) b a new x ok = other a _ x.0 refl ok
 
+wakes_no : {T : Type 0} (can : Bool) (life : BenchLife) (b : Bench) (a : Answer) (new : Bench) → Wakes can life b a new → is_format_ok a.line ≡ true → T
+wakes_no true life b a new x ok = other a _ x.0 refl ok
+wakes_no false life b a new x ok = other a _ x.0 refl ok
+
+wake_no : {T : Type 0} (p : Option BenchLife) (b : Bench) (a : Answer) (new : Bench) → WakeStep p b a new → is_format_ok a.line ≡ true → T
+wake_no None b a new x ok = other a _ x.0 refl ok
+wake_no (Some life) b a new x ok = wakes_no (can_wake life.machine.doze) life b a new x ok
+
 step_formats : (size : Size) (line : Line) (b : Bench) (a : Answer) (new : Bench) → Step size line b a new → is_format_ok a.line ≡ true → IsFresh new
 step_formats size (lines.Payload x y) b a new h ok = payload_no b.power x y b a new h ok
 step_formats size lines.Format b a new h ok = formatted_at b.power b a new refl h ok
@@ -457,6 +480,7 @@ step_formats size (lines.FailLane x y) b a new h ok = other a _ h.0 refl ok
 step_formats size (lines.Cut x) b a new h ok = other a _ h.0 refl ok
 step_formats size (lines.Poke x y z) b a new h ok = poke_no b.power b a new h ok
 step_formats size lines.Inspect b a new h ok = inspect_no size b.power b a new h ok
+step_formats size lines.Wake b a new h ok = wake_no b.power b a new h ok
 
 pub moves_format : (size : Size) (line : Line) (b : Bench) (a : Answer) (new : Bench) → Moves size line b a new → is_format_ok a.line ≡ true → IsFresh new
 moves_format size line b a new (inl h) ok = step_formats size line b a new h.0 ok

@@ -10,6 +10,7 @@ use Rattle.machine_lines.specs.declared.line.MachineLine.{MachineLine}
 use Rattle.machine_lines.specs.declared.line.MachineLine.TheVariants as shown_lines
 use Rattle.machine_lines.specs.Shows.{CsrLine}
 use Rattle.machine.specs.Turns.{MakesOneCall}
+use Rattle.susp.specs.Dozes.{can_wake}
 use Rattle.machine.specs.declared.parts.Word.{Word}
 use Rattle.machine.specs.declared.parts.Word.TheVariants as words
 use Rattle.machine.specs.declared.parts.Called.{Called}
@@ -23,7 +24,7 @@ use Rattle.bench_report.specs.declared.printed.Answer.{Answer}
 use Rattle.bench_report.specs.Bench.{BenchLife, Bench, IsFailureFree, blank_bench}
 use Rattle.bench_report.specs.Happens.{shows, unpowered, unknown, armed_with, on_with, has_machine}
 use Rattle.bench_report.specs.Examined.{InspectStep}
-use Rattle.bench_report.specs.Steps.{console_reported, FormatStep, OnStep, ConsoleStep, PayloadStep, CallReported, GuestCall, TurnStep, CallStep, ReadStep, PokeStep, Step, Moves, Run}
+use Rattle.bench_report.specs.Steps.{console_reported, FormatStep, OnStep, ConsoleStep, PayloadStep, CallReported, GuestCall, TurnStep, CallStep, ReadStep, Wakes, WakeStep, PokeStep, Step, Moves, Run}
 use Rattle.bench_report.specs.Reports.{IsByFirmware, AreByFirmware, IsNoExaminer, AreNoExaminers, IsReport}
 use Rattle.bench_report.proofs.Guests.{IsOneTurn, Row, row, comes_fair, comes_one, turns_fair, turns_one}
 use Rattle.bench_report.proofs.Determined.{some_inj, HasFailed, DiskHasFailed, IsCalm, Fair, fair_to, fair_then, unmoved, spoils, fails, starved, issued_fair, Agree, same, issued, formats_fair, formats, powers_fair, powers}
@@ -77,6 +78,14 @@ inspect_fair size None b a new (inl (c, reads, inr x)) = starved b new x.2
 inspect_fair size None b a new (inr x) = spoils b new (fails b new x.1)
 inspect_fair size (Some life) b a new x = unmoved b new x.1
 
+wakes_fair : (can : Bool) (life : BenchLife) (b : Bench) (a : Answer) (new : Bench) → Wakes can life b a new → Fair b new
+wakes_fair true life b a new x = fair_to b new _ x.1 (λ s. s, λ c. inr c, λ s. s)
+wakes_fair false life b a new x = unmoved b new x.1
+
+wake_fair : (p : Option BenchLife) (b : Bench) (a : Answer) (new : Bench) → WakeStep p b a new → Fair b new
+wake_fair None b a new x = unmoved b new x.1
+wake_fair (Some life) b a new x = wakes_fair (can_wake life.machine.doze) life b a new x
+
 step_fair : (size : Size) (line : Line) (b : Bench) (a : Answer) (new : Bench) → IsByFirmware line → Step size line b a new → Fair b new
 step_fair size (lines.Payload x y) b a new by h = payload_fair b.power x y b a new h
 step_fair size lines.Format b a new by h = format_fair b.power b a new h
@@ -97,6 +106,7 @@ step_fair size (lines.FailLane x y) b a new by h = fair_to b new (armed_with Fau
 step_fair size (lines.Cut fill) b a new by h = fair_to b new (unpowered b) h.1 (λ s. s, λ c. inr (c.0, refl), λ s. s)
 step_fair size (lines.Poke x y z) b a new by h = absurd by
 step_fair size lines.Inspect b a new by h = inspect_fair size b.power b a new h
+step_fair size lines.Wake b a new by h = wake_fair b.power b a new h
 
 pub moves_fair : (size : Size) (line : Line) (b : Bench) (a : Answer) (new : Bench) → IsByFirmware line → Moves size line b a new → Fair b new
 moves_fair size line b a new by (inl x) = step_fair size line b a new by x.0
@@ -160,6 +170,7 @@ reported_at : (h : ℕ) (word : Word) (new : Bench) (a z : Answer) → CallRepor
 reported_at h (words.Own did) new a z (life, on, e) (life2, on2, e2) =
     let P : BenchLife → Type 0 = λ l. z ≡ shows (own_line h (hart_at l.machine h) did) in
     e ∙ sym (subst P (some_inj life life2 new.power on on2) e2)
+reported_at h words.Dozing new a z e e2 = e ∙ sym e2
 reported_at h words.Asleep new a z e e2 = e ∙ sym e2
 reported_at h (words.Reset kind) new a z e e2 = e ∙ sym e2
 
@@ -195,6 +206,14 @@ poke_at : (p : Option BenchLife) (b : Bench) (a z : Answer) (new last : Bench) �
 poke_at None b a z new last x y = same a z _ new last (unknown b) x.0 y.0 x.1 y.1
 poke_at (Some life) b a z new last x y = same a z _ new last b x.0 y.0 x.1 y.1
 
+wakes_at : (can : Bool) (life : BenchLife) (b : Bench) (a z : Answer) (new last : Bench) → Wakes can life b a new → Wakes can life b z last → Agree a z new last
+wakes_at true life b a z new last x y = same a z _ new last _ x.0 y.0 x.1 y.1
+wakes_at false life b a z new last x y = same a z _ new last b x.0 y.0 x.1 y.1
+
+wake_at : (p : Option BenchLife) (b : Bench) (a z : Answer) (new last : Bench) → WakeStep p b a new → WakeStep p b z last → Agree a z new last
+wake_at None b a z new last x y = same a z _ new last b x.0 y.0 x.1 y.1
+wake_at (Some life) b a z new last x y = wakes_at (can_wake life.machine.doze) life b a z new last x y
+
 steps : IsOneTurn → IsOneCall → IsOneCsr → (size : Size) (line : Line) (b : Bench) (a z : Answer) (new last : Bench) → IsNoExaminer line → IsCalm b → Step size line b a new → Step size line b z last → Agree a z new last
 steps turns call csr size (lines.Payload s bytes) b a z new last none calm x y = payload_at b.power s bytes b a z new last x y
 steps turns call csr size lines.Format b a z new last none calm x y = format_at b.power b a z new last calm x y
@@ -215,6 +234,7 @@ steps turns call csr size (lines.FailLane i n) b a z new last none calm x y = sa
 steps turns call csr size (lines.Cut fill) b a z new last none calm x y = same a z _ new last _ x.0 y.0 x.1 y.1
 steps turns call csr size (lines.Poke k n bytes) b a z new last none calm x y = poke_at b.power b a z new last x y
 steps turns call csr size lines.Inspect b a z new last none calm x y = absurd none
+steps turns call csr size lines.Wake b a z new last none calm x y = wake_at b.power b a z new last x y
 
 true_false : {A : Type 0} (x y : Bool) → x ≡ y → x ≡ true → y ≡ false → A
 true_false x y e f g = let h : y ≡ true = sym e ∙ f in absurd (let no : ⊥ = cc in no)

@@ -3,6 +3,8 @@ use Rattle.std.proofs.Common.{◌≡◌, ◌≢◌, ◌⊎◌, ℕ, zero, suc, �
 use Rattle.board_model.specs.Durable.{DurableState, Change, Reset, Suspend}
 use Rattle.board_model.specs.Kept.{Kept, MayFind}
 use Rattle.board_model.specs.declared.durable.Reason.{Reason}
+use Rattle.susp.specs.declared.sleeps.Sleep.{Sleep}
+use Rattle.susp.specs.declared.sleeps.Sleep.TheVariants.{ToRam, ToDisk}
 use Rattle.machine.specs.Machine.{Machine, hart_at}
 use Rattle.machine.specs.Words.{ends}
 use Rattle.machine.specs.declared.parts.Word.{Word}
@@ -21,7 +23,7 @@ use Rattle.bench_report.specs.Bench.{BenchLife, Bench}
 use Rattle.bench_report.specs.Prefix.{IsReset, IsSuspension, IsOfHarts, EndsLife, Keeps, Hides, TellsTurns}
 use Rattle.bench_report.proofs.Refused.{WasRefused, issued_machine, suspended_machine, shown_answer}
 use Rattle.bench_report.specs.Happens.{out_of_memory, off, on_with, has_machine}
-use Rattle.bench_report.specs.Turns.{refused, AnswersError, HartCommand, Resets, SuspendIssued, BenchSleeps, BenchSleepsBy, BenchMakesCall, ComesTo, GuestTurn, GuestTurns}
+use Rattle.bench_report.specs.Turns.{refused, AnswersError, HartCommand, Resets, SuspendIssued, dozes, BenchFallsAsleep, BenchSleeps, BenchSleepsBy, BenchMakesCall, ComesTo, GuestTurn, GuestTurns}
 use Rattle.bench_report.proofs.Issues.{takes_more, is_up, GoesOn, IsSound, Back, joined, said, Went, issued_back}
 
 -- a hart's command is in doubt
@@ -32,12 +34,14 @@ Hidden s up t now = (up ≡ true) × (now ≡ false) × (c : Change) × IsOfHart
 abbrev pub TellsOne : ℕ → Bench → Word → DurableState → Bool → DurableState → Bool → Type 0
 TellsOne h new (words.Own Next) s up t now = Keeps s up t now ⊎ (WasRefused h new × Hidden s up t now)
 TellsOne h new (words.Own did) s up t now = Keeps s up t now
+TellsOne h new words.Dozing s up t now = Keeps s up t now
 TellsOne h new words.Asleep s up t now = EndsLife IsSuspension s up t now
 TellsOne h new (words.Reset kind) s up t now = EndsLife IsReset s up t now
 
 -- and of a row of turns, where an earlier one may hide a command
 abbrev pub TellsWord : Word → DurableState → Bool → DurableState → Bool → Type 0
 TellsWord (words.Own did) s up t now = Hides s up t now
+TellsWord words.Dozing s up t now = Hides s up t now
 TellsWord words.Asleep s up t now = EndsLife IsSuspension s up t now
 TellsWord (words.Reset kind) s up t now = EndsLife IsReset s up t now
 
@@ -81,16 +85,19 @@ goes_on h did life b new other f word e sound on now doubt =
 -- the command by which a word ends a life
 abbrev OfWord : Word → Change → Type 0
 OfWord (words.Own did) c = ⊥
+OfWord words.Dozing c = ⊥
 OfWord words.Asleep c = IsSuspension c
 OfWord (words.Reset kind) c = IsReset c
 
 of_harts : (word : Word) (c : Change) → OfWord word c → IsOfHarts c
 of_harts (words.Own did) c is = absurd is
+of_harts words.Dozing c is = absurd is
 of_harts words.Asleep c is = inr is
 of_harts (words.Reset kind) c is = inl is
 
 tells_end : (h : ℕ) (new : Bench) (word : Word) (c : Change) → OfWord word c → (up : Bool) (s t : DurableState) → up ≡ true → TakesAll (c ∷ []) s t → TellsOne h new word s up t false
 tells_end h new (words.Own did) c is up s t on takes = absurd is
+tells_end h new words.Dozing c is up s t on takes = absurd is
 tells_end h new words.Asleep c is up s t on takes = (on, refl, c, is, takes)
 tells_end h new (words.Reset kind) c is up s t on takes = (on, refl, c, is, takes)
 
@@ -150,17 +157,22 @@ suspends_back Fits c life b o mid sound on (inr (inr x)) = at 3 b x.1 x.2 (none_
         let Q : Bench → Type 0 = λ m. Back b m (Went (Err n) c (is_up b.power) (is_up m.power)) in
         subst P (sym e) (subst Q (sym f) back)
 
-sleeps_back : (site opaque h : ℕ) (life : BenchLife) (b : Bench) (word : Word) (new : Bench) → IsSound b → b.power ≡ Some life → call_of (hart_at life.machine h) ≢ calls.Unknown → BenchSleeps site opaque h life b word new → GoesBy h word b new
-sleeps_back site opaque h life b word new sound on known (inl x) = refuses_back Denied h life b word new sound on x.1
-sleeps_back site opaque h life b word new sound on known (inr (alone, o, mid, i, x)) =
+falls_back : (sleep : Sleep) (site opaque h : ℕ) (life : BenchLife) (b : Bench) (word : Word) (new : Bench) → IsSound b → b.power ≡ Some life → call_of (hart_at life.machine h) ≢ calls.Unknown → BenchFallsAsleep sleep site opaque h life b word new → GoesBy h word b new
+falls_back ToRam site opaque h life b word new sound on known x =
+    let next : BenchLife = dozes h site opaque life in by_eqs h word words.Dozing b new (on_with next b) x.0 x.1 (stays life b next sound on refl refl)
+falls_back ToDisk site opaque h life b word new sound on known (o, mid, i, x) =
     let hart = (hart_at life.machine h).id in
     let c : Change = Suspend hart site opaque life.machine.memory in
     held_back o words.Asleep c (hart, site, opaque, life.machine.memory, refl) h life.machine known b mid word new
     (suspends_back _ c life b o mid sound on i) (suspended_machine _ c life b o mid on i) x
 
-by_back : (asked : Result ℕ SbiError) (opaque h : ℕ) (life : BenchLife) (b : Bench) (word : Word) (new : Bench) → IsSound b → b.power ≡ Some life → call_of (hart_at life.machine h) ≢ calls.Unknown → BenchSleepsBy asked opaque h life b word new → GoesBy h word b new
+sleeps_back : (sleep : Sleep) (site opaque h : ℕ) (life : BenchLife) (b : Bench) (word : Word) (new : Bench) → IsSound b → b.power ≡ Some life → call_of (hart_at life.machine h) ≢ calls.Unknown → BenchSleeps sleep site opaque h life b word new → GoesBy h word b new
+sleeps_back sleep site opaque h life b word new sound on known (inl x) = refuses_back Denied h life b word new sound on x.1
+sleeps_back sleep site opaque h life b word new sound on known (inr x) = falls_back sleep site opaque h life b word new sound on known x.1
+
+by_back : (asked : Result (Sleep × ℕ) SbiError) (opaque h : ℕ) (life : BenchLife) (b : Bench) (word : Word) (new : Bench) → IsSound b → b.power ≡ Some life → call_of (hart_at life.machine h) ≢ calls.Unknown → BenchSleepsBy asked opaque h life b word new → GoesBy h word b new
 by_back (Err e) opaque h life b word new sound on known x = refuses_back e h life b word new sound on x
-by_back (Ok site) opaque h life b word new sound on known x = sleeps_back site opaque h life b word new sound on known x
+by_back (Ok asked) opaque h life b word new sound on known x = sleeps_back asked.0 asked.1 opaque h life b word new sound on known x
 
 makes_back : (call : Call) (h : ℕ) (life : BenchLife) (b : Bench) (word : Word) (new : Bench) → IsSound b → b.power ≡ Some life → call_of (hart_at life.machine h) ≡ call → BenchMakesCall call h life b word new → GoesBy h word b new
 makes_back (calls.SystemReset kind reason) h life b word new sound on at x =
@@ -187,6 +199,7 @@ as_one : (h : ℕ) (last : Bench) (word : Word) (s t : DurableState) (up now : B
 as_one h last (words.Own Next) s t up now (inl k) = inl k
 as_one h last (words.Own Next) s t up now (inr x) = inr x.1
 as_one h last (words.Own did) s t up now k = k
+as_one h last words.Dozing s t up now k = k
 as_one h last words.Asleep s t up now x = x
 as_one h last (words.Reset kind) s t up now x = x
 
@@ -194,6 +207,7 @@ in_row : (h : ℕ) (last : Bench) (word : Word) (s t : DurableState) (up now : B
 in_row h last (words.Own Next) s t up now (inl k) = inl k
 in_row h last (words.Own Next) s t up now (inr x) = inr x.1
 in_row h last (words.Own did) s t up now k = inl k
+in_row h last words.Dozing s t up now k = inl k
 in_row h last words.Asleep s t up now x = x
 in_row h last (words.Reset kind) s t up now x = x
 
@@ -210,12 +224,17 @@ followed (words.Own did) up mid now s u t (inr x) (inl y) =
     let P : DurableState → Type 0 = TakesSome (x.2 ∷ []) s in
     inr (x.0, y.1 ∙ x.1, x.2, x.3, subst P (sym y.0) x.4)
 followed (words.Own did) up mid now s u t (inr x) (inr y) = absurd (let e : true ≡ false = sym y.0 ∙ x.1 in let no : ⊥ = cc in no)
+followed words.Dozing up mid now s u t (inr x) (inl y) =
+    let P : DurableState → Type 0 = TakesSome (x.2 ∷ []) s in
+    inr (x.0, y.1 ∙ x.1, x.2, x.3, subst P (sym y.0) x.4)
+followed words.Dozing up mid now s u t (inr x) (inr y) = absurd (let e : true ≡ false = sym y.0 ∙ x.1 in let no : ⊥ = cc in no)
 followed words.Asleep up mid now s u t (inr x) y = absurd (let e : true ≡ false = sym y.0 ∙ x.1 in let no : ⊥ = cc in no)
 followed (words.Reset kind) up mid now s u t (inr x) y = absurd (let e : true ≡ false = sym y.0 ∙ x.1 in let no : ⊥ = cc in no)
 
 -- a word that does not end a line tells no end of a life
 hides : (word : Word) (up now : Bool) (s t : DurableState) → ends word ≡ false → TellsWord word s up t now → Hides s up t now
 hides (words.Own did) up now s t e x = x
+hides words.Dozing up now s t e x = absurd (let no : ⊥ = cc in no)
 hides words.Asleep up now s t e x = absurd (let no : ⊥ = cc in no)
 hides (words.Reset kind) up now s t e x = absurd (let no : ⊥ = cc in no)
 
@@ -237,6 +256,7 @@ none_made h (suc n) b word new (life, on, said, mid, turned, inr x) = absurd (om
 -- a row of several turns
 tells_row : (made : ℕ) (word : Word) (s t : DurableState) (up now : Bool) → TellsWord word s up t now → TellsTurns (suc (suc made)) word s up t now
 tells_row made (words.Own did) s t up now x = x
+tells_row made words.Dozing s t up now x = x
 tells_row made words.Asleep s t up now x = x
 tells_row made (words.Reset kind) s t up now x = x
 

@@ -1,6 +1,6 @@
 -- Each image that stands has the memory of its board, through whole runs: a suspension carries that memory,
 -- and no other command makes an image. So no power-on is refused 13.
-use Rattle.std.proofs.Common.{◌≡◌, ◌≢◌, ◌+◌, ℕ, zero, suc, inl, inr, List, [], ◌∷◌, ◌++◌, Option, None, Some, Result, Ok, Err, refl, sym, ◌∙◌, ap, subst, arith}
+use Rattle.std.proofs.Common.{◌≡◌, ◌≢◌, ◌+◌, ℕ, zero, suc, inl, inr, List, [], ◌∷◌, ◌++◌, Bool, true, false, Option, None, Some, Result, Ok, Err, refl, sym, ◌∙◌, ap, subst, arith}
 use Rattle.std.specs.Bool.{⊤}
 use Rattle.board_model.specs.Durable.{DurableState, Change, Slot, Reset, Suspend, Consume, Discard, formatted, refusal_of, after, IsWhole, CarriesWhole}
 use Rattle.board_model.specs.Kept.{Kept, found_of, MayKeep, TakesIn}
@@ -38,10 +38,15 @@ use Rattle.bench_report.specs.Prefix.{LoadsWhole, AreLoaded}
 use Rattle.bench_report.specs.Reports.{IsByFirmware, AreByFirmware}
 use Rattle.bench_report.specs.Happens.{out_of_memory, failed, off, on_with, unpowered, armed_with, settled, has_machine, acknowledged, in_doubt}
 use Rattle.bench_report.specs.Commands.{Writes, IssuedBy, Issued, IssuesAll}
-use Rattle.bench_report.specs.Turns.{refused, AnswersError, HartCommand, Resets, SuspendIssued, BenchSleeps, BenchSleepsBy, BenchMakesCall, ComesTo, GuestTurn, GuestTurns}
+use Rattle.susp.specs.declared.sleeps.Sleep.{Sleep}
+use Rattle.susp.specs.declared.sleeps.Sleep.TheVariants.{ToRam, ToDisk}
+use Rattle.susp.specs.Dozes.{doze_of, can_wake}
+use Rattle.machine.specs.Turns.{calling}
+use Rattle.bench_report.proofs.Dozed.{turn_size, call_size}
+use Rattle.bench_report.specs.Turns.{refused, AnswersError, HartCommand, Resets, SuspendIssued, dozes, BenchFallsAsleep, BenchSleeps, BenchSleepsBy, BenchMakesCall, ComesTo, GuestTurn, GuestTurns}
 use Rattle.bench_report.specs.PowerOns.{life_begun, FormatsOn, IsBooted, BootsFrom, Begins, Boots, Opens, IsOpenRefusal, PowersOn}
 use Rattle.bench_report.specs.Examined.{InspectStep}
-use Rattle.bench_report.specs.Steps.{FormatStep, OnStep, ConsoleStep, PayloadStep, GuestCall, TurnStep, CallStep, ReadStep, Step, Moves, Run}
+use Rattle.bench_report.specs.Steps.{FormatStep, OnStep, ConsoleStep, PayloadStep, GuestCall, TurnStep, CallStep, ReadStep, Wakes, WakeStep, Step, Moves, Run}
 use Rattle.bench_report.proofs.Adapted.{grows}
 use Rattle.bench_report.proofs.Determined.{begun_size}
 use Rattle.bench_report.proofs.Table.{table_not_thirteen, mode_not_thirteen}
@@ -129,15 +134,19 @@ module _ (size : Size) where
   fits_whole : (life : BenchLife) (id site opaque : ℕ) → life.machine.size ≡ size → FitsBoard life.machine.size life.machine.memory id site → CarriesWhole size (Suspend id site opaque life.machine.memory)
   fits_whole life id site opaque e fits = fits.0 ∙ ap ram_bytes_of e
 
-  sleeps : (site opaque h : ℕ) (life : BenchLife) (b : Bench) (word : Word) (new : Bench) → b.power ≡ Some life → IsKeptWhole size b → BenchSleeps site opaque h life b word new → IsKeptWhole size new
-  sleeps site opaque h life b word new on k (inl x) = refuses Denied h life b word new on k x.1
-  sleeps site opaque h life b word new on k (inr (alone, o, mid, i, x)) =
+  falls : (sleep : Sleep) (site opaque h : ℕ) (life : BenchLife) (b : Bench) (word : Word) (new : Bench) → b.power ≡ Some life → IsKeptWhole size b → BenchFallsAsleep sleep site opaque h life b word new → IsKeptWhole size new
+  falls ToRam site opaque h life b word new on k x = same_as (on_with (dozes h site opaque life) b) new x.1 (k.0, k.1, k.2, sized life b on k)
+  falls ToDisk site opaque h life b word new on k (o, mid, i, x) =
       let id = (hart_at life.machine h).id in
       held o _ h mid word new (suspends _ (Suspend id site opaque life.machine.memory) life b o mid (λ fits. fits_whole life id site opaque (sized life b on k) fits) on k i) x
 
-  by_check : (asked : Result ℕ SbiError) (opaque h : ℕ) (life : BenchLife) (b : Bench) (word : Word) (new : Bench) → b.power ≡ Some life → IsKeptWhole size b → BenchSleepsBy asked opaque h life b word new → IsKeptWhole size new
+  sleeps : (sleep : Sleep) (site opaque h : ℕ) (life : BenchLife) (b : Bench) (word : Word) (new : Bench) → b.power ≡ Some life → IsKeptWhole size b → BenchSleeps sleep site opaque h life b word new → IsKeptWhole size new
+  sleeps sleep site opaque h life b word new on k (inl x) = refuses Denied h life b word new on k x.1
+  sleeps sleep site opaque h life b word new on k (inr x) = falls sleep site opaque h life b word new on k x.1
+
+  by_check : (asked : Result (Sleep × ℕ) SbiError) (opaque h : ℕ) (life : BenchLife) (b : Bench) (word : Word) (new : Bench) → b.power ≡ Some life → IsKeptWhole size b → BenchSleepsBy asked opaque h life b word new → IsKeptWhole size new
   by_check (Err e) opaque h life b word new on k x = refuses e h life b word new on k x
-  by_check (Ok site) opaque h life b word new on k x = sleeps site opaque h life b word new on k x
+  by_check (Ok asked) opaque h life b word new on k x = sleeps asked.0 asked.1 opaque h life b word new on k x
 
   makes : (call : Call) (h : ℕ) (life : BenchLife) (b : Bench) (word : Word) (new : Bench) → b.power ≡ Some life → IsKeptWhole size b → BenchMakesCall call h life b word new → IsKeptWhole size new
   makes (calls.SystemReset kind reason) h life b word new on k x = resets (reset_of kind reason) h life b word new on k x
@@ -154,7 +163,7 @@ module _ (size : Size) where
 
   turn : (h : ℕ) (life : BenchLife) (b : Bench) (word : Word) (new : Bench) → b.power ≡ Some life → IsKeptWhole size b → GuestTurn h life b word new → IsKeptWhole size new
   turn h life b word new on k (m, did, turned, x) =
-      comes did h (has_machine m life) (on_with (has_machine m life) b) word new refl (goes_on m life b (ap (λ (n : Machine). n.size) turned.2) on k) x
+      comes did h (has_machine m life) (on_with (has_machine m life) b) word new refl (goes_on m life b (turn_size (doze_of h life.machine.doze) h life.machine m did turned) on k) x
 
   turns : (h n : ℕ) (b : Bench) (made : ℕ) (word : Word) (new : Bench) → IsKeptWhole size b → GuestTurns h n b made word new → IsKeptWhole size new
   turns h zero b made word new k x = absurd x
@@ -173,7 +182,7 @@ module _ (size : Size) where
   call_line : (p : Option BenchLife) (h e f x y z : ℕ) (b : Bench) (a : Answer) (new : Bench) → b.power ≡ p → IsKeptWhole size b → CallStep p h e f x y z b a new → IsKeptWhole size new
   call_line None h e f x y z b a new on k g = same_as b new g.1 k
   call_line (Some life) h e f x y z b a new on k (inl (has, m, did, call, g)) =
-      called did h (has_machine m life) (on_with (has_machine m life) b) a new refl (goes_on m life b (ap (λ (n : Machine). n.size) call.2) on k) g
+      called did h (has_machine m life) (on_with (has_machine m life) b) a new refl (goes_on m life b (call_size (doze_of h life.machine.doze) h (calling (hart_at life.machine h) e f x y z) life.machine m did call) on k) g
   call_line (Some life) h e f x y z b a new on k (inr g) = same_as b new g.2 k
 
   -- ---- power on
@@ -252,6 +261,14 @@ module _ (size : Size) where
   inspects None b a new k (inr x) = same_as (failed x.1.0 b) new x.1.2 k
   inspects (Some life) b a new k x = same_as b new x.1 k
 
+  wakes : (can : Bool) (life : BenchLife) (b : Bench) (a : Answer) (new : Bench) → b.power ≡ Some life → IsKeptWhole size b → Wakes can life b a new → IsKeptWhole size new
+  wakes true life b a new on k x = same_as _ new x.1 (k.0, k.1, k.2, sized life b on k)
+  wakes false life b a new on k x = same_as b new x.1 k
+
+  wake_line : (p : Option BenchLife) (b : Bench) (a : Answer) (new : Bench) → b.power ≡ p → IsKeptWhole size b → WakeStep p b a new → IsKeptWhole size new
+  wake_line None b a new on k x = same_as b new x.1 k
+  wake_line (Some life) b a new on k x = wakes (can_wake life.machine.doze) life b a new on k x
+
   step : (line : Line) (b : Bench) (a : Answer) (new : Bench) → IsByFirmware line → IsKeptWhole size b → Step size line b a new → IsKeptWhole size new
   step (lines.Payload x y) b a new by k h = payload b.power x y b a new k h
   step lines.Format b a new by k h = format_line b.power b a new k h
@@ -272,6 +289,7 @@ module _ (size : Size) where
   step (lines.Cut fill) b a new by k h = same_as (unpowered b) new h.1 (k.0, k.1, k.2, tt)
   step (lines.Poke x y z) b a new by k h = absurd by
   step lines.Inspect b a new by k h = inspects b.power b a new k h
+  step lines.Wake b a new by k h = wake_line b.power b a new refl k h
 
   moves : (line : Line) (b : Bench) (a : Answer) (new : Bench) → IsByFirmware line → IsKeptWhole size b → Moves size line b a new → IsKeptWhole size new
   moves line b a new by k (inl h) = step line b a new by k h.0
@@ -366,6 +384,7 @@ module _ (size : Size) where
   loaded (lines.Cut fill) b a new k h = tt
   loaded (lines.Poke x y z) b a new k h = tt
   loaded lines.Inspect b a new k h = tt
+  loaded lines.Wake b a new k h = tt
 
   pub all_loaded : (ls : List Line) (b : Bench) (answers : List Answer) (end : Bench) → AreByFirmware ls → IsKeptWhole size b → Run size b ls answers end → AreLoaded ls answers
   all_loaded [] b [] end by k run = tt

@@ -83,6 +83,7 @@ OverIs size b board =
 -- a board after what is said of a turn or a call
 abbrev pub BoardAfter : Size → Word → Bench → SimBoard → Type 0
 BoardAfter size (words.Own did) b board = OnIs size b board
+BoardAfter size words.Dozing b board = OnIs size b board
 BoardAfter size words.Asleep b board = OverIs size b board
 BoardAfter size (words.Reset kind) b board = OverIs size b board
 

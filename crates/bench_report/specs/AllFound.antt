@@ -22,6 +22,7 @@ Acknowledges Is s t = (c : Change) × Is c × TakesAll (c ∷ []) s t
 
 abbrev pub WordMakes : Word → DurableState → DurableState → Type 0
 WordMakes (words.Own did) s t = t ≡ s
+WordMakes words.Dozing s t = t ≡ s
 WordMakes words.Asleep s t = Acknowledges IsSuspension s t
 WordMakes (words.Reset kind) s t = Acknowledges IsReset s t
 

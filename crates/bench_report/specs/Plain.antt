@@ -1,6 +1,6 @@
 -- The report of a script where memory was never refused and the disk never failed, computed: for scripts
--- whose lines neither move harts nor show memory or harts, so that no image is ever made.
-use Rattle.std.specs.Prelude.{◌≡◌, ◌≢◌, ℕ, ◌+◌, ◌==◌, List, [], ◌∷◌, Option, Some, None, Result, Ok, Err, length, slice_set, if◌then◌else◌, ⊤}
+-- whose lines neither move harts nor show memory or harts, so that no image is ever made and no board dozes.
+use Rattle.std.specs.Prelude.{◌≡◌, ◌≢◌, ℕ, ◌+◌, ◌==◌, Bool, true, false, List, [], ◌∷◌, Option, Some, None, Result, Ok, Err, length, slice_set, if◌then◌else◌, ⊤}
 use Rattle.board_model.specs.Durable.{DurableState, Change, Slot, Discard, refusal_of}
 use Rattle.board_model.specs.Kept.{found_of}
 use Rattle.board_model.specs.Shapes.{Size}
@@ -26,6 +26,7 @@ use Rattle.bench_report.specs.Happens.{says, shows, on_with, unpowered, armed_wi
 use Rattle.bench_report.specs.PowerOns.{life_begun}
 use Rattle.bench_report.specs.Steps.{console_reported}
 use Rattle.bench_report.specs.Reports.{board_answer, report_text}
+use Rattle.susp.specs.Dozes.{can_wake, after_wake}
 
 -- a command's receipt or number, and the bench after it, by the number with which the table refuses it
 abbrev pub plain_written : Option ℕ → Change → BenchLife → Bench → Result ℕ ℕ × Bench
@@ -66,6 +67,12 @@ plain_on size Formatted mode b =
     plain_boot (boot_refusal (found_of b.kept.changes) mode) mode size
     (found_of b.kept.changes) (settled b.kept.changes b)
 
+-- the wake-up device is called
+abbrev pub plain_wake : Bool → BenchLife → Bench → Answer × Bench
+plain_wake true life b =
+    (says printed.Woken, on_with (has_machine (record life.machine { doze = after_wake life.machine.doze }) life) b)
+plain_wake false life b = (says (printed.WakeRefused 18), b)
+
 abbrev pub plain_at : Size → Option BenchLife → Line → Bench → Answer × Bench
 plain_at size None lines.Format b = plain_format b.disk_state b
 plain_at size (Some life) lines.Format b = (says printed.Busy, b)
@@ -81,6 +88,8 @@ plain_at size p (lines.FailLane i n) b = (says printed.Armed, armed_with FaultAr
 plain_at size None (lines.Payload s bytes) b =
     (shows (shown.Payload s (length bytes)), record b { payloads = slice_set b.payloads s bytes })
 plain_at size (Some life) (lines.Payload s bytes) b = (shows shown.Busy, b)
+plain_at size None lines.Wake b = (says printed.Off, b)
+plain_at size (Some life) lines.Wake b = plain_wake (can_wake life.machine.doze) life b
 plain_at size p line b = (says printed.Off, b)
 
 -- what a line answers, and the bench after it

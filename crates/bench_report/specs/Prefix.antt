@@ -83,15 +83,22 @@ abbrev pub may_hide : ℕ → Turned → Bool
 may_hide (suc zero) did = is_next did
 may_hide made did = true
 
+-- a turn before the last of a row may hide one, also where the board then dozes, which asks nothing of the disk
+abbrev pub may_hide_before : ℕ → Bool
+may_hide_before (suc zero) = false
+may_hide_before made = true
+
 -- what a line of so many turns tells by the word of the last
 abbrev pub TellsTurns : ℕ → Word → DurableState → Bool → DurableState → Bool → Type 0
 TellsTurns made (words.Own did) s up t now = MatchBool (may_hide made did) (Hides s up t now) (Keeps s up t now)
+TellsTurns made words.Dozing s up t now = MatchBool (may_hide_before made) (Hides s up t now) (Keeps s up t now)
 TellsTurns made words.Asleep s up t now = EndsLife IsSuspension s up t now
 TellsTurns made (words.Reset kind) s up t now = EndsLife IsReset s up t now
 
 -- what the word of a call tells that was not answered
 abbrev pub TellsCall : Word → DurableState → Bool → DurableState → Bool → Type 0
 TellsCall (words.Own did) s up t now = Keeps s up t now
+TellsCall words.Dozing s up t now = Keeps s up t now
 TellsCall words.Asleep s up t now = EndsLife IsSuspension s up t now
 TellsCall (words.Reset kind) s up t now = EndsLife IsReset s up t now
 

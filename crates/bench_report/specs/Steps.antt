@@ -1,10 +1,11 @@
 -- What a line of a script may answer, and what the bench then is; whole runs. Source: docs/SCRIPT.md.
-use Rattle.std.specs.Prelude.{◌≡◌, ℕ, ◌⊎◌, true, false, List, [], ◌∷◌, Option, Some, None, Result, Ok, Err, length, slice_set}
+use Rattle.std.specs.Prelude.{◌≡◌, ℕ, ◌⊎◌, Bool, true, false, List, [], ◌∷◌, Option, Some, None, Result, Ok, Err, length, slice_set}
 use Rattle.board_model.specs.Durable.{Change, Slot, Discard}
 use Rattle.board_model.specs.Shapes.{Size}
 use Rattle.disk.specs.FaultState.{Armed, FaultArmed, CutArmed}
 use Rattle.board_model.specs.declared.boot_mode.BootMode.{BootMode}
 use Rattle.machine.specs.Machine.{Machine, hart_at}
+use Rattle.susp.specs.Dozes.{can_wake, after_wake}
 use Rattle.script_lang.specs.declared.line.Line.{Line}
 use Rattle.script_lang.specs.declared.line.Line.TheVariants as lines
 use Rattle.machine_lines.specs.Shows.{HasHart, own_line, reg_line, pc_line, CsrLine, pending_line, mem_line}
@@ -63,6 +64,7 @@ TurnStep (Some life) h n b answer new =
 abbrev pub CallReported : ℕ → Word → Bench → Answer → Type 0
 CallReported h (words.Own did) new answer =
     (life : BenchLife) × (new.power ≡ Some life) × (answer ≡ shows (own_line h (hart_at life.machine h) did))
+CallReported h words.Dozing new answer = answer ≡ shows (shown.Called h words.Dozing)
 CallReported h words.Asleep new answer = answer ≡ shows (shown.Called h words.Asleep)
 CallReported h (words.Reset kind) new answer = answer ≡ shows (shown.Called h (words.Reset kind))
 
@@ -84,6 +86,18 @@ abbrev pub ReadStep : Option BenchLife → (Machine → MachineLine → Type 0) 
 ReadStep None says_so b answer new = (answer ≡ shows shown.Off) × (new ≡ b)
 ReadStep (Some life) says_so b answer new =
     (line : MachineLine) × says_so life.machine line × (answer ≡ shows line) × (new ≡ b)
+
+-- The wake-up device is called: a board that dozes and was not woken is woken, and of any other it is refused 18
+-- (NotDozing). The disk is not asked.
+abbrev pub Wakes : Bool → BenchLife → Bench → Answer → Bench → Type 0
+Wakes true life b answer new =
+    (answer ≡ says printed.Woken)
+    × (new ≡ on_with (has_machine (record life.machine { doze = after_wake life.machine.doze }) life) b)
+Wakes false life b answer new = (answer ≡ says (printed.WakeRefused 18)) × (new ≡ b)
+
+abbrev pub WakeStep : Option BenchLife → Bench → Answer → Bench → Type 0
+WakeStep None b answer new = (answer ≡ says printed.Off) × (new ≡ b)
+WakeStep (Some life) b answer new = Wakes (can_wake life.machine.doze) life b answer new
 
 -- a line that arms a cut or a failure, of the disk or of one of its lanes, with the board on or off
 abbrev pub ArmStep : Armed → Bench → Answer → Bench → Type 0
@@ -115,6 +129,7 @@ Step size (lines.FailLane i n) b answer new = ArmStep FaultArmed b answer new
 Step size (lines.Cut fill) b answer new = (answer ≡ says printed.Cut) × (new ≡ unpowered b)
 Step size (lines.Poke k n bytes) b answer new = PokeStep b.power b answer new
 Step size lines.Inspect b answer new = InspectStep size b.power b answer new
+Step size lines.Wake b answer new = WakeStep b.power b answer new
 
 -- the same, where an armed cut that struck within the line makes its whole report `power lost`
 abbrev pub Moves : Size → Line → Bench → Answer → Bench → Type 0

@@ -35,6 +35,8 @@ line_text (printed.Shown shown) = machine_line_text shown
 line_text printed.Poked = codes "poked"
 line_text (printed.Inspected i) = codes "inspect " ++ inspection_text i
 line_text (printed.InspectRefused n) = codes "inspect refused " ++ decimal n
+line_text printed.Woken = codes "wake ok"
+line_text (printed.WakeRefused n) = codes "wake refused " ++ decimal n
 
 abbrev pub found_line : Option Durable → List ℕ
 found_line None = []

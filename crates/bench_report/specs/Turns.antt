@@ -20,6 +20,9 @@ use Rattle.hsm.specs.Views.{listed}
 use Rattle.store.specs.Follows.{FitsBoard}
 use Rattle.susp.specs.Checks.{IsChecked}
 use Rattle.susp.specs.Sleeps.{AreStopped}
+use Rattle.susp.specs.Dozes.{dozing}
+use Rattle.susp.specs.declared.sleeps.Sleep.{Sleep}
+use Rattle.susp.specs.declared.sleeps.Sleep.TheVariants.{ToRam, ToDisk}
 use Rattle.sbi.specs.declared.resets.ResetType.{ResetType}
 use Rattle.sbi.specs.Resets.{reset_of}
 use Rattle.board_model.specs.declared.durable.Reason.{Reason}
@@ -63,25 +66,37 @@ SuspendIssued Fits c life b o new =
 abbrev pub IsAlone : ℕ → Machine → Type 0
 IsAlone id m = AreStopped m.size.harts id (listed m.table.states)
 
--- a suspension, whose arguments were checked: by a hart beside which another is not STOPPED it is denied;
--- else the image has the memory of this moment
-abbrev pub BenchSleeps : ℕ → ℕ → ℕ → BenchLife → Bench → Word → Bench → Type 0
-BenchSleeps site opaque h life b word new =
-    ((IsAlone (hart_at life.machine h).id life.machine → ⊥) × AnswersError Denied h life b word new)
-    ⊎ (IsAlone (hart_at life.machine h).id life.machine × (o : Result ℕ ℕ) × (mid : Bench)
+-- the life whose board dozes by hart h, which is to begin again at that address with that value
+abbrev pub dozes : ℕ → ℕ → ℕ → BenchLife → BenchLife
+dozes h site opaque life =
+    has_machine (record life.machine { doze = Some (dozing (hart_at life.machine h).id site opaque) }) life
+
+-- To RAM the board dozes, the life goes on, and nothing is asked of the disk: whatever its store could take. To
+-- disk the image has the memory of this moment.
+abbrev pub BenchFallsAsleep : Sleep → ℕ → ℕ → ℕ → BenchLife → Bench → Word → Bench → Type 0
+BenchFallsAsleep ToRam site opaque h life b word new =
+    (word ≡ words.Dozing) × (new ≡ on_with (dozes h site opaque life) b)
+BenchFallsAsleep ToDisk site opaque h life b word new =
+    (o : Result ℕ ℕ) × (mid : Bench)
     × SuspendIssued (FitsBoard life.machine.size life.machine.memory (hart_at life.machine h).id site)
     (Suspend (hart_at life.machine h).id site opaque life.machine.memory) life b o mid
-    × HartCommand o words.Asleep h mid word new)
+    × HartCommand o words.Asleep h mid word new
 
-abbrev pub BenchSleepsBy : Result ℕ SbiError → ℕ → ℕ → BenchLife → Bench → Word → Bench → Type 0
+-- a suspension, whose arguments were checked: by a hart beside which another is not STOPPED it is denied
+abbrev pub BenchSleeps : Sleep → ℕ → ℕ → ℕ → BenchLife → Bench → Word → Bench → Type 0
+BenchSleeps sleep site opaque h life b word new =
+    ((IsAlone (hart_at life.machine h).id life.machine → ⊥) × AnswersError Denied h life b word new)
+    ⊎ (IsAlone (hart_at life.machine h).id life.machine × BenchFallsAsleep sleep site opaque h life b word new)
+
+abbrev pub BenchSleepsBy : Result (Sleep × ℕ) SbiError → ℕ → ℕ → BenchLife → Bench → Word → Bench → Type 0
 BenchSleepsBy (Err e) opaque h life b word new = AnswersError e h life b word new
-BenchSleepsBy (Ok site) opaque h life b word new = BenchSleeps site opaque h life b word new
+BenchSleepsBy (Ok asked) opaque h life b word new = BenchSleeps asked.0 asked.1 opaque h life b word new
 
 -- the durable call at which the hart stands
 abbrev pub BenchMakesCall : Call → ℕ → BenchLife → Bench → Word → Bench → Type 0
 BenchMakesCall (calls.SystemReset kind reason) h life b word new = Resets (reset_of kind reason) h life b word new
 BenchMakesCall (calls.SystemSuspend kind address opaque) h life b word new =
-    (asked : Result ℕ SbiError) × IsChecked life.machine.size kind address asked
+    (asked : Result (Sleep × ℕ) SbiError) × IsChecked life.machine.size kind address asked
     × BenchSleepsBy asked opaque h life b word new
 BenchMakesCall call h life b word new = AnswersError NotSupported h life b word new
 

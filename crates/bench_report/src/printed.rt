@@ -52,6 +52,10 @@ pub enum Printed {
     Inspected(Inspection),
     /// `inspect refused N`
     InspectRefused(u32),
+    /// `wake ok`: a board that slept to RAM is woken.
+    Woken,
+    /// `wake refused N`
+    WakeRefused(u32),
 }
 
 /// All lines that a line of a script makes.
@@ -118,6 +122,8 @@ impl fmt::Display for Printed {
                 write!(f, "inspect {text}")
             }
             Printed::InspectRefused(n) => write!(f, "inspect refused {n}"),
+            Printed::Woken => f.write_str("wake ok"),
+            Printed::WakeRefused(n) => write!(f, "wake refused {n}"),
         }
     }
 }

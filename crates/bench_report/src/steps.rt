@@ -11,7 +11,7 @@ ghost use Rattle.bench_report.specs.Bench.{Bench, BenchLife};
 ghost use Rattle.bench_report.specs.Happens.{off, unpowered, says, shows};
 ghost use Rattle.bench_report.specs.PowerOns.{FormatsOn, PowersOn};
 ghost use Rattle.bench_report.specs.Examined.{InspectsOn, InspectStep, AnswersOf};
-ghost use Rattle.bench_report.specs.Steps.{FormatStep, OnStep, ConsoleStep, PayloadStep, TurnStep, CallStep, ReadStep, ArmStep, PokeStep, Step, Moves};
+ghost use Rattle.bench_report.specs.Steps.{FormatStep, OnStep, ConsoleStep, PayloadStep, TurnStep, CallStep, ReadStep, WakeStep, ArmStep, PokeStep, Step, Moves};
 ghost use Rattle.disk.specs.FaultState.{armed_by};
 ghost use Rattle.simdisk.specs.declared.SimDisk.{SimDisk};
 ghost use Rattle.bench_report.specs.Agree.{choice_by, HasDisk, IsCutBy, IsArmed, ArmsIts, Pokes, PokesIts, Inspects, InspectsIts, fill_after, EndsBy, Agrees, IsResting, OffIs, OnIs, BoardAfter, AreShort, IsBench, IsUnstruck, Matches, StepsTo};
@@ -106,6 +106,18 @@ fn issue(board: &mut Board<SimDisk>, word: ConsoleWord, command: Command) -> Ans
     match board.console(command) {
         Ok(receipt) => says(Printed::Acknowledged(word, receipt.number())),
         Err(e) => says(Printed::CommandRefused(word, e.code())),
+    }
+}
+
+/// Calls the wake-up device of a board that is on.
+fn wake(board: &mut Board<SimDisk>) -> Answer
+    ensures { (size : Size) (b : Bench) (life : BenchLife) → b.power ≡ Some life → OnIs size b board.old
+        → (new : Bench) × WakeStep (Some life) b result new × OnIs size new board.new
+        × (new.payloads ≡ b.payloads) }
+{
+    match board.wake() {
+        Ok(()) => says(Printed::Woken),
+        Err(e) => says(Printed::WakeRefused(e.code())),
     }
 }
 
@@ -244,6 +256,21 @@ fn console_line(word: ConsoleWord, command: Command, power: Power) -> (Power, An
     }
 }
 
+fn wake_line(power: Power) -> (Power, Answer)
+    requires { IsResting power }
+    ensures reported { (size : Size) (b : Bench) → Agrees size b power
+        → StepsTo size b result.0 (WakeStep b.power b result.1) }
+    ensures resting { IsResting result.0 }
+{
+    match power {
+        Power::Off(disk) => (Power::Off(disk), says(Printed::Off)),
+        Power::On(mut board) => {
+            let answer = wake(&mut board);
+            (Power::On(board), answer)
+        }
+    }
+}
+
 /// Keeps a payload for the next boots.
 fn payload_line(
     alloc: Global,
@@ -272,13 +299,15 @@ fn payload_line(
     }
 }
 
-/// A board after what is said of a turn or a call of a hart: off where that ended the life.
+/// A board after what is said of a turn or a call of a hart: off where that ended the life. A board that dozes
+/// is on.
 pub fn after(board: Board<SimDisk>, word: Word) -> Power
     ensures reported { (size : Size) (b : Bench) → BoardAfter size word b board → Agrees size b result }
     ensures resting { IsResting result }
 {
     match word {
         Word::Own(_) => Power::On(board),
+        Word::Dozing => Power::On(board),
         Word::Asleep => Power::Off(board.into_disk()),
         Word::Reset(_) => Power::Off(board.into_disk()),
     }
@@ -598,6 +627,7 @@ pub fn step<C: Crew>(
         }
         Line::Poke(sector, offset, bytes) => poke_line(*sector, *offset, bytes, power),
         Line::Inspect => answered(inspect_line(alloc, power)),
+        Line::Wake => answered(wake_line(power)),
     }
 }
 

@@ -4,6 +4,8 @@
 #[cfg(test)]
 mod cuts;
 #[cfg(test)]
+mod dozes;
+#[cfg(test)]
 mod faults;
 #[cfg(test)]
 mod inspects;

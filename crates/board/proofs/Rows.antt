@@ -5,7 +5,7 @@ use Rattle.disk.specs.declared.device.Lane.{Ghosts as Lanes}
 use Rattle.store.specs.declared.stores.Store.{Store}
 use Rattle.store.specs.Views.{fault_state_of}
 use Rattle.turns.specs.declared.words.Turned.{Turned}
-use Rattle.turns.specs.declared.words.Turned.TheVariants.{Idle, Entered, Woke, Next, Suspended, Stopped, Durable}
+use Rattle.turns.specs.declared.words.Turned.TheVariants.{Idle, Entered, Woke, Resumed, Next, Suspended, Stopped, Durable}
 use Rattle.machine.specs.Machine.{Machine}
 use Rattle.machine.specs.Turns as machines
 use Rattle.machine.specs.Words.{ends}
@@ -31,6 +31,7 @@ module _ {D L : Type 0} {g : Ghosts D L} {l : Lanes L} where
   asks_nothing Idle n h m s on = ((refl, refl, refl), refl)
   asks_nothing Entered n h m s on = ((refl, refl, refl), refl)
   asks_nothing Woke n h m s on = ((refl, refl, refl), refl)
+  asks_nothing Resumed n h m s on = ((refl, refl, refl), refl)
   asks_nothing Next n h m s on = ((refl, refl, refl), refl)
   asks_nothing Suspended n h m s on = ((refl, refl, refl), refl)
   asks_nothing Stopped n h m s on = absurd (on (inl refl))

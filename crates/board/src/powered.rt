@@ -11,6 +11,7 @@ use ram::Ram;
 use sbi_calls::{Seats, Tables};
 use std::alloc::Global;
 use store::{Receipt, Store};
+use susp::Bus;
 
 /// A board that is on.
 #[derive(Drop)]
@@ -41,14 +42,15 @@ pub struct Parts<D: Disk + Drop> {
     pub seats: Seats,
     /// The states of the harts, and the pending interrupts.
     pub tables: Tables,
-    /// The memory.
-    pub ram: Ram,
+    /// The memory, and the doze of the board.
+    pub bus: Bus,
     /// The durable state, with its disk.
     pub store: Store<D>,
 }
 
 impl<D: Disk + Drop> Board<D> {
-    ghost use Rattle.std.specs.Prelude.{◌≡◌, ◌⊎◌, ◌<◌, ◌≤◌, ℕ, List, false, length, Some, None, Err, IfSome, OnOk, IfOk, IfErr, IsErrOf, MatchResult, MatchOption};
+    ghost use Rattle.susp.specs.Dozes.{can_wake, after_wake};
+    ghost use Rattle.std.specs.Prelude.{◌≡◌, ◌↔◌, ◌⊎◌, ◌<◌, ◌≤◌, ℕ, List, true, false, length, Some, None, Err, IfSome, IsOk, OnOk, IfOk, IfErr, IsErrOf, MatchResult, MatchOption};
     ghost use Rattle.board_model.specs.Durable.{DurableState, Change, refusal_of};
     ghost use Rattle.board_model.specs.Shapes.{Size};
     ghost use Rattle.board_model.specs.Views.{durable_of, change_of, change_in};
@@ -62,7 +64,7 @@ impl<D: Disk + Drop> Board<D> {
     ghost use Rattle.store.specs.Asked.{Asked};
     ghost use Rattle.store.specs.Views.{device_of, disk_of, fault_state_of, arms_of, size_of_store, life_of, found_state, now_state, doubt_of, failures_at_open, view_of, Stands, Doubts};
     ghost use Rattle.machine.specs.Machine.{hart_at};
-    ghost use Rattle.machine.specs.Durables.{IsHartStarted};
+    ghost use Rattle.machine.specs.Durables.{StandsAtCall};
     ghost use Rattle.turns.specs.declared.words.Turned.TheVariants as did;
     ghost use Rattle.machine.specs.Held.{shown_by, IsHeld};
     ghost use Rattle.turns.specs.Turns.{has_pending};
@@ -159,7 +161,7 @@ impl<D: Disk + Drop> Board<D> {
     /// What comes of what a hart did: where it stands at a durable call, that call is made with the store.
     fn settle<C: Crew>(&mut self, alloc: Global, crew: &C, hart: HartId, turned: Turned) -> Word
         requires hart { hart < length (machine_of self.old).harts }
-        requires asks { turned ≡ did.Durable → IsHartStarted hart (machine_of self.old) }
+        requires asks { turned ≡ did.Durable → StandsAtCall hart (machine_of self.old) }
         ensures comes { Comes turned hart (machine_of self.old) (machine_of self.new) (store_of self.old)
             (store_of self.new) result }
         ensures harts { length (machine_of self.new).harts ≡ length (machine_of self.old).harts }
@@ -172,6 +174,7 @@ impl<D: Disk + Drop> Board<D> {
             Turned::Idle
             | Turned::Entered
             | Turned::Woke
+            | Turned::Resumed
             | Turned::Next
             | Turned::Suspended
             | Turned::Stopped => Word::Own(turned),
@@ -180,8 +183,9 @@ impl<D: Disk + Drop> Board<D> {
 
     /// One turn of a hart of this board, and the command that it may make of the store: a system reset, or a
     /// system suspend with the memory of this turn. `Asleep` and `Reset` end the life, once that command was
-    /// acknowledged; no hart makes a turn after them. Where the store refuses, the hart is answered -1, and
-    /// that is `Next`. Memory is taken for a suspend alone.
+    /// acknowledged; no hart makes a turn after them. A system suspend to RAM asks nothing of the store: the
+    /// board is `Dozing`, and until it is woken the turns of its hart are `Idle`; then one is `Resumed`. Where
+    /// the store refuses, the hart is answered -1, and that is `Next`. Memory is taken for a suspend alone.
     #[inline(always)]
     pub fn turn<C: Crew>(&mut self, alloc: Global, crew: &C, hart: HartId) -> Word
         requires { hart < length (machine_of self.old).harts }
@@ -253,8 +257,9 @@ impl<D: Disk + Drop> Board<D> {
     }
 
     /// At most so many turns of a hart of this board, one after another, as `turn` makes each: how many were
-    /// made, and what is said of the last one. One that stops the hart is the last, and so is one that ends
-    /// the life, and one in which an armed cut struck. None may have struck before it.
+    /// made, and what is said of the last one. One that stops the hart is the last, and so is one after which
+    /// the board dozes, one that ends the life, and one in which an armed cut struck. None may have struck
+    /// before it.
     pub fn turns<C: Crew>(
         &mut self,
         alloc: Global,
@@ -281,8 +286,8 @@ impl<D: Disk + Drop> Board<D> {
     }
 
     /// An SBI call that is made in the place of a hart of this board, as `Machine::call` says, and the
-    /// command that it may make of the store, as in `turn`. None where the hart is not STARTED; then nothing
-    /// was done.
+    /// command that it may make of the store, as in `turn`. None where the hart is not STARTED, or dozes;
+    /// then nothing was done.
     pub fn call<C: Crew>(
         &mut self,
         alloc: Global,
@@ -303,6 +308,17 @@ impl<D: Disk + Drop> Board<D> {
             Called::NotStarted => None,
             Called::Made(turned) => Some(self.settle(alloc, crew, hart, turned)),
         }
+    }
+
+    /// Calls the wake-up device of this board, as `Machine::wake`. The store is not asked.
+    pub fn wake(&mut self) -> Result<(), Refusal>
+        ensures ok { IsOk result ↔ (can_wake (machine_of self.old).doze ≡ true) }
+        ensures woken { OnOk result (machine_of self.new
+            ≡ record (machine_of self.old) { doze = after_wake (machine_of self.old).doze }) }
+        ensures refused { IfErr result (λ e. (e ≡ Refusal.NotDozing) × (machine_of self.new ≡ machine_of self.old)) }
+        ensures store { store_of self.new ≡ store_of self.old }
+    {
+        self.machine.wake()
     }
 
     /// Whether an interrupt is pending for a hart of this board, which stays as it was.
@@ -351,8 +367,10 @@ impl<D: Disk + Drop> Board<D> {
     /// Takes the board apart.
     pub fn into_parts(self) -> Parts<D>
         ensures harts { result.harts.items ≡ (machine_of self).harts }
-        ensures ram { result.ram ≡ (machine_of self).memory }
-        ensures held { IsHeld (machine_of self).size result.harts.items result.tables (Some result.seats) }
+        ensures ram { result.bus.ram ≡ (machine_of self).memory }
+        ensures doze { result.bus.doze ≡ (machine_of self).doze }
+        ensures held { IsHeld (machine_of self).size result.harts.items result.tables (Some result.seats)
+            (machine_of self).doze }
         ensures shows { shown_by (machine_of self).size.harts result.seats ≡ (machine_of self).table }
         ensures store { result.store ≡ store_of self }
     {
@@ -361,13 +379,13 @@ impl<D: Disk + Drop> Board<D> {
             harts,
             seats,
             tables,
-            ram,
+            bus,
         } = machine.into_parts();
         Parts {
             harts,
             seats,
             tables,
-            ram,
+            bus,
             store,
         }
     }

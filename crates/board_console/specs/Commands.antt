@@ -1,6 +1,6 @@
--- What the console makes of a line, with the store at hand. Source: docs/CONSOLE.md, "The console";
+-- What the console makes of a line, with the store at hand, or the bus. Source: docs/CONSOLE.md, "The console";
 -- docs/DURABLE.md.
-use Rattle.std.specs.Prelude.{◌≡◌, ℕ, List, ◌∷◌, Result, Ok, Err}
+use Rattle.std.specs.Prelude.{◌≡◌, ℕ, Bool, true, false, List, ◌∷◌, Result, Ok, Err}
 use Rattle.board_model.specs.Durable.{DurableState, Slot, Discard}
 use Rattle.board_model.specs.Views.{durable_of}
 use Rattle.board_model.specs.declared.durable.Command.TheVariants as commands
@@ -15,6 +15,8 @@ use Rattle.store.specs.Views.{now_state}
 use Rattle.store.specs.declared.stores.Store.{Store}
 use Rattle.store.specs.Asked.{Asked}
 use Rattle.shared_store.specs.Legal.{MayAnswer, MayShow}
+use Rattle.susp.specs.declared.buses.Bus.{Bus}
+use Rattle.board_console.specs.Wakes.{Wakes, MayWake}
 use Rattle.board_console.specs.declared.words.Said.{Said}
 use Rattle.board_console.specs.declared.words.Said.TheVariants as saids
 use Rattle.board_console.specs.declared.answer.Answer.{Answer}
@@ -34,6 +36,10 @@ abbrev pub told_by : Entry → Result ℕ Refusal → List (ℕ × Entry) → Li
 told_by entry (Ok n) told = (n, entry) ∷ told
 told_by entry (Err e) told = told
 
+-- what `wake` may be answered: what a call of the wake-up device came to
+abbrev pub IsWakeAnswer : Answer → Type 0
+IsWakeAnswer answer = (r : Result (Unit {0}) Refusal) × MayWake r × (answer ≡ answers.Wake r)
+
 -- What a line may be answered in a life that began in that state: as some commands explain it that the table
 -- takes, one after another from there. The receipts that were told before it, and those that were told then: a
 -- receipt is answered where it is told, with just that command, and none else is told.
@@ -46,17 +52,32 @@ IsAnswerTo found saids.Discard answer old new =
     × (new ≡ told_by (entries.Command commands.Discard) r old)
 IsAnswerTo found saids.State answer old new =
     (d : Durable) × MayShow found d × (answer ≡ answers.State d) × (new ≡ old)
+IsAnswerTo found saids.Wake answer old new = IsWakeAnswer answer × (new ≡ old)
 IsAnswerTo found saids.Quit answer old new = (answer ≡ answers.Quit) × (new ≡ old)
 IsAnswerTo found saids.Other answer old new = (answer ≡ answers.Unknown) × (new ≡ old)
 
+-- the line `wake` calls the wake-up device once
+abbrev pub AnswersWake : Bus → Bus → Answer → Type 0
+AnswersWake old new answer = (r : Result (Unit {0}) Refusal) × Wakes old new r × (answer ≡ answers.Wake r)
+
+-- the line asks the bus, and not the store
+abbrev pub is_wake : Said → Bool
+is_wake (saids.Slot n) = false
+is_wake saids.Discard = false
+is_wake saids.State = false
+is_wake saids.Wake = true
+is_wake saids.Quit = false
+is_wake saids.Other = false
+
 module _ {D L : Type 0} {g : Ghosts D L} {l : Lanes L} where
   -- A line with a command asks the store once, and no other line asks it; `state` is the state now, without a
-  -- command in doubt.
+  -- command in doubt. The line `wake` asks the bus alone.
   abbrev pub AnswersSaid : Said → Store D L g l → Store D L g l → Answer → Type 0
   AnswersSaid (saids.Slot n) old new answer =
       (r : Result ℕ Refusal) × Asked Applied old (Slot n) r new × (answer ≡ slot_answer r)
   AnswersSaid saids.Discard old new answer =
       (r : Result ℕ Refusal) × Asked Applied old Discard r new × (answer ≡ discard_answer r)
   AnswersSaid saids.State old new answer = (new ≡ old) × (answer ≡ answers.State (durable_of (now_state old)))
+  AnswersSaid saids.Wake old new answer = ⊥
   AnswersSaid saids.Quit old new answer = (new ≡ old) × (answer ≡ answers.Quit)
   AnswersSaid saids.Other old new answer = (new ≡ old) × (answer ≡ answers.Unknown)

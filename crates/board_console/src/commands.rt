@@ -1,24 +1,27 @@
 //! What the console makes of a line.
 
-ghost use Rattle.std.specs.Prelude.{◌≡◌};
+ghost use Rattle.std.specs.Prelude.{◌≡◌, false};
 ghost use Rattle.shared_store.specs.Views.{store_in};
-ghost use Rattle.board_console.specs.Commands.{AnswersSaid, IsAnswerTo};
+ghost use Rattle.board_console.specs.Commands.{AnswersSaid, AnswersWake, IsAnswerTo, IsWakeAnswer, is_wake};
 
 use crate::answer::Answer;
+use crate::waking::Waking;
 use crate::words::Said;
 use board_model::Command;
 use disk::Disk;
 use shared_store::{Journal, Part, SharedStore};
+use susp::Bus;
 
 /// Does what a line says, with the store that it is lent for this one moment: on a board of threads, under
 /// the store's lock. A command that was acknowledged is durable, and its receipt is its place in the journal
 /// of this life (`Store::entry` has it there from then on), which the console's part is told; after a refusal
-/// what stands is what `Store::apply` says.
+/// what stands is what `Store::apply` says. Any line but `wake`, which asks the bus (`rouse`).
 pub fn obey<D: Disk + Drop, J: Journal>(
     store: &mut SharedStore<D, J>,
     part: Part<J>,
     said: Said,
 ) -> (Part<J>, Answer)
+    requires { is_wake said ≡ false }
     ensures asks { AnswersSaid said (store_in store.old) (store_in store.new) result.1 }
     ensures fits { IsAnswerTo J.found said result.1 part.told result.0.told }
 {
@@ -38,7 +41,17 @@ pub fn obey<D: Disk + Drop, J: Journal>(
             }
         }
         Said::State => (part, Answer::State(store.now())),
+        Said::Wake => unreachable!(),
         Said::Quit => (part, Answer::Quit),
         Said::Other => (part, Answer::Unknown),
     }
+}
+
+/// Does what the line `wake` says, with the bus that it is lent for this one moment: on a board of threads, under
+/// the bus's lock. It calls the wake-up device once.
+pub fn rouse(bus: &mut Bus) -> Answer
+    ensures wakes { AnswersWake bus.old bus.new result }
+    ensures fits { IsWakeAnswer result }
+{
+    Answer::Wake(Waking::call(bus))
 }

@@ -3,11 +3,12 @@
 ghost use Rattle.std.specs.Prelude.{◌≡◌, ◌++◌, ◌∷◌, [], OnOk, IfErr};
 ghost use Rattle.std.specs.Io.KnownBytes.{Appends};
 ghost use Rattle.board_model.specs.declared.refusal.Refusal.TheVariants.{Output};
+ghost use Rattle.board_console.specs.Commands.{IsAnswerTo};
 ghost use Rattle.board_console.specs.Dialogues.{Talks, dialogue_ends, is_quit};
 ghost use Rattle.board_console.specs.Texts.{reply_text};
 
 use crate::answer::Answer;
-use crate::commands::obey;
+use crate::commands::{obey, rouse};
 use crate::lines::next_line;
 use crate::words::{Said, line_said};
 use arrayvec::ArrayVec;
@@ -16,6 +17,7 @@ use disk::Disk;
 use shared_store::{Journal, Part, SharedStore};
 use std::io::{Read, Write};
 use std::sync::{Mutex, Wait};
+use susp::Bus;
 
 /// Why the console left.
 #[derive(Clone, Copy, Debug, PartialEq, Eq, Drop)]
@@ -33,7 +35,7 @@ fn is_quit(said: Said) -> bool
 {
     match said {
         Said::Quit => true,
-        Said::Slot(_) | Said::Discard | Said::State | Said::Other => false,
+        Said::Slot(_) | Said::Discard | Said::State | Said::Wake | Said::Other => false,
     }
 }
 
@@ -46,11 +48,29 @@ fn write_answer<W: Write>(out: &mut W, answer: Answer) -> Result<(), Refusal>
     out.flush().map_err(|_| Refusal::Output)
 }
 
-/// Takes one line after another from the input, obeys each in one hold of the store, and writes its answer
-/// with no lock held. It leaves after `quit`, at the end of input, and where an answer could not be written. Its
+/// Obeys a line: `wake` in one hold of the bus alone, and any other in one of the store alone. Who holds the store
+/// must not wait for the bus.
+fn answer_to<R: Wait, D: Disk + Drop, J: Journal>(
+    rt: &R,
+    bus: &Mutex<Bus>,
+    store: &Mutex<SharedStore<D, J>>,
+    part: Part<J>,
+    said: Said,
+) -> (Part<J>, Answer)
+    ensures { IsAnswerTo J.found said result.1 part.told result.0.told }
+{
+    match said {
+        Said::Wake => (part, rouse(&mut bus.lock(rt))),
+        _ => obey(&mut store.lock(rt), part, said),
+    }
+}
+
+/// Takes one line after another from the input, obeys each in one hold of the store, or `wake` in one of the bus, and
+/// writes its answer with no lock held. It leaves after `quit`, at the end of input, and where an answer could not be written. Its
 /// part of the journal's receipts is told those that it answers.
 pub fn console<R: Wait, D: Disk + Drop, J: Journal, I: Read, W: Write>(
     rt: &R,
+    bus: &Mutex<Bus>,
     store: &Mutex<SharedStore<D, J>>,
     part: Part<J>,
     input: &mut I,
@@ -66,7 +86,7 @@ pub fn console<R: Wait, D: Disk + Drop, J: Journal, I: Read, W: Write>(
             return (part, Left::EndOfInput);
         }
         let said = line_said(line.as_slice());
-        let (told, answer) = obey(&mut store.lock(rt), part, said);
+        let (told, answer) = answer_to(rt, bus, store, part, said);
         part = told;
         let Ok(()) = write_answer(out, answer) else {
             return (part, Left::Unwritten);

@@ -28,6 +28,7 @@ Console, a line each:
   slot S   sets the boot slot: 'slot ok N' or 'slot refused N'
   discard  drops the image: 'discard ok N' or 'discard refused N'
   state    'state slot S reason R image X next N'
+  wake     wakes a board that sleeps in its RAM: 'wake ok' or 'wake refused 18'
   quit     ends the harts after their turn, and the program
 Anything else answers '?'. At the end of input the harts run out their turns.
 After 'refused 7' the guest has ended its life by a reset or a suspension.
@@ -56,6 +57,7 @@ Refusals:
   13  a place of the image is not in its form
   15  an image stands, and a fresh boot would leave it behind
   16  an answer could not be written
+  18  the board does not doze, or was woken already
 
 A first session:
   printf 'slot 1\\nstate\\nquit\\n' | sbiboard --disk board.disk --mode fresh --new --sync

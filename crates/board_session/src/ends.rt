@@ -26,6 +26,8 @@ fn gather_loops<D: Disk + Drop, J: Journal>(whole: &mut Unshared<D, J>, loops: V
         let Ended {
             hart: _,
             seats: _,
+            doze: _,
+            looks: _,
             made: _,
             why: _,
             told: _,

@@ -37,6 +37,7 @@ use std::marker::Brand;
 use std::sync::{Mutex, Wait};
 use std::thread::Threads;
 use store::{format, kept_disks};
+use susp::Bus;
 
 /// What a session gives back.
 #[derive(Drop)]
@@ -72,6 +73,7 @@ struct Talked<J: Journal, I: Read + Drop, W: Write + Drop> {
 /// the end of input the harts run out their turns.
 fn attend<R: Wait, D: Disk + Drop, J: Journal, I: Read + Drop, W: Write + Drop>(
     rt: &R,
+    bus: &Mutex<Bus>,
     store: &Mutex<SharedStore<D, J>>,
     gate: &UntilQuit,
     ends: Ends<J, I, W>,
@@ -85,7 +87,7 @@ fn attend<R: Wait, D: Disk + Drop, J: Journal, I: Read + Drop, W: Write + Drop>(
         mut out,
         part,
     } = ends;
-    let (part, left) = console(rt, store, part, &mut input, &mut out);
+    let (part, left) = console(rt, bus, store, part, &mut input, &mut out);
     match left {
         Left::Quit | Left::Unwritten => gate.shut(),
         Left::EndOfInput => {}
@@ -127,7 +129,7 @@ fn operate<
     input: I,
     out: W,
 ) -> SessionEnd<D, I, W>
-    requires held { IsHeld shape.now parts.harts.items parts.tables (Some parts.seats) }
+    requires held { IsHeld shape.now parts.harts.items parts.tables (Some parts.seats) parts.bus.doze }
     requires shape { shape.now ≡ J.size }
     requires board { size_of_store parts.store ≡ J.size }
     requires found { found_state parts.store ≡ J.found }
@@ -149,7 +151,7 @@ fn operate<
         harts,
         seats,
         tables,
-        ram,
+        bus,
         store,
     } = parts;
     let (mut whole, boot) = Unshared::<D, J>::new(store, book);
@@ -158,17 +160,19 @@ fn operate<
     let Ok(given) = whole.hand_out_all(alloc, harts.len()) else {
         return over(whole, Vec::new(alloc), Vec::new(alloc), ends, boot, None);
     };
-    let bus = Mutex::new(ram);
+    let doze = bus.doze;
+    let bus = Mutex::new(bus);
     let store: Mutex<SharedStore<D, J>> = Mutex::new(whole.share());
     let gate = UntilQuit::new();
     let crew = crew::Threads::new(rt);
-    let (shared, shut) = (&store, &gate);
+    let (rung, shared, shut) = (&bus, &store, &gate);
     let driven = drive(
         rt,
         alloc,
         &gate,
         harts,
         seats,
+        doze,
         &tables,
         shape,
         &bus,
@@ -181,7 +185,7 @@ fn operate<
             ensures { Talks J.found result.left
                 (dialogue_ends (I.remaining ends.input) (W.contents ends.out) ends.part.told)
                 (dialogue_ends (I.remaining result.ends.input) (W.contents result.ends.out) result.ends.part.told) }
-        { attend(rt, shared, shut, ends) },
+        { attend(rt, rung, shared, shut, ends) },
     );
     let whole = store.into_inner().unshare();
     match driven {
@@ -349,7 +353,7 @@ pub fn session<R: Threads + Wait + Sync, D: Disk + Drop + Send, I: Read + Drop, 
                         harts: _,
                         seats: _,
                         tables: _,
-                        ram: _,
+                        bus: _,
                         store,
                     } = parts;
                     SessionEnd {

@@ -67,7 +67,7 @@ fn a_boot_leaves_the_payload_and_zeros(rt: HostRuntime) -> Result<(), Fail> {
     same(&rt, Ok(board.shape()), Shape::new(2, 1, 1));
     holds_one(&rt, board.ram());
     let parts = board.into_parts();
-    same(&rt, (parts.harts.len(), parts.ram.pages()), (2, 1));
+    same(&rt, (parts.harts.len(), parts.bus.ram.pages()), (2, 1));
     same(&rt, parts.store.found().slot.number(), 0);
     Ok(())
 }

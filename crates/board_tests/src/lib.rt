@@ -4,6 +4,8 @@
 #[cfg(test)]
 mod boots;
 #[cfg(test)]
+mod dozes;
+#[cfg(test)]
 mod ends;
 #[cfg(test)]
 mod faults;

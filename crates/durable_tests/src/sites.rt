@@ -21,6 +21,7 @@ use std::fmt::Debug;
 use std::process::Abort;
 use std::thread::Threads;
 use store::{Store, format};
+use susp::{Bus, Doze};
 
 /// Where RAM begins, and hart 0 stands at its call.
 pub const RAM: u64 = 0x8000_0000;
@@ -46,14 +47,16 @@ pub struct Asked {
     pub arguments: [u64; 3],
 }
 
-/// What a call came to: the firmware's word, a0 and a1 of the calling hart and how far its pc moved, and the
-/// durable state.
+/// What a call came to: the firmware's word, a0 and a1 of the calling hart and how far its pc moved, the doze
+/// that stands, whether the memory is as it was, and the durable state.
 #[derive(Clone, Copy, Debug, PartialEq, Eq, Drop)]
 pub struct Told {
     pub held: Held,
     pub error: u64,
     pub value: u64,
     pub moved: u64,
+    pub doze: Option<Doze>,
+    pub kept: bool,
     pub now: Durable,
 }
 
@@ -113,7 +116,7 @@ fn made<R: Threads + Sync>(
     seats: Seats,
     tables: &Tables,
     store: &mut Store<SimDisk>,
-    ram: &Ram,
+    bus: &mut Bus,
     crew: &Turns<R>,
     zero: HartId,
     asked: Asked,
@@ -123,12 +126,14 @@ fn made<R: Threads + Sync>(
     requires hart { zero < hart_count tables.now }
 {
     let mut hart = asking(zero, asked);
-    let (_seats, held) = dispatch_held(alloc, &mut hart, seats, tables, ram, store, crew);
+    let (_seats, held) = dispatch_held(alloc, &mut hart, seats, tables, bus, store, crew);
     Told {
         held,
         error: hart.reg(Reg::new(10)),
         value: hart.reg(Reg::new(11)),
         moved: hart.pc().wrapping_sub(RAM),
+        doze: bus.doze,
+        kept: bus.ram.bytes().iter().all(|byte| *byte == 7),
         now: store.now(),
     }
 }
@@ -155,7 +160,8 @@ pub fn ask<R: Threads + Sync>(
     };
     let mut ram = Ram::new(alloc, shape)?;
     ram.boot(&[7; 4096]);
-    Ok(made(alloc, seats, &tables, store, &ram, crew, zero, asked))
+    let mut bus = Bus { ram, doze: None };
+    Ok(made(alloc, seats, &tables, store, &mut bus, crew, zero, asked))
 }
 
 /// The same call made twice on a new board, under that fault: what each of them came to, and the state that

@@ -1,6 +1,6 @@
 //! System suspend, and waking from it (SBI specification 2.0, chapter 13; docs/SBI.md).
 use crate::sites::{Asked, NONE, Other, RAM, ask, minus, once, opened, same, twice};
-use board_model::{Addr, Durable, HartId, ImageHead, Refusal, Shape};
+use board_model::{Addr, Command, Durable, HartId, ImageHead, Refusal, Shape};
 use crew::Turns;
 use disk::ArmedFault;
 use hart::Hart;
@@ -12,7 +12,7 @@ use std::alloc::Global;
 use std::test::Fail;
 use std::thread::Threads;
 use store::Store;
-use susp::wake_image;
+use susp::{Bus, Doze, wake, wake_image};
 
 const TO_DISK: u64 = 0x8000_0001;
 
@@ -23,14 +23,17 @@ fn suspend(kind: u64, address: u64, opaque: u64) -> Asked {
     }
 }
 
-/// Type 0: -2. Any type but suspend to disk: -3. Then the address: -5. Then another hart that is not STOPPED:
+/// Any type but suspend to RAM and to disk: -3. Then the address: -5. Then another hart that is not STOPPED:
 /// -4.
 #[test]
 fn the_checks_are_made_in_order(rt: HostRuntime) -> Result<(), Fail> {
     let crew: Turns<HostRuntime> = Turns::new([0, 1, 2, 3])?;
     for (kind, address, other, error) in [
-        (0, 1, Other::Started, 2),
-        (0, RAM, Other::Stopped, 2),
+        (0, 1, Other::Started, 5),
+        (0, RAM + 0x1000, Other::Stopped, 5),
+        (0, RAM, Other::Pending, 4),
+        (0, RAM, Other::Started, 4),
+        (0, RAM, Other::Suspended, 4),
         (1, 1, Other::Started, 3),
         (0x8000_0000, 1, Other::Stopped, 3),
         (TO_DISK, RAM + 0x1000, Other::Started, 5),
@@ -40,13 +43,101 @@ fn the_checks_are_made_in_order(rt: HostRuntime) -> Result<(), Fail> {
         (TO_DISK, RAM, Other::Started, 4),
         (TO_DISK, RAM, Other::Suspended, 4),
         (0x1_8000_0001, RAM, Other::Pending, 4),
-        (0x1_0000_0000, RAM, Other::Stopped, 2),
+        (0x1_0000_0000, RAM + 2, Other::Stopped, 5),
     ] {
         let (told, found, none) = once(rt.alloc(), &crew, other, suspend(kind, address, 0))?;
         same(&rt, (told.held, told.error), (Held::Goes, minus(error)));
         same(&rt, (told.value, told.moved), (0, 4));
+        same(&rt, (told.doze, told.kept), (None, true));
         same(&rt, (told.now, none), (found, true));
     }
+    Ok(())
+}
+
+/// The doze of hart 0 that begins again at that address with that value in a1.
+fn doze(address: u64, opaque: u64, woken: bool) -> Option<Doze> {
+    Some(Doze {
+        hart: HartId::new(0)?,
+        address: Addr::new(address)?,
+        opaque,
+        woken,
+    })
+}
+
+/// To RAM, neither the store is asked nor the memory changed, and the hart stays at its call.
+#[test]
+fn dozing_without_a_command(rt: HostRuntime) -> Result<(), Fail> {
+    let crew: Turns<HostRuntime> = Turns::new([0, 1, 2, 3])?;
+    for (kind, address, opaque) in [(0, RAM, 9), (0x5_0000_0000, RAM + 0xffc, u64::MAX)] {
+        let asked = suspend(kind, address, opaque);
+        let (told, found, none) = once(rt.alloc(), &crew, Other::Stopped, asked)?;
+        same(&rt, (told.held, told.moved), (Held::Dozing, 0));
+        same(&rt, (told.error, told.value), (kind, address));
+        same(&rt, told.doze, doze(address, opaque, false));
+        same(&rt, (told.kept, told.now, none), (true, found, true));
+    }
+    Ok(())
+}
+
+/// The store that takes no command is not asked: one that is down after a failure at the gate, and one whose
+/// life is over.
+#[test]
+fn dozing_where_the_store_refuses(rt: HostRuntime) -> Result<(), Fail> {
+    let crew: Turns<HostRuntime> = Turns::new([0, 1, 2, 3])?;
+    for (fault, held) in [(ArmedFault::FailAt(4), Held::Goes), (NONE, Held::Asleep)] {
+        let mut store = opened(rt.alloc())?;
+        store.arm(fault);
+        let to_disk = suspend(TO_DISK, RAM, 8);
+        let first = ask(rt.alloc(), &mut store, &crew, Other::Stopped, to_disk)?;
+        same(&rt, first.held, held);
+        let to_ram = suspend(0, RAM, 8);
+        let told = ask(rt.alloc(), &mut store, &crew, Other::Stopped, to_ram)?;
+        same(
+            &rt,
+            (told.held, told.doze),
+            (Held::Dozing, doze(RAM, 8, false)),
+        );
+        same(&rt, told.now, first.now);
+    }
+    Ok(())
+}
+
+/// Nor is one whose journal of 4,096 commands is full.
+#[test]
+fn dozing_where_the_journal_is_full(rt: HostRuntime) -> Result<(), Fail> {
+    let crew: Turns<HostRuntime> = Turns::new([0, 1, 2, 3])?;
+    let mut store = opened(rt.alloc())?;
+    for _ in 0..4096 {
+        store.apply(Command::Slot(1))?;
+    }
+    same(
+        &rt,
+        store.apply(Command::Slot(2)).err(),
+        Some(Refusal::JournalFull),
+    );
+    let asked = suspend(0, RAM, 9);
+    let told = ask(rt.alloc(), &mut store, &crew, Other::Stopped, asked)?;
+    same(
+        &rt,
+        (told.held, told.doze),
+        (Held::Dozing, doze(RAM, 9, false)),
+    );
+    same(&rt, told.now.slot.number(), 1);
+    Ok(())
+}
+
+/// The wake-up device wakes a board that dozes, once.
+#[test]
+fn a_doze_is_woken_once(rt: HostRuntime) -> Result<(), Fail> {
+    let ram = Ram::new(rt.alloc(), Shape::new(1, 1, 1)?)?;
+    let mut bus = Bus { ram, doze: None };
+    same(&rt, wake(&mut bus), Err(Refusal::NotDozing));
+    same(&rt, bus.doze, None);
+    bus.doze = doze(RAM + 8, 9, false);
+    same(&rt, wake(&mut bus), Ok(()));
+    same(&rt, bus.doze, doze(RAM + 8, 9, true));
+    same(&rt, wake(&mut bus), Err(Refusal::NotDozing));
+    same(&rt, bus.doze, doze(RAM + 8, 9, true));
     Ok(())
 }
 

@@ -6,7 +6,7 @@ use Rattle.board_model.specs.declared.durable.Entry.{Entry}
 use Rattle.board_model.specs.declared.durable.Entry.TheVariants as entries
 use Rattle.board_model.specs.Shapes.{Size}
 use Rattle.board_model.specs.declared.durable.Reason.{Reason}
-use Rattle.hart.specs.State.{ArchState, answered}
+use Rattle.hart.specs.State.{ArchState, answered, started as fresh}
 use Rattle.hsm_rule.specs.Words.{HartView}
 use Rattle.hsm_rule.specs.declared.view.Stage.TheVariants.{Running}
 use Rattle.hsm_rule.specs.declared.view.Action.TheVariants.{Quieted, Unquieted}
@@ -19,19 +19,24 @@ use Rattle.sbi_abi.specs.declared.call.Call.TheVariants as calls
 use Rattle.sbi_abi.specs.declared.ret.SbiError.{SbiError}
 use Rattle.sbi_abi.specs.declared.ret.SbiError.TheVariants.{Failed, Denied, NotSupported}
 use Rattle.sbi_calls.specs.Both.{Known}
-use Rattle.shared_store.specs.Called.{IsToldBy}
+use Rattle.shared_store.specs.Called.{AsksDoze, IsToldBy}
 use Rattle.susp.specs.Checks.{IsChecked}
+use Rattle.susp.specs.Dozes.{dozing}
 use Rattle.susp.specs.Sleeps.{AreUnclaimed}
+use Rattle.susp.specs.declared.buses.Doze.{Doze}
+use Rattle.susp.specs.declared.sleeps.Sleep.{Sleep}
+use Rattle.susp.specs.declared.sleeps.Sleep.TheVariants.{ToDisk}
 use Rattle.sbi.specs.Resets.{reset_of}
 use Rattle.sbi.specs.declared.resets.ResetType.{ResetType}
 use Rattle.sbi.specs.declared.dispatches.Held.{Held}
 use Rattle.sbi.specs.declared.dispatches.Held.TheVariants as helds
-use Rattle.turns.specs.Own.{TurnOwn}
+use Rattle.turns.specs.Own.{TurnOwn, ResumesOwn}
 use Rattle.turns.specs.declared.words.Turned.{Turned}
 use Rattle.turns.specs.declared.words.Turned.TheVariants as words
 use Rattle.machine.specs.Words.{word_by}
 use Rattle.machine.specs.declared.parts.Word.{Word}
-use Rattle.machine.specs.declared.parts.Word.TheVariants.{Own, Asleep, Reset as ResetBy}
+use Rattle.machine.specs.declared.parts.Word.TheVariants.{Own, Dozing, Asleep, Reset as ResetBy}
+use Rattle.hart_threads.specs.Dozing.{Looked, after_look}
 use Rattle.hart_threads.specs.declared.loops.Why.{Why}
 use Rattle.hart_threads.specs.declared.loops.Why.TheVariants as whys
 
@@ -42,21 +47,22 @@ ResetFinds (Err wrong) e = e ≡ wrong
 ResetFinds (Ok asked) e = e ≡ Failed
 
 -- a suspension, whose arguments were checked so: that of its arguments, with nothing done on the hart table;
--- or one look, which found another hart that was not STOPPED, or else the store refused, and the quiet ended
-abbrev pub SleepFinds : ℕ → ℕ → Result ℕ SbiError → SbiError → List HartView → List HartView → Type 0
+-- or one look, which found another hart that was not STOPPED, or else to disk the store refused, and the quiet ended
+abbrev pub SleepFinds : ℕ → ℕ → Result (Sleep × ℕ) SbiError → SbiError → List HartView → List HartView → Type 0
 SleepFinds harts by (Err wrong) e vs vs' = (e ≡ wrong) × (vs' ≡ vs)
-SleepFinds harts by (Ok site) e vs vs' =
+SleepFinds harts by (Ok asked) e vs vs' =
     (found : ℕ) × (mid : List HartView) × HasNoted by (after_quiet harts by found) (Quieted found) vs mid
     × (((AreUnclaimed harts by found → ⊥) × (e ≡ Denied) × (vs' ≡ mid))
-    ⊎ (AreUnclaimed harts by found × (e ≡ Failed) × ((later : ℕ) × HasNoted by Running (Unquieted later) mid vs')))
+    ⊎ (AreUnclaimed harts by found × (e ≡ Failed) × (asked.0 ≡ ToDisk)
+    × ((later : ℕ) × HasNoted by Running (Unquieted later) mid vs')))
 
 abbrev pub Finds : Size → Call → ℕ → SbiError → List HartView → List HartView → Type 0
 Finds size (calls.SystemReset kind number) by e vs vs' = ResetFinds (reset_of kind number) e × (vs' ≡ vs)
 Finds size (calls.SystemSuspend kind address value) by e vs vs' =
-    (asked : Result ℕ SbiError) × IsChecked size kind address asked × SleepFinds size.harts by asked e vs vs'
+    (asked : Result (Sleep × ℕ) SbiError) × IsChecked size kind address asked × SleepFinds size.harts by asked e vs vs'
 Finds size call by e vs vs' = (e ≡ NotSupported) × (vs' ≡ vs)
 
--- ---- a call that comes to a durable command, made in one hold of the memory and of the store
+-- ---- a call that comes to a durable command, made in one hold of the bus and of the store
 -- What it came to, by what was told of it: the hart found an error and goes on; or it stands where it stood,
 -- a suspension with every other hart STOPPED at its one look, and keeps that hart quiet. On the board's size.
 abbrev pub HeldOnce : Size → Call → ArchState → ArchState → Known → Known → Held → Type 0
@@ -68,15 +74,30 @@ HeldOnce size call s t k k' helds.Asleep =
     (found : ℕ) × AreUnclaimed size.harts s.id found
     × HasNoted s.id (after_quiet size.harts s.id found) (Quieted found) k.harts k'.harts
     × (t ≡ s) × (k'.pairs ≡ k.pairs)
+HeldOnce size call s t k k' helds.Dozing =
+    (found : ℕ) × AreUnclaimed size.harts s.id found
+    × HasNoted s.id (after_quiet size.harts s.id found) (Quieted found) k.harts k'.harts
+    × (t ≡ s) × (k'.pairs ≡ k.pairs)
+
+-- the doze of which the hart then keeps a copy: the one that its call asked for, with the arguments in order on the
+-- board's size; after any other call none
+abbrev pub IsDozeBy : Size → Call → ℕ → Held → Option Doze → Type 0
+IsDozeBy size call by helds.Goes doze = doze ≡ None
+IsDozeBy size call by (helds.Reset type) doze = doze ≡ None
+IsDozeBy size call by helds.Asleep doze = doze ≡ None
+IsDozeBy size call by helds.Dozing doze =
+    (site : ℕ) × (opaque : ℕ) × AsksDoze size call site opaque × (doze ≡ Some (dozing by site opaque))
 
 -- ---- a turn
--- a hart, and what its seats know, between two of its turns
+-- a hart, what its seats know, its copy of its doze, and its looks at the bus in a doze, between two of its turns
 pub record Seated : Type 0 where
   pub hart : ArchState
   pub known : Known
+  pub doze : Option Doze
+  pub looks : Looked
 
-abbrev pub seated : ArchState → Known → Seated
-seated s k = record { hart = s; known = k }
+abbrev pub seated : ArchState → Known → Option Doze → Looked → Seated
+seated s k doze looks = record { hart = s; known = k; doze = doze; looks = looks }
 
 -- what comes of what the hart did: a durable call is made, and has the receipt of its command where that was
 -- acknowledged; anything else is the turn's word
@@ -84,18 +105,38 @@ abbrev pub ComesOnce : Size → Turned → Seated → Seated → Word → Option
 ComesOnce size words.Durable a b word told =
     (held : Held) × HeldOnce size (call_of a.hart) a.hart b.hart a.known b.known held
     × IsToldBy size (call_of a.hart) a.hart.id held told × (word ≡ word_by held)
+    × IsDozeBy size (call_of a.hart) a.hart.id held b.doze × (b.looks ≡ a.looks)
 ComesOnce size did a b word told = (b ≡ a) × (word ≡ Own did) × (told ≡ None)
 
--- one turn of the hart, with the memory as its one hold of the bus found it and as it left it
-abbrev pub TurnOnce : Size → Seated → Seated → Word → Option (ℕ × Entry) → Type 0
-TurnOnce size a b word told =
+-- a turn of a hart that does not doze, with the memory as its one hold of the bus found it and as it left it
+abbrev pub OwnOnce : Size → Seated → Seated → Word → Option (ℕ × Entry) → Type 0
+OwnOnce size a b word told =
     (found : List ℕ) × (left : List ℕ) × (did : Turned) × (mid : Seated)
     × TurnOwn size a.hart found mid.hart left a.known mid.known did × ComesOnce size did mid b word told
+    × (mid.doze ≡ a.doze) × (mid.looks ≡ a.looks)
+
+-- A turn of a hart that dozes, by what its one look at the bus found: nothing, until its doze was woken. Then it begins
+-- again at the address of its own copy, with that opaque value; it has taken what was pending for it, and its quiet has
+-- ended. The look is counted, and so is what it found.
+abbrev pub DozeOnce : Bool → Doze → Seated → Seated → Word → Type 0
+DozeOnce false d a b word = (b ≡ record a { looks = after_look false a.looks }) × (word ≡ Own words.Idle)
+DozeOnce true d a b word =
+    (b.hart ≡ fresh a.hart.id d.address d.opaque) × ResumesOwn a.hart.id a.known b.known × (b.doze ≡ None)
+    × (b.looks ≡ after_look true a.looks) × (word ≡ Own words.Resumed)
+
+-- one turn of the hart, by its copy of its doze: no receipt comes of a turn in a doze
+abbrev pub TurnOnceBy : Option Doze → Size → Seated → Seated → Word → Option (ℕ × Entry) → Type 0
+TurnOnceBy None size a b word told = OwnOnce size a b word told
+TurnOnceBy (Some d) size a b word told = (woken : Bool) × DozeOnce woken d a b word × (told ≡ None)
+
+abbrev pub TurnOnce : Size → Seated → Seated → Word → Option (ℕ × Entry) → Type 0
+TurnOnce size a b word told = TurnOnceBy a.doze size a b word told
 
 -- ---- the turns of a loop
 -- the life goes on after it
 abbrev pub loop_goes_on : Word → Bool
 loop_goes_on (Own did) = true
+loop_goes_on Dozing = true
 loop_goes_on Asleep = false
 loop_goes_on (ResetBy kind) = false
 

@@ -12,13 +12,13 @@ use crate::seated::{Acting, seat_harts};
 use board_model::{Refusal, Shape};
 use disk::Disk;
 use hart::Hart;
-use ram::Ram;
 use sbi_calls::{Seats, Tables};
 use shared_store::{Journal, Part, SharedStore};
 use std::alloc::{AllocError, Global};
 use std::sync::atomic::{AtomicBool, Ordering};
 use std::sync::{Mutex, Wait};
 use std::thread::{self, JoinHandle, Threads};
+use susp::{Bus, Doze};
 
 /// What comes back where no console could be begun.
 #[derive(Drop)]
@@ -55,7 +55,8 @@ fn unbegun<J: Journal, E: Drop>(
 /// Runs each hart's loop on a thread of its own, and the console on this one; returns once the console and
 /// all threads have ended.
 ///
-/// The harts, seats, tables and memory are those of a board's parts. Once a loop ended with the life, the
+/// The harts, seats, tables and bus are those of a board's parts, and `doze` is the doze of that bus, of which its hart
+/// is given a copy: it is read before the bus goes behind its lock. Once a loop ended with the life, the
 /// gate that the other loops see is shut: each ends before its next turn. The console goes on until it
 /// returns by itself, and where it returns first the harts run out their turns, as far as the gate lets them.
 ///
@@ -76,9 +77,10 @@ pub fn drive<
     gate: &(dyn Gate + Sync),
     harts: Vec<Hart>,
     seats: Seats,
+    doze: Option<Doze>,
     tables: &Tables,
     shape: &Shape,
-    bus: &Mutex<Ram>,
+    bus: &Mutex<Bus>,
     store: &Mutex<SharedStore<D, J>>,
     crew: &crew::Threads<'_, R>,
     turns: u64,
@@ -90,14 +92,14 @@ pub fn drive<
     requires board { shape.now ≡ J.size }
     requires parts { vec_len parts ≡ vec_len harts }
     requires fresh { All (λ p. p.told ≡ []) parts.items }
-    requires held { IsHeld shape.now harts.items tables.now (Some seats) }
+    requires held { IsHeld shape.now harts.items tables.now (Some seats) doze }
     ensures said { IfOk result (λ r. K.post console ends r.1) }
     ensures loops { IfOk result (λ r. vec_len r.0 ≡ vec_len harts) }
     ensures refused { IfErr result (λ e. (e.ends ≡ ends) × (e.refusal ≡ Memory)) }
     ensures back { IfErr result (λ e. vec_len e.loops + vec_len e.parts ≡ vec_len harts) }
     ensures fresh { IfErr result (λ e. All (λ p. p.told ≡ []) e.parts.items) }
 {
-    match seat_harts(alloc, harts, seats, tables) {
+    match seat_harts(alloc, harts, seats, doze, tables) {
         Ok(all) => run_all(
             rt, alloc, gate, all, tables, shape, bus, store, crew, turns, parts, ends, console,
         ),
@@ -120,7 +122,7 @@ fn run_all<
     all: Vec<Acting>,
     tables: &Tables,
     shape: &Shape,
-    bus: &Mutex<Ram>,
+    bus: &Mutex<Bus>,
     store: &Mutex<SharedStore<D, J>>,
     crew: &crew::Threads<'_, R>,
     turns: u64,
@@ -133,7 +135,7 @@ fn run_all<
     requires parts { vec_len parts ≡ vec_len all }
     requires fresh { All (λ p. p.told ≡ []) parts.items }
     requires tables { AreTablesOf shape.now tables.now }
-    requires seated { All (λ a. IsSeated tables.now a.hart.id a.seats) all.items }
+    requires seated { All (λ a. IsSeated tables.now a.hart.id a.seats a.doze) all.items }
     ensures said { IfOk result (λ r. K.post console ends r.1) }
     ensures loops { IfOk result (λ r. vec_len r.0 ≡ vec_len all) }
     ensures refused { IfErr result (λ e. (e.ends ≡ ends) × (e.refusal ≡ Memory)) }
@@ -147,7 +149,7 @@ fn run_all<
         rt,
         move |scope| -> Result<(Vec<Ended<J>>, T), Undriven<J, E>>
             requires { K.IsAlwaysCallable console × (shape.now ≡ J.size) × AreTablesOf shape.now tables.now
-                × All (λ a. IsSeated tables.now a.hart.id a.seats) all.items
+                × All (λ a. IsSeated tables.now a.hart.id a.seats a.doze) all.items
                 × (vec_len parts ≡ vec_len all) × All (λ p. p.told ≡ []) parts.items }
             ensures { IfOk result (λ r. K.post console ends r.1 × (vec_len r.0 ≡ vec_len all))
                 × IfErr result (λ e. (e.ends ≡ ends) × (e.refusal ≡ Memory)
@@ -159,17 +161,17 @@ fn run_all<
             let mut parts = parts;
             let mut unstarted = false;
             for acting in all {
-                let (hart, seats) = taken(acting, tables);
+                let (hart, seats, doze) = taken(acting, tables);
                 let part = next_part(&mut parts);
                 let started = scope.spawn(
                     move || -> Ended<J>
                         requires { (shape.now ≡ J.size) × AreTablesOf shape.now tables.now
-                            × IsSeated tables.now hart.id seats × (part.told ≡ []) }
+                            × IsSeated tables.now hart.id seats doze × (part.told ≡ []) }
                     {
                         let gate = UntilOver { gate, over };
                         let ended = hart_loop(
-                            rt, alloc, &gate, hart, seats, tables, shape, bus, store, crew, turns,
-                            part,
+                            rt, alloc, &gate, hart, seats, doze, tables, shape, bus, store, crew,
+                            turns, part,
                         );
                         if ended.why == Why::Life {
                             over.store(true, Ordering::SeqCst);
@@ -203,14 +205,14 @@ fn run_all<
     )
 }
 
-/// A hart and its seats.
-fn taken(acting: Acting, tables: &Tables) -> (Hart, Seats)
-    requires { IsSeated tables.now acting.hart.id acting.seats }
-    ensures { IsSeated tables.now result.0.id result.1 }
+/// A hart, its seats, and its copy of its doze.
+fn taken(acting: Acting, tables: &Tables) -> (Hart, Seats, Option<Doze>)
+    requires { IsSeated tables.now acting.hart.id acting.seats acting.doze }
+    ensures { IsSeated tables.now result.0.id result.1 result.2 }
 {
     let _ = tables;
-    let Acting { hart, seats } = acting;
-    (hart, seats)
+    let Acting { hart, seats, doze } = acting;
+    (hart, seats, doze)
 }
 
 /// One of the parts.

@@ -7,40 +7,43 @@ ghost use Rattle.sbi_calls.specs.Both.{AreTablesOf, AreSeatsOfBoth, GivesBack, A
 ghost use Rattle.sbi.specs.Helds.{stage_by_held};
 ghost use Rattle.shared_store.specs.Called.{IsToldBy};
 ghost use Rattle.shared_store.specs.Noted.{part_after};
-ghost use Rattle.hart_threads.specs.Threads.{HeldOnce};
+ghost use Rattle.hart_threads.specs.Threads.{HeldOnce, IsDozeBy};
 
+use crate::dozes::doze_by;
 use board_model::Shape;
 use crew::Crew;
 use disk::Disk;
 use hart::{Hart, Outcome};
 use machine::Held;
-use ram::Ram;
 use sbi_calls::{Seats, Tables};
 use shared_store::{Journal, Part, SharedStore, Told};
 use std::alloc::Global;
 use std::sync::{Mutex, Wait};
-use turns::Bus;
+use susp::{Bus, Doze};
+use turns::MemoryBus;
 
 /// The bus of a board on threads. One step of a hart is one hold of it.
 #[derive(Drop)]
 pub(crate) struct SharedBus<'a, R> {
     pub(crate) rt: &'a R,
-    pub(crate) ram: &'a Mutex<Ram>,
+    pub(crate) bus: &'a Mutex<Bus>,
 }
 
-impl<'a, R: Wait> Bus for SharedBus<'a, R> {
+impl<'a, R: Wait> MemoryBus for SharedBus<'a, R> {
     ghost may_hold = { λ bus memory. Unit {0} };
 
     ghost holds_one = { λ bus. ([], tt) };
 
     #[inline(always)]
     fn step(&mut self, hart: &mut Hart, pending: bool) -> Outcome {
-        hart.step(&mut self.ram.lock(self.rt), pending)
+        let mut bus = self.bus.lock(self.rt);
+        hart.step(&mut bus.ram, pending)
     }
 }
 
-/// The durable call at which a hart stands, made in one hold of the memory and of the store. The bus is taken
-/// first: whoever takes both does so, and no thread that holds the store waits for the bus.
+/// The durable call at which a hart stands, made in one hold of the bus and of the store. The bus is taken
+/// first: whoever takes both does so, and no thread that holds the store waits for the bus. Where the board then
+/// dozes, the hart has a copy of its doze.
 pub(crate) fn make_held<R: Wait, D: Disk + Drop, J: Journal, C: Crew>(
     rt: &R,
     alloc: Global,
@@ -48,11 +51,11 @@ pub(crate) fn make_held<R: Wait, D: Disk + Drop, J: Journal, C: Crew>(
     seats: Seats,
     tables: &Tables,
     shape: &Shape,
-    bus: &Mutex<Ram>,
+    bus: &Mutex<Bus>,
     store: &Mutex<SharedStore<D, J>>,
     crew: &C,
     part: Part<J>,
-) -> (Seats, Held, Option<Told<J>>, Part<J>)
+) -> (Seats, Held, Option<Told<J>>, Part<J>, Option<Doze>)
     requires tables { AreTablesOf shape.now tables.now }
     requires seats { AreSeatsOfBoth tables.now seats }
     requires hart { hart.old.id < shape.now.harts }
@@ -64,8 +67,12 @@ pub(crate) fn make_held<R: Wait, D: Disk + Drop, J: Journal, C: Crew>(
     ensures told { IsToldBy shape.now (call_of hart.old) hart.old.id result.1 result.2 }
     ensures noted { result.3 ≡ part_after result.2 part }
     ensures once { HeldOnce shape.now (call_of hart.old) hart.old hart.new (known seats) (known result.0) result.1 }
+    ensures doze { IsDozeBy shape.now (call_of hart.old) hart.old.id result.1 result.4 }
 {
-    let ram = bus.lock(rt);
+    let mut guard = bus.lock(rt);
+    let bus = &mut *guard;
     let mut store = store.lock(rt);
-    store.call(alloc, hart, seats, tables, &ram, crew, part)
+    let (seats, held, told, part) = store.call(alloc, hart, seats, tables, bus, crew, part);
+    let doze = doze_by(held, bus.doze);
+    (seats, held, told, part, doze)
 }

@@ -54,13 +54,23 @@ fn booting(alloc: Global, payload: &[u8]) -> Result<Payloads, Fail> {
     Ok(payloads)
 }
 
+/// A board that was powered on fresh over a new disk.
+pub fn booted(alloc: Global, shape: &Shape, payload: &[u8]) -> Result<Board<SimDisk>, Fail> {
+    let disk = formatted(alloc, shape)?;
+    let payloads = booting(alloc, payload)?;
+    match Board::power_on(alloc, disk, BootMode::Fresh, &payloads) {
+        Ok(board) => Ok(board),
+        Err(_) => Err("the board is off")?,
+    }
+}
+
 /// The parts of a board that was powered on fresh over a new disk, and its shape.
 pub fn parts_of(
     alloc: Global,
     shape: &Shape,
     payload: &[u8],
 ) -> Result<(Parts<SimDisk>, Shape), Fail>
-    ensures held { IfOk result (λ p. IsHeld p.1 p.0.harts.items p.0.tables (Some p.0.seats)) }
+    ensures held { IfOk result (λ p. IsHeld p.1 p.0.harts.items p.0.tables (Some p.0.seats) p.0.bus.doze) }
     ensures begun { IfOk result (λ p. IsBegun p.1 p.0.store) }
 {
     let disk = formatted(alloc, shape)?;
@@ -91,7 +101,7 @@ pub fn store_of(parts: Parts<SimDisk>) -> Store<SimDisk>
         harts: _,
         seats: _,
         tables: _,
-        ram: _,
+        bus: _,
         store,
     } = parts;
     store
@@ -106,7 +116,7 @@ pub fn driven<R: Threads + Wait + Sync>(
     shape: &Shape,
     turns: u64,
 ) -> (bool, SimDisk)
-    requires held { IsHeld shape.now parts.harts.items parts.tables (Some parts.seats) }
+    requires held { IsHeld shape.now parts.harts.items parts.tables (Some parts.seats) parts.bus.doze }
     requires begun { IsBegun shape.now parts.store }
     ensures { IsIdle (⟦<SimDisk as Disk>⟧.facts result.1) }
 {
@@ -126,7 +136,7 @@ fn driven_as<J: Journal + Send + Sync, R: Threads + Wait + Sync>(
     shape: &Shape,
     turns: u64,
 ) -> (bool, SimDisk)
-    requires held { IsHeld shape.now parts.harts.items parts.tables (Some parts.seats) }
+    requires held { IsHeld shape.now parts.harts.items parts.tables (Some parts.seats) parts.bus.doze }
     requires begun { IsBegun shape.now parts.store }
     requires named { (J.size ≡ shape.now) × (J.found ≡ found_state parts.store) × (J.issued ≡ []) }
     requires book { (id_of book ≡ J.book) × (parts_of book ≡ J.parts) × (J.parts ≡ shape.now.harts + 1) }
@@ -136,14 +146,15 @@ fn driven_as<J: Journal + Send + Sync, R: Threads + Wait + Sync>(
         harts,
         seats,
         tables,
-        ram,
+        bus,
         store,
     } = parts;
     let (mut whole, _boot) = Unshared::<SimDisk, J>::new(store, book);
     let Ok(given) = whole.hand_out_all(alloc, harts.len()) else {
         return (false, whole.settle().into_disk());
     };
-    let bus = Mutex::new(ram);
+    let doze = bus.doze;
+    let bus = Mutex::new(bus);
     let store = Mutex::new(whole.share());
     let crew = crew::Threads::new(rt);
     let done = drive(
@@ -152,6 +163,7 @@ fn driven_as<J: Journal + Send + Sync, R: Threads + Wait + Sync>(
         gate,
         harts,
         seats,
+        doze,
         &tables,
         shape,
         &bus,

@@ -2,6 +2,8 @@
 #![tactic(auto)]
 
 #[cfg(test)]
+mod dozing;
+#[cfg(test)]
 mod driven;
 #[cfg(test)]
 mod fixtures;

@@ -8,9 +8,9 @@ ghost use Rattle.hart_threads_tests.specs.Begun.{IsBegun};
 
 use crate::fixtures::{Open, next_part, parts_of};
 use board::Parts;
-use board_model::{HartId, Shape};
+use board_model::{Command, HartId, Shape};
 use hart_threads::{Acting, Gate, Why, hart_loop, seat_harts};
-use shared_store::{Journal, NewBook, Unshared};
+use shared_store::{Journal, NewBook, Part, SharedStore, Unshared};
 use simdisk::SimDisk;
 use std::alloc::Global;
 use std::marker::Brand;
@@ -34,23 +34,34 @@ impl Gate for ShutAt {
     fn after(&self, _hart: HartId, _turn: u64) {}
 }
 
-/// How a loop ended: how many turns it made, why it ended, the hart's pc then, and the number of its receipt.
-type End = (u64, Why, u64, Option<u32>);
+/// How a loop ended: how many turns it made, why it ended, the hart's pc then, the number of its receipt, and how many
+/// of its turns it dozed.
+type End = (u64, Why, u64, Option<u32>, u64);
 
-/// The loops of a board's harts, one after another.
-fn looped<R: Threads + Wait + Sync, G: Gate>(
+/// The loops of a board's harts, one after another, once these commands were issued.
+pub fn looped<R: Threads + Wait + Sync, G: Gate>(
     rt: &R,
     alloc: Global,
     gate: &G,
     parts: Parts<SimDisk>,
     shape: &Shape,
+    commands: &[Command],
     turns: u64,
 ) -> Result<Vec<End>, Fail>
-    requires held { IsHeld shape.now parts.harts.items parts.tables (Some parts.seats) }
+    requires held { IsHeld shape.now parts.harts.items parts.tables (Some parts.seats) parts.bus.doze }
     requires begun { IsBegun shape.now parts.store }
 {
     let book = NewBook::new(alloc, shape.harts() + 1)?;
-    looped_as::<Brand, R, G>(rt, alloc, gate, parts, book, shape, turns)
+    looped_as::<Brand, R, G>(rt, alloc, gate, parts, book, shape, commands, turns)
+}
+
+/// Issues these commands, whatever they are answered.
+fn issue<J: Journal>(store: &mut SharedStore<SimDisk, J>, part: Part<J>, commands: &[Command]) {
+    let mut part = part;
+    for command in commands {
+        let (told, _answered) = store.apply(part, *command);
+        part = told;
+    }
 }
 
 /// The same, of a journal that has a name.
@@ -61,9 +72,10 @@ fn looped_as<J: Journal + Send + Sync, R: Threads + Wait + Sync, G: Gate>(
     parts: Parts<SimDisk>,
     book: NewBook,
     shape: &Shape,
+    commands: &[Command],
     turns: u64,
 ) -> Result<Vec<End>, Fail>
-    requires held { IsHeld shape.now parts.harts.items parts.tables (Some parts.seats) }
+    requires held { IsHeld shape.now parts.harts.items parts.tables (Some parts.seats) parts.bus.doze }
     requires begun { IsBegun shape.now parts.store }
     requires named { (J.size ≡ shape.now) × (J.found ≡ found_state parts.store) × (J.issued ≡ []) }
     requires book { (id_of book ≡ J.book) × (parts_of book ≡ J.parts) × (J.parts ≡ shape.now.harts + 1) }
@@ -72,26 +84,30 @@ fn looped_as<J: Journal + Send + Sync, R: Threads + Wait + Sync, G: Gate>(
         harts,
         seats,
         tables,
-        ram,
+        bus,
         store,
     } = parts;
-    let (mut whole, _boot) = Unshared::<SimDisk, J>::new(store, book);
+    let (mut whole, boot) = Unshared::<SimDisk, J>::new(store, book);
     let mut given = whole.hand_out_all(alloc, harts.len())?;
-    let bus = Mutex::new(ram);
-    let store = Mutex::new(whole.share());
+    let doze = bus.doze;
+    let bus = Mutex::new(bus);
+    let mut shared = whole.share();
+    issue(&mut shared, boot, commands);
+    let store = Mutex::new(shared);
     let crew = crew::Threads::new(rt);
     let mut ends = Vec::new(alloc);
-    for acting in seat_harts(alloc, harts, seats, &tables)? {
-        let Acting { hart, seats } = acting;
+    for acting in seat_harts(alloc, harts, seats, doze, &tables)? {
+        let Acting { hart, seats, doze } = acting;
         let part = match next_part(&mut given) {
             Some(part) => part,
             None => Err("a part for each hart")?,
         };
         let ended = hart_loop(
-            rt, alloc, gate, hart, seats, &tables, shape, &bus, &store, &crew, turns, part,
+            rt, alloc, gate, hart, seats, doze, &tables, shape, &bus, &store, &crew, turns, part,
         );
         let receipt = ended.told.map(|told| told.number());
-        ends.push((ended.made, ended.why, ended.hart.pc(), receipt))?;
+        let dozed = ended.looks.made();
+        ends.push((ended.made, ended.why, ended.hart.pc(), receipt, dozed))?;
     }
     Ok(ends)
 }
@@ -107,13 +123,13 @@ pub const STOPPER: [u8; 28] = [
 fn a_loop_ends_as_it_is_told(rt: HostRuntime) -> Result<(), Fail> {
     let alloc = rt.alloc();
     let (parts, shape) = parts_of(alloc, &Shape::new(1, 1, 1)?, &STOPPER)?;
-    let mut made = looped(&rt, alloc, &Open, parts, &shape, 3)?;
-    assert_eq!(&rt; made.pop(), Some((3, Why::Turns, 0x8000_000c, None)));
+    let mut made = looped(&rt, alloc, &Open, parts, &shape, &[], 3)?;
+    assert_eq!(&rt; made.pop(), Some((3, Why::Turns, 0x8000_000c, None, 0)));
     let (parts, shape) = parts_of(alloc, &Shape::new(1, 1, 1)?, &STOPPER)?;
-    let mut made = looped(&rt, alloc, &ShutAt(2), parts, &shape, 100)?;
-    assert_eq!(&rt; made.pop(), Some((2, Why::Gate, 0x8000_0008, None)));
+    let mut made = looped(&rt, alloc, &ShutAt(2), parts, &shape, &[], 100)?;
+    assert_eq!(&rt; made.pop(), Some((2, Why::Gate, 0x8000_0008, None, 0)));
     let (parts, shape) = parts_of(alloc, &Shape::new(1, 1, 1)?, &STOPPER)?;
-    let mut made = looped(&rt, alloc, &Open, parts, &shape, 100)?;
-    assert_eq!(&rt; made.pop(), Some((6, Why::Life, 0x8000_0014, Some(1))));
+    let mut made = looped(&rt, alloc, &Open, parts, &shape, &[], 100)?;
+    assert_eq!(&rt; made.pop(), Some((6, Why::Life, 0x8000_0014, Some(1), 0)));
     Ok(())
 }

@@ -1,11 +1,12 @@
-//! A console whose output looks, at each write, whether another could take the store.
+//! A console whose output looks, at each write, whether another could take the bus and the store.
 
 ghost use Rattle.std.specs.Prelude.{◌≡◌, []};
 ghost use Rattle.store.specs.Views.{found_state};
 ghost use Rattle.receipts.specs.Views.{id_of, parts_of};
 ghost use Rattle.hart_threads_tests.specs.Begun.{IsBegun};
 
-use crate::fixtures::{parts_of, store_of};
+use crate::fixtures::parts_of;
+use board::Parts;
 use board_console::console;
 use board_model::Shape;
 use shared_store::{Journal, NewBook, SharedStore, Unshared};
@@ -15,10 +16,12 @@ use std::marker::Brand;
 use std::sync::{Mutex, Wait};
 use std::test::*;
 use store::Store;
+use susp::Bus;
 
-/// It counts the lines that are written, and the writes that find the store held.
+/// It counts the lines that are written, and the writes that find the bus or the store held.
 #[derive(Drop)]
 struct Looking<'a, J: Journal> {
+    bus: &'a Mutex<Bus>,
     store: &'a Mutex<SharedStore<SimDisk, J>>,
     lines: u64,
     held: u64,
@@ -26,7 +29,7 @@ struct Looking<'a, J: Journal> {
 
 impl<'a, J: Journal> Looking<'a, J> {
     fn look(&mut self) {
-        if self.store.try_lock().is_none() {
+        if self.bus.try_lock().is_none() || self.store.try_lock().is_none() {
             self.held = self.held.wrapping_add(1);
         }
     }
@@ -46,31 +49,39 @@ impl<'a, J: Journal> Write for Looking<'a, J> {
     }
 }
 
-/// The lines that a console of that store wrote, and how often it held the store meanwhile.
-fn talked<J: Journal, R: Wait>(rt: &R, store: Store<SimDisk>, book: NewBook) -> (u64, u64)
+/// The lines that a console of that bus and store wrote, and how often it held one of them meanwhile.
+fn talked<J: Journal, R: Wait>(rt: &R, bus: Bus, store: Store<SimDisk>, book: NewBook) -> (u64, u64)
     requires begun { IsBegun J.size store }
     requires named { (J.found ≡ found_state store) × (J.issued ≡ []) }
     requires book { (id_of book ≡ J.book) × (parts_of book ≡ J.parts) × (J.parts ≡ 1) }
 {
     let (whole, part) = Unshared::<SimDisk, J>::new(store, book);
+    let bus = Mutex::new(bus);
     let store = Mutex::new(whole.share());
-    let mut input = b"slot 1\ndiscard\nstate\nhello\nquit\n".as_slice();
+    let mut input = b"slot 1\ndiscard\nstate\nwake\nhello\nquit\n".as_slice();
     let mut out = Looking {
+        bus: &bus,
         store: &store,
         lines: 0,
         held: 0,
     };
-    let (_part, _left) = console(rt, &store, part, &mut input, &mut out);
+    let (_part, _left) = console(rt, &bus, &store, part, &mut input, &mut out);
     (out.lines, out.held)
 }
 
 #[test]
-fn the_store_is_not_held_while_an_answer_is_written(rt: HostRuntime) -> Result<(), Fail> {
+fn no_lock_is_held_while_an_answer_is_written(rt: HostRuntime) -> Result<(), Fail> {
     let alloc = rt.alloc();
     let (parts, _shape) = parts_of(alloc, &Shape::new(1, 1, 1)?, &[])?;
     let book = NewBook::new(alloc, 1)?;
-    let store = store_of(parts);
-    let (lines, held) = talked::<Brand, HostRuntime>(&rt, store, book);
-    assert_eq!(&rt; (lines, held), (5, 0));
+    let Parts {
+        harts: _,
+        seats: _,
+        tables: _,
+        bus,
+        store,
+    } = parts;
+    let (lines, held) = talked::<Brand, HostRuntime>(&rt, bus, store, book);
+    assert_eq!(&rt; (lines, held), (6, 0));
     Ok(())
 }

@@ -1,5 +1,5 @@
 -- A hart that is told to stand at a durable call is STARTED.
-use Rattle.std.proofs.Common.{◌≡◌, ℕ, zero, suc, ◌<◌, Bool, true, false, List, Ok, Err, refl, sym, ap, ◌∙◌, subst, inl, inr}
+use Rattle.std.proofs.Common.{◌≡◌, ℕ, zero, suc, ◌<◌, Bool, true, false, List, Option, Some, None, Ok, Err, refl, sym, ap, ◌∙◌, subst, inl, inr}
 use Rattle.std.specs.Prelude.{length}
 use Rattle.std.proofs.lemmas.List.{get_or-set_same, length-set}
 use Rattle.board_model.specs.Shapes.{Size}
@@ -17,14 +17,17 @@ use Rattle.sbi_calls.specs.Both.{TableState}
 use Rattle.sbi_calls.specs.Requests.{Checked, request_of}
 use Rattle.sbi_calls.specs.Answers.{row, Ends}
 use Rattle.turns.specs.declared.words.Turned.{Turned}
-use Rattle.turns.specs.declared.words.Turned.TheVariants.{Idle, Entered, Woke, Next, Suspended, Stopped, Durable}
+use Rattle.turns.specs.declared.words.Turned.TheVariants.{Idle, Entered, Woke, Resumed, Next, Suspended, Stopped, Durable}
 use Rattle.turns.specs.Turns.{Moment, has_pending, woken_turn, begun_by, turned_by, Finishes, TurnAs, TurnOf}
+use Rattle.susp.specs.Dozes.{doze_of}
+use Rattle.susp.specs.declared.buses.Doze.{Doze}
 use Rattle.machine.specs.declared.parts.Called.{Called}
 use Rattle.machine.specs.declared.parts.Called.TheVariants.{NotStarted, Made}
 use Rattle.machine.specs.Machine.{Machine, hart_at}
-use Rattle.machine.specs.Turns.{moment_of, with_moment, MakesTurn, TurnsMany, MakesOneCall, calling}
-use Rattle.machine.specs.Durables.{IsHartStarted}
+use Rattle.machine.specs.Turns.{moment_of, with_moment, TurnBy, DozeTurn, CallBy, MakesTurn, TurnsMany, MakesOneCall, calling}
+use Rattle.machine.specs.Durables.{StandsAtCall}
 use Rattle.machine.proofs.Determined.{is_decided}
+use Rattle.machine.proofs.Rows.{turns_as_many}
 
 -- a step leaves the hart's number
 abbrev pub IsOneNumber : Type 0
@@ -76,42 +79,58 @@ stood number size a b started is p =
 stood number size a b suspended is p = absurd (stays_asleep size (has_pending a.hart.id a.table.pairs) a.hart.id a.table a b p)
 
 -- a hart that stands so is read so
-at_once : (h : ℕ) (old new : Machine) (a : Moment) → h < length old.harts → new ≡ with_moment h old a → listed a.table.states a.hart.id ≡ started → IsHartStarted h new
-at_once h old new a lt e is =
+at_once : (h : ℕ) (old new : Machine) (a : Moment) → h < length old.harts → doze_of h old.doze ≡ None → new ≡ with_moment h old a → listed a.table.states a.hart.id ≡ started → StandsAtCall h new
+at_once h old new a lt awake e is =
     let read : hart_at (with_moment h old a) h ≡ a.hart = get_or-set_same old.harts h a.hart (never_started h) lt in
-    subst (λ (m : Machine). IsHartStarted h m) (sym e) (subst (λ (s : ArchState). listed a.table.states s.id ≡ started) (sym read) is)
+    subst (λ (m : Machine). StandsAtCall h m) (sym e) (subst (λ (s : ArchState). listed a.table.states s.id ≡ started) (sym read) is, awake)
 
-pub turn_asks : IsOneNumber → (h : ℕ) (old new : Machine) (word : Turned) → h < length old.harts → MakesTurn h old new word → word ≡ Durable → IsHartStarted h new
-turn_asks number h old new word lt p is =
+-- a turn of the hart of a doze comes to no call
+doze_asks : (woken : Bool) (d : Doze) (h : ℕ) (old new : Machine) (word : Turned) → DozeTurn woken d h old new word → word ≡ Durable → ⊥
+doze_asks false d h old new word p is = let z : Idle ≡ Durable = sym p.1 ∙ is in let n : ⊥ = cc in n
+doze_asks true d h old new word p is = let z : Resumed ≡ Durable = sym p.1 ∙ is in let n : ⊥ = cc in n
+
+asks_by : IsOneNumber → (o : Option Doze) (h : ℕ) (old new : Machine) (word : Turned) → h < length old.harts → doze_of h old.doze ≡ o → TurnBy o h old new word → word ≡ Durable → StandsAtCall h new
+asks_by number None h old new word lt awake p is =
     let a = moment_of h old in
     let did : TurnOf old.size a p.0 Durable = subst (λ (w : Turned). TurnOf old.size a p.0 w) is p.1 in
-    at_once h old new p.0 lt p.2 (stood number old.size a p.0 (listed a.table.states a.hart.id) refl did)
+    at_once h old new p.0 lt awake p.2 (stood number old.size a p.0 (listed a.table.states a.hart.id) refl did)
+asks_by number (Some d) h old new word lt dozes p is = absurd (doze_asks d.woken d h old new word p is)
+
+pub turn_asks : IsOneNumber → (h : ℕ) (old new : Machine) (word : Turned) → h < length old.harts → MakesTurn h old new word → word ≡ Durable → StandsAtCall h new
+turn_asks number h old new word lt p is = asks_by number (doze_of h old.doze) h old new word lt refl p is
 
 -- ---- in a row
-as_many : (h : ℕ) (old mid : Machine) (word : Turned) → MakesTurn h old mid word → length mid.harts ≡ length old.harts
-as_many h old mid word p = ap (λ (m : Machine). length m.harts) p.2 ∙ length-set old.harts h p.0.hart
-
-pub row_asks : IsOneNumber → (h n k : ℕ) (old new : Machine) (word : Turned) → h < length old.harts → TurnsMany h n old new k word → word ≡ Durable → IsHartStarted h new
+pub row_asks : IsOneNumber → (h n k : ℕ) (old new : Machine) (word : Turned) → h < length old.harts → TurnsMany h n old new k word → word ≡ Durable → StandsAtCall h new
 row_asks number h zero k old new word lt p is = absurd p
 row_asks number h (suc n) k old new word lt p is =
-    let has : h < length p.0.harts = subst (λ (j : ℕ). h < j) (sym (as_many h old p.0 p.1 p.2)) lt in
+    let has : h < length p.0.harts = subst (λ (j : ℕ). h < j) (sym (turns_as_many h old p.0 p.1 p.2)) lt in
     elim p.3 [
-      | inl x ↦ subst (λ (m : Machine). IsHartStarted h m) (sym x.1) (turn_asks number h old p.0 p.1 lt p.2 (sym x.3 ∙ is))
+      | inl x ↦ subst (λ (m : Machine). StandsAtCall h m) (sym x.1) (turn_asks number h old p.0 p.1 lt p.2 (sym x.3 ∙ is))
       | inr x ↦ row_asks number h n x.1 p.0 new word has x.3 is
     ]
 
 -- ---- a call
-pub call_asks : (h eid fid a0 a1 a2 : ℕ) (old new : Machine) (called : Called) → h < length old.harts → MakesOneCall h eid fid a0 a1 a2 old new called → called ≡ Made Durable → IsHartStarted h new
-call_asks h eid fid a0 a1 a2 old new called lt p is =
+asks_in_call : (o : Option Doze) (h : ℕ) (u : ArchState) (old new : Machine) (called : Called) → h < length old.harts → u.id ≡ (hart_at old h).id → doze_of h old.doze ≡ o → CallBy o h u old new called → called ≡ Made Durable → StandsAtCall h new
+asks_in_call (Some d) h u old new called lt same dozes p is = absurd (let e : NotStarted ≡ Made Durable = sym p.1 ∙ is in let n : ⊥ = cc in n)
+asks_in_call None h u old new called lt same awake p is =
     let a = moment_of h old in
-    let u = calling a.hart eid fid a0 a1 a2 in
     elim (is_decided (listed a.table.states a.hart.id)) [
       | inl at ↦ (
           let d = p.1.made at in
           let e : Made d.0 ≡ Made Durable = sym d.3 ∙ is in
           let w : d.0 ≡ Durable = cc in
           let f = finished old.size outcomes.Ecall a.table p.0.table u p.0.hart (subst (λ (t : Turned). Finishes old.size outcomes.Ecall a.table u p.0.table p.0.hart t) w d.1) in
-          let id : p.0.hart.id ≡ a.hart.id = ap (λ (s : ArchState). s.id) f.1 in
-          at_once h old new p.0 lt p.2 (same_state a.table p.0.table a.hart p.0.hart f.0 id ∙ at))
+          let id : p.0.hart.id ≡ a.hart.id = ap (λ (s : ArchState). s.id) f.1 ∙ same in
+          at_once h old new p.0 lt awake p.2 (same_state a.table p.0.table a.hart p.0.hart f.0 id ∙ at))
       | inr none ↦ absurd (let e : NotStarted ≡ Made Durable = sym (p.1.not_started none).1 ∙ is in let n : ⊥ = cc in n)
     ]
+
+pub call_asks : (h eid fid a0 a1 a2 : ℕ) (old new : Machine) (called : Called) → h < length old.harts → MakesOneCall h eid fid a0 a1 a2 old new called → called ≡ Made Durable → StandsAtCall h new
+call_asks h eid fid a0 a1 a2 old new called lt p is = asks_in_call (doze_of h old.doze) h (calling (hart_at old h) eid fid a0 a1 a2) old new called lt refl refl p is
+
+call_as_many : (o : Option Doze) (h : ℕ) (u : ArchState) (old new : Machine) (called : Called) → CallBy o h u old new called → length new.harts ≡ length old.harts
+call_as_many None h u old new called p = ap (λ (m : Machine). length m.harts) p.2 ∙ length-set old.harts h p.0.hart
+call_as_many (Some d) h u old new called p = ap (λ (m : Machine). length m.harts) p.0
+
+pub calls_as_many : (h eid fid a0 a1 a2 : ℕ) (old new : Machine) (called : Called) → MakesOneCall h eid fid a0 a1 a2 old new called → length new.harts ≡ length old.harts
+calls_as_many h eid fid a0 a1 a2 old new called p = call_as_many (doze_of h old.doze) h (calling (hart_at old h) eid fid a0 a1 a2) old new called p

@@ -1,5 +1,5 @@
 -- A turn of a hart is one outcome, and so are turns in a row, and a call.
-use Rattle.std.proofs.Common.{ℕ, zero, suc, Bool, ◌≡◌, ◌⊎◌, List, sym, ◌∙◌, ap, refl, subst, inl, inr}
+use Rattle.std.proofs.Common.{ℕ, zero, suc, Bool, true, false, ◌≡◌, ◌⊎◌, List, Option, Some, None, sym, ◌∙◌, ap, refl, subst, inl, inr}
 use Rattle.board_model.specs.Shapes.{Size}
 use Rattle.hart.specs.State.{ArchState}
 use Rattle.hart.specs.Means.{Steps, IsSame}
@@ -17,9 +17,11 @@ use Rattle.turns.specs.declared.words.Turned.{Turned}
 use Rattle.turns.specs.declared.words.Ready.{Ready}
 use Rattle.turns.specs.declared.words.Ready.TheVariants as readies
 use Rattle.turns.specs.Turns.{Moment, moment, turn_begun, turned_by, Finishes, TurnAs, TurnOf}
+use Rattle.susp.specs.Dozes.{doze_of}
+use Rattle.susp.specs.declared.buses.Doze.{Doze}
 use Rattle.machine.specs.declared.parts.Called.{Called}
 use Rattle.machine.specs.declared.parts.Called.TheVariants.{Made}
-use Rattle.machine.specs.Machine.{Machine}
+use Rattle.machine.specs.Machine.{Machine, hart_at}
 use Rattle.machine.specs.Turns as turns
 
 -- a step is one outcome
@@ -62,10 +64,18 @@ one_of step size a b c word also p q = one_as step size (turn_begun a.hart.id a.
 with_same : (h : ℕ) (old new other : Machine) (b c : Moment) → new ≡ turns.with_moment h old b → other ≡ turns.with_moment h old c → b ≡ c → new ≡ other
 with_same h old new other b c p q e = p ∙ (ap (turns.with_moment h old) e ∙ sym q)
 
-pub one_turn : IsOneStep → (h : ℕ) (old new other : Machine) (word also : Turned) → turns.MakesTurn h old new word → turns.MakesTurn h old other also → (new ≡ other) × (word ≡ also)
-one_turn step h old new other word also p q =
+one_doze : (woken : Bool) (d : Doze) (h : ℕ) (old new other : Machine) (word also : Turned) → turns.DozeTurn woken d h old new word → turns.DozeTurn woken d h old other also → (new ≡ other) × (word ≡ also)
+one_doze false d h old new other word also p q = (p.0 ∙ sym q.0, p.1 ∙ sym q.1)
+one_doze true d h old new other word also p q = (p.0 ∙ sym q.0, p.1 ∙ sym q.1)
+
+one_by : IsOneStep → (o : Option Doze) (h : ℕ) (old new other : Machine) (word also : Turned) → turns.TurnBy o h old new word → turns.TurnBy o h old other also → (new ≡ other) × (word ≡ also)
+one_by step (Some d) h old new other word also p q = one_doze d.woken d h old new other word also p q
+one_by step None h old new other word also p q =
     let e = one_of step old.size (turns.moment_of h old) p.0 q.0 word also p.1 q.1 in
     (with_same h old new other p.0 q.0 p.2 q.2 e.0, e.1)
+
+pub one_turn : IsOneStep → (h : ℕ) (old new other : Machine) (word also : Turned) → turns.MakesTurn h old new word → turns.MakesTurn h old other also → (new ≡ other) × (word ≡ also)
+one_turn step h old new other word also p q = one_by step (doze_of h old.doze) h old new other word also p q
 
 -- ---- in a row
 pub one_row : IsOneStep → (h n k l : ℕ) (old new other : Machine) (word also : Turned) → turns.TurnsMany h n old new k word → turns.TurnsMany h n old other l also → (new ≡ other) × (k ≡ l) × (word ≡ also)
@@ -103,8 +113,11 @@ call_of_one size u a b c called also x y =
       | inr none ↦ ((x.not_started none).0 ∙ sym (y.not_started none).0, (x.not_started none).1 ∙ sym (y.not_started none).1)
     ]
 
-pub one_call : (h eid fid a0 a1 a2 : ℕ) (old new other : Machine) (called also : Called) → turns.MakesOneCall h eid fid a0 a1 a2 old new called → turns.MakesOneCall h eid fid a0 a1 a2 old other also → (new ≡ other) × (called ≡ also)
-one_call h eid fid a0 a1 a2 old new other called also p q =
-    let a = turns.moment_of h old in
-    let e = call_of_one old.size (turns.calling a.hart eid fid a0 a1 a2) a p.0 q.0 called also p.1 q.1 in
+one_call_by : (o : Option Doze) (h : ℕ) (u : ArchState) (old new other : Machine) (called also : Called) → turns.CallBy o h u old new called → turns.CallBy o h u old other also → (new ≡ other) × (called ≡ also)
+one_call_by None h u old new other called also p q =
+    let e = call_of_one old.size u (turns.moment_of h old) p.0 q.0 called also p.1 q.1 in
     (with_same h old new other p.0 q.0 p.2 q.2 e.0, e.1)
+one_call_by (Some d) h u old new other called also p q = (p.0 ∙ sym q.0, p.1 ∙ sym q.1)
+
+pub one_call : (h eid fid a0 a1 a2 : ℕ) (old new other : Machine) (called also : Called) → turns.MakesOneCall h eid fid a0 a1 a2 old new called → turns.MakesOneCall h eid fid a0 a1 a2 old other also → (new ≡ other) × (called ≡ also)
+one_call h eid fid a0 a1 a2 old new other called also p q = one_call_by (doze_of h old.doze) h (turns.calling (hart_at old h) eid fid a0 a1 a2) old new other called also p q

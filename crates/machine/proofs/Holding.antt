@@ -1,5 +1,5 @@
 -- What a hart of a machine does, with the one seat of all harts.
-use Rattle.std.proofs.Common.{◌≡◌, ◌≢◌, ℕ, ◌<◌, Bool, List, Option, Some, sym, ap, ◌∙◌, subst, ⊎_elim, inl, inr}
+use Rattle.std.proofs.Common.{◌≡◌, ◌≢◌, ℕ, ◌<◌, Bool, List, Option, Some, None, sym, ap, ◌∙◌, subst}
 use Rattle.std.specs.Prelude.{length, get_or, slice_set}
 use Rattle.std.proofs.lemmas.List.{length-set, get_or-set_other, get_or_default}
 use Rattle.std.proofs.lemmas.Grind.{get_or-set_at}
@@ -7,22 +7,22 @@ use mathlib.Core.Logic.{dite}
 use native.Mathlib.Decide.{ℕ_discrete}
 use Rattle.board_model.specs.Shapes.{Size}
 use Rattle.hart.specs.State.{ArchState, never_started}
-use Rattle.hsm_rule.specs.Words.{HartSeatView, HartView}
-use Rattle.hsm_rule.specs.declared.view.Stage.TheVariants.{Out, Running, Asleep}
-use Rattle.hsm_rule.specs.Rule.{stands}
+use Rattle.hsm_rule.specs.Words.{HartSeatView}
 use Rattle.hsm_rule.specs.States.{HartState}
-use Rattle.hsm.specs.Calls.{KeepsOthers}
 use Rattle.hsm.specs.Views.{states_in, AreStates}
 use Rattle.ipi.specs.Ledger.{PendingSeatView as Pairs}
 use Rattle.ipi.specs.Views.{pairs_in, ArePairs}
 use Rattle.sbi_calls.specs.declared.tables.Tables.{Tables}
 use Rattle.sbi_calls.specs.declared.tables.Seats.{Seats}
-use Rattle.sbi_calls.specs.Both.{TableState, IsTable, GivesBack, views, harts_known, pair_crew}
-use Rattle.turns.specs.Turns.{Moment, moment, Rests, RestsAt}
+use Rattle.sbi_calls.specs.Both.{TableState, IsTable, GivesBack, harts_known, pair_crew}
+use Rattle.turns.specs.Turns.{Moment, moment, Rests}
+use Rattle.susp.specs.Dozes.{doze_of}
+use Rattle.susp.specs.declared.buses.Doze.{Doze}
 use Rattle.machine.specs.declared.machine.Machine.TheInside.{Inside}
 use Rattle.machine.specs.Machine.{Machine}
-use Rattle.machine.specs.Turns.{DoneBy}
-use Rattle.machine.specs.Held.{shown_by, table_of, AreWhole, AreAllSeats, AreNumbered, IsHeld}
+use Rattle.machine.specs.Turns.{DoneBy, moment_of, with_moment}
+use Rattle.machine.specs.Held.{shown_by, table_of, RestsBy, AreWhole, AreAllSeats, AreNumbered, IsHeld}
+use Rattle.machine.proofs.Dozing.{rests_moved}
 
 abbrev pub IsOneList : Type 0
 IsOneList = (harts : ℕ) (c : HartSeatView) (states : List HartState) → AreStates harts c states → states_in harts c ≡ states
@@ -32,7 +32,7 @@ IsOneSet = (harts : ℕ) (c : Pairs) (pairs : List (List Bool)) → ArePairs har
 
 -- the machine that the fields show
 abbrev pub shown_as : Inside → Machine
-shown_as a = record { size = a.shape; memory = a.ram; harts = a.harts.items; table = table_of a.shape.harts a.seats }
+shown_as a = record { size = a.shape; memory = a.bus.ram; doze = a.bus.doze; harts = a.harts.items; table = table_of a.shape.harts a.seats }
 
 -- seats show one table
 pub one_shown : IsOneList → IsOneSet → (harts : ℕ) (s : Seats) (t : TableState) → IsTable harts s t → shown_by harts s ≡ t
@@ -45,29 +45,25 @@ one_shown one set harts s t is =
 read_at : (harts : List ArchState) (i id : ℕ) (x : ArchState) → i ≡ id → id < length harts → x ≡ get_or harts i x → x ≡ get_or harts id (never_started id)
 read_at harts i id x at lt e = e ∙ (ap (λ (k : ℕ). get_or harts k x) at ∙ get_or_default harts id x (never_started id) lt)
 
-pub all_seats : (size : Size) (harts : List ArchState) (t : Tables) (os : Option Seats) (s : Seats) → IsHeld size harts t os → os ≡ Some s → AreWhole size.harts t s
-all_seats size harts t os s held e = subst (λ (o : Option Seats). AreAllSeats size.harts t o) e held.seats
+pub all_seats : (size : Size) (harts : List ArchState) (t : Tables) (os : Option Seats) (s : Seats) (doze : Option Doze) → IsHeld size harts t os doze → os ≡ Some s → AreWhole size.harts t s doze
+all_seats size harts t os s doze held e = subst (λ (o : Option Seats). AreAllSeats size.harts t o doze) e held.seats
 
 -- What a call of hart `id` finds in the fields of a machine: the seats of all harts, which it took out of their
 -- place, and the hart, which it read at its own.
 pub record Finds (a : Inside) (s : Seats) (i id : ℕ) (x : ArchState) : Type 0 where
-  pub held : IsHeld a.shape a.harts.items a.tables a.seats
+  pub held : IsHeld a.shape a.harts.items a.tables a.seats a.bus.doze
   pub taken : a.seats ≡ Some s
   pub at : i ≡ id
   pub low : id < length a.harts.items
   pub read : x ≡ get_or a.harts.items id (never_started id)
 
-pub finds : {a : Inside} {old : Machine} {s : Seats} {i id : ℕ} {x : ArchState} → shown_as a ≡ old → IsHeld a.shape a.harts.items a.tables a.seats → a.seats ≡ Some s → i ≡ id → id < length old.harts → x ≡ get_or a.harts.items i x → Finds a s i id x
+pub finds : {a : Inside} {old : Machine} {s : Seats} {i id : ℕ} {x : ArchState} → shown_as a ≡ old → IsHeld a.shape a.harts.items a.tables a.seats a.bus.doze → a.seats ≡ Some s → i ≡ id → id < length old.harts → x ≡ get_or a.harts.items i x → Finds a s i id x
 finds {a} {old} {s} {i} {id} {x} view held taken at low read =
     let within : id < length a.harts.items = subst (λ (m : Machine). id < length m.harts) (sym view) low in
     record { held = held; taken = taken; at = at; low = within; read = read_at a.harts.items i id x at within read }
 
-others_rest_at : (h k : ℕ) (a b : List HartView) → KeepsOthers h a b → k ≢ h → RestsAt k a → RestsAt k b
-others_rest_at h k a b o ne r =
-    ⊎_elim (λ (p : stands k Out a). inl (o.stages k Out ne p)) (⊎_elim (λ (p : stands k Running a). inr (inl (o.stages k Running ne p))) (λ (p : stands k Asleep a). inr (inr (o.stages k Asleep ne p)))) r
-
-others_rest : (h k : ℕ) (t : Tables) (s s' : Seats) → GivesBack t h s s' → k ≢ h → Rests k s → Rests k s'
-others_rest h k t s s' gives ne r = (others_rest_at h k (views s) (views s') gives.others ne r.0, gives.pairs.each k ∙ r.1)
+pub others_rest : (o : Option Doze) (h k : ℕ) (t : Tables) (s s' : Seats) → GivesBack t h s s' → k ≢ h → RestsBy o k s → RestsBy o k s'
+others_rest o h k t s s' gives ne r = rests_moved o k s s' (λ st p. gives.others.stages k st ne p) (λ p. gives.pairs.each k ∙ p) r
 
 -- what a hart did, as a relation of two moments, on a board of that size
 abbrev pub Action : Type 1
@@ -77,15 +73,24 @@ Action = Size → Moment → Moment → Type 0
 abbrev pub DoneAlone : Action → Size → ArchState → List ℕ → ArchState → List ℕ → Seats → Seats → Type 0
 DoneAlone Does size x m y n s s' = (t : TableState) → IsTable size.harts s t → (t' : TableState) × Does size (moment t x m) (moment t' y n) × IsTable size.harts s' t'
 
--- What it left of the machine: the hart at its place and the seats in theirs, which the machine may hold, and
--- which show what the hart made of it.
-pub record Left (Does : Action) (a : Inside) (old : Machine) (s' : Seats) (i id : ℕ) (y : ArchState) (n : List ℕ) : Type 0 where
-  pub held : IsHeld a.shape (slice_set a.harts.items i y) a.tables (Some s')
-  pub made : DoneBy (Does old.size) id old (record { size = a.shape; memory = n; harts = slice_set a.harts.items i y; table = shown_by a.shape.harts s' })
+-- What it left of the machine: the hart at its place and the seats in theirs, with a doze that may be another,
+-- all of which the machine may hold, and which show what the hart made of it.
+pub record Left (Does : Action) (a : Inside) (s' : Seats) (i id : ℕ) (y : ArchState) (n : List ℕ) (doze : Option Doze) : Type 0 where
+  pub held : IsHeld a.shape (slice_set a.harts.items i y) a.tables (Some s') doze
+  pub after : Moment
+  pub did : Does a.shape (moment_of id (shown_as a)) after
+  pub made : ◌≡◌ {A = Machine} (record { size = a.shape; memory = n; doze = doze; harts = slice_set a.harts.items i y; table = shown_by a.shape.harts s' }) (record (with_moment id (shown_as a) after) { doze = doze })
+
+-- where the doze is as it was, the machine is what the hart made of it
+pub done_by : (Does : Action) (a : Inside) (old : Machine) (s' : Seats) (i id : ℕ) (y : ArchState) (n : List ℕ) → shown_as a ≡ old → Left Does a s' i id y n a.bus.doze
+    → DoneBy (Does old.size) id old (record { size = a.shape; memory = n; doze = a.bus.doze; harts = slice_set a.harts.items i y; table = shown_by a.shape.harts s' })
+done_by Does a old s' i id y n view l =
+    let new : Machine = record { size = a.shape; memory = n; doze = a.bus.doze; harts = slice_set a.harts.items i y; table = shown_by a.shape.harts s' } in
+    subst (λ (m : Machine). DoneBy (Does m.size) id m new) view (l.after, l.did, l.made)
 
 module _ {a : Inside} {s : Seats} {i id : ℕ} {x : ArchState} (found : Finds a s i id x) where
-  pub seats_found : AreWhole a.shape.harts a.tables s
-  seats_found = all_seats a.shape a.harts.items a.tables a.seats s found.held found.taken
+  pub seats_found : AreWhole a.shape.harts a.tables s a.bus.doze
+  seats_found = all_seats a.shape a.harts.items a.tables a.seats s a.bus.doze found.held found.taken
 
   -- the hart that was read has that number
   pub number_found : x.id ≡ id
@@ -94,31 +99,36 @@ module _ {a : Inside} {s : Seats} {i id : ℕ} {x : ArchState} (found : Finds a 
   pub low_number : x.id < a.shape.harts
   low_number = subst (λ (n : ℕ). x.id < n) found.held.long (subst (λ (k : ℕ). k < length a.harts.items) (sym number_found) found.low)
 
-  pub seat_rests : Rests x.id s
-  seat_rests = seats_found.rests x.id low_number
+  -- whose doze it is, by the number that was read
+  pub doze_found : doze_of x.id a.bus.doze ≡ doze_of id a.bus.doze
+  doze_found = ap (λ (k : ℕ). doze_of k a.bus.doze) number_found
 
-  module _ (Does : Action) {old : Machine} {s' : Seats} {y : ArchState} {n : List ℕ}
-      (one : IsOneList) (set : IsOneSet) (view : shown_as a ≡ old) (done : DoneAlone Does a.shape x a.ram y n s s')
-      (same : y.id ≡ x.id) (gives : GivesBack a.tables x.id s s') (rests : Rests x.id s') where
-    after : (t' : TableState) × Does a.shape (moment (shown_by a.shape.harts s) x a.ram) (moment t' y n) × IsTable a.shape.harts s' t'
+  pub rests_found : (o : Option Doze) → doze_of id a.bus.doze ≡ o → RestsBy o x.id s
+  rests_found o e = subst (λ (p : Option Doze). RestsBy p x.id s) (doze_found ∙ e) (seats_found.rests x.id low_number)
+
+  -- a hart in whose doze the board is not rests
+  pub seat_rests : doze_of id a.bus.doze ≡ None → Rests x.id s
+  seat_rests awake = rests_found None awake
+
+  module _ (Does : Action) {s' : Seats} {y : ArchState} {n : List ℕ} (doze : Option Doze)
+      (one : IsOneList) (set : IsOneSet) (done : DoneAlone Does a.shape x a.bus.ram y n s s')
+      (same : y.id ≡ x.id) (gives : GivesBack a.tables x.id s s') (own : RestsBy (doze_of x.id doze) x.id s')
+      (others : (k : ℕ) → k < a.shape.harts → k ≢ x.id → RestsBy (doze_of k doze) k s') where
+    after : (t' : TableState) × Does a.shape (moment (shown_by a.shape.harts s) x a.bus.ram) (moment t' y n) × IsTable a.shape.harts s' t'
     after = done (shown_by a.shape.harts s) seats_found.shows
 
     shown_after : shown_by a.shape.harts s' ≡ after.0
     shown_after = one_shown one set a.shape.harts s' after.0 after.2
 
-    did : Does a.shape (moment (shown_by a.shape.harts s) x a.ram) (moment (shown_by a.shape.harts s') y n)
-    did = subst (λ (l : TableState). Does a.shape (moment (shown_by a.shape.harts s) x a.ram) (moment l y n)) (sym shown_after) after.1
+    did : Does a.shape (moment (shown_by a.shape.harts s) x a.bus.ram) (moment (shown_by a.shape.harts s') y n)
+    did = subst (λ (l : TableState). Does a.shape (moment (shown_by a.shape.harts s) x a.bus.ram) (moment l y n)) (sym shown_after) after.1
 
     abbrev new : ℕ → Machine
-    new k = record { size = a.shape; memory = n; harts = slice_set a.harts.items k y; table = shown_by a.shape.harts s' }
+    new k = record { size = a.shape; memory = n; doze = doze; harts = slice_set a.harts.items k y; table = shown_by a.shape.harts s' }
 
-    made : DoneBy (Does a.shape) id (shown_as a) (new i)
-    made = (
-      moment (shown_by a.shape.harts s') y n,
-      subst (λ (o : Option Seats). Does a.shape (moment (table_of a.shape.harts o) (get_or a.harts.items id (never_started id)) a.ram) (moment (shown_by a.shape.harts s') y n)) (sym found.taken)
-          (subst (λ (z : ArchState). Does a.shape (moment (shown_by a.shape.harts s) z a.ram) (moment (shown_by a.shape.harts s') y n)) found.read did),
-      ap new found.at,
-    )
+    did_so : Does a.shape (moment_of id (shown_as a)) (moment (shown_by a.shape.harts s') y n)
+    did_so = subst (λ (o : Option Seats). Does a.shape (moment (table_of a.shape.harts o) (get_or a.harts.items id (never_started id)) a.bus.ram) (moment (shown_by a.shape.harts s') y n)) (sym found.taken)
+        (subst (λ (z : ArchState). Does a.shape (moment (shown_by a.shape.harts s) z a.bus.ram) (moment (shown_by a.shape.harts s') y n)) found.read did)
 
     numbered : AreNumbered (slice_set a.harts.items i y)
     numbered h below =
@@ -127,18 +137,28 @@ module _ {a : Inside} {s : Seats} {i id : ℕ} {x : ArchState} (found : Finds a 
         (λ hit. ap (λ (z : ArchState). z.id) (get_or-set_at a.harts.items i h y (never_started h) hit (subst (λ (k : ℕ). k < length a.harts.items) (sym found.at) found.low)) ∙ (same ∙ (number_found ∙ (sym found.at ∙ sym hit))))
         (λ miss. ap (λ (z : ArchState). z.id) (get_or-set_other a.harts.items i h y (never_started h) miss) ∙ found.held.numbered h long)
 
-    whole_after : AreWhole a.shape.harts a.tables s'
+    whole_after : AreWhole a.shape.harts a.tables s' doze
     whole_after = record {
       seats = gives.seats;
       all = (gives.others.harts ∙ seats_found.all.0, gives.pairs.harts ∙ seats_found.all.1);
       shows = subst (λ (l : TableState). IsTable a.shape.harts s' l) (sym shown_after) after.2;
       rests = λ h below. dite (ℕ_discrete h x.id)
-          (λ hit. subst (λ (k : ℕ). Rests k s') (sym hit) rests)
-          (λ miss. others_rest x.id h a.tables s s' gives miss (seats_found.rests h below));
+          (λ hit. subst (λ (k : ℕ). RestsBy (doze_of k doze) k s') (sym hit) own)
+          (λ miss. others h below miss);
     }
 
-    pub left : Left Does a old s' i id y n
+    pub left : Left Does a s' i id y n doze
     left = record {
       held = record { long = length-set a.harts.items i y ∙ found.held.long; numbered = numbered; tables = found.held.tables; seats = whole_after };
-      made = subst (λ (m : Machine). DoneBy (Does m.size) id m (new i)) view made;
+      after = moment (shown_by a.shape.harts s') y n;
+      did = did_so;
+      made = ap new found.at;
     }
+
+  -- a hart in whose doze the board is not, and which rests, leaves the doze
+  pub left_own : (Does : Action) {s' : Seats} {y : ArchState} {n : List ℕ} → IsOneList → IsOneSet → doze_of id a.bus.doze ≡ None → DoneAlone Does a.shape x a.bus.ram y n s s' → y.id ≡ x.id → GivesBack a.tables x.id s s' → Rests x.id s'
+      → Left Does a s' i id y n a.bus.doze
+  left_own Does {s'} one set awake done same gives rests =
+      left Does a.bus.doze one set done same gives
+      (subst (λ (o : Option Doze). RestsBy o x.id s') (sym (doze_found ∙ awake)) rests)
+      (λ k below miss. others_rest (doze_of k a.bus.doze) x.id k a.tables s s' gives miss (seats_found.rests k below))

@@ -7,16 +7,20 @@ use Rattle.hart.specs.State.{ArchState}
 use Rattle.sbi_calls.specs.declared.tables.Tables.{Tables}
 use Rattle.sbi_calls.specs.declared.tables.Seats.{Seats}
 use Rattle.sbi_calls.specs.Both.{TableState, IsTable, GivesBack}
-use Rattle.turns.specs.Turns.{LooksAlone, has_pending, RestsAt}
+use Rattle.turns.specs.Turns.{LooksAlone, has_pending}
+use Rattle.susp.specs.Dozes.{doze_of}
+use Rattle.susp.specs.declared.buses.Doze.{Doze}
 use Rattle.hsm_steps.specs.Seating.{harts_in}
+use Rattle.hsm_rule.specs.Rule.{stands}
 use Rattle.machine.specs.Machine.{Machine}
 use Rattle.machine.specs.Held.{shown_by, table_of, AreWhole, IsHeld}
+use Rattle.machine.proofs.Dozing.{rests_moved}
 use Rattle.machine.proofs.Holding.{IsOneList, IsOneSet, one_shown, all_seats}
 
-module _ (size : Size) (memory : List ℕ) (harts : List ArchState) (t : Tables) (os : Option Seats) (s s' : Seats) (n id : ℕ) (found : Bool) (one : IsOneList) (set : IsOneSet) (held : IsHeld size harts t os) (taken : os ≡ Some s)
+module _ (size : Size) (memory : List ℕ) (harts : List ArchState) (t : Tables) (os : Option Seats) (doze : Option Doze) (s s' : Seats) (n id : ℕ) (found : Bool) (one : IsOneList) (set : IsOneSet) (held : IsHeld size harts t os doze) (taken : os ≡ Some s)
     (many : n ≡ size.harts) (gives : GivesBack t id s s') (same : s'.harts ≡ s.harts) (looks : LooksAlone n id s s' found) where
-  before : AreWhole size.harts t s
-  before = all_seats size harts t os s held taken
+  before : AreWhole size.harts t s doze
+  before = all_seats size harts t os s doze held taken
 
   looked : (found ≡ has_pending id (shown_by size.harts s).pairs) × IsTable size.harts s' (shown_by size.harts s)
   looked = subst (λ (k : ℕ). LooksAlone k id s s' found) many looks (shown_by size.harts s) before.shows
@@ -24,21 +28,21 @@ module _ (size : Size) (memory : List ℕ) (harts : List ArchState) (t : Tables)
   shown_after : shown_by size.harts s' ≡ shown_by size.harts s
   shown_after = one_shown one set size.harts s' (shown_by size.harts s) looked.1
 
-  whole_after : AreWhole size.harts t s'
+  whole_after : AreWhole size.harts t s' doze
   whole_after = record {
     seats = gives.seats;
     all = (gives.others.harts ∙ before.all.0, gives.pairs.harts ∙ before.all.1);
     shows = subst (λ (l : TableState). IsTable size.harts s' l) (sym shown_after) looked.1;
-    rests = λ h below. let r = before.rests h below in (subst (λ (x : Seat (Unit {0}) HartSeatView). RestsAt h (harts_in x)) (sym same) r.0, gives.pairs.each h ∙ r.1);
+    rests = λ h below. rests_moved (doze_of h doze) h s s' (λ st p. subst (λ (x : Seat (Unit {0}) HartSeatView). stands h st (harts_in x)) (sym same) p) (λ p. gives.pairs.each h ∙ p) (before.rests h below);
   }
 
-  pub held_still : IsHeld size harts t (Some s')
+  pub held_still : IsHeld size harts t (Some s') doze
   held_still = record { long = held.long; numbered = held.numbered; tables = held.tables; seats = whole_after }
 
   abbrev shown : TableState → Machine
-  shown table = record { size = size; memory = memory; harts = harts; table = table }
+  shown table = record { size = size; memory = memory; doze = doze; harts = harts; table = table }
 
-  pub shows_still : ◌≡◌ {A = Machine} (record { size = size; memory = memory; harts = harts; table = shown_by size.harts s' }) (record { size = size; memory = memory; harts = harts; table = table_of size.harts os })
+  pub shows_still : ◌≡◌ {A = Machine} (record { size = size; memory = memory; doze = doze; harts = harts; table = shown_by size.harts s' }) (record { size = size; memory = memory; doze = doze; harts = harts; table = table_of size.harts os })
   shows_still = ap shown (shown_after ∙ ap (table_of size.harts) (sym taken))
 
   pub found_it : found ≡ has_pending id (table_of size.harts os).pairs

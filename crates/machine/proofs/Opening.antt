@@ -1,5 +1,5 @@
 -- A machine as it is made.
-use Rattle.std.proofs.Common.{◌≡◌, ◌↔◌, ℕ, zero, suc, ◌-◌, ◌<◌, Bool, false, List, [], ◌∷◌, Some, refl, sym, ap, ◌∙◌, subst, inl, inr, arith, IsTrue, if◌then◌else◌, eq-eqb, ne_eqb}
+use Rattle.std.proofs.Common.{◌≡◌, ◌↔◌, ℕ, zero, suc, ◌-◌, ◌<◌, Bool, false, List, [], ◌∷◌, Some, None, refl, sym, ap, ◌∙◌, subst, inl, inr, arith, IsTrue, if◌then◌else◌, eq-eqb, ne_eqb}
 use Rattle.std.specs.Prelude.{length, get_or, replicate, ◌==◌}
 use Rattle.std.proofs.lemmas.List.{length-set, get_or-set_other, length-replicate, length-append, get_or-replicate, get_or_past, get_or_append_left, get_or-append_right}
 use Rattle.std.proofs.lemmas.Grind.{get_or-set_at}
@@ -96,7 +96,7 @@ module _ (size : Size) (t : Tables) (s : Seats) (first : ℕ) (one : IsOneList) 
   shows_it : shown_by size.harts s ≡ opening_table size.harts first
   shows_it = one_shown one set size.harts s (opening_table size.harts first) are
 
-  opening_whole : AreWhole size.harts t s
+  opening_whole : AreWhole size.harts t s None
   opening_whole = record {
     seats = made.seats;
     all = made.all;
@@ -104,7 +104,7 @@ module _ (size : Size) (t : Tables) (s : Seats) (first : ℕ) (one : IsOneList) 
     rests = λ h lt. rests_at_first first h s (made.stood h lt) (made.sits h lt);
   }
 
-  pub opening_held : (harts : List ArchState) → harts ≡ stopped_harts size.harts → IsHeld size harts t (Some s)
+  pub opening_held : (harts : List ArchState) → harts ≡ stopped_harts size.harts → IsHeld size harts t (Some s) None
   opening_held harts same = record {
     long = ap (λ (hs : List ArchState). length hs) same ∙ long size.harts;
     numbered = subst AreNumbered (sym same) (stopped_numbered size.harts);
@@ -112,8 +112,8 @@ module _ (size : Size) (t : Tables) (s : Seats) (first : ℕ) (one : IsOneList) 
     seats = opening_whole;
   }
 
-  pub is_resting : (ram : List ℕ) (harts : List ArchState) → ram ≡ replicate (ram_bytes_of size) 0 → harts ≡ stopped_harts size.harts → ◌≡◌ {A = Machine} (record { size = size; memory = ram; harts = harts; table = shown_by size.harts s }) (resting size first)
+  pub is_resting : (ram : List ℕ) (harts : List ArchState) → ram ≡ replicate (ram_bytes_of size) 0 → harts ≡ stopped_harts size.harts → ◌≡◌ {A = Machine} (record { size = size; memory = ram; doze = None; harts = harts; table = shown_by size.harts s }) (resting size first)
   is_resting ram harts zeros same =
-      ap (λ (m : List ℕ). let z : Machine = record { size = size; memory = m; harts = harts; table = shown_by size.harts s } in z) zeros
-      ∙ (ap (λ (hs : List ArchState). let z : Machine = record { size = size; memory = replicate (ram_bytes_of size) 0; harts = hs; table = shown_by size.harts s } in z) same
-      ∙ ap (λ (l : TableState). let z : Machine = record { size = size; memory = replicate (ram_bytes_of size) 0; harts = stopped_harts size.harts; table = l } in z) shows_it)
+      ap (λ (m : List ℕ). let z : Machine = record { size = size; memory = m; doze = None; harts = harts; table = shown_by size.harts s } in z) zeros
+      ∙ (ap (λ (hs : List ArchState). let z : Machine = record { size = size; memory = replicate (ram_bytes_of size) 0; doze = None; harts = hs; table = shown_by size.harts s } in z) same
+      ∙ ap (λ (l : TableState). let z : Machine = record { size = size; memory = replicate (ram_bytes_of size) 0; doze = None; harts = stopped_harts size.harts; table = l } in z) shows_it)

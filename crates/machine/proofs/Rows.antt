@@ -1,14 +1,16 @@
 -- Turns in a row.
-use Rattle.std.proofs.Common.{◌≡◌, ◌⊎◌, ℕ, zero, suc, ◌+◌, ◌-◌, ◌<◌, ◌≤◌, true, false, true≢false, List, refl, sym, ap, ◌∙◌, subst, ⊎_elim, inl, inr, arith}
+use Rattle.std.proofs.Common.{◌≡◌, ◌⊎◌, ℕ, zero, suc, ◌+◌, ◌-◌, ◌<◌, ◌≤◌, Bool, true, false, true≢false, List, Option, Some, None, refl, sym, ap, ◌∙◌, subst, ⊎_elim, inl, inr, arith}
 use Rattle.std.specs.Prelude.{length}
-use Rattle.std.proofs.lemmas.List.{get_or-set_same, set-set, set-get_or}
-use Rattle.hart.specs.State.{ArchState, never_started}
+use Rattle.std.proofs.lemmas.List.{get_or-set_same, set-set, set-get_or, length-set}
+use Rattle.hart.specs.State.{ArchState, never_started, started as fresh}
 use Rattle.turns.specs.declared.words.Turned.{Turned}
 use Rattle.turns.specs.declared.words.Turned.TheVariants.{Next}
 use Rattle.turns.specs.Turns.{Moment, moment, TurnOf}
-use Rattle.turns.specs.Many.{NextTurns}
-use Rattle.machine.specs.Machine.{Machine}
-use Rattle.machine.specs.Turns.{moment_of, with_moment, MakesTurn, Rows, ends_row, IsLast, TurnsMany}
+use Rattle.turns.specs.Many.{NextTurns, RowOf}
+use Rattle.susp.specs.Dozes.{doze_of}
+use Rattle.susp.specs.declared.buses.Doze.{Doze}
+use Rattle.machine.specs.Machine.{Machine, hart_at}
+use Rattle.machine.specs.Turns.{moment_of, with_moment, TurnBy, DozeTurn, RowBy, DoneBy, MakesTurn, Rows, ends_row, IsLast, TurnsMany}
 
 -- before the turn `made` of at most `count`, none has ended the row: what the turns that are left make of the
 -- machine, all make of it
@@ -45,21 +47,26 @@ read_back : (h : ℕ) (m : Machine) (a : Moment) → h < length m.harts → mome
 read_back h m a lt = ap (λ (s : ArchState). moment a.table s a.memory) (get_or-set_same m.harts h a.hart (never_started h) lt)
 
 put_twice : (h : ℕ) (m : Machine) (a b : Moment) → with_moment h (with_moment h m a) b ≡ with_moment h m b
-put_twice h m a b = ap (λ (harts : List ArchState). let r : Machine = record { size = m.size; memory = b.memory; harts = harts; table = b.table } in r) (set-set m.harts h a.hart b.hart)
+put_twice h m a b = ap (λ (harts : List ArchState). let r : Machine = record { size = m.size; memory = b.memory; doze = m.doze; harts = harts; table = b.table } in r) (set-set m.harts h a.hart b.hart)
 
-put_same : (h : ℕ) (m : Machine) → with_moment h m (moment_of h m) ≡ m
-put_same h m = ap (λ (harts : List ArchState). let r : Machine = record { size = m.size; memory = m.memory; harts = harts; table = m.table } in r) (set-get_or m.harts h (never_started h))
+pub put_same : (h : ℕ) (m : Machine) → with_moment h m (moment_of h m) ≡ m
+put_same h m = ap (λ (harts : List ArchState). let r : Machine = record { size = m.size; memory = m.memory; doze = m.doze; harts = harts; table = m.table } in r) (set-get_or m.harts h (never_started h))
 
-module _ (h : ℕ) (old : Machine) (lt : h < length old.harts) where
+-- what the hart makes where the board does not doze by it is its turn, and a turn of its doze where it does
+turn_by : (o : Option Doze) (h : ℕ) (old new : Machine) (word : Turned) → doze_of h old.doze ≡ o → TurnBy o h old new word → MakesTurn h old new word
+turn_by o h old new word e p = subst (λ (x : Option Doze). TurnBy x h old new word) (sym e) p
+
+module _ (h : ℕ) (old : Machine) (lt : h < length old.harts) (awake : doze_of h old.doze ≡ None) where
   one_more : (a b : Moment) (word : Turned) → TurnOf old.size a b word → MakesTurn h (with_moment h old a) (with_moment h old b) word
-  one_more a b word turn = (b, subst (λ (x : Moment). TurnOf old.size x b word) (sym (read_back h old a lt)) turn, sym (put_twice h old a b))
+  one_more a b word turn =
+      turn_by None h (with_moment h old a) (with_moment h old b) word awake (b, subst (λ (x : Moment). TurnOf old.size x b word) (sym (read_back h old a lt)) turn, sym (put_twice h old a b))
 
   all_next : (k : ℕ) (b : Moment) → NextTurns old.size k (moment_of h old) b → AllNext h k old (with_moment h old b)
   all_next zero b e = ap (with_moment h old) e ∙ put_same h old
   all_next (suc k) b x = (with_moment h old x.0, all_next k x.0 x.1, one_more x.0 b Next x.2)
 
-  parted : (count : ℕ) (new : Machine) (word : Turned) → Rows h count old new word → (k : ℕ) × (mid : Machine) × (count ≡ suc k) × AllNext h k old mid × MakesTurn h mid new word
-  parted count new word r =
+  parted_own : (count : ℕ) (new : Machine) (word : Turned) → DoneBy (λ a b. RowOf old.size count a b word) h old new → (k : ℕ) × (mid : Machine) × (count ≡ suc k) × AllNext h k old mid × MakesTurn h mid new word
+  parted_own count new word r =
       let row = r.1 in
       let turn = one_more row.1 r.0 word row.4 in (
         row.0,
@@ -68,6 +75,15 @@ module _ (h : ℕ) (old : Machine) (lt : h < length old.harts) where
         all_next row.0 row.1 row.3,
         subst (λ (m : Machine). MakesTurn h (with_moment h old row.1) m word) (sym r.2) turn,
       )
+
+parted_by : (o : Option Doze) (h : ℕ) (old : Machine) → h < length old.harts → doze_of h old.doze ≡ o → (count : ℕ) (new : Machine) (word : Turned) → RowBy o h count old new word
+    → (k : ℕ) × (mid : Machine) × (count ≡ suc k) × AllNext h k old mid × MakesTurn h mid new word
+parted_by None h old lt awake count new word r = parted_own h old lt awake count new word r
+parted_by (Some d) h old lt is count new word r = (0, old, r.0, refl, turn_by (Some d) h old new word is r.1)
+
+parted : (h : ℕ) (old : Machine) → h < length old.harts → (count : ℕ) (new : Machine) (word : Turned) → Rows h count old new word
+    → (k : ℕ) × (mid : Machine) × (count ≡ suc k) × AllNext h k old mid × MakesTurn h mid new word
+parted h old lt count new word r = parted_by (doze_of h old.doze) h old lt refl count new word r
 
 nexts_on : (h count made k : ℕ) (old mid last : Machine) → made + k ≤ count → AllNext h k mid last → Continues h count made old mid → Continues h count (made + k) old last
 nexts_on h count made zero old mid last low e before =
@@ -102,3 +118,22 @@ all_made h count made old new word low last m =
     let left : (count - made) + made ≡ count = omega (arith, low) in
     let is : IsLast word (count - made) = ⊎_elim (λ (e : ends_row word ≡ true). inl e) (λ (e : made ≡ count). inr (omega (arith, e))) last in
     ends_with h count made old m.0 new word (count - made) left is m.2 m.1
+
+-- ---- as many harts
+doze_as_many : (woken : Bool) (d : Doze) (h : ℕ) (old new : Machine) (word : Turned) → DozeTurn woken d h old new word → length new.harts ≡ length old.harts
+doze_as_many false d h old new word p = ap (λ (m : Machine). length m.harts) p.0
+doze_as_many true d h old new word p = ap (λ (m : Machine). length m.harts) p.0 ∙ length-set old.harts h (fresh (hart_at old h).id d.address d.opaque)
+
+rows_as_many_by : (o : Option Doze) (h count : ℕ) (old new : Machine) (word : Turned) → RowBy o h count old new word → length new.harts ≡ length old.harts
+rows_as_many_by None h count old new word p = ap (λ (m : Machine). length m.harts) p.2 ∙ length-set old.harts h p.0.hart
+rows_as_many_by (Some d) h count old new word p = doze_as_many d.woken d h old new word p.1
+
+pub rows_as_many : (h count : ℕ) (old new : Machine) (word : Turned) → Rows h count old new word → length new.harts ≡ length old.harts
+rows_as_many h count old new word p = rows_as_many_by (doze_of h old.doze) h count old new word p
+
+turns_as_many_by : (o : Option Doze) (h : ℕ) (old new : Machine) (word : Turned) → TurnBy o h old new word → length new.harts ≡ length old.harts
+turns_as_many_by None h old new word p = ap (λ (m : Machine). length m.harts) p.2 ∙ length-set old.harts h p.0.hart
+turns_as_many_by (Some d) h old new word p = doze_as_many d.woken d h old new word p
+
+pub turns_as_many : (h : ℕ) (old new : Machine) (word : Turned) → MakesTurn h old new word → length new.harts ≡ length old.harts
+turns_as_many h old new word p = turns_as_many_by (doze_of h old.doze) h old new word p

@@ -1,6 +1,6 @@
 -- A call that comes to a durable command, made with the store at hand. Source: SBI specification 2.0,
 -- chapters 10 and 13; docs/SBI.md.
-use Rattle.std.specs.Prelude.{◌≡◌, ℕ}
+use Rattle.std.specs.Prelude.{◌≡◌, ℕ, Option, None}
 use Rattle.disk.specs.declared.device.Disk.{Ghosts}
 use Rattle.disk.specs.declared.device.Lane.{Ghosts as Lanes}
 use Rattle.board_model.specs.Shapes.{Size}
@@ -11,20 +11,30 @@ use Rattle.store.specs.declared.stores.Store.{Store}
 use Rattle.sbi.specs.declared.dispatches.Held.{Held}
 use Rattle.sbi.specs.Helds.{HeldIn}
 use Rattle.turns.specs.Turns.{Moment}
+use Rattle.susp.specs.Dozes.{doze_of}
+use Rattle.susp.specs.declared.buses.Bus.{Bus}
+use Rattle.susp.specs.declared.buses.Doze.{Doze}
 use Rattle.machine.specs.Machine.{Machine, hart_at}
-use Rattle.machine.specs.Turns.{DoneBy}
+use Rattle.machine.specs.Turns.{moment_of, with_moment}
 
--- hart h is STARTED
-abbrev pub IsHartStarted : ℕ → Machine → Type 0
-IsHartStarted h m = listed m.table.states (hart_at m h).id ≡ started
+-- hart h is STARTED, and the board does not doze by it
+abbrev pub StandsAtCall : ℕ → Machine → Type 0
+StandsAtCall h m = (listed m.table.states (hart_at m h).id ≡ started) × (doze_of h m.doze ≡ None)
+
+-- the memory of a moment, with a doze
+abbrev pub bus_at : Moment → Option Doze → Bus
+bus_at a doze = record { ram = a.memory; doze = doze }
 
 module _ {D L : Type 0} {g : Ghosts D L} {l : Lanes L} where
   -- the durable call at which its hart stands, by the table of answers: the tables and the memory stay
-  abbrev pub HeldOf : Size → Moment → Moment → Store D L g l → Store D L g l → Held → Type 0
-  HeldOf size a b old new held =
-      HeldIn size.harts a.memory (call_of a.hart) a.hart b.hart a.table old new held × (b.table ≡ a.table)
-      × (b.memory ≡ a.memory)
+  abbrev pub HeldOf : Size → Option Doze → Option Doze → Moment → Moment → Store D L g l → Store D L g l → Held
+      → Type 0
+  HeldOf size doze doze' a b old new held =
+      HeldIn size.harts (call_of a.hart) a.hart b.hart a.table (bus_at a doze) (bus_at b doze') old new held
+      × (b.table ≡ a.table) × (b.memory ≡ a.memory)
 
-  -- the durable call at which hart h stands, made with a store
+  -- the durable call at which hart h stands, made with a store: it may leave a doze
   abbrev pub MakesCall : ℕ → Machine → Machine → Store D L g l → Store D L g l → Held → Type 0
-  MakesCall h m n old new held = DoneBy (λ a b. HeldOf m.size a b old new held) h m n
+  MakesCall h m n old new held =
+      (doze : Option Doze) × (after : Moment) × HeldOf m.size m.doze doze (moment_of h m) after old new held
+      × (n ≡ record (with_moment h m after) { doze = doze })

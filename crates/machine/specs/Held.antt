@@ -6,7 +6,13 @@ use Rattle.hsm.specs.Views.{states_in}
 use Rattle.ipi.specs.Views.{pairs_in}
 use Rattle.sbi_calls.specs.declared.tables.Tables.{Tables}
 use Rattle.sbi_calls.specs.declared.tables.Seats.{Seats}
-use Rattle.sbi_calls.specs.Both.{TableState, AreTablesOf, AreSeatsOfBoth, AreOfAll, IsTable, harts_known, pair_crew}
+use Rattle.hsm_rule.specs.declared.view.Stage.{Stage}
+use Rattle.hsm_rule.specs.declared.view.Stage.TheVariants.{Running, Quiet}
+use Rattle.sbi.specs.declared.dispatches.Held.{Held}
+use Rattle.sbi.specs.declared.dispatches.Held.TheVariants as helds
+use Rattle.sbi_calls.specs.Both.{TableState, AreTablesOf, AreSeatsOfBoth, AreOfAll, Acts, IsTable, harts_known, pair_crew}
+use Rattle.susp.specs.Dozes.{doze_of}
+use Rattle.susp.specs.declared.buses.Doze.{Doze}
 use Rattle.turns.specs.Turns.{Rests}
 
 -- what seats of all harts show
@@ -17,24 +23,37 @@ abbrev pub table_of : ℕ → Option Seats → TableState
 table_of harts None = record { states = []; pairs = [] }
 table_of harts (Some s) = shown_by harts s
 
+-- where a hart stands once a durable call of it was made: a doze is quiet, and after a suspension to disk the
+-- quiet is ended
+abbrev pub stage_settled : Held → Stage
+stage_settled helds.Goes = Running
+stage_settled helds.Dozing = Quiet
+stage_settled helds.Asleep = Running
+stage_settled (helds.Reset kind) = Running
+
+-- between two turns a hart in whose doze the board is is quiet, and any other rests
+abbrev pub RestsBy : Option Doze → ℕ → Seats → Type 0
+RestsBy None h s = Rests h s
+RestsBy (Some d) h s = Acts h Quiet s
+
 -- The seats have every hart, and show a state of each and the pending interrupts; between two turns each hart
--- rests.
-pub record AreWhole (harts : ℕ) (t : Tables) (s : Seats) : Type 0 where
+-- rests, or is quiet in its doze.
+pub record AreWhole (harts : ℕ) (t : Tables) (s : Seats) (doze : Option Doze) : Type 0 where
   pub seats : AreSeatsOfBoth t s
   pub all : AreOfAll t s
   pub shows : IsTable harts s (shown_by harts s)
-  pub rests : (h : ℕ) → h < harts → Rests h s
+  pub rests : (h : ℕ) → h < harts → RestsBy (doze_of h doze) h s
 
 -- the seats are there
-abbrev pub AreAllSeats : ℕ → Tables → Option Seats → Type 0
-AreAllSeats harts t None = ⊥
-AreAllSeats harts t (Some s) = AreWhole harts t s
+abbrev pub AreAllSeats : ℕ → Tables → Option Seats → Option Doze → Type 0
+AreAllSeats harts t None doze = ⊥
+AreAllSeats harts t (Some s) doze = AreWhole harts t s doze
 
 abbrev pub AreNumbered : List ArchState → Type 0
 AreNumbered harts = (h : ℕ) → h < length harts → (get_or harts h (never_started h)).id ≡ h
 
-pub record IsHeld (size : Size) (harts : List ArchState) (t : Tables) (held : Option Seats) : Type 0 where
+pub record IsHeld (size : Size) (harts : List ArchState) (t : Tables) (held : Option Seats) (doze : Option Doze) : Type 0 where
   pub long : length harts ≡ size.harts
   pub numbered : AreNumbered harts
   pub tables : AreTablesOf size t
-  pub seats : AreAllSeats size.harts t held
+  pub seats : AreAllSeats size.harts t held doze

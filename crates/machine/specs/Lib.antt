@@ -3,3 +3,4 @@ pub mod Turns
 pub mod Held
 pub mod Words
 pub mod Durables
+pub mod Dozes

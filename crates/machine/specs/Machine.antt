@@ -1,6 +1,6 @@
 -- The board as a model: its memory, its harts, and both tables. Source: SBI specification 2.0, chapters 7 and
 -- 9; docs/BOARD.md.
-use Rattle.std.specs.Prelude.{ℕ, zero, suc, Bool, false, List, [], ◌∷◌, ◌++◌, ◌-◌, length, replicate, get_or, slice_set}
+use Rattle.std.specs.Prelude.{ℕ, zero, suc, Bool, false, List, [], ◌∷◌, ◌++◌, ◌-◌, length, replicate, get_or, slice_set, Option, None}
 use Rattle.board_model.specs.Durable.{Image}
 use Rattle.board_model.specs.Shapes.{Size, ram_bytes_of}
 use Rattle.board_model.specs.Views.{reason_number}
@@ -9,12 +9,14 @@ use Rattle.hart.specs.State.{ArchState, never_started, started as fresh}
 use Rattle.hsm_rule.specs.States.{HartState, stopped, started}
 use Rattle.hsm.specs.Views.{listed}
 use Rattle.sbi_calls.specs.Both.{TableState}
+use Rattle.susp.specs.declared.buses.Doze.{Doze}
 
--- How large the board is, the bytes of RAM, the harts by number, and the tables: the state of each hart, and
--- for each the senders of whom an interrupt is pending for it.
+-- How large the board is, the bytes of RAM, its doze where it sleeps to RAM, the harts by number, and the
+-- tables: the state of each hart, and for each the senders of whom an interrupt is pending for it.
 pub record Machine : Type 0 where
   pub size : Size
   pub memory : List ℕ
+  pub doze : Option Doze
   pub harts : List ArchState
   pub table : TableState
 
@@ -43,6 +45,7 @@ resting size first =
     record {
       size = size;
       memory = replicate (ram_bytes_of size) 0;
+      doze = None;
       harts = stopped_harts size.harts;
       table = record { states = only_first size.harts first; pairs = none_pending size.harts };
     }

@@ -1,40 +1,69 @@
 -- Turns of a hart, and calls that are made in its place. Source: docs/BOARD.md; SBI specification 2.0,
 -- chapters 3 and 9.
-use Rattle.std.specs.Prelude.{◌≡◌, ◌⊎◌, ℕ, zero, suc, Bool, true, false, List, slice_set}
+use Rattle.std.specs.Prelude.{◌≡◌, ◌⊎◌, ℕ, zero, suc, Bool, true, false, List, slice_set, Option, Some, None}
 use Rattle.board_model.specs.Shapes.{Size}
-use Rattle.hart.specs.State.{ArchState, put}
+use Rattle.hart.specs.State.{ArchState, put, started as fresh}
 use Rattle.hart.specs.declared.Outcome.TheVariants.{Ecall}
 use Rattle.hsm_rule.specs.States.{started}
 use Rattle.hsm.specs.Views.{listed}
 use Rattle.sbi_calls.specs.declared.tables.Seats.{Seats}
 use Rattle.sbi_calls.specs.Both.{TableState, IsTable}
 use Rattle.turns.specs.declared.words.Turned.{Turned}
-use Rattle.turns.specs.declared.words.Turned.TheVariants.{Stopped, Durable}
-use Rattle.turns.specs.Turns.{Moment, moment, TurnOf, Finishes}
+use Rattle.turns.specs.declared.words.Turned.TheVariants.{Idle, Resumed, Stopped, Durable}
+use Rattle.turns.specs.Turns.{Moment, moment, TurnOf, Finishes, after_take}
 use Rattle.turns.specs.Many.{RowOf}
 use Rattle.machine.specs.declared.parts.Called.{Called}
 use Rattle.machine.specs.declared.parts.Called.TheVariants.{NotStarted, Made}
+use Rattle.susp.specs.Dozes.{doze_of}
+use Rattle.susp.specs.declared.buses.Doze.{Doze}
 use Rattle.machine.specs.Machine.{Machine, hart_at}
 
 -- hart h of a machine, with the tables and the memory
 abbrev pub moment_of : ℕ → Machine → Moment
 moment_of h m = moment m.table (hart_at m h) m.memory
 
--- the machine whose hart h stands so; its other harts are as they were
+-- the machine whose hart h stands so; its other harts are as they were, and so is its doze
 abbrev pub with_moment : ℕ → Machine → Moment → Machine
-with_moment h m a = record { size = m.size; memory = a.memory; harts = slice_set m.harts h a.hart; table = a.table }
+with_moment h m a =
+    record { size = m.size; memory = a.memory; doze = m.doze; harts = slice_set m.harts h a.hart; table = a.table }
 
 -- what hart h did made that of the machine
 abbrev pub DoneBy : (Moment → Moment → Type 0) → ℕ → Machine → Machine → Type 0
 DoneBy Does h old new = (after : Moment) × Does (moment_of h old) after × (new ≡ with_moment h old after)
 
--- a turn of hart h
-abbrev pub MakesTurn : ℕ → Machine → Machine → Turned → Type 0
-MakesTurn h old new word = DoneBy (λ a b. TurnOf old.size a b word) h old new
+-- ---- a board that dozes
+-- the hart of a doze begins again as a started hart does: what is pending for it is taken, and the memory, the
+-- other harts and what is pending for them stay
+abbrev pub resumed : Doze → ℕ → Machine → Machine
+resumed d h m =
+    record {
+      size = m.size;
+      memory = m.memory;
+      doze = None;
+      harts = slice_set m.harts h (fresh (hart_at m h).id d.address d.opaque);
+      table = after_take m.table (hart_at m h).id;
+    }
 
--- turns of hart h in a row, of which all but the last said Next
+-- a turn of the hart of a doze, which was woken or not: until then it is idle
+abbrev pub DozeTurn : Bool → Doze → ℕ → Machine → Machine → Turned → Type 0
+DozeTurn false d h old new word = (new ≡ old) × (word ≡ Idle)
+DozeTurn true d h old new word = (new ≡ resumed d h old) × (word ≡ Resumed)
+
+-- ---- a turn of hart h, by the doze of the board where it is that hart's
+abbrev pub TurnBy : Option Doze → ℕ → Machine → Machine → Turned → Type 0
+TurnBy None h old new word = DoneBy (λ a b. TurnOf old.size a b word) h old new
+TurnBy (Some d) h old new word = DozeTurn d.woken d h old new word
+
+abbrev pub MakesTurn : ℕ → Machine → Machine → Turned → Type 0
+MakesTurn h old new word = TurnBy (doze_of h old.doze) h old new word
+
+-- turns of hart h in a row, of which all but the last said Next; a hart that dozes makes one
+abbrev pub RowBy : Option Doze → ℕ → ℕ → Machine → Machine → Turned → Type 0
+RowBy None h count old new word = DoneBy (λ a b. RowOf old.size count a b word) h old new
+RowBy (Some d) h count old new word = (count ≡ 1) × DozeTurn d.woken d h old new word
+
 abbrev pub Rows : ℕ → ℕ → Machine → Machine → Turned → Type 0
-Rows h count old new word = DoneBy (λ a b. RowOf old.size count a b word) h old new
+Rows h count old new word = RowBy (doze_of h old.doze) h count old new word
 
 -- a turn after which no other follows in a row: the hart stopped, or stands at a durable call
 abbrev pub ends_row : Turned → Bool
@@ -72,7 +101,12 @@ abbrev pub MakesCallAlone : Size → ArchState → ArchState → ArchState → L
 MakesCallAlone size s u t m before after called = (x : TableState) → IsTable size.harts before x
     → (y : TableState) × CallOf size u (moment x s m) (moment y t m) called × IsTable size.harts after y
 
+-- a call of hart h, which then stands as u at an ECALL: a hart that dozes makes none
+abbrev pub CallBy : Option Doze → ℕ → ArchState → Machine → Machine → Called → Type 0
+CallBy None h u old new called = DoneBy (λ a b. CallOf old.size u a b called) h old new
+CallBy (Some d) h u old new called = (new ≡ old) × (called ≡ NotStarted)
+
 -- a call of hart h with these registers
 abbrev pub MakesOneCall : ℕ → ℕ → ℕ → ℕ → ℕ → ℕ → Machine → Machine → Called → Type 0
 MakesOneCall h eid fid a0 a1 a2 old new called =
-    DoneBy (λ a b. CallOf old.size (calling a.hart eid fid a0 a1 a2) a b called) h old new
+    CallBy (doze_of h old.doze) h (calling (hart_at old h) eid fid a0 a1 a2) old new called

@@ -1,11 +1,15 @@
-//! A law of the definitions, the contract of a function that does nothing: turns and calls of a hart leave
-//! nothing open.
+//! Laws of the definitions, the contracts of functions that do nothing: turns and calls of a hart leave nothing
+//! open, and a board that dozes stands still.
 
 ghost use Rattle.std.specs.Prelude.{◌≡◌, ℕ};
 ghost use Rattle.turns.specs.declared.words.Turned.{Turned};
+ghost use Rattle.turns.specs.declared.words.Turned.TheVariants.{Idle};
 ghost use Rattle.machine.specs.Machine.{Machine};
 ghost use Rattle.machine.specs.Turns.{MakesTurn, TurnsMany, MakesOneCall};
 ghost use Rattle.machine.specs.declared.parts.Called.{Called};
+ghost use Rattle.machine.specs.declared.parts.Called.TheVariants.{NotStarted};
+ghost use Rattle.machine.specs.Durables.{StandsAtCall};
+ghost use Rattle.machine.specs.Dozes.{Dozes, MovesOften};
 
 /// A board has one outcome of a turn of a hart, one of many in a row, and one of a call that is made in a
 /// hart's place: the memory, the harts and the tables, and what is said.
@@ -20,3 +24,15 @@ pub fn one_turn()
 {
     hart::one_step();
 }
+
+/// While a board dozes and was not woken, each turn of a hart is idle, no call is made in a hart's place, and
+/// neither changes anything of it: its memory, its harts, its tables and its doze stay as they are, however many
+/// are made and of whichever harts. No hart of it stands at a durable call.
+pub fn a_doze_stands()
+    ensures turn { (h : ℕ) (old new : Machine) (word : Turned) → Dozes old → MakesTurn h old new word
+        → (new ≡ old) × (word ≡ Idle) }
+    ensures call { (h eid fid a0 a1 a2 : ℕ) (old new : Machine) (called : Called) → Dozes old
+        → MakesOneCall h eid fid a0 a1 a2 old new called → (new ≡ old) × (called ≡ NotStarted) }
+    ensures moves { (n : ℕ) (old new : Machine) → Dozes old → MovesOften n old new → new ≡ old }
+    ensures asks { (h : ℕ) (m : Machine) → Dozes m → StandsAtCall h m → ⊥ }
+{}

@@ -9,7 +9,7 @@ mod laws;
 mod machine;
 mod parts;
 
-pub use laws::one_turn;
+pub use laws::{a_doze_stands, one_turn};
 pub use machine::Machine;
 pub use parts::{Called, Parts, Word, ends, word_by};
 pub use sbi::{Held, ResetType};

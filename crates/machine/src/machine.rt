@@ -1,19 +1,23 @@
 //! The memory, the harts, and both tables with the one seat of all harts.
 
-ghost use Rattle.std.specs.Prelude.{◌≡◌, ◌⊎◌, ◌≤◌, ◌<◌, ℕ, length, IfOk, IfErr, OnOk, OnErr, Ok, Err, Some, IsTrue, ◌↔◌};
+ghost use Rattle.std.specs.Prelude.{◌≡◌, ◌⊎◌, ◌≤◌, ◌<◌, ℕ, length, IfOk, IfErr, IsOk, OnOk, OnErr, true, Ok, Err, Some, None, IsTrue, ◌↔◌};
 ghost use Rattle.board_model.specs.Durable.{Image};
 ghost use Rattle.board_model.specs.Shapes.{ram_bytes_of};
-ghost use Rattle.board_model.specs.declared.refusal.Refusal.TheVariants.{Memory};
-ghost use Rattle.turns.specs.Turns.{has_pending};
+ghost use Rattle.board_model.specs.declared.refusal.Refusal.TheVariants.{Memory, NotDozing};
+ghost use Rattle.turns.specs.Turns.{has_pending, TurnOf};
+ghost use Rattle.susp.specs.Dozes.{doze_of, can_wake, after_wake};
 ghost use Rattle.turns.specs.declared.words.Turned.TheVariants.{Durable};
 ghost use Rattle.machine.specs.declared.parts.Called.TheVariants.{Made};
 ghost use Rattle.store.specs.Views.{size_of_store, now_state, view_of};
 ghost use Rattle.store.specs.Answers.{StaysOpen};
 ghost use Rattle.susp.specs.Wakes.{IsUnloaded, IsConsumed};
 ghost use Rattle.machine.specs.Machine.{hart_at, stopped_harts, resting, machine_begun, woken};
-ghost use Rattle.machine.specs.Turns.{MakesTurn, Rows, TurnsMany, MakesOneCall};
+ghost use Rattle.turns.specs.Many.{RowOf};
+ghost use Rattle.machine.specs.Turns.{MakesTurn, Rows, TurnsMany, MakesOneCall, DoneBy, DozeTurn, CallOf, calling};
 ghost use Rattle.machine.specs.Held.{IsHeld, shown_by};
-ghost use Rattle.machine.specs.Durables.{IsHartStarted, MakesCall};
+ghost use Rattle.machine.specs.Durables.{StandsAtCall, MakesCall};
+ghost use Rattle.machine.specs.Dozes.{Dozes};
+ghost use Rattle.sbi.specs.declared.dispatches.Held.TheVariants.{Dozing};
 
 use crate::calls::{Registers, call_in_place};
 use crate::holds::make_held;
@@ -30,14 +34,14 @@ use sbi_calls::{Seats, Tables};
 use std::alloc::Global;
 use std::marker::Model;
 use store::Store;
-use susp::wake_image;
+use susp::{Bus, Doze, wake_image};
 use turns::Turned;
 
 /// A board's memory, harts and tables, which contracts see as the record `Machine` of specs/. The seats are
 /// out of their place only within a call.
 #[derive(Drop)]
 pub struct Machine {
-    ram: Ram,
+    bus: Bus,
     harts: Vec<Hart>,
     shape: Shape,
     tables: Tables,
@@ -51,9 +55,9 @@ impl Model for Machine {
     ghost Value = { Machine };
 
     ghost view = { λ m. record
-        { size = m.shape; memory = m.ram; harts = m.harts.items; table = table_of m.shape.harts m.seats } };
+        { size = m.shape; memory = m.bus.ram; doze = m.bus.doze; harts = m.harts.items; table = table_of m.shape.harts m.seats } };
 
-    ghost invariant = { λ m. IsHeld m.shape m.harts.items m.tables m.seats };
+    ghost invariant = { λ m. IsHeld m.shape m.harts.items m.tables m.seats m.bus.doze };
 }
 
 /// The harts of a board, none of which ever ran.
@@ -85,7 +89,7 @@ impl Machine {
         hsm::one_table();
         ipi::one_set();
         Ok(Machine {
-            ram,
+            bus: Bus { ram, doze: None },
             harts: all,
             shape: *shape,
             tables: Tables {
@@ -105,7 +109,7 @@ impl Machine {
         requires fits { length payload.now ≤ ram_bytes_of shape.now }
         ensures { self.new ≡ machine_begun payload.now reason shape.now }
     {
-        self.ram.boot(payload);
+        self.bus.ram.boot(payload);
         if let Some(first) = shape.hart(0) {
             self.harts[0] = Hart::fresh(first, RAM_BASE, u64::from(reason.number()));
         }
@@ -125,7 +129,7 @@ impl Machine {
             ⊎ IsConsumed store.old (Err e) store.new) }
         ensures stays { StaysOpen (view_of store.old) (view_of store.new) }
     {
-        let hart = wake_image(store, &mut self.ram)?;
+        let hart = wake_image(store, &mut self.bus.ram)?;
         let place = hart.id().index();
         self.harts[place] = hart;
         Ok(())
@@ -142,7 +146,7 @@ impl Machine {
     pub fn ram(&self) -> &Ram
         ensures { result.now ≡ self.now.memory }
     {
-        &self.ram
+        &self.bus.ram
     }
 
     /// A hart of the board.
@@ -168,22 +172,66 @@ impl Machine {
         pending
     }
 
-    /// One turn of a hart.
+    /// The doze of the board, where it is that hart's.
+    fn dozes(&self, id: HartId) -> Option<Doze>
+        ensures { result ≡ doze_of id self.now.doze }
+    {
+        let doze = self.bus.doze?;
+        if doze.hart == id { Some(doze) } else { None }
+    }
+
+    /// A turn of the hart of a doze: nothing until the board is woken, and then it begins again.
+    fn doze_turn(&mut self, id: HartId, doze: Doze) -> Turned
+        requires hart { id < length self.old.harts }
+        requires dozes { doze_of id self.old.doze ≡ Some doze }
+        ensures { DozeTurn doze.woken doze id self.old self.new result }
+    {
+        if !doze.woken {
+            return Turned::Idle;
+        }
+        let seats = self.seats.take().unwrap();
+        let seats = turns::resume(
+            &mut self.harts[id.index()],
+            seats,
+            &self.tables,
+            doze.address,
+            doze.opaque,
+        );
+        hsm::one_table();
+        ipi::one_set();
+        self.bus.doze = None;
+        self.seats = Some(seats);
+        Turned::Resumed
+    }
+
+    /// One turn of a hart. In a doze its hart does nothing until the board is woken.
     pub fn turn(&mut self, id: HartId) -> Turned
         requires { id < length self.old.harts }
         ensures turns { MakesTurn id self.old self.new result }
-        ensures asks { result ≡ Durable → IsHartStarted id self.new }
+        ensures asks { result ≡ Durable → StandsAtCall id self.new }
         ensures harts { length self.new.harts ≡ length self.old.harts }
+    {
+        hart::one_number();
+        match self.dozes(id) {
+            Some(doze) => self.doze_turn(id, doze),
+            None => self.own_turn(id),
+        }
+    }
+
+    /// A turn of a hart in whose doze the board is not.
+    fn own_turn(&mut self, id: HartId) -> Turned
+        requires hart { id < length self.old.harts }
+        requires awake { doze_of id self.old.doze ≡ None }
+        ensures { DoneBy (λ a b. TurnOf self.old.size a b result) id self.old self.new }
     {
         let seats = self.seats.take().unwrap();
         let (seats, turned) = turns::turn(
             &mut self.harts[id.index()],
             seats,
             &self.tables,
-            &mut self.ram,
+            &mut self.bus.ram,
             &self.shape,
         );
-        hart::one_number();
         hsm::one_table();
         ipi::one_set();
         self.seats = Some(seats);
@@ -191,7 +239,7 @@ impl Machine {
     }
 
     /// Turns of a hart in a row by one look at the tables, `most` of them at most: how many were made, and
-    /// what the last one did. Each before it said `Next`.
+    /// what the last one did. Each before it said `Next`. A hart that dozes makes one.
     fn row(&mut self, id: HartId, most: u32) -> (u32, Turned)
         requires hart { id < length self.old.harts }
         requires some { 1 ≤ most }
@@ -199,12 +247,26 @@ impl Machine {
         ensures range { (1 ≤ result.0) × (result.0 ≤ most) }
         ensures harts { length self.new.harts ≡ length self.old.harts }
     {
+        match self.dozes(id) {
+            Some(doze) => (1, self.doze_turn(id, doze)),
+            None => self.own_row(id, most),
+        }
+    }
+
+    /// The same of a hart in whose doze the board is not.
+    fn own_row(&mut self, id: HartId, most: u32) -> (u32, Turned)
+        requires hart { id < length self.old.harts }
+        requires awake { doze_of id self.old.doze ≡ None }
+        requires some { 1 ≤ most }
+        ensures row { DoneBy (λ a b. RowOf self.old.size result.0 a b result.1) id self.old self.new }
+        ensures range { (1 ≤ result.0) × (result.0 ≤ most) }
+    {
         let seats = self.seats.take().unwrap();
         let (seats, made, turned) = turns::turns_by_one_look(
             &mut self.harts[id.index()],
             seats,
             &self.tables,
-            &mut self.ram,
+            &mut self.bus.ram,
             &self.shape,
             most,
         );
@@ -220,7 +282,7 @@ impl Machine {
         requires hart { id < length self.old.harts }
         requires some { 1 ≤ count }
         ensures turns { TurnsMany id count self.old self.new result.0 result.1 }
-        ensures asks { result.1 ≡ Durable → IsHartStarted id self.new }
+        ensures asks { result.1 ≡ Durable → StandsAtCall id self.new }
         ensures harts { length self.new.harts ≡ length self.old.harts }
     {
         hart::one_number();
@@ -236,11 +298,11 @@ impl Machine {
     }
 
     /// An SBI call that is made in the place of a hart: sets a0 to a2, a6 and a7, and acts as if ECALL stood
-    /// at its pc. A hart that is not STARTED makes none, and stays as it was.
+    /// at its pc. A hart that is not STARTED, or that dozes, makes none, and stays as it was.
     pub fn call(&mut self, id: HartId, eid: u64, fid: u64, a0: u64, a1: u64, a2: u64) -> Called
         requires { id < length self.old.harts }
         ensures calls { MakesOneCall id eid fid a0 a1 a2 self.old self.new result }
-        ensures asks { result ≡ Made Durable → IsHartStarted id self.new }
+        ensures asks { result ≡ Made Durable → StandsAtCall id self.new }
         ensures harts { length self.new.harts ≡ length self.old.harts }
     {
         let call = Registers {
@@ -250,13 +312,27 @@ impl Machine {
             a1,
             a2,
         };
+        match self.dozes(id) {
+            Some(_) => Called::NotStarted,
+            None => self.own_call(id, &call),
+        }
+    }
+
+    /// The same of a hart in whose doze the board is not.
+    fn own_call(&mut self, id: HartId, call: &Registers) -> Called
+        requires hart { id < length self.old.harts }
+        requires awake { doze_of id self.old.doze ≡ None }
+        ensures { DoneBy (λ a b. CallOf self.old.size
+            (calling a.hart call.entry.now.eid call.entry.now.fid call.entry.now.a0 call.entry.now.a1
+            call.entry.now.a2) a b result) id self.old self.new }
+    {
         let seats = self.seats.take().unwrap();
         let (seats, called) = call_in_place(
             &mut self.harts[id.index()],
             seats,
             &self.tables,
             &self.shape,
-            &call,
+            call,
         );
         hsm::one_table();
         ipi::one_set();
@@ -265,8 +341,8 @@ impl Machine {
     }
 
     /// Makes the durable call at which a hart stands, as `sbi::dispatch_held` says, with a store and this
-    /// memory: a turn or a call told `Durable`. A reset and a suspend end the life, and no hart makes a turn
-    /// after them.
+    /// memory: a turn or a call told `Durable`. A reset and a suspension to disk end the life, and no hart
+    /// makes a turn after them. In a doze its hart makes none until the board is woken.
     pub fn make_call<D: Disk + Drop, C: Crew>(
         &mut self,
         alloc: Global,
@@ -275,8 +351,9 @@ impl Machine {
         crew: &C,
     ) -> Held
         requires hart { id < length self.old.harts }
-        requires started { IsHartStarted id self.old }
+        requires stands { StandsAtCall id self.old }
         ensures makes { MakesCall id self.old self.new store.old store.new result }
+        ensures dozes { result ≡ Dozing → Dozes self.new }
         ensures harts { length self.new.harts ≡ length self.old.harts }
     {
         let seats = self.seats.take().unwrap();
@@ -286,7 +363,7 @@ impl Machine {
             seats,
             &self.tables,
             &self.shape,
-            &self.ram,
+            &mut self.bus,
             store,
             crew,
         );
@@ -296,15 +373,26 @@ impl Machine {
         held
     }
 
+    /// Calls the wake-up device, as `susp::wake`: a board that dozes is woken, once. Refused `NotDozing` where
+    /// none dozes or it was woken already. Its hart begins again in its next turn.
+    pub fn wake(&mut self) -> Result<(), Refusal>
+        ensures ok { IsOk result ↔ (can_wake self.old.doze ≡ true) }
+        ensures woken { OnOk result (self.new ≡ record self.old { doze = after_wake self.old.doze }) }
+        ensures refused { IfErr result (λ e. (e ≡ NotDozing) × (self.new ≡ self.old)) }
+    {
+        susp::wake(&mut self.bus)
+    }
+
     /// The parts of the machine, with the seat of all harts, by which `split` makes one for each.
     pub fn into_parts(self) -> Parts
         ensures harts { result.harts.items ≡ self.harts }
-        ensures ram { result.ram ≡ self.memory }
-        ensures held { IsHeld self.size result.harts.items result.tables (Some result.seats) }
+        ensures ram { result.bus.ram ≡ self.memory }
+        ensures doze { result.bus.doze ≡ self.doze }
+        ensures held { IsHeld self.size result.harts.items result.tables (Some result.seats) self.doze }
         ensures shows { shown_by self.size.harts result.seats ≡ self.table }
     {
         let Machine {
-            ram,
+            bus,
             harts,
             shape: _,
             tables,
@@ -315,7 +403,7 @@ impl Machine {
             harts,
             seats,
             tables,
-            ram,
+            bus,
         }
     }
 }

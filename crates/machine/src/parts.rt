@@ -5,9 +5,9 @@ ghost use Rattle.machine.specs.Turns.{ends_row};
 ghost use Rattle.machine.specs.Words.{stops, ends, word_by};
 
 use hart::Hart;
-use ram::Ram;
 use sbi::{Held, ResetType};
 use sbi_calls::{Seats, Tables};
+use susp::Bus;
 use turns::Turned;
 
 /// What a call made of a hart.
@@ -24,6 +24,8 @@ pub enum Called {
 pub enum Word {
     /// What the hart did. It is not left standing at a durable call.
     Own(Turned),
+    /// The board sleeps in its RAM, until it is woken. The life goes on.
+    Dozing,
     /// The life ended: the board sleeps.
     Asleep,
     /// The life ended: the board is reset.
@@ -39,8 +41,8 @@ pub struct Parts {
     pub seats: Seats,
     /// The states of the harts, and the pending interrupts.
     pub tables: Tables,
-    /// The memory.
-    pub ram: Ram,
+    /// The memory, and the doze of the board.
+    pub bus: Bus,
 }
 
 /// Whether no turn of the hart follows in a row.
@@ -49,7 +51,12 @@ pub(crate) fn ends_row(turned: Turned) -> bool
 {
     match turned {
         Turned::Stopped | Turned::Durable => true,
-        Turned::Idle | Turned::Entered | Turned::Woke | Turned::Next | Turned::Suspended => false,
+        Turned::Idle
+        | Turned::Entered
+        | Turned::Woke
+        | Turned::Resumed
+        | Turned::Next
+        | Turned::Suspended => false,
     }
 }
 
@@ -61,19 +68,20 @@ fn stops(turned: Turned) -> bool
         Turned::Idle
         | Turned::Entered
         | Turned::Woke
+        | Turned::Resumed
         | Turned::Next
         | Turned::Suspended
         | Turned::Durable => false,
     }
 }
 
-/// Whether no turn of the hart follows in a line: it stopped, or the life ended.
+/// Whether no turn of the hart follows in a line: it stopped, the board dozes, or the life ended.
 pub fn ends(word: Word) -> bool
     ensures { result ≡ ends word }
 {
     match word {
         Word::Own(turned) => stops(turned),
-        Word::Asleep | Word::Reset(_) => true,
+        Word::Dozing | Word::Asleep | Word::Reset(_) => true,
     }
 }
 
@@ -83,6 +91,7 @@ pub fn word_by(held: Held) -> Word
 {
     match held {
         Held::Goes => Word::Own(Turned::Next),
+        Held::Dozing => Word::Dozing,
         Held::Asleep => Word::Asleep,
         Held::Reset(kind) => Word::Reset(kind),
     }

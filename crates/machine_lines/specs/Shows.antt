@@ -10,9 +10,9 @@ use Rattle.machine.specs.Turns.{TurnsMany, MakesOneCall}
 use Rattle.machine.specs.declared.parts.Called.{Called}
 use Rattle.machine.specs.declared.parts.Called.TheVariants.{NotStarted, Made}
 use Rattle.turns.specs.declared.words.Turned.{Turned}
-use Rattle.turns.specs.declared.words.Turned.TheVariants.{Idle, Entered, Woke, Next, Suspended, Stopped, Durable}
+use Rattle.turns.specs.declared.words.Turned.TheVariants.{Idle, Entered, Woke, Resumed, Next, Suspended, Stopped, Durable}
 use Rattle.machine.specs.declared.parts.Word.{Word}
-use Rattle.machine.specs.declared.parts.Word.TheVariants.{Own, Asleep, Reset}
+use Rattle.machine.specs.declared.parts.Word.TheVariants.{Own, Dozing, Asleep, Reset}
 use Rattle.machine_lines.specs.declared.line.MachineLine.{MachineLine}
 use Rattle.machine_lines.specs.declared.line.MachineLine.TheVariants as lines
 
@@ -32,12 +32,14 @@ own_line h s Next = lines.Answered h (reg s 10) (reg s 11)
 own_line h s Idle = lines.Called h (Own Idle)
 own_line h s Entered = lines.Called h (Own Entered)
 own_line h s Woke = lines.Called h (Own Woke)
+own_line h s Resumed = lines.Called h (Own Resumed)
 own_line h s Suspended = lines.Called h (Own Suspended)
 own_line h s Stopped = lines.Called h (Own Stopped)
 own_line h s Durable = lines.Called h (Own Durable)
 
 abbrev pub made_line : ℕ → ArchState → Word → MachineLine
 made_line h s (Own did) = own_line h s did
+made_line h s Dozing = lines.Called h Dozing
 made_line h s Asleep = lines.Called h Asleep
 made_line h s (Reset kind) = lines.Called h (Reset kind)
 

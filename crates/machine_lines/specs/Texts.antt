@@ -4,11 +4,11 @@ use Rattle.std.specs.Fmt.{decimal, digits, signed_decimal}
 use Rattle.std.specs.Int.{cast_signed, w64}
 use Rattle.std.specs.List.{flat_map}
 use Rattle.turns.specs.declared.words.Turned.{Turned}
-use Rattle.turns.specs.declared.words.Turned.TheVariants.{Idle, Entered, Woke, Next, Suspended, Stopped, Durable}
+use Rattle.turns.specs.declared.words.Turned.TheVariants.{Idle, Entered, Woke, Resumed, Next, Suspended, Stopped, Durable}
 use Rattle.sbi.specs.declared.resets.ResetType.{ResetType}
 use Rattle.sbi.specs.declared.resets.ResetType.TheVariants.{Shutdown, ColdReboot}
 use Rattle.machine.specs.declared.parts.Word.{Word}
-use Rattle.machine.specs.declared.parts.Word.TheVariants.{Own, Asleep, Reset}
+use Rattle.machine.specs.declared.parts.Word.TheVariants.{Own, Dozing, Asleep, Reset}
 use Rattle.machine_lines.specs.declared.line.MachineLine.{MachineLine}
 use Rattle.machine_lines.specs.declared.line.MachineLine.TheVariants as lines
 use lib.Chars.{codes}
@@ -25,6 +25,7 @@ abbrev pub turned_text : Turned → List ℕ
 turned_text Idle = codes "idle"
 turned_text Entered = codes "entered"
 turned_text Woke = codes "woke"
+turned_text Resumed = codes "resumed"
 turned_text Next = codes "next"
 turned_text Suspended = codes "suspended"
 turned_text Stopped = codes "stopped"
@@ -36,6 +37,7 @@ reset_text ColdReboot = codes "reboot"
 
 abbrev pub word_text : Word → List ℕ
 word_text (Own did) = turned_text did
+word_text Dozing = codes "dozing"
 word_text Asleep = codes "asleep"
 word_text (Reset kind) = reset_text kind
 

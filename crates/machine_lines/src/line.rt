@@ -56,6 +56,7 @@ impl fmt::Display for TurnedName {
             Turned::Idle => write!(f, "idle"),
             Turned::Entered => write!(f, "entered"),
             Turned::Woke => write!(f, "woke"),
+            Turned::Resumed => write!(f, "resumed"),
             Turned::Next => write!(f, "next"),
             Turned::Suspended => write!(f, "suspended"),
             Turned::Stopped => write!(f, "stopped"),
@@ -90,6 +91,7 @@ impl fmt::Display for WordText {
                 let text = TurnedName(turned);
                 write!(f, "{text}")
             }
+            Word::Dozing => write!(f, "dozing"),
             Word::Asleep => write!(f, "asleep"),
             Word::Reset(kind) => {
                 let text = ResetName(kind);

@@ -82,6 +82,7 @@ fn own(machine: &Machine, hart: HartId, turned: Turned) -> MachineLine
         Turned::Idle
         | Turned::Entered
         | Turned::Woke
+        | Turned::Resumed
         | Turned::Suspended
         | Turned::Stopped
         | Turned::Durable => MachineLine::Called(hart, Word::Own(turned)),
@@ -94,7 +95,7 @@ fn made(machine: &Machine, hart: HartId, word: Word) -> MachineLine
 {
     match word {
         Word::Own(turned) => own(machine, hart, turned),
-        Word::Asleep | Word::Reset(_) => MachineLine::Called(hart, word),
+        Word::Dozing | Word::Asleep | Word::Reset(_) => MachineLine::Called(hart, word),
     }
 }
 

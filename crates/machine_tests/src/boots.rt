@@ -118,7 +118,7 @@ fn many_turns_run_a_loop(rt: HostRuntime) -> Result<(), Fail> {
     );
     same(&rt, shown(&machine, 0), Some((501, 0, BASE + 4)));
     let parts = machine.into_parts();
-    same(&rt, (parts.harts.len(), parts.ram.pages()), (2, 1));
+    same(&rt, (parts.harts.len(), parts.bus.ram.pages()), (2, 1));
     same(
         &rt,
         (parts.tables.harts.harts(), parts.tables.pending.harts()),

@@ -1,5 +1,5 @@
 -- Calls that come to a durable command. Source: SBI specification 2.0, chapters 10 and 13; docs/SBI.md.
-use Rattle.std.specs.Prelude.{◌≡◌, ℕ, List, Option, Some, None, Result, Ok, Err}
+use Rattle.std.specs.Prelude.{◌≡◌, ℕ, Result, Ok, Err}
 use Rattle.board_model.specs.Durable.{Reset}
 use Rattle.board_model.specs.declared.durable.Reason.{Reason}
 use Rattle.board_model.specs.declared.refusal.Refusal.{Refusal}
@@ -20,6 +20,9 @@ use Rattle.sbi_calls.specs.declared.tables.Seats.{Seats}
 use Rattle.sbi_calls.specs.Both.{Known, TableState, IsTable}
 use Rattle.store.specs.Asked.{Asked}
 use Rattle.susp.specs.Sleeps.{Sleeps, SleepsAlone}
+use Rattle.susp.specs.declared.buses.Bus.{Bus}
+use Rattle.susp.specs.declared.sleeps.Sleep.{Sleep}
+use Rattle.susp.specs.declared.sleeps.Sleep.TheVariants.{ToRam, ToDisk}
 use Rattle.sbi.specs.declared.resets.ResetType.{ResetType}
 use Rattle.sbi.specs.declared.dispatches.Held.{Held}
 use Rattle.sbi.specs.declared.dispatches.Held.TheVariants as helds
@@ -34,15 +37,21 @@ abbrev pub EndsReset : ResetType → Result ℕ Refusal → ArchState → ArchSt
 EndsReset kind (Ok n) s t held = (t ≡ s) × (held ≡ helds.Reset kind)
 EndsReset kind (Err e) s t held = Refuses Failed s t held
 
--- and a suspend, by the error that it was refused with
-abbrev pub EndsSleep : Option SbiError → ArchState → ArchState → Held → Type 0
-EndsSleep None s t held = (t ≡ s) × (held ≡ helds.Asleep)
-EndsSleep (Some e) s t held = Refuses e s t held
+-- what is told of a board that sleeps
+abbrev pub held_by : Sleep → Held
+held_by ToRam = helds.Dozing
+held_by ToDisk = helds.Asleep
+
+-- and a suspend, by how the board sleeps or the error that it was refused with
+abbrev pub EndsSleep : Result Sleep SbiError → ArchState → ArchState → Held → Type 0
+EndsSleep (Ok sleep) s t held = (t ≡ s) × (held ≡ held_by sleep)
+EndsSleep (Err e) s t held = Refuses e s t held
 
 -- where the hart then stands in the hart table
 abbrev pub stage_by_held : Held → Stage
 stage_by_held helds.Goes = Running
 stage_by_held helds.Asleep = Quiet
+stage_by_held helds.Dozing = Quiet
 stage_by_held (helds.Reset kind) = Running
 
 module _ {D L : Type 0} {g : Ghosts D L} {l : Lanes L} where
@@ -53,44 +62,45 @@ module _ {D L : Type 0} {g : Ghosts D L} {l : Lanes L} where
   MakesReset (Ok reset) s t old new held =
       (r : Result ℕ Refusal) × Asked Applied old (Reset reset.1) r new × EndsReset reset.0 r s t held
 
-  -- a suspend with this memory: its own steps, whatever other harts do
-  abbrev pub MakesSleep : ℕ → List ℕ → ℕ → ℕ → ℕ → ArchState → ArchState → Known → Known → Store D L g l
+  -- a suspend with this bus: its own steps, whatever other harts do
+  abbrev pub MakesSleep : ℕ → ℕ → ℕ → ℕ → ArchState → ArchState → Known → Known → Bus → Bus → Store D L g l
       → Store D L g l → Held → Type 0
-  MakesSleep harts memory kind address opaque s t k k' old new held =
-      (error : Option SbiError) × Sleeps harts s.id kind address opaque memory k.harts old error k'.harts new
-      × (k'.pairs ≡ k.pairs) × EndsSleep error s t held
+  MakesSleep harts kind address opaque s t k k' bus bus' old new held =
+      (fell : Result Sleep SbiError) × Sleeps harts s.id kind address opaque k.harts bus old fell k'.harts bus' new
+      × (k'.pairs ≡ k.pairs) × EndsSleep fell s t held
 
   -- the call at which the hart s stands, which then is t
-  abbrev pub MakesHeld : ℕ → List ℕ → Call → ArchState → ArchState → Known → Known → Store D L g l
+  abbrev pub MakesHeld : ℕ → Call → ArchState → ArchState → Known → Known → Bus → Bus → Store D L g l
       → Store D L g l → Held → Type 0
-  MakesHeld harts memory (calls.SystemReset kind reason) s t k k' old new held =
-      MakesReset (reset_of kind reason) s t old new held × (k' ≡ k)
-  MakesHeld harts memory (calls.SystemSuspend kind address opaque) s t k k' old new held =
-      MakesSleep harts memory kind address opaque s t k k' old new held
-  MakesHeld harts memory call s t k k' old new held = Refuses NotSupported s t held × (new ≡ old) × (k' ≡ k)
+  MakesHeld harts (calls.SystemReset kind reason) s t k k' bus bus' old new held =
+      MakesReset (reset_of kind reason) s t old new held × (k' ≡ k) × (bus' ≡ bus)
+  MakesHeld harts (calls.SystemSuspend kind address opaque) s t k k' bus bus' old new held =
+      MakesSleep harts kind address opaque s t k k' bus bus' old new held
+  MakesHeld harts call s t k k' bus bus' old new held =
+      Refuses NotSupported s t held × (new ≡ old) × (k' ≡ k) × (bus' ≡ bus)
 
   -- ---- with the one seat of all harts: by the states of the tables, which stay
-  abbrev pub SleepsIn : ℕ → List ℕ → ℕ → ℕ → ℕ → ArchState → ArchState → TableState → Store D L g l
+  abbrev pub SleepsIn : ℕ → ℕ → ℕ → ℕ → ArchState → ArchState → TableState → Bus → Bus → Store D L g l
       → Store D L g l → Held → Type 0
-  SleepsIn harts memory kind address opaque s t x old new held =
-      (error : Option SbiError)
-      × SleepsAlone harts s.id kind address opaque memory (listed x.states) old error new
-      × EndsSleep error s t held
+  SleepsIn harts kind address opaque s t x bus bus' old new held =
+      (fell : Result Sleep SbiError)
+      × SleepsAlone harts s.id kind address opaque (listed x.states) bus old fell bus' new
+      × EndsSleep fell s t held
 
-  abbrev pub SleptAlone : ℕ → List ℕ → ℕ → ℕ → ℕ → ArchState → ArchState → Seats → Seats → Store D L g l
+  abbrev pub SleptAlone : ℕ → ℕ → ℕ → ℕ → ArchState → ArchState → Seats → Seats → Bus → Bus → Store D L g l
       → Store D L g l → Held → Type 0
-  SleptAlone harts memory kind address opaque s t seats seats' old new held = (x : TableState) → IsTable harts seats x
-      → SleepsIn harts memory kind address opaque s t x old new held × IsTable harts seats' x
+  SleptAlone harts kind address opaque s t seats seats' bus bus' old new held = (x : TableState) → IsTable harts seats x
+      → SleepsIn harts kind address opaque s t x bus bus' old new held × IsTable harts seats' x
 
-  abbrev pub HeldIn : ℕ → List ℕ → Call → ArchState → ArchState → TableState → Store D L g l → Store D L g l
+  abbrev pub HeldIn : ℕ → Call → ArchState → ArchState → TableState → Bus → Bus → Store D L g l → Store D L g l
       → Held → Type 0
-  HeldIn harts memory (calls.SystemReset kind reason) s t x old new held =
-      MakesReset (reset_of kind reason) s t old new held
-  HeldIn harts memory (calls.SystemSuspend kind address opaque) s t x old new held =
-      SleepsIn harts memory kind address opaque s t x old new held
-  HeldIn harts memory call s t x old new held = Refuses NotSupported s t held × (new ≡ old)
+  HeldIn harts (calls.SystemReset kind reason) s t x bus bus' old new held =
+      MakesReset (reset_of kind reason) s t old new held × (bus' ≡ bus)
+  HeldIn harts (calls.SystemSuspend kind address opaque) s t x bus bus' old new held =
+      SleepsIn harts kind address opaque s t x bus bus' old new held
+  HeldIn harts call s t x bus bus' old new held = Refuses NotSupported s t held × (new ≡ old) × (bus' ≡ bus)
 
-  abbrev pub HeldAlone : ℕ → List ℕ → Call → ArchState → ArchState → Seats → Seats → Store D L g l
+  abbrev pub HeldAlone : ℕ → Call → ArchState → ArchState → Seats → Seats → Bus → Bus → Store D L g l
       → Store D L g l → Held → Type 0
-  HeldAlone harts memory call s t seats seats' old new held =
-      (x : TableState) → IsTable harts seats x → HeldIn harts memory call s t x old new held × IsTable harts seats' x
+  HeldAlone harts call s t seats seats' bus bus' old new held =
+      (x : TableState) → IsTable harts seats x → HeldIn harts call s t x bus bus' old new held × IsTable harts seats' x

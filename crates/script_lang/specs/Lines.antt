@@ -7,7 +7,7 @@ use Rattle.script_lang.specs.Rows.{payload_of, on_of, slot_of, turn_of, call_lin
 use Rattle.script_lang.specs.declared.line.Keyword.{Keyword}
 use Rattle.script_lang.specs.declared.line.Keyword.TheVariants as keywords
 use Rattle.script_lang.specs.declared.line.Line.{Line}
-use Rattle.script_lang.specs.declared.line.Line.TheVariants.{Format, Discard, Pending, Inspect}
+use Rattle.script_lang.specs.declared.line.Line.TheVariants.{Format, Discard, Pending, Inspect, Wake}
 use lib.Chars.{codes}
 
 -- the keywords by their words
@@ -32,6 +32,7 @@ keywords_by_word =
     (codes "cut", keywords.Cut) ∷
     (codes "poke", keywords.Poke) ∷
     (codes "inspect", keywords.Inspect) ∷
+    (codes "wake", keywords.Wake) ∷
     []
 
 -- the keyword of the first row with this word
@@ -69,6 +70,7 @@ body_of size keywords.FailLane words = faillane_of size words
 body_of size keywords.Cut words = cut_of words
 body_of size keywords.Poke words = poke_of size words
 body_of size keywords.Inspect words = alone Inspect words
+body_of size keywords.Wake words = alone Wake words
 
 -- what the words of a line say
 abbrev pub line_of : Size → List (List ℕ) → Option Line

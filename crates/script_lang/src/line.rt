@@ -38,6 +38,7 @@ pub enum Keyword {
     Cut,
     Poke,
     Inspect,
+    Wake,
 }
 
 /// A line after the board line. Harts, lanes, addresses and sectors are in the ranges of that board.
@@ -81,4 +82,6 @@ pub enum Line {
     Poke(u32, u32, Bytes),
     /// `inspect`: what stands on the disk.
     Inspect,
+    /// `wake`: the wake-up device calls a board that sleeps to RAM.
+    Wake,
 }

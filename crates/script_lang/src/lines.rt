@@ -11,7 +11,7 @@ use board_model::Shape;
 use std::alloc::{AllocError, Global};
 
 /// The keywords by their words.
-const KEYWORDS: [(&[u8], Keyword); 19] = [
+const KEYWORDS: [(&[u8], Keyword); 20] = [
     (b"payload", Keyword::Payload),
     (b"format", Keyword::Format),
     (b"on", Keyword::On),
@@ -31,6 +31,7 @@ const KEYWORDS: [(&[u8], Keyword); 19] = [
     (b"cut", Keyword::Cut),
     (b"poke", Keyword::Poke),
     (b"inspect", Keyword::Inspect),
+    (b"wake", Keyword::Wake),
 ];
 
 /// The keyword of the first row with this word.
@@ -90,6 +91,7 @@ fn body(
         Keyword::Cut => Ok(rows::cut(words)),
         Keyword::Poke => rows::poke(alloc, shape, words),
         Keyword::Inspect => Ok(alone(Line::Inspect, words)),
+        Keyword::Wake => Ok(alone(Line::Wake, words)),
     }
 }
 

@@ -70,6 +70,7 @@ csr 0\n\
 csr 0 0x100 0\n\
 pending 0\n\
 inspect 0\n\
+wake 0\n\
 mem 0x80000000\n\
 mem 0x80000000 1 1\n\
 cutat 1\n\
@@ -130,7 +131,6 @@ payload 0 zz\n\
 slot \xb1";
 
 const OTHER_KEYWORDS: &[u8] = b"\
-wake\n\
 tries 1\n\
 good";
 

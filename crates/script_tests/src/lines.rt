@@ -15,7 +15,7 @@ fn bytes(alloc: Global, items: &[u8]) -> Result<Bytes, AllocError> {
 
 #[test]
 fn power_and_slots(rt: HostRuntime) -> Result<(), Fail> {
-    let cases: [(&[u8], Line); 11] = [
+    let cases: [(&[u8], Line); 12] = [
         (b"format", Line::Format),
         (b"on fresh", Line::On(BootMode::Fresh)),
         (b"on keep", Line::On(BootMode::Keep)),
@@ -27,6 +27,7 @@ fn power_and_slots(rt: HostRuntime) -> Result<(), Fail> {
         (b"discard", Line::Discard),
         (b"pending", Line::Pending),
         (b"inspect", Line::Inspect),
+        (b"wake", Line::Wake),
     ];
     for (text, line) in &cases {
         says(&rt, rt.alloc(), BOARD, text, line)?;

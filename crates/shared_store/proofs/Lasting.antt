@@ -54,21 +54,25 @@ told_last found cs n entry taken last few =
 -- ---- what a durable call adds
 pub counts : (size : Size) (call : Call) (by : ℕ) (held : Held) (old new : List Change) → AddsBy size call by held old new → length new ≡ length old + added held
 counts size call by helds.Goes old new adds = let e = ap (λ (xs : List Change). length xs) adds in omega (arith, e)
+counts size call by helds.Dozing old new adds = let e = ap (λ (xs : List Change). length xs) adds in omega (arith, e)
 counts size call by (helds.Reset type) old new adds = one_longer old new (Reset adds.0) adds.2
 counts size call by helds.Asleep old new adds = one_longer old new (Suspend by adds.0 adds.1 adds.2) adds.4
 
 pub few_more : (size : Size) (call : Call) (by : ℕ) (held : Held) (old new : List Change) → length old ≤ 4096 → AddsBy size call by held old new → length old + added held ≤ 4096
 few_more size call by helds.Goes old new few adds = omega (arith, few)
+few_more size call by helds.Dozing old new few adds = omega (arith, few)
 few_more size call by (helds.Reset type) old new few adds = let m = adds.3 in omega (arith, m)
 few_more size call by helds.Asleep old new few adds = let m = adds.5 in omega (arith, m)
 
 pub begins_after : (issued : List Change) (size : Size) (call : Call) (by : ℕ) (held : Held) (old new : List Change) → BeginsWith issued old → AddsBy size call by held old new → BeginsWith issued new
 begins_after issued size call by helds.Goes old new was adds = begins_still issued old new was adds
+begins_after issued size call by helds.Dozing old new was adds = begins_still issued old new was adds
 begins_after issued size call by (helds.Reset type) old new was adds = begins_on issued old new (Reset adds.0) was adds.2
 begins_after issued size call by helds.Asleep old new was adds = begins_on issued old new (Suspend by adds.0 adds.1 adds.2) was adds.4
 
 pub no_receipt : (size : Size) (call : Call) (by : ℕ) (held : Held) → added held ≡ 0 → IsToldBy size call by held None
 no_receipt size call by helds.Goes e = refl
+no_receipt size call by helds.Dozing e = refl
 no_receipt size call by (helds.Reset type) e = let no : ⊥ = omega (arith, e) in absurd no
 no_receipt size call by helds.Asleep e = let no : ⊥ = omega (arith, e) in absurd no
 
@@ -102,6 +106,7 @@ empty_no old new c is none = let longer = one_longer old new c is in omega (arit
 pub receipt_of : (size : Size) (call : Call) (by : ℕ) (held : Held) (old new : List Change) (o : Option (ℕ × Entry)) → (added held ≡ 0 → ⊥) → AddsBy size call by held old new
     → IfSome o (λ t. IsLastOf new t.0 t.1) → (o ≡ None → length new ≡ 0) → IsToldBy size call by held o
 receipt_of size call by helds.Goes old new o more adds some none = absurd (more refl)
+receipt_of size call by helds.Dozing old new o more adds some none = absurd (more refl)
 receipt_of size call by (helds.Reset type) old new (Some t) more adds some none =
     let is = last_is old new (Reset adds.0) t.0 t.1 adds.2 some in
     (adds.0, adds.1, (t.0, ap (λ (e : Entry). Some (t.0, e)) (reset_is t.1 is.0 adds.0 is.1)))
@@ -114,6 +119,7 @@ receipt_of size call by helds.Asleep old new None more adds some none = absurd (
 -- ---- the book stays the journal's
 one_more : (size : Size) (call : Call) (by : ℕ) (held : Held) (old new : List Change) → (added held ≡ 0 → ⊥) → AddsBy size call by held old new → (c : Change) × (new ≡ old ++ c ∷ [])
 one_more size call by helds.Goes old new some_of adds = absurd (some_of refl)
+one_more size call by helds.Dozing old new some_of adds = absurd (some_of refl)
 one_more size call by (helds.Reset type) old new some_of adds = (Reset adds.0, adds.2)
 one_more size call by helds.Asleep old new some_of adds = (Suspend by adds.0 adds.1 adds.2, adds.4)
 
@@ -132,6 +138,7 @@ place_after size call by held old new log n some_of adds is tied =
 
 pub none_added : (size : Size) (call : Call) (by : ℕ) (held : Held) (old new : List Change) → added held ≡ 0 → AddsBy size call by held old new → new ≡ old
 none_added size call by helds.Goes old new none adds = adds
+none_added size call by helds.Dozing old new none adds = adds
 none_added size call by (helds.Reset type) old new none adds = let no : ⊥ = omega (arith, none) in absurd no
 none_added size call by helds.Asleep old new none adds = let no : ⊥ = omega (arith, none) in absurd no
 

@@ -10,6 +10,7 @@ use Rattle.board_model.specs.Views.{change_in}
 use Rattle.sbi_abi.specs.declared.call.Call.{Call}
 use Rattle.sbi_abi.specs.declared.call.Call.TheVariants as calls
 use Rattle.susp.specs.Checks.{IsChecked}
+use Rattle.susp.specs.declared.sleeps.Sleep.TheVariants.{ToRam, ToDisk}
 use Rattle.sbi.specs.Resets.{reset_of}
 use Rattle.sbi.specs.declared.resets.ResetType.{ResetType}
 use Rattle.sbi.specs.declared.dispatches.Held.{Held}
@@ -23,12 +24,20 @@ AsksReset call type cause = ⊥
 -- a suspension to disk, resumed at that address, which is valid on the board, with that opaque value
 abbrev pub AsksSleep : Size → Call → ℕ → ℕ → Type 0
 AsksSleep size (calls.SystemSuspend kind address value) site opaque =
-    IsChecked size kind address (Ok site) × (opaque ≡ value)
+    IsChecked size kind address (Ok (ToDisk, site)) × (opaque ≡ value)
 AsksSleep size call site opaque = ⊥
 
--- What was told of the call has the receipt of its command, and an error has none.
+-- a suspension to RAM, after which the hart begins again at that address, which is valid on the board, with that
+-- opaque value
+abbrev pub AsksDoze : Size → Call → ℕ → ℕ → Type 0
+AsksDoze size (calls.SystemSuspend kind address value) site opaque =
+    IsChecked size kind address (Ok (ToRam, site)) × (opaque ≡ value)
+AsksDoze size call site opaque = ⊥
+
+-- What was told of the call has the receipt of its command; an error has none, and a doze is no command.
 abbrev pub IsToldBy : Size → Call → ℕ → Held → Option (ℕ × Entry) → Type 0
 IsToldBy size call by helds.Goes told = told ≡ None
+IsToldBy size call by helds.Dozing told = told ≡ None
 IsToldBy size call by (helds.Reset type) told =
     (cause : Reason) × AsksReset call type cause × ((n : ℕ) × (told ≡ Some (n, entries.Command (commands.Reset cause))))
 IsToldBy size call by helds.Asleep told =
@@ -38,6 +47,7 @@ IsToldBy size call by helds.Asleep told =
 -- the journal after it
 abbrev pub AddsBy : Size → Call → ℕ → Held → List Change → List Change → Type 0
 AddsBy size call by helds.Goes old new = new ≡ old
+AddsBy size call by helds.Dozing old new = new ≡ old
 AddsBy size call by (helds.Reset type) old new =
     (cause : Reason) × AsksReset call type cause × (new ≡ old ++ Reset cause ∷ [])
     × (length old < 4096)
@@ -47,6 +57,7 @@ AddsBy size call by helds.Asleep old new =
 
 abbrev pub added : Held → ℕ
 added helds.Goes = 0
+added helds.Dozing = 0
 added (helds.Reset type) = 1
 added helds.Asleep = 1
 

@@ -22,12 +22,12 @@ use board_model::{Command, Durable, Entry, Refusal, Shape};
 use crew::Crew;
 use disk::Disk;
 use hart::Hart;
-use ram::Ram;
 use receipts::{Book, Journal, Keeper, Part};
 use sbi::{Held, dispatch_held};
 use sbi_calls::{Seats, Tables};
 use std::alloc::Global;
 use store::Store;
+use susp::Bus;
 
 /// A store whose journal is J's: its open found what J says, its board has that size, its journal begins with
 /// what the boot issued, and its state now is what the journal makes of what was found. The table of commands
@@ -96,14 +96,14 @@ impl<D: Disk + Drop, J: Journal> SharedStore<D, J> {
     }
 
     /// The durable call at which a hart stands, as `dispatch_held`, and the receipt of its command, where that was
-    /// acknowledged.
+    /// acknowledged. A doze adds no command, and has no receipt.
     pub fn call<C: Crew>(
         &mut self,
         alloc: Global,
         hart: &mut Hart,
         seats: Seats,
         tables: &Tables,
-        ram: &Ram,
+        bus: &mut Bus,
         crew: &C,
         part: Part<J>,
     ) -> (Seats, Held, Option<Told<J>>, Part<J>)
@@ -113,13 +113,13 @@ impl<D: Disk + Drop, J: Journal> SharedStore<D, J> {
         ensures gives { GivesBack tables.entry.now hart.old.id seats result.0 }
         ensures acts { Acts hart.old.id (stage_by_held result.1) result.0 }
         ensures id { hart.new.id ≡ hart.old.id }
-        ensures makes { MakesHeld (harts_of_both tables.entry.now) ram.now (call_of hart.old) hart.old hart.new
-            (known seats) (known result.0) (store_in self.old) (store_in self.new) result.1 }
+        ensures makes { MakesHeld (harts_of_both tables.entry.now) (call_of hart.old) hart.old hart.new
+            (known seats) (known result.0) bus.old bus.new (store_in self.old) (store_in self.new) result.1 }
         ensures board { size_of_store (store_in self.old) ≡ J.size }
         ensures told { IsToldBy J.size (call_of hart.old) hart.old.id result.1 result.2 }
         ensures noted { result.3 ≡ part_after result.2 part }
     {
-        let (seats, held) = dispatch_held(alloc, hart, seats, tables, ram, &mut self.store, crew);
+        let (seats, held) = dispatch_held(alloc, hart, seats, tables, bus, &mut self.store, crew);
         let more = added(held);
         self.count += more;
         if more == 0 {
@@ -168,7 +168,7 @@ fn added(held: Held) -> u32
     ensures { result ≡ added held }
 {
     match held {
-        Held::Goes => 0,
+        Held::Goes | Held::Dozing => 0,
         Held::Asleep | Held::Reset(_) => 1,
     }
 }

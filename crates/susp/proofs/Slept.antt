@@ -1,5 +1,5 @@
 -- What a system suspend comes to, put together from its steps.
-use Rattle.std.proofs.Common.{◌≡◌, ◌↔◌, ◌∙◌, ℕ, Bool, true, false, true≢false, IsTrue, List, Some, None, Ok, Err, refl, sym, inl, inr}
+use Rattle.std.proofs.Common.{◌≡◌, ◌↔◌, ◌∙◌, ℕ, Bool, true, false, true≢false, IsTrue, List, Result, Ok, Err, refl, sym, inl, inr}
 use Rattle.disk.specs.declared.device.Disk.{Ghosts}
 use Rattle.disk.specs.declared.device.Lane.{Ghosts as Lanes}
 use Rattle.board_model.specs.declared.refusal.Refusal.{Refusal}
@@ -14,7 +14,10 @@ use Rattle.sbi_abi.specs.declared.ret.SbiError.TheVariants.{Failed, Denied}
 use Rattle.store.specs.Views.{size_of_store}
 use Rattle.store.specs.declared.stores.Store.{Store}
 use Rattle.susp.specs.Checks.{IsChecked}
-use Rattle.susp.specs.Sleeps.{AreUnclaimed, AreStopped, AsksToSleep, Sleeps, SleepsAlone}
+use Rattle.susp.specs.Sleeps.{AreUnclaimed, AreStopped, FallsAsleep, FallsAsleepBy, Sleeps, SleepsAlone}
+use Rattle.susp.specs.declared.sleeps.Sleep.{Sleep}
+use Rattle.susp.specs.declared.buses.Bus.{Bus}
+use Rattle.sbi_abi.specs.declared.ret.SbiError.{SbiError}
 
 -- what the look of quiet told
 abbrev pub Looked : ℕ → ℕ → Bool → List HartView → List HartView → Type 0
@@ -26,39 +29,32 @@ LookedAlone harts by quiet c c' = ActsAlone harts c c' (λ states. IsTrue quiet 
 pub others_then : (h : ℕ) (a b c : List HartView) → KeepsOthers h a b → KeepsOthers h b c → KeepsOthers h a c
 others_then h a b c p q = record { harts = q.harts ∙ p.harts; stages = λ k st ne s. q.stages k st ne (p.stages k st ne s) }
 
-module _ {D L : Type 0} {g : Ghosts D L} {l : Lanes L} (harts by kind address opaque : ℕ) (memory : List ℕ) (old : Store D L g l) (site : ℕ) (checked : IsChecked (size_of_store old) kind address (Ok site)) where
-  pub denied_steps : (quiet : Bool) (vs mid : List HartView) → quiet ≡ false → Looked harts by quiet vs mid → Sleeps harts by kind address opaque memory vs old (Some Denied) mid old
+module _ {D L : Type 0} {g : Ghosts D L} {l : Lanes L} (harts by kind address opaque : ℕ) (bus : Bus) (old : Store D L g l) (sleep : Sleep) (site : ℕ) (checked : IsChecked (size_of_store old) kind address (Ok (sleep, site))) where
+  pub denied_steps : (quiet : Bool) (vs mid : List HartView) → quiet ≡ false → Looked harts by quiet vs mid → Sleeps harts by kind address opaque vs bus old (Err Denied) mid bus old
   denied_steps quiet vs mid off looked = record {
-    asked = Ok site;
+    asked = Ok (sleep, site);
     checked = checked;
-    slept = (looked.0, mid, looked.2, inl ((λ are. absurd (true≢false (sym (looked.1.1 are) ∙ off))), refl, refl, refl));
+    slept = (looked.0, mid, looked.2, inl ((λ are. absurd (true≢false (sym (looked.1.1 are) ∙ off))), refl, refl, refl, refl));
   }
 
-  pub asleep_steps : (quiet : Bool) (vs mid : List HartView) (n : ℕ) (new : Store D L g l) → quiet ≡ true → Looked harts by quiet vs mid → AsksToSleep by site opaque memory old (Ok n) new
-      → Sleeps harts by kind address opaque memory vs old None mid new
-  asleep_steps quiet vs mid n new holds looked did = record {
-    asked = Ok site;
+  pub fallen_steps : (quiet : Bool) (vs mid vs' : List HartView) (fell : Result Sleep SbiError) (bus' : Bus) (new : Store D L g l) → quiet ≡ true → Looked harts by quiet vs mid
+      → FallsAsleep sleep by site opaque mid bus old fell vs' bus' new → Sleeps harts by kind address opaque vs bus old fell vs' bus' new
+  fallen_steps quiet vs mid vs' fell bus' new holds looked fallen = record {
+    asked = Ok (sleep, site);
     checked = checked;
-    slept = (looked.0, mid, looked.2, inr (looked.1.0 holds, (Ok n, did, (refl, refl))));
-  }
-
-  pub refused_steps : (quiet : Bool) (vs mid vs' : List HartView) (e : Refusal) (new : Store D L g l) → quiet ≡ true → Looked harts by quiet vs mid → AsksToSleep by site opaque memory old (Err e) new
-      → ((found : ℕ) × HasNoted by Running (Unquieted found) mid vs') → Sleeps harts by kind address opaque memory vs old (Some Failed) vs' new
-  refused_steps quiet vs mid vs' e new holds looked did ended = record {
-    asked = Ok site;
-    checked = checked;
-    slept = (looked.0, mid, looked.2, inr (looked.1.0 holds, (Err e, did, (refl, ended))));
+    slept = (looked.0, mid, looked.2, inr (looked.1.0 holds, fallen));
   }
 
   pub denied_alone : (quiet : Bool) (c c' : HartSeatView) → quiet ≡ false → LookedAlone harts by quiet c c' → (states : ℕ → HartState) → Shows harts c states
-      → SleepsAlone harts by kind address opaque memory states old (Some Denied) old × Shows harts c' states
+      → SleepsAlone harts by kind address opaque states bus old (Err Denied) bus old × Shows harts c' states
   denied_alone quiet c c' off looked states shows =
       let a = looked states shows in
-      (record { asked = Ok site; checked = checked; slept = inl ((λ are. absurd (true≢false (sym (a.0.1 are) ∙ off))), refl, refl) }, a.1)
+      (record { asked = Ok (sleep, site); checked = checked; slept = inl ((λ are. absurd (true≢false (sym (a.0.1 are) ∙ off))), refl, refl, refl) }, a.1)
 
-  pub refused_alone : (quiet : Bool) (c mid c' : HartSeatView) (e : Refusal) (new : Store D L g l) → quiet ≡ true → LookedAlone harts by quiet c mid → AsksToSleep by site opaque memory old (Err e) new
-      → ActsAlone harts mid c' (λ _. Unit {0}) (λ states. states) → (states : ℕ → HartState) → Shows harts c states
-      → SleepsAlone harts by kind address opaque memory states old (Some Failed) new × Shows harts c' states
-  refused_alone quiet c mid c' e new holds looked did ended states shows =
+  pub fallen_alone : (quiet : Bool) (c mid c' : HartSeatView) (fell : Result Sleep SbiError) (bus' : Bus) (new : Store D L g l) → quiet ≡ true → LookedAlone harts by quiet c mid
+      → ActsAlone harts mid c' (λ _. FallsAsleepBy sleep by site opaque bus old fell bus' new) (λ states. states) → (states : ℕ → HartState) → Shows harts c states
+      → SleepsAlone harts by kind address opaque states bus old fell bus' new × Shows harts c' states
+  fallen_alone quiet c mid c' fell bus' new holds looked fallen states shows =
       let a = looked states shows in
-      (record { asked = Ok site; checked = checked; slept = inr (a.0.0 holds, (Err e, did, refl)) }, (ended states a.1).1)
+      let b = fallen states a.1 in
+      (record { asked = Ok (sleep, site); checked = checked; slept = inr (a.0.0 holds, b.0) }, b.1)

@@ -1,3 +1,4 @@
+pub mod Dozes
 pub mod Checks
 pub mod Sleeps
 pub mod Wakes

@@ -2,8 +2,10 @@
 //! the hart table, the memory and the store, which are at hand for one moment.
 #![tactic(auto)]
 
+mod buses;
 mod sleeps;
 mod wakes;
 
-pub use sleeps::{Asleep, suspend};
+pub use buses::{Bus, Doze, wake};
+pub use sleeps::{Asleep, Sleep, suspend};
 pub use wakes::wake_image;

@@ -1,26 +1,36 @@
 //! A board is suspended.
 
 ghost use Rattle.std.specs.Prelude.{◌≡◌, ◌<◌, ℕ};
-ghost use Rattle.hsm_rule.specs.declared.view.Stage.TheVariants.{Running};
+ghost use Rattle.hsm_rule.specs.declared.view.Stage.TheVariants.{Running, Quiet};
 ghost use Rattle.hsm_rule.specs.Rule.{stands};
 ghost use Rattle.hsm.specs.Calls.{KeepsOthers, ActsAlone};
 ghost use Rattle.hsm_steps.specs.Seating.{IsSeatOf, harts_of, hart_view_of_seat, harts_in};
 ghost use Rattle.susp.specs.Checks.{IsChecked};
-ghost use Rattle.susp.specs.Sleeps.{seat_after, error_after, stage_after, Sleeps, SleepsAlone};
+ghost use Rattle.susp.specs.Sleeps.{seat_after, sleep_after, stage_after, FallsAsleep, FallsAsleepBy, Sleeps, SleepsAlone};
 
+use crate::buses::{Bus, Doze};
 use board_model::{Addr, HartId, Shape};
 use crew::Crew;
 use disk::Disk;
 use hsm::{HartSeat, HartTable};
-use ram::Ram;
 use sbi_abi::SbiError;
 use std::alloc::Global;
 use store::Store;
 
-/// A board that was suspended: its image is durable, and its life is over. No other hart leaves STOPPED while
-/// the seat is kept here.
+/// The two ways to sleep.
+#[derive(Clone, Copy, Debug, PartialEq, Eq, Drop)]
+pub enum Sleep {
+    /// The board dozes, until the wake-up device calls.
+    ToRam,
+    /// Its image is durable, and its life is over.
+    ToDisk,
+}
+
+/// A board that sleeps. No other hart leaves STOPPED while the seat is kept here.
 #[derive(Drop)]
 pub struct Asleep {
+    /// How it sleeps.
+    pub sleep: Sleep,
     /// The seat of the hart that suspended it, which is quiet.
     pub seat: HartSeat,
 }
@@ -28,36 +38,79 @@ pub struct Asleep {
 /// Suspend to disk (SBI specification 2.0, `sbi_system_suspend`: a platform-specific type).
 const TO_DISK: u32 = 0x8000_0001;
 
-/// Where the board is resumed. Checked in this order: -2 for suspend to RAM, for want of a device that wakes
-/// the board; -3 for any other type but suspend to disk; -5 for an address that is not valid.
-fn site_of(shape: &Shape, kind: u32, address: u64) -> Result<Addr, SbiError>
+/// How the board is to sleep, and where it is resumed. Checked in this order: -3 for a type that is neither;
+/// -5 for an address that is not valid.
+fn asked_sleep(shape: &Shape, kind: u32, address: u64) -> Result<(Sleep, Addr), SbiError>
     ensures { IsChecked shape.now kind address result }
 {
-    if kind == 0 {
-        return Err(SbiError::NotSupported);
-    }
-    if kind != TO_DISK {
-        return Err(SbiError::InvalidParam);
-    }
+    let sleep = match kind {
+        0 => Sleep::ToRam,
+        TO_DISK => Sleep::ToDisk,
+        _ => return Err(SbiError::InvalidParam),
+    };
     match shape.address(address) {
-        Some(site) => Ok(site),
+        Some(site) => Ok((sleep, site)),
         None => Err(SbiError::InvalidAddress),
     }
 }
 
-/// Suspends the board for a hart of it: `sbi_system_suspend` of that type, with the address at which the hart
-/// is resumed and its opaque value. The hart is STARTED and not quiet, and is one of the seat.
+/// Has the board sleep for a hart that is quiet: to RAM it dozes, and nothing is asked of the store; to disk
+/// -1 where the store refuses, and then the quiet ends.
+fn fall_asleep<D: Disk + Drop, C: Crew>(
+    alloc: Global,
+    seat: HartSeat,
+    by: HartId,
+    table: &HartTable,
+    bus: &mut Bus,
+    store: &mut Store<D>,
+    crew: &C,
+    sleep: Sleep,
+    site: Addr,
+    opaque: u64,
+) -> Result<Asleep, (HartSeat, SbiError)>
+    requires seat { IsSeatOf table.now seat }
+    requires quiet { stands by Quiet (harts_in seat) }
+    ensures seat { IsSeatOf table.entry.now (seat_after result) }
+    ensures stands { stands by (stage_after (sleep_after result)) (harts_in (seat_after result)) }
+    ensures others { KeepsOthers by (harts_in seat) (harts_in (seat_after result)) }
+    ensures falls { FallsAsleep sleep by site opaque (harts_in seat) bus.old store.old (sleep_after result)
+        (harts_in (seat_after result)) bus.new store.new }
+    ensures alone { ActsAlone (harts_of table.entry.now) (hart_view_of_seat seat)
+        (hart_view_of_seat (seat_after result))
+        (λ states. FallsAsleepBy sleep by site opaque bus.old store.old (sleep_after result) bus.new store.new)
+        (λ states. states) }
+{
+    match sleep {
+        Sleep::ToRam => {
+            bus.doze = Some(Doze {
+                hart: by,
+                address: site,
+                opaque,
+                woken: false,
+            });
+            Ok(Asleep { sleep, seat })
+        }
+        Sleep::ToDisk => match store.suspend(alloc, &bus.ram, crew, by, site, opaque) {
+            Ok(_) => Ok(Asleep { sleep, seat }),
+            Err(_) => Err((hsm::unquiet(table, seat, by), SbiError::Failed)),
+        },
+    }
+}
+
+/// Has the board sleep for a hart of it: `sbi_system_suspend` of that type, with the address at which the hart
+/// begins again and its opaque value. The hart is STARTED and not quiet, and is one of the seat.
 ///
-/// Its arguments are checked first, -2, -3 and -5; then one look at the hart table, -4 where another hart is
-/// not STOPPED; then the store is asked, -1 where it refuses, and the quiet of the hart ends. The board
-/// sleeps only once its suspension was acknowledged: the image has the memory that was lent, and the hart,
-/// address and opaque value.
+/// Its arguments are checked first, -3 and -5; then one look at the hart table, -4 where another hart is not
+/// STOPPED. To RAM (type 0) the board then dozes: neither the store is asked nor the memory changed. To disk
+/// the store is asked, -1 where it refuses, and the quiet of the hart ends; the board sleeps only once its
+/// suspension was acknowledged: the image has the memory of the bus that was lent, and the hart, address and
+/// opaque value.
 pub fn suspend<D: Disk + Drop, C: Crew>(
     alloc: Global,
     seat: HartSeat,
     by: HartId,
     table: &HartTable,
-    ram: &Ram,
+    bus: &mut Bus,
     store: &mut Store<D>,
     crew: &C,
     kind: u32,
@@ -68,25 +121,24 @@ pub fn suspend<D: Disk + Drop, C: Crew>(
     requires acts { stands by Running (harts_in seat) }
     requires by { by < harts_of table.now }
     ensures seat { IsSeatOf table.entry.now (seat_after result) }
-    ensures stands { stands by (stage_after (error_after result)) (harts_in (seat_after result)) }
+    ensures stands { stands by (stage_after (sleep_after result)) (harts_in (seat_after result)) }
     ensures others { KeepsOthers by (harts_in seat) (harts_in (seat_after result)) }
-    ensures sleeps { Sleeps (harts_of table.entry.now) by kind address opaque ram.now (harts_in seat) store.old
-        (error_after result) (harts_in (seat_after result)) store.new }
+    ensures sleeps { Sleeps (harts_of table.entry.now) by kind address opaque (harts_in seat) bus.old store.old
+        (sleep_after result) (harts_in (seat_after result)) bus.new store.new }
     ensures alone { ActsAlone (harts_of table.entry.now) (hart_view_of_seat seat)
         (hart_view_of_seat (seat_after result))
-        (λ states. SleepsAlone (harts_of table.entry.now) by kind address opaque ram.now states store.old
-        (error_after result) store.new) (λ states. states) }
+        (λ states. SleepsAlone (harts_of table.entry.now) by kind address opaque states bus.old store.old
+        (sleep_after result) bus.new store.new) (λ states. states) }
 {
-    let site = match site_of(&store.shape(), kind, address) {
-        Ok(site) => site,
+    let (sleep, site) = match asked_sleep(&store.shape(), kind, address) {
+        Ok(asked) => asked,
         Err(error) => return Err((seat, error)),
     };
     let (seat, quiet) = hsm::quiet(table, seat, by);
     if !quiet {
         return Err((seat, SbiError::Denied));
     }
-    match store.suspend(alloc, ram, crew, by, site, opaque) {
-        Ok(_) => Ok(Asleep { seat }),
-        Err(_) => Err((hsm::unquiet(table, seat, by), SbiError::Failed)),
-    }
+    fall_asleep(
+        alloc, seat, by, table, bus, store, crew, sleep, site, opaque,
+    )
 }

@@ -8,7 +8,7 @@ use Rattle.hart.specs.Means.{Steps}
 use Rattle.hart.specs.declared.Outcome.{Outcome}
 use Rattle.hart.specs.declared.Outcome.TheVariants as outcomes
 use Rattle.hsm_rule.specs.declared.view.Stage.TheVariants.{Running}
-use Rattle.hsm_rule.specs.declared.view.Action.TheVariants.{Looked, Woke}
+use Rattle.hsm_rule.specs.declared.view.Action.TheVariants.{Looked, Woke, Unquieted}
 use Rattle.hsm.specs.Calls.{stage_of, state_in_word, EntersAs, FindsNone}
 use Rattle.hsm.specs.declared.state.State.{State as Code}
 use Rattle.hsm.specs.declared.state.State.TheVariants as codes
@@ -32,6 +32,10 @@ LooksOwn by k k' is =
 -- one step that takes it
 abbrev pub TakesOwn : ℕ → Known → Known → Type 0
 TakesOwn by k k' = (k'.harts ≡ k.harts) × (found : ℕ) × HasNoted by (Took found) k.pairs k'.pairs
+
+-- a hart that dozed takes what is pending for it, and ends its quiet
+abbrev pub ResumesOwn : ℕ → Known → Known → Type 0
+ResumesOwn by k k' = (mid : Known) × TakesOwn by k mid × (found : ℕ) × OneStep by Running (Unquieted found) mid k'
 
 -- ---- before the step
 -- a hart that has not entered: it finds no start that is armed for it, or enters by that start and then takes

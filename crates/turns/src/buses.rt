@@ -7,7 +7,7 @@ use hart::{Hart, Outcome};
 use ram::Ram;
 
 /// Where a hart's step finds the memory: at hand, or behind a lock that is taken for that one step.
-pub trait Bus {
+pub trait MemoryBus {
     /// That memory may be found there. Of one behind a lock nothing is known before the lock is taken.
     ghost may_hold: { Self → List ℕ → Type 0 };
 
@@ -22,7 +22,7 @@ pub trait Bus {
 }
 
 /// The memory at hand, which is the one that is found.
-impl Bus for Ram {
+impl MemoryBus for Ram {
     ghost may_hold = { λ ram memory. memory ≡ ram };
 
     ghost holds_one = { λ ram. (ram, refl) };

@@ -7,12 +7,14 @@ mod begins;
 mod buses;
 mod finishes;
 mod many;
+mod resumes;
 mod whole;
 mod words;
 
 pub use begins::{begin, look};
-pub use buses::Bus;
+pub use buses::MemoryBus;
 pub use finishes::finish;
 pub use many::turns_by_one_look;
+pub use resumes::resume;
 pub use whole::{turn, turn_by_bus};
 pub use words::{Ready, Turned};

@@ -8,7 +8,7 @@ ghost use Rattle.turns.specs.Turns.{Rests, TurnsAlone};
 ghost use Rattle.turns.specs.declared.words.Turned.TheVariants as did;
 
 use crate::begins::begin;
-use crate::buses::Bus;
+use crate::buses::MemoryBus;
 use crate::finishes::finish;
 use crate::words::{Ready, Turned};
 use board_model::Shape;
@@ -19,7 +19,7 @@ use sbi_calls::{Seats, Tables};
 /// One turn of a hart, wherever its step finds the memory. The bus is asked for a step of a STARTED hart
 /// alone.
 #[inline(always)]
-pub fn turn_by_bus<B: Bus>(
+pub fn turn_by_bus<B: MemoryBus>(
     hart: &mut Hart,
     seats: Seats,
     tables: &Tables,

@@ -11,6 +11,8 @@ pub enum Turned {
     Entered,
     /// The suspended hart woke.
     Woke,
+    /// The hart in whose doze the board was began again.
+    Resumed,
     /// It made one instruction, took a trap, or had a call answered.
     Next,
     /// It was suspended.

@@ -74,3 +74,7 @@ returns-in-Poke-clause-reported g c = λ b h.
 pub returns-in-Inspect-clause-reported : goal.returns-in-Inspect-clause-reported
 returns-in-Inspect-clause-reported g c = λ b h.
     row_reported c.args.shape.now _ _ b _ _ _ _ _ c.in-Inspect.is c.answered-in-Inspect.ensures.answer c.answered-in-Inspect.ensures.power h.1 (c.inspect_line.ensures.reported c.args.shape.now b h.0)
+
+pub returns-in-Wake-clause-reported : goal.returns-in-Wake-clause-reported
+returns-in-Wake-clause-reported g c = λ b h.
+    row_reported c.args.shape.now _ _ b _ _ _ _ _ c.in-Wake.is c.answered-in-Wake.ensures.answer c.answered-in-Wake.ensures.power h.1 (c.wake_line.ensures.reported c.args.shape.now b h.0)

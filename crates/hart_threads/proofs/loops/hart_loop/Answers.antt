@@ -1,6 +1,7 @@
-use Rattle.std.proofs.Common.{ℕ, ◌<◌, true, false, arith, refl, sym, ◌∙◌, subst}
+use Rattle.std.proofs.Common.{ℕ, ◌≡◌, ◌≤◌, ◌+◌, ◌<◌, true, false, arith, ap, refl, sym, ◌∙◌, subst}
 use Rattle.sbi_calls.specs.Both.{GivesBack, known}
 use Rattle.turns.proofs.Begun.{gives_then}
+use Rattle.hart_threads.specs.Dozing.{Looked, no_looks}
 use Rattle.hart_threads.specs.Seated.{IsSeated, StandsAfterTurn, StandsAfter}
 use Rattle.hart_threads.specs.Threads.{seated}
 use Rattle.hart_threads.specs.declared.loops.Why.TheVariants as whys
@@ -13,7 +14,8 @@ loop-made-init g c = record {
   rests = c.requires.seated.2;
   id = refl;
   part = refl;
-  turns = refl;
+  turns = ap (λ (l : Looked). seated c.args.hart (known c.args.seats) c.args.doze l) c.none-looks.ensures;
+  few = let e = ap (λ (l : Looked). l.made) c.none-looks.ensures in omega (arith, e);
 }
 
 pub loop-made-preserved : goal.loop-made-preserved
@@ -25,10 +27,11 @@ loop-made-preserved g c =
     let heard = subst (λ (k : ℕ). g.G.Gate.hears gate k c.loop-made.made) (c.id-in-loop-made.ensures ∙ (t.ensures.id ∙ i.id)) c.after.ensures in
     record {
       gives = gives_then c.args.tables.now by c.args.seats c.loop-made.seats t.result.0 i.gives (subst (λ (k : ℕ). GivesBack c.args.tables.now k c.loop-made.seats t.result.0) i.id t.ensures.gives);
-      rests = rests_on by t.result.0 t.result.1 on (subst (λ (k : ℕ). StandsAfterTurn t.result.1 k t.result.0) i.id t.ensures.stands);
+      rests = rests_on by t.result.0 t.result.1 t.result.4 on (subst (λ (k : ℕ). StandsAfterTurn t.result.1 t.result.4 k t.result.0) i.id t.ensures.stands);
       id = t.ensures.id ∙ i.id;
-      part = kept_part c.args.shape.now (seated c.loop-made.hart (known c.loop-made.seats)) (seated t.new.hart (known t.result.0)) t.result.1 t.result.2 c.args.part c.loop-made.part t.result.3 t.ensures.once on i.part t.ensures.noted;
-      turns = one_more c.args.shape.now (g.G.Gate.answers gate by) (g.G.Gate.hears gate by) c.loop-made.made (seated c.args.hart (known c.args.seats)) (seated c.loop-made.hart (known c.loop-made.seats)) (seated t.new.hart (known t.result.0)) t.result.1 t.result.2 i.turns t.ensures.once on said heard;
+      part = kept_part c.args.shape.now (seated c.loop-made.hart (known c.loop-made.seats) c.loop-made.doze c.loop-made.looks) (seated t.new.hart (known t.result.0) t.result.4 t.new.looks) t.result.1 t.result.2 c.args.part c.loop-made.part t.result.3 t.ensures.once on i.part t.ensures.noted;
+      turns = one_more c.args.shape.now (g.G.Gate.answers gate by) (g.G.Gate.hears gate by) c.loop-made.made (seated c.args.hart (known c.args.seats) c.args.doze no_looks) (seated c.loop-made.hart (known c.loop-made.seats) c.loop-made.doze c.loop-made.looks) (seated t.new.hart (known t.result.0) t.result.4 t.new.looks) t.result.1 t.result.2 i.turns t.ensures.once on said heard;
+      few = let f = i.few in let r = t.ensures.range in omega (arith, f, r);
     }
 
 pub returns-then-not-goes_on-clause-once : goal.returns-then-not-goes_on-clause-once
@@ -39,12 +42,12 @@ returns-then-not-goes_on-clause-once g c =
     let gate = c.args.gate.now in
     let said = subst (λ (k : ℕ). g.G.Gate.answers gate k c.loop-made.made true) (c.id.ensures ∙ i.id) c.if-not-before.ensures in
     let heard = subst (λ (k : ℕ). g.G.Gate.hears gate k c.loop-made.made) (c.id-in-loop-made.ensures ∙ (t.ensures.id ∙ i.id)) c.after.ensures in
-    ended_life c.args.shape.now (g.G.Gate.answers gate by) (g.G.Gate.hears gate by) c.args.turns c.loop-made.made (seated c.args.hart (known c.args.seats)) (seated c.loop-made.hart (known c.loop-made.seats)) (seated t.new.hart (known t.result.0)) t.result.1 t.result.2 i.turns t.ensures.once off said heard
+    ended_life c.args.shape.now (g.G.Gate.answers gate by) (g.G.Gate.hears gate by) c.args.turns c.loop-made.made (seated c.args.hart (known c.args.seats) c.args.doze no_looks) (seated c.loop-made.hart (known c.loop-made.seats) c.loop-made.doze c.loop-made.looks) (seated t.new.hart (known t.result.0) t.result.4 t.new.looks) t.result.1 t.result.2 i.turns t.ensures.once off said heard
 
 pub whole_turn-next-requires-clause-seated : goal.whole_turn-next-requires-clause-seated
 whole_turn-next-requires-clause-seated g c κs within =
     let i = c.loop-made.invariant in
-    subst (λ (k : ℕ). IsSeated c.args.tables.now k c.loop-made.seats) (sym i.id) (i.gives.seats, c.requires.seated.1, i.rests)
+    subst (λ (k : ℕ). IsSeated c.args.tables.now k c.loop-made.seats c.loop-made.doze) (sym i.id) (i.gives.seats, c.requires.seated.1, i.rests)
 
 pub returns-then-not-goes_on-clause-gives : goal.returns-then-not-goes_on-clause-gives
 returns-then-not-goes_on-clause-gives g c =
@@ -55,7 +58,7 @@ pub returns-then-not-goes_on-clause-stands : goal.returns-then-not-goes_on-claus
 returns-then-not-goes_on-clause-stands g c =
     let i = c.loop-made.invariant in let t = c.whole_turn-next in
     let off = sym c.goes_on.ensures ∙ c.if-not-goes_on.true in
-    subst (λ (k : ℕ). StandsAfter whys.Life k t.result.0) i.id (stands_over c.loop-made.hart.id t.result.0 t.result.1 off t.ensures.stands)
+    subst (λ (k : ℕ). StandsAfter whys.Life t.result.4 k t.result.0) i.id (stands_over c.loop-made.hart.id t.result.0 t.result.1 t.result.4 off t.ensures.stands)
 
 pub returns-then-not-before-clause-once : goal.returns-then-not-before-clause-once
 returns-then-not-before-clause-once g c =

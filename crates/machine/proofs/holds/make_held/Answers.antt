@@ -16,5 +16,5 @@ returns-clause-gives g c =
 
 pub returns-clause-alone : goal.returns-clause-alone
 returns-clause-alone g c =
-    held_then (harts_of_both c.args.tables.now) c.args.shape.now.harts c.args.ram.now (call_of c.args.hart.now) c.args.hart.now c.dispatch_held-seats.new.hart c.args.seats c.dispatch_held-seats.result.0 c.settle.result
-    c.args.store.now c.dispatch_held-seats.new.store c.dispatch_held-seats.result.1 c.requires.tables c.dispatch_held-seats.ensures.alone c.settle.ensures.alone
+    held_then (harts_of_both c.args.tables.now) c.args.shape.now.harts (call_of c.args.hart.now) c.args.hart.now c.dispatch_held-seats.new.hart c.args.seats c.dispatch_held-seats.result.0 c.settle.result
+    c.args.bus.now c.dispatch_held-seats.new.bus c.args.store.now c.dispatch_held-seats.new.store c.dispatch_held-seats.result.1 c.requires.tables c.dispatch_held-seats.ensures.alone c.settle.ensures.alone

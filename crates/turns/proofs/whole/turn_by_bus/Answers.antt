@@ -49,14 +49,14 @@ returns-in-Steps-clause-asks g c is =
 pub returns-in-Idle-clause-turns : goal.returns-in-Idle-clause-turns
 returns-in-Idle-clause-turns g c =
     let began = comes c.args.shape.now c.args.hart.now _ c.id.result c.args.seats c.begin-seats.result.0 c.begin-seats.result.1 readies.Idle c.requires.tables c.id.ensures c.in-Idle.is c.begin-seats.ensures.own c.begin-seats.ensures.alone in
-    let held = g.met.B.Bus.holds_one c.args.bus.now in
+    let held = g.met.B.MemoryBus.holds_one c.args.bus.now in
     let turned = idle_turn c.args.shape.now c.args.hart.now held.0 c.args.seats c.begin-seats.result.0 began in
     (held.0, held.0, held.1, held.1, turned.0, turned.1)
 
 pub returns-in-Woke-clause-turns : goal.returns-in-Woke-clause-turns
 returns-in-Woke-clause-turns g c =
     let began = comes c.args.shape.now c.args.hart.now _ c.id.result c.args.seats c.begin-seats.result.0 c.begin-seats.result.1 readies.Woke c.requires.tables c.id.ensures c.in-Woke.is c.begin-seats.ensures.own c.begin-seats.ensures.alone in
-    let held = g.met.B.Bus.holds_one c.args.bus.now in
+    let held = g.met.B.MemoryBus.holds_one c.args.bus.now in
     let turned = woke_turn c.args.shape.now c.args.hart.now held.0 c.args.seats c.begin-seats.result.0 began in
     (held.0, held.0, held.1, held.1, turned.0, turned.1)
 
@@ -64,7 +64,7 @@ pub returns-in-Enters-clause-turns : goal.returns-in-Enters-clause-turns
 returns-in-Enters-clause-turns g c =
     let began = comes c.args.shape.now c.args.hart.now _ c.id.result c.args.seats c.begin-seats.result.0 c.begin-seats.result.1 (readies.Enters c.in-Enters.address c.in-Enters.opaque) c.requires.tables c.id.ensures c.in-Enters.is c.begin-seats.ensures.own c.begin-seats.ensures.alone in
     let fresh = entered c.args.hart.now c.fresh.result c.id-in-Enters.result c.value.result c.in-Enters.address c.in-Enters.opaque c.fresh.ensures c.id-in-Enters.ensures c.value.ensures.value in
-    let held = g.met.B.Bus.holds_one c.args.bus.now in
+    let held = g.met.B.MemoryBus.holds_one c.args.bus.now in
     let turned = enters_turn c.args.shape.now c.args.hart.now c.fresh.result held.0 c.args.seats c.begin-seats.result.0 c.in-Enters.address c.in-Enters.opaque began fresh in
     (held.0, held.0, held.1, held.1, turned.0, turned.1)
 

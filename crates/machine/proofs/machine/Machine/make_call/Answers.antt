@@ -1,8 +1,16 @@
-use Rattle.std.proofs.Common.{sym, ◌∙◌, subst, inl, inr}
+use Rattle.std.proofs.Common.{◌≡◌, sym, ap, ◌∙◌, subst, inl, inr}
+use Rattle.std.specs.Prelude.{slice_set}
+use Rattle.hsm.specs.Views.{listed}
+use Rattle.sbi_abi.specs.Calls.{call_of}
 use Rattle.machine.specs.Machine.{Machine}
-use Rattle.machine.specs.Durables.{IsHartStarted, HeldOf}
-use Rattle.machine.proofs.Holding.{Finds, Left, finds, left}
-use Rattle.machine.proofs.Commands.{started_acts, held_action}
+use Rattle.machine.specs.Held.{shown_by}
+use Rattle.machine.specs.Durables.{StandsAtCall, HeldOf, MakesCall}
+use Rattle.machine.proofs.Holding.{Action, shown_as, Finds, Left, finds, seats_found, one_shown, left}
+use Rattle.machine.proofs.Fallen.{stands_still}
+use Rattle.sbi_calls.specs.Both.{TableState}
+use Rattle.susp.specs.Sleeps.{AreStopped}
+use Rattle.susp.specs.declared.buses.Bus.{Bus}
+use Rattle.machine.proofs.Commands.{started_acts, held_action, LeavesBus, leaves_bus, own_then, others_then}
 use Rattle.machine.proofs.machine.Machine.make_call.Given.{Over}
 use Rattle.machine.proofs.machine.Machine.make_call.Goals.{After-index_mut, After-one_set}
 use Rattle.machine.proofs.machine.Machine.make_call.Goals as goal
@@ -10,21 +18,62 @@ use Rattle.machine.proofs.machine.Machine.make_call.Goals as goal
 found : (g : Over) (c : After-index_mut g) → Finds c.self.inside c.unwrap-seats.result c.index.result c.args.id c.index_mut.result.now
 found g c = finds c.self.view_is c.self.invariant (sym c.take.ensures.value ∙ c.unwrap-seats.ensures) c.index.ensures.value c.requires.hart c.index_mut.ensures.value
 
-did : (g : Over) (c : After-one_set g) → Finds c.self.inside c.unwrap-seats.result c.index.result c.args.id c.index_mut.result.now
-    → Left (λ size a b. HeldOf size a b c.args.store.now c.make_held-seats.new.store c.make_held-seats.result.1) c.self.inside c.args.self.now c.make_held-seats.result.0 c.index.result c.args.id c.make_held-seats.new.hart c.self.inside.ram
-did g c it =
+stands : (g : Over) (c : After-index_mut g) → StandsAtCall c.args.id (shown_as c.self.inside)
+stands g c = subst (λ (m : Machine). StandsAtCall c.args.id m) (sym c.self.view_is) c.requires.stands
+
+abbrev makes : (g : Over) (c : After-one_set g) → Action
+makes g c size a b = HeldOf size c.self.inside.bus.doze c.make_held-seats.new.bus.doze a b c.args.store.now c.make_held-seats.new.store c.make_held-seats.result.1
+
+did : (g : Over) (c : After-one_set g) → Finds c.self.inside c.unwrap-seats.result c.index.result c.args.id c.index_mut.result.now → StandsAtCall c.args.id (shown_as c.self.inside)
+    → Left (makes g c) c.self.inside c.make_held-seats.result.0 c.index.result c.args.id c.make_held-seats.new.hart c.make_held-seats.new.bus.ram c.make_held-seats.new.bus.doze
+did g c it is =
     let i = c.self.inside in
     let e = c.make_held-seats.ensures in
-    left it _ c.one_table.ensures.list c.one_set.ensures.list c.self.view_is
-    (held_action i.shape i.ram c.index_mut.result.now c.make_held-seats.new.hart c.unwrap-seats.result c.make_held-seats.result.0 c.args.store.now c.make_held-seats.new.store c.make_held-seats.result.1 e.alone)
-    e.id e.gives (inr (inl e.acts.0), e.acts.1)
+    let x = c.index_mut.result.now in
+    let s = c.unwrap-seats.result in
+    let bus = c.make_held-seats.new.bus in
+    let held = c.make_held-seats.result.1 in
+    let made = e.alone (shown_by i.shape.harts s) (seats_found it).shows in
+    let leaves : LeavesBus i.shape.harts x.id (listed (shown_by i.shape.harts s).states) i.bus bus held =
+    leaves_bus i.shape.harts (call_of x) x c.make_held-seats.new.hart (shown_by i.shape.harts s) i.bus bus c.args.store.now c.make_held-seats.new.store held made.0 in
+    left it (makes g c) bus.doze c.one_table.ensures.list c.one_set.ensures.list
+    (held_action i.shape x c.make_held-seats.new.hart s c.make_held-seats.result.0 i.bus bus c.args.store.now c.make_held-seats.new.store held e.alone)
+    e.id e.gives (own_then it is bus held leaves e.gives e.acts) (others_then it is bus held leaves e.gives e.acts)
+
+pub returns-clause-dozes : goal.returns-clause-dozes
+returns-clause-dozes g c is =
+    let at = goal.at.returns-clause-dozes g c in
+    let i = c.self.inside in
+    let it = found g at.After-index_mut in
+    let l = did g at.After-one_set it (stands g at.After-index_mut) in
+    let x = c.index_mut.result.now in
+    let s = c.unwrap-seats.result in
+    let s' = c.make_held-seats.result.0 in
+    let bus = c.make_held-seats.new.bus in
+    let held = c.make_held-seats.result.1 in
+    let made = c.make_held-seats.ensures.alone (shown_by i.shape.harts s) (seats_found it).shows in
+    let leaves : LeavesBus i.shape.harts x.id (listed (shown_by i.shape.harts s).states) i.bus bus held =
+    leaves_bus i.shape.harts (call_of x) x c.make_held-seats.new.hart (shown_by i.shape.harts s) i.bus bus c.args.store.now c.make_held-seats.new.store held made.0 in
+    let same : shown_by i.shape.harts s' ≡ shown_by i.shape.harts s = one_shown c.one_table.ensures.list c.one_set.ensures.list i.shape.harts s' (shown_by i.shape.harts s) made.1 in
+    let new : Machine = record { size = i.shape; memory = bus.ram; doze = bus.doze; harts = slice_set i.harts.items c.index.result c.make_held-seats.new.hart; table = shown_by i.shape.harts s' } in
+    elim leaves [
+      | inl p ↦ (
+          stands_still i.shape.harts new x.id p.2 (ap (λ (b : Bus). b.doze) p.5) p.3 p.4 l.held.numbered l.held.seats.shows.0.0
+          (subst (λ (t : TableState). AreStopped i.shape.harts x.id (listed t.states)) (sym same) p.1))
+      | inr p ↦ absurd (p.0 is)
+    ]
 
 pub make_held-seats-requires-clause-acts : goal.make_held-seats-requires-clause-acts
 make_held-seats-requires-clause-acts g c κs within =
-    started_acts (found g (goal.at.make_held-seats-requires-clause-acts g c).After-index_mut) (subst (λ (m : Machine). IsHartStarted c.args.id m) (sym c.self.view_is) c.requires.started)
+    let at = (goal.at.make_held-seats-requires-clause-acts g c).After-index_mut in
+    started_acts (found g at) (stands g at)
 
 pub invariant_of-self : goal.invariant_of-self
-invariant_of-self g c = let at = goal.at.invariant_of-self g c in (did g at.After-one_set (found g at.After-index_mut)).held
+invariant_of-self g c = let at = goal.at.invariant_of-self g c in (did g at.After-one_set (found g at.After-index_mut) (stands g at.After-index_mut)).held
 
 pub returns-clause-makes : goal.returns-clause-makes
-returns-clause-makes g c = let at = goal.at.returns-clause-makes g c in (did g at.After-one_set (found g at.After-index_mut)).made
+returns-clause-makes g c =
+    let at = goal.at.returns-clause-makes g c in
+    let l = did g at.After-one_set (found g at.After-index_mut) (stands g at.After-index_mut) in
+    let new : Machine = record { size = c.self.inside.shape; memory = c.make_held-seats.new.bus.ram; doze = c.make_held-seats.new.bus.doze; harts = slice_set c.self.inside.harts.items c.index.result c.make_held-seats.new.hart; table = shown_by c.self.inside.shape.harts c.make_held-seats.result.0 } in
+    subst (λ (m : Machine). MakesCall c.args.id m new c.args.store.now c.make_held-seats.new.store c.make_held-seats.result.1) c.self.view_is (c.make_held-seats.new.bus.doze, l.after, l.did, l.made)

@@ -1,25 +1,36 @@
-use Rattle.std.proofs.Common.{sym, ◌≡◌, ◌∙◌, subst}
+use Rattle.std.proofs.Common.{ℕ, ◌<◌, sym, ◌≡◌, ◌∙◌, subst}
+use Rattle.std.specs.Prelude.{length}
+use Rattle.susp.specs.Dozes.{doze_of}
 use Rattle.turns.specs.Turns.{has_pending}
 use Rattle.machine.specs.Machine.{Machine}
+use Rattle.machine.proofs.Dozing.{sits_by}
+use Rattle.machine.proofs.Holding.{all_seats}
 use Rattle.machine.proofs.Looks.{held_still, shows_still, found_it}
 use Rattle.machine.proofs.machine.Machine.pending.Goals as goal
 
 pub invariant_of-self : goal.invariant_of-self
 invariant_of-self c =
     let i = c.self.inside in
-    held_still i.shape i.ram i.harts.items i.tables i.seats c.unwrap-seats.result c.look-seats.result.0 _ c.args.id c.look-seats.result.1 c.one_table.ensures.list c.one_set.ensures.list c.self.invariant
+    held_still i.shape i.bus.ram i.harts.items i.tables i.seats i.bus.doze c.unwrap-seats.result c.look-seats.result.0 _ c.args.id c.look-seats.result.1 c.one_table.ensures.list c.one_set.ensures.list c.self.invariant
     (sym c.take.ensures.value ∙ c.unwrap-seats.ensures) c.self.invariant.tables c.look-seats.ensures.gives c.look-seats.ensures.harts c.look-seats.ensures.alone
 
 pub returns-clause-value : goal.returns-clause-value
 returns-clause-value c =
     let i = c.self.inside in
     subst (λ (m : Machine). c.look-seats.result.1 ≡ has_pending c.args.id m.table.pairs) c.self.view_is
-    (found_it i.shape i.ram i.harts.items i.tables i.seats c.unwrap-seats.result c.look-seats.result.0 _ c.args.id c.look-seats.result.1 c.one_table.ensures.list c.one_set.ensures.list c.self.invariant
+    (found_it i.shape i.bus.ram i.harts.items i.tables i.seats i.bus.doze c.unwrap-seats.result c.look-seats.result.0 _ c.args.id c.look-seats.result.1 c.one_table.ensures.list c.one_set.ensures.list c.self.invariant
     (sym c.take.ensures.value ∙ c.unwrap-seats.ensures) c.self.invariant.tables c.look-seats.ensures.gives c.look-seats.ensures.harts c.look-seats.ensures.alone)
 
 pub returns-clause-stays : goal.returns-clause-stays
 returns-clause-stays c =
     let i = c.self.inside in
-    shows_still i.shape i.ram i.harts.items i.tables i.seats c.unwrap-seats.result c.look-seats.result.0 _ c.args.id c.look-seats.result.1 c.one_table.ensures.list c.one_set.ensures.list c.self.invariant
+    shows_still i.shape i.bus.ram i.harts.items i.tables i.seats i.bus.doze c.unwrap-seats.result c.look-seats.result.0 _ c.args.id c.look-seats.result.1 c.one_table.ensures.list c.one_set.ensures.list c.self.invariant
     (sym c.take.ensures.value ∙ c.unwrap-seats.ensures) c.self.invariant.tables c.look-seats.ensures.gives c.look-seats.ensures.harts c.look-seats.ensures.alone
     ∙ c.self.view_is
+
+pub look-seats-requires-clause-sits : goal.look-seats-requires-clause-sits
+look-seats-requires-clause-sits c =
+    let i = c.self.inside in
+    let whole = all_seats i.shape i.harts.items i.tables i.seats c.unwrap-seats.result i.bus.doze c.self.invariant (sym c.take.ensures.value ∙ c.unwrap-seats.ensures) in
+    let within : c.args.id < length i.harts.items = subst (λ (m : Machine). c.args.id < length m.harts) (sym c.self.view_is) c.requires in
+    sits_by (doze_of c.args.id i.bus.doze) c.args.id c.unwrap-seats.result (whole.rests c.args.id (subst (λ (n : ℕ). c.args.id < n) c.self.invariant.long within))

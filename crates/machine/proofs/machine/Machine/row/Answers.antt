@@ -1,21 +1,16 @@
-use Rattle.std.proofs.Common.{sym, ◌∙◌}
-use Rattle.turns.specs.Many.{RowOf}
-use Rattle.machine.proofs.Holding.{Finds, Left, finds, seat_rests, left}
-use Rattle.machine.proofs.machine.Machine.row.Goals.{After-index_mut, After-one_set}
+use Rattle.std.proofs.Common.{Some, None, refl, sym, ◌∙◌, subst}
+use Rattle.machine.specs.Turns.{RowBy}
+use Rattle.machine.proofs.Rows.{rows_as_many}
 use Rattle.machine.proofs.machine.Machine.row.Goals as goal
 
-found : (c : After-index_mut) → Finds c.self.inside c.unwrap-seats.result c.index.result c.args.id c.index_mut.result.now
-found c = finds c.self.view_is c.self.invariant (sym c.take.ensures.value ∙ c.unwrap-seats.ensures) c.index.ensures.value c.requires.hart c.index_mut.ensures.value
+pub returns-in-Some-clause-row : goal.returns-in-Some-clause-row
+returns-in-Some-clause-row c = subst (λ o. RowBy o c.args.id 1 c.args.self.now c.doze_turn.new.self c.doze_turn.result) (sym c.in-Some.is ∙ c.dozes.ensures) (refl, c.doze_turn.ensures)
 
-did : (c : After-one_set) → Finds c.self.inside c.unwrap-seats.result c.index.result c.args.id c.index_mut.result.now
-    → Left (λ size a b. RowOf size c.turns_by_one_look-seats.result.1 a b c.turns_by_one_look-seats.result.2) c.self.inside c.args.self.now c.turns_by_one_look-seats.result.0 c.index.result c.args.id c.turns_by_one_look-seats.new.hart c.turns_by_one_look-seats.new.ram
-did c it = let e = c.turns_by_one_look-seats.ensures in left it _ c.one_table.ensures.list c.one_set.ensures.list c.self.view_is e.alone e.id e.gives e.rests
+pub returns-in-None-clause-row : goal.returns-in-None-clause-row
+returns-in-None-clause-row c = subst (λ o. RowBy o c.args.id c.own_row.result.0 c.args.self.now c.own_row.new.self c.own_row.result.1) (sym c.in-None.is ∙ c.dozes.ensures) c.own_row.ensures.row
 
-pub turns_by_one_look-seats-requires-clause-rests : goal.turns_by_one_look-seats-requires-clause-rests
-turns_by_one_look-seats-requires-clause-rests c = seat_rests (found (goal.at.turns_by_one_look-seats-requires-clause-rests c).After-index_mut)
+pub returns-in-Some-clause-harts : goal.returns-in-Some-clause-harts
+returns-in-Some-clause-harts c = rows_as_many c.args.id 1 _ _ _ (returns-in-Some-clause-row c)
 
-pub invariant_of-self : goal.invariant_of-self
-invariant_of-self c = let at = goal.at.invariant_of-self c in (did at.After-one_set (found at.After-index_mut)).held
-
-pub returns-clause-row : goal.returns-clause-row
-returns-clause-row c = let at = goal.at.returns-clause-row c in (did at.After-one_set (found at.After-index_mut)).made
+pub returns-in-None-clause-harts : goal.returns-in-None-clause-harts
+returns-in-None-clause-harts c = rows_as_many c.args.id _ _ _ _ (returns-in-None-clause-row c)

@@ -1,7 +1,7 @@
 use Rattle.std.proofs.Common.{[]}
 use Rattle.store.specs.Views.{found_state, size_of_store}
 use Rattle.receipts.specs.Views.{id_of, parts_of}
-use Rattle.hart_threads_tests.proofs.unheld.the_store_is_not_held_while_an_answer_is_written.Given as goal
+use Rattle.hart_threads_tests.proofs.unheld.no_lock_is_held_while_an_answer_is_written.Given as goal
 
 -- the life that the board has just begun
 abbrev pub ghosts-talked : goal.ghosts-talked

@@ -1,0 +1,42 @@
+//! The wake-up device of a board.
+
+ghost use Rattle.std.specs.Prelude.{◌≡◌, Result};
+ghost use Rattle.board_model.specs.declared.refusal.Refusal.{Refusal};
+ghost use Rattle.board_console.specs.Wakes.{Wakes, MayWake};
+
+use board_model::Refusal;
+use std::marker::Model;
+use susp::{Bus, wake};
+
+/// What a call of the wake-up device came to. Nothing but a call makes one, so the console answers `wake` only after one.
+#[derive(Debug, PartialEq, Eq, Drop)]
+pub struct Waking {
+    answered: Result<(), Refusal>,
+}
+
+impl Model for Waking {
+    ghost Value = { Result (Unit {0}) Refusal };
+
+    ghost view = { λ w. w.answered };
+
+    ghost inverse = { λ r. record { answered = r } };
+}
+
+impl Waking {
+    /// Calls the wake-up device, as `susp::wake`: a board that dozes is woken, once. Refused `NotDozing` where none
+    /// dozes or it was woken already; then nothing changes.
+    pub fn call(bus: &mut Bus) -> Waking
+        ensures wakes { Wakes bus.old bus.new result }
+        ensures may { MayWake result }
+    {
+        let answered = wake(bus);
+        Waking { answered }
+    }
+
+    /// What it came to.
+    pub fn outcome(&self) -> Result<(), Refusal>
+        ensures { result ≡ self.now }
+    {
+        self.answered
+    }
+}

@@ -1,0 +1,130 @@
+//! A hart in whose doze its board is: it looks at the bus, and begins again once the board was woken.
+
+ghost use Rattle.std.specs.Prelude.{◌≡◌, ◌+◌, ◌≤◌, ◌<◌, ◌-◌, ◌^◌, Some};
+ghost use Rattle.hsm_rule.specs.declared.view.Stage.TheVariants.{Quiet};
+ghost use Rattle.sbi_calls.specs.Both.{AreSeatsOfBoth, GivesBack, Acts, harts_of_both, known};
+ghost use Rattle.susp.specs.Dozes.{doze_of};
+ghost use Rattle.hart_threads.specs.Dozing.{Looked, no_looks, after_look, is_woken, doze_left, doze_by};
+ghost use Rattle.hart_threads.specs.Seated.{StandsAfterTurn};
+ghost use Rattle.hart_threads.specs.Threads.{seated, DozeOnce};
+
+use board_model::HartId;
+use hart::Hart;
+use machine::{Held, Turned, Word};
+use sbi_calls::{Seats, Tables};
+use std::marker::Model;
+use susp::{Bus, Doze};
+use turns::resume;
+
+/// How often a hart in whose doze its board was looked at the bus, and how often it found that the board was woken. Only
+/// a look at a bus counts here.
+#[derive(Drop)]
+pub struct Looks {
+    made: u64,
+    woken: u64,
+}
+
+impl Model for Looks {
+    ghost Value = { Looked };
+
+    ghost view = { λ l. record { made = l.made; woken = l.woken } };
+
+    ghost invariant = { λ l. l.woken ≤ l.made };
+}
+
+impl Looks {
+    /// None yet.
+    pub(crate) fn none() -> Looks
+        ensures { result ≡ no_looks }
+    {
+        Looks { made: 0, woken: 0 }
+    }
+
+    /// How many looks there were: as many as turns that the hart made in a doze.
+    pub fn made(&self) -> u64
+        ensures { result ≡ self.now.made }
+    {
+        self.made
+    }
+
+    /// How many of them found the board woken: after each the hart began again.
+    pub fn woken(&self) -> u64
+        ensures { result ≡ self.now.woken }
+    {
+        self.woken
+    }
+
+    /// One look at the bus: whether the board dozes by that hart, and was woken.
+    fn look(&mut self, bus: &Bus, by: HartId) -> bool
+        requires { self.old.made < 2 ^ 64 - 1 }
+        ensures woken { result ≡ is_woken by bus.now.doze }
+        ensures counted { self.new ≡ after_look result self.old }
+    {
+        self.made += 1;
+        if !is_woken(&bus.doze, by) {
+            return false;
+        }
+        self.woken += 1;
+        true
+    }
+}
+
+/// The doze, where it is that hart's.
+pub(crate) fn doze_of(doze: &Option<Doze>, by: HartId) -> Option<Doze>
+    ensures { result ≡ doze_of by doze.now }
+{
+    let own = (*doze)?;
+    if own.hart == by { Some(own) } else { None }
+}
+
+/// Whether it is that hart's, and the board was woken.
+fn is_woken(found: &Option<Doze>, by: HartId) -> bool
+    ensures { result ≡ is_woken by found.now }
+{
+    match doze_of(found, by) {
+        Some(doze) => doze.woken,
+        None => false,
+    }
+}
+
+/// The doze of which a hart keeps a copy once a durable call of it was made, by the doze that the bus then has.
+pub(crate) fn doze_by(held: Held, found: Option<Doze>) -> Option<Doze>
+    ensures { result ≡ doze_by held found }
+{
+    match held {
+        Held::Dozing => found,
+        Held::Goes | Held::Asleep | Held::Reset(_) => None,
+    }
+}
+
+/// A turn of a hart in whose doze the board is, with the bus at hand: nothing, until the board was woken; then the hart
+/// begins again at the address of its own copy of the doze with that opaque value, what is pending for it is taken, its
+/// quiet ends, and the board dozes no more. The memory stays.
+pub(crate) fn doze_turn(
+    bus: &mut Bus,
+    hart: &mut Hart,
+    seats: Seats,
+    tables: &Tables,
+    doze: Doze,
+    looks: &mut Looks,
+) -> (Seats, Word, Option<Doze>)
+    requires seats { AreSeatsOfBoth tables.now seats }
+    requires hart { hart.old.id < harts_of_both tables.now }
+    requires quiet { Acts hart.old.id Quiet seats }
+    requires few { looks.old.made < 2 ^ 64 - 1 }
+    ensures gives { GivesBack tables.entry.now hart.old.id seats result.0 }
+    ensures stands { StandsAfterTurn result.1 result.2 hart.old.id result.0 }
+    ensures id { hart.new.id ≡ hart.old.id }
+    ensures range { looks.new.made ≡ looks.old.made + 1 }
+    ensures once { DozeOnce (is_woken hart.old.id bus.old.doze) doze (seated hart.old (known seats) (Some doze) looks.old)
+        (seated hart.new (known result.0) result.2 looks.new) result.1 }
+    ensures memory { bus.new.ram ≡ bus.old.ram }
+    ensures left { bus.new.doze ≡ doze_left (is_woken hart.old.id bus.old.doze) bus.old.doze }
+{
+    if !looks.look(bus, hart.id()) {
+        return (seats, Word::Own(Turned::Idle), Some(doze));
+    }
+    let seats = resume(hart, seats, tables, doze.address, doze.opaque);
+    bus.doze = None;
+    (seats, Word::Own(Turned::Resumed), None)
+}

@@ -1,0 +1,6 @@
+use denote.Param.Send.{sendable}
+use Rattle.simdisk.proofs.Crossing.{sim_disk}
+use Rattle.hart_threads_tests.proofs.dozing.driven_as.Goals as goal
+
+pub drive-done-requires-send-D : goal.drive-done-requires-send-D
+drive-done-requires-send-D g c κs within = search (sim_disk, sendable) depth 16

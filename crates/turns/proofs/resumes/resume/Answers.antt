@@ -1,0 +1,11 @@
+use Rattle.std.proofs.Common.{ℕ, refl, subst}
+use Rattle.sbi_calls.specs.Both.{known}
+use Rattle.sbi_calls.specs.declared.tables.Seats.{Seats}
+use Rattle.turns.specs.Own.{ResumesOwn}
+use Rattle.turns.proofs.resumes.resume.Goals as goal
+
+pub returns-clause-own : goal.returns-clause-own
+returns-clause-own c =
+    let after : Seats = record { harts = c.unquiet-harts.result; pending = c.take-seats.result.pending } in
+    let step = c.unquiet-harts.ensures.steps in
+    subst (λ (h : ℕ). ResumesOwn h (known c.args.seats) (known after)) c.id-by.ensures (known c.take-seats.result, c.take-seats.ensures.own, step.0, (step.1, refl))
