@@ -3,7 +3,6 @@
 ghost use Rattle.std.specs.Prelude.{◌≡◌, ◌+◌, ◌≤◌, ◌<◌, ◌-◌, ◌^◌, Some};
 ghost use Rattle.hsm_rule.specs.declared.view.Stage.TheVariants.{Quiet};
 ghost use Rattle.sbi_calls.specs.Both.{AreSeatsOfBoth, GivesBack, Acts, harts_of_both, known};
-ghost use Rattle.susp.specs.Dozes.{doze_of};
 ghost use Rattle.hart_threads.specs.Dozing.{Looked, no_looks, after_look, is_woken, doze_left, doze_by};
 ghost use Rattle.hart_threads.specs.Seated.{StandsAfterTurn};
 ghost use Rattle.hart_threads.specs.Threads.{seated, DozeOnce};
@@ -13,7 +12,7 @@ use hart::Hart;
 use machine::{Held, Turned, Word};
 use sbi_calls::{Seats, Tables};
 use std::marker::Model;
-use susp::{Bus, Doze};
+use susp::{Bus, Doze, doze_of};
 use turns::resume;
 
 /// How often a hart in whose doze its board was looked at the bus, and how often it found that the board was woken. Only
@@ -67,14 +66,6 @@ impl Looks {
         self.woken += 1;
         true
     }
-}
-
-/// The doze, where it is that hart's.
-pub(crate) fn doze_of(doze: &Option<Doze>, by: HartId) -> Option<Doze>
-    ensures { result ≡ doze_of by doze.now }
-{
-    let own = (*doze)?;
-    if own.hart == by { Some(own) } else { None }
 }
 
 /// Whether it is that hart's, and the board was woken.

@@ -34,7 +34,7 @@ use sbi_calls::{Seats, Tables};
 use std::alloc::Global;
 use std::marker::Model;
 use store::Store;
-use susp::{Bus, Doze, wake_image};
+use susp::{Bus, Doze, doze_of, wake_image};
 use turns::Turned;
 
 /// A board's memory, harts and tables, which contracts see as the record `Machine` of specs/. The seats are
@@ -176,8 +176,7 @@ impl Machine {
     fn dozes(&self, id: HartId) -> Option<Doze>
         ensures { result ≡ doze_of id self.now.doze }
     {
-        let doze = self.bus.doze?;
-        if doze.hart == id { Some(doze) } else { None }
+        doze_of(&self.bus.doze, id)
     }
 
     /// A turn of the hart of a doze: nothing until the board is woken, and then it begins again.

@@ -2,7 +2,7 @@
 
 ghost use Rattle.std.specs.Prelude.{◌≡◌, ◌↔◌, true, IsOk, OnOk, IfErr};
 ghost use Rattle.board_model.specs.declared.refusal.Refusal.{Refusal};
-ghost use Rattle.susp.specs.Dozes.{can_wake, after_wake};
+ghost use Rattle.susp.specs.Dozes.{doze_of, can_wake, after_wake};
 
 use board_model::{Addr, HartId, Refusal};
 use ram::Ram;
@@ -28,6 +28,14 @@ pub struct Doze {
     pub opaque: u64,
     /// Whether the wake-up device has called.
     pub woken: bool,
+}
+
+/// The doze, where it is that hart's.
+pub fn doze_of(doze: &Option<Doze>, by: HartId) -> Option<Doze>
+    ensures { result ≡ doze_of by doze.now }
+{
+    let own = (*doze)?;
+    if own.hart == by { Some(own) } else { None }
 }
 
 /// Calls the wake-up device: a board that dozes is woken, once. Refused `NotDozing` where none dozes or it was

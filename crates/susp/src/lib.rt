@@ -6,6 +6,6 @@ mod buses;
 mod sleeps;
 mod wakes;
 
-pub use buses::{Bus, Doze, wake};
+pub use buses::{Bus, Doze, doze_of, wake};
 pub use sleeps::{Asleep, Sleep, suspend};
 pub use wakes::wake_image;
