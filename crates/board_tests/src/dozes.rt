@@ -111,8 +111,9 @@ fn a_row_of_turns_ends_dozing(rt: HostRuntime) -> Result<(), Fail> {
 fn a_doze_is_taken_apart(rt: HostRuntime) -> Result<(), Fail> {
     let board = dozing(&rt, 1, &Payloads::new(rt.alloc()))?;
     let parts = board.into_parts();
-    let doze = parts.bus.doze.ok_or("no doze")?;
-    same(&rt, (Some(doze.hart), doze.woken), (HartId::new(0), false));
-    same(&rt, (doze.address.value(), doze.opaque), (RAM_BASE, 9));
+    let doze = parts.bus.doze;
+    same(&rt, doze.map(|it| it.hart), HartId::new(0));
+    same(&rt, doze.map(|it| it.address.value()), Some(RAM_BASE));
+    same(&rt, doze.map(|it| (it.opaque, it.woken)), Some((9, false)));
     Ok(())
 }
