@@ -1,0 +1,6 @@
+pub mod Written
+pub mod Told
+pub mod Turned
+pub mod Followed
+pub mod Left
+pub mod Begun

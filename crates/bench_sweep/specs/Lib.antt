@@ -1,0 +1,4 @@
+pub mod Rows
+pub mod Swept
+pub mod Told
+pub mod Runs
