@@ -24,7 +24,8 @@ use Rattle.bench_report.specs.Happens.{says, shows, out_of_memory, failed, Fails
 use Rattle.bench_report.specs.Commands.{Writes, IssuedBy, Issued, IssuesAll}
 use Rattle.bench_report.specs.PowerOns.{FormatsOn, life_begun, IsBooted, BootsFrom, Begins, Boots, Opens, ShowsFound, IsOpenRefusal, PowersOn}
 use Rattle.bench_report.specs.Examined.{InspectStep}
-use Rattle.bench_report.specs.Steps.{console_reported, FormatStep, OnStep, ConsoleStep, PayloadStep, ReadStep, Step}
+use Rattle.bench_report.specs.Steps.{console_reported, FormatStep, OnStep, ConsoleStep, PayloadStep, ReadStep, Wakes, WakeStep, Step}
+use Rattle.susp.specs.Dozes.{can_wake}
 use Rattle.bench_report.proofs.Issues.{GoesOn, IsSound}
 use Rattle.bench_report.proofs.Table.{table_not_six, of_modes}
 use Rattle.bench_judge.specs.Ledgers.{more_kept}
@@ -219,6 +220,15 @@ inspect_line size None b a new (inl (c, reads, inr x)) = same_as b new (out_of_m
 inspect_line size None b a new (inr x) = same_as b new (failed x.1.0 b) x.1.2 (refl, refl)
 inspect_line size (Some life) b a new x = same_as b new b x.1 (refl, refl)
 
+-- a board that is woken
+wakes : (can : Bool) (life : BenchLife) (b : Bench) (a : Answer) (new : Bench) → Wakes can life b a new → Same b new
+wakes true life b a new x = same_as b new _ x.1 (refl, refl)
+wakes false life b a new x = same_as b new b x.1 (refl, refl)
+
+wake_line : (p : Option BenchLife) (b : Bench) (a : Answer) (new : Bench) → WakeStep p b a new → Same b new
+wake_line None b a new x = same_as b new b x.1 (refl, refl)
+wake_line (Some life) b a new x = wakes (can_wake life.machine.doze) life b a new x
+
 never : {A : Type 0} → true ≡ false → A
 never e = absurd (let no : ⊥ = cc in no)
 
@@ -243,3 +253,4 @@ line_tells size (lines.FailLane i n) b a new plain none sound x = absurd plain
 line_tells size (lines.Cut fill) b a new plain none sound x = absurd plain
 line_tells size (lines.Poke k n bytes) b a new plain none sound x = absurd plain
 line_tells size lines.Inspect b a new plain none sound x = inspect_line size b.power b a new x
+line_tells size lines.Wake b a new plain none sound x = wake_line b.power b a new x

@@ -10,11 +10,15 @@ use Rattle.sbi_abi.specs.declared.call.Call.{Call}
 use Rattle.sbi_abi.specs.declared.call.Call.TheVariants as calls
 use Rattle.sbi_abi.specs.declared.ret.SbiError.{SbiError}
 use Rattle.sbi_abi.specs.declared.ret.SbiError.TheVariants.{Failed, NotSupported, Denied}
+use Rattle.susp.specs.Dozes.{doze_of}
+use Rattle.susp.specs.declared.sleeps.Sleep.{Sleep}
+use Rattle.susp.specs.declared.sleeps.Sleep.TheVariants.{ToRam, ToDisk}
 use Rattle.sbi.specs.declared.resets.ResetType.{ResetType}
 use Rattle.sbi.specs.Resets.{reset_of}
 use Rattle.turns.specs.declared.words.Turned.{Turned}
 use Rattle.turns.specs.declared.words.Turned.TheVariants.{Next, Durable}
 use Rattle.machine.specs.Machine.{Machine, hart_at}
+use Rattle.machine.specs.Turns.{calling}
 use Rattle.machine.specs.Words.{ends}
 use Rattle.machine.specs.declared.parts.Called.{Called}
 use Rattle.machine.specs.declared.parts.Called.TheVariants.{NotStarted, Made}
@@ -25,10 +29,11 @@ use Rattle.bench_report.specs.Views.{SimStore, SimBoard, store_in, machine_in, s
 use Rattle.bench_report.specs.Bench.{DiskState, Formatted, BenchLife, Bench}
 use Rattle.bench_report.specs.Happens.{out_of_memory, off, on_with, has_machine}
 use Rattle.bench_report.specs.Commands.{Issued}
-use Rattle.bench_report.specs.Turns.{refused, AnswersError, HartCommand, Resets, SuspendIssued, BenchSleeps, BenchSleepsBy, BenchMakesCall, ComesTo}
+use Rattle.bench_report.specs.Turns.{refused, AnswersError, HartCommand, Resets, SuspendIssued, dozes, BenchFallsAsleep, BenchSleeps, BenchSleepsBy, BenchMakesCall, ComesTo}
 use Rattle.bench_report.specs.Agree.{LifeIs, StoreIs, BoardIs, DeviceIs, OnIs, BoardAfter}
 use Rattle.bench_report.proofs.Came.{Stands, has_other, comes}
 use Rattle.bench_report.proofs.Commanded.{running_on}
+use Rattle.bench_report.proofs.Dozed.{turn_size, call_size}
 use Rattle.bench_report.proofs.Issues.{GoesOn}
 use Rattle.bench_judge.specs.Ledgers.{in_doubt}
 use Rattle.bench_report.specs.declared.power.Power.TheVariants.{On}
@@ -90,15 +95,20 @@ module _ (size : Size) (h : ℕ) (life : BenchLife) (b : Bench) (word : Word) (n
       let y = subst P e x in
       refuses Failed y.0 mid (inl (ap (λ (m : Bench). m.kept) is ∙ kept)) (ap (λ (m : Bench). m.disk_state) is ∙ same) y.2
 
-  sleeps : (site opaque : ℕ) → BenchSleeps site opaque h life b word new → Told size memory b word new
-  sleeps site opaque (inl x) = refuses Denied life b (inl refl) refl x.1
-  sleeps site opaque (inr (alone, o, mid, inl x, y)) = slept (hart_at life.machine h).id site opaque o mid x.0 x.1 y
-  sleeps site opaque (inr (alone, o, mid, inr (inl x), y)) = awake 11 o mid (out_of_memory b) x.1 x.2 refl refl y
-  sleeps site opaque (inr (alone, o, mid, inr (inr x), y)) = awake 3 o mid b x.1 x.2 refl refl y
+  -- to RAM nothing is asked of the disk
+  falls : (sleep : Sleep) (site opaque : ℕ) → BenchFallsAsleep sleep site opaque h life b word new → Told size memory b word new
+  falls ToRam site opaque x = told_by size memory b word words.Dozing new (on_with (dozes h site opaque life) b) x.0 x.1 (refl, refl)
+  falls ToDisk site opaque (o, mid, inl x, y) = slept (hart_at life.machine h).id site opaque o mid x.0 x.1 y
+  falls ToDisk site opaque (o, mid, inr (inl x), y) = awake 11 o mid (out_of_memory b) x.1 x.2 refl refl y
+  falls ToDisk site opaque (o, mid, inr (inr x), y) = awake 3 o mid b x.1 x.2 refl refl y
 
-  sleeps_by : (asked : Result ℕ SbiError) (opaque : ℕ) → BenchSleepsBy asked opaque h life b word new → Told size memory b word new
+  sleeps : (sleep : Sleep) (site opaque : ℕ) → BenchSleeps sleep site opaque h life b word new → Told size memory b word new
+  sleeps sleep site opaque (inl x) = refuses Denied life b (inl refl) refl x.1
+  sleeps sleep site opaque (inr x) = falls sleep site opaque x.1
+
+  sleeps_by : (asked : Result (Sleep × ℕ) SbiError) (opaque : ℕ) → BenchSleepsBy asked opaque h life b word new → Told size memory b word new
   sleeps_by (Err e) opaque x = refuses e life b (inl refl) refl x
-  sleeps_by (Ok site) opaque x = sleeps site opaque x
+  sleeps_by (Ok asked) opaque x = sleeps asked.0 asked.1 opaque x
 
   makes : (call : Call) → BenchMakesCall call h life b word new → Told size memory b word new
   makes (calls.SystemReset kind reason) x = resets (reset_of kind reason) x
@@ -111,12 +121,13 @@ module _ (size : Size) (h : ℕ) (life : BenchLife) (b : Bench) (word : Word) (n
 
 -- the memory stays
 memory_stays : (did : Turned) (h : ℕ) (m n : Machine) (old new : SimStore) (word : Word) → boards.Comes did h m n old new word → n.memory ≡ m.memory
-memory_stays Durable h m n old new word (held, (after, does, e), w) = ap (λ (k : Machine). k.memory) e ∙ does.2
+memory_stays Durable h m n old new word (held, (doze, after, does, e), w) = ap (λ (k : Machine). k.memory) e ∙ does.2
 memory_stays did h m n old new word x = ap (λ (k : Machine). k.memory) x.0
 
 -- ---- on a board
 stands_by : (size : Size) (word : Word) (b : Bench) (board : SimBoard) → Stands size word b (machine_in board) (store_in board) → BoardAfter size word b board
 stands_by size (words.Own did) b board is = running_on size b board is
+stands_by size words.Dozing b board is = running_on size b board is
 stands_by size words.Asleep b board is = is
 stands_by size (words.Reset kind) b board is = is
 
@@ -152,7 +163,8 @@ module _ (size : Size) (b : Bench) (old new : SimBoard) (h : ℕ) (formatted : b
 
   -- a turn
   pub turn_moves : (word : Word) → OnIs size b old → boards.TurnsHeld h (machine_in old) (machine_in new) (store_in old) (store_in new) word → Moves size b word new
-  turn_moves word was (mid, did, turned, came) = by_life (Moves size b word new) was (λ life on is. moved life mid did word is was.1 (ap (λ (k : Machine). k.size) turned.2 ∙ ap (λ (k : Machine). k.size) is.1) came)
+  turn_moves word was (mid, did, turned, came) =
+      by_life (Moves size b word new) was (λ life on is. moved life mid did word is was.1 (turn_size (doze_of h (machine_in old).doze) h (machine_in old) mid did turned ∙ ap (λ (k : Machine). k.size) is.1) came)
 
   -- a call, which the hart may not be there to make
   abbrev pub CallMoves : Option Word → Type 0
@@ -172,10 +184,13 @@ module _ (size : Size) (b : Bench) (old new : SimBoard) (h : ℕ) (formatted : b
       subst C (sym some) (moved life mid did word is device same came)
 
   pub call_moves : (e f x y z : ℕ) (said : Option Word) → OnIs size b old → boards.CallsHeld h e f x y z (machine_in old) (machine_in new) (store_in old) (store_in new) said → CallMoves said
-  call_moves e f x y z said was (mid, by, makes_it, came) = by_life (CallMoves said) was (λ life on is. called life mid by said is was.1 (ap (λ (k : Machine). k.size) makes_it.2 ∙ ap (λ (k : Machine). k.size) is.1) came)
+  call_moves e f x y z said was (mid, by, makes_it, came) =
+      by_life (CallMoves said) was (λ life on is. called life mid by said is was.1
+      (call_size (doze_of h (machine_in old).doze) h (calling (hart_at (machine_in old) h) e f x y z) (machine_in old) mid by makes_it ∙ ap (λ (k : Machine). k.size) is.1) came)
 
 -- a board whose life goes on
 pub hart_on : (size : Size) (word : Word) (board : SimBoard) (ledger : Ledger) → ends word ≡ false → HartRuns size word board ledger → Runs size (On board) ledger
 hart_on size (words.Own did) board ledger e r = record { bench = r.bench; agrees = r.after; follows = r.follows }
+hart_on size words.Dozing board ledger e r = absurd (let no : ⊥ = cc in no)
 hart_on size words.Asleep board ledger e r = absurd (let no : ⊥ = cc in no)
 hart_on size (words.Reset kind) board ledger e r = absurd (let no : ⊥ = cc in no)

@@ -71,10 +71,11 @@ IsOfHart size memory (Suspend hart address opaque bytes) = (bytes ≡ memory) ×
 IsOfHart size memory c = ⊥
 
 -- what a turn of a hart, or its call, tells by its word, where that is the memory then: one that goes on may hide a
--- command in doubt
+-- command in doubt; a board that dozes asked nothing of the disk
 abbrev pub HartTold : Size → Word → List ℕ → Kept → Kept → Type 0
 HartTold size (words.Own did) memory old new =
     (new ≡ old) ⊎ ((c : Change) × IsOfHart size memory c × IssuedTold (Some 6) c old new)
+HartTold size words.Dozing memory old new = new ≡ old
 HartTold size words.Asleep memory old new =
     (hart address opaque : ℕ) × (length memory ≡ ram_bytes_of size)
     × IssuedTold None (Suspend hart address opaque memory) old new

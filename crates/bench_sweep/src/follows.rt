@@ -248,6 +248,8 @@ pub fn follows_hart(
 {
     match word {
         Word::Own(_) => goes_on(ledger, alloc, board),
+        // the disk was not asked
+        Word::Dozing => Ok(()),
         Word::Asleep => sleeps(ledger, alloc, board),
         Word::Reset(_) => resets(ledger, alloc, board),
     }
