@@ -5,10 +5,7 @@ use Rattle.board_model.specs.declared.refusal.Refusal.TheVariants.{NotDozing}
 use Rattle.susp.specs.Dozes.{can_wake, after_wake}
 use Rattle.susp.specs.declared.buses.Bus.{Bus}
 use Rattle.susp.specs.declared.buses.Doze.{Doze}
-use Rattle.board_console.specs.Commands.{is_wake}
 use Rattle.board_console.specs.Wakes.{WakesIf, Wakes, MayWake}
-use Rattle.board_console.specs.declared.words.Said.{Said}
-use Rattle.board_console.specs.declared.words.Said.TheVariants as saids
 
 not_true : (b : Bool) → (b ≡ true → ⊥) → false ≡ b
 not_true true never = absurd (never refl)
@@ -29,12 +26,3 @@ wakes (Err e) old new ok ram woken refused =
 pub may : (r : Result (Unit {0}) Refusal) (old new : Bus) → IfErr r (λ e. (e ≡ NotDozing) × (new ≡ old)) → MayWake r
 may (Ok done) old new refused = tt
 may (Err e) old new refused = refused.0
-
--- any other line is the store's
-pub others : (said : Said) → (said ≡ saids.Wake → ⊥) → is_wake said ≡ false
-others (saids.Slot n) other = refl
-others saids.Discard other = refl
-others saids.State other = refl
-others saids.Wake other = absurd (other refl)
-others saids.Quit other = refl
-others saids.Other other = refl

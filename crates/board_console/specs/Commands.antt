@@ -60,24 +60,22 @@ IsAnswerTo found saids.Other answer old new = (answer ≡ answers.Unknown) × (n
 abbrev pub AnswersWake : Bus → Bus → Answer → Type 0
 AnswersWake old new answer = (r : Result (Unit {0}) Refusal) × Wakes old new r × (answer ≡ answers.Wake r)
 
--- the line asks the bus, and not the store
-abbrev pub is_wake : Said → Bool
-is_wake (saids.Slot n) = false
-is_wake saids.Discard = false
-is_wake saids.State = false
-is_wake saids.Wake = true
-is_wake saids.Quit = false
-is_wake saids.Other = false
+-- the line asks the store; `wake` asks the bus, and the others ask nothing
+abbrev pub asks_store : Said → Bool
+asks_store (saids.Slot n) = true
+asks_store saids.Discard = true
+asks_store saids.State = true
+asks_store saids.Wake = false
+asks_store saids.Quit = false
+asks_store saids.Other = false
 
 module _ {D L : Type 0} {g : Ghosts D L} {l : Lanes L} where
-  -- A line with a command asks the store once, and no other line asks it; `state` is the state now, without a
-  -- command in doubt. The line `wake` asks the bus alone.
+  -- A line with a command asks the store once; `state` is the state now, without a command in doubt. No other
+  -- line asks the store.
   abbrev pub AnswersSaid : Said → Store D L g l → Store D L g l → Answer → Type 0
   AnswersSaid (saids.Slot n) old new answer =
       (r : Result ℕ Refusal) × Asked Applied old (Slot n) r new × (answer ≡ slot_answer r)
   AnswersSaid saids.Discard old new answer =
       (r : Result ℕ Refusal) × Asked Applied old Discard r new × (answer ≡ discard_answer r)
   AnswersSaid saids.State old new answer = (new ≡ old) × (answer ≡ answers.State (durable_of (now_state old)))
-  AnswersSaid saids.Wake old new answer = ⊥
-  AnswersSaid saids.Quit old new answer = (new ≡ old) × (answer ≡ answers.Quit)
-  AnswersSaid saids.Other old new answer = (new ≡ old) × (answer ≡ answers.Unknown)
+  AnswersSaid said old new answer = ⊥

@@ -1,8 +1,8 @@
 //! What the console makes of a line.
 
-ghost use Rattle.std.specs.Prelude.{◌≡◌, false};
+ghost use Rattle.std.specs.Prelude.{◌≡◌, true};
 ghost use Rattle.shared_store.specs.Views.{store_in};
-ghost use Rattle.board_console.specs.Commands.{AnswersSaid, AnswersWake, IsAnswerTo, IsWakeAnswer, is_wake};
+ghost use Rattle.board_console.specs.Commands.{AnswersSaid, AnswersWake, IsAnswerTo, IsWakeAnswer, asks_store};
 
 use crate::answer::Answer;
 use crate::waking::Waking;
@@ -15,13 +15,13 @@ use susp::Bus;
 /// Does what a line says, with the store that it is lent for this one moment: on a board of threads, under
 /// the store's lock. A command that was acknowledged is durable, and its receipt is its place in the journal
 /// of this life (`Store::entry` has it there from then on), which the console's part is told; after a refusal
-/// what stands is what `Store::apply` says. Any line but `wake`, which asks the bus (`rouse`).
+/// what stands is what `Store::apply` says. `wake` asks the bus (`rouse`), and the other lines ask nothing.
 pub fn obey<D: Disk + Drop, J: Journal>(
     store: &mut SharedStore<D, J>,
     part: Part<J>,
     said: Said,
 ) -> (Part<J>, Answer)
-    requires { is_wake said ≡ false }
+    requires { asks_store said ≡ true }
     ensures asks { AnswersSaid said (store_in store.old) (store_in store.new) result.1 }
     ensures fits { IsAnswerTo J.found said result.1 part.told result.0.told }
 {
@@ -41,9 +41,7 @@ pub fn obey<D: Disk + Drop, J: Journal>(
             }
         }
         Said::State => (part, Answer::State(store.now())),
-        Said::Wake => unreachable!(),
-        Said::Quit => (part, Answer::Quit),
-        Said::Other => (part, Answer::Unknown),
+        Said::Wake | Said::Quit | Said::Other => unreachable!(),
     }
 }
 

@@ -48,8 +48,8 @@ fn write_answer<W: Write>(out: &mut W, answer: Answer) -> Result<(), Refusal>
     out.flush().map_err(|_| Refusal::Output)
 }
 
-/// Obeys a line: `wake` in one hold of the bus alone, and any other in one of the store alone. Who holds the store
-/// must not wait for the bus.
+/// Obeys a line: a command or `state` in one hold of the store alone, `wake` in one of the bus alone, and the others
+/// with no lock, so that `quit` waits for no suspension. Who holds the store must not wait for the bus.
 fn answer_to<R: Wait, D: Disk + Drop, J: Journal>(
     rt: &R,
     bus: &Mutex<Bus>,
@@ -60,14 +60,16 @@ fn answer_to<R: Wait, D: Disk + Drop, J: Journal>(
     ensures { IsAnswerTo J.found said result.1 part.told result.0.told }
 {
     match said {
+        Said::Slot(_) | Said::Discard | Said::State => obey(&mut store.lock(rt), part, said),
         Said::Wake => (part, rouse(&mut bus.lock(rt))),
-        _ => obey(&mut store.lock(rt), part, said),
+        Said::Quit => (part, Answer::Quit),
+        Said::Other => (part, Answer::Unknown),
     }
 }
 
-/// Takes one line after another from the input, obeys each in one hold of the store, or `wake` in one of the bus, and
-/// writes its answer with no lock held. It leaves after `quit`, at the end of input, and where an answer could not be written. Its
-/// part of the journal's receipts is told those that it answers.
+/// Takes one line after another from the input, obeys each in one hold of the store or of the bus at the most, and
+/// writes its answer with no lock held. It leaves after `quit`, at the end of input, and where an answer could not be
+/// written. Its part of the journal's receipts is told those that it answers.
 pub fn console<R: Wait, D: Disk + Drop, J: Journal, I: Read, W: Write>(
     rt: &R,
     bus: &Mutex<Bus>,

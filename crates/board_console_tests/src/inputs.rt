@@ -45,6 +45,8 @@ fn lines_say_what_their_words_are(rt: HostRuntime) -> Result<(), Fail> {
     assert_eq!(&rt; line_said(b"discard"), Said::Discard);
     assert_eq!(&rt; line_said(b"Discard"), Said::Other);
     assert_eq!(&rt; line_said(b"state"), Said::State);
+    assert_eq!(&rt; line_said(b"wake"), Said::Wake);
+    assert_eq!(&rt; line_said(b"wake 1"), Said::Other);
     assert_eq!(&rt; line_said(b"quit"), Said::Quit);
     assert_eq!(&rt; line_said(b"quit\r"), Said::Other);
     assert_eq!(&rt; line_said(b""), Said::Other);

@@ -1,6 +1,6 @@
 //! Boards that sleep in their RAM, on threads (docs/THREADS.md, "A doze").
 
-ghost use Rattle.std.specs.Prelude.{◌≡◌, ◌+◌, [], Some, IfOk};
+ghost use Rattle.std.specs.Prelude.{◌≡◌, ◌+◌, [], Some, IfOk, IfSome};
 ghost use Rattle.store.specs.Views.{found_state};
 ghost use Rattle.machine.specs.Held.{IsHeld};
 ghost use Rattle.receipts.specs.Views.{id_of, parts_of};
@@ -82,6 +82,23 @@ fn put_to_sleep<R: AllocGlobal + Threads + Sync>(
     call(rt, crew, board, SLEEPER, [SUSP, 0, 0, SITE, 9])
 }
 
+/// The parts of a board and its shape, where it has the harts of that shape and no command was issued in its life.
+fn taken_apart(board: Board<SimDisk>) -> Option<(Parts<SimDisk>, Shape)>
+    ensures held { IfSome result (λ p. IsHeld p.1 p.0.harts.items p.0.tables (Some p.0.seats) p.0.bus.doze) }
+    ensures begun { IfSome result (λ p. IsBegun p.1 p.0.store) }
+{
+    let shape = board.shape();
+    let parts = board.into_parts();
+    let (made, wanted) = (parts.harts.len(), shape.harts() as usize);
+    if made != wanted {
+        return None;
+    }
+    match parts.store.entry(1) {
+        Some(_) => None,
+        None => Some((parts, shape)),
+    }
+}
+
 /// The parts of a board of two harts that sleeps so, and its shape.
 fn dozing_parts<R: AllocGlobal + Threads + Sync>(rt: &R) -> Result<(Parts<SimDisk>, Shape), Fail>
     ensures held { IfOk result (λ p. IsHeld p.1 p.0.harts.items p.0.tables (Some p.0.seats) p.0.bus.doze) }
@@ -92,15 +109,9 @@ fn dozing_parts<R: AllocGlobal + Threads + Sync>(rt: &R) -> Result<(Parts<SimDis
     if put_to_sleep(rt, &crew, &mut board) != Some(Word::Dozing) {
         Err("the board does not doze")?
     }
-    let shape = board.shape();
-    let parts = board.into_parts();
-    let (seated, wanted) = (parts.harts.len(), shape.harts() as usize);
-    if seated != wanted {
-        Err("the board has other harts")?
-    }
-    match parts.store.entry(1) {
-        Some(_) => Err("a doze is no command")?,
-        None => Ok((parts, shape)),
+    match taken_apart(board) {
+        Some(parts) => Ok(parts),
+        None => Err("a doze is no command, and its board has its harts")?,
     }
 }
 
