@@ -173,7 +173,7 @@ fn work_by(sweep: bool, faults: bool, savers: Savers) -> Option<Work>
 }
 
 /// What is to be done: none where both benches are asked for.
-fn work(matches: &ArgMatches<'_>) -> Option<Work>
+fn work_in(matches: &ArgMatches<'_>) -> Option<Work>
     ensures { (sweep faults : Bool) × IsFlag (found_of matches.now) (codes "sweep") sweep
         × IsFlag (found_of matches.now) (codes "faults") faults
         × (result ≡ work_named sweep faults (savers_named (first_value (found_of matches.now) (codes "crew")))) }
@@ -194,7 +194,7 @@ pub fn work_of<'a, S: AsStr>(alloc: Global, words: &'a [S]) -> Result<Work, Erro
         × (work_named sweep faults (savers_named (first_value f (codes "crew"))) ≡ Some work)) }
 {
     let matches = command(alloc)?.try_get_matches_from(words)?;
-    match work(&matches) {
+    match work_in(&matches) {
         Some(work) => Ok(work),
         None => {
             let text = "--sweep cannot be used with --faults";

@@ -63,6 +63,7 @@ fresh_by size (lines.FailLane i n) b a new is x = absurd is
 fresh_by size (lines.Cut fill) b a new is x = absurd is
 fresh_by size (lines.Poke k n bytes) b a new is x = absurd is
 fresh_by size lines.Inspect b a new is x = absurd is
+fresh_by size lines.Wake b a new is x = absurd is
 
 pub begun_by : (size : Size) (line : Line) (b : Bench) (a : Answer) (new : Bench) (power : Power) → Formats line a → Step size line b a new → Agrees size new power → Begun size power
 begun_by size line b a new power is x agrees = let f = fresh_by size line b a new is x in record { bench = new; agrees = agrees; formatted = f.0; kept = f.1 }

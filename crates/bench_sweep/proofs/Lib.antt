@@ -4,3 +4,4 @@ pub mod Turned
 pub mod Followed
 pub mod Left
 pub mod Begun
+pub mod Loaded

@@ -11,5 +11,5 @@ returns-in-Some g c =
     let simple : is_simple (app_of c.in_ok-command.field-0) ≡ true = ap is_simple is ∙ sbibench_simple crews in
     let words = map g.S.AsStr.text c.args.words.now in
     let rows = (c.in_ok-matches.ensures.matches simple).0 ∙ ap (λ (a : App). matches_of a words) is in
-    let asked = c.work.ensures in
+    let asked = c.work_in.ensures in
     (crews, found_of c.in_ok-matches.matches, asked.0, asked.1, rows, asked.2, asked.3, sym asked.4 ∙ c.in-Some.is)

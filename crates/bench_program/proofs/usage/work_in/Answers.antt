@@ -1,6 +1,6 @@
 use Rattle.std.proofs.Common.{◌∙◌, ap}
 use Rattle.bench_program.specs.Usage.{work_named}
-use Rattle.bench_program.proofs.usage.work.Goals as goal
+use Rattle.bench_program.proofs.usage.work_in.Goals as goal
 
 pub returns : goal.returns
 returns c =
