@@ -22,6 +22,7 @@ use Rattle.bench_report.specs.declared.printed.Printed.{Printed}
 use Rattle.board_model.specs.declared.plain.PlainImage.{PlainImage}
 use Rattle.turns.specs.declared.words.Turned.{Turned}
 use Rattle.sbi.specs.declared.resets.ResetType.{ResetType}
+use Rattle.machine.specs.declared.parts.Word.{Word}
 use Rattle.machine.specs.declared.parts.Word.TheVariants as words
 use Rattle.bench_report.specs.Views.{SimStore, SimBoard, store_in, machine_in, store_now, store_doubt}
 use Rattle.bench_report.specs.Bench.{DiskState, Formatted, BenchLife, Bench}
@@ -135,7 +136,7 @@ no_image s p is none allowed =
     let P : DurableState → Type 0 = λ t. refusal_of t Consume ≡ None in
     let by : Bool → Option ℕ = λ t. if t then None else Some 8 in
     let Q : Option PlainImage → Type 0 = λ o. by (is_some (image_in o)) ≡ None in
-    let e : Some 8 ≡ None = subst Q none (subst P (sym is) allowed) in
+    let e : ◌≡◌ {A = Option ℕ} (Some 8) None = subst Q none (subst P (sym is) allowed) in
     absurd (let no : ⊥ = cc in no)
 
 -- ---- harts
@@ -149,7 +150,7 @@ doubt_link size b board formatted on =
     go None is = absurd is
     go (Some life) is = is.0.0.0 ∙ sym is.0.1.2
 
-follows_same : (size : Size) (b new : Bench) (l : Ledger) → Follows size b l → new.kept ≡ b.kept → new.disk_state ≡ b.disk_state → Follows size new l
+pub follows_same : (size : Size) (b new : Bench) (l : Ledger) → Follows size b l → new.kept ≡ b.kept → new.disk_state ≡ b.disk_state → Follows size new l
 follows_same size b new l f kept disk = record { formatted = disk ∙ f.formatted; kept = as_before size l b.kept new.kept f.kept kept }
 
 module _ (size : Size) (b new : Bench) (board : SimBoard) (l : Ledger) (was : Follows size b l) where
@@ -327,6 +328,30 @@ reset_kept (Err f) l m board cause is takes = tt
 reset_kept (Ok u) l m board cause is takes = λ size b new kind was moved.
     (let I : Reason → Type 0 = λ r. IssuedTold None (Reset r) b.kept new.kept in
     record { formatted = moved.same ∙ was.formatted; kept = takes size b.kept new.kept was.kept tt (subst I is (reset size b new board l was kind moved)) })
+
+-- ---- a turn or a call of a hart, by its word
+abbrev pub HartKept : Ledger → Ledger → Word → SimBoard → Type 0
+HartKept l m word board = (size : Size) (b new : Bench) → Follows size b l → HartMoves size b word new board → Follows size new m
+
+pub by_word : {E : Type 0} (r : Result (Unit {0}) E) (l m : Ledger) (board : SimBoard) (word x : Word) → word ≡ x → OnOk r (HartKept l m x board) → OnOk r (HartKept l m word board)
+by_word r l m board word x is kept = let P : Word → Type 0 = λ w. OnOk r (HartKept l m w board) in subst P (sym is) kept
+
+pub own_kept : {E : Type 0} (r : Result (Unit {0}) E) (l m : Ledger) (board : SimBoard) (did : Turned) → OnOk r ((size : Size) (b new : Bench) (did : Turned) → Follows size b l → HartMoves size b (words.Own did) new board → Follows size new m)
+    → OnOk r (HartKept l m (words.Own did) board)
+own_kept (Err f) l m board did kept = tt
+own_kept (Ok u) l m board did kept = λ size b new was moved. kept size b new did was moved
+
+pub resets_kept : {E : Type 0} (r : Result (Unit {0}) E) (l m : Ledger) (board : SimBoard) (kind : ResetType) → OnOk r ((size : Size) (b new : Bench) (kind : ResetType) → Follows size b l → HartMoves size b (words.Reset kind) new board → Follows size new m)
+    → OnOk r (HartKept l m (words.Reset kind) board)
+resets_kept (Err f) l m board kind kept = tt
+resets_kept (Ok u) l m board kind kept = λ size b new was moved. kept size b new kind was moved
+
+-- a board that dozes
+pub dozing_kept : (l : Ledger) (board : SimBoard) (word : Word) → word ≡ words.Dozing → HartKept l l word board
+dozing_kept l board word is size b new was moved =
+    let P : Word → Type 0 = λ w. HartMoves size b w new board in
+    let did = subst P is moved in
+    follows_same size b new l was did.told did.same
 
 -- ---- what is told in other words
 -- where Told holds of what was kept before and after, the ledger follows

@@ -30,16 +30,18 @@ use Rattle.bench_report.specs.Bench.{DiskState, Formatted, BenchLife, Bench}
 use Rattle.bench_report.specs.Happens.{out_of_memory, off, on_with, has_machine}
 use Rattle.bench_report.specs.Commands.{Issued}
 use Rattle.bench_report.specs.Turns.{refused, AnswersError, HartCommand, Resets, SuspendIssued, dozes, BenchFallsAsleep, BenchSleeps, BenchSleepsBy, BenchMakesCall, ComesTo}
-use Rattle.bench_report.specs.Agree.{LifeIs, StoreIs, BoardIs, DeviceIs, OnIs, BoardAfter}
+use Rattle.bench_report.specs.Agree.{LifeIs, StoreIs, BoardIs, DeviceIs, OnIs, BoardAfter, Agrees}
 use Rattle.bench_report.proofs.Came.{Stands, has_other, comes}
 use Rattle.bench_report.proofs.Commanded.{running_on}
 use Rattle.bench_report.proofs.Dozed.{turn_size, call_size}
 use Rattle.bench_report.proofs.Issues.{GoesOn}
 use Rattle.bench_judge.specs.Ledgers.{in_doubt}
+use Rattle.bench_report.specs.declared.power.Power.{Power}
 use Rattle.bench_report.specs.declared.power.Power.TheVariants.{On}
 use Rattle.bench_judge.specs.declared.ledgers.Ledger.{Ledger}
-use Rattle.bench_sweep.specs.Runs.{Runs, HartMoves, HartRuns}
+use Rattle.bench_sweep.specs.Runs.{Follows, Runs, HartMoves, HartRuns}
 use Rattle.bench_sweep.specs.Told.{IssuedTold, IsOfHart, HartTold}
+use Rattle.bench_sweep.proofs.Followed.{follows_same}
 use Rattle.bench_sweep.proofs.Told.{number_in, Tells, issued_tells}
 
 -- ---- what comes of what a hart did
@@ -194,3 +196,29 @@ hart_on size (words.Own did) board ledger e r = record { bench = r.bench; agrees
 hart_on size words.Dozing board ledger e r = absurd (let no : ⊥ = cc in no)
 hart_on size words.Asleep board ledger e r = absurd (let no : ⊥ = cc in no)
 hart_on size (words.Reset kind) board ledger e r = absurd (let no : ⊥ = cc in no)
+
+-- ---- a line of harts
+-- a call in the place of a hart
+module _ (size : Size) (old new : SimBoard) (h e f x y z : ℕ) where
+  abbrev Called_so : Option Word → Type 0
+  Called_so said = boards.CallsHeld h e f x y z (machine_in old) (machine_in new) (store_in old) (store_in new) said
+
+  -- it was not made
+  pub call_unmade : (ledger : Ledger) → Called_so None → Runs size (On old) ledger → Runs size (On new) ledger
+  call_unmade ledger held r =
+      let did = call_moves size r.bench old new h r.follows.formatted e f x y z None r.agrees held in
+      record { bench = did.0; agrees = did.1; follows = follows_same size r.bench did.0 ledger r.follows did.2 did.3 }
+
+  -- it was, and the ledger followed it
+  pub call_made : (l m : Ledger) (word : Word) → Called_so (Some word) → ((b n : Bench) → Follows size b l → HartMoves size b word n new → Follows size n m) → Runs size (On old) l → HartRuns size word new m
+  call_made l m word held followed r =
+      let did = call_moves size r.bench old new h r.follows.formatted e f x y z (Some word) r.agrees held in
+      record { bench = did.0; after = did.1.after; follows = followed r.bench did.0 r.follows did.1 }
+
+-- the board is on before it, and after it
+pub line_on : (size : Size) (power now : Power) (old : SimBoard) (l m : Ledger) → power ≡ On old → (Runs size (On old) l → Runs size now m) → Runs size power l → Runs size now m
+line_on size power now old l m is goes r = let P : Power → Type 0 = λ p. Runs size p l in goes (subst P is r)
+
+-- the board as a word left it
+pub hart_after : (size : Size) (word : Word) (board : SimBoard) (now : Power) (ledger : Ledger) → ((b : Bench) → BoardAfter size word b board → Agrees size b now) → HartRuns size word board ledger → Runs size now ledger
+hart_after size word board now ledger left r = record { bench = r.bench; agrees = left r.bench r.after; follows = r.follows }

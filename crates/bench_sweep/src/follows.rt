@@ -1,7 +1,7 @@
 //! What a ledger takes from the answers of a script's lines.
 
-ghost use Rattle.std.specs.Prelude.{◌≡◌, ℕ, Some, None, IfErr, OnOk};
-ghost use Rattle.board_model.specs.Durable.{Change, Consume, CarriesWhole};
+ghost use Rattle.std.specs.Prelude.{◌≡◌, ℕ, List, Some, None, IfErr, OnOk};
+ghost use Rattle.board_model.specs.Durable.{Change, Suspend, Consume, CarriesWhole};
 ghost use Rattle.board_model.specs.Kept.{Kept};
 ghost use Rattle.board_model.specs.Shapes.{Size};
 ghost use Rattle.board_model.specs.Views.{change_in, change_of};
@@ -17,7 +17,7 @@ ghost use Rattle.bench_sweep.specs.Told.{IssuedTold, CommandTold, BootTold, Boot
 use bench_judge::Ledger;
 use bench_report::{Answer, Printed};
 use board::Board;
-use board_model::{BootMode, Command, Entry, Refusal};
+use board_model::{BootMode, Command, Entry, ImageHead, Refusal};
 use machine::Word;
 use script_lang::Line;
 use simdisk::SimDisk;
@@ -208,6 +208,13 @@ fn goes_on(ledger: &mut Ledger, alloc: Global, board: &Board<SimDisk>) -> Result
     }
 }
 
+/// The suspension that made an image, without its memory.
+fn suspension_of(head: ImageHead) -> Entry
+    ensures { (memory : List ℕ) → change_in result memory ≡ Suspend head.hart head.address head.opaque memory }
+{
+    Entry::Suspend(head.hart, head.address, head.opaque)
+}
+
 /// That board sleeps; the memory of its suspension is still the one of the call.
 fn sleeps(ledger: &mut Ledger, alloc: Global, board: &Board<SimDisk>) -> Result<(), Refusal>
     ensures kept { OnOk result ((size : Size) (b new : Bench) → Follows size b ledger.old
@@ -217,7 +224,7 @@ fn sleeps(ledger: &mut Ledger, alloc: Global, board: &Board<SimDisk>) -> Result<
     match board.now().image {
         None => Ok(()),
         Some(head) => {
-            let entry = Entry::Suspend(head.hart, head.address, head.opaque);
+            let entry = suspension_of(head);
             let memory = board.ram().bytes();
             issued(ledger, alloc, entry, memory, None)
         }
