@@ -1,10 +1,11 @@
 //! What a ledger takes from the answers of a script's lines.
 
-ghost use Rattle.std.specs.Prelude.{◌≡◌, ℕ, List, Some, None, IfErr, OnOk};
+ghost use Rattle.std.specs.Prelude.{◌≡◌, ℕ, List, Some, None, MatchOption, IfErr, OnOk};
 ghost use Rattle.board_model.specs.Durable.{Change, Suspend, Consume, CarriesWhole};
 ghost use Rattle.board_model.specs.Kept.{Kept};
 ghost use Rattle.board_model.specs.Shapes.{Size};
 ghost use Rattle.board_model.specs.Views.{change_in, change_of};
+ghost use Rattle.board_model.specs.declared.durable.ImageHead.{ImageHead};
 ghost use Rattle.board_model.specs.declared.refusal.Refusal.TheVariants.{Memory};
 ghost use Rattle.script_lang.specs.declared.line.Line.TheVariants as lines;
 ghost use Rattle.turns.specs.declared.words.Turned.{Turned};
@@ -17,7 +18,7 @@ ghost use Rattle.bench_sweep.specs.Told.{IssuedTold, CommandTold, BootTold, Boot
 use bench_judge::Ledger;
 use bench_report::{Answer, Printed};
 use board::Board;
-use board_model::{BootMode, Command, Entry, ImageHead, Refusal};
+use board_model::{BootMode, Command, Durable, Entry, Refusal};
 use machine::Word;
 use script_lang::Line;
 use simdisk::SimDisk;
@@ -208,11 +209,13 @@ fn goes_on(ledger: &mut Ledger, alloc: Global, board: &Board<SimDisk>) -> Result
     }
 }
 
-/// The suspension that made an image, without its memory.
-fn suspension_of(head: ImageHead) -> Entry
-    ensures { (memory : List ℕ) → change_in result memory ≡ Suspend head.hart head.address head.opaque memory }
+/// The suspension that made the image that stands, without its memory. None where no image stands.
+fn suspension_in(now: Durable) -> Option<Entry>
+    ensures { MatchOption result (now.image ≡ None) (λ entry. (head : ImageHead) × (now.image ≡ Some head)
+        × ((memory : List ℕ) → change_in entry memory ≡ Suspend head.hart head.address head.opaque memory)) }
 {
-    Entry::Suspend(head.hart, head.address, head.opaque)
+    let head = now.image?;
+    Some(Entry::Suspend(head.hart, head.address, head.opaque))
 }
 
 /// That board sleeps; the memory of its suspension is still the one of the call.
@@ -221,10 +224,9 @@ fn sleeps(ledger: &mut Ledger, alloc: Global, board: &Board<SimDisk>) -> Result<
         → HartMoves size b words.Asleep new board.now → Follows size new ledger.new) }
     ensures memory { IfErr result (λ e. e ≡ Memory) }
 {
-    match board.now().image {
+    match suspension_in(board.now()) {
         None => Ok(()),
-        Some(head) => {
-            let entry = suspension_of(head);
+        Some(entry) => {
             let memory = board.ram().bytes();
             issued(ledger, alloc, entry, memory, None)
         }

@@ -5,13 +5,14 @@ use Rattle.bench_sweep.proofs.Followed.{IssuedKept, asleep_has, asleep_kept}
 use Rattle.bench_sweep.proofs.follows.sleeps.Goals as goal
 
 pub returns-in-None-clause-kept : goal.returns-in-None-clause-kept
-returns-in-None-clause-kept c = λ size b new was moved. asleep_has size b new c.args.board.now c.args.ledger.now was moved (ap (λ (d : Durable). d.image) (sym c.now.ensures) ∙ c.in-None.is)
+returns-in-None-clause-kept c = λ size b new was moved. asleep_has size b new c.args.board.now c.args.ledger.now was moved (ap (λ (d : Durable). d.image) (sym c.now.ensures) ∙ c.in-None.ensures)
 
 pub returns-in-Some-clause-kept : goal.returns-in-Some-clause-kept
 returns-in-Some-clause-kept c =
     let l = c.args.ledger.now in
     let m = c.issued.new.ledger in
-    let head = c.in-Some.head in
+    let head = c.in-Some.ensures.0 in
     let P : Change → Type 0 = λ x. OnOk c.issued.result (IssuedKept l m None x) in
-    let command = c.suspension_of-entry.ensures c.bytes-memory.result.now ∙ ap (λ (bytes : List ℕ). Suspend head.hart head.address head.opaque bytes) (c.bytes-memory.ensures.value ∙ c.ram.ensures) in
-    asleep_kept c.issued.result l m c.args.board.now head (ap (λ (d : Durable). d.image) (sym c.now.ensures) ∙ c.in-Some.is) (subst P command c.issued.ensures.kept)
+    let memory = c.bytes-memory.ensures.value ∙ c.ram.ensures in
+    let command = c.in-Some.ensures.2 c.bytes-memory.result.now ∙ ap (λ (bytes : List ℕ). Suspend head.hart head.address head.opaque bytes) memory in
+    asleep_kept c.issued.result l m c.args.board.now head (ap (λ (d : Durable). d.image) (sym c.now.ensures) ∙ c.in-Some.ensures.1) (subst P command c.issued.ensures.kept)
