@@ -12,8 +12,12 @@ use Rattle.disk.specs.FaultState.{FaultState}
 use Rattle.simdisk.specs.declared.SimDisk.{SimDisk}
 use Rattle.store.specs.Lives.{LoadRefused, IsLoaded}
 use Rattle.store.specs.Views.{device_of}
+use Rattle.bench_report.specs.declared.power.Power.{Power}
+use Rattle.bench_report.specs.declared.power.Power.TheVariants.{Off, On}
+use Rattle.bench_report.specs.Agree.{IsUnstruck}
+use Rattle.bench_judge.specs.declared.ledgers.Ledger.{Ledger}
 use Rattle.bench_report.specs.Views.{SimStore, facts, fault_state, store_facts, store_fault_state, store_size, store_now}
-use Rattle.bench_sweep.specs.Runs.{IsSpoilt, FindsState}
+use Rattle.bench_sweep.specs.Runs.{RunsCalm, IsSpoilt, FindsState}
 use Rattle.bench_sweep.proofs.Left.{plain_is, has_loaded, fails_itself}
 
 -- an image that has the memory of its board is loaded, but where the disk fails
@@ -50,3 +54,8 @@ pub loaded_found : (store : SimStore) (d : Durable) (memory bytes : List ℕ) (p
     → (q : Plain) × (◌≡◌ {A = Option Plain} (Some p) (Some q)) × (state_in q ≡ store_now store)
 loaded_found store d memory bytes p is loaded same plain =
     let L : List ℕ → Type 0 = λ m. IsLoaded (store_now store) m in (p, refl, plain_is (store_now store) d bytes p is plain (has_loaded (store_now store).image bytes (subst L (sym same) loaded)))
+
+-- ---- no armed cut has struck the disk of a board that stands so
+pub unstruck : (size : Size) (power : Power) (ledger : Ledger) → RunsCalm size power ledger → IsUnstruck power
+unstruck size (Off disk) ledger r = tt
+unstruck size (On board) ledger r = ap (λ (m : FaultState). m.struck) (sym r.agrees.1.0) ∙ r.calm

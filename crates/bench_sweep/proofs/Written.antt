@@ -147,12 +147,12 @@ pub made_more : (n made calls next : ℕ) → made ≡ counted 0 n → next ≡ 
 made_more n made calls next e f = omega (arith, e, f)
 
 -- one caller more
-pub next_caller : (bench : Bench) (items : List Caller) (i : ℕ) (caller : Caller) (counts : List ℕ) (n : ℕ) → i < length items → caller ≡ get_or items i caller → length counts ≡ i
+pub next_caller : (bench : Bench) (items : List Caller) (i : ℕ) (caller d : Caller) (counts : List ℕ) (n : ℕ) → i < length items → caller ≡ get_or items i d → length counts ≡ i
     → all_runs bench (take i items) counts ++ runs_from bench caller 1 n ≡ all_runs bench (take (i + 1) items) (counts ++ n ∷ [])
-next_caller bench items i caller counts n less is long =
+next_caller bench items i caller d counts n less is long =
     sym (all_more bench (take i items) counts caller n (length-take-le i items (omega (arith, less)) ∙ sym long))
     ∙ ap (λ c. all_runs bench (take i items ++ c ∷ []) (counts ++ n ∷ [])) is
-    ∙ ap (λ cs. all_runs bench cs (counts ++ n ∷ [])) (sym (take_more items i caller less))
+    ∙ ap (λ cs. all_runs bench cs (counts ++ n ∷ [])) (sym (take_more items i d less))
 
 pub longer : (counts : List ℕ) (n i : ℕ) → length counts ≡ i → length (counts ++ n ∷ []) ≡ i + 1
 longer counts n i e = length-append counts (n ∷ []) ∙ ap (λ k. k + 1) e
@@ -173,8 +173,8 @@ wrote_all bench a b c s t counts no_point no_run no_wrong five wrote last = reco
 
 -- ---- runs of one list
 -- one more of a list
-pub map_more : {A B : Type 0} (f : A → B) (xs : List A) (i : ℕ) (x : A) → i < length xs → x ≡ get_or xs i x → map f (take (i + 1) xs) ≡ map f (take i xs) ++ f x ∷ []
-map_more {A = A} f xs i x less is = ap (map f) (take_more xs i x less) ∙ snoc (take i xs) (get_or xs i x) ∙ ap (λ y. map f (take i xs) ++ f y ∷ []) (sym is)
+pub map_more : {A B : Type 0} (f : A → B) (xs : List A) (i : ℕ) (x d : A) → i < length xs → x ≡ get_or xs i d → map f (take (i + 1) xs) ≡ map f (take i xs) ++ f x ∷ []
+map_more {A = A} f xs i x d less is = ap (map f) (take_more xs i d less) ∙ snoc (take i xs) (get_or xs i d) ∙ ap (λ y. map f (take i xs) ++ f y ∷ []) (sym is)
   where
     snoc : (ys : List A) (y : A) → map f (ys ++ y ∷ []) ≡ map f ys ++ f y ∷ []
     snoc [] y = refl

@@ -83,12 +83,7 @@ fn blank(alloc: Global, shape: &Shape) -> Result<Power, Refusal>
 }
 
 /// Turns the board off behind the format. Refused `Memory` where the disk's record found none.
-fn begun(
-    alloc: Global,
-    shape: &Shape,
-    power: Power,
-    payloads: Payloads,
-) -> Result<Site, Refusal>
+fn begun(alloc: Global, shape: &Shape, power: Power, payloads: Payloads) -> Result<Site, Refusal>
     requires resting { IsResting power }
     requires short { AreShort payloads }
     requires begun { Begun shape.now power }

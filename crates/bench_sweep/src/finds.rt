@@ -97,6 +97,15 @@ fn found_by(alloc: Global, power: Power, said: Printed) -> Result<Option<Plain>,
     }
 }
 
+/// Each number of a shape is within its range.
+fn sizes(shape: &Shape)
+    ensures { IsSize shape.now }
+{
+    let _harts = shape.harts();
+    let _pages = shape.pages();
+    let _lanes = shape.lanes();
+}
+
 /// Powers a board on that keeps its image, and looks what was found. Refused `Memory` alone.
 fn keeps<C: Crew>(
     alloc: Global,
@@ -111,6 +120,7 @@ fn keeps<C: Crew>(
     ensures finds { IfOk result (λ found. (ledger : Ledger) → LeftOff shape.now disk ledger → Finds ledger found.plain) }
     ensures refused { IfErr result (λ e. e ≡ Memory) }
 {
+    sizes(shape);
     let keep = Line::On(BootMode::Keep);
     let (power, answer) = step(alloc, crew, shape, &keep, Power::Off(disk), payloads);
     let left = answer?;

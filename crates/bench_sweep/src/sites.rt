@@ -118,7 +118,7 @@ impl Going {
 
     /// Goes on from there with that cut or failure armed.
     pub fn armed(site: Site, fault: ArmedFault) -> Going
-        ensures calm { IsUnstruck result.power }
+        ensures calm { (size : Size) → LeftOff size site.disk site.ledger → IsUnstruck result.power }
         ensures resting { IsResting result.power }
         ensures runs { (size : Size) → LeftOff size site.disk site.ledger
             → RunsCalm size result.power result.ledger }
@@ -248,15 +248,7 @@ fn goes<C: Crew>(
         mut payloads,
         mut ledger,
     } = going;
-    let power = does(
-        alloc,
-        crew,
-        shape,
-        line,
-        power,
-        &mut payloads,
-        &mut ledger,
-    )?;
+    let power = does(alloc, crew, shape, line, power, &mut payloads, &mut ledger)?;
     Ok(Going {
         power,
         payloads,

@@ -1,8 +1,9 @@
 //! Whole benches.
 
-ghost use Rattle.std.specs.Prelude.{◌≡◌, ◌⊎◌, ◌↔◌, ◌≤◌, ◌∷◌, [], ℕ, List, None, length, All, Ok, Err, IsTrue, IfOk, IfErr, OnOk};
+ghost use Rattle.std.specs.Prelude.{◌≡◌, ◌⊎◌, ◌↔◌, ◌≤◌, ◌<◌, ◌+◌, ◌∷◌, [], ℕ, List, None, length, All, Ok, Err, IsTrue, IfOk, IfErr, OnOk};
 ghost use Rattle.board_model.specs.declared.refusal.Refusal.{Refusal};
 ghost use Rattle.board_model.specs.declared.refusal.Refusal.TheVariants.{Memory, Output, NotPlain};
+ghost use Rattle.disk.specs.Facts.{counted};
 ghost use Rattle.script_lang.specs.Ranges.{IsLineInRange};
 ghost use Rattle.script_lang.specs.Scripts.{script_of, Script as Said};
 ghost use Rattle.store.specs.Leaves.{IsIdle};
@@ -243,6 +244,57 @@ fn sweeps_calls<C: Crew, W: Write>(
     Ok(())
 }
 
+/// Lines of the plain run up to the next moment at which the board is off.
+#[derive(Drop)]
+struct Stretch {
+    /// How many lines they are.
+    count: usize,
+    /// How many calls they made.
+    calls: u64,
+    /// The board then.
+    next: Site,
+}
+
+/// Goes over the points of that caller in the lines from that one on, up to the next moment at which the board is
+/// off. So many points were before them.
+fn stretch<C: Crew, W: Write>(
+    alloc: Global,
+    crew: &C,
+    bench: Bench,
+    shape: &Shape,
+    lines: &[Line],
+    from: usize,
+    site: &Site,
+    caller: Caller,
+    made: u64,
+    out: &mut W,
+    sweep: &mut Sweep,
+) -> Result<Stretch, Refusal>
+    requires ranges { All (IsLineInRange shape.now) lines.now }
+    requires plain { All IsPlainLine lines.now }
+    requires within { from ≤ length lines.now }
+    requires runs { Runs shape.now (Off site.now.disk) site.now.ledger }
+    ensures few { IfOk result (λ did. from + did.count ≤ length lines.now) }
+    ensures some { IfOk result (λ did. from < length lines.now → 0 < did.count) }
+    ensures runs { IfOk result (λ did. Runs shape.now (Off did.next.disk) did.next.ledger) }
+    ensures wrote { IfOk result (λ did. Writes (W.contents out.old) (W.contents out.new) sweep.old sweep.new
+        (runs_from bench caller (counted made 1) did.calls) 0) }
+    ensures refused { IfErr result (λ e. (e ≡ Memory) ⊎ (e ≡ Output)) }
+{
+    let rest = &lines[from..];
+    let plain = Going::from(site.copy(alloc)?);
+    let Went { count, going } = goes_on(alloc, crew, shape, rest, true, plain)?;
+    let next = rests(shape, going)?;
+    let calls = caller
+        .calls(&next.disk)
+        .saturating_sub(caller.calls(&site.disk));
+    let first = made.saturating_add(1);
+    sweeps_calls(
+        alloc, crew, bench, shape, rest, count, site, caller, first, calls, out, sweep,
+    )?;
+    Ok(Stretch { count, calls, next })
+}
+
 /// Goes over the points of that caller. Each run begins at the last moment before its call at which the board
 /// was off.
 fn sweeps<C: Crew, W: Write>(
@@ -264,21 +316,14 @@ fn sweeps<C: Crew, W: Write>(
     ensures refused { IfErr result (λ e. (e ≡ Memory) ⊎ (e ≡ Output)) }
 {
     let mut site = begin;
-    let mut rest = lines;
+    let mut from = 0;
     let mut made = 0u64;
-    while !rest.is_empty() {
-        let plain = Going::from(site.copy(alloc)?);
-        let Went { count, going } = goes_on(alloc, crew, shape, rest, true, plain)?;
-        let next = rests(shape, going)?;
-        let calls = caller
-            .calls(&next.disk)
-            .saturating_sub(caller.calls(&site.disk));
-        let first = made.saturating_add(1);
-        sweeps_calls(
-            alloc, crew, bench, shape, rest, count, &site, caller, first, calls, out, sweep,
+    while from < lines.len() {
+        let Stretch { count, calls, next } = stretch(
+            alloc, crew, bench, shape, lines, from, &site, caller, made, out, sweep,
         )?;
+        from += count;
         made = made.saturating_add(calls);
-        rest = &rest[count..];
         site = next;
     }
     sweep.points = sweep.points.saturating_add(made);
@@ -305,9 +350,7 @@ fn sweeps_all<C: Crew, W: Write>(
 {
     for caller in CALLERS {
         let begin = site.copy(alloc)?;
-        sweeps(
-            alloc, crew, bench, shape, lines, begin, caller, out, sweep,
-        )?;
+        sweeps(alloc, crew, bench, shape, lines, begin, caller, out, sweep)?;
     }
     Ok(())
 }
