@@ -257,7 +257,7 @@ struct Stretch {
 
 /// Goes over the points of that caller in the lines from that one on, up to the next moment at which the board is
 /// off. So many points were before them.
-fn stretch<C: Crew, W: Write>(
+fn sweeps_stretch<C: Crew, W: Write>(
     alloc: Global,
     crew: &C,
     bench: Bench,
@@ -319,7 +319,7 @@ fn sweeps<C: Crew, W: Write>(
     let mut from = 0;
     let mut made = 0u64;
     while from < lines.len() {
-        let Stretch { count, calls, next } = stretch(
+        let Stretch { count, calls, next } = sweeps_stretch(
             alloc, crew, bench, shape, lines, from, &site, caller, made, out, sweep,
         )?;
         from += count;

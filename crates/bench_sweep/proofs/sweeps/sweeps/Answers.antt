@@ -8,13 +8,14 @@ loop-from-init g c = record { within = omega arith; runs = c.requires.runs; wrot
 pub loop-from-preserved : goal.loop-from-preserved
 loop-from-preserved g c =
     let did = c.in_ok-count in
+    let calls = did.field-0.calls in
     let w = c.loop-from.invariant.wrote in record {
       within = did.ensures.few;
       runs = did.ensures.runs;
       wrote = (
-        w.0 + did.calls,
-        made_more w.0 c.loop-from.made did.calls _ w.1 (omega (arith, c.saturating_add-made.ensures)),
-        writes_as _ _ _ _ _ _ _ _ (next_calls c.args.bench c.args.caller w.0 c.loop-from.made _ did.calls w.1 refl) refl (writes_more _ _ _ _ _ _ _ _ _ _ w.2 did.ensures.wrote),
+        w.0 + calls,
+        made_more w.0 c.loop-from.made calls _ w.1 (omega (arith, c.saturating_add-made.ensures)),
+        writes_as _ _ _ _ _ _ _ _ (next_calls c.args.bench c.args.caller w.0 c.loop-from.made _ calls w.1 refl) refl (writes_more _ _ _ _ _ _ _ _ _ _ w.2 did.ensures.wrote),
       );
     }
 
