@@ -39,10 +39,10 @@ use Rattle.bench_sweep.proofs.Told.{line_tells}
 -- ---- a power cut
 pub left_off : KeepsOn → (size : Size) (b : Bench) (old new : SimDisk) → OffIs size b old → IsLeft (facts old) (facts new) → fault_state new ≡ fault_state_left (fault_state old) → OffIs size (unpowered b) new
 left_off goes_on size b old new off left m = (
-    refl,
-    left_on goes_on size b.disk_state b.kept old new off.1 (cut_leaves old new left),
-    (ap fault_state_left off.2.0 ∙ sym m, omega (arith, off.2.1, left.failures), omega (arith, off.2.2)),
-  )
+  refl,
+  left_on goes_on size b.disk_state b.kept old new off.1 (cut_leaves old new left),
+  (ap fault_state_left off.2.0 ∙ sym m, omega (arith, off.2.1, left.failures), omega (arith, off.2.2)),
+)
 
 -- of the disk of a run, with a ledger that tells the same
 pub left_by : (size : Size) (old new : SimDisk) (was ledger : Ledger) → Runs size (Off old) was → ((z : Size) (b : Bench) → OffIs z b old → OffIs z (unpowered b) new) → ((kept : Kept) → Tells was kept → Tells ledger kept) → LeftOff size new ledger

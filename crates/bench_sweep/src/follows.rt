@@ -106,12 +106,7 @@ fn boots(
 }
 
 /// What a power-on by that mode said behind its found line. Refused `Memory` where it was.
-fn begins(
-    ledger: &mut Ledger,
-    alloc: Global,
-    mode: BootMode,
-    said: Printed,
-) -> Result<(), Refusal>
+fn begins(ledger: &mut Ledger, alloc: Global, mode: BootMode, said: Printed) -> Result<(), Refusal>
     ensures kept { OnOk result ((size : Size) (old new : Kept) → TellsWhole size ledger.old old
         → BootSaid said mode old new → TellsWhole size ledger.new new) }
     ensures memory { IfErr result (λ e. e ≡ Memory) }

@@ -117,9 +117,7 @@ fn moved<C: Crew>(
         }
         Line::Call(hart, eid, fid, a0, a1, a2) => {
             if board.machine().has(*hart) {
-                called(
-                    alloc, crew, board, *hart, *eid, *fid, *a0, *a1, *a2, ledger,
-                )
+                called(alloc, crew, board, *hart, *eid, *fid, *a0, *a1, *a2, ledger)
             } else {
                 Ok(None)
             }

@@ -51,8 +51,14 @@ pub fn refused<R: Abort + Threads + Sync>(
     want: Refusal,
 ) -> Result<(), Fail> {
     let mut out = Vec::new(alloc);
-    assert_eq!(rt; sweep::<R, Vec<u8>>(alloc, script, &mut out).err(), Some(want));
-    assert_eq!(rt; faults::<R, Vec<u8>>(alloc, script, &mut out).err(), Some(want));
+    assert_eq!(rt;
+        sweep::<R, Vec<u8>>(alloc, script, &mut out).err(),
+        Some(want)
+    );
+    assert_eq!(rt;
+        faults::<R, Vec<u8>>(alloc, script, &mut out).err(),
+        Some(want)
+    );
     assert_eq!(rt; out.len(), 0);
     Ok(())
 }
