@@ -19,7 +19,7 @@ held_as a b harts t s doze held long =
     }
 
 -- a journal without a first command
-pub none_first : (journal : List Change) → (1 ≡ 0) ⊎ (length journal < 1) → journal ≡ []
+pub none_first : (journal : List Change) → (◌≡◌ {A = ℕ} 1 0) ⊎ (length journal < 1) → journal ≡ []
 none_first [] p = refl
 none_first (c ∷ cs) (inl e) = absurd (omega (arith, e))
 none_first (c ∷ cs) (inr few) = absurd (omega (arith, few))

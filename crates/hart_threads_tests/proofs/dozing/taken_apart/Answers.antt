@@ -1,6 +1,6 @@
 use Rattle.std.proofs.Common.{◌≡◌, length, Option, Some, arith, refl, subst, sym}
 use Rattle.machine.specs.Held.{IsHeld}
-use Rattle.store.specs.Views.{size_of_store}
+use Rattle.store.specs.Views.{journal_of, size_of_store}
 use Rattle.susp.specs.declared.buses.Doze.{Doze}
 use Rattle.hart_threads_tests.proofs.Sized.{held_as, none_first}
 use Rattle.hart_threads_tests.proofs.dozing.taken_apart.Goals as goal
@@ -14,4 +14,4 @@ returns-in-None-clause-held c =
 
 pub returns-in-None-clause-begun : goal.returns-in-None-clause-begun
 returns-in-None-clause-begun c =
-    (subst (λ x. size_of_store x ≡ c.shape-shape.result) (sym c.into_parts-parts.ensures.store) (sym c.shape-shape.ensures), none_first _ (c.in-None.ensures.none refl))
+    (subst (λ x. size_of_store x ≡ c.shape-shape.result) (sym c.into_parts-parts.ensures.store) (sym c.shape-shape.ensures), none_first (journal_of c.into_parts-parts.result.store) (c.in-None.ensures.none refl))
