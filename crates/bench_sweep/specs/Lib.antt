@@ -2,3 +2,4 @@ pub mod Rows
 pub mod Swept
 pub mod Told
 pub mod Runs
+pub mod Lines

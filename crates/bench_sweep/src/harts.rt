@@ -4,10 +4,12 @@ ghost use Rattle.std.specs.Prelude.{◌≡◌, ◌≤◌, ◌<◌, false, true, 
 ghost use Rattle.board_model.specs.Shapes.{Size};
 ghost use Rattle.board_model.specs.declared.refusal.Refusal.TheVariants.{Memory};
 ghost use Rattle.script_lang.specs.Ranges.{IsLineInRange};
-ghost use Rattle.bench_report.specs.declared.power.Power.TheVariants.{On};
+ghost use Rattle.script_lang.specs.declared.line.Line.TheVariants as lines;
 ghost use Rattle.bench_report.specs.Views.{machine_in};
-ghost use Rattle.bench_report.specs.Agree.{IsResting};
-ghost use Rattle.bench_sweep.specs.Runs.{Runs, HartRuns, LineRuns};
+ghost use Rattle.bench_report.specs.Bench.{Bench};
+ghost use Rattle.bench_report.specs.Agree.{OnIs, Agrees, IsResting};
+ghost use Rattle.bench_sweep.specs.Runs.{Follows, Runs};
+ghost use Rattle.bench_sweep.specs.Lines.{TurnsOnce, TurnsMany, DoesLine, HartGoes, LineGoes, LineMoves};
 ghost use Rattle.bench_sweep.specs.Told.{moves_harts};
 
 use crate::follows::follows_hart;
@@ -31,8 +33,8 @@ fn turned_once<C: Crew>(
 ) -> Result<Word, Refusal>
     requires hart { hart < length (machine_in board.old).harts }
     ensures harts { length (machine_in board.new).harts ≡ length (machine_in board.old).harts }
-    ensures runs { IfOk result (λ word. (size : Size) → Runs size (On board.old) ledger.old
-        → HartRuns size word board.new ledger.new) }
+    ensures goes { IfOk result (λ word. (size : Size) (b : Bench) → OnIs size b board.old → Follows size b ledger.old
+        → HartGoes size (TurnsOnce hart b word) word board.new ledger.new) }
     ensures memory { IfErr result (λ e. e ≡ Memory) }
 {
     let word = board.turn(alloc, crew, hart);
@@ -51,8 +53,8 @@ fn turned<C: Crew>(
 ) -> Result<Word, Refusal>
     requires hart { hart < length (machine_in board.old).harts }
     requires some { 1 ≤ count }
-    ensures runs { IfOk result (λ word. (size : Size) → Runs size (On board.old) ledger.old
-        → HartRuns size word board.new ledger.new) }
+    ensures goes { IfOk result (λ word. (size : Size) (b : Bench) → OnIs size b board.old → Follows size b ledger.old
+        → HartGoes size (TurnsMany hart count b word) word board.new ledger.new) }
     ensures memory { IfErr result (λ e. e ≡ Memory) }
 {
     let mut word = turned_once(alloc, crew, board, hart, ledger)?;
@@ -64,7 +66,7 @@ fn turned<C: Crew>(
     Ok(word)
 }
 
-/// A call in the place of a hart, and the ledger follows it. None where the hart is not started.
+/// A call in the place of a hart, and the ledger follows it. None where the hart is not started, or dozes.
 fn called<C: Crew>(
     alloc: Global,
     crew: &C,
@@ -78,8 +80,8 @@ fn called<C: Crew>(
     ledger: &mut Ledger,
 ) -> Result<Option<Word>, Refusal>
     requires hart { hart < length (machine_in board.old).harts }
-    ensures runs { IfOk result (λ said. (size : Size) → Runs size (On board.old) ledger.old
-        → LineRuns size said board.new ledger.new) }
+    ensures goes { IfOk result (λ said. (size : Size) (b : Bench) → OnIs size b board.old → Follows size b ledger.old
+        → LineGoes size (DoesLine size (lines.Call hart eid fid a0 a1 a2) b) said board.new ledger.new) }
     ensures memory { IfErr result (λ e. e ≡ Memory) }
 {
     match board.call(alloc, crew, hart, eid, fid, a0, a1, a2) {
@@ -91,8 +93,7 @@ fn called<C: Crew>(
     }
 }
 
-/// What a line of harts did: none where the board has not the hart, or it is not started, or the line is of no
-/// hart.
+/// What a line of harts did: none where the board has not the hart, or it makes no call.
 fn moved<C: Crew>(
     alloc: Global,
     crew: &C,
@@ -101,9 +102,10 @@ fn moved<C: Crew>(
     line: &Line,
     ledger: &mut Ledger,
 ) -> Result<Option<Word>, Refusal>
-    requires { IsLineInRange shape.now line.now }
-    ensures runs { IfOk result (λ said. (size : Size) → Runs size (On board.old) ledger.old
-        → LineRuns size said board.new ledger.new) }
+    requires range { IsLineInRange shape.now line.now }
+    requires of_harts { moves_harts line.now ≡ true }
+    ensures goes { IfOk result (λ said. (size : Size) (b : Bench) → OnIs size b board.old → Follows size b ledger.old
+        → LineGoes size (DoesLine size line.now b) said board.new ledger.new) }
     ensures memory { IfErr result (λ e. e ≡ Memory) }
 {
     match line {
@@ -126,7 +128,8 @@ fn moved<C: Crew>(
     }
 }
 
-/// Runs a line of harts. On a board that is off it does nothing.
+/// Runs a line of harts, and the ledger follows each turn of it. On a board that is off it does nothing. Refused
+/// `Memory` where the ledger is; then the ledger is of no use.
 pub fn moves<C: Crew>(
     alloc: Global,
     crew: &C,
@@ -136,8 +139,11 @@ pub fn moves<C: Crew>(
     ledger: &mut Ledger,
 ) -> Result<Power, Refusal>
     requires range { IsLineInRange shape.now line.now }
+    requires of_harts { moves_harts line.now ≡ true }
     requires resting { IsResting power }
     ensures resting { IfOk result (λ power. IsResting power) }
+    ensures goes { IfOk result (λ now. (size : Size) (b : Bench) → Agrees size b power → Follows size b ledger.old
+        → LineMoves size line.now b now ledger.new) }
     ensures runs { IfOk result (λ now. (size : Size) → Runs size power ledger.old → Runs size now ledger.new) }
     ensures memory { IfErr result (λ e. e ≡ Memory) }
 {
