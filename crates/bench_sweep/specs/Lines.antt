@@ -26,7 +26,8 @@ abbrev pub DoesLine : Size → Line → Bench → Bench → Type 0
 DoesLine size line b new = (answer : Answer) × Step size line b answer new
 
 -- A hart came to that word by a step of which this holds; the board and the ledger then.
-pub record HartGoes (size : Size) (Does : Bench → Type 0) (word : Word) (board : SimBoard) (ledger : Ledger) : Type 0 where
+pub record HartGoes (size : Size) (Does : Bench → Type 0) (word : Word) (board : SimBoard) (ledger : Ledger)
+    : Type 0 where
   pub bench : Bench
   pub does : Does bench
   pub after : BoardAfter size word bench board

@@ -1,5 +1,5 @@
 -- A run that is under way, and the bench of the model that it stands for.
-use Rattle.std.specs.Prelude.{◌≡◌, ◌≤◌, ◌⊎◌, false, Option, None, Some}
+use Rattle.std.specs.Prelude.{◌≡◌, ◌≤◌, ◌⊎◌, false, Option, Some}
 use Rattle.board_model.specs.Durable.{Change, IsWhole, CarriesWhole}
 use Rattle.board_model.specs.Kept.{Kept, MayFind, nothing_kept, found_of}
 use Rattle.board_model.specs.Plains.{state_in}
@@ -58,17 +58,6 @@ pub record HartMoves (size : Size) (b : Bench) (word : Word) (new : Bench) (boar
   pub told : HartTold size word (machine_in board).memory b.kept new.kept
   pub same : new.disk_state ≡ b.disk_state
   pub after : BoardAfter size word new board
-
--- the board and the ledger then
-pub record HartRuns (size : Size) (word : Word) (board : SimBoard) (ledger : Ledger) : Type 0 where
-  pub bench : Bench
-  pub after : BoardAfter size word bench board
-  pub follows : Follows size bench ledger
-
--- the same after a line of harts, which may have done nothing
-abbrev pub LineRuns : Size → Option Word → SimBoard → Ledger → Type 0
-LineRuns size None board ledger = Runs size (On board) ledger
-LineRuns size (Some word) board ledger = HartRuns size word board ledger
 
 -- ---- before the disk is formatted
 -- the board stands for a bench
