@@ -16,7 +16,7 @@ ghost use Rattle.bench_program.specs.Faults.{status_after};
 ghost use Rattle.bench_program.specs.declared.fault.Fault.{Fault};
 ghost use Rattle.bench_program.specs.declared.fault.Fault.TheVariants.{Input, Refused};
 ghost use Rattle.script_lang.specs.Scripts.{script_of, Script as Said};
-ghost use Rattle.bench_report.specs.Bench.{Bench};
+ghost use Rattle.bench_report.specs.Bench.{Bench as ModelBench};
 ghost use Rattle.bench_report.specs.Prefix.{KeepsPrefixLaw};
 ghost use Rattle.bench_report.specs.Reports.{AreByFirmware, IsReport, report_text};
 ghost use Rattle.bench_report.specs.declared.printed.Answer.{Answer};
@@ -74,7 +74,7 @@ pub fn report_to<C: Crew, W: Write + Drop>(
 ) -> Result<(), Refusal>
     // What was written is a report of the script, and nothing else; where no line is a poke, it keeps the prefix
     // law.
-    ensures report { OnOk result ((said : Said) × (answers : List Answer) × (end : Bench)
+    ensures report { OnOk result ((said : Said) × (answers : List Answer) × (end : ModelBench)
         × (script_of script.now ≡ Ok said) × IsReport said answers end
         × Appends (writer_contents W.contents out.old) (writer_contents W.contents out.new) (report_text answers)
         × (AreByFirmware said.lines → KeepsPrefixLaw said.lines answers)) }
