@@ -5,3 +5,4 @@ pub mod Followed
 pub mod Left
 pub mod Begun
 pub mod Loaded
+pub mod Serials

@@ -3,3 +3,4 @@ pub mod Swept
 pub mod Told
 pub mod Runs
 pub mod Lines
+pub mod Resumes

@@ -13,6 +13,7 @@ ghost use Rattle.sbi.specs.declared.resets.ResetType.{ResetType};
 ghost use Rattle.machine.specs.declared.parts.Word.TheVariants as words;
 ghost use Rattle.bench_report.specs.Bench.{Bench};
 ghost use Rattle.bench_sweep.specs.Runs.{TellsWhole, Follows, HartMoves};
+ghost use Rattle.bench_sweep.specs.Resumes.{image_told, serial_of, consumed, booted, powered, line_resumes, Resumes};
 ghost use Rattle.bench_sweep.specs.Told.{IssuedTold, CommandTold, BootTold, BootSaid, LineTold};
 
 use bench_judge::Ledger;
@@ -49,6 +50,7 @@ fn issued(
         → TellsWhole size ledger.new new) }
     ensures already { OnOk result ((size : Size) (kept : Kept) (d : Change) (n : ℕ) → TellsWhole size ledger.old kept
         → kept.doubt ≡ Some d → refused ≡ Some n → TellsWhole size ledger.new kept) }
+    ensures resumed { ledger.new.resumed ≡ ledger.old.resumed }
     ensures memory { IfErr result (λ e. e ≡ Memory) }
 {
     match ledger.answered(alloc, entry, memory, refused) {
@@ -61,6 +63,7 @@ fn issued(
 fn resumed(ledger: &mut Ledger, alloc: Global) -> Result<(), Refusal>
     ensures kept { OnOk result ((size : Size) (old new : Kept) → TellsWhole size ledger.old old
         → IssuedTold None Consume old new → TellsWhole size ledger.new new) }
+    ensures serial { OnOk result (Resumes ledger.old ledger.new (serial_of (image_told ledger.old))) }
     ensures memory { IfErr result (λ e. e ≡ Memory) }
 {
     match ledger.resumes(alloc) {
@@ -73,6 +76,7 @@ fn resumed(ledger: &mut Ledger, alloc: Global) -> Result<(), Refusal>
 fn consumes(ledger: &mut Ledger, alloc: Global, refused: Option<u32>) -> Result<(), Refusal>
     ensures kept { OnOk result ((size : Size) (old new : Kept) → TellsWhole size ledger.old old
         → IssuedTold refused Consume old new → TellsWhole size ledger.new new) }
+    ensures serial { OnOk result (Resumes ledger.old ledger.new (consumed refused (image_told ledger.old))) }
     ensures memory { IfErr result (λ e. e ≡ Memory) }
 {
     match refused {
@@ -93,6 +97,7 @@ fn boots(
 ) -> Result<(), Refusal>
     ensures kept { OnOk result ((size : Size) (old new : Kept) → TellsWhole size ledger.old old
         → BootTold refused mode old new → TellsWhole size ledger.new new) }
+    ensures serial { OnOk result (Resumes ledger.old ledger.new (booted refused mode (image_told ledger.old))) }
     ensures memory { IfErr result (λ e. e ≡ Memory) }
 {
     match mode {
@@ -109,6 +114,7 @@ fn boots(
 fn begins(ledger: &mut Ledger, alloc: Global, mode: BootMode, said: Printed) -> Result<(), Refusal>
     ensures kept { OnOk result ((size : Size) (old new : Kept) → TellsWhole size ledger.old old
         → BootSaid said mode old new → TellsWhole size ledger.new new) }
+    ensures serial { OnOk result (Resumes ledger.old ledger.new (powered said mode (image_told ledger.old))) }
     ensures memory { IfErr result (λ e. e ≡ Memory) }
 {
     match said {
@@ -133,6 +139,9 @@ fn powers_on(
 ) -> Result<(), Refusal>
     ensures kept { OnOk result ((size : Size) (old new : Kept) → TellsWhole size ledger.old old
         → LineTold (lines.On mode) answer.now old new → TellsWhole size ledger.new new) }
+    ensures serial { OnOk result ((size : Size) (old new : Kept) → TellsWhole size ledger.old old
+        → LineTold (lines.On mode) answer.now old new
+        → Resumes ledger.old ledger.new (line_resumes (lines.On mode) answer.now (image_told ledger.old))) }
     ensures memory { IfErr result (λ e. e ≡ Memory) }
 {
     match answer.found {
@@ -154,6 +163,7 @@ fn commands(
     ensures kept { OnOk result ((size : Size) (old new : Kept) → TellsWhole size ledger.old old
         → CarriesWhole size (change_of command) → CommandTold said (change_of command) old new
         → TellsWhole size ledger.new new) }
+    ensures resumed { ledger.new.resumed ≡ ledger.old.resumed }
     ensures memory { IfErr result (λ e. e ≡ Memory) }
 {
     match said {
@@ -179,6 +189,9 @@ pub fn follows(
 ) -> Result<(), Refusal>
     ensures kept { OnOk result ((size : Size) (old new : Kept) → TellsWhole size ledger.old old
         → LineTold line.now answer.now old new → TellsWhole size ledger.new new) }
+    ensures serial { OnOk result ((size : Size) (old new : Kept) → TellsWhole size ledger.old old
+        → LineTold line.now answer.now old new
+        → Resumes ledger.old ledger.new (line_resumes line.now answer.now (image_told ledger.old))) }
     ensures memory { IfErr result (λ e. e ≡ Memory) }
 {
     match line {
@@ -193,6 +206,7 @@ pub fn follows(
 fn goes_on(ledger: &mut Ledger, alloc: Global, board: &Board<SimDisk>) -> Result<(), Refusal>
     ensures kept { OnOk result ((size : Size) (b new : Bench) (did : Turned) → Follows size b ledger.old
         → HartMoves size b (words.Own did) new board.now → Follows size new ledger.new) }
+    ensures resumed { ledger.new.resumed ≡ ledger.old.resumed }
     ensures memory { IfErr result (λ e. e ≡ Memory) }
 {
     match board.in_doubt() {
@@ -217,6 +231,7 @@ fn suspension_in(now: Durable) -> Option<Entry>
 fn sleeps(ledger: &mut Ledger, alloc: Global, board: &Board<SimDisk>) -> Result<(), Refusal>
     ensures kept { OnOk result ((size : Size) (b new : Bench) → Follows size b ledger.old
         → HartMoves size b words.Asleep new board.now → Follows size new ledger.new) }
+    ensures resumed { ledger.new.resumed ≡ ledger.old.resumed }
     ensures memory { IfErr result (λ e. e ≡ Memory) }
 {
     match suspension_in(board.now()) {
@@ -232,6 +247,7 @@ fn sleeps(ledger: &mut Ledger, alloc: Global, board: &Board<SimDisk>) -> Result<
 fn resets(ledger: &mut Ledger, alloc: Global, board: &Board<SimDisk>) -> Result<(), Refusal>
     ensures kept { OnOk result ((size : Size) (b new : Bench) (kind : ResetType) → Follows size b ledger.old
         → HartMoves size b (words.Reset kind) new board.now → Follows size new ledger.new) }
+    ensures resumed { ledger.new.resumed ≡ ledger.old.resumed }
     ensures memory { IfErr result (λ e. e ≡ Memory) }
 {
     let entry = Entry::Command(Command::Reset(board.now().reason));
@@ -248,6 +264,7 @@ pub fn follows_hart(
 ) -> Result<(), Refusal>
     ensures kept { OnOk result ((size : Size) (b new : Bench) → Follows size b ledger.old
         → HartMoves size b word new board.now → Follows size new ledger.new) }
+    ensures resumed { ledger.new.resumed ≡ ledger.old.resumed }
     ensures memory { IfErr result (λ e. e ≡ Memory) }
 {
     match word {

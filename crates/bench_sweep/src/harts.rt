@@ -35,6 +35,7 @@ fn turned_once<C: Crew>(
     ensures harts { length (machine_in board.new).harts ≡ length (machine_in board.old).harts }
     ensures goes { IfOk result (λ word. (size : Size) (b : Bench) → OnIs size b board.old → Follows size b ledger.old
         → HartGoes size (TurnsOnce hart b word) word board.new ledger.new) }
+    ensures resumed { ledger.new.resumed ≡ ledger.old.resumed }
     ensures memory { IfErr result (λ e. e ≡ Memory) }
 {
     let word = board.turn(alloc, crew, hart);
@@ -55,6 +56,7 @@ fn turned<C: Crew>(
     requires some { 1 ≤ count }
     ensures goes { IfOk result (λ word. (size : Size) (b : Bench) → OnIs size b board.old → Follows size b ledger.old
         → HartGoes size (TurnsMany hart count b word) word board.new ledger.new) }
+    ensures resumed { ledger.new.resumed ≡ ledger.old.resumed }
     ensures memory { IfErr result (λ e. e ≡ Memory) }
 {
     let mut word = turned_once(alloc, crew, board, hart, ledger)?;
@@ -82,6 +84,7 @@ fn called<C: Crew>(
     requires hart { hart < length (machine_in board.old).harts }
     ensures goes { IfOk result (λ said. (size : Size) (b : Bench) → OnIs size b board.old → Follows size b ledger.old
         → LineGoes size (DoesLine size (lines.Call hart eid fid a0 a1 a2) b) said board.new ledger.new) }
+    ensures resumed { ledger.new.resumed ≡ ledger.old.resumed }
     ensures memory { IfErr result (λ e. e ≡ Memory) }
 {
     match board.call(alloc, crew, hart, eid, fid, a0, a1, a2) {
@@ -106,6 +109,7 @@ fn moved<C: Crew>(
     requires of_harts { moves_harts line.now ≡ true }
     ensures goes { IfOk result (λ said. (size : Size) (b : Bench) → OnIs size b board.old → Follows size b ledger.old
         → LineGoes size (DoesLine size line.now b) said board.new ledger.new) }
+    ensures resumed { ledger.new.resumed ≡ ledger.old.resumed }
     ensures memory { IfErr result (λ e. e ≡ Memory) }
 {
     match line {
@@ -145,6 +149,7 @@ pub fn moves<C: Crew>(
     ensures goes { IfOk result (λ now. (size : Size) (b : Bench) → Agrees size b power → Follows size b ledger.old
         → LineMoves size line.now b now ledger.new) }
     ensures runs { IfOk result (λ now. (size : Size) → Runs size power ledger.old → Runs size now ledger.new) }
+    ensures resumed { ledger.new.resumed ≡ ledger.old.resumed }
     ensures memory { IfErr result (λ e. e ≡ Memory) }
 {
     match power {

@@ -7,6 +7,7 @@ use Rattle.bench_sweep.proofs.harts.turned.Goals as goal
 pub loop-left-init : goal.loop-left-init
 loop-left-init g c = record {
   harts = c.in_ok-word.ensures.harts;
+  resumed = c.in_ok-word.ensures.resumed;
   goes = λ size b was told. far_first size c.args.hart c.args.count b (c.args.count - 1) c.in_ok-word.word c.turned_once.new.board c.turned_once.new.ledger refl c.requires.some (c.in_ok-word.ensures.goes size b was told);
 }
 
@@ -17,6 +18,7 @@ loop-left-preserved g c =
     let on : ends c.loop-left.word ≡ false = search rules in
     let calm : (store_fault_state (store_in c.loop-left.board)).struck ≡ false = search rules in record {
       harts = c.in_ok-word-2.ensures.harts ∙ i.harts;
+      resumed = c.in_ok-word-2.ensures.resumed ∙ i.resumed;
       goes = λ size b was told. far_more size c.args.hart c.args.count b c.loop-left.left (c.loop-left.left - 1) c.loop-left.word c.in_ok-word-2.word c.loop-left.board new.board c.loop-left.ledger new.ledger refl c.loop-left-test.true on calm
           (i.goes size b was told) (λ x at follows. c.in_ok-word-2.ensures.goes size x at follows);
     }

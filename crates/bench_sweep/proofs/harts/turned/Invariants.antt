@@ -10,6 +10,7 @@ use Rattle.bench_sweep.proofs.harts.turned.Given as goal
 abbrev pub invariant-loop-left : goal.invariant-loop-left
 invariant-loop-left g l = record {
   harts : length (machine_in l.board).harts ≡ length (machine_in l.fn.board).harts;
+  resumed : l.ledger.resumed ≡ l.fn.ledger.resumed;
   goes : (size : Size) (b : Bench) → OnIs size b l.fn.board → Follows size b l.fn.ledger → GoesFar size l.hart l.count b l.left l.word l.board l.ledger;
 }
 
