@@ -5,7 +5,7 @@ use Rattle.board_model.specs.Views.{number_of_refusal}
 use Rattle.board_model.specs.declared.refusal.Refusal.{Refusal}
 use Rattle.board_model.specs.declared.refusal.Refusal.TheVariants.{BadScript}
 use Rattle.bench_program.specs.declared.fault.Fault.{Fault}
-use Rattle.bench_program.specs.declared.fault.Fault.TheVariants.{Usage, Input, Refused, Closed}
+use Rattle.bench_program.specs.declared.fault.Fault.TheVariants.{Usage, Input, Refused, Closed, Wrong}
 use lib.Chars.{codes}
 
 -- the number of a refusal, and of a malformed script the line too
@@ -18,6 +18,7 @@ fault_text Input = codes "sbibench: input\n"
 fault_text (Refused e) = codes "sbibench: refusal " ++ refusal_text e ++ codes "\n"
 fault_text Usage = []
 fault_text Closed = []
+fault_text Wrong = []
 
 -- the status with which the program ends
 abbrev pub status_after : {A : Type 0} → Result A Fault → ℕ
@@ -26,3 +27,4 @@ status_after (Err Usage) = 2
 status_after (Err Input) = 1
 status_after (Err (Refused e)) = 1
 status_after (Err Closed) = 1
+status_after (Err Wrong) = 3

@@ -1,8 +1,12 @@
--- The command as its parser reads it, and the crew that its words name. Source: README.md, "The program".
-use Rattle.std.specs.Prelude.{ℕ, true, List, [], ◌∷◌, Option, Some, None, ◌==◌, if◌then◌else◌, bytes_eq}
-use Rattle.clap.specs.Words.{App, Rule, new_app, new_rule, with_rule}
-use Rattle.clap.specs.declared.builder.action.ArgAction.TheVariants.{Set}
+-- The command as its parser reads it, and what its words ask for. Source: README.md, "The program".
+use Rattle.std.specs.Prelude.{◌≡◌, ℕ, Bool, true, false, List, [], ◌∷◌, Option, Some, None, ◌==◌, if◌then◌else◌, bytes_eq}
+use Rattle.clap.specs.Words.{App, Rule, Text, new_app, new_rule, one_text, with_rule}
+use Rattle.clap.specs.declared.builder.action.ArgAction.TheVariants.{Set, SetTrue}
+use Rattle.clap.specs.declared.parser.matches.Found.{Found}
 use Rattle.clap.specs.declared.builder.value_parser.ValueParser.{ValueParser}
+use Rattle.bench_program.specs.declared.usage.Bench.TheVariants.{Sweep, Faults}
+use Rattle.bench_program.specs.declared.usage.Work.{Work}
+use Rattle.bench_program.specs.declared.usage.Work.TheVariants.{Report, Judge}
 use Rattle.bench_program.specs.declared.usage.Savers.{Savers}
 use Rattle.bench_program.specs.declared.usage.Savers.TheVariants.{Turns, Threads}
 use lib.Chars.{codes}
@@ -18,14 +22,32 @@ crew_rule crews =
       defaults = codes "turns" ∷ [];
     }
 
+-- a flag
+abbrev pub flag_rule : Text → Rule
+flag_rule id = record (new_rule id) { long = Some id; action = Some SetTrue }
+
 -- the command by its name alone, with a version
 abbrev pub named_app : App
 named_app = record (new_app (codes "sbibench")) { top = record (new_app (codes "sbibench")).top { has_version = true } }
 
 abbrev pub sbibench : ValueParser → App
-sbibench crews = with_rule named_app (crew_rule crews)
+sbibench crews =
+    with_rule (with_rule (with_rule named_app (crew_rule crews)) (flag_rule (codes "sweep"))) (flag_rule (codes "faults"))
 
 -- the crew of a word
 abbrev pub savers_named : Option (List ℕ) → Savers
 savers_named None = Turns
 savers_named (Some word) = if bytes_eq word (codes "threads") then Threads else Turns
+
+-- whether the words have a flag, of which the parser keeps the word `true` or `false`
+pub record IsFlag (f : Found) (id : List ℕ) (b : Bool) : Type 0 where
+  pub given : one_text f id ≡ Some (codes "true") → b ≡ true
+  pub left : one_text f id ≡ Some (codes "false") → b ≡ false
+  pub none : one_text f id ≡ None → b ≡ false
+
+-- what is to be done by the flags of the benches, and by the crew; not both benches
+abbrev pub work_named : Bool → Bool → Savers → Option Work
+work_named true true savers = None
+work_named true false savers = Some (Judge Sweep)
+work_named false true savers = Some (Judge Faults)
+work_named false false savers = Some (Report savers)

@@ -17,6 +17,8 @@ pub enum Fault {
     Refused(Refusal),
     /// Nobody reads the standard output any more, and nothing is said of it.
     Closed,
+    /// A bench found something wrong, as its last line says.
+    Wrong,
 }
 
 /// The number of a refusal, and of a malformed script the line too.
@@ -45,19 +47,20 @@ impl fmt::Display for Fault {
                 let text = RefusalText(refusal);
                 writeln!(f, "sbibench: refusal {text}")
             }
-            Fault::Usage | Fault::Closed => Ok(()),
+            Fault::Usage | Fault::Closed | Fault::Wrong => Ok(()),
         }
     }
 }
 
 /// The program's status (README.md, "The program"): 0 where it did what it was asked, 2 for a fault of the
-/// command line, and 1 for any other.
+/// command line, 3 where a bench found something wrong, and 1 for any other.
 pub fn status_of(done: &Result<(), Fault>) -> u8
     ensures { result ≡ status_after done.now }
 {
     match done {
         Ok(()) => 0,
         Err(Fault::Usage) => 2,
+        Err(Fault::Wrong) => 3,
         Err(_) => 1,
     }
 }

@@ -1,5 +1,5 @@
-//! What the program `sbibench` does: its command line, the script that it reads, the report that it writes,
-//! and its status.
+//! What the program `sbibench` does: its command line, the script that it reads, the report or the lines of a
+//! bench that it writes, and its status.
 #![tactic(auto)]
 
 mod fault;
@@ -16,17 +16,20 @@ ghost use Rattle.bench_program.specs.Faults.{status_after};
 ghost use Rattle.bench_program.specs.declared.fault.Fault.{Fault};
 ghost use Rattle.bench_program.specs.declared.fault.Fault.TheVariants.{Input, Refused};
 ghost use Rattle.script_lang.specs.Scripts.{script_of, Script as Said};
-ghost use Rattle.bench_report.specs.Bench.{Bench};
+ghost use Rattle.bench_report.specs.Bench.{Bench as ModelBench};
 ghost use Rattle.bench_report.specs.Prefix.{KeepsPrefixLaw};
 ghost use Rattle.bench_report.specs.Reports.{AreByFirmware, IsReport, report_text};
 ghost use Rattle.bench_report.specs.declared.printed.Answer.{Answer};
+ghost use Rattle.bench_sweep.specs.Swept.{WroteAll};
+ghost use Rattle.bench_program.specs.Benches.{judged};
 
 pub use crate::fault::Fault;
 use crate::fault::status_of;
 use crate::pipe::Pipe;
 use crate::usage::asked;
-pub use crate::usage::{Savers, savers_of};
+pub use crate::usage::{Bench, Savers, Work, work_of};
 use bench_report::run;
+use bench_sweep::{Sweep, faults, sweep};
 use board_model::{MAX_LINE_BYTES, MAX_SCRIPT_LINES, Refusal};
 use command_line::NoWork;
 use crew::{Crew, Turns};
@@ -71,7 +74,7 @@ pub fn report_to<C: Crew, W: Write + Drop>(
 ) -> Result<(), Refusal>
     // What was written is a report of the script, and nothing else; where no line is a poke, it keeps the prefix
     // law.
-    ensures report { OnOk result ((said : Said) × (answers : List Answer) × (end : Bench)
+    ensures report { OnOk result ((said : Said) × (answers : List Answer) × (end : ModelBench)
         × (script_of script.now ≡ Ok said) × IsReport said answers end
         × Appends (writer_contents W.contents out.old) (writer_contents W.contents out.new) (report_text answers)
         × (AreByFirmware said.lines → KeepsPrefixLaw said.lines answers)) }
@@ -118,10 +121,74 @@ fn report<R: Threads + Sync>(rt: &HostRuntime, threads: &R, savers: Savers) -> R
     }
 }
 
+/// Runs a bench over the script. Refused as `bench_sweep::sweep` is.
+fn runs<R: Threads + Sync, W: Write + Drop>(
+    alloc: Global,
+    script: &[u8],
+    bench: Bench,
+    out: &mut BufWriter<W>,
+) -> Result<Sweep, Refusal>
+    ensures wrote { IfOk result (λ sweep. WroteAll (judged bench) (writer_contents W.contents out.old)
+        (writer_contents W.contents out.new) sweep) }
+    ensures refused { IfErr result (λ e. (e ≡ Refusal.Memory) ⊎ (e ≡ Refusal.Output) ⊎ (script_of script.now ≡ Err e)
+        ⊎ (e ≡ Refusal.NotPlain)) }
+    ensures nothing { (e : Refusal) → script_of script.now ≡ Err e
+        → (writer_contents W.contents out.new ≡ writer_contents W.contents out.old)
+        × ((result ≡ Err e) ⊎ (result ≡ Err Refusal.Memory)) }
+{
+    match bench {
+        Bench::Sweep => sweep::<R, BufWriter<W>>(alloc, script, out),
+        Bench::Faults => faults::<R, BufWriter<W>>(alloc, script, out),
+    }
+}
+
+/// Runs a bench over the script, and writes its lines to the end.
+///
+/// Refused as `bench_sweep::sweep` is, and `Output` also where what the writer held back could not be written.
+pub fn bench_to<R: Threads + Sync, W: Write + Drop>(
+    alloc: Global,
+    script: &[u8],
+    bench: Bench,
+    out: &mut BufWriter<W>,
+) -> Result<Sweep, Refusal>
+    // What was written is a line for each run of that bench, and the line of the counts; none was wrong.
+    ensures wrote { IfOk result (λ sweep. WroteAll (judged bench) (writer_contents W.contents out.old)
+        (writer_contents W.contents out.new) sweep) }
+    // Nothing of it is held back.
+    ensures flushed { OnOk result (writer_buffer out.new ≡ []) }
+    // A refusal is the script's fault, or out of memory, or the writer's, or the script is not plain.
+    ensures refused { IfErr result (λ e. (e ≡ Refusal.Memory) ⊎ (e ≡ Refusal.Output) ⊎ (script_of script.now ≡ Err e)
+        ⊎ (e ≡ Refusal.NotPlain)) }
+    // A script with a fault writes nothing.
+    ensures nothing { (e : Refusal) → script_of script.now ≡ Err e
+        → (writer_contents W.contents out.new ≡ writer_contents W.contents out.old)
+        × ((result ≡ Err e) ⊎ (result ≡ Err Refusal.Memory)) }
+{
+    let done = runs::<R, W>(alloc, script, bench, out)?;
+    out.flush().map_err(|_| Refusal::Output)?;
+    Ok(done)
+}
+
+/// Reads the script, and runs a bench over it. Each of its lines is handed on as it is made.
+fn judge<R: Threads + Sync>(rt: &HostRuntime, bench: Bench) -> Result<(), Fault> {
+    let script = read_script(rt.alloc(), rt.reader())?;
+    let pipe = Pipe::new(io::writer(rt));
+    let Ok(mut out) = BufWriter::with_capacity(rt.alloc(), WRITTEN_AT_ONCE, pipe) else {
+        return Err(Fault::Refused(Refusal::Memory));
+    };
+    match bench_to::<R, Pipe<_>>(rt.alloc(), &script, bench, &mut out) {
+        Ok(sweep) if sweep.wrong == 0 => Ok(()),
+        Ok(_) => Err(Fault::Wrong),
+        Err(_) if out.get_ref().is_closed() => Err(Fault::Closed),
+        Err(e) => Err(Fault::Refused(e)),
+    }
+}
+
 /// Does what the command line asks for.
 fn reported<R: Threads + Sync>(rt: &HostRuntime, threads: &R) -> Result<(), Fault> {
     match asked(rt) {
-        Ok(savers) => report(rt, threads, savers),
+        Ok(Work::Report(savers)) => report(rt, threads, savers),
+        Ok(Work::Judge(bench)) => judge::<R>(rt, bench),
         Err(NoWork::Shown) => Ok(()),
         Err(NoWork::Usage) => Err(Fault::Usage),
         Err(NoWork::Memory) => Err(Fault::Refused(Refusal::Memory)),

@@ -1,11 +1,12 @@
 //! The command line, and what `--help` says.
 
-ghost use Rattle.std.specs.Prelude.{◌≡◌, false, map, string_bytes, codes, IfOk};
+ghost use Rattle.std.specs.Prelude.{◌≡◌, false, Bool, map, Some, string_bytes, codes, IfOk};
 ghost use Rattle.clap.specs.Words.{app_of, first_value, found_of, matches_of, rows_of, rule_of};
 ghost use Rattle.clap.specs.declared.builder.value_parser.ValueParser.{ValueParser};
 ghost use Rattle.clap.specs.declared.parser.matches.Found.{Found};
-ghost use Rattle.bench_program.specs.Usage.{crew_rule, sbibench, savers_named};
+ghost use Rattle.bench_program.specs.Usage.{crew_rule, flag_rule, sbibench, savers_named, work_named, IsFlag};
 
+use clap::error::ErrorKind;
 use clap::{Arg, ArgAction, ArgMatches, Command, Error};
 use command_line::{NoWork, show, words};
 use std::alloc::{AllocError, Global};
@@ -14,12 +15,15 @@ use std::convert::AsStr;
 /// The version of the firmware.
 const VERSION: &str = "1";
 
-const USAGE: &str = "sbibench [--crew CREW] < SCRIPT";
+const USAGE: &str = "sbibench [--crew CREW] [--sweep | --faults] < SCRIPT";
 
 const ABOUT: &str = "\
 Runs a script of programs, commands and power cuts on a modelled RISC-V board.
 
-The script comes on standard input, and its report goes to standard output.";
+The script comes on standard input, and its report goes to standard output.
+With --sweep or --faults a bench runs in place of the report: the script again
+and again, with a power cut or a failure at each call of the disk, and after
+each run a power-on that must find what the disk was told to keep.";
 
 const NUMBERS: &str = "\
 Status:
@@ -30,6 +34,7 @@ Status:
      for failed input 'sbibench: input', and nothing where no one reads the
      report
   2  a fault of the command line
+  3  a bench found something wrong: its last line counts how often
 
 Refusals, on standard error and in reports:
    1  the disk is not formatted
@@ -72,6 +77,30 @@ const THREADS: &str = "threads";
 /// The word for lanes that are written one after another.
 const TURNS: &str = "turns";
 
+/// The flag that chooses the bench of power cuts.
+const SWEEP: &str = "sweep";
+
+/// The flag that chooses the bench of failures.
+const FAULTS: &str = "faults";
+
+/// What the command line asks for.
+#[derive(Clone, Copy, Debug, Drop)]
+pub enum Work {
+    /// The report of the script.
+    Report(Savers),
+    /// A bench over the script, whose lanes are written one after another.
+    Judge(Bench),
+}
+
+/// A bench.
+#[derive(Clone, Copy, Debug, Drop)]
+pub enum Bench {
+    /// Power is cut at each call.
+    Sweep,
+    /// Each call fails.
+    Faults,
+}
+
 /// Who writes the lanes of an image. The report is the same.
 #[derive(Clone, Copy, Debug, Drop)]
 pub enum Savers {
@@ -95,15 +124,30 @@ fn crew<'a>(alloc: Global) -> Arg<'a>
         .help("Who writes the lanes of an image: one after another, or a thread each")
 }
 
+/// A flag.
+fn flag<'a>(alloc: Global, id: &'a str, help: &'a str) -> Arg<'a>
+    ensures rule { rule_of result ≡ flag_rule id.entry.now }
+    ensures local { result.global ≡ false }
+{
+    Arg::new(alloc, id)
+        .long(id)
+        .action(ArgAction::SetTrue)
+        .help(help)
+}
+
 fn command<'a>(alloc: Global) -> Result<Command<'a>, AllocError>
     ensures { IfOk result (λ c. (crews : ValueParser) × (app_of c ≡ sbibench crews)) }
 {
+    let sweep = "Cuts power at each call of the disk, and judges what is found";
+    let faults = "Fails each call of the disk in turn, and judges what is found";
     Command::new(alloc, "sbibench")
         .version(VERSION)
         .override_usage(USAGE)
         .about(ABOUT)
         .after_help(NUMBERS)
-        .arg(crew(alloc))
+        .arg(crew(alloc))?
+        .arg(flag(alloc, SWEEP, sweep))?
+        .arg(flag(alloc, FAULTS, faults))
 }
 
 /// The crew that was chosen.
@@ -116,20 +160,52 @@ fn chosen(matches: &ArgMatches<'_>) -> Savers
     }
 }
 
-/// Who writes the lanes, as the words of a command line ask for, the program's name first. The error is the
-/// command line's own text, which is the help or the version too, or says that memory was refused.
-pub fn savers_of<'a, S: AsStr>(alloc: Global, words: &'a [S]) -> Result<Savers, Error>
-    // The crew is the one that the words name, as the command line's parser reads them.
-    ensures { IfOk result (λ savers. (crews : ValueParser) × (f : Found)
+/// What is to be done by the two flags and the crew: none where both benches are asked for.
+fn work_by(sweep: bool, faults: bool, savers: Savers) -> Option<Work>
+    ensures { result ≡ work_named sweep faults savers }
+{
+    match (sweep, faults) {
+        (true, true) => None,
+        (true, false) => Some(Work::Judge(Bench::Sweep)),
+        (false, true) => Some(Work::Judge(Bench::Faults)),
+        (false, false) => Some(Work::Report(savers)),
+    }
+}
+
+/// What is to be done: none where both benches are asked for.
+fn work_in(matches: &ArgMatches<'_>) -> Option<Work>
+    ensures { (sweep faults : Bool) × IsFlag (found_of matches.now) (codes "sweep") sweep
+        × IsFlag (found_of matches.now) (codes "faults") faults
+        × (result ≡ work_named sweep faults (savers_named (first_value (found_of matches.now) (codes "crew")))) }
+{
+    let sweep = matches.get_flag(SWEEP);
+    let faults = matches.get_flag(FAULTS);
+    let savers = chosen(matches);
+    work_by(sweep, faults, savers)
+}
+
+/// What the words of a command line ask for, the program's name first. Both benches are a fault. The error is
+/// the command line's own text, which is the help or the version too, or says that memory was refused.
+pub fn work_of<'a, S: AsStr>(alloc: Global, words: &'a [S]) -> Result<Work, Error>
+    // It is what the words name, as the command line's parser reads them, and not both benches.
+    ensures { IfOk result (λ work. (crews : ValueParser) × (f : Found) × (sweep faults : Bool)
         × (rows_of f ≡ matches_of (sbibench crews) (map S.text words.now))
-        × (savers ≡ savers_named (first_value f (codes "crew")))) }
+        × IsFlag f (codes "sweep") sweep × IsFlag f (codes "faults") faults
+        × (work_named sweep faults (savers_named (first_value f (codes "crew"))) ≡ Some work)) }
 {
     let matches = command(alloc)?.try_get_matches_from(words)?;
-    Ok(chosen(&matches))
+    match work_in(&matches) {
+        Some(work) => Ok(work),
+        None => {
+            let text = "--sweep cannot be used with --faults";
+            let mut again = command(alloc)?;
+            Err(again.error(ErrorKind::ArgumentConflict, text)?)
+        }
+    }
 }
 
 /// Reads the command line, and shows what it asks to be shown, or its fault.
-pub fn asked(rt: &HostRuntime) -> Result<Savers, NoWork> {
+pub fn asked(rt: &HostRuntime) -> Result<Work, NoWork> {
     let words = words(rt, USAGE)?;
-    savers_of(rt.alloc(), words.as_slice()).map_err(|text| show(rt, &text))
+    work_of(rt.alloc(), words.as_slice()).map_err(|text| show(rt, &text))
 }

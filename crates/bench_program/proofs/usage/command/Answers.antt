@@ -15,4 +15,6 @@ returns c =
     let a2 : app_of c.override_usage.result ≡ named_app = ap app_of_fields c.override_usage.ensures ∙ a1 in
     let a3 : app_of c.about.result ≡ named_app = ap app_of_fields c.about.ensures ∙ a2 in
     let named_is : app_of c.after_help.result ≡ named_app = ap app_of_fields c.after_help.ensures ∙ a3 in
-    IfOk-weaker c.arg.result _ _ (λ r h. (crews, h.shape c.crew.ensures.local ∙ ap₂ with_rule named_is c.crew.ensures.rule.1)) c.arg.ensures
+    let one = c.in_ok-arg.ensures.shape c.crew.ensures.local ∙ ap₂ with_rule named_is c.crew.ensures.rule.1 in
+    let two = c.in_ok-arg-2.ensures.shape c.flag.ensures.local ∙ ap₂ with_rule one c.flag.ensures.rule in
+    IfOk-weaker c.arg-3.result _ _ (λ r h. (crews, h.shape c.flag-2.ensures.local ∙ ap₂ with_rule two c.flag-2.ensures.rule)) c.arg-3.ensures

@@ -1,0 +1,232 @@
+-- What a run leaves, and what a power-on that keeps its image finds of it.
+use Rattle.std.proofs.Common.{◌≡◌, ◌≤◌, ◌⊎◌, ℕ, inl, inr, Bool, true, false, List, [], ◌∷◌, Option, None, Some, Result, Ok, Err, MatchResult, OnOk, IfOk, refl, sym, ◌∙◌, ap, subst, arith}
+use Rattle.board_model.specs.Durable.{DurableState, Image, Change, IsWhole}
+use Rattle.board_model.specs.Kept.{Kept, MayKeep, MayFind, found_of}
+use Rattle.board_model.specs.Plains.{HasMemory, image_in, state_in, IsPlainOf}
+use Rattle.board_model.specs.Shapes.{Size, IsSize}
+use Rattle.board_model.specs.Views.{head_of, durable_of}
+use Rattle.board_model.specs.declared.boot_mode.BootMode.TheVariants as modes
+use Rattle.board_model.specs.declared.durable.Durable.{Durable}
+use Rattle.board_model.specs.declared.durable.ImageHead.{ImageHead}
+use Rattle.board_model.specs.declared.plain.Plain.{Plain}
+use Rattle.disk.specs.Facts.{IsLeft}
+use Rattle.disk.specs.FaultState.{Armed, Unarmed, FaultArmed, CutArmed, FaultState, Cause, fault_state_left}
+use Rattle.simdisk.specs.declared.SimDisk.{SimDisk}
+use Rattle.board.specs.Boots.{boot_refusal}
+use Rattle.bench_report.specs.declared.power.Power.{Power}
+use Rattle.bench_report.specs.declared.power.Power.TheVariants.{Off, On}
+use Rattle.bench_report.specs.declared.printed.Answer.{Answer}
+use Rattle.bench_report.specs.declared.printed.Printed.{Printed}
+use Rattle.bench_report.specs.declared.printed.Printed.TheVariants as printed
+use Rattle.bench_report.specs.Views.{SimStore, SimBoard, store_in, facts, fault_state, store_size, store_now, store_fault_state}
+use Rattle.bench_report.specs.Bench.{DiskState, Formatted, BenchLife, Bench}
+use Rattle.bench_report.specs.Happens.{says, out_of_memory, FailsByFault, failed, off, on_with, settled, unpowered, has_machine}
+use Rattle.bench_report.specs.Steps.{ArmStep, Step}
+use Rattle.bench_report.specs.PowerOns.{life_begun, IsBooted, BootsFrom, Boots, Opens, IsOpenRefusal, PowersOn}
+use Rattle.bench_report.specs.Agree.{DiskIs, DeviceIs, BoardIs, OffIs, OnIs, Agrees, StepsTo}
+use Rattle.bench_report.proofs.Ended.{left_on, cut_leaves}
+use Rattle.bench_report.proofs.KeptDisks.{GoesOn as KeepsOn}
+use Rattle.bench_report.proofs.Issues.{GoesOn, IsSound}
+use Rattle.script_lang.specs.declared.line.Line.{Line}
+use Rattle.bench_judge.specs.declared.ledgers.Ledger.{Ledger}
+use Rattle.bench_judge.specs.Ledgers.{Tells}
+use Rattle.bench_sweep.specs.Runs.{TellsWhole, Follows, Runs, RunsCalm, LeftOff, IsSpoilt, FindsState, Finds, PowerFinds}
+use Rattle.bench_sweep.specs.Swept.{IsPlainLine}
+use Rattle.bench_sweep.specs.Told.{moves_harts, LineTold}
+use Rattle.bench_sweep.proofs.Followed.{whole_found}
+use Rattle.bench_sweep.proofs.Told.{line_tells}
+
+-- ---- a power cut
+pub left_off : KeepsOn → (size : Size) (b : Bench) (old new : SimDisk) → OffIs size b old → IsLeft (facts old) (facts new) → fault_state new ≡ fault_state_left (fault_state old) → OffIs size (unpowered b) new
+left_off goes_on size b old new off left m = (
+  refl,
+  left_on goes_on size b.disk_state b.kept old new off.1 (cut_leaves old new left),
+  (ap fault_state_left off.2.0 ∙ sym m, omega (arith, off.2.1, left.failures), omega (arith, off.2.2)),
+)
+
+-- of the disk of a run, with a ledger that tells the same
+pub left_by : (size : Size) (old new : SimDisk) (was ledger : Ledger) → Runs size (Off old) was → ((z : Size) (b : Bench) → OffIs z b old → OffIs z (unpowered b) new) → ((kept : Kept) → Tells was kept → Tells ledger kept) → LeftOff size new ledger
+left_by size old new was ledger r cut same = record {
+  bench = unpowered r.bench;
+  off = cut size r.bench r.agrees;
+  follows = record {
+    formatted = r.follows.formatted;
+    kept = record { tells = same r.bench.kept r.follows.kept.tells; whole = r.follows.kept.whole; doubt = r.follows.kept.doubt };
+  };
+  left = refl;
+}
+
+-- nothing has struck it
+pub calm_off : (size : Size) (disk : SimDisk) (ledger : Ledger) → LeftOff size disk ledger → RunsCalm size (Off disk) ledger
+calm_off size disk ledger l = record { bench = l.bench; agrees = l.off; follows = l.follows; calm = ap (λ (m : FaultState). m.struck) l.left }
+
+-- a cut or a failure is armed
+pub armed_off : (size : Size) (disk : SimDisk) (armed : Armed) (a : Answer) (power : Power) (ledger : Ledger) → LeftOff size disk ledger → ((z : Size) (b : Bench) → OffIs z b disk → StepsTo z b power (ArmStep armed b a)) → RunsCalm size power ledger
+armed_off size disk armed a power ledger l arms =
+    let did = arms size l.bench l.off in
+    let is = did.1.1 in
+    let kept : did.0.kept ≡ l.bench.kept = ap (λ (b : Bench). b.kept) is in
+    let P : Kept → Type 0 = λ k. TellsWhole size ledger k in record {
+      bench = did.0;
+      agrees = did.2;
+      follows = record { formatted = ap (λ (b : Bench). b.disk_state) is ∙ l.follows.formatted; kept = subst P (sym kept) l.follows.kept };
+      calm = ap (λ (b : Bench). b.fault_state.struck) is ∙ ap (λ (m : FaultState). m.struck) l.left;
+    }
+
+-- the board is off
+pub off_runs : (size : Size) (power : Power) (disk : SimDisk) (ledger : Ledger) → Runs size power ledger → ((z : Size) (b : Bench) → Agrees z b power → OffIs z (off b) disk) → Runs size (Off disk) ledger
+off_runs size power disk ledger r ends = record {
+  bench = off r.bench;
+  agrees = ends size r.bench r.agrees;
+  follows = record { formatted = r.follows.formatted; kept = r.follows.kept };
+}
+
+-- no armed cut has struck
+pub calm_runs : (size : Size) (power : Power) (ledger : Ledger) (struck : Bool) → struck ≡ false → Runs size power ledger → ((z : Size) (b : Bench) → Agrees z b power → struck ≡ b.fault_state.struck) → RunsCalm size power ledger
+calm_runs size power ledger struck none r is = record { bench = r.bench; agrees = r.agrees; follows = r.follows; calm = sym (is size r.bench r.agrees) ∙ none }
+
+sound_of : (size : Size) (b : Bench) (power : Power) → b.disk_state ≡ Formatted → Agrees size b power → IsSound b
+sound_of size b power formatted agrees = (formatted, by power agrees)
+  where
+    life : (p : Option BenchLife) (board : SimBoard) → BoardIs size Formatted b.kept p board → GoesOn b.kept p
+    life None board is = tt
+    life (Some l) board is = (is.0.0.0, is.0.0.1)
+
+    by : (power : Power) → Agrees size b power → GoesOn b.kept b.power
+    by (Off disk) is = let P : Option BenchLife → Type 0 = λ p. GoesOn b.kept p in subst P (sym is.0) tt
+    by (On board) is = let M : DiskState → Type 0 = λ m. BoardIs size m b.kept b.power board in life b.power board (subst M formatted is.0)
+
+pub line_runs : (size : Size) (line : Line) (old new : Power) (payloads : List (List ℕ)) (answer : Answer) (was ledger : Ledger) → IsPlainLine line → moves_harts line ≡ false → (r : RunsCalm size old was)
+    → ((x : Bench) × Step size line (record r.bench { payloads = payloads }) answer x × Agrees size x new)
+    → ((z : Size) (k n : Kept) → TellsWhole z was k → LineTold line answer k n → TellsWhole z ledger n) → Runs size new ledger
+line_runs size line old new payloads answer was ledger plain none r (x, step, agrees) follows =
+    let b : Bench = record r.bench { payloads = payloads } in
+    let told = line_tells size line b answer x plain none (sound_of size r.bench old r.follows.formatted r.agrees) step in
+    record { bench = x; agrees = agrees; follows = record { formatted = told.1 ∙ r.follows.formatted; kept = follows size r.bench.kept x.kept r.follows.kept told.0 } }
+
+-- ---- a disk with nothing armed fails by itself alone
+differ : {A : Type 0} (a b c : Armed) → a ≡ b → a ≡ c → (b ≡ c → ⊥) → A
+differ a b c e f not = absurd (not (sym e ∙ f))
+
+pub fails_itself : (m n : FaultState) → m ≡ fault_state_left m → Cause m n → IsSpoilt n
+fails_itself m n left (inl e) = let f : n.own ≡ _ = ap (λ (x : FaultState). x.own) e in omega (arith, f)
+fails_itself m n left (inr (inl x)) = differ m.armed FaultArmed Unarmed x.0 (ap (λ (y : FaultState). y.armed) left) (λ e. let no : ⊥ = cc in no)
+fails_itself m n left (inr (inr (inl x))) = differ m.armed CutArmed Unarmed x.0 (ap (λ (y : FaultState). y.armed) left) (λ e. let no : ⊥ = cc in no)
+fails_itself m n left (inr (inr (inr x))) = absurd (let e : true ≡ false = sym x.0 ∙ ap (λ (y : FaultState). y.struck) left in let no : ⊥ = cc in no)
+
+-- ---- a state with its memory
+same_image : (i j : Option Image) (bytes : List ℕ) → head_of i ≡ head_of j → HasMemory bytes i → HasMemory bytes j → i ≡ j
+same_image None None bytes e a b = refl
+same_image None (Some j) bytes e a b = cc
+same_image (Some i) None bytes e a b = cc
+same_image (Some i) (Some j) bytes e a b =
+    let h : ◌≡◌ {A = ImageHead} (record { serial = i.serial; hart = i.hart; address = i.address; opaque = i.opaque }) (record { serial = j.serial; hart = j.hart; address = j.address; opaque = j.opaque }) = cc in
+    let m : i.memory ≡ j.memory = a ∙ sym b in
+    let F : ImageHead → List ℕ → Option Image = λ x y. Some (record { serial = x.serial; hart = x.hart; address = x.address; opaque = x.opaque; memory = y }) in
+    ap (λ x. F x i.memory) h ∙ ap (F (record { serial = j.serial; hart = j.hart; address = j.address; opaque = j.opaque })) m
+
+same_state : (s t : DurableState) (bytes : List ℕ) → durable_of s ≡ durable_of t → HasMemory bytes s.image → HasMemory bytes t.image → s ≡ t
+same_state s t bytes e a b =
+    let image : s.image ≡ t.image = same_image s.image t.image bytes (ap (λ (d : Durable). d.image) e) a b in
+    let F : Durable → Option Image → DurableState = λ d i. record { slot = d.slot; reason = d.reason; next = d.next; image = i } in
+    ap (λ d. F d s.image) e ∙ ap (F (durable_of t)) image
+
+pub plain_is : (s : DurableState) (d : Durable) (bytes : List ℕ) (p : Plain) → d ≡ durable_of s → IsPlainOf d bytes p → HasMemory bytes s.image → state_in p ≡ s
+plain_is s d bytes p e is has = same_state (state_in p) s bytes (is.head ∙ e) is.memory has
+
+-- a state without an image
+pub has_none : (i : Option Image) (bytes : List ℕ) → head_of i ≡ None → HasMemory bytes i
+has_none None bytes e = tt
+has_none (Some i) bytes e = cc
+
+-- and with one that was loaded
+pub has_loaded : (i : Option Image) (bytes : List ℕ) → (j : Image) × (i ≡ Some j) × (bytes ≡ j.memory) → HasMemory bytes i
+has_loaded i bytes (j, is, loaded) = let P : Option Image → Type 0 = λ o. HasMemory bytes o in subst P (sym is) (sym loaded)
+
+-- ---- a power-on that keeps its image
+life_is : (x life : BenchLife) (b : Bench) → b.power ≡ Some x → b.power ≡ Some life → life ≡ x
+life_is x life b e f = let g : Some x ≡ Some life = sym e ∙ f in cc
+
+-- the board is on
+record Booted (b new : Bench) : Type 0 where
+  pub changes : List Change
+  pub may : MayKeep b.kept changes
+  pub life : BenchLife
+  pub on : new.power ≡ Some life
+  pub now : life.now ≡ found_of changes
+  pub fault : new.fault_state ≡ b.fault_state
+  pub disk : new.disk_state ≡ Formatted
+
+-- or it is off, and why
+record Unbooted (b : Bench) (line : Printed) (new : Bench) : Type 0 where
+  pub off : new.power ≡ None
+  pub why : (line ≡ printed.OnRefused 11) ⊎ ((m : FaultState) × Cause b.fault_state m × (new.fault_state ≡ m))
+
+module _ (size : Size) (b : Bench) (a : Answer) (new : Bench) (formatted : b.disk_state ≡ Formatted) (none : b.power ≡ None) (left : b.fault_state ≡ fault_state_left b.fault_state) where
+  abbrev Ended : Type 0
+  Ended = Booted b new ⊎ Unbooted b a.line new
+
+  stands : (z : Size) (s : DurableState) (changes : List Change) → MayKeep b.kept changes → s ≡ found_of changes → Boots None modes.Keep z s (settled changes b) a.line new → Ended
+  stands z s changes may found (inl (o, mid, issues, booted)) =
+      let Q : Result ℕ ℕ → Type 0 = λ r. IsBooted r modes.Keep z s mid a.line new in
+      let on = subst Q issues.0 booted in
+      let first : Bench = on_with (life_begun s z) (settled changes b) in
+      let life : on.0 ≡ life_begun s z = life_is (life_begun s z) on.0 mid (ap (λ (x : Bench). x.power) issues.1) on.1 in
+      inl (record {
+        changes = changes;
+        may = may;
+        life = has_machine on.3 on.0;
+        on = ap (λ (x : Bench). x.power) on.5;
+        now = ap (λ (l : BenchLife). l.now) life ∙ found;
+        fault = ap (λ (x : Bench). x.fault_state) on.5 ∙ ap (λ (x : Bench). x.fault_state) issues.1;
+        disk = ap (λ (x : Bench). x.disk_state) on.5 ∙ ap (λ (x : Bench). x.disk_state) issues.1 ∙ formatted;
+      })
+  stands z s changes may found (inr x) = inr (record { off = ap (λ (y : Bench). y.power) x.1 ∙ none; why = inl x.0 })
+
+  powers : PowersOn size modes.Keep b a new → Ended
+  powers (inl (s, z, mid, opens, shows_it, booted)) =
+      let O : DiskState → Type 0 = λ m. Opens size m b s z mid in
+      let did = subst O formatted opens in
+      let S : Bench → Type 0 = λ m. Boots None modes.Keep z s m a.line new in
+      stands z s did.0 did.1 did.2 (subst S did.4 booted)
+  powers (inr (inl (n, refused, e, is))) = let P : DiskState → Type 0 = λ m. IsOpenRefusal m n in absurd (subst P formatted refused)
+  powers (inr (inr (inl x))) = inr (record { off = ap (λ (y : Bench). y.power) x.2 ∙ none; why = inl (ap (λ (y : Answer). y.line) x.1) })
+  powers (inr (inr (inr x))) =
+      inr (record { off = ap (λ (y : Bench). y.power) x.1.2 ∙ none; why = inr (x.1.0, x.1.1, ap (λ (y : Bench). y.fault_state) x.1.2) })
+
+  -- of a board that is off memory was refused
+  spoilt : (disk : SimDisk) → Unbooted b a.line new → OffIs size new disk → (a.line ≡ printed.OnRefused 11) ⊎ IsSpoilt (fault_state disk)
+  spoilt disk u off = by u.why
+    where
+      by : ((a.line ≡ printed.OnRefused 11) ⊎ ((m : FaultState) × Cause b.fault_state m × (new.fault_state ≡ m))) → (a.line ≡ printed.OnRefused 11) ⊎ IsSpoilt (fault_state disk)
+      by (inl e) = inl e
+      by (inr (m, cause, e)) = let P : FaultState → Type 0 = λ x. IsSpoilt x in inr (subst P (sym e ∙ off.2.0) (fails_itself b.fault_state m left cause))
+
+  -- a store that goes on from what was found
+  abbrev Stored : SimBoard → Booted b new → Type 0
+  Stored board k = FindsState size (store_in board) × (store_now (store_in board) ≡ found_of k.changes)
+
+  stored : (board : SimBoard) (k : Booted b new) → IsSize size → IsWhole size (found_of k.changes) → OnIs size new board → Stored board k
+  stored board k is_size whole on =
+      let M : DiskState → Type 0 = λ m. BoardIs size m new.kept new.power board in
+      let P : Option BenchLife → Type 0 = λ p. BoardIs size Formatted new.kept p board in
+      let is = subst P k.on (subst M k.disk on.0) in
+      let now : store_now (store_in board) ≡ found_of k.changes = is.0.1.0 ∙ k.now in
+      let W : DurableState → Type 0 = λ s. IsWhole size s in
+      let F : FaultState → Type 0 = λ m. m ≡ fault_state_left m in
+      (record { sized = is.0.0.2; is_size = is_size; whole = subst W (sym now) whole; left = subst F (sym k.fault ∙ on.1.0) left }, now)
+
+  -- what was found is what the ledger tells
+  pub finds : (ledger : Ledger) (power : Power) (found : Option Plain) → IsSize size → TellsWhole size ledger b.kept → PowersOn size modes.Keep b a new → Agrees size new power → PowerFinds size power a.line found → Finds ledger found
+  finds ledger (Off disk) found is_size tells did agrees sees = elim (powers did) [
+    | inl k ↦ absurd (let e : None ≡ Some k.life = sym agrees.0 ∙ k.on in let no : ⊥ = cc in no)
+    | inr u ↦ absurd (sees (spoilt disk u agrees))
+  ]
+  finds ledger (On board) found is_size tells did agrees sees = elim (powers did) [
+    | inr u ↦ (let P : Option BenchLife → Type 0 = λ p. BoardIs size new.disk_state new.kept p board in absurd (subst P u.off agrees.0))
+    | inl k ↦ (
+        let x = stored board k is_size (whole_found size ledger b.kept k.changes tells k.may) agrees in
+        let p = sees x.0 in
+        record { kept = b.kept; tells = tells.tells; plain = p.0; is = p.1; may = (k.changes, k.may, p.2 ∙ x.1) }
+        )
+  ]

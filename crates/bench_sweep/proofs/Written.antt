@@ -1,0 +1,181 @@
+-- Rows that are written one after another, and counted.
+use Rattle.std.proofs.Common.{◌≡◌, ◌<◌, ◌≤◌, ℕ, zero, suc, ◌+◌, List, [], ◌∷◌, ◌++◌, Option, None, Some, Result, Ok, Err, OnOk, length, map, take, get_or, refl, sym, ◌∙◌, ap, subst, append_assoc, add_assoc, length-append, zero-add, add-one, arith}
+use Rattle.std.proofs.lemmas.List.{append-nil, take_more, length-take-le}
+use Rattle.std.proofs.lemmas.Grind.{flat_map-append}
+use Rattle.std.specs.List.{flat_map}
+use Rattle.std.specs.Io.KnownBytes.{Appends, Keeps}
+use Rattle.disk.specs.Facts.{counted}
+use Rattle.bench_judge.specs.declared.judges.Sweep.{Sweep}
+use Rattle.bench_sweep.specs.declared.points.Bench.{Bench}
+use Rattle.bench_sweep.specs.declared.points.Caller.{Caller}
+use Rattle.bench_sweep.specs.declared.points.Fill.{Fill}
+use Rattle.bench_sweep.specs.declared.rows.Row.{Row}
+use Rattle.bench_sweep.specs.Rows.{row_text, sweep_text}
+use Rattle.bench_sweep.specs.Swept.{Cell, cell, cell_of, runs_of, runs_from, callers, all_runs, rows_text, GoesOn, Writes, total, WroteAll}
+
+pub appended : (a b c : Option (List ℕ)) (x y : List ℕ) → Appends a b x → Appends b c y → Appends a c (x ++ y)
+appended None b c x y h g = tt
+appended (Some a) (Some b) (Some c) x y h g = g ∙ ap (λ z. z ++ y) h ∙ append_assoc a x y
+appended (Some a) None c x y h g = absurd h
+appended (Some a) (Some b) None x y h g = absurd g
+
+-- what is handed on stays written
+pub handed_on : (a b c : Option (List ℕ)) (x : List ℕ) → Appends a b x → Keeps b c → Appends a c x
+handed_on None b c x h k = tt
+handed_on (Some a) (Some b) (Some c) x h k = k ∙ h
+handed_on (Some a) None c x h k = absurd h
+handed_on (Some a) (Some b) None x h k = absurd k
+
+nothing : (a : Option (List ℕ)) → Appends a a []
+nothing None = tt
+nothing (Some a) = sym (append-nil a)
+
+abbrev line_of : Row → List ℕ
+line_of r = row_text r ++ 10 ∷ []
+
+text_more : (rows more : List Row) → rows_text (rows ++ more) ≡ rows_text rows ++ rows_text more
+text_more rows more = flat_map-append line_of rows more
+
+cells_more : (rows more : List Row) → map cell_of (rows ++ more) ≡ map cell_of rows ++ map cell_of more
+cells_more [] more = refl
+cells_more (r ∷ rows) more = ap (λ cs. cell_of r ∷ cs) (cells_more rows more)
+
+stays : (n : ℕ) → GoesOn n n 0
+stays n k e = omega (arith, e)
+
+one_more : (m n : ℕ) → n ≡ counted m 1 → GoesOn m n 1
+one_more m n is k e = omega (arith, is, e)
+
+-- one row
+pub writes_one : {E : Type 0} (r : Result (Unit {0}) E) (old now : Option (List ℕ)) (s t : Sweep) (row : Row) → OnOk r (Appends old now (row_text row ++ 10 ∷ [])) → t.points ≡ s.points → t.runs ≡ counted s.runs 1 → t.wrong ≡ s.wrong
+    → OnOk r (Writes old now s t (cell_of row ∷ []) 0)
+writes_one (Err e) old now s t row text points runs wrong = tt
+writes_one (Ok u) old now s t row text points runs wrong =
+    let P : ℕ → Type 0 = λ n. GoesOn s.points n 0 in record {
+      rows = row ∷ [];
+      text = rw (append-nil (line_of row)) text;
+      cells = refl;
+      points = subst P (sym points) (stays s.points);
+      runs = one_more s.runs t.runs runs;
+      right = wrong;
+    }
+
+-- no row
+pub writes_none : (now : Option (List ℕ)) (s : Sweep) → Writes now now s s [] 0
+writes_none now s = record { rows = []; text = nothing now; cells = refl; points = stays s.points; runs = stays s.runs; right = refl }
+
+goes_more : (a b c m n : ℕ) → GoesOn a b m → GoesOn b c n → GoesOn a c (m + n)
+goes_more a b c m n first second k e = second (k + m) (first k e) ∙ ap (λ x. counted 0 x) (sum k m n)
+  where
+    sum : (k m n : ℕ) → k + m + n ≡ k + (m + n)
+    sum k m n = omega arith
+
+-- and then more of them
+pub writes_more : (a b c : Option (List ℕ)) (s t u : Sweep) (xs ys : List Cell) (m n : ℕ) → Writes a b s t xs m → Writes b c t u ys n → Writes a c s u (xs ++ ys) (m + n)
+writes_more a b c s t u xs ys m n first second = record {
+  rows = first.rows ++ second.rows;
+  text = rw (text_more first.rows second.rows) (appended a b c (rows_text first.rows) (rows_text second.rows) first.text second.text);
+  cells = cells_more first.rows second.rows ∙ ap (λ zs. zs ++ map cell_of second.rows) first.cells ∙ ap (λ zs. xs ++ zs) second.cells;
+  points = goes_more s.points t.points u.points m n first.points second.points;
+  runs = rw (length-append first.rows second.rows) (goes_more s.runs t.runs u.runs (length first.rows) (length second.rows) first.runs second.runs);
+  right = second.right ∙ first.right;
+}
+
+-- the same runs
+pub writes_as : (a b : Option (List ℕ)) (s t : Sweep) (xs ys : List Cell) (m n : ℕ) → xs ≡ ys → m ≡ n → Writes a b s t xs m → Writes a b s t ys n
+writes_as a b s t xs ys m n e f w =
+    let P : List Cell → Type 0 = λ zs. Writes a b s t zs m in
+    let Q : ℕ → Type 0 = λ k. Writes a b s t ys k in
+    subst Q f (subst P e w)
+
+-- points that are counted at the end
+pub with_points : (a b : Option (List ℕ)) (s t u : Sweep) (xs : List Cell) (n : ℕ) → Writes a b s t xs 0 → u.points ≡ counted t.points (counted 0 n) → u.runs ≡ t.runs → u.wrong ≡ t.wrong → Writes a b s u xs n
+with_points a b s t u xs n w points runs wrong =
+    let P : ℕ → Type 0 = λ k. GoesOn s.runs k (length w.rows) in record {
+      rows = w.rows;
+      text = w.text;
+      cells = w.cells;
+      points = λ k e. (let at = w.points k e in omega (arith, points, at));
+      runs = subst P (sym runs) w.runs;
+      right = wrong ∙ w.right;
+    }
+
+-- ---- points of a caller
+counted_on : (m k : ℕ) → counted (counted (counted 0 m) 1) k ≡ counted 1 (m + k)
+counted_on m k = omega arith
+
+-- points that follow on others
+pub runs_on : (bench : Bench) (caller : Caller) (m n : ℕ) → runs_from bench caller 1 m ++ runs_from bench caller (counted (counted 0 m) 1) n ≡ runs_from bench caller 1 (m + n)
+runs_on bench caller m zero = append-nil (runs_from bench caller 1 m) ∙ ap (runs_from bench caller 1) (sum m)
+  where
+    sum : (m : ℕ) → m ≡ m + 0
+    sum m = omega arith
+runs_on bench caller m (suc n) =
+    sym (append_assoc (runs_from bench caller 1 m) (runs_from bench caller (counted (counted 0 m) 1) n) (runs_of bench caller (counted (counted (counted 0 m) 1) n)))
+    ∙ ap (λ zs. zs ++ runs_of bench caller (counted (counted (counted 0 m) 1) n)) (runs_on bench caller m n)
+    ∙ ap (λ k. runs_from bench caller 1 (m + n) ++ runs_of bench caller k) (counted_on m n)
+    ∙ ap (runs_from bench caller 1) (next m n)
+  where
+    next : (m n : ℕ) → suc (m + n) ≡ m + suc n
+    next m n = omega arith
+
+-- ---- points of all callers
+pub all_more : (bench : Bench) (cs : List Caller) (ns : List ℕ) (c : Caller) (n : ℕ) → length cs ≡ length ns → all_runs bench (cs ++ c ∷ []) (ns ++ n ∷ []) ≡ all_runs bench cs ns ++ runs_from bench c 1 n
+all_more bench [] [] c n e = append-nil (runs_from bench c 1 n)
+all_more bench [] (k ∷ ns) c n e = cc
+all_more bench (d ∷ cs) [] c n e = cc
+all_more bench (d ∷ cs) (k ∷ ns) c n e =
+    ap (λ zs. runs_from bench d 1 k ++ zs) (all_more bench cs ns c n (let f : length cs ≡ length ns = omega (arith, e) in f))
+    ∙ sym (append_assoc (runs_from bench d 1 k) (all_runs bench cs ns) (runs_from bench c 1 n))
+
+pub total_more : (ns : List ℕ) (n : ℕ) → total (ns ++ n ∷ []) ≡ total ns + n
+total_more [] n = omega arith
+total_more (k ∷ ns) n = ap (λ x. k + x) (total_more ns n) ∙ sym (add_assoc k (total ns) n)
+
+-- ---- loops
+-- one call more
+pub next_call : (bench : Bench) (caller : Caller) (first done number : ℕ) → number ≡ counted first done → runs_from bench caller first done ++ runs_of bench caller number ≡ runs_from bench caller first (done + 1)
+next_call bench caller first done number e =
+    ap (λ n. runs_from bench caller first done ++ runs_of bench caller n) e ∙ ap (runs_from bench caller first) (sym (add-one done))
+
+-- the calls up to the next site
+pub next_calls : (bench : Bench) (caller : Caller) (n made first calls : ℕ) → made ≡ counted 0 n → first ≡ counted made 1 → runs_from bench caller 1 n ++ runs_from bench caller first calls ≡ runs_from bench caller 1 (n + calls)
+next_calls bench caller n made first calls e f =
+    ap (λ k. runs_from bench caller 1 n ++ runs_from bench caller k calls) (f ∙ ap (λ k. counted k 1) e) ∙ runs_on bench caller n calls
+
+pub made_more : (n made calls next : ℕ) → made ≡ counted 0 n → next ≡ counted made calls → next ≡ counted 0 (n + calls)
+made_more n made calls next e f = omega (arith, e, f)
+
+-- one caller more
+pub next_caller : (bench : Bench) (items : List Caller) (i : ℕ) (caller d : Caller) (counts : List ℕ) (n : ℕ) → i < length items → caller ≡ get_or items i d → length counts ≡ i
+    → all_runs bench (take i items) counts ++ runs_from bench caller 1 n ≡ all_runs bench (take (i + 1) items) (counts ++ n ∷ [])
+next_caller bench items i caller d counts n less is long =
+    sym (all_more bench (take i items) counts caller n (length-take-le i items (omega (arith, less)) ∙ sym long))
+    ∙ ap (λ c. all_runs bench (take i items ++ c ∷ []) (counts ++ n ∷ [])) is
+    ∙ ap (λ cs. all_runs bench cs (counts ++ n ∷ [])) (sym (take_more items i d less))
+
+pub longer : (counts : List ℕ) (n i : ℕ) → length counts ≡ i → length (counts ++ n ∷ []) ≡ i + 1
+longer counts n i e = length-append counts (n ∷ []) ∙ ap (λ k. k + 1) e
+
+-- all rows, and the last line
+pub wrote_all : (bench : Bench) (a b c : Option (List ℕ)) (s t : Sweep) (counts : List ℕ) → s.points ≡ 0 → s.runs ≡ 0 → s.wrong ≡ 0 → length counts ≡ 5 → Writes a b s t (all_runs bench callers counts) (total counts)
+    → Appends b c (sweep_text t ++ 10 ∷ []) → WroteAll bench a c t
+wrote_all bench a b c s t counts no_point no_run no_wrong five wrote last = record {
+  counts = counts;
+  five = five;
+  rows = wrote.rows;
+  text = appended a b c (rows_text wrote.rows) (sweep_text t ++ 10 ∷ []) wrote.text last;
+  cells = wrote.cells;
+  points = wrote.points 0 no_point ∙ ap (λ k. counted 0 k) (zero-add (total counts));
+  runs = wrote.runs 0 no_run ∙ ap (λ k. counted 0 k) (zero-add (length wrote.rows));
+  right = wrote.right ∙ no_wrong;
+}
+
+-- ---- runs of one list
+-- one more of a list
+pub map_more : {A B : Type 0} (f : A → B) (xs : List A) (i : ℕ) (x d : A) → i < length xs → x ≡ get_or xs i d → map f (take (i + 1) xs) ≡ map f (take i xs) ++ f x ∷ []
+map_more {A = A} f xs i x d less is = ap (map f) (take_more xs i d less) ∙ snoc (take i xs) (get_or xs i d) ∙ ap (λ y. map f (take i xs) ++ f y ∷ []) (sym is)
+  where
+    snoc : (ys : List A) (y : A) → map f (ys ++ y ∷ []) ≡ map f ys ++ f y ∷ []
+    snoc [] y = refl
+    snoc (z ∷ ys) y = ap (λ zs. f z ∷ zs) (snoc ys y)

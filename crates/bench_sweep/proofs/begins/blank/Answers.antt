@@ -1,0 +1,13 @@
+use Rattle.std.proofs.Common.{refl, sym, ◌∙◌, ap, arith, length, replicate}
+use Rattle.std.proofs.lemmas.List.{length-replicate}
+use Rattle.bench_report.specs.Bench.{blank_bench}
+use Rattle.bench_sweep.proofs.begins.blank.Goals as goal
+
+pub returns-clause-begins : goal.returns-clause-begins
+returns-clause-begins c =
+    let made = c.in_ok-disk.ensures in
+    let long = ap length made.fresh.reads ∙ length-replicate c.sectors.result (replicate 512 0) in record {
+      bench = blank_bench;
+      agrees = (refl, c.blank_disks.ensures.zeros c.sectors.result c.in_ok-disk.disk made.fresh, (sym made.no_fault, omega arith, omega (arith, long, c.sectors.ensures.value)));
+      calm = refl;
+    }

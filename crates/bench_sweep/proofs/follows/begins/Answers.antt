@@ -1,0 +1,35 @@
+use Rattle.std.proofs.Common.{◌≡◌, ℕ, List, inl, inr, None, Some, OnOk, subst, arith}
+use Rattle.bench_report.specs.declared.printed.Printed.{Printed}
+use Rattle.bench_sweep.specs.Told.{BootTold, BootSaid}
+use Rattle.bench_sweep.proofs.Followed.{weaker}
+use Rattle.bench_report.specs.declared.printed.Printed.TheVariants as printed
+use Rattle.bench_sweep.specs.Resumes.{image_told, powered, Resumes}
+use Rattle.bench_sweep.proofs.Serials.{as_told, refused_boot}
+use Rattle.bench_sweep.proofs.follows.begins.Goals as goal
+
+pub returns-in-On-clause-kept : goal.returns-in-On-clause-kept
+returns-in-On-clause-kept c =
+    weaker c.boots.result c.args.ledger.now c.boots.new.ledger (BootTold None c.args.mode) (BootSaid c.args.said c.args.mode)
+    (λ old new t. (let P : Printed → Type 0 = λ x. BootSaid x c.args.mode old new in subst P c.in-On.is t)) c.boots.ensures.kept
+
+pub returns-else-number-eq11-clause-kept : goal.returns-else-number-eq11-clause-kept
+returns-else-number-eq11-clause-kept c =
+    weaker c.boots-else-number-eq11.result c.args.ledger.now c.boots-else-number-eq11.new.ledger (BootTold (Some c.in-OnRefused.number) c.args.mode) (BootSaid c.args.said c.args.mode)
+    (λ old new t. (let P : Printed → Type 0 = λ x. BootSaid x c.args.mode old new in elim (subst P c.in-OnRefused.is t) [
+      | inl e ↦ (let f : c.in-OnRefused.number ≡ 11 = e in absurd (omega (arith, f)))
+      | inr told ↦ told
+    ])) c.boots-else-number-eq11.ensures.kept
+
+pub returns-in-On-clause-serial : goal.returns-in-On-clause-serial
+returns-in-On-clause-serial c =
+    let l = c.args.ledger.now in
+    as_told c.boots.result l c.boots.new.ledger (λ (x : Printed). powered x c.args.mode (image_told l)) c.args.said (printed.On _) c.in-On.is c.boots.ensures.serial
+
+pub returns-else-number-eq11-clause-serial : goal.returns-else-number-eq11-clause-serial
+returns-else-number-eq11-clause-serial c =
+    let l = c.args.ledger.now in
+    let m = c.boots-else-number-eq11.new.ledger in
+    let r = c.boots-else-number-eq11.result in
+    let n = c.in-OnRefused.number in
+    let P : List ℕ → Type 0 = λ xs. OnOk r (Resumes l m xs) in
+    as_told r l m (λ (x : Printed). powered x c.args.mode (image_told l)) c.args.said (printed.OnRefused n) c.in-OnRefused.is (subst P (refused_boot n c.args.mode (image_told l)) c.boots-else-number-eq11.ensures.serial)

@@ -1,0 +1,5 @@
+use Rattle.bench_sweep.proofs.Left.{off_runs}
+use Rattle.bench_sweep.proofs.sites.Going.ends.Goals as goal
+
+pub returns : goal.returns
+returns c = λ size r. off_runs size c.args.self.power _ c.args.self.ledger r c.disk_left.ensures.reported

@@ -1,0 +1,17 @@
+use Rattle.std.proofs.Common.{◌≡◌, ◌≤◌, ◌-◌, ℕ, length}
+use Rattle.disk.specs.Facts.{counted}
+use Rattle.bench_report.specs.declared.power.Power.TheVariants.{Off}
+use Rattle.bench_sweep.specs.Runs.{Runs}
+use Rattle.bench_sweep.specs.Swept.{runs_from, Writes}
+use Rattle.bench_sweep.proofs.sweeps.sweeps.Given as goal
+
+-- the runs of the points so far are written
+abbrev pub invariant-loop-from : goal.invariant-loop-from
+invariant-loop-from g l = record {
+  within : l.from ≤ length l.lines;
+  runs : Runs l.shape (Off l.site.disk) l.site.ledger;
+  wrote : (n : ℕ) × (l.made ≡ counted 0 n) × Writes (g.W.Write.contents l.fn.out) (g.W.Write.contents l.out) l.fn.sweep l.sweep (runs_from l.bench l.caller 1 n) 0;
+}
+
+abbrev pub decreases-loop-from : goal.decreases-loop-from
+decreases-loop-from g l = length l.lines - l.from

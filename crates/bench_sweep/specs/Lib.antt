@@ -1,0 +1,6 @@
+pub mod Rows
+pub mod Swept
+pub mod Told
+pub mod Runs
+pub mod Lines
+pub mod Resumes

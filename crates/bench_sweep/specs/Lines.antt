@@ -1,0 +1,46 @@
+-- What a line that moves harts does, by the steps of the model, and that the ledger follows it.
+use Rattle.std.specs.Prelude.{◌≡◌, ℕ, Option, None, Some}
+use Rattle.board_model.specs.Shapes.{Size}
+use Rattle.machine.specs.declared.parts.Word.{Word}
+use Rattle.script_lang.specs.declared.line.Line.{Line}
+use Rattle.bench_report.specs.declared.printed.Answer.{Answer}
+use Rattle.bench_report.specs.declared.power.Power.{Power}
+use Rattle.bench_report.specs.Bench.{BenchLife, Bench}
+use Rattle.bench_report.specs.Steps.{Step}
+use Rattle.bench_report.specs.Turns.{GuestTurn, GuestTurns}
+use Rattle.bench_report.specs.Agree.{OnIs, BoardAfter, Agrees}
+use Rattle.bench_report.specs.Views.{SimBoard}
+use Rattle.bench_judge.specs.declared.ledgers.Ledger.{Ledger}
+use Rattle.bench_sweep.specs.Runs.{Follows}
+
+-- one turn of hart h, and what was said of it
+abbrev pub TurnsOnce : ℕ → Bench → Word → Bench → Type 0
+TurnsOnce h b word new = (life : BenchLife) × (b.power ≡ Some life) × GuestTurn h life b word new
+
+-- at most n turns of hart h in a line, and what was said of the last
+abbrev pub TurnsMany : ℕ → ℕ → Bench → Word → Bench → Type 0
+TurnsMany h n b word new = (made : ℕ) × GuestTurns h n b made word new
+
+-- what a line does, whatever it answers
+abbrev pub DoesLine : Size → Line → Bench → Bench → Type 0
+DoesLine size line b new = (answer : Answer) × Step size line b answer new
+
+-- A hart came to that word by a step of which this holds; the board and the ledger then.
+pub record HartGoes (size : Size) (Does : Bench → Type 0) (word : Word) (board : SimBoard) (ledger : Ledger)
+    : Type 0 where
+  pub bench : Bench
+  pub does : Does bench
+  pub after : BoardAfter size word bench board
+  pub follows : Follows size bench ledger
+
+-- the same of a line of harts, of which no word is said where it did nothing
+abbrev pub LineGoes : Size → (Bench → Type 0) → Option Word → SimBoard → Ledger → Type 0
+LineGoes size Does None board ledger = (new : Bench) × Does new × OnIs size new board × Follows size new ledger
+LineGoes size Does (Some word) board ledger = HartGoes size Does word board ledger
+
+-- The line's step was made.
+pub record LineMoves (size : Size) (line : Line) (b : Bench) (power : Power) (ledger : Ledger) : Type 0 where
+  pub bench : Bench
+  pub does : DoesLine size line b bench
+  pub agrees : Agrees size bench power
+  pub follows : Follows size bench ledger

@@ -1,0 +1,46 @@
+-- The lines of a bench. Source: docs/SCRIPT.md, "The benches".
+use Rattle.std.specs.Prelude.{ℕ, List, [], ◌∷◌, ◌++◌, Option, Some, None}
+use Rattle.std.specs.Fmt.{decimal}
+use Rattle.board_model.specs.declared.durable.Durable.{Durable}
+use Rattle.board_console.specs.Texts.{state_text}
+use Rattle.bench_report.specs.Texts.{line_text}
+use Rattle.bench_report.specs.declared.printed.Answer.{Answer}
+use Rattle.bench_report.specs.declared.printed.Printed.{Printed}
+use Rattle.bench_judge.specs.declared.judges.Sweep.{Sweep}
+use Rattle.bench_sweep.specs.declared.points.Caller.{Caller}
+use Rattle.bench_sweep.specs.declared.points.Caller.TheVariants.{Disk, Lane}
+use Rattle.bench_sweep.specs.declared.points.Fill.{Fill}
+use Rattle.bench_sweep.specs.declared.points.Fill.TheVariants.{Zeros, Ones, Alternating, Old, New}
+use Rattle.bench_sweep.specs.declared.rows.Row.{Row}
+use lib.Chars.{codes}
+
+abbrev pub caller_text : Caller → List ℕ
+caller_text Disk = codes "disk"
+caller_text (Lane i) = codes "lane " ++ decimal i
+
+abbrev pub fill_text : Fill → List ℕ
+fill_text Zeros = codes "00"
+fill_text Ones = codes "ff"
+fill_text Alternating = codes "alt"
+fill_text Old = codes "old"
+fill_text New = codes "new"
+
+-- a bench of failures has no fill
+abbrev pub fill_part : Option Fill → List ℕ
+fill_part None = []
+fill_part (Some fill) = codes " " ++ fill_text fill
+
+-- what a power-on says: the found line where the open found a state, and else its last line
+abbrev pub told_text : Option Durable → Printed → List ℕ
+told_text None line = line_text line
+told_text (Some d) line = codes "found " ++ state_text d
+
+abbrev pub left_text : Answer → List ℕ
+left_text a = told_text a.found a.line
+
+abbrev pub row_text : Row → List ℕ
+row_text r = caller_text r.caller ++ codes " " ++ decimal r.number ++ fill_part r.fill ++ codes " " ++ left_text r.left
+
+-- the last line
+abbrev pub sweep_text : Sweep → List ℕ
+sweep_text s = codes "points " ++ decimal s.points ++ codes " runs " ++ decimal s.runs ++ codes " wrong " ++ decimal s.wrong

@@ -1,0 +1,93 @@
+-- What a bench wrote and counted. Source: docs/SCRIPT.md, "The benches".
+use Rattle.std.specs.Prelude.{◌≡◌, ◌+◌, ℕ, zero, suc, List, [], ◌∷◌, ◌++◌, ⊤, Option, None, Some, length, map}
+use Rattle.std.specs.List.{flat_map}
+use Rattle.std.specs.Io.KnownBytes.{Appends}
+use Rattle.disk.specs.Facts.{counted}
+use Rattle.script_lang.specs.declared.line.Line.{Line}
+use Rattle.script_lang.specs.declared.line.Line.TheVariants as lines
+use Rattle.bench_judge.specs.declared.judges.Sweep.{Sweep}
+use Rattle.bench_sweep.specs.declared.points.Bench.{Bench}
+use Rattle.bench_sweep.specs.declared.points.Bench.TheVariants.{Cuts, Fails}
+use Rattle.bench_sweep.specs.declared.points.Caller.{Caller}
+use Rattle.bench_sweep.specs.declared.points.Caller.TheVariants.{Disk, Lane}
+use Rattle.bench_sweep.specs.declared.points.Fill.{Fill}
+use Rattle.bench_sweep.specs.declared.points.Fill.TheVariants.{Zeros, Ones, Alternating, Old, New}
+use Rattle.bench_sweep.specs.declared.rows.Row.{Row}
+use Rattle.bench_sweep.specs.Rows.{row_text, sweep_text}
+
+-- a line of a script that a bench runs: it cuts nothing, lets nothing fail, and leaves the disk to the firmware
+abbrev pub IsPlainLine : Line → Type 0
+IsPlainLine (lines.CutAt n fill) = ⊥
+IsPlainLine (lines.CutLane i n fill) = ⊥
+IsPlainLine (lines.FailAt n) = ⊥
+IsPlainLine (lines.FailLane i n) = ⊥
+IsPlainLine (lines.Cut fill) = ⊥
+IsPlainLine (lines.Poke k n bytes) = ⊥
+IsPlainLine line = ⊤
+
+-- ---- which runs there are
+-- a run: at whose call power was cut, or failed a call; the number of the call, from 1; and what the cut left
+pub record Cell : Type 0 where
+  pub caller : Caller
+  pub number : ℕ
+  pub fill : Option Fill
+
+abbrev pub cell : Caller → ℕ → Option Fill → Cell
+cell caller number fill = record { caller = caller; number = number; fill = fill }
+
+abbrev pub cell_of : Row → Cell
+cell_of r = cell r.caller r.number r.fill
+
+-- the runs of a point, in order
+abbrev pub runs_of : Bench → Caller → ℕ → List Cell
+runs_of Cuts caller number =
+    map (λ (fill : Fill). cell caller number (Some fill)) (Zeros ∷ Ones ∷ Alternating ∷ Old ∷ New ∷ [])
+runs_of Fails caller number = cell caller number None ∷ []
+
+-- the runs of so many points of a caller, the first of which has that number
+abbrev pub runs_from : Bench → Caller → ℕ → ℕ → List Cell
+runs_from bench caller first zero = []
+runs_from bench caller first (suc n) = runs_from bench caller first n ++ runs_of bench caller (counted first n)
+
+-- the callers in order
+abbrev pub callers : List Caller
+callers = Disk ∷ Lane 0 ∷ Lane 1 ∷ Lane 2 ∷ Lane 3 ∷ []
+
+-- the runs at the points of these callers, of each so many, from number 1 on
+abbrev pub all_runs : Bench → List Caller → List ℕ → List Cell
+all_runs bench [] ns = []
+all_runs bench (caller ∷ more) [] = []
+all_runs bench (caller ∷ more) (n ∷ ns) = runs_from bench caller 1 n ++ all_runs bench more ns
+
+-- ---- what was written
+abbrev pub rows_text : List Row → List ℕ
+rows_text rows = flat_map (λ (r : Row). row_text r ++ 10 ∷ []) rows
+
+-- a count went on by so many
+abbrev pub GoesOn : ℕ → ℕ → ℕ → Type 0
+GoesOn before after n = (k : ℕ) → before ≡ counted 0 k → after ≡ counted 0 (k + n)
+
+-- These runs were made at so many points, one line was written for each, and each was counted. None was wrong.
+pub record Writes (old now : Option (List ℕ)) (s t : Sweep) (made : List Cell) (n : ℕ) : Type 0 where
+  pub rows : List Row
+  pub text : Appends old now (rows_text rows)
+  pub cells : map cell_of rows ≡ made
+  pub points : GoesOn s.points t.points n
+  pub runs : GoesOn s.runs t.runs (length rows)
+  pub right : t.wrong ≡ s.wrong
+
+abbrev pub total : List ℕ → ℕ
+total [] = 0
+total (n ∷ ns) = n + total ns
+
+-- Of each caller so many points; the runs at them, in order, a line for each, and then the line of the counts. No
+-- run was wrong.
+pub record WroteAll (bench : Bench) (old now : Option (List ℕ)) (sweep : Sweep) : Type 0 where
+  pub counts : List ℕ
+  pub five : length counts ≡ 5
+  pub rows : List Row
+  pub text : Appends old now (rows_text rows ++ (sweep_text sweep ++ 10 ∷ []))
+  pub cells : map cell_of rows ≡ all_runs bench callers counts
+  pub points : sweep.points ≡ counted 0 (total counts)
+  pub runs : sweep.runs ≡ counted 0 (length rows)
+  pub right : sweep.wrong ≡ 0

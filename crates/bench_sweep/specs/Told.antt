@@ -1,0 +1,82 @@
+-- What a line's answer tells of the commands that a disk keeps. Source: docs/DURABLE.md, "What an open finds".
+use Rattle.std.specs.Prelude.{◌≡◌, ◌≢◌, ◌⊎◌, ℕ, Bool, true, false, List, [], Option, None, Some, length}
+use Rattle.board_model.specs.Durable.{Change, Slot, Reset, Suspend, Consume, Discard, refusal_of}
+use Rattle.board_model.specs.Kept.{Kept, MayKeep, found_of}
+use Rattle.board_model.specs.Shapes.{Size, ram_bytes_of}
+use Rattle.board_model.specs.Views.{durable_of}
+use Rattle.board_model.specs.declared.boot_mode.BootMode.{BootMode}
+use Rattle.board_model.specs.declared.boot_mode.BootMode.TheVariants as modes
+use Rattle.board_model.specs.declared.durable.Durable.{Durable}
+use Rattle.board_model.specs.declared.durable.Reason.{Reason}
+use Rattle.script_lang.specs.declared.line.Line.{Line}
+use Rattle.script_lang.specs.declared.line.Line.TheVariants as lines
+use Rattle.machine.specs.declared.parts.Word.{Word}
+use Rattle.machine.specs.declared.parts.Word.TheVariants as words
+use Rattle.bench_report.specs.declared.printed.Printed.{Printed}
+use Rattle.bench_report.specs.declared.printed.Printed.TheVariants as printed
+use Rattle.bench_report.specs.declared.printed.Answer.{Answer}
+use Rattle.bench_judge.specs.Ledgers.{more_kept, in_doubt, settled}
+
+-- a line that harts move
+abbrev pub moves_harts : Line → Bool
+moves_harts (lines.Turn h n) = true
+moves_harts (lines.Call h e f x y z) = true
+moves_harts line = false
+
+-- A command was answered, by its receipt (none) or by the number that refused it. By 6 it is in doubt, or another
+-- is.
+abbrev pub IssuedTold : Option ℕ → Change → Kept → Kept → Type 0
+IssuedTold None c old new =
+    (old.doubt ≡ None) × (refusal_of (found_of old.changes) c ≡ None) × (new ≡ more_kept c old)
+IssuedTold (Some n) c old new =
+    (((n ≡ 6) → (d : Change) × (old.doubt ≡ Some d)) × (new ≡ old))
+    ⊎ ((n ≡ 6) × (old.doubt ≡ None) × (refusal_of (found_of old.changes) c ≡ None) × (new ≡ in_doubt c old))
+
+-- what a command of the console says
+abbrev pub CommandTold : Printed → Change → Kept → Kept → Type 0
+CommandTold (printed.Acknowledged word k) c old new = IssuedTold None c old new
+CommandTold (printed.CommandRefused word n) c old new = IssuedTold (Some n) c old new
+CommandTold line c old new = new ≡ old
+
+-- what a boot issues by its mode
+abbrev pub BootTold : Option ℕ → BootMode → Kept → Kept → Type 0
+BootTold said modes.Fresh old new = new ≡ old
+BootTold said modes.Keep old new = new ≡ old
+BootTold said modes.Discard old new = IssuedTold said Discard old new
+BootTold said modes.Resume old new = IssuedTold said Consume old new
+
+-- what a power-on says; of one that was refused memory nothing is asked
+abbrev pub BootSaid : Printed → BootMode → Kept → Kept → Type 0
+BootSaid (printed.On m) mode old new = BootTold None mode old new
+BootSaid (printed.OnRefused n) mode old new = (n ≡ 11) ⊎ BootTold (Some n) mode old new
+BootSaid line mode old new = new ≡ old
+
+-- the open found that state, which settles the command in doubt
+abbrev pub SettledTold : Option Durable → Kept → Kept → Type 0
+SettledTold None old new = new ≡ old
+SettledTold (Some d) old new =
+    (changes : List Change) × MayKeep old changes × (d ≡ durable_of (found_of changes)) × (new ≡ settled changes)
+
+-- what a line says that moves no hart
+abbrev pub LineTold : Line → Answer → Kept → Kept → Type 0
+LineTold (lines.On mode) a old new = (mid : Kept) × SettledTold a.found old mid × BootSaid a.line mode mid new
+LineTold (lines.Slot n) a old new = CommandTold a.line (Slot n) old new
+LineTold lines.Discard a old new = CommandTold a.line Discard old new
+LineTold line a old new = new ≡ old
+
+-- a command that a hart makes, where that is the memory
+abbrev pub IsOfHart : Size → List ℕ → Change → Type 0
+IsOfHart size memory (Reset r) = Unit {0}
+IsOfHart size memory (Suspend hart address opaque bytes) = (bytes ≡ memory) × (length memory ≡ ram_bytes_of size)
+IsOfHart size memory c = ⊥
+
+-- what a turn of a hart, or its call, tells by its word, where that is the memory then: one that goes on may hide a
+-- command in doubt; a board that dozes asked nothing of the disk
+abbrev pub HartTold : Size → Word → List ℕ → Kept → Kept → Type 0
+HartTold size (words.Own did) memory old new =
+    (new ≡ old) ⊎ ((c : Change) × IsOfHart size memory c × IssuedTold (Some 6) c old new)
+HartTold size words.Dozing memory old new = new ≡ old
+HartTold size words.Asleep memory old new =
+    (hart address opaque : ℕ) × (length memory ≡ ram_bytes_of size)
+    × IssuedTold None (Suspend hart address opaque memory) old new
+HartTold size (words.Reset kind) memory old new = (r : Reason) × IssuedTold None (Reset r) old new

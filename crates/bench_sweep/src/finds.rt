@@ -1,0 +1,153 @@
+//! What a run left: a power-on that keeps its image, and the judge's word of what that found.
+
+ghost use Rattle.std.specs.Prelude.{◌≡◌, ◌⊎◌, ◌≢◌, Option, None, Some, IfErr, IfOk, OnOk, IsTrue, ◌↔◌};
+ghost use Rattle.board_model.specs.Durable.{DurableState, IsWhole};
+ghost use Rattle.board_model.specs.Kept.{MayFind};
+ghost use Rattle.board_model.specs.Plains.{state_in};
+ghost use Rattle.board_model.specs.Shapes.{Size, IsSize};
+ghost use Rattle.board_model.specs.declared.plain.Plain.{Plain as State};
+ghost use Rattle.board_model.specs.declared.refusal.Refusal.TheVariants.{Memory, Device};
+ghost use Rattle.disk.specs.Facts.{counted};
+ghost use Rattle.disk.specs.FaultState.{fault_state_left};
+ghost use Rattle.store.specs.Leaves.{IsIdle};
+ghost use Rattle.bench_report.specs.declared.printed.Printed.TheVariants.{OnRefused};
+ghost use Rattle.bench_report.specs.Agree.{AreShort, OffIs};
+ghost use Rattle.bench_report.specs.Bench.{Bench, Formatted};
+ghost use Rattle.bench_report.specs.Views.{facts, fault_state, store_in, store_size, store_now, store_fault_state};
+ghost use Rattle.bench_sweep.specs.Runs.{LeftOff, Finds, FindsState, IsSpoilt, PowerFinds};
+
+use bench_judge::{Ledger, Sweep};
+use bench_report::{Answer, Power, Printed, step};
+use board::{Board, Parts, Payloads};
+use board_model::{BootMode, Plain, Refusal, Shape};
+use crew::Crew;
+use ram::Ram;
+use script_lang::Line;
+use simdisk::SimDisk;
+use std::alloc::Global;
+use store::whole_images_load;
+
+/// The state found with its memory, where it was found and its image loaded; and what the power-on said.
+#[derive(Drop)]
+struct Found {
+    plain: Option<Plain>,
+    left: Answer,
+}
+
+/// The image was not loaded. Refused `Memory` where the disk's record found none.
+fn unloaded(disk: SimDisk) -> Result<Option<Plain>, Refusal>
+    ensures spoilt { IfOk result (λ found. IsSpoilt (fault_state disk) → ⊥) }
+    ensures refused { IfErr result (λ e. e ≡ Memory) }
+{
+    if disk.refused() != 0 {
+        return Err(Refusal::Memory);
+    }
+    Ok(None)
+}
+
+/// The state of a board with the memory of its image, which is loaded into a memory of its own: none where the load
+/// was refused, and `Memory` where memory was.
+fn loaded(alloc: Global, board: Board<SimDisk>) -> Result<Option<Plain>, Refusal>
+    ensures told { IfOk result (λ found. (size : Size) → FindsState size (store_in board)
+        → (p : State) × (found ≡ Some p) × (state_in p ≡ store_now (store_in board))) }
+    ensures refused { IfErr result (λ e. e ≡ Memory) }
+{
+    whole_images_load::<SimDisk>();
+    let now = board.now();
+    if now.image.is_none() {
+        return Ok(Some(Plain::of(alloc, &now, &[])?));
+    }
+    let mut ram = Ram::new(alloc, board.shape())?;
+    let Parts { mut store, .. } = board.into_parts();
+    match store.load_image(&mut ram) {
+        Ok(()) => Ok(Some(Plain::of(alloc, &now, ram.bytes())?)),
+        Err(_) => unloaded(store.into_disk()),
+    }
+}
+
+/// Whether a power-on answers that memory was refused.
+fn is_of_memory(said: Printed) -> bool
+    ensures { IsTrue result ↔ (said ≡ OnRefused 11) }
+{
+    match said {
+        Printed::OnRefused(number) => number == 11,
+        _ => false,
+    }
+}
+
+/// A power-on that was refused, which found no state to judge. Refused `Memory` where it was.
+fn unbooted(disk: SimDisk, said: Printed) -> Result<Option<Plain>, Refusal>
+    ensures spoilt { IfOk result (λ found. (said ≡ OnRefused 11) ⊎ IsSpoilt (fault_state disk) → ⊥) }
+    ensures refused { IfErr result (λ e. e ≡ Memory) }
+{
+    if is_of_memory(said) || disk.refused() != 0 {
+        return Err(Refusal::Memory);
+    }
+    Ok(None)
+}
+
+/// The state of a board that a power-on left, which said that. Refused `Memory` where memory was.
+fn found_by(alloc: Global, power: Power, said: Printed) -> Result<Option<Plain>, Refusal>
+    ensures told { IfOk result (λ found. (size : Size) → PowerFinds size power said found) }
+    ensures refused { IfErr result (λ e. e ≡ Memory) }
+{
+    match power {
+        Power::Off(disk) => unbooted(disk, said),
+        Power::On(board) => loaded(alloc, board),
+    }
+}
+
+/// Each number of a shape is within its range.
+fn sizes(shape: &Shape)
+    ensures { IsSize shape.now }
+{
+    let _harts = shape.harts();
+    let _pages = shape.pages();
+    let _lanes = shape.lanes();
+}
+
+/// Powers a board on that keeps its image, and looks what was found. Refused `Memory` alone.
+fn keeps<C: Crew>(
+    alloc: Global,
+    crew: &C,
+    shape: &Shape,
+    disk: SimDisk,
+    payloads: &mut Payloads,
+) -> Result<Found, Refusal>
+    requires idle { IsIdle (facts disk) }
+    requires short { AreShort payloads.old }
+    ensures short { AreShort payloads.new }
+    ensures finds { IfOk result (λ found. (ledger : Ledger) → LeftOff shape.now disk ledger → Finds ledger found.plain) }
+    ensures refused { IfErr result (λ e. e ≡ Memory) }
+{
+    sizes(shape);
+    let keep = Line::On(BootMode::Keep);
+    let (power, answer) = step(alloc, crew, shape, &keep, Power::Off(disk), payloads);
+    let left = answer?;
+    let plain = found_by(alloc, power, left.line)?;
+    Ok(Found { plain, left })
+}
+
+/// Counts a run that left that disk, and answers what the power-on after it said. Refused `Memory` alone.
+pub fn counts<C: Crew>(
+    alloc: Global,
+    crew: &C,
+    shape: &Shape,
+    disk: SimDisk,
+    payloads: &mut Payloads,
+    ledger: &Ledger,
+    sweep: &mut Sweep,
+) -> Result<Answer, Refusal>
+    requires idle { IsIdle (facts disk) }
+    requires short { AreShort payloads.old }
+    requires left { LeftOff shape.now disk ledger.now }
+    ensures short { AreShort payloads.new }
+    ensures points { sweep.new.points ≡ sweep.old.points }
+    ensures runs { OnOk result (sweep.new.runs ≡ counted sweep.old.runs 1) }
+    ensures right { OnOk result (sweep.new.wrong ≡ sweep.old.wrong) }
+    ensures refused { IfErr result (λ e. e ≡ Memory) }
+{
+    let found = keeps(alloc, crew, shape, disk, payloads)?;
+    ledger.counts(found.plain.as_ref(), sweep);
+    Ok(found.left)
+}

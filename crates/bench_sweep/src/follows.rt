@@ -1,0 +1,277 @@
+//! What a ledger takes from the answers of a script's lines.
+
+ghost use Rattle.std.specs.Prelude.{◌≡◌, ℕ, List, Some, None, MatchOption, IfErr, OnOk};
+ghost use Rattle.board_model.specs.Durable.{Change, Suspend, Consume, CarriesWhole};
+ghost use Rattle.board_model.specs.Kept.{Kept};
+ghost use Rattle.board_model.specs.Shapes.{Size};
+ghost use Rattle.board_model.specs.Views.{change_in, change_of};
+ghost use Rattle.board_model.specs.declared.durable.ImageHead.{ImageHead};
+ghost use Rattle.board_model.specs.declared.refusal.Refusal.TheVariants.{Memory};
+ghost use Rattle.script_lang.specs.declared.line.Line.TheVariants as lines;
+ghost use Rattle.turns.specs.declared.words.Turned.{Turned};
+ghost use Rattle.sbi.specs.declared.resets.ResetType.{ResetType};
+ghost use Rattle.machine.specs.declared.parts.Word.TheVariants as words;
+ghost use Rattle.bench_report.specs.Bench.{Bench};
+ghost use Rattle.bench_sweep.specs.Runs.{TellsWhole, Follows, HartMoves};
+ghost use Rattle.bench_sweep.specs.Resumes.{image_told, serial_of, consumed, booted, powered, line_resumes, Resumes};
+ghost use Rattle.bench_sweep.specs.Told.{IssuedTold, CommandTold, BootTold, BootSaid, LineTold};
+
+use bench_judge::Ledger;
+use bench_report::{Answer, Printed};
+use board::Board;
+use board_model::{BootMode, Command, Durable, Entry, Refusal};
+use machine::Word;
+use script_lang::Line;
+use simdisk::SimDisk;
+use std::alloc::Global;
+
+/// Want of memory alone stops a bench. A ledger also refuses what the table of commands refuses, and of that nothing
+/// changed, whatever was answered.
+fn heeded(refusal: Refusal) -> Result<(), Refusal>
+    ensures other { OnOk result (refusal ≡ Memory → ⊥) }
+    ensures memory { IfErr result (λ e. e ≡ Memory) }
+{
+    match refusal {
+        Refusal::Memory => Err(Refusal::Memory),
+        _ => Ok(()),
+    }
+}
+
+/// A command was answered, by its receipt or by the number with which it was refused. Refused `Memory` alone.
+fn issued(
+    ledger: &mut Ledger,
+    alloc: Global,
+    entry: Entry,
+    memory: &[u8],
+    refused: Option<u32>,
+) -> Result<(), Refusal>
+    ensures kept { OnOk result ((size : Size) (old new : Kept) → TellsWhole size ledger.old old
+        → CarriesWhole size (change_in entry memory.now) → IssuedTold refused (change_in entry memory.now) old new
+        → TellsWhole size ledger.new new) }
+    ensures already { OnOk result ((size : Size) (kept : Kept) (d : Change) (n : ℕ) → TellsWhole size ledger.old kept
+        → kept.doubt ≡ Some d → refused ≡ Some n → TellsWhole size ledger.new kept) }
+    ensures resumed { ledger.new.resumed ≡ ledger.old.resumed }
+    ensures memory { IfErr result (λ e. e ≡ Memory) }
+{
+    match ledger.answered(alloc, entry, memory, refused) {
+        Ok(()) => Ok(()),
+        Err(refusal) => heeded(refusal),
+    }
+}
+
+/// The image that stands was resumed. Refused `Memory` alone.
+fn resumed(ledger: &mut Ledger, alloc: Global) -> Result<(), Refusal>
+    ensures kept { OnOk result ((size : Size) (old new : Kept) → TellsWhole size ledger.old old
+        → IssuedTold None Consume old new → TellsWhole size ledger.new new) }
+    ensures serial { OnOk result (Resumes ledger.old ledger.new (serial_of (image_told ledger.old))) }
+    ensures memory { IfErr result (λ e. e ≡ Memory) }
+{
+    match ledger.resumes(alloc) {
+        Ok(()) => Ok(()),
+        Err(refusal) => heeded(refusal),
+    }
+}
+
+/// The Consume of a resume was acknowledged, or refused by that number.
+fn consumes(ledger: &mut Ledger, alloc: Global, refused: Option<u32>) -> Result<(), Refusal>
+    ensures kept { OnOk result ((size : Size) (old new : Kept) → TellsWhole size ledger.old old
+        → IssuedTold refused Consume old new → TellsWhole size ledger.new new) }
+    ensures serial { OnOk result (Resumes ledger.old ledger.new (consumed refused (image_told ledger.old))) }
+    ensures memory { IfErr result (λ e. e ≡ Memory) }
+{
+    match refused {
+        None => resumed(ledger, alloc),
+        Some(_) => {
+            let entry = Entry::Command(Command::Consume);
+            issued(ledger, alloc, entry, &[], refused)
+        }
+    }
+}
+
+/// A boot by that mode was made, or refused by that number.
+fn boots(
+    ledger: &mut Ledger,
+    alloc: Global,
+    mode: BootMode,
+    refused: Option<u32>,
+) -> Result<(), Refusal>
+    ensures kept { OnOk result ((size : Size) (old new : Kept) → TellsWhole size ledger.old old
+        → BootTold refused mode old new → TellsWhole size ledger.new new) }
+    ensures serial { OnOk result (Resumes ledger.old ledger.new (booted refused mode (image_told ledger.old))) }
+    ensures memory { IfErr result (λ e. e ≡ Memory) }
+{
+    match mode {
+        BootMode::Fresh | BootMode::Keep => Ok(()),
+        BootMode::Discard => {
+            let entry = Entry::Command(Command::Discard);
+            issued(ledger, alloc, entry, &[], refused)
+        }
+        BootMode::Resume => consumes(ledger, alloc, refused),
+    }
+}
+
+/// What a power-on by that mode said behind its found line. Refused `Memory` where it was.
+fn begins(ledger: &mut Ledger, alloc: Global, mode: BootMode, said: Printed) -> Result<(), Refusal>
+    ensures kept { OnOk result ((size : Size) (old new : Kept) → TellsWhole size ledger.old old
+        → BootSaid said mode old new → TellsWhole size ledger.new new) }
+    ensures serial { OnOk result (Resumes ledger.old ledger.new (powered said mode (image_told ledger.old))) }
+    ensures memory { IfErr result (λ e. e ≡ Memory) }
+{
+    match said {
+        Printed::On(_) => boots(ledger, alloc, mode, None),
+        Printed::OnRefused(number) => {
+            if number == 11 {
+                Err(Refusal::Memory)
+            } else {
+                boots(ledger, alloc, mode, Some(number))
+            }
+        }
+        _ => Ok(()),
+    }
+}
+
+/// A power-on by that mode gave that answer: what the open found settles the command in doubt.
+fn powers_on(
+    ledger: &mut Ledger,
+    alloc: Global,
+    mode: BootMode,
+    answer: &Answer,
+) -> Result<(), Refusal>
+    ensures kept { OnOk result ((size : Size) (old new : Kept) → TellsWhole size ledger.old old
+        → LineTold (lines.On mode) answer.now old new → TellsWhole size ledger.new new) }
+    ensures serial { OnOk result ((size : Size) (old new : Kept) → TellsWhole size ledger.old old
+        → LineTold (lines.On mode) answer.now old new
+        → Resumes ledger.old ledger.new (line_resumes (lines.On mode) answer.now (image_told ledger.old))) }
+    ensures memory { IfErr result (λ e. e ≡ Memory) }
+{
+    match answer.found {
+        None => begins(ledger, alloc, mode, answer.line),
+        Some(found) => {
+            ledger.settles(&found);
+            begins(ledger, alloc, mode, answer.line)
+        }
+    }
+}
+
+/// A command of the console gave that answer.
+fn commands(
+    ledger: &mut Ledger,
+    alloc: Global,
+    command: Command,
+    said: Printed,
+) -> Result<(), Refusal>
+    ensures kept { OnOk result ((size : Size) (old new : Kept) → TellsWhole size ledger.old old
+        → CarriesWhole size (change_of command) → CommandTold said (change_of command) old new
+        → TellsWhole size ledger.new new) }
+    ensures resumed { ledger.new.resumed ≡ ledger.old.resumed }
+    ensures memory { IfErr result (λ e. e ≡ Memory) }
+{
+    match said {
+        Printed::Acknowledged(_, _) => {
+            let entry = Entry::Command(command);
+            issued(ledger, alloc, entry, &[], None)
+        }
+        Printed::CommandRefused(_, number) => {
+            let entry = Entry::Command(command);
+            issued(ledger, alloc, entry, &[], Some(number))
+        }
+        _ => Ok(()),
+    }
+}
+
+/// A line that moves no hart gave that answer. Refused `Memory` where the line was, or the ledger is; then the
+/// ledger is of no use.
+pub fn follows(
+    ledger: &mut Ledger,
+    alloc: Global,
+    line: &Line,
+    answer: &Answer,
+) -> Result<(), Refusal>
+    ensures kept { OnOk result ((size : Size) (old new : Kept) → TellsWhole size ledger.old old
+        → LineTold line.now answer.now old new → TellsWhole size ledger.new new) }
+    ensures serial { OnOk result ((size : Size) (old new : Kept) → TellsWhole size ledger.old old
+        → LineTold line.now answer.now old new
+        → Resumes ledger.old ledger.new (line_resumes line.now answer.now (image_told ledger.old))) }
+    ensures memory { IfErr result (λ e. e ≡ Memory) }
+{
+    match line {
+        Line::On(mode) => powers_on(ledger, alloc, *mode, answer),
+        Line::Slot(number) => commands(ledger, alloc, Command::Slot(*number), answer.line),
+        Line::Discard => commands(ledger, alloc, Command::Discard, answer.line),
+        _ => Ok(()),
+    }
+}
+
+/// A hart of that board goes on: a command of it may be in doubt.
+fn goes_on(ledger: &mut Ledger, alloc: Global, board: &Board<SimDisk>) -> Result<(), Refusal>
+    ensures kept { OnOk result ((size : Size) (b new : Bench) (did : Turned) → Follows size b ledger.old
+        → HartMoves size b (words.Own did) new board.now → Follows size new ledger.new) }
+    ensures resumed { ledger.new.resumed ≡ ledger.old.resumed }
+    ensures memory { IfErr result (λ e. e ≡ Memory) }
+{
+    match board.in_doubt() {
+        None => Ok(()),
+        Some(entry) => {
+            let memory = board.ram().bytes();
+            issued(ledger, alloc, entry, memory, Some(6))
+        }
+    }
+}
+
+/// The suspension that made the image that stands, without its memory. None where no image stands.
+fn suspension_in(now: Durable) -> Option<Entry>
+    ensures { MatchOption result (now.image ≡ None) (λ entry. (head : ImageHead) × (now.image ≡ Some head)
+        × ((memory : List ℕ) → change_in entry memory ≡ Suspend head.hart head.address head.opaque memory)) }
+{
+    let head = now.image?;
+    Some(Entry::Suspend(head.hart, head.address, head.opaque))
+}
+
+/// That board sleeps; the memory of its suspension is still the one of the call.
+fn sleeps(ledger: &mut Ledger, alloc: Global, board: &Board<SimDisk>) -> Result<(), Refusal>
+    ensures kept { OnOk result ((size : Size) (b new : Bench) → Follows size b ledger.old
+        → HartMoves size b words.Asleep new board.now → Follows size new ledger.new) }
+    ensures resumed { ledger.new.resumed ≡ ledger.old.resumed }
+    ensures memory { IfErr result (λ e. e ≡ Memory) }
+{
+    match suspension_in(board.now()) {
+        None => Ok(()),
+        Some(entry) => {
+            let memory = board.ram().bytes();
+            issued(ledger, alloc, entry, memory, None)
+        }
+    }
+}
+
+/// That board was reset.
+fn resets(ledger: &mut Ledger, alloc: Global, board: &Board<SimDisk>) -> Result<(), Refusal>
+    ensures kept { OnOk result ((size : Size) (b new : Bench) (kind : ResetType) → Follows size b ledger.old
+        → HartMoves size b (words.Reset kind) new board.now → Follows size new ledger.new) }
+    ensures resumed { ledger.new.resumed ≡ ledger.old.resumed }
+    ensures memory { IfErr result (λ e. e ≡ Memory) }
+{
+    let entry = Entry::Command(Command::Reset(board.now().reason));
+    issued(ledger, alloc, entry, &[], None)
+}
+
+/// A turn of a hart of that board, or its call, ended so. The hart asked for one command at most, and the memory
+/// is still the one that the command found.
+pub fn follows_hart(
+    ledger: &mut Ledger,
+    alloc: Global,
+    board: &Board<SimDisk>,
+    word: Word,
+) -> Result<(), Refusal>
+    ensures kept { OnOk result ((size : Size) (b new : Bench) → Follows size b ledger.old
+        → HartMoves size b word new board.now → Follows size new ledger.new) }
+    ensures resumed { ledger.new.resumed ≡ ledger.old.resumed }
+    ensures memory { IfErr result (λ e. e ≡ Memory) }
+{
+    match word {
+        Word::Own(_) => goes_on(ledger, alloc, board),
+        // the disk was not asked
+        Word::Dozing => Ok(()),
+        Word::Asleep => sleeps(ledger, alloc, board),
+        Word::Reset(_) => resets(ledger, alloc, board),
+    }
+}

@@ -1,0 +1,174 @@
+//! Lines that move harts, turn by turn, so that the ledger sees each command that they make.
+
+ghost use Rattle.std.specs.Prelude.{◌≡◌, ◌≤◌, ◌<◌, false, true, Some, None, length, IfOk, IfErr, OnOk};
+ghost use Rattle.board_model.specs.Shapes.{Size};
+ghost use Rattle.board_model.specs.declared.refusal.Refusal.TheVariants.{Memory};
+ghost use Rattle.script_lang.specs.Ranges.{IsLineInRange};
+ghost use Rattle.script_lang.specs.declared.line.Line.TheVariants as lines;
+ghost use Rattle.bench_report.specs.Views.{machine_in};
+ghost use Rattle.bench_report.specs.Bench.{Bench};
+ghost use Rattle.bench_report.specs.Agree.{OnIs, Agrees, IsResting};
+ghost use Rattle.bench_sweep.specs.Runs.{Follows, Runs};
+ghost use Rattle.bench_sweep.specs.Lines.{TurnsOnce, TurnsMany, DoesLine, HartGoes, LineGoes, LineMoves};
+ghost use Rattle.bench_sweep.specs.Told.{moves_harts};
+
+use crate::follows::follows_hart;
+use bench_judge::Ledger;
+use bench_report::{Power, after};
+use board::Board;
+use board_model::{HartId, Refusal, Shape};
+use crew::Crew;
+use machine::{Word, ends};
+use script_lang::Line;
+use simdisk::SimDisk;
+use std::alloc::Global;
+
+/// One turn of a hart, and the ledger follows it.
+fn turned_once<C: Crew>(
+    alloc: Global,
+    crew: &C,
+    board: &mut Board<SimDisk>,
+    hart: HartId,
+    ledger: &mut Ledger,
+) -> Result<Word, Refusal>
+    requires hart { hart < length (machine_in board.old).harts }
+    ensures harts { length (machine_in board.new).harts ≡ length (machine_in board.old).harts }
+    ensures goes { IfOk result (λ word. (size : Size) (b : Bench) → OnIs size b board.old → Follows size b ledger.old
+        → HartGoes size (TurnsOnce hart b word) word board.new ledger.new) }
+    ensures resumed { ledger.new.resumed ≡ ledger.old.resumed }
+    ensures memory { IfErr result (λ e. e ≡ Memory) }
+{
+    let word = board.turn(alloc, crew, hart);
+    follows_hart(ledger, alloc, board, word)?;
+    Ok(word)
+}
+
+/// Turns of a hart, as `Board::turns` makes them; the ledger follows each.
+fn turned<C: Crew>(
+    alloc: Global,
+    crew: &C,
+    board: &mut Board<SimDisk>,
+    hart: HartId,
+    count: u32,
+    ledger: &mut Ledger,
+) -> Result<Word, Refusal>
+    requires hart { hart < length (machine_in board.old).harts }
+    requires some { 1 ≤ count }
+    ensures goes { IfOk result (λ word. (size : Size) (b : Bench) → OnIs size b board.old → Follows size b ledger.old
+        → HartGoes size (TurnsMany hart count b word) word board.new ledger.new) }
+    ensures resumed { ledger.new.resumed ≡ ledger.old.resumed }
+    ensures memory { IfErr result (λ e. e ≡ Memory) }
+{
+    let mut word = turned_once(alloc, crew, board, hart, ledger)?;
+    let mut left = count - 1;
+    while 0 < left && !ends(word) && !board.struck() {
+        word = turned_once(alloc, crew, board, hart, ledger)?;
+        left -= 1;
+    }
+    Ok(word)
+}
+
+/// A call in the place of a hart, and the ledger follows it. None where the hart is not started, or dozes.
+fn called<C: Crew>(
+    alloc: Global,
+    crew: &C,
+    board: &mut Board<SimDisk>,
+    hart: HartId,
+    eid: u64,
+    fid: u64,
+    a0: u64,
+    a1: u64,
+    a2: u64,
+    ledger: &mut Ledger,
+) -> Result<Option<Word>, Refusal>
+    requires hart { hart < length (machine_in board.old).harts }
+    ensures goes { IfOk result (λ said. (size : Size) (b : Bench) → OnIs size b board.old → Follows size b ledger.old
+        → LineGoes size (DoesLine size (lines.Call hart eid fid a0 a1 a2) b) said board.new ledger.new) }
+    ensures resumed { ledger.new.resumed ≡ ledger.old.resumed }
+    ensures memory { IfErr result (λ e. e ≡ Memory) }
+{
+    match board.call(alloc, crew, hart, eid, fid, a0, a1, a2) {
+        None => Ok(None),
+        Some(word) => {
+            follows_hart(ledger, alloc, board, word)?;
+            Ok(Some(word))
+        }
+    }
+}
+
+/// What a line of harts did: none where the board has not the hart, or it makes no call.
+fn moved<C: Crew>(
+    alloc: Global,
+    crew: &C,
+    shape: &Shape,
+    board: &mut Board<SimDisk>,
+    line: &Line,
+    ledger: &mut Ledger,
+) -> Result<Option<Word>, Refusal>
+    requires range { IsLineInRange shape.now line.now }
+    requires of_harts { moves_harts line.now ≡ true }
+    ensures goes { IfOk result (λ said. (size : Size) (b : Bench) → OnIs size b board.old → Follows size b ledger.old
+        → LineGoes size (DoesLine size line.now b) said board.new ledger.new) }
+    ensures resumed { ledger.new.resumed ≡ ledger.old.resumed }
+    ensures memory { IfErr result (λ e. e ≡ Memory) }
+{
+    match line {
+        Line::Turn(hart, count) => {
+            if board.machine().has(*hart) {
+                let word = turned(alloc, crew, board, *hart, *count, ledger)?;
+                Ok(Some(word))
+            } else {
+                Ok(None)
+            }
+        }
+        Line::Call(hart, eid, fid, a0, a1, a2) => {
+            if board.machine().has(*hart) {
+                called(alloc, crew, board, *hart, *eid, *fid, *a0, *a1, *a2, ledger)
+            } else {
+                Ok(None)
+            }
+        }
+        _ => Ok(None),
+    }
+}
+
+/// Runs a line of harts, and the ledger follows each turn of it. On a board that is off it does nothing. Refused
+/// `Memory` where the ledger is; then the ledger is of no use.
+pub fn moves<C: Crew>(
+    alloc: Global,
+    crew: &C,
+    shape: &Shape,
+    line: &Line,
+    power: Power,
+    ledger: &mut Ledger,
+) -> Result<Power, Refusal>
+    requires range { IsLineInRange shape.now line.now }
+    requires of_harts { moves_harts line.now ≡ true }
+    requires resting { IsResting power }
+    ensures resting { IfOk result (λ power. IsResting power) }
+    ensures goes { IfOk result (λ now. (size : Size) (b : Bench) → Agrees size b power → Follows size b ledger.old
+        → LineMoves size line.now b now ledger.new) }
+    ensures runs { IfOk result (λ now. (size : Size) → Runs size power ledger.old → Runs size now ledger.new) }
+    ensures resumed { ledger.new.resumed ≡ ledger.old.resumed }
+    ensures memory { IfErr result (λ e. e ≡ Memory) }
+{
+    match power {
+        Power::Off(disk) => Ok(Power::Off(disk)),
+        Power::On(mut board) => {
+            match moved(alloc, crew, shape, &mut board, line, ledger)? {
+                None => Ok(Power::On(board)),
+                Some(word) => Ok(after(board, word)),
+            }
+        }
+    }
+}
+
+/// Whether harts move by the line.
+pub fn is_of_harts(line: &Line) -> bool
+    ensures { result ≡ moves_harts line.now }
+{
+    match line {
+        Line::Turn(_, _) | Line::Call(_, _, _, _, _, _) => true,
+        _ => false,
+    }
+}

@@ -1,0 +1,15 @@
+//! The benches: each run of a script in which power fails at one call of the disk or of one of its lanes, and
+//! each in which one such call fails. docs/SCRIPT.md, "The benches", tells what they write.
+#![tactic(auto)]
+
+mod begins;
+mod finds;
+mod follows;
+mod harts;
+mod points;
+mod rows;
+mod sites;
+mod sweeps;
+
+pub use bench_judge::{Sweep, judge};
+pub use sweeps::{faults, sweep};
