@@ -5,12 +5,13 @@ use crate::fixtures::{
     turns,
 };
 use board::{Board, Payloads};
-use board_model::{BootMode, HartId, RAM_BASE, Reason, Refusal};
+use board_model::{BootMode, RAM_BASE, Reason, Refusal};
 use machine::{Turned, Word};
 use simdisk::{Choice, SimDisk};
 use std::process::Abort;
 use std::test::Fail;
 use std::thread::Threads;
+use susp::Doze;
 
 const BASE: u64 = 0x10;
 
@@ -106,14 +107,19 @@ fn a_row_of_turns_ends_dozing(rt: HostRuntime) -> Result<(), Fail> {
     Ok(())
 }
 
+/// The number of the hart that dozes, where it begins again, what it then finds in a1, and whether the board was woken.
+fn slept(doze: &Option<Doze>) -> Option<(u32, u64, u64, bool)> {
+    match doze {
+        Some(it) => Some((it.hart.number(), it.address.value(), it.opaque, it.woken)),
+        None => None,
+    }
+}
+
 /// The parts of a board that dozes have its doze.
 #[test]
 fn a_doze_is_taken_apart(rt: HostRuntime) -> Result<(), Fail> {
     let board = dozing(&rt, 1, &Payloads::new(rt.alloc()))?;
     let parts = board.into_parts();
-    let doze = parts.bus.doze;
-    same(&rt, doze.map(|it| it.hart), HartId::new(0));
-    same(&rt, doze.map(|it| it.address.value()), Some(RAM_BASE));
-    same(&rt, doze.map(|it| (it.opaque, it.woken)), Some((9, false)));
+    same(&rt, slept(&parts.bus.doze), Some((0, RAM_BASE, 9, false)));
     Ok(())
 }

@@ -47,6 +47,19 @@ pub struct Asked {
     pub arguments: [u64; 3],
 }
 
+/// A doze as tests compare it: the number of its hart, where that begins again, what it then finds in a1, and
+/// whether the board was woken.
+pub type Slept = (u64, u64, u64, bool);
+
+fn slept(doze: Doze) -> Slept {
+    (
+        u64::from(doze.hart.number()),
+        doze.address.value(),
+        doze.opaque,
+        doze.woken,
+    )
+}
+
 /// What a call came to: the firmware's word, a0 and a1 of the calling hart and how far its pc moved, the doze
 /// that stands, whether the memory is as it was, and the durable state.
 #[derive(Clone, Copy, Debug, PartialEq, Eq, Drop)]
@@ -55,7 +68,7 @@ pub struct Told {
     pub error: u64,
     pub value: u64,
     pub moved: u64,
-    pub doze: Option<Doze>,
+    pub doze: Option<Slept>,
     pub kept: bool,
     pub now: Durable,
 }
@@ -132,7 +145,7 @@ fn made<R: Threads + Sync>(
         error: hart.reg(Reg::new(10)),
         value: hart.reg(Reg::new(11)),
         moved: hart.pc().wrapping_sub(RAM),
-        doze: bus.doze,
+        doze: bus.doze.map(slept),
         kept: bus.ram.bytes().iter().all(|byte| *byte == 7),
         now: store.now(),
     }

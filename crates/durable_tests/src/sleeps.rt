@@ -73,7 +73,7 @@ fn dozing_without_a_command(rt: HostRuntime) -> Result<(), Fail> {
         let (told, found, none) = once(rt.alloc(), &crew, Other::Stopped, asked)?;
         same(&rt, (told.held, told.moved), (Held::Dozing, 0));
         same(&rt, (told.error, told.value), (kind, address));
-        same(&rt, told.doze, doze(address, opaque, false));
+        same(&rt, told.doze, Some((0, address, opaque, false)));
         same(&rt, (told.kept, told.now, none), (true, found, true));
     }
     Ok(())
@@ -95,7 +95,7 @@ fn dozing_where_the_store_refuses(rt: HostRuntime) -> Result<(), Fail> {
         same(
             &rt,
             (told.held, told.doze),
-            (Held::Dozing, doze(RAM, 8, false)),
+            (Held::Dozing, Some((0, RAM, 8, false))),
         );
         same(&rt, told.now, first.now);
     }
@@ -120,7 +120,7 @@ fn dozing_where_the_journal_is_full(rt: HostRuntime) -> Result<(), Fail> {
     same(
         &rt,
         (told.held, told.doze),
-        (Held::Dozing, doze(RAM, 9, false)),
+        (Held::Dozing, Some((0, RAM, 9, false))),
     );
     same(&rt, told.now.slot.number(), 1);
     Ok(())
