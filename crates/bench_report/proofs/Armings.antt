@@ -12,11 +12,12 @@ use Rattle.bench_report.specs.Happens.{armed_with}
 use Rattle.bench_report.specs.Agree.{LifeIs, BoardIs, DeviceIs, OffIs, OnIs}
 use Rattle.bench_report.proofs.Ended.{left_on}
 use Rattle.bench_report.proofs.KeptDisks.{GoesOn}
+use Rattle.bench_report.proofs.Sides.{sides_stay}
 
 device : (size : Size) (b : Bench) (a : Armed) (m n : FaultState) (old new : Facts) → DeviceIs size b m old → Unchanged old new → n ≡ record m { armed = a } → DeviceIs size (armed_with a b) n new
 device size b a m n old new was same is =
     let P : ℕ → Type 0 = λ k. b.failures ≤ k in
-    (ap (λ (x : FaultState). let y : FaultState = record x { armed = a } in y) was.0 ∙ sym is, subst P (sym same.failures) was.1, ap length same.content ∙ was.2)
+    (ap (λ (x : FaultState). let y : FaultState = record x { armed = a } in y) was.0 ∙ sym is, subst P (sym same.failures) was.1, ap length same.content ∙ was.2, sides_stay size b old new (λ c may. (same.now c).0 may) was.3)
 
 pub armed_off : GoesOn → (size : Size) (b : Bench) (a : Armed) (old new : SimDisk) → OffIs size b old → Unchanged (facts old) (facts new) → fault_state new ≡ record (fault_state old) { armed = a }
     → OffIs size (armed_with a b) new

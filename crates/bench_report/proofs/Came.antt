@@ -47,10 +47,12 @@ use Rattle.bench_report.specs.Bench.{BenchLife, Bench}
 use Rattle.bench_report.specs.Happens.{out_of_memory, off, on_with, has_machine, acknowledged}
 use Rattle.bench_report.specs.Commands.{Issued}
 use Rattle.bench_report.specs.Turns.{refused, AnswersError, HartCommand, Resets, SuspendIssued, IsAlone, dozes, BenchSleeps, BenchSleepsBy, BenchMakesCall, ComesTo, GuestTurn, IsLastTurn, GuestTurns}
+use Rattle.bench_report.specs.Sides.{SidesAre}
 use Rattle.bench_report.specs.Agree.{StoreIs, DeviceIs, IsOver}
 use Rattle.bench_report.proofs.Adapted.{calm as untouched}
 use Rattle.bench_report.proofs.Dozed.{turn_size}
-use Rattle.bench_report.proofs.Commanded.{Running, follows_with, sized_for, reported_end, reported_err, reported_up, reported_down, again, calm_device, unmoved}
+use Rattle.bench_report.proofs.Commanded.{Running, follows_with, sized_for, reported_end, reported_err, reported_up, reported_down, again, calm_device, still_sides, unmoved}
+use Rattle.bench_report.proofs.Sides.{starved_sides}
 
 -- the store of a life that its own command ended
 abbrev pub IsEnded : Size → Bench → SimStore → Type 0
@@ -116,14 +118,14 @@ module _ (size : Size) (b : Bench) (life : BenchLife) (h : ℕ) (n : Machine) (o
   resets_ok : (kind : ResetType) (r : Reason) (k : ℕ) (held : Made) → Asked Applied old (Reset r) (Ok k) new → held ≡ helds.Reset kind → Came (λ word x. Resets (Ok (kind, r)) h life b word x) held
   resets_ok kind r k held asked e =
       let did = reported_end size b life (Reset r) old new (life_of old) on was device asked.stays.board asked.stays.length asked.stays.no_fewer calm_life life.doubt refl k
-      (λ none. (asked.answered none).life) asked.down (λ none. (asked.answered none).cause) in
+      (λ none. (asked.answered none).life) asked.down (λ none. (asked.answered none).cause) (λ none. ((asked.answered none).written, (asked.answered none).leaves.acknowledged.kept)) in
       let mid = acknowledged (Reset r) life b in
       by_held (λ word x. Resets (Ok (kind, r)) h life b word x) held (helds.Reset kind) e (off mid, (Ok k, mid, did.0, (refl, refl)), (refl, did.1, did.2), refl)
 
   resets_err : (kind : ResetType) (r : Reason) (e : Refusal) (held : Made) → doze ≡ life.machine.doze → Asked Applied old (Reset r) (Err e) new → Refused_to Failed (hart_at life.machine h) t held → Came (λ word x. Resets (Ok (kind, r)) h life b word x) held
   resets_err kind r e held still asked refused =
       let did = reported_err size b life (Reset r) old new (life_of old) on was device asked.stays.board asked.stays.length asked.stays.no_fewer calm_life life.doubt refl e
-      (λ none. (asked.answered none).life) asked.down (λ none. (asked.answered none).cause) (λ none. (asked.answered none).counts) in
+      (λ none. (asked.answered none).life) asked.down (λ none. (asked.answered none).cause) (λ none. (asked.answered none).counts) asked.untouched in
       let last = fails (number_of_refusal e) (words.Reset kind) did.0 held still did.2 did.3 refused in
       (last.0, (Err (number_of_refusal e), did.0, did.1, last.1), last.2, last.3)
 
@@ -155,6 +157,10 @@ module _ (size : Size) (b : Bench) (life : BenchLife) (h : ℕ) (n : Machine) (o
       | inr past ↦ inr (λ fits. omega (arith, fits.1, past))
     ]
 
+    -- the refusal left the store as it was, where it is neither the disk's nor for memory
+    abbrev Keeps_store : Refusal → Type 0
+    Keeps_store e = (e ≡ Device → ⊥) → (e ≡ Down → ⊥) → (e ≡ Memory → ⊥) → new ≡ old
+
     -- the command was refused so, and the life goes on
     abbrev Suspending : ℕ → Type 0
     Suspending k = (x : Bench) × SuspendIssued Fits command life b (Err k) x × Running size x life.machine new × (x.payloads ≡ b.payloads)
@@ -170,52 +176,57 @@ module _ (size : Size) (b : Bench) (life : BenchLife) (h : ℕ) (n : Machine) (o
       seen_as none = let is = calm_life none in ((asked.answered (none_of none)).life.reseen.now ∙ is.0, is.1, is.2, is.3)
 
       as_it_was : life.doubt ≡ None → (e : Refusal) → (e ≡ Down → ⊥) → (e ≡ Device → ⊥) → CausedRefusal (store_fault_state old) e (store_fault_state new) → life_of new ≡ seen → (x : Bench) → x.disk_state ≡ b.disk_state → x.kept ≡ b.kept → x.power ≡ b.power
-          → x.fault_state ≡ b.fault_state → x.failures ≡ b.failures → Running size x life.machine new
-      as_it_was none e up is cause same x disk_state kept power fault_state failures =
+          → x.fault_state ≡ b.fault_state → x.failures ≡ b.failures → SidesAre size x (store_facts new) → Running size x life.machine new
+      as_it_was none e up is cause same x disk_state kept power fault_state failures sides =
           let P : StoreLife → Type 0 = λ l. IsLife l life.now life.receipts None in
           again size b life command old new seen on was device asked.stays.board asked.stays.length asked.stays.no_fewer x disk_state kept power none (subst P (sym same) (seen_as none))
-          (calm_device size b life command old new seen on was device asked.stays.board asked.stays.length asked.stays.no_fewer x fault_state failures (untouched e (store_fault_state old) (store_fault_state new) cause up is))
+          (calm_device size b life command old new seen on was device asked.stays.board asked.stays.length asked.stays.no_fewer x fault_state failures sides (untouched e (store_fault_state old) (store_fault_state new) cause up is))
 
-      unfit : life.doubt ≡ None → (Fits → ⊥) → (e : Refusal) → (e ≡ Down → ⊥) → (e ≡ Device → ⊥) → CausedRefusal (store_fault_state old) e (store_fault_state new) → life_of new ≡ seen → Suspending 3
-      unfit none not e up is cause same = (b, inr (inr (not, refl, refl)), as_it_was none e up is cause same b refl refl refl refl refl, refl)
+      still : new ≡ old → SidesAre size b (store_facts new)
+      still unmoved_store = still_sides size b life command old new seen on was device asked.stays.board asked.stays.length asked.stays.no_fewer unmoved_store
+
+      unfit : life.doubt ≡ None → (Fits → ⊥) → (e : Refusal) → (e ≡ Down → ⊥) → (e ≡ Device → ⊥) → (e ≡ Memory → ⊥) → Keeps_store e → CausedRefusal (store_fault_state old) e (store_fault_state new) → life_of new ≡ seen → Suspending 3
+      unfit none not e up is room keeps cause same = (b, inr (inr (not, refl, refl)), as_it_was none e up is cause same b refl refl refl refl refl (still (keeps is up room)), refl)
 
       issued : Fits → (e : Refusal) → ((x : Bench) × Issued command life b (Err (number_of_refusal e)) x × Running size x life.machine new × (x.payloads ≡ b.payloads)) → (k : ℕ) × Suspending k
       issued fits e did = (number_of_refusal e, (did.0, inl (fits, did.1), did.2, did.3))
 
-      goes_up : life.doubt ≡ None → Fits → (e : Refusal) → Refused seen command e (life_of new) → CausedRefusal (store_fault_state old) e (store_fault_state new) → CountedRefusal (store_facts old).failures e (store_facts new).failures → (k : ℕ) × Suspending k
-      goes_up none fits e up cause counts = issued fits e (reported_up size b life command old new seen on was device asked.stays.board asked.stays.length asked.stays.no_fewer seen_as none e up cause counts)
+      goes_up : life.doubt ≡ None → Fits → (e : Refusal) → Refused seen command e (life_of new) → CausedRefusal (store_fault_state old) e (store_fault_state new) → CountedRefusal (store_facts old).failures e (store_facts new).failures → Keeps_store e → (k : ℕ) × Suspending k
+      goes_up none fits e up cause counts keeps = issued fits e (reported_up size b life command old new seen on was device asked.stays.board asked.stays.length asked.stays.no_fewer seen_as none e up cause counts keeps)
 
       fit_err : life.doubt ≡ None → Fits → (e : Refusal) → SuspendRefused Fits seen command e (life_of new) → CausedRefusal (store_fault_state old) e (store_fault_state new) → CountedRefusal (store_facts old).failures e (store_facts new).failures
-          → (k : ℕ) × Suspending k
-      fit_err none fits e (inl x) cause counts = goes_up none fits e x.1 cause counts
-      fit_err none fits e (inr (inl x)) cause counts = absurd (x.1 fits)
-      fit_err none fits e (inr (inr (inl x))) cause counts =
+          → Keeps_store e → (k : ℕ) × Suspending k
+      fit_err none fits e (inl x) cause counts keeps = goes_up none fits e x.1 cause counts keeps
+      fit_err none fits e (inr (inl x)) cause counts keeps = absurd (x.1 fits)
+      fit_err none fits e (inr (inr (inl x))) cause counts keeps =
           let up : e ≡ Down → ⊥ = λ f. (let g : Memory ≡ Down = sym x.0 ∙ f in let no : ⊥ = cc in no) in
           let is : e ≡ Device → ⊥ = λ f. (let g : Memory ≡ Device = sym x.0 ∙ f in let no : ⊥ = cc in no) in
-          (11, (out_of_memory b, inr (inl (fits, refl, refl)), as_it_was none e up is cause x.3 (out_of_memory b) refl refl refl refl refl, refl))
-      fit_err none fits e (inr (inr (inr (inl x)))) cause counts = absurd (let g : true ≡ false = sym x.1 ∙ (seen_as none).3 in let no : ⊥ = cc in no)
-      fit_err none fits e (inr (inr (inr (inr x)))) cause counts = goes_up none fits e (inr (inr (inr (inl (x.0, x.1, x.2, x.3))))) cause counts
+          (11, (out_of_memory b, inr (inl (fits, refl, refl)), as_it_was none e up is cause x.3 (out_of_memory b) refl refl refl refl refl (starved_sides size (out_of_memory b) b.growths (store_facts new) refl), refl))
+      fit_err none fits e (inr (inr (inr (inl x)))) cause counts keeps = absurd (let g : true ≡ false = sym x.1 ∙ (seen_as none).3 in let no : ⊥ = cc in no)
+      fit_err none fits e (inr (inr (inr (inr x)))) cause counts keeps = goes_up none fits e (inr (inr (inr (inl (x.0, x.1, x.2, x.3))))) cause counts keeps
 
-      unfit_err : life.doubt ≡ None → (Fits → ⊥) → (e : Refusal) → SuspendRefused Fits seen command e (life_of new) → CausedRefusal (store_fault_state old) e (store_fault_state new) → (k : ℕ) × Suspending k
-      unfit_err none not e (inl x) cause = absurd (not x.0)
-      unfit_err none not e (inr (inl x)) cause =
+      unfit_err : life.doubt ≡ None → (Fits → ⊥) → (e : Refusal) → SuspendRefused Fits seen command e (life_of new) → CausedRefusal (store_fault_state old) e (store_fault_state new) → Keeps_store e → (k : ℕ) × Suspending k
+      unfit_err none not e (inl x) cause keeps = absurd (not x.0)
+      unfit_err none not e (inr (inl x)) cause keeps =
           let up : e ≡ Down → ⊥ = λ f. (let g : BadShape ≡ Down = sym x.0 ∙ f in let no : ⊥ = cc in no) in
           let is : e ≡ Device → ⊥ = λ f. (let g : BadShape ≡ Device = sym x.0 ∙ f in let no : ⊥ = cc in no) in
-          (3, unfit none not e up is cause x.4)
-      unfit_err none not e (inr (inr (inl x))) cause = absurd (not x.1)
-      unfit_err none not e (inr (inr (inr (inl x)))) cause = absurd (let g : true ≡ false = sym x.1 ∙ (seen_as none).3 in let no : ⊥ = cc in no)
-      unfit_err none not e (inr (inr (inr (inr x)))) cause =
+          let room : e ≡ Memory → ⊥ = λ f. (let g : BadShape ≡ Memory = sym x.0 ∙ f in let no : ⊥ = cc in no) in
+          (3, unfit none not e up is room keeps cause x.4)
+      unfit_err none not e (inr (inr (inl x))) cause keeps = absurd (not x.1)
+      unfit_err none not e (inr (inr (inr (inl x)))) cause keeps = absurd (let g : true ≡ false = sym x.1 ∙ (seen_as none).3 in let no : ⊥ = cc in no)
+      unfit_err none not e (inr (inr (inr (inr x)))) cause keeps =
           let up : e ≡ Down → ⊥ = λ f. (let g : JournalFull ≡ Down = sym x.0 ∙ f in let no : ⊥ = cc in no) in
           let is : e ≡ Device → ⊥ = λ f. (let g : JournalFull ≡ Device = sym x.0 ∙ f in let no : ⊥ = cc in no) in
-          (3, unfit none not e up is cause x.3)
+          let room : e ≡ Memory → ⊥ = λ f. (let g : JournalFull ≡ Memory = sym x.0 ∙ f in let no : ⊥ = cc in no) in
+          (3, unfit none not e up is room keeps cause x.3)
 
     -- refused by the store
     suspend_err : (e : Refusal) → Asked (Suspended Fits) old command (Err e) new → (k : ℕ) × Suspending k
     suspend_err e asked = by life.doubt refl fits_or_not
       where
         by : (doubt : Option Change) → life.doubt ≡ doubt → Fits ⊎ (Fits → ⊥) → (k : ℕ) × Suspending k
-        by None none (inl fits) = let did = asked.answered (was.1.2 ∙ none) in fit_err (Err e) asked none fits e did.life.told did.cause did.counts
-        by None none (inr not) = let did = asked.answered (was.1.2 ∙ none) in unfit_err (Err e) asked none not e did.life.told did.cause
+        by None none (inl fits) = let did = asked.answered (was.1.2 ∙ none) in fit_err (Err e) asked none fits e did.life.told did.cause did.counts asked.untouched
+        by None none (inr not) = let did = asked.answered (was.1.2 ∙ none) in unfit_err (Err e) asked none not e did.life.told did.cause asked.untouched
         by (Some d) at (inl fits) =
             issued (Err e) asked fits e (reported_down size b life command old new (life_of old) on was device asked.stays.board asked.stays.length asked.stays.no_fewer calm_life d at e (asked.down d (was.1.2 ∙ at)))
         by (Some d) at (inr not) =
@@ -225,7 +236,7 @@ module _ (size : Size) (b : Bench) (life : BenchLife) (h : ℕ) (n : Machine) (o
     suspend_ok : (k : ℕ) → Asked (Suspended Fits) old command (Ok k) new → (x : Bench) × SuspendIssued Fits command life b (Ok k) x × (x ≡ acknowledged command life b) × IsEnded size (off x) new
     suspend_ok k asked =
         let did = reported_end size b life command old new (seen (Ok k) asked) on was device asked.stays.board asked.stays.length asked.stays.no_fewer (seen_as (Ok k) asked) life.doubt refl k
-        (λ none. (asked.answered none).life.told.1) asked.down (λ none. (asked.answered none).cause) in
+        (λ none. (asked.answered none).life.told.1) asked.down (λ none. (asked.answered none).cause) (λ none. ((asked.answered none).written, (asked.answered none).leaves.acknowledged.kept)) in
         (acknowledged command life b, inl (fits life.doubt refl, did.0), refl, (refl, did.1, did.2))
       where
         fits : (doubt : Option Change) → life.doubt ≡ doubt → Fits

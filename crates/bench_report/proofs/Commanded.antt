@@ -7,25 +7,28 @@ use Rattle.board_model.specs.Views.{number_of_refusal, change_of}
 use Rattle.board_model.specs.declared.durable.Command.{Command}
 use Rattle.board_model.specs.declared.durable.Command.TheVariants as commands
 use Rattle.board_model.specs.declared.refusal.Refusal.{Refusal}
-use Rattle.board_model.specs.declared.refusal.Refusal.TheVariants.{Device, Down, JournalFull}
+use Rattle.board_model.specs.declared.refusal.Refusal.TheVariants.{Device, Down, Memory, JournalFull}
 use Rattle.board.specs.Boots.{IsConsoleCommand}
 use Rattle.disk.specs.Facts.{Failed}
 use Rattle.machine.specs.Machine.{Machine}
-use Rattle.store.specs.Leaves.{SameLength}
+use Rattle.simdisk.specs.contracts.device.SimDiskDisk.TheImpl.Laws.{may_keep-law}
+use Rattle.store.specs.Leaves.{SameLength, IsKept, WroteACommand}
 use Rattle.store.specs.Lives.{Life as StoreLife, Applied, Refused}
 use Rattle.store.specs.Opens.{CausedRefusal}
-use Rattle.store.specs.Views.{life_of, doubt_of}
+use Rattle.store.specs.Views.{life_of, doubt_of, device_of}
 use Rattle.store.specs.Answers.{CountedRefusal}
 use Rattle.bench_report.specs.Views.{SimStore, SimBoard, store_in, machine_in, IsLife, IsAs, store_size, store_now, store_doubt, store_fault_state, store_facts}
 use Rattle.bench_report.specs.Bench.{DiskState, Blank, Unknown, Formatted, BenchLife, Bench}
 use Rattle.bench_report.specs.Happens.{failed, acknowledged, in_doubt}
 use Rattle.bench_report.specs.Commands.{Writes, IssuedBy, Issued}
+use Rattle.bench_report.specs.Sides.{SidesAre}
 use Rattle.bench_report.specs.Agree.{StoreIs, BoardIs, LifeIs, DeviceIs, OnIs, IsOver}
 use Rattle.bench_report.proofs.Adapted.{Reaches, Acknowledges, Refuses, acknowledged as acknowledges, ended, refused, struck, downed, calm as untouched}
-use Rattle.bench_report.proofs.Devices.{fails_by_fault, stays}
+use Rattle.bench_report.proofs.Devices.{fails_by_fault, fails_as, stays_as}
+use Rattle.bench_report.proofs.Sides.{commanded}
 use Rattle.bench_report.proofs.Ended.{found_more}
 use Rattle.bench_report.proofs.Formats.{same_error}
-use Rattle.bench_report.proofs.Table.{not_device, not_down}
+use Rattle.bench_report.proofs.Table.{not_device, not_down, not_memory}
 
 -- a command of the console ends no life
 pub console_goes_on : (command : Command) → IsConsoleCommand command → ends_life (change_of command) ≡ false
@@ -98,11 +101,24 @@ module _ (size : Size) (b : Bench) (life : BenchLife) (c : Change) (old new : Si
       let K : Kept → Type 0 = λ k. StoreIs size b.disk_state k life new in
       (life, power ∙ on, subst M (sym disk_state) (subst K (sym kept) (here, subst P (sym calm) is)), refl, now)
 
-  pub calm_device : (x : Bench) → x.fault_state ≡ b.fault_state → x.failures ≡ b.failures → store_fault_state new ≡ store_fault_state old → DeviceIs size x (store_fault_state new) (store_facts new)
-  calm_device x fault_state failures same =
-      let still = stays size b (store_fault_state old) (store_fault_state new) (store_facts old) (store_facts new) device same no_fewer fits in
-      let P : ℕ → Type 0 = λ n. n ≤ (store_facts new).failures in
-      (fault_state ∙ still.0, subst P (sym failures) still.1, still.2)
+  pub calm_device : (x : Bench) → x.fault_state ≡ b.fault_state → x.failures ≡ b.failures → SidesAre size x (store_facts new) → store_fault_state new ≡ store_fault_state old → DeviceIs size x (store_fault_state new) (store_facts new)
+  calm_device x fault_state failures sides same =
+      stays_as size b x (store_fault_state old) (store_fault_state new) (store_facts old) (store_facts new) device fault_state failures same no_fewer fits sides
+
+  -- an acknowledged command was written, and each crash leaves a state
+  abbrev pub Writing : Type 0
+  Writing = WroteACommand (store_facts old) (store_facts new) × IsKept (store_facts new) (store_size old)
+
+  written_sides : Writing → SidesAre size (acknowledged c life b) (store_facts new)
+  written_sides writing clean x left =
+      commanded size (store_size old) b.kept c life (store_facts old) (store_facts new) (may_keep-law (device_of old)) b.disk_state was.0 writing.0 writing.1 (device.3 clean) x left
+
+  -- a refusal that is neither the disk's nor for memory left the store as it was
+  abbrev pub Untouched : Refusal → Type 0
+  Untouched e = (e ≡ Device → ⊥) → (e ≡ Down → ⊥) → (e ≡ Memory → ⊥) → new ≡ old
+
+  pub still_sides : new ≡ old → SidesAre size b (store_facts new)
+  still_sides same = let P : SimStore → Type 0 = λ store. SidesAre size b (store_facts store) in subst P (sym same) device.3
 
   with_none : life.doubt ≡ None → (o : Result ℕ ℕ) (x : Bench) → IssuedBy None c life b o x → Issued c life b o x
   with_none calm o x i = let P : Option Change → Type 0 = λ d. IssuedBy d c life b o x in subst P (sym calm) i
@@ -113,7 +129,7 @@ module _ (size : Size) (b : Bench) (life : BenchLife) (c : Change) (old new : Si
       let Q : Option ℕ → Type 0 = λ r. Writes r c life b (Ok n) x in
       with_none calm (Ok n) x (inr (reaches.0, subst Q (sym reaches.1) (inl (ap (λ k. Ok k) is, refl))))
 
-  up_ok : life.doubt ≡ None → (n : ℕ) → Acknowledges life.now life.receipts c n (life_of new) → DeviceIs size b (store_fault_state new) (store_facts new) → Goes (Ok n)
+  up_ok : life.doubt ≡ None → (n : ℕ) → Acknowledges life.now life.receipts c n (life_of new) → DeviceIs size (acknowledged c life b) (store_fault_state new) (store_facts new) → Goes (Ok n)
   up_ok calm n did now =
       let x = acknowledged c life b in
       let P : Option Change → Type 0 = λ d. IsAs new (after life.now c) (life.receipts + 1) d in (
@@ -128,15 +144,15 @@ module _ (size : Size) (b : Bench) (life : BenchLife) (c : Change) (old new : Si
 
   up_err : life.doubt ≡ None → (e : Refusal) → Refuses life.now life.receipts c e (life_of new) → CausedRefusal (store_fault_state old) e (store_fault_state new)
       → (e ≡ Device → Failed (store_facts old).failures (store_facts new).failures) → (e ≡ Down → Failed (store_facts old).failures (store_facts new).failures)
-      → Goes (Err (number_of_refusal e))
-  up_err calm e (inl did) cause fails downs =
+      → Untouched e → Goes (Err (number_of_refusal e))
+  up_err calm e (inl did) cause fails downs still =
       let x = fails_by_fault size b (store_fault_state old) (store_fault_state new) (store_facts old) (store_facts new) device (struck e (store_fault_state old) (store_fault_state new) cause did.0) (fails did.0) fits in
       let y = failed (store_fault_state new) b in
       let Q : Option ℕ → Type 0 = λ r. Writes r c life b (Err (number_of_refusal e)) y in
       (y, with_none calm (Err (number_of_refusal e)) y (inr (did.1.0, subst Q (sym did.1.1) (inr (inl (number e Device did.0, x.0))))), again y refl refl refl calm did.2 x.1, refl)
-  up_err calm e (inr (inl did)) cause fails downs =
+  up_err calm e (inr (inl did)) cause fails downs still =
       let d = in_doubt c life b in
-      let x = fails_by_fault size d (store_fault_state old) (store_fault_state new) (store_facts old) (store_facts new) device (downed e (store_fault_state old) (store_fault_state new) cause did.0) (downs did.0) fits in
+      let x = fails_as size b d (store_fault_state old) (store_fault_state new) (store_facts old) (store_facts new) device refl refl (downed e (store_fault_state old) (store_fault_state new) cause did.0) (downs did.0) fits in
       let y = failed (store_fault_state new) d in
       let Q : Option ℕ → Type 0 = λ r. Writes r c life b (Err (number_of_refusal e)) y in (
         y,
@@ -144,13 +160,15 @@ module _ (size : Size) (b : Bench) (life : BenchLife) (c : Change) (old new : Si
         (record life { doubt = Some c }, refl, (follows_doubt size b.disk_state b.kept c life (store_size new) here, did.2), refl, x.1),
         refl,
       )
-  up_err calm e (inr (inr (inl did))) cause fails downs =
+  up_err calm e (inr (inr (inl did))) cause fails downs still =
       let same = untouched e (store_fault_state old) (store_fault_state new) cause (λ f. (let no : ⊥ = cc in no)) (λ f. (let no : ⊥ = cc in no)) in
-      (b, with_none calm (Err (number_of_refusal e)) b (inl (did.1, number e JournalFull did.0, refl)), again b refl refl refl calm did.2 (calm_device b refl refl same), refl)
-  up_err calm e (inr (inr (inr did))) cause fails downs =
+      let sides = still_sides (still (λ f. (let no : ⊥ = cc in no)) (λ f. (let no : ⊥ = cc in no)) (λ f. (let no : ⊥ = cc in no))) in
+      (b, with_none calm (Err (number_of_refusal e)) b (inl (did.1, number e JournalFull did.0, refl)), again b refl refl refl calm did.2 (calm_device b refl refl sides same), refl)
+  up_err calm e (inr (inr (inr did))) cause fails downs still =
+      let sides = still_sides (still (not_device life.now c e did.0) (not_down life.now c e did.0) (not_memory life.now c e did.0)) in
       let same = untouched e (store_fault_state old) (store_fault_state new) cause (not_down life.now c e did.0) (not_device life.now c e did.0) in
       let Q : Option ℕ → Type 0 = λ r. Writes r c life b (Err (number_of_refusal e)) b in
-      (b, with_none calm (Err (number_of_refusal e)) b (inr (did.1, subst Q (sym did.0) (refl, refl))), again b refl refl refl calm did.2 (calm_device b refl refl same), refl)
+      (b, with_none calm (Err (number_of_refusal e)) b (inr (did.1, subst Q (sym did.0) (refl, refl))), again b refl refl refl calm did.2 (calm_device b refl refl sides same), refl)
 
   -- the store as it was
   pub unmoved : new ≡ old → Running size b life.machine new
@@ -165,28 +183,28 @@ module _ (size : Size) (b : Bench) (life : BenchLife) (c : Change) (old new : Si
 
     pub reported_ok : ends_life c ≡ false → (doubt : Option Change) → life.doubt ≡ doubt → (n : ℕ)
         → (doubt_of old ≡ None → Applied seen c (Ok n) (life_of new)) → ((d : Change) → doubt_of old ≡ Some d → (◌≡◌ {A = Result ℕ Refusal} (Ok n) (Err Down)) × (new ≡ old))
-        → (doubt_of old ≡ None → store_fault_state new ≡ store_fault_state old) → Goes (Ok n)
-    reported_ok goes None calm n up down unmoved =
+        → (doubt_of old ≡ None → store_fault_state new ≡ store_fault_state old) → (doubt_of old ≡ None → Writing) → Goes (Ok n)
+    reported_ok goes None calm n up down unmoved wrote =
         let did = acknowledges life.now life.receipts c seen (life_of new) (is calm) goes n (up (was.1.2 ∙ calm)) in
-        up_ok calm n did (calm_device b refl refl (unmoved (was.1.2 ∙ calm)))
-    reported_ok goes (Some d) calm n up down unmoved = never_ok d calm n down
+        up_ok calm n did (calm_device (acknowledged c life b) refl refl (written_sides (wrote (was.1.2 ∙ calm))) (unmoved (was.1.2 ∙ calm)))
+    reported_ok goes (Some d) calm n up down unmoved wrote = never_ok d calm n down
 
     -- a command that ended the life
     pub reported_end : (doubt : Option Change) → life.doubt ≡ doubt → (n : ℕ)
         → (doubt_of old ≡ None → Applied seen c (Ok n) (life_of new)) → ((d : Change) → doubt_of old ≡ Some d → (◌≡◌ {A = Result ℕ Refusal} (Ok n) (Err Down)) × (new ≡ old))
-        → (doubt_of old ≡ None → store_fault_state new ≡ store_fault_state old)
-        → Issued c life b (Ok n) (acknowledged c life b) × IsOver size b.disk_state (acknowledged c life b).kept new × DeviceIs size b (store_fault_state new) (store_facts new)
-    reported_end None calm n up down unmoved =
+        → (doubt_of old ≡ None → store_fault_state new ≡ store_fault_state old) → (doubt_of old ≡ None → Writing)
+        → Issued c life b (Ok n) (acknowledged c life b) × IsOver size b.disk_state (acknowledged c life b).kept new × DeviceIs size (acknowledged c life b) (store_fault_state new) (store_facts new)
+    reported_end None calm n up down unmoved wrote =
         let did = ended life.now life.receipts c seen (life_of new) (is calm) n (up (was.1.2 ∙ calm)) in
-        (issued_ok calm n did.0 did.1, over_more size b.disk_state b.kept c life new here calm did.2 did.3, calm_device b refl refl (unmoved (was.1.2 ∙ calm)))
-    reported_end (Some d) calm n up down unmoved = never_ok d calm n down
+        (issued_ok calm n did.0 did.1, over_more size b.disk_state b.kept c life new here calm did.2 did.3, calm_device (acknowledged c life b) refl refl (written_sides (wrote (was.1.2 ∙ calm))) (unmoved (was.1.2 ∙ calm)))
+    reported_end (Some d) calm n up down unmoved wrote = never_ok d calm n down
 
     pub reported_up : life.doubt ≡ None → (e : Refusal) → Refused seen c e (life_of new) → CausedRefusal (store_fault_state old) e (store_fault_state new) → CountedRefusal (store_facts old).failures e (store_facts new).failures
-        → Goes (Err (number_of_refusal e))
-    reported_up calm e up cause counts =
+        → Untouched e → Goes (Err (number_of_refusal e))
+    reported_up calm e up cause counts still =
         let did = refused life.now life.receipts c seen (life_of new) (is calm) e up in
         let P : Refusal → Type 0 = λ f. CountedRefusal (store_facts old).failures f (store_facts new).failures in
-        up_err calm e did cause (λ is. subst P is counts) (λ is. subst P is counts)
+        up_err calm e did cause (λ is. subst P is counts) (λ is. subst P is counts) still
 
     pub reported_down : (d : Change) → life.doubt ≡ Some d → (e : Refusal) → ((◌≡◌ {A = Result ℕ Refusal} (Err e) (Err Down)) × (new ≡ old)) → Goes (Err (number_of_refusal e))
     reported_down d calm e did =
@@ -196,6 +214,6 @@ module _ (size : Size) (b : Bench) (life : BenchLife) (c : Change) (old new : Si
     pub reported_err : (doubt : Option Change) → life.doubt ≡ doubt → (e : Refusal)
         → (doubt_of old ≡ None → Refused seen c e (life_of new)) → ((d : Change) → doubt_of old ≡ Some d → (◌≡◌ {A = Result ℕ Refusal} (Err e) (Err Down)) × (new ≡ old))
         → (doubt_of old ≡ None → CausedRefusal (store_fault_state old) e (store_fault_state new))
-        → (doubt_of old ≡ None → CountedRefusal (store_facts old).failures e (store_facts new).failures) → Goes (Err (number_of_refusal e))
-    reported_err None calm e up down cause counts = let none = was.1.2 ∙ calm in reported_up calm e (up none) (cause none) (counts none)
-    reported_err (Some d) calm e up down cause counts = reported_down d calm e (down d (was.1.2 ∙ calm))
+        → (doubt_of old ≡ None → CountedRefusal (store_facts old).failures e (store_facts new).failures) → Untouched e → Goes (Err (number_of_refusal e))
+    reported_err None calm e up down cause counts still = let none = was.1.2 ∙ calm in reported_up calm e (up none) (cause none) (counts none) still
+    reported_err (Some d) calm e up down cause counts still = reported_down d calm e (down d (was.1.2 ∙ calm))

@@ -31,9 +31,9 @@ CalmDisk Blank doubt = ⊤
 CalmDisk Unknown doubt = ⊥
 CalmDisk Formatted doubt = doubt ≡ None
 
--- and no armed cut has struck
+-- no armed cut has struck, and nobody but the firmware wrote the disk
 abbrev pub IsCalm : Bench → Type 0
-IsCalm b = CalmDisk b.disk_state b.kept.doubt × (b.fault_state.struck ≡ false)
+IsCalm b = CalmDisk b.disk_state b.kept.doubt × (b.fault_state.struck ≡ false) × (b.poked ≡ false)
 
 abbrev pub DiskHasFailed : Bench → Type 0
 DiskHasFailed b = 0 < b.failures
@@ -147,9 +147,9 @@ answers_as a o line e f = ap (λ (x : Option Durable). let r : Answer = record {
 
 -- ---- format
 pub formats_fair : (m : DiskState) (b : Bench) (a : Answer) (new : Bench) → FormatsOn m b a new → Fair b new
-formats_fair Blank b a new (inl h) = fair_to b new (formatted_anew b) h.1 (λ s. s, λ c. inr (refl, c.1), λ s. s)
+formats_fair Blank b a new (inl h) = fair_to b new (formatted_anew b) h.1 (λ s. s, λ c. inr (refl, c.1, c.2), λ s. s)
 formats_fair Blank b a new (inr h) = spoils b new (fails (unknown b) new h.1)
-formats_fair Unknown b a new (inl h) = fair_to b new (formatted_anew b) h.1 (λ s. s, λ c. inr (refl, c.1), λ s. s)
+formats_fair Unknown b a new (inl h) = fair_to b new (formatted_anew b) h.1 (λ s. s, λ c. inr (refl, c.1, c.2), λ s. s)
 formats_fair Unknown b a new (inr (inl h)) = spoils b new (fails b new h.1)
 formats_fair Unknown b a new (inr (inr h)) = unmoved b new h.3
 formats_fair Formatted b a new (inl h) = unmoved b new h.1
@@ -193,7 +193,7 @@ boots_fair None mode z s b line new (inr x) = starved b new x.1
 settled_fair : (changes : List Change) (m : DiskState) (b mid : Bench) → b.disk_state ≡ m → CalmDisk m None → mid ≡ settled changes b → Fair b mid
 settled_fair changes m b mid at calm e =
     let P : DiskState → Type 0 = λ x. CalmDisk x None in
-    fair_to b mid (settled changes b) e (λ s. s, λ c. inr (subst P (sym at) calm, c.1), λ s. s)
+    fair_to b mid (settled changes b) e (λ s. s, λ c. inr (subst P (sym at) calm, c.1, c.2), λ s. s)
 
 opens_fair : (size : Size) (m : DiskState) (b : Bench) (s : DurableState) (z : Size) (mid : Bench) → b.disk_state ≡ m → Opens size m b s z mid → Fair b mid
 opens_fair size Blank b s z mid at h = absurd h
@@ -290,7 +290,7 @@ boots None mode z s b line said new last at (inr x) y = inl (starves b new x.1)
 boots None mode z s b line said new last at (inl x) (inr y) = inr (inl (starves b last y.1))
 boots None mode z s b line said new last at (inl x) (inl y) = begins mode z s b line said new last at x y
 
-kept_as : (k : Kept) (changes : List Change) → k.doubt ≡ None → MayKeep k changes → k.changes ≡ changes
+pub kept_as : (k : Kept) (changes : List Change) → k.doubt ≡ None → MayKeep k changes → k.changes ≡ changes
 kept_as k changes calm (inl e) = sym e
 kept_as k changes calm (inr t) = let P : Option Change → Type 0 = λ d. TakesIn d k.changes changes in absurd (subst P calm t)
 

@@ -9,7 +9,9 @@ use Rattle.disk.specs.FaultState.{FaultState, Cause}
 use Rattle.store.specs.Leaves.{SameLength}
 use Rattle.bench_report.specs.Bench.{Bench}
 use Rattle.bench_report.specs.Happens.{failed, FailsByFault}
+use Rattle.bench_report.specs.Sides.{SidesAre}
 use Rattle.bench_report.specs.Agree.{DeviceIs}
+use Rattle.bench_report.proofs.Sides.{LeavesFewer, sides_stay, failed_sides}
 
 pub is_device : (e : Refusal) → (e ≡ Device) ⊎ (e ≢ Device)
 is_device Device = inl refl
@@ -30,13 +32,23 @@ eleven e h = absurd (omega (arith, h))
 counted_more : (a b : ℕ) → a ≤ b → counted a 1 ≤ counted b 1
 counted_more a b h = omega (arith, h)
 
--- a call failed, for a cause, and was counted
+-- a call failed, for a cause, and was counted, on a bench that another has become since
+pub fails_as : (size : Size) (c x : Bench) (m n : FaultState) (old new : Facts) → DeviceIs size c m old → x.fault_state ≡ c.fault_state → x.failures ≡ c.failures → Cause m n → Failed old.failures new.failures → SameLength old new
+    → FailsByFault x (failed n x) × DeviceIs size (failed n x) n new
+fails_as size c x m n old new is fault failures cause more same =
+    let P : FaultState → Type 0 = λ y. Cause y n in
+    let count : x.failures ≤ old.failures = omega (arith, failures, is.1) in
+    ((n, subst P (sym (fault ∙ is.0)) cause, refl), (refl, omega (arith, counted_more x.failures old.failures count, more), omega (arith, is.2, same), failed_sides size (failed n x) x.failures new refl))
+
 pub fails_by_fault : (size : Size) (c : Bench) (m n : FaultState) (old new : Facts) → DeviceIs size c m old → Cause m n → Failed old.failures new.failures → SameLength old new
     → FailsByFault c (failed n c) × DeviceIs size (failed n c) n new
-fails_by_fault size c m n old new is cause more same =
-    let P : FaultState → Type 0 = λ x. Cause x n in
-    ((n, subst P (sym is.0) cause, refl), (refl, omega (arith, counted_more c.failures old.failures is.1, more), omega (arith, is.2, same)))
+fails_by_fault size c m n old new is cause more same = fails_as size c c m n old new is refl refl cause more same
 
 -- nothing failed that was answered
-pub stays : (size : Size) (c : Bench) (m n : FaultState) (old new : Facts) → DeviceIs size c m old → n ≡ m → old.failures ≤ new.failures → SameLength old new → DeviceIs size c n new
-stays size c m n old new is e more same = (is.0 ∙ sym e, omega (arith, is.1, more), omega (arith, is.2, same))
+pub stays_as : (size : Size) (c x : Bench) (m n : FaultState) (old new : Facts) → DeviceIs size c m old → x.fault_state ≡ c.fault_state → x.failures ≡ c.failures → n ≡ m → old.failures ≤ new.failures → SameLength old new → SidesAre size x new
+    → DeviceIs size x n new
+stays_as size c x m n old new is fault failures e more same sides = (fault ∙ is.0 ∙ sym e, omega (arith, failures, is.1, more), omega (arith, is.2, same), sides)
+
+-- and no other content may be left than before
+pub stays : (size : Size) (c : Bench) (m n : FaultState) (old new : Facts) → DeviceIs size c m old → n ≡ m → old.failures ≤ new.failures → SameLength old new → LeavesFewer old new → DeviceIs size c n new
+stays size c m n old new is e more same fewer = stays_as size c c m n old new is refl refl e more same (sides_stay size c old new fewer is.3)

@@ -21,7 +21,8 @@ use Rattle.bench_report.specs.Bench.{DiskState, Blank, Unknown, Formatted, Bench
 use Rattle.bench_report.specs.Happens.{says, failed, out_of_memory}
 use Rattle.bench_report.specs.Examined.{ReadsOf, MayRead, HasImage, InspectsOn, AnswersOf}
 use Rattle.bench_report.specs.Agree.{DiskIs, DeviceIs, OffIs, StepsTo}
-use Rattle.bench_report.proofs.Devices.{fails_by_fault, stays}
+use Rattle.bench_report.proofs.Devices.{fails_by_fault, stays, stays_as}
+use Rattle.bench_report.proofs.Sides.{starved_sides}
 use Rattle.bench_report.proofs.Ended.{left_on}
 use Rattle.bench_report.proofs.KeptDisks.{GoesOn, passed}
 
@@ -48,13 +49,16 @@ module _ (goes_on : GoesOn) (size : Size) (b : Bench) (old new : SimDisk) (a : A
   device = was.2
 
   may_read : MayRead size b (facts old).content
-  may_read = (device.2, reads_of b.disk_state b.kept size old was.1 (may_keep-law old))
+  may_read = (device.2, reads_of b.disk_state b.kept size old was.1 (may_keep-law old), λ clean. device.3 clean (facts old).content (may_keep-law old))
 
   disk : DiskIs size b.disk_state b.kept (facts new)
   disk = left_on goes_on size b.disk_state b.kept old new was.1 (passed old new alone.crash)
 
+  starves : fault_state new ≡ fault_state old → DeviceIs size (out_of_memory b) (fault_state new) (facts new)
+  starves same = stays_as size b (out_of_memory b) (fault_state old) (fault_state new) (facts old) (facts new) device refl refl same alone.no_fewer (ap length alone.content) (starved_sides size (out_of_memory b) b.growths (facts new) refl)
+
   still : fault_state new ≡ fault_state old → DeviceIs size b (fault_state new) (facts new)
-  still same = stays size b (fault_state old) (fault_state new) (facts old) (facts new) device same alone.no_fewer (ap length alone.content)
+  still same = stays size b (fault_state old) (fault_state new) (facts old) (facts new) device same alone.no_fewer (ap length alone.content) (passed old new alone.crash)
 
   abbrev pub Examines : Type 0
   Examines = StepsTo size b (Off new) (InspectsOn size b a)
@@ -69,7 +73,7 @@ module _ (goes_on : GoesOn) (size : Size) (b : Bench) (old new : SimDisk) (a : A
       let x = fails_by_fault size b (fault_state old) (fault_state new) (facts old) (facts new) device cause why (ap length alone.content) in
       (failed (fault_state new) b, inr (e, x.0), (was.0, disk, x.1), refl)
   refused Memory why cause e =
-      (out_of_memory b, inl ((facts old).content, may_read, inr (has_image why.0 (facts old).content why.1 why.2, e, refl)), (was.0, disk, still cause), refl)
+      (out_of_memory b, inl ((facts old).content, may_read, inr (has_image why.0 (facts old).content why.1 why.2, e, refl)), (was.0, disk, starves cause), refl)
   refused e why cause is = absurd why
 
 -- the same of the content itself

@@ -35,7 +35,7 @@ use Rattle.bench_report.specs.declared.printed.Printed.TheVariants as printed
 use Rattle.disk.specs.FaultState.{FaultArmed, CutArmed}
 use Rattle.bench_report.specs.declared.printed.Answer.{Answer}
 use Rattle.bench_report.specs.Bench.{DiskState, Blank, Unknown, Formatted, BenchLife, Bench, IsFailureFree, blank_bench}
-use Rattle.bench_report.specs.Happens.{says, off, on_with, unpowered, unknown, armed_with, formatted_anew, settled, has_machine, acknowledged}
+use Rattle.bench_report.specs.Happens.{says, off, on_with, unpowered, written_past, armed_with, formatted_anew, settled, has_machine, acknowledged}
 use Rattle.bench_report.specs.Commands.{Writes, IssuedBy, IssuesAll, Issued}
 use Rattle.susp.specs.declared.sleeps.Sleep.{Sleep}
 use Rattle.susp.specs.declared.sleeps.Sleep.TheVariants.{ToRam, ToDisk}
@@ -251,7 +251,7 @@ call_at (Some life) h e f x y z b a new (inl (has, m, called, did, g)) failure_f
 call_at (Some life) h e f x y z b a new (inr g) failure_free = as_many b b new refl refl g.2
 
 poke_at : (p : Option BenchLife) (b : Bench) (a : Answer) (new : Bench) → PokeStep p b a new → AsMany b new
-poke_at None b a new h = as_many b (unknown b) new refl refl h.1
+poke_at None b a new h = as_many b (written_past b) new refl refl h.1
 poke_at (Some life) b a new h = as_many b b new refl refl h.1
 
 inspect_at : (size : Size) (p : Option BenchLife) (b : Bench) (a : Answer) (new : Bench) → InspectStep size p b a new → ShowsNoFailure a.line → AsMany b new

@@ -397,4 +397,4 @@ from_format size (l ∷ ls) b (a ∷ answers) end by calm well run = by_calm ((m
 
 pub all_found : (script : Script) (answers : List Answer) (end : Bench) → AreByFirmware script.lines → IsReport script answers end → end.failures ≡ 0 → FindsAll script.lines answers
 all_found script [] end by h none = absurd h
-all_found script (board ∷ answers) end by h none = from_format script.size script.lines blank_bench answers end by (tt, refl) (λ failed. omega (arith, none, failed)) h.1
+all_found script (board ∷ answers) end by h none = from_format script.size script.lines blank_bench answers end by (tt, refl, refl) (λ failed. omega (arith, none, failed)) h.1

@@ -7,6 +7,7 @@ use Rattle.board_model.specs.declared.refusal.Refusal.TheVariants.{NotFormatted,
 use Rattle.disk.specs.Facts.{Content, Passes, Stays}
 use Rattle.simdisk.specs.declared.SimDisk.{SimDisk}
 use Rattle.store.specs.Leaves.{Leaves, IsBlank, IsKept, IsMarked, NoMore}
+use Rattle.store.specs.Standing.{StandsFor}
 use Rattle.store.specs.Opens.{OpenRefused, FormatRefused}
 use Rattle.bench_report.specs.Views.{facts}
 use Rattle.std.proofs.Common.{sym, subst}
@@ -36,6 +37,10 @@ pub record BlankLaw : Type 0 where
   pub stands : (disk : SimDisk) (size : Size) (s : DurableState) → IsBlank (facts disk) → Leaves (facts disk) size s → ⊥
   pub opens : (disk new : SimDisk) (e : Refusal) → IsBlank (facts disk) → 0 < length (facts disk).content → OpenRefused (facts disk) e (facts new) → (e ≡ NotFormatted) ⊎ (e ≡ Device)
   pub formats : (disk new : SimDisk) (size : Size) (e : Refusal) → IsBlank (facts disk) → sectors_of size ≤ length (facts disk).content → FormatRefused (facts disk) size e (facts new) → e ≡ Device
+
+-- each content that stands for a state begins with the mark
+abbrev pub MarkLaw : Type 0
+MarkLaw = (c : Content) (size : Size) (s : DurableState) → StandsFor c size s → IsMarked c
 
 -- what a call passes that changes nothing was there before
 pub passed : (old new : SimDisk) → Passes (facts old) (facts new) Stays → LeavesLess old new

@@ -1,5 +1,6 @@
 pub mod Table
 pub mod KeptDisks
+pub mod Sides
 pub mod Devices
 pub mod Adapted
 pub mod Formats
@@ -14,8 +15,10 @@ pub mod Written
 pub mod Told
 pub mod Determined
 pub mod FailureFree
+pub mod Inspected
 pub mod Guests
 pub mod Single
+pub mod Examiners
 pub mod Refused
 pub mod Unsaid
 pub mod Lost

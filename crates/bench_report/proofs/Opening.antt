@@ -18,7 +18,8 @@ use Rattle.bench_report.specs.Bench.{DiskState, Blank, Unknown, Formatted, Bench
 use Rattle.bench_report.specs.Happens.{says, out_of_memory, failed}
 use Rattle.bench_report.specs.PowerOns.{life_begun, MayStand, Opens, PowersOn}
 use Rattle.bench_report.specs.Agree.{DiskIs, DeviceIs, LifeIs, OffIs}
-use Rattle.bench_report.proofs.Devices.{is_device, is_memory, five, eleven, fails_by_fault, stays}
+use Rattle.bench_report.proofs.Devices.{is_device, is_memory, five, eleven, fails_by_fault, stays, stays_as}
+use Rattle.bench_report.proofs.Sides.{starved_sides}
 use Rattle.bench_report.proofs.Adapted.{struck, calm, failed_open, never_down}
 use Rattle.bench_report.proofs.KeptDisks.{KeptLaw, BlankLaw, LeavesLess}
 use Rattle.bench_report.proofs.Ended.{left_on}
@@ -49,11 +50,18 @@ module _ (kept : KeptLaw) (blank : BlankLaw) (size : Size) (mode : BootMode) (b 
       let x = fails_by_fault size b (fault_state old) (fault_state new) (facts old) (facts new) device (struck e (fault_state old) (fault_state new) cause is) (failed_open (facts old) e (facts new) refusal is) fits in
       (failed (fault_state new) b, inr (inr (inr (refused Device is, x.0))), (off, disk, x.1), refl)
 
+  same_cause : e ≢ Device → fault_state new ≡ fault_state old
+  same_cause is = calm e (fault_state old) (fault_state new) cause (never_down (facts old) e (facts new) refusal) is
+
   keeps : e ≢ Device → DeviceIs size b (fault_state new) (facts new)
-  keeps is = stays size b (fault_state old) (fault_state new) (facts old) (facts new) device (calm e (fault_state old) (fault_state new) cause (never_down (facts old) e (facts new) refusal) is) no_fewer fits
+  keeps is = stays size b (fault_state old) (fault_state new) (facts old) (facts new) device (same_cause is) no_fewer fits left
 
   starves : MayStand b.disk_state → DiskIs size b.disk_state b.kept (facts new) → e ≡ Memory → Stays
-  starves stands disk is = (out_of_memory b, inr (inr (inl (stands, refused Memory is, refl))), (off, disk, keeps (λ d. (let no : ⊥ = cc in no))), refl)
+  starves stands disk is =
+      let x : Bench = out_of_memory b in
+      let same = same_cause (λ d. (let no : ⊥ = cc in no)) in
+      let device_now = stays_as size b x (fault_state old) (fault_state new) (facts old) (facts new) device refl refl same no_fewer fits (starved_sides size x b.growths (facts new) refl) in
+      (x, inr (inr (inl (stands, refused Memory is, refl))), (off, disk, device_now), refl)
 
   by_disk_state : (m : DiskState) → b.disk_state ≡ m → DiskIs size m b.kept (facts old) → DiskIs size b.disk_state b.kept (facts new) → Stays
   by_disk_state Blank at was disk =

@@ -15,18 +15,20 @@ use Rattle.bench_report.specs.declared.printed.ConsoleWord.{ConsoleWord}
 use Rattle.bench_report.specs.declared.printed.ConsoleWord.TheVariants as names
 use Rattle.bench_report.specs.declared.printed.Answer.{Answer}
 use Rattle.bench_report.specs.Bench.{DiskState, Blank, Unknown, Formatted, BenchLife, Bench, IsFailureFree, blank_bench}
-use Rattle.bench_report.specs.Happens.{on_with, settled, acknowledged}
+use Rattle.bench_report.specs.Happens.{says, on_with, settled, acknowledged}
 use Rattle.bench_report.specs.Commands.{Writes, Issued, IssuedBy}
 use Rattle.bench_report.specs.PowerOns.{life_begun, ShowsFound, FormatsOn, Boots, Begins, Opens, IsOpenRefusal, PowersOn}
 use Rattle.susp.specs.Dozes.{can_wake}
-use Rattle.bench_report.specs.Steps.{ArmStep, FormatStep, OnStep, ConsoleStep, PayloadStep, Wakes, WakeStep, Step, Run}
-use Rattle.bench_report.specs.Reports.{IsByFirmware, AreByFirmware, IsNoExaminer, AreNoExaminers, IsReport}
-use Rattle.bench_report.specs.Plain.{plain_written, plain_issued, plain_console, plain_format, plain_slot, plain_boot, plain_on, plain_wake, plain_at, plain, plain_answers, plain_report, IsPlain, ArePlain}
+use Rattle.bench_report.specs.Steps.{ArmStep, FormatStep, OnStep, ConsoleStep, PayloadStep, Wakes, WakeStep, Step, Moves, Run}
+use Rattle.bench_report.specs.Reports.{IsByFirmware, AreByFirmware, board_answer, IsReport}
+use Rattle.bench_report.specs.Plain.{plain_written, plain_issued, plain_console, plain_format, plain_slot, plain_boot, plain_on, plain_inspect, plain_wake, plain_at, plain, plain_answers, plain_report, IsPlain, ArePlain}
 use Rattle.bench_report.proofs.Adapted.{grows}
-use Rattle.bench_report.proofs.Determined.{CalmDisk}
-use Rattle.bench_report.proofs.FailureFree.{AsMany, many_then}
-use Rattle.bench_report.proofs.Single.{IsOneCall, IsOneCsr, one_report}
+use Rattle.bench_report.proofs.Determined.{CalmDisk, IsCalm, HasFailed, Agree}
+use Rattle.bench_report.proofs.FailureFree.{AsMany}
+use Rattle.bench_report.proofs.Single.{IsOneCall, IsOneCsr, moves, moves_fair, run_spoilt, clean}
+use Rattle.bench_report.proofs.Examiners.{said_by, said}
 use Rattle.bench_report.proofs.Guests.{IsOneTurn}
+use Rattle.bench_report.proofs.Inspected.{ContentLaws, said_of}
 
 -- nothing is in doubt, and a life has room for its receipts
 abbrev CalmPower : Option BenchLife → Type 0
@@ -145,40 +147,37 @@ by_power : (p : Option BenchLife) (P : Option BenchLife → Type 0) → P None �
 by_power None P x y = x
 by_power (Some life) P x y = y life
 
-steps : (size : Size) (line : Line) (b : Bench) → IsPlain line → IsGood b → Well b (Step size line b) (plain size line b)
-steps size (lines.Payload x y) b plain good = payload_at size b.power x y b good
-steps size lines.Format b plain good = format_at size b.power b good
-steps size (lines.On mode) b plain good = on_at size b.power mode b good
-steps size (lines.Slot n) b plain good =
+-- a line that does not examine the disk
+abbrev IsNoExaminer : Line → Type 0
+IsNoExaminer lines.Inspect = ⊥
+IsNoExaminer line = ⊤
+
+steps : (size : Size) (line : Line) (b : Bench) → IsPlain line → IsNoExaminer line → IsGood b → Well b (Step size line b) (plain size line b)
+steps size (lines.Payload x y) b plain blind good = payload_at size b.power x y b good
+steps size lines.Format b plain blind good = format_at size b.power b good
+steps size (lines.On mode) b plain blind good = on_at size b.power mode b good
+steps size (lines.Slot n) b plain blind good =
     by_power b.power (λ p. CalmPower p → Well b (ConsoleStep names.Slot (Slot n) p b) (plain_at size p (lines.Slot n) b))
     (λ calm. console_at names.Slot (Slot n) None b (λ s e. e) calm good) (λ life calm. console_at names.Slot (Slot n) (Some life) b (λ s e. e) calm good) good.1
-steps size lines.Discard b plain good =
+steps size lines.Discard b plain blind good =
     by_power b.power (λ p. CalmPower p → Well b (ConsoleStep names.Discard Discard p b) (plain_at size p lines.Discard b))
     (λ calm. console_at names.Discard Discard None b (λ s e. refl) calm good) (λ life calm. console_at names.Discard Discard (Some life) b (λ s e. refl) calm good) good.1
-steps size (lines.CutAt x y) b plain good = by_power b.power (λ p. Well b (ArmStep CutArmed b) (plain_at size p (lines.CutAt x y) b)) ((refl, refl), good, (refl, refl)) (λ life. ((refl, refl), good, (refl, refl)))
-steps size (lines.CutLane x y z) b plain good = by_power b.power (λ p. Well b (ArmStep CutArmed b) (plain_at size p (lines.CutLane x y z) b)) ((refl, refl), good, (refl, refl)) (λ life. ((refl, refl), good, (refl, refl)))
-steps size (lines.FailAt x) b plain good = by_power b.power (λ p. Well b (ArmStep FaultArmed b) (plain_at size p (lines.FailAt x) b)) ((refl, refl), good, (refl, refl)) (λ life. ((refl, refl), good, (refl, refl)))
-steps size (lines.FailLane x y) b plain good = by_power b.power (λ p. Well b (ArmStep FaultArmed b) (plain_at size p (lines.FailLane x y) b)) ((refl, refl), good, (refl, refl)) (λ life. ((refl, refl), good, (refl, refl)))
-steps size (lines.Poke x y z) b plain good = absurd plain
-steps size lines.Inspect b plain good = absurd plain
-steps size lines.Wake b plain good = by_power b.power (λ p. CalmPower p → Well b (WakeStep p b) (plain_at size p lines.Wake b)) (λ calm. ((refl, refl), good, (refl, refl))) (λ life calm. wakes_at (can_wake life.machine.doze) life b calm good) good.1
-steps size (lines.Cut fill) b plain good =
+steps size (lines.CutAt x y) b plain blind good = by_power b.power (λ p. Well b (ArmStep CutArmed b) (plain_at size p (lines.CutAt x y) b)) ((refl, refl), good, (refl, refl)) (λ life. ((refl, refl), good, (refl, refl)))
+steps size (lines.CutLane x y z) b plain blind good = by_power b.power (λ p. Well b (ArmStep CutArmed b) (plain_at size p (lines.CutLane x y z) b)) ((refl, refl), good, (refl, refl)) (λ life. ((refl, refl), good, (refl, refl)))
+steps size (lines.FailAt x) b plain blind good = by_power b.power (λ p. Well b (ArmStep FaultArmed b) (plain_at size p (lines.FailAt x) b)) ((refl, refl), good, (refl, refl)) (λ life. ((refl, refl), good, (refl, refl)))
+steps size (lines.FailLane x y) b plain blind good = by_power b.power (λ p. Well b (ArmStep FaultArmed b) (plain_at size p (lines.FailLane x y) b)) ((refl, refl), good, (refl, refl)) (λ life. ((refl, refl), good, (refl, refl)))
+steps size (lines.Poke x y z) b plain blind good = absurd plain
+steps size lines.Inspect b plain blind good = absurd blind
+steps size lines.Wake b plain blind good = by_power b.power (λ p. CalmPower p → Well b (WakeStep p b) (plain_at size p lines.Wake b)) (λ calm. ((refl, refl), good, (refl, refl))) (λ life calm. wakes_at (can_wake life.machine.doze) life b calm good) good.1
+steps size (lines.Cut fill) b plain blind good =
     by_power b.power (λ p. Well b (Step size (lines.Cut fill) b) (plain_at size p (lines.Cut fill) b)) ((refl, refl), (good.0, tt, refl, good.3), (refl, refl)) (λ life. ((refl, refl), (good.0, tt, refl, good.3), (refl, refl)))
-steps size (lines.Turn x y) b plain good = absurd plain
-steps size (lines.Call x y z u v w) b plain good = absurd plain
-steps size (lines.Reg x y) b plain good = absurd plain
-steps size (lines.Pc x) b plain good = absurd plain
-steps size (lines.Csr x y) b plain good = absurd plain
-steps size lines.Pending b plain good = absurd plain
-steps size (lines.Mem x y) b plain good = absurd plain
-
--- the run of a plain report
-runs : (size : Size) (ls : List Line) (b : Bench) → ArePlain ls → IsGood b → (end : Bench) × Run size b ls (plain_answers size ls b) end × AsMany b end
-runs size [] b plain good = (b, refl, (refl, refl))
-runs size (l ∷ ls) b are good =
-    let one = steps size l b are.0 good in
-    let rest = runs size ls (plain size l b).1 are.1 one.1 in
-    (rest.0, ((plain size l b).1, inl (one.0, one.1.2), rest.1), many_then b (plain size l b).1 rest.0 one.2 rest.2)
+steps size (lines.Turn x y) b plain blind good = absurd plain
+steps size (lines.Call x y z u v w) b plain blind good = absurd plain
+steps size (lines.Reg x y) b plain blind good = absurd plain
+steps size (lines.Pc x) b plain blind good = absurd plain
+steps size (lines.Csr x y) b plain blind good = absurd plain
+steps size lines.Pending b plain blind good = absurd plain
+steps size (lines.Mem x y) b plain blind good = absurd plain
 
 -- a plain line writes no disk past the firmware
 plain_by : (line : Line) → IsPlain line → IsByFirmware line
@@ -189,16 +188,58 @@ are_by : (ls : List Line) → ArePlain ls → AreByFirmware ls
 are_by [] are = tt
 are_by (l ∷ ls) are = (plain_by l are.0, are_by ls are.1)
 
--- nor examines it
-plain_blind : (line : Line) → IsPlain line → IsNoExaminer line
-plain_blind lines.Inspect plain = absurd plain
-plain_blind line plain = tt
+-- what is said of a disk that is examined
+plain_said : (m : DiskState) (b : Bench) → ((plain_inspect m b).0 ≡ says (said_of m b.kept)) × ((plain_inspect m b).1 ≡ b)
+plain_said Blank b = (refl, refl)
+plain_said Unknown b = (refl, refl)
+plain_said Formatted b = (refl, refl)
 
-are_blind : (ls : List Line) → ArePlain ls → AreNoExaminers ls
-are_blind [] are = tt
-are_blind (l ∷ ls) are = (plain_blind l are.0, are_blind ls are.1)
+plain_by_power : (size : Size) (p : Option BenchLife) (b : Bench) → ((plain_at size p lines.Inspect b).0 ≡ said_by p b.disk_state b.kept) × ((plain_at size p lines.Inspect b).1 ≡ b)
+plain_by_power size None b = plain_said b.disk_state b
+plain_by_power size (Some life) b = (refl, refl)
 
-pub plain_alone : IsOneTurn → IsOneCall → IsOneCsr → (script : Script) (answers : List Answer) (end : Bench) → IsReport script answers end → IsFailureFree end → ArePlain script.lines → answers ≡ plain_report script
-plain_alone turns call csr script answers end h failure_free_bench plain =
-    let run = runs script.size script.lines blank_bench plain (tt, tt, refl, refl) in
-    (one_report turns call csr script answers (plain_report script) end run.0 (are_by script.lines plain) (are_blind script.lines plain) h (refl, run.1) failure_free_bench run.2).0
+-- a line of a good bench that is not spoilt after it is the plain one
+module _ (laws : ContentLaws) (turns : IsOneTurn) (call : IsOneCall) (csr : IsOneCsr) (size : Size) (b : Bench) (a : Answer) (new : Bench) (never : HasFailed new → ⊥) (good : IsGood b) (calm : IsCalm b) where
+  abbrev IsPlainly : Answer × Bench → Type 0
+  IsPlainly reported = (a ≡ reported.0) × (new ≡ reported.1) × IsGood new
+
+  blind_is : (line : Line) → IsPlain line → IsNoExaminer line → Moves size line b a new → IsPlainly (plain size line b)
+  blind_is line is blind moved =
+      let one = steps size line b is blind good in
+      by one (moves laws turns call csr size line b a (plain size line b).0 new (plain size line b).1 calm moved (inl (one.0, one.1.2)))
+    where
+      failed : AsMany b (plain size line b).1 → HasFailed (plain size line b).1 → HasFailed b
+      failed many (inl s) = inl (omega (arith, many.0, s))
+      failed many (inr s) = inr (omega (arith, many.1, s))
+
+      by : Well b (Step size line b) (plain size line b) → Agree a (plain size line b).0 new (plain size line b).1 → IsPlainly (plain size line b)
+      by one (inl s) = absurd (never s)
+      by one (inr (inl s)) = absurd (never ((moves_fair size line b a new (plain_by line is) moved).0 (failed one.2 s)))
+      by one (inr (inr e)) = let P : Bench → Type 0 = IsGood in (e.0, e.1, subst P (sym e.1) one.1)
+
+  line_is : (line : Line) → IsPlain line → Moves size line b a new → IsPlainly (plain size line b)
+  line_is lines.Inspect is moved =
+      let it = said laws size b a new never calm moved in
+      let at = plain_by_power size b.power b in
+      let P : Bench → Type 0 = IsGood in
+      (it.0 ∙ sym at.0, it.1 ∙ sym at.1, subst P (sym it.1) good)
+  line_is line is moved = blind_is line is tt moved
+
+-- a run of plain lines
+plain_run : ContentLaws → IsOneTurn → IsOneCall → IsOneCsr → (size : Size) (ls : List Line) (b : Bench) (answers : List Answer) (end : Bench) → ArePlain ls → IsGood b → IsCalm b → IsFailureFree end → Run size b ls answers end
+    → answers ≡ plain_answers size ls b
+plain_run laws turns call csr size [] b [] end are good calm free run = refl
+plain_run laws turns call csr size [] b (a ∷ answers) end are good calm free run = absurd run
+plain_run laws turns call csr size (l ∷ ls) b [] end are good calm free run = absurd run
+plain_run laws turns call csr size (l ∷ ls) b (a ∷ answers) end are good calm free (mid, moved, rest) =
+    let never : HasFailed mid → ⊥ = λ failed. clean end free (run_spoilt size ls mid answers end (are_by ls are.1) rest failed) in
+    let it = line_is laws turns call csr size b a mid never good calm l are.0 moved in
+    let calm_mid : IsCalm mid = elim ((moves_fair size l b a mid (plain_by l are.0) moved).1 calm) [ inl failed ↦ absurd (never (inr failed)) | inr calm ↦ calm ] in
+    let more = plain_run laws turns call csr size ls mid answers end are.1 it.2 calm_mid free rest in
+    ap (λ q. q ∷ answers) it.0 ∙ ap (λ qs. (plain size l b).0 ∷ qs) (more ∙ ap (λ (x : Bench). plain_answers size ls x) it.1)
+
+pub plain_alone : ContentLaws → IsOneTurn → IsOneCall → IsOneCsr → (script : Script) (answers : List Answer) (end : Bench) → IsReport script answers end → IsFailureFree end → ArePlain script.lines → answers ≡ plain_report script
+plain_alone laws turns call csr script [] end h free are = absurd h
+plain_alone laws turns call csr script (board ∷ answers) end h free are =
+    let rest = plain_run laws turns call csr script.size script.lines blank_bench answers end are (tt, tt, refl, refl) (tt, refl, refl) free h.1 in
+    ap (λ q. q ∷ answers) h.0 ∙ ap (λ qs. board_answer script.size ∷ qs) rest

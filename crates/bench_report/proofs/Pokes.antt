@@ -1,10 +1,10 @@
 -- A disk that was written past the firmware.
-use Rattle.std.proofs.Common.{◌≡◌, List, ℕ, Option, Result, Ok, Err, refl, sym, ◌∙◌, subst, arith, MatchResult}
+use Rattle.std.proofs.Common.{◌≡◌, true, false, List, ℕ, Option, Result, Ok, Err, refl, sym, ◌∙◌, subst, arith, MatchResult}
 use Rattle.board_model.specs.Shapes.{Size}
 use Rattle.board_model.specs.declared.refusal.Refusal.{Refusal}
 use Rattle.board_model.specs.declared.refusal.Refusal.TheVariants.{Memory}
 use Rattle.disk.specs.Calls.{NoCall}
-use Rattle.disk.specs.Facts.{Unchanged}
+use Rattle.disk.specs.Facts.{Facts, Unchanged}
 use Rattle.simdisk.specs.declared.SimDisk.{SimDisk}
 use Rattle.store.specs.Leaves.{SameLength}
 use Rattle.bench_report.specs.declared.power.Power.{Power}
@@ -13,28 +13,36 @@ use Rattle.bench_report.specs.declared.printed.Answer.{Answer}
 use Rattle.bench_report.specs.declared.printed.Printed.TheVariants as printed
 use Rattle.bench_report.specs.Views.{facts, fault_state}
 use Rattle.bench_report.specs.Bench.{BenchLife, Bench}
-use Rattle.bench_report.specs.Happens.{says, unknown}
+use Rattle.bench_report.specs.Happens.{says, written_past}
 use Rattle.bench_report.specs.Steps.{PokeStep}
 use Rattle.bench_report.specs.Agree.{DeviceIs, OffIs, Agrees, Matches, StepsTo}
-use Rattle.bench_report.proofs.Devices.{stays}
+use Rattle.bench_report.specs.Sides.{SidesAre}
+use Rattle.bench_report.proofs.Devices.{stays_as}
+use Rattle.bench_report.proofs.Sides.{LeavesFewer, sides_stay}
 use Rattle.bench_report.proofs.Ended.{left_on}
 use Rattle.bench_report.proofs.KeptDisks.{GoesOn}
 
-device : (size : Size) (b : Bench) (old new : SimDisk) → DeviceIs size b (fault_state old) (facts old) → NoCall (facts old) (facts new) (fault_state old) (fault_state new) → SameLength (facts old) (facts new)
-    → DeviceIs size b (fault_state new) (facts new)
-device size b old new was same long = stays size b (fault_state old) (fault_state new) (facts old) (facts new) was same.cause (omega (arith, same.failures)) long
+device : (size : Size) (b x : Bench) (old new : SimDisk) → DeviceIs size b (fault_state old) (facts old) → x.fault_state ≡ b.fault_state → x.failures ≡ b.failures → SidesAre size x (facts new)
+    → NoCall (facts old) (facts new) (fault_state old) (fault_state new) → SameLength (facts old) (facts new) → DeviceIs size x (fault_state new) (facts new)
+device size b x old new was fault failures sides same long = stays_as size b x (fault_state old) (fault_state new) (facts old) (facts new) was fault failures same.cause (omega (arith, same.failures)) long sides
+
+-- a disk that was written past the firmware is no clean bench's
+past_firmware : (size : Size) (b : Bench) (disk : Facts) → SidesAre size (written_past b) disk
+past_firmware size b disk clean c may = absurd (let no : true ≡ false = clean.1 in let never : ⊥ = cc in never)
 
 pub poked_off : (size : Size) (b : Bench) (old new : SimDisk) (a : Answer) → OffIs size b old → NoCall (facts old) (facts new) (fault_state old) (fault_state new) → SameLength (facts old) (facts new)
     → a ≡ says printed.Poked → StepsTo size b (Off new) (PokeStep b.power b a)
 poked_off size b old new a was same long e =
-    let P : Option BenchLife → Type 0 = λ p. PokeStep p b a (unknown b) in
-    (unknown b, subst P (sym was.0) (e, refl), (was.0, tt, device size b old new was.2 same long), refl)
+    let x : Bench = written_past b in
+    let P : Option BenchLife → Type 0 = λ p. PokeStep p b a x in
+    (x, subst P (sym was.0) (e, refl), (was.0, tt, device size b x old new was.2 refl refl (past_firmware size b (facts new)) same long), refl)
 
 -- a poke that was refused memory
 pub not_poked : GoesOn → (size : Size) (b : Bench) (old new : SimDisk) → OffIs size b old → NoCall (facts old) (facts new) (fault_state old) (fault_state new) → SameLength (facts old) (facts new)
     → Unchanged (facts old) (facts new) → OffIs size b new
 not_poked goes_on size b old new was same long still =
-    (was.0, left_on goes_on size b.disk_state b.kept old new was.1 (λ c l. (still.now c).0 l), device size b old new was.2 same long)
+    let fewer : LeavesFewer (facts old) (facts new) = λ c may. (still.now c).0 may in
+    (was.0, left_on goes_on size b.disk_state b.kept old new was.1 fewer, device size b b old new was.2 refl refl (sides_stay size b (facts old) (facts new) fewer was.2.3) same long)
 
 -- with the payloads, which a poke keeps
 pub poke_matches : (size : Size) (b : Bench) (r : Result Answer Refusal) (after : Power) (payloads : List (List ℕ)) → payloads ≡ b.payloads

@@ -145,7 +145,7 @@ pub sure : (script : Script) (answers : List Answer) (b : Bench) → AreByFirmwa
 sure script [] b by h failure_free_bench disk_state = absurd h
 sure script (board ∷ answers) b by h failure_free_bench disk_state =
     let P : DiskState → Type 0 = λ m. CalmDisk m b.kept.doubt in
-    elim ((run_fair script.size script.lines blank_bench answers b by h.1).1 (tt, refl)) [ inl spoilt ↦ clean b failure_free_bench (inr spoilt) | inr calm ↦ subst P disk_state calm.0 ]
+    elim ((run_fair script.size script.lines blank_bench answers b by h.1).1 (tt, refl, refl)) [ inl spoilt ↦ clean b failure_free_bench (inr spoilt) | inr calm ↦ subst P disk_state calm.0 ]
 
 kept_as : (k : Kept) (changes : List Change) → k.doubt ≡ None → MayKeep k changes → changes ≡ k.changes
 kept_as k changes calm (inl e) = e

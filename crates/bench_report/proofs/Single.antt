@@ -22,10 +22,11 @@ use Rattle.bench_report.specs.declared.printed.ConsoleWord.{ConsoleWord}
 use Rattle.bench_report.specs.declared.printed.ConsoleWord.TheVariants as names
 use Rattle.bench_report.specs.declared.printed.Answer.{Answer}
 use Rattle.bench_report.specs.Bench.{BenchLife, Bench, IsFailureFree, blank_bench}
-use Rattle.bench_report.specs.Happens.{shows, unpowered, unknown, armed_with, on_with, has_machine}
+use Rattle.bench_report.specs.Happens.{shows, unpowered, written_past, armed_with, on_with, has_machine}
 use Rattle.bench_report.specs.Examined.{InspectStep}
 use Rattle.bench_report.specs.Steps.{console_reported, FormatStep, OnStep, ConsoleStep, PayloadStep, CallReported, GuestCall, TurnStep, CallStep, ReadStep, Wakes, WakeStep, PokeStep, Step, Moves, Run}
-use Rattle.bench_report.specs.Reports.{IsByFirmware, AreByFirmware, IsNoExaminer, AreNoExaminers, IsReport}
+use Rattle.bench_report.specs.Reports.{IsByFirmware, AreByFirmware, IsReport}
+use Rattle.bench_report.proofs.Inspected.{ContentLaws, inspect_at}
 use Rattle.bench_report.proofs.Guests.{IsOneTurn, Row, row, comes_fair, comes_one, turns_fair, turns_one}
 use Rattle.bench_report.proofs.Determined.{some_inj, HasFailed, DiskHasFailed, IsCalm, Fair, fair_to, fair_then, unmoved, spoils, fails, starved, issued_fair, Agree, same, issued, formats_fair, formats, powers_fair, powers}
 
@@ -103,7 +104,7 @@ step_fair size (lines.CutAt x y) b a new by h = fair_to b new (armed_with CutArm
 step_fair size (lines.CutLane x y z) b a new by h = fair_to b new (armed_with CutArmed b) h.1 (λ s. s, λ c. inr c, λ s. s)
 step_fair size (lines.FailAt x) b a new by h = fair_to b new (armed_with FaultArmed b) h.1 (λ s. s, λ c. inr c, λ s. s)
 step_fair size (lines.FailLane x y) b a new by h = fair_to b new (armed_with FaultArmed b) h.1 (λ s. s, λ c. inr c, λ s. s)
-step_fair size (lines.Cut fill) b a new by h = fair_to b new (unpowered b) h.1 (λ s. s, λ c. inr (c.0, refl), λ s. s)
+step_fair size (lines.Cut fill) b a new by h = fair_to b new (unpowered b) h.1 (λ s. s, λ c. inr (c.0, refl, c.2), λ s. s)
 step_fair size (lines.Poke x y z) b a new by h = absurd by
 step_fair size lines.Inspect b a new by h = inspect_fair size b.power b a new h
 step_fair size lines.Wake b a new by h = wake_fair b.power b a new h
@@ -114,7 +115,7 @@ moves_fair size line b a new by (inr (would, mid, x, struck, e, is)) = let one =
   where
     cut_off : DiskHasFailed mid ⊎ IsCalm mid → DiskHasFailed mid ⊎ IsCalm (unpowered mid)
     cut_off (inl s) = inl s
-    cut_off (inr c) = inr (c.0, refl)
+    cut_off (inr c) = inr (c.0, refl, c.2)
 
 -- a cut that struck had the disk fail
 pub struck_fails : (size : Size) (line : Line) (b : Bench) (would : Answer) (mid : Bench) → IsByFirmware line → IsCalm b → Step size line b would mid → mid.fault_state.struck ≡ true → DiskHasFailed mid
@@ -133,7 +134,7 @@ run_fair size (l ∷ ls) b (a ∷ answers) end by run = fair_then b run.0 end (m
 run_fair size [] b (a ∷ answers) end by run = absurd run
 run_fair size (l ∷ ls) b [] end by run = absurd run
 
-run_spoilt : (size : Size) (ls : List Line) (b : Bench) (answers : List Answer) (end : Bench) → AreByFirmware ls → Run size b ls answers end → HasFailed b → HasFailed end
+pub run_spoilt : (size : Size) (ls : List Line) (b : Bench) (answers : List Answer) (end : Bench) → AreByFirmware ls → Run size b ls answers end → HasFailed b → HasFailed end
 run_spoilt size ls b answers end by run s = (run_fair size ls b answers end by run).0 s
 
 -- ---- the same
@@ -203,7 +204,7 @@ read_at says_so one None b a z new last x y = same a z _ new last b x.0 y.0 x.1 
 read_at says_so one (Some life) b a z new last (line, so, e, f) (also, so2, e2, f2) = inr (inr (e ∙ ap shows (one life.machine line also so so2) ∙ sym e2, f ∙ sym f2))
 
 poke_at : (p : Option BenchLife) (b : Bench) (a z : Answer) (new last : Bench) → PokeStep p b a new → PokeStep p b z last → Agree a z new last
-poke_at None b a z new last x y = same a z _ new last (unknown b) x.0 y.0 x.1 y.1
+poke_at None b a z new last x y = same a z _ new last (written_past b) x.0 y.0 x.1 y.1
 poke_at (Some life) b a z new last x y = same a z _ new last b x.0 y.0 x.1 y.1
 
 wakes_at : (can : Bool) (life : BenchLife) (b : Bench) (a z : Answer) (new last : Bench) → Wakes can life b a new → Wakes can life b z last → Agree a z new last
@@ -214,47 +215,47 @@ wake_at : (p : Option BenchLife) (b : Bench) (a z : Answer) (new last : Bench) �
 wake_at None b a z new last x y = same a z _ new last b x.0 y.0 x.1 y.1
 wake_at (Some life) b a z new last x y = wakes_at (can_wake life.machine.doze) life b a z new last x y
 
-steps : IsOneTurn → IsOneCall → IsOneCsr → (size : Size) (line : Line) (b : Bench) (a z : Answer) (new last : Bench) → IsNoExaminer line → IsCalm b → Step size line b a new → Step size line b z last → Agree a z new last
-steps turns call csr size (lines.Payload s bytes) b a z new last none calm x y = payload_at b.power s bytes b a z new last x y
-steps turns call csr size lines.Format b a z new last none calm x y = format_at b.power b a z new last calm x y
-steps turns call csr size (lines.On mode) b a z new last none calm x y = on_at size b.power mode b a z new last calm x y
-steps turns call csr size (lines.Slot n) b a z new last none calm x y = console_at names.Slot (Slot n) b.power b a z new last x y
-steps turns call csr size lines.Discard b a z new last none calm x y = console_at names.Discard Discard b.power b a z new last x y
-steps turns call csr size (lines.Turn h n) b a z new last none calm x y = turn_at turns b.power h n b a z new last x y
-steps turns call csr size (lines.Call h e f u v w) b a z new last none calm x y = call_at call b.power h e f u v w b a z new last x y
-steps turns call csr size (lines.Reg h r) b a z new last none calm x y = read_at _ (λ m line also p q. p ∙ sym q) b.power b a z new last x y
-steps turns call csr size (lines.Pc h) b a z new last none calm x y = read_at _ (λ m line also p q. p ∙ sym q) b.power b a z new last x y
-steps turns call csr size (lines.Csr h n) b a z new last none calm x y = read_at (λ m line. CsrLine h n m line) (csr h n) b.power b a z new last x y
-steps turns call csr size lines.Pending b a z new last none calm x y = read_at _ (λ m line also p q. p ∙ sym q) b.power b a z new last x y
-steps turns call csr size (lines.Mem i n) b a z new last none calm x y = read_at _ (λ m line also p q. p ∙ sym q) b.power b a z new last x y
-steps turns call csr size (lines.CutAt n fill) b a z new last none calm x y = same a z _ new last _ x.0 y.0 x.1 y.1
-steps turns call csr size (lines.CutLane i n fill) b a z new last none calm x y = same a z _ new last _ x.0 y.0 x.1 y.1
-steps turns call csr size (lines.FailAt n) b a z new last none calm x y = same a z _ new last _ x.0 y.0 x.1 y.1
-steps turns call csr size (lines.FailLane i n) b a z new last none calm x y = same a z _ new last _ x.0 y.0 x.1 y.1
-steps turns call csr size (lines.Cut fill) b a z new last none calm x y = same a z _ new last _ x.0 y.0 x.1 y.1
-steps turns call csr size (lines.Poke k n bytes) b a z new last none calm x y = poke_at b.power b a z new last x y
-steps turns call csr size lines.Inspect b a z new last none calm x y = absurd none
-steps turns call csr size lines.Wake b a z new last none calm x y = wake_at b.power b a z new last x y
+steps : ContentLaws → IsOneTurn → IsOneCall → IsOneCsr → (size : Size) (line : Line) (b : Bench) (a z : Answer) (new last : Bench) → IsCalm b → Step size line b a new → Step size line b z last → Agree a z new last
+steps laws turns call csr size (lines.Payload s bytes) b a z new last calm x y = payload_at b.power s bytes b a z new last x y
+steps laws turns call csr size lines.Format b a z new last calm x y = format_at b.power b a z new last calm x y
+steps laws turns call csr size (lines.On mode) b a z new last calm x y = on_at size b.power mode b a z new last calm x y
+steps laws turns call csr size (lines.Slot n) b a z new last calm x y = console_at names.Slot (Slot n) b.power b a z new last x y
+steps laws turns call csr size lines.Discard b a z new last calm x y = console_at names.Discard Discard b.power b a z new last x y
+steps laws turns call csr size (lines.Turn h n) b a z new last calm x y = turn_at turns b.power h n b a z new last x y
+steps laws turns call csr size (lines.Call h e f u v w) b a z new last calm x y = call_at call b.power h e f u v w b a z new last x y
+steps laws turns call csr size (lines.Reg h r) b a z new last calm x y = read_at _ (λ m line also p q. p ∙ sym q) b.power b a z new last x y
+steps laws turns call csr size (lines.Pc h) b a z new last calm x y = read_at _ (λ m line also p q. p ∙ sym q) b.power b a z new last x y
+steps laws turns call csr size (lines.Csr h n) b a z new last calm x y = read_at (λ m line. CsrLine h n m line) (csr h n) b.power b a z new last x y
+steps laws turns call csr size lines.Pending b a z new last calm x y = read_at _ (λ m line also p q. p ∙ sym q) b.power b a z new last x y
+steps laws turns call csr size (lines.Mem i n) b a z new last calm x y = read_at _ (λ m line also p q. p ∙ sym q) b.power b a z new last x y
+steps laws turns call csr size (lines.CutAt n fill) b a z new last calm x y = same a z _ new last _ x.0 y.0 x.1 y.1
+steps laws turns call csr size (lines.CutLane i n fill) b a z new last calm x y = same a z _ new last _ x.0 y.0 x.1 y.1
+steps laws turns call csr size (lines.FailAt n) b a z new last calm x y = same a z _ new last _ x.0 y.0 x.1 y.1
+steps laws turns call csr size (lines.FailLane i n) b a z new last calm x y = same a z _ new last _ x.0 y.0 x.1 y.1
+steps laws turns call csr size (lines.Cut fill) b a z new last calm x y = same a z _ new last _ x.0 y.0 x.1 y.1
+steps laws turns call csr size (lines.Poke k n bytes) b a z new last calm x y = poke_at b.power b a z new last x y
+steps laws turns call csr size lines.Inspect b a z new last calm x y = inspect_at laws size b.power b a z new last calm x y
+steps laws turns call csr size lines.Wake b a z new last calm x y = wake_at b.power b a z new last x y
 
 true_false : {A : Type 0} (x y : Bool) → x ≡ y → x ≡ true → y ≡ false → A
 true_false x y e f g = let h : y ≡ true = sym e ∙ f in absurd (let no : ⊥ = cc in no)
 
 -- an armed cut that struck in one of them alone would have been answered there
-moves : IsOneTurn → IsOneCall → IsOneCsr → (size : Size) (line : Line) (b : Bench) (a z : Answer) (new last : Bench) → IsNoExaminer line → IsCalm b → Moves size line b a new → Moves size line b z last → Agree a z new last
-moves turns call csr size line b a z new last none calm (inl x) (inl y) = steps turns call csr size line b a z new last none calm x.0 y.0
-moves turns call csr size line b a z new last none calm (inl x) (inr (would, mid, y, struck, e, is)) = apart (steps turns call csr size line b a would new mid none calm x.0 y)
+pub moves : ContentLaws → IsOneTurn → IsOneCall → IsOneCsr → (size : Size) (line : Line) (b : Bench) (a z : Answer) (new last : Bench) → IsCalm b → Moves size line b a new → Moves size line b z last → Agree a z new last
+moves laws turns call csr size line b a z new last calm (inl x) (inl y) = steps laws turns call csr size line b a z new last calm x.0 y.0
+moves laws turns call csr size line b a z new last calm (inl x) (inr (would, mid, y, struck, e, is)) = apart (steps laws turns call csr size line b a would new mid calm x.0 y)
   where
     apart : Agree a would new mid → Agree a z new last
     apart (inl s) = inl s
     apart (inr (inl s)) = inr (inl (spoilt_as last (unpowered mid) is s))
     apart (inr (inr h)) = true_false mid.fault_state.struck new.fault_state.struck (ap (λ (b : Bench). b.fault_state.struck) (sym h.1)) struck x.1
-moves turns call csr size line b a z new last none calm (inr (would, mid, x, struck, e, is)) (inl y) = apart (steps turns call csr size line b would z mid last none calm x y.0)
+moves laws turns call csr size line b a z new last calm (inr (would, mid, x, struck, e, is)) (inl y) = apart (steps laws turns call csr size line b would z mid last calm x y.0)
   where
     apart : Agree would z mid last → Agree a z new last
     apart (inl s) = inl (spoilt_as new (unpowered mid) is s)
     apart (inr (inl s)) = inr (inl s)
     apart (inr (inr h)) = true_false mid.fault_state.struck last.fault_state.struck (ap (λ (b : Bench). b.fault_state.struck) h.1) struck y.1
-moves turns call csr size line b a z new last none calm (inr (would, mid, x, struck, e, is)) (inr (would2, mid2, y, struck2, e2, is2)) = apart (steps turns call csr size line b would would2 mid mid2 none calm x y)
+moves laws turns call csr size line b a z new last calm (inr (would, mid, x, struck, e, is)) (inr (would2, mid2, y, struck2, e2, is2)) = apart (steps laws turns call csr size line b would would2 mid mid2 calm x y)
   where
     apart : Agree would would2 mid mid2 → Agree a z new last
     apart (inl s) = inl (spoilt_as new (unpowered mid) is s)
@@ -265,26 +266,26 @@ pub clean : {A : Type 0} (end : Bench) → IsFailureFree end → HasFailed end �
 clean end u (inl s) = absurd (omega (arith, u.0, s))
 clean end u (inr s) = absurd (omega (arith, u.1, s))
 
-runs : IsOneTurn → IsOneCall → IsOneCsr → (size : Size) (ls : List Line) (b : Bench) (answers others : List Answer) (end last : Bench) → AreByFirmware ls → AreNoExaminers ls → IsCalm b → IsFailureFree end → IsFailureFree last → Run size b ls answers end → Run size b ls others last
+runs : ContentLaws → IsOneTurn → IsOneCall → IsOneCsr → (size : Size) (ls : List Line) (b : Bench) (answers others : List Answer) (end last : Bench) → AreByFirmware ls → IsCalm b → IsFailureFree end → IsFailureFree last → Run size b ls answers end → Run size b ls others last
     → (answers ≡ others) × (end ≡ last)
-runs turns call csr size [] b [] [] end last by none calm u v x y = (refl, x ∙ sym y)
-runs turns call csr size (l ∷ ls) b (a ∷ answers) (z ∷ others) end last by none calm u v x y =
-    go (moves turns call csr size l b a z x.0 y.0 none.0 calm x.1 y.1) ((moves_fair size l b a x.0 by.0 x.1).1 calm)
-    (λ calm e. (let M : Bench → Type 0 = λ m. Run size m ls others last in runs turns call csr size ls x.0 answers others end last by.1 none.1 calm u v x.2 (subst M (sym e) y.2)))
+runs laws turns call csr size [] b [] [] end last by calm u v x y = (refl, x ∙ sym y)
+runs laws turns call csr size (l ∷ ls) b (a ∷ answers) (z ∷ others) end last by calm u v x y =
+    go (moves laws turns call csr size l b a z x.0 y.0 calm x.1 y.1) ((moves_fair size l b a x.0 by.0 x.1).1 calm)
+    (λ calm e. (let M : Bench → Type 0 = λ m. Run size m ls others last in runs laws turns call csr size ls x.0 answers others end last by.1 calm u v x.2 (subst M (sym e) y.2)))
   where
     go : Agree a z x.0 y.0 → DiskHasFailed x.0 ⊎ IsCalm x.0 → (IsCalm x.0 → x.0 ≡ y.0 → (answers ≡ others) × (end ≡ last)) → ((a ∷ answers) ≡ (z ∷ others)) × (end ≡ last)
     go (inl s) c more = clean end u (run_spoilt size ls x.0 answers end by.1 x.2 s)
     go (inr (inl s)) c more = clean last v (run_spoilt size ls y.0 others last by.1 y.2 s)
     go (inr (inr e)) (inl s) more = clean end u (run_spoilt size ls x.0 answers end by.1 x.2 (inr s))
     go (inr (inr e)) (inr c) more = let rest = more c e.1 in (ap (λ h. h ∷ answers) e.0 ∙ ap (λ t. z ∷ t) rest.0, rest.1)
-runs turns call csr size [] b (a ∷ answers) others end last by none calm u v x y = absurd x
-runs turns call csr size [] b [] (z ∷ others) end last by none calm u v x y = absurd y
-runs turns call csr size (l ∷ ls) b [] others end last by none calm u v x y = absurd x
-runs turns call csr size (l ∷ ls) b (a ∷ answers) [] end last by none calm u v x y = absurd y
+runs laws turns call csr size [] b (a ∷ answers) others end last by calm u v x y = absurd x
+runs laws turns call csr size [] b [] (z ∷ others) end last by calm u v x y = absurd y
+runs laws turns call csr size (l ∷ ls) b [] others end last by calm u v x y = absurd x
+runs laws turns call csr size (l ∷ ls) b (a ∷ answers) [] end last by calm u v x y = absurd y
 
-pub one_report : IsOneTurn → IsOneCall → IsOneCsr → (script : Script) (answers others : List Answer) (end last : Bench) → AreByFirmware script.lines → AreNoExaminers script.lines → IsReport script answers end → IsReport script others last → IsFailureFree end → IsFailureFree last → (answers ≡ others) × (end ≡ last)
-one_report turns call csr script [] others end last by none x y u v = absurd x
-one_report turns call csr script (b ∷ answers) [] end last by none x y u v = absurd y
-one_report turns call csr script (b ∷ answers) (d ∷ others) end last by none x y u v =
-    let rest = runs turns call csr script.size script.lines blank_bench answers others end last by none (tt, refl) u v x.1 y.1 in
+pub one_report : ContentLaws → IsOneTurn → IsOneCall → IsOneCsr → (script : Script) (answers others : List Answer) (end last : Bench) → AreByFirmware script.lines → IsReport script answers end → IsReport script others last → IsFailureFree end → IsFailureFree last → (answers ≡ others) × (end ≡ last)
+one_report laws turns call csr script [] others end last by x y u v = absurd x
+one_report laws turns call csr script (b ∷ answers) [] end last by x y u v = absurd y
+one_report laws turns call csr script (b ∷ answers) (d ∷ others) end last by x y u v =
+    let rest = runs laws turns call csr script.size script.lines blank_bench answers others end last by (tt, refl, refl) u v x.1 y.1 in
     (ap (λ q. q ∷ answers) (x.0 ∙ sym y.0) ∙ ap (λ qs. d ∷ qs) rest.0, rest.1)

@@ -5,7 +5,7 @@ use Rattle.board_model.specs.Views.{number_of_refusal}
 use Rattle.board_model.specs.declared.boot_mode.BootMode.{BootMode}
 use Rattle.board_model.specs.declared.boot_mode.BootMode.TheVariants as modes
 use Rattle.board_model.specs.declared.refusal.Refusal.{Refusal}
-use Rattle.board_model.specs.declared.refusal.Refusal.TheVariants.{Device, Down}
+use Rattle.board_model.specs.declared.refusal.Refusal.TheVariants.{Device, Down, Memory}
 use Rattle.board.specs.Boots.{boot_refusal}
 
 one_of : (t : Bool) (x y : Option ℕ) (n : ℕ) → (if t then x else y) ≡ Some n → (x ≡ Some n) ⊎ (y ≡ Some n)
@@ -44,6 +44,9 @@ not_device s c e h is = differs 5 (number_of_refusal e) (λ f. omega (arith, f))
 
 pub not_down : (s : DurableState) (c : Change) (e : Refusal) → refusal_of s c ≡ Some (number_of_refusal e) → e ≢ Down
 not_down s c e h is = differs 6 (number_of_refusal e) (λ f. omega (arith, f)) (λ f. omega (arith, f)) (λ f. omega (arith, f)) (of_table s c (number_of_refusal e) h) (ap number_of_refusal is)
+
+pub not_memory : (s : DurableState) (c : Change) (e : Refusal) → refusal_of s c ≡ Some (number_of_refusal e) → e ≢ Memory
+not_memory s c e h is = differs 11 (number_of_refusal e) (λ f. omega (arith, f)) (λ f. omega (arith, f)) (λ f. omega (arith, f)) (of_table s c (number_of_refusal e) h) (ap number_of_refusal is)
 
 pub table_not_six : (s : DurableState) (c : Change) (n : ℕ) → refusal_of s c ≡ Some n → n ≢ 6
 table_not_six s c n h = differs 6 n (λ f. omega (arith, f)) (λ f. omega (arith, f)) (λ f. omega (arith, f)) (of_table s c n h)

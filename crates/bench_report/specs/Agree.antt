@@ -25,6 +25,7 @@ use Rattle.bench_report.specs.declared.power.Power.{Power}
 use Rattle.bench_report.specs.declared.power.Power.TheVariants.{Off, On}
 use Rattle.bench_report.specs.Views.{SimStore, SimBoard, store_in, machine_in, disk_in, facts, arms, store_arms, sim_log_of, fault_state, store_facts, store_fault_state, store_size, store_now, store_doubt, IsAs}
 use Rattle.bench_report.specs.Bench.{DiskState, Blank, Unknown, Formatted, BenchLife, Bench}
+use Rattle.bench_report.specs.Sides.{SidesAre}
 use Rattle.bench_report.specs.Steps.{Step}
 use Rattle.bench_report.specs.Examined.{AnswersOf}
 use Rattle.bench_report.specs.declared.printed.Answer.{Answer}
@@ -54,9 +55,10 @@ BoardIs size disk_state kept (Some life) board =
     StoreIs size disk_state kept life (store_in board) × (machine_in board ≡ life.machine)
 
 -- the device below has the bench's fault state, counted each failure that was answered, and is of exactly the
--- size needed
+-- size needed; and where the bench is clean, its gate and records are what the commands kept made
 abbrev pub DeviceIs : Size → Bench → FaultState → Facts → Type 0
-DeviceIs size b m disk = (b.fault_state ≡ m) × (b.failures ≤ disk.failures) × (length disk.content ≡ sectors_of size)
+DeviceIs size b m disk =
+    (b.fault_state ≡ m) × (b.failures ≤ disk.failures) × (length disk.content ≡ sectors_of size) × SidesAre size b disk
 
 abbrev pub OffIs : Size → Bench → SimDisk → Type 0
 OffIs size b disk =

@@ -1,5 +1,5 @@
 -- The bench as a model: what its disk keeps, its board with memory and harts, and why the disk failed.
-use Rattle.std.specs.Prelude.{◌≡◌, ℕ, List, [], ◌∷◌, Option, None}
+use Rattle.std.specs.Prelude.{◌≡◌, ℕ, Bool, false, List, [], ◌∷◌, Option, None}
 use Rattle.board_model.specs.Durable.{DurableState, Change}
 use Rattle.board_model.specs.Kept.{Kept, nothing_kept}
 use Rattle.disk.specs.FaultState.{FaultState, no_fault}
@@ -22,8 +22,8 @@ pub record BenchLife : Type 0 where
 
 -- The disk and, once it was formatted, the commands that it keeps; the board where it is on; what the slots
 -- boot; how often a power-on was refused memory (11), how often a failure of the disk was answered (each 5,
--- and each 6 that begins a doubt), and the fault state of the disk: what is armed, whether an armed cut has
--- struck, and how often it failed by itself.
+-- and each 6 that begins a doubt), the fault state of the disk: what is armed, whether an armed cut has
+-- struck, and how often it failed by itself; and whether the disk was ever written past the firmware.
 pub record Bench : Type 0 where
   pub disk_state : DiskState
   pub kept : Kept
@@ -32,10 +32,15 @@ pub record Bench : Type 0 where
   pub growths : ℕ
   pub failures : ℕ
   pub fault_state : FaultState
+  pub poked : Bool
 
 -- memory was never refused, and no failure of the disk was answered; so no armed cut has struck
 abbrev pub IsFailureFree : Bench → Type 0
 IsFailureFree b = (b.growths ≡ 0) × (b.failures ≡ 0)
+
+-- and nobody but the firmware wrote the disk
+abbrev pub IsClean : Bench → Type 0
+IsClean b = IsFailureFree b × (b.poked ≡ false)
 
 abbrev pub no_payloads : List (List ℕ)
 no_payloads = [] ∷ [] ∷ [] ∷ [] ∷ []
@@ -50,4 +55,5 @@ blank_bench = record {
   growths = 0;
   failures = 0;
   fault_state = no_fault;
+  poked = false;
 }

@@ -1,8 +1,8 @@
 -- What a line that examines the disk answers: a function of the disk's content, which the bench knows as far as
 -- a read may give it. Source: docs/SCRIPT.md, "The report"; docs/STORE.md, "Examining".
-use Rattle.std.specs.Prelude.{◌≡◌, ◌≢◌, ◌⊎◌, ⊤, None, Option, Some, length}
-use Rattle.board_model.specs.Durable.{DurableState}
-use Rattle.board_model.specs.Kept.{Kept, MayFind}
+use Rattle.std.specs.Prelude.{◌≡◌, ◌≢◌, ◌⊎◌, ⊤, ℕ, ◌%◌, true, nat_lt, List, [], ◌∷◌, None, Option, Some, length}
+use Rattle.board_model.specs.Durable.{DurableState, Image, Change}
+use Rattle.board_model.specs.Kept.{Kept, MayFind, found_of}
 use Rattle.board_model.specs.Shapes.{Size, sectors_of}
 use Rattle.board_model.specs.declared.refusal.Refusal.TheVariants.{NotFormatted, BadShape}
 use Rattle.disk.specs.Facts.{Content}
@@ -10,10 +10,14 @@ use Rattle.store.specs.Leaves.{IsMarked}
 use Rattle.store.specs.Opens.{IsBoard, ReadsAs}
 use Rattle.store.specs.Standing.{StandsFor}
 use Rattle.store.specs.Inspects.{IsInspected}
+use Rattle.store.specs.declared.inspects.ImageSeen.{ImageSeen}
+use Rattle.store.specs.declared.inspects.ImageSeen.TheVariants.{Absent, Whole, Bad}
+use Rattle.store.specs.declared.inspects.Inspection.{Inspection}
 use Rattle.bench_report.specs.declared.printed.Printed.{Printed}
 use Rattle.bench_report.specs.declared.printed.Printed.TheVariants as printed
 use Rattle.bench_report.specs.declared.printed.Answer.{Answer}
-use Rattle.bench_report.specs.Bench.{DiskState, Blank, Unknown, Formatted, BenchLife, Bench}
+use Rattle.bench_report.specs.Bench.{DiskState, Blank, Unknown, Formatted, BenchLife, Bench, IsClean}
+use Rattle.bench_report.specs.Sides.{SidesOf}
 use Rattle.bench_report.specs.Happens.{says, out_of_memory, FailsByFault}
 
 -- What a read may give of a disk of which so much is known. (A crash may leave what a read gives.)
@@ -23,13 +27,35 @@ ReadsOf Unknown kept size c = ⊤
 ReadsOf Formatted kept size c = (s : DurableState) × MayFind kept s × StandsFor c size s
 
 abbrev pub MayRead : Size → Bench → Content → Type 0
-MayRead size b c = (length c ≡ sectors_of size) × ReadsOf b.disk_state b.kept size c
+MayRead size b c =
+    (length c ≡ sectors_of size) × ReadsOf b.disk_state b.kept size c
+    × (IsClean b → SidesOf b.disk_state b.kept size c)
 
 -- what an examiner says of a content, which is one thing (law `one_inspection` of `store`)
 abbrev pub Tells : Content → Printed → Type 0
 Tells c (printed.Inspected i) = (size : Size) × IsBoard size c × IsInspected size c i
 Tells c (printed.InspectRefused n) = ((n ≡ 1) × ReadsAs c NotFormatted) ⊎ ((n ≡ 3) × ReadsAs c BadShape)
 Tells c line = ⊥
+
+-- what is said of the image that a state has, whose memory is that of its board
+abbrev pub memory_seen : List ℕ → ImageSeen
+memory_seen [] = Bad
+memory_seen (byte ∷ more) = Whole
+
+abbrev pub image_seen : Option Image → ImageSeen
+image_seen None = Absent
+image_seen (Some image) = memory_seen image.memory
+
+-- what is said of a formatted disk by the commands that it keeps, where nothing failed and nobody but the
+-- firmware wrote it
+abbrev pub inspection_of : List Change → Inspection
+inspection_of changes =
+    record {
+      gate = length changes % 2;
+      live = true;
+      other = nat_lt 0 (length changes);
+      image = image_seen (found_of changes).image;
+    }
 
 -- an image stands, for whose memory there may be no room
 abbrev pub HasImage : Content → Type 0

@@ -1,5 +1,5 @@
 -- What a line says, and the bench after one thing that happened.
-use Rattle.std.specs.Prelude.{◌≡◌, ◌+◌, List, [], ◌∷◌, ◌++◌, Some, None}
+use Rattle.std.specs.Prelude.{◌≡◌, ◌+◌, true, List, [], ◌∷◌, ◌++◌, Some, None}
 use Rattle.board_model.specs.Durable.{Change, after}
 use Rattle.board_model.specs.Kept.{nothing_kept}
 use Rattle.disk.specs.Facts.{counted}
@@ -52,6 +52,10 @@ armed_with armed b = record b { fault_state = record b.fault_state { armed = arm
 -- nothing is known of the disk any more
 abbrev pub unknown : Bench → Bench
 unknown b = record b { disk_state = Unknown }
+
+-- the disk was written past the firmware
+abbrev pub written_past : Bench → Bench
+written_past b = record (unknown b) { poked = true }
 
 -- the disk was formatted
 abbrev pub formatted_anew : Bench → Bench

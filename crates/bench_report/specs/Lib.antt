@@ -9,6 +9,8 @@ pub mod Commands
 pub mod Turns
 -- A format, and a power-on.
 pub mod PowerOns
+-- Gate and records of its disk, by the commands that it keeps.
+pub mod Sides
 -- What a line that examines the disk may answer.
 pub mod Examined
 -- What each line of a script may answer, and the bench after it; whole runs.

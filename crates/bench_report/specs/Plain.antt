@@ -24,6 +24,7 @@ use Rattle.bench_report.specs.declared.printed.Printed.TheVariants as printed
 use Rattle.bench_report.specs.Bench.{DiskState, Blank, Unknown, Formatted, BenchLife, Bench, blank_bench}
 use Rattle.bench_report.specs.Happens.{says, shows, on_with, unpowered, armed_with, formatted_anew, settled, has_machine, acknowledged}
 use Rattle.bench_report.specs.PowerOns.{life_begun}
+use Rattle.bench_report.specs.Examined.{inspection_of}
 use Rattle.bench_report.specs.Steps.{console_reported}
 use Rattle.bench_report.specs.Reports.{board_answer, report_text}
 use Rattle.susp.specs.Dozes.{can_wake, after_wake}
@@ -67,6 +68,12 @@ plain_on size Formatted mode b =
     plain_boot (boot_refusal (found_of b.kept.changes) mode) mode size
     (found_of b.kept.changes) (settled b.kept.changes b)
 
+-- a disk is examined
+abbrev pub plain_inspect : DiskState → Bench → Answer × Bench
+plain_inspect Blank b = (says (printed.InspectRefused 1), b)
+plain_inspect Unknown b = (says (printed.InspectRefused 1), b)
+plain_inspect Formatted b = (says (printed.Inspected (inspection_of b.kept.changes)), b)
+
 -- the wake-up device is called
 abbrev pub plain_wake : Bool → BenchLife → Bench → Answer × Bench
 plain_wake true life b =
@@ -88,6 +95,8 @@ plain_at size p (lines.FailLane i n) b = (says printed.Armed, armed_with FaultAr
 plain_at size None (lines.Payload s bytes) b =
     (shows (shown.Payload s (length bytes)), record b { payloads = slice_set b.payloads s bytes })
 plain_at size (Some life) (lines.Payload s bytes) b = (shows shown.Busy, b)
+plain_at size None lines.Inspect b = plain_inspect b.disk_state b
+plain_at size (Some life) lines.Inspect b = (says printed.Busy, b)
 plain_at size None lines.Wake b = (says printed.Off, b)
 plain_at size (Some life) lines.Wake b = plain_wake (can_wake life.machine.doze) life b
 plain_at size p line b = (says printed.Off, b)
@@ -103,8 +112,7 @@ plain_answers size (line ∷ more) b = (plain size line b).0 ∷ plain_answers s
 abbrev pub plain_report : Script → List Answer
 plain_report script = board_answer script.size ∷ plain_answers script.size script.lines blank_bench
 
--- a line that neither moves a hart, nor shows memory or harts, nor examines the disk, nor writes it past the
--- firmware
+-- a line that neither moves a hart, nor shows memory or harts, nor writes the disk past the firmware
 abbrev pub IsPlain : Line → Type 0
 IsPlain (lines.Turn h n) = ⊥
 IsPlain (lines.Call h e f x y z) = ⊥
@@ -114,7 +122,6 @@ IsPlain (lines.Csr h c) = ⊥
 IsPlain lines.Pending = ⊥
 IsPlain (lines.Mem a n) = ⊥
 IsPlain (lines.Poke k n bytes) = ⊥
-IsPlain lines.Inspect = ⊥
 IsPlain line = ⊤
 
 abbrev pub ArePlain : List Line → Type 0

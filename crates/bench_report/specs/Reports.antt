@@ -41,15 +41,6 @@ abbrev pub AreByFirmware : List Line → Type 0
 AreByFirmware [] = ⊤
 AreByFirmware (line ∷ more) = IsByFirmware line × AreByFirmware more
 
--- a line that does not examine the disk
-abbrev pub IsNoExaminer : Line → Type 0
-IsNoExaminer lines.Inspect = ⊥
-IsNoExaminer line = ⊤
-
-abbrev pub AreNoExaminers : List Line → Type 0
-AreNoExaminers [] = ⊤
-AreNoExaminers (line ∷ more) = IsNoExaminer line × AreNoExaminers more
-
 -- these answers are a report of the script, and leave this bench
 abbrev pub IsReport : Script → List Answer → Bench → Type 0
 IsReport script [] end = ⊥

@@ -21,7 +21,7 @@ use Rattle.bench_report.specs.declared.printed.ConsoleWord.TheVariants as names
 use Rattle.bench_report.specs.declared.printed.Printed.TheVariants as printed
 use Rattle.bench_report.specs.declared.printed.Answer.{Answer}
 use Rattle.bench_report.specs.Bench.{BenchLife, Bench}
-use Rattle.bench_report.specs.Happens.{says, shows, on_with, unpowered, armed_with, unknown, has_machine}
+use Rattle.bench_report.specs.Happens.{says, shows, on_with, unpowered, armed_with, written_past, has_machine}
 use Rattle.bench_report.specs.Commands.{Issued}
 use Rattle.bench_report.specs.Turns.{ComesTo, GuestTurns}
 use Rattle.bench_report.specs.PowerOns.{FormatsOn, PowersOn}
@@ -106,7 +106,7 @@ ArmStep armed b answer new = (answer ≡ says printed.Armed) × (new ≡ armed_w
 -- a line that writes the disk past the firmware, while the board is off: nothing is known of the disk then
 abbrev pub PokeStep : Option BenchLife → Bench → Answer → Bench → Type 0
 PokeStep (Some life) b answer new = (answer ≡ says printed.Busy) × (new ≡ b)
-PokeStep None b answer new = (answer ≡ says printed.Poked) × (new ≡ unknown b)
+PokeStep None b answer new = (answer ≡ says printed.Poked) × (new ≡ written_past b)
 
 -- what a line may answer on a bench, and what the bench then is, as far as no armed cut strikes
 abbrev pub Step : Size → Line → Bench → Answer → Bench → Type 0

@@ -10,11 +10,13 @@ ghost use Rattle.board_model.specs.declared.durable.Durable.{Durable};
 ghost use Rattle.board_model.specs.declared.refusal.Refusal.TheVariants.{BadScript};
 ghost use Rattle.script_lang.specs.Scripts.{Script};
 ghost use Rattle.script_lang.specs.declared.line.Line.TheVariants as lines;
-ghost use Rattle.bench_report.specs.Bench.{Bench, Formatted, IsFailureFree};
+ghost use Rattle.bench_report.specs.Bench.{Bench, Blank, Formatted, IsFailureFree};
+ghost use Rattle.bench_report.specs.Happens.{says};
+ghost use Rattle.bench_report.specs.Examined.{inspection_of};
 ghost use Rattle.bench_report.specs.Plain.{ArePlain, ShowNoFailure, plain_report, plain_text};
 ghost use Rattle.bench_report.specs.AllFound.{FindsAll};
 ghost use Rattle.bench_report.specs.Prefix.{KeepsPrefixLaw};
-ghost use Rattle.bench_report.specs.Reports.{AreByFirmware, AreNoExaminers, IsReport};
+ghost use Rattle.bench_report.specs.Reports.{AreByFirmware, IsReport};
 ghost use Rattle.bench_report.specs.Resumed.{IsResumedFrom};
 ghost use Rattle.bench_report.specs.Steps.{Moves, Run};
 ghost use Rattle.bench_report.specs.declared.printed.Answer.{Answer};
@@ -22,14 +24,13 @@ ghost use Rattle.bench_report.specs.declared.printed.Printed.TheVariants as prin
 
 /// There is one report of a script without `poke` where memory was never refused and no failure of the disk
 /// was answered, so that no armed cut struck: any two such runs of it wrote the same and left the same. For
-/// lines that neither make turns nor show memory or harts it is computed by the plain report. Of a script with
-/// `inspect` this is not said: the bench does not know the gate and the other record of its disk. A report shows
+/// lines that neither make turns nor show memory or harts it is computed by the plain report. A report shows
 /// that it is one by its lines, where they are failure-free: none says that memory was refused, that the disk
 /// failed or that power was lost, and none of turns or of a call may hide that a hart's command was refused
 /// so.
 pub fn one_report()
     ensures one { (script : Script) (answers others : List Answer) (end last : Bench) → AreByFirmware script.lines
-        → AreNoExaminers script.lines → IsReport script answers end → IsReport script others last → IsFailureFree end → IsFailureFree last
+        → IsReport script answers end → IsReport script others last → IsFailureFree end → IsFailureFree last
         → (answers ≡ others) × (end ≡ last) }
     ensures failure_free { (script : Script) (answers : List Answer) (end : Bench) → IsReport script answers end
         → ShowNoFailure answers → IsFailureFree end }
@@ -38,6 +39,29 @@ pub fn one_report()
 {
     machine::one_turn();
     machine_lines::one_line();
+    store::one_standing();
+    store::one_inspection();
+    store::formats_in_order();
+}
+
+/// What `inspect` says with power off, at any point of a run without `poke` where memory was never refused and
+/// no failure of the disk was answered: `b` is the bench that some first lines of a script left. Of a blank
+/// disk it is refused 1. Of a formatted one it says what the commands acknowledged since the format make: the
+/// gate is the parity of their number, the live record is in its form, and the other one from the first command
+/// on; an image is seen where one stands. It leaves the bench as it was.
+pub fn inspections()
+    ensures blank { (script : Script) (answers : List Answer) (b : Bench) → AreByFirmware script.lines
+        → IsReport script answers b → b.power ≡ None → b.disk_state ≡ Blank → (a : Answer) (new : Bench)
+        → Moves script.size lines.Inspect b a new → IsFailureFree new
+        → (a ≡ says (printed.InspectRefused 1)) × (new ≡ b) }
+    ensures formatted { (script : Script) (answers : List Answer) (b : Bench) → AreByFirmware script.lines
+        → IsReport script answers b → b.power ≡ None → b.disk_state ≡ Formatted → (a : Answer) (new : Bench)
+        → Moves script.size lines.Inspect b a new → IsFailureFree new
+        → (a ≡ says (printed.Inspected (inspection_of b.kept.changes))) × (new ≡ b) }
+{
+    store::one_standing();
+    store::one_inspection();
+    store::formats_in_order();
 }
 
 /// The prefix law, over each whole run of a script without `poke`: whatever memory was refused, whatever
@@ -101,6 +125,8 @@ pub fn worked_scripts()
         ≡ Ok (codes "board 1/1/1 sectors 26\nformat ok\nfound slot 0 reason 0 image none next 0\non fresh\nslot refused 9\nslot ok 1\n") }
     ensures formats_once { plain_text (codes "board 1 1 1\non fresh\nformat\nformat\n")
         ≡ Ok (codes "board 1/1/1 sectors 26\non refused 1\nformat ok\nformat refused 2\n") }
+    ensures an_inspection_tells_of_the_commands { plain_text (codes "board 1 1 1\ninspect\nformat\ninspect\non fresh\nslot 1\ninspect\ncut 00\ninspect\n")
+        ≡ Ok (codes "board 1/1/1 sectors 26\ninspect refused 1\nformat ok\ninspect gate 0 live ok other bad image none\nfound slot 0 reason 0 image none next 0\non fresh\nslot ok 1\nbusy\ncut\ninspect gate 1 live ok other ok image none\n") }
     ensures an_empty_script { plain_text (codes "") ≡ Err (BadScript 1) }
     ensures a_line_in_no_form { plain_text (codes "board 1 1 1\nslot\n") ≡ Err (BadScript 2) }
 {}

@@ -8,7 +8,9 @@ mod printed;
 mod runs;
 mod steps;
 
-pub use laws::{all_are_found, one_report, power_ons, prefix_law, reports_split, worked_scripts};
+pub use laws::{
+    all_are_found, inspections, one_report, power_ons, prefix_law, reports_split, worked_scripts,
+};
 pub use power::Power;
 pub use printed::{Answer, ConsoleWord, Printed};
 pub use runs::{Report, Stopped, run, run_left, unwritten};

@@ -30,7 +30,7 @@ use machine_lines::MachineLine;
 use script_lang::{Bytes, Fill, Line};
 use simdisk::{Choice, SimDisk};
 use std::alloc::Global;
-use store::{blank_disks, format, inspect, kept_disks};
+use store::{blank_disks, format, inspect, kept_disks, one_standing};
 
 fn says(line: Printed) -> Answer
     ensures { result ≡ says line }
@@ -47,6 +47,7 @@ fn format_disk(shape: &Shape, mut disk: SimDisk) -> (Power, Answer)
 {
     kept_disks::<SimDisk>();
     blank_disks::<SimDisk>();
+    one_standing();
     match format(&mut disk, shape) {
         Ok(()) => (Power::Off(disk), says(Printed::Formatted)),
         Err(e) => (Power::Off(disk), says(Printed::FormatRefused(e.code()))),

@@ -1,20 +1,20 @@
 -- What a boot leaves of its store by its one command, acknowledged or refused, and by an image that is not
 -- loaded.
 use Rattle.std.proofs.Common.{◌≡◌, ◌⊎◌, ◌∙◌, inl, inr, ⊎_elim, ℕ, List, [], ◌∷◌, ◌++◌, length, None, Some, Bool, false, Ok, Err, refl, sym, ap, subst, arith}
-use Rattle.disk.specs.Facts.{Content, Facts, LeavesSince, Passes, Stays}
+use Rattle.disk.specs.Facts.{Content, Facts, LeavesSince, LeavesAfter, Passes, Stays}
 use Rattle.disk.specs.FaultState.{FaultState}
-use Rattle.disk.specs.Moments.{leaves_weaker}
+use Rattle.disk.specs.Moments.{leaves_weaker, passes_none}
 use Rattle.board_model.specs.Durable.{DurableState, Change, after, ends_life, refusal_of}
 use Rattle.board_model.specs.Shapes.{Size}
 use Rattle.board_model.specs.declared.boot_mode.BootMode.{BootMode}
 use Rattle.board_model.specs.declared.refusal.Refusal.{Refusal}
 use Rattle.board_model.specs.declared.refusal.Refusal.TheVariants.{Device, Down, BadShape, NoImage, BadImage}
 use Rattle.store.specs.Answers.{StoreView, Answered, StaysOpen}
-use Rattle.store.specs.Leaves.{LeavesOnly, StandsForEither}
+use Rattle.store.specs.Leaves.{Leaves, LeavesOnly, IsKept, StandsForEither, WroteACommand}
 use Rattle.store.specs.Lives.{Life, begun, now_of, Applied, Refused, LoadRefused}
 use Rattle.store.specs.Opens.{CausedRefusal}
 use Rattle.store.specs.Standing.{StandsFor}
-use Rattle.board.specs.Moments.{commands_by, gone_before, IsAlong, MayLeave}
+use Rattle.board.specs.Moments.{commands_by, gone_before, IsAlong, MayLeave, AreWritten}
 use Rattle.board.specs.Readies.{IsOpen, IsIssued, IsUnissued}
 use Rattle.board.specs.Unbooted.{doubt_by, IsLifeLeft, CountsRefusal}
 use Rattle.board.proofs.Moments.{IsNow, untouched_moments}
@@ -25,8 +25,44 @@ along : (s : DurableState) (c : Change) (size : Size) (x : Content) → StandsFo
 along s c size x (inl stands) = (s, inl refl, stands)
 along s c size x (inr stands) = (after s c, inr refl, stands)
 
+-- what a crash may leave where it leaves that state alone stands for it
+stands_alone : (disk : Facts) (size : Size) (s : DurableState) → LeavesOnly disk size s → (x : Content) → disk.may_leave x → StandsFor x size s
+unfolding IsKept Leaves
+stands_alone disk size s left x may =
+    let found = left.kept x may in
+    subst (λ (t : DurableState). StandsFor x size t) ((left.only size found.0 (x, may, found.1)).1) found.1
+
+-- one command, written over what a read gave
+wrote_one : (old new : Facts) (size : Size) (s : DurableState) (c : Change) → old.may_leave old.content → LeavesOnly old size s → LeavesOnly new size (after s c) → WroteACommand old new
+    → (x : Content) → new.may_leave x → LeavesAfter old (AreWritten size s (c ∷ [])) x
+unfolding WroteACommand
+wrote_one old new size s c may was now wrote x left =
+    (old.content, may, (stands_alone old size s was old.content may, (x, wrote x left, (stands_alone new size (after s c) now x left, refl))))
+
+-- and none
+wrote_none : (disk : Facts) (size : Size) (s : DurableState) → LeavesOnly disk size s → (x : Content) → disk.may_leave x → LeavesAfter disk (AreWritten size s []) x
+wrote_none disk size s was x left = (x, left, (stands_alone disk size s was x left, refl))
+
 abbrev with_journal : DurableState → List Change → Life
 with_journal s cs = record (begun s) { journal = cs }
+
+-- a mode that issues none leaves the store as it was opened
+pub none_to_issue : (mode : BootMode) (old : StoreView) → commands_by mode old.life.found ≡ [] → IsNow old.disk → IsOpen old → IsIssued mode old old
+none_to_issue mode old none now opened =
+    let s = old.life.found in
+    let P : List Change → Type 0 = λ cs. (x : Content) → old.disk.may_leave x → LeavesAfter old.disk (AreWritten old.size s cs) x in
+    record {
+      size = refl;
+      life = opened.begins ∙ ap (with_journal s) (sym none);
+      only = subst (LeavesOnly old.disk old.size) (sym (ap now_of opened.begins)) opened.only;
+      any_moment = untouched_moments old.disk old.disk old.size s (commands_by mode s) now (passes_none old.disk);
+      written = subst P (sym none) (wrote_none old.disk old.size s opened.only);
+      opened = refl;
+      length = refl;
+      none_out = opened.none_out;
+      cause = refl;
+      no_failure = refl;
+    }
 
 -- the journal with the command, of a life that goes on
 pub life_then : (old new : Life) (s : DurableState) (c : Change) → old ≡ begun s → ends_life c ≡ false → new ≡ record old { journal = old.journal ++ c ∷ []; over = ends_life c } → new ≡ with_journal s (c ∷ [])
@@ -60,8 +96,13 @@ module _ (mode : BootMode) (c : Change) (old new : StoreView) (by : commands_by 
       (leaves_weaker old.disk new.disk (StandsForEither old.size (now_of old.life) (after (now_of old.life) c)) (MayLeave old.disk old.size s (c ∷ [])) any
       (λ x either. inr (along s c old.size x (subst (λ (t : DurableState). StandsForEither old.size t (after t c) x) now_is either))))
 
-  pub issued : (n : ℕ) → ends_life c ≡ false → Answered Applied old c (Ok n) new → IsIssued mode old new
-  issued n goes did =
+  written : (n : ℕ) → old.disk.may_leave old.disk.content → Answered Applied old c (Ok n) new → (x : Content) → new.disk.may_leave x → LeavesAfter old.disk (AreWritten old.size s (commands_by mode s)) x
+  written n may did =
+      let P : List Change → Type 0 = λ cs. (x : Content) → new.disk.may_leave x → LeavesAfter old.disk (AreWritten old.size s cs) x in
+      subst P (sym by) (wrote_one old.disk new.disk old.size s c may opened.only (subst (λ (t : DurableState). LeavesOnly new.disk old.size (after t c)) now_is did.leaves.acknowledged) did.written)
+
+  pub issued : (n : ℕ) → old.disk.may_leave old.disk.content → ends_life c ≡ false → Answered Applied old c (Ok n) new → IsIssued mode old new
+  issued n may goes did =
       let life : new.life ≡ with_journal s (c ∷ []) = life_then old.life new.life s c opened.begins goes did.life.2 in
       let now : after (now_of old.life) c ≡ now_of new.life = ap (λ (t : DurableState). after t c) now_is ∙ sym (ap now_of life) in
       record {
@@ -69,6 +110,7 @@ module _ (mode : BootMode) (c : Change) (old new : StoreView) (by : commands_by 
         life = life ∙ ap (with_journal s) (sym by);
         only = subst (λ (z : Size). LeavesOnly new.disk z (now_of new.life)) (sym stays.board) (subst (LeavesOnly new.disk old.size) now did.leaves.acknowledged);
         any_moment = moments did.leaves.any_moment;
+        written = written n may did;
         opened = stays.opened;
         length = stays.length;
         none_out = stays.none_out;

@@ -1,6 +1,6 @@
 -- What a crash may leave at the moments of a power-on.
 -- Source: docs/BOARD.md, "Power on"; docs/STORE.md, "What a crash leaves".
-use Rattle.std.specs.Prelude.{◌≡◌, ◌⊎◌, List, [], ◌∷◌}
+use Rattle.std.specs.Prelude.{◌≡◌, ◌⊎◌, ◌-◌, List, [], ◌∷◌}
 use Rattle.disk.specs.Facts.{Content, Facts}
 use Rattle.board_model.specs.Durable.{DurableState, Change, Consume, Discard, after}
 use Rattle.board_model.specs.Shapes.{Size}
@@ -8,7 +8,7 @@ use Rattle.board_model.specs.declared.boot_mode.BootMode.{BootMode}
 use Rattle.board_model.specs.declared.boot_mode.BootMode.TheVariants as modes
 use Rattle.board_model.specs.declared.refusal.Refusal.{Refusal}
 use Rattle.board_model.specs.declared.refusal.Refusal.TheVariants.{Device, Down}
-use Rattle.store.specs.Standing.{StandsFor}
+use Rattle.store.specs.Standing.{selected, live_sector, other_sector, StandsFor}
 
 -- the commands that a boot by the mode issues where the open found that state, the first of them first
 abbrev pub commands_by : BootMode → DurableState → List Change
@@ -35,3 +35,15 @@ abbrev pub MayLeave : Facts → Size → DurableState → List Change → Conten
 MayLeave disk size s [] c = disk.may_leave c
 MayLeave disk size s (change ∷ more) c =
     disk.may_leave c ⊎ ((t : DurableState) × IsAlong (change ∷ more) s t × StandsFor c size t)
+
+-- A content as a command makes it of an old one: its gate selects the other record, and in the sector of the
+-- one that is not selected stands what was selected before.
+abbrev pub IsWrittenOver : Content → Content → Type 0
+IsWrittenOver old new = (selected new ≡ 1 - selected old) × (other_sector new ≡ live_sector old)
+
+-- The content stands for the state, and these commands make the new one of it, each in turn of what stands for
+-- the state before it; without any it is the same.
+abbrev pub AreWritten : Size → DurableState → List Change → Content → Content → Type 0
+AreWritten size s [] old new = StandsFor old size s × (new ≡ old)
+AreWritten size s (c ∷ cs) old new =
+    StandsFor old size s × ((mid : Content) × IsWrittenOver old mid × AreWritten size (after s c) cs mid new)

@@ -7,7 +7,7 @@ use Rattle.board_model.specs.Views.{durable_of}
 use Rattle.board_model.specs.declared.durable.Durable.{Durable}
 use Rattle.board_model.specs.declared.boot_mode.BootMode.{BootMode}
 use Rattle.board_model.specs.declared.refusal.Refusal.{Refusal}
-use Rattle.disk.specs.Facts.{Facts, LeavesSince}
+use Rattle.disk.specs.Facts.{Content, Facts, LeavesSince, LeavesAfter}
 use Rattle.disk.specs.FaultState.{FaultState}
 use Rattle.store.specs.Leaves.{IsIdle, SameLength, Leaves, LeavesOnly}
 use Rattle.store.specs.Lives.{Life, now_of}
@@ -17,14 +17,15 @@ use Rattle.store.specs.Answers.{StoreView}
 use Rattle.machine.specs.Machine.{Machine}
 use Rattle.board.specs.Boots.{PayloadsFit, boot_refusal, life_after}
 use Rattle.board.specs.Begins.{IsBegun, RefusesBoot}
-use Rattle.board.specs.Moments.{commands_by, gone_before, MayLeave}
+use Rattle.board.specs.Moments.{commands_by, gone_before, MayLeave, AreWritten}
 use Rattle.board.specs.Unbooted.{IsLifeLeft, LeavesLife, CountsRefusal}
 
 -- The board is on. Its life begins in the state that the disk stands for, which a crash just before could
 -- have left, with the commands that the mode issues there, acknowledged; a crash leaves the state now and no
 -- other. At each moment since the call's start a crash leaves what one just before could have left, or what
--- some first of those commands make of the state found. The mode was allowed and all payloads fit, and its
--- memory and harts are those that the mode begins.
+-- some first of those commands make of the state found. Now it leaves what all of them, written one after
+-- another, make of a content that one just before could have left. The mode was allowed and all payloads fit,
+-- and its memory and harts are those that the mode begins.
 pub record IsOn (mode : BootMode) (payloads : List (List ℕ)) (disk : Facts) (store : StoreView) (machine : Machine)
     : Type 0 where
   pub reads : StandsFor disk.content store.size store.life.found
@@ -33,6 +34,8 @@ pub record IsOn (mode : BootMode) (payloads : List (List ℕ)) (disk : Facts) (s
   pub only : LeavesOnly store.disk store.size (now_of store.life)
   pub any_moment : LeavesSince disk store.disk (MayLeave disk store.size store.life.found
       (commands_by mode store.life.found))
+  pub written : (c : Content) → store.disk.may_leave c
+      → LeavesAfter disk (AreWritten store.size store.life.found (commands_by mode store.life.found)) c
   pub allowed : boot_refusal store.life.found mode ≡ None
   pub fits : PayloadsFit store.size payloads
   pub begun : IsBegun mode store.size payloads store.life.found machine

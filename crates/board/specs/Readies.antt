@@ -3,14 +3,14 @@
 use Rattle.std.specs.Prelude.{◌≡◌, ◌≤◌}
 use Rattle.board_model.specs.declared.boot_mode.BootMode.{BootMode}
 use Rattle.board_model.specs.declared.refusal.Refusal.{Refusal}
-use Rattle.disk.specs.Facts.{LeavesSince}
+use Rattle.disk.specs.Facts.{Content, LeavesSince, LeavesAfter}
 use Rattle.store.specs.Leaves.{IsIdle, LeavesOnly, SameLength}
 use Rattle.store.specs.Lives.{begun, now_of}
 use Rattle.store.specs.Opens.{CausedRefusal}
 use Rattle.store.specs.Answers.{StoreView}
 use Rattle.board.specs.Boots.{life_after}
 use Rattle.board.specs.Begins.{HasItsHart}
-use Rattle.board.specs.Moments.{commands_by, gone_before, MayLeave}
+use Rattle.board.specs.Moments.{commands_by, gone_before, MayLeave, AreWritten}
 use Rattle.board.specs.Unbooted.{IsLifeLeft, CountsRefusal}
 
 -- it was just opened
@@ -27,6 +27,8 @@ pub record IsIssued (mode : BootMode) (old new : StoreView) : Type 0 where
   pub only : LeavesOnly new.disk new.size (now_of new.life)
   pub any_moment : LeavesSince old.disk new.disk (MayLeave old.disk old.size old.life.found
       (commands_by mode old.life.found))
+  pub written : (c : Content) → new.disk.may_leave c
+      → LeavesAfter old.disk (AreWritten old.size old.life.found (commands_by mode old.life.found)) c
   pub opened : new.failures_at_open ≡ old.failures_at_open
   pub length : SameLength old.disk new.disk
   pub none_out : IsIdle new.disk

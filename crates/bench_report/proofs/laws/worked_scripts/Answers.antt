@@ -15,6 +15,10 @@ pub returns-clause-formats_once : goal.returns-clause-formats_once
 unfolding lines_from rest_of digits
 returns-clause-formats_once c = refl
 
+pub returns-clause-an_inspection_tells_of_the_commands : goal.returns-clause-an_inspection_tells_of_the_commands
+unfolding lines_from rest_of digits
+returns-clause-an_inspection_tells_of_the_commands c = refl
+
 pub returns-clause-an_empty_script : goal.returns-clause-an_empty_script
 unfolding lines_from rest_of digits
 returns-clause-an_empty_script c = refl

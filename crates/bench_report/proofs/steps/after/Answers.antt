@@ -14,7 +14,7 @@ returns-in-Asleep-clause-reported c = λ size b h.
     let left = c.into_disk.result in (
       was.0,
       over_ended size b.disk_state b.kept store (facts left) was.1 c.into_disk.ensures.up,
-      stays size b (store_fault_state store) (fault_state left) (store_facts store) (facts left) was.2 c.into_disk.ensures.fault_state (omega (arith, c.into_disk.ensures.failures)) (ap length c.into_disk.ensures.content),
+      stays size b (store_fault_state store) (fault_state left) (store_facts store) (facts left) was.2 c.into_disk.ensures.fault_state (omega (arith, c.into_disk.ensures.failures)) (ap length c.into_disk.ensures.content) (λ x may. (c.into_disk.ensures.facts.now x).0 may),
     )
 
 pub returns-in-Reset-clause-reported : goal.returns-in-Reset-clause-reported
@@ -25,5 +25,5 @@ returns-in-Reset-clause-reported c = λ size b h.
     let left = c.into_disk-in-Reset.result in (
       was.0,
       over_ended size b.disk_state b.kept store (facts left) was.1 c.into_disk-in-Reset.ensures.up,
-      stays size b (store_fault_state store) (fault_state left) (store_facts store) (facts left) was.2 c.into_disk-in-Reset.ensures.fault_state (omega (arith, c.into_disk-in-Reset.ensures.failures)) (ap length c.into_disk-in-Reset.ensures.content),
+      stays size b (store_fault_state store) (fault_state left) (store_facts store) (facts left) was.2 c.into_disk-in-Reset.ensures.fault_state (omega (arith, c.into_disk-in-Reset.ensures.failures)) (ap length c.into_disk-in-Reset.ensures.content) (λ x may. (c.into_disk-in-Reset.ensures.facts.now x).0 may),
     )

@@ -15,5 +15,5 @@ returns-in-On-clause-reported c = λ size b h.
     let was = subst P c.in-On.is h in
     let board = c.in-On.board in
     let left = c.into_disk.result in
-    let device = stays size b (store_fault_state (store_in board)) (fault_state left) (store_facts (store_in board)) (facts left) was.1 c.into_disk.ensures.fault_state (omega (arith, c.into_disk.ensures.failures)) (ap length c.into_disk.ensures.content) in
+    let device = stays size b (store_fault_state (store_in board)) (fault_state left) (store_facts (store_in board)) (facts left) was.1 c.into_disk.ensures.fault_state (omega (arith, c.into_disk.ensures.failures)) (ap length c.into_disk.ensures.content) (λ x may. (c.into_disk.ensures.facts.now x).0 may) in
     (refl, board_ended size b.disk_state b.kept b.power board (facts left) was.0 c.into_disk.ensures.up c.into_disk.ensures.down c.into_disk.ensures.allowed, device)

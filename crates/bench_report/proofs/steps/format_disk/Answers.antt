@@ -1,9 +1,9 @@
 use Rattle.std.proofs.Common.{refl, ◌∙◌, ap}
 use Rattle.bench_report.specs.Views.{facts, fault_state}
-use Rattle.bench_report.specs.Happens.{says}
+use Rattle.bench_report.specs.Happens.{says, formatted_anew}
 use Rattle.bench_report.specs.declared.printed.Printed.TheVariants as printed
-use Rattle.bench_report.proofs.Devices.{stays}
-use Rattle.bench_report.proofs.Formats.{formats_ok, formats_err}
+use Rattle.bench_report.proofs.Devices.{stays_as}
+use Rattle.bench_report.proofs.Formats.{anew, formats_ok, formats_err}
 use Rattle.bench_report.proofs.KeptDisks.{KeptLaw, BlankLaw}
 use Rattle.bench_report.proofs.steps.format_disk.Goals as goal
 
@@ -12,7 +12,8 @@ returns-in-Ok-clause-reported c = λ b h.
     let did = c.in-Ok.ensures in
     let k = c.kept_disks.ensures in
     let kept : KeptLaw = record { goes_on = k.goes_on; marked = k.marked; one_size = k.one_size; sized = k.sized; opens = k.opens; formats = k.formats } in
-    let device = stays c.args.shape.now b (fault_state c.args.disk) (fault_state c.format.new.disk) (facts c.args.disk) (facts c.format.new.disk) h.2 did.cause did.in_order.no_fewer did.in_order.content.head.as_long in
+    let sides = anew c.one_standing.ensures.marked c.args.shape.now b c.args.disk c.format.new.disk did.ok did.in_order h.1 did.unmarked h.2.3 in
+    let device = stays_as c.args.shape.now b (formatted_anew b) (fault_state c.args.disk) (fault_state c.format.new.disk) (facts c.args.disk) (facts c.format.new.disk) h.2 refl refl did.cause did.in_order.no_fewer did.in_order.content.head.as_long sides in
     formats_ok kept c.args.shape.now b.disk_state b c.args.disk c.format.new.disk c.says.result h.0 h.1 device c.says.ensures did.ok did.unmarked
 
 pub returns-in-Err-clause-reported : goal.returns-in-Err-clause-reported

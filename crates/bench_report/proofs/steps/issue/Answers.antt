@@ -19,7 +19,7 @@ returns-in-Ok c = λ size b life on h.
     let Q : Option Change → Type 0 = λ d. IsAs old life.now life.receipts d in
     let was = subst P on h.0 in
     let reported = reported_ok size b life (change_of c.args.command) old new (life_of old) on was.0 h.1 did.asked.stays.board did.asked.stays.length did.asked.stays.no_fewer (λ none. subst Q none was.0.1) (console_goes_on c.args.command c.requires) life.doubt refl c.in-Ok.receipt
-    (λ none. (did.asked.answered none).life) did.asked.down (λ none. (did.asked.answered none).cause) in
+    (λ none. (did.asked.answered none).life) did.asked.down (λ none. (did.asked.answered none).cause) (λ none. ((did.asked.answered none).written, (did.asked.answered none).leaves.acknowledged.kept)) in
     (reported.0, (Ok c.in-Ok.receipt, reported.1, c.says.ensures ∙ ap (λ n. says (printed.Acknowledged c.args.word n)) c.number.ensures), goes_on size reported.0 life.machine c.console.new.self reported.2 (did.machine ∙ was.1), reported.3)
 
 pub returns-in-Err : goal.returns-in-Err
@@ -31,5 +31,5 @@ returns-in-Err c = λ size b life on h.
     let Q : Option Change → Type 0 = λ d. IsAs old life.now life.receipts d in
     let was = subst P on h.0 in
     let reported = reported_err size b life (change_of c.args.command) old new (life_of old) on was.0 h.1 did.asked.stays.board did.asked.stays.length did.asked.stays.no_fewer (λ none. subst Q none was.0.1) life.doubt refl c.in-Err.e
-    (λ none. (did.asked.answered none).life) did.asked.down (λ none. (did.asked.answered none).cause) (λ none. (did.asked.answered none).counts) in
+    (λ none. (did.asked.answered none).life) did.asked.down (λ none. (did.asked.answered none).cause) (λ none. (did.asked.answered none).counts) did.asked.untouched in
     (reported.0, (Err (number_of_refusal c.in-Err.e), reported.1, c.says-in-Err.ensures ∙ ap (λ n. says (printed.CommandRefused c.args.word n)) c.code.ensures), goes_on size reported.0 life.machine c.console.new.self reported.2 (did.machine ∙ was.1), reported.3)

@@ -1,4 +1,4 @@
-use Rattle.std.proofs.Common.{◌≡◌, None, inl, inr, refl, ap, subst}
+use Rattle.std.proofs.Common.{◌≡◌, [], None, inl, inr, refl, ap, subst}
 use Rattle.std.proofs.lemmas.Result.{err_from_is_err_and}
 use Rattle.board_model.specs.Durable.{Consume, Discard}
 use Rattle.board_model.specs.declared.boot_mode.BootMode.{BootMode}
@@ -6,15 +6,32 @@ use Rattle.store.specs.Lives.{Life}
 use Rattle.store.specs.Views.{view_of, found_state, now_state}
 use Rattle.board.specs.Boots.{boot_refusal}
 use Rattle.board.specs.Moments.{commands_by}
-use Rattle.board.proofs.Issued.{issued, unissued, not_loaded}
+use Rattle.board.proofs.Issued.{none_to_issue, issued, unissued, not_loaded}
 use Rattle.board.proofs.ready.begin.Goals as goal
 
 pub returns-in_ok-apply-in-Discard-clause-issued : goal.returns-in_ok-apply-in-Discard-clause-issued
 returns-in_ok-apply-in-Discard-clause-issued g c =
     let opened = c.requires.opened in
     let asked = c.in_ok-apply-in-Discard.ensures.asked in
-    issued c.args.mode Discard (view_of c.args.store.now) (view_of c.apply.new.self) (ap (λ (m : BootMode). commands_by m (found_state c.args.store.now)) c.in-Discard.is) opened asked.stays _ refl
+    issued c.args.mode Discard (view_of c.args.store.now) (view_of c.apply.new.self) (ap (λ (m : BootMode). commands_by m (found_state c.args.store.now)) c.in-Discard.is) opened asked.stays _ (g.met.D.Disk.may_keep _) refl
     (asked.answered (ap (λ (l : Life). l.doubt) opened.begins))
+
+-- the slot is booted as it stands
+pub returns-in-Fresh-clause-issued : goal.returns-in-Fresh-clause-issued
+returns-in-Fresh-clause-issued g c =
+    let none : commands_by c.args.mode (found_state c.args.store.now) ≡ [] = elim (c.in-Fresh.is) [
+      | inl is ↦ ap (λ (m : BootMode). commands_by m (found_state c.args.store.now)) is
+      | inr is ↦ ap (λ (m : BootMode). commands_by m (found_state c.args.store.now)) is
+    ] in
+    none_to_issue c.args.mode (view_of c.args.store.now) none (g.met.D.Disk.only_now _) c.requires.opened
+
+-- the image was consumed
+pub returns-in_ok-resume-in-Resume-clause-issued : goal.returns-in_ok-resume-in-Resume-clause-issued
+returns-in_ok-resume-in-Resume-clause-issued g c =
+    let opened = c.requires.opened in
+    let did = c.in_ok-resume-in-Resume.ensures in
+    issued c.args.mode Consume (view_of c.args.store.now) (view_of c.resume.new.store) (ap (λ (m : BootMode). commands_by m (found_state c.args.store.now)) c.in-Resume.is) opened did.stays did.consumed.0 (g.met.D.Disk.may_keep _) refl
+    (did.consumed.1.answered (ap (λ (l : Life). l.doubt) opened.begins))
 
 -- the image was not loaded, or its consumption was refused
 pub returns-in_err-resume-in-Resume-clause-unissued : goal.returns-in_err-resume-in-Resume-clause-unissued
