@@ -56,6 +56,8 @@ Refusals, on standard error and in reports:
   16  the report could not be written
   17  the script has a line that no bench runs, or formats no disk
   18  the board does not doze, or was woken already
+  19  a trial has 1 to 7 boots
+  20  no trial of a boot slot stands
 
 A first script:
   board 1 1 1

@@ -36,6 +36,9 @@ console_goes_on (commands.Slot n) is = refl
 console_goes_on (commands.Reset r) is = absurd is
 console_goes_on commands.Consume is = absurd is
 console_goes_on commands.Discard is = refl
+console_goes_on (commands.Tries n boots) is = refl
+console_goes_on commands.Good is = refl
+console_goes_on commands.Attempt is = absurd is
 
 -- a board that is on, by its machine and its store
 abbrev pub Running : Size → Bench → Machine → SimStore → Type 0

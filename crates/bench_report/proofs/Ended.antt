@@ -81,4 +81,4 @@ left_on goes_on size Formatted k old new was less = let on = goes_on old new les
 pub cut_leaves : (old new : SimDisk) → IsLeft (facts old) (facts new) → LeavesLess old new
 cut_leaves old new h c l =
     let P : Content → Type 0 = λ x. (facts old).may_leave x in
-    subst P (sym (h.fresh.durable c l ∙ h.fresh.reads)) h.left
+    inl (subst P (sym (h.fresh.durable c l ∙ h.fresh.reads)) h.left)

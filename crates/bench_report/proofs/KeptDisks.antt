@@ -6,15 +6,15 @@ use Rattle.board_model.specs.declared.refusal.Refusal.{Refusal}
 use Rattle.board_model.specs.declared.refusal.Refusal.TheVariants.{NotFormatted, AlreadyFormatted, Device, Memory}
 use Rattle.disk.specs.Facts.{Content, Passes, Stays}
 use Rattle.simdisk.specs.declared.SimDisk.{SimDisk}
-use Rattle.store.specs.Leaves.{Leaves, IsBlank, IsKept, IsMarked, NoMore}
+use Rattle.store.specs.Leaves.{Leaves, IsBlank, IsKept, IsMarked, NoMore, LeftAsBefore}
 use Rattle.store.specs.Standing.{StandsFor}
 use Rattle.store.specs.Opens.{OpenRefused, FormatRefused}
 use Rattle.bench_report.specs.Views.{facts}
-use Rattle.std.proofs.Common.{sym, subst}
+use Rattle.std.proofs.Common.{inl, sym, subst}
 
--- no content may be left that could not be left before
+-- no content may be left that could not be left before, but for its state in a record of version 2
 abbrev pub LeavesLess : SimDisk → SimDisk → Type 0
-LeavesLess old new = (c : Content) → (facts new).may_leave c → (facts old).may_leave c
+LeavesLess old new = (c : Content) → (facts new).may_leave c → LeftAsBefore (facts old) c
 
 -- what the law of kept disks says where a crash leaves no more than before
 abbrev pub GoesOn : Type 0
@@ -44,4 +44,4 @@ MarkLaw = (c : Content) (size : Size) (s : DurableState) → StandsFor c size s 
 
 -- what a call passes that changes nothing was there before
 pub passed : (old new : SimDisk) → Passes (facts old) (facts new) Stays → LeavesLess old new
-passed old new passes c l = let was = passes.now c l in let P : Content → Type 0 = λ x. (facts old).may_leave x in subst P (sym was.2) was.1
+passed old new passes c l = let was = passes.now c l in let P : Content → Type 0 = λ x. (facts old).may_leave x in inl (subst P (sym was.2) was.1)

@@ -1,6 +1,7 @@
 -- Power-ons at any point of a run.
 use Rattle.std.proofs.Common.{◌≡◌, ◌≢◌, ◌⊎◌, ℕ, zero, suc, inl, inr, List, [], ◌∷◌, ◌++◌, Option, None, Some, Result, Ok, Err, refl, sym, ◌∙◌, ap, subst, arith}
-use Rattle.board_model.specs.Durable.{DurableState, Image, Change, Slot, Reset, Suspend, Consume, Discard, formatted, refusal_of, after, fold}
+use Rattle.board_model.specs.Durable.{DurableState, Image, Change, Slot, Reset, Suspend, Consume, Discard, Tries, Good, Attempt, formatted, refusal_of, after, fold}
+use Rattle.board_model.proofs.Attempts.{attempt_image}
 use Rattle.board_model.specs.Kept.{Kept, MayKeep, MayFind, TakesIn, found_of}
 use Rattle.board_model.specs.Shapes.{Size}
 use Rattle.board_model.specs.Views.{durable_of}
@@ -38,6 +39,9 @@ made_at s (Suspend h a o m) cs i e =
     inr ([], cs, at.0, at.1)
 made_at s Consume cs i e = absurd (let no : ⊥ = cc in no)
 made_at s Discard cs i e = absurd (let no : ⊥ = cc in no)
+made_at s (Tries n boots) cs i e = inl e
+made_at s Good cs i e = inl e
+made_at s Attempt cs i e = inl (sym (attempt_image s s.trial) ∙ e)
 
 made_since : (s : DurableState) (cs : List Change) (i : Image) → (fold s cs).image ≡ Some i → (s.image ≡ Some i) ⊎ MadeSince s cs i
 made_since s [] i e = inl e

@@ -16,6 +16,8 @@ mod large;
 #[cfg(test)]
 mod lines;
 #[cfg(test)]
+mod migrations;
+#[cfg(test)]
 mod pokes;
 #[cfg(test)]
 mod programs;

@@ -106,5 +106,6 @@ pub fn with_slot(slot: u32) -> Result<Durable, Fail> {
         slot,
         reason: Reason::NoReason,
         next: 0,
+        trial: None,
     })
 }

@@ -7,6 +7,7 @@ use Rattle.board_model.specs.declared.durable.Durable.{Durable}
 use Rattle.board_model.specs.declared.boot_mode.BootMode.{BootMode}
 use Rattle.board_model.specs.declared.refusal.Refusal.{Refusal}
 use Rattle.disk.specs.Facts.{Facts, LeavesSince, Unchanged}
+use Rattle.store.specs.Leaves.{LeftAsBefore}
 use Rattle.store.specs.Lives.{Life, now_of}
 use Rattle.store.specs.Answers.{StoreView, Opened}
 use Rattle.board.specs.Begins.{RefusesBoot}
@@ -16,7 +17,7 @@ use Rattle.board.specs.Readies.{IsUnissued}
 use Rattle.board.specs.Unbooted.{LeavesLife}
 use Rattle.board.proofs.Moments.{kept_meanwhile}
 
-pub is_off : (mode : BootMode) (payloads : List (List ℕ)) (found now : Durable) (disk : Facts) (old new : StoreView) (e : Refusal) (left : Facts) → Opened disk old → LeavesSince disk old.disk disk.may_leave → found ≡ durable_of new.life.found
+pub is_off : (mode : BootMode) (payloads : List (List ℕ)) (found now : Durable) (disk : Facts) (old new : StoreView) (e : Refusal) (left : Facts) → Opened disk old → LeavesSince disk old.disk (LeftAsBefore disk) → found ≡ durable_of new.life.found
     → now ≡ durable_of (now_of new.life) → RefusesBoot mode old.size payloads old.life.found e → IsUnissued mode old e new → LeavesLife new.life.doubt left new.size (now_of new.life) → Unchanged new.disk left
     → IsOff mode payloads found now disk e left
 is_off mode payloads found now disk old new e left opened first shows tells why unissued leaves same = record {

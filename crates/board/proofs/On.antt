@@ -3,20 +3,20 @@ use Rattle.std.proofs.Common.{◌≡◌, ℕ, List, None, ap, sym, ◌∙◌, su
 use Rattle.board_model.specs.Durable.{DurableState}
 use Rattle.board_model.specs.Shapes.{Size}
 use Rattle.board_model.specs.declared.boot_mode.BootMode.{BootMode}
-use Rattle.disk.specs.Facts.{Content, Facts, LeavesSince, LeavesAfter}
-use Rattle.store.specs.Leaves.{Leaves}
+use Rattle.disk.specs.Facts.{Content, Facts, LeavesSince}
+use Rattle.store.specs.Leaves.{Leaves, LeftAsBefore}
 use Rattle.store.specs.Lives.{Life}
 use Rattle.store.specs.Standing.{StandsFor}
 use Rattle.store.specs.Answers.{StoreView, Opened}
 use Rattle.machine.specs.Machine.{Machine}
 use Rattle.board.specs.Begins.{IsBegun}
 use Rattle.board.specs.Boots.{PayloadsFit, boot_refusal, life_after}
-use Rattle.board.specs.Moments.{commands_by, MayLeave, AreWritten}
+use Rattle.board.specs.Moments.{commands_by, MayLeave, AreWritten, LeavesFrom}
 use Rattle.board.specs.PowersOn.{IsOn}
 use Rattle.board.specs.Readies.{IsIssued}
 use Rattle.board.proofs.Moments.{meanwhile}
 
-module _ (mode : BootMode) (payloads : List (List ℕ)) (disk : Facts) (old new : StoreView) (machine : Machine) (opened : Opened disk old) (first : LeavesSince disk old.disk disk.may_leave) (issued : IsIssued mode old new) where
+module _ (mode : BootMode) (payloads : List (List ℕ)) (disk : Facts) (old new : StoreView) (machine : Machine) (opened : Opened disk old) (first : LeavesSince disk old.disk (LeftAsBefore disk)) (issued : IsIssued mode old new) where
   found : new.life.found ≡ old.life.found
   found = ap (λ (l : Life). l.found) issued.life
 
@@ -31,13 +31,13 @@ module _ (mode : BootMode) (payloads : List (List ℕ)) (disk : Facts) (old new 
     life = issued.life ∙ ap (life_after mode) (sym found);
     only = issued.only;
     any_moment = now (λ z s. LeavesSince disk new.disk (MayLeave disk z s (commands_by mode s))) (meanwhile disk old.disk new.disk old.size old.life.found (commands_by mode old.life.found) first issued.any_moment);
-    written = now (λ z s. (x : Content) → new.disk.may_leave x → LeavesAfter disk (AreWritten z s (commands_by mode s)) x) (λ x left. (let was = issued.written x left in (was.0, first.now was.0 was.1, was.2)));
+    written = now (λ z s. (x : Content) → new.disk.may_leave x → LeavesFrom disk (AreWritten z s (commands_by mode s)) x) (λ x left. (let was = issued.written x left in (was.0, first.now was.0 was.1, was.2)));
     allowed = now (λ z s. boot_refusal s mode ≡ None) allowed;
     fits = now (λ z s. PayloadsFit z payloads) fits;
     begun = now (λ z s. IsBegun mode z payloads s machine) begun;
     opened = issued.opened ∙ opened.at_open;
   }
 
-pub is_on : (mode : BootMode) (payloads : List (List ℕ)) (disk : Facts) (old new : StoreView) (machine : Machine) → Opened disk old → LeavesSince disk old.disk disk.may_leave → boot_refusal old.life.found mode ≡ None
+pub is_on : (mode : BootMode) (payloads : List (List ℕ)) (disk : Facts) (old new : StoreView) (machine : Machine) → Opened disk old → LeavesSince disk old.disk (LeftAsBefore disk) → boot_refusal old.life.found mode ≡ None
     → PayloadsFit old.size payloads → IsBegun mode old.size payloads old.life.found machine → IsIssued mode old new → IsOn mode payloads disk new machine
 is_on mode payloads disk old new machine opened first allowed fits begun issued = is_on_by mode payloads disk old new machine opened first issued allowed fits begun

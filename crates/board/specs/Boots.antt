@@ -28,6 +28,9 @@ IsConsoleCommand (commands.Slot _) = Unit {0}
 IsConsoleCommand (commands.Reset _) = ⊥
 IsConsoleCommand commands.Consume = ⊥
 IsConsoleCommand commands.Discard = Unit {0}
+IsConsoleCommand (commands.Tries n boots) = Unit {0}
+IsConsoleCommand commands.Good = Unit {0}
+IsConsoleCommand commands.Attempt = ⊥
 
 -- each of the payloads fits into RAM
 abbrev pub PayloadsFit : Size → List (List ℕ) → Type 0

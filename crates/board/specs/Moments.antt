@@ -8,6 +8,7 @@ use Rattle.board_model.specs.declared.boot_mode.BootMode.{BootMode}
 use Rattle.board_model.specs.declared.boot_mode.BootMode.TheVariants as modes
 use Rattle.board_model.specs.declared.refusal.Refusal.{Refusal}
 use Rattle.board_model.specs.declared.refusal.Refusal.TheVariants.{Device, Down}
+use Rattle.store.specs.Leaves.{LeftAsBefore}
 use Rattle.store.specs.Standing.{selected, live_sector, other_sector, StandsFor}
 
 -- the commands that a boot by the mode issues where the open found that state, the first of them first
@@ -29,12 +30,16 @@ IsAlong [] s t = t ≡ s
 IsAlong (c ∷ cs) s t = (t ≡ s) ⊎ IsAlong cs (after s c) t
 
 -- What a crash may leave from the start of a power-on, or from an open on: what a crash just before it could
--- have left, or where these commands may have gone to the disk, what some first of them make of the state
--- found.
+-- have left, or its state in a record of version 2; or where these commands may have gone to the disk, what
+-- some first of them make of the state found.
 abbrev pub MayLeave : Facts → Size → DurableState → List Change → Content → Type 0
-MayLeave disk size s [] c = disk.may_leave c
+MayLeave disk size s [] c = LeftAsBefore disk c
 MayLeave disk size s (change ∷ more) c =
-    disk.may_leave c ⊎ ((t : DurableState) × IsAlong (change ∷ more) s t × StandsFor c size t)
+    LeftAsBefore disk c ⊎ ((t : DurableState) × IsAlong (change ∷ more) s t × StandsFor c size t)
+
+-- of what a crash just before could have left, or of its state in a record of version 2, that step makes it
+abbrev pub LeavesFrom : Facts → (Content → Content → Type 0) → Content → Type 0
+LeavesFrom disk step c = (b : Content) × LeftAsBefore disk b × step b c
 
 -- A content as a command makes it of an old one: its gate selects the other record, and in the sector of the
 -- one that is not selected stands what was selected before.

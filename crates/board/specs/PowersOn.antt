@@ -7,9 +7,9 @@ use Rattle.board_model.specs.Views.{durable_of}
 use Rattle.board_model.specs.declared.durable.Durable.{Durable}
 use Rattle.board_model.specs.declared.boot_mode.BootMode.{BootMode}
 use Rattle.board_model.specs.declared.refusal.Refusal.{Refusal}
-use Rattle.disk.specs.Facts.{Content, Facts, LeavesSince, LeavesAfter}
+use Rattle.disk.specs.Facts.{Content, Facts, LeavesSince}
 use Rattle.disk.specs.FaultState.{FaultState}
-use Rattle.store.specs.Leaves.{IsIdle, SameLength, Leaves, LeavesOnly}
+use Rattle.store.specs.Leaves.{IsIdle, SameLength, Leaves, LeftAsBefore, LeavesOnly}
 use Rattle.store.specs.Lives.{Life, now_of}
 use Rattle.store.specs.Opens.{OpenRefused, CausedRefusal}
 use Rattle.store.specs.Standing.{StandsFor}
@@ -17,14 +17,14 @@ use Rattle.store.specs.Answers.{StoreView}
 use Rattle.machine.specs.Machine.{Machine}
 use Rattle.board.specs.Boots.{PayloadsFit, boot_refusal, life_after}
 use Rattle.board.specs.Begins.{IsBegun, RefusesBoot}
-use Rattle.board.specs.Moments.{commands_by, gone_before, MayLeave, AreWritten}
+use Rattle.board.specs.Moments.{commands_by, gone_before, MayLeave, AreWritten, LeavesFrom}
 use Rattle.board.specs.Unbooted.{IsLifeLeft, LeavesLife, CountsRefusal}
 
 -- The board is on. Its life begins in the state that the disk stands for, which a crash just before could
 -- have left, with the commands that the mode issues there, acknowledged; a crash leaves the state now and no
 -- other. At each moment since the call's start a crash leaves what one just before could have left, or what
 -- some first of those commands make of the state found. Now it leaves what all of them, written one after
--- another, make of a content that one just before could have left. The mode was allowed and all payloads fit,
+-- another, make of a content that one just before could have left, or of its state in a record of version 2. The mode was allowed and all payloads fit,
 -- and its memory and harts are those that the mode begins.
 pub record IsOn (mode : BootMode) (payloads : List (List ℕ)) (disk : Facts) (store : StoreView) (machine : Machine)
     : Type 0 where
@@ -35,7 +35,7 @@ pub record IsOn (mode : BootMode) (payloads : List (List ℕ)) (disk : Facts) (s
   pub any_moment : LeavesSince disk store.disk (MayLeave disk store.size store.life.found
       (commands_by mode store.life.found))
   pub written : (c : Content) → store.disk.may_leave c
-      → LeavesAfter disk (AreWritten store.size store.life.found (commands_by mode store.life.found)) c
+      → LeavesFrom disk (AreWritten store.size store.life.found (commands_by mode store.life.found)) c
   pub allowed : boot_refusal store.life.found mode ≡ None
   pub fits : PayloadsFit store.size payloads
   pub begun : IsBegun mode store.size payloads store.life.found machine
@@ -59,10 +59,11 @@ pub record IsOff (mode : BootMode) (payloads : List (List ℕ)) (found now : Dur
   pub left : LeavesLife life.doubt new size (now_of life)
   pub any_moment : LeavesSince old new (MayLeave old size state (gone_before e (commands_by mode state)))
 
--- The open was refused. At each moment since its start a crash leaves what one just before could have left.
+-- The open was refused. At each moment since its start a crash leaves what one just before could have left, or
+-- its state in a record of version 2.
 pub record IsUnopened (old : Facts) (e : Refusal) (new : Facts) : Type 0 where
   pub why : OpenRefused old e new
-  pub any_moment : LeavesSince old new old.may_leave
+  pub any_moment : LeavesSince old new (LeftAsBefore old)
 
 -- Of a board that is not on, by what is told of its states: none where the open was refused, else the one
 -- found and the one now.

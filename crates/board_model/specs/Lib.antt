@@ -3,3 +3,4 @@ pub mod Durable
 pub mod Kept
 pub mod Views
 pub mod Plains
+pub mod Trials

@@ -22,7 +22,8 @@ image_in (Some i) =
 
 -- The durable state of the model.
 abbrev pub state_in : Plain → DurableState
-state_in p = record { slot = p.slot; reason = p.reason; next = p.next; image = image_in p.image }
+state_in p =
+    record { slot = p.slot; reason = p.reason; next = p.next; trial = p.trial; image = image_in p.image }
 
 -- What a call that computes the next state answers: the table's refusal, the state after the command, or that
 -- memory was refused for it.

@@ -10,7 +10,7 @@ use Rattle.board_model.specs.declared.durable.ImageHead.{ImageHead}
 use Rattle.board_model.specs.declared.durable.Durable.{Durable}
 use Rattle.board_model.specs.declared.refusal.Refusal.{Refusal}
 use Rattle.board_model.specs.declared.refusal.Refusal.TheVariants as refusals
-use Rattle.board_model.specs.Durable.{Image, DurableState, Change, Slot, Reset, Suspend, Consume, Discard, after, refusal_of}
+use Rattle.board_model.specs.Durable.{Image, DurableState, Change, Slot, Reset, Suspend, Consume, Discard, Tries, Good, Attempt, after, refusal_of}
 
 -- The SBI specification 2.0, chapter SRST: 0 no reason, 1 system failure.
 abbrev pub reason_number : Reason → ℕ
@@ -23,6 +23,9 @@ change_of (commands.Slot n) = Slot n
 change_of (commands.Reset r) = Reset r
 change_of commands.Consume = Consume
 change_of commands.Discard = Discard
+change_of (commands.Tries n boots) = Tries n boots
+change_of commands.Good = Good
+change_of commands.Attempt = Attempt
 
 -- The command that an entry of a journal stands for, where the memory that a suspension carried is this one.
 abbrev pub change_in : Entry → List ℕ → Change
@@ -35,7 +38,8 @@ head_of None = None
 head_of (Some i) = Some (record { serial = i.serial; hart = i.hart; address = i.address; opaque = i.opaque })
 
 abbrev pub durable_of : DurableState → Durable
-durable_of s = record { image = head_of s.image; slot = s.slot; reason = s.reason; next = s.next }
+durable_of s =
+    record { image = head_of s.image; slot = s.slot; reason = s.reason; next = s.next; trial = s.trial }
 
 -- The number of a refusal.
 abbrev pub number_of_refusal : Refusal → ℕ
@@ -57,6 +61,8 @@ number_of_refusal refusals.ImageThere = 15
 number_of_refusal refusals.Output = 16
 number_of_refusal refusals.NotPlain = 17
 number_of_refusal refusals.NotDozing = 18
+number_of_refusal refusals.BadTries = 19
+number_of_refusal refusals.NoTrial = 20
 
 -- What a call that computes the next state answers: the table's refusal, or the state after the command.
 pub record IsNextOf (s : DurableState) (c : Change) (result : Result Durable Refusal) : Type 0 where

@@ -1,9 +1,11 @@
 //! Laws of the durable commands over whole lists, each the contract of a function that does nothing.
 
-ghost use Rattle.std.specs.Prelude.{◌≡◌, ℕ, ◌≤◌, List, [], ◌++◌, Some, All};
-ghost use Rattle.board_model.specs.Durable.{DurableState, Image, Change, Slot, Reset, formatted, after, fold, HasImage, IsOrdered, IsWhole, CarriesWhole};
+ghost use Rattle.std.specs.Prelude.{◌≡◌, ℕ, ◌+◌, ◌-◌, ◌≤◌, List, [], ◌∷◌, ◌++◌, None, Some, All, nat_lt, if◌then◌else◌};
+ghost use Rattle.board_model.specs.Durable.{DurableState, Image, Change, Slot, Reset, Tries, Good, Attempt, formatted, after, fold, HasImage, IsOrdered, IsWhole, CarriesWhole, attempts, LeavesTrial};
+ghost use Rattle.board_model.specs.Trials.{IsUndecided, boots_in};
 ghost use Rattle.board_model.specs.Shapes.{Size, IsSize};
 ghost use Rattle.board_model.specs.declared.durable.Reason.{Reason};
+ghost use Rattle.board_model.specs.declared.durable.Trial.{Trial};
 
 /// The fold of a longer list is the fold of its end, from the fold of its beginning.
 pub fn longer_list()
@@ -16,10 +18,36 @@ pub fn serials_rise()
         → (s.next ≤ (fold s cs).next) × IsOrdered (fold s cs) }
 {}
 
-/// Slot and Reset leave the image as it is.
-pub fn slot_and_reset_leave_the_image()
+/// Only a suspension, Consume and Discard change the image.
+pub fn other_commands_leave_the_image()
     ensures slot { (s : DurableState) (n : ℕ) → (after s (Slot n)).image ≡ s.image }
     ensures reset { (s : DurableState) (r : Reason) → (after s (Reset r)).image ≡ s.image }
+    ensures tries { (s : DurableState) (n boots : ℕ) → (after s (Tries n boots)).image ≡ s.image }
+    ensures good { (s : DurableState) → (after s Good).image ≡ s.image }
+    ensures attempt { (s : DurableState) → (after s Attempt).image ≡ s.image }
+{}
+
+/// A reset, a suspension, Consume and Discard leave the slot and its trial.
+pub fn other_commands_leave_the_trial()
+    ensures { (s : DurableState) (c : Change) → LeavesTrial c
+        → ((after s c).slot ≡ s.slot) × ((after s c).trial ≡ s.trial) }
+{}
+
+/// A trial of n boots that is never found good falls back to its old slot at the boot after the n-th, and not
+/// before, whatever resets, suspensions and resumes come in between. What it falls back to is the slot that
+/// stood before the trial, however often the trial was begun anew.
+pub fn a_trial_ends()
+    ensures never_good { (s : DurableState) (n boots : ℕ) (cs : List Change) → s.trial ≡ None → All IsUndecided cs
+        → (fold s (Tries n boots ∷ cs)).slot ≡ (if nat_lt boots (boots_in cs) then s.slot else n) }
+    ensures booted { (s : DurableState) (t : Trial) (n : ℕ) → s.trial ≡ Some t → n ≤ t.left
+        → ((fold s (attempts n)).slot ≡ s.slot)
+        × ((fold s (attempts n)).trial ≡ Some (record t { left = t.left - n })) }
+    ensures falls_back { (s : DurableState) (t : Trial) → s.trial ≡ Some t
+        → ((fold s (Attempt ∷ attempts t.left)).slot ≡ t.fallback) × ((fold s (Attempt ∷ attempts t.left)).trial ≡ None) }
+    ensures begun { (s : DurableState) (n boots : ℕ) → s.trial ≡ None
+        → (after s (Tries n boots)).trial ≡ Some (record { fallback = s.slot; left = boots }) }
+    ensures again { (s : DurableState) (t : Trial) (n boots : ℕ) → s.trial ≡ Some t
+        → (after s (Tries n boots)).trial ≡ Some (record t { left = boots }) }
 {}
 
 /// An image that a command replaced or dropped never stands again under its serial, whatever commands follow.

@@ -12,15 +12,16 @@ mod refusal;
 mod shape;
 
 pub use boot_mode::BootMode;
-pub use durable::{Command, Durable, Entry, ImageHead, Reason};
+pub use durable::{Command, Durable, Entry, ImageHead, Reason, Trial};
 pub use laws::{
-    image_never_again, images_stay_whole, longer_list, serials_rise, slot_and_reset_leave_the_image,
+    a_trial_ends, image_never_again, images_stay_whole, longer_list,
+    other_commands_leave_the_image, other_commands_leave_the_trial, serials_rise,
 };
 pub use limits::{
-    MAX_COMMANDS, MAX_HARTS, MAX_LANES, MAX_LINE_BYTES, MAX_PAGES, MAX_SCRIPT_LINES, PAGE_BYTES,
-    RAM_BASE, SECTOR_BYTES, SLOTS,
+    MAX_BOOTS, MAX_COMMANDS, MAX_HARTS, MAX_LANES, MAX_LINE_BYTES, MAX_PAGES, MAX_SCRIPT_LINES,
+    PAGE_BYTES, RAM_BASE, SECTOR_BYTES, SLOTS,
 };
-pub use numbers::{Addr, HartId, PageNo, Slot};
+pub use numbers::{Addr, Boots, HartId, PageNo, Slot};
 pub use plain::{ImageMemory, Plain, PlainImage};
 pub use refusal::Refusal;
 pub use shape::Shape;

@@ -12,6 +12,9 @@ pub const MAX_LANES: u64 = 4;
 /// The boot slots, numbered from 0.
 pub const SLOTS: u32 = 4;
 
+/// The most boots of a trial.
+pub const MAX_BOOTS: u32 = 7;
+
 /// The bytes of a page of RAM.
 pub const PAGE_BYTES: usize = 4096;
 

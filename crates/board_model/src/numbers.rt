@@ -1,9 +1,9 @@
 //! Numbers of harts, pages and slots and addresses of instructions, each in its range by construction.
 
-ghost use Rattle.std.specs.Prelude.{◌≡◌, ℕ, ◌+◌, ◌*◌, ◌<◌, ◌≤◌, ◌%◌, Some, None, IfSome, IfNone};
+ghost use Rattle.std.specs.Prelude.{◌≡◌, ℕ, ◌+◌, ◌-◌, ◌*◌, ◌<◌, ◌≤◌, ◌%◌, Some, None, IfSome, IfNone};
 ghost use Rattle.board_model.specs.Shapes.{IsAddressIn};
 
-use crate::limits::{MAX_HARTS, MAX_PAGES, PAGE_BYTES, RAM_BASE, SLOTS};
+use crate::limits::{MAX_BOOTS, MAX_HARTS, MAX_PAGES, PAGE_BYTES, RAM_BASE, SLOTS};
 use std::marker::Model;
 
 /// The number of a hart, 0 to 7 (SBI specification 2.0, chapter HSM). `Shape::hart` tells whether a board has
@@ -146,6 +146,57 @@ impl Slot {
         ensures range { result < 4 }
     {
         self.number as usize
+    }
+}
+
+/// How many boots are left to a trial, 0 to 7.
+#[derive(Clone, Copy, Debug, PartialEq, Eq, Drop)]
+pub struct Boots {
+    number: u32,
+}
+
+impl Model for Boots {
+    ghost Value = { ℕ };
+
+    ghost view = { λ b. b.number };
+
+    ghost invariant = { λ b. b.number < 8 };
+
+    ghost inverse = { λ n. record { number = n } };
+}
+
+impl Boots {
+    /// That many boots, or None above 7.
+    pub fn new(number: u32) -> Option<Boots>
+        ensures some { IfSome result (λ b. (b ≡ number) × (number ≤ 7)) }
+        ensures none { IfNone result (7 < number) }
+    {
+        if number <= MAX_BOOTS {
+            Some(Boots { number })
+        } else {
+            None
+        }
+    }
+
+    /// The number, 0 to 7.
+    pub fn number(self) -> u32
+        ensures value { result ≡ self }
+        ensures range { result ≤ 7 }
+    {
+        self.number
+    }
+
+    /// One less, or None where none is left.
+    pub fn fewer(self) -> Option<Boots>
+        ensures some { IfSome result (λ b. (b ≡ self - 1) × (0 < self)) }
+        ensures none { IfNone result (self ≡ 0) }
+    {
+        if self.number == 0 {
+            return None;
+        }
+        Some(Boots {
+            number: self.number - 1,
+        })
     }
 }
 

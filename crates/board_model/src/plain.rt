@@ -6,7 +6,7 @@ ghost use Rattle.std.specs.Cmp.{partial_equiv_from_equiv};
 ghost use Rattle.std.specs.Cmp.Lexicographic.{nat_list_eq_equiv};
 ghost use Rattle.board_model.specs.Views.{change_in};
 
-use crate::durable::{Command, Durable, Entry, ImageHead, Reason};
+use crate::durable::{Command, Durable, Entry, ImageHead, Reason, Trial};
 use crate::numbers::{Addr, HartId, Slot};
 use crate::refusal::Refusal;
 use std::alloc::{AllocError, Global};
@@ -74,11 +74,13 @@ pub struct Plain {
     pub reason: Reason,
     /// The serial of the next suspension.
     pub next: u64,
+    /// The trial of the slot, where one stands.
+    pub trial: Option<Trial>,
     pub image: Option<PlainImage>,
 }
 
 impl Plain {
-    ghost use Rattle.board_model.specs.Durable.{Suspend, Consume, Discard, formatted};
+    ghost use Rattle.board_model.specs.Durable.{Suspend, formatted};
     ghost use Rattle.board_model.specs.Views.{change_of, durable_of, head_of};
     ghost use Rattle.board_model.specs.Plains.{state_in, IsPlainNext, IsPlainOf};
 
@@ -90,6 +92,7 @@ impl Plain {
             slot: Slot::new(0).unwrap(),
             reason: Reason::NoReason,
             next: 0,
+            trial: None,
             image: None,
         }
     }
@@ -97,8 +100,7 @@ impl Plain {
     /// The state after a command, as docs/DURABLE.md, "Commands", says it; a suspension carries this memory,
     /// and no other command reads it.
     ///
-    /// Refused `BadSlot` for a slot above 3, `NoImage` for Consume or Discard without an image,
-    /// `SerialsSpent` where the next serial is 2^64 - 1, and else `Memory` where memory is refused.
+    /// Refused as `Durable::after` and `Durable::after_suspend` say, and else `Memory` where memory is refused.
     pub fn after(&self, alloc: Global, entry: Entry, memory: &[u8]) -> Result<Plain, Refusal>
         ensures { IsPlainNext (state_in self.now) (change_in entry memory.now) result }
     {
@@ -113,19 +115,18 @@ impl Plain {
     fn after_command(&self, alloc: Global, command: Command) -> Result<Plain, Refusal>
         ensures { IsPlainNext (state_in self.now) (change_of command) result }
     {
-        match command {
-            Command::Slot(number) => {
-                let slot = Slot::new(number).ok_or(Refusal::BadSlot)?;
-                let same = self.copy(alloc)?;
-                Ok(Plain { slot, ..same })
-            }
-            Command::Reset(reason) => {
-                let same = self.copy(alloc)?;
-                Ok(Plain { reason, ..same })
-            }
-            Command::Consume => self.without_image(),
-            Command::Discard => self.without_image(),
-        }
+        let next = self.durable().after(command)?;
+        let image = match next.image {
+            None => None,
+            Some(_) => self.image_copy(alloc)?,
+        };
+        Ok(Plain {
+            slot: next.slot,
+            reason: next.reason,
+            next: next.next,
+            trial: next.trial,
+            image,
+        })
     }
 
     fn image_copy(&self, alloc: Global) -> Result<Option<PlainImage>, AllocError>
@@ -139,21 +140,6 @@ impl Plain {
             head: image.head,
             memory,
         }))
-    }
-
-    fn without_image(&self) -> Result<Plain, Refusal>
-        ensures consume { IsPlainNext (state_in self.now) Consume result }
-        ensures discard { IsPlainNext (state_in self.now) Discard result }
-    {
-        if self.image.is_none() {
-            return Err(Refusal::NoImage);
-        }
-        Ok(Plain {
-            slot: self.slot,
-            reason: self.reason,
-            next: self.next,
-            image: None,
-        })
     }
 
     fn suspended(
@@ -179,6 +165,7 @@ impl Plain {
             slot: self.slot,
             reason: self.reason,
             next,
+            trial: self.trial,
             image: Some(PlainImage { head, memory }),
         })
     }
@@ -192,6 +179,7 @@ impl Plain {
             slot: self.slot,
             reason: self.reason,
             next: self.next,
+            trial: self.trial,
             image,
         })
     }
@@ -205,6 +193,7 @@ impl Plain {
             slot: self.slot,
             reason: self.reason,
             next: self.next,
+            trial: self.trial,
         }
     }
 
@@ -232,6 +221,7 @@ impl Plain {
             slot: durable.slot,
             reason: durable.reason,
             next: durable.next,
+            trial: durable.trial,
             image,
         })
     }

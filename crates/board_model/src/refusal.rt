@@ -46,6 +46,10 @@ pub enum Refusal {
     NotPlain,
     #[error("the board does not doze, or was woken already")]
     NotDozing,
+    #[error("a trial has 1 to 7 boots")]
+    BadTries,
+    #[error("no trial of a boot slot stands")]
+    NoTrial,
 }
 
 impl Refusal {
@@ -72,6 +76,8 @@ impl Refusal {
             Refusal::Output => 16,
             Refusal::NotPlain => 17,
             Refusal::NotDozing => 18,
+            Refusal::BadTries => 19,
+            Refusal::NoTrial => 20,
         }
     }
 }

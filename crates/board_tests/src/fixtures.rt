@@ -7,7 +7,7 @@ use board_model::{
 };
 use crew::{Crew, Turns};
 use disk::Disk;
-use layout::{Record, Saved, Side, gate_bytes, record_bytes, superblock_bytes};
+use layout::{Record, Saved, Side, Version, gate_bytes, record_bytes, superblock_bytes};
 use machine::{Turned, Word};
 use rv_decode::Reg;
 use simdisk::SimDisk;
@@ -64,10 +64,12 @@ fn image() -> Option<Saved> {
 /// The sector of a record with that image, of slot 3.
 fn record_with_image() -> Option<[u8; 512]> {
     let record = Record {
+        version: Version::Two,
         slot: Slot::new(3)?,
         reason: Reason::SystemFailure,
         next: 5,
         image: Some(image()?),
+        trial: None,
     };
     Some(record_bytes(&record))
 }

@@ -1,25 +1,14 @@
--- Why a disk is not seen, and that it was read alone.
-use Rattle.std.proofs.Common.{◌∙◌, subst, arith}
+-- Why a disk is not seen.
+use Rattle.std.proofs.Common.{subst, arith}
 use Rattle.std.specs.Prelude.{IfErr}
 use Rattle.board_model.specs.Shapes.{Size}
 use Rattle.board_model.specs.declared.refusal.Refusal.{Refusal}
 use Rattle.board_model.specs.declared.refusal.Refusal.TheVariants.{NotFormatted, BadShape, BadRecord, Device, Memory}
-use Rattle.disk.specs.Facts.{Content, Facts, Stays}
-use Rattle.disk.specs.Moments.{passes_stays, leaves_stays}
+use Rattle.disk.specs.Facts.{Content, Facts}
 use Rattle.store.specs.Leaves.{ReadsAlone}
 use Rattle.store.specs.Opens.{IsBoard, ReadsAs, OpenRefused}
 use Rattle.store.specs.Standing.{StandsFor}
 use Rattle.disk_program.specs.Sights.{SeeRefused, unrecorded}
-
--- the disk was read alone, and then once more
-pub alone_then : (a b c : Facts) → ReadsAlone a b → ReadsAlone b c → ReadsAlone a c
-alone_then a b c first second = record {
-  content = second.content ∙ first.content;
-  crash = passes_stays a b c Stays first.crash second.crash;
-  any_moment = leaves_stays a b c a.may_leave first.any_moment second.crash;
-  none_out = second.none_out;
-  no_fewer = omega (arith, first.no_fewer, second.no_fewer);
-}
 
 stands_board : (c : Content) (size : Size) → ((s : _) × StandsFor c size s) → IsBoard size c
 unfolding StandsFor

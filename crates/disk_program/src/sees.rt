@@ -2,7 +2,7 @@
 
 ghost use Rattle.std.specs.Prelude.{◌≡◌, ◌⊎◌, IfOk, IfErr, MatchResult};
 ghost use Rattle.board_model.specs.Shapes.{Size};
-ghost use Rattle.store.specs.Leaves.{IsIdle, ReadsAlone};
+ghost use Rattle.store.specs.Leaves.{IsIdle, IsSettled};
 ghost use Rattle.store.specs.Opens.{IsBoard, ReadsAs};
 ghost use Rattle.disk_program.specs.Sights.{Finds, IsSeen, SeeRefused, unrecorded};
 
@@ -39,12 +39,13 @@ fn unrecorded(refusal: Refusal) -> Result<Option<Found>, Refusal>
     }
 }
 
-/// What an open of the disk finds, or none where the selected record is in no form. The disk is given back.
+/// What an open of the disk finds, or none where the selected record is in no form. The disk is given back, as
+/// the open leaves it.
 fn find<D: Disk + Drop>(alloc: Global, disk: D) -> (D, Result<Option<Found>, Refusal>)
     requires none_out { IsIdle (D.facts disk) }
     ensures found { IfOk result.1 (Finds (D.facts disk).content) }
     ensures refused { IfErr result.1 (λ e. SeeRefused (D.facts disk) e (D.facts result.0)) }
-    ensures reads_alone { ReadsAlone (D.facts disk) (D.facts result.0) }
+    ensures settles { IsSettled (D.facts disk) (D.facts result.0) }
 {
     match Store::open(alloc, disk) {
         Ok(store) => {
@@ -57,7 +58,8 @@ fn find<D: Disk + Drop>(alloc: Global, disk: D) -> (D, Result<Option<Found>, Ref
 }
 
 /// Says what stands on a disk, whatever bytes it holds: what `store::inspect` says of it, and what an open finds.
-/// The disk is given back; nothing of it is written.
+/// The disk is given back as the open leaves it: where its record is of version 1, with the same state in
+/// version 2 (docs/STORE.md, "Migration"), else with nothing written.
 ///
 /// Refused `NotFormatted` and `BadShape` by what the disk reads as, `Device` where it failed in this call, and
 /// `Memory` where there is no room for the memory of an image or for the journal of the open.
@@ -75,7 +77,7 @@ pub fn see_disk<D: Disk + Drop>(alloc: Global, mut disk: D) -> (D, Result<Seen, 
     ensures board { (size : Size) → IsBoard size (D.facts disk).content
         → IfErr result.1 (λ e. (e ≡ Refusal.Device) ⊎ (e ≡ Refusal.Memory)) }
 
-    ensures reads_alone { ReadsAlone (D.facts disk) (D.facts result.0) }
+    ensures settles { IsSettled (D.facts disk) (D.facts result.0) }
 {
     let inspection = match inspect(alloc, &mut disk) {
         Ok(inspection) => inspection,

@@ -6,12 +6,15 @@ use Rattle.board_model.specs.Shapes.{Size, IsSize, IsValidAddress, board_size, r
 use Rattle.board_model.specs.Views.{reason_number}
 use Rattle.board_model.specs.declared.durable.Reason.{Reason}
 use Rattle.board_model.specs.declared.durable.Reason.TheVariants.{NoReason, SystemFailure}
+use Rattle.board_model.specs.declared.durable.Trial.{Trial}
 use Rattle.disk.specs.Facts.{Content, sector}
 use Rattle.layout.specs.Fields.{Field, FitAll}
 use Rattle.layout.specs.Superblocks.{superblock_of}
-use Rattle.layout.specs.Records.{saved_fields, head_fields, record_of, most_places, AreCounts, IsSaved, AreSaved, IsInRange, IsRecord}
+use Rattle.layout.specs.Records.{saved_fields, head_fields, record_of, most_places, AreCounts, IsSaved, AreSaved, IsTrialIn, IsInRange, IsRecord}
 use Rattle.layout.specs.declared.records.Saved.{Saved}
 use Rattle.layout.specs.declared.records.Record.{Record}
+use Rattle.layout.specs.declared.records.Version.{Version}
+use Rattle.layout.specs.declared.records.Version.TheVariants.{One, Two}
 use Rattle.store.specs.Opens.{IsBoard}
 use Rattle.examined.proofs.Searches.{Decided, both, three, six, less, at_most, equal, equal_lists, all_below, AreBelow, rows}
 
@@ -75,23 +78,41 @@ are_saved size next (Some saved) = by (is_saved size next saved)
     by (inl h) = inl (λ s e. (let f : saved ≡ s = cc in subst (IsSaved size next) f h))
     by (inr never) = inr (λ h. never (h saved refl))
 
-is_record : (size : Size) (bytes : List ℕ) (r : Record) → Decided (IsRecord size r bytes)
-is_record size bytes r = both (in_range (three (at_most r.slot 3) (are_saved size r.next r.image) (fit_all (head_fields r)))) (equal_lists bytes (record_of r))
+is_trial : (v : Version) (trial : Option Trial) → Decided (IsTrialIn v trial)
+is_trial v None = inl (λ t e. absurd (let no : ⊥ = cc in no))
+is_trial One (Some t) = inr (λ h. (let no : One ≡ Two = (h t refl).0 in cc))
+is_trial Two (Some t) = by (both (at_most t.fallback 3) (at_most t.left 7))
   where
-    in_range : Decided ((r.slot ≤ 3) × AreSaved size r.next r.image × FitAll (head_fields r)) → Decided (IsInRange size r)
-    in_range (inl h) = inl (record { slot = h.0; image = h.1; fit = h.2 })
-    in_range (inr never) = inr (λ (h : IsInRange size r). never (h.slot, h.image, h.fit))
+    by : Decided ((t.fallback ≤ 3) × (t.left ≤ 7)) → Decided (IsTrialIn Two (Some t))
+    by (inl h) = inl (λ u e. (let f : t ≡ u = cc in subst (λ (x : Trial). (Two ≡ Two) × (x.fallback ≤ 3) × (x.left ≤ 7)) f (refl, h.0, h.1)))
+    by (inr never) = inr (λ h. never ((h t refl).1, (h t refl).2))
 
--- a record by its numbers: slot, reason and next serial, whether an image is present, and nine of that
+is_record : (size : Size) (bytes : List ℕ) (r : Record) → Decided (IsRecord size r bytes)
+is_record size bytes r = both (in_range (both (is_trial r.version r.trial) (three (at_most r.slot 3) (are_saved size r.next r.image) (fit_all (head_fields r))))) (equal_lists bytes (record_of r))
+  where
+    in_range : Decided (IsTrialIn r.version r.trial × ((r.slot ≤ 3) × AreSaved size r.next r.image × FitAll (head_fields r))) → Decided (IsInRange size r)
+    in_range (inl h) = inl (record { slot = h.1.0; image = h.1.1; trial = h.0; fit = h.1.2 })
+    in_range (inr never) = inr (λ (h : IsInRange size r). never (h.trial, (h.slot, h.image, h.fit)))
+
+-- a record by its numbers: its version, whether a trial stands, and two of that; slot, reason and next serial,
+-- whether an image is present, and nine of that
+abbrev version_by : ℕ → Version
+version_by zero = One
+version_by (suc n) = Two
+
+abbrev trial_by : ℕ → ℕ → ℕ → Option Trial
+trial_by zero fallback left = None
+trial_by (suc n) fallback left = Some (record { fallback = fallback; left = left })
+
 abbrev reason_by : ℕ → Reason
 reason_by zero = NoReason
 reason_by (suc n) = SystemFailure
 
 abbrev saved_by : List ℕ → Saved
 saved_by ns = record {
-  head = record { serial = slice_index ns 4; hart = slice_index ns 6; address = slice_index ns 7; opaque = slice_index ns 8 };
-  area = slice_index ns 5;
-  counts = slice_index ns 9 ∷ slice_index ns 10 ∷ slice_index ns 11 ∷ slice_index ns 12 ∷ [];
+  head = record { serial = slice_index ns 8; hart = slice_index ns 10; address = slice_index ns 11; opaque = slice_index ns 12 };
+  area = slice_index ns 9;
+  counts = slice_index ns 13 ∷ slice_index ns 14 ∷ slice_index ns 15 ∷ slice_index ns 16 ∷ [];
 }
 
 abbrev image_by : ℕ → List ℕ → Option Saved
@@ -99,7 +120,14 @@ image_by zero ns = None
 image_by (suc n) ns = Some (saved_by ns)
 
 abbrev record_by : List ℕ → Record
-record_by ns = record { slot = slice_index ns 0; reason = reason_by (slice_index ns 1); next = slice_index ns 2; image = image_by (slice_index ns 3) ns }
+record_by ns = record {
+  version = version_by (slice_index ns 0);
+  slot = slice_index ns 4;
+  reason = reason_by (slice_index ns 5);
+  next = slice_index ns 6;
+  image = image_by (slice_index ns 7) ns;
+  trial = trial_by (slice_index ns 1) (slice_index ns 2) (slice_index ns 3);
+}
 
 abbrev numbers_of : Option Saved → List ℕ
 numbers_of None = 0 ∷ 0 ∷ 0 ∷ 0 ∷ 0 ∷ 0 ∷ 0 ∷ 0 ∷ 0 ∷ 0 ∷ []
@@ -107,8 +135,26 @@ numbers_of (Some saved) =
     1 ∷ saved.head.serial ∷ saved.area ∷ saved.head.hart ∷ saved.head.address ∷ saved.head.opaque
     ∷ slice_index saved.counts 0 ∷ slice_index saved.counts 1 ∷ slice_index saved.counts 2 ∷ slice_index saved.counts 3 ∷ []
 
+abbrev version_index : Version → ℕ
+version_index One = 0
+version_index Two = 1
+
+abbrev trial_there : Option Trial → ℕ
+trial_there None = 0
+trial_there (Some t) = 1
+
+abbrev fallback_in : Option Trial → ℕ
+fallback_in None = 0
+fallback_in (Some t) = t.fallback
+
+abbrev left_in : Option Trial → ℕ
+left_in None = 0
+left_in (Some t) = t.left
+
 abbrev row_of : Record → List ℕ
-row_of r = r.slot ∷ reason_number r.reason ∷ r.next ∷ numbers_of r.image
+row_of r =
+    version_index r.version ∷ trial_there r.trial ∷ fallback_in r.trial ∷ left_in r.trial ∷ r.slot ∷ reason_number r.reason
+    ∷ r.next ∷ numbers_of r.image
 
 four : (xs : List ℕ) → length xs ≡ 4 → slice_index xs 0 ∷ slice_index xs 1 ∷ slice_index xs 2 ∷ slice_index xs 3 ∷ [] ≡ xs
 four [] is = absurd (omega (arith, is))
@@ -122,24 +168,32 @@ reason_back : (reason : Reason) → reason_by (reason_number reason) ≡ reason
 reason_back NoReason = refl
 reason_back SystemFailure = refl
 
-abbrev made : ℕ → Reason → ℕ → Option Saved → Record
-made slot reason next image = record { slot = slot; reason = reason; next = next; image = image }
+version_back : (v : Version) → version_by (version_index v) ≡ v
+version_back One = refl
+version_back Two = refl
+
+trial_back : (trial : Option Trial) → trial_by (trial_there trial) (fallback_in trial) (left_in trial) ≡ trial
+trial_back None = refl
+trial_back (Some t) = refl
 
 abbrev counted_as : Saved → List ℕ → Saved
 counted_as saved counts = record saved { counts = counts }
 
-image_back : (size : Size) (next slot reason : ℕ) (image : Option Saved) → AreSaved size next image
-    → image_by (slice_index (slot ∷ reason ∷ next ∷ numbers_of image) 3) (slot ∷ reason ∷ next ∷ numbers_of image) ≡ image
-image_back size next slot reason None is = refl
-image_back size next slot reason (Some saved) is = ap (λ (counts : List ℕ). Some (counted_as saved counts)) (four saved.counts (is saved refl).counts.four)
+image_back : (size : Size) (version trial fallback left next slot reason : ℕ) (image : Option Saved) → AreSaved size next image
+    → image_by (slice_index (version ∷ trial ∷ fallback ∷ left ∷ slot ∷ reason ∷ next ∷ numbers_of image) 7) (version ∷ trial ∷ fallback ∷ left ∷ slot ∷ reason ∷ next ∷ numbers_of image) ≡ image
+image_back size version trial fallback left next slot reason None is = refl
+image_back size version trial fallback left next slot reason (Some saved) is = ap (λ (counts : List ℕ). Some (counted_as saved counts)) (four saved.counts (is saved refl).counts.four)
 
 row_back : (size : Size) (r : Record) → IsInRange size r → record_by (row_of r) ≡ r
 row_back size r is =
-    ap (λ (x : Reason). made r.slot x r.next (image_by (slice_index (row_of r) 3) (row_of r))) (reason_back r.reason)
-    ∙ ap (λ (x : Option Saved). made r.slot r.reason r.next x) (image_back size r.next r.slot (reason_number r.reason) r.image is.image)
+    ap (λ (x : Version). record (record_by (row_of r)) { version = x }) (version_back r.version)
+    ∙ ap (λ (x : Reason). record (record_by (row_of r)) { version = r.version; reason = x }) (reason_back r.reason)
+    ∙ ap (λ (x : Option Trial). record (record_by (row_of r)) { version = r.version; reason = r.reason; trial = x }) (trial_back r.trial)
+    ∙ ap (λ (x : Option Saved). record r { image = x })
+    (image_back size (version_index r.version) (trial_there r.trial) (fallback_in r.trial) (left_in r.trial) r.next r.slot (reason_number r.reason) r.image is.image)
 
 abbrev bounds : List ℕ
-bounds = 4 ∷ 2 ∷ 256 ^ 8 ∷ 2 ∷ 256 ^ 8 ∷ 2 ∷ 256 ^ 4 ∷ 256 ^ 8 ∷ 256 ^ 8 ∷ 256 ^ 4 ∷ 256 ^ 4 ∷ 256 ^ 4 ∷ 256 ^ 4 ∷ []
+bounds = 2 ∷ 2 ∷ 4 ∷ 8 ∷ 4 ∷ 2 ∷ 256 ^ 8 ∷ 2 ∷ 256 ^ 8 ∷ 2 ∷ 256 ^ 4 ∷ 256 ^ 8 ∷ 256 ^ 8 ∷ 256 ^ 4 ∷ 256 ^ 4 ∷ 256 ^ 4 ∷ 256 ^ 4 ∷ []
 
 abbrev image_bounds : List ℕ
 image_bounds = 2 ∷ 256 ^ 8 ∷ 2 ∷ 256 ^ 4 ∷ 256 ^ 8 ∷ 256 ^ 8 ∷ 256 ^ 4 ∷ 256 ^ 4 ∷ 256 ^ 4 ∷ 256 ^ 4 ∷ []
@@ -154,8 +208,19 @@ reason_below : (reason : Reason) → reason_number reason < 2
 reason_below NoReason = omega arith
 reason_below SystemFailure = omega arith
 
+version_below : (v : Version) → version_index v < 2
+version_below One = omega arith
+version_below Two = omega arith
+
+trial_below : (v : Version) (trial : Option Trial) → IsTrialIn v trial → (trial_there trial < 2) × (fallback_in trial < 4) × (left_in trial < 8)
+trial_below v None is = (omega arith, omega arith, omega arith)
+trial_below v (Some t) is = let few = is t refl in (omega arith, omega (arith, few.1), omega (arith, few.2))
+
 row_below : (size : Size) (r : Record) → IsInRange size r → AreBelow bounds (row_of r)
-row_below size r is = (omega (arith, is.slot), (reason_below r.reason, (is.fit.1.1.1.1.0, numbers_below size r.next r.image is.image)))
+row_below size r is =
+    let trial = trial_below r.version r.trial is.trial in
+    (version_below r.version, (trial.0, (trial.1, (trial.2,
+    (omega (arith, is.slot), (reason_below r.reason, (is.fit.1.1.1.1.0, numbers_below size r.next r.image is.image)))))))
 
 abbrev IsOne : Size → List ℕ → (Record → Type 0) → Record → Type 0
 IsOne size bytes Q r = IsRecord size r bytes × Q r

@@ -165,6 +165,9 @@ is_end (entries.Command (commands.Slot n)) = false
 is_end (entries.Command (commands.Reset cause)) = true
 is_end (entries.Command commands.Consume) = false
 is_end (entries.Command commands.Discard) = false
+is_end (entries.Command (commands.Tries n boots)) = false
+is_end (entries.Command commands.Good) = false
+is_end (entries.Command commands.Attempt) = false
 is_end (entries.Suspend hart address opaque) = true
 
 -- the receipt that a loop has, if it has one, is that of such a command

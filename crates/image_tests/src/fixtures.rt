@@ -8,7 +8,8 @@ use crew::Crew;
 use disk::{ArmedFault, Disk, read_sector};
 use image::{read_area, write_area};
 use layout::{
-    PlaceHead, Record, Saved, Side, area_start, parse_record, place_head_bytes, record_bytes,
+    PlaceHead, Record, Saved, Side, Version, area_start, parse_record, place_head_bytes,
+    record_bytes,
 };
 use ram::Ram;
 use savers::LaneCounts;
@@ -59,10 +60,12 @@ fn record(area: Side, serial: u64, counts: LaneCounts) -> Option<Record> {
         opaque: 0,
     };
     Some(Record {
+        version: Version::Two,
         slot: Slot::new(0)?,
         reason: Reason::NoReason,
         next: serial.saturating_add(1),
         image: Some(Saved { head, area, counts }),
+        trial: None,
     })
 }
 

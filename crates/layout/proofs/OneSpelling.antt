@@ -4,11 +4,14 @@ use Rattle.board_model.specs.Shapes.{Size}
 use Rattle.board_model.specs.Views.{reason_number}
 use Rattle.board_model.specs.declared.durable.Reason.{Reason}
 use Rattle.board_model.specs.declared.durable.Reason.TheVariants.{NoReason, SystemFailure}
-use Rattle.layout.specs.Records.{presence_of, IsRecord}
+use Rattle.layout.specs.Records.{version_number, presence_of, IsRecord}
+use Rattle.layout.specs.declared.records.Version.{Version}
+use Rattle.layout.specs.declared.records.Version.TheVariants.{One, Two}
+use Rattle.board_model.specs.declared.durable.Trial.{Trial}
 use Rattle.layout.specs.Read.{StandsIn}
 use Rattle.layout.specs.declared.records.Saved.{Saved}
 use Rattle.layout.specs.declared.records.Record.{Record}
-use Rattle.layout.proofs.SpelledRecords.{slot_in, reason_in, presence_in, next_in, image_in, record_is}
+use Rattle.layout.proofs.SpelledRecords.{version_in, slot_in, reason_in, presence_in, next_in, image_in, record_is, no_trial, some_trial}
 
 four : (xs : List ℕ) → length xs ≡ 4 → xs ≡ slice_index xs 0 ∷ slice_index xs 1 ∷ slice_index xs 2 ∷ slice_index xs 3 ∷ []
 four [] is = absurd (omega arith)
@@ -58,10 +61,28 @@ module _ (size : Size) (r q : Record) (sector : List ℕ) (first : IsRecord size
       let two = image_in size q sector t second b in
       ap Some (one_saved sector s t one.1 two.1 one.0.counts.four two.0.counts.four)
 
+  one_version : (v w : Version) → version_number v ≡ version_number w → v ≡ w
+  one_version One One is = refl
+  one_version One Two is = absurd (omega arith)
+  one_version Two One is = absurd (omega arith)
+  one_version Two Two is = refl
+
+  trials : (o p : Option Trial) → r.trial ≡ o → q.trial ≡ p → o ≡ p
+  trials None None a b = refl
+  trials None (Some t) a b = absurd (omega (arith, no_trial size r sector first a, (some_trial size q sector second t b).0))
+  trials (Some t) None a b = absurd (omega (arith, no_trial size q sector second b, (some_trial size r sector first t a).0))
+  trials (Some t) (Some u) a b =
+      let one = some_trial size r sector first t a in
+      let two = some_trial size q sector second u b in
+      ap (λ (f : ℕ). let x : Option Trial = Some (record { fallback = f; left = t.left }) in x) (sym one.1 ∙ two.1)
+      ∙ ap (λ (l : ℕ). let x : Option Trial = Some (record { fallback = u.fallback; left = l }) in x) (sym one.2 ∙ two.2)
+
   pub one_record : r ≡ q
   one_record =
-      record_is q r.slot r.reason r.next r.image
+      record_is q r.version r.slot r.reason r.next r.image r.trial
+      (one_version r.version q.version (sym (version_in size r sector first) ∙ version_in size q sector second))
       (sym (slot_in size r sector first) ∙ slot_in size q sector second)
       (one_reason r.reason q.reason (sym (reason_in size r sector first) ∙ reason_in size q sector second))
       (sym (next_in size r sector first) ∙ next_in size q sector second)
       (one_image r.image q.image refl refl (sym (presence_in size r sector first) ∙ presence_in size q sector second))
+      (trials r.trial q.trial refl refl)

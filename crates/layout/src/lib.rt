@@ -15,7 +15,7 @@ mod superblocks;
 
 pub use laws::{one_place_head, one_record, one_superblock};
 pub use places::{PlaceHead, parse_place_head, place_head_bytes};
-pub use records::{Record, Saved, gate_bytes, parse_record, record_bytes, selected};
+pub use records::{Record, Saved, Version, gate_bytes, parse_record, record_bytes, selected};
 pub use side::Side;
 pub use sizes::{area_start, lane_start, place_start};
 pub use superblocks::{has_magic, parse_superblock, superblock_bytes};

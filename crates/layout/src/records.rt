@@ -1,16 +1,19 @@
-//! The gate and the record, version 1.
+//! The gate and the record, in both versions.
 ghost use Rattle.std.specs.Prelude.{◌≡◌, ℕ, ◌+◌, ◌<◌, ◌≤◌, ◌^◌, ◌↔◌, ◌++◌, Ok, Some, IfOk, IfErr, IfSome, IsTrue, length, slice_index};
 ghost use Rattle.board_model.specs.Views.{reason_number};
 ghost use Rattle.board_model.specs.declared.durable.Reason.{Reason};
 ghost use Rattle.layout.specs.Fields.{fields_bytes, width_of, number_at};
-ghost use Rattle.layout.specs.Records.{selected_by, gate_of, AreCounts, most_places, head_fields, saved_fields, presence_of, record_of, durable_in, IsSaved, IsInRange, IsRecord};
+ghost use Rattle.board_model.specs.Shapes.{Size};
+ghost use Rattle.layout.specs.Records.{selected_by, gate_of, AreCounts, most_places, version_number, head_fields, image_fields, trial_fields, IsTrialIn, saved_fields, presence_of, record_of, durable_in, IsSaved, IsInRange, IsRecord};
 ghost use Rattle.layout.specs.Read.{StandsIn};
 ghost use Rattle.layout.specs.declared.records.Saved.{Saved};
 ghost use Rattle.layout.specs.declared.records.Record.{Record};
+ghost use Rattle.layout.specs.declared.records.Version.{Version};
+ghost use Rattle.board_model.specs.declared.durable.Trial.{Trial};
 
 use crate::fields::{Filling, is_same, u32_at, u64_at};
 use crate::side::Side;
-use board_model::{Durable, ImageHead, Reason, Refusal, Shape, Slot};
+use board_model::{Boots, Durable, ImageHead, Reason, Refusal, Shape, Slot, Trial};
 
 /// What a record keeps of an image.
 #[derive(Clone, Copy, Debug, PartialEq, Eq, Drop)]
@@ -22,14 +25,38 @@ pub struct Saved {
     pub counts: [u32; 4],
 }
 
+/// The form of a record.
+#[derive(Clone, Copy, Debug, PartialEq, Eq, Drop)]
+pub enum Version {
+    /// Without a trial. It is read, and never written.
+    One,
+    /// With a trial, where one stands.
+    Two,
+}
+
+impl Version {
+    /// The number in a record's first bytes.
+    fn number(self) -> u32
+        ensures { result ≡ version_number self }
+    {
+        match self {
+            Version::One => 1,
+            Version::Two => 2,
+        }
+    }
+}
+
 /// A record: the durable state, and where its image stands.
 #[derive(Clone, Copy, Debug, PartialEq, Eq, Drop)]
 pub struct Record {
+    pub version: Version,
     pub slot: Slot,
     pub reason: Reason,
     /// The serial of the next suspension.
     pub next: u64,
     pub image: Option<Saved>,
+    /// The trial of the slot, where one stands: in version 2 alone.
+    pub trial: Option<Trial>,
 }
 
 impl Record {
@@ -45,11 +72,10 @@ impl Record {
             slot: self.slot,
             reason: self.reason,
             next: self.next,
+            trial: self.trial,
         }
     }
 }
-
-const VERSION: u32 = 1;
 
 /// The gate that selects record 0 or 1: its number in byte 0, and 0 in all others.
 pub fn gate_bytes(side: Side) -> [u8; 512]
@@ -78,9 +104,8 @@ pub fn record_bytes(r: &Record) -> [u8; 512]
     ensures { result ≡ record_of r.now }
 {
     let mut sector = head_of(r);
-    if let Some(saved) = r.image {
-        fill_saved(&mut sector, &saved);
-    }
+    fill_image(&mut sector, &r.image);
+    fill_trial(&mut sector, &r.trial);
     sector.finish()
 }
 
@@ -90,7 +115,7 @@ fn head_of(r: &Record) -> Filling
     ensures length { length result ≡ 24 }
 {
     let mut sector = Filling::new();
-    sector.u32(VERSION);
+    sector.u32(r.version.number());
     sector.u32(r.slot.number());
     sector.u32(r.reason.number());
     sector.u32(presence_of(&r.image));
@@ -107,10 +132,38 @@ fn presence_of(image: &Option<Saved>) -> u32
     }
 }
 
+/// The 48 bytes of an image, or of none.
+fn fill_image(sector: &mut Filling, image: &Option<Saved>)
+    requires { length sector.old ≡ 24 }
+    ensures value { sector.new ≡ sector.old ++ fields_bytes (image_fields image.now) }
+    ensures longer { length sector.new ≡ 72 }
+{
+    match image {
+        None => sector.bytes(&[0; 48]),
+        Some(saved) => fill_saved(sector, saved),
+    }
+}
+
+/// The 12 bytes of a trial, or of none.
+fn fill_trial(sector: &mut Filling, trial: &Option<Trial>)
+    requires { length sector.old ≡ 72 }
+    ensures { sector.new ≡ sector.old ++ fields_bytes (trial_fields trial.now) }
+{
+    match trial {
+        None => sector.bytes(&[0; 12]),
+        Some(trial) => {
+            sector.u32(1);
+            sector.u32(trial.fallback.number());
+            sector.u32(trial.left.number());
+        }
+    }
+}
+
 /// The image's 48 bytes.
 fn fill_saved(sector: &mut Filling, saved: &Saved)
     requires { length sector.old ≡ 24 }
-    ensures { sector.new ≡ sector.old ++ fields_bytes (saved_fields saved.now) }
+    ensures value { sector.new ≡ sector.old ++ fields_bytes (saved_fields saved.now) }
+    ensures longer { length sector.new ≡ 72 }
 {
     sector.u64(saved.head.serial);
     sector.u32(saved.area.number());
@@ -125,7 +178,8 @@ fn fill_saved(sector: &mut Filling, saved: &Saved)
 }
 
 /// The record that the sector is the one spelling of, on a board of that shape. Refused `BadRecord` where
-/// there is none: another version, a number out of its range, or a byte that is not 0 where the form has 0.
+/// there is none: a version that is neither 1 nor 2, a number out of its range, or a byte that is not 0 where
+/// the form has 0.
 pub fn parse_record(sector: &[u8; 512], shape: &Shape) -> Result<Record, Refusal>
     ensures ok { IfOk result (λ r. IsRecord shape.now r sector.now) }
     ensures exact { (r : Record) → IsRecord shape.now r sector.now → result ≡ Ok r }
@@ -143,6 +197,7 @@ fn record_in(sector: &[u8; 512], shape: &Shape) -> Option<Record>
     ensures in_range { IfSome result (λ r. IsInRange shape.now r) }
     ensures exact { (r : Record) → IsRecord shape.now r sector.now → result ≡ Some r }
 {
+    let version = version_of(u32_at(sector, 0))?;
     let slot = Slot::new(u32_at(sector, 4))?;
     let reason = reason_of(u32_at(sector, 8))?;
     let next = u64_at(sector, 16);
@@ -151,12 +206,51 @@ fn record_in(sector: &[u8; 512], shape: &Shape) -> Option<Record>
         1 => Some(saved_in(sector, shape, next)?),
         _ => return None,
     };
+    let trial = trial_in(sector, version)?;
     Some(Record {
+        version,
         slot,
         reason,
         next,
         image,
+        trial,
     })
+}
+
+fn version_of(number: u32) -> Option<Version>
+    ensures exact { (v : Version) → number ≡ version_number v → result ≡ Some v }
+{
+    match number {
+        1 => Some(Version::One),
+        2 => Some(Version::Two),
+        _ => None,
+    }
+}
+
+/// The trial that the numbers of the sector make, where each is in its range; none in version 1.
+fn trial_in(sector: &[u8; 512], version: Version) -> Option<Option<Trial>>
+    ensures in_range { IfSome result (λ trial. IsTrialIn version trial) }
+    ensures exact { (r : Record) (size : Size) → IsRecord size r sector.now → version ≡ r.version
+        → result ≡ Some r.trial }
+{
+    match u32_at(sector, 72) {
+        0 => Some(None),
+        1 => Some(Some(standing_trial(sector, version)?)),
+        _ => None,
+    }
+}
+
+fn standing_trial(sector: &[u8; 512], version: Version) -> Option<Trial>
+    ensures in_range { IfSome result (λ t. (version ≡ Version.Two) × (t.fallback ≤ 3) × (t.left ≤ 7)) }
+    ensures exact { (t : Trial) → version ≡ Version.Two → t.fallback ≤ 3 → t.left ≤ 7
+        → number_at 4 76 sector.now ≡ t.fallback → number_at 4 80 sector.now ≡ t.left → result ≡ Some t }
+{
+    if version == Version::One {
+        return None;
+    }
+    let fallback = Slot::new(u32_at(sector, 76))?;
+    let left = Boots::new(u32_at(sector, 80))?;
+    Some(Trial { fallback, left })
 }
 
 fn reason_of(number: u32) -> Option<Reason>

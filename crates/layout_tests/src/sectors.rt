@@ -1,8 +1,8 @@
 //! Sectors byte by byte, as docs/STORE.md has them.
 
-use board_model::{Addr, HartId, ImageHead, PageNo, Reason, Refusal, Shape, Slot};
+use board_model::{Addr, Boots, HartId, ImageHead, PageNo, Reason, Refusal, Shape, Slot, Trial};
 use layout::{
-    PlaceHead, Record, Saved, Side, area_start, gate_bytes, lane_start, parse_place_head,
+    PlaceHead, Record, Saved, Side, Version, area_start, gate_bytes, lane_start, parse_place_head,
     parse_record, parse_superblock, place_head_bytes, place_start, record_bytes, selected,
     superblock_bytes,
 };
@@ -62,6 +62,7 @@ fn other_superblocks_are_refused(rt: HostRuntime) -> Result<(), Fail> {
     Ok(())
 }
 
+/// A record with an image, and with a trial of 5 boots that falls back to slot 2.
 fn a_record() -> Option<Record> {
     let head = ImageHead {
         serial: 6,
@@ -74,11 +75,34 @@ fn a_record() -> Option<Record> {
         area: Side::first().other(),
         counts: [2, 2, 1, 0],
     };
+    let trial = Trial {
+        fallback: Slot::new(2)?,
+        left: Boots::new(5)?,
+    };
     Some(Record {
+        version: Version::Two,
         slot: Slot::new(3)?,
         reason: Reason::SystemFailure,
         next: 7,
         image: Some(saved),
+        trial: Some(trial),
+    })
+}
+
+/// The same without a trial, in that version.
+fn without_trial(version: Version) -> Option<Record> {
+    Some(Record {
+        version,
+        trial: None,
+        ..a_record()?
+    })
+}
+
+/// The same without image and trial, in that version.
+fn a_plain_record(version: Version) -> Option<Record> {
+    Some(Record {
+        image: None,
+        ..without_trial(version)?
     })
 }
 
@@ -87,11 +111,42 @@ fn a_record_byte_by_byte(rt: HostRuntime) -> Result<(), Fail> {
     let shape = Shape::new(2, 5, 3)?;
     let record = a_record().ok_or("record")?;
     let sector = record_bytes(&record);
-    let first = [1, 0, 0, 0, 3, 0, 0, 0, 1, 0, 0, 0, 1, 0, 0, 0];
+    let first = [2, 0, 0, 0, 3, 0, 0, 0, 1, 0, 0, 0, 1, 0, 0, 0];
     holds(&rt, &sector, 0, &first);
     holds(&rt, &sector, 16, &[7, 0, 0, 0, 0, 0, 0, 0]);
-    ends(&rt, &sector, 72);
+    holds(&rt, &sector, 72, &[1, 0, 0, 0, 2, 0, 0, 0, 5, 0, 0, 0]);
+    ends(&rt, &sector, 84);
     same(&rt, parse_record(&sector, &shape), Ok(record));
+    Ok(())
+}
+
+/// Without a trial the versions differ in byte 0 alone, and each is read as what it is.
+#[test]
+fn both_versions_without_a_trial(rt: HostRuntime) -> Result<(), Fail> {
+    let shape = Shape::new(2, 5, 3)?;
+    let one = without_trial(Version::One).ok_or("record")?;
+    let two = without_trial(Version::Two).ok_or("record")?;
+    let old = record_bytes(&one);
+    let new = record_bytes(&two);
+    same(&rt, (old[0], new[0]), (1, 2));
+    same(&rt, with_byte(old, 0, 2), new);
+    ends(&rt, &old, 72);
+    same(&rt, parse_record(&old, &shape), Ok(one));
+    same(&rt, parse_record(&new, &shape), Ok(two));
+    Ok(())
+}
+
+#[test]
+fn a_record_without_image_and_trial(rt: HostRuntime) -> Result<(), Fail> {
+    let shape = Shape::new(1, 1, 1)?;
+    for (version, number) in [(Version::One, 1), (Version::Two, 2)] {
+        let plain = a_plain_record(version).ok_or("record")?;
+        let sector = record_bytes(&plain);
+        let first = [number, 0, 0, 0, 3, 0, 0, 0, 1, 0, 0, 0, 0, 0, 0, 0];
+        holds(&rt, &sector, 0, &first);
+        ends(&rt, &sector, 24);
+        same(&rt, parse_record(&sector, &shape), Ok(plain));
+    }
     Ok(())
 }
 
@@ -108,8 +163,8 @@ fn an_image_byte_by_byte(rt: HostRuntime) -> Result<(), Fail> {
 }
 
 /// Whether the record with another byte is refused, on a board of 2 harts, 5 pages and 3 lanes.
-fn is_refused(place: usize, byte: u8) -> Result<bool, Fail> {
-    let record = a_record().ok_or("record")?;
+fn is_refused(record: Option<Record>, place: usize, byte: u8) -> Result<bool, Fail> {
+    let record = record.ok_or("record")?;
     let sector = with_byte(record_bytes(&record), place, byte);
     let shape = Shape::new(2, 5, 3)?;
     Ok(matches!(parse_record(&sector, &shape), Err(Refusal::BadRecord)))
@@ -118,7 +173,11 @@ fn is_refused(place: usize, byte: u8) -> Result<bool, Fail> {
 #[test]
 fn other_records_are_refused(rt: HostRuntime) -> Result<(), Fail> {
     for (place, byte, refused) in [
-        (0, 2, true),
+        (0, 0, true),
+        (0, 1, true),
+        (0, 3, true),
+        (0, 9, true),
+        (1, 1, true),
         (4, 4, true),
         (8, 2, true),
         (12, 0, true),
@@ -133,12 +192,33 @@ fn other_records_are_refused(rt: HostRuntime) -> Result<(), Fail> {
         (56, 3, true),
         (64, 2, true),
         (68, 1, true),
-        (72, 1, true),
+        (72, 0, true),
+        (72, 2, true),
+        (76, 4, true),
+        (77, 1, true),
+        (80, 8, true),
+        (84, 1, true),
         (511, 1, true),
         (48, 9, false),
+        (76, 3, false),
+        (80, 0, false),
+        (80, 7, false),
     ] {
-        let found = is_refused(place, byte)?;
+        let found = is_refused(a_record(), place, byte)?;
         assert_eq!(rt; found, refused, "byte {place} as {byte}");
+    }
+    Ok(())
+}
+
+/// A record of version 1 has zeros from byte 72 on; one of version 2 without a trial has them too.
+#[test]
+fn nothing_stands_where_no_trial_does(rt: HostRuntime) -> Result<(), Fail> {
+    for version in [Version::One, Version::Two] {
+        for (place, byte) in [(72, 1), (76, 1), (80, 1), (83, 1), (84, 1), (511, 1)] {
+            let found = is_refused(without_trial(version), place, byte)?;
+            let standing = version == Version::Two && place == 72;
+            assert_eq!(rt; found, !standing, "byte {place} as {byte}");
+        }
     }
     Ok(())
 }

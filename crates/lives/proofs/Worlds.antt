@@ -1,7 +1,8 @@
 -- What holds of a world, from event to event.
 use Rattle.std.proofs.Common.{◌≡◌, ◌∙◌, ⊎_elim, ℕ, ◌+◌, ◌<◌, ◌≤◌, List, [], ◌∷◌, ◌++◌, Option, Some, None, true, refl, sym, ap, subst, arith}
 use Rattle.std.specs.Bool.{⊤}
-use Rattle.board_model.specs.Durable.{DurableState, Image, Change, Slot, Reset, Suspend, Consume, Discard, formatted, after, fold}
+use Rattle.board_model.specs.Durable.{DurableState, Image, Change, Slot, Reset, Suspend, Consume, Discard, Tries, Good, Attempt, formatted, after, fold}
+use Rattle.board_model.proofs.Attempts.{attempt_next, attempt_image}
 use Rattle.lives.specs.Events.{Event, WasOpened, WasAcknowledged, WasRefused, WasDoubtful, WasCut, WasResumed, World, new_world, Finds, serial_of, dropped_by, Happens, Runs, AreBelow, IsAbove, Rises}
 
 -- the image's serial was given out, and no hart with it or a later one was answered
@@ -43,15 +44,21 @@ below_push [] n k below lt = (lt, tt)
 below_push (m ∷ ms) n k below lt = (below.0, below_push ms n k below.1 lt)
 
 -- a state after a command
-abbrev pub Good : List ℕ → DurableState → Type 0
-Good resumed s = AreBelow resumed s.next × Fresh resumed s.next s.image
+abbrev pub InOrder : List ℕ → DurableState → Type 0
+InOrder resumed s = AreBelow resumed s.next × Fresh resumed s.next s.image
 
-good_after : (resumed : List ℕ) (s : DurableState) (c : Change) → Good resumed s → Good resumed (after s c)
+good_after : (resumed : List ℕ) (s : DurableState) (c : Change) → InOrder resumed s → InOrder resumed (after s c)
 good_after resumed s (Slot n) good = good
 good_after resumed s (Reset r) good = good
 good_after resumed s (Suspend h a o m) good = (below_more resumed s.next (s.next + 1) (omega arith) good.0, (omega arith, good.0))
 good_after resumed s Consume good = (good.0, tt)
 good_after resumed s Discard good = (good.0, tt)
+good_after resumed s (Tries n boots) good = good
+good_after resumed s Good good = good
+good_after resumed s Attempt good = (
+  subst (AreBelow resumed) (sym (attempt_next s s.trial)) good.0,
+  subst (λ (n : ℕ). Fresh resumed n (after s Attempt).image) (sym (attempt_next s s.trial)) (subst (Fresh resumed s.next) (sym (attempt_image s s.trial)) good.1),
+)
 
 held_none : (resumed : List ℕ) (next : ℕ) (image : Option Image) → Held resumed next image None
 held_none resumed next None = tt
@@ -78,6 +85,11 @@ held_after w (Reset r) sound = sound.held
 held_after w (Suspend h a o m) sound = held_suspend w.resumed w.state.next w.state.image w.dropped (record { serial = w.state.next; hart = h; address = a; opaque = o; memory = m }) refl sound.fresh sound.held
 held_after w Consume sound = held_consume w.resumed w.state.next w.state.image sound.fresh
 held_after w Discard sound = held_less w.resumed w.state.next w.state.image w.dropped sound.fresh sound.held
+held_after w (Tries n boots) sound = sound.held
+held_after w Good sound = sound.held
+held_after w Attempt sound =
+    subst (λ (n : ℕ). Held w.resumed n (after w.state Attempt).image w.dropped) (sym (attempt_next w.state w.state.trial))
+    (subst (λ (i : Option Image). Held w.resumed w.state.next i w.dropped) (sym (attempt_image w.state w.state.trial)) sound.held)
 
 -- an answer
 resumed_fresh : (resumed : List ℕ) (next : ℕ) (image : Option Image) (n : ℕ) → Fresh resumed next image → Held resumed next image (Some n) → Fresh (resumed ++ n ∷ []) next image
@@ -91,11 +103,11 @@ held_below resumed next (Some i) n fresh held = (omega (arith, fresh.0, held.0),
 found_sound : (w : World) (s : DurableState) (kept : List Change) → IsSound w → Finds w s kept → IsSound (record { state = s; doubt = None; kept = kept; on = true; dropped = None; resumed = w.resumed })
 found_sound w s kept sound finds =
     ⊎_elim
-    (λ same. made (same.0 ∙ sound.folded ∙ ap (fold formatted) (sym same.1)) (subst (Good w.resumed) (sym same.0) (sound.below, sound.fresh)))
-    (λ took. made (took.2 ∙ ap (λ (t : DurableState). after t took.0) sound.folded ∙ sym (one_more formatted w.kept took.0) ∙ ap (fold formatted) (sym took.3)) (subst (Good w.resumed) (sym took.2) (good_after w.resumed w.state took.0 (sound.below, sound.fresh))))
+    (λ same. made (same.0 ∙ sound.folded ∙ ap (fold formatted) (sym same.1)) (subst (InOrder w.resumed) (sym same.0) (sound.below, sound.fresh)))
+    (λ took. made (took.2 ∙ ap (λ (t : DurableState). after t took.0) sound.folded ∙ sym (one_more formatted w.kept took.0) ∙ ap (fold formatted) (sym took.3)) (subst (InOrder w.resumed) (sym took.2) (good_after w.resumed w.state took.0 (sound.below, sound.fresh))))
     finds
   where
-    made : s ≡ fold formatted kept → Good w.resumed s → IsSound (record { state = s; doubt = None; kept = kept; on = true; dropped = None; resumed = w.resumed })
+    made : s ≡ fold formatted kept → InOrder w.resumed s → IsSound (record { state = s; doubt = None; kept = kept; on = true; dropped = None; resumed = w.resumed })
     made folded good = record { folded = folded; rises = sound.rises; below = good.0; fresh = good.1; held = held_none w.resumed s.next s.image }
 
 step : (w : World) (e : Event) (v : World) → IsSound w → Happens w e v → IsSound v

@@ -1,7 +1,7 @@
 //! Values from docs/DURABLE.md and docs/REFUSALS.md: each command against each kind of state, each refusal,
 //! each limit at its edges.
 use board_model::{
-    Addr, Command, Durable, HartId, ImageHead, PageNo, Reason, Refusal, Shape, Slot,
+    Addr, Boots, Command, Durable, HartId, ImageHead, PageNo, Reason, Refusal, Shape, Slot, Trial,
 };
 use std::alloc::Global;
 use std::fmt::Debug;
@@ -13,7 +13,7 @@ fn same<T: PartialEq + Debug + Drop>(rt: &impl Abort, found: T, wanted: T) {
     assert_eq!(rt; found, wanted);
 }
 
-/// Slot 2, reason 1, next serial 5, with an image under serial 4 or with none.
+/// Slot 2, reason 1, next serial 5, no trial, with an image under serial 4 or with none.
 fn state(rt: &impl Abort, image: bool) -> Durable {
     let head = ImageHead {
         serial: 4,
@@ -26,6 +26,19 @@ fn state(rt: &impl Abort, image: bool) -> Durable {
         slot: Slot::new(2).expect(rt, "slot 2"),
         reason: Reason::SystemFailure,
         next: 5,
+        trial: None,
+    }
+}
+
+/// The state of `state` with an image, on trial with so many boots left, slot 1 to fall back to.
+fn on_trial(rt: &impl Abort, left: u32) -> Durable {
+    let trial = Trial {
+        fallback: Slot::new(1).expect(rt, "slot 1"),
+        left: Boots::new(left).expect(rt, "at most 7 boots"),
+    };
+    Durable {
+        trial: Some(trial),
+        ..state(rt, true)
     }
 }
 
@@ -68,6 +81,91 @@ fn consume_and_discard_want_an_image(rt: HostRuntime) {
         same(&rt, dropped, Ok(state(&rt, false)));
         let refused = state(&rt, false).after(command);
         same(&rt, refused, Err(Refusal::NoImage));
+    }
+}
+
+/// Slot 3 on trial for so many boots, with that slot to fall back to, and all else as it was.
+fn begins(rt: &impl Abort, old: Durable, boots: u32, fallback: u32) {
+    let trial = Trial {
+        fallback: Slot::new(fallback).expect(rt, "a slot"),
+        left: Boots::new(boots).expect(rt, "at most 7 boots"),
+    };
+    let new = Durable {
+        slot: Slot::new(3).expect(rt, "slot 3"),
+        trial: Some(trial),
+        ..old
+    };
+    same(rt, old.after(Command::Tries(3, boots)), Ok(new));
+}
+
+#[test]
+fn a_trial_begins_and_is_begun_anew(rt: HostRuntime) {
+    begins(&rt, state(&rt, false), 1, 2);
+    begins(&rt, state(&rt, true), 7, 2);
+    begins(&rt, on_trial(&rt, 0), 7, 1);
+    begins(&rt, on_trial(&rt, 4), 1, 1);
+}
+
+#[test]
+fn tries_checks_the_slot_and_then_the_boots(rt: HostRuntime) {
+    for (slot, boots, refusal) in [
+        (4, 0, Refusal::BadSlot),
+        (4, 3, Refusal::BadSlot),
+        (u32::MAX, 8, Refusal::BadSlot),
+        (3, 0, Refusal::BadTries),
+        (0, 8, Refusal::BadTries),
+        (3, u32::MAX, Refusal::BadTries),
+    ] {
+        let command = Command::Tries(slot, boots);
+        same(&rt, state(&rt, false).after(command), Err(refusal));
+        same(&rt, on_trial(&rt, 2).after(command), Err(refusal));
+    }
+}
+
+#[test]
+fn good_and_attempt_want_a_trial(rt: HostRuntime) {
+    for command in [Command::Good, Command::Attempt] {
+        let refused = state(&rt, true).after(command);
+        same(&rt, refused, Err(Refusal::NoTrial));
+    }
+    same(
+        &rt,
+        on_trial(&rt, 3).after(Command::Good),
+        Ok(state(&rt, true)),
+    );
+    same(
+        &rt,
+        on_trial(&rt, 0).after(Command::Good),
+        Ok(state(&rt, true)),
+    );
+}
+
+#[test]
+fn attempts_use_up_the_boots_and_fall_back(rt: HostRuntime) {
+    for (left, fewer) in [(7, 6), (2, 1), (1, 0)] {
+        let used = on_trial(&rt, left).after(Command::Attempt);
+        same(&rt, used, Ok(on_trial(&rt, fewer)));
+    }
+    let fallen = Durable {
+        slot: Slot::new(1).expect(&rt, "slot 1"),
+        ..state(&rt, true)
+    };
+    same(&rt, on_trial(&rt, 0).after(Command::Attempt), Ok(fallen));
+}
+
+/// Slot drops a trial, and reset, consume and discard leave it.
+#[test]
+fn slot_alone_of_the_older_commands_drops_a_trial(rt: HostRuntime) {
+    let old = on_trial(&rt, 3);
+    same(&rt, old.after(Command::Slot(2)), Ok(state(&rt, true)));
+    let reset = Durable {
+        reason: Reason::NoReason,
+        ..old
+    };
+    same(&rt, old.after(Command::Reset(Reason::NoReason)), Ok(reset));
+    for command in [Command::Consume, Command::Discard] {
+        let dropped = Durable { image: None, ..old };
+        same(&rt, old.after(command), Ok(dropped));
     }
 }
 
@@ -186,6 +284,8 @@ fn refusals_have_their_numbers_and_texts(rt: HostRuntime) -> Result<(), Fail> {
             18,
             "the board does not doze, or was woken already",
         ),
+        (Refusal::BadTries, 19, "a trial has 1 to 7 boots"),
+        (Refusal::NoTrial, 20, "no trial of a boot slot stands"),
     ];
     for (refusal, code, text) in table {
         reads(&rt, alloc, refusal, code, text)?;
@@ -257,6 +357,11 @@ fn numbers_end_at_their_limits(rt: HostRuntime) {
     same(&rt, Slot::new(3).map(Slot::index), Some(3));
     same(&rt, Slot::new(3).map(Slot::number), Some(3));
     same(&rt, Slot::new(4), None);
+    same(&rt, Boots::new(7).map(Boots::number), Some(7));
+    same(&rt, Boots::new(8), None);
+    let one = Boots::new(1).expect(&rt, "one boot");
+    same(&rt, one.fewer(), Boots::new(0));
+    same(&rt, one.fewer().expect(&rt, "none left").fewer(), None);
 }
 
 #[test]

@@ -89,6 +89,9 @@ reset_is (entries.Command (commands.Slot n)) memory r e = let no : ⊥ = cc in a
 reset_is (entries.Command (commands.Reset q)) memory r e = let same : q ≡ r = cc in ap (λ (x : Reason). entries.Command (commands.Reset x)) same
 reset_is (entries.Command commands.Consume) memory r e = let no : ⊥ = cc in absurd no
 reset_is (entries.Command commands.Discard) memory r e = let no : ⊥ = cc in absurd no
+reset_is (entries.Command (commands.Tries n boots)) memory r e = let no : ⊥ = cc in absurd no
+reset_is (entries.Command commands.Good) memory r e = let no : ⊥ = cc in absurd no
+reset_is (entries.Command commands.Attempt) memory r e = let no : ⊥ = cc in absurd no
 reset_is (entries.Suspend hart address opaque) memory r e = let no : ⊥ = cc in absurd no
 
 suspend_is : (entry : Entry) (memory : List ℕ) (by site opaque : ℕ) (m : List ℕ) → change_in entry memory ≡ Suspend by site opaque m → entry ≡ entries.Suspend by site opaque
@@ -96,6 +99,9 @@ suspend_is (entries.Command (commands.Slot n)) memory by site opaque m e = let n
 suspend_is (entries.Command (commands.Reset q)) memory by site opaque m e = let no : ⊥ = cc in absurd no
 suspend_is (entries.Command commands.Consume) memory by site opaque m e = let no : ⊥ = cc in absurd no
 suspend_is (entries.Command commands.Discard) memory by site opaque m e = let no : ⊥ = cc in absurd no
+suspend_is (entries.Command (commands.Tries n boots)) memory by site opaque m e = let no : ⊥ = cc in absurd no
+suspend_is (entries.Command commands.Good) memory by site opaque m e = let no : ⊥ = cc in absurd no
+suspend_is (entries.Command commands.Attempt) memory by site opaque m e = let no : ⊥ = cc in absurd no
 suspend_is (entries.Suspend hart address value) memory by site opaque m e =
     let a : hart ≡ by = cc in let b : address ≡ site = cc in let c : value ≡ opaque = cc in
     ap (λ (x : ℕ). entries.Suspend x address value) a ∙ ap (λ (x : ℕ). entries.Suspend by x value) b ∙ ap (λ (x : ℕ). entries.Suspend by site x) c

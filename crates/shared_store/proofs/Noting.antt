@@ -17,12 +17,18 @@ entry_of_command (commands.Slot n) = refl
 entry_of_command (commands.Reset r) = refl
 entry_of_command commands.Consume = refl
 entry_of_command commands.Discard = refl
+entry_of_command (commands.Tries n boots) = refl
+entry_of_command commands.Good = refl
+entry_of_command commands.Attempt = refl
 
 pub entry_of_change : (e : Entry) (memory : List ℕ) → entry_in (change_in e memory) ≡ e
 entry_of_change (entries.Command (commands.Slot n)) memory = refl
 entry_of_change (entries.Command (commands.Reset r)) memory = refl
 entry_of_change (entries.Command commands.Consume) memory = refl
 entry_of_change (entries.Command commands.Discard) memory = refl
+entry_of_change (entries.Command (commands.Tries n boots)) memory = refl
+entry_of_change (entries.Command commands.Good) memory = refl
+entry_of_change (entries.Command commands.Attempt) memory = refl
 entry_of_change (entries.Suspend hart address opaque) memory = refl
 
 -- the log is as long as the journal, so the next place is the next receipt

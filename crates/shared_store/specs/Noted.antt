@@ -1,6 +1,6 @@
 -- The receipts of a journal's commands, and whom they were told. Source: docs/THREADS.md, "Receipts".
 use Rattle.std.specs.Prelude.{ℕ, List, [], ◌∷◌, Option, Some, None, Result, Ok, Err, map}
-use Rattle.board_model.specs.Durable.{Change, Slot, Reset, Suspend, Consume, Discard}
+use Rattle.board_model.specs.Durable.{Change, Slot, Reset, Suspend, Consume, Discard, Tries, Good, Attempt}
 use Rattle.board_model.specs.declared.durable.Command.TheVariants as commands
 use Rattle.board_model.specs.declared.durable.Entry.{Entry}
 use Rattle.board_model.specs.declared.durable.Entry.TheVariants as entries
@@ -14,6 +14,9 @@ entry_in (Slot n) = entries.Command (commands.Slot n)
 entry_in (Reset r) = entries.Command (commands.Reset r)
 entry_in Consume = entries.Command commands.Consume
 entry_in Discard = entries.Command commands.Discard
+entry_in (Tries n boots) = entries.Command (commands.Tries n boots)
+entry_in Good = entries.Command commands.Good
+entry_in Attempt = entries.Command commands.Attempt
 entry_in (Suspend hart address opaque memory) = entries.Suspend hart address opaque
 
 abbrev pub entries_in : List Change → List Entry

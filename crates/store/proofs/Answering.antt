@@ -9,29 +9,34 @@ use Rattle.disk.specs.Facts.{Content, Facts, sector, LeavesSince}
 use Rattle.disk.specs.FaultState.{FaultState}
 use Rattle.disk.specs.Moments.{leaves_none, leaves_then, leaves_weaker}
 use Rattle.image.specs.Refusals.{WriteRefused}
+use Rattle.layout.specs.Records.{version_number, record_of, IsInRange}
 use Rattle.layout.specs.declared.records.Record.{Record}
+use Rattle.layout.specs.declared.records.Version.TheVariants.{Two}
+use Rattle.layout.proofs.SpelledRecords.{version_in}
 use Rattle.store.specs.Commits.{IsUp}
 use Rattle.store.specs.Leaves.{LeavesOnly, LeavesEither, StandsForEither, WroteACommand}
 use Rattle.store.specs.Lives.{Life, now_of, Reaches, Applied, Suspended, IsReseen}
 use Rattle.store.specs.Opens.{CausedRefusal}
-use Rattle.store.specs.Standing.{selected, live_sector, state_of, StandsFor}
+use Rattle.store.specs.Standing.{selected, live_sector, version_at, state_of, StandsFor}
 use Rattle.store.specs.Answers.{StoreView, GoesTo, CountedRefusal, Answered}
 use Rattle.store.proofs.States.{stands_for, up_leaves}
 use Rattle.store.proofs.Suspending.{told_so, applied_found, now_still}
 
-pub wrote : (old new : Facts) (side : ℕ) → side < 2 → selected old.content ≡ side
-    → ((c : Content) → new.may_leave c → (selected c ≡ 1 - side) × (sector c (2 + side) ≡ sector old.content (2 + side))) → WroteACommand old new
+pub wrote : (old new : Facts) (size : Size) (side : ℕ) (next : Record) → side < 2 → selected old.content ≡ side → IsInRange size next → next.version ≡ Two
+    → ((c : Content) → new.may_leave c → (selected c ≡ 1 - side) × (sector c (2 + (1 - side)) ≡ record_of next) × (sector c (2 + side) ≡ sector old.content (2 + side)))
+    → WroteACommand old new
 unfolding WroteACommand
-wrote old new side known was is c left =
+wrote old new size side next known was range two is c left =
     let w = is c left in
     let back : 1 - selected c ≡ side = omega (arith, known, w.0) in (
       w.0 ∙ ap (λ (k : ℕ). 1 - k) (sym was),
-      ap (λ (k : ℕ). sector c (2 + k)) back ∙ w.1 ∙ ap (λ (k : ℕ). sector old.content (2 + k)) (sym was),
+      ap (λ (k : ℕ). version_at (sector c (2 + k))) w.0 ∙ version_in size next (sector c (2 + (1 - side))) (range, w.1) ∙ ap version_number two,
+      ap (λ (k : ℕ). sector c (2 + k)) back ∙ w.2 ∙ ap (λ (k : ℕ). sector old.content (2 + k)) (sym was),
     )
 
 wrote_later : (old mid new : Facts) → selected mid.content ≡ selected old.content → live_sector mid.content ≡ live_sector old.content → WroteACommand mid new → WroteACommand old new
 unfolding WroteACommand
-wrote_later old mid new same live wrote c left = let w = wrote c left in (w.0 ∙ ap (λ (k : ℕ). 1 - k) same, w.1 ∙ live)
+wrote_later old mid new same live wrote c left = let w = wrote c left in (w.0 ∙ ap (λ (k : ℕ). 1 - k) same, w.1, w.2 ∙ live)
 
 -- a refusal but 5 and 6 has no cause, and the disk did not fail
 nothing_failed : (m : FaultState) (n : ℕ) (e : Refusal) → (e ≡ Device → ⊥) → (e ≡ Down → ⊥) → CausedRefusal m e m × CountedRefusal n e n

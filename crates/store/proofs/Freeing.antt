@@ -1,11 +1,11 @@
 -- The area that the live image does not use may hold anything: the state stays, also while it is written.
-use Rattle.std.proofs.Common.{◌≡◌, ◌∙◌, ◌⊎◌, zero, suc, inl, inr, ⊎_elim, ℕ, ◌+◌, ◌*◌, ◌≤◌, ◌<◌, List, [], ◌∷◌, Option, Some, true, false, refl, sym, ap, subst, arith}
+use Rattle.std.proofs.Common.{◌≡◌, ◌∙◌, ◌⊎◌, zero, suc, inl, inr, ⊎_elim, ℕ, ◌+◌, ◌*◌, ◌≤◌, ◌<◌, List, [], ◌∷◌, Option, Some, None, true, false, refl, sym, ap, subst, arith}
 use Rattle.std.proofs.lemmas.Bool.{cases_Bool}
-use Rattle.board_model.specs.Durable.{Image, DurableState, fold}
+use Rattle.board_model.specs.Durable.{Image, DurableState, Tries, after, attempted, booted_by, fold}
 use Rattle.board_model.specs.Shapes.{Size, area_sectors_of}
 use Rattle.board_model.specs.Views.{durable_of}
 use Rattle.board_model.specs.declared.durable.Command.TheVariants as commands
-use Rattle.board_model.specs.declared.durable.Reason.{Reason}
+use Rattle.board_model.specs.declared.durable.Trial.{Trial}
 use Rattle.disk.specs.Facts.{Content, Facts, Torn, Passes, LeavesSince}
 use Rattle.disk.specs.Moments.{leaves_none, leaves_more}
 use Rattle.layout.specs.Superblocks.{IsSuperblock}
@@ -34,18 +34,30 @@ apart (suc (suc i)) j n k il jl first second from below = absurd (omega arith)
 apart zero (suc (suc j)) n k il jl first second from below = absurd (omega arith)
 apart (suc zero) (suc (suc j)) n k il jl first second from below = absurd (omega arith)
 
-abbrev made : ℕ → Reason → ℕ → Option Image → DurableState
-made slot reason next image = record { slot = slot; reason = reason; next = next; image = image }
+-- a boot of a trial leaves the image, and asks nothing of it
+booted_apart : (s : DurableState) (x : Option Image) (f l : ℕ) → booted_by (record s { image = x }) f l ≡ record (booted_by s f l) { image = x }
+booted_apart s x f zero = refl
+booted_apart s x f (suc l) = refl
+
+attempted_apart : (s : DurableState) (x : Option Image) (t : Option Trial) → attempted (record s { image = x }) t ≡ record (attempted s t) { image = x }
+attempted_apart s x None = refl
+attempted_apart s x (Some t) = booted_apart s x t.fallback t.left
 
 -- where a command dropped the image, nothing is left of it
-forget : (m : List ℕ) (journal : List Entry) (slot : ℕ) (reason : Reason) (next : ℕ) (x y : Option Image) → drop_image journal ≡ true
-    → fold (made slot reason next x) (told m journal) ≡ fold (made slot reason next y) (told m journal)
-forget m [] slot reason next x y drops = cc
-forget m (entries.Command (commands.Slot n) ∷ journal) slot reason next x y drops = forget m journal n reason next x y drops
-forget m (entries.Command (commands.Reset r) ∷ journal) slot reason next x y drops = forget m journal slot r next x y drops
-forget m (entries.Command commands.Consume ∷ journal) slot reason next x y drops = refl
-forget m (entries.Command commands.Discard ∷ journal) slot reason next x y drops = refl
-forget m (entries.Suspend h a o ∷ journal) slot reason next x y drops = refl
+forget : (m : List ℕ) (journal : List Entry) (s : DurableState) (x y : Option Image) → drop_image journal ≡ true
+    → fold (record s { image = x }) (told m journal) ≡ fold (record s { image = y }) (told m journal)
+forget m [] s x y drops = cc
+forget m (entries.Command (commands.Slot n) ∷ journal) s x y drops = forget m journal (record s { slot = n; trial = None }) x y drops
+forget m (entries.Command (commands.Reset r) ∷ journal) s x y drops = forget m journal (record s { reason = r }) x y drops
+forget m (entries.Command commands.Consume ∷ journal) s x y drops = refl
+forget m (entries.Command commands.Discard ∷ journal) s x y drops = refl
+forget m (entries.Command (commands.Tries n boots) ∷ journal) s x y drops = forget m journal (after s (Tries n boots)) x y drops
+forget m (entries.Command commands.Good ∷ journal) s x y drops = forget m journal (record s { trial = None }) x y drops
+forget m (entries.Command commands.Attempt ∷ journal) s x y drops =
+    ap (λ (q : DurableState). fold q (told m journal)) (attempted_apart s x s.trial)
+    ∙ forget m journal (attempted s s.trial) x y drops
+    ∙ sym (ap (λ (q : DurableState). fold q (told m journal)) (attempted_apart s y s.trial))
+forget m (entries.Suspend h a o ∷ journal) s x y drops = refl
 
 image_back : (size : Size) (image : Option Saved) (c d : Content) → SameImage size image c d → SameImage size image d c
 image_back size image c d same = record { as_long = sym same.as_long; same = λ saved is k from below. sym (same.same saved is k from below) }
@@ -110,7 +122,7 @@ module _ (a b : Facts) (size : Size) (side : ℕ) (opened current : Record) (jou
     free_fold : fold (state_of size opened b.content) (told (memory_in size current a.content) journal) ≡ now_by a size opened current journal
     free_fold =
         ⊎_elim
-        (λ drops. forget (memory_in size current a.content) journal opened.slot opened.reason opened.next (image_of size opened.image b.content) (image_of size opened.image a.content) drops)
+        (λ drops. forget (memory_in size current a.content) journal (state_of size opened a.content) (image_of size opened.image b.content) (image_of size opened.image a.content) drops)
         (λ keeps. ap (λ (s : DurableState). fold s (told (memory_in size current a.content) journal)) (state_same size opened a.content b.content (subst (λ (i : Option Saved). SameImage size i a.content b.content) (same keeps) here)))
         (cases_Bool (drop_image journal))
 

@@ -12,6 +12,7 @@ pub mod Answering
 pub mod Loading
 pub mod Formatting
 pub mod Reading
+pub mod Renewing
 pub mod Bridges
 pub mod Armed
 pub mod Kept

@@ -20,6 +20,9 @@ drops_image (entries.Command (commands.Slot n)) = false
 drops_image (entries.Command (commands.Reset r)) = false
 drops_image (entries.Command commands.Consume) = true
 drops_image (entries.Command commands.Discard) = true
+drops_image (entries.Command (commands.Tries n boots)) = false
+drops_image (entries.Command commands.Good) = false
+drops_image (entries.Command commands.Attempt) = false
 drops_image (entries.Suspend hart address opaque) = true
 
 abbrev pub drop_image : List Entry → Bool

@@ -8,6 +8,7 @@ mod inspects;
 mod laws;
 mod opens;
 mod receipts;
+mod renews;
 mod stores;
 
 pub use formats::format;

@@ -19,11 +19,12 @@ use crate::commits::{Uncommitted, commit};
 use crate::doubts::Doubt;
 use crate::opens::find;
 use crate::receipts::Receipt;
+use crate::renews::migrated;
 use board_model::{Addr, Command, Durable, Entry, HartId, MAX_COMMANDS, Refusal, Shape};
 use crew::Crew;
 use disk::{ArmedFault, Disk};
 use image::{read_area, write_area};
-use layout::{Record, Saved, Side};
+use layout::{Record, Saved, Side, Version};
 use ram::Ram;
 use savers::LaneCounts;
 use std::alloc::Global;
@@ -63,8 +64,8 @@ pub struct Store<D: Disk + Drop> {
 
 impl<D: Disk + Drop> Store<D> {
     ghost use Rattle.board_model.specs.Views.{durable_of};
-    ghost use Rattle.store.specs.Leaves.{IsIdle, SameLength, LeavesOnly, LeavesEither, ReadsAlone};
-    ghost use Rattle.store.specs.Opens.{ReadsAs, OpenRefused, OpenCalls, CausedRefusal};
+    ghost use Rattle.store.specs.Leaves.{IsIdle, SameLength, LeavesOnly, LeavesEither, ReadsAlone, IsSettled, LeavesVersionTwo};
+    ghost use Rattle.store.specs.Opens.{ReadsAs, OpenRefused, open_calls, OpenCalls, CausedRefusal};
     ghost use Rattle.store.specs.Lives.{Reaches, TakesNone, Refused, Applied, IsReseen, SuspendRefused, Suspended, IsLoaded, LoadRefused};
     ghost use Rattle.store.specs.Answers.{Opened, Answered, StaysOpen};
     ghost use Rattle.store.specs.Asked.{Asked};
@@ -73,14 +74,16 @@ impl<D: Disk + Drop> Store<D> {
     ghost use Rattle.store.specs.Standing.{StandsFor, selected, live_sector};
     ghost use Rattle.store.specs.Views.{device_of, disk_of, fault_state_of, arms_of, size_of_store, life_of, found_state, journal_of, now_state, receipts, doubt_of, failures_at_open, view_of, Stands, Doubts};
 
-    /// Opens a disk, and so begins a life. What the last life left in doubt is settled by a sync. Each crash
-    /// since the call's start, after a refusal too, leaves a content that a crash just before could have
-    /// left, and after `Ok` only what was found. Refused `NotFormatted`, `BadShape` and `BadRecord` by what
-    /// the disk reads as (docs/STORE.md, "Opening"), `Device` where the disk failed in this call, and
-    /// `Memory` where there is no room for the journal. A refusal gives the disk back.
+    /// Opens a disk, and so begins a life. What the last life left in doubt is settled by a sync, and where
+    /// the selected record is of version 1 the same state is written in version 2, by one commit. Each crash
+    /// since the call's start, after a refusal too, leaves a content whose state a crash just before could
+    /// have left, and after `Ok` only what was found. Refused `NotFormatted`, `BadShape` and `BadRecord` by
+    /// what the disk reads as (docs/STORE.md, "Opening"), `Memory` where there is no room for the journal, and
+    /// then nothing is written, and `Device` where the disk failed in this call. A refusal gives the disk back.
     pub fn open(alloc: Global, mut disk: D) -> Result<Store<D>, (D, Refusal)>
         requires none_out { IsIdle (D.facts disk) }
         ensures opened { IfOk result (λ store. Opened (D.facts disk) (view_of store)) }
+        ensures version { IfOk result (λ store. LeavesVersionTwo (disk_of store)) }
         ensures refused { IfErr result (λ e. OpenRefused (D.facts disk) e.1 (D.facts e.0)) }
 
         // And the other way: a disk that reads as a refusal is refused so, or by 5; one that stands for a
@@ -94,12 +97,16 @@ impl<D: Disk + Drop> Store<D> {
         ensures no_sectors { length (D.facts disk).content ≡ 0
             → MatchResult result (λ store. ⊥) (λ f. (f.1 ≡ Refusal.BadShape) × (f.0 ≡ disk)) }
 
+        // Nothing is written before an open is refused, but with 5.
+        ensures reads_alone { IfErr result (λ e. (e.1 ≡ Refusal.Device → ⊥) → ReadsAlone (D.facts disk) (D.facts e.0)) }
+
         // Whatever it answers.
-        ensures reads_alone { MatchResult result (λ store. ReadsAlone (D.facts disk) (disk_of store)) (λ e. ReadsAlone
+        ensures settles { MatchResult result (λ store. IsSettled (D.facts disk) (disk_of store)) (λ e. IsSettled
             (D.facts disk) (D.facts e.0)) }
         ensures calls { 0 < length (D.facts disk).content
-            → MatchResult result (λ store. (disk_of store).calls ≡ counted (D.facts disk).calls 4) (λ e. OpenCalls e.1
-            (D.facts disk).calls (D.facts e.0).calls) }
+            → MatchResult result (λ store. (disk_of store).calls ≡ counted (D.facts disk).calls (open_calls
+            (D.facts disk).content)) (λ e. OpenCalls (D.facts disk).content e.1 (D.facts disk).calls
+            (D.facts e.0).calls) }
         ensures cause { MatchResult result (λ store. fault_state_of store ≡ D.fault_state disk) (λ e. CausedRefusal
             (D.fault_state disk) e.1 (D.fault_state e.0)) }
     {
@@ -110,13 +117,17 @@ impl<D: Disk + Drop> Store<D> {
         let Ok(journal) = Vec::with_capacity(alloc, MAX_COMMANDS) else {
             return Err((disk, Refusal::Memory));
         };
+        let kept = match migrated(&mut disk, found) {
+            Ok(kept) => kept,
+            Err(refusal) => return Err((disk, refusal)),
+        };
         let failures_at_open = disk.failures();
         Ok(Store {
             disk,
-            shape: found.shape,
-            side: found.side,
-            opened: found.record,
-            current: found.record,
+            shape: kept.shape,
+            side: kept.side,
+            opened: kept.record,
+            current: kept.record,
             journal,
             doubt: None,
             over: false,
@@ -175,10 +186,10 @@ impl<D: Disk + Drop> Store<D> {
     /// or the state after.
     ///
     /// Refused `Down` where an earlier command of this life is in doubt, and then nothing is done; `Over`
-    /// after a reset; `JournalFull` after 4,096 commands; `BadSlot` and `NoImage` by docs/DURABLE.md;
-    /// `Device` where the disk failed before the gate was written; `Down` where it failed at the gate, and
-    /// then this command is in doubt until the next open. After each refusal but `Down` a crash leaves the
-    /// state before.
+    /// after a reset; `JournalFull` after 4,096 commands; `BadSlot`, `NoImage`, `BadTries` and `NoTrial` by
+    /// docs/DURABLE.md; `Device` where the disk failed before the gate was written; `Down` where it failed at
+    /// the gate, and then this command is in doubt until the next open. After each refusal but `Down` a crash
+    /// leaves the state before.
     pub fn apply(&mut self, command: Command) -> Result<Receipt, Refusal>
         ensures asked { Asked Applied self.old (change_of command) result self.new }
         ensures not_memory { IsErrOf result Refusal.Memory → ⊥ }
@@ -439,14 +450,16 @@ impl<D: Disk + Drop> Store<D> {
     }
 }
 
-/// The record that the command makes. Refused `BadSlot` and `NoImage` by the table of commands.
+/// The record that the command makes. Refused `BadSlot`, `NoImage`, `BadTries` and `NoTrial` by the table of
+/// commands.
 fn record_after(old: &Record, command: Command) -> Result<Record, Refusal>
     ensures ok { IfOk result (λ next. (size : Size) (content : Content)
         → (refusal_of (state_of size old.now content) (change_of command) ≡ None)
         × Follows size old.now (Entry.Command command) next) }
     ensures refused { IfErr result (λ e. (size : Size) (content : Content)
         → refusal_of (state_of size old.now content) (change_of command) ≡ Some (number_of_refusal e)) }
-    ensures few { IfErr result (λ e. (e ≡ Refusal.BadSlot) ⊎ (e ≡ Refusal.NoImage)) }
+    ensures few { IfErr result (λ e. (e ≡ Refusal.BadSlot) ⊎ (e ≡ Refusal.NoImage) ⊎ (e ≡ Refusal.BadTries)
+        ⊎ (e ≡ Refusal.NoTrial)) }
 {
     let durable = old.durable().after(command)?;
     Ok(next_record(old, &durable))
@@ -457,6 +470,7 @@ fn next_record(old: &Record, durable: &Durable) -> Record
     ensures { result ≡ next_of old.now durable.now }
 {
     Record {
+        version: Version::Two,
         slot: durable.slot,
         reason: durable.reason,
         next: durable.next,
@@ -465,6 +479,7 @@ fn next_record(old: &Record, durable: &Durable) -> Record
         } else {
             None
         },
+        trial: durable.trial,
     }
 }
 
@@ -510,10 +525,12 @@ fn suspended(durable: &Durable, area: Side, counts: LaneCounts) -> Record
     ensures { result ≡ suspended durable.now area counts }
 {
     Record {
+        version: Version::Two,
         slot: durable.slot,
         reason: durable.reason,
         next: durable.next,
         image: durable.image.map(|head| Saved { head, area, counts }),
+        trial: durable.trial,
     }
 }
 

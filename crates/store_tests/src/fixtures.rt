@@ -3,7 +3,7 @@ ghost use Rattle.std.specs.Prelude.{◌≡◌, IfOk};
 
 use board_model::{Addr, Command, Durable, HartId, ImageHead, Reason, Refusal, Shape, Slot};
 use disk::{ArmedFault, Disk};
-use layout::{Record, Saved, Side, gate_bytes, record_bytes, superblock_bytes};
+use layout::{Record, Saved, Side, Version, gate_bytes, record_bytes, superblock_bytes};
 use simdisk::{Choice, SimDisk};
 use std::alloc::Global;
 use std::fmt::Debug;
@@ -58,10 +58,12 @@ fn image() -> Option<Saved> {
 /// The sector of a record with that image, of slot 3.
 fn record_with_image() -> Option<[u8; 512]> {
     let record = Record {
+        version: Version::Two,
         slot: Slot::new(3)?,
         reason: Reason::NoReason,
         next: 5,
         image: Some(image()?),
+        trial: None,
     };
     Some(record_bytes(&record))
 }

@@ -11,3 +11,5 @@ mod fixtures;
 mod inspects;
 #[cfg(test)]
 mod tests;
+#[cfg(test)]
+mod trials;

@@ -26,7 +26,7 @@ fn a_format_writes_these_sectors(rt: HostRuntime) -> Result<(), Fail> {
     let disk = formatted(rt.alloc())?;
     begins(&rt, &disk, 0, b"SBIDISK1");
     begins(&rt, &disk, 1, &[0; 512]);
-    begins(&rt, &disk, 2, &[1]);
+    begins(&rt, &disk, 2, &[2]);
     Ok(())
 }
 

@@ -24,7 +24,7 @@ stands_so disk size s only c left =
 wrote_later : (old mid new : Facts) → mid.content ≡ old.content → WroteACommand mid new → WroteACommand old new
 unfolding WroteACommand
 wrote_later old mid new same wrote c left =
-    let w = wrote c left in (w.0 ∙ ap (λ (d : Content). 1 - selected d) same, w.1 ∙ ap (λ (d : Content). live_sector d) same)
+    let w = wrote c left in (w.0 ∙ ap (λ (d : Content). 1 - selected d) same, w.1, w.2 ∙ ap (λ (d : Content). live_sector d) same)
 
 wrote_on : (old mid new : Facts) (result : Result ℕ Refusal) → mid.content ≡ old.content → OnOk result (WroteACommand mid new) → OnOk result (WroteACommand old new)
 wrote_on old mid new (Ok n) same wrote = wrote_later old mid new same wrote

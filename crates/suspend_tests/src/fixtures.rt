@@ -43,7 +43,7 @@ pub fn turns<R: thread::Threads + Sync>(_rt: &R) -> Result<Turns<R>, Refusal> {
 }
 
 /// An open of which only the refusal is told.
-fn open(alloc: Global, disk: SimDisk) -> Result<Store<SimDisk>, Refusal>
+pub fn open(alloc: Global, disk: SimDisk) -> Result<Store<SimDisk>, Refusal>
     requires { (⟦<SimDisk as Disk>⟧.facts disk).lent.lanes ≡ 0 }
 {
     match Store::open(alloc, disk) {

@@ -7,6 +7,8 @@ mod cuts;
 #[cfg(test)]
 mod fixtures;
 #[cfg(test)]
+mod migrations;
+#[cfg(test)]
 mod sizes;
 #[cfg(test)]
 mod tests;

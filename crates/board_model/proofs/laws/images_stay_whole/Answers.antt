@@ -1,7 +1,9 @@
-use Rattle.std.proofs.Common.{◌≡◌, List, [], ◌∷◌, Some, length, ap, arith}
+use Rattle.std.proofs.Common.{◌≡◌, List, [], ◌∷◌, Option, Some, length, sym, ap, subst, arith}
+use Rattle.std.specs.Prelude.{IfSome}
+use Rattle.board_model.proofs.Attempts.{attempt_image}
 use Rattle.std.specs.List.{All}
 use Rattle.std.proofs.lemmas.List.Elements.{All-head, All-tail}
-use Rattle.board_model.specs.Durable.{DurableState, Image, Change, Slot, Reset, Suspend, Consume, Discard, after, fold, IsWhole, CarriesWhole}
+use Rattle.board_model.specs.Durable.{DurableState, Image, Change, Slot, Reset, Suspend, Consume, Discard, Tries, Good, Attempt, after, fold, IsWhole, CarriesWhole}
 use Rattle.board_model.specs.Shapes.{Size, IsSize, ram_bytes_of}
 use Rattle.board_model.proofs.laws.images_stay_whole.Goals as goal
 
@@ -11,6 +13,9 @@ stays size s (Reset r) whole carries = whole
 stays size s (Suspend hart address opaque memory) whole carries = carries
 stays size s Consume whole carries = tt
 stays size s Discard whole carries = tt
+stays size s (Tries n boots) whole carries = whole
+stays size s Good whole carries = whole
+stays size s Attempt whole carries = subst (λ (i : Option Image). IfSome i (λ i. length i.memory ≡ ram_bytes_of size)) (sym (attempt_image s s.trial)) whole
 
 all_stay : (size : Size) (s : DurableState) (cs : List Change) → IsWhole size s → All (CarriesWhole size) cs → IsWhole size (fold s cs)
 all_stay size s [] whole carry = whole

@@ -1,10 +1,12 @@
 use Rattle.std.proofs.Common.{rules}
 use Rattle.disk_program.specs.Sights.{SeeRefused}
-use Rattle.disk_program.proofs.Seeing.{alone_then, refused_later}
+use Rattle.store.proofs.Renewing.{read_settled, settled_after}
+use Rattle.disk_program.proofs.Seeing.{refused_later}
 use Rattle.disk_program.proofs.sees.see_disk.Goals as goal
 
-pub returns-in-Ok-found-clause-reads_alone : goal.returns-in-Ok-found-clause-reads_alone
-returns-in-Ok-found-clause-reads_alone g c = alone_then _ _ _ c.in-Ok.ensures.reads_alone c.find-disk.ensures.reads_alone
+pub returns-in-Ok-found-clause-settles : goal.returns-in-Ok-found-clause-settles
+returns-in-Ok-found-clause-settles g c =
+    settled_after (g.D.Disk.facts c.args.disk) (g.D.Disk.facts c.inspect.new.disk) c.in-Ok.ensures.reads_alone (g.D.Disk.facts c.find-disk.result.0) c.find-disk.ensures.settles
 
 pub returns-in-Err-found-clause-refused : goal.returns-in-Err-found-clause-refused
 returns-in-Err-found-clause-refused g c =
@@ -13,5 +15,9 @@ returns-in-Err-found-clause-refused g c =
     let why : SeeRefused mid c.in-Err-found.refusal new = search rules in
     refused_later (g.D.Disk.facts c.args.disk) mid new c.in-Err-found.refusal c.in-Ok.ensures.reads_alone why
 
-pub returns-in-Err-found-clause-reads_alone : goal.returns-in-Err-found-clause-reads_alone
-returns-in-Err-found-clause-reads_alone g c = alone_then _ _ _ c.in-Ok.ensures.reads_alone c.find-disk.ensures.reads_alone
+pub returns-in-Err-found-clause-settles : goal.returns-in-Err-found-clause-settles
+returns-in-Err-found-clause-settles g c =
+    settled_after (g.D.Disk.facts c.args.disk) (g.D.Disk.facts c.inspect.new.disk) c.in-Ok.ensures.reads_alone (g.D.Disk.facts c.find-disk.result.0) c.find-disk.ensures.settles
+
+pub returns-in-Err-clause-settles : goal.returns-in-Err-clause-settles
+returns-in-Err-clause-settles g c = read_settled (g.D.Disk.facts c.args.disk) (g.D.Disk.facts c.inspect.new.disk) c.in-Err.ensures.reads_alone

@@ -12,11 +12,11 @@ returns-in-Err-ready-clause-off g c =
     let r = c.in-Err-ready.ensures in
     let store = c.ready.new.store in
     let disk = g.D.Disk.facts c.into_disk.result in
-    is_off _ _ _ _ _ (view_of c.in-Ok.store) (view_of store) _ disk o.opened o.reads_alone.any_moment c.found.ensures c.now.ensures r.refused r.unissued
+    is_off _ _ _ _ _ (view_of c.in-Ok.store) (view_of store) _ disk o.opened o.settles.any_moment c.found.ensures c.now.ensures r.refused r.unissued
     (leaves_life _ disk _ (now_state store) (λ up. c.into_disk.ensures.up (now_state store) (up, refl)) (λ d down. c.into_disk.ensures.down (now_state store) _ (d, down, refl, refl))) c.into_disk.ensures.facts
 
 pub returns-in-Ok-ready-clause-on : goal.returns-in-Ok-ready-clause-on
 returns-in-Ok-ready-clause-on g c =
     let o = c.in-Ok.ensures in
     let r = c.in-Ok-ready.ensures in
-    is_on c.args.mode c.args.payloads.now (g.D.Disk.facts c.args.disk) (view_of c.in-Ok.store) (view_of c.ready.new.store) c.in-Ok-ready.machine o.opened o.reads_alone.any_moment r.allowed r.fits r.begun r.issued
+    is_on c.args.mode c.args.payloads.now (g.D.Disk.facts c.args.disk) (view_of c.in-Ok.store) (view_of c.ready.new.store) c.in-Ok-ready.machine o.opened o.settles.any_moment r.allowed r.fits r.begun r.issued

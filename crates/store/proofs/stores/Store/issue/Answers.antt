@@ -61,7 +61,7 @@ returns-in-Ok-clause-answered g c =
     record {
       life = (c.requires.reaches, place, life_is _ _ _ _ _ _ _ _ did.found journal (none_maps Doubt _ _ s.doubt c.requires.up) (c.ends_life-ends.ensures _));
       leaves = goes_to _ _ _ _ _ _ did.any_moment (did.done (c.in-Ok.ensures.done s.shape s.current did.up did.range));
-      written = wrote a b s.side s.kept.known (did.up a.content (g.met.D.Disk.may_keep _)).selects.gate c.in-Ok.ensures.written;
+      written = wrote a b s.shape s.side next s.kept.known (did.up a.content (g.met.D.Disk.may_keep _)).selects.gate did.range c.requires.follows.version c.in-Ok.ensures.written;
       cause = c.in-Ok.ensures.cause.ok;
       counts = c.in-Ok.ensures.no_failure;
     }

@@ -1,0 +1,60 @@
+use Rattle.std.proofs.Common.{◌∙◌, ℕ, refl, sym, ap, subst}
+use Rattle.std.proofs.lemmas.Result.{err_from_is_err_and}
+use Rattle.disk.specs.Facts.{counted}
+use Rattle.layout.specs.Records.{IsInRange}
+use Rattle.layout.specs.declared.records.Record.{Record}
+use Rattle.layout.specs.declared.records.Version.TheVariants.{One, Two}
+use Rattle.store.specs.Standing.{state_of}
+use Rattle.store.proofs.Renewing.{in_range_two, still_settled, renewed_settled, renewed_state, four_sectors, calls_of, calls_on, calls_stop}
+use Rattle.store.proofs.renews.migrated.Goals as goal
+
+pub renewed-requires-clause-enough : goal.renewed-requires-clause-enough
+renewed-requires-clause-enough g c _ _ =
+    let f = c.args.found in
+    four_sectors (g.D.Disk.facts c.args.disk.now) f.shape f.side f.record (c.requires.keeps.up refl) (g.met.D.Disk.may_keep _)
+
+pub renewed-requires-clause-in_range : goal.renewed-requires-clause-in_range
+renewed-requires-clause-in_range g c _ _ =
+    let f = c.args.found in
+    subst (IsInRange f.shape) (sym c.in_version_two-next.ensures) (in_range_two f.shape f.record (c.requires.keeps.up refl _ (g.met.D.Disk.may_keep _)).selects.is.0)
+
+pub renewed-requires-clause-same : goal.renewed-requires-clause-same
+renewed-requires-clause-same g c _ _ x = ap (λ (r : Record). state_of c.args.found.shape r x) c.in_version_two-next.ensures
+
+-- of version 2 already
+pub returns-in-Two-clause-settles : goal.returns-in-Two-clause-settles
+returns-in-Two-clause-settles g c = still_settled (g.D.Disk.facts c.args.disk.now) (g.met.D.Disk.only_now _) c.requires.keeps.none_out
+
+pub returns-in-Two-clause-calls : goal.returns-in-Two-clause-calls
+returns-in-Two-clause-calls g c start made =
+    let f = c.args.found in
+    made ∙ ap (λ (k : ℕ). counted start k) (sym (calls_of f.shape f.side f.record Two _ (c.requires.keeps.up refl _ (g.met.D.Disk.may_keep _)).selects c.in-Two.is))
+
+-- of version 1, and written anew
+pub returns-in_ok-kept-in-One-clause-state : goal.returns-in_ok-kept-in-One-clause-state
+returns-in_ok-kept-in-One-clause-state g c =
+    let kept = c.in_ok-kept-in-One.kept in
+    renewed_state (g.D.Disk.facts c.renewed.new.disk) kept.shape c.args.found.shape kept.side kept.record _ (c.in_ok-kept-in-One.ensures.keeps.0.up refl) (g.met.D.Disk.may_keep _) c.renewed.ensures.content
+
+pub returns-in_ok-kept-in-One-clause-settles : goal.returns-in_ok-kept-in-One-clause-settles
+returns-in_ok-kept-in-One-clause-settles g c =
+    let f = c.args.found in
+    let did = c.renewed.ensures in
+    renewed_settled (g.D.Disk.facts c.args.disk.now) (g.D.Disk.facts c.renewed.new.disk) f.shape f.side f.record (c.requires.keeps.up refl) (g.met.D.Disk.may_keep _) c.in-One.is did.content did.any_moment did.length did.none_out did.no_fewer
+
+pub returns-in_ok-kept-in-One-clause-calls : goal.returns-in_ok-kept-in-One-clause-calls
+returns-in_ok-kept-in-One-clause-calls g c start made =
+    let f = c.args.found in
+    calls_on start _ _ _ made c.in_ok-kept-in-One.ensures.calls (calls_of f.shape f.side f.record One _ (c.requires.keeps.up refl _ (g.met.D.Disk.may_keep _)).selects c.in-One.is)
+
+pub returns-in_err-kept-in-One-clause-settles : goal.returns-in_err-kept-in-One-clause-settles
+returns-in_err-kept-in-One-clause-settles g c =
+    let f = c.args.found in
+    let did = c.renewed.ensures in
+    renewed_settled (g.D.Disk.facts c.args.disk.now) (g.D.Disk.facts c.renewed.new.disk) f.shape f.side f.record (c.requires.keeps.up refl) (g.met.D.Disk.may_keep _) c.in-One.is did.content did.any_moment did.length did.none_out did.no_fewer
+
+pub returns-in_err-kept-in-One-clause-calls : goal.returns-in_err-kept-in-One-clause-calls
+returns-in_err-kept-in-One-clause-calls g c start made =
+    let p = err_from_is_err_and c.from_residual.result c.from_residual.ensures.1 in
+    let f = c.args.found in
+    rw p.1 (calls_stop start _ _ _ made c.in_err-kept-in-One.ensures.stops (calls_of f.shape f.side f.record One _ (c.requires.keeps.up refl _ (g.met.D.Disk.may_keep _)).selects c.in-One.is))
