@@ -1,7 +1,7 @@
 -- A report whose lines are failure-free: no power-on was refused memory, and no failure was answered.
 use Rattle.std.proofs.Common.{◌≡◌, ◌≢◌, ℕ, zero, suc, arith, inl, inr, List, [], ◌∷◌, Bool, true, false, Option, None, Some, Result, Ok, Err, refl, ◌∙◌, ap, subst}
 use Rattle.std.specs.Bool.{⊤}
-use Rattle.board_model.specs.Durable.{DurableState, Change, Slot, Reset, Discard, refusal_of}
+use Rattle.board_model.specs.Durable.{DurableState, Change, Slot, Reset, Discard, Tries, Good, refusal_of}
 use Rattle.board_model.specs.Shapes.{Size}
 use Rattle.board.specs.Boots.{boot_refusal}
 use Rattle.board.specs.Moments.{commands_by}
@@ -28,8 +28,8 @@ use Rattle.board_model.specs.declared.durable.Reason.{Reason}
 use Rattle.script_lang.specs.Scripts.{Script}
 use Rattle.script_lang.specs.declared.line.Line.{Line}
 use Rattle.script_lang.specs.declared.line.Line.TheVariants as lines
-use Rattle.bench_report.specs.declared.printed.ConsoleWord.{ConsoleWord}
-use Rattle.bench_report.specs.declared.printed.ConsoleWord.TheVariants as names
+use Rattle.board_console.specs.declared.command_words.ConsoleWord.{ConsoleWord}
+use Rattle.board_console.specs.declared.command_words.ConsoleWord.TheVariants as names
 use Rattle.bench_report.specs.declared.printed.Printed.{Printed}
 use Rattle.bench_report.specs.declared.printed.Printed.TheVariants as printed
 use Rattle.disk.specs.FaultState.{FaultArmed, CutArmed}
@@ -274,6 +274,8 @@ step_failure_free size lines.Format b a new h failure_free = format_at b.power b
 step_failure_free size (lines.On mode) b a new h failure_free = on_at size b.power mode b a new h failure_free
 step_failure_free size (lines.Slot n) b a new h failure_free = console_at names.Slot (Slot n) b.power b a new h failure_free
 step_failure_free size lines.Discard b a new h failure_free = console_at names.Discard Discard b.power b a new h failure_free
+step_failure_free size (lines.Tries n boots) b a new h failure_free = console_at names.Tries (Tries n boots) b.power b a new h failure_free
+step_failure_free size lines.Good b a new h failure_free = console_at names.Good Good b.power b a new h failure_free
 step_failure_free size (lines.Turn x y) b a new h failure_free = turn_at b.power x y b a new h failure_free
 step_failure_free size (lines.Call x y z u v w) b a new h failure_free = call_at b.power x y z u v w b a new h failure_free
 step_failure_free size (lines.Reg x y) b a new h failure_free = read_at b.power _ b a new h

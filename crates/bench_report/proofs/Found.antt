@@ -1,7 +1,7 @@
 -- Where the disk never failed, each power-on finds what all acknowledged commands make.
 use Rattle.std.proofs.Common.{◌≡◌, ◌≢◌, ◌⊎◌, ℕ, zero, suc, ◌+◌, ◌-◌, ◌^◌, ◌==◌, inl, inr, List, [], ◌∷◌, Option, None, Some, Result, Ok, Err, refl, sym, ◌∙◌, ap, subst, arith, Bool, true, false, MatchBool, is_some, if◌then◌else◌}
 use Rattle.std.specs.Bool.{⊤}
-use Rattle.board_model.specs.Durable.{DurableState, Change, Slot, Consume, Discard, formatted, refusal_of}
+use Rattle.board_model.specs.Durable.{DurableState, Change, Slot, Consume, Discard, Tries, Good, formatted, refusal_of}
 use Rattle.board_model.specs.Kept.{Kept, found_of, MayFind, TakesIn}
 use Rattle.board_model.specs.Shapes.{Size}
 use Rattle.board_model.specs.declared.boot_mode.BootMode.{BootMode}
@@ -30,8 +30,8 @@ use Rattle.sbi.specs.declared.resets.ResetType.{ResetType}
 use Rattle.sbi.specs.Resets.{reset_of}
 use Rattle.machine_lines.specs.declared.line.MachineLine.{MachineLine}
 use Rattle.machine_lines.specs.declared.line.MachineLine.TheVariants as shown_lines
-use Rattle.bench_report.specs.declared.printed.ConsoleWord.{ConsoleWord}
-use Rattle.bench_report.specs.declared.printed.ConsoleWord.TheVariants as names
+use Rattle.board_console.specs.declared.command_words.ConsoleWord.{ConsoleWord}
+use Rattle.board_console.specs.declared.command_words.ConsoleWord.TheVariants as names
 use Rattle.bench_report.specs.declared.printed.Printed.{Printed}
 use Rattle.bench_report.specs.declared.printed.Printed.TheVariants as printed
 use Rattle.bench_report.specs.declared.printed.Answer.{Answer}
@@ -267,6 +267,8 @@ step_quiet : (size : Size) (line : Line) (b : Bench) (a : Answer) (new : Bench) 
 step_quiet size (lines.On mode) b a new sound well up h = on_quiet (is_up new.power) size b.power mode b a new sound well h
 step_quiet size (lines.Slot n) b a new sound well up h = console_quiet (is_up new.power) names.Slot (Slot n) b.power b a new refl up h
 step_quiet size lines.Discard b a new sound well up h = console_quiet (is_up new.power) names.Discard Discard b.power b a new refl up h
+step_quiet size (lines.Tries n boots) b a new sound well up h = console_quiet (is_up new.power) names.Tries (Tries n boots) b.power b a new refl up h
+step_quiet size lines.Good b a new sound well up h = console_quiet (is_up new.power) names.Good Good b.power b a new refl up h
 step_quiet size (lines.Turn x y) b a new sound well up h = turn_quiet (is_up new.power) b.power x y b a new up h
 step_quiet size (lines.Call x y z u v w) b a new sound well up h = call_quiet (is_up new.power) b.power x y z u v w b a new up h
 step_quiet size line b a new sound well up h = nothing_quiet a.line (is_up new.power)

@@ -1,7 +1,7 @@
 -- The plain report is one, of a run in which memory was never refused and no failure was answered.
 use Rattle.std.proofs.Common.{◌≡◌, ℕ, ◌+◌, ◌<◌, ◌≤◌, inl, inr, List, [], ◌∷◌, Option, None, Some, Result, Ok, Err, refl, sym, subst, arith, Bool, true, false, ◌==◌, cond, eqb→eq, T, lit≤, is_some, if◌then◌else◌, ap, ◌∙◌}
 use Rattle.std.specs.Bool.{⊤}
-use Rattle.board_model.specs.Durable.{DurableState, Image, Change, Slot, Discard, formatted, refusal_of, after}
+use Rattle.board_model.specs.Durable.{DurableState, Image, Change, Slot, Discard, Tries, Good, formatted, refusal_of, after}
 use Rattle.board_model.specs.Kept.{found_of}
 use Rattle.board_model.specs.Shapes.{Size}
 use Rattle.board.specs.Boots.{boot_refusal, booted}
@@ -11,8 +11,8 @@ use Rattle.script_lang.specs.Scripts.{Script}
 use Rattle.script_lang.specs.declared.line.Line.{Line}
 use Rattle.script_lang.specs.declared.line.Line.TheVariants as lines
 use Rattle.disk.specs.FaultState.{FaultArmed, CutArmed}
-use Rattle.bench_report.specs.declared.printed.ConsoleWord.{ConsoleWord}
-use Rattle.bench_report.specs.declared.printed.ConsoleWord.TheVariants as names
+use Rattle.board_console.specs.declared.command_words.ConsoleWord.{ConsoleWord}
+use Rattle.board_console.specs.declared.command_words.ConsoleWord.TheVariants as names
 use Rattle.bench_report.specs.declared.printed.Answer.{Answer}
 use Rattle.bench_report.specs.Bench.{DiskState, Blank, Unknown, Formatted, BenchLife, Bench, IsFailureFree, blank_bench}
 use Rattle.bench_report.specs.Happens.{says, on_with, settled, acknowledged}
@@ -162,6 +162,12 @@ steps size (lines.Slot n) b plain blind good =
 steps size lines.Discard b plain blind good =
     by_power b.power (λ p. CalmPower p → Well b (ConsoleStep names.Discard Discard p b) (plain_at size p lines.Discard b))
     (λ calm. console_at names.Discard Discard None b (λ s e. refl) calm good) (λ life calm. console_at names.Discard Discard (Some life) b (λ s e. refl) calm good) good.1
+steps size (lines.Tries n boots) b plain blind good =
+    by_power b.power (λ p. CalmPower p → Well b (ConsoleStep names.Tries (Tries n boots) p b) (plain_at size p (lines.Tries n boots) b))
+    (λ calm. console_at names.Tries (Tries n boots) None b (λ s e. e) calm good) (λ life calm. console_at names.Tries (Tries n boots) (Some life) b (λ s e. e) calm good) good.1
+steps size lines.Good b plain blind good =
+    by_power b.power (λ p. CalmPower p → Well b (ConsoleStep names.Good Good p b) (plain_at size p lines.Good b))
+    (λ calm. console_at names.Good Good None b (λ s e. e) calm good) (λ life calm. console_at names.Good Good (Some life) b (λ s e. e) calm good) good.1
 steps size (lines.CutAt x y) b plain blind good = by_power b.power (λ p. Well b (ArmStep CutArmed b) (plain_at size p (lines.CutAt x y) b)) ((refl, refl), good, (refl, refl)) (λ life. ((refl, refl), good, (refl, refl)))
 steps size (lines.CutLane x y z) b plain blind good = by_power b.power (λ p. Well b (ArmStep CutArmed b) (plain_at size p (lines.CutLane x y z) b)) ((refl, refl), good, (refl, refl)) (λ life. ((refl, refl), good, (refl, refl)))
 steps size (lines.FailAt x) b plain blind good = by_power b.power (λ p. Well b (ArmStep FaultArmed b) (plain_at size p (lines.FailAt x) b)) ((refl, refl), good, (refl, refl)) (λ life. ((refl, refl), good, (refl, refl)))

@@ -1,7 +1,7 @@
 -- The prefix law, one induction over the lines, backwards: the state before a line comes of the one after it,
 -- so that the fate of a command in doubt is reported by the open that settles it.
 use Rattle.std.proofs.Common.{◌≡◌, ◌⊎◌, ℕ, ◌-◌, ◌^◌, ◌==◌, inl, inr, List, [], ◌∷◌, Option, None, Some, Result, Ok, Err, refl, sym, ◌∙◌, ap, subst, Bool, true, false, MatchBool}
-use Rattle.board_model.specs.Durable.{DurableState, Change, Slot, Discard, formatted}
+use Rattle.board_model.specs.Durable.{DurableState, Change, Slot, Discard, Tries, Good, formatted}
 use Rattle.board_model.specs.Kept.{Kept, nothing_kept, found_of, MayKeep, MayFind}
 use Rattle.board_model.specs.Shapes.{Size}
 use Rattle.board_model.specs.Views.{durable_of}
@@ -24,8 +24,8 @@ use Rattle.machine.specs.declared.parts.Word.{Word}
 use Rattle.machine.specs.declared.parts.Word.TheVariants as words
 use Rattle.machine_lines.specs.declared.line.MachineLine.{MachineLine}
 use Rattle.machine_lines.specs.declared.line.MachineLine.TheVariants as shown_lines
-use Rattle.bench_report.specs.declared.printed.ConsoleWord.{ConsoleWord}
-use Rattle.bench_report.specs.declared.printed.ConsoleWord.TheVariants as names
+use Rattle.board_console.specs.declared.command_words.ConsoleWord.{ConsoleWord}
+use Rattle.board_console.specs.declared.command_words.ConsoleWord.TheVariants as names
 use Rattle.bench_report.specs.declared.printed.Printed.{Printed}
 use Rattle.bench_report.specs.declared.printed.Printed.TheVariants as printed
 use Rattle.disk.specs.FaultState.{FaultArmed, CutArmed}
@@ -309,6 +309,8 @@ steps size lines.Format b a new by sound h = format_at b.power b a new sound h
 steps size (lines.On mode) b a new by sound h = on_at size b.power mode b a new sound refl h
 steps size (lines.Slot n) b a new by sound h = consoles names.Slot (Slot n) b.power b a new sound refl h
 steps size lines.Discard b a new by sound h = consoles names.Discard Discard b.power b a new sound refl h
+steps size (lines.Tries n boots) b a new by sound h = consoles names.Tries (Tries n boots) b.power b a new sound refl h
+steps size lines.Good b a new by sound h = consoles names.Good Good b.power b a new sound refl h
 steps size (lines.Turn x y) b a new by sound h = turn_at b.power x y b a new sound h
 steps size (lines.Call x y z u v w) b a new by sound h = call_at b.power x y z u v w b a new sound refl h
 steps size (lines.Reg x y) b a new by sound h = read_at b.power _ b a new sound h
@@ -466,6 +468,8 @@ step_formats size lines.Format b a new h ok = formatted_at b.power b a new refl 
 step_formats size (lines.On mode) b a new h ok = powers_no size b.power mode b a new h ok
 step_formats size (lines.Slot n) b a new h ok = console_no names.Slot (Slot n) b.power b a new h ok
 step_formats size lines.Discard b a new h ok = console_no names.Discard Discard b.power b a new h ok
+step_formats size (lines.Tries n boots) b a new h ok = console_no names.Tries (Tries n boots) b.power b a new h ok
+step_formats size lines.Good b a new h ok = console_no names.Good Good b.power b a new h ok
 step_formats size (lines.Turn x y) b a new h ok = turn_no b.power x y b a new h ok
 step_formats size (lines.Call x y z u v w) b a new h ok = call_no b.power x y z u v w b a new h ok
 step_formats size (lines.Reg x y) b a new h ok = read_no b.power _ b a new h ok

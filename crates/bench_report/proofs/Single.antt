@@ -1,6 +1,6 @@
 -- One report: the lines, and the one induction over them.
 use Rattle.std.proofs.Common.{◌≡◌, ◌⊎◌, ℕ, inl, inr, List, [], ◌∷◌, Option, None, Some, refl, sym, ◌∙◌, ap, subst, arith, Bool, true, false}
-use Rattle.board_model.specs.Durable.{Change, Slot, Discard}
+use Rattle.board_model.specs.Durable.{Change, Slot, Discard, Tries, Good}
 use Rattle.board_model.specs.Shapes.{Size}
 use Rattle.board_model.specs.declared.boot_mode.BootMode.{BootMode}
 use Rattle.disk.specs.FaultState.{FaultArmed, CutArmed}
@@ -18,8 +18,8 @@ use Rattle.machine.specs.declared.parts.Called.TheVariants.{NotStarted, Made}
 use Rattle.script_lang.specs.Scripts.{Script}
 use Rattle.script_lang.specs.declared.line.Line.{Line}
 use Rattle.script_lang.specs.declared.line.Line.TheVariants as lines
-use Rattle.bench_report.specs.declared.printed.ConsoleWord.{ConsoleWord}
-use Rattle.bench_report.specs.declared.printed.ConsoleWord.TheVariants as names
+use Rattle.board_console.specs.declared.command_words.ConsoleWord.{ConsoleWord}
+use Rattle.board_console.specs.declared.command_words.ConsoleWord.TheVariants as names
 use Rattle.bench_report.specs.declared.printed.Answer.{Answer}
 use Rattle.bench_report.specs.Bench.{BenchLife, Bench, IsFailureFree, blank_bench}
 use Rattle.bench_report.specs.Happens.{shows, unpowered, written_past, armed_with, on_with, has_machine}
@@ -93,6 +93,8 @@ step_fair size lines.Format b a new by h = format_fair b.power b a new h
 step_fair size (lines.On mode) b a new by h = on_fair size b.power mode b a new h
 step_fair size (lines.Slot n) b a new by h = console_fair names.Slot (Slot n) b.power b a new h
 step_fair size lines.Discard b a new by h = console_fair names.Discard Discard b.power b a new h
+step_fair size (lines.Tries n boots) b a new by h = console_fair names.Tries (Tries n boots) b.power b a new h
+step_fair size lines.Good b a new by h = console_fair names.Good Good b.power b a new h
 step_fair size (lines.Turn x y) b a new by h = turn_fair b.power x y b a new h
 step_fair size (lines.Call x y z u v w) b a new by h = call_fair b.power x y z u v w b a new h
 step_fair size (lines.Reg x y) b a new by h = read_fair b.power _ b a new h
@@ -221,6 +223,8 @@ steps laws turns call csr size lines.Format b a z new last calm x y = format_at 
 steps laws turns call csr size (lines.On mode) b a z new last calm x y = on_at size b.power mode b a z new last calm x y
 steps laws turns call csr size (lines.Slot n) b a z new last calm x y = console_at names.Slot (Slot n) b.power b a z new last x y
 steps laws turns call csr size lines.Discard b a z new last calm x y = console_at names.Discard Discard b.power b a z new last x y
+steps laws turns call csr size (lines.Tries n boots) b a z new last calm x y = console_at names.Tries (Tries n boots) b.power b a z new last x y
+steps laws turns call csr size lines.Good b a z new last calm x y = console_at names.Good Good b.power b a z new last x y
 steps laws turns call csr size (lines.Turn h n) b a z new last calm x y = turn_at turns b.power h n b a z new last x y
 steps laws turns call csr size (lines.Call h e f u v w) b a z new last calm x y = call_at call b.power h e f u v w b a z new last x y
 steps laws turns call csr size (lines.Reg h r) b a z new last calm x y = read_at _ (λ m line also p q. p ∙ sym q) b.power b a z new last x y

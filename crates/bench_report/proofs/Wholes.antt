@@ -30,8 +30,8 @@ use Rattle.turns.specs.declared.words.Turned.{Turned}
 use Rattle.turns.specs.declared.words.Turned.TheVariants.{Durable}
 use Rattle.disk.specs.FaultState.{FaultArmed, CutArmed}
 use Rattle.bench_report.specs.declared.printed.Answer.{Answer}
-use Rattle.bench_report.specs.declared.printed.ConsoleWord.{ConsoleWord}
-use Rattle.bench_report.specs.declared.printed.ConsoleWord.TheVariants as names
+use Rattle.board_console.specs.declared.command_words.ConsoleWord.{ConsoleWord}
+use Rattle.board_console.specs.declared.command_words.ConsoleWord.TheVariants as names
 use Rattle.bench_report.specs.declared.printed.Printed.{Printed}
 use Rattle.bench_report.specs.declared.printed.Printed.TheVariants as printed
 use Rattle.bench_report.specs.Bench.{DiskState, Blank, Unknown, Formatted, BenchLife, Bench}
@@ -279,6 +279,8 @@ module _ (size : Size) where
   step (lines.On mode) b a new by k h = on_line b.power mode b a new refl k h
   step (lines.Slot n) b a new by k h = console names.Slot (Slot n) b.power b a new tt refl k h
   step lines.Discard b a new by k h = console names.Discard Discard b.power b a new tt refl k h
+  step (lines.Tries n boots) b a new by k h = console names.Tries (Tries n boots) b.power b a new tt refl k h
+  step lines.Good b a new by k h = console names.Good Good b.power b a new tt refl k h
   step (lines.Turn x y) b a new by k h = turn_line b.power x y b a new k h
   step (lines.Call x y z u v w) b a new by k h = call_line b.power x y z u v w b a new refl k h
   step (lines.Reg x y) b a new by k h = reads b.power _ b a new k h
@@ -374,6 +376,8 @@ module _ (size : Size) where
   loaded lines.Format b a new k h = tt
   loaded (lines.Slot n) b a new k h = tt
   loaded lines.Discard b a new k h = tt
+  loaded (lines.Tries n boots) b a new k h = tt
+  loaded lines.Good b a new k h = tt
   loaded (lines.Turn x y) b a new k h = tt
   loaded (lines.Call x y z u v w) b a new k h = tt
   loaded (lines.Reg x y) b a new k h = tt

@@ -1,7 +1,7 @@
 -- The report of a script where memory was never refused and the disk never failed, computed: for scripts
 -- whose lines neither move harts nor show memory or harts, so that no image is ever made and no board dozes.
 use Rattle.std.specs.Prelude.{◌≡◌, ◌≢◌, ℕ, ◌+◌, ◌==◌, Bool, true, false, List, [], ◌∷◌, Option, Some, None, Result, Ok, Err, length, slice_set, if◌then◌else◌, ⊤}
-use Rattle.board_model.specs.Durable.{DurableState, Change, Slot, Discard, refusal_of}
+use Rattle.board_model.specs.Durable.{DurableState, Change, Slot, Discard, refusal_of, Tries, Good}
 use Rattle.board_model.specs.Kept.{found_of}
 use Rattle.board_model.specs.Shapes.{Size}
 use Rattle.board_model.specs.Views.{durable_of}
@@ -17,8 +17,8 @@ use Rattle.turns.specs.declared.words.Turned.TheVariants.{Next}
 use Rattle.machine_lines.specs.declared.line.MachineLine.{MachineLine}
 use Rattle.machine_lines.specs.declared.line.MachineLine.TheVariants as shown
 use Rattle.bench_report.specs.declared.printed.Answer.{Answer}
-use Rattle.bench_report.specs.declared.printed.ConsoleWord.{ConsoleWord}
-use Rattle.bench_report.specs.declared.printed.ConsoleWord.TheVariants as names
+use Rattle.board_console.specs.declared.command_words.ConsoleWord.{ConsoleWord}
+use Rattle.board_console.specs.declared.command_words.ConsoleWord.TheVariants as names
 use Rattle.bench_report.specs.declared.printed.Printed.{Printed}
 use Rattle.bench_report.specs.declared.printed.Printed.TheVariants as printed
 use Rattle.bench_report.specs.Bench.{DiskState, Blank, Unknown, Formatted, BenchLife, Bench, blank_bench}
@@ -87,6 +87,8 @@ plain_at size None (lines.On mode) b = plain_on size b.disk_state mode b
 plain_at size (Some life) (lines.On mode) b = (says printed.Busy, b)
 plain_at size p (lines.Slot n) b = plain_console names.Slot (Slot n) p b
 plain_at size p lines.Discard b = plain_console names.Discard Discard p b
+plain_at size p (lines.Tries n boots) b = plain_console names.Tries (Tries n boots) p b
+plain_at size p lines.Good b = plain_console names.Good Good p b
 plain_at size p (lines.Cut fill) b = (says printed.Cut, unpowered b)
 plain_at size p (lines.CutAt n fill) b = (says printed.Armed, armed_with CutArmed b)
 plain_at size p (lines.CutLane i n fill) b = (says printed.Armed, armed_with CutArmed b)

@@ -1,6 +1,6 @@
 -- What a line of a script may answer, and what the bench then is; whole runs. Source: docs/SCRIPT.md.
 use Rattle.std.specs.Prelude.{◌≡◌, ℕ, ◌⊎◌, Bool, true, false, List, [], ◌∷◌, Option, Some, None, Result, Ok, Err, length, slice_set}
-use Rattle.board_model.specs.Durable.{Change, Slot, Discard}
+use Rattle.board_model.specs.Durable.{Change, Slot, Discard, Tries, Good}
 use Rattle.board_model.specs.Shapes.{Size}
 use Rattle.disk.specs.FaultState.{Armed, FaultArmed, CutArmed}
 use Rattle.board_model.specs.declared.boot_mode.BootMode.{BootMode}
@@ -16,8 +16,8 @@ use Rattle.machine.specs.declared.parts.Called.{Called}
 use Rattle.machine.specs.declared.parts.Called.TheVariants.{NotStarted, Made}
 use Rattle.machine_lines.specs.declared.line.MachineLine.{MachineLine}
 use Rattle.machine_lines.specs.declared.line.MachineLine.TheVariants as shown
-use Rattle.bench_report.specs.declared.printed.ConsoleWord.{ConsoleWord}
-use Rattle.bench_report.specs.declared.printed.ConsoleWord.TheVariants as names
+use Rattle.board_console.specs.declared.command_words.ConsoleWord.{ConsoleWord}
+use Rattle.board_console.specs.declared.command_words.ConsoleWord.TheVariants as names
 use Rattle.bench_report.specs.declared.printed.Printed.TheVariants as printed
 use Rattle.bench_report.specs.declared.printed.Answer.{Answer}
 use Rattle.bench_report.specs.Bench.{BenchLife, Bench}
@@ -115,6 +115,8 @@ Step size lines.Format b answer new = FormatStep b.power b answer new
 Step size (lines.On mode) b answer new = OnStep size b.power mode b answer new
 Step size (lines.Slot n) b answer new = ConsoleStep names.Slot (Slot n) b.power b answer new
 Step size lines.Discard b answer new = ConsoleStep names.Discard Discard b.power b answer new
+Step size (lines.Tries n boots) b answer new = ConsoleStep names.Tries (Tries n boots) b.power b answer new
+Step size lines.Good b answer new = ConsoleStep names.Good Good b.power b answer new
 Step size (lines.Turn h n) b answer new = TurnStep b.power h n b answer new
 Step size (lines.Call h e f x y z) b answer new = CallStep b.power h e f x y z b answer new
 Step size (lines.Reg h r) b answer new = ReadStep b.power (λ m line. line ≡ reg_line h r m) b answer new

@@ -2,19 +2,13 @@
 use Rattle.std.specs.Prelude.{ℕ, List, [], ◌∷◌, ◌++◌, Option, Some, None}
 use Rattle.std.specs.Fmt.{decimal}
 use Rattle.board_model.specs.declared.durable.Durable.{Durable}
-use Rattle.board_console.specs.Texts.{state_text}
+use Rattle.board_console.specs.Texts.{console_text, state_text}
 use Rattle.script_lang.specs.Spellings.{mode_text}
 use Rattle.machine_lines.specs.Texts.{machine_line_text}
 use Rattle.examined.specs.Texts.{inspection_text}
-use Rattle.bench_report.specs.declared.printed.ConsoleWord.{ConsoleWord}
-use Rattle.bench_report.specs.declared.printed.ConsoleWord.TheVariants as names
 use Rattle.bench_report.specs.declared.printed.Printed.{Printed}
 use Rattle.bench_report.specs.declared.printed.Printed.TheVariants as printed
 use lib.Chars.{codes}
-
-abbrev pub console_text : ConsoleWord → List ℕ
-console_text names.Slot = codes "slot"
-console_text names.Discard = codes "discard"
 
 abbrev pub line_text : Printed → List ℕ
 line_text (printed.Board harts pages lanes sectors) =

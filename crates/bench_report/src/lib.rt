@@ -12,6 +12,6 @@ pub use laws::{
     all_are_found, inspections, one_report, power_ons, prefix_law, reports_split, worked_scripts,
 };
 pub use power::Power;
-pub use printed::{Answer, ConsoleWord, Printed};
+pub use printed::{Answer, Printed};
 pub use runs::{Report, Stopped, run, run_left, unwritten};
 pub use steps::{after, arm, choice, disk_left, step, struck};

@@ -2,20 +2,14 @@
 
 ghost use Rattle.std.specs.Prelude.{◌≡◌, ◌++◌, Some, IfOk};
 ghost use Rattle.script_lang.specs.Spellings.{mode_text};
-ghost use Rattle.bench_report.specs.Texts.{line_text, console_text};
+ghost use Rattle.bench_report.specs.Texts.{line_text};
 
+use board_console::ConsoleWord;
 use board_model::{BootMode, Durable};
 use examined::InspectionText;
 use machine_lines::MachineLine;
 use std::fmt;
 use store::Inspection;
-
-/// The word by which a line names a command of the console.
-#[derive(Clone, Copy, Debug, PartialEq, Eq)]
-pub enum ConsoleWord {
-    Slot,
-    Discard,
-}
 
 /// The last line that a line of a script makes, or the line of its board.
 #[derive(Clone, Copy, Debug, PartialEq, Eq)]
@@ -78,17 +72,6 @@ impl fmt::Display for ModeName {
             BootMode::Keep => f.write_str("keep"),
             BootMode::Discard => f.write_str("discard"),
             BootMode::Resume => f.write_str("resume"),
-        }
-    }
-}
-
-impl fmt::Display for ConsoleWord {
-    ghost output = { λ word. Some (console_text word) };
-
-    fn fmt<W: fmt::Write>(&self, f: &mut fmt::Formatter<W>) -> fmt::Result {
-        match *self {
-            ConsoleWord::Slot => f.write_str("slot"),
-            ConsoleWord::Discard => f.write_str("discard"),
         }
     }
 }

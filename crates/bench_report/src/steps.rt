@@ -20,8 +20,9 @@ ghost use Rattle.machine.specs.Machine.{Machine};
 ghost use Rattle.board_model.specs.declared.refusal.Refusal.TheVariants.{Memory};
 
 use crate::power::Power;
-use crate::printed::{Answer, ConsoleWord, Printed};
+use crate::printed::{Answer, Printed};
 use board::{Board, Payloads};
+use board_console::ConsoleWord;
 use board_model::{BootMode, Command, HartId, Refusal, Shape};
 use crew::Crew;
 use disk::{ArmedFault, Disk};
@@ -590,6 +591,10 @@ pub fn step<C: Crew>(
         Line::On(mode) => answered(on_line(alloc, *mode, power, payloads)),
         Line::Slot(n) => answered(console_line(ConsoleWord::Slot, Command::Slot(*n), power)),
         Line::Discard => answered(console_line(ConsoleWord::Discard, Command::Discard, power)),
+        Line::Tries(slot, boots) => {
+            answered(console_line(ConsoleWord::Tries, Command::Tries(*slot, *boots), power))
+        }
+        Line::Good => answered(console_line(ConsoleWord::Good, Command::Good, power)),
         Line::Cut(fill) => (cut(power, *fill), Ok(says(Printed::Cut))),
         Line::Payload(slot, bytes) => {
             match payload_line(alloc, *slot, bytes, &power, payloads) {

@@ -1,16 +1,35 @@
 //! What the console makes of a line.
 
 ghost use Rattle.std.specs.Prelude.{◌≡◌, true};
+ghost use Rattle.board_model.specs.Views.{change_of};
 ghost use Rattle.shared_store.specs.Views.{store_in};
-ghost use Rattle.board_console.specs.Commands.{AnswersSaid, AnswersWake, IsAnswerTo, IsWakeAnswer, asks_store};
+ghost use Rattle.board_console.specs.Commands.{AnswersCommand, AnswersSaid, AnswersWake, IsCommandAnswer, IsAnswerTo, IsWakeAnswer, asks_store};
 
 use crate::answer::Answer;
+use crate::command_words::ConsoleWord;
 use crate::waking::Waking;
 use crate::words::Said;
 use board_model::Command;
 use disk::Disk;
 use shared_store::{Journal, Part, SharedStore};
 use susp::Bus;
+
+/// Issues a command, which is answered by that word.
+fn issue<D: Disk + Drop, J: Journal>(
+    store: &mut SharedStore<D, J>,
+    part: Part<J>,
+    word: ConsoleWord,
+    command: Command,
+) -> (Part<J>, Answer)
+    ensures asks { AnswersCommand word (change_of command) (store_in store.old) (store_in store.new) result.1 }
+    ensures fits { IsCommandAnswer J.found word command result.1 part.told result.0.told }
+{
+    let (part, answered) = store.apply(part, command);
+    match answered {
+        Ok(told) => (part, Answer::Acknowledged(word, told.number())),
+        Err(refusal) => (part, Answer::Refused(word, refusal)),
+    }
+}
 
 /// Does what a line says, with the store that it is lent for this one moment: on a board of threads, under
 /// the store's lock. A command that was acknowledged is durable, and its receipt is its place in the journal
@@ -26,20 +45,12 @@ pub fn obey<D: Disk + Drop, J: Journal>(
     ensures fits { IsAnswerTo J.found said result.1 part.told result.0.told }
 {
     match said {
-        Said::Slot(slot) => {
-            let (part, answered) = store.apply(part, Command::Slot(slot));
-            match answered {
-                Ok(told) => (part, Answer::SlotOk(told.number())),
-                Err(refusal) => (part, Answer::SlotRefused(refusal)),
-            }
+        Said::Slot(slot) => issue(store, part, ConsoleWord::Slot, Command::Slot(slot)),
+        Said::Discard => issue(store, part, ConsoleWord::Discard, Command::Discard),
+        Said::Tries(slot, boots) => {
+            issue(store, part, ConsoleWord::Tries, Command::Tries(slot, boots))
         }
-        Said::Discard => {
-            let (part, answered) = store.apply(part, Command::Discard);
-            match answered {
-                Ok(told) => (part, Answer::DiscardOk(told.number())),
-                Err(refusal) => (part, Answer::DiscardRefused(refusal)),
-            }
-        }
+        Said::Good => issue(store, part, ConsoleWord::Good, Command::Good),
         Said::State => (part, Answer::State(store.now())),
         Said::Wake | Said::Quit | Said::Other => unreachable!(),
     }

@@ -35,7 +35,13 @@ fn is_quit(said: Said) -> bool
 {
     match said {
         Said::Quit => true,
-        Said::Slot(_) | Said::Discard | Said::State | Said::Wake | Said::Other => false,
+        Said::Slot(_)
+        | Said::Discard
+        | Said::Tries(..)
+        | Said::Good
+        | Said::State
+        | Said::Wake
+        | Said::Other => false,
     }
 }
 
@@ -60,7 +66,9 @@ fn answer_to<R: Wait, D: Disk + Drop, J: Journal>(
     ensures { IsAnswerTo J.found said result.1 part.told result.0.told }
 {
     match said {
-        Said::Slot(_) | Said::Discard | Said::State => obey(&mut store.lock(rt), part, said),
+        Said::Slot(_) | Said::Discard | Said::Tries(_, _) | Said::Good | Said::State => {
+            obey(&mut store.lock(rt), part, said)
+        }
         Said::Wake => (part, rouse(&mut bus.lock(rt))),
         Said::Quit => (part, Answer::Quit),
         Said::Other => (part, Answer::Unknown),

@@ -15,7 +15,7 @@ use Rattle.script_lang.specs.Lines.{line_of}
 use Rattle.script_lang.specs.Spellings.{spelling_of, text_of, FitsLine}
 use Rattle.board_model.specs.declared.boot_mode.BootMode.TheVariants as modes
 use Rattle.script_lang.specs.declared.line.Line.{Line}
-use Rattle.script_lang.specs.declared.line.Line.TheVariants.{Payload, Format, On, Slot, Discard, Turn, Call, Reg, Pc, Csr, Pending, Mem, CutAt, CutLane, FailAt, FailLane, Cut, Poke, Inspect, Wake}
+use Rattle.script_lang.specs.declared.line.Line.TheVariants.{Payload, Format, On, Slot, Discard, Turn, Call, Reg, Pc, Csr, Pending, Mem, CutAt, CutLane, FailAt, FailLane, Cut, Poke, Inspect, Wake, Tries, Good}
 use Rattle.script_lang.proofs.Numerals.{AreWords, words_of-join, IsWord-decimal, IsWord-encode, IsWord-fill, number_of-decimal, ranged-decimal, hex_of-encode, fill_of-text}
 use lib.Chars.{codes}
 
@@ -72,6 +72,8 @@ line_of-spelling size (Poke sector offset bytes) z r f =
     rw (ranged-decimal 0 (sectors_of size) sector (omega arith) r.0 (omega arith), ranged-decimal 0 512 offset (omega arith) (omega arith) (omega arith), hex_of-encode bytes f.1 r.1, t)
 line_of-spelling size Inspect z r f = refl
 line_of-spelling size Wake z r f = refl
+line_of-spelling size (Tries slot boots) z r f = rw (ranged-decimal 0 (2 ^ 32) slot (omega arith) r.0 (omega arith), ranged-decimal 0 (2 ^ 32) boots (omega arith) r.1 (omega arith))
+line_of-spelling size Good z r f = refl
 
 -- no word of a spelling holds a space
 pub AreWords-spelling : (size : Size) (line : Line) → IsSize size → IsLineInRange size line → FitsLine line → AreWords (spelling_of line)
@@ -98,6 +100,8 @@ AreWords-spelling size (Cut fill) z r f = (refl, (IsWord-fill fill f, tt))
 AreWords-spelling size (Poke sector offset bytes) z r f = (refl, (IsWord-decimal sector (omega arith), (IsWord-decimal offset (omega arith), (IsWord-encode bytes f.1, tt))))
 AreWords-spelling size Inspect z r f = (refl, tt)
 AreWords-spelling size Wake z r f = (refl, tt)
+AreWords-spelling size (Tries slot boots) z r f = (refl, (IsWord-decimal slot (omega arith), (IsWord-decimal boots (omega arith), tt)))
+AreWords-spelling size Good z r f = (refl, tt)
 
 join_back : (words : List (List ℕ)) → 0 < length words → AreWords words → words_of (join_with_byte 32 words) ≡ words
 join_back [] some h = absurd (omega arith)
@@ -123,6 +127,8 @@ spelling_some (Cut fill) = lit< tt
 spelling_some (Poke sector offset bytes) = lit< tt
 spelling_some Inspect = lit< tt
 spelling_some Wake = lit< tt
+spelling_some (Tries slot boots) = lit< tt
+spelling_some Good = lit< tt
 spelling_some (On mode) = lit< tt
 
 -- a line is read from its text

@@ -16,7 +16,7 @@ use Rattle.script_lang.specs.declared.line.Fill.{Fill}
 use Rattle.script_lang.specs.declared.line.Fill.TheVariants.{Old, New, Byte, Alternating}
 use Rattle.board_model.specs.declared.boot_mode.BootMode.TheVariants as modes
 use Rattle.script_lang.specs.declared.line.Line.{Line}
-use Rattle.script_lang.specs.declared.line.Line.TheVariants.{Payload, Format, On, Slot, Discard, Turn, Call, Reg, Pc, Csr, Pending, Mem, CutAt, CutLane, FailAt, FailLane, Cut, Poke, Inspect, Wake}
+use Rattle.script_lang.specs.declared.line.Line.TheVariants.{Payload, Format, On, Slot, Discard, Turn, Call, Reg, Pc, Csr, Pending, Mem, CutAt, CutLane, FailAt, FailLane, Cut, Poke, Inspect, Wake, Tries, Good}
 use Rattle.script_lang.proofs.Numerals.{AreWords, AreFree, IsWord-free, slice_split-join, words_of-join, IsWord-decimal, number_of-decimal}
 use Rattle.script_lang.proofs.Spelled.{AreWords-spelling, line_of-text}
 use lib.Chars.{codes}
@@ -85,6 +85,8 @@ text_not_passed (Cut fill) = not_passed 99 (drop 1 (text_of (Cut fill))) refl
 text_not_passed (Poke sector offset bytes) = not_passed 112 (drop 1 (text_of (Poke sector offset bytes))) refl
 text_not_passed Inspect = not_passed 105 (drop 1 (text_of Inspect)) refl
 text_not_passed Wake = not_passed 119 (drop 1 (text_of Wake)) refl
+text_not_passed (Tries slot boots) = not_passed 116 (drop 1 (text_of (Tries slot boots))) refl
+text_not_passed Good = not_passed 103 (drop 1 (text_of Good)) refl
 
 text_filled : (line : Line) → 0 < length (text_of line)
 text_filled (Payload slot bytes) = omega arith
@@ -110,6 +112,8 @@ text_filled (Cut fill) = omega arith
 text_filled (Poke sector offset bytes) = omega arith
 text_filled Inspect = omega arith
 text_filled Wake = omega arith
+text_filled (Tries slot boots) = omega arith
+text_filled Good = omega arith
 
 spelling_long : (size : Size) (line : Line) → IsSize size → IsLineInRange size line → FitsLine line → long (spelling_of line) ≤ 4096
 unfolding long
@@ -136,6 +140,8 @@ spelling_long size (Cut fill) z r f = omega (arith, fill_short fill)
 spelling_long size (Poke sector offset bytes) z r f = omega (arith, short sector (omega arith), short offset (omega arith), length-encode_with lower_digits bytes)
 spelling_long size Inspect z r f = omega arith
 spelling_long size Wake z r f = omega arith
+spelling_long size (Tries slot boots) z r f = omega (arith, short slot (omega arith), short boots (omega arith))
+spelling_long size Good z r f = omega arith
 
 text_short : (size : Size) (line : Line) → IsSize size → IsLineInRange size line → FitsLine line → length (text_of line) ≤ 4096
 text_short size line z r f = omega (arith, length-join (spelling_of line), spelling_long size line z r f)

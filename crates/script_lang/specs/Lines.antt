@@ -3,11 +3,11 @@ use Rattle.std.specs.Prelude.{ℕ, List, [], ◌∷◌, Option, Some, None, if�
 use Rattle.std.specs.Str.{bytes_eq}
 use Rattle.board_model.specs.Shapes.{Size}
 use Rattle.script_lang.specs.Words.{◌>>=◌, none_of}
-use Rattle.script_lang.specs.Rows.{payload_of, on_of, slot_of, turn_of, call_line_of, reg_of, pc_of, csr_of, mem_of, cutat_of, cutlane_of, failat_of, faillane_of, cut_of, poke_of}
+use Rattle.script_lang.specs.Rows.{payload_of, on_of, slot_of, turn_of, call_line_of, reg_of, pc_of, csr_of, mem_of, cutat_of, cutlane_of, failat_of, faillane_of, cut_of, poke_of, tries_of}
 use Rattle.script_lang.specs.declared.line.Keyword.{Keyword}
 use Rattle.script_lang.specs.declared.line.Keyword.TheVariants as keywords
 use Rattle.script_lang.specs.declared.line.Line.{Line}
-use Rattle.script_lang.specs.declared.line.Line.TheVariants.{Format, Discard, Pending, Inspect, Wake}
+use Rattle.script_lang.specs.declared.line.Line.TheVariants.{Format, Discard, Pending, Inspect, Wake, Good}
 use lib.Chars.{codes}
 
 -- the keywords by their words
@@ -33,6 +33,8 @@ keywords_by_word =
     (codes "poke", keywords.Poke) ∷
     (codes "inspect", keywords.Inspect) ∷
     (codes "wake", keywords.Wake) ∷
+    (codes "tries", keywords.Tries) ∷
+    (codes "good", keywords.Good) ∷
     []
 
 -- the keyword of the first row with this word
@@ -71,6 +73,8 @@ body_of size keywords.Cut words = cut_of words
 body_of size keywords.Poke words = poke_of size words
 body_of size keywords.Inspect words = alone Inspect words
 body_of size keywords.Wake words = alone Wake words
+body_of size keywords.Tries words = tries_of words
+body_of size keywords.Good words = alone Good words
 
 -- what the words of a line say
 abbrev pub line_of : Size → List (List ℕ) → Option Line

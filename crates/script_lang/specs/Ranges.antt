@@ -2,7 +2,7 @@
 use Rattle.std.specs.Prelude.{ℕ, ◌+◌, ◌^◌, ◌<◌, ◌≤◌, ◌≡◌, ◌⊎◌, length}
 use Rattle.board_model.specs.Shapes.{Size, ram_bytes_of, sectors_of}
 use Rattle.script_lang.specs.declared.line.Line.{Line}
-use Rattle.script_lang.specs.declared.line.Line.TheVariants.{Payload, Format, On, Slot, Discard, Turn, Call, Reg, Pc, Csr, Pending, Mem, CutAt, CutLane, FailAt, FailLane, Cut, Poke, Inspect, Wake}
+use Rattle.script_lang.specs.declared.line.Line.TheVariants.{Payload, Format, On, Slot, Discard, Turn, Call, Reg, Pc, Csr, Pending, Mem, CutAt, CutLane, FailAt, FailLane, Cut, Poke, Inspect, Wake, Tries, Good}
 
 -- how many disk calls or turns a line may name
 abbrev pub IsCount : ℕ → Type 0
@@ -34,3 +34,5 @@ IsLineInRange size (Poke sector offset bytes) =
     (sector < sectors_of size) × (1 ≤ length bytes) × (offset + length bytes ≤ 512)
 IsLineInRange size Inspect = Unit {0}
 IsLineInRange size Wake = Unit {0}
+IsLineInRange size (Tries slot boots) = (slot < 2 ^ 32) × (boots < 2 ^ 32)
+IsLineInRange size Good = Unit {0}

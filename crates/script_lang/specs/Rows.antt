@@ -6,7 +6,7 @@ use Rattle.script_lang.specs.Words.{◌>>=◌, number_of, ranged, fill_of, hex_o
 use Rattle.board_model.specs.declared.boot_mode.BootMode.{BootMode}
 use Rattle.board_model.specs.declared.boot_mode.BootMode.TheVariants as modes
 use Rattle.script_lang.specs.declared.line.Line.{Line}
-use Rattle.script_lang.specs.declared.line.Line.TheVariants.{Payload, On, Slot, Turn, Call, Reg, Pc, Csr, Mem, CutAt, CutLane, FailAt, FailLane, Cut, Poke}
+use Rattle.script_lang.specs.declared.line.Line.TheVariants.{Payload, On, Slot, Turn, Call, Reg, Pc, Csr, Mem, CutAt, CutLane, FailAt, FailLane, Cut, Poke, Tries}
 use lib.Chars.{codes}
 
 -- `payload S HEX`
@@ -38,6 +38,14 @@ slot_of words = do
   word ← one_of words
   slot ← ranged 0 (2 ^ 32) word
   Some (Slot slot)
+
+-- `tries S N`
+abbrev pub tries_of : List (List ℕ) → Option Line
+tries_of words = do
+  pair ← two_of words
+  slot ← ranged 0 (2 ^ 32) pair.0
+  boots ← ranged 0 (2 ^ 32) pair.1
+  Some (Tries slot boots)
 
 -- `turn H N`
 abbrev pub turn_of : Size → List (List ℕ) → Option Line

@@ -9,7 +9,7 @@ use Rattle.board_model.specs.declared.boot_mode.BootMode.TheVariants as modes
 use Rattle.script_lang.specs.declared.line.Fill.{Fill}
 use Rattle.script_lang.specs.declared.line.Fill.TheVariants.{Old, New, Byte, Alternating}
 use Rattle.script_lang.specs.declared.line.Line.{Line}
-use Rattle.script_lang.specs.declared.line.Line.TheVariants.{Payload, Format, On, Slot, Discard, Turn, Call, Reg, Pc, Csr, Pending, Mem, CutAt, CutLane, FailAt, FailLane, Cut, Poke, Inspect, Wake}
+use Rattle.script_lang.specs.declared.line.Line.TheVariants.{Payload, Format, On, Slot, Discard, Turn, Call, Reg, Pc, Csr, Pending, Mem, CutAt, CutLane, FailAt, FailLane, Cut, Poke, Inspect, Wake, Tries, Good}
 use Rattle.script_lang.specs.Ranges.{IsLineInRange}
 use Rattle.script_lang.specs.Scripts.{Script}
 use lib.Chars.{codes}
@@ -49,6 +49,8 @@ spelling_of (Cut fill) = codes "cut" ∷ fill_text fill ∷ []
 spelling_of (Poke sector offset bytes) = codes "poke" ∷ decimal sector ∷ decimal offset ∷ encode_lower bytes ∷ []
 spelling_of Inspect = codes "inspect" ∷ []
 spelling_of Wake = codes "wake" ∷ []
+spelling_of (Tries slot boots) = codes "tries" ∷ decimal slot ∷ decimal boots ∷ []
+spelling_of Good = codes "good" ∷ []
 
 -- the bytes of a line, without its line feed
 abbrev pub text_of : Line → List ℕ
@@ -83,6 +85,8 @@ FitsLine (Cut fill) = FitsFill fill
 FitsLine (Poke sector offset bytes) = (sector < 2 ^ 32) × IsBytes bytes
 FitsLine Inspect = Unit {0}
 FitsLine Wake = Unit {0}
+FitsLine (Tries slot boots) = Unit {0}
+FitsLine Good = Unit {0}
 
 -- the text of a script: the board line and the lines after it, parted by line feeds
 abbrev pub board_text : Size → List ℕ

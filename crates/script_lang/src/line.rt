@@ -39,6 +39,8 @@ pub enum Keyword {
     Poke,
     Inspect,
     Wake,
+    Tries,
+    Good,
 }
 
 /// A line after the board line. Harts, lanes, addresses and sectors are in the ranges of that board.
@@ -84,4 +86,8 @@ pub enum Line {
     Inspect,
     /// `wake`: the wake-up device calls a board that sleeps to RAM.
     Wake,
+    /// `tries S N`: the boot slot becomes S, on trial for N boots.
+    Tries(u32, u32),
+    /// `good`: the slot on trial is kept.
+    Good,
 }

@@ -11,7 +11,7 @@ use board_model::Shape;
 use std::alloc::{AllocError, Global};
 
 /// The keywords by their words.
-const KEYWORDS: [(&[u8], Keyword); 20] = [
+const KEYWORDS: [(&[u8], Keyword); 22] = [
     (b"payload", Keyword::Payload),
     (b"format", Keyword::Format),
     (b"on", Keyword::On),
@@ -32,6 +32,8 @@ const KEYWORDS: [(&[u8], Keyword); 20] = [
     (b"poke", Keyword::Poke),
     (b"inspect", Keyword::Inspect),
     (b"wake", Keyword::Wake),
+    (b"tries", Keyword::Tries),
+    (b"good", Keyword::Good),
 ];
 
 /// The keyword of the first row with this word.
@@ -92,6 +94,8 @@ fn body(
         Keyword::Poke => rows::poke(alloc, shape, words),
         Keyword::Inspect => Ok(alone(Line::Inspect, words)),
         Keyword::Wake => Ok(alone(Line::Wake, words)),
+        Keyword::Tries => Ok(rows::tries(words)),
+        Keyword::Good => Ok(alone(Line::Good, words)),
     }
 }
 

@@ -5,7 +5,7 @@ ghost use Rattle.std.specs.Option.{option_map};
 ghost use Rattle.script_lang.specs.Words.{ranged};
 ghost use Rattle.board_model.specs.Shapes.{Size, sectors_of};
 ghost use Rattle.script_lang.specs.Ranges.{IsCount, IsCsr, IsLineInRange};
-ghost use Rattle.script_lang.specs.Rows.{payload_of, mode_of, on_of, slot_of, turn_of, extension_of, argument_of, call_head_of, call_line_of, reg_of, pc_of, csr_number_of, csr_of, mem_of, cutat_of, cutlane_of, failat_of, faillane_of, cut_of, place_of, poke_of};
+ghost use Rattle.script_lang.specs.Rows.{payload_of, mode_of, on_of, slot_of, turn_of, extension_of, argument_of, call_head_of, call_line_of, reg_of, pc_of, csr_number_of, csr_of, mem_of, cutat_of, cutlane_of, failat_of, faillane_of, cut_of, place_of, poke_of, tries_of};
 
 use crate::line::Line;
 use crate::words::{bytes, fill, in_range, none, number, one, three, two};
@@ -96,6 +96,16 @@ pub fn slot(words: &[&[u8]]) -> Option<Line>
     ensures range { (size : Size) → IfSome result (IsLineInRange size) }
 {
     Some(Line::Slot(in_range(0, 1 << 32, one(words)?)?))
+}
+
+/// `tries S N`: any two numbers below 2^32.
+pub fn tries(words: &[&[u8]]) -> Option<Line>
+    ensures value { result ≡ tries_of (map (λ w. w.now) words.now) }
+    ensures range { (size : Size) → IfSome result (IsLineInRange size) }
+{
+    let (s, n) = two(words)?;
+    let slot = in_range(0, 1 << 32, s)?;
+    Some(Line::Tries(slot, in_range(0, 1 << 32, n)?))
 }
 
 /// `turn H N`.

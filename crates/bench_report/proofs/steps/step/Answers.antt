@@ -20,6 +20,14 @@ pub returns-in-Discard-clause-reported : goal.returns-in-Discard-clause-reported
 returns-in-Discard-clause-reported g c = λ b h.
     row_reported c.args.shape.now _ _ b _ _ _ _ _ c.in-Discard.is c.answered-in-Discard.ensures.answer c.answered-in-Discard.ensures.power h.1 (c.console_line-in-Discard.ensures.reported c.args.shape.now b h.0)
 
+pub returns-in-Tries-clause-reported : goal.returns-in-Tries-clause-reported
+returns-in-Tries-clause-reported g c = λ b h.
+    row_reported c.args.shape.now _ _ b _ _ _ _ _ c.in-Tries.is c.answered-in-Tries.ensures.answer c.answered-in-Tries.ensures.power h.1 (c.console_line-in-Tries.ensures.reported c.args.shape.now b h.0)
+
+pub returns-in-Good-clause-reported : goal.returns-in-Good-clause-reported
+returns-in-Good-clause-reported g c = λ b h.
+    row_reported c.args.shape.now _ _ b _ _ _ _ _ c.in-Good.is c.answered-in-Good.ensures.answer c.answered-in-Good.ensures.power h.1 (c.console_line-in-Good.ensures.reported c.args.shape.now b h.0)
+
 pub returns-in-Cut-clause-reported : goal.returns-in-Cut-clause-reported
 returns-in-Cut-clause-reported g c = λ b h. rw c.in-Cut.is (unpowered b, (c.says.ensures, refl), (c.cut.ensures.reported c.args.shape.now b h.0, h.1))
 

@@ -11,3 +11,6 @@ returns-in-CutAt-clause-range c = c.cutat.ensures.range c.args.shape.now
 
 pub returns-in-FailAt-clause-range : goal.returns-in-FailAt-clause-range
 returns-in-FailAt-clause-range c = c.failat.ensures.range c.args.shape.now
+
+pub returns-in-Tries-clause-range : goal.returns-in-Tries-clause-range
+returns-in-Tries-clause-range c = c.tries.ensures.range c.args.shape.now
