@@ -1,21 +1,28 @@
 -- What a crash may leave at the moments of a power-on.
 -- Source: docs/BOARD.md, "Power on"; docs/STORE.md, "What a crash leaves".
-use Rattle.std.specs.Prelude.{◌≡◌, ◌⊎◌, ◌-◌, List, [], ◌∷◌}
+use Rattle.std.specs.Prelude.{◌≡◌, ◌⊎◌, ◌-◌, List, [], ◌∷◌, Option, None, Some}
 use Rattle.disk.specs.Facts.{Content, Facts}
-use Rattle.board_model.specs.Durable.{DurableState, Change, Consume, Discard, after}
+use Rattle.board_model.specs.Durable.{DurableState, Change, Consume, Discard, Attempt, after}
 use Rattle.board_model.specs.Shapes.{Size}
 use Rattle.board_model.specs.declared.boot_mode.BootMode.{BootMode}
+use Rattle.board_model.specs.declared.durable.Trial.{Trial}
 use Rattle.board_model.specs.declared.boot_mode.BootMode.TheVariants as modes
 use Rattle.board_model.specs.declared.refusal.Refusal.{Refusal}
 use Rattle.board_model.specs.declared.refusal.Refusal.TheVariants.{Device, Down}
 use Rattle.store.specs.Leaves.{LeftAsBefore}
 use Rattle.store.specs.Standing.{selected, live_sector, other_sector, StandsFor}
 
--- the commands that a boot by the mode issues where the open found that state, the first of them first
+-- the command by which a boot is counted, where a trial stands
+abbrev pub attempts_of : Option Trial → List Change
+attempts_of None = []
+attempts_of (Some trial) = Attempt ∷ []
+
+-- The commands that a boot by the mode issues where the open found that state, the first of them first. A
+-- resume is no boot of a slot, and counts none.
 abbrev pub commands_by : BootMode → DurableState → List Change
-commands_by modes.Fresh s = []
-commands_by modes.Keep s = []
-commands_by modes.Discard s = Discard ∷ []
+commands_by modes.Fresh s = attempts_of s.trial
+commands_by modes.Keep s = attempts_of s.trial
+commands_by modes.Discard s = Discard ∷ attempts_of s.trial
 commands_by modes.Resume s = Consume ∷ []
 
 -- of these commands, the ones that may have gone to the disk before a boot was refused

@@ -82,8 +82,27 @@ fn boot_slot<D: Disk + Drop>(machine: &mut Machine, store: &Store<D>, payloads: 
     machine.boot(&store.shape(), payloads.get(now.slot), now.reason);
 }
 
-/// Begins what the mode asks for, on a board that was just made: boots the slot, after discard once its
-/// command was acknowledged; or goes on with the image.
+/// Issues what a boot of the slot counts and drops first: a discarded image, and then a boot of the trial that
+/// stands.
+fn issue_boot<D: Disk + Drop>(store: &mut Store<D>, mode: BootMode) -> Result<(), Refusal>
+    requires opened { IsOpen (view_of store.old) }
+    requires allowed { boot_refusal (found_state store.old) mode ≡ None }
+    requires boots { mode ≢ BootMode.Resume }
+    ensures issued { OnOk result (IsIssued mode (view_of store.old) (view_of store.new)) }
+    ensures refused { IfErr result (λ e. ((e ≡ Refusal.Device) ⊎ (e ≡ Refusal.Down)) × Issues mode (found_state store.old)) }
+    ensures unissued { IfErr result (λ e. IsUnissued mode (view_of store.old) e (view_of store.new)) }
+{
+    if mode == BootMode::Discard {
+        store.apply(Command::Discard)?;
+    }
+    if store.now().trial.is_some() {
+        store.apply(Command::Attempt)?;
+    }
+    Ok(())
+}
+
+/// Begins what the mode asks for, on a board that was just made: boots the slot that stands once the mode's
+/// commands were acknowledged; or goes on with the image.
 fn begin<D: Disk + Drop>(
     machine: &mut Machine,
     store: &mut Store<D>,
@@ -102,14 +121,11 @@ fn begin<D: Disk + Drop>(
         (found_state store.old) e) }
     ensures unissued { IfErr result (λ e. IsUnissued mode (view_of store.old) e (view_of store.new)) }
 {
-    match mode {
-        BootMode::Fresh | BootMode::Keep => boot_slot(machine, store, payloads),
-        BootMode::Discard => {
-            store.apply(Command::Discard)?;
-            boot_slot(machine, store, payloads);
-        }
-        BootMode::Resume => machine.resume(store)?,
+    if mode == BootMode::Resume {
+        return machine.resume(store);
     }
+    issue_boot(store, mode)?;
+    boot_slot(machine, store, payloads);
     Ok(())
 }
 
