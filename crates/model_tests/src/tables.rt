@@ -106,20 +106,21 @@ fn a_trial_begins_and_is_begun_anew(rt: HostRuntime) {
     begins(&rt, on_trial(&rt, 4), 1, 1);
 }
 
+/// A trial of that slot for so many boots is refused so, with no trial and with one that stands.
+fn refuses_tries(rt: &impl Abort, slot: u32, boots: u32, refusal: Refusal) {
+    let command = Command::Tries(slot, boots);
+    same(rt, state(rt, false).after(command), Err(refusal));
+    same(rt, on_trial(rt, 2).after(command), Err(refusal));
+}
+
 #[test]
 fn tries_checks_the_slot_and_then_the_boots(rt: HostRuntime) {
-    for (slot, boots, refusal) in [
-        (4, 0, Refusal::BadSlot),
-        (4, 3, Refusal::BadSlot),
-        (u32::MAX, 8, Refusal::BadSlot),
-        (3, 0, Refusal::BadTries),
-        (0, 8, Refusal::BadTries),
-        (3, u32::MAX, Refusal::BadTries),
-    ] {
-        let command = Command::Tries(slot, boots);
-        same(&rt, state(&rt, false).after(command), Err(refusal));
-        same(&rt, on_trial(&rt, 2).after(command), Err(refusal));
-    }
+    refuses_tries(&rt, 4, 0, Refusal::BadSlot);
+    refuses_tries(&rt, 4, 3, Refusal::BadSlot);
+    refuses_tries(&rt, u32::MAX, 8, Refusal::BadSlot);
+    refuses_tries(&rt, 3, 0, Refusal::BadTries);
+    refuses_tries(&rt, 0, 8, Refusal::BadTries);
+    refuses_tries(&rt, 3, u32::MAX, Refusal::BadTries);
 }
 
 #[test]
