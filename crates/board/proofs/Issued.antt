@@ -73,7 +73,7 @@ module _ (cs ds : List Change) (old mid new : StoreView) (only : LeavesOnly old.
   moments_then any =
       let P : Content → Type 0 = MayIssue old.disk old.size s (cs ++ ds) in
       let next : LeavesSince mid.disk new.disk (MayIssue mid.disk old.size (fold s cs) ds) =
-          subst₂ (λ (z : Size) (t : DurableState). LeavesSince mid.disk new.disk (MayIssue mid.disk z t ds)) first.size now_then any in
+      subst₂ (λ (z : Size) (t : DurableState). LeavesSince mid.disk new.disk (MayIssue mid.disk z t ds)) first.size now_then any in
       leaves_then old.disk mid.disk new.disk P
       (leaves_weaker old.disk mid.disk (MayIssue old.disk old.size s cs) P first.any_moment (may_more old.disk old.size s cs ds only))
       (leaves_weaker mid.disk new.disk (MayIssue mid.disk old.size (fold s cs) ds) P next (may_later old.disk mid.disk old.size s cs ds only first.any_moment.now))
@@ -81,9 +81,12 @@ module _ (cs ds : List Change) (old mid new : StoreView) (only : LeavesOnly old.
   written_then : ((x : Content) → new.disk.may_leave x → LeavesAfter mid.disk (AreWritten mid.size (now_of mid.life) ds) x) → (x : Content) → new.disk.may_leave x → LeavesAfter old.disk (AreWritten old.size s (cs ++ ds)) x
   written_then later x left =
       let last = later x left in
-      let was = first.written last.0 last.1 in
-      (was.0, was.1, written_more old.size cs ds s was.0 last.0 x was.2
-      (subst₂ (λ (z : Size) (t : DurableState). AreWritten z t ds last.0 x) first.size now_then last.2))
+      let was = first.written last.0 last.1 in (
+        was.0,
+        was.1,
+        written_more old.size cs ds s was.0 last.0 x was.2
+            (subst₂ (λ (z : Size) (t : DurableState). AreWritten z t ds last.0 x) first.size now_then last.2),
+      )
 
   pub issued_then : AreIssued ds mid new → AreIssued (cs ++ ds) old new
   issued_then second = record {
@@ -192,7 +195,7 @@ module _ (c : Change) (old new : StoreView) (takes : TakesCommands old) (stays :
   pub one_issued : (n : ℕ) → old.disk.may_leave old.disk.content → ends_life c ≡ false → Answered Applied old c (Ok n) new → AreIssued (c ∷ []) old new
   one_issued n may goes did =
       let life : new.life ≡ record old.life { journal = old.life.journal ++ c ∷ [] } =
-          did.life.2 ∙ ap (λ (b : Bool). record old.life { journal = old.life.journal ++ c ∷ []; over = b }) (goes ∙ sym takes.going) in
+      did.life.2 ∙ ap (λ (b : Bool). record old.life { journal = old.life.journal ++ c ∷ []; over = b }) (goes ∙ sym takes.going) in
       let now : after here c ≡ now_of new.life = sym (fold_more old.life.found old.life.journal (c ∷ [])) ∙ sym (ap now_of life) in
       record {
         size = stays.board;

@@ -1,6 +1,6 @@
-use Rattle.std.proofs.Common.{◌≡◌, ◌∙◌, List, None, inl, inr, refl, sym, ap, subst}
+use Rattle.std.proofs.Common.{◌≡◌, None, inl, inr, refl, sym, subst}
 use Rattle.std.proofs.lemmas.Result.{err_from_is_err_and}
-use Rattle.board_model.specs.Durable.{Change, Consume}
+use Rattle.board_model.specs.Durable.{Consume}
 use Rattle.board_model.specs.declared.boot_mode.BootMode.{BootMode}
 use Rattle.store.specs.Views.{view_of, found_state, now_state}
 use Rattle.board.specs.Boots.{boot_refusal}
@@ -18,7 +18,7 @@ returns-in_ok-resume-in-Resume-clause-issued g c =
     let opened = c.requires.opened in
     let takes = takes_commands c.args.mode old new opened in
     is_issued c.args.mode old new opened (subst (λ (m : BootMode). AreIssued (commands_by m (found_state c.args.store.now)) old new) (sym c.in-Resume.is)
-        (one_issued Consume old new takes did.stays did.consumed.0 (g.met.D.Disk.may_keep _) refl (did.consumed.1.answered takes.sure)))
+    (one_issued Consume old new takes did.stays did.consumed.0 (g.met.D.Disk.may_keep _) refl (did.consumed.1.answered takes.sure)))
 
 -- the image was not loaded, or its consumption was refused
 pub returns-in_err-resume-in-Resume-clause-unissued : goal.returns-in_err-resume-in-Resume-clause-unissued

@@ -1,4 +1,4 @@
-use Rattle.std.proofs.Common.{rules, ◌≡◌, Bool, true, false, is_some, List, refl, sym, subst}
+use Rattle.std.proofs.Common.{rules, ◌≡◌, true, false, is_some, List, refl, sym, subst}
 use Rattle.std.proofs.lemmas.Result.{err_from_is_err_and}
 use Rattle.board_model.specs.Durable.{Change, Attempt}
 use Rattle.store.specs.Views.{view_of, now_state}
