@@ -55,9 +55,10 @@ found_then s line = record { found = Some (durable_of s); line = line }
 -- such a run, so a mode that goes on with one or drops it is refused.
 abbrev pub plain_slot : BootMode → Size → DurableState → Bench → Answer × Bench
 plain_slot mode z s b =
-    let cs = commands_by mode s in
-    (found_then s (printed.On mode),
-    all_acknowledged cs (has_machine (booted b.payloads (fold s cs) z) (life_begun s z)) b)
+    let cs = commands_by mode s in (
+      found_then s (printed.On mode),
+      all_acknowledged cs (has_machine (booted b.payloads (fold s cs) z) (life_begun s z)) b,
+    )
 
 -- by the number with which the state refuses the mode
 abbrev pub plain_boot : Option ℕ → BootMode → Size → DurableState → Bench → Answer × Bench
