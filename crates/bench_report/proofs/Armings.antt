@@ -1,5 +1,5 @@
 -- A bench on whose disk a cut or a failure is armed.
-use Rattle.std.proofs.Common.{◌≡◌, ◌≤◌, inl, ℕ, Option, None, Some, sym, ◌∙◌, ap, subst, length}
+use Rattle.std.proofs.Common.{◌≡◌, ◌≤◌, ℕ, Option, None, Some, sym, ◌∙◌, ap, subst, length}
 use Rattle.board_model.specs.Shapes.{Size}
 use Rattle.disk.specs.Facts.{Facts, Unchanged}
 use Rattle.disk.specs.FaultState.{Armed, FaultState}
@@ -11,7 +11,7 @@ use Rattle.bench_report.specs.Bench.{BenchLife, Bench}
 use Rattle.bench_report.specs.Happens.{armed_with}
 use Rattle.bench_report.specs.Agree.{LifeIs, BoardIs, DeviceIs, OffIs, OnIs}
 use Rattle.bench_report.proofs.Ended.{left_on}
-use Rattle.bench_report.proofs.KeptDisks.{GoesOn}
+use Rattle.bench_report.proofs.KeptDisks.{GoesOn, less}
 use Rattle.bench_report.proofs.Sides.{sides_stay}
 
 device : (size : Size) (b : Bench) (a : Armed) (m n : FaultState) (old new : Facts) → DeviceIs size b m old → Unchanged old new → n ≡ record m { armed = a } → DeviceIs size (armed_with a b) n new
@@ -22,7 +22,7 @@ device size b a m n old new was same is =
 pub armed_off : GoesOn → (size : Size) (b : Bench) (a : Armed) (old new : SimDisk) → OffIs size b old → Unchanged (facts old) (facts new) → fault_state new ≡ record (fault_state old) { armed = a }
     → OffIs size (armed_with a b) new
 armed_off goes_on size b a old new was same is =
-    (was.0, left_on goes_on size b.disk_state b.kept old new was.1 (λ c l. inl ((same.now c).0 l)), device size b a (fault_state old) (fault_state new) (facts old) (facts new) was.2 same is)
+    (was.0, left_on goes_on size b.disk_state b.kept old new was.1 (less old new (λ c l. (same.now c).0 l)), device size b a (fault_state old) (fault_state new) (facts old) (facts new) was.2 same is)
 
 pub armed_on : (size : Size) (b : Bench) (a : Armed) (old new : SimBoard) → OnIs size b old → machine_in new ≡ machine_in old → life_of (store_in new) ≡ life_of (store_in old)
     → store_size (store_in new) ≡ store_size (store_in old) → Unchanged (store_facts (store_in old)) (store_facts (store_in new)) → store_fault_state (store_in new) ≡ record (store_fault_state (store_in old)) { armed = a }

@@ -12,6 +12,7 @@ use Rattle.bench_report.specs.Bench.{DiskState, Blank, Unknown, Formatted, Bench
 use Rattle.bench_report.specs.Agree.{StoreIs, BoardIs, DiskIs, IsOver}
 use Rattle.bench_report.proofs.Adapted.{grows}
 use Rattle.bench_report.proofs.KeptDisks.{GoesOn, LeavesLess}
+use Rattle.bench_report.proofs.Sides.{LeavesFewer}
 
 pub found_more : (cs : List Change) (c : Change) (now : DurableState) → now ≡ found_of cs → after now c ≡ found_of (cs ++ c ∷ [])
 found_more cs c now e = ap (λ s. after s c) e ∙ sym (grows formatted cs c)
@@ -71,14 +72,15 @@ pub board_ended : (size : Size) (m : DiskState) (k : Kept) (p : Option BenchLife
 board_ended size m k None board disk was up down allowed = absurd was
 board_ended size m k (Some life) board disk was up down allowed = ended size m k life (store_in board) disk was.0 up down allowed
 
--- where no other content may be left than before, the disk state is the same
+-- where no other content may be left than before, but for its state in a record of version 2, the disk state is the
+-- same
 pub left_on : GoesOn → (size : Size) (m : DiskState) (k : Kept) (old new : SimDisk) → DiskIs size m k (facts old) → LeavesLess old new → DiskIs size m k (facts new)
 left_on goes_on size Blank k old new was less = (goes_on old new less).0 was
 left_on goes_on size Unknown k old new was less = tt
 left_on goes_on size Formatted k old new was less = let on = goes_on old new less in (on.1 size was.0, λ s l. was.1 s (on.2 size s l))
 
 -- a power cut leaves one of the contents that it may leave, and that alone from then on
-pub cut_leaves : (old new : SimDisk) → IsLeft (facts old) (facts new) → LeavesLess old new
+pub cut_leaves : (old new : SimDisk) → IsLeft (facts old) (facts new) → LeavesFewer (facts old) (facts new)
 cut_leaves old new h c l =
     let P : Content → Type 0 = λ x. (facts old).may_leave x in
-    inl (subst P (sym (h.fresh.durable c l ∙ h.fresh.reads)) h.left)
+    subst P (sym (h.fresh.durable c l ∙ h.fresh.reads)) h.left

@@ -24,7 +24,7 @@ use Rattle.bench_report.specs.Agree.{DiskIs, DeviceIs, OffIs, StepsTo}
 use Rattle.bench_report.proofs.Devices.{fails_by_fault, stays, stays_as}
 use Rattle.bench_report.proofs.Sides.{starved_sides}
 use Rattle.bench_report.proofs.Ended.{left_on}
-use Rattle.bench_report.proofs.KeptDisks.{GoesOn, passed}
+use Rattle.bench_report.proofs.KeptDisks.{GoesOn, less, passed}
 
 -- what a read gives is a content that a crash may leave
 reads_of : (m : DiskState) (k : Kept) (size : Size) (disk : SimDisk) → DiskIs size m k (facts disk) → (facts disk).may_leave (facts disk).content → ReadsOf m k size (facts disk).content
@@ -52,7 +52,7 @@ module _ (goes_on : GoesOn) (size : Size) (b : Bench) (old new : SimDisk) (a : A
   may_read = (device.2, reads_of b.disk_state b.kept size old was.1 (may_keep-law old), λ clean. device.3 clean (facts old).content (may_keep-law old))
 
   disk : DiskIs size b.disk_state b.kept (facts new)
-  disk = left_on goes_on size b.disk_state b.kept old new was.1 (passed old new alone.crash)
+  disk = left_on goes_on size b.disk_state b.kept old new was.1 (less old new (passed old new alone.crash))
 
   starves : fault_state new ≡ fault_state old → DeviceIs size (out_of_memory b) (fault_state new) (facts new)
   starves same = stays_as size b (out_of_memory b) (fault_state old) (fault_state new) (facts old) (facts new) device refl refl same alone.no_fewer (ap length alone.content) (starved_sides size (out_of_memory b) b.growths (facts new) refl)

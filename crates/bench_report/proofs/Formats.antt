@@ -25,7 +25,7 @@ use Rattle.bench_report.proofs.Devices.{is_device, five, fails_as, stays_as}
 use Rattle.bench_report.proofs.Sides.{sides_stay, recorded, formatted_sides}
 use Rattle.bench_report.proofs.Adapted.{struck, calm, failed_format, no_down}
 use Rattle.bench_report.proofs.Ended.{left_on}
-use Rattle.bench_report.proofs.KeptDisks.{KeptLaw, BlankLaw, MarkLaw, passed}
+use Rattle.bench_report.proofs.KeptDisks.{KeptLaw, BlankLaw, MarkLaw, less, passed}
 
 -- what a format leaves of a disk that begins with the mark
 abbrev pub MarkedClause : SimDisk → SimDisk → Type 0
@@ -99,7 +99,7 @@ module _ (kept : KeptLaw) (blank : BlankLaw) (size : Size) (b : Bench) (old new 
       let P : DiskState → Type 0 = λ m. DiskIs size m b.kept (facts new) in
       let passes : Passes (facts old) (facts new) Stays = marked (kept.marked old size was.0) in
       let sides : SidesAre size b (facts new) = sides_stay size b (facts old) (facts new) (passed old new passes) device.3 in
-      let now : DiskIs size Formatted b.kept (facts new) = left_on kept.goes_on size Formatted b.kept old new was (passed old new passes) in
+      let now : DiskIs size Formatted b.kept (facts new) = left_on kept.goes_on size Formatted b.kept old new was (less old new (passed old new passes)) in
       elim (kept.formats old new size e large refusal) [
         | inl f ↦ (b, inl (refused a e AlreadyFormatted h f, refl), (off, subst P (sym at) now, keeps (λ d. (let no : ⊥ = cc in no)) sides), refl)
         | inr f ↦ (let x = hinders b refl refl off (subst P (sym at) now) f in (x.0, inr x.1, x.2, ap (λ (y : Bench). y.payloads) x.1.1.2))

@@ -1,7 +1,7 @@
 -- Where the disk never failed, each power-on finds what all acknowledged commands make.
-use Rattle.std.proofs.Common.{◌≡◌, ◌≢◌, ◌⊎◌, ℕ, zero, suc, ◌+◌, ◌-◌, ◌^◌, ◌==◌, inl, inr, List, [], ◌∷◌, Option, None, Some, Result, Ok, Err, refl, sym, ◌∙◌, ap, subst, arith, Bool, true, false, MatchBool, is_some, if◌then◌else◌}
+use Rattle.std.proofs.Common.{◌≡◌, ◌≢◌, ◌⊎◌, ℕ, zero, suc, ◌+◌, ◌-◌, ◌^◌, ◌==◌, inl, inr, List, [], ◌∷◌, Option, None, Some, Result, Ok, Err, refl, sym, ◌∙◌, ap, subst, arith, Bool, true, false, MatchBool}
 use Rattle.std.specs.Bool.{⊤}
-use Rattle.board_model.specs.Durable.{DurableState, Change, Slot, Consume, Discard, Tries, Good, formatted, refusal_of}
+use Rattle.board_model.specs.Durable.{DurableState, Change, Slot, Discard, Tries, Good, formatted, refusal_of}
 use Rattle.board_model.specs.Kept.{Kept, found_of, MayFind, TakesIn}
 use Rattle.board_model.specs.Shapes.{Size}
 use Rattle.board_model.specs.declared.boot_mode.BootMode.{BootMode}
@@ -35,22 +35,20 @@ use Rattle.board_console.specs.declared.command_words.ConsoleWord.TheVariants as
 use Rattle.bench_report.specs.declared.printed.Printed.{Printed}
 use Rattle.bench_report.specs.declared.printed.Printed.TheVariants as printed
 use Rattle.bench_report.specs.declared.printed.Answer.{Answer}
-use Rattle.bench_report.specs.Bench.{BenchLife, Bench, blank_bench}
-use Rattle.bench_report.specs.Happens.{says, shows, failed, on_with, has_machine, acknowledged, in_doubt}
+use Rattle.bench_report.specs.Bench.{DiskState, Blank, Unknown, Formatted, BenchLife, Bench, blank_bench}
+use Rattle.bench_report.specs.Happens.{says, shows, out_of_memory, failed, on_with, settled, has_machine, acknowledged, in_doubt}
 use Rattle.bench_report.specs.Commands.{Writes, IssuedBy, Issued, IssuesAll}
 use Rattle.susp.specs.declared.sleeps.Sleep.{Sleep}
 use Rattle.susp.specs.declared.sleeps.Sleep.TheVariants.{ToRam, ToDisk}
 use Rattle.bench_report.specs.Turns.{refused, AnswersError, HartCommand, Resets, dozes, BenchFallsAsleep, BenchSleepsBy, BenchMakesCall, ComesTo, GuestTurns}
-use Rattle.bench_report.specs.PowerOns.{life_begun, commands_of, IsBooted, BootsFrom, Begins, Boots, IsOpenRefusal}
+use Rattle.bench_report.specs.PowerOns.{life_begun, IsBooted, BootsFrom, Begins, Boots, Opens, IsOpenRefusal}
 use Rattle.bench_report.specs.Steps.{console_reported, CallReported, GuestCall, OnStep, ConsoleStep, TurnStep, CallStep, Step, Run}
 use Rattle.bench_report.specs.Reports.{AreByFirmware, IsReport}
-use Rattle.bench_report.specs.Taken.{TakesFewer}
 use Rattle.bench_report.specs.Prefix.{AskedLine, Boot, Command, Guest, Nothing, Keeps, Hides, TellsLine, may_hide, may_hide_before, asked_by, LineImplies, ShowsIts, is_format_ok}
 use Rattle.bench_report.specs.AllFound.{LineMakes, ShownMakes, AreAllFound, FindAll, FindsAll}
-use Rattle.bench_report.proofs.Table.{table_not_six}
 use Rattle.bench_report.proofs.Issues.{is_up, takes_more, GoesOn, IsSound}
-use Rattle.bench_report.proofs.Refused.{one_life}
-use Rattle.bench_report.proofs.Determined.{CalmDisk, IsCalm, DiskHasFailed, fails}
+use Rattle.bench_report.proofs.Rows.{commands_taken, few_commands, all_or_failed}
+use Rattle.bench_report.proofs.Determined.{CalmDisk, IsCalm, DiskHasFailed, fails, kept_as}
 use Rattle.bench_report.proofs.Single.{moves_fair, run_fair, struck_fails}
 use Rattle.bench_report.proofs.Prefixed.{Tell, steps, IsFresh, moves_format, either}
 
@@ -122,40 +120,65 @@ up_now : (k : Kept) (p : Option BenchLife) → GoesOn k p → k.doubt ≡ None �
 up_now k None goes calm on = absurd on
 up_now k (Some life) goes calm on = ap takes_more (sym goes.0 ∙ calm)
 
--- ---- a boot is refused 6 only by the disk
-ok_six : {A : Type 0} (n : ℕ) (o : Result ℕ ℕ) → o ≡ Ok n → o ≡ Err 6 → A
-ok_six n o e f = let g : ◌≡◌ {A = Result ℕ ℕ} (Ok n) (Err 6) = sym e ∙ f in absurd (let no : ⊥ = cc in no)
+-- ---- a boot that was refused has issued no command, where the disk did not fail
+abbrev IsRefusedLine : Printed → Type 0
+IsRefusedLine (printed.OnRefused n) = ⊤
+IsRefusedLine x = ⊥
 
-err_six : (n : ℕ) (o : Result ℕ ℕ) → o ≡ Err n → o ≡ Err 6 → n ≡ 6
-err_six n o e f = let g : ◌≡◌ {A = Result ℕ ℕ} (Err n) (Err 6) = sym e ∙ f in let h : n ≡ 6 = cc in h
+abbrev IsRefusedBoot : AskedLine → Printed → Type 0
+IsRefusedBoot (Boot mode) x = IsRefusedLine x
+IsRefusedBoot asked x = ⊥
 
-writes_six : (r : Option ℕ) (c : Change) (life : BenchLife) (b : Bench) (o : Result ℕ ℕ) (new : Bench) → refusal_of life.now c ≡ r → Writes r c life b o new → o ≡ Err 6 → DiskHasFailed new
-writes_six (Some n) c life b o new table w six = absurd (table_not_six life.now c n table (err_six n o w.0 six))
-writes_six None c life b o new table (inl w) six = ok_six (life.receipts + 1) o w.0 six
-writes_six None c life b o new table (inr (inl w)) six = fails b new w.1
-writes_six None c life b o new table (inr (inr w)) six = fails (in_doubt c life b) new w.1
+abbrev IsStill : Bench → Bench → Type 0
+IsStill b new = new.kept.changes ≡ b.kept.changes
 
-issued_six : (c : Change) (s : DurableState) (z : Size) (b : Bench) (o : Result ℕ ℕ) (new : Bench) → Issued c (life_begun s z) b o new → o ≡ Err 6 → DiskHasFailed new
-issued_six c s z b o new (inl i) six = absurd (let e : 10 ≡ 6 = err_six 10 o i.1 six in omega (arith, e))
-issued_six c s z b o new (inr i) six = writes_six (refusal_of s c) c (life_begun s z) b o new refl i.1 six
+still : (b new x : Bench) → new ≡ x → x.kept.changes ≡ b.kept.changes → IsStill b new
+still b new x e same = ap (λ (m : Bench). m.kept.changes) e ∙ same
 
-one_six : (c : Change) (s : DurableState) (z : Size) (b : Bench) (o : Result ℕ ℕ) (mid : Bench) → IssuesAll (c ∷ []) (on_with (life_begun s z) b) o mid → o ≡ Err 6 → DiskHasFailed mid
-one_six c s z b o mid (life, on, first, last, i, inl (k, ok, rest)) six = ok_six 0 o rest.0 six
-one_six c s z b o mid (life, on, first, last, i, inr (n, err, same, e)) six =
-    let start : Bench = on_with (life_begun s z) b in
-    let L : BenchLife → Type 0 = λ l. Issued c l start first last in
-    let at : Issued c (life_begun s z) start first last = subst L (one_life start.power (life_begun s z) life refl on) i in
-    subst DiskHasFailed (sym e) (issued_six c s z start first last at (err ∙ ap (λ k. Err k) (err_six n o same six)))
+booted_still : (o : Result ℕ ℕ) (mode : BootMode) (z : Size) (s : DurableState) (b mid : Bench) (x : Printed) (new : Bench) → (DiskHasFailed new → ⊥) → boot_refusal s mode ≡ None → IssuesAll (commands_by mode s) (on_with (life_begun s z) b) o mid → IsBooted o mode z s mid x new
+    → IsRefusedLine x → IsStill b new
+booted_still (Ok n) mode z s b mid x new well allowed all (life, on, line, m, is, e) refused = absurd (subst IsRefusedLine line refused)
+booted_still (Err n) mode z s b mid x new well allowed all (line, e) refused =
+    by (all_or_failed (commands_by mode s) (life_begun s z) (on_with (life_begun s z) b) (Err n) mid refl refl (omega (arith, few_commands mode s)) (commands_taken mode s allowed) all)
+  where
+    by : (◌≡◌ {A = Result ℕ ℕ} (Err n) (Ok 0)) ⊎ DiskHasFailed mid → IsStill b new
+    by (inl ok) = absurd (let no : ⊥ = cc in no)
+    by (inr failed) = absurd (well (subst DiskHasFailed (sym e) failed))
 
-boot_six : (mode : BootMode) (s : DurableState) (z : Size) (b : Bench) (o : Result ℕ ℕ) (mid : Bench) → IssuesAll (commands_by mode s) (on_with (life_begun s z) b) o mid → o ≡ Err 6 → DiskHasFailed mid
-boot_six modes.Fresh s z b o mid all six = ok_six 0 o all.0 six
-boot_six modes.Keep s z b o mid all six = ok_six 0 o all.0 six
-boot_six modes.Discard s z b o mid all six = one_six Discard s z b o mid all six
-boot_six modes.Resume s z b o mid all six = one_six Consume s z b o mid all six
+starts_still : (mode : BootMode) (z : Size) (s : DurableState) (b : Bench) (x : Printed) (new : Bench) → (DiskHasFailed new → ⊥) → boot_refusal s mode ≡ None → BootsFrom mode z s b x new → IsRefusedLine x → IsStill b new
+starts_still mode z s b x new well allowed (o, mid, all, on) refused = booted_still o mode z s b mid x new well allowed all on refused
+
+begins_still : (mode : BootMode) (z : Size) (s : DurableState) (b : Bench) (x : Printed) (new : Bench) → (DiskHasFailed new → ⊥) → boot_refusal s mode ≡ None → Begins mode z s b x new → IsRefusedLine x → IsStill b new
+begins_still modes.Fresh z s b x new well allowed h refused = starts_still modes.Fresh z s b x new well allowed h refused
+begins_still modes.Keep z s b x new well allowed h refused = starts_still modes.Keep z s b x new well allowed h refused
+begins_still modes.Discard z s b x new well allowed h refused = starts_still modes.Discard z s b x new well allowed h refused
+begins_still modes.Resume z s b x new well allowed (inl h) refused = starts_still modes.Resume z s b x new well allowed h refused
+begins_still modes.Resume z s b x new well allowed (inr h) refused = still b new b h.2 refl
+
+boots_still : (r : Option ℕ) (mode : BootMode) (z : Size) (s : DurableState) (b : Bench) (x : Printed) (new : Bench) → boot_refusal s mode ≡ r → (DiskHasFailed new → ⊥) → Boots r mode z s b x new → IsRefusedLine x → IsStill b new
+boots_still (Some n) mode z s b x new at well h refused = still b new b h.1 refl
+boots_still None mode z s b x new at well (inl h) refused = begins_still mode z s b x new well at h refused
+boots_still None mode z s b x new at well (inr h) refused = still b new (out_of_memory b) h.1 refl
+
+opens_still : (size : Size) (m : DiskState) (b : Bench) (s : DurableState) (z : Size) (mid : Bench) → CalmDisk m b.kept.doubt → Opens size m b s z mid → IsStill b mid
+opens_still size Blank b s z mid calm h = absurd h
+opens_still size Unknown b s z mid calm h = still b mid b h refl
+opens_still size Formatted b s z mid calm (changes, may, is, sized, e) = still b mid (settled changes b) e (sym (kept_as b.kept changes calm may))
+
+on_still : (size : Size) (p : Option BenchLife) (mode : BootMode) (b : Bench) (a : Answer) (new : Bench) → IsCalm b → (DiskHasFailed new → ⊥) → OnStep size p mode b a new → IsRefusedLine a.line → IsStill b new
+on_still size (Some life) mode b a new calm well h refused = still b new b h.1 refl
+on_still size None mode b a new calm well (inl (s, z, mid, found, shows, boot)) refused =
+    boots_still (boot_refusal s mode) mode z s mid a.line new refl well boot refused ∙ opens_still size b.disk_state b s z mid calm.0 found
+on_still size None mode b a new calm well (inr (inl (n, is, e, same))) refused = still b new b same refl
+on_still size None mode b a new calm well (inr (inr (inl h))) refused = still b new (out_of_memory b) h.2 refl
+on_still size None mode b a new calm well (inr (inr (inr h))) refused = absurd (well (fails b new h.1))
+
+step_still : (size : Size) (line : Line) (b : Bench) (a : Answer) (new : Bench) → IsCalm b → (DiskHasFailed new → ⊥) → Step size line b a new → IsRefusedBoot (asked_by line) a.line → IsStill b new
+step_still size (lines.On mode) b a new calm well h refused = on_still size b.power mode b a new calm well h refused
+step_still size line b a new calm well h refused = absurd refused
 
 -- ---- what is known of a line beside what it says: a line that goes on leaves a board that takes commands
 abbrev IsQuiet : AskedLine → Printed → Bool → Type 0
-IsQuiet (Boot mode) (printed.OnRefused n) now = n ≢ 6
 IsQuiet (Command c) (printed.CommandRefused word n) now = now ≡ true
 IsQuiet Guest (printed.Shown (shown_lines.Turn h made (words.Own did))) now = now ≡ true
 IsQuiet Guest (printed.Shown (shown_lines.Turn h made words.Dozing)) now = now ≡ true
@@ -171,49 +194,31 @@ quiet_line : (asked : AskedLine) (x y : Printed) (now : Bool) → x ≡ y → Is
 quiet_line asked x y now e q = subst (λ (l : Printed). IsQuiet asked l now) (sym e) q
 
 module _ (now : Bool) where
-  booted_quiet : (o : Result ℕ ℕ) (mode : BootMode) (z : Size) (s : DurableState) (b mid : Bench) (x : Printed) (new : Bench) → (DiskHasFailed new → ⊥) → IssuesAll (commands_by mode s) (on_with (life_begun s z) b) o mid → IsBooted o mode z s mid x new → IsQuiet (Boot mode) x now
-  booted_quiet (Ok n) mode z s b mid x new well all (life, on, line, m, is, e) = quiet_line (Boot mode) x (printed.On mode) now line tt
-  booted_quiet (Err n) mode z s b mid x new well all (line, e) =
-      quiet_line (Boot mode) x (printed.OnRefused n) now line (λ six. well (subst DiskHasFailed (sym e) (boot_six mode s z b (Err n) mid all (ap (λ k. Err k) six))))
+  booted_quiet : (o : Result ℕ ℕ) (mode : BootMode) (z : Size) (s : DurableState) (b : Bench) (x : Printed) (new : Bench) → IsBooted o mode z s b x new → IsQuiet (Boot mode) x now
+  booted_quiet (Ok n) mode z s b x new (life, on, line, m, is, e) = quiet_line (Boot mode) x (printed.On mode) now line tt
+  booted_quiet (Err n) mode z s b x new (line, e) = quiet_line (Boot mode) x (printed.OnRefused n) now line tt
 
-  starts_quiet : (mode : BootMode) (z : Size) (s : DurableState) (b : Bench) (x : Printed) (new : Bench) → (DiskHasFailed new → ⊥) → BootsFrom mode z s b x new → IsQuiet (Boot mode) x now
-  starts_quiet mode z s b x new well (o, mid, all, on) = booted_quiet o mode z s b mid x new well all on
+  starts_quiet : (mode : BootMode) (z : Size) (s : DurableState) (b : Bench) (x : Printed) (new : Bench) → BootsFrom mode z s b x new → IsQuiet (Boot mode) x now
+  starts_quiet mode z s b x new (o, mid, all, on) = booted_quiet o mode z s mid x new on
 
-  begins_quiet : (mode : BootMode) (z : Size) (s : DurableState) (b : Bench) (x : Printed) (new : Bench) → (DiskHasFailed new → ⊥) → Begins mode z s b x new → IsQuiet (Boot mode) x now
-  begins_quiet modes.Fresh z s b x new well h = starts_quiet modes.Fresh z s b x new well h
-  begins_quiet modes.Keep z s b x new well h = starts_quiet modes.Keep z s b x new well h
-  begins_quiet modes.Discard z s b x new well h = starts_quiet modes.Discard z s b x new well h
-  begins_quiet modes.Resume z s b x new well (inl h) = starts_quiet modes.Resume z s b x new well h
-  begins_quiet modes.Resume z s b x new well (inr h) = quiet_line (Boot modes.Resume) x (printed.OnRefused 13) now h.1 (λ six. omega (arith, six))
+  begins_quiet : (mode : BootMode) (z : Size) (s : DurableState) (b : Bench) (x : Printed) (new : Bench) → Begins mode z s b x new → IsQuiet (Boot mode) x now
+  begins_quiet modes.Fresh z s b x new h = starts_quiet modes.Fresh z s b x new h
+  begins_quiet modes.Keep z s b x new h = starts_quiet modes.Keep z s b x new h
+  begins_quiet modes.Discard z s b x new h = starts_quiet modes.Discard z s b x new h
+  begins_quiet modes.Resume z s b x new (inl h) = starts_quiet modes.Resume z s b x new h
+  begins_quiet modes.Resume z s b x new (inr h) = quiet_line (Boot modes.Resume) x (printed.OnRefused 13) now h.1 tt
 
-  refused_boot : (s : DurableState) (mode : BootMode) (n : ℕ) → boot_refusal s mode ≡ Some n → n ≢ 6
-  refused_boot s mode n at six = by_mode mode at
-    where
-      some : (k : ℕ) → k ≢ 6 → (t : Bool) → (if t then Some k else None) ≡ Some n → ⊥
-      some k differs true e = differs (let f : k ≡ n = cc in f ∙ six)
-      some k differs false e = (let no : ⊥ = cc in no)
+  boots_quiet : (r : Option ℕ) (mode : BootMode) (z : Size) (s : DurableState) (b : Bench) (x : Printed) (new : Bench) → Boots r mode z s b x new → IsQuiet (Boot mode) x now
+  boots_quiet (Some n) mode z s b x new h = quiet_line (Boot mode) x (printed.OnRefused n) now h.0 tt
+  boots_quiet None mode z s b x new (inl h) = begins_quiet mode z s b x new h
+  boots_quiet None mode z s b x new (inr h) = quiet_line (Boot mode) x (printed.OnRefused 11) now h.0 tt
 
-      none : (k : ℕ) → k ≢ 6 → (t : Bool) → (if t then None else Some k) ≡ Some n → ⊥
-      none k differs false e = differs (let f : k ≡ n = cc in f ∙ six)
-      none k differs true e = (let no : ⊥ = cc in no)
-
-      by_mode : (mode : BootMode) → boot_refusal s mode ≡ Some n → ⊥
-      by_mode modes.Fresh e = some 15 (λ f. omega (arith, f)) (is_some s.image) e
-      by_mode modes.Keep e = (let no : ⊥ = cc in no)
-      by_mode modes.Discard e = none 8 (λ f. omega (arith, f)) (is_some s.image) e
-      by_mode modes.Resume e = none 8 (λ f. omega (arith, f)) (is_some s.image) e
-
-  boots_quiet : (r : Option ℕ) (mode : BootMode) (z : Size) (s : DurableState) (b : Bench) (x : Printed) (new : Bench) → boot_refusal s mode ≡ r → (DiskHasFailed new → ⊥) → Boots r mode z s b x new → IsQuiet (Boot mode) x now
-  boots_quiet (Some n) mode z s b x new at well h = quiet_line (Boot mode) x (printed.OnRefused n) now h.0 (refused_boot s mode n at)
-  boots_quiet None mode z s b x new at well (inl h) = begins_quiet mode z s b x new well h
-  boots_quiet None mode z s b x new at well (inr h) = quiet_line (Boot mode) x (printed.OnRefused 11) now h.0 (λ six. omega (arith, six))
-
-  on_quiet : (size : Size) (p : Option BenchLife) (mode : BootMode) (b : Bench) (a : Answer) (new : Bench) → IsSound b → (DiskHasFailed new → ⊥) → OnStep size p mode b a new → IsQuiet (Boot mode) a.line now
-  on_quiet size (Some life) mode b a new sound well h = quiet (Boot mode) a printed.Busy now h.0 tt
-  on_quiet size None mode b a new sound well (inl (s, z, mid, found, shows, boot)) = boots_quiet (boot_refusal s mode) mode z s mid a.line new refl well boot
-  on_quiet size None mode b a new sound well (inr (inl (n, is, e, same))) = absurd (subst (λ m. IsOpenRefusal m n) sound.0 is)
-  on_quiet size None mode b a new sound well (inr (inr (inl h))) = quiet (Boot mode) a (printed.OnRefused 11) now h.1 (λ six. omega (arith, six))
-  on_quiet size None mode b a new sound well (inr (inr (inr h))) = absurd (well (fails b new h.1))
+  on_quiet : (size : Size) (p : Option BenchLife) (mode : BootMode) (b : Bench) (a : Answer) (new : Bench) → IsSound b → OnStep size p mode b a new → IsQuiet (Boot mode) a.line now
+  on_quiet size (Some life) mode b a new sound h = quiet (Boot mode) a printed.Busy now h.0 tt
+  on_quiet size None mode b a new sound (inl (s, z, mid, found, shows, boot)) = boots_quiet (boot_refusal s mode) mode z s mid a.line new boot
+  on_quiet size None mode b a new sound (inr (inl (n, is, e, same))) = absurd (subst (λ m. IsOpenRefusal m n) sound.0 is)
+  on_quiet size None mode b a new sound (inr (inr (inl h))) = quiet (Boot mode) a (printed.OnRefused 11) now h.1 tt
+  on_quiet size None mode b a new sound (inr (inr (inr h))) = quiet (Boot mode) a (printed.OnRefused 5) now h.0 tt
 
   reported_quiet : (word : ConsoleWord) (c : Change) (o : Result ℕ ℕ) (a : Answer) → now ≡ true → a ≡ console_reported word o → IsQuiet (Command c) a.line now
   reported_quiet word c (Ok n) a up e = quiet (Command c) a (printed.Acknowledged word n) now e tt
@@ -263,43 +268,26 @@ nothing_quiet : (x : Printed) (now : Bool) → IsQuiet Nothing x now
 nothing_quiet printed.PowerLost now = tt
 nothing_quiet x now = tt
 
-step_quiet : (size : Size) (line : Line) (b : Bench) (a : Answer) (new : Bench) → IsSound b → (DiskHasFailed new → ⊥) → (IsPowered new.power → is_up new.power ≡ true) → Step size line b a new → IsQuiet (asked_by line) a.line (is_up new.power)
-step_quiet size (lines.On mode) b a new sound well up h = on_quiet (is_up new.power) size b.power mode b a new sound well h
-step_quiet size (lines.Slot n) b a new sound well up h = console_quiet (is_up new.power) names.Slot (Slot n) b.power b a new refl up h
-step_quiet size lines.Discard b a new sound well up h = console_quiet (is_up new.power) names.Discard Discard b.power b a new refl up h
-step_quiet size (lines.Tries n boots) b a new sound well up h = console_quiet (is_up new.power) names.Tries (Tries n boots) b.power b a new refl up h
-step_quiet size lines.Good b a new sound well up h = console_quiet (is_up new.power) names.Good Good b.power b a new refl up h
-step_quiet size (lines.Turn x y) b a new sound well up h = turn_quiet (is_up new.power) b.power x y b a new up h
-step_quiet size (lines.Call x y z u v w) b a new sound well up h = call_quiet (is_up new.power) b.power x y z u v w b a new up h
-step_quiet size line b a new sound well up h = nothing_quiet a.line (is_up new.power)
+step_quiet : (size : Size) (line : Line) (b : Bench) (a : Answer) (new : Bench) → IsSound b → (IsPowered new.power → is_up new.power ≡ true) → Step size line b a new → IsQuiet (asked_by line) a.line (is_up new.power)
+step_quiet size (lines.On mode) b a new sound up h = on_quiet (is_up new.power) size b.power mode b a new sound h
+step_quiet size (lines.Slot n) b a new sound up h = console_quiet (is_up new.power) names.Slot (Slot n) b.power b a new refl up h
+step_quiet size lines.Discard b a new sound up h = console_quiet (is_up new.power) names.Discard Discard b.power b a new refl up h
+step_quiet size (lines.Tries n boots) b a new sound up h = console_quiet (is_up new.power) names.Tries (Tries n boots) b.power b a new refl up h
+step_quiet size lines.Good b a new sound up h = console_quiet (is_up new.power) names.Good Good b.power b a new refl up h
+step_quiet size (lines.Turn x y) b a new sound up h = turn_quiet (is_up new.power) b.power x y b a new up h
+step_quiet size (lines.Call x y z u v w) b a new sound up h = call_quiet (is_up new.power) b.power x y z u v w b a new up h
+step_quiet size line b a new sound up h = nothing_quiet a.line (is_up new.power)
 
 -- ---- so a line makes just what it says
 not_now : {A : Type 0} (now : Bool) → now ≡ true → now ≡ false → A
 not_now now e f = let g : true ≡ false = sym e ∙ f in absurd (let no : ⊥ = cc in no)
 
-fewer_alone : (mode : BootMode) (s t : DurableState) → TakesFewer (commands_by mode s) s t → t ≡ s
-fewer_alone modes.Fresh s t h = absurd h
-fewer_alone modes.Keep s t h = absurd h
-fewer_alone modes.Discard s t (inl e) = e
-fewer_alone modes.Discard s t (inr h) = absurd h.1
-fewer_alone modes.Resume s t (inl e) = e
-fewer_alone modes.Resume s t (inr h) = absurd h.1
-
-fewer_if : (refused : Bool) (cs : List Change) (s t : DurableState) → (TakesFewer cs s t → t ≡ s) → TakesFewer (if refused then [] else cs) s t → t ≡ s
-fewer_if true cs s t alone h = absurd h
-fewer_if false cs s t alone h = alone h
-
-fewer_none : (mode : BootMode) (s t : DurableState) → TakesFewer (commands_of mode s) s t → t ≡ s
-fewer_none mode s t h = fewer_if (is_some (boot_refusal s mode)) (commands_by mode s) s t (fewer_alone mode s t) h
-
 module _ (s t : DurableState) (up now : Bool) where
-  makes_boot : (mode : BootMode) (x : Printed) → IsQuiet (Boot mode) x now → LineImplies (Boot mode) x s up t now → LineMakes (Boot mode) x s t
-  makes_boot mode (printed.On m) q h = (h.0, h.2, h.4)
-  makes_boot mode (printed.OnRefused n) q (a, b, inl e) = e
-  makes_boot mode (printed.OnRefused n) q (a, b, inr (inl h)) = fewer_none mode s t h
-  makes_boot mode (printed.OnRefused n) q (a, b, inr (inr h)) = absurd (q h.0)
-  makes_boot mode printed.PowerLost q h = absurd q
-  makes_boot mode x q h = h.0
+  makes_boot : (mode : BootMode) (x : Printed) → IsQuiet (Boot mode) x now → (IsRefusedLine x → t ≡ s) → LineImplies (Boot mode) x s up t now → LineMakes (Boot mode) x s t
+  makes_boot mode (printed.On m) q same h = (h.0, h.2, h.4)
+  makes_boot mode (printed.OnRefused n) q same h = same tt
+  makes_boot mode printed.PowerLost q same h = absurd q
+  makes_boot mode x q same h = h.0
 
   makes_command : (c : Change) (x : Printed) → IsQuiet (Command c) x now → LineImplies (Command c) x s up t now → LineMakes (Command c) x s t
   makes_command c (printed.Acknowledged word k) q h = h.1
@@ -336,24 +324,25 @@ module _ (s t : DurableState) (up now : Bool) where
   makes_nothing (printed.On m) h = absurd h
   makes_nothing x h = h.0
 
-  makes : (asked : AskedLine) (x : Printed) → IsQuiet asked x now → LineImplies asked x s up t now → LineMakes asked x s t
-  makes (Boot mode) x q h = makes_boot mode x q h
-  makes (Command c) x q h = makes_command c x q h
-  makes Guest x q h = makes_guest x q h
-  makes Nothing x q h = makes_nothing x h
+  makes : (asked : AskedLine) (x : Printed) → IsQuiet asked x now → (IsRefusedBoot asked x → t ≡ s) → LineImplies asked x s up t now → LineMakes asked x s t
+  makes (Boot mode) x q same h = makes_boot mode x q same h
+  makes (Command c) x q same h = makes_command c x q h
+  makes Guest x q same h = makes_guest x q h
+  makes Nothing x q same h = makes_nothing x h
 
 -- ---- whole runs
 alone : (k : Kept) (s : DurableState) → k.doubt ≡ None → MayFind k s → s ≡ found_of k.changes
 alone k s calm (changes, inl e, is) = is ∙ ap found_of e
 alone k s calm (changes, inr e, is) = let P : Option Change → Type 0 = λ d. TakesIn d k.changes changes in absurd (subst P calm e)
 
-line_found : (asked : AskedLine) (b : Bench) (a : Answer) (new : Bench) → b.kept.doubt ≡ None → Tell asked b a new → IsQuiet asked a.line (is_up new.power)
+line_found : (asked : AskedLine) (b : Bench) (a : Answer) (new : Bench) → b.kept.doubt ≡ None → Tell asked b a new → IsQuiet asked a.line (is_up new.power) → (IsRefusedBoot asked a.line → IsStill b new)
     → ShowsIts a.found (found_of b.kept.changes) × LineMakes asked a.line (found_of b.kept.changes) (found_of new.kept.changes)
-line_found asked b a new calm tell q =
+line_found asked b a new calm tell q stays =
     let t : DurableState = found_of new.kept.changes in
     let was = tell.1 t (new.kept.changes, inl refl, refl) in
+    let same : was.0 ≡ found_of b.kept.changes = alone b.kept was.0 calm was.1 in
     let P : DurableState → Type 0 = λ s. ShowsIts a.found s × LineMakes asked a.line s t in
-    subst P (alone b.kept was.0 calm was.1) (was.2.0, makes was.0 t (is_up b.power) (is_up new.power) asked a.line q was.2.1)
+    subst P same (was.2.0, makes was.0 t (is_up b.power) (is_up new.power) asked a.line q (λ refused. ap found_of (stays refused) ∙ sym same) was.2.1)
 
 abbrev pub IsWell : Bench → Type 0
 IsWell b = DiskHasFailed b → ⊥
@@ -375,8 +364,8 @@ run_found size (l ∷ ls) b (a ∷ answers) end by sound calm well (new, inl (x,
         let tell : Tell (asked_by l) b a new = steps size l b a new by.0 sound x in
         let now_calm : new.kept.doubt ≡ None = subst (λ m. CalmDisk m new.kept.doubt) tell.0.0 c.0 in
         let was_calm : b.kept.doubt ≡ None = subst (λ m. CalmDisk m b.kept.doubt) sound.0 calm.0 in
-        let q = step_quiet size l b a new sound well_now (λ on. up_now new.kept new.power tell.0.1 now_calm on) x in
-        let one = line_found (asked_by l) b a new was_calm tell q in
+        let q = step_quiet size l b a new sound (λ on. up_now new.kept new.power tell.0.1 now_calm on) x in
+        let one = line_found (asked_by l) b a new was_calm tell q (λ refused. step_still size l b a new calm well_now x refused) in
         (one.0, found_of new.kept.changes, one.1, more tell.0 c)
 run_found size [] b (a ∷ answers) end by sound calm well run = absurd run
 run_found size (l ∷ ls) b [] end by sound calm well run = absurd run

@@ -63,7 +63,7 @@ module _ (laws : ContentLaws) (size : Size) (c : Content) where
         record {
           gate = sym sides.1;
           live = (λ t. sides.2, λ has. refl);
-          other = (λ t. sides.3.1 (some_below (length k.changes) t), λ has. below_some (length k.changes) (sides.3.0 has));
+          other = (λ t. sides.4.1 (some_below (length k.changes) t), λ has. below_some (length k.changes) (sides.4.0 has));
           image = subst P (sym e ∙ is) (image_is r here r.image refl);
         },
       )

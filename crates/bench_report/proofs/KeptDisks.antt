@@ -10,6 +10,7 @@ use Rattle.store.specs.Leaves.{Leaves, IsBlank, IsKept, IsMarked, NoMore, LeftAs
 use Rattle.store.specs.Standing.{StandsFor}
 use Rattle.store.specs.Opens.{OpenRefused, FormatRefused}
 use Rattle.bench_report.specs.Views.{facts}
+use Rattle.bench_report.proofs.Sides.{LeavesFewer}
 use Rattle.std.proofs.Common.{inl, sym, subst}
 
 -- no content may be left that could not be left before, but for its state in a record of version 2
@@ -42,6 +43,10 @@ pub record BlankLaw : Type 0 where
 abbrev pub MarkLaw : Type 0
 MarkLaw = (c : Content) (size : Size) (s : DurableState) → StandsFor c size s → IsMarked c
 
+-- what could be left before, and nothing else
+pub less : (old new : SimDisk) → LeavesFewer (facts old) (facts new) → LeavesLess old new
+less old new fewer c l = inl (fewer c l)
+
 -- what a call passes that changes nothing was there before
-pub passed : (old new : SimDisk) → Passes (facts old) (facts new) Stays → LeavesLess old new
-passed old new passes c l = let was = passes.now c l in let P : Content → Type 0 = λ x. (facts old).may_leave x in inl (subst P (sym was.2) was.1)
+pub passed : (old new : SimDisk) → Passes (facts old) (facts new) Stays → LeavesFewer (facts old) (facts new)
+passed old new passes c l = let was = passes.now c l in let P : Content → Type 0 = λ x. (facts old).may_leave x in subst P (sym was.2) was.1

@@ -14,6 +14,7 @@ pub mod Ended
 pub mod Written
 pub mod Told
 pub mod Determined
+pub mod Rows
 pub mod FailureFree
 pub mod Inspected
 pub mod Guests

@@ -18,8 +18,9 @@ use Rattle.bench_report.specs.Bench.{DiskState, Blank, Unknown, Formatted, Bench
 use Rattle.bench_report.specs.Happens.{says, out_of_memory, failed}
 use Rattle.bench_report.specs.PowerOns.{life_begun, MayStand, Opens, PowersOn}
 use Rattle.bench_report.specs.Agree.{DiskIs, DeviceIs, LifeIs, OffIs}
-use Rattle.bench_report.proofs.Devices.{is_device, is_memory, five, eleven, fails_by_fault, stays, stays_as}
-use Rattle.bench_report.proofs.Sides.{starved_sides}
+use Rattle.bench_report.specs.Sides.{SidesAre}
+use Rattle.bench_report.proofs.Devices.{is_device, is_memory, five, eleven, fails_by_fault, stays_as}
+use Rattle.bench_report.proofs.Sides.{starved_sides, sides_before}
 use Rattle.bench_report.proofs.Adapted.{struck, calm, failed_open, never_down}
 use Rattle.bench_report.proofs.KeptDisks.{KeptLaw, BlankLaw, LeavesLess}
 use Rattle.bench_report.proofs.Ended.{left_on}
@@ -53,8 +54,15 @@ module _ (kept : KeptLaw) (blank : BlankLaw) (size : Size) (mode : BootMode) (b 
   same_cause : e ≢ Device → fault_state new ≡ fault_state old
   same_cause is = calm e (fault_state old) (fault_state new) cause (never_down (facts old) e (facts new) refusal) is
 
-  keeps : e ≢ Device → DeviceIs size b (fault_state new) (facts new)
-  keeps is = stays size b (fault_state old) (fault_state new) (facts old) (facts new) device (same_cause is) no_fewer fits left
+  -- no record of a blank disk is renewed, since it stands for no state
+  sides_now : DiskIs size b.disk_state b.kept (facts old) → SidesAre size b (facts new)
+  unfolding Leaves
+  sides_now was clean c may =
+      let P : DiskState → Type 0 = λ m. DiskIs size m b.kept (facts old) in
+      sides_before size b.disk_state b.kept (facts old) (λ at x y l renewed. blank.stands old renewed.1 renewed.2 (subst P at was) (x, l, renewed.3)) (device.3 clean) c (left c may)
+
+  keeps : SidesAre size b (facts new) → e ≢ Device → DeviceIs size b (fault_state new) (facts new)
+  keeps sides is = stays_as size b b (fault_state old) (fault_state new) (facts old) (facts new) device refl refl (same_cause is) no_fewer fits sides
 
   starves : MayStand b.disk_state → DiskIs size b.disk_state b.kept (facts new) → e ≡ Memory → Stays
   starves stands disk is =
@@ -63,22 +71,22 @@ module _ (kept : KeptLaw) (blank : BlankLaw) (size : Size) (mode : BootMode) (b 
       let device_now = stays_as size b x (fault_state old) (fault_state new) (facts old) (facts new) device refl refl same no_fewer fits (starved_sides size x b.growths (facts new) refl) in
       (x, inr (inr (inl (stands, refused Memory is, refl))), (off, disk, device_now), refl)
 
-  by_disk_state : (m : DiskState) → b.disk_state ≡ m → DiskIs size m b.kept (facts old) → DiskIs size b.disk_state b.kept (facts new) → Stays
-  by_disk_state Blank at was disk =
+  by_disk_state : (m : DiskState) → b.disk_state ≡ m → SidesAre size b (facts new) → DiskIs size m b.kept (facts old) → DiskIs size b.disk_state b.kept (facts new) → Stays
+  by_disk_state Blank at sides was disk =
       elim (blank.opens old new e was (omega (arith, device.2)) refusal) [
-        | inl f ↦ (b, inr (inl (1, rw at refl, refused NotFormatted f, refl)), (off, disk, keeps (λ d. (let no : ⊥ = cc in no))), refl)
+        | inl f ↦ (b, inr (inl (1, rw at refl, refused NotFormatted f, refl)), (off, disk, keeps sides (λ d. (let no : ⊥ = cc in no))), refl)
         | inr f ↦ hinders disk f
       ]
-  by_disk_state Unknown at was disk =
+  by_disk_state Unknown at sides was disk =
       elim (is_device e) [
         | inl f ↦ hinders disk f
         | inr f ↦ elim (is_memory e) [
           | inl g ↦ starves (rw at tt) disk g
-          | inr g ↦ (b, inr (inl (number_of_refusal e, rw at (λ n. f (five e n), λ n. g (eleven e n)), h, refl)), (off, disk, keeps f), refl)
+          | inr g ↦ (b, inr (inl (number_of_refusal e, rw at (λ n. f (five e n), λ n. g (eleven e n)), h, refl)), (off, disk, keeps sides f), refl)
         ]
       ]
-  by_disk_state Formatted at was disk =
+  by_disk_state Formatted at sides was disk =
       elim (kept.opens old new size e was.0 refusal) [ inl f ↦ hinders disk f | inr f ↦ starves (rw at tt) disk f ]
 
   pub open_err : DiskIs size b.disk_state b.kept (facts old) → Stays
-  open_err was = by_disk_state b.disk_state refl was (left_on kept.goes_on size b.disk_state b.kept old new was left)
+  open_err was = by_disk_state b.disk_state refl (sides_now was) was (left_on kept.goes_on size b.disk_state b.kept old new was left)

@@ -1,10 +1,14 @@
 -- The plain report is one, of a run in which memory was never refused and no failure was answered.
-use Rattle.std.proofs.Common.{◌≡◌, ℕ, ◌+◌, ◌<◌, ◌≤◌, inl, inr, List, [], ◌∷◌, Option, None, Some, Result, Ok, Err, refl, sym, subst, arith, Bool, true, false, ◌==◌, cond, eqb→eq, T, lit≤, is_some, if◌then◌else◌, ap, ◌∙◌}
+use Rattle.std.proofs.Common.{◌≡◌, ℕ, ◌+◌, ◌<◌, ◌≤◌, inl, inr, List, [], ◌∷◌, ◌++◌, Option, None, Some, Result, Ok, Err, refl, sym, subst, arith, Bool, true, false, ◌==◌, cond, eqb→eq, T, is_some, if◌then◌else◌, ap, ◌∙◌}
 use Rattle.std.specs.Bool.{⊤}
-use Rattle.board_model.specs.Durable.{DurableState, Image, Change, Slot, Discard, Tries, Good, formatted, refusal_of, after}
+use Rattle.board_model.specs.Durable.{DurableState, Image, Change, Slot, Discard, Tries, Good, formatted, refusal_of, after, fold}
+use Rattle.board_model.specs.declared.durable.Trial.{Trial}
+use Rattle.board_model.proofs.Attempts.{attempt_image}
 use Rattle.board_model.specs.Kept.{found_of}
 use Rattle.board_model.specs.Shapes.{Size}
 use Rattle.board.specs.Boots.{boot_refusal, booted}
+use Rattle.board.specs.Begins.{IsBegun}
+use Rattle.board.specs.Moments.{attempts_of, commands_by}
 use Rattle.board_model.specs.declared.boot_mode.BootMode.{BootMode}
 use Rattle.board_model.specs.declared.boot_mode.BootMode.TheVariants as modes
 use Rattle.script_lang.specs.Scripts.{Script}
@@ -15,9 +19,9 @@ use Rattle.board_console.specs.declared.command_words.ConsoleWord.{ConsoleWord}
 use Rattle.board_console.specs.declared.command_words.ConsoleWord.TheVariants as names
 use Rattle.bench_report.specs.declared.printed.Answer.{Answer}
 use Rattle.bench_report.specs.Bench.{DiskState, Blank, Unknown, Formatted, BenchLife, Bench, IsFailureFree, blank_bench}
-use Rattle.bench_report.specs.Happens.{says, on_with, settled, acknowledged}
-use Rattle.bench_report.specs.Commands.{Writes, Issued, IssuedBy}
-use Rattle.bench_report.specs.PowerOns.{life_begun, ShowsFound, FormatsOn, Boots, Begins, Opens, IsOpenRefusal, PowersOn}
+use Rattle.bench_report.specs.Happens.{says, on_with, settled, acknowledged, life_with, all_acknowledged}
+use Rattle.bench_report.specs.Commands.{Writes, Issued, IssuedBy, IssuesAll}
+use Rattle.bench_report.specs.PowerOns.{life_begun, ShowsFound, FormatsOn, BootsFrom, Boots, Begins, Opens, IsOpenRefusal, PowersOn}
 use Rattle.susp.specs.Dozes.{can_wake}
 use Rattle.bench_report.specs.Steps.{ArmStep, FormatStep, OnStep, ConsoleStep, PayloadStep, Wakes, WakeStep, Step, Moves, Run}
 use Rattle.bench_report.specs.Reports.{IsByFirmware, AreByFirmware, board_answer, IsReport}
@@ -25,6 +29,7 @@ use Rattle.bench_report.specs.Plain.{plain_written, plain_issued, plain_console,
 use Rattle.bench_report.proofs.Adapted.{grows}
 use Rattle.bench_report.proofs.Determined.{CalmDisk, IsCalm, HasFailed, Agree}
 use Rattle.bench_report.proofs.FailureFree.{AsMany}
+use Rattle.bench_report.proofs.Rows.{folds, commands_taken, few_commands, all_issue}
 use Rattle.bench_report.proofs.Single.{IsOneCall, IsOneCsr, moves, moves_fair, run_spoilt, clean}
 use Rattle.bench_report.proofs.Examiners.{said_by, said}
 use Rattle.bench_report.proofs.Guests.{IsOneTurn}
@@ -103,15 +108,35 @@ never_on o none allowed =
     let P : Option Image → Type 0 = λ x. ◌≡◌ {A = Option ℕ} (if is_some x then None else Some 8) None in
     absurd (let e : ◌≡◌ {A = Option ℕ} (Some 8) None = subst P none allowed in let no : ⊥ = cc in no)
 
-begins : (mode : BootMode) (z : Size) (s : DurableState) (b : Bench) → s.image ≡ None → boot_refusal s mode ≡ None → IsGood b → Well b (λ a new. Begins mode z s b a.line new) (plain_slot mode z s b)
-begins modes.Fresh z s b none allowed good = ((Ok 0, on_with (life_begun s z) b, (refl, refl), (life_begun s z, refl, refl, booted b.payloads s z, refl, refl)), (good.0, (refl, lit≤ tt), good.2, good.3), (refl, refl))
-begins modes.Keep z s b none allowed good = ((Ok 0, on_with (life_begun s z) b, (refl, refl), (life_begun s z, refl, refl, booted b.payloads s z, refl, refl)), (good.0, (refl, lit≤ tt), good.2, good.3), (refl, refl))
-begins modes.Discard z s b none allowed good = never_on s.image none allowed
-begins modes.Resume z s b none allowed good = never_on s.image none allowed
+-- an attempt makes no image
+attempts_image : (s : DurableState) (trial : Option Trial) → (fold s (attempts_of trial)).image ≡ s.image
+attempts_image s None = refl
+attempts_image s (Some t) = attempt_image s s.trial
 
-boots : (r : Option ℕ) (mode : BootMode) (z : Size) (s : DurableState) (b : Bench) → s.image ≡ None → boot_refusal s mode ≡ r → IsGood b → Well b (λ a new. Boots r mode z s b a.line new) (plain_boot r mode z s b)
-boots (Some n) mode z s b none at good = ((refl, refl), good, (refl, refl))
-boots None mode z s b none at good = let did = begins mode z s b none at good in (inl did.0, did.1, did.2)
+-- a mode whose commands leave no image boots the slot
+slot_boots : (mode : BootMode) (z : Size) (s : DurableState) (b : Bench) → boot_refusal s mode ≡ None → IsBegun mode z b.payloads s (booted b.payloads (fold s (commands_by mode s)) z) → (fold s (commands_by mode s)).image ≡ None → found_of b.kept.changes ≡ s → IsGood b
+    → Well b (λ a new. BootsFrom mode z s b a.line new) (plain_slot mode z s b)
+slot_boots mode z s b allowed begun none is good =
+    let cs : List Change = commands_by mode s in
+    let start : Bench = on_with (life_begun s z) b in
+    let mid : Bench = all_acknowledged cs (life_begun s z) start in
+    let all : IssuesAll cs start (Ok 0) mid = all_issue cs (life_begun s z) start refl refl (omega (arith, few_commands mode s)) (commands_taken mode s allowed) in
+    let image : (found_of (b.kept.changes ++ cs)).image ≡ None =
+    ap (λ (t : DurableState). t.image) (folds formatted b.kept.changes cs) ∙ ap (λ (t : DurableState). (fold t cs).image) is ∙ none in (
+      (Ok 0, mid, all, (life_with cs (life_begun s z), refl, refl, booted b.payloads (fold s cs) z, begun, refl)),
+      (good.0, (refl, omega (arith, few_commands mode s)), good.2, image),
+      (refl, refl),
+    )
+
+begins : (mode : BootMode) (z : Size) (s : DurableState) (b : Bench) → s.image ≡ None → boot_refusal s mode ≡ None → found_of b.kept.changes ≡ s → IsGood b → Well b (λ a new. Begins mode z s b a.line new) (plain_slot mode z s b)
+begins modes.Fresh z s b none allowed is good = slot_boots modes.Fresh z s b allowed refl (attempts_image s s.trial ∙ none) is good
+begins modes.Keep z s b none allowed is good = slot_boots modes.Keep z s b allowed refl (attempts_image s s.trial ∙ none) is good
+begins modes.Discard z s b none allowed is good = never_on s.image none allowed
+begins modes.Resume z s b none allowed is good = never_on s.image none allowed
+
+boots : (r : Option ℕ) (mode : BootMode) (z : Size) (s : DurableState) (b : Bench) → s.image ≡ None → boot_refusal s mode ≡ r → found_of b.kept.changes ≡ s → IsGood b → Well b (λ a new. Boots r mode z s b a.line new) (plain_boot r mode z s b)
+boots (Some n) mode z s b none at is good = ((refl, refl), good, (refl, refl))
+boots None mode z s b none at is good = let did = begins mode z s b none at is good in (inl did.0, did.1, did.2)
 
 found_line : (r : Option ℕ) (mode : BootMode) (z : Size) (s : DurableState) (b : Bench) → ShowsFound (plain_boot r mode z s b).0.found s
 found_line (Some n) mode z s b = refl
@@ -127,7 +152,7 @@ powers size Formatted mode b at calm good =
     let mid : Bench = settled b.kept.changes b in
     let P : DiskState → Type 0 = λ m. Opens size m b s size mid in
     let Q : DiskState → Type 0 = λ m. CalmDisk m None in
-    let did = boots (boot_refusal s mode) mode size s mid good.3 refl (subst Q (sym at) refl, good.1, good.2, good.3) in
+    let did = boots (boot_refusal s mode) mode size s mid good.3 refl refl (subst Q (sym at) refl, good.1, good.2, good.3) in
     (inl (s, size, mid, subst P (sym at) (b.kept.changes, inl refl, refl, refl, refl), found_line (boot_refusal s mode) mode size s mid, did.0), did.1, did.2)
 
 on_at : (size : Size) (p : Option BenchLife) (mode : BootMode) (b : Bench) → IsGood b → Well b (OnStep size p mode b) (plain_at size p (lines.On mode) b)

@@ -1,5 +1,5 @@
 -- A disk that was written past the firmware.
-use Rattle.std.proofs.Common.{◌≡◌, inl, true, false, List, ℕ, Option, Result, Ok, Err, refl, sym, ◌∙◌, subst, arith, MatchResult}
+use Rattle.std.proofs.Common.{◌≡◌, true, false, List, ℕ, Option, Result, Ok, Err, refl, sym, ◌∙◌, subst, arith, MatchResult}
 use Rattle.board_model.specs.Shapes.{Size}
 use Rattle.board_model.specs.declared.refusal.Refusal.{Refusal}
 use Rattle.board_model.specs.declared.refusal.Refusal.TheVariants.{Memory}
@@ -20,7 +20,7 @@ use Rattle.bench_report.specs.Sides.{SidesAre}
 use Rattle.bench_report.proofs.Devices.{stays_as}
 use Rattle.bench_report.proofs.Sides.{LeavesFewer, sides_stay}
 use Rattle.bench_report.proofs.Ended.{left_on}
-use Rattle.bench_report.proofs.KeptDisks.{GoesOn}
+use Rattle.bench_report.proofs.KeptDisks.{GoesOn, less}
 
 device : (size : Size) (b x : Bench) (old new : SimDisk) → DeviceIs size b (fault_state old) (facts old) → x.fault_state ≡ b.fault_state → x.failures ≡ b.failures → SidesAre size x (facts new)
     → NoCall (facts old) (facts new) (fault_state old) (fault_state new) → SameLength (facts old) (facts new) → DeviceIs size x (fault_state new) (facts new)
@@ -42,7 +42,7 @@ pub not_poked : GoesOn → (size : Size) (b : Bench) (old new : SimDisk) → Off
     → Unchanged (facts old) (facts new) → OffIs size b new
 not_poked goes_on size b old new was same long still =
     let fewer : LeavesFewer (facts old) (facts new) = λ c may. (still.now c).0 may in
-    (was.0, left_on goes_on size b.disk_state b.kept old new was.1 fewer, device size b b old new was.2 refl refl (sides_stay size b (facts old) (facts new) fewer was.2.3) same long)
+    (was.0, left_on goes_on size b.disk_state b.kept old new was.1 (less old new fewer), device size b b old new was.2 refl refl (sides_stay size b (facts old) (facts new) fewer was.2.3) same long)
 
 -- with the payloads, which a poke keeps
 pub poke_matches : (size : Size) (b : Bench) (r : Result Answer Refusal) (after : Power) (payloads : List (List ℕ)) → payloads ≡ b.payloads

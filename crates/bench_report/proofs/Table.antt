@@ -61,7 +61,7 @@ pub not_down : (s : DurableState) (c : Change) (e : Refusal) → refusal_of s c 
 not_down s c e h is = differs 6 (number_of_refusal e) (λ f. omega (arith, f)) (λ f. omega (arith, f)) (λ f. omega (arith, f)) (λ f. omega (arith, f)) (λ f. omega (arith, f)) (of_table s c (number_of_refusal e) h) (ap number_of_refusal is)
 
 pub not_memory : (s : DurableState) (c : Change) (e : Refusal) → refusal_of s c ≡ Some (number_of_refusal e) → e ≢ Memory
-not_memory s c e h is = differs 11 (number_of_refusal e) (λ f. omega (arith, f)) (λ f. omega (arith, f)) (λ f. omega (arith, f)) (of_table s c (number_of_refusal e) h) (ap number_of_refusal is)
+not_memory s c e h is = differs 11 (number_of_refusal e) (λ f. omega (arith, f)) (λ f. omega (arith, f)) (λ f. omega (arith, f)) (λ f. omega (arith, f)) (λ f. omega (arith, f)) (of_table s c (number_of_refusal e) h) (ap number_of_refusal is)
 
 pub table_not_six : (s : DurableState) (c : Change) (n : ℕ) → refusal_of s c ≡ Some n → n ≢ 6
 table_not_six s c n h = differs 6 n (λ f. omega (arith, f)) (λ f. omega (arith, f)) (λ f. omega (arith, f)) (λ f. omega (arith, f)) (λ f. omega (arith, f)) (of_table s c n h)

@@ -9,8 +9,9 @@ use Rattle.board_model.specs.Shapes.{Size, ram_bytes_of}
 use Rattle.board_model.specs.declared.boot_mode.BootMode.{BootMode}
 use Rattle.board_model.specs.declared.boot_mode.BootMode.TheVariants as modes
 use Rattle.board_model.specs.declared.durable.Reason.{Reason}
+use Rattle.board_model.specs.declared.durable.Trial.{Trial}
 use Rattle.board.specs.Boots.{boot_refusal}
-use Rattle.board.specs.Moments.{commands_by}
+use Rattle.board.specs.Moments.{attempts_of, commands_by}
 use Rattle.machine.specs.Machine.{Machine, hart_at}
 use Rattle.machine.specs.declared.parts.Word.{Word}
 use Rattle.machine.specs.declared.parts.Called.{Called}
@@ -190,10 +191,14 @@ module _ (size : Size) where
   call_line (Some life) h e f x y z b a new on k (inr g) = same_as b new g.2 k
 
   -- ---- power on
+  attempts_carry : (trial : Option Trial) → AllCarry (attempts_of trial)
+  attempts_carry None = tt
+  attempts_carry (Some t) = (tt, tt)
+
   each_carries : (mode : BootMode) (s : DurableState) → AllCarry (commands_by mode s)
-  each_carries modes.Fresh s = tt
-  each_carries modes.Keep s = tt
-  each_carries modes.Discard s = (tt, tt)
+  each_carries modes.Fresh s = attempts_carry s.trial
+  each_carries modes.Keep s = attempts_carry s.trial
+  each_carries modes.Discard s = (tt, attempts_carry s.trial)
   each_carries modes.Resume s = (tt, tt)
 
   is_on : (o : Result ℕ ℕ) (mode : BootMode) (z : Size) (s : DurableState) (b : Bench) (line : Printed) (new : Bench) → z ≡ size → IsKeptWhole size b → IsBooted o mode z s b line new → IsKeptWhole size new

@@ -1,6 +1,6 @@
 -- What a line says, and the bench after one thing that happened.
-use Rattle.std.specs.Prelude.{◌≡◌, ◌+◌, true, List, [], ◌∷◌, ◌++◌, Some, None}
-use Rattle.board_model.specs.Durable.{Change, after}
+use Rattle.std.specs.Prelude.{◌≡◌, ◌+◌, true, List, [], ◌∷◌, ◌++◌, Some, None, length}
+use Rattle.board_model.specs.Durable.{Change, after, fold}
 use Rattle.board_model.specs.Kept.{nothing_kept}
 use Rattle.disk.specs.Facts.{counted}
 use Rattle.disk.specs.FaultState.{Armed, FaultState, Cause, fault_state_left}
@@ -73,6 +73,16 @@ abbrev pub acknowledged : Change → BenchLife → Bench → Bench
 acknowledged c life b = record b {
   kept = record b.kept { changes = b.kept.changes ++ c ∷ [] };
   power = Some (record life { now = after life.now c; receipts = life.receipts + 1 });
+}
+
+-- these commands of the life were acknowledged, the first of them first
+abbrev pub life_with : List Change → BenchLife → BenchLife
+life_with cs life = record life { now = fold life.now cs; receipts = life.receipts + length cs }
+
+abbrev pub all_acknowledged : List Change → BenchLife → Bench → Bench
+all_acknowledged cs life b = record b {
+  kept = record b.kept { changes = b.kept.changes ++ cs };
+  power = Some (life_with cs life);
 }
 
 -- a command of the life is in doubt

@@ -1,7 +1,7 @@
 -- The report of a script where memory was never refused and the disk never failed, computed: for scripts
 -- whose lines neither move harts nor show memory or harts, so that no image is ever made and no board dozes.
 use Rattle.std.specs.Prelude.{◌≡◌, ◌≢◌, ℕ, ◌+◌, ◌==◌, Bool, true, false, List, [], ◌∷◌, Option, Some, None, Result, Ok, Err, length, slice_set, if◌then◌else◌, ⊤}
-use Rattle.board_model.specs.Durable.{DurableState, Change, Slot, Discard, refusal_of, Tries, Good}
+use Rattle.board_model.specs.Durable.{DurableState, Change, Slot, Discard, Tries, Good, refusal_of, fold}
 use Rattle.board_model.specs.Kept.{found_of}
 use Rattle.board_model.specs.Shapes.{Size}
 use Rattle.board_model.specs.Views.{durable_of}
@@ -9,6 +9,7 @@ use Rattle.disk.specs.FaultState.{FaultArmed, CutArmed}
 use Rattle.board_model.specs.declared.refusal.Refusal.{Refusal}
 use Rattle.script_lang.specs.Scripts.{Script, script_of, ◌>>>◌}
 use Rattle.board.specs.Boots.{boot_refusal, booted}
+use Rattle.board.specs.Moments.{commands_by}
 use Rattle.board_model.specs.declared.boot_mode.BootMode.{BootMode}
 use Rattle.script_lang.specs.declared.line.Line.{Line}
 use Rattle.script_lang.specs.declared.line.Line.TheVariants as lines
@@ -22,7 +23,7 @@ use Rattle.board_console.specs.declared.command_words.ConsoleWord.TheVariants as
 use Rattle.bench_report.specs.declared.printed.Printed.{Printed}
 use Rattle.bench_report.specs.declared.printed.Printed.TheVariants as printed
 use Rattle.bench_report.specs.Bench.{DiskState, Blank, Unknown, Formatted, BenchLife, Bench, blank_bench}
-use Rattle.bench_report.specs.Happens.{says, shows, on_with, unpowered, armed_with, formatted_anew, settled, has_machine, acknowledged}
+use Rattle.bench_report.specs.Happens.{says, shows, on_with, unpowered, armed_with, formatted_anew, settled, has_machine, acknowledged, all_acknowledged}
 use Rattle.bench_report.specs.PowerOns.{life_begun}
 use Rattle.bench_report.specs.Examined.{inspection_of}
 use Rattle.bench_report.specs.Steps.{console_reported}
@@ -50,10 +51,14 @@ plain_format Formatted b = (says (printed.FormatRefused 2), b)
 abbrev pub found_then : DurableState → Printed → Answer
 found_then s line = record { found = Some (durable_of s); line = line }
 
--- a boot of the slot: no image stands in such a run, so a mode that goes on with one or drops it is refused
+-- a boot of the slot: its commands are acknowledged, and the slot that they leave is booted. No image stands in
+-- such a run, so a mode that goes on with one or drops it is refused.
 abbrev pub plain_slot : BootMode → Size → DurableState → Bench → Answer × Bench
 plain_slot mode z s b =
-    (found_then s (printed.On mode), on_with (has_machine (booted b.payloads s z) (life_begun s z)) b)
+    let cs = commands_by mode s in (
+      found_then s (printed.On mode),
+      all_acknowledged cs (has_machine (booted b.payloads (fold s cs) z) (life_begun s z)) b,
+    )
 
 -- by the number with which the state refuses the mode
 abbrev pub plain_boot : Option ℕ → BootMode → Size → DurableState → Bench → Answer × Bench

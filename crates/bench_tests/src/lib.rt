@@ -33,3 +33,5 @@ mod sizes;
 mod stopped;
 #[cfg(test)]
 mod told;
+#[cfg(test)]
+mod trials;

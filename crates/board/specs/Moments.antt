@@ -10,7 +10,7 @@ use Rattle.board_model.specs.declared.boot_mode.BootMode.TheVariants as modes
 use Rattle.board_model.specs.declared.refusal.Refusal.{Refusal}
 use Rattle.board_model.specs.declared.refusal.Refusal.TheVariants.{Device, Down}
 use Rattle.store.specs.Leaves.{LeftAsBefore}
-use Rattle.store.specs.Standing.{selected, live_sector, other_sector, StandsFor}
+use Rattle.store.specs.Standing.{selected, live_sector, other_sector, version_at, StandsFor}
 
 -- the command by which a boot is counted, where a trial stands
 abbrev pub attempts_of : Option Trial → List Change
@@ -48,10 +48,11 @@ MayLeave disk size s (change ∷ more) c =
 abbrev pub LeavesFrom : Facts → (Content → Content → Type 0) → Content → Type 0
 LeavesFrom disk step c = (b : Content) × LeftAsBefore disk b × step b c
 
--- A content as a command makes it of an old one: its gate selects the other record, and in the sector of the
--- one that is not selected stands what was selected before.
+-- A content as a command makes it of an old one: its gate selects the other record, which is of version 2, and
+-- in the sector of the one that is not selected stands what was selected before.
 abbrev pub IsWrittenOver : Content → Content → Type 0
-IsWrittenOver old new = (selected new ≡ 1 - selected old) × (other_sector new ≡ live_sector old)
+IsWrittenOver old new =
+    (selected new ≡ 1 - selected old) × (version_at (live_sector new) ≡ 2) × (other_sector new ≡ live_sector old)
 
 -- The content stands for the state, and these commands make the new one of it, each in turn of what stands for
 -- the state before it; without any it is the same.
