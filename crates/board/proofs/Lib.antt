@@ -6,5 +6,7 @@ mod Unmoved
 mod Off
 mod On
 pub mod Rows
+mod Booted
+mod Opened
 pub mod Issued
 pub mod Few

@@ -1,5 +1,5 @@
 -- What a crash may leave from an open to the end of a power-on.
-use Rattle.std.proofs.Common.{◌⊎◌, inl, inr, List, [], ◌∷◌}
+use Rattle.std.proofs.Common.{inl, inr, List, [], ◌∷◌}
 use Rattle.disk.specs.Facts.{Content, Facts, LeavesSince, Passes, Stays, Unchanged}
 use Rattle.disk.specs.Moments.{passes_unchanged, leaves_none, leaves_stays, leaves_then, leaves_weaker}
 use Rattle.board_model.specs.Durable.{DurableState, Change}

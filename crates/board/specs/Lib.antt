@@ -6,3 +6,4 @@ pub mod Begins
 pub mod Readies
 pub mod PowersOn
 pub mod Turns
+pub mod Issues

@@ -74,14 +74,16 @@ impl<D: Disk + Drop> Board<D> {
     ghost use Rattle.board.specs.PowersOn.{IsOn, IsUnpowered, KeepsDisk, GivesDisk};
 
     /// Powers a board on: opens the disk, and begins by the mode (docs/BOARD.md, "Power on"). Fresh, keep and
-    /// discard boot the slot, discard once the image is dropped. Resume goes on with the image: its memory is
-    /// loaded, then the image is consumed, and only then its hart stands at its address.
+    /// discard boot the slot, discard once the image is dropped, and each once the boot is counted where a trial
+    /// stands. Resume goes on with the image: its memory is loaded, then the image is consumed, and only then
+    /// its hart stands at its address.
     ///
     /// Refused as `Store::open` says; then `ImageThere` for fresh where an image stands, `NoImage` for
     /// discard and resume where none does; then `BadShape` where any of the four payloads is longer than RAM,
     /// in every mode; then `Memory`; then for resume `Device` and `BadImage` as `Store::load_image` says;
-    /// then for discard and resume `Device` and `Down` for the command. A refusal gives the disk back. After
-    /// each the durable state is the one found, but after `Down` it may be the one without the image.
+    /// then `Device` and `Down` for a command. A refusal gives the disk back. After each the durable state is
+    /// the one found, but for an image that was dropped before the count was refused; after `Down` it may
+    /// also be the one that the command in doubt makes.
     pub fn power_on(
         alloc: Global,
         disk: D,
@@ -331,8 +333,8 @@ impl<D: Disk + Drop> Board<D> {
         self.machine.pending(hart)
     }
 
-    /// Issues a durable command of the console, Slot or Discard, and answers its place in the journal of this
-    /// life.
+    /// Issues a durable command of the console, Slot, Tries, Good or Discard, and answers its place in the
+    /// journal of this life.
     ///
     /// Refused as `Store::apply` says; memory and harts stay as they are.
     pub fn console(&mut self, command: Command) -> Result<Receipt, Refusal>

@@ -1,13 +1,17 @@
 //! From an opened store to a board that stands at its first instruction, or goes on with its image.
 
-ghost use Rattle.std.specs.Prelude.{◌≡◌, ◌≤◌, ◌<◌, ℕ, OnOk, IfOk, IfErr, None};
+ghost use Rattle.std.specs.Prelude.{◌≡◌, ◌≢◌, ◌⊎◌, ◌≤◌, ◌<◌, ℕ, OnOk, IfOk, IfErr, None};
 ghost use Rattle.board_model.specs.Durable.{DurableState};
 ghost use Rattle.board_model.specs.Shapes.{ram_bytes_of};
 ghost use Rattle.board_model.specs.Views.{durable_of};
+ghost use Rattle.board_model.specs.declared.boot_mode.BootMode.{BootMode};
+ghost use Rattle.board_model.specs.declared.refusal.Refusal.{Refusal};
 ghost use Rattle.store.specs.Views.{size_of_store, found_state, now_state, view_of};
 ghost use Rattle.machine.specs.Machine.{resting};
-ghost use Rattle.board.specs.Begins.{HasItsHart, boot_hart, IsBegun, IsLateRefusal, RefusesBoot};
+ghost use Rattle.board.specs.Begins.{HasItsHart, boot_hart, IsBegun, IsLateRefusal, Issues, RefusesBoot};
 ghost use Rattle.board.specs.Boots.{boot_refusal, PayloadsFit, booted};
+ghost use Rattle.board.specs.Issues.{TakesCommands, AreIssued, AreStopped, drops_by};
+ghost use Rattle.board.specs.Moments.{attempts_of};
 ghost use Rattle.board.specs.Readies.{IsOpen, IsIssued, IsUnissued};
 ghost use Rattle.board.specs.Unbooted.{IsStartRefusal, RefusesMode};
 
@@ -82,23 +86,49 @@ fn boot_slot<D: Disk + Drop>(machine: &mut Machine, store: &Store<D>, payloads: 
     machine.boot(&store.shape(), payloads.get(now.slot), now.reason);
 }
 
-/// Issues what a boot of the slot counts and drops first: a discarded image, and then a boot of the trial that
-/// stands.
+/// Drops the image that stands, where the mode asks for it.
+fn drop_image<D: Disk + Drop>(store: &mut Store<D>, mode: BootMode) -> Result<(), Refusal>
+    requires opened { IsOpen (view_of store.old) }
+    requires allowed { boot_refusal (found_state store.old) mode ≡ None }
+    ensures issued { OnOk result (AreIssued (drops_by mode) (view_of store.old) (view_of store.new)) }
+    ensures stopped { IfErr result (λ e. AreStopped (drops_by mode) (view_of store.old) e (view_of store.new)) }
+{
+    match mode {
+        BootMode::Discard => {
+            store.apply(Command::Discard)?;
+        }
+        BootMode::Fresh | BootMode::Keep | BootMode::Resume => {}
+    }
+    Ok(())
+}
+
+/// Counts a boot of the slot where a trial of it stands.
+fn count_boot<D: Disk + Drop>(store: &mut Store<D>) -> Result<(), Refusal>
+    requires { TakesCommands (view_of store.old) }
+    ensures issued { OnOk result
+        (AreIssued (attempts_of (now_state store.old).trial) (view_of store.old) (view_of store.new)) }
+    ensures stopped { IfErr result
+        (λ e. AreStopped (attempts_of (now_state store.old).trial) (view_of store.old) e (view_of store.new)) }
+{
+    if store.now().trial.is_some() {
+        store.apply(Command::Attempt)?;
+    }
+    Ok(())
+}
+
+/// Issues the commands of a mode that boots a slot: an image that it discards is dropped, and then the boot is
+/// counted where a trial stands.
 fn issue_boot<D: Disk + Drop>(store: &mut Store<D>, mode: BootMode) -> Result<(), Refusal>
     requires opened { IsOpen (view_of store.old) }
     requires allowed { boot_refusal (found_state store.old) mode ≡ None }
     requires boots { mode ≢ BootMode.Resume }
     ensures issued { OnOk result (IsIssued mode (view_of store.old) (view_of store.new)) }
-    ensures refused { IfErr result (λ e. ((e ≡ Refusal.Device) ⊎ (e ≡ Refusal.Down)) × Issues mode (found_state store.old)) }
+    ensures refused { IfErr result (λ e. ((e ≡ Refusal.Device) ⊎ (e ≡ Refusal.Down))
+        × Issues mode (found_state store.old)) }
     ensures unissued { IfErr result (λ e. IsUnissued mode (view_of store.old) e (view_of store.new)) }
 {
-    if mode == BootMode::Discard {
-        store.apply(Command::Discard)?;
-    }
-    if store.now().trial.is_some() {
-        store.apply(Command::Attempt)?;
-    }
-    Ok(())
+    drop_image(store, mode)?;
+    count_boot(store)
 }
 
 /// Begins what the mode asks for, on a board that was just made: boots the slot that stands once the mode's
@@ -121,11 +151,13 @@ fn begin<D: Disk + Drop>(
         (found_state store.old) e) }
     ensures unissued { IfErr result (λ e. IsUnissued mode (view_of store.old) e (view_of store.new)) }
 {
-    if mode == BootMode::Resume {
-        return machine.resume(store);
+    match mode {
+        BootMode::Fresh | BootMode::Keep | BootMode::Discard => {
+            issue_boot(store, mode)?;
+            boot_slot(machine, store, payloads);
+        }
+        BootMode::Resume => machine.resume(store)?,
     }
-    issue_boot(store, mode)?;
-    boot_slot(machine, store, payloads);
     Ok(())
 }
 

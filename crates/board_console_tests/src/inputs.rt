@@ -52,3 +52,34 @@ fn lines_say_what_their_words_are(rt: HostRuntime) -> Result<(), Fail> {
     assert_eq!(&rt; line_said(b""), Said::Other);
     Ok(())
 }
+
+#[test]
+fn trials_say_their_slot_and_their_boots(rt: HostRuntime) -> Result<(), Fail> {
+    let most = 4_294_967_295;
+    assert_eq!(&rt; line_said(b"tries 2 1"), Said::Tries(2, 1));
+    assert_eq!(&rt; line_said(b"tries 4 0"), Said::Tries(4, 0));
+    assert_eq!(&rt; line_said(b"tries 0x3 007"), Said::Tries(3, 7));
+    assert_eq!(&rt;
+        line_said(b"tries 4294967295 4294967295"),
+        Said::Tries(most, most)
+    );
+    assert_eq!(&rt; line_said(b"tries 4294967296 1"), Said::Other);
+    assert_eq!(&rt; line_said(b"tries 1 4294967296"), Said::Other);
+    assert_eq!(&rt; line_said(b"tries"), Said::Other);
+    assert_eq!(&rt; line_said(b"tries "), Said::Other);
+    assert_eq!(&rt; line_said(b"tries 1"), Said::Other);
+    assert_eq!(&rt; line_said(b"tries 1 "), Said::Other);
+    assert_eq!(&rt; line_said(b"tries  1 2"), Said::Other);
+    assert_eq!(&rt; line_said(b"tries 1  2"), Said::Other);
+    assert_eq!(&rt; line_said(b"tries 1 2 "), Said::Other);
+    assert_eq!(&rt; line_said(b"tries 1 2 3"), Said::Other);
+    assert_eq!(&rt; line_said(b"tries 1 2\r"), Said::Other);
+    assert_eq!(&rt; line_said(b"tries 1\t2"), Said::Other);
+    assert_eq!(&rt; line_said(b"Tries 1 2"), Said::Other);
+    assert_eq!(&rt; line_said(b"good"), Said::Good);
+    assert_eq!(&rt; line_said(b"good "), Said::Other);
+    assert_eq!(&rt; line_said(b"good 1"), Said::Other);
+    assert_eq!(&rt; line_said(b"goods"), Said::Other);
+    assert_eq!(&rt; line_said(b"attempt"), Said::Other);
+    Ok(())
+}

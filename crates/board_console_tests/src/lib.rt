@@ -5,3 +5,5 @@
 mod command_lines;
 #[cfg(test)]
 mod inputs;
+#[cfg(test)]
+mod texts;

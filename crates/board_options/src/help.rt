@@ -25,11 +25,15 @@ the end. So leave by 'quit' or the end of input: a session that is killed
 
 const NUMBERS: &str = "\
 Console, a line each:
-  slot S   sets the boot slot: 'slot ok N' or 'slot refused N'
-  discard  drops the image: 'discard ok N' or 'discard refused N'
-  state    'state slot S reason R image X next N'
-  wake     wakes a board that sleeps in its RAM: 'wake ok' or 'wake refused 18'
-  quit     ends the harts after their turn, and the program
+  slot S     sets the boot slot: 'slot ok K' or 'slot refused K'
+  discard    drops the image: 'discard ok K' or 'discard refused K'
+  tries S N  sets the boot slot on trial for N boots, 1 to 7, after which it falls
+             back to the slot before: 'tries ok K' or 'tries refused K'
+  good       keeps the slot on trial: 'good ok K' or 'good refused K'
+  state      'state slot S reason R image X next N', and where the slot is on
+             trial ' trial F L': the slot to fall back to, and the boots left
+  wake       wakes a board that sleeps in its RAM: 'wake ok' or 'wake refused 18'
+  quit       ends the harts after their turn, and the program
 Anything else answers '?'. At the end of input the harts run out their turns.
 After 'refused 7' the guest has ended its life by a reset or a suspension.
 
@@ -58,6 +62,8 @@ Refusals:
   15  an image stands, and a fresh boot would leave it behind
   16  an answer could not be written
   18  the board does not doze, or was woken already
+  19  a trial has 1 to 7 boots
+  20  no trial of a boot slot stands
 
 A first session:
   printf 'slot 1\\nstate\\nquit\\n' | sbiboard --disk board.disk --mode fresh --new --sync

@@ -7,12 +7,13 @@ use arrayvec::ArrayVec;
 use std::io::{self, IsTerminal, Write};
 
 const WELCOME: &str = "\
-slot S, discard, state, wake, quit: a line each. 'quit' or Ctrl-D ends the session.";
+slot S, tries S N, good, discard, state, wake, quit: a line each.
+'quit' or Ctrl-D ends the session.";
 
 const UNSYNCED: &str = "\
 Ctrl-C would lose what was acknowledged: the disk's file is written at the end (--sync).";
 
-const UNKNOWN: &str = "? is no answer but to: slot S, discard, state, wake, quit.";
+const UNKNOWN: &str = "? is no answer but to: slot S, tries S N, good, discard, state, wake, quit.";
 
 const OVER: &str = "\
 7: the guest has ended this life by a reset or a suspension. 'quit' ends the session.";

@@ -1,18 +1,19 @@
 -- What is made of a disk on the way to a board that is on, and what a board that is not on, or a life that has
 -- ended, leaves of it.
-use Rattle.std.proofs.Common.{◌≡◌, ◌⊎◌, ◌&&◌, inl, inr, ℕ, Bool, true, false, List, [], ◌++◌, Option, Some, None, length, drop, arith, ap, refl, sym, ◌∙◌, subst, subst₂}
+use Rattle.std.proofs.Common.{◌≡◌, ◌⊎◌, ◌≤◌, ◌&&◌, inl, inr, ℕ, Bool, true, false, List, [], ◌++◌, Option, Some, None, length, drop, arith, ap, refl, sym, ◌∙◌, subst, subst₂}
 use Rattle.std.proofs.lemmas.List.{take-append-drop}
-use Rattle.std.specs.Prelude.{is_none}
-use Rattle.board_model.specs.Durable.{DurableState, Change, after, fold, formatted}
+use Rattle.std.specs.Prelude.{is_none, is_some, if◌then◌else◌}
+use Rattle.board_model.specs.Durable.{DurableState, Change, Discard, after, fold, formatted}
 use Rattle.board_model.specs.Shapes.{Size}
 use Rattle.board_model.specs.declared.boot_mode.BootMode.{BootMode}
 use Rattle.board_model.specs.declared.durable.Durable.{Durable}
 use Rattle.board_model.specs.declared.durable.Entry.{Entry}
+use Rattle.board_model.specs.declared.durable.Trial.{Trial}
 use Rattle.board_model.specs.declared.refusal.Refusal.{Refusal}
 use Rattle.board_model.specs.Views.{number_of_refusal}
 use Rattle.board_model.specs.declared.refusal.Refusal.TheVariants.{Device, Down, Memory}
 use Rattle.disk.specs.Facts.{Content, Facts, Passes, Stays}
-use Rattle.store.specs.Leaves.{IsBlank, IsKept, IsMarked, LeavesEither, LeavesOnly, NoMore}
+use Rattle.store.specs.Leaves.{IsBlank, IsKept, IsMarked, LeavesEither, LeavesOnly, LeftAsBefore, NoMore}
 use Rattle.store.specs.Answers.{StoreView}
 use Rattle.store.specs.Opens.{OpenRefused, FormatRefused}
 use Rattle.store.specs.Formats.{WritesHead}
@@ -26,15 +27,15 @@ use Rattle.store.specs.Lives.{Life, now_of}
 use Rattle.store.specs.Taken.{are_taken}
 use Rattle.shared_store.specs.Legal.{BeginsWith}
 use Rattle.board.specs.Boots.{boot_refusal, life_after}
-use Rattle.board.specs.Moments.{commands_by}
+use Rattle.board.specs.Moments.{attempts_of, commands_by}
 use Rattle.board.proofs.Few.{left_at}
 use Rattle.board_session.specs.Sessions.{Begins, Allows, TakesFormat, RunsOver, RefusesNew, RefusesDisk, IsOfLife}
 
 -- ---- of a format
--- what the law of kept disks says where a crash leaves no more than before
+-- what the law of kept disks says where a crash leaves no more than before, or its state in a record of version 2
 abbrev pub GoesOn : Facts → Facts → Type 0
 GoesOn old new =
-    ((c : Content) → new.may_leave c → old.may_leave c)
+    ((c : Content) → new.may_leave c → LeftAsBefore old c)
     → (IsBlank old → IsBlank new) × ((size : Size) → IsKept old size → IsKept new size) × NoMore old new
 
 -- a disk with the mark stays as it is, and so one that is kept
@@ -42,7 +43,7 @@ pub format_keeps : (old new : Facts) → (IsMarked old.content → Passes old ne
     → (size : Size) → IsKept old size → IsKept new size
 format_keeps old new marked goes_on is_marked size kept =
     let stays = (marked (is_marked size kept)).0 in
-    (goes_on (λ c left. let from = stays.now c left in subst old.may_leave (sym from.2) from.1)).1 size kept
+    (goes_on (λ c left. inl (let from = stays.now c left in subst old.may_leave (sym from.2) from.1))).1 size kept
 
 -- ---- of a life that has ended
 pub life_leaves : (doubt : Option Change) (disk : Facts) (size : Size) (s : DurableState) → (doubt ≡ None → LeavesOnly disk size s) → ((c : Change) → doubt ≡ Some c → LeavesEither disk size s (after s c)) → LeavesLife doubt disk size s
@@ -76,6 +77,13 @@ formatted_calm modes.Keep shape payloads e why = none_to_doubt e
 formatted_calm modes.Discard shape payloads e why = calm e (commands_by modes.Discard formatted) why
 formatted_calm modes.Resume shape payloads e why = calm e (commands_by modes.Resume formatted) why
 
+-- and no trial: no mode issues more than one
+formatted_few : (mode : BootMode) → length (commands_by mode formatted) ≤ 1
+formatted_few modes.Fresh = omega arith
+formatted_few modes.Keep = omega arith
+formatted_few modes.Discard = omega arith
+formatted_few modes.Resume = omega arith
+
 -- a boot of the formatted state that is refused has left it
 formatted_left : (mode : BootMode) (shape : Size) (payloads : List (List ℕ)) (e : Refusal) (disk : Facts) → RefusesBoot mode shape payloads formatted e → LeavesLife (doubt_by e (commands_by mode formatted)) disk shape formatted → LeavesOnly disk shape formatted
 formatted_left mode shape payloads e disk why left = subst (λ (d : Option Change). LeavesLife d disk shape formatted) (formatted_calm mode shape payloads e why) left
@@ -99,7 +107,8 @@ module _ (mid left : Facts) (goes_on : GoesOn mid left) (mode : BootMode) (paylo
   refuses_new shape (Some f) (Some n) e opens only why =
       let is = only.only why.size why.state why.earlier in
       let refused : RefusesBoot mode shape payloads formatted e = subst₂ (λ (z : Size) (s : DurableState). RefusesBoot mode z payloads s e) is.0 is.1 why.why in
-      let at = left_at mode e why.state why.life left why.size why.stopped why.left in
+      let few = subst (λ (s : DurableState). length (commands_by mode s) ≤ 1) (sym is.1) (formatted_few mode) in
+      let at = left_at mode e why.state why.life left why.size few why.stopped why.left in
       (inr (inr refused), formatted_left mode shape payloads e left refused (subst₂ (λ (z : Size) (s : DurableState). LeavesLife (doubt_by e (commands_by mode s)) left z s) is.0 is.1 at))
   refuses_new shape None (Some n) e opens only why = absurd why
   refuses_new shape (Some f) None e opens only why = absurd why
@@ -135,11 +144,17 @@ begins true shape mode payloads old mid store machine only same on =
     let is = (only refl).only store.size store.life.found on.found in (is.0, is.1)
 begins false shape mode payloads old mid store machine only same on = subst (λ (c : Content). StandsFor c store.size store.life.found) (same refl) on.reads
 
+-- a boot is counted where a trial stands
+attempts_taken : (s : DurableState) (trial : Option Trial) → s.trial ≡ trial → are_taken s (attempts_of trial) ≡ true
+attempts_taken s None is = refl
+attempts_taken s (Some t) is = ap (λ (o : Option Trial). is_none (if is_some o then None else Some 20) && true) is
+
 -- the journal that a boot begins with
 pub boot_taken : (mode : BootMode) (s : DurableState) → boot_refusal s mode ≡ None → are_taken s (commands_by mode s) ≡ true
-boot_taken modes.Fresh s free = refl
-boot_taken modes.Keep s free = refl
-boot_taken modes.Discard s free = ap (λ (o : Option ℕ). is_none o && true) free
+boot_taken modes.Fresh s free = attempts_taken s s.trial refl
+boot_taken modes.Keep s free = attempts_taken s s.trial refl
+boot_taken modes.Discard s free =
+    ap (λ (o : Option ℕ). is_none o && are_taken (after s Discard) (attempts_of s.trial)) free ∙ attempts_taken (after s Discard) s.trial refl
 boot_taken modes.Resume s free = ap (λ (o : Option ℕ). is_none o && true) free
 
 -- a life that the boot began

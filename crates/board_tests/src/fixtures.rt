@@ -3,7 +3,8 @@ ghost use Rattle.std.specs.Prelude.{◌≡◌, IfOk};
 
 use board::{Board, Payloads, Unpowered};
 use board_model::{
-    Addr, BootMode, Command, Durable, HartId, ImageHead, RAM_BASE, Reason, Refusal, Shape, Slot,
+    Addr, Boots, BootMode, Command, Durable, HartId, ImageHead, RAM_BASE, Reason, Refusal, Shape, Slot,
+    Trial,
 };
 use crew::{Crew, Turns};
 use disk::Disk;
@@ -61,15 +62,17 @@ fn image() -> Option<Saved> {
     })
 }
 
-/// The sector of a record with that image, of slot 3.
-fn record_with_image() -> Option<[u8; 512]> {
+/// The sector of a record with that image, of slot 3, where so many boots are left of a trial that falls back to
+/// slot 1.
+fn record_with_image(left: Option<Boots>) -> Option<[u8; 512]> {
+    let fallback = Slot::new(1)?;
     let record = Record {
         version: Version::Two,
         slot: Slot::new(3)?,
         reason: Reason::SystemFailure,
         next: 5,
         image: Some(image()?),
-        trial: None,
+        trial: left.map(|left| Trial { fallback, left }),
     };
     Some(record_bytes(&record))
 }
@@ -79,9 +82,16 @@ fn record_with_image() -> Option<[u8; 512]> {
 pub fn with_image(alloc: Global) -> Result<SimDisk, Fail>
     ensures { IfOk result (λ disk. (⟦<SimDisk as Disk>⟧.facts disk).lent.lanes ≡ 0) }
 {
+    with_image_and_trial(alloc, None)
+}
+
+/// The same, where so many boots are left of a trial of that slot, which falls back to slot 1.
+pub fn with_image_and_trial(alloc: Global, left: Option<Boots>) -> Result<SimDisk, Fail>
+    ensures { IfOk result (λ disk. (⟦<SimDisk as Disk>⟧.facts disk).lent.lanes ≡ 0) }
+{
     let superblock = superblock_bytes(&Shape::new(1, 1, 1)?);
     let gate = gate_bytes(Side::first().other());
-    let record = record_with_image().ok_or("record")?;
+    let record = record_with_image(left).ok_or("record")?;
     disk_of(alloc, &[superblock, gate, [0; 512], record])
 }
 
@@ -152,6 +162,11 @@ pub fn imaged(alloc: Global, mode: BootMode, payloads: &Payloads) -> Result<Boar
 /// The number of the receipt for a slot.
 pub fn set_slot(board: &mut Board<SimDisk>, slot: u32) -> Result<u32, Refusal> {
     Ok(board.console(Command::Slot(slot))?.number())
+}
+
+/// The number of the receipt for a slot on trial, for so many boots.
+pub fn set_trial(board: &mut Board<SimDisk>, slot: u32, boots: u32) -> Result<u32, Refusal> {
+    Ok(board.console(Command::Tries(slot, boots))?.number())
 }
 
 /// The number of the receipt for a discarded image.

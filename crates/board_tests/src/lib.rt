@@ -17,3 +17,5 @@ mod largest;
 mod refusals;
 #[cfg(test)]
 mod resumes;
+#[cfg(test)]
+mod trials;

@@ -20,7 +20,9 @@ Lines:
       which record the gate selects, 0 or 1; whether it and the other one are in
       their form, ok or bad; the image, none, whole or bad
   found slot S reason R image X next N
-      the state that a power-on would find, where the selected record is in its form
+      the state that a power-on would find, where the selected record is in its
+      form; it ends ' trial F L' where the slot is on trial: the slot to fall back
+      to, and the boots left
   image hart H address A opaque V pages P
       the image of that state, where there is one
 

@@ -11,6 +11,8 @@ const BOARD: &[u8] = b"board 2 4 3";
 const PAST_A_RANGE: &[u8] = b"\
 payload 4 00\n\
 slot 4294967296\n\
+tries 4294967296 1\n\
+tries 1 4294967296\n\
 turn 2 1\n\
 turn 0 0\n\
 turn 0 1000001\n\
@@ -57,6 +59,10 @@ on fresh fresh\n\
 slot\n\
 slot 1 2\n\
 discard 1\n\
+tries\n\
+tries 1\n\
+tries 1 2 3\n\
+good 1\n\
 turn 0\n\
 turn 0 1 2\n\
 call 0 base\n\
@@ -96,6 +102,13 @@ slot 1 \n\
 slot  1\n\
 slot\t1\n\
 slot 1\r\n\
+tries  1 2\n\
+tries 1  2\n\
+tries 1\t2\n\
+tries 1 2 \n\
+tries 1 2;\n\
+good \n\
+good\r\n\
 \r\n\
 \x20\n\
 \x20# no comment\n\
@@ -103,12 +116,19 @@ Slot 1\n\
 SLOT 1\n\
 slots 1\n\
 slo 1\n\
+Tries 1 2\n\
+tries1 2\n\
+try 1 2\n\
+goods\n\
+goo\n\
 on Fresh\n\
 slot -1\n\
 slot +1\n\
 slot 1.0\n\
 slot 1_0\n\
 slot a\n\
+tries -1 2\n\
+tries 1 0x\n\
 slot 0x\n\
 slot 0X1\n\
 slot x1\n\
@@ -130,9 +150,12 @@ payload 0 0x00\n\
 payload 0 zz\n\
 slot \xb1";
 
+// `state` and `quit` are lines of the console alone, and a boot attempts by itself.
 const OTHER_KEYWORDS: &[u8] = b"\
-tries 1\n\
-good";
+state\n\
+quit\n\
+attempt\n\
+consume";
 
 // Scripts, between bars, of which a number of the board line is out of its range.
 const BAD_SHAPES: &[u8] = b"\

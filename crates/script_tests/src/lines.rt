@@ -15,7 +15,7 @@ fn bytes(alloc: Global, items: &[u8]) -> Result<Bytes, AllocError> {
 
 #[test]
 fn power_and_slots(rt: HostRuntime) -> Result<(), Fail> {
-    let cases: [(&[u8], Line); 15] = [
+    let cases: [(&[u8], Line); 17] = [
         (b"format", Line::Format),
         (b"on fresh", Line::On(BootMode::Fresh)),
         (b"on keep", Line::On(BootMode::Keep)),
@@ -30,6 +30,8 @@ fn power_and_slots(rt: HostRuntime) -> Result<(), Fail> {
         (b"wake", Line::Wake),
         (b"tries 2 1", Line::Tries(2, 1)),
         (b"tries 4294967295 0", Line::Tries(4_294_967_295, 0)),
+        (b"tries 0 4294967295", Line::Tries(0, 4_294_967_295)),
+        (b"tries 0x3 007", Line::Tries(3, 7)),
         (b"good", Line::Good),
     ];
     for (text, line) in &cases {

@@ -1,5 +1,5 @@
 -- The receipts of a journal's commands, and whom they were told. Source: docs/THREADS.md, "Receipts".
-use Rattle.std.specs.Prelude.{ℕ, List, [], ◌∷◌, Option, Some, None, Result, Ok, Err, map}
+use Rattle.std.specs.Prelude.{ℕ, suc, List, [], ◌∷◌, length, Option, Some, None, Result, Ok, Err, map}
 use Rattle.board_model.specs.Durable.{Change, Slot, Reset, Suspend, Consume, Discard, Tries, Good, Attempt}
 use Rattle.board_model.specs.declared.durable.Command.TheVariants as commands
 use Rattle.board_model.specs.declared.durable.Entry.{Entry}
@@ -31,7 +31,12 @@ abbrev pub part_by : Result (ℕ × Entry) Refusal → PartView → PartView
 part_by (Ok t) d = told_after t.0 t.1 d
 part_by (Err e) d = d
 
--- what the boot's part was told of the commands that it issued
+-- what a part was told, the newest first, once it was told the receipts of these commands too: each has the place
+-- after those before it
+abbrev pub told_on : List Change → List (ℕ × Entry) → List (ℕ × Entry)
+told_on [] told = told
+told_on (c ∷ cs) told = told_on cs ((suc (length told), entry_in c) ∷ told)
+
+-- what the boot's part was told: the receipts of all commands that the boot issued, from 1
 abbrev pub boot_told : List Change → List (ℕ × Entry)
-boot_told [] = []
-boot_told (c ∷ cs) = (1, entry_in c) ∷ []
+boot_told issued = told_on issued []

@@ -33,14 +33,14 @@ pub struct Unshared<D: Disk + Drop, J: Journal> {
 impl<D: Disk + Drop, J: Journal> Unshared<D, J> {
     ghost use Rattle.shared_store.specs.Views.{store_in, inside, parts_with};
 
-    /// The store of a life that has just begun, with a new book: its journal has what the boot issued, one
-    /// command at most, and the boot's part, which goes off first, is told its receipt.
+    /// The store of a life that has just begun, with a new book: its journal has what the boot issued, and the
+    /// boot's part, which goes off first, is told the receipt of each.
     pub fn new(store: Store<D>, book: NewBook) -> (Unshared<D, J>, Part<J>)
         requires board { size_of_store store ≡ J.size }
         requires found { found_state store ≡ J.found }
         requires issued { journal_of store ≡ J.issued }
         requires taken { are_taken J.found J.issued ≡ true }
-        requires few { length J.issued ≤ 1 }
+        requires few { length J.issued ≤ 4096 }
         requires book { id_of book ≡ J.book }
         requires parts { parts_of book ≡ J.parts }
         requires some { 0 < J.parts }
@@ -51,27 +51,14 @@ impl<D: Disk + Drop, J: Journal> Unshared<D, J> {
     {
         let (book, mut keeper) = book.named::<J>();
         let part = book.hand_out(&mut keeper);
-        match store.entry(1) {
-            Some(entry) => {
-                let part = book.note(&mut keeper, part, entry);
-                let whole = Unshared {
-                    store,
-                    count: 1,
-                    book,
-                    keeper,
-                };
-                (whole, part)
-            }
-            None => {
-                let whole = Unshared {
-                    store,
-                    count: 0,
-                    book,
-                    keeper,
-                };
-                (whole, part)
-            }
-        }
+        let (part, count) = note_journal(&store, &book, &mut keeper, part);
+        let whole = Unshared {
+            store,
+            count,
+            book,
+            keeper,
+        };
+        (whole, part)
     }
 
     /// The next part goes off, which was told nothing.
@@ -152,4 +139,30 @@ impl<D: Disk + Drop, J: Journal> Unshared<D, J> {
         book.settle(keeper);
         store
     }
+}
+
+/// Notes the commands of a journal that no part was told of yet, in their order, for one part, which is told their
+/// receipts. Their number comes with it.
+fn note_journal<D: Disk + Drop, J: Journal>(
+    store: &Store<D>,
+    book: &Book<J>,
+    keeper: &mut Keeper<J>,
+    part: Part<J>,
+) -> (Part<J>, u32)
+    requires few { receipts store.now ≤ 4096 }
+    requires empty { keeper.old.log ≡ [] }
+    requires fresh { part.told ≡ [] }
+    ensures count { result.1 ≡ receipts store.now }
+    ensures tied { entries_in (journal_of store.now) ≡ entries_of keeper.new.log }
+    ensures parts { keeper.new.parts ≡ keeper.old.parts }
+    ensures told { result.0.told ≡ boot_told (journal_of store.now) }
+{
+    let mut part = part;
+    for count in 0..4096 {
+        let Some(entry) = store.entry(u64::from(count) + 1) else {
+            return (part, count);
+        };
+        part = book.note(keeper, part, entry);
+    }
+    (part, 4096)
 }

@@ -3,10 +3,15 @@ use Rattle.store.specs.Views.{found_state, view_of}
 use Rattle.board.specs.Boots.{boot_refusal}
 use Rattle.board.specs.Unbooted.{RefusesMode}
 use Rattle.board.proofs.Unmoved.{unmoved}
-use Rattle.board.proofs.Refused.{refusal_is_quiet}
+use Rattle.board.proofs.Refused.{comes_first, refusal_is_quiet}
 use Rattle.board.proofs.ready.ready.Goals as goal
 
 pub returns-in-Some-clause-unissued : goal.returns-in-Some-clause-unissued
 returns-in-Some-clause-unissued g c =
     let refuses : RefusesMode (boot_refusal (found_state c.args.store.now) c.args.mode) (Some c.in-Some.refusal) = search rules in
     unmoved _ _ (view_of c.args.store.now) (g.met.D.Disk.only_now _) c.requires (refusal_is_quiet _ _ refuses)
+
+pub returns-in-Some-clause-refused : goal.returns-in-Some-clause-refused
+returns-in-Some-clause-refused g c =
+    let refuses : RefusesMode (boot_refusal (found_state c.args.store.now) c.args.mode) (Some c.in-Some.refusal) = search rules in
+    comes_first (boot_refusal (found_state c.args.store.now) c.args.mode) c.args.mode _ _ (found_state c.args.store.now) c.in-Some.refusal refuses

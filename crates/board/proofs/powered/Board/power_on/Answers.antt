@@ -3,7 +3,14 @@ use Rattle.store.specs.Views.{now_state, view_of}
 use Rattle.board.proofs.Doubted.{leaves_life}
 use Rattle.board.proofs.Off.{is_off}
 use Rattle.board.proofs.On.{is_on}
+use Rattle.board.proofs.Opened.{is_open}
 use Rattle.board.proofs.powered.Board.power_on.Goals as goal
+
+-- what the open made takes a boot
+pub ready-requires-after_bounds : goal.ready-requires-after_bounds
+ready-requires-after_bounds g c κs within =
+    let o = c.in-Ok.ensures in
+    is_open (g.D.Disk.facts c.args.disk) (view_of c.in-Ok.store) o.opened o.settles
 
 -- The life that is left is that of the store which gives its disk back.
 pub returns-in-Err-ready-clause-off : goal.returns-in-Err-ready-clause-off

@@ -1,0 +1,40 @@
+use Rattle.std.proofs.Common.{◌≡◌, ◌∙◌, ◌+◌, ◌-◌, ◌≤◌, ℕ, List, get_or, ap, arith, subst, subst₂, sym}
+use Rattle.board_model.specs.Views.{change_in}
+use Rattle.board_model.specs.declared.durable.Entry.{Entry}
+use Rattle.tallies.specs.Logs.{Log}
+use Rattle.receipts.specs.declared.views.BookView.{BookView}
+use Rattle.receipts.specs.declared.views.PartView.{PartView}
+use Rattle.store.specs.Views.{journal_of, receipts}
+use Rattle.shared_store.proofs.Booted.{AreNoted, none_left, one_noted}
+use Rattle.shared_store.proofs.unshared.note_journal.Goals as goal
+
+pub returns-in_default-clause-count : goal.returns-in_default-clause-count
+returns-in_default-clause-count g c =
+    let from = c.from.ensures in
+    none_left (c.from.result + 1) c.loop-count.count (receipts c.args.store.now) (c.entry.ensures.none c.in_default.is) (omega (arith, from)) c.loop-count.invariant.noted.within
+
+pub loop-count-preserved : goal.loop-count-preserved
+loop-count-preserved g c =
+    let journal = journal_of c.args.store.now in
+    let k = c.loop-count.count in
+    let e = c.in-Some.entry in
+    let some = c.in-Some.ensures.some in
+    let from = c.from.ensures in
+    let memory = some.2.0 in
+    let place : c.from.result + 1 - 1 ≡ k = omega (arith, from) in
+    let is = subst (λ (i : ℕ). get_or journal i (change_in e memory) ≡ change_in e memory) place some.2.1 in
+    let last : c.from.result + 1 ≤ receipts c.args.store.now = some.1 in
+    let there : k + 1 ≤ receipts c.args.store.now = omega (arith, last, from) in
+    let noted = one_noted journal k c.loop-count.keeper.log c.loop-count.part.told c.loop-count.part.who e memory c.loop-count.invariant.noted there is in
+    let note = c.note-part.ensures in
+    record {
+      noted = subst₂ (λ (log : Log Entry) (told : List (ℕ × Entry)). AreNoted journal (k + 1) log told) (sym (ap (λ (v : BookView). v.log) note.keeper)) (sym (ap (λ (d : PartView). d.told) note.part)) noted;
+      parts = ap (λ (v : BookView). v.parts) note.keeper ∙ c.loop-count.invariant.parts;
+    }
+
+pub returns-clause-count : goal.returns-clause-count
+returns-clause-count g c =
+    let within : c.loop-count.count ≤ receipts c.args.store.now = c.loop-count.invariant.noted.within in
+    let few = c.requires.few in
+    let all = c.loop-count-test.false in
+    omega (arith, few, within, all)
