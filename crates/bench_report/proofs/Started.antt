@@ -1,9 +1,9 @@
 -- A power-on whose open succeeded.
 use Rattle.std.proofs.Common.{◌≡◌, ◌≢◌, ◌≤◌, ◌+◌, ℕ, List, [], ◌∷◌, ◌++◌, Option, None, Some, Ok, Err, inl, inr, refl, sym, ◌∙◌, ap, subst, arith, length}
 use Rattle.board_model.specs.Durable.{DurableState, Change, after, fold, refusal_of}
-use Rattle.board_model.specs.Kept.{Kept}
+use Rattle.board_model.specs.Kept.{Kept, found_of}
 use Rattle.board_model.specs.Shapes.{Size, IsSize}
-use Rattle.board_model.specs.Views.{number_of_refusal}
+use Rattle.board_model.specs.Views.{durable_of, number_of_refusal}
 use Rattle.board_model.specs.declared.boot_mode.BootMode.{BootMode}
 use Rattle.board_model.specs.declared.boot_mode.BootMode.TheVariants as modes
 use Rattle.board_model.specs.declared.durable.Durable.{Durable}
@@ -24,13 +24,13 @@ use Rattle.board.specs.Unbooted.{doubt_by, IsLifeLeft, LeavesLife, CountsRefusal
 use Rattle.bench_report.specs.declared.printed.Answer.{Answer}
 use Rattle.bench_report.specs.declared.printed.Printed.{Printed}
 use Rattle.bench_report.specs.declared.printed.Printed.TheVariants as printed
-use Rattle.bench_report.specs.Views.{SimStore, SimBoard, store_in, machine_in, facts, fault_state, store_size, store_facts, store_fault_state, IsLife, IsAs}
+use Rattle.bench_report.specs.Views.{SimStore, SimBoard, store_in, machine_in, facts, fault_state, store_size, store_now, store_facts, store_fault_state, IsLife, IsAs}
 use Rattle.bench_report.specs.Bench.{DiskState, Blank, Unknown, Formatted, BenchLife, Bench, IsClean}
 use Rattle.bench_report.specs.Happens.{says, out_of_memory, failed, off, on_with, has_machine, life_with, all_acknowledged, in_doubt}
 use Rattle.bench_report.specs.Commands.{Writes, IssuesAll}
-use Rattle.bench_report.specs.PowerOns.{life_begun, ShowsFound, Opens, BootsFrom, Begins, Boots, PowersOn}
+use Rattle.bench_report.specs.PowerOns.{life_begun, ShowsFound, Opens, BootsFrom, Begins, Boots, PowersOn, TellsNow}
 use Rattle.bench_report.specs.Sides.{SidesOf, SidesAre}
-use Rattle.bench_report.specs.Agree.{AreShort, DiskIs, DeviceIs, LifeIs, OffIs, OnIs}
+use Rattle.bench_report.specs.Agree.{AreShort, BoardIs, DiskIs, DeviceIs, LifeIs, OffIs, OnIs}
 use Rattle.bench_report.proofs.Adapted.{calm}
 use Rattle.bench_report.proofs.Commanded.{follows_with}
 use Rattle.bench_report.proofs.Determined.{begun_size, kept_as}
@@ -158,6 +158,10 @@ power_ok kept blank size mode b payloads old board a off same on keeps shows h =
     let P : Option ℕ → Type 0 = λ o. Boots o mode z s c a.line did.0 in
     (did.0, inl (s, z, c, m.1, shows, subst P (sym on.allowed) (inl did.1)), did.2, did.3)
 
+-- a life goes on from what the disk keeps
+held : (size : Size) (m : DiskState) (kept : Kept) (life : BenchLife) (z : Size) → m ≡ Formatted → LifeIs size m kept life z → life.now ≡ found_of kept.changes
+held size m kept life z formatted follows = let L : DiskState → Type 0 = λ x. LifeIs size x kept life z in (subst L formatted follows).1
+
 -- ---- the board is off, after an open that left this bench
 module _ (size : Size) (b : Bench) (old new : SimDisk) (z : Size) (s : DurableState) (payloads : List (List ℕ)) (line : Printed) (none : b.power ≡ None) (device : DeviceIs size b (fault_state old) (facts old))
     (follows : LifeIs size b.disk_state b.kept (life_begun s z) z) (fits : PayloadsFit z payloads) (no_fewer : (facts old).failures ≤ (facts new).failures) (long : SameLength (facts old) (facts new)) where
@@ -165,8 +169,16 @@ module _ (size : Size) (b : Bench) (old new : SimDisk) (z : Size) (s : DurableSt
   abbrev Moments : BootMode → Refusal → Type 0
   Moments mode e = (c : Content) → (facts new).may_leave c → MayLeave (facts old) z s (gone_before e (commands_by mode s)) c
 
-  abbrev Left : Option ℕ → BootMode → Type 0
-  Left o mode = (x : Bench) × Boots o mode z s b line x × OffIs size x new × (x.payloads ≡ b.payloads)
+  -- the state after these commands of the boot is that of the bench then
+  abbrev Held : List Change → Bench → Type 0
+  Held done x = x.disk_state ≡ Formatted → fold s done ≡ found_of x.kept.changes
+
+  abbrev Left : List Change → Option ℕ → BootMode → Type 0
+  Left done o mode = (x : Bench) × Boots o mode z s b line x × OffIs size x new × (x.payloads ≡ b.payloads) × Held done x
+
+  -- none of them was issued
+  none_held : (done : List Change) → done ≡ [] → b.disk_state ≡ Formatted → fold s done ≡ found_of b.kept.changes
+  none_held done none formatted = ap (λ cs. fold s cs) none ∙ held size b.disk_state b.kept (life_begun s z) z formatted follows
 
   -- the life that the refused boot left, and what a crash leaves of it
   abbrev Stopped : BootMode → Refusal → Type 0
@@ -207,14 +219,14 @@ module _ (size : Size) (b : Bench) (old new : SimDisk) (z : Size) (s : DurableSt
         (Err n, mid, subst Q (sym parts) (all_but done c later (life_begun s z) start n mid refl refl (omega (arith, few)) taken writes), (h, refl))
 
     abbrev StartsOff : Type 0
-    StartsOff = (x : Bench) × BootsFrom mode z s b line x × OffIs size x new × (x.payloads ≡ b.payloads)
+    StartsOff = (x : Bench) × BootsFrom mode z s b line x × OffIs size x new × (x.payloads ≡ b.payloads) × Held done x
 
     -- the disk failed before the command could take effect
     failed_at : line ≡ printed.OnRefused 5 → LeavesOnly (facts new) z life.now → CausedRefusal (fault_state old) Device (fault_state new) → CountsRefusal (facts old).failures Device (facts new).failures → StartsOff
     failed_at h left cause counts =
         let did = fails_as size b first (fault_state old) (fault_state new) (facts old) (facts new) device refl refl cause counts long in
         let mid = failed (fault_state new) first in
-        (off mid, refuses_it 5 mid (inr (inl (refl, did.0))) h, (refl, kept_only size z b.disk_state first.kept life (facts new) goes left, did.1), refl)
+        (off mid, refuses_it 5 mid (inr (inl (refl, did.0))) h, (refl, kept_only size z b.disk_state first.kept life (facts new) goes left, did.1), refl, λ is. held size b.disk_state first.kept life z is goes)
 
     -- it failed where the command may have taken effect
     doubted_at : line ≡ printed.OnRefused 6 → LeavesEither (facts new) z life.now (after life.now c) → CausedRefusal (fault_state old) Down (fault_state new) → CountsRefusal (facts old).failures Down (facts new).failures → StartsOff
@@ -222,53 +234,55 @@ module _ (size : Size) (b : Bench) (old new : SimDisk) (z : Size) (s : DurableSt
         let d : Bench = in_doubt c life first in
         let did = fails_as size b d (fault_state old) (fault_state new) (facts old) (facts new) device refl refl cause counts long in
         let mid = failed (fault_state new) d in
-        (off mid, refuses_it 6 mid (inr (inr (refl, did.0))) h, (refl, kept_either size z b.disk_state first.kept life c (facts new) goes (taken_at done c later s taken) left, did.1), refl)
+        (off mid, refuses_it 6 mid (inr (inr (refl, did.0))) h, (refl, kept_either size z b.disk_state first.kept life c (facts new) goes (taken_at done c later s taken) left, did.1), refl, λ is. held size b.disk_state first.kept life z is goes)
 
-  started_off : (mode : BootMode) → ((x : Bench) × BootsFrom mode z s b line x × OffIs size x new × (x.payloads ≡ b.payloads)) → Left None mode
-  started_off modes.Fresh did = (did.0, inl did.1, did.2, did.3)
-  started_off modes.Keep did = (did.0, inl did.1, did.2, did.3)
-  started_off modes.Discard did = (did.0, inl did.1, did.2, did.3)
-  started_off modes.Resume did = (did.0, inl (inl did.1), did.2, did.3)
+  started_off : (mode : BootMode) (done : List Change) → ((x : Bench) × BootsFrom mode z s b line x × OffIs size x new × (x.payloads ≡ b.payloads) × Held done x) → Left done None mode
+  started_off modes.Fresh done did = (did.0, inl did.1, did.2, did.3, did.4)
+  started_off modes.Keep done did = (did.0, inl did.1, did.2, did.3, did.4)
+  started_off modes.Discard done did = (did.0, inl did.1, did.2, did.3, did.4)
+  started_off modes.Resume done did = (did.0, inl (inl did.1), did.2, did.3, did.4)
 
   late_device : (mode : BootMode) (done later : List Change) → commands_by mode s ≡ done ++ later → (later ≡ [] → ⊥) → boot_refusal s mode ≡ None → line ≡ printed.OnRefused 5 → LeavesLife (doubt_by Device later) (facts new) z (fold s done)
-      → CausedRefusal (fault_state old) Device (fault_state new) → CountsRefusal (facts old).failures Device (facts new).failures → Left None mode
+      → CausedRefusal (fault_state old) Device (fault_state new) → CountsRefusal (facts old).failures Device (facts new).failures → Left done None mode
   late_device mode done [] parts some allowed h left cause counts = absurd (some refl)
-  late_device mode done (c ∷ later) parts some allowed h left cause counts = started_off mode (failed_at mode done c later parts allowed h left cause counts)
+  late_device mode done (c ∷ later) parts some allowed h left cause counts = started_off mode done (failed_at mode done c later parts allowed h left cause counts)
 
   late_down : (mode : BootMode) (done later : List Change) → commands_by mode s ≡ done ++ later → (later ≡ [] → ⊥) → boot_refusal s mode ≡ None → line ≡ printed.OnRefused 6 → LeavesLife (doubt_by Down later) (facts new) z (fold s done)
-      → CausedRefusal (fault_state old) Down (fault_state new) → CountsRefusal (facts old).failures Down (facts new).failures → Left None mode
+      → CausedRefusal (fault_state old) Down (fault_state new) → CountsRefusal (facts old).failures Down (facts new).failures → Left done None mode
   late_down mode done [] parts some allowed h left cause counts = absurd (some refl)
-  late_down mode done (c ∷ later) parts some allowed h left cause counts = started_off mode (doubted_at mode done c later parts allowed h left cause counts)
+  late_down mode done (c ∷ later) parts some allowed h left cause counts = started_off mode done (doubted_at mode done c later parts allowed h left cause counts)
 
-  late : (mode : BootMode) (e : Refusal) → boot_refusal s mode ≡ None → line ≡ printed.OnRefused (number_of_refusal e) → IsLateRefusal mode z payloads s e → Moments mode e → Stopped mode e → CausedRefusal (fault_state old) e (fault_state new)
-      → CountsRefusal (facts old).failures e (facts new).failures → Left None mode
+  late : (mode : BootMode) (e : Refusal) → boot_refusal s mode ≡ None → line ≡ printed.OnRefused (number_of_refusal e) → IsLateRefusal mode z payloads s e → Moments mode e → (stop : Stopped mode e) → CausedRefusal (fault_state old) e (fault_state new)
+      → CountsRefusal (facts old).failures e (facts new).failures → Left stop.1.done None mode
   late mode BadShape allowed h why moments stop cause counts = absurd (why fits)
   late mode Memory allowed h why moments stop cause counts =
       let x : Bench = out_of_memory b in
       let did = quiet mode Memory (λ f. (let no : ⊥ = cc in no)) (λ f. (let no : ⊥ = cc in no)) moments cause stop in
-      (x, inr (h, refl), (did.0, did.1, (did.2.0, did.2.1, did.2.2, starved_sides size x b.growths (facts new) refl)), refl)
+      (x, inr (h, refl), (did.0, did.1, (did.2.0, did.2.1, did.2.2, starved_sides size x b.growths (facts new) refl)), refl, none_held stop.1.done (stop.1.by_disk (λ f. (let no : ⊥ = cc in no)) (λ f. (let no : ⊥ = cc in no))))
   late mode Device allowed h why moments stop cause counts = late_device mode stop.1.done stop.1.later stop.1.parts (λ none. why.1 (stop.1.refused none)) allowed h (left_as mode Device stop) cause counts
   late mode Down allowed h why moments stop cause counts = late_down mode stop.1.done stop.1.later stop.1.parts (λ none. why.1 (stop.1.refused none)) allowed h (left_as mode Down stop) cause counts
   late mode BadImage allowed h why moments stop cause counts =
       let P : BootMode → Type 0 = λ y. Boots None y z s b line b in
-      (b, subst P (sym why.1) (inl (inr (why.2, h, refl))), quiet mode BadImage (λ f. (let no : ⊥ = cc in no)) (λ f. (let no : ⊥ = cc in no)) moments cause stop, refl)
+      (b, subst P (sym why.1) (inl (inr (why.2, h, refl))), quiet mode BadImage (λ f. (let no : ⊥ = cc in no)) (λ f. (let no : ⊥ = cc in no)) moments cause stop, refl, none_held stop.1.done (stop.1.by_disk (λ f. (let no : ⊥ = cc in no)) (λ f. (let no : ⊥ = cc in no))))
   late mode e allowed h why moments stop cause counts = absurd why
 
-  refused : (mode : BootMode) (o : Option ℕ) (e : Refusal) → boot_refusal s mode ≡ o → line ≡ printed.OnRefused (number_of_refusal e) → IsBootRefusal o mode z payloads s e → Moments mode e → Stopped mode e
-      → CausedRefusal (fault_state old) e (fault_state new) → CountsRefusal (facts old).failures e (facts new).failures → Left o mode
+  refused : (mode : BootMode) (o : Option ℕ) (e : Refusal) → boot_refusal s mode ≡ o → line ≡ printed.OnRefused (number_of_refusal e) → IsBootRefusal o mode z payloads s e → Moments mode e → (stop : Stopped mode e)
+      → CausedRefusal (fault_state old) e (fault_state new) → CountsRefusal (facts old).failures e (facts new).failures → Left stop.1.done o mode
   refused mode None e at h why moments stop cause counts = late mode e at h why moments stop cause counts
   refused mode (Some n) e at h why moments stop cause counts =
-      (b, (h ∙ ap (λ k. printed.OnRefused k) why, refl), quiet mode e (mode_not_down s mode n e at why) (mode_not_device s mode n e at why) moments cause stop, refl)
+      (b, (h ∙ ap (λ k. printed.OnRefused k) why, refl), quiet mode e (mode_not_down s mode n e at why) (mode_not_device s mode n e at why) moments cause stop, refl,
+      none_held stop.1.done (stop.1.by_disk (mode_not_device s mode n e at why) (mode_not_down s mode n e at why)))
 
 -- a bench after a power-on that was refused
-abbrev pub Unpowered : Size → BootMode → Bench → Answer → SimDisk → Type 0
-Unpowered size mode b a new = (x : Bench) × PowersOn size mode b a x × OffIs size x new × (x.payloads ≡ b.payloads)
+abbrev pub Unpowered : Size → BootMode → Bench → Answer → Option Durable → SimDisk → Type 0
+Unpowered size mode b a now new = (x : Bench) × (PowersOn size mode b a x × TellsNow a.found now x) × OffIs size x new × (x.payloads ≡ b.payloads)
 
 -- the board stays off, whether the open found a state or not
 pub unpowered : KeptLaw → BlankLaw → (size : Size) (mode : BootMode) (b : Bench) (old new : SimDisk) (payloads : List (List ℕ)) (e : Refusal) (n : ℕ) (o p : Option Durable) → OffIs size b old → AreShort payloads → n ≡ number_of_refusal e
-    → IsUnpowered mode payloads o p (facts old) e (facts new) → GivesDisk (facts old) (fault_state old) e (facts new) (fault_state new) → Unpowered size mode b (record { found = o; line = printed.OnRefused n }) new
+    → IsUnpowered mode payloads o p (facts old) e (facts new) → GivesDisk (facts old) (fault_state old) e (facts new) (fault_state new) → Unpowered size mode b (record { found = o; line = printed.OnRefused n }) p new
 unpowered kept blank size mode b old new payloads e n None None off short code is gives =
-    open_err kept blank size mode b old new (says (printed.OnRefused n)) e off.0 off.2 is.why gives.cause gives.no_fewer gives.length is.any_moment.now (ap (λ k. says (printed.OnRefused k)) code) off.1
+    let did = open_err kept blank size mode b old new (says (printed.OnRefused n)) e off.0 off.2 is.why gives.cause gives.no_fewer gives.length is.any_moment.now (ap (λ k. says (printed.OnRefused k)) code) off.1 in
+    (did.0, (did.1, tt), did.2, did.3)
 unpowered kept blank size mode b old new payloads e n (Some d) (Some now) off short code is gives =
     let z : Size = is.size in
     let s : DurableState = is.state in
@@ -277,6 +291,17 @@ unpowered kept blank size mode b old new payloads e n (Some d) (Some now) off sh
     let sides : SidesAre size c (facts old) = λ clean x left. settled_sides size b.disk_state b m.0 s z m.1 x (off.2.3 clean x left) in
     let did = refused size c old new z s payloads (printed.OnRefused n) off.0 (off.2.0, off.2.1, off.2.2, sides) m.2 (roomy z payloads (kept.sized old z s is.earlier) short) gives.no_fewer gives.length mode (boot_refusal s mode) e refl
     (ap (λ k. printed.OnRefused k) code) is.why is.any_moment.now (is.life, is.stopped, is.left) gives.cause gives.counts in
-    (did.0, inl (s, z, c, m.1, is.shows, did.1), did.2, did.3)
+    let now_is : now ≡ durable_of (fold s is.stopped.done) = is.tells ∙ ap (λ (l : StoreLife). durable_of (now_of l)) is.stopped.is in
+    (did.0, (inl (s, z, c, m.1, is.shows, did.1), λ formatted. now_is ∙ ap durable_of (did.4 formatted)), did.2, did.3)
+
+-- the state now of a board that is on
+pub on_now : (size : Size) (x : Bench) (board : SimBoard) → OnIs size x board → x.disk_state ≡ Formatted → store_now (store_in board) ≡ found_of x.kept.changes
+on_now size x board on formatted =
+    let M : DiskState → Type 0 = λ m. BoardIs size m x.kept x.power board in
+    go x.power (subst M formatted on.0)
+  where
+    go : (p : Option BenchLife) → BoardIs size Formatted x.kept p board → store_now (store_in board) ≡ found_of x.kept.changes
+    go None is = absurd is
+    go (Some life) is = is.0.1.0 ∙ is.0.0.1
 unpowered kept blank size mode b old new payloads e n None (Some now) off short code is gives = absurd is
 unpowered kept blank size mode b old new payloads e n (Some d) None off short code is gives = absurd is

@@ -106,3 +106,10 @@ PowersOn size mode b answer new =
     ⊎ ((n : ℕ) × IsOpenRefusal b.disk_state n × (answer ≡ says (printed.OnRefused n)) × (new ≡ b))
     ⊎ (MayStand b.disk_state × (answer ≡ says (printed.OnRefused 11)) × (new ≡ out_of_memory b))
     ⊎ ((answer ≡ says (printed.OnRefused 5)) × FailsByFault b new)
+
+-- the state that a power-on left, where its open found one: the one after the commands kept then, without one in
+-- doubt
+abbrev pub TellsNow : Option Durable → Option Durable → Bench → Type 0
+TellsNow None now new = ⊤
+TellsNow (Some found) None new = ⊥
+TellsNow (Some found) (Some now) new = new.disk_state ≡ Formatted → now ≡ durable_of (found_of new.kept.changes)

@@ -9,7 +9,7 @@ ghost use Rattle.store.specs.Leaves.{IsIdle};
 ghost use Rattle.bench_report.specs.Views.{store_in, machine_in, facts, store_fault_state};
 ghost use Rattle.bench_report.specs.Bench.{Bench, BenchLife};
 ghost use Rattle.bench_report.specs.Happens.{off, unpowered, says, shows};
-ghost use Rattle.bench_report.specs.PowerOns.{FormatsOn, PowersOn};
+ghost use Rattle.bench_report.specs.PowerOns.{FormatsOn, PowersOn, TellsNow};
 ghost use Rattle.bench_report.specs.Examined.{InspectsOn, InspectStep, AnswersOf};
 ghost use Rattle.bench_report.specs.Steps.{FormatStep, OnStep, ConsoleStep, PayloadStep, TurnStep, CallStep, ReadStep, WakeStep, ArmStep, PokeStep, Step, Moves};
 ghost use Rattle.disk.specs.FaultState.{armed_by};
@@ -23,7 +23,7 @@ use crate::power::Power;
 use crate::printed::{Answer, Printed};
 use board::{Board, Payloads};
 use board_console::ConsoleWord;
-use board_model::{BootMode, Command, HartId, Refusal, Shape};
+use board_model::{BootMode, Command, Durable, HartId, Refusal, Shape};
 use crew::Crew;
 use disk::{ArmedFault, Disk};
 use machine::Word;
@@ -55,12 +55,19 @@ fn format_disk(shape: &Shape, mut disk: SimDisk) -> (Power, Answer)
     }
 }
 
-/// Powers a board on that is off.
-fn power_on(alloc: Global, mode: BootMode, disk: SimDisk, payloads: &Payloads) -> (Power, Answer)
+/// Powers a board on that is off: the board, what the line says, and where the open found a state the one then,
+/// without a command in doubt.
+pub fn power_on(
+    alloc: Global,
+    mode: BootMode,
+    disk: SimDisk,
+    payloads: &Payloads,
+) -> (Power, Answer, Option<Durable>)
     requires idle { IsIdle (facts disk) }
     requires short { AreShort payloads.now }
     ensures reported { (size : Size) (b : Bench) → OffIs size b disk → payloads.now ≡ b.payloads
-        → StepsTo size b result.0 (PowersOn size mode b result.1) }
+        → StepsTo size b result.0
+        (λ new. PowersOn size mode b result.1 new × TellsNow result.1.found result.2 new) }
     ensures resting { IsResting result.0 }
 {
     kept_disks::<SimDisk>();
@@ -71,14 +78,15 @@ fn power_on(alloc: Global, mode: BootMode, disk: SimDisk, payloads: &Payloads) -
                 found: Some(board.found()),
                 line: Printed::On(mode),
             };
-            (Power::On(board), booted)
+            let now = board.now();
+            (Power::On(board), booted, Some(now))
         }
         Err(unpowered) => {
             let refused = Answer {
                 found: unpowered.found,
                 line: Printed::OnRefused(unpowered.refusal.code()),
             };
-            (Power::Off(unpowered.disk), refused)
+            (Power::Off(unpowered.disk), refused, unpowered.now)
         }
     }
 }
@@ -237,7 +245,10 @@ fn on_line(alloc: Global, mode: BootMode, power: Power, payloads: &Payloads) -> 
     ensures resting { IsResting result.0 }
 {
     match power {
-        Power::Off(disk) => power_on(alloc, mode, disk, payloads),
+        Power::Off(disk) => {
+            let (power, answer, _now) = power_on(alloc, mode, disk, payloads);
+            (power, answer)
+        }
         Power::On(board) => (Power::On(board), says(Printed::Busy)),
     }
 }

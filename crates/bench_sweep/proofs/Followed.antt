@@ -2,7 +2,9 @@
 use Rattle.std.proofs.Common.{◌≡◌, ◌≢◌, ◌⊎◌, ℕ, inl, inr, Bool, true, false, List, [], ◌∷◌, ◌++◌, Option, None, Some, Result, Ok, Err, OnOk, length, refl, sym, ◌∙◌, ap, subst, if◌then◌else◌, ◌==◌}
 use Rattle.std.proofs.Common.{is_some}
 use Rattle.std.proofs.lemmas.Bool.Decides.{Decides-eqb}
-use Rattle.board_model.specs.Durable.{DurableState, Change, Slot, Reset, Suspend, Consume, Discard, refusal_of, after, IsWhole, CarriesWhole}
+use Rattle.std.specs.Prelude.{IfSome}
+use Rattle.board_model.proofs.Attempts.{attempt_image}
+use Rattle.board_model.specs.Durable.{Image, DurableState, Change, Slot, Reset, Suspend, Consume, Discard, Tries, Good, Attempt, refusal_of, after, IsWhole, CarriesWhole}
 use Rattle.board_model.specs.Kept.{Kept, MayKeep, TakesIn, found_of}
 use Rattle.board_model.specs.Shapes.{Size, ram_bytes_of}
 use Rattle.board_model.specs.Plains.{image_in, state_in}
@@ -13,11 +15,9 @@ use Rattle.board_model.specs.declared.durable.ImageHead.{ImageHead}
 use Rattle.board_model.specs.declared.durable.Reason.{Reason}
 use Rattle.board_model.specs.declared.plain.Plain.{Plain}
 use Rattle.board_model.specs.Views.{number_of_refusal}
-use Rattle.board_model.specs.declared.boot_mode.BootMode.{BootMode}
 use Rattle.board_model.specs.declared.durable.Durable.{Durable}
 use Rattle.board_model.specs.declared.refusal.Refusal.{Refusal}
 use Rattle.board_model.specs.declared.refusal.Refusal.TheVariants.{Memory, NoImage}
-use Rattle.bench_report.specs.declared.printed.Answer.{Answer}
 use Rattle.bench_report.specs.declared.printed.Printed.{Printed}
 use Rattle.board_model.specs.declared.plain.PlainImage.{PlainImage}
 use Rattle.turns.specs.declared.words.Turned.{Turned}
@@ -31,7 +31,7 @@ use Rattle.bench_judge.specs.declared.ledgers.Ledger.{Ledger}
 use Rattle.bench_judge.specs.Ledgers.{Tells, more_kept, in_doubt, settled, doubted, kept_by}
 use Rattle.bench_judge.proofs.Known.{found_more}
 use Rattle.bench_sweep.specs.Runs.{TellsWhole, Follows, HartMoves}
-use Rattle.bench_sweep.specs.Told.{IssuedTold, CommandTold, BootSaid, SettledTold, IsOfHart, HartTold}
+use Rattle.bench_sweep.specs.Told.{IssuedTold, CommandTold, IsOfHart, HartTold}
 
 whole_after : (size : Size) (s : DurableState) (c : Change) → IsWhole size s → CarriesWhole size c → IsWhole size (after s c)
 whole_after size s (Slot n) whole carries = whole
@@ -39,6 +39,10 @@ whole_after size s (Reset r) whole carries = whole
 whole_after size s (Suspend hart address opaque memory) whole carries = carries
 whole_after size s Consume whole carries = tt
 whole_after size s Discard whole carries = tt
+whole_after size s (Tries n boots) whole carries = whole
+whole_after size s Good whole carries = whole
+whole_after size s Attempt whole carries =
+    let P : Option Image → Type 0 = λ o. IfSome o (λ i. length i.memory ≡ ram_bytes_of size) in subst P (sym (attempt_image s s.trial)) whole
 
 pub whole_more : (size : Size) (cs : List Change) (c : Change) → IsWhole size (found_of cs) → CarriesWhole size c → IsWhole size (found_of (cs ++ c ∷ []))
 whole_more size cs c whole carries =
@@ -179,6 +183,9 @@ module _ (size : Size) (b new : Bench) (board : SimBoard) (l : Ledger) (was : Fo
       carries (Suspend h a o m) x = ap length x.0 ∙ x.1
       carries Consume x = absurd x
       carries Discard x = absurd x
+      carries (Tries n boots) x = absurd x
+      carries Good x = absurd x
+      carries Attempt x = absurd x
   entry_is (entries.Suspend hart address opaque) bytes c is of_hart =
       let P : Change → Type 0 = λ x. IsOfHart size ram x in
       let at : IsOfHart size ram (Suspend hart address opaque bytes) = subst P is of_hart in
@@ -274,26 +281,6 @@ pub commands_kept : {E : Type 0} (r : Result (Unit {0}) E) (l m : Ledger) (line 
 commands_kept (Err f) l m line x said c is tells kept = tt
 commands_kept (Ok u) l m line x said c is tells kept = λ size old new was carries told.
     (let P : Printed → Type 0 = λ y. CommandTold y c old new in kept size old new was carries (tells old new (subst P is told)))
-
--- a power-on, by what its open found
-abbrev pub BeginsKept : Ledger → Ledger → BootMode → Printed → Type 0
-BeginsKept l m mode line = (size : Size) (old new : Kept) → TellsWhole size l old → BootSaid line mode old new → TellsWhole size m new
-
-abbrev pub OnKept : Ledger → Ledger → BootMode → Answer → Type 0
-OnKept l m mode a = (size : Size) (old new : Kept) → TellsWhole size l old → ((mid : Kept) × SettledTold a.found old mid × BootSaid a.line mode mid new) → TellsWhole size m new
-
-pub found_none : {E : Type 0} (r : Result (Unit {0}) E) (l m : Ledger) (mode : BootMode) (a : Answer) → a.found ≡ None → OnOk r (BeginsKept l m mode a.line) → OnOk r (OnKept l m mode a)
-found_none (Err f) l m mode a none kept = tt
-found_none (Ok u) l m mode a none kept = λ size old new was told.
-    (let P : Option Durable → Type 0 = λ o. SettledTold o old told.0 in kept size told.0 new (as_before size l old told.0 was (subst P none told.1)) told.2)
-
-pub found_some : {E : Type 0} (r : Result (Unit {0}) E) (l s m : Ledger) (mode : BootMode) (a : Answer) (d : Durable) → a.found ≡ Some d
-    → ((kept : Kept) (changes : List Change) → Tells l kept → MayKeep kept changes → d ≡ durable_of (found_of changes) → Tells s (settled changes)) → OnOk r (BeginsKept s m mode a.line) → OnOk r (OnKept l m mode a)
-found_some (Err f) l s m mode a d some settles_it kept = tt
-found_some (Ok u) l s m mode a d some settles_it kept = λ size old new was told.
-    (let P : Option Durable → Type 0 = λ o. SettledTold o old told.0 in
-    let t = subst P some told.1 in
-    kept size told.0 new (as_before size s (settled t.0) told.0 (settles size l s old t.0 was t.1 (settles_it old t.0 was.tells t.1 t.2)) t.3) told.2)
 
 -- a hart goes on, and a command is in doubt
 pub doubted_kept : {E : Type 0} (r : Result (Unit {0}) E) (l m : Ledger) (board : SimBoard) (e : Entry) (bytes : List ℕ) → store_doubt (store_in board) ≡ Some (change_in e bytes)

@@ -1,18 +1,23 @@
 -- What a run leaves, and what a power-on that keeps its image finds of it.
 use Rattle.std.proofs.Common.{◌≡◌, ◌≤◌, ◌⊎◌, ℕ, inl, inr, Bool, true, false, List, [], ◌∷◌, Option, None, Some, Result, Ok, Err, MatchResult, OnOk, IfOk, refl, sym, ◌∙◌, ap, subst, arith}
-use Rattle.board_model.specs.Durable.{DurableState, Image, Change, IsWhole}
+use Rattle.std.specs.Prelude.{IfSome, is_some, if◌then◌else◌, length}
+use Rattle.board_model.proofs.Attempts.{attempt_image}
+use Rattle.board_model.specs.Durable.{DurableState, Image, Change, Attempt, IsWhole, after, refusal_of}
 use Rattle.board_model.specs.Kept.{Kept, MayKeep, MayFind, found_of}
 use Rattle.board_model.specs.Plains.{HasMemory, image_in, state_in, IsPlainOf}
-use Rattle.board_model.specs.Shapes.{Size, IsSize}
+use Rattle.board_model.specs.Shapes.{Size, IsSize, ram_bytes_of}
 use Rattle.board_model.specs.Views.{head_of, durable_of}
+use Rattle.board_model.specs.declared.boot_mode.BootMode.{BootMode}
 use Rattle.board_model.specs.declared.boot_mode.BootMode.TheVariants as modes
 use Rattle.board_model.specs.declared.durable.Durable.{Durable}
 use Rattle.board_model.specs.declared.durable.ImageHead.{ImageHead}
+use Rattle.board_model.specs.declared.durable.Trial.{Trial}
 use Rattle.board_model.specs.declared.plain.Plain.{Plain}
 use Rattle.disk.specs.Facts.{IsLeft}
 use Rattle.disk.specs.FaultState.{Armed, Unarmed, FaultArmed, CutArmed, FaultState, Cause, fault_state_left}
 use Rattle.simdisk.specs.declared.SimDisk.{SimDisk}
 use Rattle.board.specs.Boots.{boot_refusal}
+use Rattle.board.specs.Moments.{attempts_of}
 use Rattle.bench_report.specs.declared.power.Power.{Power}
 use Rattle.bench_report.specs.declared.power.Power.TheVariants.{Off, On}
 use Rattle.bench_report.specs.declared.printed.Answer.{Answer}
@@ -20,9 +25,10 @@ use Rattle.bench_report.specs.declared.printed.Printed.{Printed}
 use Rattle.bench_report.specs.declared.printed.Printed.TheVariants as printed
 use Rattle.bench_report.specs.Views.{SimStore, SimBoard, store_in, facts, fault_state, store_size, store_now, store_fault_state}
 use Rattle.bench_report.specs.Bench.{DiskState, Formatted, BenchLife, Bench}
-use Rattle.bench_report.specs.Happens.{says, out_of_memory, FailsByFault, failed, off, on_with, settled, unpowered, has_machine}
+use Rattle.bench_report.specs.Happens.{says, out_of_memory, FailsByFault, failed, acknowledged, in_doubt, off, on_with, settled, unpowered, has_machine}
+use Rattle.bench_report.specs.Commands.{Writes, Issued, IssuesAll}
 use Rattle.bench_report.specs.Steps.{ArmStep, Step}
-use Rattle.bench_report.specs.PowerOns.{life_begun, IsBooted, BootsFrom, Boots, Opens, IsOpenRefusal, PowersOn}
+use Rattle.bench_report.specs.PowerOns.{life_begun, IsBooted, BootsFrom, Boots, Opens, ShowsFound, IsOpenRefusal, PowersOn, TellsNow}
 use Rattle.bench_report.specs.Agree.{DiskIs, DeviceIs, BoardIs, OffIs, OnIs, Agrees, StepsTo}
 use Rattle.bench_report.proofs.Ended.{left_on, cut_leaves}
 use Rattle.bench_report.proofs.KeptDisks.{GoesOn as KeepsOn}
@@ -32,9 +38,9 @@ use Rattle.bench_judge.specs.declared.ledgers.Ledger.{Ledger}
 use Rattle.bench_judge.specs.Ledgers.{Tells}
 use Rattle.bench_sweep.specs.Runs.{TellsWhole, Follows, Runs, RunsCalm, LeftOff, IsSpoilt, FindsState, Finds, PowerFinds}
 use Rattle.bench_sweep.specs.Swept.{IsPlainLine}
-use Rattle.bench_sweep.specs.Told.{moves_harts, LineTold}
+use Rattle.bench_sweep.specs.Told.{moves_harts, powers_on, PowerTold, LineTold}
 use Rattle.bench_sweep.proofs.Followed.{whole_found}
-use Rattle.bench_sweep.proofs.Told.{line_tells}
+use Rattle.bench_sweep.proofs.Told.{powers as power_tells, line_tells}
 
 -- ---- a power cut
 pub left_off : KeepsOn → (size : Size) (b : Bench) (old new : SimDisk) → OffIs size b old → IsLeft (facts old) (facts new) → fault_state new ≡ fault_state_left (fault_state old) → OffIs size (unpowered b) new
@@ -96,13 +102,31 @@ sound_of size b power formatted agrees = (formatted, by power agrees)
     by (Off disk) is = let P : Option BenchLife → Type 0 = λ p. GoesOn b.kept p in subst P (sym is.0) tt
     by (On board) is = let M : DiskState → Type 0 = λ m. BoardIs size m b.kept b.power board in life b.power board (subst M formatted is.0)
 
-pub line_runs : (size : Size) (line : Line) (old new : Power) (payloads : List (List ℕ)) (answer : Answer) (was ledger : Ledger) → IsPlainLine line → moves_harts line ≡ false → (r : RunsCalm size old was)
+pub line_runs : (size : Size) (line : Line) (old new : Power) (payloads : List (List ℕ)) (answer : Answer) (was ledger : Ledger) → IsPlainLine line → moves_harts line ≡ false → powers_on line ≡ false → (r : RunsCalm size old was)
     → ((x : Bench) × Step size line (record r.bench { payloads = payloads }) answer x × Agrees size x new)
     → ((z : Size) (k n : Kept) → TellsWhole z was k → LineTold line answer k n → TellsWhole z ledger n) → Runs size new ledger
-line_runs size line old new payloads answer was ledger plain none r (x, step, agrees) follows =
+line_runs size line old new payloads answer was ledger plain none unasked r (x, step, agrees) follows =
     let b : Bench = record r.bench { payloads = payloads } in
-    let told = line_tells size line b answer x plain none (sound_of size r.bench old r.follows.formatted r.agrees) step in
+    let told = line_tells size line b answer x plain none unasked (sound_of size r.bench old r.follows.formatted r.agrees) step in
     record { bench = x; agrees = agrees; follows = record { formatted = told.1 ∙ r.follows.formatted; kept = follows size r.bench.kept x.kept r.follows.kept told.0 } }
+
+-- a line that powers a board on, which was off
+pub power_runs : (size : Size) (mode : BootMode) (old new : Power) (disk : SimDisk) (payloads : List (List ℕ)) (answer : Answer) (now : Option Durable) (was ledger : Ledger) → old ≡ Off disk → (r : RunsCalm size old was)
+    → ((b : Bench) → OffIs size b disk → payloads ≡ b.payloads → StepsTo size b new (λ x. PowersOn size mode b answer x × TellsNow answer.found now x))
+    → ((z : Size) (k n : Kept) → TellsWhole z was k → PowerTold mode answer.found answer.line now k n → TellsWhole z ledger n) → Runs size new ledger
+power_runs size mode old new disk payloads answer now was ledger is r powers_it follows =
+    let b : Bench = record r.bench { payloads = payloads } in
+    let A : Power → Type 0 = λ p. Agrees size r.bench p in
+    let off : OffIs size r.bench disk = subst A is r.agrees in
+    let did = powers_it b off refl in
+    let told = power_tells size mode b answer now did.0 r.follows.formatted did.1.0 did.1.1 in
+    record { bench = did.0; agrees = did.2; follows = record { formatted = told.1 ∙ r.follows.formatted; kept = follows size r.bench.kept did.0.kept r.follows.kept told.0 } }
+
+-- and one that was on
+pub busy_runs : (size : Size) (old : Power) (board : SimBoard) (ledger : Ledger) → old ≡ On board → RunsCalm size old ledger → Runs size (On board) ledger
+busy_runs size old board ledger is r =
+    let A : Power → Type 0 = λ p. Agrees size r.bench p in
+    record { bench = r.bench; agrees = subst A is r.agrees; follows = r.follows }
 
 -- ---- a disk with nothing armed fails by itself alone
 differ : {A : Type 0} (a b c : Armed) → a ≡ b → a ≡ c → (b ≡ c → ⊥) → A
@@ -128,7 +152,7 @@ same_image (Some i) (Some j) bytes e a b =
 same_state : (s t : DurableState) (bytes : List ℕ) → durable_of s ≡ durable_of t → HasMemory bytes s.image → HasMemory bytes t.image → s ≡ t
 same_state s t bytes e a b =
     let image : s.image ≡ t.image = same_image s.image t.image bytes (ap (λ (d : Durable). d.image) e) a b in
-    let F : Durable → Option Image → DurableState = λ d i. record { slot = d.slot; reason = d.reason; next = d.next; image = i } in
+    let F : Durable → Option Image → DurableState = λ d i. record { slot = d.slot; reason = d.reason; next = d.next; trial = d.trial; image = i } in
     ap (λ d. F d s.image) e ∙ ap (F (durable_of t)) image
 
 pub plain_is : (s : DurableState) (d : Durable) (bytes : List ℕ) (p : Plain) → d ≡ durable_of s → IsPlainOf d bytes p → HasMemory bytes s.image → state_in p ≡ s
@@ -147,15 +171,60 @@ has_loaded i bytes (j, is, loaded) = let P : Option Image → Type 0 = λ o. Has
 life_is : (x life : BenchLife) (b : Bench) → b.power ≡ Some x → b.power ≡ Some life → life ≡ x
 life_is x life b e f = let g : Some x ≡ Some life = sym e ∙ f in cc
 
+-- the attempt of a slot on trial was acknowledged, or the disk failed in it
+module _ (z : Size) (s : DurableState) (b : Bench) where
+  abbrev start : Bench
+  start = on_with (life_begun s z) b
+
+  abbrev GoesFrom : Result ℕ ℕ → Bench → Type 0
+  GoesFrom o mid =
+      ((k : ℕ) × (o ≡ Ok k) × (life : BenchLife) × (mid.power ≡ Some life) × (life.now.image ≡ s.image) × (mid.fault_state ≡ b.fault_state) × (mid.disk_state ≡ b.disk_state))
+      ⊎ ((k : ℕ) × (o ≡ Err k) × (m : FaultState) × Cause b.fault_state m × (mid.fault_state ≡ m))
+
+  -- what follows from the answer to the attempt
+  abbrev Then : Result ℕ ℕ → Bench → Result ℕ ℕ → Bench → Type 0
+  Then first m o mid = ((n : ℕ) × (first ≡ Ok n) × IssuesAll [] m o mid) ⊎ ((n : ℕ) × (first ≡ Err n) × (o ≡ Err n) × (mid ≡ m))
+
+  failed_in : (first : Result ℕ ℕ) (k : ℕ) (m n : Bench) (o : Result ℕ ℕ) (mid : Bench) → first ≡ Err k → n.fault_state ≡ b.fault_state → FailsByFault n m → Then first m o mid → GoesFrom o mid
+  failed_in first k m n o mid err same fails (inl x) = absurd (let e : Err k ≡ Ok x.0 = sym err ∙ x.1 in let no : ⊥ = cc in no)
+  failed_in first k m n o mid err same fails (inr (j, is, e, at)) =
+      let C : FaultState → Type 0 = λ f. Cause f fails.0 in inr (j, e, fails.0, subst C same fails.1, ap (λ (x : Bench). x.fault_state) at ∙ ap (λ (x : Bench). x.fault_state) fails.2)
+
+  wrote : (first : Result ℕ ℕ) (m : Bench) (o : Result ℕ ℕ) (mid : Bench) → Writes None Attempt (life_begun s z) start first m → Then first m o mid → GoesFrom o mid
+  wrote first m o mid (inl (ok, is)) (inl (n, at, all)) =
+      let e : mid ≡ acknowledged Attempt (life_begun s z) start = all.1 ∙ is in
+      inl (0, all.0, record (life_begun s z) { now = after s Attempt; receipts = 1 }, ap (λ (x : Bench). x.power) e, attempt_image s s.trial, ap (λ (x : Bench). x.fault_state) e, ap (λ (x : Bench). x.disk_state) e)
+  wrote first m o mid (inl (ok, is)) (inr x) = absurd (let e : Ok 1 ≡ Err x.0 = sym ok ∙ x.1 in let no : ⊥ = cc in no)
+  wrote first m o mid (inr (inl w)) then = failed_in first 5 m start o mid w.0 refl w.1 then
+  wrote first m o mid (inr (inr w)) then = failed_in first 6 m (in_doubt Attempt (life_begun s z) start) o mid w.0 refl w.1 then
+
+  goes_from : (trial : Option Trial) → s.trial ≡ trial → (o : Result ℕ ℕ) (mid : Bench) → IssuesAll (attempts_of trial) start o mid → GoesFrom o mid
+  goes_from None is o mid (ok, same) = inl (0, ok, life_begun s z, ap (λ (x : Bench). x.power) same, refl, ap (λ (x : Bench). x.fault_state) same, ap (λ (x : Bench). x.disk_state) same)
+  goes_from (Some t) is o mid (life, on, first, m, issued, then) =
+      let I : BenchLife → Type 0 = λ l. Issued Attempt l start first m in
+      by (subst I (life_is (life_begun s z) life start refl on) issued) then
+    where
+      allowed : refusal_of s Attempt ≡ None
+      allowed = let by : Option Trial → Option ℕ = λ o. if is_some o then None else Some 20 in ap by is
+
+      by : Issued Attempt (life_begun s z) start first m → Then first m o mid → GoesFrom o mid
+      by (inl full) then = absurd (let e : 0 ≡ 4096 = full.0 in omega (arith, e))
+      by (inr (room, w)) then = let P : Option ℕ → Type 0 = λ r. Writes r Attempt (life_begun s z) start first m in wrote first m o mid (subst P allowed w) then
+
 -- the board is on
-record Booted (b new : Bench) : Type 0 where
+record Booted (b : Bench) (found : Option Durable) (new : Bench) : Type 0 where
   pub changes : List Change
   pub may : MayKeep b.kept changes
+  pub shows : found ≡ Some (durable_of (found_of changes))
   pub life : BenchLife
   pub on : new.power ≡ Some life
-  pub now : life.now ≡ found_of changes
+  pub image : life.now.image ≡ (found_of changes).image
   pub fault : new.fault_state ≡ b.fault_state
   pub disk : new.disk_state ≡ Formatted
+
+found_as : (o : Option Durable) (s : DurableState) → ShowsFound o s → o ≡ Some (durable_of s)
+found_as None s h = absurd h
+found_as (Some d) s h = ap Some h
 
 -- or it is off, and why
 record Unbooted (b : Bench) (line : Printed) (new : Bench) : Type 0 where
@@ -164,31 +233,39 @@ record Unbooted (b : Bench) (line : Printed) (new : Bench) : Type 0 where
 
 module _ (size : Size) (b : Bench) (a : Answer) (new : Bench) (formatted : b.disk_state ≡ Formatted) (none : b.power ≡ None) (left : b.fault_state ≡ fault_state_left b.fault_state) where
   abbrev Ended : Type 0
-  Ended = Booted b new ⊎ Unbooted b a.line new
+  Ended = Booted b a.found new ⊎ Unbooted b a.line new
 
-  stands : (z : Size) (s : DurableState) (changes : List Change) → MayKeep b.kept changes → s ≡ found_of changes → Boots None modes.Keep z s (settled changes b) a.line new → Ended
-  stands z s changes may found (inl (o, mid, issues, booted)) =
-      let Q : Result ℕ ℕ → Type 0 = λ r. IsBooted r modes.Keep z s mid a.line new in
-      let on = subst Q issues.0 booted in
-      let first : Bench = on_with (life_begun s z) (settled changes b) in
-      let life : on.0 ≡ life_begun s z = life_is (life_begun s z) on.0 mid (ap (λ (x : Bench). x.power) issues.1) on.1 in
-      inl (record {
-        changes = changes;
-        may = may;
-        life = has_machine on.3 on.0;
-        on = ap (λ (x : Bench). x.power) on.5;
-        now = ap (λ (l : BenchLife). l.now) life ∙ found;
-        fault = ap (λ (x : Bench). x.fault_state) on.5 ∙ ap (λ (x : Bench). x.fault_state) issues.1;
-        disk = ap (λ (x : Bench). x.disk_state) on.5 ∙ ap (λ (x : Bench). x.disk_state) issues.1 ∙ formatted;
-      })
-  stands z s changes may found (inr x) = inr (record { off = ap (λ (y : Bench). y.power) x.1 ∙ none; why = inl x.0 })
+  stands : (z : Size) (s : DurableState) (changes : List Change) → MayKeep b.kept changes → s ≡ found_of changes → ShowsFound a.found s → Boots None modes.Keep z s (settled changes b) a.line new → Ended
+  stands z s changes may found shows_it (inl (o, mid, issues, booted)) = by (goes_from z s (settled changes b) s.trial refl o mid issues)
+    where
+      Q : Result ℕ ℕ → Type 0
+      Q r = IsBooted r modes.Keep z s mid a.line new
+
+      by : GoesFrom z s (settled changes b) o mid → Ended
+      by (inl (k, ok, life, on, image, fault, disk)) =
+          let did = subst Q ok booted in
+          let same : did.0 ≡ life = life_is life did.0 mid on did.1 in
+          inl (record {
+            changes = changes;
+            may = may;
+            shows = found_as a.found s shows_it ∙ ap (λ (t : DurableState). Some (durable_of t)) found;
+            life = has_machine did.3 did.0;
+            on = ap (λ (x : Bench). x.power) did.5;
+            image = ap (λ (l : BenchLife). l.now.image) same ∙ image ∙ ap (λ (t : DurableState). t.image) found;
+            fault = ap (λ (x : Bench). x.fault_state) did.5 ∙ fault;
+            disk = ap (λ (x : Bench). x.disk_state) did.5 ∙ disk ∙ formatted;
+          })
+      by (inr (k, err, m, cause, is)) =
+          let did = subst Q err booted in
+          inr (record { off = ap (λ (x : Bench). x.power) did.1; why = inr (m, cause, ap (λ (x : Bench). x.fault_state) did.1 ∙ is) })
+  stands z s changes may found shows_it (inr x) = inr (record { off = ap (λ (y : Bench). y.power) x.1 ∙ none; why = inl x.0 })
 
   powers : PowersOn size modes.Keep b a new → Ended
   powers (inl (s, z, mid, opens, shows_it, booted)) =
       let O : DiskState → Type 0 = λ m. Opens size m b s z mid in
       let did = subst O formatted opens in
       let S : Bench → Type 0 = λ m. Boots None modes.Keep z s m a.line new in
-      stands z s did.0 did.1 did.2 (subst S did.4 booted)
+      stands z s did.0 did.1 did.2 shows_it (subst S did.4 booted)
   powers (inr (inl (n, refused, e, is))) = let P : DiskState → Type 0 = λ m. IsOpenRefusal m n in absurd (subst P formatted refused)
   powers (inr (inr (inl x))) = inr (record { off = ap (λ (y : Bench). y.power) x.2 ∙ none; why = inl (ap (λ (y : Answer). y.line) x.1) })
   powers (inr (inr (inr x))) =
@@ -203,21 +280,21 @@ module _ (size : Size) (b : Bench) (a : Answer) (new : Bench) (formatted : b.dis
       by (inr (m, cause, e)) = let P : FaultState → Type 0 = λ x. IsSpoilt x in inr (subst P (sym e ∙ off.2.0) (fails_itself b.fault_state m left cause))
 
   -- a store that goes on from what was found
-  abbrev Stored : SimBoard → Booted b new → Type 0
-  Stored board k = FindsState size (store_in board) × (store_now (store_in board) ≡ found_of k.changes)
+  abbrev Stored : SimBoard → Booted b a.found new → Type 0
+  Stored board k = FindsState size (store_in board) × ((found_of k.changes).image ≡ (store_now (store_in board)).image)
 
-  stored : (board : SimBoard) (k : Booted b new) → IsSize size → IsWhole size (found_of k.changes) → OnIs size new board → Stored board k
+  stored : (board : SimBoard) (k : Booted b a.found new) → IsSize size → IsWhole size (found_of k.changes) → OnIs size new board → Stored board k
   stored board k is_size whole on =
       let M : DiskState → Type 0 = λ m. BoardIs size m new.kept new.power board in
       let P : Option BenchLife → Type 0 = λ p. BoardIs size Formatted new.kept p board in
       let is = subst P k.on (subst M k.disk on.0) in
-      let now : store_now (store_in board) ≡ found_of k.changes = is.0.1.0 ∙ k.now in
-      let W : DurableState → Type 0 = λ s. IsWhole size s in
+      let image : (store_now (store_in board)).image ≡ (found_of k.changes).image = ap (λ (s : DurableState). s.image) is.0.1.0 ∙ k.image in
+      let W : Option Image → Type 0 = λ o. IfSome o (λ i. length i.memory ≡ ram_bytes_of size) in
       let F : FaultState → Type 0 = λ m. m ≡ fault_state_left m in
-      (record { sized = is.0.0.2; is_size = is_size; whole = subst W (sym now) whole; left = subst F (sym k.fault ∙ on.1.0) left }, now)
+      (record { sized = is.0.0.2; is_size = is_size; whole = subst W (sym image) whole; left = subst F (sym k.fault ∙ on.1.0) left }, sym image)
 
   -- what was found is what the ledger tells
-  pub finds : (ledger : Ledger) (power : Power) (found : Option Plain) → IsSize size → TellsWhole size ledger b.kept → PowersOn size modes.Keep b a new → Agrees size new power → PowerFinds size power a.line found → Finds ledger found
+  pub finds : (ledger : Ledger) (power : Power) (found : Option Plain) → IsSize size → TellsWhole size ledger b.kept → PowersOn size modes.Keep b a new → Agrees size new power → PowerFinds size power a.found a.line found → Finds ledger found
   finds ledger (Off disk) found is_size tells did agrees sees = elim (powers did) [
     | inl k ↦ absurd (let e : None ≡ Some k.life = sym agrees.0 ∙ k.on in let no : ⊥ = cc in no)
     | inr u ↦ absurd (sees (spoilt disk u agrees))
@@ -226,7 +303,7 @@ module _ (size : Size) (b : Bench) (a : Answer) (new : Bench) (formatted : b.dis
     | inr u ↦ (let P : Option BenchLife → Type 0 = λ p. BoardIs size new.disk_state new.kept p board in absurd (subst P u.off agrees.0))
     | inl k ↦ (
         let x = stored board k is_size (whole_found size ledger b.kept k.changes tells k.may) agrees in
-        let p = sees x.0 in
-        record { kept = b.kept; tells = tells.tells; plain = p.0; is = p.1; may = (k.changes, k.may, p.2 ∙ x.1) }
+        let p = sees (durable_of (found_of k.changes)) (found_of k.changes) k.shows refl x.1 x.0 in
+        record { kept = b.kept; tells = tells.tells; plain = p.0; is = p.1; may = (k.changes, k.may, p.2) }
         )
   ]

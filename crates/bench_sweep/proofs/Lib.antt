@@ -6,3 +6,4 @@ pub mod Left
 pub mod Begun
 pub mod Loaded
 pub mod Serials
+pub mod Boots

@@ -43,17 +43,23 @@ unloaded_spoilt loads size old new memory e disk f long stands refused is =
       | inr x ↦ absurd (stands x.1)
     ]
 
+-- the state found with its memory, of a store whose image is that one
+abbrev pub FoundSo : Option Plain → Durable → SimStore → Type 0
+FoundSo plain found store =
+    (size : Size) (s : DurableState) → found ≡ durable_of s → s.image ≡ (store_now store).image → FindsState size store → (p : Plain) × (plain ≡ Some p) × (state_in p ≡ s)
+
 -- what was found then
-pub none_found : (r : Result (Option Plain) Refusal) (disk : SimDisk) (store : SimStore) → IfOk r (λ found. IsSpoilt (fault_state disk) → ⊥) → ((size : Size) → FindsState size store → IsSpoilt (fault_state disk))
-    → IfOk r (λ found. (size : Size) → FindsState size store → (p : Plain) × (found ≡ Some p) × (state_in p ≡ store_now store))
-none_found (Err e) disk store not spoilt = tt
-none_found (Ok found) disk store not spoilt = λ size f. absurd (not (spoilt size f))
+pub none_found : (r : Result (Option Plain) Refusal) (disk : SimDisk) (found : Durable) (store : SimStore) → IfOk r (λ plain. IsSpoilt (fault_state disk) → ⊥)
+    → ((s : DurableState) → found ≡ durable_of s → s.image ≡ (store_now store).image → (size : Size) → FindsState size store → IsSpoilt (fault_state disk)) → IfOk r (λ plain. FoundSo plain found store)
+none_found (Err e) disk found store not spoilt = tt
+none_found (Ok plain) disk found store not spoilt = λ size s is image f. absurd (not (spoilt s is image size f))
 
 -- and where it was loaded
-pub loaded_found : (store : SimStore) (d : Durable) (memory bytes : List ℕ) (p : Plain) → d ≡ durable_of (store_now store) → IsLoaded (store_now store) memory → bytes ≡ memory → IsPlainOf d bytes p
-    → (q : Plain) × (◌≡◌ {A = Option Plain} (Some p) (Some q)) × (state_in q ≡ store_now store)
-loaded_found store d memory bytes p is loaded same plain =
-    let L : List ℕ → Type 0 = λ m. IsLoaded (store_now store) m in (p, refl, plain_is (store_now store) d bytes p is plain (has_loaded (store_now store).image bytes (subst L (sym same) loaded)))
+pub loaded_found : (found : Durable) (store : SimStore) (memory bytes : List ℕ) (p : Plain) → IsLoaded (store_now store) memory → bytes ≡ memory → IsPlainOf found bytes p → FoundSo (Some p) found store
+loaded_found found store memory bytes p loaded same plain size s is image f =
+    let L : List ℕ → Type 0 = λ m. IsLoaded (store_now store) m in
+    let H : Option Image → Type 0 = λ o. HasMemory bytes o in
+    (p, refl, plain_is s found bytes p is plain (subst H (sym image) (has_loaded (store_now store).image bytes (subst L (sym same) loaded))))
 
 -- ---- no armed cut has struck the disk of a board that stands so
 pub unstruck : (size : Size) (power : Power) (ledger : Ledger) → RunsCalm size power ledger → IsUnstruck power

@@ -13,15 +13,13 @@ use Rattle.board_model.specs.declared.durable.ImageHead.{ImageHead}
 use Rattle.board_model.specs.declared.plain.PlainImage.{PlainImage}
 use Rattle.board_model.specs.declared.refusal.Refusal.{Refusal}
 use Rattle.board_model.specs.declared.refusal.Refusal.TheVariants.{Memory, NoImage}
-use Rattle.script_lang.specs.declared.line.Line.{Line}
-use Rattle.bench_report.specs.declared.printed.Answer.{Answer}
 use Rattle.bench_report.specs.declared.printed.Printed.{Printed}
 use Rattle.bench_report.specs.declared.printed.Printed.TheVariants as printed
 use Rattle.bench_judge.specs.declared.ledgers.Ledger.{Ledger}
 use Rattle.bench_judge.specs.Ledgers.{Tells, settled}
 use Rattle.bench_sweep.specs.Runs.{TellsWhole}
-use Rattle.bench_sweep.specs.Resumes.{image_told, serial_of, booted, powered, image_found, line_resumes, Resumes}
-use Rattle.bench_sweep.specs.Told.{SettledTold, BootSaid, LineTold}
+use Rattle.bench_sweep.specs.Resumes.{image_told, serial_of, booted, powered, power_resumes, Resumes}
+use Rattle.bench_sweep.specs.Told.{PowerTold}
 
 -- none more
 none_more : (l m : Ledger) → m.resumed ≡ l.resumed → Resumes l m []
@@ -53,36 +51,22 @@ no_serial (Ok u) l m e (inr (is, none, same)) other =
     let P : Option PlainImage → Type 0 = λ o. Resumes l m (serial_of (head_of (image_in o))) in subst P (sym none) (none_more l m (ap (λ (x : Ledger). x.resumed) same))
 
 -- a power-on
-abbrev pub PowerResumes : Ledger → Ledger → BootMode → Answer → Type 0
-PowerResumes l m mode a = (size : Size) (old new : Kept) → TellsWhole size l old → ((mid : Kept) × SettledTold a.found old mid × BootSaid a.line mode mid new) → Resumes l m (powered a.line mode (image_found a.found (image_told l)))
+abbrev pub PowerResumes : Ledger → Ledger → BootMode → Option Durable → Printed → Option Durable → Type 0
+PowerResumes l m mode found said now = (size : Size) (old new : Kept) → TellsWhole size l old → PowerTold mode found said now old new → Resumes l m (power_resumes mode found said)
 
-pub resumes_none : {E : Type 0} (r : Result (Unit {0}) E) (l m : Ledger) (mode : BootMode) (a : Answer) → a.found ≡ None → OnOk r (Resumes l m (powered a.line mode (image_told l))) → OnOk r (PowerResumes l m mode a)
-resumes_none (Err f) l m mode a none more = tt
-resumes_none (Ok u) l m mode a none more = λ size old new was told.
-    (let P : Option Durable → Type 0 = λ o. Resumes l m (powered a.line mode (image_found o (image_told l))) in subst P (sym none) more)
+pub resumes_none : (l : Ledger) (mode : BootMode) (found : Option Durable) (said : Printed) (now : Option Durable) → found ≡ None → PowerResumes l l mode found said now
+resumes_none l mode found said now none size old new was told =
+    let P : Option Durable → Type 0 = λ o. Resumes l l (power_resumes mode o said) in subst P (sym none) (none_more l l refl)
 
-pub resumes_found : {E : Type 0} (r : Result (Unit {0}) E) (l s m : Ledger) (mode : BootMode) (a : Answer) (d : Durable) → a.found ≡ Some d
+pub resumes_found : {E : Type 0} (r : Result (Unit {0}) E) (l s m : Ledger) (mode : BootMode) (found : Option Durable) (said : Printed) (now : Option Durable) (d : Durable) → found ≡ Some d
     → ((kept : Kept) (changes : List Change) → Tells l kept → MayKeep kept changes → d ≡ durable_of (found_of changes) → Tells s (settled changes)) → s.resumed ≡ l.resumed
-    → OnOk r (Resumes s m (powered a.line mode (image_told s))) → OnOk r (PowerResumes l m mode a)
-resumes_found (Err f) l s m mode a d some settles_it same more = tt
-resumes_found (Ok u) l s m mode a d some settles_it same more = λ size old new was told.
-    (let P : Option Durable → Type 0 = λ o. SettledTold o old told.0 in
-    let t = subst P some told.1 in
-    let tells : Tells s (settled t.0) = settles_it old t.0 was.tells t.1 t.2 in
-    let image : image_told s ≡ d.image = ap (λ (x : DurableState). (durable_of x).image) tells.state ∙ sym (ap (λ (x : Durable). x.image) t.2) in
-    let found : image_told s ≡ image_found a.found (image_told l) = image ∙ sym (ap (λ (o : Option Durable). image_found o (image_told l)) some) in
-    more ∙ ap (λ (xs : _). xs.items ++ powered a.line mode (image_told s)) same ∙ ap (λ (o : Option ImageHead). l.resumed.items ++ powered a.line mode o) found)
-
--- a line that moves no hart
-abbrev pub LineResumes : Ledger → Ledger → Line → Answer → Type 0
-LineResumes l m line a = (size : Size) (old new : Kept) → TellsWhole size l old → LineTold line a old new → Resumes l m (line_resumes line a (image_told l))
-
-pub line_as : {E : Type 0} (r : Result (Unit {0}) E) (l m : Ledger) (a : Answer) (line x : Line) → line ≡ x → OnOk r (LineResumes l m x a) → OnOk r (LineResumes l m line a)
-line_as r l m a line x is h = let P : Line → Type 0 = λ y. OnOk r (LineResumes l m y a) in subst P (sym is) h
-
-pub line_none : {E : Type 0} (r : Result (Unit {0}) E) (l m : Ledger) (a : Answer) (line x : Line) → line ≡ x → line_resumes x a (image_told l) ≡ [] → m.resumed ≡ l.resumed → OnOk r (LineResumes l m line a)
-line_none (Err f) l m a line x is none same = tt
-line_none (Ok u) l m a line x is none same = λ size old new was told.
-    (let P : Line → Type 0 = λ y. Resumes l m (line_resumes y a (image_told l)) in
-    let Q : List ℕ → Type 0 = λ xs. Resumes l m xs in
-    subst P (sym is) (subst Q (sym none) (none_more l m same)))
+    → OnOk r (Resumes s m (powered said mode (image_told s))) → OnOk r (PowerResumes l m mode found said now)
+resumes_found (Err f) l s m mode found said now d some settles_it same more = tt
+resumes_found (Ok u) l s m mode found said now d some settles_it same more = λ size old new was told.
+    (let P : Option Durable → Type 0 = λ o. PowerTold mode o said now old new in
+    let t = subst P some told in
+    let x = t.1 in
+    let tells : Tells s (settled x.0) = settles_it old x.0 was.tells x.1 x.2 in
+    let image : image_told s ≡ d.image = ap (λ (y : DurableState). (durable_of y).image) tells.state ∙ sym (ap (λ (y : Durable). y.image) x.2) in
+    let Q : Option Durable → Type 0 = λ o. Resumes l m (power_resumes mode o said) in
+    subst Q (sym some) (more ∙ ap (λ (xs : _). xs.items ++ powered said mode (image_told s)) same ∙ ap (λ (o : Option ImageHead). l.resumed.items ++ powered said mode o) image))

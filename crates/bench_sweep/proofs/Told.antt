@@ -1,8 +1,8 @@
 -- What a line's answer tells of the commands kept, by what the line may make of the bench.
 use Rattle.std.proofs.Common.{◌≡◌, ◌≢◌, ◌⊎◌, ℕ, inl, inr, Bool, true, false, List, [], ◌∷◌, ◌++◌, Option, None, Some, Result, Ok, Err, refl, sym, ◌∙◌, ap, subst, arith}
 use Rattle.std.specs.Bool.{⊤}
-use Rattle.board_model.specs.Durable.{DurableState, Change, Slot, Consume, Discard, refusal_of}
-use Rattle.board_model.specs.Kept.{Kept, found_of}
+use Rattle.board_model.specs.Durable.{DurableState, Change, Slot, Discard, Tries, Good, refusal_of}
+use Rattle.board_model.specs.Kept.{Kept, MayKeep, found_of}
 use Rattle.board_model.specs.Shapes.{Size}
 use Rattle.board_model.specs.Views.{durable_of}
 use Rattle.board_model.specs.declared.boot_mode.BootMode.{BootMode}
@@ -14,23 +14,23 @@ use Rattle.machine.specs.Machine.{Machine}
 use Rattle.machine_lines.specs.declared.line.MachineLine.{MachineLine}
 use Rattle.script_lang.specs.declared.line.Line.{Line}
 use Rattle.script_lang.specs.declared.line.Line.TheVariants as lines
-use Rattle.bench_report.specs.declared.printed.ConsoleWord.{ConsoleWord}
-use Rattle.bench_report.specs.declared.printed.ConsoleWord.TheVariants as names
+use Rattle.board_console.specs.declared.command_words.ConsoleWord.{ConsoleWord}
+use Rattle.board_console.specs.declared.command_words.ConsoleWord.TheVariants as names
 use Rattle.bench_report.specs.declared.printed.Printed.{Printed}
 use Rattle.bench_report.specs.declared.printed.Printed.TheVariants as printed
 use Rattle.bench_report.specs.declared.printed.Answer.{Answer}
 use Rattle.bench_report.specs.Bench.{DiskState, Formatted, BenchLife, Bench}
 use Rattle.bench_report.specs.Happens.{says, shows, out_of_memory, failed, FailsByFault, off, on_with, settled, has_machine, acknowledged, in_doubt}
 use Rattle.bench_report.specs.Commands.{Writes, IssuedBy, Issued, IssuesAll}
-use Rattle.bench_report.specs.PowerOns.{FormatsOn, life_begun, IsBooted, BootsFrom, Begins, Boots, Opens, ShowsFound, IsOpenRefusal, PowersOn}
+use Rattle.bench_report.specs.PowerOns.{FormatsOn, life_begun, IsBooted, BootsFrom, Begins, Boots, Opens, ShowsFound, IsOpenRefusal, PowersOn, TellsNow}
 use Rattle.bench_report.specs.Examined.{InspectStep}
-use Rattle.bench_report.specs.Steps.{console_reported, FormatStep, OnStep, ConsoleStep, PayloadStep, ReadStep, Wakes, WakeStep, Step}
+use Rattle.bench_report.specs.Steps.{console_reported, FormatStep, ConsoleStep, PayloadStep, ReadStep, Wakes, WakeStep, Step}
 use Rattle.susp.specs.Dozes.{can_wake}
-use Rattle.bench_report.proofs.Issues.{GoesOn, IsSound}
+use Rattle.bench_report.proofs.Issues.{GoesOn, IsSound, issued_back}
 use Rattle.bench_report.proofs.Table.{table_not_six, of_modes}
 use Rattle.bench_judge.specs.Ledgers.{more_kept}
 use Rattle.bench_sweep.specs.Swept.{IsPlainLine}
-use Rattle.bench_sweep.specs.Told.{moves_harts, IssuedTold, CommandTold, BootTold, BootSaid, SettledTold, LineTold}
+use Rattle.bench_sweep.specs.Told.{moves_harts, powers_on, IssuedTold, CommandTold, AllTold, BootSaid, PowerTold, LineTold, commands_told}
 
 -- the number with which a command was refused
 abbrev pub number_in : Result ℕ ℕ → Option ℕ
@@ -83,105 +83,110 @@ console word c (Some life) b a new on sound (o, issued, e) = by o issued e
     by (Ok n) i f = let t = issued_tells c life b (Ok n) new sound on i in said_by c b a (says (printed.Acknowledged word n)) new f t
     by (Err n) i f = let t = issued_tells c life b (Err n) new sound on i in said_by c b a (says (printed.CommandRefused word n)) new f t
 
--- ---- a power-on
--- a boot that was refused by a number which is not 6, and changed nothing
-unbooted : (n : ℕ) (mode : BootMode) (old new : Kept) → n ≢ 6 → new ≡ old → BootTold (Some n) mode old new
-unbooted n modes.Fresh old new not e = e
-unbooted n modes.Keep old new not e = e
-unbooted n modes.Discard old new not e = inl (λ f. absurd (not f), e)
-unbooted n modes.Resume old new not e = inl (λ f. absurd (not f), e)
+-- ---- commands of a boot
+-- commands in a row
+abbrev AllTells : List Change → Bench → Result ℕ ℕ → Bench → Type 0
+AllTells cs b o new = AllTold (number_in o) cs b.kept new.kept × (new.disk_state ≡ b.disk_state)
 
+-- the first of them was acknowledged, and so on
+then_all : (o : Result ℕ ℕ) (c : Change) (cs : List Change) (b mid new : Bench) → Tells c b (Ok 0) mid → AllTells cs mid o new → AllTells (c ∷ cs) b o new
+then_all (Ok n) c cs b mid new first rest = ((mid.kept, first.0, rest.0), rest.1 ∙ first.1)
+then_all (Err n) c cs b mid new first rest = (inr (mid.kept, first.0, rest.0), rest.1 ∙ first.1)
+
+all_tell : (cs : List Change) (b : Bench) (o : Result ℕ ℕ) (new : Bench) → IsSound b → IssuesAll cs b o new → AllTells cs b o new
+all_tell [] b o new sound (ok, same) =
+    let P : Result ℕ ℕ → Type 0 = λ r. AllTold (number_in r) [] b.kept new.kept in
+    (subst P (sym ok) (ap (λ (x : Bench). x.kept) same), ap (λ (x : Bench). x.disk_state) same)
+all_tell (c ∷ cs) b o new sound (life, on, first, mid, issued, inl (n, ok, rest)) =
+    let R : Result ℕ ℕ → Type 0 = λ r. Tells c b r mid in
+    let t = subst R ok (issued_tells c life b first mid sound.1 on issued) in
+    then_all o c cs b mid new t (all_tell cs mid o new (issued_back c life b first mid sound on issued).0 rest)
+all_tell (c ∷ cs) b o new sound (life, on, first, mid, issued, inr (n, err, e, is)) =
+    let R : Result ℕ ℕ → Type 0 = λ r. Tells c b r mid in
+    let t = subst R err (issued_tells c life b first mid sound.1 on issued) in
+    let P : Result ℕ ℕ → Type 0 = λ r. AllTells (c ∷ cs) b r mid in
+    let Q : Bench → Type 0 = λ m. AllTells (c ∷ cs) b o m in
+    subst Q (sym is) (subst P (sym e) (inl t.0, t.1))
+
+-- ---- a power-on
 not_six : (s : DurableState) (mode : BootMode) (n : ℕ) → boot_refusal s mode ≡ Some n → n ≢ 6
 not_six s mode n h is = elim (of_modes s mode n h) [ inl e ↦ omega (arith, e, is) | inr e ↦ omega (arith, e, is) ]
 
--- what a boot says, and the disk's state then
-abbrev Booted : BootMode → Bench → Printed → Bench → Type 0
-Booted mode b line new = BootSaid line mode b.kept new.kept × (new.disk_state ≡ b.disk_state)
+told_commands : (mode : BootMode) (s : DurableState) → commands_by mode s ≡ commands_told mode s.trial
+told_commands modes.Fresh s = refl
+told_commands modes.Keep s = refl
+told_commands modes.Discard s = refl
+told_commands modes.Resume s = refl
 
-booted_by : (mode : BootMode) (b : Bench) (line x : Printed) (new n : Bench) → line ≡ x → new ≡ n → Booted mode b x n → Booted mode b line new
-booted_by mode b line x new n e f h =
-    let P : Printed → Type 0 = λ y. Booted mode b y new in
-    let Q : Bench → Type 0 = λ m. Booted mode b x m in
+-- what a boot with these commands says, and the disk's state then
+abbrev Booted : List Change → Bench → Printed → Bench → Type 0
+Booted cs b line new = BootSaid line cs b.kept new.kept × (new.disk_state ≡ b.disk_state)
+
+booted_by : (cs : List Change) (b : Bench) (line x : Printed) (new n : Bench) → line ≡ x → new ≡ n → Booted cs b x n → Booted cs b line new
+booted_by cs b line x new n e f h =
+    let P : Printed → Type 0 = λ y. Booted cs b y new in
+    let Q : Bench → Type 0 = λ m. Booted cs b x m in
     subst P (sym e) (subst Q (sym f) h)
 
-refused_by : (mode : BootMode) (b : Bench) (line : Printed) (new n : Bench) (k : ℕ) → line ≡ printed.OnRefused k → new ≡ n → k ≢ 6 → n.kept ≡ b.kept → n.disk_state ≡ b.disk_state → Booted mode b line new
-refused_by mode b line new n k e f not kept disk = booted_by mode b line (printed.OnRefused k) new n e f (inr (unbooted k mode b.kept n.kept not kept), disk)
+refused_by : (cs : List Change) (b : Bench) (line : Printed) (new n : Bench) (k : ℕ) → line ≡ printed.OnRefused k → new ≡ n → k ≢ 6 → n.kept ≡ b.kept → n.disk_state ≡ b.disk_state → Booted cs b line new
+refused_by cs b line new n k e f other kept disk = booted_by cs b line (printed.OnRefused k) new n e f (inr (inl (other, kept)), disk)
 
-module _ (z : Size) (s : DurableState) (b : Bench) (line : Printed) (new : Bench) (calm : b.kept.doubt ≡ None) (same : s ≡ found_of b.kept.changes) where
-  abbrev start : Bench
-  start = on_with (life_begun s z) b
-
-  -- of a mode that issues nothing
-  by_none : (mode : BootMode) → commands_by mode s ≡ [] → ((said : Option ℕ) (new : Kept) → new ≡ b.kept → BootTold said mode b.kept new) → BootsFrom mode z s b line new → Booted mode b line new
-  by_none mode none tells (o, mid, issues, booted) =
-      let P : List Change → Type 0 = λ cs. IssuesAll cs start o mid in
-      let did = subst P none issues in
-      let Q : Result ℕ ℕ → Type 0 = λ r. IsBooted r mode z s mid line new in
-      let on = subst Q did.0 booted in
-      booted_by mode b line (printed.On mode) new _ on.2 on.5 (tells None mid.kept (ap (λ (y : Bench). y.kept) did.1), ap (λ (y : Bench). y.disk_state) did.1)
-
-  -- and of one that issues this
-  by_one : (mode : BootMode) (c : Change) → commands_by mode s ≡ c ∷ [] → ((said : Option ℕ) (new : Kept) → IssuedTold said c b.kept new → BootTold said mode b.kept new) → BootsFrom mode z s b line new → Booted mode b line new
-  by_one mode c only tells (o, mid, issues, booted) =
-      let P : List Change → Type 0 = λ cs. IssuesAll cs start o mid in go (subst P only issues)
+module _ (z : Size) (s : DurableState) (b : Bench) (line : Printed) (new : Bench) (formatted : b.disk_state ≡ Formatted) (calm : b.kept.doubt ≡ None) (same : s ≡ found_of b.kept.changes) where
+  from : (mode : BootMode) → BootsFrom mode z s b line new → Booted (commands_by mode s) b line new
+  from mode (o, mid, issues, booted) = by o (all_tell (commands_by mode s) (on_with (life_begun s z) b) o mid (formatted, (calm, same)) issues) booted
     where
-      go : IssuesAll (c ∷ []) start o mid → Booted mode b line new
-      go (life, on, first, m, issued, inl (n, ok, (e, is))) =
-          let R : Result ℕ ℕ → Type 0 = λ r. Tells c start r m in
-          let t = subst R ok (issued_tells c life start first m (calm, same) on issued) in
-          let Q : Result ℕ ℕ → Type 0 = λ r. IsBooted r mode z s mid line new in
-          let did = subst Q e booted in
-          let K : Bench → Type 0 = λ x. BootTold None mode b.kept x.kept × (x.disk_state ≡ b.disk_state) in
-          booted_by mode b line (printed.On mode) new _ did.2 did.5 (subst K (sym is) (tells None m.kept t.0, t.1))
-      go (life, on, first, m, issued, inr (n, err, e, is)) =
-          let R : Result ℕ ℕ → Type 0 = λ r. Tells c start r m in
-          let t = subst R err (issued_tells c life start first m (calm, same) on issued) in
-          let Q : Result ℕ ℕ → Type 0 = λ r. IsBooted r mode z s mid line new in
-          let did = subst Q e booted in
-          let K : Bench → Type 0 = λ x. BootTold (Some n) mode b.kept x.kept × (x.disk_state ≡ b.disk_state) in
-          let k = subst K (sym is) (tells (Some n) m.kept t.0, t.1) in
-          booted_by mode b line (printed.OnRefused n) new (off mid) did.0 did.1 (inr k.0, k.1)
+      by : (o : Result ℕ ℕ) → AllTells (commands_by mode s) b o mid → IsBooted o mode z s mid line new → Booted (commands_by mode s) b line new
+      by (Ok n) t did = booted_by (commands_by mode s) b line (printed.On mode) new _ did.2 did.5 t
+      by (Err n) t did = booted_by (commands_by mode s) b line (printed.OnRefused n) new (off mid) did.0 did.1 (inr (inr t.0), t.1)
 
-  begins : (mode : BootMode) → Begins mode z s b line new → Booted mode b line new
-  begins modes.Fresh x = by_none modes.Fresh refl (λ said n e. e) x
-  begins modes.Keep x = by_none modes.Keep refl (λ said n e. e) x
-  begins modes.Discard x = by_one modes.Discard Discard refl (λ said n e. e) x
-  begins modes.Resume (inl x) = by_one modes.Resume Consume refl (λ said n e. e) x
-  begins modes.Resume (inr x) = refused_by modes.Resume b line new b 13 x.1 x.2 (λ e. omega (arith, e)) refl refl
+  begins : (mode : BootMode) → Begins mode z s b line new → Booted (commands_by mode s) b line new
+  begins modes.Fresh x = from modes.Fresh x
+  begins modes.Keep x = from modes.Keep x
+  begins modes.Discard x = from modes.Discard x
+  begins modes.Resume (inl x) = from modes.Resume x
+  begins modes.Resume (inr x) = refused_by (commands_by modes.Resume s) b line new b 13 x.1 x.2 (λ e. omega (arith, e)) refl refl
 
-  boots : (r : Option ℕ) (mode : BootMode) → boot_refusal s mode ≡ r → Boots r mode z s b line new → Booted mode b line new
-  boots (Some n) mode table x = refused_by mode b line new b n x.0 x.1 (not_six s mode n table) refl refl
+  boots : (r : Option ℕ) (mode : BootMode) → boot_refusal s mode ≡ r → Boots r mode z s b line new → Booted (commands_by mode s) b line new
+  boots (Some n) mode table x = refused_by (commands_by mode s) b line new b n x.0 x.1 (not_six s mode n table) refl refl
   boots None mode table (inl x) = begins mode x
-  boots None mode table (inr x) = booted_by mode b line (printed.OnRefused 11) new (out_of_memory b) x.0 x.1 (inl refl, refl)
+  boots None mode table (inr x) = booted_by (commands_by mode s) b line (printed.OnRefused 11) new (out_of_memory b) x.0 x.1 (inl refl, refl)
 
-found_as : (o : Option Durable) (s : DurableState) → ShowsFound o s → o ≡ Some (durable_of s)
-found_as None s h = absurd h
-found_as (Some d) s h = ap Some h
+-- a power-on, of which the state then is known
+abbrev pub Powered : BootMode → Bench → Option Durable → Printed → Option Durable → Bench → Type 0
+Powered mode b found line now new = PowerTold mode found line now b.kept new.kept × (new.disk_state ≡ b.disk_state)
 
-abbrev Powered : BootMode → Bench → Answer → Bench → Type 0
-Powered mode b a new = ((mid : Kept) × SettledTold a.found b.kept mid × BootSaid a.line mode mid new.kept) × (new.disk_state ≡ b.disk_state)
+-- the open found no state
+unopened : (mode : BootMode) (b : Bench) (a : Answer) (line : Printed) (now : Option Durable) (new n : Bench) → a ≡ says line → new ≡ n → n.kept ≡ b.kept → n.disk_state ≡ b.disk_state → Powered mode b a.found a.line now new
+unopened mode b a line now new n e f kept disk =
+    let P : Answer → Type 0 = λ y. Powered mode b y.found y.line now new in
+    let Q : Bench → Type 0 = λ m. (m.kept ≡ b.kept) × (m.disk_state ≡ b.disk_state) in
+    subst P (sym e) (subst Q (sym f) (kept, disk))
 
-powered_by : (mode : BootMode) (b : Bench) (a x : Answer) (new n : Bench) → a ≡ x → new ≡ n → Powered mode b x n → Powered mode b a new
-powered_by mode b a x new n e f h =
-    let P : Answer → Type 0 = λ y. Powered mode b y new in
-    let Q : Bench → Type 0 = λ m. Powered mode b x m in
-    subst P (sym e) (subst Q (sym f) h)
+-- or it found that one
+opened : (mode : BootMode) (b : Bench) (found now : Option Durable) (line : Printed) (new mid : Bench) (s : DurableState) → ShowsFound found s → (changes : List Change) → MayKeep b.kept changes → s ≡ found_of changes → mid ≡ settled changes b
+    → new.disk_state ≡ Formatted → TellsNow found now new → Booted (commands_by mode s) mid line new → Powered mode b found line now new
+opened mode b None now line new mid s shows_it changes may is e formatted tells did = absurd shows_it
+opened mode b (Some d) None line new mid s shows_it changes may is e formatted tells did = absurd tells
+opened mode b (Some d) (Some x) line new mid s shows_it changes may is e formatted tells did =
+    let kept : mid.kept ≡ (settled changes b).kept = ap (λ (m : Bench). m.kept) e in
+    let commands : commands_by mode s ≡ commands_told mode d.trial = told_commands mode s ∙ ap (λ (y : Durable). commands_told mode y.trial) (sym shows_it) in
+    let P : List Change → Type 0 = λ cs. BootSaid line cs mid.kept new.kept in
+    ((mid.kept, (changes, may, shows_it ∙ ap durable_of is, kept), subst P commands did.0, tells formatted), did.1 ∙ ap (λ (m : Bench). m.disk_state) e)
 
-pub powers : (size : Size) (mode : BootMode) (b : Bench) (a : Answer) (new : Bench) → b.disk_state ≡ Formatted → PowersOn size mode b a new → Powered mode b a new
-powers size mode b a new formatted (inl (s, z, mid, opens, shows_it, booted)) =
+pub powers : (size : Size) (mode : BootMode) (b : Bench) (a : Answer) (now : Option Durable) (new : Bench) → b.disk_state ≡ Formatted → PowersOn size mode b a new → TellsNow a.found now new → Powered mode b a.found a.line now new
+powers size mode b a now new formatted (inl (s, z, mid, opens, shows_it, booted)) tells =
     let O : DiskState → Type 0 = λ m. Opens size m b s z mid in
     go (subst O formatted opens)
   where
-    go : Opens size Formatted b s z mid → Powered mode b a new
+    go : Opens size Formatted b s z mid → Powered mode b a.found a.line now new
     go (changes, may, found, sized, is) =
-        let S : Bench → Type 0 = λ m. Boots (boot_refusal s mode) mode z s m a.line new in
-        let did = boots z s (settled changes b) a.line new refl found (boot_refusal s mode) mode refl (subst S is booted) in
-        let T : Option Durable → Type 0 = λ o. SettledTold o b.kept (settled changes b).kept in
-        (((settled changes b).kept, subst T (sym (found_as a.found s shows_it)) (changes, may, ap durable_of found, refl), did.0), did.1)
-powers size mode b a new formatted (inr (inl (n, refused, e, is))) = let P : DiskState → Type 0 = λ m. IsOpenRefusal m n in absurd (subst P formatted refused)
-powers size mode b a new formatted (inr (inr (inl x))) = powered_by mode b a (says (printed.OnRefused 11)) new (out_of_memory b) x.1 x.2 ((b.kept, refl, inl refl), refl)
-powers size mode b a new formatted (inr (inr (inr x))) =
-    powered_by mode b a (says (printed.OnRefused 5)) new (failed x.1.0 b) x.0 x.1.2 ((b.kept, refl, inr (unbooted 5 mode b.kept b.kept (λ e. omega (arith, e)) refl)), refl)
+        let same : s ≡ found_of mid.kept.changes = found ∙ sym (ap (λ (m : Bench). found_of m.kept.changes) is) in
+        let held : mid.disk_state ≡ Formatted = ap (λ (m : Bench). m.disk_state) is ∙ formatted in
+        let did = boots z s mid a.line new held (ap (λ (m : Bench). m.kept.doubt) is) same (boot_refusal s mode) mode refl booted in
+        opened mode b a.found now a.line new mid s shows_it changes may found is (did.1 ∙ held) tells did
+powers size mode b a now new formatted (inr (inl (n, refused, e, is))) tells = let P : DiskState → Type 0 = λ m. IsOpenRefusal m n in absurd (subst P formatted refused)
+powers size mode b a now new formatted (inr (inr (inl x))) tells = unopened mode b a (printed.OnRefused 11) now new (out_of_memory b) x.1 x.2 refl refl
+powers size mode b a now new formatted (inr (inr (inr x))) tells = unopened mode b a (printed.OnRefused 5) now new (failed x.1.0 b) x.0 x.1.2 refl refl
 
 -- ---- lines
 abbrev pub LineTells : Line → Bench → Answer → Bench → Type 0
@@ -193,10 +198,6 @@ Same b new = (new.kept ≡ b.kept) × (new.disk_state ≡ b.disk_state)
 
 same_as : (b new n : Bench) → new ≡ n → Same b n → Same b new
 same_as b new n e h = let P : Bench → Type 0 = λ m. Same b m in subst P (sym e) h
-
-power_line : (size : Size) (p : Option BenchLife) (mode : BootMode) (b : Bench) (a : Answer) (new : Bench) → b.disk_state ≡ Formatted → OnStep size p mode b a new → Powered mode b a new
-power_line size None mode b a new formatted x = powers size mode b a new formatted x
-power_line size (Some life) mode b a new formatted x = powered_by mode b a (says printed.Busy) new b x.0 x.1 ((b.kept, refl, refl), refl)
 
 format_line : (p : Option BenchLife) (b : Bench) (a : Answer) (new : Bench) → b.disk_state ≡ Formatted → FormatStep p b a new → Same b new
 format_line (Some life) b a new formatted x = same_as b new b x.1 (refl, refl)
@@ -233,24 +234,26 @@ never : {A : Type 0} → true ≡ false → A
 never e = absurd (let no : ⊥ = cc in no)
 
 -- what a plain line tells that moves no hart
-pub line_tells : (size : Size) (line : Line) (b : Bench) (a : Answer) (new : Bench) → IsPlainLine line → moves_harts line ≡ false → IsSound b → Step size line b a new → LineTells line b a new
-line_tells size (lines.Payload slot bytes) b a new plain none sound x = payload_line b.power slot bytes b a new x
-line_tells size lines.Format b a new plain none sound x = format_line b.power b a new sound.0 x
-line_tells size (lines.On mode) b a new plain none sound x = power_line size b.power mode b a new sound.0 x
-line_tells size (lines.Slot n) b a new plain none sound x = console names.Slot (Slot n) b.power b a new refl sound.1 x
-line_tells size lines.Discard b a new plain none sound x = console names.Discard Discard b.power b a new refl sound.1 x
-line_tells size (lines.Turn h n) b a new plain none sound x = never none
-line_tells size (lines.Call h e f u v w) b a new plain none sound x = never none
-line_tells size (lines.Reg h r) b a new plain none sound x = read_line b.power _ b a new x
-line_tells size (lines.Pc h) b a new plain none sound x = read_line b.power _ b a new x
-line_tells size (lines.Csr h n) b a new plain none sound x = read_line b.power _ b a new x
-line_tells size lines.Pending b a new plain none sound x = read_line b.power _ b a new x
-line_tells size (lines.Mem address n) b a new plain none sound x = read_line b.power _ b a new x
-line_tells size (lines.CutAt n fill) b a new plain none sound x = absurd plain
-line_tells size (lines.CutLane i n fill) b a new plain none sound x = absurd plain
-line_tells size (lines.FailAt n) b a new plain none sound x = absurd plain
-line_tells size (lines.FailLane i n) b a new plain none sound x = absurd plain
-line_tells size (lines.Cut fill) b a new plain none sound x = absurd plain
-line_tells size (lines.Poke k n bytes) b a new plain none sound x = absurd plain
-line_tells size lines.Inspect b a new plain none sound x = inspect_line size b.power b a new x
-line_tells size lines.Wake b a new plain none sound x = wake_line b.power b a new x
+pub line_tells : (size : Size) (line : Line) (b : Bench) (a : Answer) (new : Bench) → IsPlainLine line → moves_harts line ≡ false → powers_on line ≡ false → IsSound b → Step size line b a new → LineTells line b a new
+line_tells size (lines.Payload slot bytes) b a new plain none unasked sound x = payload_line b.power slot bytes b a new x
+line_tells size lines.Format b a new plain none unasked sound x = format_line b.power b a new sound.0 x
+line_tells size (lines.On mode) b a new plain none unasked sound x = never unasked
+line_tells size (lines.Slot n) b a new plain none unasked sound x = console names.Slot (Slot n) b.power b a new refl sound.1 x
+line_tells size lines.Discard b a new plain none unasked sound x = console names.Discard Discard b.power b a new refl sound.1 x
+line_tells size (lines.Tries n boots) b a new plain none unasked sound x = console names.Tries (Tries n boots) b.power b a new refl sound.1 x
+line_tells size lines.Good b a new plain none unasked sound x = console names.Good Good b.power b a new refl sound.1 x
+line_tells size (lines.Turn h n) b a new plain none unasked sound x = never none
+line_tells size (lines.Call h e f u v w) b a new plain none unasked sound x = never none
+line_tells size (lines.Reg h r) b a new plain none unasked sound x = read_line b.power _ b a new x
+line_tells size (lines.Pc h) b a new plain none unasked sound x = read_line b.power _ b a new x
+line_tells size (lines.Csr h n) b a new plain none unasked sound x = read_line b.power _ b a new x
+line_tells size lines.Pending b a new plain none unasked sound x = read_line b.power _ b a new x
+line_tells size (lines.Mem address n) b a new plain none unasked sound x = read_line b.power _ b a new x
+line_tells size (lines.CutAt n fill) b a new plain none unasked sound x = absurd plain
+line_tells size (lines.CutLane i n fill) b a new plain none unasked sound x = absurd plain
+line_tells size (lines.FailAt n) b a new plain none unasked sound x = absurd plain
+line_tells size (lines.FailLane i n) b a new plain none unasked sound x = absurd plain
+line_tells size (lines.Cut fill) b a new plain none unasked sound x = absurd plain
+line_tells size (lines.Poke k n bytes) b a new plain none unasked sound x = absurd plain
+line_tells size lines.Inspect b a new plain none unasked sound x = inspect_line size b.power b a new x
+line_tells size lines.Wake b a new plain none unasked sound x = wake_line b.power b a new x

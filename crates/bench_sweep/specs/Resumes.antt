@@ -6,11 +6,8 @@ use Rattle.board_model.specs.declared.boot_mode.BootMode.{BootMode}
 use Rattle.board_model.specs.declared.boot_mode.BootMode.TheVariants as modes
 use Rattle.board_model.specs.declared.durable.Durable.{Durable}
 use Rattle.board_model.specs.declared.durable.ImageHead.{ImageHead}
-use Rattle.script_lang.specs.declared.line.Line.{Line}
-use Rattle.script_lang.specs.declared.line.Line.TheVariants as lines
 use Rattle.bench_report.specs.declared.printed.Printed.{Printed}
 use Rattle.bench_report.specs.declared.printed.Printed.TheVariants as printed
-use Rattle.bench_report.specs.declared.printed.Answer.{Answer}
 use Rattle.bench_judge.specs.declared.ledgers.Ledger.{Ledger}
 
 -- the image that stands after the commands that a ledger tells, without its memory
@@ -37,15 +34,10 @@ abbrev pub powered : Printed → BootMode → Option ImageHead → List ℕ
 powered (printed.On m) mode image = booted None mode image
 powered line mode image = []
 
--- the image that the open found
-abbrev pub image_found : Option Durable → Option ImageHead → Option ImageHead
-image_found None image = image
-image_found (Some d) image = d.image
-
--- a line
-abbrev pub line_resumes : Line → Answer → Option ImageHead → List ℕ
-line_resumes (lines.On mode) a image = powered a.line mode (image_found a.found image)
-line_resumes line a image = []
+-- a power-on by that mode, by the state that its open found, where it found one, and its last line
+abbrev pub power_resumes : BootMode → Option Durable → Printed → List ℕ
+power_resumes mode None said = []
+power_resumes mode (Some d) said = powered said mode d.image
 
 -- these were resumed more
 abbrev pub Resumes : Ledger → Ledger → List ℕ → Type 0

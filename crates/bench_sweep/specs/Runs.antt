@@ -1,10 +1,12 @@
 -- A run that is under way, and the bench of the model that it stands for.
 use Rattle.std.specs.Prelude.{◌≡◌, ◌≤◌, ◌⊎◌, false, Option, Some}
-use Rattle.board_model.specs.Durable.{Change, IsWhole, CarriesWhole}
+use Rattle.board_model.specs.Durable.{DurableState, Change, IsWhole, CarriesWhole}
 use Rattle.board_model.specs.Kept.{Kept, MayFind, nothing_kept, found_of}
 use Rattle.board_model.specs.Plains.{state_in}
 use Rattle.board_model.specs.declared.plain.Plain.{Plain}
 use Rattle.board_model.specs.Shapes.{Size, IsSize}
+use Rattle.board_model.specs.Views.{durable_of}
+use Rattle.board_model.specs.declared.durable.Durable.{Durable}
 use Rattle.disk.specs.FaultState.{FaultState, fault_state_left}
 use Rattle.simdisk.specs.declared.SimDisk.{SimDisk}
 use Rattle.machine.specs.declared.parts.Word.{Word}
@@ -103,8 +105,11 @@ pub record Finds (ledger : Ledger) (found : Option Plain) : Type 0 where
   pub is : found ≡ Some plain
   pub may : MayFind kept (state_in plain)
 
--- A state that a power-on left, which said that, was found with its memory; or memory was refused.
-abbrev pub PowerFinds : Size → Power → Printed → Option Plain → Type 0
-PowerFinds size (Off disk) said found = (said ≡ printed.OnRefused 11) ⊎ IsSpoilt (fault_state disk) → ⊥
-PowerFinds size (On board) said found =
-    FindsState size (store_in board) → (p : Plain) × (found ≡ Some p) × (state_in p ≡ store_now (store_in board))
+-- Of a power-on that found and said so: the state that its open found was found with its memory, where the board's
+-- image is the one found; or memory was refused.
+abbrev pub PowerFinds : Size → Power → Option Durable → Printed → Option Plain → Type 0
+PowerFinds size (Off disk) shown said plain = (said ≡ printed.OnRefused 11) ⊎ IsSpoilt (fault_state disk) → ⊥
+PowerFinds size (On board) shown said plain =
+    (found : Durable) (s : DurableState) → shown ≡ Some found → found ≡ durable_of s
+    → s.image ≡ (store_now (store_in board)).image → FindsState size (store_in board)
+    → (p : Plain) × (plain ≡ Some p) × (state_in p ≡ s)

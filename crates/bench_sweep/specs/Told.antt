@@ -1,6 +1,6 @@
 -- What a line's answer tells of the commands that a disk keeps. Source: docs/DURABLE.md, "What an open finds".
-use Rattle.std.specs.Prelude.{◌≡◌, ◌≢◌, ◌⊎◌, ℕ, Bool, true, false, List, [], Option, None, Some, length}
-use Rattle.board_model.specs.Durable.{Change, Slot, Reset, Suspend, Consume, Discard, refusal_of}
+use Rattle.std.specs.Prelude.{◌≡◌, ◌≢◌, ◌⊎◌, ℕ, Bool, true, false, List, [], ◌∷◌, Option, None, Some, length}
+use Rattle.board_model.specs.Durable.{Change, Slot, Reset, Suspend, Consume, Discard, Tries, Good, refusal_of}
 use Rattle.board_model.specs.Kept.{Kept, MayKeep, found_of}
 use Rattle.board_model.specs.Shapes.{Size, ram_bytes_of}
 use Rattle.board_model.specs.Views.{durable_of}
@@ -8,6 +8,8 @@ use Rattle.board_model.specs.declared.boot_mode.BootMode.{BootMode}
 use Rattle.board_model.specs.declared.boot_mode.BootMode.TheVariants as modes
 use Rattle.board_model.specs.declared.durable.Durable.{Durable}
 use Rattle.board_model.specs.declared.durable.Reason.{Reason}
+use Rattle.board_model.specs.declared.durable.Trial.{Trial}
+use Rattle.board.specs.Moments.{attempts_of}
 use Rattle.script_lang.specs.declared.line.Line.{Line}
 use Rattle.script_lang.specs.declared.line.Line.TheVariants as lines
 use Rattle.machine.specs.declared.parts.Word.{Word}
@@ -38,30 +40,61 @@ CommandTold (printed.Acknowledged word k) c old new = IssuedTold None c old new
 CommandTold (printed.CommandRefused word n) c old new = IssuedTold (Some n) c old new
 CommandTold line c old new = new ≡ old
 
--- what a boot issues by its mode
-abbrev pub BootTold : Option ℕ → BootMode → Kept → Kept → Type 0
-BootTold said modes.Fresh old new = new ≡ old
-BootTold said modes.Keep old new = new ≡ old
-BootTold said modes.Discard old new = IssuedTold said Discard old new
-BootTold said modes.Resume old new = IssuedTold said Consume old new
+-- Commands that a boot issues in a row: all were answered by their receipts (none), or one by the number that
+-- refused it, and then no other was issued.
+abbrev pub AllTold : Option ℕ → List Change → Kept → Kept → Type 0
+AllTold None [] old new = new ≡ old
+AllTold None (c ∷ cs) old new = (mid : Kept) × IssuedTold None c old mid × AllTold None cs mid new
+AllTold (Some n) [] old new = ⊥
+AllTold (Some n) (c ∷ cs) old new =
+    IssuedTold (Some n) c old new ⊎ ((mid : Kept) × IssuedTold None c old mid × AllTold (Some n) cs mid new)
+
+-- the commands of a boot by the mode, of a slot that is on trial so
+abbrev pub commands_told : BootMode → Option Trial → List Change
+commands_told modes.Fresh trial = attempts_of trial
+commands_told modes.Keep trial = attempts_of trial
+commands_told modes.Discard trial = Discard ∷ attempts_of trial
+commands_told modes.Resume trial = Consume ∷ []
+
+-- a boot with these commands, which was made (none) or refused by that number
+abbrev pub BootTold : Option ℕ → List Change → Kept → Kept → Type 0
+BootTold None cs old new = AllTold None cs old new
+BootTold (Some n) cs old new = ((n ≢ 6) × (new ≡ old)) ⊎ AllTold (Some n) cs old new
 
 -- what a power-on says; of one that was refused memory nothing is asked
-abbrev pub BootSaid : Printed → BootMode → Kept → Kept → Type 0
-BootSaid (printed.On m) mode old new = BootTold None mode old new
-BootSaid (printed.OnRefused n) mode old new = (n ≡ 11) ⊎ BootTold (Some n) mode old new
-BootSaid line mode old new = new ≡ old
+abbrev pub BootSaid : Printed → List Change → Kept → Kept → Type 0
+BootSaid (printed.On m) cs old new = BootTold None cs old new
+BootSaid (printed.OnRefused n) cs old new = (n ≡ 11) ⊎ BootTold (Some n) cs old new
+BootSaid line cs old new = new ≡ old
 
 -- the open found that state, which settles the command in doubt
-abbrev pub SettledTold : Option Durable → Kept → Kept → Type 0
-SettledTold None old new = new ≡ old
-SettledTold (Some d) old new =
+abbrev pub SettledTold : Durable → Kept → Kept → Type 0
+SettledTold d old new =
     (changes : List Change) × MayKeep old changes × (d ≡ durable_of (found_of changes)) × (new ≡ settled changes)
 
--- what a line says that moves no hart
+-- the state after the commands kept, as a power-on leaves it
+abbrev pub NowTold : Option Durable → Kept → Type 0
+NowTold None new = ⊥
+NowTold (Some d) new = d ≡ durable_of (found_of new.changes)
+
+-- a power-on by the mode, by the state that its open found, where it found one, by what was said, and by the state
+-- then
+abbrev pub PowerTold : BootMode → Option Durable → Printed → Option Durable → Kept → Kept → Type 0
+PowerTold mode None said now old new = new ≡ old
+PowerTold mode (Some d) said now old new =
+    (mid : Kept) × SettledTold d old mid × BootSaid said (commands_told mode d.trial) mid new × NowTold now new
+
+-- a line that powers a board on
+abbrev pub powers_on : Line → Bool
+powers_on (lines.On mode) = true
+powers_on line = false
+
+-- what a line says that moves no hart, and powers no board on
 abbrev pub LineTold : Line → Answer → Kept → Kept → Type 0
-LineTold (lines.On mode) a old new = (mid : Kept) × SettledTold a.found old mid × BootSaid a.line mode mid new
 LineTold (lines.Slot n) a old new = CommandTold a.line (Slot n) old new
 LineTold lines.Discard a old new = CommandTold a.line Discard old new
+LineTold (lines.Tries n boots) a old new = CommandTold a.line (Tries n boots) old new
+LineTold lines.Good a old new = CommandTold a.line Good old new
 LineTold line a old new = new ≡ old
 
 -- a command that a hart makes, where that is the memory

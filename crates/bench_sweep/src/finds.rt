@@ -5,21 +5,25 @@ ghost use Rattle.board_model.specs.Durable.{DurableState, IsWhole};
 ghost use Rattle.board_model.specs.Kept.{MayFind};
 ghost use Rattle.board_model.specs.Plains.{state_in};
 ghost use Rattle.board_model.specs.Shapes.{Size, IsSize};
+ghost use Rattle.board_model.specs.Views.{durable_of};
 ghost use Rattle.board_model.specs.declared.plain.Plain.{Plain as State};
 ghost use Rattle.board_model.specs.declared.refusal.Refusal.TheVariants.{Memory, Device};
 ghost use Rattle.disk.specs.Facts.{counted};
 ghost use Rattle.disk.specs.FaultState.{fault_state_left};
 ghost use Rattle.store.specs.Leaves.{IsIdle};
+ghost use Rattle.bench_report.specs.declared.power.Power.TheVariants.{On};
+ghost use Rattle.bench_report.specs.declared.printed.Printed.{Printed as Said};
 ghost use Rattle.bench_report.specs.declared.printed.Printed.TheVariants.{OnRefused};
 ghost use Rattle.bench_report.specs.Agree.{AreShort, OffIs};
 ghost use Rattle.bench_report.specs.Bench.{Bench, Formatted};
 ghost use Rattle.bench_report.specs.Views.{facts, fault_state, store_in, store_size, store_now, store_fault_state};
 ghost use Rattle.bench_sweep.specs.Runs.{LeftOff, Finds, FindsState, IsSpoilt, PowerFinds};
 
+use crate::follows::is_of_memory;
 use bench_judge::{Ledger, Sweep};
 use bench_report::{Answer, Power, Printed, step};
 use board::{Board, Parts, Payloads};
-use board_model::{BootMode, Plain, Refusal, Shape};
+use board_model::{BootMode, Durable, Plain, Refusal, Shape};
 use crew::Crew;
 use ram::Ram;
 use script_lang::Line;
@@ -45,33 +49,27 @@ fn unloaded(disk: SimDisk) -> Result<Option<Plain>, Refusal>
     Ok(None)
 }
 
-/// The state of a board with the memory of its image, which is loaded into a memory of its own: none where the load
-/// was refused, and `Memory` where memory was.
-fn loaded(alloc: Global, board: Board<SimDisk>) -> Result<Option<Plain>, Refusal>
-    ensures told { IfOk result (λ found. (size : Size) → FindsState size (store_in board)
-        → (p : State) × (found ≡ Some p) × (state_in p ≡ store_now (store_in board))) }
+/// The state that the open of that board found, with the memory of its image, which is loaded into a memory of its
+/// own: none where the load was refused, and `Memory` where memory was.
+fn loaded(
+    alloc: Global,
+    found: &Durable,
+    board: Board<SimDisk>,
+) -> Result<Option<Plain>, Refusal>
+    ensures told { IfOk result (λ plain. (size : Size) (s : DurableState) → found.now ≡ durable_of s
+        → s.image ≡ (store_now (store_in board)).image → FindsState size (store_in board)
+        → (p : State) × (plain ≡ Some p) × (state_in p ≡ s)) }
     ensures refused { IfErr result (λ e. e ≡ Memory) }
 {
     whole_images_load::<SimDisk>();
-    let now = board.now();
-    if now.image.is_none() {
-        return Ok(Some(Plain::of(alloc, &now, &[])?));
+    if found.image.is_none() {
+        return Ok(Some(Plain::of(alloc, found, &[])?));
     }
     let mut ram = Ram::new(alloc, board.shape())?;
     let Parts { mut store, .. } = board.into_parts();
     match store.load_image(&mut ram) {
-        Ok(()) => Ok(Some(Plain::of(alloc, &now, ram.bytes())?)),
+        Ok(()) => Ok(Some(Plain::of(alloc, found, ram.bytes())?)),
         Err(_) => unloaded(store.into_disk()),
-    }
-}
-
-/// Whether a power-on answers that memory was refused.
-fn is_of_memory(said: Printed) -> bool
-    ensures { IsTrue result ↔ (said ≡ OnRefused 11) }
-{
-    match said {
-        Printed::OnRefused(number) => number == 11,
-        _ => false,
     }
 }
 
@@ -86,14 +84,34 @@ fn unbooted(disk: SimDisk, said: Printed) -> Result<Option<Plain>, Refusal>
     Ok(None)
 }
 
-/// The state of a board that a power-on left, which said that. Refused `Memory` where memory was.
-fn found_by(alloc: Global, power: Power, said: Printed) -> Result<Option<Plain>, Refusal>
-    ensures told { IfOk result (λ found. (size : Size) → PowerFinds size power said found) }
+/// The state that the open of a board found, which is on.
+fn found_on(
+    alloc: Global,
+    board: Board<SimDisk>,
+    found: Option<Durable>,
+) -> Result<Option<Plain>, Refusal>
+    ensures told { IfOk result (λ plain. (size : Size) (said : Said) → PowerFinds size (On board) found said plain) }
+    ensures refused { IfErr result (λ e. e ≡ Memory) }
+{
+    match found {
+        None => Ok(None),
+        Some(found) => loaded(alloc, &found, board),
+    }
+}
+
+/// The state that a power-on found, by what its open found and what it said. Refused `Memory` where memory was.
+fn found_by(
+    alloc: Global,
+    power: Power,
+    found: Option<Durable>,
+    said: Printed,
+) -> Result<Option<Plain>, Refusal>
+    ensures told { IfOk result (λ plain. (size : Size) → PowerFinds size power found said plain) }
     ensures refused { IfErr result (λ e. e ≡ Memory) }
 {
     match power {
         Power::Off(disk) => unbooted(disk, said),
-        Power::On(board) => loaded(alloc, board),
+        Power::On(board) => found_on(alloc, board, found),
     }
 }
 
@@ -124,7 +142,7 @@ fn keeps<C: Crew>(
     let keep = Line::On(BootMode::Keep);
     let (power, answer) = step(alloc, crew, shape, &keep, Power::Off(disk), payloads);
     let left = answer?;
-    let plain = found_by(alloc, power, left.line)?;
+    let plain = found_by(alloc, power, left.found, left.line)?;
     Ok(Found { plain, left })
 }
 

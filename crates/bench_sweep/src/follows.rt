@@ -1,25 +1,26 @@
 //! What a ledger takes from the answers of a script's lines.
 
-ghost use Rattle.std.specs.Prelude.{◌≡◌, ℕ, List, Some, None, MatchOption, IfErr, OnOk};
-ghost use Rattle.board_model.specs.Durable.{Change, Suspend, Consume, CarriesWhole};
-ghost use Rattle.board_model.specs.Kept.{Kept};
+ghost use Rattle.std.specs.Prelude.{◌≡◌, ◌↔◌, ℕ, List, ◌∷◌, Some, None, true, is_some, IsTrue, IfSome, MatchOption, IfErr, OnOk};
+ghost use Rattle.board_model.specs.Durable.{Change, Suspend, Consume, Discard, CarriesWhole};
+ghost use Rattle.board_model.specs.Kept.{Kept, found_of};
 ghost use Rattle.board_model.specs.Shapes.{Size};
-ghost use Rattle.board_model.specs.Views.{change_in, change_of};
+ghost use Rattle.board_model.specs.Views.{change_in, change_of, durable_of};
 ghost use Rattle.board_model.specs.declared.durable.ImageHead.{ImageHead};
 ghost use Rattle.board_model.specs.declared.refusal.Refusal.TheVariants.{Memory};
-ghost use Rattle.script_lang.specs.declared.line.Line.TheVariants as lines;
+ghost use Rattle.board.specs.Moments.{attempts_of};
+ghost use Rattle.bench_report.specs.declared.printed.Printed.TheVariants.{OnRefused};
 ghost use Rattle.turns.specs.declared.words.Turned.{Turned};
 ghost use Rattle.sbi.specs.declared.resets.ResetType.{ResetType};
 ghost use Rattle.machine.specs.declared.parts.Word.TheVariants as words;
 ghost use Rattle.bench_report.specs.Bench.{Bench};
 ghost use Rattle.bench_sweep.specs.Runs.{TellsWhole, Follows, HartMoves};
-ghost use Rattle.bench_sweep.specs.Resumes.{image_told, serial_of, consumed, booted, powered, line_resumes, Resumes};
-ghost use Rattle.bench_sweep.specs.Told.{IssuedTold, CommandTold, BootTold, BootSaid, LineTold};
+ghost use Rattle.bench_sweep.specs.Resumes.{image_told, serial_of, consumed, booted, powered, power_resumes, Resumes};
+ghost use Rattle.bench_sweep.specs.Told.{IssuedTold, CommandTold, BootTold, BootSaid, NowTold, PowerTold, LineTold, commands_told};
 
 use bench_judge::Ledger;
 use bench_report::{Answer, Printed};
 use board::Board;
-use board_model::{BootMode, Command, Durable, Entry, Refusal};
+use board_model::{BootMode, Command, Durable, Entry, Refusal, Trial};
 use machine::Word;
 use script_lang::Line;
 use simdisk::SimDisk;
@@ -88,67 +89,177 @@ fn consumes(ledger: &mut Ledger, alloc: Global, refused: Option<u32>) -> Result<
     }
 }
 
-/// A boot by that mode was made, or refused by that number.
+/// The attempt of a boot was acknowledged, or refused by that number, where the slot is on trial so. Refused `Memory`
+/// alone.
+fn attempts(
+    ledger: &mut Ledger,
+    alloc: Global,
+    trial: Option<Trial>,
+    refused: Option<u32>,
+) -> Result<(), Refusal>
+    ensures kept { OnOk result ((size : Size) (old new : Kept) → TellsWhole size ledger.old old
+        → BootTold refused (attempts_of trial) old new → TellsWhole size ledger.new new) }
+    ensures resumed { ledger.new.resumed ≡ ledger.old.resumed }
+    ensures memory { IfErr result (λ e. e ≡ Memory) }
+{
+    match trial {
+        None => Ok(()),
+        Some(_) => {
+            let entry = Entry::Command(Command::Attempt);
+            issued(ledger, alloc, entry, &[], refused)
+        }
+    }
+}
+
+/// Whether the image that an open found was dropped since, by the state now.
+fn is_dropped(found: &Durable, now: Option<Durable>) -> bool
+    ensures { IsTrue result ↔ ((is_some found.now.image ≡ true) × IfSome now (λ d. d.image ≡ None)) }
+{
+    match now {
+        None => false,
+        Some(now) => found.image.is_some() && now.image.is_none(),
+    }
+}
+
+/// A boot that drops the image was refused by that number, at its first command or behind it, by the state then.
+fn stops(
+    ledger: &mut Ledger,
+    alloc: Global,
+    found: &Durable,
+    now: Option<Durable>,
+    number: u32,
+) -> Result<(), Refusal>
+    ensures kept { OnOk result ((size : Size) (old new : Kept) → TellsWhole size ledger.old old
+        → found.now ≡ durable_of (found_of old.changes)
+        → BootTold (Some number) (Discard ∷ attempts_of found.now.trial) old new → NowTold now new
+        → TellsWhole size ledger.new new) }
+    ensures resumed { ledger.new.resumed ≡ ledger.old.resumed }
+    ensures memory { IfErr result (λ e. e ≡ Memory) }
+{
+    let entry = Entry::Command(Command::Discard);
+    if is_dropped(found, now) {
+        issued(ledger, alloc, entry, &[], None)?;
+        attempts(ledger, alloc, found.trial, Some(number))
+    } else {
+        issued(ledger, alloc, entry, &[], Some(number))
+    }
+}
+
+/// A boot that drops the image was made, or refused by that number.
+fn discards(
+    ledger: &mut Ledger,
+    alloc: Global,
+    found: &Durable,
+    now: Option<Durable>,
+    refused: Option<u32>,
+) -> Result<(), Refusal>
+    ensures kept { OnOk result ((size : Size) (old new : Kept) → TellsWhole size ledger.old old
+        → found.now ≡ durable_of (found_of old.changes)
+        → BootTold refused (Discard ∷ attempts_of found.now.trial) old new → NowTold now new
+        → TellsWhole size ledger.new new) }
+    ensures resumed { ledger.new.resumed ≡ ledger.old.resumed }
+    ensures memory { IfErr result (λ e. e ≡ Memory) }
+{
+    match refused {
+        None => {
+            let entry = Entry::Command(Command::Discard);
+            issued(ledger, alloc, entry, &[], None)?;
+            attempts(ledger, alloc, found.trial, None)
+        }
+        Some(number) => stops(ledger, alloc, found, now, number),
+    }
+}
+
+/// A boot by that mode was made, or refused by that number, of the state that its open found, and the state is then
+/// that one.
 fn boots(
     ledger: &mut Ledger,
     alloc: Global,
     mode: BootMode,
+    found: &Durable,
+    now: Option<Durable>,
     refused: Option<u32>,
 ) -> Result<(), Refusal>
     ensures kept { OnOk result ((size : Size) (old new : Kept) → TellsWhole size ledger.old old
-        → BootTold refused mode old new → TellsWhole size ledger.new new) }
+        → found.now ≡ durable_of (found_of old.changes)
+        → BootTold refused (commands_told mode found.now.trial) old new → NowTold now new
+        → TellsWhole size ledger.new new) }
     ensures serial { OnOk result (Resumes ledger.old ledger.new (booted refused mode (image_told ledger.old))) }
     ensures memory { IfErr result (λ e. e ≡ Memory) }
 {
     match mode {
-        BootMode::Fresh | BootMode::Keep => Ok(()),
-        BootMode::Discard => {
-            let entry = Entry::Command(Command::Discard);
-            issued(ledger, alloc, entry, &[], refused)
-        }
+        BootMode::Fresh | BootMode::Keep => attempts(ledger, alloc, found.trial, refused),
+        BootMode::Discard => discards(ledger, alloc, found, now, refused),
         BootMode::Resume => consumes(ledger, alloc, refused),
     }
 }
 
 /// What a power-on by that mode said behind its found line. Refused `Memory` where it was.
-fn begins(ledger: &mut Ledger, alloc: Global, mode: BootMode, said: Printed) -> Result<(), Refusal>
+fn begins(
+    ledger: &mut Ledger,
+    alloc: Global,
+    mode: BootMode,
+    found: &Durable,
+    said: Printed,
+    now: Option<Durable>,
+) -> Result<(), Refusal>
     ensures kept { OnOk result ((size : Size) (old new : Kept) → TellsWhole size ledger.old old
-        → BootSaid said mode old new → TellsWhole size ledger.new new) }
+        → found.now ≡ durable_of (found_of old.changes)
+        → BootSaid said (commands_told mode found.now.trial) old new → NowTold now new
+        → TellsWhole size ledger.new new) }
     ensures serial { OnOk result (Resumes ledger.old ledger.new (powered said mode (image_told ledger.old))) }
     ensures memory { IfErr result (λ e. e ≡ Memory) }
 {
     match said {
-        Printed::On(_) => boots(ledger, alloc, mode, None),
+        Printed::On(_) => boots(ledger, alloc, mode, found, now, None),
         Printed::OnRefused(number) => {
             if number == 11 {
                 Err(Refusal::Memory)
             } else {
-                boots(ledger, alloc, mode, Some(number))
+                boots(ledger, alloc, mode, found, now, Some(number))
             }
         }
         _ => Ok(()),
     }
 }
 
-/// A power-on by that mode gave that answer: what the open found settles the command in doubt.
-fn powers_on(
+/// Whether a power-on answers that memory was refused.
+pub fn is_of_memory(said: Printed) -> bool
+    ensures { IsTrue result ↔ (said ≡ OnRefused 11) }
+{
+    match said {
+        Printed::OnRefused(number) => number == 11,
+        _ => false,
+    }
+}
+
+/// A power-on by that mode gave that answer, and the state is then that one: what the open found settles the command
+/// in doubt. Refused `Memory` where the power-on was, or the ledger is; then the ledger is of no use.
+pub fn follows_boot(
     ledger: &mut Ledger,
     alloc: Global,
     mode: BootMode,
     answer: &Answer,
+    now: Option<Durable>,
 ) -> Result<(), Refusal>
     ensures kept { OnOk result ((size : Size) (old new : Kept) → TellsWhole size ledger.old old
-        → LineTold (lines.On mode) answer.now old new → TellsWhole size ledger.new new) }
+        → PowerTold mode answer.now.found answer.now.line now old new → TellsWhole size ledger.new new) }
     ensures serial { OnOk result ((size : Size) (old new : Kept) → TellsWhole size ledger.old old
-        → LineTold (lines.On mode) answer.now old new
-        → Resumes ledger.old ledger.new (line_resumes (lines.On mode) answer.now (image_told ledger.old))) }
+        → PowerTold mode answer.now.found answer.now.line now old new
+        → Resumes ledger.old ledger.new (power_resumes mode answer.now.found answer.now.line)) }
     ensures memory { IfErr result (λ e. e ≡ Memory) }
 {
     match answer.found {
-        None => begins(ledger, alloc, mode, answer.line),
+        None => {
+            if is_of_memory(answer.line) {
+                Err(Refusal::Memory)
+            } else {
+                Ok(())
+            }
+        }
         Some(found) => {
             ledger.settles(&found);
-            begins(ledger, alloc, mode, answer.line)
+            begins(ledger, alloc, mode, &found, answer.line, now)
         }
     }
 }
@@ -179,7 +290,7 @@ fn commands(
     }
 }
 
-/// A line that moves no hart gave that answer. Refused `Memory` where the line was, or the ledger is; then the
+/// A line that moves no hart and powers no board on gave that answer. Refused `Memory` where the ledger is; then the
 /// ledger is of no use.
 pub fn follows(
     ledger: &mut Ledger,
@@ -189,15 +300,16 @@ pub fn follows(
 ) -> Result<(), Refusal>
     ensures kept { OnOk result ((size : Size) (old new : Kept) → TellsWhole size ledger.old old
         → LineTold line.now answer.now old new → TellsWhole size ledger.new new) }
-    ensures serial { OnOk result ((size : Size) (old new : Kept) → TellsWhole size ledger.old old
-        → LineTold line.now answer.now old new
-        → Resumes ledger.old ledger.new (line_resumes line.now answer.now (image_told ledger.old))) }
+    ensures resumed { ledger.new.resumed ≡ ledger.old.resumed }
     ensures memory { IfErr result (λ e. e ≡ Memory) }
 {
     match line {
-        Line::On(mode) => powers_on(ledger, alloc, *mode, answer),
         Line::Slot(number) => commands(ledger, alloc, Command::Slot(*number), answer.line),
         Line::Discard => commands(ledger, alloc, Command::Discard, answer.line),
+        Line::Tries(slot, boots) => {
+            commands(ledger, alloc, Command::Tries(*slot, *boots), answer.line)
+        }
+        Line::Good => commands(ledger, alloc, Command::Good, answer.line),
         _ => Ok(()),
     }
 }

@@ -1,9 +1,10 @@
 //! A bench between two lines of its script, and how it goes on.
 
-ghost use Rattle.std.specs.Prelude.{◌≡◌, ◌≤◌, ◌<◌, ◌⊎◌, false, length, All, IfOk, IfErr, OnOk};
+ghost use Rattle.std.specs.Prelude.{◌≡◌, ◌≤◌, ◌<◌, ◌⊎◌, false, length, All, IfOk, IfErr, OnOk, MatchOption};
 ghost use Rattle.board_model.specs.Shapes.{Size};
 ghost use Rattle.board_model.specs.declared.refusal.Refusal.TheVariants.{Memory};
 ghost use Rattle.script_lang.specs.Ranges.{IsLineInRange};
+ghost use Rattle.script_lang.specs.declared.line.Line.TheVariants as lines;
 ghost use Rattle.store.specs.Leaves.{IsIdle};
 ghost use Rattle.bench_report.specs.declared.power.Power.TheVariants.{Off};
 ghost use Rattle.bench_report.specs.Agree.{AreShort, OffIs, IsResting, IsUnstruck};
@@ -12,14 +13,14 @@ ghost use Rattle.bench_report.specs.Happens.{unpowered};
 ghost use Rattle.bench_report.specs.Views.{facts};
 ghost use Rattle.bench_sweep.specs.Runs.{Runs, RunsCalm, LeftOff};
 ghost use Rattle.bench_sweep.specs.Swept.{IsPlainLine};
-ghost use Rattle.bench_sweep.specs.Told.{moves_harts};
+ghost use Rattle.bench_sweep.specs.Told.{moves_harts, powers_on};
 
-use crate::follows::follows;
+use crate::follows::{follows, follows_boot};
 use crate::harts::{is_of_harts, moves};
 use bench_judge::Ledger;
-use bench_report::{Power, arm, disk_left, step, struck};
+use bench_report::{Power, arm, disk_left, power_on, step, struck};
 use board::Payloads;
-use board_model::{Refusal, Shape, Slot};
+use board_model::{BootMode, Refusal, Shape, Slot};
 use crew::Crew;
 use disk::ArmedFault;
 use script_lang::Line;
@@ -166,7 +167,32 @@ impl Going {
     }
 }
 
-/// Runs a line that moves no hart, and the ledger follows it.
+/// Runs a line that powers a board on, and the ledger follows it. A board that is on stays as it is.
+fn powers(
+    alloc: Global,
+    shape: &Shape,
+    mode: BootMode,
+    power: Power,
+    payloads: &Payloads,
+    ledger: &mut Ledger,
+) -> Result<Power, Refusal>
+    requires resting { IsResting power }
+    requires short { AreShort payloads.now }
+    ensures resting { IfOk result (λ power. IsResting power) }
+    ensures runs { RunsCalm shape.now power ledger.old → IfOk result (λ now. Runs shape.now now ledger.new) }
+    ensures refused { IfErr result (λ e. e ≡ Memory) }
+{
+    match power {
+        Power::On(board) => Ok(Power::On(board)),
+        Power::Off(disk) => {
+            let (power, answer, now) = power_on(alloc, mode, disk, payloads);
+            follows_boot(ledger, alloc, mode, &answer, now)?;
+            Ok(power)
+        }
+    }
+}
+
+/// Runs a line that moves no hart and powers no board on, and the ledger follows it.
 fn answers<C: Crew>(
     alloc: Global,
     crew: &C,
@@ -179,6 +205,7 @@ fn answers<C: Crew>(
     requires range { IsLineInRange shape.now line.now }
     requires plain { IsPlainLine line.now }
     requires of_none { moves_harts line.now ≡ false }
+    requires no_boot { powers_on line.now ≡ false }
     requires calm { IsUnstruck power }
     requires resting { IsResting power }
     requires short { AreShort payloads.old }
@@ -194,6 +221,16 @@ fn answers<C: Crew>(
             follows(ledger, alloc, line, &answer)?;
             Ok(power)
         }
+    }
+}
+
+/// The mode of a line that powers a board on.
+fn boot_of(line: &Line) -> Option<BootMode>
+    ensures { MatchOption result (powers_on line.now ≡ false) (λ mode. line.now ≡ lines.On mode) }
+{
+    match line {
+        Line::On(mode) => Some(*mode),
+        _ => None,
     }
 }
 
@@ -217,10 +254,15 @@ fn does<C: Crew>(
     ensures runs { RunsCalm shape.now power ledger.old → IfOk result (λ now. Runs shape.now now ledger.new) }
     ensures refused { IfErr result (λ e. e ≡ Memory) }
 {
-    if is_of_harts(line) {
-        moves(alloc, crew, shape, line, power, ledger)
-    } else {
-        answers(alloc, crew, shape, line, power, payloads, ledger)
+    match boot_of(line) {
+        Some(mode) => powers(alloc, shape, mode, power, payloads, ledger),
+        None => {
+            if is_of_harts(line) {
+                moves(alloc, crew, shape, line, power, ledger)
+            } else {
+                answers(alloc, crew, shape, line, power, payloads, ledger)
+            }
+        }
     }
 }
 

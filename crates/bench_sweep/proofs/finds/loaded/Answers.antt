@@ -1,4 +1,6 @@
 use Rattle.std.proofs.Common.{◌≡◌, ◌∙◌, false, Option, Some, None, is_some, [], refl, sym, ap, subst}
+use Rattle.board_model.specs.Durable.{DurableState}
+use Rattle.board_model.specs.Views.{durable_of}
 use Rattle.board_model.specs.declared.durable.Durable.{Durable}
 use Rattle.store.specs.Lives.{IsLoaded}
 use Rattle.bench_report.specs.Views.{SimStore, store_in, store_now}
@@ -11,17 +13,15 @@ no_image None e = refl
 no_image (Some x) e = cc
 
 pub returns-then-is_none-clause-told : goal.returns-then-is_none-clause-told
-returns-then-is_none-clause-told c = λ size f.
-    let s = store_now (store_in c.args.board) in
-    let none : c.now-now.result.image ≡ None = no_image c.now-now.result.image c.if-is_none.ensures in (
+returns-then-is_none-clause-told c = λ size s is image f.
+    let none : c.args.found.now.image ≡ None = no_image c.args.found.now.image c.if-is_none.ensures in (
       c.in_ok-of.field-0,
       refl,
-      plain_is s c.now-now.result [] c.in_ok-of.field-0 c.now-now.ensures c.in_ok-of.ensures
-          (has_none s.image [] (ap (λ (d : Durable). d.image) (sym c.now-now.ensures) ∙ none)),
+      plain_is s c.args.found.now [] c.in_ok-of.field-0 is c.in_ok-of.ensures (has_none s.image [] (ap (λ (d : Durable). d.image) (sym is) ∙ none)),
     )
 
 pub returns-in-Ok-clause-told : goal.returns-in-Ok-clause-told
-returns-in-Ok-clause-told c = λ size f.
+returns-in-Ok-clause-told c =
     let L : SimStore → Type 0 = λ store. IsLoaded (store_now store) c.load_image.new.ram in
-    loaded_found (store_in c.args.board) c.now-now.result c.load_image.new.ram c.bytes.result.now c.in_ok-of-in-Ok.field-0 c.now-now.ensures (subst L c.into_parts-store.ensures.store c.in-Ok.ensures.loads)
+    loaded_found c.args.found.now (store_in c.args.board) c.load_image.new.ram c.bytes.result.now c.in_ok-of-in-Ok.field-0 (subst L c.into_parts-store.ensures.store c.in-Ok.ensures.loads)
     c.bytes.ensures.value c.in_ok-of-in-Ok.ensures

@@ -1,29 +1,47 @@
 use Rattle.std.proofs.Common.{subst}
-use Rattle.board_model.specs.Durable.{Consume, Discard}
+use Rattle.board_model.specs.Durable.{Consume}
 use Rattle.board_model.specs.declared.boot_mode.BootMode.{BootMode}
-use Rattle.bench_sweep.specs.Told.{IssuedTold, BootTold}
-use Rattle.bench_sweep.proofs.Followed.{weaker, issued_told}
 use Rattle.board_model.specs.declared.boot_mode.BootMode.TheVariants as modes
 use Rattle.bench_sweep.specs.Resumes.{image_told, booted}
+use Rattle.bench_sweep.specs.Told.{IssuedTold, BootTold, commands_told}
+use Rattle.bench_sweep.proofs.Boots.{one_told, boot_of, boot_weaker}
 use Rattle.bench_sweep.proofs.Serials.{kept_none, as_told}
 use Rattle.bench_sweep.proofs.follows.boots.Goals as goal
 
+pub returns-in-Fresh-clause-kept : goal.returns-in-Fresh-clause-kept
+returns-in-Fresh-clause-kept c =
+    boot_of c.attempts.result c.args.ledger.now c.attempts.new.ledger c.args.found.now c.args.now _ (BootTold c.args.refused (commands_told c.args.mode c.args.found.now.trial))
+    (λ old new t. (let P : BootMode → Type 0 = λ m. BootTold c.args.refused (commands_told m c.args.found.now.trial) old new in subst P c.in-Fresh.is t)) c.attempts.ensures.kept
+
+pub returns-in-Keep-clause-kept : goal.returns-in-Keep-clause-kept
+returns-in-Keep-clause-kept c =
+    boot_of c.attempts-in-Keep.result c.args.ledger.now c.attempts-in-Keep.new.ledger c.args.found.now c.args.now _ (BootTold c.args.refused (commands_told c.args.mode c.args.found.now.trial))
+    (λ old new t. (let P : BootMode → Type 0 = λ m. BootTold c.args.refused (commands_told m c.args.found.now.trial) old new in subst P c.in-Keep.is t)) c.attempts-in-Keep.ensures.kept
+
 pub returns-in-Discard-clause-kept : goal.returns-in-Discard-clause-kept
 returns-in-Discard-clause-kept c =
-    weaker c.issued.result c.args.ledger.now c.issued.new.ledger (IssuedTold c.args.refused Discard) (BootTold c.args.refused c.args.mode)
-    (λ old new t. (let P : BootMode → Type 0 = λ m. BootTold c.args.refused m old new in subst P c.in-Discard.is t))
-    (issued_told c.issued.result c.args.ledger.now c.issued.new.ledger c.args.refused Discard (λ size. tt) c.issued.ensures.kept)
+    boot_weaker c.discards.result c.args.ledger.now c.discards.new.ledger c.args.found.now c.args.now _ (BootTold c.args.refused (commands_told c.args.mode c.args.found.now.trial))
+    (λ old new t. (let P : BootMode → Type 0 = λ m. BootTold c.args.refused (commands_told m c.args.found.now.trial) old new in subst P c.in-Discard.is t)) c.discards.ensures.kept
 
 pub returns-in-Resume-clause-kept : goal.returns-in-Resume-clause-kept
 returns-in-Resume-clause-kept c =
-    weaker c.consumes.result c.args.ledger.now c.consumes.new.ledger (IssuedTold c.args.refused Consume) (BootTold c.args.refused c.args.mode)
-    (λ old new t. (let P : BootMode → Type 0 = λ m. BootTold c.args.refused m old new in subst P c.in-Resume.is t)) c.consumes.ensures.kept
+    boot_of c.consumes.result c.args.ledger.now c.consumes.new.ledger c.args.found.now c.args.now (IssuedTold c.args.refused Consume) (BootTold c.args.refused (commands_told c.args.mode c.args.found.now.trial))
+    (λ old new t. (let P : BootMode → Type 0 = λ m. BootTold c.args.refused (commands_told m c.args.found.now.trial) old new in one_told c.args.refused Consume old new (subst P c.in-Resume.is t))) c.consumes.ensures.kept
+
+pub returns-in-Fresh-clause-serial : goal.returns-in-Fresh-clause-serial
+returns-in-Fresh-clause-serial c =
+    let l = c.args.ledger.now in
+    as_told c.attempts.result l c.attempts.new.ledger (λ (b : BootMode). booted c.args.refused b (image_told l)) c.args.mode modes.Fresh c.in-Fresh.is (kept_none c.attempts.result l c.attempts.new.ledger c.attempts.ensures.resumed)
+
+pub returns-in-Keep-clause-serial : goal.returns-in-Keep-clause-serial
+returns-in-Keep-clause-serial c =
+    let l = c.args.ledger.now in
+    as_told c.attempts-in-Keep.result l c.attempts-in-Keep.new.ledger (λ (b : BootMode). booted c.args.refused b (image_told l)) c.args.mode modes.Keep c.in-Keep.is (kept_none c.attempts-in-Keep.result l c.attempts-in-Keep.new.ledger c.attempts-in-Keep.ensures.resumed)
 
 pub returns-in-Discard-clause-serial : goal.returns-in-Discard-clause-serial
 returns-in-Discard-clause-serial c =
     let l = c.args.ledger.now in
-    let m = c.issued.new.ledger in
-    as_told c.issued.result l m (λ (b : BootMode). booted c.args.refused b (image_told l)) c.args.mode modes.Discard c.in-Discard.is (kept_none c.issued.result l m c.issued.ensures.resumed)
+    as_told c.discards.result l c.discards.new.ledger (λ (b : BootMode). booted c.args.refused b (image_told l)) c.args.mode modes.Discard c.in-Discard.is (kept_none c.discards.result l c.discards.new.ledger c.discards.ensures.resumed)
 
 pub returns-in-Resume-clause-serial : goal.returns-in-Resume-clause-serial
 returns-in-Resume-clause-serial c =
