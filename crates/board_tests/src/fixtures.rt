@@ -3,8 +3,8 @@ ghost use Rattle.std.specs.Prelude.{◌≡◌, IfOk};
 
 use board::{Board, Payloads, Unpowered};
 use board_model::{
-    Addr, Boots, BootMode, Command, Durable, HartId, ImageHead, RAM_BASE, Reason, Refusal, Shape, Slot,
-    Trial,
+    Addr, BootMode, Boots, Command, Durable, HartId, ImageHead, RAM_BASE, Reason, Refusal, Shape,
+    Slot, Trial,
 };
 use crew::{Crew, Turns};
 use disk::Disk;

@@ -7,7 +7,7 @@ use crate::fixtures::{
     with_image_and_trial,
 };
 use board::{Board, Payloads};
-use board_model::{Boots, BootMode, Durable, RAM_BASE, Refusal};
+use board_model::{BootMode, Boots, Durable, RAM_BASE, Refusal};
 use disk::{ArmedFault, Disk};
 use machine::Word;
 use ram::Width;
@@ -181,15 +181,50 @@ fn a_boot_that_is_refused_before_its_commands_is_not_counted(rt: HostRuntime) ->
     let fit = marked(alloc)?;
     let long = one_payload(alloc, 1, &[0; 4097])?;
     let over_image = with_image_and_trial(alloc, Boots::new(1))?;
-    uncounted(&rt, alloc, over_image, BootMode::Fresh, &fit, Refusal::ImageThere)?;
+    uncounted(
+        &rt,
+        alloc,
+        over_image,
+        BootMode::Fresh,
+        &fit,
+        Refusal::ImageThere,
+    )?;
     let over_image = with_image_and_trial(alloc, Boots::new(1))?;
-    uncounted(&rt, alloc, over_image, BootMode::Discard, &long, Refusal::BadShape)?;
+    uncounted(
+        &rt,
+        alloc,
+        over_image,
+        BootMode::Discard,
+        &long,
+        Refusal::BadShape,
+    )?;
     let without = on_trial(&rt, alloc, 1)?;
-    uncounted(&rt, alloc, without, BootMode::Discard, &fit, Refusal::NoImage)?;
+    uncounted(
+        &rt,
+        alloc,
+        without,
+        BootMode::Discard,
+        &fit,
+        Refusal::NoImage,
+    )?;
     let without = on_trial(&rt, alloc, 1)?;
-    uncounted(&rt, alloc, without, BootMode::Resume, &fit, Refusal::NoImage)?;
+    uncounted(
+        &rt,
+        alloc,
+        without,
+        BootMode::Resume,
+        &fit,
+        Refusal::NoImage,
+    )?;
     let without = on_trial(&rt, alloc, 1)?;
-    uncounted(&rt, alloc, without, BootMode::Fresh, &long, Refusal::BadShape)
+    uncounted(
+        &rt,
+        alloc,
+        without,
+        BootMode::Fresh,
+        &long,
+        Refusal::BadShape,
+    )
 }
 
 /// What the next open finds after a cut, where the boot by the mode was refused so at that fault, and told of
@@ -208,9 +243,7 @@ fn found_after(
     disk.arm(fault.0);
     let left = unpowered(alloc, disk, mode, &marked(alloc)?)?;
     same(rt, left.refusal, fault.1);
-    let told = left
-        .now
-        .map(|state| (state.image.is_some(), tried(state)));
+    let told = left.now.map(|state| (state.image.is_some(), tried(state)));
     same(rt, told, Some(now));
     let disk = left.disk.after_cut(Choice::Byte(fill));
     let board = powered(alloc, disk, BootMode::Keep, &marked(alloc)?)?;
