@@ -78,6 +78,32 @@ fn a_suspension_and_its_resume_are_swept(rt: HostRuntime) -> Result<(), Fail> {
     Ok(())
 }
 
+/// Boots of a slot on trial: one counts itself, and the next drops an image and falls back.
+const TRIAL: &[u8] = b"\
+board 1 1 1\n\
+format\n\
+on fresh\n\
+tries 1 1\n\
+call 0 srst 0 0 0\n\
+on fresh\n\
+call 0 susp 0 0x80000001 0x80000000 7\n\
+on discard\n\
+good\n";
+
+#[test]
+fn boots_on_trial_are_swept(rt: HostRuntime) -> Result<(), Fail> {
+    let text = swept(&rt, rt.alloc(), TRIAL, 195)?;
+    ends(&rt, text.as_slice(), b"\npoints 39 runs 195 wrong 0\n");
+    Ok(())
+}
+
+#[test]
+fn each_call_of_boots_on_trial_fails_once(rt: HostRuntime) -> Result<(), Fail> {
+    let text = faulted(&rt, rt.alloc(), TRIAL, 39)?;
+    ends(&rt, text.as_slice(), b"\npoints 39 runs 39 wrong 0\n");
+    Ok(())
+}
+
 #[test]
 fn each_call_of_a_slot_fails_once(rt: HostRuntime) -> Result<(), Fail> {
     let text = faulted(&rt, rt.alloc(), SLOT, 8)?;
