@@ -1,6 +1,6 @@
 -- Ledgers that follow the commands of a boot.
 use Rattle.std.proofs.Common.{◌≡◌, ◌≢◌, ◌⊎◌, ℕ, inl, inr, Bool, true, false, List, [], ◌∷◌, ◌++◌, Option, None, Some, Result, Ok, Err, OnOk, refl, sym, ◌∙◌, ap, subst}
-use Rattle.std.specs.Prelude.{is_some, if◌then◌else◌, IfSome}
+use Rattle.std.specs.Prelude.{is_some, if◌then◌else◌, IsSomeAnd}
 use Rattle.board_model.specs.Durable.{Image, DurableState, Change, Discard, Attempt, after, refusal_of}
 use Rattle.board_model.specs.Kept.{Kept, MayKeep, found_of}
 use Rattle.board_model.specs.Shapes.{Size}
@@ -43,7 +43,7 @@ late_changes n (Some t) old new (inr (mid, told, none)) = absurd none
 
 -- the image that was found was dropped since
 abbrev pub IsDropped : Durable → Option Durable → Type 0
-IsDropped found now = (is_some found.image ≡ true) × IfSome now (λ d. d.image ≡ None)
+IsDropped found now = (is_some found.image ≡ true) × IsSomeAnd now (λ d. d.image ≡ None)
 
 kept_image : {A : Type 0} (found : Durable) (now : Option Durable) (old new : Kept) → IsDropped found now → found ≡ durable_of (found_of old.changes) → NowTold now new → new.changes ≡ old.changes → A
 kept_image found None old new dropped is at same = absurd at
@@ -56,11 +56,14 @@ has_head : (o : Option Image) → is_some o ≡ true → is_some (head_of o) ≡
 has_head None e = e
 has_head (Some i) e = refl
 
-some_image : (o : Option Image) → (if is_some o then None else Some 8) ≡ None → is_some o ≡ true
+refuses_none : Bool → Option ℕ
+refuses_none stands = if stands then None else Some 8
+
+some_image : (o : Option Image) → refuses_none (is_some o) ≡ None → is_some o ≡ true
 some_image None e = cc
 some_image (Some i) e = refl
 
-gone_image : (now : Option Durable) (mid new : Kept) → NowTold now new → new.changes ≡ mid.changes → (found_of mid.changes).image ≡ None → IfSome now (λ d. d.image ≡ None)
+gone_image : (now : Option Durable) (mid new : Kept) → NowTold now new → new.changes ≡ mid.changes → (found_of mid.changes).image ≡ None → IsSomeAnd now (λ d. d.image ≡ None)
 gone_image None mid new at same gone = absurd at
 gone_image (Some d) mid new at same gone =
     ap (λ (x : Durable). x.image) at ∙ ap (λ (cs : List Change). (durable_of (found_of cs)).image) same ∙ ap (λ (o : Option Image). head_of o) gone

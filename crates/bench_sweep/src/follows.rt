@@ -1,6 +1,6 @@
 //! What a ledger takes from the answers of a script's lines.
 
-ghost use Rattle.std.specs.Prelude.{◌≡◌, ◌↔◌, ℕ, List, ◌∷◌, Some, None, true, is_some, IsTrue, IfSome, MatchOption, IfErr, OnOk};
+ghost use Rattle.std.specs.Prelude.{◌≡◌, ◌↔◌, ℕ, List, ◌∷◌, Some, None, true, is_some, IsTrue, IsSomeAnd, MatchOption, IfErr, OnOk};
 ghost use Rattle.board_model.specs.Durable.{Change, Suspend, Consume, Discard, CarriesWhole};
 ghost use Rattle.board_model.specs.Kept.{Kept, found_of};
 ghost use Rattle.board_model.specs.Shapes.{Size};
@@ -113,7 +113,7 @@ fn attempts(
 
 /// Whether the image that an open found was dropped since, by the state now.
 fn is_dropped(found: &Durable, now: Option<Durable>) -> bool
-    ensures { IsTrue result ↔ ((is_some found.now.image ≡ true) × IfSome now (λ d. d.image ≡ None)) }
+    ensures { IsTrue result ↔ ((is_some found.now.image ≡ true) × IsSomeAnd now (λ d. d.image ≡ None)) }
 {
     match now {
         None => false,

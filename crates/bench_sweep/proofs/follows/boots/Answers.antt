@@ -1,7 +1,8 @@
-use Rattle.std.proofs.Common.{subst}
+use Rattle.std.proofs.Common.{inl, inr, subst}
 use Rattle.board_model.specs.Durable.{Consume}
 use Rattle.board_model.specs.declared.boot_mode.BootMode.{BootMode}
 use Rattle.board_model.specs.declared.boot_mode.BootMode.TheVariants as modes
+use Rattle.board.specs.Moments.{attempts_of}
 use Rattle.bench_sweep.specs.Resumes.{image_told, booted}
 use Rattle.bench_sweep.specs.Told.{IssuedTold, BootTold, commands_told}
 use Rattle.bench_sweep.proofs.Boots.{one_told, boot_of, boot_weaker}
@@ -10,13 +11,8 @@ use Rattle.bench_sweep.proofs.follows.boots.Goals as goal
 
 pub returns-in-Fresh-clause-kept : goal.returns-in-Fresh-clause-kept
 returns-in-Fresh-clause-kept c =
-    boot_of c.attempts.result c.args.ledger.now c.attempts.new.ledger c.args.found.now c.args.now _ (BootTold c.args.refused (commands_told c.args.mode c.args.found.now.trial))
-    (λ old new t. (let P : BootMode → Type 0 = λ m. BootTold c.args.refused (commands_told m c.args.found.now.trial) old new in subst P c.in-Fresh.is t)) c.attempts.ensures.kept
-
-pub returns-in-Keep-clause-kept : goal.returns-in-Keep-clause-kept
-returns-in-Keep-clause-kept c =
-    boot_of c.attempts-in-Keep.result c.args.ledger.now c.attempts-in-Keep.new.ledger c.args.found.now c.args.now _ (BootTold c.args.refused (commands_told c.args.mode c.args.found.now.trial))
-    (λ old new t. (let P : BootMode → Type 0 = λ m. BootTold c.args.refused (commands_told m c.args.found.now.trial) old new in subst P c.in-Keep.is t)) c.attempts-in-Keep.ensures.kept
+    boot_of c.attempts.result c.args.ledger.now c.attempts.new.ledger c.args.found.now c.args.now (BootTold c.args.refused (attempts_of c.args.found.now.trial)) (BootTold c.args.refused (commands_told c.args.mode c.args.found.now.trial))
+    (λ old new t. (let P : BootMode → Type 0 = λ m. BootTold c.args.refused (commands_told m c.args.found.now.trial) old new in elim c.in-Fresh.is [ inl e ↦ subst P e t | inr e ↦ subst P e t ])) c.attempts.ensures.kept
 
 pub returns-in-Discard-clause-kept : goal.returns-in-Discard-clause-kept
 returns-in-Discard-clause-kept c =
@@ -31,12 +27,12 @@ returns-in-Resume-clause-kept c =
 pub returns-in-Fresh-clause-serial : goal.returns-in-Fresh-clause-serial
 returns-in-Fresh-clause-serial c =
     let l = c.args.ledger.now in
-    as_told c.attempts.result l c.attempts.new.ledger (λ (b : BootMode). booted c.args.refused b (image_told l)) c.args.mode modes.Fresh c.in-Fresh.is (kept_none c.attempts.result l c.attempts.new.ledger c.attempts.ensures.resumed)
-
-pub returns-in-Keep-clause-serial : goal.returns-in-Keep-clause-serial
-returns-in-Keep-clause-serial c =
-    let l = c.args.ledger.now in
-    as_told c.attempts-in-Keep.result l c.attempts-in-Keep.new.ledger (λ (b : BootMode). booted c.args.refused b (image_told l)) c.args.mode modes.Keep c.in-Keep.is (kept_none c.attempts-in-Keep.result l c.attempts-in-Keep.new.ledger c.attempts-in-Keep.ensures.resumed)
+    let m = c.attempts.new.ledger in
+    let none = kept_none c.attempts.result l m c.attempts.ensures.resumed in
+    elim c.in-Fresh.is [
+      | inl e ↦ as_told c.attempts.result l m (λ (b : BootMode). booted c.args.refused b (image_told l)) c.args.mode modes.Fresh e none
+      | inr e ↦ as_told c.attempts.result l m (λ (b : BootMode). booted c.args.refused b (image_told l)) c.args.mode modes.Keep e none
+    ]
 
 pub returns-in-Discard-clause-serial : goal.returns-in-Discard-clause-serial
 returns-in-Discard-clause-serial c =

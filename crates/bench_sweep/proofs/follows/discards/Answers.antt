@@ -10,7 +10,7 @@ pub returns-in_ok-issued-in-None-clause-kept : goal.returns-in_ok-issued-in-None
 returns-in_ok-issued-in-None-clause-kept c =
     boot_weaker c.attempts.result c.args.ledger.now c.attempts.new.ledger c.args.found.now c.args.now (BootTold None (Discard ∷ attempts_of c.args.found.now.trial)) (BootTold c.args.refused (Discard ∷ attempts_of c.args.found.now.trial))
     (λ old new t. (let P : Option ℕ → Type 0 = λ o. BootTold o (Discard ∷ attempts_of c.args.found.now.trial) old new in subst P c.in-None.is t))
-    (made_both c.attempts.result c.args.ledger.now c.issued.new.ledger c.attempts.new.ledger c.args.found.now c.args.now c.in_ok-issued.ensures.kept c.attempts.ensures.kept)
+    (made_both c.attempts.result c.args.ledger.now c.issued.new.ledger c.attempts.new.ledger c.args.found.now c.args.now c.in_ok-issued-in-None.ensures.kept c.attempts.ensures.kept)
 
 pub returns-in-Some-clause-kept : goal.returns-in-Some-clause-kept
 returns-in-Some-clause-kept c =
