@@ -293,6 +293,8 @@ unpowered kept blank size mode b old new payloads e n (Some d) (Some now) off sh
     (ap (λ k. printed.OnRefused k) code) is.why is.any_moment.now (is.life, is.stopped, is.left) gives.cause gives.counts in
     let now_is : now ≡ durable_of (fold s is.stopped.done) = is.tells ∙ ap (λ (l : StoreLife). durable_of (now_of l)) is.stopped.is in
     (did.0, (inl (s, z, c, m.1, is.shows, did.1), λ formatted. now_is ∙ ap durable_of (did.4 formatted)), did.2, did.3)
+unpowered kept blank size mode b old new payloads e n None (Some now) off short code is gives = absurd is
+unpowered kept blank size mode b old new payloads e n (Some d) None off short code is gives = absurd is
 
 -- the state now of a board that is on
 pub on_now : (size : Size) (x : Bench) (board : SimBoard) → OnIs size x board → x.disk_state ≡ Formatted → store_now (store_in board) ≡ found_of x.kept.changes
@@ -303,5 +305,3 @@ on_now size x board on formatted =
     go : (p : Option BenchLife) → BoardIs size Formatted x.kept p board → store_now (store_in board) ≡ found_of x.kept.changes
     go None is = absurd is
     go (Some life) is = is.0.1.0 ∙ is.0.0.1
-unpowered kept blank size mode b old new payloads e n None (Some now) off short code is gives = absurd is
-unpowered kept blank size mode b old new payloads e n (Some d) None off short code is gives = absurd is
