@@ -273,6 +273,16 @@ module _ (size : Size) (b : Bench) (old new : SimDisk) (z : Size) (s : DurableSt
       (b, (h ∙ ap (λ k. printed.OnRefused k) why, refl), quiet mode e (mode_not_down s mode n e at why) (mode_not_device s mode n e at why) moments cause stop, refl,
       none_held stop.1.done (stop.1.by_disk (mode_not_device s mode n e at why) (mode_not_down s mode n e at why)))
 
+-- the state now of a board that is on
+pub on_now : (size : Size) (x : Bench) (board : SimBoard) → OnIs size x board → x.disk_state ≡ Formatted → store_now (store_in board) ≡ found_of x.kept.changes
+on_now size x board on formatted =
+    let M : DiskState → Type 0 = λ m. BoardIs size m x.kept x.power board in
+    go x.power (subst M formatted on.0)
+  where
+    go : (p : Option BenchLife) → BoardIs size Formatted x.kept p board → store_now (store_in board) ≡ found_of x.kept.changes
+    go None is = absurd is
+    go (Some life) is = is.0.1.0 ∙ is.0.0.1
+
 -- a bench after a power-on that was refused
 abbrev pub Unpowered : Size → BootMode → Bench → Answer → Option Durable → SimDisk → Type 0
 Unpowered size mode b a now new = (x : Bench) × (PowersOn size mode b a x × TellsNow a.found now x) × OffIs size x new × (x.payloads ≡ b.payloads)
@@ -293,15 +303,5 @@ unpowered kept blank size mode b old new payloads e n (Some d) (Some now) off sh
     (ap (λ k. printed.OnRefused k) code) is.why is.any_moment.now (is.life, is.stopped, is.left) gives.cause gives.counts in
     let now_is : now ≡ durable_of (fold s is.stopped.done) = is.tells ∙ ap (λ (l : StoreLife). durable_of (now_of l)) is.stopped.is in
     (did.0, (inl (s, z, c, m.1, is.shows, did.1), λ formatted. now_is ∙ ap durable_of (did.4 formatted)), did.2, did.3)
-
--- the state now of a board that is on
-pub on_now : (size : Size) (x : Bench) (board : SimBoard) → OnIs size x board → x.disk_state ≡ Formatted → store_now (store_in board) ≡ found_of x.kept.changes
-on_now size x board on formatted =
-    let M : DiskState → Type 0 = λ m. BoardIs size m x.kept x.power board in
-    go x.power (subst M formatted on.0)
-  where
-    go : (p : Option BenchLife) → BoardIs size Formatted x.kept p board → store_now (store_in board) ≡ found_of x.kept.changes
-    go None is = absurd is
-    go (Some life) is = is.0.1.0 ∙ is.0.0.1
 unpowered kept blank size mode b old new payloads e n None (Some now) off short code is gives = absurd is
 unpowered kept blank size mode b old new payloads e n (Some d) None off short code is gives = absurd is

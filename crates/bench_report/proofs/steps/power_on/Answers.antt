@@ -13,7 +13,7 @@ returns-in-Ok-clause-reported c = λ size b h same.
     let kept : KeptLaw = record { goes_on = k.goes_on; marked = k.marked; one_size = k.one_size; sized = k.sized; opens = k.opens; formats = k.formats } in
     let blank : BlankLaw = record { unmarked = n.unmarked; stands = n.stands; opens = n.opens; formats = n.formats } in
     let did_on = power_ok kept blank size c.args.mode b c.args.payloads.now c.args.disk c.in-Ok.board (record { found = Some c.found.result; line = printed.On c.args.mode }) h same did.on did.keeps c.found.ensures refl in
-    (did_on.0, (did_on.1, λ formatted. c.now.ensures ∙ ap durable_of (on_now size did_on.0 c.in-Ok.board did_on.2 formatted)), did_on.2, did_on.3)
+    (did_on.0, (did_on.1, λ formatted. c.now-now.ensures ∙ ap durable_of (on_now size did_on.0 c.in-Ok.board did_on.2 formatted)), did_on.2, did_on.3)
 
 pub returns-in-Err-clause-reported : goal.returns-in-Err-clause-reported
 returns-in-Err-clause-reported c = λ size b h same.
