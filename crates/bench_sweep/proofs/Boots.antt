@@ -56,7 +56,7 @@ has_head : (o : Option Image) → is_some o ≡ true → is_some (head_of o) ≡
 has_head None e = e
 has_head (Some i) e = refl
 
-refuses_none : Bool → Option ℕ
+abbrev refuses_none : Bool → Option ℕ
 refuses_none stands = if stands then None else Some 8
 
 some_image : (o : Option Image) → refuses_none (is_some o) ≡ None → is_some o ≡ true

@@ -31,7 +31,8 @@ use Rattle.bench_report.specs.Steps.{ArmStep, Step}
 use Rattle.bench_report.specs.PowerOns.{life_begun, IsBooted, BootsFrom, Boots, Opens, ShowsFound, IsOpenRefusal, PowersOn, TellsNow}
 use Rattle.bench_report.specs.Agree.{DiskIs, DeviceIs, BoardIs, OffIs, OnIs, Agrees, StepsTo}
 use Rattle.bench_report.proofs.Ended.{left_on, cut_leaves}
-use Rattle.bench_report.proofs.KeptDisks.{GoesOn as KeepsOn}
+use Rattle.bench_report.proofs.KeptDisks.{GoesOn as KeepsOn, less}
+use Rattle.bench_report.proofs.Sides.{sides_stay}
 use Rattle.bench_report.proofs.Issues.{GoesOn, IsSound}
 use Rattle.script_lang.specs.declared.line.Line.{Line}
 use Rattle.bench_judge.specs.declared.ledgers.Ledger.{Ledger}
@@ -46,8 +47,8 @@ use Rattle.bench_sweep.proofs.Told.{powers as power_tells, line_tells}
 pub left_off : KeepsOn → (size : Size) (b : Bench) (old new : SimDisk) → OffIs size b old → IsLeft (facts old) (facts new) → fault_state new ≡ fault_state_left (fault_state old) → OffIs size (unpowered b) new
 left_off goes_on size b old new off left m = (
   refl,
-  left_on goes_on size b.disk_state b.kept old new off.1 (cut_leaves old new left),
-  (ap fault_state_left off.2.0 ∙ sym m, omega (arith, off.2.1, left.failures), omega (arith, off.2.2)),
+  left_on goes_on size b.disk_state b.kept old new off.1 (less old new (cut_leaves old new left)),
+  (ap fault_state_left off.2.0 ∙ sym m, omega (arith, off.2.1, left.failures), omega (arith, off.2.2), sides_stay size b (facts old) (facts new) (cut_leaves old new left) off.2.3),
 )
 
 -- of the disk of a run, with a ledger that tells the same
@@ -195,21 +196,21 @@ module _ (z : Size) (s : DurableState) (b : Bench) where
       let e : mid ≡ acknowledged Attempt (life_begun s z) start = all.1 ∙ is in
       inl (0, all.0, record (life_begun s z) { now = after s Attempt; receipts = 1 }, ap (λ (x : Bench). x.power) e, attempt_image s s.trial, ap (λ (x : Bench). x.fault_state) e, ap (λ (x : Bench). x.disk_state) e)
   wrote first m o mid (inl (ok, is)) (inr x) = absurd (let e : Ok 1 ≡ Err x.0 = sym ok ∙ x.1 in let no : ⊥ = cc in no)
-  wrote first m o mid (inr (inl w)) then = failed_in first 5 m start o mid w.0 refl w.1 then
-  wrote first m o mid (inr (inr w)) then = failed_in first 6 m (in_doubt Attempt (life_begun s z) start) o mid w.0 refl w.1 then
+  wrote first m o mid (inr (inl w)) rest = failed_in first 5 m start o mid w.0 refl w.1 rest
+  wrote first m o mid (inr (inr w)) rest = failed_in first 6 m (in_doubt Attempt (life_begun s z) start) o mid w.0 refl w.1 rest
 
   goes_from : (trial : Option Trial) → s.trial ≡ trial → (o : Result ℕ ℕ) (mid : Bench) → IssuesAll (attempts_of trial) start o mid → GoesFrom o mid
   goes_from None is o mid (ok, same) = inl (0, ok, life_begun s z, ap (λ (x : Bench). x.power) same, refl, ap (λ (x : Bench). x.fault_state) same, ap (λ (x : Bench). x.disk_state) same)
-  goes_from (Some t) is o mid (life, on, first, m, issued, then) =
+  goes_from (Some t) is o mid (life, on, first, m, issued, rest) =
       let I : BenchLife → Type 0 = λ l. Issued Attempt l start first m in
-      by (subst I (life_is (life_begun s z) life start refl on) issued) then
+      by (subst I (life_is (life_begun s z) life start refl on) issued) rest
     where
       allowed : refusal_of s Attempt ≡ None
       allowed = let by : Option Trial → Option ℕ = λ o. if is_some o then None else Some 20 in ap by is
 
       by : Issued Attempt (life_begun s z) start first m → Then first m o mid → GoesFrom o mid
-      by (inl full) then = absurd (let e : 0 ≡ 4096 = full.0 in omega (arith, e))
-      by (inr (room, w)) then = let P : Option ℕ → Type 0 = λ r. Writes r Attempt (life_begun s z) start first m in wrote first m o mid (subst P allowed w) then
+      by (inl full) rest = absurd (let e : 0 ≡ 4096 = full.0 in omega (arith, e))
+      by (inr (room, w)) rest = let P : Option ℕ → Type 0 = λ r. Writes r Attempt (life_begun s z) start first m in wrote first m o mid (subst P allowed w) rest
 
 -- the board is on
 record Booted (b : Bench) (found : Option Durable) (new : Bench) : Type 0 where
