@@ -147,7 +147,7 @@ begins false shape mode payloads old mid store machine only same on = subst (λ 
 -- a boot is counted where a trial stands
 attempts_taken : (s : DurableState) (trial : Option Trial) → s.trial ≡ trial → are_taken s (attempts_of trial) ≡ true
 attempts_taken s None is = refl
-attempts_taken s (Some t) is = ap (λ (o : Option Trial). is_none (if is_some o then None else Some 20) && true) is
+attempts_taken s (Some t) is = ap (λ (o : Option Trial). is_none {T = ℕ} (if is_some o then None else Some 20) && true) is
 
 -- the journal that a boot begins with
 pub boot_taken : (mode : BootMode) (s : DurableState) → boot_refusal s mode ≡ None → are_taken s (commands_by mode s) ≡ true
