@@ -1,12 +1,13 @@
 -- What is made of a disk on the way to a board that is on, and what a board that is not on, or a life that has
 -- ended, leaves of it.
-use Rattle.std.proofs.Common.{◌≡◌, ◌⊎◌, ◌&&◌, inl, inr, ℕ, Bool, true, false, List, [], ◌++◌, Option, Some, None, length, drop, arith, ap, refl, sym, ◌∙◌, subst, subst₂}
+use Rattle.std.proofs.Common.{◌≡◌, ◌⊎◌, ◌≤◌, ◌&&◌, inl, inr, ℕ, Bool, true, false, List, [], ◌++◌, Option, Some, None, length, drop, arith, ap, refl, sym, ◌∙◌, subst, subst₂}
 use Rattle.std.proofs.lemmas.List.{take-append-drop}
 use Rattle.std.specs.Prelude.{is_none}
 use Rattle.board_model.specs.Durable.{DurableState, Change, after, fold, formatted}
 use Rattle.board_model.specs.Shapes.{Size}
 use Rattle.board_model.specs.declared.boot_mode.BootMode.{BootMode}
 use Rattle.board_model.specs.declared.durable.Durable.{Durable}
+use Rattle.board_model.specs.declared.durable.Trial.{Trial}
 use Rattle.board_model.specs.declared.durable.Entry.{Entry}
 use Rattle.board_model.specs.declared.refusal.Refusal.{Refusal}
 use Rattle.board_model.specs.Views.{number_of_refusal}
@@ -26,7 +27,7 @@ use Rattle.store.specs.Lives.{Life, now_of}
 use Rattle.store.specs.Taken.{are_taken}
 use Rattle.shared_store.specs.Legal.{BeginsWith}
 use Rattle.board.specs.Boots.{boot_refusal, life_after}
-use Rattle.board.specs.Moments.{commands_by}
+use Rattle.board.specs.Moments.{attempts_of, commands_by}
 use Rattle.board.proofs.Few.{left_at}
 use Rattle.board_session.specs.Sessions.{Begins, Allows, TakesFormat, RunsOver, RefusesNew, RefusesDisk, IsOfLife}
 
@@ -149,6 +150,20 @@ life_taken mode life is free = subst (λ (cs : List Change). are_taken life.foun
 pub life_issued : (mode : BootMode) (life : Life) → life ≡ life_after mode life.found → life.journal ≡ commands_by mode life.found
 life_issued mode life is = ap (λ (x : Life). x.journal) is
 
--- what the boot's command makes a journal begin with
+-- a boot issues two commands at most
+attempts_few : (trial : Option Trial) → length (attempts_of trial) ≤ 1
+attempts_few None = omega arith
+attempts_few (Some trial) = omega arith
+
+commands_few : (mode : BootMode) (s : DurableState) → length (commands_by mode s) ≤ 2
+commands_few modes.Fresh s = let one = attempts_few s.trial in omega (arith, one)
+commands_few modes.Keep s = let one = attempts_few s.trial in omega (arith, one)
+commands_few modes.Discard s = let one = attempts_few s.trial in omega (arith, one)
+commands_few modes.Resume s = omega arith
+
+pub life_few : (mode : BootMode) (life : Life) → life ≡ life_after mode life.found → length life.journal ≤ 2
+life_few mode life is = subst (λ (cs : List Change). length cs ≤ 2) (sym (life_issued mode life is)) (commands_few mode life.found)
+
+-- what the boot's commands make a journal begin with
 pub begins_so : (issued journal : List Change) → BeginsWith issued journal → (later : List Change) × (journal ≡ issued ++ later)
 begins_so issued journal begins = (drop (length issued) journal, sym (take-append-drop (length issued) journal) ∙ ap (λ (cs : List Change). cs ++ drop (length issued) journal) begins)
