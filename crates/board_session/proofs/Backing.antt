@@ -74,21 +74,29 @@ unfolding nones
 nones_receipts zero = refl
 nones_receipts (suc n) = nones_receipts n
 
-paired : Option Entry → Option (ℕ × Entry)
-paired None = None
-paired (Some e) = Some (1, e)
+paired : ℕ → Option Entry → Option (ℕ × Entry)
+paired number None = None
+paired number (Some e) = Some (number, e)
 
 boot_one : (c : Change) (k : ℕ) (entry : Entry) → slice_get (entries_in (c ∷ [])) k ≡ Some entry → (i : ℕ) × (slice_get (boot_told (c ∷ []) ++ ([] ++ [])) i ≡ Some (suc k, entry))
 unfolding paired
-boot_one c zero entry at = (0, ap (λ (o : Option Entry). paired o) at)
+boot_one c zero entry at = (0, ap (λ (o : Option Entry). paired 1 o) at)
 boot_one c (suc k) entry at = absurd (cc)
 
-boot_receipts : (issued : List Change) → length issued ≤ 1 → AreReceiptsOf (entries_in issued) (boot_told issued ++ ([] ++ []))
+-- the newest stands first
+boot_two : (c d : Change) (k : ℕ) (entry : Entry) → slice_get (entries_in (c ∷ d ∷ [])) k ≡ Some entry → (i : ℕ) × (slice_get (boot_told (c ∷ d ∷ []) ++ ([] ++ [])) i ≡ Some (suc k, entry))
+unfolding paired
+boot_two c d zero entry at = (1, ap (λ (o : Option Entry). paired 1 o) at)
+boot_two c d (suc zero) entry at = (0, ap (λ (o : Option Entry). paired 2 o) at)
+boot_two c d (suc (suc k)) entry at = absurd (cc)
+
+boot_receipts : (issued : List Change) → length issued ≤ 2 → AreReceiptsOf (entries_in issued) (boot_told issued ++ ([] ++ []))
 boot_receipts [] few = record { stand = tt; all = λ k entry at. absurd (cc); many = refl }
 boot_receipts (c ∷ []) few = record { stand = ((0, refl, refl), tt); all = boot_one c; many = refl }
-boot_receipts (c ∷ d ∷ cs) few = absurd (omega (arith, few))
+boot_receipts (c ∷ d ∷ []) few = record { stand = ((1, refl, refl), (0, refl, refl), tt); all = boot_two c d; many = refl }
+boot_receipts (c ∷ d ∷ e ∷ cs) few = absurd (omega (arith, few))
 
-pub at_once : (size : Size) (issued : List Change) → length issued ≤ 1 → IsAcknowledged size issued issued []
+pub at_once : (size : Size) (issued : List Change) → length issued ≤ 2 → IsAcknowledged size issued issued []
 at_once size issued few = record {
   harts = nones size.harts;
   many = nones_many size.harts;

@@ -164,6 +164,20 @@ life_taken mode life is free = subst (λ (cs : List Change). are_taken life.foun
 pub life_issued : (mode : BootMode) (life : Life) → life ≡ life_after mode life.found → life.journal ≡ commands_by mode life.found
 life_issued mode life is = ap (λ (x : Life). x.journal) is
 
--- what the boot's command makes a journal begin with
+-- a boot issues two commands at most
+attempts_few : (trial : Option Trial) → length (attempts_of trial) ≤ 1
+attempts_few None = omega arith
+attempts_few (Some trial) = omega arith
+
+commands_few : (mode : BootMode) (s : DurableState) → length (commands_by mode s) ≤ 2
+commands_few modes.Fresh s = let one = attempts_few s.trial in omega (arith, one)
+commands_few modes.Keep s = let one = attempts_few s.trial in omega (arith, one)
+commands_few modes.Discard s = let one = attempts_few s.trial in omega (arith, one)
+commands_few modes.Resume s = omega arith
+
+pub life_few : (mode : BootMode) (life : Life) → life ≡ life_after mode life.found → length life.journal ≤ 2
+life_few mode life is = subst (λ (cs : List Change). length cs ≤ 2) (sym (life_issued mode life is)) (commands_few mode life.found)
+
+-- what the boot's commands make a journal begin with
 pub begins_so : (issued journal : List Change) → BeginsWith issued journal → (later : List Change) × (journal ≡ issued ++ later)
 begins_so issued journal begins = (drop (length issued) journal, sym (take-append-drop (length issued) journal) ∙ ap (λ (cs : List Change). cs ++ drop (length issued) journal) begins)

@@ -90,7 +90,7 @@ pub(crate) fn disk_of<D: Disk + Drop, J: Journal>(
 /// The disk of a store of a life that ends where the boot left it.
 pub(crate) fn disk_at_once<D: Disk + Drop>(store: Store<D>) -> D
     requires taken { are_taken (found_state store) (journal_of store) ≡ true }
-    requires few { length (journal_of store) ≤ 1 }
+    requires few { length (journal_of store) ≤ 2 }
     ensures none_out { IsIdle (D.facts result) }
     ensures left { IsOfLife (size_of_store store) (found_state store) (journal_of store) [] (D.facts result) }
 {

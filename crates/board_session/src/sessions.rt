@@ -135,7 +135,7 @@ fn operate<
     requires found { found_state parts.store ≡ J.found }
     requires issued { journal_of parts.store ≡ J.issued }
     requires taken { are_taken J.found J.issued ≡ true }
-    requires few { length J.issued ≤ 1 }
+    requires few { length J.issued ≤ 2 }
     requires book { id_of book ≡ J.book }
     requires count { parts_of book ≡ J.parts }
     requires all { J.parts ≡ J.size.harts + 2 }
@@ -277,6 +277,7 @@ fn powered<D: Disk + Drop>(
         (size_of_store (store_of b)) (found_state (store_of b))) }
     ensures issued { IfOk result (λ b. journal_of (store_of b)
         ≡ commands_by options.now.mode (found_state (store_of b))) }
+    ensures few { IfOk result (λ b. length (journal_of (store_of b)) ≤ 2) }
     ensures taken { IfOk result (λ b. are_taken (found_state (store_of b)) (journal_of (store_of b)) ≡ true) }
     ensures refused { IfErr result (λ e. RefusesDisk options.now.new options.now.shape options.now.mode payloads.now
         (D.facts disk) e.1 (D.facts e.0)) }

@@ -7,3 +7,5 @@ mod guest;
 mod runs;
 #[cfg(test)]
 mod streams;
+#[cfg(test)]
+mod trials;

@@ -20,7 +20,7 @@ pub const NEW: [&str; 8] = [
     "sbiboard", "--disk", "D", "--mode", "fresh", "--new", "--turns", "1",
 ];
 
-const OLD: [&str; 7] = ["sbiboard", "--disk", "D", "--mode", "fresh", "--turns", "1"];
+pub const OLD: [&str; 7] = ["sbiboard", "--disk", "D", "--mode", "fresh", "--turns", "1"];
 
 /// A blank disk, large enough for three harts with a page.
 pub fn disk_of(alloc: Global) -> Result<SimDisk, Fail>
