@@ -1,5 +1,5 @@
 -- Where the disk never failed, each power-on finds what all acknowledged commands make.
-use Rattle.std.proofs.Common.{◌≡◌, ◌≢◌, ◌⊎◌, ℕ, zero, suc, ◌+◌, ◌-◌, ◌^◌, ◌==◌, inl, inr, List, [], ◌∷◌, Option, None, Some, Result, Ok, Err, refl, sym, ◌∙◌, ap, subst, arith, Bool, true, false, MatchBool}
+use Rattle.std.proofs.Common.{◌≡◌, ◌⊎◌, ℕ, zero, suc, ◌-◌, ◌^◌, ◌==◌, inl, inr, List, [], ◌∷◌, Option, None, Some, Result, Ok, Err, refl, sym, ◌∙◌, ap, subst, arith, Bool, true, false, MatchBool}
 use Rattle.std.specs.Bool.{⊤}
 use Rattle.board_model.specs.Durable.{DurableState, Change, Slot, Discard, Tries, Good, formatted, refusal_of}
 use Rattle.board_model.specs.Kept.{Kept, found_of, MayFind, TakesIn}
@@ -37,7 +37,7 @@ use Rattle.bench_report.specs.declared.printed.Printed.TheVariants as printed
 use Rattle.bench_report.specs.declared.printed.Answer.{Answer}
 use Rattle.bench_report.specs.Bench.{DiskState, Blank, Unknown, Formatted, BenchLife, Bench, blank_bench}
 use Rattle.bench_report.specs.Happens.{says, shows, out_of_memory, failed, on_with, settled, has_machine, acknowledged, in_doubt}
-use Rattle.bench_report.specs.Commands.{Writes, IssuedBy, Issued, IssuesAll}
+use Rattle.bench_report.specs.Commands.{Writes, IssuedBy, IssuesAll}
 use Rattle.susp.specs.declared.sleeps.Sleep.{Sleep}
 use Rattle.susp.specs.declared.sleeps.Sleep.TheVariants.{ToRam, ToDisk}
 use Rattle.bench_report.specs.Turns.{refused, AnswersError, HartCommand, Resets, dozes, BenchFallsAsleep, BenchSleepsBy, BenchMakesCall, ComesTo, GuestTurns}

@@ -17,7 +17,7 @@ use Rattle.store.specs.Opens.{CausedRefusal}
 use Rattle.store.specs.Views.{life_of, view_of}
 use Rattle.machine.specs.Machine.{Machine}
 use Rattle.board.specs.Boots.{boot_refusal, life_after, PayloadsFit}
-use Rattle.board.specs.Begins.{IsBegun, Issues, IsLateRefusal, IsBootRefusal}
+use Rattle.board.specs.Begins.{IsBegun, IsLateRefusal, IsBootRefusal}
 use Rattle.board.specs.Moments.{commands_by, gone_before, MayLeave, AreWritten, LeavesFrom}
 use Rattle.board.specs.PowersOn.{IsOn, IsUnpowered, KeepsDisk, GivesDisk}
 use Rattle.board.specs.Unbooted.{doubt_by, IsLifeLeft, LeavesLife, CountsRefusal}

@@ -127,6 +127,8 @@ pub fn worked_scripts()
         ≡ Ok (codes "board 1/1/1 sectors 26\non refused 1\nformat ok\nformat refused 2\n") }
     ensures an_inspection_tells_of_the_commands { plain_text (codes "board 1 1 1\ninspect\nformat\ninspect\non fresh\nslot 1\ninspect\ncut 00\ninspect\n")
         ≡ Ok (codes "board 1/1/1 sectors 26\ninspect refused 1\nformat ok\ninspect gate 0 live ok other bad image none\nfound slot 0 reason 0 image none next 0\non fresh\nslot ok 1\nbusy\ncut\ninspect gate 1 live ok other ok image none\n") }
+    ensures a_trial_falls_back { plain_text (codes "board 1 1 1\nformat\non fresh\ntries 2 1\ncut 00\non fresh\nslot 4\ncut 00\non fresh\ncut 00\non fresh\n")
+        ≡ Ok (codes "board 1/1/1 sectors 26\nformat ok\nfound slot 0 reason 0 image none next 0\non fresh\ntries ok 1\ncut\nfound slot 2 reason 0 image none next 0 trial 0 1\non fresh\nslot refused 9\ncut\nfound slot 2 reason 0 image none next 0 trial 0 0\non fresh\ncut\nfound slot 0 reason 0 image none next 0\non fresh\n") }
     ensures an_empty_script { plain_text (codes "") ≡ Err (BadScript 1) }
     ensures a_line_in_no_form { plain_text (codes "board 1 1 1\nslot\n") ≡ Err (BadScript 2) }
 {}

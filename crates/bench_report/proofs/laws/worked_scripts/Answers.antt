@@ -19,6 +19,10 @@ pub returns-clause-an_inspection_tells_of_the_commands : goal.returns-clause-an_
 unfolding lines_from rest_of digits
 returns-clause-an_inspection_tells_of_the_commands c = refl
 
+pub returns-clause-a_trial_falls_back : goal.returns-clause-a_trial_falls_back
+unfolding lines_from rest_of digits
+returns-clause-a_trial_falls_back c = refl
+
 pub returns-clause-an_empty_script : goal.returns-clause-an_empty_script
 unfolding lines_from rest_of digits
 returns-clause-an_empty_script c = refl
