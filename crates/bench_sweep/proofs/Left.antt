@@ -206,7 +206,7 @@ module _ (z : Size) (s : DurableState) (b : Bench) where
       by (subst I (life_is (life_begun s z) life start refl on) issued) rest
     where
       allowed : refusal_of s Attempt ≡ None
-      allowed = let by : Option Trial → Option ℕ = λ o. if is_some o then None else Some 20 in ap by is
+      allowed = let table : Option Trial → Option ℕ = λ o. if is_some o then None else Some 20 in ap table is
 
       by : Issued Attempt (life_begun s z) start first m → Then first m o mid → GoesFrom o mid
       by (inl full) rest = absurd (let e : 0 ≡ 4096 = full.0 in omega (arith, e))
@@ -239,11 +239,9 @@ module _ (size : Size) (b : Bench) (a : Answer) (new : Bench) (formatted : b.dis
   stands : (z : Size) (s : DurableState) (changes : List Change) → MayKeep b.kept changes → s ≡ found_of changes → ShowsFound a.found s → Boots None modes.Keep z s (settled changes b) a.line new → Ended
   stands z s changes may found shows_it (inl (o, mid, issues, booted)) = by (goes_from z s (settled changes b) s.trial refl o mid issues)
     where
-      Q : Result ℕ ℕ → Type 0
-      Q r = IsBooted r modes.Keep z s mid a.line new
-
       by : GoesFrom z s (settled changes b) o mid → Ended
       by (inl (k, ok, life, on, image, fault, disk)) =
+          let Q : Result ℕ ℕ → Type 0 = λ r. IsBooted r modes.Keep z s mid a.line new in
           let did = subst Q ok booted in
           let same : did.0 ≡ life = life_is life did.0 mid on did.1 in
           inl (record {
@@ -257,6 +255,7 @@ module _ (size : Size) (b : Bench) (a : Answer) (new : Bench) (formatted : b.dis
             disk = ap (λ (x : Bench). x.disk_state) did.5 ∙ disk ∙ formatted;
           })
       by (inr (k, err, m, cause, is)) =
+          let Q : Result ℕ ℕ → Type 0 = λ r. IsBooted r modes.Keep z s mid a.line new in
           let did = subst Q err booted in
           inr (record { off = ap (λ (x : Bench). x.power) did.1; why = inr (m, cause, ap (λ (x : Bench). x.fault_state) did.1 ∙ is) })
   stands z s changes may found shows_it (inr x) = inr (record { off = ap (λ (y : Bench). y.power) x.1 ∙ none; why = inl x.0 })

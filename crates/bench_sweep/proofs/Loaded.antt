@@ -16,8 +16,9 @@ use Rattle.bench_report.specs.declared.power.Power.{Power}
 use Rattle.bench_report.specs.declared.power.Power.TheVariants.{Off, On}
 use Rattle.bench_report.specs.Agree.{IsUnstruck}
 use Rattle.bench_judge.specs.declared.ledgers.Ledger.{Ledger}
-use Rattle.bench_report.specs.Views.{SimStore, facts, fault_state, store_facts, store_fault_state, store_size, store_now}
-use Rattle.bench_sweep.specs.Runs.{RunsCalm, IsSpoilt, FindsState}
+use Rattle.bench_report.specs.declared.printed.Printed.{Printed}
+use Rattle.bench_report.specs.Views.{SimStore, SimBoard, facts, fault_state, store_facts, store_fault_state, store_size, store_now}
+use Rattle.bench_sweep.specs.Runs.{RunsCalm, IsSpoilt, FindsState, PowerFinds}
 use Rattle.bench_sweep.proofs.Left.{plain_is, has_loaded, fails_itself}
 
 -- an image that has the memory of its board is loaded, but where the disk fails
@@ -60,6 +61,12 @@ loaded_found found store memory bytes p loaded same plain size s is image f =
     let L : List ℕ → Type 0 = λ m. IsLoaded (store_now store) m in
     let H : Option Image → Type 0 = λ o. HasMemory bytes o in
     (p, refl, plain_is s found bytes p is plain (subst H (sym image) (has_loaded (store_now store).image bytes (subst L (sym same) loaded))))
+
+-- of a board that is on
+pub on_found : (r : Result (Option Plain) Refusal) (power : Power) (board : SimBoard) (found : Option Durable) (said : Printed) → power ≡ On board → IfOk r (λ plain. (size : Size) (x : Printed) → PowerFinds size (On board) found x plain)
+    → IfOk r (λ plain. (size : Size) → PowerFinds size power found said plain)
+on_found (Err e) power board found said is told = tt
+on_found (Ok plain) power board found said is told = λ size. (let P : Power → Type 0 = λ p. PowerFinds size p found said plain in subst P (sym is) (told size said))
 
 -- ---- no armed cut has struck the disk of a board that stands so
 pub unstruck : (size : Size) (power : Power) (ledger : Ledger) → RunsCalm size power ledger → IsUnstruck power

@@ -7,4 +7,4 @@ returns-in-On-clause-runs c = λ r. busy_runs c.args.shape.now c.args.power c.in
 pub returns-in_ok-follows_boot-in-Off-clause-runs : goal.returns-in_ok-follows_boot-in-Off-clause-runs
 returns-in_ok-follows_boot-in-Off-clause-runs c = λ r.
     power_runs c.args.shape.now c.args.mode c.args.power c.power_on-power.result.0 c.in-Off.disk c.args.payloads.now c.power_on-power.result.1 c.power_on-power.result.2 c.args.ledger.now _ c.in-Off.is r (λ b off same. c.power_on-power.ensures.reported c.args.shape.now b off same)
-    c.in_ok-follows_boot.ensures.kept
+    c.in_ok-follows_boot-in-Off.ensures.kept
