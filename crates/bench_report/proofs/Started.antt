@@ -269,9 +269,13 @@ module _ (size : Size) (b : Bench) (old new : SimDisk) (z : Size) (s : DurableSt
   refused : (mode : BootMode) (o : Option ℕ) (e : Refusal) → boot_refusal s mode ≡ o → line ≡ printed.OnRefused (number_of_refusal e) → IsBootRefusal o mode z payloads s e → Moments mode e → (stop : Stopped mode e)
       → CausedRefusal (fault_state old) e (fault_state new) → CountsRefusal (facts old).failures e (facts new).failures → Left stop.1.done o mode
   refused mode None e at h why moments stop cause counts = late mode e at h why moments stop cause counts
-  refused mode (Some n) e at h why moments stop cause counts =
-      (b, (h ∙ ap (λ k. printed.OnRefused k) why, refl), quiet mode e (mode_not_down s mode n e at why) (mode_not_device s mode n e at why) moments cause stop, refl,
-      none_held stop.1.done (stop.1.by_disk (mode_not_device s mode n e at why) (mode_not_down s mode n e at why)))
+  refused mode (Some n) e at h why moments stop cause counts = (
+    b,
+    (h ∙ ap (λ k. printed.OnRefused k) why, refl),
+    quiet mode e (mode_not_down s mode n e at why) (mode_not_device s mode n e at why) moments cause stop,
+    refl,
+    none_held stop.1.done (stop.1.by_disk (mode_not_device s mode n e at why) (mode_not_down s mode n e at why)),
+  )
 
 -- a bench after a power-on that was refused
 abbrev pub Unpowered : Size → BootMode → Bench → Answer → Option Durable → SimDisk → Type 0

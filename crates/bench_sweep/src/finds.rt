@@ -51,11 +51,7 @@ fn unloaded(disk: SimDisk) -> Result<Option<Plain>, Refusal>
 
 /// The state that the open of that board found, with the memory of its image, which is loaded into a memory of its
 /// own: none where the load was refused, and `Memory` where memory was.
-fn loaded(
-    alloc: Global,
-    found: &Durable,
-    board: Board<SimDisk>,
-) -> Result<Option<Plain>, Refusal>
+fn loaded(alloc: Global, found: &Durable, board: Board<SimDisk>) -> Result<Option<Plain>, Refusal>
     ensures told { IfOk result (λ plain. (size : Size) (s : DurableState) → found.now ≡ durable_of s
         → s.image ≡ (store_now (store_in board)).image → FindsState size (store_in board)
         → (p : State) × (plain ≡ Some p) × (state_in p ≡ s)) }
