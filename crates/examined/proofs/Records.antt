@@ -218,9 +218,19 @@ trial_below v (Some t) is = let few = is t refl in (omega arith, omega (arith, f
 
 row_below : (size : Size) (r : Record) → IsInRange size r → AreBelow bounds (row_of r)
 row_below size r is =
-    let trial = trial_below r.version r.trial is.trial in
-    (version_below r.version, (trial.0, (trial.1, (trial.2,
-    (omega (arith, is.slot), (reason_below r.reason, (is.fit.1.1.1.1.0, numbers_below size r.next r.image is.image)))))))
+    let trial = trial_below r.version r.trial is.trial in (
+      version_below r.version,
+      (
+        trial.0,
+        (
+          trial.1,
+          (
+            trial.2,
+            (omega (arith, is.slot), (reason_below r.reason, (is.fit.1.1.1.1.0, numbers_below size r.next r.image is.image))),
+          ),
+        ),
+      ),
+    )
 
 abbrev IsOne : Size → List ℕ → (Record → Type 0) → Record → Type 0
 IsOne size bytes Q r = IsRecord size r bytes × Q r
