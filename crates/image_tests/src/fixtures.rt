@@ -51,32 +51,34 @@ fn boot_within(ram: &mut Ram, bytes: &[u8])
     }
 }
 
-/// A record with an image in that area.
-fn record(area: Side, serial: u64, counts: LaneCounts) -> Option<Record> {
+/// The sector of a record with an image in that area.
+fn record_with_image(area: Side, serial: u64, counts: LaneCounts) -> Option<[u8; 512]> {
     let head = ImageHead {
         serial,
         hart: HartId::new(0)?,
         address: Addr::new(0x8000_0000)?,
         opaque: 0,
     };
-    Some(Record {
+    let record = Record {
         version: Version::Two,
         slot: Slot::new(0)?,
         reason: Reason::NoReason,
         next: serial.saturating_add(1),
         image: Some(Saved { head, area, counts }),
         trial: None,
-    })
+    };
+    Some(record_bytes(&record))
 }
 
 /// What such a record keeps of the image, which is refused where no board of that shape has such counts.
 fn saved(shape: &Shape, area: Side, serial: u64, counts: LaneCounts) -> Result<Saved, Refusal>
     ensures { IfOk result (λ saved. AreCounts shape.now saved.counts) }
 {
-    let record = record(area, serial, counts).ok_or(Refusal::BadRecord)?;
-    let record = parse_record(&record_bytes(&record), shape)?;
-    let saved = record.image.ok_or(Refusal::NoImage)?;
-    Ok(saved)
+    let sector = record_with_image(area, serial, counts).ok_or(Refusal::BadRecord)?;
+    match parse_record(&sector, shape) {
+        Ok(record) => record.image.ok_or(Refusal::NoImage),
+        Err(refusal) => Err(refusal),
+    }
 }
 
 impl Site {
