@@ -1,15 +1,23 @@
 //! `examples`: runs each script of a folder, once with each crew, and compares what it writes with the report
 //! beside it (README.md). Status 0 where each is as reported; else 1, and standard error names the first that
 //! is not. The folder is the word on the command line, or the one that the program runs in.
+//!
+//! With the word `--left` it runs the script of standard input alone, and writes how that ended, what a power-on
+//! over the disk that is left finds, and the report, as far as it was written (tools/refuse-memory).
 #![tactic(auto)]
 
+mod left;
 mod reported;
 
+use crate::left::tell;
 use crate::reported::{AsReported, Fault, compare_report};
 use crew::{Crew, Threads, Turns};
 use std::path::Path;
 use std::process::ExitCode;
 use std::{env, fs, io};
+
+/// The word that asks for what a script leaves.
+const LEFT: &str = "--left";
 
 /// How a script's name ends.
 const SCRIPT: &str = ".sbi";
@@ -85,6 +93,10 @@ fn main(rt: HostRuntime) -> anyhow::Result<ExitCode> {
     let words: Vec<String> = env::args(&rt)?.collect(rt.alloc())?;
     let turns = Turns::<HostRuntime>::new([0, 1, 2, 3])?;
     let folder = words.get(1).map_or(".", String::as_str);
+    if folder == LEFT {
+        tell(&rt, &turns)?;
+        return Ok(ExitCode::SUCCESS);
+    }
     let code = compare_all(&rt, &turns, &Threads::new(&rt), folder)?;
     Ok(code)
 }

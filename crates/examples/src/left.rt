@@ -1,0 +1,71 @@
+//! What a script's run leaves, also where it was refused memory: how it ended, what a power-on over its disk
+//! finds, and its report.
+
+ghost use Rattle.std.specs.Prelude.{IfErr};
+ghost use Rattle.bench_report.specs.Views.{facts};
+ghost use Rattle.store.specs.Leaves.{IsIdle};
+
+use bench_report::run_left;
+use board::{Board, Payloads, Unpowered};
+use board_console::StateText;
+use board_model::{BootMode, Durable};
+use crew::Crew;
+use simdisk::SimDisk;
+use std::alloc::Global;
+use std::io::{self, Read, Write};
+
+/// What a power-on that keeps the image finds of that disk; else why there is none, and the disk.
+fn found_on(alloc: Global, disk: SimDisk) -> Result<Durable, Unpowered<SimDisk>>
+    requires { IsIdle (facts disk) }
+    ensures idle { IfErr result (λ e. IsIdle (facts e.disk)) }
+{
+    let payloads = Payloads::new(alloc);
+    match Board::power_on(alloc, disk, BootMode::Keep, &payloads) {
+        Ok(board) => Ok(board.found()),
+        Err(unpowered) => Err(unpowered),
+    }
+}
+
+/// Writes what that power-on finds: `left found ..`, or `left refused N`. One that is refused is made once more: where
+/// a single request for memory is refused, it may be that power-on's own, and the second has all that it wants.
+fn tell_left(rt: &HostRuntime, disk: SimDisk) -> io::Result<()>
+    requires { IsIdle (facts disk) }
+{
+    let found = match found_on(rt.alloc(), disk) {
+        Ok(found) => Ok(found),
+        Err(unpowered) => found_on(rt.alloc(), unpowered.disk),
+    };
+    match found {
+        Ok(found) => {
+            let state = StateText(found);
+            println!(rt; "left found {state}")
+        }
+        Err(unpowered) => {
+            let number = unpowered.refusal.code();
+            println!(rt; "left refused {number}")
+        }
+    }
+}
+
+/// Runs the script of standard input. Writes `ran`, or `stopped N` by the refusal's number; what a power-on over
+/// the disk that is left finds, `left nothing` where there is none; and the report, as far as it was written.
+pub fn tell<C: Crew>(rt: &HostRuntime, crew: &C) -> io::Result<()> {
+    let mut script = Vec::new(rt.alloc());
+    let _count = rt.reader().read_to_end(&mut script)?;
+    let mut report = Vec::new(rt.alloc());
+    match run_left(rt.alloc(), &script, crew, &mut report) {
+        Ok((_report, disk)) => {
+            println!(rt; "ran")?;
+            tell_left(rt, disk)?;
+        }
+        Err(stopped) => {
+            let number = stopped.refusal.code();
+            println!(rt; "stopped {number}")?;
+            match stopped.disk {
+                None => println!(rt; "left nothing")?,
+                Some(disk) => tell_left(rt, disk)?,
+            }
+        }
+    }
+    io::writer(rt).write_all(&report)
+}
