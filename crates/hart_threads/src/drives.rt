@@ -161,13 +161,14 @@ fn run_all<
             let mut parts = parts;
             let mut unstarted = false;
             for acting in all {
-                let (hart, seats, doze) = taken(acting, tables);
                 let part = next_part(&mut parts);
+                known_seated(&acting, tables);
                 let started = scope.spawn(
                     move || -> Ended<J>
                         requires { (shape.now ≡ J.size) × AreTablesOf shape.now tables.now
-                            × IsSeated tables.now hart.id seats doze × (part.told ≡ []) }
+                            × IsSeated tables.now acting.hart.id acting.seats acting.doze × (part.told ≡ []) }
                     {
+                        let (hart, seats, doze) = taken(acting, tables);
                         let gate = UntilOver { gate, over };
                         let ended = hart_loop(
                             rt, alloc, &gate, hart, seats, doze, tables, shape, bus, store, crew,
@@ -203,6 +204,15 @@ fn run_all<
             Ok((joined(rt, handles, loops), said))
         },
     )
+}
+
+/// What is known of a hart that comes out of the list of all, before its thread takes it.
+fn known_seated(acting: &Acting, tables: &Tables)
+    requires { IsSeated tables.now acting.now.hart.id acting.now.seats acting.now.doze }
+    ensures { IsSeated tables.now acting.now.hart.id acting.now.seats acting.now.doze }
+{
+    let _ = acting;
+    let _ = tables;
 }
 
 /// A hart, its seats, and its copy of its doze.
