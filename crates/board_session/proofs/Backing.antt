@@ -93,7 +93,7 @@ boot_two c d (suc (suc k)) entry at = absurd (cc)
 boot_receipts : (issued : List Change) → length issued ≤ 2 → AreReceiptsOf (entries_in issued) (boot_told issued ++ ([] ++ []))
 boot_receipts [] few = record { stand = tt; all = λ k entry at. absurd (cc); many = refl }
 boot_receipts (c ∷ []) few = record { stand = ((0, refl, refl), tt); all = boot_one c; many = refl }
-boot_receipts (c ∷ d ∷ []) few = record { stand = ((1, refl, refl), (0, refl, refl), tt); all = boot_two c d; many = refl }
+boot_receipts (c ∷ d ∷ []) few = record { stand = ((1, refl, refl), ((0, refl, refl), tt)); all = boot_two c d; many = refl }
 boot_receipts (c ∷ d ∷ e ∷ cs) few = absurd (omega (arith, few))
 
 pub at_once : (size : Size) (issued : List Change) → length issued ≤ 2 → IsAcknowledged size issued issued []

@@ -1,5 +1,5 @@
 //! System reset (SBI specification 2.0, chapter 10; docs/SBI.md).
-use crate::sites::{Asked, NONE, Other, Told, ask, minus, once, opened, same, twice};
+use crate::sites::{Asked, NONE, Other, Told, ask, minus, no_trial, once, opened, same, twice};
 use board_model::{Command, Reason, Refusal};
 use crew::Turns;
 use disk::ArmedFault;
@@ -59,6 +59,7 @@ fn a_reset_ends_the_life(rt: HostRuntime) -> Result<(), Fail> {
         same(&rt, (told.error, told.value), (kind, reason));
         same(&rt, now.reason, kept);
         same(&rt, now.image, None);
+        same(&rt, now.trial, no_trial());
         same(&rt, (again.held, again.error), (Held::Goes, minus(1)));
         same(&rt, again.now, now);
     }
@@ -82,6 +83,7 @@ fn what_the_store_refuses_is_minus_1(rt: HostRuntime) -> Result<(), Fail> {
         same(&rt, (told.value, told.moved), (0, 4));
         let now = told.now;
         same(&rt, now.image, None);
+        same(&rt, now.trial, no_trial());
         same(&rt, now, found);
         same(&rt, again.held, then);
     }
@@ -111,5 +113,6 @@ fn a_full_journal_is_minus_1(rt: HostRuntime) -> Result<(), Fail> {
     same(&rt, (told.held, told.error), (Held::Goes, minus(1)));
     same(&rt, now.reason, Reason::NoReason);
     same(&rt, now.image, None);
+    same(&rt, now.trial, no_trial());
     Ok(())
 }

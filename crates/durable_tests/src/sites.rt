@@ -5,7 +5,7 @@ ghost use Rattle.hsm_rule.specs.Rule.{stands};
 ghost use Rattle.hsm_steps.specs.Seating.{IsSeatOf, harts_of, harts_in};
 ghost use Rattle.sbi_calls.specs.Both.{AreSeatsOfBoth, Acts, harts_of_both as hart_count};
 
-use board_model::{Addr, Durable, HartId, Refusal, Shape};
+use board_model::{Addr, Durable, HartId, Refusal, Shape, Trial};
 use crew::Turns;
 use disk::ArmedFault;
 use hart::Hart;
@@ -25,6 +25,11 @@ use susp::{Bus, Doze};
 
 /// Where RAM begins, and hart 0 stands at its call.
 pub const RAM: u64 = 0x8000_0000;
+
+/// What stands of a slot on trial after a call: none of these calls begins a trial.
+pub fn no_trial() -> Option<Trial> {
+    None
+}
 
 /// These two have to be equal.
 pub fn same<T: PartialEq + Debug + Drop>(rt: &impl Abort, found: T, wanted: T) {

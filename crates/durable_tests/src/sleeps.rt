@@ -1,5 +1,5 @@
 //! System suspend, and waking from it (SBI specification 2.0, chapter 13; docs/SBI.md).
-use crate::sites::{Asked, NONE, Other, RAM, ask, minus, once, opened, same, twice};
+use crate::sites::{Asked, NONE, Other, RAM, ask, minus, no_trial, once, opened, same, twice};
 use board_model::{Addr, Command, Durable, HartId, ImageHead, Refusal, Shape};
 use crew::Turns;
 use disk::ArmedFault;
@@ -163,6 +163,7 @@ fn asleep_after_the_command(rt: HostRuntime) -> Result<(), Fail> {
         same(&rt, (told.error, told.value), (kind, address));
         same(&rt, now.image, image(address, opaque));
         same(&rt, now.next, 1);
+        same(&rt, now.trial, no_trial());
         same(&rt, (again.held, again.error), (Held::Goes, minus(1)));
         same(&rt, again.now, now);
     }
@@ -188,6 +189,7 @@ fn what_the_store_refuses_is_minus_1(rt: HostRuntime) -> Result<(), Fail> {
         same(&rt, (told.value, told.moved), (0, 4));
         let now = told.now;
         same(&rt, now.image, None);
+        same(&rt, now.trial, no_trial());
         same(&rt, now, found);
         same(&rt, again.held, then);
     }
@@ -307,5 +309,6 @@ fn no_board_wakes_within_its_life(rt: HostRuntime) -> Result<(), Fail> {
     same(&rt, first, Some(Refusal::NoImage));
     same(&rt, second, Some(Refusal::Over));
     same(&rt, now.image, image(RAM, 0));
+    same(&rt, now.trial, no_trial());
     Ok(())
 }

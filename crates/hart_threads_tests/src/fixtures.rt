@@ -1,7 +1,8 @@
 //! Boards that are about to be run, and gates.
 
 ghost use Rattle.std.specs.Prelude.{◌≡◌, ◌+◌, [], All, Some, IfOk, IfSome};
-ghost use Rattle.store.specs.Leaves.{IsIdle};
+ghost use Rattle.board_model.specs.Durable.{formatted as new_state};
+ghost use Rattle.store.specs.Leaves.{IsIdle, LeavesOnly};
 ghost use Rattle.store.specs.Views.{found_state};
 ghost use Rattle.machine.specs.Held.{IsHeld};
 ghost use Rattle.receipts.specs.Views.{id_of, parts_of};
@@ -38,7 +39,8 @@ impl Gate for Open {
 
 /// A formatted disk for a board of that shape.
 pub fn formatted(alloc: Global, shape: &Shape) -> Result<SimDisk, Fail>
-    ensures { IfOk result (λ disk. IsIdle (⟦<SimDisk as Disk>⟧.facts disk)) }
+    ensures idle { IfOk result (λ disk. IsIdle (⟦<SimDisk as Disk>⟧.facts disk)) }
+    ensures alone { IfOk result (λ disk. LeavesOnly (⟦<SimDisk as Disk>⟧.facts disk) shape.now new_state) }
 {
     let mut disk = SimDisk::blank(alloc, shape.sectors())?;
     format(&mut disk, shape)?;
