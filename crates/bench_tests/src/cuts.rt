@@ -186,7 +186,7 @@ fn format_is_cut(
     )
 }
 
-/// An open writes nothing, so whenever it is cut the next one finds what stood.
+/// An open of a record of version 2 writes nothing, so whenever it is cut the next one finds what stood.
 fn on_is_cut(
     rt: &(impl Abort + Threads + Sync),
     alloc: Global,

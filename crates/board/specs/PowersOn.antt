@@ -24,8 +24,8 @@ use Rattle.board.specs.Unbooted.{IsLifeLeft, LeavesLife, CountsRefusal}
 -- have left, with the commands that the mode issues there, acknowledged; a crash leaves the state now and no
 -- other. At each moment since the call's start a crash leaves what one just before could have left, or what
 -- some first of those commands make of the state found. Now it leaves what all of them, written one after
--- another, make of a content that one just before could have left, or of its state in a record of version 2. The mode was allowed and all payloads fit,
--- and its memory and harts are those that the mode begins.
+-- another, make of a content that one just before could have left, or of its state in a record of version 2.
+-- The mode was allowed and all payloads fit, and its memory and harts are those that the mode begins.
 pub record IsOn (mode : BootMode) (payloads : List (List ℕ)) (disk : Facts) (store : StoreView) (machine : Machine)
     : Type 0 where
   pub reads : StandsFor disk.content store.size store.life.found
