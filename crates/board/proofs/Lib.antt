@@ -6,7 +6,6 @@ mod Unmoved
 mod Off
 mod On
 pub mod Rows
-mod Booted
 mod Opened
 pub mod Issued
 pub mod Few

@@ -1,6 +1,6 @@
 -- The commands that a boot issued are noted, one after another, for the boot's part.
 use Rattle.std.proofs.Common.{◌≡◌, ◌∙◌, ◌⊎◌, ⊎_elim, ℕ, suc, ◌+◌, ◌<◌, ◌≤◌, List, [], ◌∷◌, ◌++◌, length, get_or, drop, refl, sym, ap, subst, arith}
-use Rattle.std.proofs.lemmas.List.{append_assoc, append-nil, drop_all, drop_more}
+use Rattle.std.proofs.lemmas.List.{append_assoc, drop_more}
 use Rattle.board_model.specs.Durable.{Change}
 use Rattle.board_model.specs.Views.{change_in}
 use Rattle.board_model.specs.declared.durable.Entry.{Entry}
@@ -16,11 +16,6 @@ pub record AreNoted (journal : List Change) (k : ℕ) (log : Log Entry) (told : 
   pub long : length log ≡ k
   pub many : length told ≡ k
   pub within : k ≤ length journal
-
-pub none_noted : (journal : List Change) (log : Log Entry) (told : List (ℕ × Entry)) → log ≡ [] → told ≡ [] → AreNoted journal 0 log told
-none_noted journal log told empty fresh =
-    subst (λ (l : Log Entry). AreNoted journal 0 l told) (sym empty) (subst (λ (ts : List (ℕ × Entry)). AreNoted journal 0 [] ts) (sym fresh)
-    (record { tied = refl; receipts = refl; long = refl; many = refl; within = omega arith }))
 
 -- the next command of the journal
 next_is : (journal : List Change) (k : ℕ) (e : Entry) (memory : List ℕ) → k + 1 ≤ length journal → get_or journal k (change_in e memory) ≡ change_in e memory
@@ -43,15 +38,6 @@ one_noted journal k log told who e memory n lt is =
       many = let m = n.many in omega (arith, m);
       within = lt;
     }
-
--- no command is left
-pub all_noted : (journal : List Change) (k : ℕ) (log : Log Entry) (told : List (ℕ × Entry)) → AreNoted journal k log told → length journal ≤ k
-    → (entries_in journal ≡ entries_of log) × (told ≡ boot_told journal)
-all_noted journal k log told n le =
-    let none : drop k journal ≡ [] = drop_all k journal le in (
-      sym n.tied ∙ ap (λ (cs : List Change). entries_of log ++ entries_in cs) none ∙ append-nil (entries_of log),
-      ap (λ (cs : List Change). told_on cs told) (sym none) ∙ n.receipts,
-    )
 
 -- the place after so many is past the journal's end
 pub none_left : (place count many : ℕ) → (place ≡ 0) ⊎ (many < place) → place ≡ count + 1 → count ≤ many → count ≡ many
