@@ -3,10 +3,10 @@
 ghost use Rattle.std.specs.Prelude.{IfOk};
 ghost use Rattle.store.specs.Leaves.{IsIdle};
 
-use crate::fault::{Fault, file_fault, memory_fault};
 use crate::held::Held;
 use board_model::{Refusal, Shape};
 use board_options::Options;
+use command_line::{Fault, file_fault, memory_fault};
 use disk::{Disk, Sector};
 use layout::parse_superblock;
 use simdisk::SimDisk;

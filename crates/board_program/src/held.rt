@@ -1,7 +1,7 @@
 //! The disk's file, which one session has at a time.
 
-use crate::fault::{Fault, file_fault, memory_fault};
 use board_options::Options;
+use command_line::{Fault, file_fault, memory_fault};
 use std::fs::{self, File, OpenOptions, TryLockError};
 use std::io::{self, ErrorKind};
 use std::os::unix::fs::MetadataExt;

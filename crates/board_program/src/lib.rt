@@ -2,7 +2,6 @@
 #![tactic(auto)]
 
 mod disk_file;
-mod fault;
 mod held;
 mod hints;
 mod payload_files;
@@ -13,7 +12,6 @@ ghost use Rattle.std.specs.Process.{exit_status};
 ghost use Rattle.store.specs.Leaves.{IsIdle};
 
 use crate::disk_file::disk_of;
-use crate::fault::{Fault, first_fault, memory_fault, status_of};
 use crate::held::{Held, hold};
 use crate::hints::Hints;
 use crate::payload_files::payloads_of;
@@ -22,7 +20,9 @@ use board::Payloads;
 use board_model::Refusal;
 use board_options::{Options, USAGE, options};
 use board_session::session;
-use command_line::{NoWork, show, words};
+use command_line::{
+    Fault, NoWork, ToldBy, first_fault, memory_fault, show, status_of, without_work, words,
+};
 use disk::Disk;
 use file_disk::FileDisk;
 use simdisk::SimDisk;
@@ -109,9 +109,7 @@ fn asked(rt: &HostRuntime) -> Result<Options, NoWork> {
 fn operated<R: Threads + Wait + Sync>(rt: &HostRuntime, threads: &R) -> Result<(), Fault> {
     match asked(rt) {
         Ok(options) => run(rt, threads, &options),
-        Err(NoWork::Shown) => Ok(()),
-        Err(NoWork::Usage) => Err(Fault::Usage),
-        Err(NoWork::Memory) => Err(Fault::Refused(Refusal::Memory)),
+        Err(why) => without_work(why),
     }
 }
 
@@ -123,7 +121,8 @@ pub fn operate<R: Threads + Wait + Sync>(rt: &HostRuntime, threads: &R) -> ExitC
 {
     let done = operated(rt, threads);
     if let Err(fault) = &done {
-        let _told = eprint!(rt; "{fault}");
+        let line = ToldBy("sbiboard", *fault);
+        let _told = eprint!(rt; "{line}");
     }
     ExitCode::from(status_of(&done))
 }

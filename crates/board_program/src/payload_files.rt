@@ -1,9 +1,9 @@
 //! The payloads' files.
 
-use crate::fault::{Fault, file_fault};
 use board::Payloads;
 use board_model::{SLOTS, Slot};
 use board_options::Options;
+use command_line::{Fault, file_fault};
 use std::fs;
 
 /// The bytes of the payload files, by boot slot in rising order; a slot without one is empty.

@@ -1,7 +1,7 @@
 //! The disk's file, written beside and renamed.
 
-use crate::fault::{Fault, file_fault, memory_fault};
 use crate::held::{Held, locked};
+use command_line::{Fault, file_fault, memory_fault};
 use disk::Sector;
 use simdisk::SimDisk;
 use std::fs::{self, File};

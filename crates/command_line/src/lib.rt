@@ -1,10 +1,14 @@
-//! The command line of a program: its words are read, and what it asks to be shown, or its fault, is shown.
+//! The command line of a program: its words are read, and what it asks to be shown, or its fault, is shown; and
+//! the faults with which a program over a disk's file ends.
 #![tactic(auto)]
+
+mod fault;
 
 ghost use Rattle.std.specs.Prelude.{◌≡◌};
 ghost use Rattle.clap.specs.Values.{kind_of};
 ghost use Rattle.command_line.specs.Kinds.{no_work};
 
+pub use crate::fault::{Fault, ToldBy, file_fault, first_fault, memory_fault, status_of, without_work};
 use clap::Error;
 use clap::error::ErrorKind;
 use std::{env, io};

@@ -3,8 +3,8 @@
 ghost use Rattle.std.specs.Prelude.{◌≤◌, IfOk};
 ghost use Rattle.store.specs.Leaves.{IsIdle};
 
-use crate::fault::{Fault, file_fault, memory_fault};
 use board_model::{Refusal, SECTOR_BYTES};
+use command_line::{Fault, file_fault, memory_fault};
 use disk::{Disk, Sector};
 use layout::parse_superblock;
 use simdisk::SimDisk;

@@ -3,7 +3,6 @@
 #![tactic(auto)]
 
 mod disk_file;
-mod fault;
 mod sees;
 mod shows;
 mod usage;
@@ -12,12 +11,11 @@ ghost use Rattle.std.specs.Prelude.{◌≤◌};
 ghost use Rattle.std.specs.Process.{exit_status};
 
 use crate::disk_file::disk_of;
-use crate::fault::{Fault, status_of};
 pub use crate::sees::{Found, Seen, see_disk};
 pub use crate::shows::write_seen;
 use crate::usage::{USAGE, path_of};
 use board_model::Refusal;
-use command_line::{NoWork, show, words};
+use command_line::{Fault, ToldBy, show, status_of, without_work, words};
 use std::io::{self, BufWriter};
 use std::process::ExitCode;
 
@@ -36,15 +34,12 @@ fn look(rt: &HostRuntime, path: &str) -> Result<(), Fault> {
 fn looked(rt: &HostRuntime) -> Result<(), Fault> {
     let words = match words(rt, USAGE) {
         Ok(words) => words,
-        Err(NoWork::Memory) => return Err(Fault::Refused(Refusal::Memory)),
-        Err(_) => return Err(Fault::Usage),
+        Err(why) => return without_work(why),
     };
-    let path = path_of(rt.alloc(), words.as_slice()).map_err(|text| show(rt, &text));
-    match path {
+    match path_of(rt.alloc(), words.as_slice()) {
         Ok(Some(path)) => look(rt, path),
-        Err(NoWork::Shown) => Ok(()),
-        Err(NoWork::Memory) => Err(Fault::Refused(Refusal::Memory)),
-        Ok(None) | Err(NoWork::Usage) => Err(Fault::Usage),
+        Ok(None) => Err(Fault::Usage),
+        Err(text) => without_work(show(rt, &text)),
     }
 }
 
@@ -56,7 +51,8 @@ pub fn examine(rt: &HostRuntime) -> ExitCode
 {
     let done = looked(rt);
     if let Err(fault) = &done {
-        let _told = eprint!(rt; "{fault}");
+        let line = ToldBy("sbidisk", *fault);
+        let _told = eprint!(rt; "{line}");
     }
     ExitCode::from(status_of(&done))
 }

@@ -1,35 +1,41 @@
-//! Why the program ends with a fault: the status for it, and the text that says so.
+//! Why a program over a disk's file ends with a fault: the status for it, and the line that says so.
 
 ghost use Rattle.std.specs.Prelude.{◌≡◌, ◌≤◌, Some};
-ghost use Rattle.board_program.specs.Faults.{board_fault_text, first_fault, board_status};
+ghost use Rattle.command_line.specs.Faults.{fault_text, first_fault, status_after, without_work};
 
+use crate::NoWork;
 use board_model::Refusal;
 use std::alloc::AllocError;
 use std::fmt;
 use std::io::{self, ErrorKind};
 
-/// Why the program ends with a fault. It prints as a whole line, or as nothing.
+/// Why the program ends with a fault.
 #[derive(Clone, Copy, Debug, Drop)]
 pub enum Fault {
     /// The command line has a fault, which was told by the command line's own text.
     Usage,
-    /// A refusal of the disk's file, of the format, the open or the boot, of a thread, or of the output.
+    /// A refusal of the disk, of a boot, of a thread, of memory or of the output.
     Refused(Refusal),
     /// A file could not be read or written.
     File,
 }
 
-impl fmt::Display for Fault {
-    ghost output = { λ fault. Some (board_fault_text fault) };
+/// A fault as the program of that name tells it: a whole line, or nothing where it was told before.
+#[derive(Clone, Copy, Debug, Drop)]
+pub struct ToldBy(pub &'static str, pub Fault);
+
+impl fmt::Display for ToldBy {
+    ghost output = { λ told. Some (fault_text told.0.now told.1) };
 
     fn fmt<W: fmt::Write>(&self, f: &mut fmt::Formatter<W>) -> fmt::Result {
-        match *self {
+        let program = self.0;
+        match self.1 {
             Fault::Usage => Ok(()),
             Fault::Refused(refusal) => {
                 let code = refusal.code();
-                writeln!(f, "sbiboard: refusal {code}")
+                writeln!(f, "{program}: refusal {code}")
             }
-            Fault::File => f.write_str("sbiboard: file\n"),
+            Fault::File => writeln!(f, "{program}: file"),
         }
     }
 }
@@ -37,13 +43,24 @@ impl fmt::Display for Fault {
 /// The program's status: 0 where it did what it was asked, 2 for a fault of the command line, and 1 for any
 /// other.
 pub fn status_of(done: &Result<(), Fault>) -> u8
-    ensures status { result ≡ board_status done.now }
+    ensures status { result ≡ status_after done.now }
     ensures range { result ≤ 2 }
 {
     match done {
         Ok(()) => 0,
         Err(Fault::Usage) => 2,
         Err(_) => 1,
+    }
+}
+
+/// What a program does that was asked for no work: nothing more where what it was asked for was shown.
+pub fn without_work(why: NoWork) -> Result<(), Fault>
+    ensures { result ≡ without_work why }
+{
+    match why {
+        NoWork::Shown => Ok(()),
+        NoWork::Usage => Err(Fault::Usage),
+        NoWork::Memory => Err(Fault::Refused(Refusal::Memory)),
     }
 }
 
