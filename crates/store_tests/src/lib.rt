@@ -1,4 +1,4 @@
-//! The store over the disk in memory: what the contracts of both say together, run once.
+//! The store over the disk in memory: what the contracts of both, and of the savers, say together, run once.
 #![tactic(auto)]
 
 #[cfg(test)]
@@ -7,6 +7,8 @@ mod calls;
 mod first_use;
 #[cfg(test)]
 mod fixtures;
+#[cfg(test)]
+mod images;
 #[cfg(test)]
 mod inspects;
 #[cfg(test)]

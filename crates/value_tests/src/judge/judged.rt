@@ -1,5 +1,6 @@
 //! Runs that are counted, and those of them that were wrong.
-use crate::states::{same, with_image, with_slot};
+use crate::fixtures::same;
+use crate::judge::states::{with_image, with_slot};
 use bench_judge::Sweep;
 use board_model::{Plain, Refusal};
 use std::alloc::Global;

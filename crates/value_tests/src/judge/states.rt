@@ -1,14 +1,9 @@
 //! The commands of docs/DURABLE.md over states with their memory.
+use crate::fixtures::same;
 use board_model::{Addr, Command, Entry, HartId, Plain, Refusal};
 use std::alloc::Global;
-use std::fmt::Debug;
 use std::process::Abort;
 use std::test::Fail;
-
-/// These two have to be equal.
-pub fn same<T: PartialEq + Debug + Drop>(rt: &impl Abort, found: T, wanted: T) {
-    assert_eq!(rt; found, wanted);
-}
 
 /// A formatted disk's state with that slot.
 pub fn with_slot(alloc: Global, number: u32) -> Result<Plain, Refusal> {

@@ -1,17 +1,12 @@
 //! Values from docs/DURABLE.md and docs/REFUSALS.md: each command against each kind of state, each refusal,
 //! each limit at its edges.
+use crate::fixtures::same;
 use board_model::{
     Addr, Boots, Command, Durable, HartId, ImageHead, PageNo, Reason, Refusal, Shape, Slot, Trial,
 };
 use std::alloc::Global;
-use std::fmt::Debug;
 use std::process::Abort;
 use std::test::Fail;
-
-/// These two have to be equal.
-fn same<T: PartialEq + Debug + Drop>(rt: &impl Abort, found: T, wanted: T) {
-    assert_eq!(rt; found, wanted);
-}
 
 /// Slot 2, reason 1, next serial 5, no trial, with an image under serial 4 or with none.
 fn state(rt: &impl Abort, image: bool) -> Durable {

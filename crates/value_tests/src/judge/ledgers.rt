@@ -1,6 +1,7 @@
 //! What a ledger says after each kind of answer.
-use crate::judged::{counted, nothing_ran};
-use crate::states::{same, suspension, with_image, with_slot};
+use crate::fixtures::same;
+use crate::judge::judged::{counted, nothing_ran};
+use crate::judge::states::{suspension, with_image, with_slot};
 use bench_judge::Ledger;
 use board_model::{Command, Entry, Plain};
 use std::process::Abort;

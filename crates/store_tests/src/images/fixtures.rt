@@ -1,23 +1,16 @@
-//! The boards, memories and stores that the tests begin with, and calls of which a test reads the answer
-//! alone.
-ghost use Rattle.std.specs.Prelude.{◌≡◌, IfOk};
+//! The memories, and the stores of any board, that the tests of images begin with, and calls of which a test reads
+//! the answer alone.
 
+use crate::fixtures::{open, reopened};
 use board_model::{Addr, HartId, PageNo, Refusal, Shape};
 use crew::{Crew, Turns};
-use disk::{ArmedFault, Disk};
+use disk::ArmedFault;
 use ram::Ram;
-use simdisk::{Choice, SimDisk};
+use simdisk::SimDisk;
 use std::alloc::Global;
-use std::fmt::Debug;
-use std::process::Abort;
 use std::test::Fail;
 use std::thread;
 use store::{Store, format};
-
-/// These two have to be equal.
-pub fn same<T: PartialEq + Debug + Drop>(rt: &impl Abort, found: T, wanted: T) {
-    assert_eq!(rt; found, wanted);
-}
 
 /// Fills that page with a byte, where the memory has it.
 fn fill(ram: &mut Ram, number: u64, byte: u8) {
@@ -42,18 +35,8 @@ pub fn turns<R: thread::Threads + Sync>(_rt: &R) -> Result<Turns<R>, Refusal> {
     Turns::new([2, 0, 3, 1])
 }
 
-/// An open of which only the refusal is told.
-pub fn open(alloc: Global, disk: SimDisk) -> Result<Store<SimDisk>, Refusal>
-    requires { (⟦<SimDisk as Disk>⟧.facts disk).lent.lanes ≡ 0 }
-{
-    match Store::open(alloc, disk) {
-        Ok(store) => Ok(store),
-        Err((_, refusal)) => Err(refusal),
-    }
-}
-
 /// The store of a disk that was just formatted for that board.
-pub fn opened(alloc: Global, shape: Shape) -> Result<Store<SimDisk>, Fail> {
+pub fn opened_for(alloc: Global, shape: Shape) -> Result<Store<SimDisk>, Fail> {
     let mut disk = SimDisk::blank(alloc, shape.sectors())?;
     format(&mut disk, &shape)?;
     Ok(open(alloc, disk)?)
@@ -65,20 +48,6 @@ pub fn opened_at(alloc: Global, shape: Shape, next: u64) -> Result<Store<SimDisk
     format(&mut disk, &shape)?;
     disk.poke(2, 16, &next.to_le_bytes())?;
     Ok(open(alloc, disk)?)
-}
-
-/// The next open of the same disk.
-pub fn reopened(alloc: Global, store: Store<SimDisk>) -> Result<Store<SimDisk>, Refusal> {
-    open(alloc, store.into_disk())
-}
-
-/// The next open after power was cut.
-pub fn after_cut(
-    alloc: Global,
-    store: Store<SimDisk>,
-    choice: Choice,
-) -> Result<Store<SimDisk>, Refusal> {
-    open(alloc, store.into_disk().after_cut(choice))
 }
 
 /// Suspends by hart 0, to be resumed at the third instruction with 77; the receipt's number.
@@ -122,7 +91,7 @@ pub fn standing<C: Crew>(
     crew: &C,
     fault: ArmedFault,
 ) -> Result<Store<SimDisk>, Fail> {
-    let mut store = opened(alloc, shape)?;
+    let mut store = opened_for(alloc, shape)?;
     suspend(alloc, &mut store, ram, crew)?;
     let mut store = reopened(alloc, store)?;
     store.arm(fault);

@@ -1,5 +1,6 @@
 //! Sizes: no number of harts or lanes is refused memory that there is, nor is an image after many others.
-use crate::fixtures::{holds, memory, opened, reopened, same, suspend_by, turns};
+use crate::fixtures::{reopened, same};
+use crate::images::fixtures::{holds, memory, opened_for, suspend_by, turns};
 use board_model::Shape;
 use crew::Crew;
 use ram::Ram;
@@ -35,7 +36,7 @@ fn board_is_kept<C: Crew>(
 ) -> Result<(), Fail> {
     let shape = Shape::new(harts, 5, lanes)?;
     let ram = memory(alloc, shape, 3)?;
-    let store = opened(alloc, shape)?;
+    let store = opened_for(alloc, shape)?;
     let _store = is_kept(rt, alloc, store, &ram, crew, harts.saturating_sub(1))?;
     Ok(())
 }
@@ -56,7 +57,7 @@ fn two_hundred_images_in_a_row(rt: HostRuntime) -> Result<(), Fail> {
     let crew = turns(&rt)?;
     let shape = Shape::new(1, 1, 1)?;
     let ram = memory(rt.alloc(), shape, 3)?;
-    let mut store = opened(rt.alloc(), shape)?;
+    let mut store = opened_for(rt.alloc(), shape)?;
     for _ in 0..200 {
         store = is_kept(&rt, rt.alloc(), store, &ram, &crew, 0)?;
     }

@@ -1,6 +1,7 @@
 //! A suspension over a standing image that is cut at each call of a lane and of the disk, with each fill, on
 //! a board of 5 pages and 4 lanes: the next open finds the old image or the new one, with its whole memory.
-use crate::fixtures::{after_cut, holds, memory, same, standing, suspend, turns};
+use crate::fixtures::{after_cut, same};
+use crate::images::fixtures::{holds, memory, standing, suspend, turns};
 use board_model::{Refusal, Shape};
 use crew::Crew;
 use disk::ArmedFault;

@@ -1,8 +1,9 @@
 //! Suspensions that are found and loaded, refused and made again, and examined.
 ghost use Rattle.std.specs.Prelude.{◌≡◌};
 
-use crate::fixtures::{
-    holds, memory, opened, opened_at, reopened, same, standing, suspend, suspend_by, turns,
+use crate::fixtures::{reopened, same};
+use crate::images::fixtures::{
+    holds, memory, opened_at, opened_for, standing, suspend, suspend_by, turns,
 };
 use board_model::{Command, Refusal, Shape};
 use crew::{Crew, Threads};
@@ -43,7 +44,7 @@ fn found_and_loaded<C: Crew>(
 ) -> Result<(), Fail> {
     let first = memory(alloc, shape, 9)?;
     let second = memory(alloc, shape, 100)?;
-    let store = opened(alloc, shape)?;
+    let store = opened_for(alloc, shape)?;
     let store = suspended_and_found(rt, alloc, store, &first, crew, 1, 1)?;
     suspended_and_found(rt, alloc, store, &second, crew, 1, 2)?;
     Ok(())
@@ -73,7 +74,7 @@ fn the_largest_board_is_suspended(rt: HostRuntime) -> Result<(), Fail> {
 /// of 2.
 fn unfit<C: Crew>(alloc: Global, crew: &C, hart: u64, address: u64) -> Result<bool, Fail> {
     let shape = Shape::new(1, 2, 1)?;
-    let mut store = opened(alloc, shape)?;
+    let mut store = opened_for(alloc, shape)?;
     let ram = memory(alloc, shape, 9)?;
     let answer = suspend_by(alloc, &mut store, &ram, crew, hart, address);
     Ok(answer == Err(Refusal::BadShape) && store.now().image.is_none())
@@ -91,7 +92,7 @@ fn what_the_board_has_not_is_refused(rt: HostRuntime) -> Result<(), Fail> {
 #[test]
 fn a_memory_of_another_size_is_refused(rt: HostRuntime) -> Result<(), Fail> {
     let crew = turns(&rt)?;
-    let mut store = opened(rt.alloc(), Shape::new(1, 2, 1)?)?;
+    let mut store = opened_for(rt.alloc(), Shape::new(1, 2, 1)?)?;
     let mut small = memory(rt.alloc(), Shape::new(1, 1, 1)?, 9)?;
     let shape = Err(Refusal::BadShape);
     same(&rt, suspend(rt.alloc(), &mut store, &small, &crew), shape);
@@ -104,7 +105,7 @@ fn a_memory_of_another_size_is_refused(rt: HostRuntime) -> Result<(), Fail> {
 #[test]
 fn nothing_is_loaded_without_an_image(rt: HostRuntime) -> Result<(), Fail> {
     let shape = Shape::new(1, 1, 1)?;
-    let mut store = opened(rt.alloc(), shape)?;
+    let mut store = opened_for(rt.alloc(), shape)?;
     let mut ram = memory(rt.alloc(), shape, 9)?;
     same(&rt, store.load_image(&mut ram), Err(Refusal::NoImage));
     let before = memory(rt.alloc(), shape, 9)?;
@@ -117,7 +118,7 @@ fn a_suspension_ends_the_life(rt: HostRuntime) -> Result<(), Fail> {
     let crew = turns(&rt)?;
     let shape = Shape::new(1, 1, 1)?;
     let ram = memory(rt.alloc(), shape, 9)?;
-    let mut store = opened(rt.alloc(), shape)?;
+    let mut store = opened_for(rt.alloc(), shape)?;
     let over = Err(Refusal::Over);
     same(&rt, suspend(rt.alloc(), &mut store, &ram, &crew), Ok(1));
     same(&rt, suspend(rt.alloc(), &mut store, &ram, &crew), over);
@@ -216,7 +217,7 @@ fn an_image_is_examined(rt: HostRuntime) -> Result<(), Fail> {
     let crew = turns(&rt)?;
     let shape = Shape::new(1, 2, 1)?;
     let ram = memory(rt.alloc(), shape, 9)?;
-    let mut store = opened(rt.alloc(), shape)?;
+    let mut store = opened_for(rt.alloc(), shape)?;
     same(&rt, suspend(rt.alloc(), &mut store, &ram, &crew), Ok(1));
     let mut disk = store.into_disk();
     let whole = Ok(ImageSeen::Whole);

@@ -1,19 +1,14 @@
 //! Sectors byte by byte, as docs/STORE.md has them.
 
+use crate::fixtures::same;
 use board_model::{Addr, Boots, HartId, ImageHead, PageNo, Reason, Refusal, Shape, Slot, Trial};
 use layout::{
     PlaceHead, Record, Saved, Side, Version, area_start, gate_bytes, lane_start, parse_place_head,
     parse_record, parse_superblock, place_head_bytes, place_start, record_bytes, selected,
     superblock_bytes,
 };
-use std::fmt::Debug;
 use std::process::Abort;
 use std::test::Fail;
-
-/// These two have to be equal.
-fn same<T: PartialEq + Debug + Drop>(rt: &impl Abort, found: T, wanted: T) {
-    assert_eq!(rt; found, wanted);
-}
 
 /// The bytes of a sector from that place on.
 fn holds(rt: &impl Abort, sector: &[u8; 512], from: usize, bytes: &[u8]) {

@@ -3,7 +3,8 @@
 //! the same state, with its whole memory (docs/STORE.md, "Migration").
 ghost use Rattle.std.specs.Prelude.{◌≡◌, IfOk};
 
-use crate::fixtures::{holds, memory, open, opened, same, suspend, turns};
+use crate::fixtures::{open, same};
+use crate::images::fixtures::{holds, memory, opened_for, suspend, turns};
 use board_model::{Durable, Refusal, Shape};
 use crew::Crew;
 use disk::{ArmedFault, Disk};
@@ -32,7 +33,7 @@ fn first_version<C: Crew>(
 ) -> Result<(SimDisk, Durable), Fail>
     ensures { IfOk result (λ d. (⟦<SimDisk as Disk>⟧.facts d.0).lent.lanes ≡ 0) }
 {
-    let mut store = opened(alloc, shape)?;
+    let mut store = opened_for(alloc, shape)?;
     suspend(alloc, &mut store, memory, crew)?;
     let state = store.now();
     let mut disk = store.into_disk();

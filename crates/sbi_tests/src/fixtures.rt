@@ -1,9 +1,0 @@
-//! What the tests share.
-
-use std::fmt::Debug;
-use std::process::Abort;
-
-// These two have to be equal.
-pub(crate) fn same<T: PartialEq + Debug + Drop>(rt: &impl Abort, found: T, wanted: T) {
-    assert_eq!(rt; found, wanted);
-}

@@ -1,0 +1,7 @@
+//! Suspensions and loads (docs/STORE.md, "Suspending" and "Loading").
+
+mod cuts;
+mod fixtures;
+mod migrations;
+mod sizes;
+mod suspensions;
