@@ -1,9 +1,10 @@
 -- The command as its parser reads it, and what its words ask for. Source: README.md, "The program".
 use Rattle.std.specs.Prelude.{◌≡◌, ℕ, Bool, true, false, List, [], ◌∷◌, Option, Some, None, ◌==◌, if◌then◌else◌, bytes_eq}
 use Rattle.clap.specs.Words.{App, Rule, Text, new_app, new_rule, one_text, with_rule}
-use Rattle.clap.specs.declared.builder.action.ArgAction.TheVariants.{Set, SetTrue}
+use Rattle.clap.specs.declared.builder.action.ArgAction.TheVariants.{Set}
 use Rattle.clap.specs.declared.parser.matches.Found.{Found}
 use Rattle.clap.specs.declared.builder.value_parser.ValueParser.{ValueParser}
+use Rattle.command_line.specs.Flags.{flag_rule}
 use Rattle.bench_program.specs.declared.usage.Bench.TheVariants.{Sweep, Faults}
 use Rattle.bench_program.specs.declared.usage.Work.{Work}
 use Rattle.bench_program.specs.declared.usage.Work.TheVariants.{Report, Judge}
@@ -21,10 +22,6 @@ crew_rule crews =
       parser = Some crews;
       defaults = codes "turns" ∷ [];
     }
-
--- a flag
-abbrev pub flag_rule : Text → Rule
-flag_rule id = record (new_rule id) { long = Some id; action = Some SetTrue }
 
 -- the command by its name alone, with a version
 abbrev pub named_app : App

@@ -4,11 +4,11 @@ ghost use Rattle.std.specs.Prelude.{◌≡◌, false, Bool, map, Some, string_by
 ghost use Rattle.clap.specs.Words.{app_of, first_value, found_of, matches_of, rows_of, rule_of};
 ghost use Rattle.clap.specs.declared.builder.value_parser.ValueParser.{ValueParser};
 ghost use Rattle.clap.specs.declared.parser.matches.Found.{Found};
-ghost use Rattle.bench_program.specs.Usage.{crew_rule, flag_rule, sbibench, savers_named, work_named, IsFlag};
+ghost use Rattle.bench_program.specs.Usage.{crew_rule, sbibench, savers_named, work_named, IsFlag};
 
 use clap::error::ErrorKind;
 use clap::{Arg, ArgAction, ArgMatches, Command, Error};
-use command_line::{NoWork, show, words};
+use command_line::{NoWork, flag, show, words};
 use std::alloc::{AllocError, Global};
 use std::convert::AsStr;
 
@@ -124,17 +124,6 @@ fn crew<'a>(alloc: Global) -> Arg<'a>
         .default_value(TURNS)
         .action(ArgAction::Set)
         .help("Who writes the lanes of an image: one after another, or a thread each")
-}
-
-/// A flag.
-fn flag<'a>(alloc: Global, id: &'a str, help: &'a str) -> Arg<'a>
-    ensures rule { rule_of result ≡ flag_rule id.entry.now }
-    ensures local { result.global ≡ false }
-{
-    Arg::new(alloc, id)
-        .long(id)
-        .action(ArgAction::SetTrue)
-        .help(help)
 }
 
 fn command<'a>(alloc: Global) -> Result<Command<'a>, AllocError>

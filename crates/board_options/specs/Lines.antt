@@ -1,9 +1,10 @@
 -- The command as its parser reads it. Source: docs/CONSOLE.md, "The command line".
 use Rattle.std.specs.Prelude.{ℕ, [], ◌∷◌, Some, true}
 use Rattle.clap.specs.Words.{App, Rule, Text, new_app, new_rule, with_rule}
-use Rattle.clap.specs.declared.builder.action.ArgAction.TheVariants.{Set, SetTrue}
+use Rattle.clap.specs.declared.builder.action.ArgAction.TheVariants.{Set}
 use Rattle.clap.specs.declared.builder.value_parser.ValueParser.{ValueParser}
 use Rattle.clap.specs.declared.builder.value_parser.ValueParser.TheVariants.{NonEmptyString, Unsigned}
+use Rattle.command_line.specs.Flags.{flag_rule}
 use lib.Chars.{codes}
 
 -- an option with one value
@@ -18,10 +19,6 @@ number_rule id most default = record (value_rule id (Unsigned 1 most)) { default
 
 abbrev pub required : Rule → Rule
 required r = record r { required = true }
-
--- an option without a value
-abbrev pub flag_rule : Text → Rule
-flag_rule id = record (new_rule id) { long = Some id; action = Some SetTrue }
 
 -- the command by its name alone, with a version
 abbrev pub named_app : App

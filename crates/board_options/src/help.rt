@@ -3,10 +3,11 @@
 ghost use Rattle.std.specs.Prelude.{◌≡◌, false, IfOk};
 ghost use Rattle.clap.specs.Words.{app_of, rule_of};
 ghost use Rattle.clap.specs.declared.builder.value_parser.ValueParser.{ValueParser as Parser};
-ghost use Rattle.board_options.specs.Lines.{path_rule, number_rule, flag_rule, board_line, sbiboard};
+ghost use Rattle.board_options.specs.Lines.{path_rule, number_rule, board_line, sbiboard};
 
 use clap::builder::ValueParser;
 use clap::{Arg, ArgAction, Command};
+use command_line::flag;
 use std::alloc::{AllocError, Global};
 
 /// The version of the firmware.
@@ -116,17 +117,6 @@ fn path<'a>(alloc: Global, id: &'a str, help: &'a str) -> Arg<'a>
         .value_name("PATH")
         .value_parser(ValueParser::NonEmptyString)
         .action(ArgAction::Set)
-        .help(help)
-}
-
-/// An option without a value.
-fn flag<'a>(alloc: Global, id: &'a str, help: &'a str) -> Arg<'a>
-    ensures rule { rule_of result ≡ flag_rule id.entry.now }
-    ensures local { result.global ≡ false }
-{
-    Arg::new(alloc, id)
-        .long(id)
-        .action(ArgAction::SetTrue)
         .help(help)
 }
 
