@@ -56,7 +56,7 @@ module _ {D L : Type 0} {g : Ghosts D L} {l : Lanes L} where
       × ComesOf called h mid n old new said
 
   -- ---- a row within a line
-  -- turns of which the last alone may ask the store
-  abbrev pub RowsHeld : ℕ → ℕ → Machine → Machine → Store D L g l → Store D L g l → ℕ → Word → Type 0
-  RowsHeld h count m n old new made word =
-      (mid : Machine) × (did : Turned) × machines.TurnsMany h count m mid made did × Comes did h mid n old new word
+  -- turns by one look, of which the last alone may ask the store
+  abbrev pub RowHeld : ℕ → Machine → Machine → Store D L g l → Store D L g l → ℕ → Word → Type 0
+  RowHeld h m n old new made word =
+      (mid : Machine) × (did : Turned) × machines.MakesRow h made m mid did × Comes did h mid n old new word

@@ -70,7 +70,7 @@ impl<D: Disk + Drop> Board<D> {
     ghost use Rattle.turns.specs.Turns.{has_pending};
     ghost use Rattle.board.specs.Boots.{IsConsoleCommand};
     ghost use Rattle.board.specs.Views.{store_of, machine_of};
-    ghost use Rattle.board.specs.Turns.{Comes, TurnsHeld, RowsHeld, TurnsManyHeld, CallsHeld};
+    ghost use Rattle.board.specs.Turns.{Comes, TurnsHeld, RowHeld, TurnsManyHeld, CallsHeld};
     ghost use Rattle.board.specs.PowersOn.{IsOn, IsUnpowered, KeepsDisk, GivesDisk};
 
     /// Powers a board on: opens the disk, and begins by the mode (docs/BOARD.md, "Power on"). Fresh, keep and
@@ -243,17 +243,17 @@ impl<D: Disk + Drop> Board<D> {
         self.machine.hart(hart)
     }
 
-    /// Turns of a hart in a row, `most` of them at most, of which the last alone may have asked the store:
+    /// Turns of a hart by one look, `most` of them at most, of which the last alone may have asked the store:
     /// how many were made, and what is said of the last.
     fn row<C: Crew>(&mut self, alloc: Global, crew: &C, hart: HartId, most: u32) -> (u32, Word)
         requires hart { hart < length (machine_of self.old).harts }
         requires some { 1 ≤ most }
-        ensures row { RowsHeld hart most (machine_of self.old) (machine_of self.new) (store_of self.old)
+        ensures row { RowHeld hart (machine_of self.old) (machine_of self.new) (store_of self.old)
             (store_of self.new) result.0 result.1 }
         ensures range { (1 ≤ result.0) × (result.0 ≤ most) }
         ensures harts { length (machine_of self.new).harts ≡ length (machine_of self.old).harts }
     {
-        let (made, turned) = self.machine.turns(hart, most);
+        let (made, turned) = self.machine.turns_by_one_look(hart, most);
         let word = self.settle(alloc, crew, hart, turned);
         (made, word)
     }

@@ -24,7 +24,7 @@ use Rattle.susp.specs.declared.buses.Doze.{Doze}
 use Rattle.machine.specs.declared.parts.Called.{Called}
 use Rattle.machine.specs.declared.parts.Called.TheVariants.{NotStarted, Made}
 use Rattle.machine.specs.Machine.{Machine, hart_at}
-use Rattle.machine.specs.Turns.{moment_of, with_moment, TurnBy, DozeTurn, CallBy, MakesTurn, TurnsMany, MakesOneCall, calling}
+use Rattle.machine.specs.Turns.{moment_of, with_moment, TurnBy, DozeTurn, CallBy, MakesTurn, MakesRow, MakesOneCall, calling}
 use Rattle.machine.specs.Durables.{StandsAtCall}
 use Rattle.machine.proofs.Determined.{is_decided}
 use Rattle.machine.proofs.Rows.{turns_as_many}
@@ -100,13 +100,12 @@ pub turn_asks : IsOneNumber → (h : ℕ) (old new : Machine) (word : Turned) �
 turn_asks number h old new word lt p is = asks_by number (doze_of h old.doze) h old new word lt refl p is
 
 -- ---- in a row
-pub row_asks : IsOneNumber → (h n k : ℕ) (old new : Machine) (word : Turned) → h < length old.harts → TurnsMany h n old new k word → word ≡ Durable → StandsAtCall h new
-row_asks number h zero k old new word lt p is = absurd p
-row_asks number h (suc n) k old new word lt p is =
-    let has : h < length p.0.harts = subst (λ (j : ℕ). h < j) (sym (turns_as_many h old p.0 p.1 p.2)) lt in
-    elim p.3 [
-      | inl x ↦ subst (λ (m : Machine). StandsAtCall h m) (sym x.1) (turn_asks number h old p.0 p.1 lt p.2 (sym x.3 ∙ is))
-      | inr x ↦ row_asks number h n x.1 p.0 new word has x.3 is
+pub row_asks : IsOneNumber → (h n : ℕ) (old new : Machine) (word : Turned) → h < length old.harts → MakesRow h n old new word → word ≡ Durable → StandsAtCall h new
+row_asks number h zero old new word lt p is = absurd p
+row_asks number h (suc n) old new word lt p is =
+    elim p [
+      | inl x ↦ turn_asks number h old new word lt x.1 is
+      | inr x ↦ row_asks number h n x.0 new word (subst (λ (j : ℕ). h < j) (sym (turns_as_many h old x.0 Next x.1)) lt) x.2 is
     ]
 
 -- ---- a call

@@ -1,5 +1,5 @@
--- A turn of a hart is one outcome, and so are turns in a row, and a call.
-use Rattle.std.proofs.Common.{ℕ, zero, suc, Bool, true, false, ◌≡◌, ◌⊎◌, List, Option, Some, None, sym, ◌∙◌, ap, refl, subst, inl, inr}
+-- A turn of a hart is one outcome, and so is a call.
+use Rattle.std.proofs.Common.{ℕ, Bool, true, false, ◌≡◌, ◌⊎◌, List, Option, Some, None, sym, ◌∙◌, ap, refl, subst, inl, inr}
 use Rattle.board_model.specs.Shapes.{Size}
 use Rattle.hart.specs.State.{ArchState}
 use Rattle.hart.specs.Means.{Steps, IsSame}
@@ -76,24 +76,6 @@ one_by step None h old new other word also p q =
 
 pub one_turn : IsOneStep → (h : ℕ) (old new other : Machine) (word also : Turned) → turns.MakesTurn h old new word → turns.MakesTurn h old other also → (new ≡ other) × (word ≡ also)
 one_turn step h old new other word also p q = one_by step (doze_of h old.doze) h old new other word also p q
-
--- ---- in a row
-pub one_row : IsOneStep → (h n k l : ℕ) (old new other : Machine) (word also : Turned) → turns.TurnsMany h n old new k word → turns.TurnsMany h n old other l also → (new ≡ other) × (k ≡ l) × (word ≡ also)
-one_row step h zero k l old new other word also p q = absurd p
-one_row step h (suc n) k l old new other word also p q =
-    let e = one_turn step h old p.0 q.0 p.1 q.1 p.2 q.2 in
-    elim p.3 [
-      | inl x ↦ elim q.3 [
-        | inl y ↦ (x.1 ∙ (e.0 ∙ sym y.1), x.2 ∙ sym y.2, x.3 ∙ (e.1 ∙ sym y.3))
-        | inr y ↦ absurd (y.0 (subst (λ (w : Turned). turns.IsLast w n) e.1 x.0))
-      ]
-      | inr x ↦ elim q.3 [
-        | inl y ↦ absurd (x.0 (subst (λ (w : Turned). turns.IsLast w n) (sym e.1) y.0))
-        | inr y ↦ (
-            let r = one_row step h n x.1 y.1 q.0 new other word also (subst (λ (m : Machine). turns.TurnsMany h n m new x.1 word) e.0 x.3) y.3 in
-            (r.0, x.2 ∙ (ap (λ (j : ℕ). suc j) r.1 ∙ sym y.2), r.2))
-      ]
-    ]
 
 -- ---- a call
 pub is_decided : (y : HartState) → (y ≡ started) ⊎ (y ≡ started → ⊥)

@@ -9,9 +9,8 @@ use Rattle.hsm.specs.Views.{listed}
 use Rattle.sbi_calls.specs.declared.tables.Seats.{Seats}
 use Rattle.sbi_calls.specs.Both.{TableState, IsTable}
 use Rattle.turns.specs.declared.words.Turned.{Turned}
-use Rattle.turns.specs.declared.words.Turned.TheVariants.{Idle, Resumed, Stopped, Durable}
+use Rattle.turns.specs.declared.words.Turned.TheVariants.{Idle, Resumed, Next}
 use Rattle.turns.specs.Turns.{Moment, moment, TurnOf, Finishes, after_take}
-use Rattle.turns.specs.Many.{RowOf}
 use Rattle.machine.specs.declared.parts.Called.{Called}
 use Rattle.machine.specs.declared.parts.Called.TheVariants.{NotStarted, Made}
 use Rattle.susp.specs.Dozes.{doze_of}
@@ -57,32 +56,12 @@ TurnBy (Some d) h old new word = DozeTurn d.woken d h old new word
 abbrev pub MakesTurn : ℕ → Machine → Machine → Turned → Type 0
 MakesTurn h old new word = TurnBy (doze_of h old.doze) h old new word
 
--- turns of hart h in a row, of which all but the last said Next; a hart that dozes makes one
-abbrev pub RowBy : Option Doze → ℕ → ℕ → Machine → Machine → Turned → Type 0
-RowBy None h count old new word = DoneBy (λ a b. RowOf old.size count a b word) h old new
-RowBy (Some d) h count old new word = (count ≡ 1) × DozeTurn d.woken d h old new word
-
-abbrev pub Rows : ℕ → ℕ → Machine → Machine → Turned → Type 0
-Rows h count old new word = RowBy (doze_of h old.doze) h count old new word
-
--- a turn after which no other follows in a row: the hart stopped, or stands at a durable call
-abbrev pub ends_row : Turned → Bool
-ends_row Stopped = true
-ends_row Durable = true
-ends_row word = false
-
--- the turn is the last of a row, with so many that might follow
-abbrev pub IsLast : Turned → ℕ → Type 0
-IsLast word left = (ends_row word ≡ true) ⊎ (left ≡ 0)
-
--- at most n turns of hart h in a row, of which so many were made: one that ends the row is the last, and word
--- is said of it
-abbrev pub TurnsMany : ℕ → ℕ → Machine → Machine → ℕ → Turned → Type 0
-TurnsMany h zero old new made word = ⊥
-TurnsMany h (suc n) old new made word =
-    (mid : Machine) × (first : Turned) × MakesTurn h old mid first
-    × ((IsLast first n × (new ≡ mid) × (made ≡ 1) × (word ≡ first))
-    ⊎ ((IsLast first n → ⊥) × (rest : ℕ) × (made ≡ suc rest) × TurnsMany h n mid new rest word))
+-- so many turns of hart h in a row, of which all but the last said Next, and word is said of the last
+abbrev pub MakesRow : ℕ → ℕ → Machine → Machine → Turned → Type 0
+MakesRow h zero old new word = ⊥
+MakesRow h (suc n) old new word =
+    ((n ≡ 0) × MakesTurn h old new word)
+    ⊎ ((mid : Machine) × MakesTurn h old mid Next × MakesRow h n mid new word)
 
 -- ---- a call that is made in the place of a hart
 -- the registers of a call: the extension in a7, the function in a6, the arguments in a0 to a2

@@ -13,7 +13,7 @@ ghost use Rattle.store.specs.Answers.{StaysOpen};
 ghost use Rattle.susp.specs.Wakes.{IsUnloaded, IsConsumed};
 ghost use Rattle.machine.specs.Machine.{hart_at, stopped_harts, resting, machine_begun, woken};
 ghost use Rattle.turns.specs.Many.{RowOf};
-ghost use Rattle.machine.specs.Turns.{MakesTurn, Rows, TurnsMany, MakesOneCall, DoneBy, DozeTurn, CallOf, calling};
+ghost use Rattle.machine.specs.Turns.{MakesTurn, MakesRow, MakesOneCall, DoneBy, DozeTurn, CallOf, calling};
 ghost use Rattle.machine.specs.Held.{IsHeld, shown_by};
 ghost use Rattle.machine.specs.Durables.{StandsAtCall, MakesCall};
 ghost use Rattle.machine.specs.Dozes.{Dozes};
@@ -21,7 +21,7 @@ ghost use Rattle.sbi.specs.declared.dispatches.Held.TheVariants.{Dozing};
 
 use crate::calls::{Registers, call_in_place};
 use crate::holds::make_held;
-use crate::parts::{Called, Parts, ends_row};
+use crate::parts::{Called, Parts};
 use board_model::{HartId, RAM_BASE, Reason, Refusal, Shape};
 use crew::Crew;
 use disk::Disk;
@@ -239,13 +239,15 @@ impl Machine {
 
     /// Turns of a hart in a row by one look at the tables, `most` of them at most: how many were made, and
     /// what the last one did. Each before it said `Next`. A hart that dozes makes one.
-    fn row(&mut self, id: HartId, most: u32) -> (u32, Turned)
+    pub fn turns_by_one_look(&mut self, id: HartId, most: u32) -> (u32, Turned)
         requires hart { id < length self.old.harts }
         requires some { 1 ≤ most }
-        ensures row { Rows id result.0 self.old self.new result.1 }
+        ensures row { MakesRow id result.0 self.old self.new result.1 }
         ensures range { (1 ≤ result.0) × (result.0 ≤ most) }
+        ensures asks { result.1 ≡ Durable → StandsAtCall id self.new }
         ensures harts { length self.new.harts ≡ length self.old.harts }
     {
+        hart::one_number();
         match self.dozes(id) {
             Some(doze) => (1, self.doze_turn(id, doze)),
             None => self.own_row(id, most),
@@ -272,27 +274,6 @@ impl Machine {
         hsm::one_table();
         ipi::one_set();
         self.seats = Some(seats);
-        (made, turned)
-    }
-
-    /// At most so many turns of a hart, one after another: how many were made, and what the last one did. One
-    /// that stops the hart is the last, and so is one that leaves it at a durable call.
-    pub fn turns(&mut self, id: HartId, count: u32) -> (u32, Turned)
-        requires hart { id < length self.old.harts }
-        requires some { 1 ≤ count }
-        ensures turns { TurnsMany id count self.old self.new result.0 result.1 }
-        ensures asks { result.1 ≡ Durable → StandsAtCall id self.new }
-        ensures harts { length self.new.harts ≡ length self.old.harts }
-    {
-        hart::one_number();
-        let (first, said) = self.row(id, count);
-        let mut made = first;
-        let mut turned = said;
-        while made < count && !ends_row(turned) {
-            let (more, word) = self.row(id, count - made);
-            made += more;
-            turned = word;
-        }
         (made, turned)
     }
 

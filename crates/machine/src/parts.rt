@@ -1,7 +1,6 @@
 //! What a machine answers and what it consists of.
 
 ghost use Rattle.std.specs.Prelude.{◌≡◌};
-ghost use Rattle.machine.specs.Turns.{ends_row};
 ghost use Rattle.machine.specs.Words.{stops, ends, word_by};
 
 use hart::Hart;
@@ -43,21 +42,6 @@ pub struct Parts {
     pub tables: Tables,
     /// The memory, and the doze of the board.
     pub bus: Bus,
-}
-
-/// Whether no turn of the hart follows in a row.
-pub(crate) fn ends_row(turned: Turned) -> bool
-    ensures { result ≡ ends_row turned }
-{
-    match turned {
-        Turned::Stopped | Turned::Durable => true,
-        Turned::Idle
-        | Turned::Entered
-        | Turned::Woke
-        | Turned::Resumed
-        | Turned::Next
-        | Turned::Suspended => false,
-    }
 }
 
 fn stops(turned: Turned) -> bool

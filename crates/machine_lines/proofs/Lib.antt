@@ -1,2 +1,3 @@
 mod Padded
 mod Determined
+mod InLine

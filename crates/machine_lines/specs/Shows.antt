@@ -1,12 +1,12 @@
 -- What the lines that show a board's memory and harts say, and what a line of turns makes of them. A line
 -- whose hart or whose bytes the board lacks says `off`, and does nothing. Source: docs/SCRIPT.md.
-use Rattle.std.specs.Prelude.{◌≡◌, ◌≢◌, ℕ, zero, suc, ◌+◌, ◌-◌, ◌^◌, ◌<◌, ◌≤◌, ◌++◌, Bool, Option, Some, None, length, replicate, slice_range, nat_lt, nat_le, ◌&&◌, if◌then◌else◌}
+use Rattle.std.specs.Prelude.{◌≡◌, ◌≢◌, ◌⊎◌, ℕ, zero, suc, ◌+◌, ◌-◌, ◌^◌, ◌<◌, ◌≤◌, ◌++◌, Bool, true, false, Option, Some, None, length, replicate, slice_range, nat_lt, nat_le, ◌&&◌, if◌then◌else◌}
 use Rattle.hart.specs.State.{ArchState, reg}
 use Rattle.hart.specs.Csrs.{csr_number, csr_read}
 use Rattle.hart.specs.declared.csr.Csr.{Csr}
 use Rattle.machine.specs.Machine.{Machine, hart_at}
 use Rattle.turns.specs.Turns.{has_pending}
-use Rattle.machine.specs.Turns.{TurnsMany, MakesOneCall}
+use Rattle.machine.specs.Turns.{MakesTurn, MakesOneCall}
 use Rattle.machine.specs.declared.parts.Called.{Called}
 use Rattle.machine.specs.declared.parts.Called.TheVariants.{NotStarted, Made}
 use Rattle.turns.specs.declared.words.Turned.{Turned}
@@ -18,6 +18,26 @@ use Rattle.machine_lines.specs.declared.line.MachineLine.TheVariants as lines
 
 abbrev pub HasHart : Machine → ℕ → Type 0
 HasHart m h = h < length m.harts
+
+-- a turn after which no other follows in a line of a machine without a store: the hart stopped, or stands at a
+-- durable call
+abbrev pub ends_line : Turned → Bool
+ends_line Stopped = true
+ends_line Durable = true
+ends_line word = false
+
+-- the turn is the last of a line, with so many that might follow
+abbrev pub IsLast : Turned → ℕ → Type 0
+IsLast word left = (ends_line word ≡ true) ⊎ (left ≡ 0)
+
+-- at most n turns of hart h in a line, of which so many were made: one that ends the line is the last, and word
+-- is said of it
+abbrev pub TurnsMany : ℕ → ℕ → Machine → Machine → ℕ → Turned → Type 0
+TurnsMany h zero old new made word = ⊥
+TurnsMany h (suc n) old new made word =
+    (mid : Machine) × (first : Turned) × MakesTurn h old mid first
+    × ((IsLast first n × (new ≡ mid) × (made ≡ 1) × (word ≡ first))
+    ⊎ ((IsLast first n → ⊥) × (rest : ℕ) × (made ≡ suc rest) × TurnsMany h n mid new rest word))
 
 -- `turn H N`, with N at least 1, of a machine without a store
 pub record TurnsLine (h n : ℕ) (old new : Machine) (line : MachineLine) : Type 0 where

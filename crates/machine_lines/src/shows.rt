@@ -2,7 +2,7 @@
 
 ghost use Rattle.std.specs.Prelude.{◌≡◌, ◌<◌, ◌≤◌, ◌++◌, ◌-◌, length, replicate};
 ghost use Rattle.machine.specs.Machine.{hart_at};
-ghost use Rattle.machine_lines.specs.Shows.{TurnsLine, CallLine, own_line, made_line, called_line, word_after_call, waits, pending_line, reg_line, pc_line, CsrLine, mem_line};
+ghost use Rattle.machine_lines.specs.Shows.{ends_line, TurnsMany, TurnsLine, CallLine, own_line, made_line, called_line, word_after_call, waits, pending_line, reg_line, pc_line, CsrLine, mem_line};
 
 use crate::line::{MachineLine, MemBytes};
 use board_model::{HartId, RAM_BASE};
@@ -30,15 +30,47 @@ pub fn pc(machine: &Machine, hart: HartId) -> MachineLine
     MachineLine::Pc(hart, machine.hart(hart).pc())
 }
 
+/// Whether no turn of the hart follows in a line of a machine without a store.
+fn ends_line(turned: Turned) -> bool
+    ensures { result ≡ ends_line turned }
+{
+    match turned {
+        Turned::Stopped | Turned::Durable => true,
+        Turned::Idle
+        | Turned::Entered
+        | Turned::Woke
+        | Turned::Resumed
+        | Turned::Next
+        | Turned::Suspended => false,
+    }
+}
+
+/// At most so many turns of a hart, one after another: how many were made, and what the last one did.
+fn turns(machine: &mut Machine, hart: HartId, count: u32) -> (u32, Turned)
+    requires hart { hart < length machine.old.harts }
+    requires some { 1 ≤ count }
+    ensures { TurnsMany hart count machine.old machine.new result.0 result.1 }
+{
+    let first = machine.turn(hart);
+    let mut made = 1;
+    let mut turned = first;
+    while made < count && !ends_line(turned) {
+        let next = machine.turn(hart);
+        made += 1;
+        turned = next;
+    }
+    (made, turned)
+}
+
 /// `turn H N` of a machine without a store: at most so many turns of a hart, one after another. One that
-/// leaves the hart at a durable call is the last.
+/// stops the hart is the last, and so is one that leaves it at a durable call.
 pub fn turn(machine: &mut Machine, hart: HartId, count: u32) -> MachineLine
     ensures { TurnsLine hart count machine.old machine.new result }
 {
     if !machine.has(hart) || count == 0 {
         return MachineLine::Off;
     }
-    let (made, turned) = machine.turns(hart, count);
+    let (made, turned) = turns(machine, hart, count);
     MachineLine::Turn(hart, made, Word::Own(turned))
 }
 

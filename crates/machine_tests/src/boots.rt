@@ -29,11 +29,11 @@ fn turn(machine: &mut Machine, number: u64) -> Option<Turned> {
     }
 }
 
-/// So many turns of a hart that the board has.
-fn turns(machine: &mut Machine, number: u64, count: u32) -> Option<(u32, Turned)> {
+/// Turns by one look, so many at most, of a hart that the board has.
+fn turns(machine: &mut Machine, number: u64, most: u32) -> Option<(u32, Turned)> {
     let id = HartId::new(number)?;
-    if machine.has(id) && 1 <= count {
-        Some(machine.turns(id, count))
+    if machine.has(id) && 1 <= most {
+        Some(machine.turns_by_one_look(id, most))
     } else {
         None
     }
@@ -99,7 +99,8 @@ fn a_call_is_not_supported(rt: HostRuntime) -> Result<(), Fail> {
 #[test]
 fn a_stopped_hart_is_idle(rt: HostRuntime) -> Result<(), Fail> {
     let mut machine = booted(&rt, &[0x13, 0x05, 0x10, 0x00], Reason::NoReason)?;
-    same(&rt, turns(&mut machine, 1, 5), Some((5, Turned::Idle)));
+    same(&rt, turns(&mut machine, 1, 5), Some((1, Turned::Idle)));
+    same(&rt, turn(&mut machine, 1), Some(Turned::Idle));
     same(&rt, shown(&machine, 1), Some((0, 0, 0)));
     same(&rt, csr(&machine, 1, 0x100), Some(0x100));
     same(&rt, shown(&machine, 0), Some((0, 0, BASE)));

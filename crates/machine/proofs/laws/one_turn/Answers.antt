@@ -4,8 +4,5 @@ use Rattle.machine.proofs.laws.one_turn.Goals as goal
 pub returns-clause-turn : goal.returns-clause-turn
 returns-clause-turn c = determined.one_turn c.one_step.ensures
 
-pub returns-clause-turns : goal.returns-clause-turns
-returns-clause-turns c = determined.one_row c.one_step.ensures
-
 pub returns-clause-call : goal.returns-clause-call
 returns-clause-call c = determined.one_call

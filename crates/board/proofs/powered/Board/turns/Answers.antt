@@ -8,7 +8,7 @@ use Rattle.board.proofs.powered.Board.turns.Goals as goal
 pub loop-made-init : goal.loop-made-init
 loop-made-init g c =
     let r = c.row-first.ensures in record {
-      reaches = first_row c.args.hart c.args.count c.row-first.result.0 (machine_of c.args.self.now) (machine_of c.row-first.new.self) (store_of c.args.self.now) (store_of c.row-first.new.self) c.row-first.result.1 c.requires.calm r.row;
+      reaches = first_row c.args.hart c.args.count c.row-first.result.0 (machine_of c.args.self.now) (machine_of c.row-first.new.self) (store_of c.args.self.now) (store_of c.row-first.new.self) c.row-first.result.1 r.range.1 c.requires.calm r.row;
       range = r.range.1;
       harts = r.harts;
     }
@@ -21,7 +21,7 @@ loop-made-preserved g c =
     let on : ends c.loop-made.word ≡ false = search rules in
     let calm : (fault_state_of (store_of c.loop-made.self)).struck ≡ false = search rules in record {
       reaches = more_row c.args.hart c.args.count c.loop-made.made c.row-more.result.0 (machine_of c.args.self.now) (machine_of c.loop-made.self) (machine_of c.row-more.new.self)
-          (store_of c.args.self.now) (store_of c.loop-made.self) (store_of c.row-more.new.self) c.loop-made.word c.row-more.result.1 i.range on calm i.reaches r.row;
+          (store_of c.args.self.now) (store_of c.loop-made.self) (store_of c.row-more.new.self) c.loop-made.word c.row-more.result.1 i.range r.range.1 on calm i.reaches r.row;
       range = omega arith;
       harts = r.harts ∙ i.harts;
     }

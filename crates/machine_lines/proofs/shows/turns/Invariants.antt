@@ -1,12 +1,12 @@
 use Rattle.std.proofs.Common.{◌≡◌, ◌≤◌, ◌-◌, length}
-use Rattle.machine.proofs.Rows.{Made}
-use Rattle.machine.proofs.machine.Machine.turns.Given as goal
+use Rattle.machine_lines.proofs.InLine.{Made}
+use Rattle.machine_lines.proofs.shows.turns.Given as goal
 
 abbrev pub invariant-loop-made : goal.invariant-loop-made
 invariant-loop-made l = record {
-  made : Made l.id l.count l.made l.fn.self l.self l.turned;
+  made : Made l.hart l.count l.made l.fn.machine l.machine l.turned;
   range : l.made ≤ l.count;
-  harts : length l.self.harts ≡ length l.fn.self.harts;
+  harts : length l.machine.harts ≡ length l.fn.machine.harts;
 }
 
 abbrev pub decreases-loop-made : goal.decreases-loop-made
