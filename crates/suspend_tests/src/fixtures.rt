@@ -6,7 +6,7 @@ use board_model::{Addr, HartId, PageNo, Refusal, Shape};
 use crew::{Crew, Turns};
 use disk::{ArmedFault, Disk};
 use ram::Ram;
-use simdisk::{Choice, SimDisk};
+use simdisk::{Fill, SimDisk};
 use std::alloc::Global;
 use std::fmt::Debug;
 use std::process::Abort;
@@ -76,9 +76,9 @@ pub fn reopened(alloc: Global, store: Store<SimDisk>) -> Result<Store<SimDisk>, 
 pub fn after_cut(
     alloc: Global,
     store: Store<SimDisk>,
-    choice: Choice,
+    fill: Fill,
 ) -> Result<Store<SimDisk>, Refusal> {
-    open(alloc, store.into_disk().after_cut(choice))
+    open(alloc, store.into_disk().after_cut(fill))
 }
 
 /// Suspends by hart 0, to be resumed at the third instruction with 77; the receipt's number.
