@@ -66,7 +66,7 @@ pub fn read_script<R: Read + Drop>(alloc: Global, input: R) -> Result<Vec<u8>, F
 /// Runs the script, and writes its report to the end.
 ///
 /// Refused as `bench_report::run` is, and `Output` also where what the writer held back could not be written.
-pub fn report_to<C: Crew, W: Write + Drop>(
+pub fn write_report<C: Crew, W: Write + Drop>(
     alloc: Global,
     script: &[u8],
     crew: &C,
@@ -91,8 +91,8 @@ pub fn report_to<C: Crew, W: Write + Drop>(
     out.flush().map_err(|_| Refusal::Output)
 }
 
-/// Writes the report of the script to the standard output.
-fn write_report<C: Crew>(rt: &HostRuntime, script: &[u8], crew: &C) -> Result<(), Fault> {
+/// Writes the report of the script to the standard output, with that crew.
+fn print_report_with<C: Crew>(rt: &HostRuntime, script: &[u8], crew: &C) -> Result<(), Fault> {
     let at_once = if rt.stdout().is_terminal() {
         0
     } else {
@@ -102,27 +102,31 @@ fn write_report<C: Crew>(rt: &HostRuntime, script: &[u8], crew: &C) -> Result<()
     let Ok(mut out) = BufWriter::with_capacity(rt.alloc(), at_once, pipe) else {
         return Err(Fault::Refused(Refusal::Memory));
     };
-    match report_to(rt.alloc(), script, crew, &mut out) {
+    match write_report(rt.alloc(), script, crew, &mut out) {
         Ok(()) => Ok(()),
         Err(_) if out.get_ref().is_closed() => Err(Fault::Closed),
         Err(e) => Err(Fault::Refused(e)),
     }
 }
 
-/// Reads the script, and writes its report.
-fn report<R: Threads + Sync>(rt: &HostRuntime, threads: &R, savers: Savers) -> Result<(), Fault> {
+/// Reads the script from the standard input, and writes its report to the standard output.
+fn print_report<R: Threads + Sync>(
+    rt: &HostRuntime,
+    threads: &R,
+    savers: Savers,
+) -> Result<(), Fault> {
     let script = read_script(rt.alloc(), rt.reader())?;
     match savers {
-        Savers::Threads => write_report(rt, &script, &crew::Threads::new(threads)),
+        Savers::Threads => print_report_with(rt, &script, &crew::Threads::new(threads)),
         Savers::Turns => {
             let crew = Turns::<R>::new([0, 1, 2, 3]).map_err(Fault::Refused)?;
-            write_report(rt, &script, &crew)
+            print_report_with(rt, &script, &crew)
         }
     }
 }
 
 /// Runs a bench over the script. Refused as `bench_sweep::sweep` is.
-fn runs<R: Threads + Sync, W: Write + Drop>(
+fn run_bench<R: Threads + Sync, W: Write + Drop>(
     alloc: Global,
     script: &[u8],
     bench: Bench,
@@ -145,7 +149,7 @@ fn runs<R: Threads + Sync, W: Write + Drop>(
 /// Runs a bench over the script, and writes its lines to the end.
 ///
 /// Refused as `bench_sweep::sweep` is, and `Output` also where what the writer held back could not be written.
-pub fn bench_to<R: Threads + Sync, W: Write + Drop>(
+pub fn write_bench<R: Threads + Sync, W: Write + Drop>(
     alloc: Global,
     script: &[u8],
     bench: Bench,
@@ -164,19 +168,20 @@ pub fn bench_to<R: Threads + Sync, W: Write + Drop>(
         → (writer_contents W.contents out.new ≡ writer_contents W.contents out.old)
         × ((result ≡ Err e) ⊎ (result ≡ Err Refusal.Memory)) }
 {
-    let done = runs::<R, W>(alloc, script, bench, out)?;
+    let done = run_bench::<R, W>(alloc, script, bench, out)?;
     out.flush().map_err(|_| Refusal::Output)?;
     Ok(done)
 }
 
-/// Reads the script, and runs a bench over it. Each of its lines is handed on as it is made.
-fn judge<R: Threads + Sync>(rt: &HostRuntime, bench: Bench) -> Result<(), Fault> {
+/// Reads the script from the standard input, and runs a bench over it, whose lines go to the standard output. Each of
+/// them is handed on as it is made.
+fn print_bench<R: Threads + Sync>(rt: &HostRuntime, bench: Bench) -> Result<(), Fault> {
     let script = read_script(rt.alloc(), rt.reader())?;
     let pipe = Pipe::new(io::writer(rt));
     let Ok(mut out) = BufWriter::with_capacity(rt.alloc(), WRITTEN_AT_ONCE, pipe) else {
         return Err(Fault::Refused(Refusal::Memory));
     };
-    match bench_to::<R, Pipe<_>>(rt.alloc(), &script, bench, &mut out) {
+    match write_bench::<R, Pipe<_>>(rt.alloc(), &script, bench, &mut out) {
         Ok(sweep) if sweep.wrong == 0 => Ok(()),
         Ok(_) => Err(Fault::Wrong),
         Err(_) if out.get_ref().is_closed() => Err(Fault::Closed),
@@ -185,10 +190,10 @@ fn judge<R: Threads + Sync>(rt: &HostRuntime, bench: Bench) -> Result<(), Fault>
 }
 
 /// Does what the command line asks for.
-fn reported<R: Threads + Sync>(rt: &HostRuntime, threads: &R) -> Result<(), Fault> {
+fn run_program<R: Threads + Sync>(rt: &HostRuntime, threads: &R) -> Result<(), Fault> {
     match asked(rt) {
-        Ok(Work::Report(savers)) => report(rt, threads, savers),
-        Ok(Work::Judge(bench)) => judge::<R>(rt, bench),
+        Ok(Work::Report(savers)) => print_report(rt, threads, savers),
+        Ok(Work::Judge(bench)) => print_bench::<R>(rt, bench),
         Err(NoWork::Shown) => Ok(()),
         Err(NoWork::Usage) => Err(Fault::Usage),
         Err(NoWork::Memory) => Err(Fault::Refused(Refusal::Memory)),
@@ -202,7 +207,7 @@ pub fn bench<R: Threads + Sync>(rt: &HostRuntime, threads: &R) -> ExitCode
     // The status is the one of what was done.
     ensures status { (done : Result (Unit {0}) Fault) × (exit_status result ≡ status_after done) }
 {
-    let done = reported(rt, threads);
+    let done = run_program(rt, threads);
     if let Err(fault) = &done {
         let _told = eprint!(rt; "{fault}");
     }

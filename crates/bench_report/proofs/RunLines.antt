@@ -9,7 +9,7 @@ use Rattle.bench_report.specs.Steps.{Moves, Run}
 use Rattle.bench_report.specs.Reports.{IsReport}
 use Rattle.bench_report.specs.Agree.{fill_after, fills_after}
 use Rattle.script_lang.specs.Scripts.{Script}
-use Rattle.script_lang.specs.declared.line.Fill.{Fill}
+use Rattle.simdisk.specs.declared.fill.Fill.{Fill}
 
 -- one line more at the end
 run_snoc : (size : Size) (ls : List Line) (b : Bench) (answers : List Answer) (mid : Bench) (line : Line) (a : Answer) (new : Bench) → Run size b ls answers mid → Moves size line mid a new → Run size b (ls ++ line ∷ []) (answers ++ a ∷ []) new

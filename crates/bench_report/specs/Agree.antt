@@ -9,13 +9,10 @@ use Rattle.disk.specs.FaultState.{FaultState}
 use Rattle.disk.specs.declared.device.ArmedFault.{ArmedFault}
 use Rattle.disk.specs.declared.device.ArmedFault.TheVariants as faults
 use Rattle.simdisk.specs.declared.SimDisk.{SimDisk}
-use Rattle.simdisk.specs.declared.choice.Choice.{Choice}
-use Rattle.simdisk.specs.declared.choice.Choice.TheVariants as choices
-use Rattle.simdisk.specs.Views.{left_by_choice}
+use Rattle.simdisk.specs.declared.fill.Fill.{Fill}
+use Rattle.simdisk.specs.Views.{left_by_fill}
 use Rattle.simdisk.specs.WriteLog.{synced}
 use Rattle.simdisk.specs.Pokes.{PokeFits, StandsSo, poked}
-use Rattle.script_lang.specs.declared.line.Fill.{Fill}
-use Rattle.script_lang.specs.declared.line.Fill.TheVariants as fills
 use Rattle.script_lang.specs.declared.line.Line.{Line}
 use Rattle.script_lang.specs.declared.line.Line.TheVariants as lines
 use Rattle.store.specs.Leaves.{Leaves, IsBlank, IsKept, IsIdle}
@@ -101,13 +98,6 @@ Matches size b power payloads = Agrees size b power × (payloads ≡ b.payloads)
 abbrev pub IsBench : Size → Bench → Power → List (List ℕ) → Type 0
 IsBench size b power payloads = Agrees size b power × (payloads ≡ b.payloads) × (b.fault_state.struck ≡ false)
 
--- what a cut leaves of what was written since the last sync, by a script's fill
-abbrev pub choice_by : Fill → Choice
-choice_by fills.Old = choices.Old
-choice_by fills.New = choices.New
-choice_by (fills.Byte byte) = choices.Byte byte
-choice_by fills.Alternating = choices.Alternating
-
 -- the disk of a board that is off, or the one that the store of a board holds that is on
 abbrev pub HasDisk : Power → SimDisk → Type 0
 HasDisk (Off disk) d = d ≡ disk
@@ -116,7 +106,7 @@ HasDisk (On board) d = d ≡ disk_in board
 -- power was cut, and the disk holds exactly what the fill says of what was written since the last sync
 abbrev pub IsCutBy : Fill → SimDisk → Power → Type 0
 IsCutBy fill d (Off left) =
-    (facts left).content ≡ left_by_choice (choice_by fill) (synced (sim_log_of d)) (sim_log_of d).written
+    (facts left).content ≡ left_by_fill fill (synced (sim_log_of d)) (sim_log_of d).written
 IsCutBy fill d (On board) = ⊥
 
 -- that fault is armed on the disk, whether the board is off or on, and each call of it is still to come

@@ -14,7 +14,7 @@ ghost use Rattle.bench_report.specs.Examined.{InspectsOn, InspectStep, AnswersOf
 ghost use Rattle.bench_report.specs.Steps.{FormatStep, OnStep, ConsoleStep, PayloadStep, TurnStep, CallStep, ReadStep, WakeStep, ArmStep, PokeStep, Step, Moves};
 ghost use Rattle.disk.specs.FaultState.{armed_by};
 ghost use Rattle.simdisk.specs.declared.SimDisk.{SimDisk};
-ghost use Rattle.bench_report.specs.Agree.{choice_by, HasDisk, IsCutBy, IsArmed, ArmsIts, Pokes, PokesIts, Inspects, InspectsIts, fill_after, EndsBy, Agrees, IsResting, OffIs, OnIs, BoardAfter, AreShort, IsBench, IsUnstruck, Matches, StepsTo};
+ghost use Rattle.bench_report.specs.Agree.{HasDisk, IsCutBy, IsArmed, ArmsIts, Pokes, PokesIts, Inspects, InspectsIts, fill_after, EndsBy, Agrees, IsResting, OffIs, OnIs, BoardAfter, AreShort, IsBench, IsUnstruck, Matches, StepsTo};
 ghost use Rattle.machine_lines.specs.Shows.{waits, reg_line, pc_line, CsrLine, pending_line, mem_line};
 ghost use Rattle.machine.specs.Machine.{Machine};
 ghost use Rattle.board_model.specs.declared.refusal.Refusal.TheVariants.{Memory};
@@ -28,8 +28,8 @@ use crew::Crew;
 use disk::{ArmedFault, Disk};
 use machine::Word;
 use machine_lines::MachineLine;
-use script_lang::{Bytes, Fill, Line};
-use simdisk::{Choice, SimDisk};
+use script_lang::{Bytes, Line};
+use simdisk::{Fill, SimDisk};
 use std::alloc::Global;
 use store::{blank_disks, format, inspect, kept_disks, one_standing};
 
@@ -144,18 +144,6 @@ pub fn disk_left(power: Power) -> SimDisk
     }
 }
 
-/// What a crash leaves by a fill.
-pub fn choice(fill: Fill) -> Choice
-    ensures { result ≡ choice_by fill }
-{
-    match fill {
-        Fill::Old => Choice::Old,
-        Fill::New => Choice::New,
-        Fill::Byte(byte) => Choice::Byte(byte),
-        Fill::Alternating => Choice::Alternating,
-    }
-}
-
 /// Takes power; each range that was written since the last sync holds what the fill says.
 fn cut(power: Power, fill: Fill) -> Power
     requires { IsResting power }
@@ -165,7 +153,7 @@ fn cut(power: Power, fill: Fill) -> Power
     ensures calm { IsUnstruck result }
 {
     kept_disks::<SimDisk>();
-    Power::Off(disk_left(power).after_cut(choice(fill)))
+    Power::Off(disk_left(power).after_cut(fill))
 }
 
 /// Arms a cut or a failure of the disk, or of one of its lanes, in the place of an older one, with the board

@@ -8,7 +8,7 @@ use Rattle.disk.specs.Facts.{counted}
 use Rattle.bench_judge.specs.declared.judges.Sweep.{Sweep}
 use Rattle.bench_sweep.specs.declared.points.Bench.{Bench}
 use Rattle.bench_sweep.specs.declared.points.Caller.{Caller}
-use Rattle.bench_sweep.specs.declared.points.Fill.{Fill}
+use Rattle.simdisk.specs.declared.fill.Fill.{Fill}
 use Rattle.bench_sweep.specs.declared.rows.Row.{Row}
 use Rattle.bench_sweep.specs.Rows.{row_text, sweep_text}
 use Rattle.bench_sweep.specs.Swept.{Cell, cell, cell_of, runs_of, runs_from, callers, all_runs, rows_text, GoesOn, Writes, total, WroteAll}

@@ -2,6 +2,8 @@
 use Rattle.std.specs.Prelude.{ℕ, List, [], ◌∷◌, ◌++◌, Option, Some, None}
 use Rattle.std.specs.Fmt.{decimal}
 use Rattle.board_model.specs.declared.durable.Durable.{Durable}
+use Rattle.simdisk.specs.declared.fill.Fill.{Fill}
+use Rattle.script_lang.specs.Spellings.{fill_text}
 use Rattle.board_console.specs.Texts.{state_text}
 use Rattle.bench_report.specs.Texts.{line_text}
 use Rattle.bench_report.specs.declared.printed.Answer.{Answer}
@@ -9,8 +11,6 @@ use Rattle.bench_report.specs.declared.printed.Printed.{Printed}
 use Rattle.bench_judge.specs.declared.judges.Sweep.{Sweep}
 use Rattle.bench_sweep.specs.declared.points.Caller.{Caller}
 use Rattle.bench_sweep.specs.declared.points.Caller.TheVariants.{Disk, Lane}
-use Rattle.bench_sweep.specs.declared.points.Fill.{Fill}
-use Rattle.bench_sweep.specs.declared.points.Fill.TheVariants.{Zeros, Ones, Alternating, Old, New}
 use Rattle.bench_sweep.specs.declared.rows.Row.{Row}
 use lib.Chars.{codes}
 
@@ -18,14 +18,7 @@ abbrev pub caller_text : Caller → List ℕ
 caller_text Disk = codes "disk"
 caller_text (Lane i) = codes "lane " ++ decimal i
 
-abbrev pub fill_text : Fill → List ℕ
-fill_text Zeros = codes "00"
-fill_text Ones = codes "ff"
-fill_text Alternating = codes "alt"
-fill_text Old = codes "old"
-fill_text New = codes "new"
-
--- a bench of failures has no fill
+-- the fill as a script has it; a bench of failures has none
 abbrev pub fill_part : Option Fill → List ℕ
 fill_part None = []
 fill_part (Some fill) = codes " " ++ fill_text fill

@@ -3,6 +3,8 @@ use Rattle.std.specs.Prelude.{◌≡◌, ◌+◌, ℕ, zero, suc, List, [], ◌�
 use Rattle.std.specs.List.{flat_map}
 use Rattle.std.specs.Io.KnownBytes.{Appends}
 use Rattle.disk.specs.Facts.{counted}
+use Rattle.simdisk.specs.declared.fill.Fill.{Fill}
+use Rattle.simdisk.specs.declared.fill.Fill.TheVariants.{Byte, Alternating, Old, New}
 use Rattle.script_lang.specs.declared.line.Line.{Line}
 use Rattle.script_lang.specs.declared.line.Line.TheVariants as lines
 use Rattle.bench_judge.specs.declared.judges.Sweep.{Sweep}
@@ -10,8 +12,6 @@ use Rattle.bench_sweep.specs.declared.points.Bench.{Bench}
 use Rattle.bench_sweep.specs.declared.points.Bench.TheVariants.{Cuts, Fails}
 use Rattle.bench_sweep.specs.declared.points.Caller.{Caller}
 use Rattle.bench_sweep.specs.declared.points.Caller.TheVariants.{Disk, Lane}
-use Rattle.bench_sweep.specs.declared.points.Fill.{Fill}
-use Rattle.bench_sweep.specs.declared.points.Fill.TheVariants.{Zeros, Ones, Alternating, Old, New}
 use Rattle.bench_sweep.specs.declared.rows.Row.{Row}
 use Rattle.bench_sweep.specs.Rows.{row_text, sweep_text}
 
@@ -41,7 +41,7 @@ cell_of r = cell r.caller r.number r.fill
 -- the runs of a point, in order
 abbrev pub runs_of : Bench → Caller → ℕ → List Cell
 runs_of Cuts caller number =
-    map (λ (fill : Fill). cell caller number (Some fill)) (Zeros ∷ Ones ∷ Alternating ∷ Old ∷ New ∷ [])
+    map (λ (fill : Fill). cell caller number (Some fill)) (Byte 0 ∷ Byte 255 ∷ Alternating ∷ Old ∷ New ∷ [])
 runs_of Fails caller number = cell caller number None ∷ []
 
 -- the runs of so many points of a caller, the first of which has that number

@@ -1,7 +1,7 @@
-//! Places at which power is cut, or a call fails, and what a cut leaves.
+//! Places at which power is cut, or a call fails, and what the cuts leave.
 
 use disk::ArmedFault;
-use simdisk::{Choice, SimDisk};
+use simdisk::{Fill, SimDisk};
 
 /// Whose calls are counted: the disk's, or those of the lanes of a number.
 #[derive(Clone, Copy, Drop)]
@@ -64,37 +64,10 @@ pub const CALLERS: [Caller; 5] = [
     Caller::Lane(3),
 ];
 
-/// What a cut leaves of what was written since the last sync.
-#[derive(Clone, Copy, Drop)]
-pub enum Fill {
-    /// `00`: zeros.
-    Zeros,
-    /// `ff`: ones.
-    Ones,
-    /// `alt`: 0x55 and 0xaa in turn.
-    Alternating,
-    /// `old`: what stood at that sync.
-    Old,
-    /// `new`: what was written last.
-    New,
-}
-
-impl Fill {
-    pub fn choice(self) -> Choice {
-        match self {
-            Fill::Zeros => Choice::Byte(0),
-            Fill::Ones => Choice::Byte(255),
-            Fill::Alternating => Choice::Alternating,
-            Fill::Old => Choice::Old,
-            Fill::New => Choice::New,
-        }
-    }
-}
-
-/// In the order of the runs of a point.
+/// What the cuts of a point leave, in the order of their runs.
 pub const FILLS: [Fill; 5] = [
-    Fill::Zeros,
-    Fill::Ones,
+    Fill::Byte(0),
+    Fill::Byte(255),
     Fill::Alternating,
     Fill::Old,
     Fill::New,

@@ -3,13 +3,14 @@
 ghost use Rattle.std.specs.Prelude.{◌≡◌, ◌⊎◌, ◌++◌, ◌∷◌, [], Some, OnOk, IfErr};
 ghost use Rattle.std.specs.Io.KnownBytes.{Appends};
 ghost use Rattle.board_model.specs.declared.refusal.Refusal.TheVariants.{Memory, Output};
-ghost use Rattle.bench_sweep.specs.Rows.{caller_text, fill_part, fill_text, left_text, row_text, sweep_text};
+ghost use Rattle.bench_sweep.specs.Rows.{caller_text, fill_part, left_text, row_text, sweep_text};
 
-use crate::points::{Caller, Fill};
+use crate::points::Caller;
 use bench_judge::Sweep;
 use bench_report::{Answer, unwritten};
 use board_console::StateText;
 use board_model::Refusal;
+use simdisk::Fill;
 use std::fmt;
 use std::io::Write;
 
@@ -37,21 +38,7 @@ impl fmt::Display for Caller {
     }
 }
 
-impl fmt::Display for Fill {
-    ghost output = { λ fill. Some (fill_text fill) };
-
-    fn fmt<W: fmt::Write>(&self, f: &mut fmt::Formatter<W>) -> fmt::Result {
-        f.write_str(match *self {
-            Fill::Zeros => "00",
-            Fill::Ones => "ff",
-            Fill::Alternating => "alt",
-            Fill::Old => "old",
-            Fill::New => "new",
-        })
-    }
-}
-
-/// The word of a fill behind a blank, or nothing.
+/// The word of a fill, as a script has it, behind a blank, or nothing.
 #[derive(Drop)]
 struct FillPart(Option<Fill>);
 
@@ -61,7 +48,10 @@ impl fmt::Display for FillPart {
     fn fmt<W: fmt::Write>(&self, f: &mut fmt::Formatter<W>) -> fmt::Result {
         match self.0 {
             None => Ok(()),
-            Some(fill) => write!(f, " {fill}"),
+            Some(Fill::Byte(byte)) => write!(f, " {byte:02x}"),
+            Some(Fill::Alternating) => f.write_str(" alt"),
+            Some(Fill::Old) => f.write_str(" old"),
+            Some(Fill::New) => f.write_str(" new"),
         }
     }
 }

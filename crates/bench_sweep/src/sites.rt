@@ -24,20 +24,20 @@ use board_model::{BootMode, Refusal, Shape, Slot};
 use crew::Crew;
 use disk::ArmedFault;
 use script_lang::Line;
-use simdisk::{Choice, SimDisk};
+use simdisk::{Fill, SimDisk};
 use std::alloc::Global;
 use store::kept_disks;
 
-/// The disk that a power cut leaves of that one, by a choice of what stands in the place of what was written since
-/// the last sync. That one stays as it is.
-pub fn cut_by(disk: &SimDisk, choice: Choice) -> Result<SimDisk, Refusal>
+/// The disk that a power cut leaves of that one, with that fill in the place of what was written since the last sync.
+/// That one stays as it is.
+pub fn cut_by(disk: &SimDisk, fill: Fill) -> Result<SimDisk, Refusal>
     ensures idle { IfOk result (λ left. IsIdle (facts left)) }
     ensures left { IfOk result (λ left. (size : Size) (b : Bench) → OffIs size b disk.now
         → OffIs size (unpowered b) left) }
     ensures refused { IfErr result (λ e. e ≡ Memory) }
 {
     kept_disks::<SimDisk>();
-    Ok(disk.left(choice)?)
+    Ok(disk.left(fill)?)
 }
 
 /// A board that is off, with all that a run goes on from.
@@ -82,7 +82,7 @@ impl Site {
             → LeftOff size copy.disk copy.ledger) }
         ensures refused { IfErr result (λ e. e ≡ Memory) }
     {
-        let disk = cut_by(&self.disk, Choice::Old)?;
+        let disk = cut_by(&self.disk, Fill::Old)?;
         let payloads = copy_payloads(alloc, &self.payloads)?;
         let ledger = self.ledger.copy(alloc)?;
         Ok(Site {

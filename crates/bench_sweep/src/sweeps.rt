@@ -15,7 +15,7 @@ ghost use Rattle.bench_sweep.specs.Swept.{IsPlainLine, cell, runs_of, runs_from,
 
 use crate::begins::formats;
 use crate::finds::counts;
-use crate::points::{Bench, CALLERS, Caller, FILLS, Fill, Point};
+use crate::points::{Bench, CALLERS, Caller, FILLS, Point};
 use crate::rows::{Row, write_row, write_sweep};
 use crate::sites::{Going, Site, Went, cut_by, goes_on};
 use bench_judge::{Ledger, Sweep};
@@ -23,7 +23,7 @@ use board::Payloads;
 use board_model::{Refusal, Shape};
 use crew::{Crew, Turns};
 use script_lang::{Line, Script, parse_script};
-use simdisk::{Choice, SimDisk};
+use simdisk::{Fill, SimDisk};
 use std::alloc::Global;
 use std::io::Write;
 use std::thread::Threads;
@@ -80,7 +80,7 @@ fn judges_fills<C: Crew, W: Write>(
         ledger,
     } = site;
     for fill in FILLS {
-        let left = cut_by(&disk, fill.choice())?;
+        let left = cut_by(&disk, fill)?;
         judges(
             alloc,
             crew,
@@ -150,7 +150,7 @@ fn fails_at<C: Crew, W: Write>(
         mut payloads,
         ledger,
     } = rests(shape, going)?;
-    let left = cut_by(&disk, Choice::Byte(0))?;
+    let left = cut_by(&disk, Fill::Byte(0))?;
     judges(
         alloc,
         crew,

@@ -7,7 +7,7 @@ use crate::fixtures::{
 use board::{Board, Payloads};
 use board_model::{BootMode, RAM_BASE, Reason, Refusal};
 use machine::{Turned, Word};
-use simdisk::{Choice, SimDisk};
+use simdisk::{Fill, SimDisk};
 use std::process::Abort;
 use std::test::Fail;
 use std::thread::Threads;
@@ -58,7 +58,7 @@ fn a_doze_is_woken_once(rt: HostRuntime) -> Result<(), Fail> {
 fn a_cut_in_a_doze_forgets_it(rt: HostRuntime) -> Result<(), Fail> {
     let payloads = Payloads::new(rt.alloc());
     let board = dozing(&rt, 1, &payloads)?;
-    let disk = board.into_disk().after_cut(Choice::Byte(0));
+    let disk = board.into_disk().after_cut(Fill::Byte(0));
     let mut board = powered(rt.alloc(), disk, BootMode::Fresh, &payloads)?;
     same(&rt, numbers(board.found()), (None, 0, Reason::NoReason, 0));
     same(&rt, shown(&board, 0), Some((0, 0, RAM_BASE)));

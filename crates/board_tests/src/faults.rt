@@ -5,7 +5,7 @@ use crate::fixtures::{powered, same, unpowered, with_image};
 use board::Payloads;
 use board_model::{BootMode, Refusal};
 use disk::Disk;
-use simdisk::{Choice, SimDisk};
+use simdisk::{Fill, SimDisk};
 use std::alloc::Global;
 use std::process::Abort;
 use std::test::Fail;
@@ -22,8 +22,8 @@ fn undiscarded(rt: &impl Abort, alloc: Global, call: u64, want: Refusal) -> Resu
 }
 
 /// Whether the next boot finds an image after a cut.
-fn image_after_cut(alloc: Global, disk: SimDisk, fill: u8) -> Result<bool, Refusal> {
-    let disk = disk.after_cut(Choice::Byte(fill));
+fn image_after_cut(alloc: Global, disk: SimDisk, byte: u8) -> Result<bool, Refusal> {
+    let disk = disk.after_cut(Fill::Byte(byte));
     let board = powered(alloc, disk, BootMode::Keep, &Payloads::new(alloc))?;
     Ok(board.found().image.is_some())
 }
@@ -31,14 +31,14 @@ fn image_after_cut(alloc: Global, disk: SimDisk, fill: u8) -> Result<bool, Refus
 /// Discard writes the record that the gate of the standing image, 1, does not select: gate 0 has no image.
 #[test]
 fn a_discard_that_fails_refuses_the_boot(rt: HostRuntime) -> Result<(), Fail> {
-    for (call, want, fill, stands) in [
+    for (call, want, byte, stands) in [
         (5, Refusal::Device, 0, true),
         (6, Refusal::Device, 255, true),
         (7, Refusal::Down, 0, false),
         (8, Refusal::Down, 1, true),
     ] {
         let disk = undiscarded(&rt, rt.alloc(), call, want)?;
-        same(&rt, image_after_cut(rt.alloc(), disk, fill), Ok(stands));
+        same(&rt, image_after_cut(rt.alloc(), disk, byte), Ok(stands));
     }
     Ok(())
 }

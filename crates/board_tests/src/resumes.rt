@@ -13,7 +13,7 @@ use crew::{Crew, Threads};
 use disk::{ArmedFault, Disk};
 use machine::{Turned, Word};
 use ram::Width;
-use simdisk::{Choice, SimDisk};
+use simdisk::{Fill, SimDisk};
 use std::alloc::Global;
 use std::process::Abort;
 use std::test::Fail;
@@ -199,7 +199,7 @@ fn unresumed<R: AllocGlobal + thread::Threads + Sync + Abort>(
     rt: &R,
     fault: ArmedFault,
     want: Refusal,
-    fill: u8,
+    byte: u8,
 ) -> Result<bool, Fail> {
     let mut disk = asleep(rt)?;
     disk.arm(fault);
@@ -207,7 +207,7 @@ fn unresumed<R: AllocGlobal + thread::Threads + Sync + Abort>(
     let left = unpowered(rt.alloc(), disk, BootMode::Resume, &payloads)?;
     same(rt, left.refusal, want);
     same(rt, left.now, left.found);
-    let disk = left.disk.after_cut(Choice::Byte(fill));
+    let disk = left.disk.after_cut(Fill::Byte(byte));
     let board = powered(rt.alloc(), disk, BootMode::Keep, &payloads)?;
     Ok(board.found().image.is_some())
 }
@@ -215,7 +215,7 @@ fn unresumed<R: AllocGlobal + thread::Threads + Sync + Abort>(
 /// The gate of a board that was suspended once is 1; Consume writes the other record, and a gate of 0.
 #[test]
 fn a_resume_that_fails_keeps_its_image_but_for_the_gate(rt: HostRuntime) -> Result<(), Fail> {
-    for (call, want, fill, stands) in [
+    for (call, want, byte, stands) in [
         (5, Refusal::Device, 0, true),
         (6, Refusal::Device, 255, true),
         (7, Refusal::Device, 0, true),
@@ -226,7 +226,7 @@ fn a_resume_that_fails_keeps_its_image_but_for_the_gate(rt: HostRuntime) -> Resu
         (10, Refusal::Down, 1, true),
     ] {
         for fault in [ArmedFault::FailAt(call), ArmedFault::CutAt(call)] {
-            same(&rt, unresumed(&rt, fault, want, fill)?, stands);
+            same(&rt, unresumed(&rt, fault, want, byte)?, stands);
         }
     }
     Ok(())

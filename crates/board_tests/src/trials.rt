@@ -11,7 +11,7 @@ use board_model::{BootMode, Boots, Durable, RAM_BASE, Refusal};
 use disk::{ArmedFault, Disk};
 use machine::Word;
 use ram::Width;
-use simdisk::{Choice, SimDisk};
+use simdisk::{Fill, SimDisk};
 use std::alloc::Global;
 use std::process::Abort;
 use std::test::Fail;
@@ -93,7 +93,7 @@ fn an_attempt_is_durable_before_the_slot_runs(rt: HostRuntime) -> Result<(), Fai
     let disk = on_trial(&rt, rt.alloc(), 1)?;
     let mut board = powered(rt.alloc(), disk, BootMode::Fresh, &payloads)?;
     same(&rt, set_slot(&mut board, 4), Err(Refusal::BadSlot));
-    let disk = board.into_disk().after_cut(Choice::Byte(0));
+    let disk = board.into_disk().after_cut(Fill::Byte(0));
     let mut board = powered(rt.alloc(), disk, BootMode::Fresh, &payloads)?;
     same(&rt, tried(board.found()), (2, Some((0, 0))));
     same(&rt, tried(board.now()), (0, None));
@@ -235,7 +235,7 @@ fn found_after(
     over: (SimDisk, BootMode),
     fault: (ArmedFault, Refusal),
     now: (bool, Tried),
-    fill: u8,
+    byte: u8,
 ) -> Result<(bool, Tried), Fail>
     requires { (⟦<SimDisk as Disk>⟧.facts over.0).lent.lanes ≡ 0 }
 {
@@ -245,7 +245,7 @@ fn found_after(
     same(rt, left.refusal, fault.1);
     let told = left.now.map(|state| (state.image.is_some(), tried(state)));
     same(rt, told, Some(now));
-    let disk = left.disk.after_cut(Choice::Byte(fill));
+    let disk = left.disk.after_cut(Fill::Byte(byte));
     let board = powered(alloc, disk, BootMode::Keep, &marked(alloc)?)?;
     Ok((board.found().image.is_some(), tried(board.found())))
 }
@@ -256,7 +256,7 @@ fn found_after(
 fn an_attempt_that_fails_leaves_the_discard_before_it(rt: HostRuntime) -> Result<(), Fail> {
     let dropped = (false, (3, Some((1, 1))));
     let counted = (false, (3, Some((1, 0))));
-    for (call, want, fill, found) in [
+    for (call, want, byte, found) in [
         (9, Refusal::Device, 1, dropped),
         (10, Refusal::Device, 255, dropped),
         (11, Refusal::Down, 0, dropped),
@@ -267,7 +267,7 @@ fn an_attempt_that_fails_leaves_the_discard_before_it(rt: HostRuntime) -> Result
         for fault in [ArmedFault::FailAt(call), ArmedFault::CutAt(call)] {
             let disk = with_image_and_trial(rt.alloc(), Boots::new(1))?;
             let over = (disk, BootMode::Discard);
-            let after = found_after(&rt, rt.alloc(), over, (fault, want), dropped, fill)?;
+            let after = found_after(&rt, rt.alloc(), over, (fault, want), dropped, byte)?;
             same(&rt, after, found);
         }
     }
@@ -279,7 +279,7 @@ fn an_attempt_that_fails_leaves_the_discard_before_it(rt: HostRuntime) -> Result
 fn an_attempt_that_fails_alone_counts_by_its_gate(rt: HostRuntime) -> Result<(), Fail> {
     let before = (false, (2, Some((0, 1))));
     let counted = (false, (2, Some((0, 0))));
-    for (call, want, fill, found) in [
+    for (call, want, byte, found) in [
         (5, Refusal::Device, 0, before),
         (6, Refusal::Device, 255, before),
         (7, Refusal::Down, 0, counted),
@@ -289,7 +289,7 @@ fn an_attempt_that_fails_alone_counts_by_its_gate(rt: HostRuntime) -> Result<(),
     ] {
         for fault in [ArmedFault::FailAt(call), ArmedFault::CutAt(call)] {
             let over = (on_trial(&rt, rt.alloc(), 1)?, BootMode::Fresh);
-            let after = found_after(&rt, rt.alloc(), over, (fault, want), before, fill)?;
+            let after = found_after(&rt, rt.alloc(), over, (fault, want), before, byte)?;
             same(&rt, after, found);
         }
     }

@@ -8,7 +8,7 @@ use crew::{Crew, Threads, Turns};
 use disk::ArmedFault;
 use layout::Side;
 use savers::LaneCounts;
-use simdisk::Choice;
+use simdisk::Fill;
 use std::alloc::Global;
 use std::process::Abort;
 use std::test::Fail;
@@ -18,7 +18,7 @@ use std::thread;
 fn written<C: Crew>(alloc: Global, crew: &C, lanes: u64) -> Result<(LaneCounts, bool), Refusal> {
     let mut site = Site::new(alloc, 5, lanes)?;
     let counts = site.write(alloc, crew, Side::first(), 9, 7)?;
-    let mut site = site.after_cut(Choice::Byte(0xff))?;
+    let mut site = site.after_cut(Fill::Byte(0xff))?;
     let holds = site.holds(alloc, Side::first(), 9, 7, counts)?;
     Ok((counts, holds))
 }
@@ -174,14 +174,14 @@ fn cut_beside<C: Crew>(
     alloc: Global,
     crew: &C,
     call: u64,
-    choice: Choice,
+    fill: Fill,
 ) -> Result<(Option<Refusal>, Option<Refusal>, bool), Refusal> {
     let mut site = Site::new(alloc, 2, 2)?;
     let counts = site.write(alloc, crew, Side::first(), 9, 7)?;
     site.arm(ArmedFault::CutLane(0, call));
     let other = Side::first().other();
     let refusal = site.write(alloc, crew, other, 100, 8).err();
-    let mut site = site.after_cut(choice)?;
+    let mut site = site.after_cut(fill)?;
     let read = site.holds(alloc, other, 100, 8, counts).err();
     let holds = site.holds(alloc, Side::first(), 9, 7, counts)?;
     Ok((refusal, read, holds))
@@ -191,8 +191,8 @@ fn cut_beside<C: Crew>(
 fn a_cut_leaves_the_other_area(rt: HostRuntime) -> Result<(), Fail> {
     let turns: Turns<HostRuntime> = Turns::new([0, 1, 2, 3])?;
     for call in 1..3 {
-        for choice in [Choice::Byte(0), Choice::Byte(0xff), Choice::Old] {
-            let answer = cut_beside(rt.alloc(), &turns, call, choice)?;
+        for fill in [Fill::Byte(0), Fill::Byte(0xff), Fill::Old] {
+            let answer = cut_beside(rt.alloc(), &turns, call, fill)?;
             same(
                 &rt,
                 answer,

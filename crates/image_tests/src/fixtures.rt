@@ -13,7 +13,7 @@ use layout::{
 };
 use ram::Ram;
 use savers::LaneCounts;
-use simdisk::{Choice, SimDisk};
+use simdisk::{Fill, SimDisk};
 use std::alloc::Global;
 use std::fmt::Debug;
 use std::process::Abort;
@@ -99,9 +99,9 @@ impl Site {
         Ok(Site { shape, disk })
     }
 
-    /// What a cut leaves by that choice.
-    pub fn after_cut(self, choice: Choice) -> Result<Site, Refusal> {
-        Site::over(self.shape, self.disk.after_cut(choice))
+    /// What a cut leaves by that fill.
+    pub fn after_cut(self, fill: Fill) -> Result<Site, Refusal> {
+        Site::over(self.shape, self.disk.after_cut(fill))
     }
 
     /// Writes the memory that begins with that byte into the area.

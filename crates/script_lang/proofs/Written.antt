@@ -12,8 +12,8 @@ use Rattle.script_lang.specs.Words.{words_of}
 use Rattle.script_lang.specs.Ranges.{IsLineInRange}
 use Rattle.script_lang.specs.Scripts.{Script, is_sound, is_passed, is_size, whole_lines, lines_of, board_of, said_of, rest_of, lines_from, script_of}
 use Rattle.script_lang.specs.Spellings.{spelling_of, text_of, fill_text, FitsLine, board_text, script_text, IsWritable}
-use Rattle.script_lang.specs.declared.line.Fill.{Fill}
-use Rattle.script_lang.specs.declared.line.Fill.TheVariants.{Old, New, Byte, Alternating}
+use Rattle.simdisk.specs.declared.fill.Fill.{Fill}
+use Rattle.simdisk.specs.declared.fill.Fill.TheVariants.{Old, New, Byte, Alternating}
 use Rattle.board_model.specs.declared.boot_mode.BootMode.TheVariants as modes
 use Rattle.script_lang.specs.declared.line.Line.{Line}
 use Rattle.script_lang.specs.declared.line.Line.TheVariants.{Payload, Format, On, Slot, Discard, Turn, Call, Reg, Pc, Csr, Pending, Mem, CutAt, CutLane, FailAt, FailLane, Cut, Poke, Inspect, Wake, Tries, Good}

@@ -6,8 +6,8 @@ use Rattle.board_model.specs.Shapes.{Size, IsSize}
 use Rattle.hex.specs.Hex.{encode_lower, IsBytes}
 use Rattle.board_model.specs.declared.boot_mode.BootMode.{BootMode}
 use Rattle.board_model.specs.declared.boot_mode.BootMode.TheVariants as modes
-use Rattle.script_lang.specs.declared.line.Fill.{Fill}
-use Rattle.script_lang.specs.declared.line.Fill.TheVariants.{Old, New, Byte, Alternating}
+use Rattle.simdisk.specs.declared.fill.Fill.{Fill}
+use Rattle.simdisk.specs.declared.fill.Fill.TheVariants.{Old, New, Byte, Alternating}
 use Rattle.script_lang.specs.declared.line.Line.{Line}
 use Rattle.script_lang.specs.declared.line.Line.TheVariants.{Payload, Format, On, Slot, Discard, Turn, Call, Reg, Pc, Csr, Pending, Mem, CutAt, CutLane, FailAt, FailLane, Cut, Poke, Inspect, Wake, Tries, Good}
 use Rattle.script_lang.specs.Ranges.{IsLineInRange}

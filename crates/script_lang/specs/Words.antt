@@ -5,8 +5,8 @@ use Rattle.std.specs.Char.{digit_value}
 use Rattle.std.specs.Str.{bytes_eq}
 use Rattle.hex.specs.Hex.{decode_of}
 use Rattle.hex.specs.declared.FromHexError.{FromHexError}
-use Rattle.script_lang.specs.declared.line.Fill.{Fill}
-use Rattle.script_lang.specs.declared.line.Fill.TheVariants.{Old, New, Byte, Alternating}
+use Rattle.simdisk.specs.declared.fill.Fill.{Fill}
+use Rattle.simdisk.specs.declared.fill.Fill.TheVariants.{Old, New, Byte, Alternating}
 use lib.Chars.{codes}
 
 infixl 10 ◌>>=◌

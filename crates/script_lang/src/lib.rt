@@ -11,7 +11,7 @@ mod words;
 
 pub use bytes::Bytes;
 pub use laws::{lines_read_as_spelled, lines_read_in_order, scripts_read_as_written};
-pub use line::{Fill, Line};
+pub use line::Line;
 pub use rows::mode;
 pub use scripts::{Script, parse_script};
 pub use words::{in_range, number};

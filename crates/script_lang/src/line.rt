@@ -2,19 +2,7 @@
 
 use crate::bytes::Bytes;
 use board_model::{BootMode, HartId, Slot};
-
-/// What a range that was written since the last sync holds after a power cut.
-#[derive(Clone, Copy, Debug, PartialEq, Eq, Drop)]
-pub enum Fill {
-    /// Its bytes at that sync.
-    Old,
-    /// The bytes of its last write.
-    New,
-    /// This byte throughout.
-    Byte(u8),
-    /// 0x55 at each even place of a sector, and 0xaa at each odd one.
-    Alternating,
-}
+use simdisk::Fill;
 
 /// The first word of a line.
 #[derive(Clone, Copy, Drop)]

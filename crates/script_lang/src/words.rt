@@ -5,8 +5,8 @@ ghost use Rattle.std.specs.Option.{option_map};
 ghost use Rattle.script_lang.specs.Words.{digits_after, numeral_of, number_of, ranged, fill_of, hex_of, none_of, one_of, two_of, three_of};
 
 use crate::bytes::Bytes;
-use crate::line::Fill;
 use hex::FromHexError;
+use simdisk::Fill;
 use std::alloc::{AllocError, Global};
 
 /// The number that at most 20 digits write.

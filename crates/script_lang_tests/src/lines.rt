@@ -2,7 +2,8 @@
 
 use crate::read::{malformed, says};
 use board_model::{BootMode, HartId, Slot};
-use script_lang::{Bytes, Fill, Line};
+use script_lang::{Bytes, Line};
+use simdisk::Fill;
 use std::alloc::{AllocError, Global};
 use std::process::Abort;
 use std::test::*;

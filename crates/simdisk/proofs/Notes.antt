@@ -7,9 +7,9 @@ use Rattle.std.proofs.lemmas.Bool.{cases_lt}
 use Rattle.disk.specs.Facts.{Content, Lent, Torn, Apart, IsFresh, nothing, sector}
 use Rattle.simdisk.specs.declared.patch.Patch.{Patch}
 use Rattle.simdisk.specs.WriteLog.{Piece, WriteLog, laid_over, newest, synced, range, ranges, more_written, more_synced, lent_piece, new_record, replay, filled, sim_facts, Untouched, AgreesOutside, AreWithin}
-use Rattle.simdisk.specs.Views.{piece, pieces, alternating, left_by_choice, Noted, IsLatest}
-use Rattle.simdisk.specs.declared.choice.Choice.{Choice}
-use Rattle.simdisk.specs.declared.choice.Choice.TheVariants.{Byte, Alternating, Old, New}
+use Rattle.simdisk.specs.Views.{piece, pieces, alternating, left_by_fill, Noted, IsLatest}
+use Rattle.simdisk.specs.declared.fill.Fill.{Fill}
+use Rattle.simdisk.specs.declared.fill.Fill.TheVariants.{Byte, Alternating, Old, New}
 use Rattle.simdisk.proofs.Pieces.{agrees_replay, ranges_filled, replay_push, put_same}
 use Rattle.simdisk.proofs.Ranges.{durable, agrees_all, untouched_at, agrees_torn}
 use Rattle.simdisk.proofs.Walks.{read_piece}
@@ -120,13 +120,13 @@ fresh_of now stood r f i l begun is none = record {
   none_out = none;
 }
 
--- each choice is one that a crash may leave
+-- each fill is one that a crash may leave
 filled_agrees : (bytes : List ℕ) (stood : Content) (ps : List Piece) → AreWithin (length stood) (ranges ps) → AgreesOutside stood (ranges ps) (replay (map (filled bytes) ps) stood)
 filled_agrees bytes stood ps fits =
     let same = ranges_filled bytes ps in
     subst (λ (rs : List (ℕ × ℕ)). AgreesOutside stood rs (replay (map (filled bytes) ps) stood)) same (agrees_replay (map (filled bytes) ps) stood (subst (λ (rs : List (ℕ × ℕ)). AreWithin (length stood) rs) (sym same) fits))
 
-pub left_agrees : (choice : Choice) (stood : Content) (ps : List Piece) → AreWithin (length stood) (ranges ps) → AgreesOutside stood (ranges ps) (left_by_choice choice stood ps)
+pub left_agrees : (fill : Fill) (stood : Content) (ps : List Piece) → AreWithin (length stood) (ranges ps) → AgreesOutside stood (ranges ps) (left_by_fill fill stood ps)
 left_agrees (Byte byte) stood ps fits = filled_agrees (replicate 512 byte) stood ps fits
 left_agrees Alternating stood ps fits = filled_agrees alternating stood ps fits
 left_agrees Old stood ps fits = record { as_long = refl; same = λ k u. refl }

@@ -6,9 +6,9 @@ use Rattle.std.proofs.lemmas.Bool.{cases_lt, cases_eq, cond-true, cond-false, lt
 use Rattle.std.specs.List.{flat_map}
 use Rattle.disk.specs.Facts.{Content, sector}
 use Rattle.simdisk.specs.declared.patch.Patch.{Patch}
-use Rattle.simdisk.specs.declared.choice.Choice.{Choice}
-use Rattle.simdisk.specs.declared.choice.Choice.TheVariants.{Byte, Alternating, Old, New}
-use Rattle.simdisk.specs.Views.{alternating, left_by_choice, piece, pieces}
+use Rattle.simdisk.specs.declared.fill.Fill.{Fill}
+use Rattle.simdisk.specs.declared.fill.Fill.TheVariants.{Byte, Alternating, Old, New}
+use Rattle.simdisk.specs.Views.{alternating, left_by_fill, piece, pieces}
 use Rattle.simdisk.specs.WriteLog.{Piece, WriteLog, laid_over, replay, synced, filled, ranges, Untouched, AgreesOutside, AreWithin}
 use Rattle.simdisk.specs.Pokes.{misses, part_before, part_behind, parted, poked_record}
 use Rattle.simdisk.proofs.Pieces.{length-put, put_low, put_mid, put_high, fits_here, fits_rest, ranges_filled}
@@ -239,7 +239,7 @@ module _ (k : ℕ) (v : List ℕ) (stood : Content) (ps : List Piece) (lt : k < 
       ap (λ (qs : List Piece). replay qs (laid_over (k, v ∷ []) stood)) (filled_parts bytes k ps)
       ∙ replay_parted k v (map (filled bytes) ps) stood lt (subst (λ (rs : List (ℕ × ℕ)). AreWithin (length stood) rs) (sym (ranges_filled bytes ps)) fits)
 
-  pub left_poked : AreWithin (length stood) (ranges ps) → (choice : Choice) → left_by_choice choice (laid_over (k, v ∷ []) stood) (flat_map (parted k) ps) ≡ laid_over (k, v ∷ []) (left_by_choice choice stood ps)
+  pub left_poked : AreWithin (length stood) (ranges ps) → (fill : Fill) → left_by_fill fill (laid_over (k, v ∷ []) stood) (flat_map (parted k) ps) ≡ laid_over (k, v ∷ []) (left_by_fill fill stood ps)
   left_poked fits (Byte byte) = filled_poked fits (replicate 512 byte)
   left_poked fits Alternating = filled_poked fits alternating
   left_poked fits Old = refl
@@ -288,8 +288,8 @@ module _ (k : ℕ) (v : List ℕ) (stood : Content) (ps : List Piece) (lt : k < 
 
 -- the record of a disk that was poked
 module _ (k : ℕ) (v : List ℕ) (r r' : WriteLog) (anew : r' ≡ poked_record k v r) (lt : k < length (synced r)) where
-  pub choices_poked : AreWithin (length (synced r)) (ranges r.written) → (choice : Choice) → left_by_choice choice (synced r') r'.written ≡ laid_over (k, v ∷ []) (left_by_choice choice (synced r) r.written)
-  choices_poked fits choice = ap (λ (q : WriteLog). left_by_choice choice (synced q) q.written) anew ∙ left_poked k v (synced r) r.written lt fits choice
+  pub fills_poked : AreWithin (length (synced r)) (ranges r.written) → (fill : Fill) → left_by_fill fill (synced r') r'.written ≡ laid_over (k, v ∷ []) (left_by_fill fill (synced r) r.written)
+  fills_poked fits fill = ap (λ (q : WriteLog). left_by_fill fill (synced q) q.written) anew ∙ left_poked k v (synced r) r.written lt fits fill
 
   pub agrees_poked : (c c' : Content) → AgreesOutside (synced r) (ranges r.written) c → c' ≡ laid_over (k, v ∷ []) c → AgreesOutside (synced r') (ranges r'.written) c'
   agrees_poked c c' a laid =

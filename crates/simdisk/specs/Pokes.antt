@@ -2,8 +2,8 @@
 use Rattle.std.specs.Prelude.{◌≡◌, ℕ, ◌+◌, ◌-◌, ◌<◌, ◌≤◌, ◌↔◌, ◌||◌, Bool, nat_lt, nat_le, if◌then◌else◌, List, [], ◌∷◌, ◌++◌, length, take, drop}
 use Rattle.std.specs.List.{flat_map}
 use Rattle.disk.specs.Facts.{Content, Facts, sector}
-use Rattle.simdisk.specs.declared.choice.Choice.{Choice}
-use Rattle.simdisk.specs.Views.{left_by_choice}
+use Rattle.simdisk.specs.declared.fill.Fill.{Fill}
+use Rattle.simdisk.specs.Views.{left_by_fill}
 use Rattle.simdisk.specs.WriteLog.{Piece, WriteLog, laid_over, synced}
 
 -- the bytes of a sector with these in it, from that one on
@@ -23,12 +23,12 @@ pub record StandsSo (k : ℕ) (bytes : List ℕ) (old new : Facts) : Type 0 wher
   pub content : new.content ≡ laid_over (k, bytes ∷ []) old.content
   pub crash : (c : Content) → new.may_leave c ↔ ((d : Content) × old.may_leave d × (c ≡ laid_over (k, bytes ∷ []) d))
 
--- by each choice a cut leaves what it would have left, with that sector
+-- by each fill a cut leaves what it would have left, with that sector
 abbrev pub StandsByEach : ℕ → List ℕ → WriteLog → WriteLog → Type 0
 StandsByEach k bytes old new =
-    (choice : Choice)
-    → left_by_choice choice (synced new) new.written
-    ≡ laid_over (k, bytes ∷ []) (left_by_choice choice (synced old) old.written)
+    (fill : Fill)
+    → left_by_fill fill (synced new) new.written
+    ≡ laid_over (k, bytes ∷ []) (left_by_fill fill (synced old) old.written)
 
 -- the k-th sector is not in the piece
 abbrev pub misses : ℕ → Piece → Bool

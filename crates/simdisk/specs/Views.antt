@@ -6,8 +6,8 @@ use Rattle.simdisk.specs.declared.patch.Patch.{Patch}
 use Rattle.simdisk.specs.WriteLog.{Piece, filled, replay, range_at}
 use Rattle.simdisk.specs.declared.lane.Last.{Last}
 use Rattle.simdisk.specs.declared.lane.Last.TheVariants as last
-use Rattle.simdisk.specs.declared.choice.Choice.{Choice}
-use Rattle.simdisk.specs.declared.choice.Choice.TheVariants.{Byte, Alternating, Old, New}
+use Rattle.simdisk.specs.declared.fill.Fill.{Fill}
+use Rattle.simdisk.specs.declared.fill.Fill.TheVariants.{Byte, Alternating, Old, New}
 use Rattle.simdisk.specs.declared.loan.Loan.{Loan}
 
 abbrev pub piece : Patch → Piece
@@ -31,18 +31,18 @@ abbrev pub HasRoom : ℕ → Last → Type 0
 HasRoom n last.AsRead = Unit {0}
 HasRoom n (last.Apart newest) = n ≤ length newest.items
 
--- ---- what each choice leaves of what was written since the last sync
+-- ---- what each fill leaves of what was written since the last sync
 -- a sector with 0x55 at each even place of it, and 0xaa at each odd one
 abbrev pub alternating : List ℕ
 alternating = flat_map (λ (pair : List ℕ). pair) (replicate 256 (0x55 ∷ 0xaa ∷ []))
 
 -- that byte throughout each piece, or the two in turn; what stood at the sync; or the bytes that were written
 -- last
-abbrev pub left_by_choice : Choice → Content → List Piece → Content
-left_by_choice (Byte byte) stood pieces = replay (map (filled (replicate 512 byte)) pieces) stood
-left_by_choice Alternating stood pieces = replay (map (filled alternating) pieces) stood
-left_by_choice Old stood pieces = stood
-left_by_choice New stood pieces = replay pieces stood
+abbrev pub left_by_fill : Fill → Content → List Piece → Content
+left_by_fill (Byte byte) stood pieces = replay (map (filled (replicate 512 byte)) pieces) stood
+left_by_fill Alternating stood pieces = replay (map (filled alternating) pieces) stood
+left_by_fill Old stood pieces = stood
+left_by_fill New stood pieces = replay pieces stood
 
 -- ---- what is lent, and where the record has it
 abbrev pub lent_of : Loan → Lent

@@ -30,7 +30,7 @@ pub(crate) fn settle(stood: &mut Vec<Sector>, patches: &[Patch], content: &[Sect
 
 /// Fills the sectors of these patches each with those bytes.
 #[tactic(auto, using(crate::proofs::Pieces::length_replay))]
-pub(crate) fn fill(content: &mut Vec<Sector>, patches: &[Patch], bytes: &Sector)
+pub(crate) fn fill_patches(content: &mut Vec<Sector>, patches: &[Patch], bytes: &Sector)
     requires { AreWithin (length content.old.items) (ranges (pieces patches.now)) }
     ensures content { content.new.items ≡ replay (map (filled bytes.now) (pieces patches.now)) content.old.items }
     ensures as_long { length content.new.items ≡ length content.old.items }

@@ -1,12 +1,12 @@
 //! A disk in memory, which meets the whole contract of [`disk::Disk`] with nothing assumed. It
 //! keeps a record of all its writes and syncs, from which what a crash may leave is read to the
-//! letter, and it can be cut, by a choice of what the crash leaves. docs/DISK.md has the model.
+//! letter, and it can be cut, with a fill that says what the crash leaves. docs/DISK.md has the model.
 #![tactic(auto)]
 
-mod choice;
 mod device;
 mod exactness;
 mod faults;
+mod fill;
 mod history;
 mod laid;
 mod lane;
@@ -22,8 +22,8 @@ mod remembered;
 mod sim;
 mod striking;
 
-pub use choice::Choice;
 pub use exactness::exactly_the_model;
+pub use fill::Fill;
 pub use lane::SimLane;
 pub use recorded::{Recorded, RecordedLane};
 pub use sim::SimDisk;

@@ -4,10 +4,10 @@ ghost use Rattle.std.specs.Simd.{first_chunks};
 ghost use Rattle.disk.specs.Facts.{IsFresh, IsLeft, Unchanged};
 ghost use Rattle.disk.specs.FaultState.{FaultArmed, CutArmed, no_fault, fault_state_left};
 ghost use Rattle.simdisk.specs.WriteLog.{synced, new_record};
-ghost use Rattle.simdisk.specs.Views.{left_by_choice};
+ghost use Rattle.simdisk.specs.Views.{left_by_fill};
 
-use crate::choice::Choice;
 use crate::faults::Faults;
+use crate::fill::Fill;
 use crate::history::History;
 use crate::latest::Latest;
 use crate::loan::Loan;
@@ -79,12 +79,12 @@ impl SimDisk {
         })
     }
 
-    /// The disk that a crash now leaves by that choice. It goes on counting failures and calls; nothing
+    /// The disk that a crash now leaves by that fill. It goes on counting failures and calls; nothing
     /// of it is lent, nothing is armed, and power is back. No memory is taken.
-    pub fn after_cut(self, choice: Choice) -> SimDisk
+    pub fn after_cut(self, fill: Fill) -> SimDisk
         ensures left { IsLeft (⟦<SimDisk as Disk>⟧.facts self) (⟦<SimDisk as Disk>⟧.facts result) }
         ensures exact { (⟦<SimDisk as Disk>⟧.facts result).content
-            ≡ left_by_choice choice (synced (⟦<SimDisk as Recorded>⟧.record self))
+            ≡ left_by_fill fill (synced (⟦<SimDisk as Recorded>⟧.record self))
             (⟦<SimDisk as Recorded>⟧.record self).written }
         ensures record { ⟦<SimDisk as Recorded>⟧.record result ≡ new_record (⟦<SimDisk as Disk>⟧.facts result).content }
         ensures fault_state { ⟦<SimDisk as Disk>⟧.fault_state result
@@ -94,7 +94,7 @@ impl SimDisk {
         let mut content = self.content;
         let mut latest = self.latest;
         let last = latest.over(&content);
-        let history = self.history.left(self.alloc, choice, last);
+        let history = self.history.left(self.alloc, fill, last);
         latest.as_read = true;
         content.copy_from_slice(&history.stood);
         let lane_calls = self.lane_calls;
@@ -113,10 +113,10 @@ impl SimDisk {
     }
 
     /// The same, as a disk of its own: this one stays as it is.
-    pub fn left(&self, choice: Choice) -> Result<SimDisk, AllocError>
+    pub fn left(&self, fill: Fill) -> Result<SimDisk, AllocError>
         ensures left { IfOk result (λ disk. IsLeft (⟦<SimDisk as Disk>⟧.facts self.now) (⟦<SimDisk as Disk>⟧.facts disk)) }
         ensures exact { IfOk result (λ disk. (⟦<SimDisk as Disk>⟧.facts disk).content
-            ≡ left_by_choice choice (synced (⟦<SimDisk as Recorded>⟧.record self.now))
+            ≡ left_by_fill fill (synced (⟦<SimDisk as Recorded>⟧.record self.now))
             (⟦<SimDisk as Recorded>⟧.record self.now).written) }
         ensures record { IfOk result (λ disk. ⟦<SimDisk as Recorded>⟧.record disk
             ≡ new_record (⟦<SimDisk as Disk>⟧.facts disk).content) }
@@ -125,7 +125,7 @@ impl SimDisk {
         ensures lane_calls { IfOk result (λ disk. ⟦<SimDisk as Recorded>⟧.lane_calls disk
             ≡ ⟦<SimDisk as Recorded>⟧.lane_calls self.now) }
     {
-        let content = self.content_left(choice)?;
+        let content = self.content_left(fill)?;
         let history = History::begun(self.alloc, &content)?;
         let latest = Latest::begun(self.alloc, &content)?;
         let lane_calls = self.lane_calls;
@@ -143,14 +143,14 @@ impl SimDisk {
         })
     }
 
-    /// What a crash now leaves by that choice.
-    fn content_left(&self, choice: Choice) -> Result<Vec<Sector>, AllocError>
+    /// What a crash now leaves by that fill.
+    fn content_left(&self, fill: Fill) -> Result<Vec<Sector>, AllocError>
         ensures { IfOk result (λ content. content.items
-            ≡ left_by_choice choice (synced (⟦<SimDisk as Recorded>⟧.record self.now))
+            ≡ left_by_fill fill (synced (⟦<SimDisk as Recorded>⟧.record self.now))
             (⟦<SimDisk as Recorded>⟧.record self.now).written) }
     {
         let last = self.latest.over(&self.content);
-        self.history.content_left(self.alloc, choice, last)
+        self.history.content_left(self.alloc, fill, last)
     }
 
     /// The n-th call of this disk from now on fails. It replaces what was armed.

@@ -89,7 +89,7 @@ impl SimDisk {
         ensures stands { OnOk result (PokeFits sector offset bytes.now (⟦<SimDisk as Disk>⟧.facts self.old).content
             → StandsSo sector (poked sector offset bytes.now (⟦<SimDisk as Disk>⟧.facts self.old).content)
             (⟦<SimDisk as Disk>⟧.facts self.old) (⟦<SimDisk as Disk>⟧.facts self.new)) }
-        ensures choices { OnOk result (PokeFits sector offset bytes.now (⟦<SimDisk as Disk>⟧.facts self.old).content
+        ensures fills { OnOk result (PokeFits sector offset bytes.now (⟦<SimDisk as Disk>⟧.facts self.old).content
             → StandsByEach sector (poked sector offset bytes.now (⟦<SimDisk as Disk>⟧.facts self.old).content)
             (⟦<SimDisk as Recorded>⟧.record self.old) (⟦<SimDisk as Recorded>⟧.record self.new)) }
         ensures record { OnOk result (PokeFits sector offset bytes.now (⟦<SimDisk as Disk>⟧.facts self.old).content

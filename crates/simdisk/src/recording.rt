@@ -1,13 +1,13 @@
 //! How the record of writes and syncs grows.
 ghost use Rattle.std.specs.Prelude.{◌≡◌, ◌≤◌, ◌<◌, ◌+◌, ◌*◌, ℕ, [], ◌∷◌, length, map, true, OnOk, OnErr, IfOk};
 ghost use Rattle.disk.specs.Facts.{Handed, Torn};
-ghost use Rattle.simdisk.specs.Views.{IsLatest, left_by_choice, pieces};
+ghost use Rattle.simdisk.specs.Views.{IsLatest, left_by_fill, pieces};
 ghost use Rattle.simdisk.specs.WriteLog.{new_record, more_written, more_synced, lent_piece, newest, replay, synced, ranges, AgreesOutside, AreWithin};
 
-use crate::choice::Choice;
 use crate::faults::Faults;
+use crate::fill::Fill;
 use crate::history::History;
-use crate::laid::{alternating, fill, settle};
+use crate::laid::{alternating, fill_patches, settle};
 use crate::lane::SimLane;
 use crate::lending::lend;
 use crate::loan::Loan;
@@ -16,19 +16,19 @@ use crate::remembered::Remembered;
 use disk::Sector;
 use std::alloc::{AllocError, Global};
 
-/// What a crash leaves by that choice of a disk on which those sectors were written, and these would stand had
+/// What a crash leaves by that fill of a disk on which those sectors were written, and these would stand had
 /// each write gone through.
-fn leave(content: &mut Vec<Sector>, written: &[Patch], choice: Choice, last: &[Sector])
+fn leave(content: &mut Vec<Sector>, written: &[Patch], fill: Fill, last: &[Sector])
     requires fits { AreWithin (length content.old.items) (ranges (pieces written.now)) }
     requires last { last.now ≡ replay (pieces written.now) content.old.items }
     requires as_long { length last.now ≡ length content.old.items }
-    ensures { content.new.items ≡ left_by_choice choice content.old.items (pieces written.now) }
+    ensures { content.new.items ≡ left_by_fill fill content.old.items (pieces written.now) }
 {
-    match choice {
-        Choice::Byte(byte) => fill(content, written, &[byte; 512]),
-        Choice::Alternating => fill(content, written, &alternating()),
-        Choice::Old => {}
-        Choice::New => content.copy_from_slice(last),
+    match fill {
+        Fill::Byte(byte) => fill_patches(content, written, &[byte; 512]),
+        Fill::Alternating => fill_patches(content, written, &alternating()),
+        Fill::Old => {}
+        Fill::New => content.copy_from_slice(last),
     }
 }
 
@@ -149,34 +149,34 @@ impl History {
         self.written[loan.patch].retake(last);
     }
 
-    /// What a crash leaves by that choice, where those sectors would stand had each write gone through.
+    /// What a crash leaves by that fill, where those sectors would stand had each write gone through.
     pub(crate) fn content_left(
         &self,
         alloc: Global,
-        choice: Choice,
+        fill: Fill,
         last: &[Sector],
     ) -> Result<Vec<Sector>, AllocError>
         requires { last.now ≡ newest (log_of self.now) }
         ensures { IfOk result (λ content. content.items
-            ≡ left_by_choice choice (synced (log_of self.now)) (pieces self.now.written.items)) }
+            ≡ left_by_fill fill (synced (log_of self.now)) (pieces self.now.written.items)) }
     {
         let mut content = copy_of(alloc, &self.stood)?;
-        leave(&mut content, &self.written, choice, last);
+        leave(&mut content, &self.written, fill, last);
         Ok(content)
     }
 
-    /// The record of the disk that a crash leaves by that choice, where those sectors would stand had each
+    /// The record of the disk that a crash leaves by that fill, where those sectors would stand had each
     /// write gone through.
-    pub(crate) fn left(self, alloc: Global, choice: Choice, last: &[Sector]) -> History
+    pub(crate) fn left(self, alloc: Global, fill: Fill, last: &[Sector]) -> History
         requires { last.now ≡ newest (log_of self) }
         ensures record { log_of result
-            ≡ new_record (left_by_choice choice (synced (log_of self)) (pieces self.written.items)) }
+            ≡ new_record (left_by_fill fill (synced (log_of self)) (pieces self.written.items)) }
         ensures content { result.stood.items
-            ≡ left_by_choice choice (synced (log_of self)) (pieces self.written.items) }
+            ≡ left_by_fill fill (synced (log_of self)) (pieces self.written.items) }
         ensures as_long { length result.stood.items ≡ length (synced (log_of self)) }
     {
         let mut content = self.stood;
-        leave(&mut content, &self.written, choice, last);
+        leave(&mut content, &self.written, fill, last);
         let past = Remembered::of(&content);
         History {
             stood: content,

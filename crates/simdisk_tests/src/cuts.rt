@@ -1,10 +1,10 @@
-//! What each choice leaves, where armed faults strike, and what refused memory leaves.
+//! What each fill leaves, where armed faults strike, and what refused memory leaves.
 ghost use Rattle.std.specs.Prelude.{◌≡◌};
 
 use crate::fixtures::{contents, read_byte, same, write_byte, written_disk};
 use board_model::Refusal;
 use disk::{Disk, Fault, read_sector, write_synced};
-use simdisk::{Choice, SimDisk};
+use simdisk::{Fill, SimDisk};
 use std::alloc::Global;
 use std::process::Abort;
 use std::test::Fail;
@@ -31,43 +31,43 @@ fn bytes_become_sectors(rt: HostRuntime) -> Result<(), Fail> {
 }
 
 #[test]
-fn each_choice_leaves_its_bytes(rt: HostRuntime) -> Result<(), Fail> {
-    for (choice, left) in [
-        (Choice::Byte(0), [0, 0, 0, 0]),
-        (Choice::Byte(255), [0, 255, 255, 0]),
-        (Choice::Old, [0, 1, 0, 0]),
-        (Choice::New, [0, 2, 3, 0]),
+fn each_fill_leaves_its_bytes(rt: HostRuntime) -> Result<(), Fail> {
+    for (fill, left) in [
+        (Fill::Byte(0), [0, 0, 0, 0]),
+        (Fill::Byte(255), [0, 255, 255, 0]),
+        (Fill::Old, [0, 1, 0, 0]),
+        (Fill::New, [0, 2, 3, 0]),
     ] {
-        let mut disk = written_disk(&rt, rt.alloc())?.after_cut(choice);
+        let mut disk = written_disk(&rt, rt.alloc())?.after_cut(fill);
         same(&rt, contents(&rt, &disk), left);
         same(&rt, read_byte(&rt, &mut disk, 1), Ok(left[1]));
         // What is left is durable.
-        let disk = disk.after_cut(Choice::Byte(9));
+        let disk = disk.after_cut(Fill::Byte(9));
         same(&rt, contents(&rt, &disk), left);
     }
     Ok(())
 }
 
 #[test]
-fn a_disk_is_left_by_each_choice_and_stays(rt: HostRuntime) -> Result<(), Fail> {
+fn a_disk_is_left_by_each_fill_and_stays(rt: HostRuntime) -> Result<(), Fail> {
     let disk = written_disk(&rt, rt.alloc())?;
-    let left = disk.left(Choice::Alternating)?;
+    let left = disk.left(Fill::Alternating)?;
     same(&rt, contents(&rt, &left), [0, 0xaa, 0xaa, 0]);
     let Some(sector) = left.content().get(1) else {
         return Err(Fail::new("no sector"));
     };
     same(&rt, sector[510], 0x55);
-    same(&rt, contents(&rt, &disk.left(Choice::Old)?), [0, 1, 0, 0]);
+    same(&rt, contents(&rt, &disk.left(Fill::Old)?), [0, 1, 0, 0]);
     same(&rt, contents(&rt, &disk), [0, 2, 3, 0]);
     Ok(())
 }
 
 #[test]
 fn a_failed_write_stays_and_counts_as_written(rt: HostRuntime) -> Result<(), Fail> {
-    for (choice, left) in [
-        (Choice::Byte(8), [0, 8, 0, 0]),
-        (Choice::Old, [0, 0, 0, 0]),
-        (Choice::New, [0, 5, 0, 0]),
+    for (fill, left) in [
+        (Fill::Byte(8), [0, 8, 0, 0]),
+        (Fill::Old, [0, 0, 0, 0]),
+        (Fill::New, [0, 5, 0, 0]),
     ] {
         let mut disk = SimDisk::blank(rt.alloc(), 4)?;
         disk.fail_at(2);
@@ -78,7 +78,7 @@ fn a_failed_write_stays_and_counts_as_written(rt: HostRuntime) -> Result<(), Fai
         same(&rt, read_byte(&rt, &mut disk, 1), Ok(0));
         same(&rt, disk.struck(), false);
         // The count goes on.
-        let disk = disk.after_cut(choice);
+        let disk = disk.after_cut(fill);
         same(&rt, contents(&rt, &disk), left);
         same(&rt, disk.failures(), 1);
     }
@@ -91,7 +91,7 @@ fn a_failed_sync_makes_nothing_durable(rt: HostRuntime) -> Result<(), Fail> {
     same(&rt, write_byte(&rt, &mut disk, 3, 5), Ok(()));
     disk.fail_at(1);
     same(&rt, disk.sync(), Err(Fault));
-    let disk = disk.after_cut(Choice::Old);
+    let disk = disk.after_cut(Fill::Old);
     same(&rt, contents(&rt, &disk), [0, 0, 0, 0]);
     Ok(())
 }
@@ -109,7 +109,7 @@ fn after_a_cut_every_call_fails(rt: HostRuntime) -> Result<(), Fail> {
     same(&rt, read_byte(&rt, &mut disk, 2), Err(Fault));
     same(&rt, disk.sync(), Err(Fault));
     same(&rt, (disk.calls(), disk.failures()), (8, 3));
-    let mut disk = disk.after_cut(Choice::New);
+    let mut disk = disk.after_cut(Fill::New);
     same(&rt, contents(&rt, &disk), [0, 2, 3, 7]);
     same(&rt, disk.struck(), false);
     // Power is back.
@@ -127,7 +127,7 @@ fn one_sector_is_written_synced_and_read(rt: HostRuntime) -> Result<(), Fail> {
     same(&rt, read_sector(&mut disk, 2), Ok([6; 512]));
     same(
         &rt,
-        contents(&rt, &disk.after_cut(Choice::Byte(9))),
+        contents(&rt, &disk.after_cut(Fill::Byte(9))),
         [0, 0, 6, 0],
     );
     Ok(())
@@ -170,6 +170,6 @@ fn a_refused_growth_is_counted_and_changes_nothing(rt: HostRuntime) -> Result<()
         (false, true, false) => [0, 9, 0, 0],
         (false, false, _) => [0, 0, 0, 0],
     };
-    same(&rt, contents(&rt, &disk.after_cut(Choice::Byte(9))), left);
+    same(&rt, contents(&rt, &disk.after_cut(Fill::Byte(9))), left);
     Ok(())
 }

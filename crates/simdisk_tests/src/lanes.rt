@@ -4,7 +4,7 @@ ghost use Rattle.disk.specs.Facts.{InRow};
 
 use crate::fixtures::{contents, same};
 use disk::{Disk, Fault, Lane};
-use simdisk::{Choice, SimDisk, SimLane};
+use simdisk::{Fill, SimDisk, SimLane};
 use std::alloc::{AllocError, Global};
 use std::process::Abort;
 use std::test::Fail;
@@ -79,14 +79,14 @@ fn cut_in_lane(rt: &impl Abort, alloc: Global) -> Result<SimDisk, Fail> {
 
 #[test]
 fn a_cut_lane_takes_the_disk_along_at_the_join(rt: HostRuntime) -> Result<(), Fail> {
-    for (choice, left) in [
-        (Choice::Byte(9), [9, 9, 9, 9]),
-        (Choice::Old, [0, 0, 0, 0]),
-        (Choice::New, [0, 5, 6, 7]),
+    for (fill, left) in [
+        (Fill::Byte(9), [9, 9, 9, 9]),
+        (Fill::Old, [0, 0, 0, 0]),
+        (Fill::New, [0, 5, 6, 7]),
     ] {
         let disk = cut_in_lane(&rt, rt.alloc())?;
         same(&rt, contents(&rt, &disk), [0, 5, 0, 0]);
-        same(&rt, contents(&rt, &disk.after_cut(choice)), left);
+        same(&rt, contents(&rt, &disk.after_cut(fill)), left);
     }
     Ok(())
 }
@@ -131,7 +131,7 @@ fn a_lane_counts_its_calls_from_split_to_split(rt: HostRuntime) -> Result<(), Fa
     lent_and_joined(&rt, &mut disk, rt.alloc(), 1, 1)?;
     lent_and_joined(&rt, &mut disk, rt.alloc(), 1, 1)?;
     same(&rt, disk.sync(), Ok(()));
-    let disk = disk.after_cut(Choice::Byte(9));
+    let disk = disk.after_cut(Fill::Byte(9));
     same(&rt, contents(&rt, &disk), [0, 5, 0, 0]);
     Ok(())
 }

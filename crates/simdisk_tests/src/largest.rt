@@ -4,7 +4,7 @@ ghost use Rattle.std.specs.Prelude.{◌≡◌, OnOk};
 use crate::fixtures::{contents, same, write_byte};
 use board_model::Shape;
 use disk::{Disk, write_synced};
-use simdisk::{Choice, SimDisk};
+use simdisk::{Fill, SimDisk};
 use std::process::Abort;
 use std::test::Fail;
 
@@ -66,7 +66,7 @@ fn each_of_many_writes_is_made(rt: HostRuntime) -> Result<(), Fail> {
     );
     // A poke finds memory after as many calls.
     disk.poke(3, 511, &[7])?;
-    let disk = disk.after_cut(Choice::Old);
+    let disk = disk.after_cut(Fill::Old);
     same(&rt, contents(&rt, &disk), [0, 5, 6, 7]);
     Ok(())
 }

@@ -1,4 +1,4 @@
-//! The disk in memory: what each choice leaves, where armed faults strike, and that
+//! The disk in memory: what each fill leaves, where armed faults strike, and that
 //! memory is not refused where there is some.
 #![tactic(auto)]
 

@@ -2,7 +2,7 @@
 
 use crate::fixtures::{contents, same, write_byte, written_disk};
 use disk::{Disk, Fault};
-use simdisk::{Choice, SimDisk};
+use simdisk::{Fill, SimDisk};
 use std::process::Abort;
 use std::test::Fail;
 
@@ -15,17 +15,17 @@ fn byte_at(rt: &impl Abort, disk: &SimDisk, sector: usize, at: usize) -> u8 {
 
 #[test]
 fn a_poked_sector_stands_whatever_a_cut_leaves(rt: HostRuntime) -> Result<(), Fail> {
-    for (choice, left) in [
-        (Choice::Byte(0), [0, 7, 0, 0]),
-        (Choice::Byte(255), [0, 7, 255, 0]),
-        (Choice::Old, [0, 7, 0, 0]),
-        (Choice::New, [0, 7, 3, 0]),
+    for (fill, left) in [
+        (Fill::Byte(0), [0, 7, 0, 0]),
+        (Fill::Byte(255), [0, 7, 255, 0]),
+        (Fill::Old, [0, 7, 0, 0]),
+        (Fill::New, [0, 7, 3, 0]),
     ] {
         let mut disk = written_disk(&rt, rt.alloc())?;
         disk.poke(1, 500, &[7; 12])?;
         same(&rt, contents(&rt, &disk), [0, 7, 3, 0]);
         same(&rt, (disk.calls(), disk.failures()), (4, 0));
-        let disk = disk.after_cut(choice);
+        let disk = disk.after_cut(fill);
         same(&rt, contents(&rt, &disk), left);
         // The rest of the sector stands as it read.
         same(&rt, byte_at(&rt, &disk, 1, 499), 2);
@@ -46,7 +46,7 @@ fn the_sectors_of_a_write_round_a_poke_stay_written(rt: HostRuntime) -> Result<(
         let mut left = [9; 4];
         left[at] = 7;
         left[3] = 6;
-        same(&rt, contents(&rt, &disk.after_cut(Choice::Byte(9))), left);
+        same(&rt, contents(&rt, &disk.after_cut(Fill::Byte(9))), left);
     }
     Ok(())
 }
@@ -60,11 +60,7 @@ fn a_failed_write_is_gone_in_the_poked_sector_alone(rt: HostRuntime) -> Result<(
     same(&rt, write_byte(&rt, &mut disk, 2, 5), Err(Fault));
     disk.poke(1, 511, &[7])?;
     same(&rt, contents(&rt, &disk), [0, 7, 0, 0]);
-    same(
-        &rt,
-        contents(&rt, &disk.after_cut(Choice::New)),
-        [0, 7, 5, 0],
-    );
+    same(&rt, contents(&rt, &disk.after_cut(Fill::New)), [0, 7, 5, 0]);
     Ok(())
 }
 
@@ -81,11 +77,7 @@ fn a_poked_disk_goes_on(rt: HostRuntime) -> Result<(), Fail> {
     same(&rt, disk.struck(), false);
     same(&rt, disk.sync(), Err(Fault));
     same(&rt, disk.struck(), true);
-    same(
-        &rt,
-        contents(&rt, &disk.after_cut(Choice::Old)),
-        [0, 5, 8, 0],
-    );
+    same(&rt, contents(&rt, &disk.after_cut(Fill::Old)), [0, 5, 8, 0]);
     Ok(())
 }
 
@@ -101,7 +93,7 @@ fn what_does_not_end_in_a_sector_changes_nothing(rt: HostRuntime) -> Result<(), 
     same(&rt, contents(&rt, &disk), [0, 2, 3, 0]);
     same(
         &rt,
-        contents(&rt, &disk.after_cut(Choice::Byte(9))),
+        contents(&rt, &disk.after_cut(Fill::Byte(9))),
         [0, 9, 9, 0],
     );
     Ok(())
@@ -117,7 +109,7 @@ fn a_refused_poke_changes_nothing(rt: HostRuntime) -> Result<(), Fail> {
     let left = if poked { 7 } else { 9 };
     same(
         &rt,
-        contents(&rt, &disk.after_cut(Choice::Byte(9))),
+        contents(&rt, &disk.after_cut(Fill::Byte(9))),
         [0, left, 9, 0],
     );
     Ok(())

@@ -8,7 +8,7 @@ use crate::fixtures::{
 use board_model::{Command, Reason, Refusal, Shape};
 use disk::{ArmedFault, Disk};
 use layout::superblock_bytes;
-use simdisk::{Choice, SimDisk};
+use simdisk::{Fill, SimDisk};
 use std::alloc::Global;
 use std::process::Abort;
 use std::test::Fail;
@@ -83,7 +83,7 @@ fn write_unsynced(disk: &mut SimDisk) -> Result<(), Fail>
 
 /// The first byte of that sector, as a crash leaves it that leaves what was durable.
 fn durable_byte(disk: SimDisk) -> Option<u8> {
-    let disk = disk.after_cut(Choice::Old);
+    let disk = disk.after_cut(Fill::Old);
     match disk.content().get(20) {
         Some(sector) => Some(sector[0]),
         None => None,
@@ -170,12 +170,12 @@ fn format_again(
     rt: &impl Abort,
     alloc: Global,
     call: u64,
-    choice: Choice,
+    fill: Fill,
 ) -> Result<Option<Refusal>, Fail> {
     let mut disk = SimDisk::blank(alloc, 26)?;
     disk.fail_at(call);
     same(rt, format_smallest(&mut disk), Err(Refusal::Device));
-    let mut disk = disk.after_cut(choice);
+    let mut disk = disk.after_cut(fill);
     let answer = format_smallest(&mut disk).err();
     let store = open(alloc, disk)?;
     same(rt, numbers(store.found()), (None, 0, Reason::NoReason, 0));
@@ -186,7 +186,7 @@ fn format_again(
 fn formats_again(
     rt: &impl Abort,
     alloc: Global,
-    choice: Choice,
+    fill: Fill,
     written: Option<Refusal>,
 ) -> Result<(), Fail> {
     for (call, answer) in [
@@ -197,20 +197,20 @@ fn formats_again(
         (5, written),
         (6, written),
     ] {
-        same(rt, format_again(rt, alloc, call, choice)?, answer);
+        same(rt, format_again(rt, alloc, call, fill)?, answer);
     }
     Ok(())
 }
 
 #[test]
 fn a_format_that_failed_is_made_again(rt: HostRuntime) -> Result<(), Fail> {
-    for (choice, written) in [
-        (Choice::Byte(0), None),
-        (Choice::Byte(255), None),
-        (Choice::Old, None),
-        (Choice::New, Some(Refusal::AlreadyFormatted)),
+    for (fill, written) in [
+        (Fill::Byte(0), None),
+        (Fill::Byte(255), None),
+        (Fill::Old, None),
+        (Fill::New, Some(Refusal::AlreadyFormatted)),
     ] {
-        formats_again(&rt, rt.alloc(), choice, written)?;
+        formats_again(&rt, rt.alloc(), fill, written)?;
     }
     Ok(())
 }
@@ -240,12 +240,12 @@ fn a_command_takes_four_calls_also_where_nothing_is_new(rt: HostRuntime) -> Resu
     Ok(())
 }
 
-/// What slot 1 answers where the gate's write fails, and the slot that is found after a crash by that fill.
-fn gate_failing(alloc: Global, fill: u8) -> Result<(Option<Refusal>, u32), Fail> {
+/// What slot 1 answers where the gate's write fails, and the slot that is found after a cut that leaves that byte.
+fn gate_failing(alloc: Global, byte: u8) -> Result<(Option<Refusal>, u32), Fail> {
     let mut store = opened(alloc)?;
     store.arm(ArmedFault::FailAt(3));
     let refusal = answer(&mut store, 1);
-    Ok((refusal, slot_after_cut(alloc, store, Choice::Byte(fill))?))
+    Ok((refusal, slot_after_cut(alloc, store, Fill::Byte(byte))?))
 }
 
 #[test]

@@ -4,7 +4,7 @@ ghost use Rattle.std.specs.Prelude.{◌≡◌, IfOk};
 use board_model::{Addr, Command, Durable, HartId, ImageHead, Reason, Refusal, Shape, Slot};
 use disk::{ArmedFault, Disk};
 use layout::{Record, Saved, Side, Version, gate_bytes, record_bytes, superblock_bytes};
-use simdisk::{Choice, SimDisk};
+use simdisk::{Fill, SimDisk};
 use std::alloc::Global;
 use std::fmt::Debug;
 use std::process::Abort;
@@ -142,18 +142,14 @@ pub fn answers(
 pub fn after_cut(
     alloc: Global,
     store: Store<SimDisk>,
-    choice: Choice,
+    fill: Fill,
 ) -> Result<Store<SimDisk>, Refusal> {
-    open(alloc, store.into_disk().after_cut(choice))
+    open(alloc, store.into_disk().after_cut(fill))
 }
 
 /// The slot that an open finds after a cut.
-pub fn slot_after_cut(
-    alloc: Global,
-    store: Store<SimDisk>,
-    choice: Choice,
-) -> Result<u32, Refusal> {
-    Ok(after_cut(alloc, store, choice)?.found().slot.number())
+pub fn slot_after_cut(alloc: Global, store: Store<SimDisk>, fill: Fill) -> Result<u32, Refusal> {
+    Ok(after_cut(alloc, store, fill)?.found().slot.number())
 }
 
 /// The next open of the same disk.

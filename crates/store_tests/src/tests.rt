@@ -9,7 +9,7 @@ use crate::fixtures::{
 use board_model::{Command, Entry, MAX_COMMANDS, Reason, Refusal, Shape};
 use disk::{ArmedFault, Disk};
 use layout::superblock_bytes;
-use simdisk::{Choice, SimDisk};
+use simdisk::{Fill, SimDisk};
 use std::alloc::Global;
 use std::process::Abort;
 use std::test::Fail;
@@ -67,11 +67,7 @@ fn a_cut_after_slot_finds_it(rt: HostRuntime) -> Result<(), Fail> {
     same(&rt, apply(&mut store, Command::Slot(1)), Ok(1));
     same(&rt, store.now().slot.number(), 1);
     same(&rt, store.found().slot.number(), 0);
-    same(
-        &rt,
-        slot_after_cut(rt.alloc(), store, Choice::Byte(0)),
-        Ok(1),
-    );
+    same(&rt, slot_after_cut(rt.alloc(), store, Fill::Byte(0)), Ok(1));
     Ok(())
 }
 
@@ -93,20 +89,15 @@ fn slots_above_three_are_refused(rt: HostRuntime) -> Result<(), Fail> {
 }
 
 /// A command whose device call of that number, from 1, is cut; what it answers, and the slot that is found.
-fn cut_slot(alloc: Global, call: u64, choice: Choice) -> Result<(Option<Refusal>, u32), Fail> {
+fn cut_slot(alloc: Global, call: u64, fill: Fill) -> Result<(Option<Refusal>, u32), Fail> {
     let mut store = opened_under(alloc, ArmedFault::CutAt(call.saturating_add(4)))?;
     let answer = apply(&mut store, Command::Slot(1)).err();
-    Ok((answer, slot_after_cut(alloc, store, choice)?))
+    Ok((answer, slot_after_cut(alloc, store, fill)?))
 }
 
 /// A commit that is cut within each of its calls, and after them. A cut within its last two leaves it in
 /// doubt.
-fn cut_at_each_call(
-    rt: &impl Abort,
-    alloc: Global,
-    choice: Choice,
-    doubt: u32,
-) -> Result<(), Fail> {
+fn cut_at_each_call(rt: &impl Abort, alloc: Global, fill: Fill, doubt: u32) -> Result<(), Fail> {
     for (call, answer, slot) in [
         (1, Some(Refusal::Device), 0),
         (2, Some(Refusal::Device), 0),
@@ -114,21 +105,21 @@ fn cut_at_each_call(
         (4, Some(Refusal::Down), doubt),
         (5, None, 1),
     ] {
-        same(rt, cut_slot(alloc, call, choice)?, (answer, slot));
+        same(rt, cut_slot(alloc, call, fill)?, (answer, slot));
     }
     Ok(())
 }
 
 #[test]
 fn a_commit_cut_at_each_call(rt: HostRuntime) -> Result<(), Fail> {
-    for (choice, doubt) in [
-        (Choice::Byte(0), 0),
-        (Choice::Byte(1), 1),
-        (Choice::Byte(255), 1),
-        (Choice::Old, 0),
-        (Choice::New, 1),
+    for (fill, doubt) in [
+        (Fill::Byte(0), 0),
+        (Fill::Byte(1), 1),
+        (Fill::Byte(255), 1),
+        (Fill::Old, 0),
+        (Fill::New, 1),
     ] {
-        cut_at_each_call(&rt, rt.alloc(), choice, doubt)?;
+        cut_at_each_call(&rt, rt.alloc(), fill, doubt)?;
     }
     Ok(())
 }
@@ -144,18 +135,14 @@ fn a_fault_before_the_gate_is_forgotten(rt: HostRuntime) -> Result<(), Fail> {
         );
         same(&rt, store.now().slot.number(), 0);
         same(&rt, apply(&mut store, Command::Slot(2)), Ok(1));
-        same(
-            &rt,
-            slot_after_cut(rt.alloc(), store, Choice::Byte(0)),
-            Ok(2),
-        );
+        same(&rt, slot_after_cut(rt.alloc(), store, Fill::Byte(0)), Ok(2));
     }
     Ok(())
 }
 
 #[test]
 fn a_fault_at_the_gate_is_in_doubt(rt: HostRuntime) -> Result<(), Fail> {
-    for (fill, slot) in [(0, 0), (1, 1)] {
+    for (byte, slot) in [(0, 0), (1, 1)] {
         let mut store = opened_under(rt.alloc(), ArmedFault::FailAt(8))?;
         answers(
             &rt,
@@ -166,7 +153,7 @@ fn a_fault_at_the_gate_is_in_doubt(rt: HostRuntime) -> Result<(), Fail> {
             ],
         );
         same(&rt, store.now().slot.number(), 0);
-        let found = slot_after_cut(rt.alloc(), store, Choice::Byte(fill));
+        let found = slot_after_cut(rt.alloc(), store, Fill::Byte(byte));
         same(&rt, found, Ok(slot));
     }
     Ok(())
@@ -275,7 +262,7 @@ fn an_image_stays_until_it_is_dropped(rt: HostRuntime) -> Result<(), Fail> {
     for command in [Command::Consume, Command::Discard] {
         let mut store = open(rt.alloc(), with_image(rt.alloc())?)?;
         drop_image(&rt, &mut store, command);
-        let store = after_cut(rt.alloc(), store, Choice::Byte(0))?;
+        let store = after_cut(rt.alloc(), store, Fill::Byte(0))?;
         same(&rt, numbers(store.found()), (None, 1, Reason::NoReason, 5));
     }
     Ok(())

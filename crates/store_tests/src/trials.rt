@@ -2,7 +2,7 @@
 
 use crate::fixtures::{after_cut, answers, apply, opened, same};
 use board_model::{Command, Durable, Refusal};
-use simdisk::{Choice, SimDisk};
+use simdisk::{Fill, SimDisk};
 use std::alloc::Global;
 use std::process::Abort;
 use std::test::Fail;
@@ -47,7 +47,7 @@ fn found_then(
     command: Command,
     answer: Result<u32, Refusal>,
 ) -> Result<Store<SimDisk>, Fail> {
-    let mut store = after_cut(alloc, store, Choice::Byte(0))?;
+    let mut store = after_cut(alloc, store, Fill::Byte(0))?;
     same(rt, slot_of(store.found()), slot);
     same(rt, apply(&mut store, command), answer);
     Ok(store)

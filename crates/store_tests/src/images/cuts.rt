@@ -6,7 +6,7 @@ use board_model::{Refusal, Shape};
 use crew::Crew;
 use disk::ArmedFault;
 use ram::Ram;
-use simdisk::Choice;
+use simdisk::Fill;
 use std::alloc::Global;
 use std::process::Abort;
 use std::test::Fail;
@@ -36,11 +36,11 @@ fn cut<C: Crew>(
     case: &Case,
     crew: &C,
     fault: ArmedFault,
-    choice: Choice,
+    fill: Fill,
 ) -> Result<(Option<Refusal>, bool), Fail> {
     let mut store = standing(alloc, &case.old, case.shape, crew, fault)?;
     let answer = suspend(alloc, &mut store, &case.new, crew).err();
-    let mut store = after_cut(alloc, store, choice)?;
+    let mut store = after_cut(alloc, store, fill)?;
     let new = store.found().next == 2;
     let memory = if new { &case.new } else { &case.old };
     same(rt, holds(alloc, &mut store, memory)?, true);
@@ -53,16 +53,16 @@ fn cut_lane<C: Crew>(
     alloc: Global,
     case: &Case,
     crew: &C,
-    choice: Choice,
+    fill: Fill,
 ) -> Result<(), Fail> {
     for (lane, calls) in [(0, 4), (1, 0), (2, 4), (3, 2)] {
         for call in 1..calls + 1 {
             let fault = ArmedFault::CutLane(lane, call);
-            let found = cut(rt, alloc, case, crew, fault, choice)?;
+            let found = cut(rt, alloc, case, crew, fault, fill)?;
             same(rt, found, (Some(Refusal::Device), false));
         }
         let past = ArmedFault::CutLane(lane, calls + 1);
-        let found = cut(rt, alloc, case, crew, past, choice)?;
+        let found = cut(rt, alloc, case, crew, past, fill)?;
         same(rt, found, (None, true));
     }
     Ok(())
@@ -72,8 +72,8 @@ fn cut_lane<C: Crew>(
 fn a_cut_at_each_call_of_a_lane(rt: HostRuntime) -> Result<(), Fail> {
     let crew = turns(&rt)?;
     let case = make_case(rt.alloc())?;
-    for choice in [Choice::Byte(0), Choice::Byte(255), Choice::Old, Choice::New] {
-        cut_lane(&rt, rt.alloc(), &case, &crew, choice)?;
+    for fill in [Fill::Byte(0), Fill::Byte(255), Fill::Old, Fill::New] {
+        cut_lane(&rt, rt.alloc(), &case, &crew, fill)?;
     }
     Ok(())
 }
@@ -85,7 +85,7 @@ fn cut_disk<C: Crew>(
     alloc: Global,
     case: &Case,
     crew: &C,
-    choice: Choice,
+    fill: Fill,
     doubt: bool,
 ) -> Result<(), Fail> {
     for (call, answer, new) in [
@@ -97,7 +97,7 @@ fn cut_disk<C: Crew>(
         (6, None, true),
     ] {
         let fault = ArmedFault::CutAt(call);
-        let found = cut(rt, alloc, case, crew, fault, choice)?;
+        let found = cut(rt, alloc, case, crew, fault, fill)?;
         same(rt, found, (answer, new));
     }
     Ok(())
@@ -107,13 +107,13 @@ fn cut_disk<C: Crew>(
 fn a_cut_at_each_call_of_the_disk(rt: HostRuntime) -> Result<(), Fail> {
     let crew = turns(&rt)?;
     let case = make_case(rt.alloc())?;
-    for (choice, doubt) in [
-        (Choice::Byte(0), true),
-        (Choice::Byte(255), false),
-        (Choice::Old, false),
-        (Choice::New, true),
+    for (fill, doubt) in [
+        (Fill::Byte(0), true),
+        (Fill::Byte(255), false),
+        (Fill::Old, false),
+        (Fill::New, true),
     ] {
-        cut_disk(&rt, rt.alloc(), &case, &crew, choice, doubt)?;
+        cut_disk(&rt, rt.alloc(), &case, &crew, fill, doubt)?;
     }
     Ok(())
 }

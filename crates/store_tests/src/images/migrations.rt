@@ -9,7 +9,7 @@ use board_model::{Durable, Refusal, Shape};
 use crew::Crew;
 use disk::{ArmedFault, Disk};
 use ram::Ram;
-use simdisk::{Choice, SimDisk};
+use simdisk::{Fill, SimDisk};
 use std::alloc::Global;
 use std::process::Abort;
 use std::test::Fail;
@@ -68,12 +68,12 @@ fn met<C: Crew>(
     case: &Case,
     crew: &C,
     fault: ArmedFault,
-    choice: Choice,
+    fill: Fill,
 ) -> Result<(Option<Refusal>, bool), Fail> {
     let (mut disk, _) = first_version(alloc, case.shape, &case.memory, crew)?;
     disk.arm(fault);
     let (disk, answer) = open_and_close(alloc, disk);
-    let mut store = open(alloc, disk.after_cut(choice))?;
+    let mut store = open(alloc, disk.after_cut(fill))?;
     let found = store.found() == case.state;
     Ok((answer, found && holds(alloc, &mut store, &case.memory)?))
 }
@@ -84,7 +84,7 @@ fn met_at_each_call<C: Crew>(
     alloc: Global,
     case: &Case,
     crew: &C,
-    choice: Choice,
+    fill: Fill,
 ) -> Result<(), Fail> {
     for call in 1..10 {
         let answer = if call < 9 {
@@ -92,9 +92,9 @@ fn met_at_each_call<C: Crew>(
         } else {
             None
         };
-        let cut = met(alloc, case, crew, ArmedFault::CutAt(call), choice)?;
+        let cut = met(alloc, case, crew, ArmedFault::CutAt(call), fill)?;
         same(rt, cut, (answer, true));
-        let failed = met(alloc, case, crew, ArmedFault::FailAt(call), choice)?;
+        let failed = met(alloc, case, crew, ArmedFault::FailAt(call), fill)?;
         same(rt, failed, (answer, true));
     }
     Ok(())
@@ -104,8 +104,8 @@ fn met_at_each_call<C: Crew>(
 fn a_first_version_is_found_by_each_open(rt: HostRuntime) -> Result<(), Fail> {
     let crew = turns(&rt)?;
     let case = make_case(rt.alloc(), &crew)?;
-    for choice in [Choice::Byte(0), Choice::Byte(255), Choice::Old, Choice::New] {
-        met_at_each_call(&rt, rt.alloc(), &case, &crew, choice)?;
+    for fill in [Fill::Byte(0), Fill::Byte(255), Fill::Old, Fill::New] {
+        met_at_each_call(&rt, rt.alloc(), &case, &crew, fill)?;
     }
     Ok(())
 }

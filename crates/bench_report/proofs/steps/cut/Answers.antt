@@ -14,4 +14,4 @@ returns-clause-reported c = λ size b h.
     (refl, left_on c.kept_disks.ensures.goes_on size b.disk_state b.kept c.disk_left.result c.after_cut.result was.1 (less c.disk_left.result c.after_cut.result fewer), (ap fault_state_left was.2.0 ∙ sym cut.fault_state, omega (arith, was.2.1, cut.left.failures), omega (arith, was.2.2), sides_stay size b (facts c.disk_left.result) (facts c.after_cut.result) fewer was.2.3))
 
 pub returns-clause-exact : goal.returns-clause-exact
-returns-clause-exact c = (c.disk_left.result, c.disk_left.ensures.disk, rw c.choice.ensures at c.after_cut.ensures.exact)
+returns-clause-exact c = (c.disk_left.result, c.disk_left.ensures.disk, c.after_cut.ensures.exact)

@@ -1,6 +1,6 @@
 use Rattle.std.proofs.Common.{◌≡◌, ℕ, [], ◌∷◌, map, take, Some, refl, sym, ap, arith}
-use Rattle.bench_sweep.specs.declared.points.Fill.{Fill}
-use Rattle.bench_sweep.specs.declared.points.Fill.TheVariants.{Zeros, Ones, Alternating, Old, New}
+use Rattle.simdisk.specs.declared.fill.Fill.{Fill}
+use Rattle.simdisk.specs.declared.fill.Fill.TheVariants.{Byte, Alternating, Old, New}
 use Rattle.bench_sweep.specs.Swept.{cell}
 use Rattle.bench_sweep.proofs.Left.{left_by}
 use Rattle.bench_sweep.proofs.Written.{writes_none, writes_more, writes_as, map_more}
@@ -16,11 +16,11 @@ pub loop-fill-preserved : goal.loop-fill-preserved
 loop-fill-preserved g c = record {
   short = c.in_ok-judges.ensures.short;
   wrote =
-      writes_as _ _ _ _ _ _ _ _ (sym (map_more (λ (fill : Fill). cell c.args.point.caller c.args.point.number (Some fill)) _ c.loop-fill.fill-index _ Zeros c.loop-fill-test.true refl)) refl
+      writes_as _ _ _ _ _ _ _ _ (sym (map_more (λ (fill : Fill). cell c.args.point.caller c.args.point.number (Some fill)) _ c.loop-fill.fill-index _ (Byte 0) c.loop-fill-test.true refl)) refl
       (writes_more _ _ _ _ _ _ _ _ _ _ c.loop-fill.invariant.wrote c.in_ok-judges.ensures.wrote);
 }
 
 pub returns-clause-wrote : goal.returns-clause-wrote
 returns-clause-wrote g c =
     let all : c.loop-fill.fill-index ≡ 5 = omega arith in
-    writes_as _ _ _ _ _ _ _ _ (ap (λ (k : ℕ). map (λ (fill : Fill). cell c.args.point.caller c.args.point.number (Some fill)) (take k (Zeros ∷ Ones ∷ Alternating ∷ Old ∷ New ∷ []))) all) refl c.loop-fill.invariant.wrote
+    writes_as _ _ _ _ _ _ _ _ (ap (λ (k : ℕ). map (λ (fill : Fill). cell c.args.point.caller c.args.point.number (Some fill)) (take k (Byte 0 ∷ Byte 255 ∷ Alternating ∷ Old ∷ New ∷ []))) all) refl c.loop-fill.invariant.wrote

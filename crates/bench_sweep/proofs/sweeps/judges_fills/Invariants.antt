@@ -1,6 +1,6 @@
 use Rattle.std.proofs.Common.{map, take, Some}
 use Rattle.bench_report.specs.Agree.{AreShort}
-use Rattle.bench_sweep.specs.declared.points.Fill.{Fill}
+use Rattle.simdisk.specs.declared.fill.Fill.{Fill}
 use Rattle.bench_sweep.specs.Swept.{cell, Writes}
 use Rattle.bench_sweep.proofs.sweeps.judges_fills.Given as goal
 

@@ -18,5 +18,5 @@ pub returns-clause-as_long : goal.returns-clause-as_long
 returns-clause-as_long c =
     let h = c.args.self in
     ap (λ (k : Content). length k) c.leave.ensures
-    ∙ (left_agrees c.args.choice h.stood.items (pieces c.deref.result.now) (leave_fits h h.stood.items c.deref.result.now refl c.deref.ensures.value)).as_long
+    ∙ (left_agrees c.args.fill h.stood.items (pieces c.deref.result.now) (leave_fits h h.stood.items c.deref.result.now refl c.deref.ensures.value)).as_long
     ∙ ap (λ (k : Content). length k) (sym h.stood_so)

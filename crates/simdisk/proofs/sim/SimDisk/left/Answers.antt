@@ -1,5 +1,5 @@
 use Rattle.std.proofs.Common.{◌≡◌, refl, ap}
-use Rattle.simdisk.specs.Views.{left_by_choice, pieces}
+use Rattle.simdisk.specs.Views.{left_by_fill, pieces}
 use Rattle.simdisk.specs.History.{log_of}
 use Rattle.simdisk.specs.WriteLog.{new_record, synced}
 use Rattle.simdisk.proofs.Epochs.{fits_synced}
@@ -11,10 +11,10 @@ returns-clause-left c =
     let s = c.args.self.now.history in
     let now = c.in_ok-content.content.items in
     let history = c.in_ok-history.history in
-    let is : now ≡ left_by_choice c.args.choice (synced (log_of s)) (pieces s.written.items) = c.in_ok-content.ensures in
+    let is : now ≡ left_by_fill c.args.fill (synced (log_of s)) (pieces s.written.items) = c.in_ok-content.ensures in
     let begun : log_of history ≡ new_record now = rw (← c.deref.ensures.value) c.in_ok-history.ensures in
     record {
-      left = rw is (left_agrees c.args.choice (synced (log_of s)) (pieces s.written.items) (fits_synced s));
+      left = rw is (left_agrees c.args.fill (synced (log_of s)) (pieces s.written.items) (fits_synced s));
       fresh = fresh_of now (synced (log_of history)) (log_of history) _ _ _ begun (ap synced begun) c.nothing.ensures;
       failures = refl;
       calls = refl;

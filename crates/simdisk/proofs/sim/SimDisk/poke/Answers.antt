@@ -1,13 +1,13 @@
 use Rattle.std.proofs.Common.{◌≡◌, ◌∙◌, ◌<◌, ◌∷◌, [], List, ℕ, length, get_or, ap, sym, arith, rules}
 use Rattle.std.proofs.lemmas.List.{get_or_default}
 use Rattle.disk.specs.Facts.{Content}
-use Rattle.simdisk.specs.declared.choice.Choice.TheVariants.{New}
+use Rattle.simdisk.specs.declared.fill.Fill.TheVariants.{New}
 use Rattle.simdisk.specs.History.{log_of}
 use Rattle.simdisk.specs.Latest.{latest_of}
 use Rattle.simdisk.specs.Pokes.{bytes_put, poked, poked_record}
 use Rattle.simdisk.specs.WriteLog.{laid_over, synced}
 use Rattle.simdisk.proofs.Epochs.{fits_synced}
-use Rattle.simdisk.proofs.Parts.{choices_poked, agrees_poked, crash_poked}
+use Rattle.simdisk.proofs.Parts.{fills_poked, agrees_poked, crash_poked}
 use Rattle.simdisk.proofs.sim.SimDisk.poke.Goals as goal
 
 -- what the sector holds, which was read from the content
@@ -27,7 +27,7 @@ invariant_of-self-2 c =
     let laid : c.overwrite.new.content.items ≡ laid_over (k, v ∷ []) s.content.items = c.overwrite.ensures.put in
     record {
       agrees = agrees_poked k v r r' anew old s.content.items c.overwrite.new.content.items s.agrees laid;
-      newest = choices_poked k v r r' anew old (fits_synced s.history) New ∙ ap (λ (x : Content). laid_over (k, v ∷ []) x) s.newest
+      newest = fills_poked k v r r' anew old (fits_synced s.history) New ∙ ap (λ (x : Content). laid_over (k, v ∷ []) x) s.newest
           ∙ sym (c.write.ensures.written s.content.items) ∙ ap (λ (x : Content). latest_of c.write.new.self x) (sym laid);
       room = c.write.ensures.as_long ∙ s.room ∙ sym c.overwrite.ensures.written.elsewhere.as_long;
       few = s.few;
@@ -49,12 +49,12 @@ returns-clause-stands c within =
       crash = crash_poked k (poked k c.args.offset c.args.bytes.now s.content.items) r r' anew (rw (← s.agrees.as_long) within.0);
     }
 
-pub returns-clause-choices : goal.returns-clause-choices
-returns-clause-choices c within =
+pub returns-clause-fills : goal.returns-clause-fills
+returns-clause-fills c within =
     let s = c.args.self.now in
     let k = c.args.sector in
     let r = log_of s.history in
     let r' = log_of c.set_sector.new.self in
     let is : c.put_bytes.new.sector ≡ poked k c.args.offset c.args.bytes.now s.content.items = read_so s.content.items k c.args.offset c.args.bytes.now c.index.result.now c.put_bytes.new.sector within.0 c.index.ensures c.put_bytes.ensures in
     let anew : r' ≡ poked_record k (poked k c.args.offset c.args.bytes.now s.content.items) r = rw (← is) c.in_ok-set_sector.ensures.record in
-    choices_poked k (poked k c.args.offset c.args.bytes.now s.content.items) r r' anew (rw (← s.agrees.as_long) within.0) (fits_synced s.history)
+    fills_poked k (poked k c.args.offset c.args.bytes.now s.content.items) r r' anew (rw (← s.agrees.as_long) within.0) (fits_synced s.history)

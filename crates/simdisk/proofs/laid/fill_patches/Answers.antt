@@ -1,7 +1,7 @@
 use Rattle.std.proofs.Common.{◌∙◌, length}
 use Rattle.simdisk.specs.WriteLog.{filled}
 use Rattle.simdisk.proofs.Walks.{laid_more, fits_read}
-use Rattle.simdisk.proofs.laid.fill.Goals as goal
+use Rattle.simdisk.proofs.laid.fill_patches.Goals as goal
 
 pub fill-requires : goal.fill-requires
 fill-requires c =

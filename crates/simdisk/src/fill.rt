@@ -1,9 +1,9 @@
-//! What a crash leaves, where it is to be chosen.
+//! What a power cut leaves, where it is to be chosen.
 
-/// What a crash leaves in the ranges that were written since the last sync.
-#[derive(Clone, Copy, Debug, PartialEq, Eq)]
-pub enum Choice {
-    /// This byte throughout each of them.
+/// What a range that was written since the last sync holds after a power cut.
+#[derive(Clone, Copy, Debug, PartialEq, Eq, Drop)]
+pub enum Fill {
+    /// This byte throughout.
     Byte(u8),
     /// 0x55 at each even place of a sector, and 0xaa at each odd one.
     Alternating,
