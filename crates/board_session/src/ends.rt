@@ -10,7 +10,7 @@ ghost use Rattle.board_session.specs.Backs.{AreBack};
 ghost use Rattle.board_session.specs.Sessions.{IsOfLife};
 
 use disk::Disk;
-use hart_threads::Ended;
+use hart_threads::{Ended, HartLocal};
 use shared_store::{Journal, Part, Unshared};
 use store::Store;
 
@@ -23,16 +23,11 @@ fn gather_loops<D: Disk + Drop, J: Journal>(whole: &mut Unshared<D, J>, loops: V
 {
     let mut loops = loops;
     while let Some(ended) = loops.pop() {
-        let Ended {
-            hart: _,
+        let HartLocal {
             seats: _,
             doze: _,
-            looks: _,
-            made: _,
-            why: _,
-            told: _,
             part,
-        } = ended;
+        } = ended.local;
         whole.gather(part);
     }
 }

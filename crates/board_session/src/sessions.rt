@@ -29,7 +29,7 @@ use board_console::{Left, console};
 use board_model::{Refusal, Shape};
 use board_options::Options;
 use disk::Disk;
-use hart_threads::{Ended, Undriven, drive};
+use hart_threads::{Ended, SharedBoard, Undriven, drive};
 use shared_store::{Journal, NewBook, Part, SharedStore, Unshared};
 use std::alloc::Global;
 use std::io::{Read, Write};
@@ -166,18 +166,21 @@ fn operate<
     let gate = UntilQuit::new();
     let crew = crew::Threads::new(rt);
     let (rung, shared, shut) = (&bus, &store, &gate);
+    let board = SharedBoard {
+        alloc,
+        tables: &tables,
+        shape,
+        bus: &bus,
+        store: &store,
+        crew: &crew,
+    };
     let driven = drive(
         rt,
-        alloc,
         &gate,
+        board,
         harts,
         seats,
         doze,
-        &tables,
-        shape,
-        &bus,
-        &store,
-        &crew,
         turns,
         given,
         ends,

@@ -9,16 +9,17 @@ ghost use Rattle.hart_threads.specs.Seated.{IsSeated};
 use crate::gates::{Gate, UntilOver};
 use crate::loops::{Ended, Why, hart_loop};
 use crate::seated::{Acting, seat_harts};
-use board_model::{Refusal, Shape};
+use crate::shared::{HartLocal, SharedBoard};
+use board_model::Refusal;
 use disk::Disk;
 use hart::Hart;
 use sbi_calls::{Seats, Tables};
-use shared_store::{Journal, Part, SharedStore};
+use shared_store::{Journal, Part};
 use std::alloc::{AllocError, Global};
+use std::sync::Wait;
 use std::sync::atomic::{AtomicBool, Ordering};
-use std::sync::{Mutex, Wait};
 use std::thread::{self, JoinHandle, Threads};
-use susp::{Bus, Doze};
+use susp::Doze;
 
 /// What comes back where no console could be begun.
 #[derive(Drop)]
@@ -73,37 +74,30 @@ pub fn drive<
     K: FnOnce(E) -> T,
 >(
     rt: &R,
-    alloc: Global,
     gate: &(dyn Gate + Sync),
+    board: SharedBoard<'_, D, J, crew::Threads<'_, R>>,
     harts: Vec<Hart>,
     seats: Seats,
     doze: Option<Doze>,
-    tables: &Tables,
-    shape: &Shape,
-    bus: &Mutex<Bus>,
-    store: &Mutex<SharedStore<D, J>>,
-    crew: &crew::Threads<'_, R>,
     turns: u64,
     parts: Vec<Part<J>>,
     ends: E,
     console: K,
 ) -> Result<(Vec<Ended<J>>, T), Undriven<J, E>>
     requires console { K.IsAlwaysCallable console }
-    requires board { shape.now ≡ J.size }
+    requires board { board.shape.now ≡ J.size }
     requires parts { vec_len parts ≡ vec_len harts }
     requires fresh { All (λ p. p.told ≡ []) parts.items }
-    requires held { IsHeld shape.now harts.items tables.now (Some seats) doze }
+    requires held { IsHeld board.shape.now harts.items board.tables.now (Some seats) doze }
     ensures said { IfOk result (λ r. K.post console ends r.1) }
     ensures loops { IfOk result (λ r. vec_len r.0 ≡ vec_len harts) }
     ensures refused { IfErr result (λ e. (e.ends ≡ ends) × (e.refusal ≡ Memory)) }
     ensures back { IfErr result (λ e. vec_len e.loops + vec_len e.parts ≡ vec_len harts) }
     ensures fresh { IfErr result (λ e. All (λ p. p.told ≡ []) e.parts.items) }
 {
-    match seat_harts(alloc, harts, seats, doze, tables) {
-        Ok(all) => run_all(
-            rt, alloc, gate, all, tables, shape, bus, store, crew, turns, parts, ends, console,
-        ),
-        Err(refusal) => Err(unbegun(alloc, refusal, parts, ends)),
+    match seat_harts(board.alloc, harts, seats, doze, board.tables) {
+        Ok(all) => run_all(rt, gate, board, all, turns, parts, ends, console),
+        Err(refusal) => Err(unbegun(board.alloc, refusal, parts, ends)),
     }
 }
 
@@ -117,25 +111,20 @@ fn run_all<
     K: FnOnce(E) -> T,
 >(
     rt: &R,
-    alloc: Global,
     gate: &(dyn Gate + Sync),
+    board: SharedBoard<'_, D, J, crew::Threads<'_, R>>,
     all: Vec<Acting>,
-    tables: &Tables,
-    shape: &Shape,
-    bus: &Mutex<Bus>,
-    store: &Mutex<SharedStore<D, J>>,
-    crew: &crew::Threads<'_, R>,
     turns: u64,
     parts: Vec<Part<J>>,
     ends: E,
     console: K,
 ) -> Result<(Vec<Ended<J>>, T), Undriven<J, E>>
     requires console { K.IsAlwaysCallable console }
-    requires board { shape.now ≡ J.size }
+    requires board { board.shape.now ≡ J.size }
     requires parts { vec_len parts ≡ vec_len all }
     requires fresh { All (λ p. p.told ≡ []) parts.items }
-    requires tables { AreTablesOf shape.now tables.now }
-    requires seated { All (λ a. IsSeated tables.now a.hart.id a.seats a.doze) all.items }
+    requires tables { AreTablesOf board.shape.now board.tables.now }
+    requires seated { All (λ a. IsSeated board.tables.now a.hart.id a.seats a.doze) all.items }
     ensures said { IfOk result (λ r. K.post console ends r.1) }
     ensures loops { IfOk result (λ r. vec_len r.0 ≡ vec_len all) }
     ensures refused { IfErr result (λ e. (e.ends ≡ ends) × (e.refusal ≡ Memory)) }
@@ -148,32 +137,29 @@ fn run_all<
         thread::scope_env(),
         rt,
         move |scope| -> Result<(Vec<Ended<J>>, T), Undriven<J, E>>
-            requires { K.IsAlwaysCallable console × (shape.now ≡ J.size) × AreTablesOf shape.now tables.now
-                × All (λ a. IsSeated tables.now a.hart.id a.seats a.doze) all.items
+            requires { K.IsAlwaysCallable console × (board.shape.now ≡ J.size) × AreTablesOf board.shape.now board.tables.now
+                × All (λ a. IsSeated board.tables.now a.hart.id a.seats a.doze) all.items
                 × (vec_len parts ≡ vec_len all) × All (λ p. p.told ≡ []) parts.items }
             ensures { IfOk result (λ r. K.post console ends r.1 × (vec_len r.0 ≡ vec_len all))
                 × IfErr result (λ e. (e.ends ≡ ends) × (e.refusal ≡ Memory)
                 × (vec_len e.loops + vec_len e.parts ≡ vec_len all) × All (λ p. p.told ≡ []) e.parts.items) }
         {
-            let Ok((mut handles, mut loops)) = rooms::<J>(alloc, all.len()) else {
-                return Err(unbegun(alloc, Refusal::Memory, parts, ends));
+            let Ok((mut handles, mut loops)) = rooms::<J>(board.alloc, all.len()) else {
+                return Err(unbegun(board.alloc, Refusal::Memory, parts, ends));
             };
             let mut parts = parts;
             let mut unstarted = false;
             for acting in all {
                 let part = next_part(&mut parts);
-                known_seated(&acting, tables);
+                known_seated(&acting, board.tables);
                 let started = scope.spawn(
                     move || -> Ended<J>
-                        requires { (shape.now ≡ J.size) × AreTablesOf shape.now tables.now
-                            × IsSeated tables.now acting.hart.id acting.seats acting.doze × (part.told ≡ []) }
+                        requires { (board.shape.now ≡ J.size) × AreTablesOf board.shape.now board.tables.now
+                            × IsSeated board.tables.now acting.hart.id acting.seats acting.doze × (part.told ≡ []) }
                     {
-                        let (hart, seats, doze) = taken(acting, tables);
+                        let (hart, local) = taken(acting, part, board.tables);
                         let gate = UntilOver { gate, over };
-                        let ended = hart_loop(
-                            rt, alloc, &gate, hart, seats, doze, tables, shape, bus, store, crew,
-                            turns, part,
-                        );
+                        let ended = hart_loop(rt, &gate, board, hart, local, turns);
                         if ended.why == Why::Life {
                             over.store(true, Ordering::SeqCst);
                         }
@@ -215,14 +201,15 @@ fn known_seated(acting: &Acting, tables: &Tables)
     let _ = tables;
 }
 
-/// A hart, its seats, and its copy of its doze.
-fn taken(acting: Acting, tables: &Tables) -> (Hart, Seats, Option<Doze>)
+/// A hart, and what it has beside its registers.
+fn taken<J: Journal>(acting: Acting, part: Part<J>, tables: &Tables) -> (Hart, HartLocal<J>)
     requires { IsSeated tables.now acting.hart.id acting.seats acting.doze }
-    ensures { IsSeated tables.now result.0.id result.1 result.2 }
+    ensures seated { IsSeated tables.now result.0.id result.1.seats result.1.doze }
+    ensures part { result.1.part ≡ part }
 {
     let _ = tables;
     let Acting { hart, seats, doze } = acting;
-    (hart, seats, doze)
+    (hart, HartLocal { seats, doze, part })
 }
 
 /// One of the parts.

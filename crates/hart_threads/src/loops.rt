@@ -11,17 +11,14 @@ ghost use Rattle.hart_threads.specs.Threads.{seated, loop_goes_on, ends_life, Tu
 
 use crate::dozes::{Looks, doze_turn};
 use crate::gates::Gate;
-use crate::once::{SharedBus, make_held};
-use board_model::Shape;
+use crate::once::{SharedBus, call_locked};
+use crate::shared::{HartLocal, SharedBoard};
 use crew::Crew;
 use disk::Disk;
 use hart::Hart;
 use machine::{Turned, Word, word_by};
-use sbi_calls::{Seats, Tables};
-use shared_store::{Journal, Part, SharedStore, Told};
-use std::alloc::Global;
-use std::sync::{Mutex, Wait};
-use susp::{Bus, Doze};
+use shared_store::{Journal, Told};
+use std::sync::Wait;
 use turns::turn_by_bus;
 
 /// Why a loop ended.
@@ -40,10 +37,8 @@ pub enum Why {
 pub struct Ended<J: Journal> {
     /// The hart, as its last turn left it.
     pub hart: Hart,
-    /// Its seats.
-    pub seats: Seats,
-    /// Its own copy of its doze, where the board still dozes by it.
-    pub doze: Option<Doze>,
+    /// What it has beside its registers. Its part of the receipts was told that of `told`, and no other.
+    pub local: HartLocal<J>,
     /// Its looks at the bus in a doze.
     pub looks: Looks,
     /// How many turns it made.
@@ -51,10 +46,8 @@ pub struct Ended<J: Journal> {
     pub why: Why,
     /// The receipt of the command that ended the life, where this loop ended with it.
     pub told: Option<Told<J>>,
-    /// Its part of the journal's receipts, which was told that one alone.
-    pub part: Part<J>,
     pub ghost receipt: { (why ≡ Life → IsTrue (is_some told)) },
-    pub ghost noted: { part.told ≡ option_to_list told },
+    pub ghost noted: { local.part.told ≡ option_to_list told },
     pub ghost asked: { ends_life told ≡ true },
 }
 
@@ -73,42 +66,35 @@ fn goes_on(word: Word) -> bool
 /// the copy of its doze that the hart then keeps.
 fn whole_turn<R: Wait, D: Disk + Drop, J: Journal, C: Crew>(
     rt: &R,
-    alloc: Global,
+    board: SharedBoard<'_, D, J, C>,
     hart: &mut Hart,
-    seats: Seats,
-    doze: Option<Doze>,
     looks: &mut Looks,
-    tables: &Tables,
-    shape: &Shape,
-    bus: &Mutex<Bus>,
-    store: &Mutex<SharedStore<D, J>>,
-    crew: &C,
-    part: Part<J>,
-) -> (Seats, Word, Option<Told<J>>, Part<J>, Option<Doze>)
-    requires tables { AreTablesOf shape.now tables.now }
-    requires board { shape.now ≡ J.size }
-    requires seated { IsSeated tables.now hart.old.id seats doze }
+    local: HartLocal<J>,
+) -> (HartLocal<J>, Word, Option<Told<J>>)
+    requires tables { AreTablesOf board.shape.now board.tables.now }
+    requires board { board.shape.now ≡ J.size }
+    requires seated { IsSeated board.tables.now hart.old.id local.seats local.doze }
     requires few { looks.old.made < 2 ^ 64 - 1 }
-    ensures gives { GivesBack tables.entry.now hart.old.id seats result.0 }
-    ensures stands { StandsAfterTurn result.1 result.4 hart.old.id result.0 }
+    ensures gives { GivesBack board.entry.tables.now hart.old.id local.seats result.0.seats }
+    ensures stands { StandsAfterTurn result.1 result.0.doze hart.old.id result.0.seats }
     ensures id { hart.new.id ≡ hart.old.id }
-    ensures noted { result.3 ≡ part_after result.2 part }
+    ensures noted { result.0.part ≡ part_after result.2 local.part }
     ensures range { looks.new.made ≤ looks.old.made + 1 }
-    ensures once { TurnOnce shape.now (seated hart.old (known seats) doze looks.old)
-        (seated hart.new (known result.0) result.4 looks.new) result.1 result.2 }
+    ensures once { TurnOnce board.entry.shape.now (seated hart.old (known local.seats) local.doze looks.old)
+        (seated hart.new (known result.0.seats) result.0.doze looks.new) result.1 result.2 }
 {
+    let HartLocal { seats, doze, part } = local;
     if let Some(doze) = doze {
-        let (seats, word, left) = doze_turn(&mut bus.lock(rt), hart, seats, tables, doze, looks);
-        return (seats, word, None, part, left);
+        let bus = &mut board.bus.lock(rt);
+        let (seats, word, doze) = doze_turn(bus, hart, seats, board.tables, doze, looks);
+        return (HartLocal { seats, doze, part }, word, None);
     }
-    let mut shared = SharedBus { rt, bus };
-    let (seats, turned) = turn_by_bus(hart, seats, tables, &mut shared, shape);
+    let mut shared = SharedBus { rt, bus: board.bus };
+    let (seats, turned) = turn_by_bus(hart, seats, board.tables, &mut shared, board.shape);
     match turned {
         Turned::Durable => {
-            let (seats, held, told, part, doze) = make_held(
-                rt, alloc, hart, seats, tables, shape, bus, store, crew, part,
-            );
-            (seats, word_by(held), told, part, doze)
+            let (local, held, told) = call_locked(rt, board, hart, seats, part);
+            (local, word_by(held), told)
         }
         Turned::Idle
         | Turned::Entered
@@ -116,7 +102,10 @@ fn whole_turn<R: Wait, D: Disk + Drop, J: Journal, C: Crew>(
         | Turned::Resumed
         | Turned::Next
         | Turned::Suspended
-        | Turned::Stopped => (seats, Word::Own(turned), None, part, None),
+        | Turned::Stopped => {
+            let doze = None;
+            (HartLocal { seats, doze, part }, Word::Own(turned), None)
+        }
     }
 }
 
@@ -128,89 +117,69 @@ fn whole_turn<R: Wait, D: Disk + Drop, J: Journal, C: Crew>(
 /// step of a STARTED hart is one hold of the bus, and a durable call one of the bus and then of the store.
 /// Nothing is claimed of when a turn is made, nor that a lock is ever had.
 ///
-/// `doze` is the hart's own copy of its doze, where the board dozes by it. A turn of a hart that dozes is one hold of the
-/// bus, which tells only whether the board was woken: until then it is idle; then the hart begins again at the address
-/// of its own copy, with that opaque value.
+/// A turn of a hart that dozes is one hold of the bus, which tells only whether the board was woken: until then it is
+/// idle; then the hart begins again at the address of its own copy of the doze, with that opaque value.
 ///
-/// `part` goes with the hart, and was told nothing yet; it comes back with the receipt of the command that ended
-/// the life, where this loop ended with it.
+/// The part was told nothing yet; it comes back with the receipt of the command that ended the life, where this loop
+/// ended with it.
 pub fn hart_loop<R: Wait, G: Gate, D: Disk + Drop, J: Journal, C: Crew>(
     rt: &R,
-    alloc: Global,
     gate: &G,
+    board: SharedBoard<'_, D, J, C>,
     hart: Hart,
-    seats: Seats,
-    doze: Option<Doze>,
-    tables: &Tables,
-    shape: &Shape,
-    bus: &Mutex<Bus>,
-    store: &Mutex<SharedStore<D, J>>,
-    crew: &C,
+    local: HartLocal<J>,
     turns: u64,
-    part: Part<J>,
 ) -> Ended<J>
-    requires tables { AreTablesOf shape.now tables.now }
-    requires board { shape.now ≡ J.size }
-    requires seated { IsSeated tables.now hart.id seats doze }
-    requires fresh { part.told ≡ [] }
-    ensures gives { GivesBack tables.entry.now hart.id seats result.seats }
-    ensures stands { StandsAfter result.why result.doze hart.id result.seats }
+    requires tables { AreTablesOf board.shape.now board.tables.now }
+    requires board { board.shape.now ≡ J.size }
+    requires seated { IsSeated board.tables.now hart.id local.seats local.doze }
+    requires fresh { local.part.told ≡ [] }
+    ensures gives { GivesBack board.entry.tables.now hart.id local.seats result.local.seats }
+    ensures stands { StandsAfter result.why result.local.doze hart.id result.local.seats }
     ensures id { result.hart.id ≡ hart.id }
-    ensures noted { result.part ≡ part_after result.told part }
+    ensures noted { result.local.part ≡ part_after result.told local.part }
     ensures range { result.made ≤ turns }
-    ensures once { LoopOnce shape.now (G.answers gate.now hart.id) (G.hears gate.now hart.id) turns result.made
-        (seated hart (known seats) doze no_looks) (seated result.hart (known result.seats) result.doze result.looks)
-        result.why result.told }
+    ensures once { LoopOnce board.entry.shape.now (G.answers gate.now hart.id) (G.hears gate.now hart.id) turns
+        result.made (seated hart (known local.seats) local.doze no_looks)
+        (seated result.hart (known result.local.seats) result.local.doze result.looks) result.why result.told }
 {
     let mut hart = hart;
-    let mut seats = seats;
-    let mut doze = doze;
-    let mut part = part;
+    let mut local = local;
     let mut looks = Looks::none();
     for made in 0..turns {
         if !gate.before(hart.id(), made) {
             let why = Why::Gate;
             return Ended {
                 hart,
-                seats,
-                doze,
+                local,
                 looks,
                 made,
                 why,
                 told: None,
-                part,
             };
         }
-        let (next, word, told, noted, left) = whole_turn(
-            rt, alloc, &mut hart, seats, doze, &mut looks, tables, shape, bus, store, crew, part,
-        );
-        seats = next;
-        doze = left;
-        part = noted;
+        let (next, word, told) = whole_turn(rt, board, &mut hart, &mut looks, local);
+        local = next;
         gate.after(hart.id(), made);
         if !goes_on(word) {
             let why = Why::Life;
             return Ended {
                 hart,
-                seats,
-                doze,
+                local,
                 looks,
                 made: made + 1,
                 why,
                 told,
-                part,
             };
         }
     }
     let why = Why::Turns;
     Ended {
         hart,
-        seats,
-        doze,
+        local,
         looks,
         made: turns,
         why,
         told: None,
-        part,
     }
 }

@@ -10,16 +10,15 @@ ghost use Rattle.shared_store.specs.Noted.{part_after};
 ghost use Rattle.hart_threads.specs.Threads.{HeldOnce, IsDozeBy};
 
 use crate::dozes::doze_by;
-use board_model::Shape;
+use crate::shared::{HartLocal, SharedBoard};
 use crew::Crew;
 use disk::Disk;
 use hart::{Hart, Outcome};
 use machine::Held;
-use sbi_calls::{Seats, Tables};
-use shared_store::{Journal, Part, SharedStore, Told};
-use std::alloc::Global;
+use sbi_calls::Seats;
+use shared_store::{Journal, Part, Told};
 use std::sync::{Mutex, Wait};
-use susp::{Bus, Doze};
+use susp::Bus;
 use turns::MemoryBus;
 
 /// The bus of a board on threads. One step of a hart is one hold of it.
@@ -44,35 +43,39 @@ impl<'a, R: Wait> MemoryBus for SharedBus<'a, R> {
 /// The durable call at which a hart stands, made in one hold of the bus and of the store. The bus is taken
 /// first: whoever takes both does so, and no thread that holds the store waits for the bus. Where the board then
 /// dozes, the hart has a copy of its doze.
-pub(crate) fn make_held<R: Wait, D: Disk + Drop, J: Journal, C: Crew>(
+pub(crate) fn call_locked<R: Wait, D: Disk + Drop, J: Journal, C: Crew>(
     rt: &R,
-    alloc: Global,
+    board: SharedBoard<'_, D, J, C>,
     hart: &mut Hart,
     seats: Seats,
-    tables: &Tables,
-    shape: &Shape,
-    bus: &Mutex<Bus>,
-    store: &Mutex<SharedStore<D, J>>,
-    crew: &C,
     part: Part<J>,
-) -> (Seats, Held, Option<Told<J>>, Part<J>, Option<Doze>)
-    requires tables { AreTablesOf shape.now tables.now }
-    requires seats { AreSeatsOfBoth tables.now seats }
-    requires hart { hart.old.id < shape.now.harts }
-    requires board { shape.now ≡ J.size }
+) -> (HartLocal<J>, Held, Option<Told<J>>)
+    requires tables { AreTablesOf board.shape.now board.tables.now }
+    requires seats { AreSeatsOfBoth board.tables.now seats }
+    requires hart { hart.old.id < board.shape.now.harts }
+    requires board { board.shape.now ≡ J.size }
     requires acts { Acts hart.old.id Running seats }
-    ensures gives { GivesBack tables.entry.now hart.old.id seats result.0 }
-    ensures acts { Acts hart.old.id (stage_by_held result.1) result.0 }
+    ensures gives { GivesBack board.entry.tables.now hart.old.id seats result.0.seats }
+    ensures acts { Acts hart.old.id (stage_by_held result.1) result.0.seats }
     ensures id { hart.new.id ≡ hart.old.id }
-    ensures told { IsToldBy shape.now (call_of hart.old) hart.old.id result.1 result.2 }
-    ensures noted { result.3 ≡ part_after result.2 part }
-    ensures once { HeldOnce shape.now (call_of hart.old) hart.old hart.new (known seats) (known result.0) result.1 }
-    ensures doze { IsDozeBy shape.now (call_of hart.old) hart.old.id result.1 result.4 }
+    ensures told { IsToldBy board.entry.shape.now (call_of hart.old) hart.old.id result.1 result.2 }
+    ensures noted { result.0.part ≡ part_after result.2 part }
+    ensures once { HeldOnce board.entry.shape.now (call_of hart.old) hart.old hart.new (known seats)
+        (known result.0.seats) result.1 }
+    ensures doze { IsDozeBy board.entry.shape.now (call_of hart.old) hart.old.id result.1 result.0.doze }
 {
-    let mut guard = bus.lock(rt);
+    let mut guard = board.bus.lock(rt);
     let bus = &mut *guard;
-    let mut store = store.lock(rt);
-    let (seats, held, told, part) = store.call(alloc, hart, seats, tables, bus, crew, part);
+    let mut store = board.store.lock(rt);
+    let (seats, held, told, part) = store.call(
+        board.alloc,
+        hart,
+        seats,
+        board.tables,
+        bus,
+        board.crew,
+        part,
+    );
     let doze = doze_by(held, bus.doze);
-    (seats, held, told, part, doze)
+    (HartLocal { seats, doze, part }, held, told)
 }

@@ -13,7 +13,7 @@ use board_console::console;
 use board_model::{Command, HartId, RAM_BASE, Reason, Shape};
 use crew::Turns;
 use disk::ArmedFault;
-use hart_threads::{Ended, Gate, Why, drive};
+use hart_threads::{Ended, Gate, SharedBoard, Why, drive};
 use machine::Word;
 use rv_decode::Reg;
 use shared_store::{Journal, NewBook, Unshared};
@@ -243,18 +243,21 @@ fn driven_as<J: Journal + Send + Sync, R: Threads + Wait + Clock + Sync>(
     let crew = crew::Threads::new(rt);
     let gate = UntilWoken::new();
     let (rung, shared, waits) = (&bus, &store, &gate);
+    let board = SharedBoard {
+        alloc,
+        tables: &tables,
+        shape,
+        bus: &bus,
+        store: &store,
+        crew: &crew,
+    };
     let done = drive(
         rt,
-        alloc,
         &gate,
+        board,
         harts,
         seats,
         doze,
-        &tables,
-        shape,
-        &bus,
-        &store,
-        &crew,
         1_000_000_000_000,
         given,
         (part, Vec::new(alloc)),

@@ -11,7 +11,7 @@ ghost use Rattle.hart_threads_tests.specs.Begun.{IsBegun};
 use board::{Board, Parts, Payloads};
 use board_model::{BootMode, HartId, Shape, Slot};
 use disk::Disk;
-use hart_threads::{Gate, drive};
+use hart_threads::{Gate, SharedBoard, drive};
 use shared_store::{Journal, NewBook, Part, Unshared};
 use simdisk::SimDisk;
 use std::alloc::Global;
@@ -159,18 +159,21 @@ fn driven_as<J: Journal + Send + Sync, R: Threads + Wait + Sync>(
     let bus = Mutex::new(bus);
     let store = Mutex::new(whole.share());
     let crew = crew::Threads::new(rt);
+    let board = SharedBoard {
+        alloc,
+        tables: &tables,
+        shape,
+        bus: &bus,
+        store: &store,
+        crew: &crew,
+    };
     let done = drive(
         rt,
-        alloc,
         gate,
+        board,
         harts,
         seats,
         doze,
-        &tables,
-        shape,
-        &bus,
-        &store,
-        &crew,
         turns,
         given,
         (),

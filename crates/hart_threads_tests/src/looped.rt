@@ -9,7 +9,7 @@ ghost use Rattle.hart_threads_tests.specs.Begun.{IsBegun};
 use crate::fixtures::{Open, next_part, parts_of};
 use board::Parts;
 use board_model::{Command, HartId, Shape};
-use hart_threads::{Acting, Gate, Why, hart_loop, seat_harts};
+use hart_threads::{Acting, Gate, HartLocal, SharedBoard, Why, hart_loop, seat_harts};
 use shared_store::{Journal, NewBook, Part, SharedStore, Unshared};
 use simdisk::SimDisk;
 use std::alloc::Global;
@@ -95,6 +95,14 @@ fn looped_as<J: Journal + Send + Sync, R: Threads + Wait + Sync, G: Gate>(
     issue(&mut shared, boot, commands);
     let store = Mutex::new(shared);
     let crew = crew::Threads::new(rt);
+    let board = SharedBoard {
+        alloc,
+        tables: &tables,
+        shape,
+        bus: &bus,
+        store: &store,
+        crew: &crew,
+    };
     let mut ends = Vec::new(alloc);
     for acting in seat_harts(alloc, harts, seats, doze, &tables)? {
         let Acting { hart, seats, doze } = acting;
@@ -102,9 +110,8 @@ fn looped_as<J: Journal + Send + Sync, R: Threads + Wait + Sync, G: Gate>(
             Some(part) => part,
             None => Err("a part for each hart")?,
         };
-        let ended = hart_loop(
-            rt, alloc, gate, hart, seats, doze, &tables, shape, &bus, &store, &crew, turns, part,
-        );
+        let local = HartLocal { seats, doze, part };
+        let ended = hart_loop(rt, gate, board, hart, local, turns);
         let receipt = ended.told.map(|told| told.number());
         let dozed = ended.looks.made();
         ends.push((ended.made, ended.why, ended.hart.pc(), receipt, dozed))?;

@@ -15,6 +15,6 @@ loop-ended-preserved g c =
     let fewer = c.in-Some.ensures.cases in
     record {
       store = c.gather.ensures.store ∙ i.store;
-      back = subst (λ (ps : List PartView). AreBack ps) (sym parts) (one_back e.part (parts_with c.loop-ended.whole) e.told e.asked e.noted i.back);
+      back = subst (λ (ps : List PartView). AreBack ps) (sym parts) (one_back e.local.part (parts_with c.loop-ended.whole) e.told e.asked e.noted i.back);
       many = omega (arith, long, was, fewer);
     }

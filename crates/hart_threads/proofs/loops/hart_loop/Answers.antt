@@ -10,11 +10,11 @@ use Rattle.hart_threads.proofs.loops.hart_loop.Goals as goal
 
 pub loop-made-init : goal.loop-made-init
 loop-made-init g c = record {
-  gives = gives_none c.args.tables.now c.args.hart.id c.args.seats c.requires.seated.0;
+  gives = gives_none c.args.board.tables.now c.args.hart.id c.args.local.seats c.requires.seated.0;
   rests = c.requires.seated.2;
   id = refl;
   part = refl;
-  turns = ap (λ (l : Looked). seated c.args.hart (known c.args.seats) c.args.doze l) c.none-looks.ensures;
+  turns = ap (λ (l : Looked). seated c.args.hart (known c.args.local.seats) c.args.local.doze l) c.none-looks.ensures;
   few = let e = ap (λ (l : Looked). l.made) c.none-looks.ensures in omega (arith, e);
 }
 
@@ -26,11 +26,11 @@ loop-made-preserved g c =
     let said = subst (λ (k : ℕ). g.G.Gate.answers gate k c.loop-made.made true) (c.id.ensures ∙ i.id) c.if-not-before.ensures in
     let heard = subst (λ (k : ℕ). g.G.Gate.hears gate k c.loop-made.made) (c.id-in-loop-made.ensures ∙ (t.ensures.id ∙ i.id)) c.after.ensures in
     record {
-      gives = gives_then c.args.tables.now by c.args.seats c.loop-made.seats t.result.0 i.gives (subst (λ (k : ℕ). GivesBack c.args.tables.now k c.loop-made.seats t.result.0) i.id t.ensures.gives);
-      rests = rests_on by t.result.0 t.result.1 t.result.4 on (subst (λ (k : ℕ). StandsAfterTurn t.result.1 t.result.4 k t.result.0) i.id t.ensures.stands);
+      gives = gives_then c.args.board.tables.now by c.args.local.seats c.loop-made.local.seats t.result.0.seats i.gives (subst (λ (k : ℕ). GivesBack c.args.board.tables.now k c.loop-made.local.seats t.result.0.seats) i.id t.ensures.gives);
+      rests = rests_on by t.result.0.seats t.result.1 t.result.0.doze on (subst (λ (k : ℕ). StandsAfterTurn t.result.1 t.result.0.doze k t.result.0.seats) i.id t.ensures.stands);
       id = t.ensures.id ∙ i.id;
-      part = kept_part c.args.shape.now (seated c.loop-made.hart (known c.loop-made.seats) c.loop-made.doze c.loop-made.looks) (seated t.new.hart (known t.result.0) t.result.4 t.new.looks) t.result.1 t.result.2 c.args.part c.loop-made.part t.result.3 t.ensures.once on i.part t.ensures.noted;
-      turns = one_more c.args.shape.now (g.G.Gate.answers gate by) (g.G.Gate.hears gate by) c.loop-made.made (seated c.args.hart (known c.args.seats) c.args.doze no_looks) (seated c.loop-made.hart (known c.loop-made.seats) c.loop-made.doze c.loop-made.looks) (seated t.new.hart (known t.result.0) t.result.4 t.new.looks) t.result.1 t.result.2 i.turns t.ensures.once on said heard;
+      part = kept_part c.args.board.shape.now (seated c.loop-made.hart (known c.loop-made.local.seats) c.loop-made.local.doze c.loop-made.looks) (seated t.new.hart (known t.result.0.seats) t.result.0.doze t.new.looks) t.result.1 t.result.2 c.args.local.part c.loop-made.local.part t.result.0.part t.ensures.once on i.part t.ensures.noted;
+      turns = one_more c.args.board.shape.now (g.G.Gate.answers gate by) (g.G.Gate.hears gate by) c.loop-made.made (seated c.args.hart (known c.args.local.seats) c.args.local.doze no_looks) (seated c.loop-made.hart (known c.loop-made.local.seats) c.loop-made.local.doze c.loop-made.looks) (seated t.new.hart (known t.result.0.seats) t.result.0.doze t.new.looks) t.result.1 t.result.2 i.turns t.ensures.once on said heard;
       few = let f = i.few in let r = t.ensures.range in omega (arith, f, r);
     }
 
@@ -42,23 +42,23 @@ returns-then-not-goes_on-clause-once g c =
     let gate = c.args.gate.now in
     let said = subst (λ (k : ℕ). g.G.Gate.answers gate k c.loop-made.made true) (c.id.ensures ∙ i.id) c.if-not-before.ensures in
     let heard = subst (λ (k : ℕ). g.G.Gate.hears gate k c.loop-made.made) (c.id-in-loop-made.ensures ∙ (t.ensures.id ∙ i.id)) c.after.ensures in
-    ended_life c.args.shape.now (g.G.Gate.answers gate by) (g.G.Gate.hears gate by) c.args.turns c.loop-made.made (seated c.args.hart (known c.args.seats) c.args.doze no_looks) (seated c.loop-made.hart (known c.loop-made.seats) c.loop-made.doze c.loop-made.looks) (seated t.new.hart (known t.result.0) t.result.4 t.new.looks) t.result.1 t.result.2 i.turns t.ensures.once off said heard
+    ended_life c.args.board.shape.now (g.G.Gate.answers gate by) (g.G.Gate.hears gate by) c.args.turns c.loop-made.made (seated c.args.hart (known c.args.local.seats) c.args.local.doze no_looks) (seated c.loop-made.hart (known c.loop-made.local.seats) c.loop-made.local.doze c.loop-made.looks) (seated t.new.hart (known t.result.0.seats) t.result.0.doze t.new.looks) t.result.1 t.result.2 i.turns t.ensures.once off said heard
 
 pub whole_turn-next-requires-clause-seated : goal.whole_turn-next-requires-clause-seated
 whole_turn-next-requires-clause-seated g c κs within =
     let i = c.loop-made.invariant in
-    subst (λ (k : ℕ). IsSeated c.args.tables.now k c.loop-made.seats c.loop-made.doze) (sym i.id) (i.gives.seats, c.requires.seated.1, i.rests)
+    subst (λ (k : ℕ). IsSeated c.args.board.tables.now k c.loop-made.local.seats c.loop-made.local.doze) (sym i.id) (i.gives.seats, c.requires.seated.1, i.rests)
 
 pub returns-then-not-goes_on-clause-gives : goal.returns-then-not-goes_on-clause-gives
 returns-then-not-goes_on-clause-gives g c =
     let i = c.loop-made.invariant in let by = c.args.hart.id in let t = c.whole_turn-next in
-    gives_then c.args.tables.now by c.args.seats c.loop-made.seats t.result.0 i.gives (subst (λ (k : ℕ). GivesBack c.args.tables.now k c.loop-made.seats t.result.0) i.id t.ensures.gives)
+    gives_then c.args.board.tables.now by c.args.local.seats c.loop-made.local.seats t.result.0.seats i.gives (subst (λ (k : ℕ). GivesBack c.args.board.tables.now k c.loop-made.local.seats t.result.0.seats) i.id t.ensures.gives)
 
 pub returns-then-not-goes_on-clause-stands : goal.returns-then-not-goes_on-clause-stands
 returns-then-not-goes_on-clause-stands g c =
     let i = c.loop-made.invariant in let t = c.whole_turn-next in
     let off = sym c.goes_on.ensures ∙ c.if-not-goes_on.true in
-    subst (λ (k : ℕ). StandsAfter whys.Life t.result.4 k t.result.0) i.id (stands_over c.loop-made.hart.id t.result.0 t.result.1 t.result.4 off t.ensures.stands)
+    subst (λ (k : ℕ). StandsAfter whys.Life t.result.0.doze k t.result.0.seats) i.id (stands_over c.loop-made.hart.id t.result.0.seats t.result.1 t.result.0.doze off t.ensures.stands)
 
 pub returns-then-not-before-clause-once : goal.returns-then-not-before-clause-once
 returns-then-not-before-clause-once g c =

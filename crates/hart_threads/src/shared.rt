@@ -1,0 +1,39 @@
+//! What the threads of a board's harts share, and what each has of its own.
+
+use board_model::Shape;
+use disk::Disk;
+use sbi_calls::{Seats, Tables};
+use shared_store::{Journal, Part, SharedStore};
+use std::alloc::{AllocError, Global};
+use std::sync::Mutex;
+use susp::{Bus, Doze};
+
+/// A board as the threads of its harts share it: the two tables, whose words change in single steps, the bus and the
+/// store, each behind its lock, and the crew and the memory with which an image is written.
+pub struct SharedBoard<'a, D: Disk + Drop, J: Journal, C> {
+    pub alloc: Global,
+    pub tables: &'a Tables,
+    pub shape: &'a Shape,
+    pub bus: &'a Mutex<Bus>,
+    pub store: &'a Mutex<SharedStore<D, J>>,
+    pub crew: &'a C,
+}
+
+impl<'a, D: Disk + Drop, J: Journal, C> Copy for SharedBoard<'a, D, J, C> {}
+
+impl<'a, D: Disk + Drop, J: Journal, C> Clone for SharedBoard<'a, D, J, C> {
+    fn clone(&self) -> Result<SharedBoard<'a, D, J, C>, AllocError> {
+        Ok(*self)
+    }
+}
+
+/// What a hart has on its thread beside its registers, from one turn to the next.
+#[derive(Drop)]
+pub struct HartLocal<J: Journal> {
+    /// The seats by which it acts.
+    pub seats: Seats,
+    /// Its own copy of its doze, where the board dozes by it.
+    pub doze: Option<Doze>,
+    /// Its part of the journal's receipts.
+    pub part: Part<J>,
+}
