@@ -14,4 +14,4 @@ pub use laws::{
 pub use power::Power;
 pub use printed::{Answer, Printed};
 pub use runs::{Report, Stopped, run, run_left, unwritten};
-pub use steps::{after, arm, disk_left, power_on, step, struck};
+pub use steps::{after, arm, console, disk_left, power_on, step, struck};

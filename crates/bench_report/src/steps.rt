@@ -241,6 +241,19 @@ fn on_line(alloc: Global, mode: BootMode, power: Power, payloads: &Payloads) -> 
     }
 }
 
+/// Issues a command of the console, which a line names by that word, where the board is on.
+pub fn console(word: ConsoleWord, command: Command, power: &mut Power) -> Answer
+    requires { IsConsoleCommand command }
+    ensures reported { (size : Size) (b : Bench) → Agrees size b power.old
+        → StepsTo size b power.new (ConsoleStep word (change_of command) b.power b result) }
+    ensures resting { IsResting power.old → IsResting power.new }
+{
+    match power {
+        Power::Off(_) => says(Printed::Off),
+        Power::On(board) => issue(board, word, command),
+    }
+}
+
 fn console_line(word: ConsoleWord, command: Command, power: Power) -> (Power, Answer)
     requires command { IsConsoleCommand command }
     requires resting { IsResting power }
@@ -248,13 +261,9 @@ fn console_line(word: ConsoleWord, command: Command, power: Power) -> (Power, An
         → StepsTo size b result.0 (ConsoleStep word (change_of command) b.power b result.1) }
     ensures resting { IsResting result.0 }
 {
-    match power {
-        Power::Off(disk) => (Power::Off(disk), says(Printed::Off)),
-        Power::On(mut board) => {
-            let answer = issue(&mut board, word, command);
-            (Power::On(board), answer)
-        }
-    }
+    let mut power = power;
+    let answer = console(word, command, &mut power);
+    (power, answer)
 }
 
 fn wake_line(power: Power) -> (Power, Answer)

@@ -2,11 +2,11 @@
 use Rattle.std.proofs.Common.{◌≡◌, ◌≤◌, ◌⊎◌, ℕ, inl, inr, Bool, true, false, List, [], ◌∷◌, Option, None, Some, Result, Ok, Err, MatchResult, OnOk, IfOk, refl, sym, ◌∙◌, ap, subst, arith}
 use Rattle.std.specs.Prelude.{IfSome, is_some, if◌then◌else◌, length}
 use Rattle.board_model.proofs.Attempts.{attempt_image}
-use Rattle.board_model.specs.Durable.{DurableState, Image, Change, Attempt, IsWhole, after, refusal_of}
+use Rattle.board_model.specs.Durable.{DurableState, Image, Change, Attempt, IsWhole, CarriesWhole, after, refusal_of}
 use Rattle.board_model.specs.Kept.{Kept, MayKeep, MayFind, found_of}
 use Rattle.board_model.specs.Plains.{HasMemory, image_in, state_in, IsPlainOf}
 use Rattle.board_model.specs.Shapes.{Size, IsSize, ram_bytes_of}
-use Rattle.board_model.specs.Views.{head_of, durable_of}
+use Rattle.board_model.specs.Views.{head_of, durable_of, change_of}
 use Rattle.board_model.specs.declared.boot_mode.BootMode.{BootMode}
 use Rattle.board_model.specs.declared.boot_mode.BootMode.TheVariants as modes
 use Rattle.board_model.specs.declared.durable.Durable.{Durable}
@@ -16,7 +16,10 @@ use Rattle.board_model.specs.declared.plain.Plain.{Plain}
 use Rattle.disk.specs.Facts.{IsLeft}
 use Rattle.disk.specs.FaultState.{Armed, Unarmed, FaultArmed, CutArmed, FaultState, Cause, fault_state_left}
 use Rattle.simdisk.specs.declared.SimDisk.{SimDisk}
-use Rattle.board.specs.Boots.{boot_refusal}
+use Rattle.board.specs.Boots.{boot_refusal, IsConsoleCommand}
+use Rattle.board_console.specs.declared.command_words.ConsoleWord.{ConsoleWord}
+use Rattle.board_model.specs.declared.durable.Command.{Command}
+use Rattle.board_model.specs.declared.durable.Command.TheVariants as commands
 use Rattle.board.specs.Moments.{attempts_of}
 use Rattle.bench_report.specs.declared.power.Power.{Power}
 use Rattle.bench_report.specs.declared.power.Power.TheVariants.{Off, On}
@@ -27,7 +30,7 @@ use Rattle.bench_report.specs.Views.{SimStore, SimBoard, store_in, facts, fault_
 use Rattle.bench_report.specs.Bench.{DiskState, Formatted, BenchLife, Bench}
 use Rattle.bench_report.specs.Happens.{says, out_of_memory, FailsByFault, failed, acknowledged, in_doubt, off, on_with, settled, unpowered, has_machine}
 use Rattle.bench_report.specs.Commands.{Writes, Issued, IssuesAll}
-use Rattle.bench_report.specs.Steps.{ArmStep, Step}
+use Rattle.bench_report.specs.Steps.{ArmStep, ConsoleStep, Step}
 use Rattle.bench_report.specs.PowerOns.{life_begun, IsBooted, BootsFrom, Boots, Opens, ShowsFound, IsOpenRefusal, PowersOn, TellsNow}
 use Rattle.bench_report.specs.Agree.{DiskIs, DeviceIs, BoardIs, OffIs, OnIs, Agrees, StepsTo}
 use Rattle.bench_report.proofs.Ended.{left_on, cut_leaves}
@@ -39,9 +42,9 @@ use Rattle.bench_judge.specs.declared.ledgers.Ledger.{Ledger}
 use Rattle.bench_judge.specs.Ledgers.{Tells}
 use Rattle.bench_sweep.specs.Runs.{TellsWhole, Follows, Runs, RunsCalm, LeftOff, IsSpoilt, FindsState, Finds, PowerFinds}
 use Rattle.bench_sweep.specs.Swept.{IsPlainLine}
-use Rattle.bench_sweep.specs.Told.{moves_harts, powers_on, PowerTold, LineTold}
+use Rattle.bench_sweep.specs.Told.{moves_harts, powers_on, CommandTold, PowerTold, LineTold}
 use Rattle.bench_sweep.proofs.Followed.{whole_found}
-use Rattle.bench_sweep.proofs.Told.{powers as power_tells, line_tells}
+use Rattle.bench_sweep.proofs.Told.{console, powers as power_tells, line_tells}
 
 -- ---- a power cut
 pub left_off : KeepsOn → (size : Size) (b : Bench) (old new : SimDisk) → OffIs size b old → IsLeft (facts old) (facts new) → fault_state new ≡ fault_state_left (fault_state old) → OffIs size (unpowered b) new
@@ -122,6 +125,26 @@ power_runs size mode old new disk payloads answer now was ledger is r powers_it 
     let did = powers_it b off refl in
     let told = power_tells size mode b answer now did.0 r.follows.formatted did.1.0 did.1.1 in
     record { bench = did.0; agrees = did.2; follows = record { formatted = told.1 ∙ r.follows.formatted; kept = follows size r.bench.kept did.0.kept r.follows.kept told.0 } }
+
+-- a line of the console
+pub command_runs : {E : Type 0} (r : Result (Unit {0}) E) (size : Size) (word : ConsoleWord) (c : Change) (old new : Power) (answer : Answer) (was ledger : Ledger) → ((z : Size) → CarriesWhole z c) → RunsCalm size old was
+    → ((z : Size) (b : Bench) → Agrees z b old → StepsTo z b new (ConsoleStep word c b.power b answer))
+    → OnOk r ((z : Size) (k n : Kept) → TellsWhole z was k → CarriesWhole z c → CommandTold answer.line c k n → TellsWhole z ledger n) → OnOk r (Runs size new ledger)
+command_runs (Err e) size word c old new answer was ledger carries r issues follows = tt
+command_runs (Ok u) size word c old new answer was ledger carries r issues follows =
+    let did = issues size r.bench r.agrees in
+    let told = console word c r.bench.power r.bench answer did.0 refl (sound_of size r.bench old r.follows.formatted r.agrees).1 did.1 in
+    record { bench = did.0; agrees = did.2; follows = record { formatted = told.1 ∙ r.follows.formatted; kept = follows size r.bench.kept did.0.kept r.follows.kept (carries size) told.0 } }
+
+-- a command of the console carries no memory
+pub carries_none : (command : Command) → IsConsoleCommand command → (size : Size) → CarriesWhole size (change_of command)
+carries_none (commands.Slot n) is size = tt
+carries_none (commands.Reset r) is size = tt
+carries_none commands.Consume is size = tt
+carries_none commands.Discard is size = tt
+carries_none (commands.Tries n boots) is size = tt
+carries_none commands.Good is size = tt
+carries_none commands.Attempt is size = tt
 
 -- and one that was on
 pub busy_runs : (size : Size) (old : Power) (board : SimBoard) (ledger : Ledger) → old ≡ On board → RunsCalm size old ledger → Runs size (On board) ledger

@@ -75,7 +75,7 @@ Said c b a new = CommandTold a.line c b.kept new.kept × (new.disk_state ≡ b.d
 said_by : (c : Change) (b : Bench) (a x : Answer) (new : Bench) → a ≡ x → Said c b x new → Said c b a new
 said_by c b a x new e h = let P : Answer → Type 0 = λ y. Said c b y new in subst P (sym e) h
 
-console : (word : ConsoleWord) (c : Change) (p : Option BenchLife) (b : Bench) (a : Answer) (new : Bench) → b.power ≡ p → GoesOn b.kept b.power → ConsoleStep word c p b a new → Said c b a new
+pub console : (word : ConsoleWord) (c : Change) (p : Option BenchLife) (b : Bench) (a : Answer) (new : Bench) → b.power ≡ p → GoesOn b.kept b.power → ConsoleStep word c p b a new → Said c b a new
 console word c None b a new on sound x = said_by c b a (says printed.Off) new x.0 (ap (λ (y : Bench). y.kept) x.1, ap (λ (y : Bench). y.disk_state) x.1)
 console word c (Some life) b a new on sound (o, issued, e) = by o issued e
   where

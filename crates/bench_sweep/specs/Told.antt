@@ -10,6 +10,8 @@ use Rattle.board_model.specs.declared.durable.Durable.{Durable}
 use Rattle.board_model.specs.declared.durable.Reason.{Reason}
 use Rattle.board_model.specs.declared.durable.Trial.{Trial}
 use Rattle.board.specs.Moments.{attempts_of}
+use Rattle.board_console.specs.declared.command_words.ConsoleWord.{ConsoleWord}
+use Rattle.board_console.specs.declared.command_words.ConsoleWord.TheVariants as names
 use Rattle.script_lang.specs.declared.line.Line.{Line}
 use Rattle.script_lang.specs.declared.line.Line.TheVariants as lines
 use Rattle.machine.specs.declared.parts.Word.{Word}
@@ -88,6 +90,14 @@ PowerTold mode (Some d) said now old new =
 abbrev pub powers_on : Line → Bool
 powers_on (lines.On mode) = true
 powers_on line = false
+
+-- the command of a line of the console, by the word that names it
+abbrev pub asked_by : Line → Option (ConsoleWord × Change)
+asked_by (lines.Slot n) = Some (names.Slot, Slot n)
+asked_by lines.Discard = Some (names.Discard, Discard)
+asked_by (lines.Tries n boots) = Some (names.Tries, Tries n boots)
+asked_by lines.Good = Some (names.Good, Good)
+asked_by line = None
 
 -- what a line says that moves no hart, and powers no board on
 abbrev pub LineTold : Line → Answer → Kept → Kept → Type 0

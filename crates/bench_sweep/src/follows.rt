@@ -265,7 +265,7 @@ pub fn follows_boot(
 }
 
 /// A command of the console gave that answer.
-fn commands(
+pub fn commands(
     ledger: &mut Ledger,
     alloc: Global,
     command: Command,
