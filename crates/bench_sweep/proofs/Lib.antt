@@ -7,3 +7,4 @@ pub mod Begun
 pub mod Loaded
 pub mod Serials
 pub mod Boots
+pub mod Reported
