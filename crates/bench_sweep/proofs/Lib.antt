@@ -8,3 +8,4 @@ pub mod Loaded
 pub mod Serials
 pub mod Boots
 pub mod Spelled
+pub mod Reported

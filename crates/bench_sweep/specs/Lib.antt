@@ -4,3 +4,4 @@ pub mod Told
 pub mod Runs
 pub mod Lines
 pub mod Resumes
+pub mod Reports

@@ -1,10 +1,12 @@
 -- What a bench wrote and counted. Source: docs/SCRIPT.md, "The benches".
-use Rattle.std.specs.Prelude.{◌≡◌, ◌+◌, ℕ, zero, suc, List, [], ◌∷◌, ◌++◌, ⊤, Option, None, Some, length, map}
+use Rattle.std.specs.Prelude.{◌≡◌, ◌+◌, ℕ, zero, suc, List, [], ◌∷◌, ◌++◌, ⊤, Option, None, Some, All, length, map}
 use Rattle.std.specs.List.{flat_map}
 use Rattle.std.specs.Io.KnownBytes.{Appends}
 use Rattle.disk.specs.Facts.{counted}
 use Rattle.simdisk.specs.declared.fill.Fill.{Fill}
 use Rattle.simdisk.specs.declared.fill.Fill.TheVariants.{Byte, Alternating, Old, New}
+use Rattle.board_model.specs.Shapes.{Size}
+use Rattle.script_lang.specs.Ranges.{IsLineInRange}
 use Rattle.script_lang.specs.declared.line.Line.{Line}
 use Rattle.script_lang.specs.declared.line.Line.TheVariants as lines
 use Rattle.bench_judge.specs.declared.judges.Sweep.{Sweep}
@@ -24,6 +26,11 @@ IsPlainLine (lines.FailLane i n) = ⊥
 IsPlainLine (lines.Cut fill) = ⊥
 IsPlainLine (lines.Poke k n bytes) = ⊥
 IsPlainLine line = ⊤
+
+-- lines that a bench runs, for a board of that size
+pub record AreSwept (size : Size) (lines : List Line) : Type 0 where
+  pub ranges : All (IsLineInRange size) lines
+  pub plain : All IsPlainLine lines
 
 -- ---- which runs there are
 -- a run: at whose call power was cut, or failed a call; the number of the call, from 1; and what the cut left

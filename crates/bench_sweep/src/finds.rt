@@ -20,6 +20,7 @@ ghost use Rattle.bench_report.specs.Views.{facts, fault_state, store_in, store_s
 ghost use Rattle.bench_sweep.specs.Runs.{LeftOff, Finds, FindsState, IsSpoilt, PowerFinds};
 
 use crate::follows::is_of_memory;
+use crate::runner::Setting;
 use bench_judge::{Ledger, Sweep};
 use bench_report::{Answer, Power, Printed, step};
 use board::{Board, Parts, Payloads};
@@ -122,18 +123,17 @@ fn sizes(shape: &Shape)
 
 /// Powers a board on that keeps its image, and looks what was found. Refused `Memory` alone.
 fn keeps<C: Crew>(
-    alloc: Global,
-    crew: &C,
-    shape: &Shape,
+    setting: &Setting<'_, C>,
     disk: SimDisk,
     payloads: &mut Payloads,
 ) -> Result<Found, Refusal>
     requires idle { IsIdle (facts disk) }
     requires short { AreShort payloads.old }
     ensures short { AreShort payloads.new }
-    ensures finds { IfOk result (λ found. (ledger : Ledger) → LeftOff shape.now disk ledger → Finds ledger found.plain) }
+    ensures finds { IfOk result (λ found. (ledger : Ledger) → LeftOff setting.now.shape.now disk ledger → Finds ledger found.plain) }
     ensures refused { IfErr result (λ e. e ≡ Memory) }
 {
+    let Setting { alloc, crew, shape } = *setting;
     sizes(shape);
     let keep = Line::On(BootMode::Keep);
     let (power, answer) = step(alloc, crew, shape, &keep, Power::Off(disk), payloads);
@@ -144,9 +144,7 @@ fn keeps<C: Crew>(
 
 /// Counts a run that left that disk, and answers what the power-on after it said. Refused `Memory` alone.
 pub fn counts<C: Crew>(
-    alloc: Global,
-    crew: &C,
-    shape: &Shape,
+    setting: &Setting<'_, C>,
     disk: SimDisk,
     payloads: &mut Payloads,
     ledger: &Ledger,
@@ -154,14 +152,14 @@ pub fn counts<C: Crew>(
 ) -> Result<Answer, Refusal>
     requires idle { IsIdle (facts disk) }
     requires short { AreShort payloads.old }
-    requires left { LeftOff shape.now disk ledger.now }
+    requires left { LeftOff setting.now.shape.now disk ledger.now }
     ensures short { AreShort payloads.new }
     ensures points { sweep.new.points ≡ sweep.old.points }
     ensures runs { OnOk result (sweep.new.runs ≡ counted sweep.old.runs 1) }
     ensures right { OnOk result (sweep.new.wrong ≡ sweep.old.wrong) }
     ensures refused { IfErr result (λ e. e ≡ Memory) }
 {
-    let found = keeps(alloc, crew, shape, disk, payloads)?;
+    let found = keeps(setting, disk, payloads)?;
     ledger.counts(found.plain.as_ref(), sweep);
     Ok(found.left)
 }

@@ -8,6 +8,7 @@ mod follows;
 mod harts;
 mod points;
 mod rows;
+mod runner;
 mod sites;
 mod sweeps;
 

@@ -1,172 +1,143 @@
 //! Whole benches.
 
-ghost use Rattle.std.specs.Prelude.{◌≡◌, ◌⊎◌, ◌↔◌, ◌≤◌, ◌<◌, ◌+◌, ◌∷◌, [], ℕ, List, None, length, All, Ok, Err, IsTrue, IfOk, IfErr, OnOk};
+ghost use Rattle.std.specs.Prelude.{◌≡◌, ◌⊎◌, ◌↔◌, ◌≤◌, ◌<◌, ◌∷◌, [], ℕ, List, None, length, All, Ok, Err, IsTrue, IfOk, IfErr, OnOk};
 ghost use Rattle.board_model.specs.declared.refusal.Refusal.{Refusal};
 ghost use Rattle.board_model.specs.declared.refusal.Refusal.TheVariants.{Memory, Output, NotPlain};
 ghost use Rattle.disk.specs.Facts.{counted};
 ghost use Rattle.script_lang.specs.Ranges.{IsLineInRange};
 ghost use Rattle.script_lang.specs.Scripts.{script_of, Script as Said};
-ghost use Rattle.store.specs.Leaves.{IsIdle};
 ghost use Rattle.bench_report.specs.declared.power.Power.TheVariants.{Off};
-ghost use Rattle.bench_report.specs.Agree.{AreShort, IsResting};
-ghost use Rattle.bench_report.specs.Views.{facts};
+ghost use Rattle.bench_report.specs.Agree.{IsResting};
 ghost use Rattle.bench_sweep.specs.Runs.{Runs, LeftOff};
-ghost use Rattle.bench_sweep.specs.Swept.{IsPlainLine, cell, runs_of, runs_from, all_runs, callers, total, Writes, WroteAll};
+ghost use Rattle.bench_sweep.specs.Swept.{IsPlainLine, AreSwept, cell, runs_of, runs_from, all_runs, callers, total, WroteAll};
+ghost use Rattle.bench_sweep.specs.Reports.{Reports};
 
 use crate::begins::formats;
 use crate::finds::counts;
 use crate::points::{Bench, CALLERS, Caller, FILLS, Point};
 use crate::rows::{Row, write_row, write_sweep};
+use crate::runner::{Runner, Setting};
 use crate::sites::{Going, Site, Went, cut_by, goes_on};
-use bench_judge::{Ledger, Sweep};
-use board::Payloads;
+use bench_judge::Sweep;
 use board_model::{Refusal, Shape};
 use crew::{Crew, Turns};
 use script_lang::{Line, Script, parse_script};
-use simdisk::{Fill, SimDisk};
+use simdisk::Fill;
 use std::alloc::Global;
 use std::io::Write;
 use std::thread::Threads;
 
-/// Powers a board on over what a run left, counts the run, and writes its line.
-fn judges<C: Crew, W: Write>(
-    alloc: Global,
-    crew: &C,
-    shape: &Shape,
-    disk: SimDisk,
-    payloads: &mut Payloads,
-    ledger: &Ledger,
+/// What a bench writes, and what it counts.
+#[derive(Drop)]
+struct Report<'a, W> {
+    out: &'a mut W,
+    sweep: Sweep,
+}
+
+/// Cuts power, which leaves the disk by that fill, powers a board on over it, counts the run, and writes its line.
+fn judge_run<C: Crew, W: Write>(
+    setting: &Setting<'_, C>,
+    site: &mut Site,
+    by: Fill,
     point: Point,
     fill: Option<Fill>,
-    out: &mut W,
-    sweep: &mut Sweep,
+    report: &mut Report<'_, W>,
 ) -> Result<(), Refusal>
-    requires idle { IsIdle (facts disk) }
-    requires short { AreShort payloads.old }
-    requires left { LeftOff shape.now disk ledger.now }
-    ensures short { AreShort payloads.new }
-    ensures wrote { OnOk result (Writes (W.contents out.old) (W.contents out.new) sweep.old sweep.new
+    requires runs { Runs setting.now.shape.now (Off site.old.disk) site.old.ledger }
+    ensures runs { Runs setting.now.shape.now (Off site.new.disk) site.new.ledger }
+    ensures wrote { OnOk result (Reports W.contents report.old report.new
         (cell point.caller point.number fill ∷ []) 0) }
     ensures refused { IfErr result (λ e. (e ≡ Memory) ⊎ (e ≡ Output)) }
 {
-    let left = counts(alloc, crew, shape, disk, payloads, ledger, sweep)?;
+    let disk = cut_by(&site.disk, by)?;
+    let left = counts(
+        setting,
+        disk,
+        &mut site.payloads,
+        &site.ledger,
+        &mut report.sweep,
+    )?;
     let row = Row {
         caller: point.caller,
         number: point.number,
         fill,
         left,
     };
-    write_row(out, row)
+    write_row(report.out, row)
 }
 
 /// Judges what a run that a cut ended leaves by each fill.
-fn judges_fills<C: Crew, W: Write>(
-    alloc: Global,
-    crew: &C,
-    shape: &Shape,
+fn judge_each_fill<C: Crew, W: Write>(
+    setting: &Setting<'_, C>,
     site: Site,
     point: Point,
-    out: &mut W,
-    sweep: &mut Sweep,
+    report: &mut Report<'_, W>,
 ) -> Result<(), Refusal>
-    requires runs { Runs shape.now (Off site.disk) site.ledger }
-    ensures wrote { OnOk result (Writes (W.contents out.old) (W.contents out.new) sweep.old sweep.new
+    requires runs { Runs setting.now.shape.now (Off site.disk) site.ledger }
+    ensures wrote { OnOk result (Reports W.contents report.old report.new
         (runs_of Bench.Cuts point.caller point.number) 0) }
     ensures refused { IfErr result (λ e. (e ≡ Memory) ⊎ (e ≡ Output)) }
 {
-    let Site {
-        disk,
-        mut payloads,
-        ledger,
-    } = site;
+    let mut site = site;
     for fill in FILLS {
-        let left = cut_by(&disk, fill)?;
-        judges(
-            alloc,
-            crew,
-            shape,
-            left,
-            &mut payloads,
-            &ledger,
-            point,
-            Some(fill),
-            out,
-            sweep,
-        )?;
+        judge_run(setting, &mut site, fill, point, Some(fill), report)?;
     }
     Ok(())
 }
 
-/// Runs these lines with a cut armed at that call, up to the one in which it strikes, and judges what each fill
+/// Runs the lines with a cut armed at that call, up to the one in which it strikes, and judges what each fill
 /// leaves of it.
-fn cuts_at<C: Crew, W: Write>(
-    alloc: Global,
-    crew: &C,
-    shape: &Shape,
-    lines: &[Line],
+fn run_to_cut<C: Crew, W: Write>(
+    runner: &Runner<'_, C>,
     site: Site,
     point: Point,
-    out: &mut W,
-    sweep: &mut Sweep,
+    report: &mut Report<'_, W>,
 ) -> Result<(), Refusal>
-    requires ranges { All (IsLineInRange shape.now) lines.now }
-    requires plain { All IsPlainLine lines.now }
-    requires left { LeftOff shape.now site.disk site.ledger }
-    ensures wrote { OnOk result (Writes (W.contents out.old) (W.contents out.new) sweep.old sweep.new
+    requires lines { AreSwept runner.now.setting.shape.now runner.now.lines.now }
+    requires left { LeftOff runner.now.setting.shape.now site.disk site.ledger }
+    ensures wrote { OnOk result (Reports W.contents report.old report.new
         (runs_of Bench.Cuts point.caller point.number) 0) }
     ensures refused { IfErr result (λ e. (e ≡ Memory) ⊎ (e ≡ Output)) }
 {
+    let Setting { alloc, crew, shape } = runner.setting;
     let armed = Going::armed(site, point.caller.cut_at(point.call));
-    let going = goes_on(alloc, crew, shape, lines, false, armed)?.going;
+    let going = goes_on(alloc, crew, shape, runner.lines, false, armed)?.going;
     // The plain run made the call. Only one that was refused memory can have missed it.
     if !going.is_struck() {
         return Err(Refusal::Memory);
     }
-    judges_fills(alloc, crew, shape, going.ends(), point, out, sweep)
+    judge_each_fill(&runner.setting, going.ends(), point, report)
 }
 
-/// Runs these lines to their end with a failure armed at that call, cuts power, and judges what is left.
-fn fails_at<C: Crew, W: Write>(
-    alloc: Global,
-    crew: &C,
-    shape: &Shape,
-    lines: &[Line],
+/// Runs the lines to their end with a failure armed at that call, cuts power, and judges what is left.
+fn run_past_failure<C: Crew, W: Write>(
+    runner: &Runner<'_, C>,
     site: Site,
     point: Point,
-    out: &mut W,
-    sweep: &mut Sweep,
+    report: &mut Report<'_, W>,
 ) -> Result<(), Refusal>
-    requires ranges { All (IsLineInRange shape.now) lines.now }
-    requires plain { All IsPlainLine lines.now }
-    requires left { LeftOff shape.now site.disk site.ledger }
-    ensures wrote { OnOk result (Writes (W.contents out.old) (W.contents out.new) sweep.old sweep.new
+    requires lines { AreSwept runner.now.setting.shape.now runner.now.lines.now }
+    requires left { LeftOff runner.now.setting.shape.now site.disk site.ledger }
+    ensures wrote { OnOk result (Reports W.contents report.old report.new
         (runs_of Bench.Fails point.caller point.number) 0) }
     ensures refused { IfErr result (λ e. (e ≡ Memory) ⊎ (e ≡ Output)) }
 {
+    let Setting { alloc, crew, shape } = runner.setting;
     let armed = Going::armed(site, point.caller.fail_at(point.call));
-    let going = goes_on(alloc, crew, shape, lines, false, armed)?.going;
-    let Site {
-        disk,
-        mut payloads,
-        ledger,
-    } = rests(shape, going)?;
-    let left = cut_by(&disk, Fill::Byte(0))?;
-    judges(
-        alloc,
-        crew,
-        shape,
-        left,
-        &mut payloads,
-        &ledger,
+    let going = goes_on(alloc, crew, shape, runner.lines, false, armed)?.going;
+    let mut left = turn_off(shape, going)?;
+    judge_run(
+        &runner.setting,
+        &mut left,
+        Fill::Byte(0),
         point,
         None,
-        out,
-        sweep,
+        report,
     )
 }
 
 /// Turns the board off after lines of the plain run. Refused `Memory` where the disk's record found none in them.
-fn rests(shape: &Shape, going: Going) -> Result<Site, Refusal>
+fn turn_off(shape: &Shape, going: Going) -> Result<Site, Refusal>
     requires resting { IsResting going.power }
     requires runs { Runs shape.now going.power going.ledger }
     ensures runs { IfOk result (λ site. Runs shape.now (Off site.disk) site.ledger) }
@@ -179,67 +150,67 @@ fn rests(shape: &Shape, going: Going) -> Result<Site, Refusal>
     Ok(site)
 }
 
-/// One run of the bench, or five. The lines are those of the script from the site on, of which so many stand up
-/// to the next site.
-fn runs_at<C: Crew, W: Write>(
-    alloc: Global,
-    crew: &C,
-    bench: Bench,
-    shape: &Shape,
-    lines: &[Line],
+/// Makes the one run of the bench at that point, or the five. So many lines stand up to the next site.
+fn run_at_point<C: Crew, W: Write>(
+    runner: &Runner<'_, C>,
     count: usize,
     site: Site,
     point: Point,
-    out: &mut W,
-    sweep: &mut Sweep,
+    report: &mut Report<'_, W>,
 ) -> Result<(), Refusal>
-    requires ranges { All (IsLineInRange shape.now) lines.now }
-    requires plain { All IsPlainLine lines.now }
-    requires few { count ≤ length lines.now }
-    requires left { LeftOff shape.now site.disk site.ledger }
-    ensures wrote { OnOk result (Writes (W.contents out.old) (W.contents out.new) sweep.old sweep.new
-        (runs_of bench point.caller point.number) 0) }
+    requires few { count ≤ length runner.now.lines.now }
+    requires lines { AreSwept runner.now.setting.shape.now runner.now.lines.now }
+    requires left { LeftOff runner.now.setting.shape.now site.disk site.ledger }
+    ensures wrote { OnOk result (Reports W.contents report.old report.new
+        (runs_of runner.now.bench point.caller point.number) 0) }
     ensures refused { IfErr result (λ e. (e ≡ Memory) ⊎ (e ≡ Output)) }
 {
-    match bench {
-        Bench::Cuts => cuts_at(alloc, crew, shape, &lines[..count], site, point, out, sweep),
-        Bench::Fails => fails_at(alloc, crew, shape, lines, site, point, out, sweep),
+    match runner.bench {
+        Bench::Cuts => {
+            let front = Runner {
+                setting: runner.setting,
+                bench: runner.bench,
+                lines: &runner.lines[..count],
+            };
+            run_to_cut(&front, site, point, report)
+        }
+        Bench::Fails => run_past_failure(runner, site, point, report),
     }
 }
 
-/// Goes over so many calls of that caller that are made from the site on, the first of which has that number.
-fn sweeps_calls<C: Crew, W: Write>(
-    alloc: Global,
-    crew: &C,
-    bench: Bench,
-    shape: &Shape,
-    lines: &[Line],
+/// Calls of a caller that lines of the plain run make.
+#[derive(Clone, Copy, Drop)]
+struct Calls {
+    caller: Caller,
+    /// The number of the first from the first `format ok` on, from 1.
+    first: u64,
+    /// How many they are.
+    count: u64,
+}
+
+/// Makes the runs at those calls, which the lines make from the site on. So many lines stand up to the next site.
+fn run_at_calls<C: Crew, W: Write>(
+    runner: &Runner<'_, C>,
     count: usize,
     site: &Site,
-    caller: Caller,
-    first: u64,
-    calls: u64,
-    out: &mut W,
-    sweep: &mut Sweep,
+    calls: Calls,
+    report: &mut Report<'_, W>,
 ) -> Result<(), Refusal>
-    requires ranges { All (IsLineInRange shape.now) lines.now }
-    requires plain { All IsPlainLine lines.now }
-    requires few { count ≤ length lines.now }
-    requires runs { Runs shape.now (Off site.now.disk) site.now.ledger }
-    ensures wrote { OnOk result (Writes (W.contents out.old) (W.contents out.new) sweep.old sweep.new
-        (runs_from bench caller first calls) 0) }
+    requires few { count ≤ length runner.now.lines.now }
+    requires lines { AreSwept runner.now.setting.shape.now runner.now.lines.now }
+    requires runs { Runs runner.now.setting.shape.now (Off site.now.disk) site.now.ledger }
+    ensures wrote { OnOk result (Reports W.contents report.old report.new
+        (runs_from runner.now.bench calls.caller calls.first calls.count) 0) }
     ensures refused { IfErr result (λ e. (e ≡ Memory) ⊎ (e ≡ Output)) }
 {
-    for done in 0..calls {
+    for done in 0..calls.count {
         let point = Point {
-            caller,
-            number: first.saturating_add(done),
+            caller: calls.caller,
+            number: calls.first.saturating_add(done),
             call: done + 1,
         };
-        let from = site.copy(alloc)?;
-        runs_at(
-            alloc, crew, bench, shape, lines, count, from, point, out, sweep,
-        )?;
+        let from = site.copy(runner.setting.alloc)?;
+        run_at_point(runner, count, from, point, report)?;
     }
     Ok(())
 }
@@ -255,102 +226,90 @@ struct Stretch {
     next: Site,
 }
 
-/// Goes over the points of that caller in the lines from that one on, up to the next moment at which the board is
-/// off. So many points were before them.
-fn sweeps_stretch<C: Crew, W: Write>(
-    alloc: Global,
-    crew: &C,
-    bench: Bench,
-    shape: &Shape,
-    lines: &[Line],
-    from: usize,
+/// Goes over the points of that caller in the lines up to the next moment at which the board is off. So many points
+/// were before them.
+fn sweep_stretch<C: Crew, W: Write>(
+    runner: &Runner<'_, C>,
     site: &Site,
     caller: Caller,
     made: u64,
-    out: &mut W,
-    sweep: &mut Sweep,
+    report: &mut Report<'_, W>,
 ) -> Result<Stretch, Refusal>
-    requires ranges { All (IsLineInRange shape.now) lines.now }
-    requires plain { All IsPlainLine lines.now }
-    requires within { from ≤ length lines.now }
-    requires runs { Runs shape.now (Off site.now.disk) site.now.ledger }
-    ensures few { IfOk result (λ did. from + did.count ≤ length lines.now) }
-    ensures some { IfOk result (λ did. from < length lines.now → 0 < did.count) }
-    ensures runs { IfOk result (λ did. Runs shape.now (Off did.next.disk) did.next.ledger) }
-    ensures wrote { IfOk result (λ did. Writes (W.contents out.old) (W.contents out.new) sweep.old sweep.new
-        (runs_from bench caller (counted made 1) did.calls) 0) }
+    requires lines { AreSwept runner.now.setting.shape.now runner.now.lines.now }
+    requires runs { Runs runner.now.setting.shape.now (Off site.now.disk) site.now.ledger }
+    ensures few { IfOk result (λ did. did.count ≤ length runner.now.lines.now) }
+    ensures some { IfOk result (λ did. 0 < length runner.now.lines.now → 0 < did.count) }
+    ensures runs { IfOk result (λ did. Runs runner.now.setting.shape.now (Off did.next.disk) did.next.ledger) }
+    ensures wrote { IfOk result (λ did. Reports W.contents report.old report.new
+        (runs_from runner.now.bench caller (counted made 1) did.calls) 0) }
     ensures refused { IfErr result (λ e. (e ≡ Memory) ⊎ (e ≡ Output)) }
 {
-    let rest = &lines[from..];
+    let Setting { alloc, crew, shape } = runner.setting;
     let plain = Going::from(site.copy(alloc)?);
-    let Went { count, going } = goes_on(alloc, crew, shape, rest, true, plain)?;
-    let next = rests(shape, going)?;
-    let calls = caller
-        .calls(&next.disk)
-        .saturating_sub(caller.calls(&site.disk));
-    let first = made.saturating_add(1);
-    sweeps_calls(
-        alloc, crew, bench, shape, rest, count, site, caller, first, calls, out, sweep,
-    )?;
-    Ok(Stretch { count, calls, next })
+    let Went { count, going } = goes_on(alloc, crew, shape, runner.lines, true, plain)?;
+    let next = turn_off(shape, going)?;
+    let calls = Calls {
+        caller,
+        first: made.saturating_add(1),
+        count: caller
+            .calls(&next.disk)
+            .saturating_sub(caller.calls(&site.disk)),
+    };
+    run_at_calls(runner, count, site, calls, report)?;
+    Ok(Stretch {
+        count,
+        calls: calls.count,
+        next,
+    })
 }
 
 /// Goes over the points of that caller. Each run begins at the last moment before its call at which the board
 /// was off.
-fn sweeps<C: Crew, W: Write>(
-    alloc: Global,
-    crew: &C,
-    bench: Bench,
-    shape: &Shape,
-    lines: &[Line],
+fn sweep_caller<C: Crew, W: Write>(
+    runner: &Runner<'_, C>,
     begin: Site,
     caller: Caller,
-    out: &mut W,
-    sweep: &mut Sweep,
+    report: &mut Report<'_, W>,
 ) -> Result<(), Refusal>
-    requires ranges { All (IsLineInRange shape.now) lines.now }
-    requires plain { All IsPlainLine lines.now }
-    requires runs { Runs shape.now (Off begin.disk) begin.ledger }
-    ensures wrote { OnOk result ((n : ℕ) × Writes (W.contents out.old) (W.contents out.new) sweep.old sweep.new
-        (runs_from bench caller 1 n) n) }
+    requires lines { AreSwept runner.now.setting.shape.now runner.now.lines.now }
+    requires runs { Runs runner.now.setting.shape.now (Off begin.disk) begin.ledger }
+    ensures wrote { OnOk result ((n : ℕ) × Reports W.contents report.old report.new
+        (runs_from runner.now.bench caller 1 n) n) }
     ensures refused { IfErr result (λ e. (e ≡ Memory) ⊎ (e ≡ Output)) }
 {
     let mut site = begin;
     let mut from = 0;
     let mut made = 0u64;
-    while from < lines.len() {
-        let Stretch { count, calls, next } = sweeps_stretch(
-            alloc, crew, bench, shape, lines, from, &site, caller, made, out, sweep,
-        )?;
+    while from < runner.lines.len() {
+        let rest = Runner {
+            setting: runner.setting,
+            bench: runner.bench,
+            lines: &runner.lines[from..],
+        };
+        let Stretch { count, calls, next } = sweep_stretch(&rest, &site, caller, made, report)?;
         from += count;
         made = made.saturating_add(calls);
         site = next;
     }
-    sweep.points = sweep.points.saturating_add(made);
+    report.sweep.points = report.sweep.points.saturating_add(made);
     Ok(())
 }
 
 /// Goes over the points of each caller in turn, over the lines from that site on.
-fn sweeps_all<C: Crew, W: Write>(
-    alloc: Global,
-    crew: &C,
-    bench: Bench,
-    shape: &Shape,
-    lines: &[Line],
+fn sweep_all_callers<C: Crew, W: Write>(
+    runner: &Runner<'_, C>,
     site: &Site,
-    out: &mut W,
-    sweep: &mut Sweep,
+    report: &mut Report<'_, W>,
 ) -> Result<(), Refusal>
-    requires ranges { All (IsLineInRange shape.now) lines.now }
-    requires plain { All IsPlainLine lines.now }
-    requires runs { Runs shape.now (Off site.now.disk) site.now.ledger }
-    ensures wrote { OnOk result ((counts : List ℕ) × (length counts ≡ 5) × Writes (W.contents out.old)
-        (W.contents out.new) sweep.old sweep.new (all_runs bench callers counts) (total counts)) }
+    requires lines { AreSwept runner.now.setting.shape.now runner.now.lines.now }
+    requires runs { Runs runner.now.setting.shape.now (Off site.now.disk) site.now.ledger }
+    ensures wrote { OnOk result ((counts : List ℕ) × (length counts ≡ 5) × Reports W.contents report.old report.new
+        (all_runs runner.now.bench callers counts) (total counts)) }
     ensures refused { IfErr result (λ e. (e ≡ Memory) ⊎ (e ≡ Output)) }
 {
     for caller in CALLERS {
-        let begin = site.copy(alloc)?;
-        sweeps(alloc, crew, bench, shape, lines, begin, caller, out, sweep)?;
+        let begin = site.copy(runner.setting.alloc)?;
+        sweep_caller(runner, begin, caller, report)?;
     }
     Ok(())
 }
@@ -377,8 +336,41 @@ fn are_plain(lines: &[Line]) -> bool
     lines.iter().all(|line| is_plain(line))
 }
 
+/// Runs that bench over those lines, on boards of that shape. Refused `NotPlain` before anything is written.
+fn sweep_lines<'a, C: Crew, W: Write>(
+    alloc: Global,
+    crew: &'a C,
+    bench: Bench,
+    shape: &'a Shape,
+    lines: &'a [Line],
+    out: &mut W,
+) -> Result<Sweep, Refusal>
+    requires lines { AreSwept shape.now lines.now }
+    ensures wrote { IfOk result (λ sweep. WroteAll bench (W.contents out.old) (W.contents out.new) sweep) }
+    ensures refused { IfErr result (λ e. (e ≡ Memory) ⊎ (e ≡ Output)
+        ⊎ ((e ≡ NotPlain) × (W.contents out.new ≡ W.contents out.old))) }
+{
+    let (count, site) = formats(alloc, crew, shape, lines)?;
+    let setting = Setting { alloc, crew, shape };
+    let runner = Runner {
+        setting,
+        bench,
+        lines: &lines[count..],
+    };
+    let sweep = Sweep {
+        points: 0,
+        runs: 0,
+        wrong: 0,
+    };
+    let mut report = Report { out, sweep };
+    sweep_all_callers(&runner, &site, &mut report)?;
+    let Report { out, sweep } = report;
+    write_sweep(out, sweep)?;
+    Ok(sweep)
+}
+
 /// Runs that bench over a script whose lines are all plain. Refused `NotPlain` before anything is written.
-fn swept<R: Threads + Sync, W: Write>(
+fn sweep_plain_script<R: Threads + Sync, W: Write>(
     alloc: Global,
     bench: Bench,
     script: &Script,
@@ -391,29 +383,11 @@ fn swept<R: Threads + Sync, W: Write>(
         ⊎ ((e ≡ NotPlain) × (W.contents out.new ≡ W.contents out.old))) }
 {
     let crew = Turns::<R>::new([0, 1, 2, 3])?;
-    let (count, site) = formats(alloc, &crew, &script.shape, &script.lines)?;
-    let lines = &script.lines[count..];
-    let mut sweep = Sweep {
-        points: 0,
-        runs: 0,
-        wrong: 0,
-    };
-    sweeps_all(
-        alloc,
-        &crew,
-        bench,
-        &script.shape,
-        lines,
-        &site,
-        out,
-        &mut sweep,
-    )?;
-    write_sweep(out, sweep)?;
-    Ok(sweep)
+    sweep_lines(alloc, &crew, bench, &script.shape, &script.lines, out)
 }
 
 /// Runs that bench over the script.
-fn benches<R: Threads + Sync, W: Write>(
+fn run_bench<R: Threads + Sync, W: Write>(
     alloc: Global,
     bench: Bench,
     script: &[u8],
@@ -435,7 +409,7 @@ fn benches<R: Threads + Sync, W: Write>(
     if !are_plain(&script.lines) {
         return Err(Refusal::NotPlain);
     }
-    swept::<R, W>(alloc, bench, &script, out)
+    sweep_plain_script::<R, W>(alloc, bench, &script, out)
 }
 
 /// The power-cut bench (docs/SCRIPT.md, "The benches"): cuts power at each call of the disk, and of each of its
@@ -463,7 +437,7 @@ pub fn sweep<R: Threads + Sync, W: Write>(
     ensures plain { (said : Said) → script_of script.now ≡ Ok said → (All IsPlainLine said.lines → ⊥)
         → (W.contents out.new ≡ W.contents out.old) × ((result ≡ Err NotPlain) ⊎ (result ≡ Err Memory)) }
 {
-    benches::<R, W>(alloc, Bench::Cuts, script, out)
+    run_bench::<R, W>(alloc, Bench::Cuts, script, out)
 }
 
 /// The fault bench: lets each of these calls fail in turn, with power on, runs the script to its end, cuts power,
@@ -485,5 +459,5 @@ pub fn faults<R: Threads + Sync, W: Write>(
     ensures plain { (said : Said) → script_of script.now ≡ Ok said → (All IsPlainLine said.lines → ⊥)
         → (W.contents out.new ≡ W.contents out.old) × ((result ≡ Err NotPlain) ⊎ (result ≡ Err Memory)) }
 {
-    benches::<R, W>(alloc, Bench::Fails, script, out)
+    run_bench::<R, W>(alloc, Bench::Fails, script, out)
 }

@@ -9,7 +9,7 @@ use Rattle.bench_sweep.proofs.finds.keeps.Goals as goal
 
 pub returns-clause-finds : goal.returns-clause-finds
 returns-clause-finds g c = λ ledger l.
-    let size = c.args.shape.now in
+    let size = c.args.setting.now.shape.now in
     let b : Bench = record l.bench { payloads = c.args.payloads.now } in
     let calm : b.fault_state.struck ≡ false = ap (λ (m : FaultState). m.struck) l.left in
     let did = rw c.in_ok-left.was at (c.step-power.ensures.reported b (l.off, refl, calm)) in

@@ -1,7 +1,6 @@
 use Rattle.std.proofs.Common.{ℕ, List, [], ◌∷◌, zero, suc, refl, arith}
 use Rattle.crew.specs.Orders.{IsOrder}
-use Rattle.bench_sweep.proofs.Written.{wrote_all}
-use Rattle.bench_sweep.proofs.sweeps.swept.Goals as goal
+use Rattle.bench_sweep.proofs.sweeps.sweep_plain_script.Goals as goal
 
 rising : IsOrder (0 ∷ 1 ∷ 2 ∷ 3 ∷ [])
 rising zero less = refl
@@ -12,8 +11,3 @@ rising (suc (suc (suc (suc i)))) less = absurd (omega (arith, less))
 
 pub returns-in_err-crew-clause-refused : goal.returns-in_err-crew-clause-refused
 returns-in_err-crew-clause-refused g c = absurd (c.in_err-crew.ensures.1 rising)
-
-pub returns-clause-wrote : goal.returns-clause-wrote
-returns-clause-wrote g c =
-    let did = c.in_ok-sweeps_all.ensures.wrote in
-    wrote_all c.args.bench _ _ _ _ _ did.0 refl refl refl did.1 did.2 c.in_ok-write_sweep.ensures.ok

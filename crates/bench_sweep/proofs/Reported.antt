@@ -1,0 +1,56 @@
+-- Reports that go on one after another, and the lines that they are of.
+use Rattle.std.proofs.Common.{◌≡◌, ◌≤◌, ◌+◌, ℕ, List, [], ◌∷◌, ◌++◌, take, drop, length, Option, Result, Ok, Err, OnOk, refl, sym, ◌∙◌, subst, arith}
+use Rattle.std.proofs.lemmas.List.{length-drop, length-take}
+use Rattle.std.proofs.lemmas.List.Elements.{All-take, All-drop}
+use Rattle.std.specs.Io.KnownBytes.{Appends}
+use Rattle.disk.specs.Facts.{counted}
+use Rattle.board_model.specs.Shapes.{Size}
+use Rattle.script_lang.specs.Ranges.{IsLineInRange}
+use Rattle.script_lang.specs.declared.line.Line.{Line}
+use Rattle.bench_sweep.specs.declared.rows.Row.{Row}
+use Rattle.bench_sweep.specs.declared.sweeps.Report.{Report}
+use Rattle.bench_sweep.specs.Reports.{Reports}
+use Rattle.bench_sweep.specs.Rows.{row_text}
+use Rattle.bench_sweep.specs.Swept.{Cell, cell_of, IsPlainLine, AreSwept, Writes}
+use Rattle.bench_sweep.proofs.Written.{writes_one, writes_none, writes_more, writes_as, with_points}
+
+-- one row
+pub reports_one : {W E : Type 0} (contents : W → Option (List ℕ)) (r : Result (Unit {0}) E) (old new : Report W) (row : Row) → new.out.ghost_name ≡ old.out.ghost_name
+    → OnOk r (Appends (contents old.out.now) (contents new.out.now) (row_text row ++ 10 ∷ [])) → new.sweep.points ≡ old.sweep.points → new.sweep.runs ≡ counted old.sweep.runs 1 → new.sweep.wrong ≡ old.sweep.wrong
+    → OnOk r (Reports contents old new (cell_of row ∷ []) 0)
+reports_one contents (Err e) old new row same text points runs wrong = tt
+reports_one {E = E} contents (Ok u) old new row same text points runs wrong =
+    let r : Result (Unit {0}) E = Ok u in
+    record { same = same; wrote = writes_one r _ _ old.sweep new.sweep row text points runs wrong }
+
+-- no row
+pub reports_none : {W : Type 0} (contents : W → Option (List ℕ)) (now : Report W) → Reports contents now now [] 0
+reports_none contents now = record { same = refl; wrote = writes_none _ _ }
+
+-- and then more of them
+pub reports_more : {W : Type 0} (contents : W → Option (List ℕ)) (a b c : Report W) (xs ys : List Cell) (m n : ℕ) → Reports contents a b xs m → Reports contents b c ys n → Reports contents a c (xs ++ ys) (m + n)
+reports_more contents a b c xs ys m n first second = record { same = second.same ∙ first.same; wrote = writes_more _ _ _ _ _ _ _ _ _ _ first.wrote second.wrote }
+
+-- the same runs
+pub reports_as : {W : Type 0} (contents : W → Option (List ℕ)) (a b : Report W) (xs ys : List Cell) (m n : ℕ) → xs ≡ ys → m ≡ n → Reports contents a b xs m → Reports contents a b ys n
+reports_as contents a b xs ys m n e f r = record { same = r.same; wrote = writes_as _ _ _ _ _ _ _ _ e f r.wrote }
+
+-- points that are counted at the end
+pub reports_points : {W : Type 0} (contents : W → Option (List ℕ)) (a b c : Report W) (xs : List Cell) (n : ℕ) → Reports contents a b xs 0 → c.out.ghost_name ≡ b.out.ghost_name → contents c.out.now ≡ contents b.out.now
+    → c.sweep.points ≡ counted b.sweep.points (counted 0 n) → c.sweep.runs ≡ b.sweep.runs → c.sweep.wrong ≡ b.sweep.wrong → Reports contents a c xs n
+reports_points contents a b c xs n r same text points runs wrong =
+    let P : Option (List ℕ) → Type 0 = λ now. Writes (contents a.out.now) now a.sweep c.sweep xs n in
+    record { same = same ∙ r.same; wrote = subst P (sym text) (with_points _ _ a.sweep b.sweep c.sweep xs n r.wrote points runs wrong) }
+
+-- ---- some of the lines
+pub swept_take : (size : Size) (n : ℕ) (lines : List Line) → AreSwept size lines → AreSwept size (take n lines)
+swept_take size n lines all = record { ranges = All-take (IsLineInRange size) n lines all.ranges; plain = All-take IsPlainLine n lines all.plain }
+
+pub swept_drop : (size : Size) (n : ℕ) (lines : List Line) → AreSwept size lines → AreSwept size (drop n lines)
+swept_drop size n lines all = record { ranges = All-drop (IsLineInRange size) n lines all.ranges; plain = All-drop IsPlainLine n lines all.plain }
+
+pub stays_within : (from count n : ℕ) (lines : List Line) → from ≤ length lines → count ≤ length (take n (drop from lines)) → from + count ≤ length lines
+stays_within from count n lines within few =
+    let some = length-take n (drop from lines) in
+    let rest = length-drop from lines in
+    omega (arith, within, few, some, rest)
