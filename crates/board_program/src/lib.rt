@@ -33,7 +33,7 @@ use std::sync::Wait;
 use std::thread::Threads;
 
 /// The session over that disk, with the console on standard input and output. The disk is given back.
-fn ran<R: Threads + Wait + Sync, D: Disk + Drop + Send>(
+fn session_over<R: Threads + Wait + Sync, D: Disk + Drop + Send>(
     rt: &HostRuntime,
     threads: &R,
     options: &Options,
@@ -65,7 +65,7 @@ fn kept_file(
 }
 
 /// The session over the disk in memory, kept in its file: each sync of the disk waits for the file.
-fn ran_in_file<R: Threads + Wait + Sync>(
+fn session_in_file<R: Threads + Wait + Sync>(
     rt: &HostRuntime,
     threads: &R,
     options: &Options,
@@ -77,14 +77,14 @@ fn ran_in_file<R: Threads + Wait + Sync>(
 {
     let file = kept_file(rt, options, held, memory.sectors())?;
     let disk = FileDisk::new(rt.alloc(), memory, file).map_err(memory_fault)?;
-    let (_disk, ran) = ran(rt, threads, options, disk, payloads);
+    let (_disk, ran) = session_over(rt, threads, options, disk, payloads);
     ran
 }
 
 /// Runs the board that the options ask for, from its files to its disk's file. The disk is kept in its file all
 /// along, where that is asked for; else the file is written wherever a disk was made or read and its bytes have
 /// changed, also after a refusal. Of two faults the first is told.
-fn run<R: Threads + Wait + Sync>(
+fn run_session<R: Threads + Wait + Sync>(
     rt: &HostRuntime,
     threads: &R,
     options: &Options,
@@ -93,9 +93,9 @@ fn run<R: Threads + Wait + Sync>(
     let mut held = hold(rt, options)?;
     let disk = disk_of(rt, options, &mut held)?;
     if options.sync {
-        return ran_in_file(rt, threads, options, held, disk, &payloads);
+        return session_in_file(rt, threads, options, held, disk, &payloads);
     }
-    let (disk, ran) = ran(rt, threads, options, disk, &payloads);
+    let (disk, ran) = session_over(rt, threads, options, disk, &payloads);
     first_fault(ran, write_disk(rt, &held, &disk))
 }
 
@@ -106,9 +106,9 @@ fn asked(rt: &HostRuntime) -> Result<Options, NoWork> {
 }
 
 /// Does what the command line asks for.
-fn operated<R: Threads + Wait + Sync>(rt: &HostRuntime, threads: &R) -> Result<(), Fault> {
+fn run_program<R: Threads + Wait + Sync>(rt: &HostRuntime, threads: &R) -> Result<(), Fault> {
     match asked(rt) {
-        Ok(options) => run(rt, threads, &options),
+        Ok(options) => run_session(rt, threads, &options),
         Err(why) => without_work(why),
     }
 }
@@ -119,7 +119,7 @@ fn operated<R: Threads + Wait + Sync>(rt: &HostRuntime, threads: &R) -> Result<(
 pub fn operate<R: Threads + Wait + Sync>(rt: &HostRuntime, threads: &R) -> ExitCode
     ensures { exit_status result ≤ 2 }
 {
-    let done = operated(rt, threads);
+    let done = run_program(rt, threads);
     if let Err(fault) = &done {
         let line = ToldBy("sbiboard", *fault);
         let _told = eprint!(rt; "{line}");

@@ -113,7 +113,7 @@ fn outcome(left: Option<Left>) -> Result<(), Refusal>
 /// Runs the harts of a board on threads and the console beside them, and gives back the disk, the input and
 /// the output. Refused `Memory` where a thread could not be started, and `Output` where an answer could not be
 /// written. The book of receipts has a part for each hart, one for the console and one for the boot.
-fn operate<
+fn run_board<
     D: Disk + Drop + Send,
     J: Journal + Send + Sync,
     R: Threads + Wait + Sync,
@@ -342,7 +342,7 @@ pub fn session<R: Threads + Wait + Sync, D: Disk + Drop + Send, I: Read + Drop, 
             let shape = board.shape();
             let parts = board.into_parts();
             match NewBook::new(alloc, shape.harts() + 2) {
-                Ok(book) => operate::<D, Brand, R, I, W>(
+                Ok(book) => run_board::<D, Brand, R, I, W>(
                     rt,
                     alloc,
                     parts,
