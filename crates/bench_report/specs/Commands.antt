@@ -1,5 +1,5 @@
 -- A durable command of the bench: its receipt, or the number with which it is refused. Source:
--- docs/DURABLE.md, "Commands"; docs/STORE.md, "A life".
+-- docs/DURABLE.md, "The commands"; docs/STORE.md, "A life".
 use Rattle.std.specs.Prelude.{◌≡◌, ℕ, ◌+◌, ◌<◌, ◌⊎◌, List, [], ◌∷◌, Option, Some, None, Result, Ok, Err}
 use Rattle.board_model.specs.Durable.{Change, refusal_of}
 use Rattle.bench_report.specs.Bench.{BenchLife, Bench}
