@@ -34,11 +34,11 @@ struct Report<'a, W> {
     sweep: Sweep,
 }
 
-/// Cuts power, which leaves the disk by that fill, powers a board on over it, counts the run, and writes its line.
+/// Cuts power, powers a board on over what that leaves of the disk, counts the run, and writes its line. What was not
+/// synced is left by the run's fill; where a run has none, behind a failure, with zeros.
 fn judge_run<C: Crew, W: Write>(
     setting: &Setting<'_, C>,
     site: &mut Site,
-    by: Fill,
     point: Point,
     fill: Option<Fill>,
     report: &mut Report<'_, W>,
@@ -49,7 +49,7 @@ fn judge_run<C: Crew, W: Write>(
         (cell point.caller point.number fill ∷ []) 0) }
     ensures refused { IfErr result (λ e. (e ≡ Memory) ⊎ (e ≡ Output)) }
 {
-    let disk = cut_by(&site.disk, by)?;
+    let disk = cut_by(&site.disk, fill.unwrap_or(Fill::Byte(0)))?;
     let left = counts(
         setting,
         disk,
@@ -80,7 +80,7 @@ fn judge_each_fill<C: Crew, W: Write>(
 {
     let mut site = site;
     for fill in FILLS {
-        judge_run(setting, &mut site, fill, point, Some(fill), report)?;
+        judge_run(setting, &mut site, point, Some(fill), report)?;
     }
     Ok(())
 }
@@ -126,14 +126,7 @@ fn run_past_failure<C: Crew, W: Write>(
     let armed = Going::armed(site, point.caller.fail_at(point.call));
     let going = goes_on(alloc, crew, shape, runner.lines, false, armed)?.going;
     let mut left = turn_off(shape, going)?;
-    judge_run(
-        &runner.setting,
-        &mut left,
-        Fill::Byte(0),
-        point,
-        None,
-        report,
-    )
+    judge_run(&runner.setting, &mut left, point, None, report)
 }
 
 /// Turns the board off after lines of the plain run. Refused `Memory` where the disk's record found none in them.
