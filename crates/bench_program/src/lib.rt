@@ -34,12 +34,15 @@ use board_model::{MAX_LINE_BYTES, MAX_SCRIPT_LINES, Refusal};
 use command_line::NoWork;
 use crew::{Crew, Turns};
 use std::alloc::Global;
-use std::io::{self, BufWriter, ErrorKind, IsTerminal, Read, Write};
+use std::io::{self, BufReader, BufWriter, ErrorKind, IsTerminal, Read, Write};
 use std::process::ExitCode;
 use std::thread::Threads;
 
 /// How many bytes of a report are written at once into a pipe or a file. A terminal gets each as it is made.
 const WRITTEN_AT_ONCE: usize = 65_536;
+
+/// How many bytes of a script are read at once.
+const READ_AT_ONCE: usize = 262_144;
 
 /// One byte more than the longest script has, each line with its line feed: more bytes change nothing of the
 /// first fault.
@@ -91,6 +94,15 @@ pub fn write_report<C: Crew, W: Write + Drop>(
     out.flush().map_err(|_| Refusal::Output)
 }
 
+/// The script on the standard input. What it is read through is given back before anything runs: the host's
+/// allocator then keeps as much memory for the next board, and hands it not back to the system at each power-off.
+fn input_script(rt: &HostRuntime) -> Result<Vec<u8>, Fault> {
+    match BufReader::with_capacity(rt.alloc(), READ_AT_ONCE, rt.reader()) {
+        Ok(input) => read_script(rt.alloc(), input),
+        Err(_) => Err(Fault::Refused(Refusal::Memory)),
+    }
+}
+
 /// Writes the report of the script to the standard output, with that crew.
 fn print_report_with<C: Crew>(rt: &HostRuntime, script: &[u8], crew: &C) -> Result<(), Fault> {
     let at_once = if rt.stdout().is_terminal() {
@@ -115,7 +127,7 @@ fn print_report<R: Threads + Sync>(
     threads: &R,
     savers: Savers,
 ) -> Result<(), Fault> {
-    let script = read_script(rt.alloc(), rt.reader())?;
+    let script = input_script(rt)?;
     match savers {
         Savers::Threads => print_report_with(rt, &script, &crew::Threads::new(threads)),
         Savers::Turns => {
@@ -176,7 +188,7 @@ pub fn write_bench<R: Threads + Sync, W: Write + Drop>(
 /// Reads the script from the standard input, and runs a bench over it, whose lines go to the standard output. Each of
 /// them is handed on as it is made.
 fn print_bench<R: Threads + Sync>(rt: &HostRuntime, bench: Bench) -> Result<(), Fault> {
-    let script = read_script(rt.alloc(), rt.reader())?;
+    let script = input_script(rt)?;
     let pipe = Pipe::new(io::writer(rt));
     let Ok(mut out) = BufWriter::with_capacity(rt.alloc(), WRITTEN_AT_ONCE, pipe) else {
         return Err(Fault::Refused(Refusal::Memory));
