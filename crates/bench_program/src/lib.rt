@@ -94,8 +94,9 @@ pub fn write_report<C: Crew, W: Write + Drop>(
     out.flush().map_err(|_| Refusal::Output)
 }
 
-/// The script on the standard input. What it is read through is given back before anything runs: the host's
-/// allocator then keeps as much memory for the next board, and hands it not back to the system at each power-off.
+/// The script on the standard input. The buffer that it is read through is freed before anything runs: the C
+/// library's allocator then keeps freed memory of that size for the next board, and does not give it back to the
+/// system at each power-off.
 fn input_script(rt: &HostRuntime) -> Result<Vec<u8>, Fault> {
     match BufReader::with_capacity(rt.alloc(), READ_AT_ONCE, rt.reader()) {
         Ok(input) => read_script(rt.alloc(), input),
