@@ -6,12 +6,12 @@ use native.Mathlib.Decide.{ℕ_discrete}
 use Rattle.tallies.specs.Sums.{total}
 use Rattle.tallies.specs.Notes.{noted, HasNoted}
 use Rattle.hsm_rule.specs.declared.view.Stage.{Stage}
-use Rattle.hsm_rule.specs.declared.view.Stage.TheVariants.{Out, Ready, Addressed, Loaded, Running, Claiming, Half, Stored, Asleep, Quiet}
+use Rattle.hsm_rule.specs.declared.view.Stage.TheVariants.{Out, Ready, Addressed, Loaded, Running, Claiming, Half, Stored, Suspended, Quiet}
 use Rattle.hsm_rule.specs.declared.view.Action.{Action}
 use Rattle.hsm_rule.specs.declared.view.Action.TheVariants.{Claimed, Wrote, Armed, Looked, Read, Entered, Quieted, Unquieted}
 use Rattle.hsm_rule.specs.Words.{HartView, HartSeatView}
 use Rattle.hsm_rule.specs.Rule.{claim_of, entry_of, did, stands}
-use Rattle.hsm_rule.specs.States.{HartState, stopped, start_pending, started, suspended, awaits, Says, is_outside, is_running, is_asleep, IsAt, IsIn, IsStarted, Shows, Tells, change_at, is_stopped, grant, entry, begin}
+use Rattle.hsm_rule.specs.States.{HartState, stopped, start_pending, started, suspended, awaits, Says, is_outside, is_running, is_suspended, IsAt, IsIn, IsStarted, Shows, Tells, change_at, is_stopped, grant, entry, begin}
 use Rattle.hsm_steps.specs.Outcomes.{after_claim, after_look, after_quiet, is_alone, IsOpenStart}
 use Rattle.hsm.specs.Calls.{state_in_word, named, is_ready, KeepsOthers}
 use Rattle.tallies.proofs.Noted.{numbered}
@@ -122,21 +122,21 @@ runs_settled (start_pending b d) at a o = absurd (cc)
 runs_settled started at a o = refl
 runs_settled suspended at a o = refl
 
-pub sleeps_settled : (z : HartState) → IsAt z Asleep → (a o : ℕ) → awaits z a o ≡ 0
-sleeps_settled stopped at a o = refl
-sleeps_settled (start_pending b d) at a o = absurd (cc)
-sleeps_settled started at a o = refl
-sleeps_settled suspended at a o = refl
+pub suspends_settled : (z : HartState) → IsAt z Suspended → (a o : ℕ) → awaits z a o ≡ 0
+suspends_settled stopped at a o = refl
+suspends_settled (start_pending b d) at a o = absurd (cc)
+suspends_settled started at a o = refl
+suspends_settled suspended at a o = refl
 
 -- a hart outside stays outside
-at_outside : (st st' : Stage) → is_running st ≡ false → is_asleep st ≡ false → is_outside st' ≡ true → (y : HartState) → IsAt y st → IsAt y st'
+at_outside : (st st' : Stage) → is_running st ≡ false → is_suspended st ≡ false → is_outside st' ≡ true → (y : HartState) → IsAt y st → IsAt y st'
 at_outside st st' p q r stopped at = r
 at_outside st st' p q r (start_pending a o) at = r
 at_outside st st' p q r started at = absurd (true≢false (sym at ∙ p))
 at_outside st st' p q r suspended at = absurd (true≢false (sym at ∙ q))
 
 -- a running one stays running
-at_running : (st st' : Stage) → is_outside st ≡ false → is_asleep st ≡ false → is_running st' ≡ true → (y : HartState) → IsAt y st → IsAt y st'
+at_running : (st st' : Stage) → is_outside st ≡ false → is_suspended st ≡ false → is_running st' ≡ true → (y : HartState) → IsAt y st → IsAt y st'
 at_running st st' p q r stopped at = absurd (true≢false (sym at ∙ p))
 at_running st st' p q r (start_pending a o) at = absurd (true≢false (sym at ∙ p))
 at_running st st' p q r started at = r

@@ -6,12 +6,12 @@ use native.Mathlib.Decide.{ℕ_discrete}
 use Rattle.tallies.specs.Sums.{total}
 use Rattle.tallies.proofs.Seatings.{map_all}
 use Rattle.hsm_rule.specs.declared.view.Stage.{Stage}
-use Rattle.hsm_rule.specs.declared.view.Stage.TheVariants.{Out, Ready, Addressed, Loaded, Asleep}
+use Rattle.hsm_rule.specs.declared.view.Stage.TheVariants.{Out, Ready, Addressed, Loaded, Suspended}
 use Rattle.hsm_rule.specs.declared.view.Action.{Action}
-use Rattle.hsm_rule.specs.declared.view.Action.TheVariants.{Claimed, Wrote, Armed, Looked, Read, Entered, Stopped, Suspended, Woke, Quieted, Unquieted}
+use Rattle.hsm_rule.specs.declared.view.Action.TheVariants.{Claimed, Wrote, Armed, Looked, Read, Entered, Stopped, Suspended as DidSuspend, Woke, Quieted, Unquieted}
 use Rattle.hsm_rule.specs.Words.{HartView, HartSeatView}
 use Rattle.hsm_rule.specs.Rule.{claim_of, entry_of, did}
-use Rattle.hsm_rule.specs.States.{HartState, stopped, start_pending, started, suspended, awaits, is_outside, is_running, is_asleep, IsIn, Shows, change_at}
+use Rattle.hsm_rule.specs.States.{HartState, stopped, start_pending, started, suspended, awaits, is_outside, is_running, is_suspended, IsIn, Shows, change_at}
 use Rattle.std.proofs.lemmas.List.{length-set, get_or-set_other}
 use Rattle.std.proofs.lemmas.Grind.{get_or-set_at}
 use Rattle.hsm.specs.Views.{first_of, open_by, open_start, outside, state_by_stage, state_in, states_in, listed, AreStates}
@@ -66,7 +66,7 @@ module _ (h : ℕ) (c : HartSeatView) where
   none_open x settled e (Read n w) = refl
   none_open x settled e (Entered k a o) = refl
   none_open x settled e (Stopped w) = refl
-  none_open x settled e (Suspended w) = refl
+  none_open x settled e (DidSuspend w) = refl
   none_open x settled e (Woke w) = refl
   none_open x settled e (Quieted w) = refl
   none_open x settled e (Unquieted w) = refl
@@ -91,7 +91,7 @@ module _ (h : ℕ) (c : HartSeatView) where
     only (Read n w) = inl refl
     only (Entered k a o) = inl refl
     only (Stopped w) = inl refl
-    only (Suspended w) = inl refl
+    only (DidSuspend w) = inl refl
     only (Woke w) = inl refl
     only (Quieted w) = inl refl
     only (Unquieted w) = inl refl
@@ -115,7 +115,7 @@ module _ (h : ℕ) (c : HartSeatView) where
     weightless (Read n w) none = refl
     weightless (Entered k a o) none = refl
     weightless (Stopped w) none = refl
-    weightless (Suspended w) none = refl
+    weightless (DidSuspend w) none = refl
     weightless (Woke w) none = refl
     weightless (Quieted w) none = refl
     weightless (Unquieted w) none = refl
@@ -136,9 +136,9 @@ module _ (h : ℕ) (c : HartSeatView) where
 at_running : (st : Stage) (start : Option (ℕ × ℕ)) → is_running st ≡ true → state_by_stage st start ≡ started
 at_running st start e = rw e refl
 
-at_asleep : (st : Stage) (start : Option (ℕ × ℕ)) → is_asleep st ≡ true → state_by_stage st start ≡ suspended
-at_asleep Asleep start e = refl
-at_asleep st start e = absurd (cc)
+at_suspended : (st : Stage) (start : Option (ℕ × ℕ)) → is_suspended st ≡ true → state_by_stage st start ≡ suspended
+at_suspended Suspended start e = refl
+at_suspended st start e = absurd (cc)
 
 at_outside : (st : Stage) (start : Option (ℕ × ℕ)) → is_outside st ≡ true → state_by_stage st start ≡ outside start
 at_outside Out start e = refl
@@ -156,7 +156,7 @@ state_is c h (start_pending b d) i =
 state_is c h started i =
     ap (λ (s : Stage). state_by_stage s (open_start h c)) (stands_stage h i.0 c.harts i.1) ∙ at_running i.0 (open_start h c) i.2
 state_is c h suspended i =
-    ap (λ (s : Stage). state_by_stage s (open_start h c)) (stands_stage h i.0 c.harts i.1) ∙ at_asleep i.0 (open_start h c) i.2
+    ap (λ (s : Stage). state_by_stage s (open_start h c)) (stands_stage h i.0 c.harts i.1) ∙ at_suspended i.0 (open_start h c) i.2
 
 pub one_table : (harts : ℕ) (c : HartSeatView) (states : ℕ → HartState) → Shows harts c states → (h : ℕ) → h < harts → state_in c h ≡ states h
 one_table harts c states shown h lt = state_is c h (states h) (shown h lt)

@@ -3,13 +3,13 @@ use Rattle.std.proofs.Common.{◌≡◌, ◌≢◌, ◌⊎◌, ℕ, List, [], �
 use mathlib.Core.Logic.{dite}
 use native.Mathlib.Decide.{ℕ_discrete}
 use Rattle.hsm_rule.specs.declared.view.Stage.{Stage}
-use Rattle.hsm_rule.specs.declared.view.Stage.TheVariants.{Out, Running, Asleep, Quiet}
+use Rattle.hsm_rule.specs.declared.view.Stage.TheVariants.{Out, Running, Suspended, Quiet}
 use Rattle.hsm_rule.specs.declared.view.Action.{Action}
 use Rattle.hsm_rule.specs.Words.{HartView, HartSeatView}
 use Rattle.hsm_rule.specs.States.{IsSettled}
 use Rattle.hsm_rule.specs.Rule.{stands}
 use Rattle.hsm.specs.declared.state.State.{State}
-use Rattle.hsm.specs.declared.state.State.TheVariants.{Started, Stopped, StartPending, Suspended}
+use Rattle.hsm.specs.declared.state.State.TheVariants as codes
 use Rattle.hsm.specs.Calls.{stage_of, KeepsAll, IsOwnStatus, StandsBy}
 use Rattle.tallies.specs.Notes.{noted, HasNoted}
 
@@ -57,14 +57,14 @@ stands_by x h vs vs' own keeps settled =
     let by : (y : State) → x ≡ y → StandsBy y h vs' → StandsBy x h vs' = λ y e s. subst (λ (z : State). StandsBy z h vs') (sym e) s in
     ⊎_elim
     (λ (out : stands h Out vs). ⊎_elim
-    (λ (e : x ≡ Stopped). by Stopped e (keeps.stages h Out out))
-    (λ (e : x ≡ StartPending). by StartPending e (keeps.stages h Out out))
+    (λ (e : x ≡ codes.Stopped). by codes.Stopped e (keeps.stages h Out out))
+    (λ (e : x ≡ codes.StartPending). by codes.StartPending e (keeps.stages h Out out))
     (own.outside out))
-    (λ (more : stands h Running vs ⊎ (stands h Asleep vs ⊎ stands h Quiet vs)). ⊎_elim
-    (λ (runs : stands h Running vs). by Started (own.started (inl runs)) (inl (keeps.stages h Running runs)))
-    (λ (rest : stands h Asleep vs ⊎ stands h Quiet vs). ⊎_elim
-    (λ (sleeps : stands h Asleep vs). by Suspended (own.asleep sleeps) (keeps.stages h Asleep sleeps))
-    (λ (quiet : stands h Quiet vs). by Started (own.started (inr quiet)) (inr (keeps.stages h Quiet quiet)))
+    (λ (more : stands h Running vs ⊎ (stands h Suspended vs ⊎ stands h Quiet vs)). ⊎_elim
+    (λ (runs : stands h Running vs). by codes.Started (own.started (inl runs)) (inl (keeps.stages h Running runs)))
+    (λ (rest : stands h Suspended vs ⊎ stands h Quiet vs). ⊎_elim
+    (λ (suspends : stands h Suspended vs). by codes.Suspended (own.suspended suspends) (keeps.stages h Suspended suspends))
+    (λ (quiet : stands h Quiet vs). by codes.Started (own.started (inr quiet)) (inr (keeps.stages h Quiet quiet)))
     rest)
     more)
     settled

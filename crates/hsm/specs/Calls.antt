@@ -3,35 +3,35 @@ use Rattle.std.specs.Prelude.{◌≡◌, ◌≢◌, ◌⊎◌, ℕ, ◌+◌, ◌
 use Rattle.std.specs.Int.{bit_at}
 use Rattle.tallies.specs.Notes.{numbers, HasNoted}
 use Rattle.hsm_rule.specs.declared.view.Stage.{Stage}
-use Rattle.hsm_rule.specs.declared.view.Stage.TheVariants.{Out, Ready, Addressed, Loaded, Running, Claiming, Half, Stored, Asleep}
+use Rattle.hsm_rule.specs.declared.view.Stage.TheVariants.{Out, Ready, Addressed, Loaded, Running, Claiming, Half, Stored, Suspended}
 use Rattle.hsm_rule.specs.declared.view.Action.TheVariants.{Claimed, Wrote, Armed, Looked, Read, Entered}
 use Rattle.hsm_rule.specs.Words.{HartView, HartSeatView}
 use Rattle.hsm_rule.specs.Rule.{stands}
 use Rattle.hsm_rule.specs.States.{HartState, stopped, start_pending, started, suspended, IsStarted, Shows}
 use Rattle.hsm.specs.declared.state.State.{State}
-use Rattle.hsm.specs.declared.state.State.TheVariants.{Started, Stopped, StartPending, Suspended}
+use Rattle.hsm.specs.declared.state.State.TheVariants as codes
 
 -- ---- states
 -- the number of a state (SBI specification 2.0, chapter HSM)
 abbrev pub code_of : State → ℕ
-code_of Started = 0
-code_of Stopped = 1
-code_of StartPending = 2
-code_of Suspended = 4
+code_of codes.Started = 0
+code_of codes.Stopped = 1
+code_of codes.StartPending = 2
+code_of codes.Suspended = 4
 
 -- the state of a hart, by the first word
 abbrev pub state_in_word : ℕ → ℕ → State
 state_in_word h found =
-    if bit_at found h == 0 then Stopped
-    else (if bit_at found (16 + h) == 0 then StartPending
-    else (if bit_at found (24 + h) == 0 then Started else Suspended))
+    if bit_at found h == 0 then codes.Stopped
+    else (if bit_at found (16 + h) == 0 then codes.StartPending
+    else (if bit_at found (24 + h) == 0 then codes.Started else codes.Suspended))
 
 -- a state without what a pending start is for
 abbrev pub named : HartState → State
-named stopped = Stopped
-named (start_pending a o) = StartPending
-named started = Started
-named suspended = Suspended
+named stopped = codes.Stopped
+named (start_pending a o) = codes.StartPending
+named started = codes.Started
+named suspended = codes.Suspended
 
 -- ---- where a hart of the seat stands
 abbrev pub stage_of : ℕ → List HartView → Stage
@@ -54,16 +54,16 @@ pub record KeepsOthers (h : ℕ) (vs vs' : List HartView) : Type 0 where
 
 -- Freshness: the status of a hart of the seat itself
 pub record IsOwnStatus (h : ℕ) (vs : List HartView) (x : State) : Type 0 where
-  pub started : IsStarted h vs → x ≡ Started
-  pub asleep : stands h Asleep vs → x ≡ Suspended
-  pub outside : stands h Out vs → (x ≡ Stopped) ⊎ (x ≡ StartPending)
+  pub started : IsStarted h vs → x ≡ codes.Started
+  pub suspended : stands h Suspended vs → x ≡ codes.Suspended
+  pub outside : stands h Out vs → (x ≡ codes.Stopped) ⊎ (x ≡ codes.StartPending)
 
 -- where a settled hart stands, by its status
 abbrev pub StandsBy : State → ℕ → List HartView → Type 0
-StandsBy Started h vs = IsStarted h vs
-StandsBy Suspended h vs = stands h Asleep vs
-StandsBy Stopped h vs = stands h Out vs
-StandsBy StartPending h vs = stands h Out vs
+StandsBy codes.Started h vs = IsStarted h vs
+StandsBy codes.Suspended h vs = stands h Suspended vs
+StandsBy codes.Stopped h vs = stands h Out vs
+StandsBy codes.StartPending h vs = stands h Out vs
 
 -- ---- each call's own steps
 -- a start that found the target claimed makes the claim alone

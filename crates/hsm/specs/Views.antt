@@ -7,7 +7,7 @@ use Rattle.hsm_rule.specs.declared.view.Action.{Action}
 use Rattle.hsm_rule.specs.declared.view.Action.TheVariants.{Claimed}
 use Rattle.hsm_rule.specs.Words.{HartView, HartSeatView}
 use Rattle.hsm_rule.specs.Rule.{claim_of, entry_of, did}
-use Rattle.hsm_rule.specs.States.{HartState, stopped, start_pending, started, suspended, is_running, is_asleep, Shows}
+use Rattle.hsm_rule.specs.States.{HartState, stopped, start_pending, started, suspended, is_running, is_suspended, Shows}
 use Rattle.hsm.specs.Calls.{stage_of}
 
 abbrev pub or_else : {B : Type 0} → Option B → Option B → Option B
@@ -34,7 +34,7 @@ outside None = stopped
 outside (Some p) = start_pending p.0 p.1
 
 abbrev pub state_by_stage : Stage → Option (ℕ × ℕ) → HartState
-state_by_stage st start = if is_running st then started else (if is_asleep st then suspended else outside start)
+state_by_stage st start = if is_running st then started else (if is_suspended st then suspended else outside start)
 
 -- the state of a hart
 abbrev pub state_in : HartSeatView → ℕ → HartState

@@ -6,7 +6,7 @@ ghost use Rattle.hsm_rule.specs.Rule.{stands};
 ghost use Rattle.hsm_rule.specs.States.{IsStarted, IsSettled, is_stopped, stopped, started, suspended, change_at, grant, entry, begin};
 ghost use Rattle.hsm_steps.specs.Outcomes.{after_quiet};
 ghost use Rattle.hsm_steps.specs.Seating.{IsSeatOf, harts_of, hart_view_of_seat, harts_in};
-ghost use Rattle.hsm_rule.specs.declared.view.Stage.TheVariants.{Out, Running, Asleep, Quiet};
+ghost use Rattle.hsm_rule.specs.declared.view.Stage.TheVariants.{Out, Running, Suspended, Quiet};
 ghost use Rattle.hsm_rule.specs.declared.view.Action.TheVariants.{Looked, Stopped as DidStop, Suspended as DidSuspend, Woke, Quieted, Unquieted};
 ghost use Rattle.hsm.specs.Calls.{stage_of, Sits, KeepsAll, KeepsOthers, IsOwnStatus, StandsBy, state_in_word, named, Starts, EntersAs, FindsNone, ActsAlone};
 ghost use Rattle.tallies.specs.Notes.{HasNoted};
@@ -128,9 +128,9 @@ pub fn suspend(table: &HartTable, seat: HartSeat, by: HartId) -> HartSeat
     requires acts { stands by Running (harts_in seat) }
     requires by { by < harts_of table.now }
     ensures seat { IsSeatOf table.entry.now result }
-    ensures stands { stands by Asleep (harts_in result) }
+    ensures stands { stands by Suspended (harts_in result) }
     ensures others { KeepsOthers by (harts_in seat) (harts_in result) }
-    ensures steps { (found : ℕ) × HasNoted by Asleep (DidSuspend found) (harts_in seat) (harts_in result) }
+    ensures steps { (found : ℕ) × HasNoted by Suspended (DidSuspend found) (harts_in seat) (harts_in result) }
     ensures alone { ActsAlone (harts_of table.entry.now) (hart_view_of_seat seat) (hart_view_of_seat result)
         (λ _. Unit {0}) (change_at by (λ _. suspended)) }
 {
@@ -142,7 +142,7 @@ pub fn suspend(table: &HartTable, seat: HartSeat, by: HartId) -> HartSeat
 /// Wakes the hart, in one step. The acting hart is SUSPENDED.
 pub fn wake(table: &HartTable, seat: HartSeat, by: HartId) -> HartSeat
     requires seat { IsSeatOf table.now seat }
-    requires acts { stands by Asleep (harts_in seat) }
+    requires acts { stands by Suspended (harts_in seat) }
     requires by { by < harts_of table.now }
     ensures seat { IsSeatOf table.entry.now result }
     ensures stands { stands by Running (harts_in result) }

@@ -11,9 +11,9 @@ use Rattle.tallies.specs.Rules.{Everywhere, IsLogged}
 use Rattle.board_model.specs.Shapes.{IsAddressIn}
 use Rattle.hsm_rule.specs.Words.{HartView, HartSeatView, WordBits, word_bits}
 use Rattle.hsm_rule.specs.declared.view.Stage.{Stage}
-use Rattle.hsm_rule.specs.declared.view.Stage.TheVariants.{Out, Ready, Addressed, Loaded, Running, Claiming, Half, Stored, Asleep, Quiet}
+use Rattle.hsm_rule.specs.declared.view.Stage.TheVariants.{Out, Ready, Addressed, Loaded, Running, Claiming, Half, Stored, Suspended, Quiet}
 use Rattle.hsm_rule.specs.declared.view.Action.{Action}
-use Rattle.hsm_rule.specs.declared.view.Action.TheVariants.{Claimed, Wrote, Armed, Looked, Read, Entered, Stopped, Suspended, Woke, Quieted, Unquieted}
+use Rattle.hsm_rule.specs.declared.view.Action.TheVariants.{Claimed, Wrote, Armed, Looked, Read, Entered, Stopped, Suspended as DidSuspend, Woke, Quieted, Unquieted}
 
 -- an address at which a hart can be started
 abbrev pub IsSite : ℕ → Type 0
@@ -74,7 +74,7 @@ Fits harts m g h (Half t a o) =
     (m.entered h ≡ 1) × (m.suspended h ≡ 0) × (t < harts) × IsGrantOf g t a o × (m.address t ≡ a)
 Fits harts m g h (Stored t a o) =
     (m.entered h ≡ 1) × (m.suspended h ≡ 0) × (t < harts) × IsGrantOf g t a o × (m.address t ≡ a) × (m.opaque t ≡ o)
-Fits harts m g h Asleep = (m.entered h ≡ 1) × (m.suspended h ≡ 1)
+Fits harts m g h Suspended = (m.entered h ≡ 1) × (m.suspended h ≡ 1)
 Fits harts m g h Quiet = (m.entered h ≡ 1) × (m.suspended h ≡ 0) × ((t : ℕ) → t < harts → t ≢ h → m.claimed t ≡ 0)
 
 -- The words and the views agree. `flying`: a claimed hart that is not armed is the start in flight of just
@@ -102,7 +102,7 @@ found_by (Claimed t a o found) word = found
 found_by (Looked found) word = found
 found_by (Read i found) word = found
 found_by (Stopped found) word = found
-found_by (Suspended found) word = found
+found_by (DidSuspend found) word = found
 found_by (Woke found) word = found
 found_by (Quieted found) word = found
 found_by (Unquieted found) word = found
@@ -122,7 +122,7 @@ left_by h (Stopped found) word =
     bit_and word
     (bit_and (bit_and (bit_and (bit_not w64 (bit h)) (bit_not w64 (bit (8 + h)))) (bit_not w64 (bit (16 + h))))
     (bit_not w64 (bit (24 + h))))
-left_by h (Suspended found) word = bit_or word (bit (24 + h))
+left_by h (DidSuspend found) word = bit_or word (bit (24 + h))
 left_by h (Woke found) word = bit_and word (bit_not w64 (bit (24 + h)))
 left_by h _ word = word
 

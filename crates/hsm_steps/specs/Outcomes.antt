@@ -4,8 +4,8 @@ use Rattle.std.specs.Int.{bit_at}
 use Rattle.atomic_table.specs.Table.{Step}
 use Rattle.tallies.specs.Notes.{SeatState, seat_notes, Notes, opening_from}
 use Rattle.hsm_rule.specs.declared.view.Stage.{Stage}
-use Rattle.hsm_rule.specs.declared.view.Stage.TheVariants.{Out, Ready, Addressed, Loaded, Running, Claiming, Half, Stored, Asleep, Quiet}
-use Rattle.hsm_rule.specs.declared.view.Action.TheVariants.{Claimed, Wrote, Armed, Looked, Read, Entered, Stopped, Suspended, Woke, Quieted, Unquieted}
+use Rattle.hsm_rule.specs.declared.view.Stage.TheVariants.{Out, Ready, Addressed, Loaded, Running, Claiming, Half, Stored, Suspended, Quiet}
+use Rattle.hsm_rule.specs.declared.view.Action.TheVariants.{Claimed, Wrote, Armed, Looked, Read, Entered, Stopped, Suspended as DidSuspend, Woke, Quieted, Unquieted}
 use Rattle.hsm_rule.specs.Words.{HartView, HartSeatView}
 use Rattle.hsm_rule.specs.Rule.{IsSite, stands}
 use Rattle.hsm_rule.specs.States.{HartState, stopped, start_pending, started, IsStarted, IsSettled, Shows, Tells}
@@ -36,7 +36,7 @@ Arms h t st m found m' = Notes h Running (Armed t) m m'
 pub record IsUpToDate (found : ℕ) (vs : List HartView) : Type 0 where
   pub started : (k : ℕ) → IsStarted k vs
       → (bit_at found k ≡ 1) × (bit_at found (16 + k) ≡ 1) × (bit_at found (24 + k) ≡ 0)
-  pub asleep : (k : ℕ) → stands k Asleep vs
+  pub suspended : (k : ℕ) → stands k Suspended vs
       → (bit_at found k ≡ 1) × (bit_at found (16 + k) ≡ 1) × (bit_at found (24 + k) ≡ 1)
   pub outside : (k : ℕ) → stands k Out vs → bit_at found (16 + k) ≡ 0
 
@@ -64,7 +64,7 @@ abbrev pub Stops : ℕ → Step (Unit {0}) → SeatState HartSeatView → ℕ �
 Stops h st m found m' = Notes h Out (Stopped found) m m'
 
 abbrev pub Suspends : ℕ → Step (Unit {0}) → SeatState HartSeatView → ℕ → SeatState HartSeatView → Type 0
-Suspends h st m found m' = Notes h Asleep (Suspended found) m m'
+Suspends h st m found m' = Notes h Suspended (DidSuspend found) m m'
 
 abbrev pub Wakes : ℕ → Step (Unit {0}) → SeatState HartSeatView → ℕ → SeatState HartSeatView → Type 0
 Wakes h st m found m' = Notes h Running (Woke found) m m'

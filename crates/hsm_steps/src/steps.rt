@@ -7,8 +7,8 @@ ghost use Rattle.hsm_rule.specs.Rule.{IsSite, stands};
 ghost use Rattle.hsm_rule.specs.States.{HartState, IsStarted, IsSettled, Shows, Tells};
 ghost use Rattle.hsm_steps.specs.Outcomes.{after_claim, after_look, Claims, PutsAddress, PutsOpaque, Arms, IsUpToDate, Looks, PollsOutside, ReadsAddress, ReadsOpaque, IsOpenStart, Enters, Stops, Suspends, Wakes, Quiets, Unquiets, Sees, is_alone, after_quiet};
 ghost use Rattle.hsm_steps.specs.Seating.{IsSeatOf, harts_of, hart_view_of_seat, harts_in};
-ghost use Rattle.hsm_rule.specs.declared.view.Stage.TheVariants.{Out, Ready, Addressed, Loaded, Running, Claiming, Half, Stored, Asleep, Quiet};
-ghost use Rattle.hsm_rule.specs.declared.view.Action.TheVariants.{Claimed, Wrote, Armed, Looked, Read, Entered, Stopped, Suspended, Woke, Quieted, Unquieted};
+ghost use Rattle.hsm_rule.specs.declared.view.Stage.TheVariants.{Out, Ready, Addressed, Loaded, Running, Claiming, Half, Stored, Suspended, Quiet};
+ghost use Rattle.hsm_rule.specs.declared.view.Action.TheVariants.{Claimed, Wrote, Armed, Looked, Read, Entered, Stopped, Suspended as DidSuspend, Woke, Quieted, Unquieted};
 ghost use Rattle.tallies.specs.Notes.{HasNoted};
 
 use crate::table::{Acting, HartSeat, HartTable};
@@ -351,7 +351,7 @@ pub fn suspend<J: Acting>(table: &HartTable, seat: &mut HartSeat, by: HartId) ->
     requires acts { stands by Running (harts_in seat.old) }
     requires by { by < harts_of table.now }
     ensures seat { IsSeatOf table.now seat.new }
-    ensures told { HasNoted by Asleep (Suspended result) (harts_in seat.old) (harts_in seat.new) }
+    ensures told { HasNoted by Suspended (DidSuspend result) (harts_in seat.old) (harts_in seat.new) }
 {
     let bit = 24 + by.number();
     table
@@ -364,7 +364,7 @@ pub fn suspend<J: Acting>(table: &HartTable, seat: &mut HartSeat, by: HartId) ->
 pub fn wake<J: Acting>(table: &HartTable, seat: &mut HartSeat, by: HartId) -> u64
     requires named { J.by ≡ by }
     requires seat { IsSeatOf table.now seat.old }
-    requires acts { stands by Asleep (harts_in seat.old) }
+    requires acts { stands by Suspended (harts_in seat.old) }
     requires by { by < harts_of table.now }
     ensures seat { IsSeatOf table.now seat.new }
     ensures told { HasNoted by Running (Woke result) (harts_in seat.old) (harts_in seat.new) }

@@ -6,7 +6,7 @@ use Rattle.hart.specs.State.{ArchState}
 use Rattle.hart.specs.declared.Outcome.TheVariants.{Ecall}
 use Rattle.hsm_steps.specs.Seating as seating
 use Rattle.hsm_rule.specs.Words.{HartSeatView, HartView}
-use Rattle.hsm_rule.specs.declared.view.Stage.TheVariants.{Out, Running, Asleep}
+use Rattle.hsm_rule.specs.declared.view.Stage.TheVariants.{Out, Running, Suspended}
 use Rattle.hsm_rule.specs.Rule.{stands}
 use Rattle.hsm.specs.Calls.{ActsAlone, KeepsAll, KeepsOthers, named}
 use Rattle.hsm.specs.Views.{listed}
@@ -24,7 +24,7 @@ use Rattle.turns.proofs.Begun.{is_started}
 -- ---- a look keeps each hart where it stands
 pub rests_kept : (h : ℕ) (vs vs' : List HartView) → KeepsAll vs vs' → RestsAt h vs → RestsAt h vs'
 rests_kept h vs vs' k r =
-    ⊎_elim (λ (o : stands h Out vs). inl (k.stages h Out o)) (⊎_elim (λ (o : stands h Running vs). inr (inl (k.stages h Running o))) (λ (o : stands h Asleep vs). inr (inr (k.stages h Asleep o)))) r
+    ⊎_elim (λ (o : stands h Out vs). inl (k.stages h Out o)) (⊎_elim (λ (o : stands h Running vs). inr (inl (k.stages h Running o))) (λ (o : stands h Suspended vs). inr (inr (k.stages h Suspended o)))) r
 
 others_kept : (h : ℕ) (a b : List HartView) → KeepsAll a b → KeepsOthers h a b
 others_kept h a b k = record { harts = k.harts; stages = λ j st ne s. k.stages j st s }

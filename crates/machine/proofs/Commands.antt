@@ -8,7 +8,7 @@ use Rattle.board_model.specs.declared.refusal.Refusal.{Refusal}
 use Rattle.hart.specs.State.{ArchState}
 use Rattle.hsm_rule.specs.Words.{HartSeatView, HartView}
 use Rattle.hsm_rule.specs.declared.view.Stage.{Stage}
-use Rattle.hsm_rule.specs.declared.view.Stage.TheVariants.{Out, Running, Asleep, Quiet}
+use Rattle.hsm_rule.specs.declared.view.Stage.TheVariants.{Out, Running, Suspended, Quiet}
 use Rattle.hsm_rule.specs.Rule.{stands}
 use Rattle.hsm_rule.specs.States.{HartState, stopped, started, is_outside, is_running, IsIn}
 use Rattle.hsm.specs.Views.{listed}
@@ -52,7 +52,7 @@ runs_at h c is rests =
     (λ (o : stands h Out c.harts). absurd (true≢false (sym is.2 ∙ ap is_running (one_stage h c.harts is.0 Out is.1 o))))
     (⊎_elim
     (λ (o : stands h Running c.harts). o)
-    (λ (o : stands h Asleep c.harts). absurd (true≢false (sym is.2 ∙ ap is_running (one_stage h c.harts is.0 Asleep is.1 o)))))
+    (λ (o : stands h Suspended c.harts). absurd (true≢false (sym is.2 ∙ ap is_running (one_stage h c.harts is.0 Suspended is.1 o)))))
     rests
 
 pub started_acts : {a : Inside} {s : Seats} {i id : ℕ} {x : ArchState} → Finds a s i id x → StandsAtCall id (shown_as a) → Acts x.id Running s

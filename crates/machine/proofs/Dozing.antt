@@ -3,7 +3,7 @@ use Rattle.std.proofs.Common.{◌≡◌, ◌≢◌, ℕ, Option, Some, None, ref
 use mathlib.Core.Logic.{dite}
 use native.Mathlib.Decide.{ℕ_discrete}
 use Rattle.hsm_rule.specs.declared.view.Stage.{Stage}
-use Rattle.hsm_rule.specs.declared.view.Stage.TheVariants.{Out, Running, Asleep, Quiet}
+use Rattle.hsm_rule.specs.declared.view.Stage.TheVariants.{Out, Running, Suspended, Quiet}
 use Rattle.hsm_rule.specs.Rule.{stands}
 use Rattle.ipi.specs.Pairs.{Sits}
 use Rattle.sbi_calls.specs.declared.tables.Seats.{Seats}
@@ -50,7 +50,7 @@ none_beside h k d at ne = other_none k d (λ e. ne (sym e ∙ at))
 -- steps that keep where a hart stands keep it at rest
 pub rests_moved : (o : Option Doze) (h : ℕ) (s s' : Seats) → ((st : Stage) → stands h st (views s) → stands h st (views s')) → (Sits h (pair_crew s) → Sits h (pair_crew s')) → RestsBy o h s → RestsBy o h s'
 rests_moved None h s s' stays sits r =
-    (⊎_elim (λ (p : stands h Out (views s)). inl (stays Out p)) (⊎_elim (λ (p : stands h Running (views s)). inr (inl (stays Running p))) (λ (p : stands h Asleep (views s)). inr (inr (stays Asleep p)))) r.0, sits r.1)
+    (⊎_elim (λ (p : stands h Out (views s)). inl (stays Out p)) (⊎_elim (λ (p : stands h Running (views s)). inr (inl (stays Running p))) (λ (p : stands h Suspended (views s)). inr (inr (stays Suspended p)))) r.0, sits r.1)
 rests_moved (Some d) h s s' stays sits r = (stays Quiet r.0, sits r.1)
 
 pub sits_by : (o : Option Doze) (h : ℕ) (s : Seats) → RestsBy o h s → Sits h (pair_crew s)

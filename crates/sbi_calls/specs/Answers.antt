@@ -6,7 +6,7 @@ use Rattle.board_model.specs.Shapes.{Size}
 use Rattle.tallies.specs.Seats.{numbers_from}
 use Rattle.hart.specs.State.{ArchState, answered, started as fresh}
 use Rattle.hsm_rule.specs.declared.view.Stage.{Stage}
-use Rattle.hsm_rule.specs.declared.view.Stage.TheVariants.{Out, Running, Asleep}
+use Rattle.hsm_rule.specs.declared.view.Stage.TheVariants.{Out, Running, Suspended}
 use Rattle.hsm_rule.specs.States.{HartState, stopped, suspended, is_stopped, grant}
 use Rattle.hsm.specs.Calls.{code_of, named}
 use Rattle.hsm.specs.Views.{listed}
@@ -82,14 +82,14 @@ Ends Defers old new after = (new ≡ old) × (after ≡ afters.Durable)
 abbrev pub stage_of_ending : Ending → Stage
 stage_of_ending (Answers a) = Running
 stage_of_ending Stops = Out
-stage_of_ending Suspends = Asleep
-stage_of_ending (SuspendsAfresh a o) = Asleep
+stage_of_ending Suspends = Suspended
+stage_of_ending (SuspendsAfresh a o) = Suspended
 stage_of_ending Defers = Running
 
 abbrev pub stage_by : After → Stage
 stage_by afters.Goes = Running
 stage_by afters.Stopped = Out
-stage_by afters.Suspended = Asleep
+stage_by afters.Suspended = Suspended
 stage_by afters.Durable = Running
 
 -- ---- with the one seat of all harts

@@ -4,7 +4,7 @@ use Rattle.std.specs.Prelude.{◌≡◌, ℕ, zero, suc, Bool, List, Ok, Err}
 use Rattle.board_model.specs.Shapes.{Size}
 use Rattle.hart.specs.State.{ArchState}
 use Rattle.hsm_rule.specs.declared.view.Stage.{Stage}
-use Rattle.hsm_rule.specs.declared.view.Stage.TheVariants.{Out, Asleep}
+use Rattle.hsm_rule.specs.declared.view.Stage.TheVariants.{Out, Suspended}
 use Rattle.hsm_rule.specs.declared.view.Action.{Action}
 use Rattle.hsm_rule.specs.declared.view.Action.TheVariants.{Looked, Stopped as DidStop, Suspended as DidSuspend}
 use Rattle.hsm_rule.specs.Rule.{HasNoted as HartHasNoted}
@@ -47,9 +47,9 @@ Does harts by (Ok Stop) k k' end = (found : ℕ) × OneStep by Out (DidStop foun
 Does harts by (Ok (Status h)) k k' end =
     (found : ℕ) × OneStep by (stage_of by k.harts) (Looked found) k k'
     × (end ≡ Answers (Ok (code_of (state_in_word h found))))
-Does harts by (Ok Suspend) k k' end = (found : ℕ) × OneStep by Asleep (DidSuspend found) k k' × (end ≡ Suspends)
+Does harts by (Ok Suspend) k k' end = (found : ℕ) × OneStep by Suspended (DidSuspend found) k k' × (end ≡ Suspends)
 Does harts by (Ok (SuspendAfresh a o)) k k' end =
-    (found : ℕ) × OneStep by Asleep (DidSuspend found) k k' × (end ≡ SuspendsAfresh a o)
+    (found : ℕ) × OneStep by Suspended (DidSuspend found) k k' × (end ≡ SuspendsAfresh a o)
 Does harts by (Ok (Send targets)) k k' end =
     (k'.harts ≡ k.harts) × Sends by targets harts k.pairs k'.pairs × (end ≡ Answers (Ok 0))
 Does harts by (Ok Command) k k' end = (k' ≡ k) × (end ≡ Defers)

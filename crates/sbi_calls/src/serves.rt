@@ -1,7 +1,7 @@
 //! Requests done by the hart table.
 
 ghost use Rattle.std.specs.Prelude.{◌≡◌, ◌<◌, Ok};
-ghost use Rattle.hsm_rule.specs.declared.view.Stage.TheVariants.{Running, Out, Asleep};
+ghost use Rattle.hsm_rule.specs.declared.view.Stage.TheVariants.{Running, Out, Suspended};
 ghost use Rattle.sbi_calls.specs.declared.requests.Request.TheVariants.{Start, Stop, Status, Suspend, SuspendAfresh};
 ghost use Rattle.sbi_calls.specs.declared.endings.Ending.TheVariants.{Stops, Suspends, SuspendsAfresh};
 ghost use Rattle.sbi_calls.specs.Both.{AreSeatsOfBoth, GivesBack, Acts, harts_of_both, known};
@@ -82,7 +82,7 @@ pub(crate) fn suspend(seats: Seats, tables: &Tables, by: HartId) -> (Seats, Endi
     requires acts { Acts by Running seats }
     requires by { by < harts_of_both tables.now }
     ensures gives { GivesBack tables.entry.now by seats result.0 }
-    ensures acts { Acts by Asleep result.0 }
+    ensures acts { Acts by Suspended result.0 }
     ensures does { Does (harts_of_both tables.entry.now) by (Ok Suspend) (known seats) (known result.0) result.1 }
     ensures ending { result.1 ≡ Suspends }
     ensures alone { DoesAlone (harts_of_both tables.entry.now) by (Ok Suspend) seats result.0 result.1 }
@@ -105,7 +105,7 @@ pub(crate) fn suspend_afresh(
     requires acts { Acts by Running seats }
     requires by { by < harts_of_both tables.now }
     ensures gives { GivesBack tables.entry.now by seats result.0 }
-    ensures acts { Acts by Asleep result.0 }
+    ensures acts { Acts by Suspended result.0 }
     ensures does { Does (harts_of_both tables.entry.now) by (Ok (SuspendAfresh site opaque)) (known seats)
         (known result.0) result.1 }
     ensures ending { result.1 ≡ SuspendsAfresh site opaque }

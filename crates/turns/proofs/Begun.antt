@@ -1,6 +1,6 @@
 -- What a look at the own state tells of a hart between two turns, and what a turn comes to.
 use Rattle.std.proofs.Common.{◌≡◌, ◌≢◌, ◌⊎◌, ◌↔◌, ℕ, zero, suc, Bool, true, false, true≢false, IsTrue, List, [], ◌∷◌, Some, None, Option, refl, sym, ap, ◌∙◌, subst, ⊎_elim, inl, get_or}
-use Rattle.hsm_rule.specs.declared.view.Stage.TheVariants.{Out, Running, Asleep}
+use Rattle.hsm_rule.specs.declared.view.Stage.TheVariants.{Out, Running, Suspended}
 use Rattle.hsm_rule.specs.Words.{HartView}
 use Rattle.hsm_rule.specs.Rule.{stands}
 use Rattle.hsm_rule.specs.States.{HartState, stopped, start_pending, started, suspended, entry}
@@ -17,7 +17,7 @@ use Rattle.turns.specs.Turns.{RestsAt, IsOutside, has_true, has_pending}
 
 -- ---- where the hart stands
 pub sits : (h : ℕ) (vs : List HartView) → RestsAt h vs → SitsIn h vs
-sits h vs r = ⊎_elim (λ (o : stands h Out vs). (Out, o)) (⊎_elim (λ (o : stands h Running vs). (Running, o)) (λ (o : stands h Asleep vs). (Asleep, o))) r
+sits h vs r = ⊎_elim (λ (o : stands h Out vs). (Out, o)) (⊎_elim (λ (o : stands h Running vs). (Running, o)) (λ (o : stands h Suspended vs). (Suspended, o))) r
 
 pub runs : (h : ℕ) (vs : List HartView) (x : State) → IsOwnStatus h vs x → RestsAt h vs → x ≡ codes.Started → stands h Running vs
 runs h vs x own r e =
@@ -25,16 +25,16 @@ runs h vs x own r e =
     (λ (o : stands h Out vs). ⊎_elim (λ (p : x ≡ codes.Stopped). absurd (let z = sym p ∙ e in let n : ⊥ = cc in n)) (λ (p : x ≡ codes.StartPending). absurd (let z = sym p ∙ e in let n : ⊥ = cc in n)) (own.outside o))
     (⊎_elim
     (λ (o : stands h Running vs). o)
-    (λ (o : stands h Asleep vs). absurd (let p = own.asleep o in let z = sym p ∙ e in let n : ⊥ = cc in n)))
+    (λ (o : stands h Suspended vs). absurd (let p = own.suspended o in let z = sym p ∙ e in let n : ⊥ = cc in n)))
     r
 
-pub sleeps : (h : ℕ) (vs : List HartView) (x : State) → IsOwnStatus h vs x → RestsAt h vs → x ≡ codes.Suspended → stands h Asleep vs
-sleeps h vs x own r e =
+pub suspends : (h : ℕ) (vs : List HartView) (x : State) → IsOwnStatus h vs x → RestsAt h vs → x ≡ codes.Suspended → stands h Suspended vs
+suspends h vs x own r e =
     ⊎_elim
     (λ (o : stands h Out vs). ⊎_elim (λ (p : x ≡ codes.Stopped). absurd (let z = sym p ∙ e in let n : ⊥ = cc in n)) (λ (p : x ≡ codes.StartPending). absurd (let z = sym p ∙ e in let n : ⊥ = cc in n)) (own.outside o))
     (⊎_elim
     (λ (o : stands h Running vs). absurd (let p = own.started (inl o) in let z = sym p ∙ e in let n : ⊥ = cc in n))
-    (λ (o : stands h Asleep vs). o))
+    (λ (o : stands h Suspended vs). o))
     r
 
 abbrev pub IsOutCode : State → Type 0
@@ -54,7 +54,7 @@ is_out h vs x own r e =
     (λ (o : stands h Out vs). o)
     (⊎_elim
     (λ (o : stands h Running vs). absurd (n.0 (own.started (inl o))))
-    (λ (o : stands h Asleep vs). absurd (n.1 (own.asleep o))))
+    (λ (o : stands h Suspended vs). absurd (n.1 (own.suspended o))))
     r
 
 pub gives_then : (t : Tables) (by : ℕ) (a b c : Seats) → GivesBack t by a b → GivesBack t by b c → GivesBack t by a c

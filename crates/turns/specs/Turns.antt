@@ -6,7 +6,7 @@ use Rattle.hart.specs.Means.{Steps}
 use Rattle.hart.specs.declared.Outcome.{Outcome}
 use Rattle.hart.specs.declared.Outcome.TheVariants as outcomes
 use Rattle.hsm_rule.specs.Words.{HartView}
-use Rattle.hsm_rule.specs.declared.view.Stage.TheVariants.{Out, Running, Asleep}
+use Rattle.hsm_rule.specs.declared.view.Stage.TheVariants.{Out, Running, Suspended}
 use Rattle.hsm_rule.specs.Rule.{stands}
 use Rattle.hsm_rule.specs.States.{HartState, stopped, start_pending, started, suspended}
 use Rattle.hsm.specs.Views.{listed}
@@ -26,7 +26,7 @@ use Rattle.turns.specs.declared.words.Ready.TheVariants as readies
 -- ---- between two turns
 -- the hart has not entered, or it is STARTED with nothing in flight, or SUSPENDED
 abbrev pub RestsAt : ℕ → List HartView → Type 0
-RestsAt by vs = stands by Out vs ⊎ (stands by Running vs ⊎ stands by Asleep vs)
+RestsAt by vs = stands by Out vs ⊎ (stands by Running vs ⊎ stands by Suspended vs)
 
 abbrev pub Rests : ℕ → Seats → Type 0
 Rests by s = RestsAt by (views s) × Sits by (pair_crew s)

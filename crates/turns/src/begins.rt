@@ -1,7 +1,7 @@
 //! What comes before the step of a turn.
 
 ghost use Rattle.std.specs.Prelude.{◌≡◌, ◌<◌};
-ghost use Rattle.hsm_rule.specs.declared.view.Stage.TheVariants.{Out, Running, Asleep};
+ghost use Rattle.hsm_rule.specs.declared.view.Stage.TheVariants.{Out, Running, Suspended};
 ghost use Rattle.ipi.specs.Pairs.{Sits};
 ghost use Rattle.sbi_calls.specs.Both.{AreSeatsOfBoth, GivesBack, Acts, harts_of_both, known, pair_crew};
 ghost use Rattle.turns.specs.Turns.{Rests, RestsAs, BeginsAlone, LooksAlone, TakesAlone, EntersAlone, WakesAlone};
@@ -68,7 +68,7 @@ fn enter(seats: Seats, tables: &Tables, by: HartId) -> (Seats, Ready)
 fn wake(seats: Seats, tables: &Tables, by: HartId) -> (Seats, Ready)
     requires seats { AreSeatsOfBoth tables.now seats }
     requires by { by < harts_of_both tables.now }
-    requires acts { Acts by Asleep seats }
+    requires acts { Acts by Suspended seats }
     ensures gives { GivesBack tables.entry.now by seats result.0 }
     ensures rests { RestsAs by result.1 result.0 }
     ensures own { WakesOwn by (known seats) (known result.0) result.1 }

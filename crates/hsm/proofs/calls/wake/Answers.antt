@@ -1,16 +1,16 @@
 use Rattle.std.proofs.Common.{refl}
-use Rattle.hsm_rule.specs.declared.view.Stage.TheVariants.{Running, Asleep}
+use Rattle.hsm_rule.specs.declared.view.Stage.TheVariants.{Running, Suspended}
 use Rattle.hsm_rule.specs.declared.view.Action.TheVariants.{Woke}
 use Rattle.hsm.proofs.Stand.{stands_after}
 use Rattle.hsm_rule.specs.States.{started}
-use Rattle.hsm.proofs.Alone.{keeps, shows_turned, sleeps_settled}
+use Rattle.hsm.proofs.Alone.{keeps, shows_turned, suspends_settled}
 use Rattle.hsm.proofs.calls.wake.Goals as goal
 
 pub returns-clause-stands : goal.returns-clause-stands
-returns-clause-stands c = stands_after c.args.by Asleep Running (Woke c.wake.result) c.args.seat.me.0 c.wake.new.seat.me.0 c.wake.ensures.told c.requires.acts
+returns-clause-stands c = stands_after c.args.by Suspended Running (Woke c.wake.result) c.args.seat.me.0 c.wake.new.seat.me.0 c.wake.ensures.told c.requires.acts
 
 pub returns-clause-others : goal.returns-clause-others
-returns-clause-others c = keeps c.args.table.now.table.shared.key.harts c.args.by Asleep Running (Woke c.wake.result) c.args.seat.me.0 c.wake.new.seat.me.0 c.wake.ensures.told c.requires.acts
+returns-clause-others c = keeps c.args.table.now.table.shared.key.harts c.args.by Suspended Running (Woke c.wake.result) c.args.seat.me.0 c.wake.new.seat.me.0 c.wake.ensures.told c.requires.acts
 
 pub returns-clause-alone : goal.returns-clause-alone
-returns-clause-alone c = λ states shown. (tt, shows_turned c.args.table.now.table.shared.key.harts c.args.by Asleep Running (Woke c.wake.result) c.args.seat.me.0 c.wake.new.seat.me.0 c.wake.ensures.told c.requires.acts started sleeps_settled refl (λ a o. refl) (λ k a o. refl) (λ k a o. refl) states shown)
+returns-clause-alone c = λ states shown. (tt, shows_turned c.args.table.now.table.shared.key.harts c.args.by Suspended Running (Woke c.wake.result) c.args.seat.me.0 c.wake.new.seat.me.0 c.wake.ensures.told c.requires.acts started suspends_settled refl (λ a o. refl) (λ k a o. refl) (λ k a o. refl) states shown)

@@ -1,5 +1,5 @@
 use Rattle.std.proofs.Common.{◌≢◌, sym}
-use Rattle.hsm_rule.specs.declared.view.Stage.TheVariants.{Out, Running, Asleep}
+use Rattle.hsm_rule.specs.declared.view.Stage.TheVariants.{Out, Running, Suspended}
 use Rattle.table_tests.proofs.alone.run_of_one.Goals as goal
 
 pub start-seat-requires-clause-acts : goal.start-seat-requires-clause-acts
@@ -20,7 +20,7 @@ pub suspend-seat-requires-clause-acts : goal.suspend-seat-requires-clause-acts
 suspend-seat-requires-clause-acts c = c.status-seat-3.ensures.stays.stages c.args.one Running (rw c.in-Some.is at c.try_enter-seat.ensures.stands)
 
 pub wake-seat-requires-clause-acts : goal.wake-seat-requires-clause-acts
-wake-seat-requires-clause-acts c = c.status-seat-4.ensures.stays.stages c.args.one Asleep c.suspend-seat.ensures.stands
+wake-seat-requires-clause-acts c = c.status-seat-4.ensures.stays.stages c.args.one Suspended c.suspend-seat.ensures.stands
 
 pub stop-seat-requires-clause-acts : goal.stop-seat-requires-clause-acts
 stop-seat-requires-clause-acts c = c.status-seat-5.ensures.stays.stages c.args.one Running c.wake-seat.ensures.stands

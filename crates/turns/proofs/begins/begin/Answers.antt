@@ -11,7 +11,7 @@ use Rattle.hsm.specs.declared.state.State.TheVariants as codes
 use Rattle.sbi_calls.specs.Both.{harts_of_both, known, views, IsTable}
 use Rattle.turns.specs.declared.words.Ready.TheVariants as readies
 use Rattle.turns.specs.Turns.{begun_by}
-use Rattle.turns.proofs.Begun.{sits, runs, sleeps, is_out, gives_then, is_started, is_suspended, named_out, IsOutCode}
+use Rattle.turns.proofs.Begun.{sits, runs, suspends, is_out, gives_then, is_started, is_suspended, named_out, IsOutCode}
 use Rattle.turns.specs.Own.{GoesOwn}
 use Rattle.turns.proofs.begins.begin.Goals as goal
 
@@ -20,7 +20,7 @@ status-harts-requires-clause-acts c = sits c.args.by (views c.args.seats) c.requ
 
 pub wake-requires-clause-acts : goal.wake-requires-clause-acts
 wake-requires-clause-acts c = (
-  c.status-harts.ensures.stays.stages _ _ (sleeps c.args.by (views c.args.seats) c.status-harts.result.1 c.status-harts.ensures.fresh c.requires.rests.0 c.in-Suspended.is),
+  c.status-harts.ensures.stays.stages _ _ (suspends c.args.by (views c.args.seats) c.status-harts.result.1 c.status-harts.ensures.fresh c.requires.rests.0 c.in-Suspended.is),
   c.requires.rests.1,
 )
 
