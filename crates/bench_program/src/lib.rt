@@ -32,7 +32,7 @@ use bench_report::run;
 use bench_sweep::{Sweep, faults, sweep};
 use board_model::{MAX_LINE_BYTES, MAX_SCRIPT_LINES, Refusal};
 use command_line::NoWork;
-use crew::{Crew, Turns};
+use crew::{Crew, Sequential};
 use std::alloc::Global;
 use std::io::{self, BufReader, BufWriter, ErrorKind, IsTerminal, Read, Write};
 use std::process::ExitCode;
@@ -132,7 +132,7 @@ fn print_report<R: Threads + Sync>(
     match savers {
         Savers::Threads => print_report_with(rt, &script, &crew::Threads::new(threads)),
         Savers::Turns => {
-            let crew = Turns::<R>::new([0, 1, 2, 3]).map_err(Fault::Refused)?;
+            let crew = Sequential::<R>::new([0, 1, 2, 3]).map_err(Fault::Refused)?;
             print_report_with(rt, &script, &crew)
         }
     }

@@ -2,7 +2,7 @@
 
 use bench_report::{run, run_left};
 use board_model::{Durable, Reason, Refusal, Slot};
-use crew::Turns;
+use crew::Sequential;
 use std::alloc::Global;
 use std::io::{self, ErrorKind, Write};
 use std::process::Abort;
@@ -16,8 +16,8 @@ pub const STARTED: &[u8] =
     b"board 1/1/1 sectors 26\nformat ok\nfound slot 0 reason 0 image none next 0\non fresh\n";
 
 /// One lane after another.
-pub fn in_turn<R: Threads + Sync>(_rt: &R) -> Result<Turns<R>, Fail> {
-    let crew = Turns::new([0, 1, 2, 3])
+pub fn in_turn<R: Threads + Sync>(_rt: &R) -> Result<Sequential<R>, Fail> {
+    let crew = Sequential::new([0, 1, 2, 3])
         .ok()
         .ok_or("each lane is there once")?;
     Ok(crew)

@@ -20,7 +20,7 @@ use crate::runner::{Runner, Setting};
 use crate::sites::{Going, Site, Went, cut_by, goes_on};
 use bench_judge::Sweep;
 use board_model::{Refusal, Shape};
-use crew::{Crew, Turns};
+use crew::{Crew, Sequential};
 use script_lang::{Line, Script, parse_script};
 use simdisk::Fill;
 use std::alloc::Global;
@@ -375,7 +375,7 @@ fn sweep_plain_script<R: Threads + Sync, W: Write>(
     ensures refused { IfErr result (λ e. (e ≡ Memory) ⊎ (e ≡ Output)
         ⊎ ((e ≡ NotPlain) × (W.contents out.new ≡ W.contents out.old))) }
 {
-    let crew = Turns::<R>::new([0, 1, 2, 3])?;
+    let crew = Sequential::<R>::new([0, 1, 2, 3])?;
     sweep_lines(alloc, &crew, bench, &script.shape, &script.lines, out)
 }
 

@@ -6,7 +6,7 @@ use board_model::{
     Addr, BootMode, Boots, Command, Durable, HartId, ImageHead, RAM_BASE, Reason, Refusal, Shape,
     Slot, Trial,
 };
-use crew::{Crew, Turns};
+use crew::{Crew, Sequential};
 use disk::Disk;
 use layout::{Record, Saved, Side, Version, gate_bytes, record_bytes, superblock_bytes};
 use machine::{Turned, Word};
@@ -181,8 +181,8 @@ pub const ENTERED: Word = Word::Own(Turned::Entered);
 pub const NEXT: Word = Word::Own(Turned::Next);
 
 /// One lane after another.
-pub fn in_turn<R: Threads + Sync>(_rt: &R) -> Option<Turns<R>> {
-    match Turns::new([0, 1, 2, 3]) {
+pub fn in_turn<R: Threads + Sync>(_rt: &R) -> Option<Sequential<R>> {
+    match Sequential::new([0, 1, 2, 3]) {
         Ok(crew) => Some(crew),
         Err(_) => None,
     }

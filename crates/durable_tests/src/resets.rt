@@ -1,7 +1,7 @@
 //! System reset (SBI specification 2.0, chapter 10; docs/SBI.md).
 use crate::sites::{Asked, NONE, Other, Told, ask, minus, no_trial, once, opened, same, twice};
 use board_model::{Command, Reason, Refusal};
-use crew::Turns;
+use crew::Sequential;
 use disk::ArmedFault;
 use sbi::{Held, ResetType};
 use std::alloc::Global;
@@ -18,7 +18,7 @@ fn reset(kind: u64, reason: u64) -> Asked {
 /// Type above 2: -3. Reason other than 0 and 1: -3. Type 2: -2. Each by the low 32 bits of its register.
 #[test]
 fn the_arguments_are_checked_in_order(rt: HostRuntime) -> Result<(), Fail> {
-    let crew: Turns<HostRuntime> = Turns::new([0, 1, 2, 3])?;
+    let crew: Sequential<HostRuntime> = Sequential::new([0, 1, 2, 3])?;
     for (kind, reason, error) in [
         (3, 0, 3),
         (0xffff_ffff, 2, 3),
@@ -41,7 +41,7 @@ fn the_arguments_are_checked_in_order(rt: HostRuntime) -> Result<(), Fail> {
 /// and the life is over, so that another one is refused by the store.
 #[test]
 fn a_reset_ends_the_life(rt: HostRuntime) -> Result<(), Fail> {
-    let crew: Turns<HostRuntime> = Turns::new([0, 1, 2, 3])?;
+    let crew: Sequential<HostRuntime> = Sequential::new([0, 1, 2, 3])?;
     for (kind, reason, held, kept) in [
         (0, 0, ResetType::Shutdown, Reason::NoReason),
         (0, 1, ResetType::Shutdown, Reason::SystemFailure),
@@ -70,7 +70,7 @@ fn a_reset_ends_the_life(rt: HostRuntime) -> Result<(), Fail> {
 /// leaves it down.
 #[test]
 fn what_the_store_refuses_is_minus_1(rt: HostRuntime) -> Result<(), Fail> {
-    let crew: Turns<HostRuntime> = Turns::new([0, 1, 2, 3])?;
+    let crew: Sequential<HostRuntime> = Sequential::new([0, 1, 2, 3])?;
     for (call, then) in [
         (1, Held::Reset(ResetType::ColdReboot)),
         (2, Held::Reset(ResetType::ColdReboot)),
@@ -93,7 +93,7 @@ fn what_the_store_refuses_is_minus_1(rt: HostRuntime) -> Result<(), Fail> {
 /// The call after a life that took so many commands.
 fn after_slots<R: Threads + Sync>(
     alloc: Global,
-    crew: &Turns<R>,
+    crew: &Sequential<R>,
     count: u32,
     asked: Asked,
 ) -> Result<Told, Refusal> {
@@ -107,7 +107,7 @@ fn after_slots<R: Threads + Sync>(
 /// A life that took 4,096 commands takes no reset.
 #[test]
 fn a_full_journal_is_minus_1(rt: HostRuntime) -> Result<(), Fail> {
-    let crew: Turns<HostRuntime> = Turns::new([0, 1, 2, 3])?;
+    let crew: Sequential<HostRuntime> = Sequential::new([0, 1, 2, 3])?;
     let told = after_slots(rt.alloc(), &crew, 4096, reset(0, 1))?;
     let now = told.now;
     same(&rt, (told.held, told.error), (Held::Goes, minus(1)));

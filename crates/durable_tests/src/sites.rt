@@ -6,7 +6,7 @@ ghost use Rattle.hsm_steps.specs.Seating.{IsSeatOf, harts_of, harts_in};
 ghost use Rattle.sbi_calls.specs.Both.{AreSeatsOfBoth, Acts, harts_of_both as hart_count};
 
 use board_model::{Addr, Durable, HartId, Refusal, Shape, Trial};
-use crew::Turns;
+use crew::Sequential;
 use disk::ArmedFault;
 use hart::Hart;
 use hsm::{HartSeat, HartTable};
@@ -135,7 +135,7 @@ fn made<R: Threads + Sync>(
     tables: &Tables,
     store: &mut Store<SimDisk>,
     bus: &mut Bus,
-    crew: &Turns<R>,
+    crew: &Sequential<R>,
     zero: HartId,
     asked: Asked,
 ) -> Told
@@ -161,7 +161,7 @@ fn made<R: Threads + Sync>(
 pub fn ask<R: Threads + Sync>(
     alloc: Global,
     store: &mut Store<SimDisk>,
-    crew: &Turns<R>,
+    crew: &Sequential<R>,
     other: Other,
     asked: Asked,
 ) -> Result<Told, Refusal> {
@@ -186,7 +186,7 @@ pub fn ask<R: Threads + Sync>(
 /// was opened.
 pub fn twice<R: Threads + Sync>(
     alloc: Global,
-    crew: &Turns<R>,
+    crew: &Sequential<R>,
     fault: ArmedFault,
     asked: Asked,
 ) -> Result<(Told, Told, Durable), Refusal> {
@@ -202,7 +202,7 @@ pub fn twice<R: Threads + Sync>(
 /// whether no command was acknowledged.
 pub fn once<R: Threads + Sync>(
     alloc: Global,
-    crew: &Turns<R>,
+    crew: &Sequential<R>,
     other: Other,
     asked: Asked,
 ) -> Result<(Told, Durable, bool), Refusal> {

@@ -1,7 +1,7 @@
 //! System suspend, and waking from it (SBI specification 2.0, chapter 13; docs/SBI.md).
 use crate::sites::{Asked, NONE, Other, RAM, ask, minus, no_trial, once, opened, same, twice};
 use board_model::{Addr, Command, Durable, HartId, ImageHead, Refusal, Shape};
-use crew::Turns;
+use crew::Sequential;
 use disk::ArmedFault;
 use hart::Hart;
 use ram::Ram;
@@ -27,7 +27,7 @@ fn suspend(kind: u64, address: u64, opaque: u64) -> Asked {
 /// -4.
 #[test]
 fn the_checks_are_made_in_order(rt: HostRuntime) -> Result<(), Fail> {
-    let crew: Turns<HostRuntime> = Turns::new([0, 1, 2, 3])?;
+    let crew: Sequential<HostRuntime> = Sequential::new([0, 1, 2, 3])?;
     for (kind, address, other, error) in [
         (0, 1, Other::Started, 5),
         (0, RAM + 0x1000, Other::Stopped, 5),
@@ -67,7 +67,7 @@ fn doze(address: u64, opaque: u64, woken: bool) -> Option<Doze> {
 /// To RAM, neither the store is asked nor the memory changed, and the hart stays at its call.
 #[test]
 fn dozing_without_a_command(rt: HostRuntime) -> Result<(), Fail> {
-    let crew: Turns<HostRuntime> = Turns::new([0, 1, 2, 3])?;
+    let crew: Sequential<HostRuntime> = Sequential::new([0, 1, 2, 3])?;
     for (kind, address, opaque) in [(0, RAM, 9), (0x5_0000_0000, RAM + 0xffc, u64::MAX)] {
         let asked = suspend(kind, address, opaque);
         let (told, found, none) = once(rt.alloc(), &crew, Other::Stopped, asked)?;
@@ -83,7 +83,7 @@ fn dozing_without_a_command(rt: HostRuntime) -> Result<(), Fail> {
 /// life is over.
 #[test]
 fn dozing_where_the_store_refuses(rt: HostRuntime) -> Result<(), Fail> {
-    let crew: Turns<HostRuntime> = Turns::new([0, 1, 2, 3])?;
+    let crew: Sequential<HostRuntime> = Sequential::new([0, 1, 2, 3])?;
     for (fault, held) in [(ArmedFault::FailAt(4), Held::Goes), (NONE, Held::Asleep)] {
         let mut store = opened(rt.alloc())?;
         store.arm(fault);
@@ -105,7 +105,7 @@ fn dozing_where_the_store_refuses(rt: HostRuntime) -> Result<(), Fail> {
 /// Nor is one whose journal of 4,096 commands is full.
 #[test]
 fn dozing_where_the_journal_is_full(rt: HostRuntime) -> Result<(), Fail> {
-    let crew: Turns<HostRuntime> = Turns::new([0, 1, 2, 3])?;
+    let crew: Sequential<HostRuntime> = Sequential::new([0, 1, 2, 3])?;
     let mut store = opened(rt.alloc())?;
     for _ in 0..4096 {
         store.apply(Command::Slot(1))?;
@@ -154,7 +154,7 @@ fn image(address: u64, opaque: u64) -> Option<ImageHead> {
 /// Once asleep the image stands with its head, the hart stays at its call, and the life is over.
 #[test]
 fn asleep_after_the_command(rt: HostRuntime) -> Result<(), Fail> {
-    let crew: Turns<HostRuntime> = Turns::new([0, 1, 2, 3])?;
+    let crew: Sequential<HostRuntime> = Sequential::new([0, 1, 2, 3])?;
     for (kind, address, opaque) in [(TO_DISK, RAM, 7), (0x3_8000_0001, RAM + 0xffc, u64::MAX)] {
         let asked = suspend(kind, address, opaque);
         let (told, again, _found) = twice(rt.alloc(), &crew, NONE, asked)?;
@@ -175,7 +175,7 @@ fn asleep_after_the_command(rt: HostRuntime) -> Result<(), Fail> {
 /// the board to sleep.
 #[test]
 fn what_the_store_refuses_is_minus_1(rt: HostRuntime) -> Result<(), Fail> {
-    let crew: Turns<HostRuntime> = Turns::new([0, 1, 2, 3])?;
+    let crew: Sequential<HostRuntime> = Sequential::new([0, 1, 2, 3])?;
     for (fault, then) in [
         (ArmedFault::FailLane(0, 1), Held::Asleep),
         (ArmedFault::FailLane(0, 2), Held::Asleep),
@@ -199,7 +199,7 @@ fn what_the_store_refuses_is_minus_1(rt: HostRuntime) -> Result<(), Fail> {
 /// A board of two harts that hart 0 suspended, with 9 for its opaque value, opened again.
 fn with_image<R: Threads + Sync>(
     alloc: Global,
-    crew: &Turns<R>,
+    crew: &Sequential<R>,
 ) -> Result<Store<SimDisk>, Refusal> {
     let mut store = opened(alloc)?;
     let asked = suspend(TO_DISK, RAM + 8, 9);
@@ -213,7 +213,7 @@ fn with_image<R: Threads + Sync>(
 /// What a wake answers under that fault, and then once more; the durable state after each.
 fn woken_twice<R: Threads + Sync>(
     alloc: Global,
-    crew: &Turns<R>,
+    crew: &Sequential<R>,
     fault: ArmedFault,
     pages: u64,
 ) -> Result<(Option<Refusal>, Durable, Option<Refusal>, Durable), Refusal> {
@@ -227,7 +227,7 @@ fn woken_twice<R: Threads + Sync>(
 }
 
 /// The hart of the image, and whether each byte of the memory is 7.
-fn woken<R: Threads + Sync>(alloc: Global, crew: &Turns<R>) -> Result<(Hart, bool), Refusal> {
+fn woken<R: Threads + Sync>(alloc: Global, crew: &Sequential<R>) -> Result<(Hart, bool), Refusal> {
     let mut store = with_image(alloc, crew)?;
     let mut ram = Ram::new(alloc, Shape::new(2, 1, 1)?)?;
     let hart = wake_image(&mut store, &mut ram)?;
@@ -237,7 +237,7 @@ fn woken<R: Threads + Sync>(alloc: Global, crew: &Turns<R>) -> Result<(Hart, boo
 /// The hart is as one that starts, and the memory that of the suspension.
 #[test]
 fn a_board_wakes(rt: HostRuntime) -> Result<(), Fail> {
-    let crew: Turns<HostRuntime> = Turns::new([0, 1, 2, 3])?;
+    let crew: Sequential<HostRuntime> = Sequential::new([0, 1, 2, 3])?;
     let (hart, sevens) = woken(rt.alloc(), &crew)?;
     same(
         &rt,
@@ -257,7 +257,7 @@ fn a_board_wakes(rt: HostRuntime) -> Result<(), Fail> {
 /// and not into a memory of another size.
 #[test]
 fn a_refused_wake_leaves_the_image(rt: HostRuntime) -> Result<(), Fail> {
-    let crew: Turns<HostRuntime> = Turns::new([0, 1, 2, 3])?;
+    let crew: Sequential<HostRuntime> = Sequential::new([0, 1, 2, 3])?;
     for (call, pages, refusal, then, stands) in [
         (0, 1, None, Some(Refusal::NoImage), (false, false)),
         (
@@ -286,7 +286,7 @@ fn a_refused_wake_leaves_the_image(rt: HostRuntime) -> Result<(), Fail> {
 /// Without an image, and in the life that the suspension ended.
 fn unwoken<R: Threads + Sync>(
     alloc: Global,
-    crew: &Turns<R>,
+    crew: &Sequential<R>,
 ) -> Result<(Option<Refusal>, Option<Refusal>, Durable), Refusal> {
     let mut store = opened(alloc)?;
     let mut ram = Ram::new(alloc, Shape::new(2, 1, 1)?)?;
@@ -304,7 +304,7 @@ fn unwoken<R: Threads + Sync>(
 
 #[test]
 fn no_board_wakes_within_its_life(rt: HostRuntime) -> Result<(), Fail> {
-    let crew: Turns<HostRuntime> = Turns::new([0, 1, 2, 3])?;
+    let crew: Sequential<HostRuntime> = Sequential::new([0, 1, 2, 3])?;
     let (first, second, now) = unwoken(rt.alloc(), &crew)?;
     same(&rt, first, Some(Refusal::NoImage));
     same(&rt, second, Some(Refusal::Over));

@@ -11,7 +11,7 @@ mod reported;
 
 use crate::left::tell;
 use crate::reported::{AsReported, Fault, compare_report};
-use crew::{Crew, Threads, Turns};
+use crew::{Crew, Threads, Sequential};
 use std::path::Path;
 use std::process::ExitCode;
 use std::{env, fs, io};
@@ -91,7 +91,7 @@ fn compare_all<A: Crew, B: Crew>(
 
 fn main(rt: HostRuntime) -> anyhow::Result<ExitCode> {
     let words: Vec<String> = env::args(&rt)?.collect(rt.alloc())?;
-    let turns = Turns::<HostRuntime>::new([0, 1, 2, 3])?;
+    let turns = Sequential::<HostRuntime>::new([0, 1, 2, 3])?;
     let folder = words.get(1).map_or(".", String::as_str);
     if folder == LEFT {
         tell(&rt, &turns)?;

@@ -2,7 +2,7 @@
 
 use crate::fixtures::{Fate, file_of, formatted, found, opened, same};
 use board_model::{Addr, HartId, PageNo, Refusal, Shape};
-use crew::{Crew, Turns};
+use crew::{Crew, Sequential};
 use disk::Sector;
 use ram::Ram;
 use simdisk::SimDisk;
@@ -57,7 +57,7 @@ fn a_killed_suspension_leaves_no_image_or_a_whole_one(rt: HostRuntime) -> Result
     let shape = Shape::new(1, 5, 4)?;
     let file = formatted(alloc, shape)?;
     let ram = memory(alloc, shape)?;
-    let crew = Turns::<HostRuntime>::new([0, 1, 2, 3])?;
+    let crew = Sequential::<HostRuntime>::new([0, 1, 2, 3])?;
     for left in 0..76 {
         let left_behind = suspended(alloc, &file, &ram, &crew, left)?;
         same(&rt, image_of(alloc, &left_behind, &ram)?, None);

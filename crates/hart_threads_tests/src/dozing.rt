@@ -11,7 +11,7 @@ use crate::looped::looped;
 use board::{Board, Parts};
 use board_console::console;
 use board_model::{Command, HartId, RAM_BASE, Reason, Shape};
-use crew::Turns;
+use crew::Sequential;
 use disk::ArmedFault;
 use hart_threads::{Ended, Gate, SharedBoard, Why, drive};
 use machine::Word;
@@ -43,7 +43,7 @@ const SUSP: u64 = 0x5355_5350;
 /// A call in the place of a hart: the extension, the function, and three arguments.
 fn call<R: AllocGlobal + Threads + Sync>(
     rt: &R,
-    crew: &Turns<R>,
+    crew: &Sequential<R>,
     board: &mut Board<SimDisk>,
     number: u64,
     words: [u64; 5],
@@ -59,7 +59,7 @@ fn call<R: AllocGlobal + Threads + Sync>(
 /// A turn of a hart.
 fn turn<R: AllocGlobal + Threads + Sync>(
     rt: &R,
-    crew: &Turns<R>,
+    crew: &Sequential<R>,
     board: &mut Board<SimDisk>,
     number: u64,
 ) -> Option<Word> {
@@ -73,7 +73,7 @@ fn turn<R: AllocGlobal + Threads + Sync>(
 /// Hart 0 starts hart 1 and stops, and hart 1 puts the board to sleep in its RAM, to go on at SITE with 9.
 fn put_to_sleep<R: AllocGlobal + Threads + Sync>(
     rt: &R,
-    crew: &Turns<R>,
+    crew: &Sequential<R>,
     board: &mut Board<SimDisk>,
 ) -> Option<Word> {
     call(rt, crew, board, 0, [HSM, 0, SLEEPER, RAM_BASE, 0])?;
@@ -104,7 +104,7 @@ fn dozing_parts<R: AllocGlobal + Threads + Sync>(rt: &R) -> Result<(Parts<SimDis
     ensures held { IfOk result (λ p. IsHeld p.1 p.0.harts.items p.0.tables (Some p.0.seats) p.0.bus.doze) }
     ensures begun { IfOk result (λ p. IsBegun p.1 p.0.store) }
 {
-    let crew = Turns::new([0, 1, 2, 3])?;
+    let crew = Sequential::new([0, 1, 2, 3])?;
     let mut board = booted(rt.alloc(), &Shape::new(2, 1, 1)?, &WAITER)?;
     if put_to_sleep(rt, &crew, &mut board) != Some(Word::Dozing) {
         Err("the board does not doze")?

@@ -11,7 +11,7 @@ ghost use Rattle.board_model.specs.Shapes.{ram_bytes_of, sectors_of};
 
 use crate::work::{copies, loans, new_copies, reads, writes};
 use board_model::{Addr, HartId, ImageHead, Refusal, Shape};
-use crew::{Crew, Threads, Turns};
+use crew::{Crew, Threads, Sequential};
 use layout::{Saved, Side};
 use ram::Ram;
 use savers::LaneCounts;
@@ -141,7 +141,7 @@ fn main(rt: HostRuntime) -> anyhow::Result<()> {
     measure(
         &rt,
         "turns",
-        &Turns::<HostRuntime>::new([0, 1, 2, 3])?,
+        &Sequential::<HostRuntime>::new([0, 1, 2, 3])?,
         count,
     )?;
     measure(&rt, "threads", &Threads::new(&rt), count)?;

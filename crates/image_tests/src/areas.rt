@@ -4,7 +4,7 @@ ghost use Rattle.std.specs.Prelude.{◌≤◌};
 
 use crate::fixtures::{Site, same};
 use board_model::Refusal;
-use crew::{Crew, Threads, Turns};
+use crew::{Crew, Threads, Sequential};
 use disk::ArmedFault;
 use layout::Side;
 use savers::LaneCounts;
@@ -35,7 +35,7 @@ const FEW_LANES: [(u64, [usize; 4], LaneCounts); 5] = [
 #[test]
 fn lanes_are_filled_in_their_turn(rt: HostRuntime) -> Result<(), Fail> {
     for (lanes, order, counts) in FEW_LANES {
-        let turns: Turns<HostRuntime> = Turns::new(order)?;
+        let turns: Sequential<HostRuntime> = Sequential::new(order)?;
         same(&rt, written(rt.alloc(), &turns, lanes)?, (counts, true));
     }
     Ok(())
@@ -59,7 +59,7 @@ fn order_writes<R: Abort + thread::Threads + Sync>(
     alloc: Global,
     order: [usize; 4],
 ) -> Result<bool, Refusal> {
-    let Ok(turns) = Turns::<R>::new(order) else {
+    let Ok(turns) = Sequential::<R>::new(order) else {
         return Ok(false);
     };
     let answer = written(alloc, &turns, 4)?;
@@ -124,7 +124,7 @@ fn written_under<C: Crew>(
 /// Of the disk, a write makes one call, the sync; of each lane two calls for each of its pages.
 #[test]
 fn a_failure_is_refused_and_the_next_write_stands(rt: HostRuntime) -> Result<(), Fail> {
-    let turns: Turns<HostRuntime> = Turns::new([2, 0, 3, 1])?;
+    let turns: Sequential<HostRuntime> = Sequential::new([2, 0, 3, 1])?;
     for fault in [
         ArmedFault::FailAt(1),
         ArmedFault::FailLane(0, 1),
@@ -155,7 +155,7 @@ fn calls_under<C: Crew>(
 /// The page whose write failed stands in no place, and the lanes behind take the pages that are left.
 #[test]
 fn a_lane_ends_at_its_failure_and_the_others_go_on(rt: HostRuntime) -> Result<(), Fail> {
-    let turns: Turns<HostRuntime> = Turns::new([0, 1, 2, 3])?;
+    let turns: Sequential<HostRuntime> = Sequential::new([0, 1, 2, 3])?;
     for (fault, calls) in [
         (ArmedFault::FailLane(0, 1), [1, 4, 4, 0]),
         (ArmedFault::FailLane(0, 2), [2, 4, 4, 0]),
@@ -189,7 +189,7 @@ fn cut_beside<C: Crew>(
 
 #[test]
 fn a_cut_leaves_the_other_area(rt: HostRuntime) -> Result<(), Fail> {
-    let turns: Turns<HostRuntime> = Turns::new([0, 1, 2, 3])?;
+    let turns: Sequential<HostRuntime> = Sequential::new([0, 1, 2, 3])?;
     for call in 1..3 {
         for fill in [Fill::Byte(0), Fill::Byte(0xff), Fill::Old] {
             let answer = cut_beside(rt.alloc(), &turns, call, fill)?;
@@ -222,7 +222,7 @@ fn are_written<R: Abort + thread::Threads + Sync>(
 ) -> Result<(), Fail>
     requires { first ≤ 256 }
 {
-    let turns: Turns<R> = Turns::new([1, 3, 0, 2])?;
+    let turns: Sequential<R> = Sequential::new([1, 3, 0, 2])?;
     for pages in first..first + 32 {
         let places = places_in_use(alloc, &turns, pages, pages % 4 + 1)?;
         same(rt, places, pages);
@@ -272,7 +272,7 @@ fn each_number_of_pages_to_256(rt: HostRuntime) -> Result<(), Fail> {
 
 #[test]
 fn each_number_of_lanes(rt: HostRuntime) -> Result<(), Fail> {
-    let turns: Turns<HostRuntime> = Turns::new([1, 3, 0, 2])?;
+    let turns: Sequential<HostRuntime> = Sequential::new([1, 3, 0, 2])?;
     for pages in [1, 2, 3, 4, 5, 64, 65, 256] {
         for lanes in 1..5 {
             let places = places_in_use(rt.alloc(), &turns, pages, lanes)?;

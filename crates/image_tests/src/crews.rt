@@ -3,7 +3,7 @@ ghost use Rattle.std.specs.Prelude.{◌≤◌, length};
 
 use crate::fixtures::{Site, same};
 use board_model::Refusal;
-use crew::{Crew, Plan, Threads, Turns};
+use crew::{Crew, Plan, Threads, Sequential};
 use layout::Side;
 use std::alloc::Global;
 use std::sync::atomic::{AtomicBool, AtomicU64, Ordering};
@@ -77,7 +77,7 @@ fn turns_go_in_the_order_given(rt: HostRuntime) -> Result<(), Fail> {
         ([2, 0, 3, 1], [1, 3, 0, 2]),
         ([1, 2, 3, 0], [3, 0, 1, 2]),
     ] {
-        let crew: Turns<HostRuntime> = Turns::new(order)?;
+        let crew: Sequential<HostRuntime> = Sequential::new(order)?;
         same(&rt, turns_of(&crew), turns);
     }
     Ok(())
@@ -136,7 +136,7 @@ fn asked<C: Crew + Drop>(alloc: Global, crew: C) -> Result<(u64, u64, u64), Refu
 
 #[test]
 fn one_list_of_two_jobs(rt: HostRuntime) -> Result<(), Fail> {
-    let turns: Turns<HostRuntime> = Turns::new([3, 2, 1, 0])?;
+    let turns: Sequential<HostRuntime> = Sequential::new([3, 2, 1, 0])?;
     same(&rt, asked(rt.alloc(), turns)?, (1, 2, 0));
     same(&rt, asked(rt.alloc(), Threads::new(&rt))?, (1, 2, 1));
     Ok(())
@@ -144,7 +144,7 @@ fn one_list_of_two_jobs(rt: HostRuntime) -> Result<(), Fail> {
 
 /// What an order is refused.
 fn refused<R: thread::Threads + Sync>(_rt: &R, order: [usize; 4]) -> Option<Refusal> {
-    Turns::<R>::new(order).err()
+    Sequential::<R>::new(order).err()
 }
 
 #[test]

@@ -2,7 +2,7 @@
 //! board of two pages and one lane area 0 has the headers in sectors 8 and 17.
 use crate::fixtures::{Site, same};
 use board_model::Refusal;
-use crew::{Crew, Turns};
+use crew::{Crew, Sequential};
 use disk::ArmedFault;
 use layout::Side;
 use savers::LaneCounts;
@@ -40,7 +40,7 @@ fn read_poked(
 /// Each byte of the first header as 0xff.
 #[test]
 fn each_byte_of_a_header_counts(rt: HostRuntime) -> Result<(), Fail> {
-    let turns: Turns<HostRuntime> = Turns::new([0, 1, 2, 3])?;
+    let turns: Sequential<HostRuntime> = Sequential::new([0, 1, 2, 3])?;
     let mut site = two_pages(rt.alloc(), &turns)?;
     for offset in 0..512 {
         let answer = read_poked(rt.alloc(), &mut site, 8, offset, 0xff);
@@ -55,7 +55,7 @@ fn each_byte_of_a_header_counts(rt: HostRuntime) -> Result<(), Fail> {
 #[test]
 fn pages_come_once_each_under_the_serial(rt: HostRuntime) -> Result<(), Fail> {
     let bad = Err(Refusal::BadImage);
-    let turns: Turns<HostRuntime> = Turns::new([0, 1, 2, 3])?;
+    let turns: Sequential<HostRuntime> = Sequential::new([0, 1, 2, 3])?;
     let mut site = two_pages(rt.alloc(), &turns)?;
     for (sector, offset, byte, answer) in [
         (8, 0, 1, bad),
@@ -80,7 +80,7 @@ fn pages_come_once_each_under_the_serial(rt: HostRuntime) -> Result<(), Fail> {
 /// Counts that a record may have, of which only the first are those of the write.
 #[test]
 fn counts_that_lie(rt: HostRuntime) -> Result<(), Fail> {
-    let turns: Turns<HostRuntime> = Turns::new([0, 1, 2, 3])?;
+    let turns: Sequential<HostRuntime> = Sequential::new([0, 1, 2, 3])?;
     let mut site = Site::new(rt.alloc(), 5, 4)?;
     site.write(rt.alloc(), &turns, Side::first(), 9, 7)?;
     for (counts, answer) in [
@@ -116,7 +116,7 @@ fn read_failing<C: Crew>(
 /// Four calls: header and page of each place. A header that is bad ends it, before its page is read.
 #[test]
 fn headers_are_read_before_pages(rt: HostRuntime) -> Result<(), Fail> {
-    let turns: Turns<HostRuntime> = Turns::new([0, 1, 2, 3])?;
+    let turns: Sequential<HostRuntime> = Sequential::new([0, 1, 2, 3])?;
     for call in 1..5 {
         let answer = read_failing(rt.alloc(), &turns, 1, call)?;
         same(&rt, answer, (Err(Refusal::Device), false));

@@ -3,7 +3,7 @@
 
 use crate::fixtures::{open, reopened};
 use board_model::{Addr, HartId, PageNo, Refusal, Shape};
-use crew::{Crew, Turns};
+use crew::{Crew, Sequential};
 use disk::ArmedFault;
 use ram::Ram;
 use simdisk::SimDisk;
@@ -31,8 +31,8 @@ pub fn memory(alloc: Global, shape: Shape, first: u8) -> Result<Ram, Fail> {
 }
 
 /// Turns in an order that is not the lanes' own.
-pub fn turns<R: thread::Threads + Sync>(_rt: &R) -> Result<Turns<R>, Refusal> {
-    Turns::new([2, 0, 3, 1])
+pub fn turns<R: thread::Threads + Sync>(_rt: &R) -> Result<Sequential<R>, Refusal> {
+    Sequential::new([2, 0, 3, 1])
 }
 
 /// The store of a disk that was just formatted for that board.
