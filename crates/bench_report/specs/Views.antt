@@ -9,7 +9,7 @@ use Rattle.simdisk.specs.declared.SimDisk.{SimDisk}
 use Rattle.simdisk.specs.declared.SimLane.{SimLane}
 use Rattle.simdisk.specs.contracts.device.SimDiskDisk.TheImpl as sim_disk
 use Rattle.simdisk.specs.contracts.lane.SimLaneLane.TheImpl as sim_lane
-use Rattle.simdisk.specs.contracts.recorded.SimDiskRecorded.TheImpl as sim_record
+use Rattle.simdisk.specs.contracts.write_log.SimDiskLogged.TheImpl as sim_logged
 use Rattle.simdisk.specs.WriteLog.{WriteLog}
 use Rattle.board.specs.Views as words
 use Rattle.board.specs.declared.Board as boards
@@ -50,7 +50,7 @@ arms disk fault = sim_disk.ghosts.arms disk fault
 
 -- its record of writes and syncs
 abbrev pub sim_log_of : SimDisk → WriteLog
-sim_log_of disk = sim_record.ghosts.record disk
+sim_log_of disk = sim_logged.ghosts.log disk
 
 -- the same of the disk that a store holds
 abbrev pub store_facts : SimStore → Facts

@@ -1,4 +1,4 @@
--- The disk in memory may cross threads: what its records remember for contracts alone is no data.
+-- The disk in memory may cross threads: what its write log remembers for contracts alone is no data.
 use denote.Param.Send.{IsSend, recorded_send, sendable, struct_send}
 use denote.Struct.Declared.{shape}
 use Rattle.std.proofs.Crossing.{crosses}

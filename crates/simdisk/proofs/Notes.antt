@@ -1,4 +1,4 @@
--- What a piece more in the record leaves of what a disk in memory keeps.
+-- What a piece more in the write log leaves of what a disk in memory keeps.
 use Rattle.std.proofs.Common.{◌≡◌, ◌⊎◌, inl, inr, ⊎_elim, refl, ◌∙◌, ℕ, take, drop, subst, length-drop, ◌+◌, ◌*◌, ◌<◌, ◌≤◌, List, [], ◌∷◌, ◌++◌, length, get_or, map, replicate, set, sym, ap, arith, length-append}
 use Rattle.std.proofs.Math.ListN.{get_or-map}
 use Rattle.std.proofs.Math.Nat.{zero-mul}
@@ -6,7 +6,7 @@ use Rattle.std.proofs.lemmas.List.{map-append, map-set, set-get_or, get_or_appen
 use Rattle.std.proofs.lemmas.Bool.{cases_lt}
 use Rattle.disk.specs.Facts.{Content, Lent, Torn, Apart, IsFresh, nothing, sector}
 use Rattle.simdisk.specs.declared.patch.Patch.{Patch}
-use Rattle.simdisk.specs.WriteLog.{Piece, WriteLog, laid_over, newest, synced, range, ranges, more_written, more_synced, lent_piece, new_record, replay, filled, sim_facts, Untouched, AgreesOutside, AreWithin}
+use Rattle.simdisk.specs.WriteLog.{Piece, WriteLog, laid_over, newest, synced, range, ranges, more_written, more_synced, lent_piece, new_log, replay, filled, sim_facts, Untouched, AgreesOutside, AreWithin}
 use Rattle.simdisk.specs.Views.{piece, pieces, alternating, left_by_fill, Noted, IsLatest}
 use Rattle.simdisk.specs.declared.fill.Fill.{Fill}
 use Rattle.simdisk.specs.declared.fill.Fill.TheVariants.{Byte, Alternating, Old, New}
@@ -88,7 +88,7 @@ lent_fewer l now rs i within noted k u = elim (cases_lt 0 l.lanes) [
     outside : l.lanes * l.each ≡ 0 → (k < l.first) ⊎ (l.first + l.lanes * l.each ≤ k)
     outside zero = elim (cases_lt k l.first) [ inl low ↦ inl low | inr le ↦ inr (omega (arith, le, zero)) ]
 
--- what a join brings back is torn where the record has it as written
+-- what a join brings back is torn where the log has it as written
 pub agrees_join : (l : Lent) (stood : Content) (rs : List (ℕ × ℕ)) (i : ℕ) (now new : Content) → (0 < l.lanes → Noted rs i (l.first, l.lanes * l.each)) → AgreesOutside stood rs now → Torn l.first (l.lanes * l.each) now new
     → AgreesOutside stood rs new
 agrees_join l stood rs i now new noted a torn = elim (cases_lt 0 l.lanes) [
@@ -113,7 +113,7 @@ lent_written l rs i noted k le lt u = elim (cases_lt 0 l.lanes) [
     zero_each none = let is : l.lanes ≡ 0 = omega arith in ap (λ (n : ℕ). n * l.each) is ∙ zero-mul l.each
 
 -- a disk that begins with that content
-pub fresh_of : (now stood : Content) (r : WriteLog) (f i : ℕ) (l : Lent) → r ≡ new_record now → stood ≡ now → l ≡ nothing → IsFresh now (sim_facts now stood r f i l)
+pub fresh_of : (now stood : Content) (r : WriteLog) (f i : ℕ) (l : Lent) → r ≡ new_log now → stood ≡ now → l ≡ nothing → IsFresh now (sim_facts now stood r f i l)
 fresh_of now stood r f i l begun is none = record {
   reads = refl;
   durable = λ c a. agrees_all now c (subst (λ (s : Content). AgreesOutside s [] c) is (subst (λ (q : WriteLog). AgreesOutside stood (ranges q.written) c) begun a));

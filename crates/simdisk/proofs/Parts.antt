@@ -10,7 +10,7 @@ use Rattle.simdisk.specs.declared.fill.Fill.{Fill}
 use Rattle.simdisk.specs.declared.fill.Fill.TheVariants.{Byte, Alternating, Old, New}
 use Rattle.simdisk.specs.Views.{alternating, left_by_fill, piece, pieces}
 use Rattle.simdisk.specs.WriteLog.{Piece, WriteLog, laid_over, replay, synced, filled, ranges, Untouched, AgreesOutside, AreWithin}
-use Rattle.simdisk.specs.Pokes.{misses, part_before, part_behind, parted, poked_record}
+use Rattle.simdisk.specs.Pokes.{misses, part_before, part_behind, parted, poked_log}
 use Rattle.simdisk.proofs.Pieces.{length-put, put_low, put_mid, put_high, fits_here, fits_rest, ranges_filled}
 use Rattle.simdisk.proofs.Walks.{read_piece}
 
@@ -286,8 +286,8 @@ module _ (k : ℕ) (v : List ℕ) (stood : Content) (ps : List Piece) (lt : k < 
       in_d : k < length (laid_over (k, sector stood k ∷ []) c)
       in_d = omega (arith, in_c, long)
 
--- the record of a disk that was poked
-module _ (k : ℕ) (v : List ℕ) (r r' : WriteLog) (anew : r' ≡ poked_record k v r) (lt : k < length (synced r)) where
+-- the log of a disk that was poked
+module _ (k : ℕ) (v : List ℕ) (r r' : WriteLog) (anew : r' ≡ poked_log k v r) (lt : k < length (synced r)) where
   pub fills_poked : AreWithin (length (synced r)) (ranges r.written) → (fill : Fill) → left_by_fill fill (synced r') r'.written ≡ laid_over (k, v ∷ []) (left_by_fill fill (synced r) r.written)
   fills_poked fits fill = ap (λ (q : WriteLog). left_by_fill fill (synced q) q.written) anew ∙ left_poked k v (synced r) r.written lt fits fill
 

@@ -1,4 +1,4 @@
--- What the laws of a disk ask of its record.
+-- What the laws of a disk ask of its write log.
 use Rattle.std.specs.Prelude.{◌⊎◌, ℕ, ◌<◌, ◌≤◌, ◌^◌, List, [], ◌∷◌, length, drop}
 use Rattle.std.proofs.Common.{arith}
 use mathlib.Core.Logic.{inl, inr}

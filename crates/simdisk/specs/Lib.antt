@@ -1,6 +1,6 @@
 pub mod Armings
 pub mod History
-pub mod LaneRecords
+pub mod LaneStates
 pub mod Lanes
 pub mod Latest
 pub mod Laws

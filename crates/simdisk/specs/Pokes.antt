@@ -45,8 +45,8 @@ part_behind k piece = (k + 1, drop (k - piece.0 + 1) piece.1)
 abbrev pub parted : ℕ → Piece → List Piece
 parted k piece = (if misses k piece then piece ∷ [] else part_before k piece ∷ part_behind k piece ∷ [])
 
--- The record begun anew with what stood at the last sync, in which the k-th sector holds these bytes, and
+-- The write log begun anew with what stood at the last sync, in which the k-th sector holds these bytes, and
 -- without what was written to it since.
-abbrev pub poked_record : ℕ → List ℕ → WriteLog → WriteLog
-poked_record k bytes r =
+abbrev pub poked_log : ℕ → List ℕ → WriteLog → WriteLog
+poked_log k bytes r =
     record { began = laid_over (k, bytes ∷ []) (synced r); past = []; written = flat_map (parted k) r.written }

@@ -44,7 +44,7 @@ left_by_fill Alternating stood pieces = replay (map (filled alternating) pieces)
 left_by_fill Old stood pieces = stood
 left_by_fill New stood pieces = replay pieces stood
 
--- ---- what is lent, and where the record has it
+-- ---- what is lent, and where the write log has it
 abbrev pub lent_of : Loan → Lent
 lent_of loan = record { first = loan.first; lanes = loan.lanes; each = loan.each }
 

@@ -1,4 +1,4 @@
--- The record of a disk's writes and syncs, and what a crash may leave by it.
+-- The log of a disk's writes and syncs, and what a crash may leave by it.
 use Rattle.std.specs.Prelude.{◌≡◌, ◌⊎◌, ℕ, ◌+◌, ◌*◌, ◌≤◌, ◌<◌, List, [], ◌∷◌, ◌++◌, length, take, drop, map, replicate, get_or}
 use Rattle.disk.specs.Facts.{Content, Facts, Lent, counted, sector}
 
@@ -41,9 +41,9 @@ synced_after (epoch ∷ epochs) c = synced_after epochs (replay epoch c)
 abbrev pub synced : WriteLog → Content
 synced r = synced_after r.past r.began
 
--- the record of a disk that was just made, or left by a crash
-abbrev pub new_record : Content → WriteLog
-new_record c = record { began = c; past = []; written = [] }
+-- the log of a disk that was just made, or left by a crash
+abbrev pub new_log : Content → WriteLog
+new_log c = record { began = c; past = []; written = [] }
 
 -- one piece more is written
 abbrev pub more_written : Piece → WriteLog → WriteLog
@@ -104,7 +104,7 @@ abbrev pub Had : Content → List (List Piece) → Content → Type 0
 Had stood [] c = ⊥
 Had stood (epoch ∷ epochs) c = AgreesOutside stood (ranges epoch) c ⊎ Had (replay epoch stood) epochs c
 
--- the facts of a disk with that record, whose last sync had that content
+-- the facts of a disk with that log, whose last sync had that content
 abbrev pub sim_facts : Content → Content → WriteLog → ℕ → ℕ → Lent → Facts
 sim_facts now stood r failures calls lent = record {
   content = now;

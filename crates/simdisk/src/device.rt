@@ -4,7 +4,7 @@ ghost use Rattle.disk.specs.Facts.{Content, Torn, Written, Passes, Stays, Only, 
 ghost use Rattle.disk.specs.FaultState.{CausedInLanes, armed_by};
 ghost use Rattle.disk.specs.Calls.{MakesCalls, NoCall};
 ghost use Rattle.simdisk.specs.Armings.{FailsNext, one_call_on};
-ghost use Rattle.simdisk.specs.LaneRecords.{CountsLanes};
+ghost use Rattle.simdisk.specs.LaneStates.{CountsLanes};
 ghost use Rattle.simdisk.specs.Lendings.{Lends, TakesBack};
 ghost use Rattle.simdisk.specs.WriteLog.{more_written, more_synced, lent_piece, NotedOrRefused};
 
@@ -12,9 +12,9 @@ use crate::laid::overwrite;
 use crate::lane::{Bytes, SimLane};
 use crate::lending::{count_calls, failures_of, lay_row};
 use crate::loan::Loan;
-use crate::recorded::{Recorded, RecordedLane};
 use crate::sim::SimDisk;
 use crate::striking::failed;
+use crate::write_log::{Logged, Stateful};
 use disk::{ArmedFault, Disk, Fault, Lane, Sector};
 use std::alloc::AllocError;
 
@@ -48,14 +48,14 @@ impl Disk for SimDisk {
             (⟦<SimDisk as Disk>⟧.fault_state self.old) (⟦<SimDisk as Disk>⟧.fault_state self.new) result }
         ensures not_its_own { (⟦<SimDisk as Disk>⟧.fault_state self.new).own
             ≡ (⟦<SimDisk as Disk>⟧.fault_state self.old).own }
-        ensures record { ⟦<SimDisk as Recorded>⟧.record self.new ≡ ⟦<SimDisk as Recorded>⟧.record self.old }
+        ensures log { ⟦<SimDisk as Logged>⟧.log self.new ≡ ⟦<SimDisk as Logged>⟧.log self.old }
         ensures due { OnOk result
-            (FailsNext (⟦<SimDisk as Disk>⟧.fault_state self.old).struck (⟦<SimDisk as Recorded>⟧.armed self.old) → ⊥) }
+            (FailsNext (⟦<SimDisk as Disk>⟧.fault_state self.old).struck (⟦<SimDisk as Logged>⟧.armed self.old) → ⊥) }
         ensures early { OnErr result
-            (FailsNext (⟦<SimDisk as Disk>⟧.fault_state self.old).struck (⟦<SimDisk as Recorded>⟧.armed self.old)) }
+            (FailsNext (⟦<SimDisk as Disk>⟧.fault_state self.old).struck (⟦<SimDisk as Logged>⟧.armed self.old)) }
         ensures counts { (FailsNext (⟦<SimDisk as Disk>⟧.fault_state self.old).struck
-            (⟦<SimDisk as Recorded>⟧.armed self.old) → ⊥)
-            → ⟦<SimDisk as Recorded>⟧.armed self.new ≡ one_call_on (⟦<SimDisk as Recorded>⟧.armed self.old) }
+            (⟦<SimDisk as Logged>⟧.armed self.old) → ⊥)
+            → ⟦<SimDisk as Logged>⟧.armed self.new ≡ one_call_on (⟦<SimDisk as Logged>⟧.armed self.old) }
     {
         self.calls = self.calls.saturating_add(1);
         if self.faults.strikes() {
@@ -76,26 +76,26 @@ impl Disk for SimDisk {
             (⟦<SimDisk as Disk>⟧.fault_state self.new) result }
         ensures stays { OnErr result
             ((⟦<SimDisk as Disk>⟧.facts self.new).content ≡ (⟦<SimDisk as Disk>⟧.facts self.old).content) }
-        ensures record { OnOk result
-            (⟦<SimDisk as Recorded>⟧.record self.new
-            ≡ more_written (first, sectors.now) (⟦<SimDisk as Recorded>⟧.record self.old)) }
-        ensures record_failed { OnErr result
-            (NotedOrRefused (first, sectors.now) (⟦<SimDisk as Recorded>⟧.record self.old)
-            (⟦<SimDisk as Recorded>⟧.record self.new) (⟦<SimDisk as Disk>⟧.fault_state self.old).own
+        ensures log { OnOk result
+            (⟦<SimDisk as Logged>⟧.log self.new
+            ≡ more_written (first, sectors.now) (⟦<SimDisk as Logged>⟧.log self.old)) }
+        ensures log_failed { OnErr result
+            (NotedOrRefused (first, sectors.now) (⟦<SimDisk as Logged>⟧.log self.old)
+            (⟦<SimDisk as Logged>⟧.log self.new) (⟦<SimDisk as Disk>⟧.fault_state self.old).own
             (⟦<SimDisk as Disk>⟧.fault_state self.new).own) }
         ensures due { OnOk result
-            (FailsNext (⟦<SimDisk as Disk>⟧.fault_state self.old).struck (⟦<SimDisk as Recorded>⟧.armed self.old) → ⊥) }
+            (FailsNext (⟦<SimDisk as Disk>⟧.fault_state self.old).struck (⟦<SimDisk as Logged>⟧.armed self.old) → ⊥) }
         ensures early { OnErr result
-            (FailsNext (⟦<SimDisk as Disk>⟧.fault_state self.old).struck (⟦<SimDisk as Recorded>⟧.armed self.old)
+            (FailsNext (⟦<SimDisk as Disk>⟧.fault_state self.old).struck (⟦<SimDisk as Logged>⟧.armed self.old)
             ⊎ ((⟦<SimDisk as Disk>⟧.fault_state self.new).own
             ≡ counted (⟦<SimDisk as Disk>⟧.fault_state self.old).own 1)) }
         ensures counts { (FailsNext (⟦<SimDisk as Disk>⟧.fault_state self.old).struck
-            (⟦<SimDisk as Recorded>⟧.armed self.old) → ⊥)
-            → ⟦<SimDisk as Recorded>⟧.armed self.new ≡ one_call_on (⟦<SimDisk as Recorded>⟧.armed self.old) }
+            (⟦<SimDisk as Logged>⟧.armed self.old) → ⊥)
+            → ⟦<SimDisk as Logged>⟧.armed self.new ≡ one_call_on (⟦<SimDisk as Logged>⟧.armed self.old) }
         ensures spared { OnErr result
             ((⟦<SimDisk as Disk>⟧.fault_state self.old).own < (⟦<SimDisk as Disk>⟧.fault_state self.new).own
-            → FailsNext (⟦<SimDisk as Disk>⟧.fault_state self.old).struck (⟦<SimDisk as Recorded>⟧.armed self.old)
-            → ⟦<SimDisk as Recorded>⟧.armed self.new ≡ ⟦<SimDisk as Recorded>⟧.armed self.old) }
+            → FailsNext (⟦<SimDisk as Disk>⟧.fault_state self.old).struck (⟦<SimDisk as Logged>⟧.armed self.old)
+            → ⟦<SimDisk as Logged>⟧.armed self.new ≡ ⟦<SimDisk as Logged>⟧.armed self.old) }
     {
         self.calls = self.calls.saturating_add(1);
         let Ok(()) = self.history.note(first, sectors) else {
@@ -123,22 +123,22 @@ impl Disk for SimDisk {
             (⟦<SimDisk as Disk>⟧.facts self.new).content c) }
         ensures called { MakesCalls 1 Stays (⟦<SimDisk as Disk>⟧.facts self.old) (⟦<SimDisk as Disk>⟧.facts self.new)
             (⟦<SimDisk as Disk>⟧.fault_state self.old) (⟦<SimDisk as Disk>⟧.fault_state self.new) result }
-        ensures record { OnOk result
-            (⟦<SimDisk as Recorded>⟧.record self.new
+        ensures log { OnOk result
+            (⟦<SimDisk as Logged>⟧.log self.new
             ≡ more_synced (⟦<SimDisk as Disk>⟧.facts self.old).content
             (lent_piece (⟦<SimDisk as Disk>⟧.facts self.old).lent (⟦<SimDisk as Disk>⟧.facts self.old).content
-            ∷ []) (⟦<SimDisk as Recorded>⟧.record self.old)) }
-        ensures record_failed { OnErr result
-            (⟦<SimDisk as Recorded>⟧.record self.new ≡ ⟦<SimDisk as Recorded>⟧.record self.old) }
+            ∷ []) (⟦<SimDisk as Logged>⟧.log self.old)) }
+        ensures log_failed { OnErr result
+            (⟦<SimDisk as Logged>⟧.log self.new ≡ ⟦<SimDisk as Logged>⟧.log self.old) }
         ensures due { OnOk result
-            (FailsNext (⟦<SimDisk as Disk>⟧.fault_state self.old).struck (⟦<SimDisk as Recorded>⟧.armed self.old) → ⊥) }
+            (FailsNext (⟦<SimDisk as Disk>⟧.fault_state self.old).struck (⟦<SimDisk as Logged>⟧.armed self.old) → ⊥) }
         ensures early { OnErr result
-            (FailsNext (⟦<SimDisk as Disk>⟧.fault_state self.old).struck (⟦<SimDisk as Recorded>⟧.armed self.old)
+            (FailsNext (⟦<SimDisk as Disk>⟧.fault_state self.old).struck (⟦<SimDisk as Logged>⟧.armed self.old)
             ⊎ ((⟦<SimDisk as Disk>⟧.fault_state self.new).own
             ≡ counted (⟦<SimDisk as Disk>⟧.fault_state self.old).own 1)) }
         ensures counts { (FailsNext (⟦<SimDisk as Disk>⟧.fault_state self.old).struck
-            (⟦<SimDisk as Recorded>⟧.armed self.old) → ⊥)
-            → ⟦<SimDisk as Recorded>⟧.armed self.new ≡ one_call_on (⟦<SimDisk as Recorded>⟧.armed self.old) }
+            (⟦<SimDisk as Logged>⟧.armed self.old) → ⊥)
+            → ⟦<SimDisk as Logged>⟧.armed self.new ≡ one_call_on (⟦<SimDisk as Logged>⟧.armed self.old) }
     {
         self.calls = self.calls.saturating_add(1);
         if self.faults.strikes() {
@@ -170,10 +170,10 @@ impl Disk for SimDisk {
             (Passes (⟦<SimDisk as Disk>⟧.facts self.old) (⟦<SimDisk as Disk>⟧.facts self.new) Stays) }
         ensures no_call { NoCall (⟦<SimDisk as Disk>⟧.facts self.old) (⟦<SimDisk as Disk>⟧.facts self.new)
             (⟦<SimDisk as Disk>⟧.fault_state self.old) (⟦<SimDisk as Disk>⟧.fault_state self.new) }
-        ensures lends { Lends (λ out. map ⟦<SimLane as RecordedLane>⟧.record out.items)
-            (record { first = first; lanes = lanes; each = each }) (⟦<SimDisk as Recorded>⟧.record self.old)
-            (⟦<SimDisk as Recorded>⟧.record self.new)
-            (⟦<SimDisk as Recorded>⟧.armed self.old) (⟦<SimDisk as Recorded>⟧.armed self.new)
+        ensures lends { Lends (λ out. map ⟦<SimLane as Stateful>⟧.state out.items)
+            (record { first = first; lanes = lanes; each = each }) (⟦<SimDisk as Logged>⟧.log self.old)
+            (⟦<SimDisk as Logged>⟧.log self.new)
+            (⟦<SimDisk as Logged>⟧.armed self.old) (⟦<SimDisk as Logged>⟧.armed self.new)
             (⟦<SimDisk as Disk>⟧.fault_state self.old).struck result }
     {
         let loan = Loan {
@@ -208,13 +208,13 @@ impl Disk for SimDisk {
             (⟦<SimDisk as Disk>⟧.fault_state self.new)
             (lane_failures (map ⟦<SimLane as Lane>⟧.lane_facts lanes.items)) }
         ensures takes_back { TakesBack (⟦<SimDisk as Disk>⟧.facts self.old).lent
-            (map ⟦<SimLane as RecordedLane>⟧.record lanes.items)
-            (lane_failures (map ⟦<SimLane as Lane>⟧.lane_facts lanes.items)) (⟦<SimDisk as Recorded>⟧.record self.old)
-            (⟦<SimDisk as Recorded>⟧.record self.new)
-            (⟦<SimDisk as Recorded>⟧.armed self.old) (⟦<SimDisk as Recorded>⟧.armed self.new)
+            (map ⟦<SimLane as Stateful>⟧.state lanes.items)
+            (lane_failures (map ⟦<SimLane as Lane>⟧.lane_facts lanes.items)) (⟦<SimDisk as Logged>⟧.log self.old)
+            (⟦<SimDisk as Logged>⟧.log self.new)
+            (⟦<SimDisk as Logged>⟧.armed self.old) (⟦<SimDisk as Logged>⟧.armed self.new)
             (⟦<SimDisk as Disk>⟧.fault_state self.old) (⟦<SimDisk as Disk>⟧.fault_state self.new) }
-        ensures counts_lanes { CountsLanes (map ⟦<SimLane as RecordedLane>⟧.record lanes.items)
-            (⟦<SimDisk as Recorded>⟧.lane_calls self.old) (⟦<SimDisk as Recorded>⟧.lane_calls self.new) }
+        ensures counts_lanes { CountsLanes (map ⟦<SimLane as Stateful>⟧.state lanes.items)
+            (⟦<SimDisk as Logged>⟧.lane_calls self.old) (⟦<SimDisk as Logged>⟧.lane_calls self.new) }
     {
         let loan = self.loan;
         let failures = failures_of(&lanes);
@@ -245,8 +245,8 @@ impl Disk for SimDisk {
         ensures armed { ⟦<SimDisk as Disk>⟧.fault_state self.new
             ≡ record (⟦<SimDisk as Disk>⟧.fault_state self.old) { armed = armed_by fault } }
         ensures arms { ⟦<SimDisk as Disk>⟧.arms self.new fault }
-        ensures call { ⟦<SimDisk as Recorded>⟧.armed self.new ≡ Some fault }
-        ensures record { ⟦<SimDisk as Recorded>⟧.record self.new ≡ ⟦<SimDisk as Recorded>⟧.record self.old }
+        ensures call { ⟦<SimDisk as Logged>⟧.armed self.new ≡ Some fault }
+        ensures log { ⟦<SimDisk as Logged>⟧.log self.new ≡ ⟦<SimDisk as Logged>⟧.log self.old }
     {
         self.faults.armed = Some(fault);
     }

@@ -3,8 +3,8 @@ ghost use Rattle.std.specs.Prelude.{◌≡◌, ◌⊎◌, ◌≤◌, ◌<◌, �
 ghost use Rattle.disk.specs.Facts.{Content, lent_sectors};
 ghost use Rattle.simdisk.specs.WriteLog.{synced, synced_after, ranges, AgreesOutside, Untouched, Had};
 
-use crate::recorded::Recorded;
 use crate::sim::SimDisk;
+use crate::write_log::Logged;
 use disk::Disk;
 
 /// What a crash may leave, to the letter: each content that agrees with the one at the last sync
@@ -12,16 +12,16 @@ use disk::Disk;
 /// each moment since an earlier one. What is lent is among the ranges written.
 pub fn exactly_the_model(disk: &SimDisk)
     ensures now { (c : Content) → (⟦<SimDisk as Disk>⟧.facts disk.now).may_leave c
-        ↔ AgreesOutside (synced (⟦<SimDisk as Recorded>⟧.record disk.now))
-        (ranges (⟦<SimDisk as Recorded>⟧.record disk.now).written) c }
+        ↔ AgreesOutside (synced (⟦<SimDisk as Logged>⟧.log disk.now))
+        (ranges (⟦<SimDisk as Logged>⟧.log disk.now).written) c }
     ensures moment { (⟦<SimDisk as Disk>⟧.facts disk.now).moment
-        ≡ length (⟦<SimDisk as Recorded>⟧.record disk.now).past }
+        ≡ length (⟦<SimDisk as Logged>⟧.log disk.now).past }
     ensures since { (t : ℕ) (c : Content) → (⟦<SimDisk as Disk>⟧.facts disk.now).since t c
         ↔ ((⟦<SimDisk as Disk>⟧.facts disk.now).may_leave c
-        ⊎ Had (synced_after (take t (⟦<SimDisk as Recorded>⟧.record disk.now).past)
-        (⟦<SimDisk as Recorded>⟧.record disk.now).began)
-        (drop t (⟦<SimDisk as Recorded>⟧.record disk.now).past) c) }
+        ⊎ Had (synced_after (take t (⟦<SimDisk as Logged>⟧.log disk.now).past)
+        (⟦<SimDisk as Logged>⟧.log disk.now).began)
+        (drop t (⟦<SimDisk as Logged>⟧.log disk.now).past) c) }
     ensures lent { (k : ℕ) → (⟦<SimDisk as Disk>⟧.facts disk.now).lent.first ≤ k
         → k < (⟦<SimDisk as Disk>⟧.facts disk.now).lent.first + lent_sectors (⟦<SimDisk as Disk>⟧.facts disk.now).lent
-        → Untouched (ranges (⟦<SimDisk as Recorded>⟧.record disk.now).written) k → ⊥ }
+        → Untouched (ranges (⟦<SimDisk as Logged>⟧.log disk.now).written) k → ⊥ }
 {}

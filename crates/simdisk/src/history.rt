@@ -1,4 +1,4 @@
-//! The record of a disk's writes and syncs.
+//! What a disk in memory keeps of its write log.
 ghost use Rattle.std.specs.Prelude.{◌≡◌, length};
 ghost use Rattle.simdisk.specs.WriteLog.{ranges, synced_after, AreWithin};
 ghost use Rattle.simdisk.specs.Views.{pieces};

@@ -1,15 +1,15 @@
 //! A lane, which owns its sectors.
 ghost use Rattle.std.specs.Prelude.{◌≡◌, ◌≤◌, ◌+◌, ◌++◌, ◌∷◌, [], length, None, false, is_ok, OnOk, OnErr};
 ghost use Rattle.disk.specs.Facts.{Torn, Written, AreSectorsAt, Counts};
-ghost use Rattle.simdisk.specs.LaneRecords.{LaneCalled};
+ghost use Rattle.simdisk.specs.LaneStates.{LaneCalled};
 ghost use Rattle.simdisk.specs.WriteLog.{laid_over};
 ghost use Rattle.simdisk.specs.Views.{last_of, IsAsRead};
 
 use crate::faults::Faults;
 use crate::laid::overwrite;
-use crate::recorded::RecordedLane;
 use crate::remembered::Remembered;
 use crate::striking::failed;
+use crate::write_log::Stateful;
 use disk::{Fault, Lane, LaneCall, Sector};
 
 /// A lane of a [`SimDisk`](crate::SimDisk), which owns its sectors until the join.
@@ -96,10 +96,10 @@ impl Lane for SimLane {
         ensures calls { (⟦<SimLane as Lane>⟧.lane_facts self.new).calls
             ≡ (⟦<SimLane as Lane>⟧.lane_facts self.old).calls
             ++ LaneCall.Read first (length sectors.old) (is_ok result) ∷ [] }
-        ensures newest { (⟦<SimLane as RecordedLane>⟧.record self.new).newest
-            ≡ (⟦<SimLane as RecordedLane>⟧.record self.old).newest }
-        ensures called { LaneCalled (⟦<SimLane as RecordedLane>⟧.record self.old)
-            (⟦<SimLane as RecordedLane>⟧.record self.new) result }
+        ensures newest { (⟦<SimLane as Stateful>⟧.state self.new).newest
+            ≡ (⟦<SimLane as Stateful>⟧.state self.old).newest }
+        ensures called { LaneCalled (⟦<SimLane as Stateful>⟧.state self.old)
+            (⟦<SimLane as Stateful>⟧.state self.new) result }
     {
         self.calls = self.calls.saturating_add(1);
         let strikes = self.faults.strikes();
@@ -127,10 +127,10 @@ impl Lane for SimLane {
             ++ LaneCall.Write first (length sectors.now) (is_ok result) ∷ [] }
         ensures stays { OnErr result
             ((⟦<SimLane as Lane>⟧.lane_facts self.new).content ≡ (⟦<SimLane as Lane>⟧.lane_facts self.old).content) }
-        ensures newest { (⟦<SimLane as RecordedLane>⟧.record self.new).newest
-            ≡ laid_over (first, sectors.now) (⟦<SimLane as RecordedLane>⟧.record self.old).newest }
-        ensures called { LaneCalled (⟦<SimLane as RecordedLane>⟧.record self.old)
-            (⟦<SimLane as RecordedLane>⟧.record self.new) result }
+        ensures newest { (⟦<SimLane as Stateful>⟧.state self.new).newest
+            ≡ laid_over (first, sectors.now) (⟦<SimLane as Stateful>⟧.state self.old).newest }
+        ensures called { LaneCalled (⟦<SimLane as Stateful>⟧.state self.old)
+            (⟦<SimLane as Stateful>⟧.state self.new) result }
     {
         self.calls = self.calls.saturating_add(1);
         self.last.write(first, sectors);

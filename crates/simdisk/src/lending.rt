@@ -1,9 +1,9 @@
 //! How sectors are lent and taken back.
 ghost use Rattle.std.specs.Prelude.{◌≡◌, ◌≤◌, ◌<◌, ◌+◌, ◌*◌, ℕ, length, map, true, IsTrue, IfOk};
 ghost use Rattle.disk.specs.Facts.{Content, Handed, Joined, counted, lane_failures, lane_at};
-ghost use Rattle.simdisk.specs.Lanes.{lane_view, newest_view, lane_record, lane_view_of};
+ghost use Rattle.simdisk.specs.Lanes.{lane_view, newest_view, lane_state, lane_view_of};
 ghost use Rattle.simdisk.specs.Views.{last_of, IsAsRead};
-ghost use Rattle.simdisk.specs.LaneRecords.{AreLent, record_at, CountsLanes};
+ghost use Rattle.simdisk.specs.LaneStates.{AreLent, state_at, CountsLanes};
 
 use crate::faults::Faults;
 use crate::laid::overwrite;
@@ -32,7 +32,7 @@ pub(crate) fn lend(
     ensures handed { IfOk result (λ out. Handed (record { first = first; lanes = lanes; each = each }) content.now
         (map lane_view out.items)) }
     ensures lent { IfOk result (λ out. AreLent (record { first = first; lanes = lanes; each = each }) newest.now
-        faults.armed faults.cut (map lane_record out.items)) }
+        faults.armed faults.cut (map lane_state out.items)) }
 {
     let mut out = Vec::new(alloc);
     for lane in 0..lanes {
@@ -99,7 +99,7 @@ pub(crate) fn failures_of(lanes: &[SimLane]) -> u64
 
 /// How many calls were made of the lane of that number, where there is one.
 fn calls_of(lanes: &[SimLane], lane: usize) -> u64
-    ensures { result ≡ (record_at (map lane_record lanes.now) lane).calls }
+    ensures { result ≡ (state_at (map lane_state lanes.now) lane).calls }
 {
     match lanes.get(lane) {
         None => 0,
@@ -109,7 +109,7 @@ fn calls_of(lanes: &[SimLane], lane: usize) -> u64
 
 /// Counts the calls that were made of these lanes.
 pub(crate) fn count_calls(counts: &mut [u64; 4], lanes: &[SimLane])
-    ensures { CountsLanes (map lane_record lanes.now) counts.old counts.new }
+    ensures { CountsLanes (map lane_state lanes.now) counts.old counts.new }
 {
     for (i, count) in counts.iter_mut().enumerate() {
         *count = count.saturating_add(calls_of(lanes, i));

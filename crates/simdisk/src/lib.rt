@@ -1,5 +1,5 @@
 //! A disk in memory, which meets the whole contract of [`disk::Disk`] with nothing assumed. It
-//! keeps a record of all its writes and syncs, from which what a crash may leave is read to the
+//! keeps a log of all its writes and syncs, from which what a crash may leave is read to the
 //! letter, and it can be cut, with a fill that says what the crash leaves. docs/DISK.md has the model.
 #![tactic(auto)]
 
@@ -14,16 +14,16 @@ mod latest;
 mod lending;
 mod loan;
 mod made;
+mod noting;
 mod patch;
 mod poked;
-mod recorded;
-mod recording;
 mod remembered;
 mod sim;
 mod striking;
+mod write_log;
 
 pub use exactness::exactly_the_model;
 pub use fill::Fill;
 pub use lane::SimLane;
-pub use recorded::{Recorded, RecordedLane};
 pub use sim::SimDisk;
+pub use write_log::{Logged, Stateful};

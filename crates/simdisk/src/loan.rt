@@ -8,7 +8,7 @@ pub(crate) struct Loan {
     pub(crate) first: usize,
     pub(crate) lanes: usize,
     pub(crate) each: usize,
-    /// Where the record has them among what was written.
+    /// Where the write log has them among what was written.
     pub(crate) patch: usize,
 }
 

@@ -3,7 +3,7 @@ ghost use Rattle.std.specs.Prelude.{◌≡◌, ◌≢◌, ◌⊎◌, ◌/◌, �
 ghost use Rattle.std.specs.Simd.{first_chunks};
 ghost use Rattle.disk.specs.Facts.{IsFresh, IsLeft, Unchanged};
 ghost use Rattle.disk.specs.FaultState.{FaultArmed, CutArmed, no_fault, fault_state_left};
-ghost use Rattle.simdisk.specs.WriteLog.{synced, new_record};
+ghost use Rattle.simdisk.specs.WriteLog.{synced, new_log};
 ghost use Rattle.simdisk.specs.Views.{left_by_fill};
 
 use crate::faults::Faults;
@@ -12,8 +12,8 @@ use crate::history::History;
 use crate::latest::Latest;
 use crate::loan::Loan;
 use crate::patch::copy_of;
-use crate::recorded::Recorded;
 use crate::sim::SimDisk;
+use crate::write_log::Logged;
 use board_model::Refusal;
 use disk::{ArmedFault, Disk, Sector};
 use std::alloc::{AllocError, Global};
@@ -24,8 +24,8 @@ impl SimDisk {
     pub fn new(alloc: Global, bytes: &[u8]) -> Result<SimDisk, Refusal>
         ensures fresh { IfOk result (λ disk. IsFresh (first_chunks 512 (length bytes.now / 512) bytes.now)
             (⟦<SimDisk as Disk>⟧.facts disk)) }
-        ensures record { IfOk result (λ disk. ⟦<SimDisk as Recorded>⟧.record disk
-            ≡ new_record (first_chunks 512 (length bytes.now / 512) bytes.now)) }
+        ensures log { IfOk result (λ disk. ⟦<SimDisk as Logged>⟧.log disk
+            ≡ new_log (first_chunks 512 (length bytes.now / 512) bytes.now)) }
         ensures no_call { IfOk result (λ disk. ((⟦<SimDisk as Disk>⟧.facts disk).failures ≡ 0)
             × ((⟦<SimDisk as Disk>⟧.facts disk).calls ≡ 0)) }
         ensures no_fault { IfOk result (λ disk. ⟦<SimDisk as Disk>⟧.fault_state disk ≡ no_fault) }
@@ -45,8 +45,8 @@ impl SimDisk {
     pub fn blank(alloc: Global, sectors: usize) -> Result<SimDisk, AllocError>
         ensures fresh { IfOk result (λ disk. IsFresh (replicate sectors (replicate 512 0))
             (⟦<SimDisk as Disk>⟧.facts disk)) }
-        ensures record { IfOk result (λ disk. ⟦<SimDisk as Recorded>⟧.record disk
-            ≡ new_record (replicate sectors (replicate 512 0))) }
+        ensures log { IfOk result (λ disk. ⟦<SimDisk as Logged>⟧.log disk
+            ≡ new_log (replicate sectors (replicate 512 0))) }
         ensures no_call { IfOk result (λ disk. ((⟦<SimDisk as Disk>⟧.facts disk).failures ≡ 0)
             × ((⟦<SimDisk as Disk>⟧.facts disk).calls ≡ 0)) }
         ensures no_fault { IfOk result (λ disk. ⟦<SimDisk as Disk>⟧.fault_state disk ≡ no_fault) }
@@ -58,7 +58,7 @@ impl SimDisk {
     /// A disk of these sectors, all of them durable.
     fn holding(alloc: Global, content: Vec<Sector>) -> Result<SimDisk, AllocError>
         ensures fresh { IfOk result (λ disk. IsFresh content.items (⟦<SimDisk as Disk>⟧.facts disk)) }
-        ensures record { IfOk result (λ disk. ⟦<SimDisk as Recorded>⟧.record disk ≡ new_record content.items) }
+        ensures log { IfOk result (λ disk. ⟦<SimDisk as Logged>⟧.log disk ≡ new_log content.items) }
         ensures no_call { IfOk result (λ disk. ((⟦<SimDisk as Disk>⟧.facts disk).failures ≡ 0)
             × ((⟦<SimDisk as Disk>⟧.facts disk).calls ≡ 0)) }
         ensures no_fault { IfOk result (λ disk. ⟦<SimDisk as Disk>⟧.fault_state disk ≡ no_fault) }
@@ -84,12 +84,12 @@ impl SimDisk {
     pub fn after_cut(self, fill: Fill) -> SimDisk
         ensures left { IsLeft (⟦<SimDisk as Disk>⟧.facts self) (⟦<SimDisk as Disk>⟧.facts result) }
         ensures exact { (⟦<SimDisk as Disk>⟧.facts result).content
-            ≡ left_by_fill fill (synced (⟦<SimDisk as Recorded>⟧.record self))
-            (⟦<SimDisk as Recorded>⟧.record self).written }
-        ensures record { ⟦<SimDisk as Recorded>⟧.record result ≡ new_record (⟦<SimDisk as Disk>⟧.facts result).content }
+            ≡ left_by_fill fill (synced (⟦<SimDisk as Logged>⟧.log self))
+            (⟦<SimDisk as Logged>⟧.log self).written }
+        ensures log { ⟦<SimDisk as Logged>⟧.log result ≡ new_log (⟦<SimDisk as Disk>⟧.facts result).content }
         ensures fault_state { ⟦<SimDisk as Disk>⟧.fault_state result
             ≡ fault_state_left (⟦<SimDisk as Disk>⟧.fault_state self) }
-        ensures lane_calls { ⟦<SimDisk as Recorded>⟧.lane_calls result ≡ ⟦<SimDisk as Recorded>⟧.lane_calls self }
+        ensures lane_calls { ⟦<SimDisk as Logged>⟧.lane_calls result ≡ ⟦<SimDisk as Logged>⟧.lane_calls self }
     {
         let mut content = self.content;
         let mut latest = self.latest;
@@ -116,14 +116,14 @@ impl SimDisk {
     pub fn left(&self, fill: Fill) -> Result<SimDisk, AllocError>
         ensures left { IfOk result (λ disk. IsLeft (⟦<SimDisk as Disk>⟧.facts self.now) (⟦<SimDisk as Disk>⟧.facts disk)) }
         ensures exact { IfOk result (λ disk. (⟦<SimDisk as Disk>⟧.facts disk).content
-            ≡ left_by_fill fill (synced (⟦<SimDisk as Recorded>⟧.record self.now))
-            (⟦<SimDisk as Recorded>⟧.record self.now).written) }
-        ensures record { IfOk result (λ disk. ⟦<SimDisk as Recorded>⟧.record disk
-            ≡ new_record (⟦<SimDisk as Disk>⟧.facts disk).content) }
+            ≡ left_by_fill fill (synced (⟦<SimDisk as Logged>⟧.log self.now))
+            (⟦<SimDisk as Logged>⟧.log self.now).written) }
+        ensures log { IfOk result (λ disk. ⟦<SimDisk as Logged>⟧.log disk
+            ≡ new_log (⟦<SimDisk as Disk>⟧.facts disk).content) }
         ensures fault_state { IfOk result (λ disk. ⟦<SimDisk as Disk>⟧.fault_state disk
             ≡ fault_state_left (⟦<SimDisk as Disk>⟧.fault_state self.now)) }
-        ensures lane_calls { IfOk result (λ disk. ⟦<SimDisk as Recorded>⟧.lane_calls disk
-            ≡ ⟦<SimDisk as Recorded>⟧.lane_calls self.now) }
+        ensures lane_calls { IfOk result (λ disk. ⟦<SimDisk as Logged>⟧.lane_calls disk
+            ≡ ⟦<SimDisk as Logged>⟧.lane_calls self.now) }
     {
         let content = self.content_left(fill)?;
         let history = History::begun(self.alloc, &content)?;
@@ -146,8 +146,8 @@ impl SimDisk {
     /// What a crash now leaves by that fill.
     fn content_left(&self, fill: Fill) -> Result<Vec<Sector>, AllocError>
         ensures { IfOk result (λ content. content.items
-            ≡ left_by_fill fill (synced (⟦<SimDisk as Recorded>⟧.record self.now))
-            (⟦<SimDisk as Recorded>⟧.record self.now).written) }
+            ≡ left_by_fill fill (synced (⟦<SimDisk as Logged>⟧.log self.now))
+            (⟦<SimDisk as Logged>⟧.log self.now).written) }
     {
         let last = self.latest.over(&self.content);
         self.history.content_left(self.alloc, fill, last)
@@ -158,7 +158,7 @@ impl SimDisk {
         ensures facts { Unchanged (⟦<SimDisk as Disk>⟧.facts self.old) (⟦<SimDisk as Disk>⟧.facts self.new) }
         ensures armed { ⟦<SimDisk as Disk>⟧.fault_state self.new
             ≡ record (⟦<SimDisk as Disk>⟧.fault_state self.old) { armed = FaultArmed } }
-        ensures call { ⟦<SimDisk as Recorded>⟧.armed self.new ≡ Some (ArmedFault.FailAt call) }
+        ensures call { ⟦<SimDisk as Logged>⟧.armed self.new ≡ Some (ArmedFault.FailAt call) }
     {
         self.arm(ArmedFault::FailAt(call));
     }
@@ -168,7 +168,7 @@ impl SimDisk {
         ensures facts { Unchanged (⟦<SimDisk as Disk>⟧.facts self.old) (⟦<SimDisk as Disk>⟧.facts self.new) }
         ensures armed { ⟦<SimDisk as Disk>⟧.fault_state self.new
             ≡ record (⟦<SimDisk as Disk>⟧.fault_state self.old) { armed = CutArmed } }
-        ensures call { ⟦<SimDisk as Recorded>⟧.armed self.new ≡ Some (ArmedFault.CutAt call) }
+        ensures call { ⟦<SimDisk as Logged>⟧.armed self.new ≡ Some (ArmedFault.CutAt call) }
     {
         self.arm(ArmedFault::CutAt(call));
     }
@@ -178,7 +178,7 @@ impl SimDisk {
         ensures facts { Unchanged (⟦<SimDisk as Disk>⟧.facts self.old) (⟦<SimDisk as Disk>⟧.facts self.new) }
         ensures armed { ⟦<SimDisk as Disk>⟧.fault_state self.new
             ≡ record (⟦<SimDisk as Disk>⟧.fault_state self.old) { armed = FaultArmed } }
-        ensures call { ⟦<SimDisk as Recorded>⟧.armed self.new ≡ Some (ArmedFault.FailLane lane call) }
+        ensures call { ⟦<SimDisk as Logged>⟧.armed self.new ≡ Some (ArmedFault.FailLane lane call) }
     {
         self.arm(ArmedFault::FailLane(lane, call));
     }
@@ -189,12 +189,12 @@ impl SimDisk {
         ensures facts { Unchanged (⟦<SimDisk as Disk>⟧.facts self.old) (⟦<SimDisk as Disk>⟧.facts self.new) }
         ensures armed { ⟦<SimDisk as Disk>⟧.fault_state self.new
             ≡ record (⟦<SimDisk as Disk>⟧.fault_state self.old) { armed = CutArmed } }
-        ensures call { ⟦<SimDisk as Recorded>⟧.armed self.new ≡ Some (ArmedFault.CutLane lane call) }
+        ensures call { ⟦<SimDisk as Logged>⟧.armed self.new ≡ Some (ArmedFault.CutLane lane call) }
     {
         self.arm(ArmedFault::CutLane(lane, call));
     }
 
-    /// How often the disk failed by itself, which is where its record was refused memory. A disk
+    /// How often the disk failed by itself, which is where its write log was refused memory. A disk
     /// that a crash left goes on counting.
     pub fn refused(&self) -> u64
         ensures { result ≡ (⟦<SimDisk as Disk>⟧.fault_state self.now).own }
@@ -214,7 +214,7 @@ impl SimDisk {
     /// back: reads and writes, those that failed too. At 2^64 - 1 the count stays. A disk that a crash
     /// left goes on counting.
     pub fn lane_calls(&self, lane: usize) -> u64
-        ensures { result ≡ get_or (⟦<SimDisk as Recorded>⟧.lane_calls self.now) lane 0 }
+        ensures { result ≡ get_or (⟦<SimDisk as Logged>⟧.lane_calls self.now) lane 0 }
     {
         match self.lane_calls.get(lane) {
             None => 0,

@@ -3,16 +3,16 @@ ghost use Rattle.std.specs.Prelude.{◌≡◌, ◌≤◌, ◌<◌, ◌+◌, ◌-
 ghost use Rattle.std.specs.List.{flat_map};
 ghost use Rattle.disk.specs.Calls.{NoCall};
 ghost use Rattle.disk.specs.Facts.{Unchanged};
-ghost use Rattle.simdisk.specs.Pokes.{bytes_put, poked, parted, poked_record, PokeFits, StandsSo, StandsByEach};
+ghost use Rattle.simdisk.specs.Pokes.{bytes_put, poked, parted, poked_log, PokeFits, StandsSo, StandsByEach};
 ghost use Rattle.simdisk.specs.WriteLog.{synced};
 ghost use Rattle.simdisk.specs.Views.{piece, pieces};
 
 use crate::history::History;
 use crate::laid::overwrite;
 use crate::patch::Patch;
-use crate::recorded::Recorded;
 use crate::remembered::Remembered;
 use crate::sim::SimDisk;
+use crate::write_log::Logged;
 use disk::{Disk, Sector};
 use std::alloc::{AllocError, Global};
 
@@ -62,11 +62,11 @@ fn parts_of(alloc: Global, patches: &[Patch], sector: usize) -> Result<Vec<Patch
 impl History {
     ghost use Rattle.simdisk.specs.History.{log_of};
 
-    /// The record begins anew, with these bytes in that sector, and without what was written to it
+    /// The write log begins anew, with these bytes in that sector, and without what was written to it
     /// since the last sync. At `Err` nothing has changed.
     fn set_sector(&mut self, alloc: Global, sector: usize, bytes: Sector) -> Result<(), AllocError>
         requires { sector < length (synced (log_of self.old)) }
-        ensures record { OnOk result (log_of self.new ≡ poked_record sector bytes (log_of self.old)) }
+        ensures log { OnOk result (log_of self.new ≡ poked_log sector bytes (log_of self.old)) }
         ensures refused { OnErr result (log_of self.new ≡ log_of self.old) }
     {
         let written = parts_of(alloc, &self.written, sector)?;
@@ -80,7 +80,7 @@ impl History {
 impl SimDisk {
     /// Puts these bytes into a sector, from that byte of it on, past the firmware. A read then gives
     /// them, and the sector stands as it then reads, whatever a cut leaves of the others. It is no
-    /// call of the disk, and what is armed stays. The record begins anew.
+    /// call of the disk, and what is armed stays. The write log begins anew.
     ///
     /// Nothing changes where the bytes don't end in a sector that the disk has, nor where memory is
     /// refused.
@@ -91,23 +91,23 @@ impl SimDisk {
             (⟦<SimDisk as Disk>⟧.facts self.old) (⟦<SimDisk as Disk>⟧.facts self.new)) }
         ensures fills { OnOk result (PokeFits sector offset bytes.now (⟦<SimDisk as Disk>⟧.facts self.old).content
             → StandsByEach sector (poked sector offset bytes.now (⟦<SimDisk as Disk>⟧.facts self.old).content)
-            (⟦<SimDisk as Recorded>⟧.record self.old) (⟦<SimDisk as Recorded>⟧.record self.new)) }
-        ensures record { OnOk result (PokeFits sector offset bytes.now (⟦<SimDisk as Disk>⟧.facts self.old).content
-            → ⟦<SimDisk as Recorded>⟧.record self.new
-            ≡ poked_record sector (poked sector offset bytes.now (⟦<SimDisk as Disk>⟧.facts self.old).content)
-            (⟦<SimDisk as Recorded>⟧.record self.old)) }
+            (⟦<SimDisk as Logged>⟧.log self.old) (⟦<SimDisk as Logged>⟧.log self.new)) }
+        ensures log { OnOk result (PokeFits sector offset bytes.now (⟦<SimDisk as Disk>⟧.facts self.old).content
+            → ⟦<SimDisk as Logged>⟧.log self.new
+            ≡ poked_log sector (poked sector offset bytes.now (⟦<SimDisk as Disk>⟧.facts self.old).content)
+            (⟦<SimDisk as Logged>⟧.log self.old)) }
         ensures outside { (PokeFits sector offset bytes.now (⟦<SimDisk as Disk>⟧.facts self.old).content → ⊥)
             → IsOk result × Unchanged (⟦<SimDisk as Disk>⟧.facts self.old) (⟦<SimDisk as Disk>⟧.facts self.new)
-            × (⟦<SimDisk as Recorded>⟧.record self.new ≡ ⟦<SimDisk as Recorded>⟧.record self.old) }
+            × (⟦<SimDisk as Logged>⟧.log self.new ≡ ⟦<SimDisk as Logged>⟧.log self.old) }
         ensures refused { OnErr result
             (Unchanged (⟦<SimDisk as Disk>⟧.facts self.old) (⟦<SimDisk as Disk>⟧.facts self.new)
-            × (⟦<SimDisk as Recorded>⟧.record self.new ≡ ⟦<SimDisk as Recorded>⟧.record self.old)) }
+            × (⟦<SimDisk as Logged>⟧.log self.new ≡ ⟦<SimDisk as Logged>⟧.log self.old)) }
         ensures no_call { NoCall (⟦<SimDisk as Disk>⟧.facts self.old) (⟦<SimDisk as Disk>⟧.facts self.new)
             (⟦<SimDisk as Disk>⟧.fault_state self.old) (⟦<SimDisk as Disk>⟧.fault_state self.new) }
         ensures lent { (⟦<SimDisk as Disk>⟧.facts self.new).lent ≡ (⟦<SimDisk as Disk>⟧.facts self.old).lent }
         ensures as_long { length (⟦<SimDisk as Disk>⟧.facts self.new).content
             ≡ length (⟦<SimDisk as Disk>⟧.facts self.old).content }
-        ensures armed { ⟦<SimDisk as Recorded>⟧.armed self.new ≡ ⟦<SimDisk as Recorded>⟧.armed self.old }
+        ensures armed { ⟦<SimDisk as Logged>⟧.armed self.new ≡ ⟦<SimDisk as Logged>⟧.armed self.old }
     {
         if self.content.len() <= sector || 512 < offset || 512 - offset < bytes.len() {
             return Ok(());

@@ -12,7 +12,7 @@ use crate::loan::Loan;
 use disk::Sector;
 use std::alloc::Global;
 
-/// A disk in memory, which keeps a record of all its writes and syncs.
+/// A disk in memory, which keeps a log of all its writes and syncs.
 #[derive(Drop)]
 pub struct SimDisk {
     pub(crate) alloc: Global,

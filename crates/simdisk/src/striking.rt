@@ -2,8 +2,8 @@
 ghost use Rattle.std.specs.Prelude.{◌≡◌, ◌⊎◌, ◌↔◌, ◌<◌, map, true, false, None, IsTrue, IsFalse};
 ghost use Rattle.disk.specs.Facts.{counted};
 ghost use Rattle.simdisk.specs.Armings.{Strikes, Struck, Waits, FailsNext, one_call_on, cuts};
-ghost use Rattle.simdisk.specs.LaneRecords.{armed_in, record_at, counted_on, HasStruck, CameBack};
-ghost use Rattle.simdisk.specs.Lanes.{lane_record};
+ghost use Rattle.simdisk.specs.LaneStates.{armed_in, state_at, counted_on, HasStruck, CameBack};
+ghost use Rattle.simdisk.specs.Lanes.{lane_state};
 
 use crate::faults::Faults;
 use crate::lane::SimLane;
@@ -106,7 +106,7 @@ impl Faults {
         ensures none { failures ≡ 0 → (result ≡ 0) × Waits self.old self.new }
         ensures some { 0 < failures
             → ((result ≡ 0) × Strikes self.old self.new) ⊎ ((result ≡ 1) × Waits self.old self.new) }
-        ensures exact { CameBack self.old.armed self.old.cut (map lane_record lanes.now) failures self.new.armed
+        ensures exact { CameBack self.old.armed self.old.cut (map lane_state lanes.now) failures self.new.armed
             self.new.cut result }
     {
         if failures == 0 {
@@ -119,7 +119,7 @@ impl Faults {
     /// Takes over from the lane that has the fault how many calls are left to it.
     fn count_on(&mut self, lanes: &[SimLane])
         ensures waits { Waits self.old self.new }
-        ensures counted { self.new.armed ≡ counted_on self.old.armed (map lane_record lanes.now) }
+        ensures counted { self.new.armed ≡ counted_on self.old.armed (map lane_state lanes.now) }
     {
         match self.armed {
             Some(ArmedFault::FailLane(i, _)) => {
@@ -143,9 +143,9 @@ impl Faults {
         ensures strikes { IsTrue result → Strikes self.old self.new }
         ensures waits { IsFalse result → Waits self.old self.new }
         ensures dark { self.old.cut ≡ true → IsTrue result × (self.new ≡ self.old) }
-        ensures struck { self.old.cut ≡ false → HasStruck self.old.armed (map lane_record lanes.now)
+        ensures struck { self.old.cut ≡ false → HasStruck self.old.armed (map lane_state lanes.now)
             → IsTrue result × (self.new.armed ≡ None) × (self.new.cut ≡ cuts self.old.armed) }
-        ensures strange { self.old.cut ≡ false → (HasStruck self.old.armed (map lane_record lanes.now) → ⊥)
+        ensures strange { self.old.cut ≡ false → (HasStruck self.old.armed (map lane_state lanes.now) → ⊥)
             → IsFalse result × (self.new ≡ self.old) }
     {
         if self.cut {
@@ -168,7 +168,7 @@ impl Faults {
 
 /// What is armed in that lane, if there is one.
 fn armed_of(lanes: &[SimLane], lane: usize) -> Option<ArmedFault>
-    ensures { result ≡ (record_at (map lane_record lanes.now) lane).armed }
+    ensures { result ≡ (state_at (map lane_state lanes.now) lane).armed }
 {
     lanes.get(lane).and_then(|lane| lane.faults.armed)
 }

@@ -147,7 +147,7 @@ fn lend_and_join(rt: &impl Abort, disk: &mut SimDisk) -> bool
     }
 }
 
-/// `rt try --test --fail-alloc N` makes each growth of the record and of a split fail in turn.
+/// `rt try --test --fail-alloc N` makes each growth of the write log and of a split fail in turn.
 #[test]
 fn a_refused_growth_is_counted_and_changes_nothing(rt: HostRuntime) -> Result<(), Fail> {
     let Ok(mut disk) = SimDisk::blank(rt.alloc(), 4) else {

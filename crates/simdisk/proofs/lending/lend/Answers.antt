@@ -2,10 +2,10 @@ use Rattle.std.proofs.Common.{◌≡◌, ◌∙◌, ◌+◌, ◌*◌, ◌<◌, �
 use Rattle.std.proofs.lemmas.List.{map-append, places}
 use Rattle.std.proofs.lemmas.Grind.{common_steps}
 use Rattle.disk.specs.Facts.{Content, LaneFacts, sector}
-use Rattle.simdisk.specs.Lanes.{lane_view, lane_record}
+use Rattle.simdisk.specs.Lanes.{lane_view, lane_state}
 use Rattle.simdisk.specs.Views.{last_of}
 use Rattle.simdisk.specs.declared.lane.Last.{Last}
-use Rattle.simdisk.specs.LaneRecords.{LaneRecord, IsLent}
+use Rattle.simdisk.specs.LaneStates.{LaneState, IsLent}
 use Rattle.simdisk.proofs.Rows.{handed_more, lent_more}
 use Rattle.simdisk.proofs.lending.lend.Goals as goal
 
@@ -22,7 +22,7 @@ loop-lane-preserved c =
     let faults = c.of_lane-faults.result in
     let last = last_of c.in_ok-last_in.field-0 held in
     let x : LaneFacts = record { content = held; failures = 0; first = start; calls = c.no_call-log.result.calls } in
-    let y : LaneRecord = record { newest = last; armed = faults.armed; cut = faults.cut; calls = 0 } in
+    let y : LaneState = record { newest = last; armed = faults.armed; cut = faults.cut; calls = 0 } in
     let held_is : held ≡ take c.args.each (drop start c.args.content.now) = grind (arith, common_steps) in
     let in_step : c.stays_in_step-as_read.result ≡ true → written ≡ held =
     λ is. ap (λ (k : Content). take c.args.each (drop start k)) (c.requires.in_step (c.stays_in_step-as_read.ensures.now is)) ∙ sym held_is in
@@ -31,8 +31,8 @@ loop-lane-preserved c =
     let same : (j : ℕ) → j < c.args.each → sector held j ≡ sector c.args.content.now (start + j) = λ j lt. search (rules, places, arith) in
     let lent : IsLent c.args.first c.args.each n c.args.newest.now c.args.faults.armed c.args.faults.cut y = record { written = value; arms = c.of_lane-faults.ensures.0; power = c.of_lane-faults.ensures.1; none = refl } in
     let views : map lane_view c.push.new.self.items ≡ map lane_view c.loop-lane.out.items ++ x ∷ [] = search (rules, map-append) in
-    let records : map lane_record c.push.new.self.items ≡ map lane_record c.loop-lane.out.items ++ y ∷ [] = search (rules, map-append) in
+    let states : map lane_state c.push.new.self.items ≡ map lane_state c.loop-lane.out.items ++ y ∷ [] = search (rules, map-append) in
     record {
       handed = rw views (handed_more c.args.first n c.args.each c.args.content.now (map lane_view c.loop-lane.out.items) x c.loop-lane.invariant.handed refl long same refl c.no_call-log.ensures);
-      lent = rw records (lent_more c.args.first n c.args.each c.args.newest.now c.args.faults.armed c.args.faults.cut (map lane_record c.loop-lane.out.items) y c.loop-lane.invariant.lent lent);
+      lent = rw states (lent_more c.args.first n c.args.each c.args.newest.now c.args.faults.armed c.args.faults.cut (map lane_state c.loop-lane.out.items) y c.loop-lane.invariant.lent lent);
     }

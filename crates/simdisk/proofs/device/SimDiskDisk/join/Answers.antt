@@ -1,7 +1,7 @@
 use Rattle.std.proofs.Common.{◌≡◌, ◌∙◌, ℕ, List, length, map, ap, subst, arith, rules}
 use Rattle.disk.specs.Facts.{Content, Lent, Joined, counted, lane_at, lane_failures}
-use Rattle.simdisk.specs.Lanes.{lane_view, newest_view, lane_record}
-use Rattle.simdisk.specs.LaneRecords.{CameBack}
+use Rattle.simdisk.specs.Lanes.{lane_view, newest_view, lane_state}
+use Rattle.simdisk.specs.LaneStates.{CameBack}
 use Rattle.simdisk.specs.declared.lane.SimLane.{SimLane}
 use Rattle.simdisk.specs.History.{log_of}
 use Rattle.simdisk.specs.Latest.{latest_of}
@@ -59,9 +59,9 @@ returns-clause-takes_back c =
     let more = c.come_back-own.result in
     let failed : c.failures_of-failures.result ≡ counted 0 (lane_failures (map lane_view lanes)) = search rules in
     let own : c.saturating_add-self-2.result ≡ counted s.refused more = search rules in
-    let back : CameBack s.faults.armed s.faults.cut (map lane_record lanes) c.failures_of-failures.result c.come_back-own.new.self.armed c.come_back-own.new.self.cut more = search rules in
+    let back : CameBack s.faults.armed s.faults.cut (map lane_state lanes) c.failures_of-failures.result c.come_back-own.new.self.armed c.come_back-own.new.self.cut more = search rules in
     record {
       ranges = record { began = all.began; past = all.past; written = all.ranges };
       written = written_back (lent_of s.loan) lanes (newest (log_of s.history)) (newest (log_of c.take_newest.new.self)) (rw (s.newest, all.newest, c.over-last.ensures, c.deref-5.ensures.value) last);
-      faults = (more, own, subst (λ (n : ℕ). CameBack s.faults.armed s.faults.cut (map lane_record lanes) n c.come_back-own.new.self.armed c.come_back-own.new.self.cut more) failed back);
+      faults = (more, own, subst (λ (n : ℕ). CameBack s.faults.armed s.faults.cut (map lane_state lanes) n c.come_back-own.new.self.armed c.come_back-own.new.self.cut more) failed back);
     }

@@ -8,8 +8,8 @@ returns-clause-fresh c =
     c.in_ok-content.ensures.items_if_clones_equal (λ y h. ext_get_or 0 y (replicate 512 0) (h.long ∙ sym (length-replicate {A = ℕ} 512 0)) (λ i lt. h.at i 0 0 (rw (← h.long) lt))) in
     rw (← zeros) c.holding.ensures.fresh
 
-pub returns-clause-record : goal.returns-clause-record
-returns-clause-record c =
+pub returns-clause-log : goal.returns-clause-log
+returns-clause-log c =
     let zeros : c.in_ok-content.content.items ≡ replicate c.args.sectors (replicate 512 0) =
     c.in_ok-content.ensures.items_if_clones_equal (λ y h. ext_get_or 0 y (replicate 512 0) (h.long ∙ sym (length-replicate {A = ℕ} 512 0)) (λ i lt. h.at i 0 0 (rw (← h.long) lt))) in
-    rw (← zeros) c.holding.ensures.record
+    rw (← zeros) c.holding.ensures.log

@@ -4,7 +4,7 @@ use Rattle.disk.specs.Facts.{Content}
 use Rattle.simdisk.specs.declared.fill.Fill.TheVariants.{New}
 use Rattle.simdisk.specs.History.{log_of}
 use Rattle.simdisk.specs.Latest.{latest_of}
-use Rattle.simdisk.specs.Pokes.{bytes_put, poked, poked_record}
+use Rattle.simdisk.specs.Pokes.{bytes_put, poked, poked_log}
 use Rattle.simdisk.specs.WriteLog.{laid_over, synced}
 use Rattle.simdisk.proofs.Epochs.{fits_synced}
 use Rattle.simdisk.proofs.Parts.{fills_poked, agrees_poked, crash_poked}
@@ -21,7 +21,7 @@ invariant_of-self-2 c =
     let v = c.put_bytes.new.sector in
     let r = log_of s.history in
     let r' = log_of c.set_sector.new.self in
-    let anew : r' ≡ poked_record k v r = c.in_ok-set_sector.ensures.record in
+    let anew : r' ≡ poked_log k v r = c.in_ok-set_sector.ensures.log in
     let lt : k < length s.content.items = search rules in
     let old : k < length (synced r) = rw (← s.agrees.as_long) lt in
     let laid : c.overwrite.new.content.items ≡ laid_over (k, v ∷ []) s.content.items = c.overwrite.ensures.put in
@@ -43,7 +43,7 @@ returns-clause-stands c within =
     let r = log_of s.history in
     let r' = log_of c.set_sector.new.self in
     let is : c.put_bytes.new.sector ≡ poked k c.args.offset c.args.bytes.now s.content.items = read_so s.content.items k c.args.offset c.args.bytes.now c.index.result.now c.put_bytes.new.sector within.0 c.index.ensures c.put_bytes.ensures in
-    let anew : r' ≡ poked_record k (poked k c.args.offset c.args.bytes.now s.content.items) r = rw (← is) c.in_ok-set_sector.ensures.record in
+    let anew : r' ≡ poked_log k (poked k c.args.offset c.args.bytes.now s.content.items) r = rw (← is) c.in_ok-set_sector.ensures.log in
     record {
       content = rw (← is) c.overwrite.ensures.put;
       crash = crash_poked k (poked k c.args.offset c.args.bytes.now s.content.items) r r' anew (rw (← s.agrees.as_long) within.0);
@@ -56,5 +56,5 @@ returns-clause-fills c within =
     let r = log_of s.history in
     let r' = log_of c.set_sector.new.self in
     let is : c.put_bytes.new.sector ≡ poked k c.args.offset c.args.bytes.now s.content.items = read_so s.content.items k c.args.offset c.args.bytes.now c.index.result.now c.put_bytes.new.sector within.0 c.index.ensures c.put_bytes.ensures in
-    let anew : r' ≡ poked_record k (poked k c.args.offset c.args.bytes.now s.content.items) r = rw (← is) c.in_ok-set_sector.ensures.record in
+    let anew : r' ≡ poked_log k (poked k c.args.offset c.args.bytes.now s.content.items) r = rw (← is) c.in_ok-set_sector.ensures.log in
     fills_poked k (poked k c.args.offset c.args.bytes.now s.content.items) r r' anew (rw (← s.agrees.as_long) within.0) (fits_synced s.history)

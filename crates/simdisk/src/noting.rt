@@ -1,8 +1,8 @@
-//! How the record of writes and syncs grows.
+//! How the log of writes and syncs grows.
 ghost use Rattle.std.specs.Prelude.{◌≡◌, ◌≤◌, ◌<◌, ◌+◌, ◌*◌, ℕ, [], ◌∷◌, length, map, true, OnOk, OnErr, IfOk};
 ghost use Rattle.disk.specs.Facts.{Handed, Torn};
 ghost use Rattle.simdisk.specs.Views.{IsLatest, left_by_fill, pieces};
-ghost use Rattle.simdisk.specs.WriteLog.{new_record, more_written, more_synced, lent_piece, newest, replay, synced, ranges, AgreesOutside, AreWithin};
+ghost use Rattle.simdisk.specs.WriteLog.{new_log, more_written, more_synced, lent_piece, newest, replay, synced, ranges, AgreesOutside, AreWithin};
 
 use crate::faults::Faults;
 use crate::fill::Fill;
@@ -35,12 +35,12 @@ fn leave(content: &mut Vec<Sector>, written: &[Patch], fill: Fill, last: &[Secto
 impl History {
     ghost use Rattle.simdisk.specs.History.{log_of};
     ghost use Rattle.simdisk.specs.Views.{lent_of};
-    ghost use Rattle.simdisk.specs.Lanes.{lane_view, lane_record};
-    ghost use Rattle.simdisk.specs.LaneRecords.{AreLent};
+    ghost use Rattle.simdisk.specs.Lanes.{lane_view, lane_state};
+    ghost use Rattle.simdisk.specs.LaneStates.{AreLent};
 
-    /// The record of a disk that begins with these sectors.
+    /// The log of a disk that begins with these sectors.
     pub(crate) fn begun(alloc: Global, sectors: &[Sector]) -> Result<History, AllocError>
-        ensures { IfOk result (λ h. log_of h ≡ new_record sectors.now) }
+        ensures { IfOk result (λ h. log_of h ≡ new_log sectors.now) }
     {
         Ok(History {
             stood: copy_of(alloc, sectors)?,
@@ -117,7 +117,7 @@ impl History {
         requires long { length content.now ≡ length (synced (log_of self.old)) }
         ensures handed { IfOk result (λ out. Handed (lent_of loan) content.now (map lane_view out.items)) }
         ensures lent { IfOk result (λ out. AreLent (lent_of loan) last.now faults.armed faults.cut
-            (map lane_record out.items)) }
+            (map lane_state out.items)) }
         ensures noted { OnOk result
             (log_of self.new ≡ more_written (lent_piece (lent_of loan) last.now) (log_of self.old)) }
         ensures refused { OnErr result (log_of self.new ≡ log_of self.old) }
@@ -165,12 +165,12 @@ impl History {
         Ok(content)
     }
 
-    /// The record of the disk that a crash leaves by that fill, where those sectors would stand had each
+    /// The log of the disk that a crash leaves by that fill, where those sectors would stand had each
     /// write gone through.
     pub(crate) fn left(self, alloc: Global, fill: Fill, last: &[Sector]) -> History
         requires { last.now ≡ newest (log_of self) }
-        ensures record { log_of result
-            ≡ new_record (left_by_fill fill (synced (log_of self)) (pieces self.written.items)) }
+        ensures log { log_of result
+            ≡ new_log (left_by_fill fill (synced (log_of self)) (pieces self.written.items)) }
         ensures content { result.stood.items
             ≡ left_by_fill fill (synced (log_of self)) (pieces self.written.items) }
         ensures as_long { length result.stood.items ≡ length (synced (log_of self)) }
