@@ -20,7 +20,7 @@ use Rattle.board.specs.Boots.{boot_refusal, PayloadsFit}
 use Rattle.board.specs.Moments.{commands_by}
 use Rattle.board.specs.PowersOn.{IsUnpowered}
 use Rattle.board.specs.Unbooted.{LeavesLife}
-use Rattle.receipts.specs.Settled.{AreReceiptsOf}
+use Rattle.receipts.specs.Closed.{AreReceiptsOf}
 use Rattle.shared_store.specs.Noted.{boot_told, entries_in}
 use Rattle.hart_threads.specs.Threads.{ends_life}
 use Rattle.board_console.specs.Dialogues.{DialogueEnds, Talks, dialogue_ends}

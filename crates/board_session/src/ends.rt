@@ -79,7 +79,7 @@ pub(crate) fn disk_of<D: Disk + Drop, J: Journal>(
     gather_loops(&mut whole, loops);
     gather_parts(&mut whole, parts);
     gather_last(&mut whole, console, boot);
-    whole.settle().into_disk()
+    whole.close().into_disk()
 }
 
 /// The disk of a store of a life that ends where the boot left it.

@@ -153,7 +153,7 @@ fn driven_as<J: Journal + Send + Sync, R: Threads + Wait + Sync>(
     } = parts;
     let (mut whole, _boot) = Unshared::<SimDisk, J>::new(store, book);
     let Ok(given) = whole.hand_out_all(alloc, harts.len()) else {
-        return (false, whole.settle().into_disk());
+        return (false, whole.close().into_disk());
     };
     let doze = bus.doze;
     let bus = Mutex::new(bus);
@@ -180,5 +180,5 @@ fn driven_as<J: Journal + Send + Sync, R: Threads + Wait + Sync>(
         |()| (),
     );
     let all = done.is_ok();
-    (all, store.into_inner().unshare().settle().into_disk())
+    (all, store.into_inner().unshare().close().into_disk())
 }

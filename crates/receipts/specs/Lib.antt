@@ -1,3 +1,3 @@
 pub mod Books
-pub mod Settled
+pub mod Closed
 pub mod Views

@@ -3,7 +3,7 @@
 ghost use Rattle.std.specs.Prelude.{◌≡◌, ℕ, suc, ◌<◌, [], ◌∷◌, IfOk, length, drop};
 ghost use Rattle.tallies.specs.Sums.{total};
 ghost use Rattle.receipts.specs.Books.{Each, keeper_view, fresh_from, first_of, entries_of, told_after, is_of, IsPart};
-ghost use Rattle.receipts.specs.Settled.{AreStanding, AreReceiptsOf, told_in};
+ghost use Rattle.receipts.specs.Closed.{AreStanding, AreReceiptsOf, told_in};
 
 use crate::journal::Journal;
 use crate::views::BookView;
@@ -234,7 +234,7 @@ impl<J: Journal> Book<J> {
 
     /// Ends the book: the receipts of its keeper's parts stand in the journal, and where they are all parts that
     /// there are, their receipts are those of the journal's entries, one for each.
-    pub fn settle(&self, keeper: Keeper<J>)
+    pub fn close(&self, keeper: Keeper<J>)
         ensures told { AreStanding (entries_of keeper.log) (told_in keeper.parts) }
         ensures all { length keeper.parts ≡ J.parts → AreReceiptsOf (entries_of keeper.log) (told_in keeper.parts) }
     {

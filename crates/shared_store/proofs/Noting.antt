@@ -9,7 +9,7 @@ use Rattle.board_model.specs.declared.durable.Entry.{Entry}
 use Rattle.board_model.specs.declared.durable.Entry.TheVariants as entries
 use Rattle.tallies.specs.Logs.{Log}
 use Rattle.receipts.specs.Books.{entries_of}
-use Rattle.receipts.proofs.Settles.{length_journal}
+use Rattle.receipts.proofs.Closing.{length_journal}
 use Rattle.shared_store.specs.Noted.{entry_in, entries_in}
 
 pub entry_of_command : (c : Command) → entry_in (change_of c) ≡ entries.Command c

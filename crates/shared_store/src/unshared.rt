@@ -3,7 +3,7 @@
 ghost use Rattle.std.specs.Prelude.{◌≡◌, ◌≤◌, ◌<◌, ◌+◌, [], ◌∷◌, true, length, All, IfOk, IfErr, vec_len};
 ghost use Rattle.store.specs.Views.{size_of_store, found_state, journal_of, receipts};
 ghost use Rattle.receipts.specs.Books.{entries_of};
-ghost use Rattle.receipts.specs.Settled.{AreStanding, AreReceiptsOf, told_in};
+ghost use Rattle.receipts.specs.Closed.{AreStanding, AreReceiptsOf, told_in};
 ghost use Rattle.receipts.specs.Views.{id_of, parts_of};
 ghost use Rattle.store.specs.Taken.{are_taken};
 ghost use Rattle.shared_store.specs.Legal.{BeginsWith, IsNamed};
@@ -122,7 +122,7 @@ impl<D: Disk + Drop, J: Journal> Unshared<D, J> {
     /// The store, whose life ends here. What the parts that are back were told stands in its journal, each
     /// command at the place of its receipt; and where all parts are back, their receipts are those of the journal's
     /// commands, one for each.
-    pub fn settle(self) -> Store<D>
+    pub fn close(self) -> Store<D>
         ensures named { IsNamed J.found J.size result }
         ensures issued { BeginsWith J.issued (journal_of result) }
         ensures same { result ≡ inside self }
@@ -136,7 +136,7 @@ impl<D: Disk + Drop, J: Journal> Unshared<D, J> {
             book,
             keeper,
         } = self;
-        book.settle(keeper);
+        book.close(keeper);
         store
     }
 }

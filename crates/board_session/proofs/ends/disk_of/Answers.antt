@@ -2,7 +2,7 @@ use Rattle.std.proofs.Common.{◌≡◌, List, None, length, refl, ap, subst, ar
 use Rattle.board_model.specs.Durable.{DurableState, fold, refusal_of}
 use Rattle.board_model.specs.Shapes.{Size}
 use Rattle.board.specs.Unbooted.{LeavesLife}
-use Rattle.receipts.specs.Settled.{AreReceiptsOf, told_in}
+use Rattle.receipts.specs.Closed.{AreReceiptsOf, told_in}
 use Rattle.receipts.specs.declared.views.PartView.{PartView}
 use Rattle.shared_store.specs.Noted.{entries_in}
 use Rattle.shared_store.specs.Views.{parts_with}
@@ -13,9 +13,9 @@ use Rattle.board_session.proofs.ends.disk_of.Goals as goal
 
 pub returns-clause-left : goal.returns-clause-left
 returns-clause-left g c =
-    let store = c.settle.result in
+    let store = c.close.result in
     let o = c.into_disk.ensures in
-    let named = c.settle.ensures.named in
+    let named = c.close.ensures.named in
     let disk = g.D.Disk.facts c.into_disk.result in
     let size = g.J.Journal.size in
     let now = fold g.J.Journal.found (journal_of store) in
@@ -30,11 +30,11 @@ returns-clause-left g c =
     let long = ap (λ (ps : List PartView). length ps) last in
     let all = c.requires.all in
     let count : length (parts_with c.gather_last.new.whole) ≡ g.J.Journal.parts = omega (arith, long, many, all) in
-    let receipts = subst (λ (ps : List PartView). AreReceiptsOf (entries_in (journal_of store)) (told_in ps)) last (c.settle.ensures.all count) in
+    let receipts = subst (λ (ps : List PartView). AreReceiptsOf (entries_in (journal_of store)) (told_in ps)) last (c.close.ensures.all count) in
     record {
       journal = journal_of store;
       acknowledged = acknowledged size g.J.Journal.issued (journal_of store) c.args.boot c.args.console ds c.gather_parts.ensures.back many c.requires.boot receipts;
-      begun = begins_so g.J.Journal.issued (journal_of store) c.settle.ensures.issued;
+      begun = begins_so g.J.Journal.issued (journal_of store) c.close.ensures.issued;
       taken = named.life.taken;
       doubt = doubt_of store;
       left = left';

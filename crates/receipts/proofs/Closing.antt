@@ -10,7 +10,7 @@ use Rattle.board_model.specs.declared.durable.Entry.{Entry}
 use Rattle.receipts.specs.declared.views.PartView.{PartView}
 use Rattle.receipts.specs.Books.{Each, entries_of, told_by, is_of, IsPart}
 use Rattle.receipts.proofs.Keeps.{is_of_other, is_of_same}
-use Rattle.receipts.specs.Settled.{StandsIn, AreStanding, AreReceiptsOf, told_in}
+use Rattle.receipts.specs.Closed.{StandsIn, AreStanding, AreReceiptsOf, told_in}
 
 pub length_journal : (l : Log Entry) → length (entries_of l) ≡ length l
 length_journal [] = refl
