@@ -66,26 +66,26 @@ replay_outside (p ∷ ps) c k fits u =
 pub agrees_replay : (ps : List Piece) (stood : Content) → AreWithin (length stood) (ranges ps) → AgreesOutside stood (ranges ps) (replay ps stood)
 agrees_replay ps stood fits = record { as_long = length_replay ps stood fits; same = λ k u. replay_outside ps stood k fits u }
 
--- to fill or settle a piece leaves its range
+-- to fill or copy a piece leaves its range
 pub ranges_filled : (bytes : List ℕ) (ps : List Piece) → ranges (map (filled bytes) ps) ≡ ranges ps
 ranges_filled bytes [] = refl
 ranges_filled bytes (p ∷ ps) =
     ap (λ (n : ℕ). (p.0, n) ∷ ranges (map (filled bytes) ps)) (length-replicate (length p.1) bytes) ∙ ap (λ (rs : List (ℕ × ℕ)). (p.0, length p.1) ∷ rs) (ranges_filled bytes ps)
 
-pub length-settled : (now : Content) (p : Piece) → p.0 + length p.1 ≤ length now → length (piece_in now p).1 ≡ length p.1
-length-settled now p within = length-take-le (length p.1) (drop p.0 now) (omega (arith, within, length-drop p.0 now))
+pub length-copied : (now : Content) (p : Piece) → p.0 + length p.1 ≤ length now → length (piece_in now p).1 ≡ length p.1
+length-copied now p within = length-take-le (length p.1) (drop p.0 now) (omega (arith, within, length-drop p.0 now))
 
-pub ranges_settled : (now : Content) (ps : List Piece) → AreWithin (length now) (ranges ps) → ranges (map (piece_in now) ps) ≡ ranges ps
-ranges_settled now [] fits = refl
-ranges_settled now (p ∷ ps) fits =
-    ap (λ (n : ℕ). (p.0, n) ∷ ranges (map (piece_in now) ps)) (length-settled now p (fits_here (length now) p ps fits))
-    ∙ ap (λ (rs : List (ℕ × ℕ)). (p.0, length p.1) ∷ rs) (ranges_settled now ps (fits_rest (length now) p ps fits))
+pub ranges_copied : (now : Content) (ps : List Piece) → AreWithin (length now) (ranges ps) → ranges (map (piece_in now) ps) ≡ ranges ps
+ranges_copied now [] fits = refl
+ranges_copied now (p ∷ ps) fits =
+    ap (λ (n : ℕ). (p.0, n) ∷ ranges (map (piece_in now) ps)) (length-copied now p (fits_here (length now) p ps fits))
+    ∙ ap (λ (rs : List (ℕ × ℕ)). (p.0, length p.1) ∷ rs) (ranges_copied now ps (fits_rest (length now) p ps fits))
 
 -- pieces as they stand in a content, laid over one that is the same outside them, give that content
-settled_onto : (now : Content) (ps : List Piece) (c : Content) → length c ≡ length now → AreWithin (length now) (ranges ps) → ((k : ℕ) → Untouched (ranges ps) k → sector c k ≡ sector now k)
+copied_onto : (now : Content) (ps : List Piece) (c : Content) → length c ≡ length now → AreWithin (length now) (ranges ps) → ((k : ℕ) → Untouched (ranges ps) k → sector c k ≡ sector now k)
     → replay (map (piece_in now) ps) c ≡ now
-settled_onto now [] c long fits same = ext_get_or [] c now long (λ k lt. same k tt)
-settled_onto now (p ∷ ps) c long fits same = settled_onto now ps (laid_over q c) (length-put q.0 q.1 c within ∙ long) (fits_rest (length now) p ps fits) (λ k u. here k u)
+copied_onto now [] c long fits same = ext_get_or [] c now long (λ k lt. same k tt)
+copied_onto now (p ∷ ps) c long fits same = copied_onto now ps (laid_over q c) (length-put q.0 q.1 c within ∙ long) (fits_rest (length now) p ps fits) (λ k u. here k u)
   where
     q : Piece
     q = piece_in now p
@@ -94,7 +94,7 @@ settled_onto now (p ∷ ps) c long fits same = settled_onto now ps (laid_over q 
     inside = fits_here (length now) p ps fits
 
     size : length q.1 ≡ length p.1
-    size = length-settled now p inside
+    size = length-copied now p inside
 
     within : q.0 + length q.1 ≤ length c
     within = rw (size, long) inside
@@ -111,8 +111,8 @@ settled_onto now (p ∷ ps) c long fits same = settled_onto now ps (laid_over q 
         middle : (k : ℕ) → p.0 ≤ k → k < p.0 + length p.1 → sector q.1 (k - p.0) ≡ sector now k
         middle k le lt = search (rules, places)
 
-pub replay_settled : (stood now : Content) (ps : List Piece) → AgreesOutside stood (ranges ps) now → AreWithin (length stood) (ranges ps) → replay (map (piece_in now) ps) stood ≡ now
-replay_settled stood now ps agrees fits = settled_onto now ps stood (sym agrees.as_long) (rw agrees.as_long fits) (λ k u. sym (agrees.same k u))
+pub replay_copied : (stood now : Content) (ps : List Piece) → AgreesOutside stood (ranges ps) now → AreWithin (length stood) (ranges ps) → replay (map (piece_in now) ps) stood ≡ now
+replay_copied stood now ps agrees fits = copied_onto now ps stood (sym agrees.as_long) (rw agrees.as_long fits) (λ k u. sym (agrees.same k u))
 
 -- a range more
 pub fits_push : (n : ℕ) (ps : List Piece) (p : Piece) → AreWithin n (ranges ps) → p.0 + length p.1 ≤ n → AreWithin n (ranges (ps ++ p ∷ []))

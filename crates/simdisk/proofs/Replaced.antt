@@ -7,7 +7,7 @@ use Rattle.simdisk.specs.WriteLog.{Piece, laid_over, replay, piece_in, range, ra
 use Rattle.simdisk.specs.Views.{IsLatest, piece, pieces}
 use Rattle.simdisk.specs.declared.patch.Patch.{Patch}
 use Rattle.simdisk.proofs.Walks.{range_read}
-use Rattle.simdisk.proofs.Pieces.{length-put, put_low, put_mid, put_high, fits_here, fits_rest, length_replay, length-settled, replay_outside}
+use Rattle.simdisk.proofs.Pieces.{length-put, put_low, put_mid, put_high, fits_here, fits_rest, length_replay, length-copied, replay_outside}
 
 -- two contents with the same in a sector, if it is outside of these pieces, have the same there after them
 replay_outside_same : (ps : List Piece) (c d : Content) (k : ℕ) → length d ≡ length c → AreWithin (length c) (ranges ps) → (Untouched (ranges ps) k → sector d k ≡ sector c k)
@@ -127,8 +127,8 @@ torn_nothing first n c now none torn = ext_get_or [] now c torn.as_long (λ k lt
   | inr le ↦ torn.after k (omega (arith, le, none))
 ])
 
-pub range_settled : (now : Content) (x new : Patch) → piece new ≡ piece_in now (piece x) → x.first + x.count ≤ length now → range (piece new) ≡ range (piece x)
-range_settled now x new is within = ap range is ∙ ap (λ (n : ℕ). (x.first, n)) (length-settled now (piece x) (rw x.long within))
+pub range_copied : (now : Content) (x new : Patch) → piece new ≡ piece_in now (piece x) → x.first + x.count ≤ length now → range (piece new) ≡ range (piece x)
+range_copied now x new is within = ap range is ∙ ap (λ (n : ℕ). (x.first, n)) (length-copied now (piece x) (rw x.long within))
 
 -- the patch at that place, as it stands in that content
 pub newest_retaken : (patches : List Patch) (i : ℕ) (x new : Patch) (first n : ℕ) (s now : Content) → i < length patches → x ≡ get_or patches i x → AreWithin (length s) (ranges (pieces patches))

@@ -4,7 +4,7 @@ use Rattle.std.proofs.lemmas.List.{map-append, take-append-le, drop-append-le, t
 use Rattle.disk.specs.Facts.{Content, Facts, Lent, LeavesAfter, Passes, Stays, Torn}
 use Rattle.simdisk.specs.WriteLog.{Piece, WriteLog, replay, piece_in, range, ranges, synced_after, more_written, more_synced, Untouched, AgreesOutside, AreWithin, Had, sim_facts}
 use Rattle.simdisk.proofs.Ranges.{agrees_push, crash_write, crash_sync}
-use Rattle.simdisk.proofs.Pieces.{ranges_settled}
+use Rattle.simdisk.proofs.Pieces.{ranges_copied}
 
 had_push : (stood : Content) (past : List (List Piece)) (e : List Piece) (c : Content) → Had stood past c → Had stood (past ++ e ∷ []) c
 had_push stood [] e c had = absurd had
@@ -96,7 +96,7 @@ passes_sync now stood stood' r r' f g i j l next more is stood_so agrees fits fe
     epoch = map (piece_in now) r.written
 
     same : ranges (map (piece_in now) r.written) ≡ ranges r.written
-    same = ranges_settled now r.written (rw agrees.as_long fits)
+    same = ranges_copied now r.written (rw agrees.as_long fits)
 
     began : ℕ → Content
     began t = synced_after (take t r.past) r.began

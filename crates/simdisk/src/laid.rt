@@ -18,13 +18,13 @@ pub(crate) fn overwrite(content: &mut Vec<Sector>, first: usize, sectors: &[Sect
 
 /// Takes over from the content what stands in the sectors of these patches.
 #[tactic(auto, using(crate::proofs::Pieces::length_replay))]
-pub(crate) fn settle(stood: &mut Vec<Sector>, patches: &[Patch], content: &[Sector])
+pub(crate) fn copy_patches(stood: &mut Vec<Sector>, patches: &[Patch], content: &[Sector])
     requires as_long { length content.now ≡ length stood.old.items }
     requires fits { AreWithin (length stood.old.items) (ranges (pieces patches.now)) }
     ensures { stood.new.items ≡ replay (map (piece_in content.now) (pieces patches.now)) stood.old.items }
 {
     for patch in patches {
-        patch.settle(stood, content);
+        patch.copy(stood, content);
     }
 }
 

@@ -7,7 +7,7 @@ ghost use Rattle.simdisk.specs.WriteLog.{new_log, more_written, more_synced, len
 use crate::faults::Faults;
 use crate::fill::Fill;
 use crate::history::History;
-use crate::laid::{alternating, fill_patches, settle};
+use crate::laid::{alternating, copy_patches, fill_patches};
 use crate::lane::SimLane;
 use crate::lending::lend;
 use crate::loan::Loan;
@@ -70,7 +70,7 @@ impl History {
         ensures synced { synced (log_of self.new) ≡ content.now }
     {
         self.past.sync(&self.written, content);
-        settle(&mut self.stood, &self.written, content);
+        copy_patches(&mut self.stood, &self.written, content);
         self.written = next;
     }
 

@@ -33,7 +33,7 @@ impl Patch {
     }
 
     /// Takes over from that content what stands in its sectors.
-    pub(crate) fn settle(&self, stood: &mut Vec<Sector>, content: &[Sector])
+    pub(crate) fn copy(&self, stood: &mut Vec<Sector>, content: &[Sector])
         requires as_long { length content.now ≡ length stood.old.items }
         requires within { self.now.first + self.now.count ≤ length content.now }
         ensures put { stood.new.items ≡ laid_over (piece_in content.now (piece self.now)) stood.old.items }

@@ -4,7 +4,7 @@ use Rattle.simdisk.specs.History.{log_of}
 use Rattle.simdisk.specs.WriteLog.{Piece, piece_in, replay, synced, synced_after}
 use Rattle.simdisk.specs.Views.{pieces}
 use Rattle.simdisk.proofs.Epochs.{fits_synced}
-use Rattle.simdisk.proofs.Pieces.{synced_push, replay_settled}
+use Rattle.simdisk.proofs.Pieces.{synced_push, replay_copied}
 use Rattle.simdisk.proofs.history.History.sync.Goals as goal
 
 -- what stands after an epoch more
@@ -12,12 +12,12 @@ epoch_more : (past past' : List (List Piece)) (began began' stood : Content) (ep
 epoch_more past past' began began' stood epoch same more is =
     ap (λ (c : Content). synced_after past' c) same ∙ ap (λ (es : List (List Piece)). synced_after es began) more ∙ synced_push past epoch began ∙ ap (λ (c : Content). replay epoch c) is
 
-pub settle-requires-clause-as_long : goal.settle-requires-clause-as_long
-settle-requires-clause-as_long c =
+pub copy_patches-requires-clause-as_long : goal.copy_patches-requires-clause-as_long
+copy_patches-requires-clause-as_long c =
     c.requires.agrees.as_long ∙ ap (λ (k : Content). length k) c.args.self.now.stood_so
 
-pub settle-requires-clause-fits : goal.settle-requires-clause-fits
-settle-requires-clause-fits c =
+pub copy_patches-requires-clause-fits : goal.copy_patches-requires-clause-fits
+copy_patches-requires-clause-fits c =
     rw c.deref-2.ensures.value c.args.self.now.fits
 
 pub invariant_of-self : goal.invariant_of-self
@@ -26,8 +26,8 @@ invariant_of-self c =
     let now = c.args.content.now in
     let past = c.sync.ensures in
     let epoch = map (piece_in now) (pieces s.written.items) in
-    let laid : c.settle.new.stood.items ≡ replay epoch s.stood.items = rw (← c.deref-2.ensures.value) c.settle.ensures in
-    let all : replay epoch s.stood.items ≡ now = ap (λ (k : Content). replay epoch k) (sym s.stood_so) ∙ replay_settled (synced (log_of s)) now (pieces s.written.items) c.requires.agrees (fits_synced s) in
+    let laid : c.copy_patches.new.stood.items ≡ replay epoch s.stood.items = rw (← c.deref-2.ensures.value) c.copy_patches.ensures in
+    let all : replay epoch s.stood.items ≡ now = ap (λ (k : Content). replay epoch k) (sym s.stood_so) ∙ replay_copied (synced (log_of s)) now (pieces s.written.items) c.requires.agrees (fits_synced s) in
     record {
       stood_so = epoch_more s.past.epochs c.sync.new.self.epochs s.past.sectors c.sync.new.self.sectors s.stood.items epoch past.0 (rw (← c.deref.ensures.value) past.1) s.stood_so ∙ sym laid;
       fits = rw (laid ∙ all, c.requires.agrees.as_long) c.requires.fits;
@@ -40,4 +40,4 @@ returns-clause-synced c =
     let past = c.sync.ensures in
     let epoch = map (piece_in now) (pieces s.written.items) in
     epoch_more s.past.epochs c.sync.new.self.epochs s.past.sectors c.sync.new.self.sectors (synced (log_of s)) epoch past.0 (rw (← c.deref.ensures.value) past.1) refl
-    ∙ replay_settled (synced (log_of s)) now (pieces s.written.items) c.requires.agrees (fits_synced s)
+    ∙ replay_copied (synced (log_of s)) now (pieces s.written.items) c.requires.agrees (fits_synced s)

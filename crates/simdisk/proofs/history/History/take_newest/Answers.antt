@@ -6,7 +6,7 @@ use Rattle.simdisk.specs.WriteLog.{range, ranges, synced, newest}
 use Rattle.simdisk.specs.Views.{piece, pieces}
 use Rattle.simdisk.proofs.Epochs.{fits_synced, length_newest}
 use Rattle.simdisk.proofs.Notes.{ranges_set}
-use Rattle.simdisk.proofs.Replaced.{newest_retaken, range_settled, torn_nothing}
+use Rattle.simdisk.proofs.Replaced.{newest_retaken, range_copied, torn_nothing}
 use Rattle.simdisk.proofs.Walks.{fits_read}
 use Rattle.simdisk.proofs.history.History.take_newest.Goals as goal
 
@@ -27,7 +27,7 @@ invariant_of-self c =
     let within : x.first + x.count ≤ length c.args.last.now =
     omega (arith, c.requires.torn.as_long, length_newest s, fits_read (length (synced (log_of s))) s.written.items c.args.loan.patch x less c.index_mut.ensures.value (fits_synced s)) in
     let same : ranges (pieces (set s.written.items c.args.loan.patch new)) ≡ ranges (pieces s.written.items) =
-    ranges_set s.written.items c.args.loan.patch x new less c.index_mut.ensures.value (range_settled c.args.last.now x new c.retake.ensures within) in
+    ranges_set s.written.items c.args.loan.patch x new less c.index_mut.ensures.value (range_copied c.args.last.now x new c.retake.ensures within) in
     record { stood_so = s.stood_so; fits = rw same s.fits }
 
 pub returns-clause-ranges : goal.returns-clause-ranges
@@ -39,7 +39,7 @@ returns-clause-ranges c =
     let less : c.args.loan.patch < length s.written.items = omega (arith, (c.requires.noted some).noted.0, length-map (pieces s.written.items) range, length-map s.written.items piece) in
     let within : x.first + x.count ≤ length c.args.last.now =
     omega (arith, c.requires.torn.as_long, length_newest s, fits_read (length (synced (log_of s))) s.written.items c.args.loan.patch x less c.index_mut.ensures.value (fits_synced s)) in
-    ranges_set s.written.items c.args.loan.patch x new less c.index_mut.ensures.value (range_settled c.args.last.now x new c.retake.ensures within)
+    ranges_set s.written.items c.args.loan.patch x new less c.index_mut.ensures.value (range_copied c.args.last.now x new c.retake.ensures within)
 
 pub returns-clause-newest : goal.returns-clause-newest
 returns-clause-newest c =

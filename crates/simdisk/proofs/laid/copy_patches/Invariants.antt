@@ -1,7 +1,7 @@
 use Rattle.std.proofs.Common.{◌≡◌, drop, length, map}
 use Rattle.simdisk.specs.WriteLog.{replay, piece_in}
 use Rattle.simdisk.specs.Views.{pieces}
-use Rattle.simdisk.proofs.laid.settle.Given as goal
+use Rattle.simdisk.proofs.laid.copy_patches.Given as goal
 
 abbrev pub invariant-loop-patch : goal.invariant-loop-patch
 invariant-loop-patch l = record {
