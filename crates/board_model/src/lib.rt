@@ -3,6 +3,8 @@
 #![tactic(auto)]
 
 mod boot_mode;
+mod call_words;
+mod console_command;
 mod durable;
 mod laws;
 mod limits;
@@ -12,6 +14,8 @@ mod refusal;
 mod shape;
 
 pub use boot_mode::BootMode;
+pub use call_words::CallWords;
+pub use console_command::ConsoleCommand;
 pub use durable::{Command, Durable, Entry, ImageHead, Reason, Trial};
 pub use laws::{
     a_trial_ends, image_never_again, images_stay_whole, longer_list,
