@@ -1,1 +1,3 @@
 pub mod Attempts
+pub mod Steps
+pub mod Table

@@ -1,6 +1,6 @@
 -- The durable state of the board, the changes that commands make to it, and which of them are refused.
 -- Source: docs/DURABLE.md.
-use Rattle.std.specs.Prelude.{◌≡◌, ℕ, zero, suc, ◌+◌, ◌-◌, ◌^◌, ◌<◌, ◌||◌, Bool, true, false, List, [], ◌∷◌, Option, Some, None, IfSome, length, replicate, nat_lt, ⊤, ◌==◌, is_some, if◌then◌else◌}
+use Rattle.std.specs.Prelude.{◌≡◌, ℕ, zero, suc, ◌+◌, ◌-◌, ◌^◌, ◌<◌, ◌≤◌, ◌||◌, Bool, true, false, List, [], ◌∷◌, Option, Some, None, IfSome, length, replicate, nat_lt, ⊤, ◌==◌, is_some, if◌then◌else◌}
 use Rattle.board_model.specs.Shapes.{Size, ram_bytes_of}
 use Rattle.board_model.specs.declared.durable.Reason.{Reason}
 use Rattle.board_model.specs.declared.durable.Reason.TheVariants.{NoReason}
@@ -91,6 +91,46 @@ ends_life (Tries n boots) = false
 ends_life Good = false
 ends_life Attempt = false
 
+-- What a command does to the image that stands.
+pub data ImageStep : Type 0 where
+  MakesImage : ImageStep
+  DropsImage : ImageStep
+  LeavesImage : ImageStep
+
+abbrev pub image_step : Change → ImageStep
+image_step (Slot n) = LeavesImage
+image_step (Reset r) = LeavesImage
+image_step (Suspend hart address opaque memory) = MakesImage
+image_step Consume = DropsImage
+image_step Discard = DropsImage
+image_step (Tries n boots) = LeavesImage
+image_step Good = LeavesImage
+image_step Attempt = LeavesImage
+
+-- What a command does to the trial of a slot: it settles or begins one, it is a boot of it, or it leaves it.
+pub data TrialStep : Type 0 where
+  DecidesTrial : TrialStep
+  CountsBoot : TrialStep
+  SparesTrial : TrialStep
+
+abbrev pub trial_step : Change → TrialStep
+trial_step (Slot n) = DecidesTrial
+trial_step (Reset r) = SparesTrial
+trial_step (Suspend hart address opaque memory) = SparesTrial
+trial_step Consume = SparesTrial
+trial_step Discard = SparesTrial
+trial_step (Tries n boots) = DecidesTrial
+trial_step Good = DecidesTrial
+trial_step Attempt = CountsBoot
+
+-- The numbers with which the table refuses at all.
+abbrev pub is_table_number : ℕ → Bool
+is_table_number n = (n == 8) || ((n == 9) || ((n == 12) || ((n == 19) || (n == 20))))
+
+-- The slot is at most 3, and so is that to which a trial falls back, which has at most 7 boots.
+abbrev pub HasValidNumbers : DurableState → Type 0
+HasValidNumbers s = (s.slot ≤ 3) × IfSome s.trial (λ t. (t.fallback ≤ 3) × (t.left ≤ 7))
+
 -- The state after a list of commands, the first of them first.
 abbrev pub fold : DurableState → List Change → DurableState
 fold s [] = s
@@ -117,13 +157,11 @@ CarriesWhole size c = Unit {0}
 abbrev pub attempts : ℕ → List Change
 attempts n = replicate n Attempt
 
--- each is a command that leaves the trial: a reset, a suspension, and what drops an image
+abbrev pub Spares : TrialStep → Type 0
+Spares DecidesTrial = ⊥
+Spares CountsBoot = ⊥
+Spares SparesTrial = ⊤
+
+-- the command leaves the trial: it is a reset, a suspension, or what drops an image
 abbrev pub LeavesTrial : Change → Type 0
-LeavesTrial (Slot n) = ⊥
-LeavesTrial (Reset r) = ⊤
-LeavesTrial (Suspend hart address opaque memory) = ⊤
-LeavesTrial Consume = ⊤
-LeavesTrial Discard = ⊤
-LeavesTrial (Tries n boots) = ⊥
-LeavesTrial Good = ⊥
-LeavesTrial Attempt = ⊥
+LeavesTrial c = Spares (trial_step c)

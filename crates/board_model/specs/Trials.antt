@@ -1,29 +1,24 @@
 -- A slot on trial, over whole lists of commands. Source: docs/DURABLE.md, "Laws".
 use Rattle.std.specs.Prelude.{ℕ, suc, Bool, true, false, ⊤, List, [], ◌∷◌, if◌then◌else◌}
-use Rattle.board_model.specs.Durable.{Change, Slot, Reset, Suspend, Consume, Discard, Tries, Good, Attempt}
-use Rattle.board_model.specs.declared.durable.Reason.{Reason}
+use Rattle.board_model.specs.Durable.{Change, TrialStep, DecidesTrial, CountsBoot, SparesTrial, trial_step}
+
+abbrev pub counts_boot : TrialStep → Bool
+counts_boot DecidesTrial = false
+counts_boot CountsBoot = true
+counts_boot SparesTrial = false
 
 -- whether the command is a boot of the slot on trial
 abbrev pub is_boot : Change → Bool
-is_boot (Slot n) = false
-is_boot (Reset r) = false
-is_boot (Suspend hart address opaque memory) = false
-is_boot Consume = false
-is_boot Discard = false
-is_boot (Tries n boots) = false
-is_boot Good = false
-is_boot Attempt = true
+is_boot c = counts_boot (trial_step c)
+
+abbrev pub DecidesNone : TrialStep → Type 0
+DecidesNone DecidesTrial = ⊥
+DecidesNone CountsBoot = ⊤
+DecidesNone SparesTrial = ⊤
 
 -- the command does not decide on a trial: it neither finds the slot good nor sets another
 abbrev pub IsUndecided : Change → Type 0
-IsUndecided (Slot n) = ⊥
-IsUndecided (Reset r) = ⊤
-IsUndecided (Suspend hart address opaque memory) = ⊤
-IsUndecided Consume = ⊤
-IsUndecided Discard = ⊤
-IsUndecided (Tries n boots) = ⊥
-IsUndecided Good = ⊥
-IsUndecided Attempt = ⊤
+IsUndecided c = DecidesNone (trial_step c)
 
 -- how often the slot was booted
 abbrev pub boots_in : List Change → ℕ

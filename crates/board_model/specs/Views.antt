@@ -32,6 +32,17 @@ abbrev pub change_in : Entry → List ℕ → Change
 change_in (entries.Command c) memory = change_of c
 change_in (entries.Suspend hart address opaque) memory = Suspend hart address opaque memory
 
+-- The entry of a journal that a command stands as: all but the memory of a suspension.
+abbrev pub entry_of : Change → Entry
+entry_of (Slot n) = entries.Command (commands.Slot n)
+entry_of (Reset r) = entries.Command (commands.Reset r)
+entry_of (Suspend hart address opaque memory) = entries.Suspend hart address opaque
+entry_of Consume = entries.Command commands.Consume
+entry_of Discard = entries.Command commands.Discard
+entry_of (Tries n boots) = entries.Command (commands.Tries n boots)
+entry_of Good = entries.Command commands.Good
+entry_of Attempt = entries.Command commands.Attempt
+
 -- The durable state as the code knows it: all but the memory of the image.
 abbrev pub head_of : Option Image → Option ImageHead
 head_of None = None

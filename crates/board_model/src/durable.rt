@@ -1,8 +1,8 @@
 //! The durable state as the code knows it, and its commands.
 
 ghost use Rattle.std.specs.Prelude.{◌≡◌, ℕ, List};
-ghost use Rattle.board_model.specs.Durable.{DurableState, Suspend, Consume, Discard, Tries, Good, Attempt};
-ghost use Rattle.board_model.specs.Views.{reason_number, change_of, durable_of, IsNextOf};
+ghost use Rattle.board_model.specs.Durable.{DurableState, Suspend, Consume, Discard, Tries, Good, Attempt, ends_life};
+ghost use Rattle.board_model.specs.Views.{reason_number, change_of, change_in, durable_of, IsNextOf};
 
 use crate::numbers::{Addr, Boots, HartId, Slot};
 use crate::refusal::Refusal;
@@ -50,6 +50,19 @@ pub enum Entry {
     /// The hart that suspended the board, the address at which it is resumed, and the value that it is given
     /// in a1.
     Suspend(HartId, Addr, u64),
+}
+
+impl Entry {
+    /// Whether the command ends the life in which it is issued: a reset and a suspension do.
+    pub fn ends_life(&self) -> bool
+        ensures { (memory : List ℕ) → result ≡ ends_life (change_in self.now memory) }
+    {
+        match self {
+            Entry::Command(Command::Reset(_)) => true,
+            Entry::Command(_) => false,
+            Entry::Suspend(..) => true,
+        }
+    }
 }
 
 /// What stands of an image beside its memory.

@@ -1,7 +1,8 @@
 //! Laws of the durable commands over whole lists, each the contract of a function that does nothing.
 
-ghost use Rattle.std.specs.Prelude.{◌≡◌, ℕ, ◌+◌, ◌-◌, ◌≤◌, List, [], ◌∷◌, ◌++◌, None, Some, All, nat_lt, if◌then◌else◌};
-ghost use Rattle.board_model.specs.Durable.{DurableState, Image, Change, Slot, Reset, Tries, Good, Attempt, formatted, after, fold, HasImage, IsOrdered, IsWhole, CarriesWhole, attempts, LeavesTrial};
+ghost use Rattle.std.specs.Prelude.{◌≡◌, ℕ, ◌+◌, ◌-◌, ◌≤◌, true, List, [], ◌∷◌, ◌++◌, Option, None, Some, All, nat_lt, if◌then◌else◌};
+ghost use Rattle.board_model.specs.Durable.{DurableState, Image, Change, Tries, Attempt, formatted, refusal_of, after, fold, image_step, MakesImage, DropsImage, LeavesImage, is_table_number, HasValidNumbers, HasImage, IsOrdered, IsWhole, CarriesWhole, attempts, LeavesTrial};
+ghost use Rattle.board_model.specs.Views.{durable_of};
 ghost use Rattle.board_model.specs.Trials.{IsUndecided, boots_in};
 ghost use Rattle.board_model.specs.Shapes.{Size, IsSize};
 ghost use Rattle.board_model.specs.declared.durable.Reason.{Reason};
@@ -18,13 +19,34 @@ pub fn serials_rise()
         → (s.next ≤ (fold s cs).next) × IsOrdered (fold s cs) }
 {}
 
-/// Only a suspension, Consume and Discard change the image.
-pub fn other_commands_leave_the_image()
-    ensures slot { (s : DurableState) (n : ℕ) → (after s (Slot n)).image ≡ s.image }
-    ensures reset { (s : DurableState) (r : Reason) → (after s (Reset r)).image ≡ s.image }
-    ensures tries { (s : DurableState) (n boots : ℕ) → (after s (Tries n boots)).image ≡ s.image }
-    ensures good { (s : DurableState) → (after s Good).image ≡ s.image }
-    ensures attempt { (s : DurableState) → (after s Attempt).image ≡ s.image }
+/// What a command does to the image is told by its kind: it makes one under the next serial, it drops the one
+/// that stands, or it leaves it; and one that leaves it does the same whatever the image.
+pub fn the_image_by_kind()
+    ensures made { (s : DurableState) (c : Change) → image_step c ≡ MakesImage
+        → ((i : Image) × ((after s c).image ≡ Some i) × (i.serial ≡ s.next)) × ((after s c).next ≡ s.next + 1) }
+    ensures dropped { (s : DurableState) (c : Change) → image_step c ≡ DropsImage
+        → after s c ≡ record s { image = None } }
+    ensures left { (s : DurableState) (c : Change) → image_step c ≡ LeavesImage
+        → ((after s c).image ≡ s.image) × ((after s c).next ≡ s.next) }
+    ensures apart { (s : DurableState) (x : Option Image) (c : Change) → image_step c ≡ LeavesImage
+        → after (record s { image = x }) c ≡ record (after s c) { image = x } }
+{}
+
+/// The table of commands never looks at the memory of an image: it refuses the same without, and makes the same
+/// of all the rest.
+pub fn no_memory_is_read()
+    ensures refusal { (s t : DurableState) (c : Change) → durable_of s ≡ durable_of t
+        → refusal_of s c ≡ refusal_of t c }
+    ensures next { (s t : DurableState) (c : Change) → durable_of s ≡ durable_of t
+        → durable_of (after s c) ≡ durable_of (after t c) }
+{}
+
+/// The table of commands refuses by few numbers, and after a command that it does not refuse the slot and the
+/// trial are within their ranges.
+pub fn the_table_keeps_its_ranges()
+    ensures refused { (s : DurableState) (c : Change) (n : ℕ) → refusal_of s c ≡ Some n → is_table_number n ≡ true }
+    ensures stays { (s : DurableState) (c : Change) → HasValidNumbers s → refusal_of s c ≡ None
+        → HasValidNumbers (after s c) }
 {}
 
 /// A reset, a suspension, Consume and Discard leave the slot and its trial.

@@ -18,8 +18,8 @@ pub use call_words::CallWords;
 pub use console_command::ConsoleCommand;
 pub use durable::{Command, Durable, Entry, ImageHead, Reason, Trial};
 pub use laws::{
-    a_trial_ends, image_never_again, images_stay_whole, longer_list,
-    other_commands_leave_the_image, other_commands_leave_the_trial, serials_rise,
+    a_trial_ends, image_never_again, images_stay_whole, longer_list, no_memory_is_read,
+    other_commands_leave_the_trial, serials_rise, the_image_by_kind, the_table_keeps_its_ranges,
 };
 pub use limits::{
     MAX_BOOTS, MAX_COMMANDS, MAX_HARTS, MAX_LANES, MAX_LINE_BYTES, MAX_PAGES, MAX_SCRIPT_LINES,

@@ -2,8 +2,9 @@ use Rattle.std.proofs.Common.{◌≡◌, ◌∙◌, [], ◌∷◌, ℕ, zero, su
 use Rattle.std.specs.List.{All}
 use Rattle.std.proofs.lemmas.List.Elements.{All-head, All-tail}
 use Rattle.std.proofs.lemmas.Bool.Decides.{nat_tests}
-use Rattle.board_model.specs.Durable.{DurableState, Change, Slot, Reset, Suspend, Consume, Discard, Tries, Good, Attempt, after, fold, attempted, attempts, fallback_by}
-use Rattle.board_model.specs.Trials.{IsUndecided, boots_in}
+use Rattle.board_model.specs.Durable.{DurableState, Change, Tries, Attempt, after, fold, attempted, attempts, fallback_by}
+use Rattle.board_model.specs.Trials.{IsUndecided, DecidesNone, boots_in, counts_boot}
+use Rattle.board_model.proofs.Steps.{ByTrial, Decides, Counts, Spares, by_trial}
 use Rattle.board_model.specs.declared.durable.Trial.{Trial}
 use Rattle.board_model.proofs.laws.a_trial_ends.Goals as goal
 
@@ -37,21 +38,23 @@ returns-clause-booted c s t n is le = counts s t.fallback t.left n is le
 pub returns-clause-falls_back : goal.returns-clause-falls_back
 returns-clause-falls_back c s t is = falls s t.fallback t.left is
 
-rest : (c : Change) (cs : List Change) → All IsUndecided (c ∷ cs) → All IsUndecided cs
-rest c cs all = All-tail IsUndecided c cs all
+-- what the rest of a list does: from a state without a trial, and from one with a trial
+abbrev Stays : List Change → Type 0
+Stays cs = (s : DurableState) → s.trial ≡ None → (fold s cs).slot ≡ s.slot
+
+abbrev Runs : List Change → Type 0
+Runs cs = (s : DurableState) (f l : ℕ) → s.trial ≡ Some (trial f l) → (fold s cs).slot ≡ (if nat_lt l (boots_in cs) then f else s.slot)
 
 -- once the trial is over, a boot changes nothing
-stays : (s : DurableState) (cs : List Change) → s.trial ≡ None → All IsUndecided cs → (fold s cs).slot ≡ s.slot
-stays s [] none all = refl
-stays s (Slot n ∷ cs) none all = absurd (All-head IsUndecided (Slot n) cs all)
-stays s (Reset r ∷ cs) none all = stays (after s (Reset r)) cs none (rest (Reset r) cs all)
-stays s (Suspend h a o m ∷ cs) none all = stays (after s (Suspend h a o m)) cs none (rest (Suspend h a o m) cs all)
-stays s (Consume ∷ cs) none all = stays (after s Consume) cs none (rest Consume cs all)
-stays s (Discard ∷ cs) none all = stays (after s Discard) cs none (rest Discard cs all)
-stays s (Tries n boots ∷ cs) none all = absurd (All-head IsUndecided (Tries n boots) cs all)
-stays s (Good ∷ cs) none all = absurd (All-head IsUndecided Good cs all)
-stays s (Attempt ∷ cs) none all =
-    subst (λ (x : DurableState). (fold x cs).slot ≡ s.slot) (sym (let same : after s Attempt ≡ s = ap (attempted s) none in same)) (stays s cs none (rest Attempt cs all))
+stays_on : (c : Change) (cs : List Change) → ByTrial c → IsUndecided c → Stays cs → Stays (c ∷ cs)
+stays_on c cs (Decides step) undecided stays = absurd (subst DecidesNone step undecided)
+stays_on c cs Counts undecided stays = λ s none.
+    subst (λ (x : DurableState). (fold x cs).slot ≡ s.slot) (sym (let same : after s Attempt ≡ s = ap (attempted s) none in same)) (stays s none)
+stays_on c cs (Spares step same) undecided stays = λ s none. stays (after s c) ((same s).1 ∙ none) ∙ (same s).0
+
+stays_all : (cs : List Change) → All IsUndecided cs → Stays cs
+stays_all [] all = λ s none. refl
+stays_all (c ∷ cs) all = stays_on c cs (by_trial c) (All-head IsUndecided c cs all) (stays_all cs (All-tail IsUndecided c cs all))
 
 -- one boot more, and one that was left
 one_more : (l k : ℕ) → nat_lt (suc l) (suc k) ≡ nat_lt l k
@@ -63,25 +66,32 @@ past k f n = ap (λ (b : Bool). if b then f else n) (let yes : true ≡ nat_lt z
 unspent : (l : ℕ) (f n : ℕ) → n ≡ (if nat_lt l zero then f else n)
 unspent l f n = ap (λ (b : Bool). if b then f else n) (let no : false ≡ nat_lt l zero = grind (arith, nat_tests) in no)
 
-runs : (s : DurableState) (f l : ℕ) (cs : List Change) → s.trial ≡ Some (trial f l) → All IsUndecided cs
-    → (fold s cs).slot ≡ (if nat_lt l (boots_in cs) then f else s.slot)
-runs s f l [] is all = unspent l f s.slot
-runs s f l (Slot n ∷ cs) is all = absurd (All-head IsUndecided (Slot n) cs all)
-runs s f l (Reset r ∷ cs) is all = runs (after s (Reset r)) f l cs is (rest (Reset r) cs all)
-runs s f l (Suspend h a o m ∷ cs) is all = runs (after s (Suspend h a o m)) f l cs is (rest (Suspend h a o m) cs all)
-runs s f l (Consume ∷ cs) is all = runs (after s Consume) f l cs is (rest Consume cs all)
-runs s f l (Discard ∷ cs) is all = runs (after s Discard) f l cs is (rest Discard cs all)
-runs s f l (Tries n boots ∷ cs) is all = absurd (All-head IsUndecided (Tries n boots) cs all)
-runs s f l (Good ∷ cs) is all = absurd (All-head IsUndecided Good cs all)
-runs s f zero (Attempt ∷ cs) is all =
+-- a boot, and what comes after it
+booted : (cs : List Change) → Stays cs → Runs cs → (s : DurableState) (f l : ℕ) → s.trial ≡ Some (trial f l)
+    → (fold (after s Attempt) cs).slot ≡ (if nat_lt l (suc (boots_in cs)) then f else s.slot)
+booted cs stays runs s f zero is =
     subst (λ (x : DurableState). (fold x cs).slot ≡ (if nat_lt zero (suc (boots_in cs)) then f else s.slot)) (sym (let fell : after s Attempt ≡ record s { slot = f; trial = None } = ap (attempted s) is in fell))
-    (stays (record s { slot = f; trial = None }) cs refl (rest Attempt cs all) ∙ past (boots_in cs) f s.slot)
-runs s f (suc l) (Attempt ∷ cs) is all =
+    (stays (record s { slot = f; trial = None }) refl ∙ past (boots_in cs) f s.slot)
+booted cs stays runs s f (suc l) is =
     subst (λ (x : DurableState). (fold x cs).slot ≡ (if nat_lt (suc l) (suc (boots_in cs)) then f else s.slot)) (sym (once s f l is))
-    (runs (record s { trial = Some (trial f l) }) f l cs refl (rest Attempt cs all) ∙ ap (λ (b : Bool). if b then f else s.slot) (sym (one_more l (boots_in cs))))
+    (runs (record s { trial = Some (trial f l) }) f l refl ∙ ap (λ (b : Bool). if b then f else s.slot) (sym (one_more l (boots_in cs))))
+
+runs_on : (c : Change) (cs : List Change) → ByTrial c → IsUndecided c → Stays cs → Runs cs → Runs (c ∷ cs)
+runs_on c cs (Decides step) undecided stays runs = absurd (subst DecidesNone step undecided)
+runs_on c cs Counts undecided stays runs = booted cs stays runs
+runs_on c cs (Spares step same) undecided stays runs = λ s f l is.
+    runs (after s c) f l ((same s).1 ∙ is)
+    ∙ ap (λ (n : ℕ). if nat_lt l (boots_in cs) then f else n) (same s).0
+    ∙ ap (λ (b : Bool). if nat_lt l (if b then suc (boots_in cs) else boots_in cs) then f else s.slot) (sym (ap counts_boot step))
+
+runs_all : (cs : List Change) → All IsUndecided cs → Runs cs
+runs_all [] all = λ s f l is. unspent l f s.slot
+runs_all (c ∷ cs) all =
+    let rest = All-tail IsUndecided c cs all in
+    runs_on c cs (by_trial c) (All-head IsUndecided c cs all) (stays_all cs rest) (runs_all cs rest)
 
 pub returns-clause-never_good : goal.returns-clause-never_good
-returns-clause-never_good c s n boots cs none all = runs (after s (Tries n boots)) s.slot boots cs (ap (λ (o : Option Trial). begun o) none) all
+returns-clause-never_good c s n boots cs none all = runs_all cs all (after s (Tries n boots)) s.slot boots (ap (λ (o : Option Trial). begun o) none)
   where
     begun : Option Trial → Option Trial
     begun o = Some (trial (fallback_by s.slot o) boots)
