@@ -2,7 +2,7 @@ use Rattle.std.proofs.Common.{ℕ, ◌<◌, subst, arith}
 use Rattle.hsm_rule.specs.States.{HartState, IsSettled, Shows}
 use Rattle.hsm_steps.specs.Seating.{hart_view_of_seat, harts_in}
 use Rattle.hsm_steps.proofs.Later.{sees_as}
-use Rattle.hsm_steps.proofs.steps.see.Goals as goal
+use Rattle.hsm_steps.proofs.looks.see.Goals as goal
 
 pub load-requires : goal.load-requires
 load-requires g c =
