@@ -1,3 +1,7 @@
 pub mod Stand
 pub mod Alone
+pub mod Stages
+pub mod Entering
+pub mod Starting
+pub mod Quieting
 pub mod Computed

@@ -10,7 +10,7 @@ ghost use Rattle.hsm_steps.specs.Seating.{IsSeatOf, harts_of, hart_view_of_seat,
 ghost use Rattle.arrayvec.specs.ArrayVec.{array_vec_len};
 ghost use Rattle.board_model.specs.declared.refusal.Refusal.TheVariants.{Memory};
 
-use crate::steps::see;
+use crate::looks::see;
 use crate::table::{HartSeat, HartTable, Seats, Setup};
 use atomic_table::Table;
 use board_model::{HartId, Refusal, Shape};

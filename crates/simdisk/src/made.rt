@@ -126,21 +126,13 @@ impl SimDisk {
             ≡ ⟦<SimDisk as Logged>⟧.lane_calls self.now) }
     {
         let content = self.content_left(fill)?;
-        let history = History::begun(self.alloc, &content)?;
-        let latest = Latest::begun(self.alloc, &content)?;
+        let mut disk = SimDisk::holding(self.alloc, content)?;
+        disk.failures = self.failures;
+        disk.calls = self.calls;
         let lane_calls = self.lane_calls;
-        Ok(SimDisk {
-            alloc: self.alloc,
-            content,
-            history,
-            latest,
-            failures: self.failures,
-            calls: self.calls,
-            lane_calls,
-            refused: self.refused,
-            loan: Loan::nothing(),
-            faults: Faults::none(),
-        })
+        disk.lane_calls = lane_calls;
+        disk.refused = self.refused;
+        Ok(disk)
     }
 
     /// What a crash now leaves by that fill.

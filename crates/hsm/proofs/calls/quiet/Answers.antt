@@ -1,7 +1,7 @@
 use Rattle.std.proofs.Common.{◌≡◌, Bool, ◌*◌, ◌%◌, ◌^◌, ◌==◌, refl, arith}
 use Rattle.std.proofs.lemmas.Nat.{one_shl}
 use Rattle.hsm_steps.specs.Outcomes.{is_alone}
-use Rattle.hsm.proofs.Alone.{quiet_alone, quiet_stands, quiet_keeps}
+use Rattle.hsm.proofs.Quieting.{quiet_alone, quiet_stands, quiet_keeps}
 use Rattle.hsm.proofs.calls.quiet.Goals.{After-harts-harts}
 use Rattle.hsm.proofs.calls.quiet.Goals as goal
 

@@ -4,7 +4,8 @@ use Rattle.std.proofs.lemmas.Nat.Bits.{shr_and_one}
 use Rattle.hsm_rule.specs.declared.view.Stage.TheVariants.{Claiming, Half, Stored, Running}
 use Rattle.hsm_rule.specs.declared.view.Action.TheVariants.{Claimed, Wrote, Armed}
 use Rattle.tallies.specs.Notes.{HasNoted}
-use Rattle.hsm.proofs.Alone.{Goes, goes, goes_on, stays_running, claims_it, start_refused, start_granted}
+use Rattle.hsm.proofs.Alone.{Goes, goes, goes_on}
+use Rattle.hsm.proofs.Starting.{stays_running, claims_it, start_refused, start_granted}
 use Rattle.hsm.proofs.calls.start.Goals.{Then-found-bit-ne0, Else-found-bit-ne0, After-put_address, After-put_opaque, After-arm}
 use Rattle.hsm.proofs.calls.start.Goals as goal
 

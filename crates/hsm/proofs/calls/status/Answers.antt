@@ -7,7 +7,8 @@ use Rattle.hsm_rule.specs.Rule.{stands}
 use Rattle.hsm.specs.Calls.{stage_of, state_in_word, IsOwnStatus}
 use Rattle.hsm.proofs.Stand.{stands_after, stands_own, stands_stage, stands_by}
 use Rattle.tallies.proofs.Noted.{numbered}
-use Rattle.hsm.proofs.Alone.{others, shows_same, named_is}
+use Rattle.hsm.proofs.Alone.{others, shows_same}
+use Rattle.hsm.proofs.Stages.{named_is}
 use Rattle.hsm.proofs.calls.status.Goals as goal
 
 pub look-found-requires-clause-acts : goal.look-found-requires-clause-acts

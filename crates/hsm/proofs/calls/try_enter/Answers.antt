@@ -6,7 +6,8 @@ use Rattle.hsm_rule.specs.declared.view.Action.TheVariants.{Looked, Read, Entere
 use Rattle.tallies.specs.Notes.{HasNoted}
 use Rattle.hsm_rule.specs.States.{HartState, Shows, change_at, entry, begin}
 use Rattle.hsm.specs.Calls.{is_ready}
-use Rattle.hsm.proofs.Alone.{Goes, goes, goes_on, unarmed, gone_in, stays_out, gets_ready, enters_none, enters_some}
+use Rattle.hsm.proofs.Alone.{Goes, goes, goes_on}
+use Rattle.hsm.proofs.Entering.{unarmed, gone_in, stays_out, gets_ready, enters_none, enters_some}
 use Rattle.hsm.proofs.calls.try_enter.Goals.{After-poll-found, Then-found-hart-ne1, Then-found-hart-ne0, Else-found-hart-ne0, After-read_address-site, After-read_opaque-opaque, After-enter}
 use Rattle.hsm.proofs.calls.try_enter.Goals as goal
 

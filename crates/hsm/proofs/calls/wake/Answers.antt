@@ -3,7 +3,8 @@ use Rattle.hsm_rule.specs.declared.view.Stage.TheVariants.{Running, Suspended}
 use Rattle.hsm_rule.specs.declared.view.Action.TheVariants.{Woke}
 use Rattle.hsm.proofs.Stand.{stands_after}
 use Rattle.hsm_rule.specs.States.{started}
-use Rattle.hsm.proofs.Alone.{keeps, shows_turned, suspends_settled}
+use Rattle.hsm.proofs.Alone.{keeps, shows_turned}
+use Rattle.hsm.proofs.Stages.{suspends_settled}
 use Rattle.hsm.proofs.calls.wake.Goals as goal
 
 pub returns-clause-stands : goal.returns-clause-stands

@@ -1,21 +1,18 @@
-use Rattle.std.proofs.Common.{◌≡◌, refl, ap}
-use Rattle.simdisk.specs.Views.{left_by_fill, pieces}
+use Rattle.std.proofs.Common.{refl}
+use Rattle.simdisk.specs.Views.{pieces}
 use Rattle.simdisk.specs.History.{log_of}
-use Rattle.simdisk.specs.WriteLog.{new_log, synced}
+use Rattle.simdisk.specs.WriteLog.{synced}
 use Rattle.simdisk.proofs.Epochs.{fits_synced}
-use Rattle.simdisk.proofs.Notes.{fresh_of, left_agrees}
+use Rattle.simdisk.proofs.Notes.{left_agrees}
 use Rattle.simdisk.proofs.sim.SimDisk.left.Goals as goal
 
 pub returns-clause-left : goal.returns-clause-left
 returns-clause-left c =
     let s = c.args.self.now.history in
-    let now = c.in_ok-content.content.items in
-    let history = c.in_ok-history.history in
-    let is : now ≡ left_by_fill c.args.fill (synced (log_of s)) (pieces s.written.items) = c.in_ok-content.ensures in
-    let begun : log_of history ≡ new_log now = rw (← c.deref.ensures.value) c.in_ok-history.ensures in
+    let fresh = c.in_ok-disk.ensures.fresh in
     record {
-      left = rw is (left_agrees c.args.fill (synced (log_of s)) (pieces s.written.items) (fits_synced s));
-      fresh = fresh_of now (synced (log_of history)) (log_of history) _ _ _ begun (ap synced begun) c.nothing.ensures;
+      left = rw (fresh.reads, c.in_ok-content.ensures) (left_agrees c.args.fill (synced (log_of s)) (pieces s.written.items) (fits_synced s));
+      fresh = record { reads = refl; durable = rw fresh.reads fresh.durable; none_out = fresh.none_out };
       failures = refl;
       calls = refl;
     }
