@@ -1,54 +1,76 @@
 //! What a new user types, and a writer that fails.
 
-use crate::told::{START, Short, in_turn, refused, reports};
+use crate::told::{START, Short, in_turn, refused};
 use bench_report::run;
 use board_model::Refusal;
 use std::test::*;
 
-#[test]
-fn a_script_may_lack_its_last_line_feed(rt: HostRuntime) -> Result<(), Fail> {
-    reports(
-        &rt,
-        rt.alloc(),
-        b"# a comment\n\nboard 8 256 4\nformat",
-        b"board 8/256/4 sectors 4616\nformat ok\n",
-    )
+/// A script that has a fault, and its refusal.
+struct Faulty {
+    script: &'static [u8],
+    refusal: Refusal,
 }
+
+const FAULTY: [Faulty; 13] = [
+    Faulty {
+        script: b"",
+        refusal: Refusal::BadScript(1),
+    },
+    Faulty {
+        script: b"board 1 1 1\nslot\n",
+        refusal: Refusal::BadScript(2),
+    },
+    Faulty {
+        script: b"\n\n",
+        refusal: Refusal::BadScript(1),
+    },
+    Faulty {
+        script: b"# hello\n\nslot 1\n",
+        refusal: Refusal::BadScript(3),
+    },
+    Faulty {
+        script: b"board 1 1 1\r\nformat\r\n",
+        refusal: Refusal::BadScript(1),
+    },
+    Faulty {
+        script: b"board 9 1 1\nslot\n",
+        refusal: Refusal::BadShape,
+    },
+    Faulty {
+        script: b"board 1 1 1\nboard 1 1 1\n",
+        refusal: Refusal::BadScript(2),
+    },
+    Faulty {
+        script: b"board 1 1 1\nslot  1\n",
+        refusal: Refusal::BadScript(2),
+    },
+    Faulty {
+        script: b"\x7fELF\x02\x01\x01\0\0\0",
+        refusal: Refusal::BadScript(1),
+    },
+    Faulty {
+        script: b"board 1 1 1\ntries 2\n",
+        refusal: Refusal::BadScript(2),
+    },
+    Faulty {
+        script: b"board 1 1 1\ntries 2 1 1\n",
+        refusal: Refusal::BadScript(2),
+    },
+    Faulty {
+        script: b"board 1 1 1\ntries 4294967296 1\n",
+        refusal: Refusal::BadScript(2),
+    },
+    Faulty {
+        script: b"board 1 1 1\ngood 1\n",
+        refusal: Refusal::BadScript(2),
+    },
+];
 
 #[test]
 fn faults_answer_their_line(rt: HostRuntime) -> Result<(), Fail> {
-    refused(&rt, rt.alloc(), b"\n\n", Refusal::BadScript(1))?;
-    refused(
-        &rt,
-        rt.alloc(),
-        b"# hello\n\nslot 1\n",
-        Refusal::BadScript(3),
-    )?;
-    refused(
-        &rt,
-        rt.alloc(),
-        b"board 1 1 1\r\nformat\r\n",
-        Refusal::BadScript(1),
-    )?;
-    refused(&rt, rt.alloc(), b"board 9 1 1\nslot\n", Refusal::BadShape)?;
-    refused(
-        &rt,
-        rt.alloc(),
-        b"board 1 1 1\nboard 1 1 1\n",
-        Refusal::BadScript(2),
-    )?;
-    refused(
-        &rt,
-        rt.alloc(),
-        b"board 1 1 1\nslot  1\n",
-        Refusal::BadScript(2),
-    )?;
-    refused(
-        &rt,
-        rt.alloc(),
-        b"\x7fELF\x02\x01\x01\0\0\0",
-        Refusal::BadScript(1),
-    )?;
+    for faulty in &FAULTY {
+        refused(&rt, rt.alloc(), faulty.script, faulty.refusal)?;
+    }
     Ok(())
 }
 

@@ -12,40 +12,6 @@ fn add_times(script: &mut Vec<u8>, bytes: &[u8], times: usize) -> Result<(), All
     Ok(())
 }
 
-/// Adds a payload of 1,024 bytes: 256 times ADDI x10, x10, 1.
-fn add_payload(script: &mut Vec<u8>, head: &[u8]) -> Result<(), AllocError> {
-    script.extend_from_slice(head)?;
-    add_times(script, b"13051500", 256)?;
-    script.extend_from_slice(b"\n")
-}
-
-/// The largest board with the largest payloads in all slots.
-fn largest(alloc: Global) -> Result<Vec<u8>, AllocError> {
-    let mut script = Vec::new(alloc);
-    script.extend_from_slice(b"board 8 256 4\n")?;
-    add_payload(&mut script, b"payload 0 ")?;
-    add_payload(&mut script, b"payload 1 ")?;
-    add_payload(&mut script, b"payload 2 ")?;
-    add_payload(&mut script, b"payload 3 ")?;
-    script.extend_from_slice(
-        b"format\non fresh\nturn 0 256\nreg 0 10\nturn 7 3\npc 7\nmem 0x800fffc0 4\n",
-    )?;
-    script.extend_from_slice(b"slot 3\ncut new\non fresh\nturn 0 1\nreg 0 10\n")?;
-    Ok(script)
-}
-
-#[test]
-fn the_largest_board_with_four_largest_payloads(rt: HostRuntime) -> Result<(), Fail> {
-    let alloc = rt.alloc();
-    let script = largest(alloc)?;
-    reports(
-        &rt,
-        alloc,
-        &script,
-        b"board 8/256/4 sectors 4616\npayload 0 1024\npayload 1 1024\npayload 2 1024\npayload 3 1024\nformat ok\nfound slot 0 reason 0 image none next 0\non fresh\nturn 0 256 next\nreg 0 10 0x0000000000000100\nturn 7 3 idle\npc 7 0x0000000000000000\nmem 00000000\nslot ok 1\ncut\nfound slot 3 reason 0 image none next 0\non fresh\nturn 0 1 next\nreg 0 10 0x0000000000000001\n",
-    )
-}
-
 #[test]
 fn a_report_of_more_than_ten_thousand_lines(rt: HostRuntime) -> Result<(), Fail> {
     let alloc = rt.alloc();

@@ -1,32 +1,21 @@
-//! Scripts, and the reports that docs/SCRIPT.md says they have.
+//! Runs that no script of `crates/examples` shows: a cut and a failure at each call, large scripts, scripts with a fault, and
+//! what a run answers beside its report (docs/SCRIPT.md). A script with its report is cheaper there: its proof costs nothing.
 #![tactic(auto)]
 
 #[cfg(test)]
 mod cuts;
 #[cfg(test)]
-mod dozes;
-#[cfg(test)]
 mod faults;
 #[cfg(test)]
-mod inspects;
+mod found;
 #[cfg(test)]
 mod lanes;
 #[cfg(test)]
 mod large;
 #[cfg(test)]
-mod lines;
-#[cfg(test)]
-mod migrations;
-#[cfg(test)]
 mod pokes;
 #[cfg(test)]
-mod programs;
-#[cfg(test)]
-mod resets;
-#[cfg(test)]
 mod resume;
-#[cfg(test)]
-mod rows;
 #[cfg(test)]
 mod sizes;
 #[cfg(test)]

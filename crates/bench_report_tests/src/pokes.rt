@@ -84,28 +84,6 @@ fn a_poke_is_found_by_the_next_open(rt: HostRuntime) -> Result<(), Fail> {
     Ok(())
 }
 
-/// It is no call by which an armed cut would strike, and a cut leaves it; a board that is on keeps its disk.
-#[test]
-fn a_poke_is_no_call(rt: HostRuntime) -> Result<(), Fail> {
-    reports(
-        &rt,
-        rt.alloc(),
-        b"board 1 1 1\nformat\ncutat 5 00\npoke 1 5 ff\non fresh\npoke 0 0 00\ncut ff\npoke 1 0 01\ncut old\non fresh\npoke 1 0 00\non fresh\n",
-        b"board 1/1/1 sectors 26\nformat ok\narmed\npoked\nfound slot 0 reason 0 image none next 0\non fresh\nbusy\ncut\npoked\ncut\non refused 4\npoked\nfound slot 0 reason 0 image none next 0\non fresh\n",
-    )
-}
-
-/// Its last serial is never given.
-#[test]
-fn serials_are_spent(rt: HostRuntime) -> Result<(), Fail> {
-    reports(
-        &rt,
-        rt.alloc(),
-        b"board 1 1 1\nformat\npoke 2 16 ffffffffffffffff\non fresh\ncall 0 susp 0 0x80000001 0x80000000 0\n",
-        b"board 1/1/1 sectors 26\nformat ok\npoked\nfound slot 0 reason 0 image none next 18446744073709551615\non fresh\ncall 0 error -1 value 0x0000000000000000\n",
-    )
-}
-
 /// A board of 2 pages and 1 lane that was suspended: places 0 and 1 of area 0 are at sectors 8 and 17.
 const ASLEEP: &[u8] = b"board 1 2 1\nformat\non fresh\ncall 0 susp 0 0x80000001 0x80000000 7\n";
 
@@ -181,26 +159,6 @@ fn each_byte_of_a_header_counts(rt: HostRuntime) -> Result<(), Fail> {
     reports(&rt, alloc, &script, &report)
 }
 
-/// The second image, with serial 1, stands in area 1, from sector 26 on. With the serial of the older one in
-/// a header it is not read, and the durable state is as it was.
-#[test]
-fn a_page_of_the_older_image_is_not_read(rt: HostRuntime) -> Result<(), Fail> {
-    told(
-        &rt,
-        rt.alloc(),
-        &[
-            ASLEEP,
-            b"on keep\ncall 0 susp 0 0x80000001 0x80000000 8\npoke 26 8 00\non resume\non resume\npoke 26 8 01\non resume\nreg 0 11\n",
-        ],
-        &[
-            ASLEEP_TOLD,
-            b"found slot 0 reason 0 image 0 next 1\non keep\ncall 0 asleep\npoked\n",
-            b"found slot 0 reason 0 image 1 next 2\non refused 13\nfound slot 0 reason 0 image 1 next 2\non refused 13\npoked\n",
-            b"found slot 0 reason 0 image 1 next 2\non resume\nreg 0 11 0x0000000000000008\n",
-        ],
-    )
-}
-
 /// Lanes 0 and 1 of 3 pages save 2 pages and 1. Counts of 1 and 2 name place 1 of lane 1, at sector 35, which
 /// holds no header of the page that is then missing; with one there the image reads again, since a page may
 /// stand in any place.
@@ -211,36 +169,5 @@ fn counts_that_lie_are_found_out(rt: HostRuntime) -> Result<(), Fail> {
         rt.alloc(),
         b"board 1 3 2\nformat\non fresh\ncall 0 susp 0 0x80000001 0x80000000 7\npoke 3 56 0100000002\non resume\non keep\ncut 00\npoke 35 0 01\non resume\nreg 0 11\n",
         b"board 1/3/2 sectors 80\nformat ok\nfound slot 0 reason 0 image none next 0\non fresh\ncall 0 asleep\npoked\nfound slot 0 reason 0 image 0 next 1\non refused 13\nfound slot 0 reason 0 image 0 next 1\non keep\ncut\npoked\nfound slot 0 reason 0 image 0 next 1\non resume\nreg 0 11 0x0000000000000007\n",
-    )
-}
-
-/// Counts that no image of the board can have are no record.
-#[test]
-fn counts_of_no_image_are_refused(rt: HostRuntime) -> Result<(), Fail> {
-    told(
-        &rt,
-        rt.alloc(),
-        &[
-            ASLEEP,
-            b"poke 3 56 01\non resume\npoke 3 56 02\npoke 3 24 01\non resume\npoke 3 24 00\non discard\n",
-        ],
-        &[
-            ASLEEP_TOLD,
-            b"poked\non refused 4\npoked\npoked\non refused 4\npoked\nfound slot 0 reason 0 image 0 next 1\non discard\n",
-        ],
-    )
-}
-
-/// No sum guards the data of a page: what somebody wrote there is what the board resumes with.
-#[test]
-fn the_data_of_a_page_is_taken_as_it_is(rt: HostRuntime) -> Result<(), Fail> {
-    told(
-        &rt,
-        rt.alloc(),
-        &[ASLEEP, b"poke 9 0 77\non resume\nmem 0x80000000 1\n"],
-        &[
-            ASLEEP_TOLD,
-            b"poked\nfound slot 0 reason 0 image 0 next 1\non resume\nmem 77\n",
-        ],
     )
 }

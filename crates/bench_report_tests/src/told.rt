@@ -43,22 +43,6 @@ pub fn reports<R: Abort + Threads + Sync>(
     Ok(())
 }
 
-/// The report of these lines after those that start a board.
-pub fn goes_on<R: Abort + Threads + Sync>(
-    rt: &R,
-    alloc: Global,
-    lines: &[u8],
-    text: &[u8],
-) -> Result<(), Fail> {
-    let mut script = Vec::new(alloc);
-    script.extend_from_slice(START)?;
-    script.extend_from_slice(lines)?;
-    let mut whole = Vec::new(alloc);
-    whole.extend_from_slice(STARTED)?;
-    whole.extend_from_slice(text)?;
-    reports(rt, alloc, &script, &whole)
-}
-
 /// The script is refused so, and nothing is written.
 pub fn refused<R: Abort + Threads + Sync>(
     rt: &R,

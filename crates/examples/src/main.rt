@@ -1,6 +1,7 @@
 //! `examples`: runs each script of a folder, once with each crew, and compares what it writes with the report
 //! beside it (README.md). Status 0 where each is as reported; else 1, and standard error names the first that
-//! is not. The folder is the word on the command line, or the one that the program runs in.
+//! is not. The folder is the word on the command line; without one it takes the folder that the program runs in, and
+//! the folder `cases` there.
 //!
 //! With the word `--left` it runs the script of standard input alone, and writes how that ended, what a power-on
 //! over the disk that is left finds, and the report, as far as it was written (tools/refuse-memory).
@@ -18,6 +19,9 @@ use std::{env, fs, io};
 
 /// The word that asks for what a script leaves.
 const LEFT: &str = "--left";
+
+/// The folder of the short scripts, beside the examples.
+const CASES: &str = "cases";
 
 /// How a script's name ends.
 const SCRIPT: &str = ".sbi";
@@ -65,38 +69,47 @@ fn say(rt: &HostRuntime, compared: &AsReported<'_>) -> io::Result<()> {
     println!(rt; "{compared}")
 }
 
-/// Compares all scripts of the folder, up to the first that is not as reported.
+/// Compares all scripts of the folder, up to the first that is not as reported. Answers whether all are.
 fn compare_all<A: Crew, B: Crew>(
     rt: &HostRuntime,
     turns: &A,
     threads: &B,
     folder: &str,
-) -> io::Result<ExitCode> {
+) -> io::Result<bool> {
     let names = names_in(rt, folder)?;
     if names.is_empty() {
         eprintln!(rt; "examples: no script in {folder}")?;
-        return Ok(ExitCode::FAILURE);
+        return Ok(false);
     }
     for name in &names {
         match compare(rt, turns, threads, folder, name.as_str()) {
             Ok(compared) => say(rt, &compared)?,
             Err(fault) => {
                 eprintln!(rt; "examples: {name}{SCRIPT}: {fault}")?;
-                return Ok(ExitCode::FAILURE);
+                return Ok(false);
             }
         }
     }
-    Ok(ExitCode::SUCCESS)
+    Ok(true)
 }
 
 fn main(rt: HostRuntime) -> anyhow::Result<ExitCode> {
     let words: Vec<String> = env::args(&rt)?.collect(rt.alloc())?;
     let turns = Sequential::<HostRuntime>::new([0, 1, 2, 3])?;
-    let folder = words.get(1).map_or(".", String::as_str);
-    if folder == LEFT {
-        tell(&rt, &turns)?;
-        return Ok(ExitCode::SUCCESS);
-    }
-    let code = compare_all(&rt, &turns, &Threads::new(&rt), folder)?;
-    Ok(code)
+    let threads = Threads::new(&rt);
+    let is_well = match words.get(1).map(String::as_str) {
+        Some(word) if word == LEFT => {
+            tell(&rt, &turns)?;
+            true
+        }
+        Some(folder) => compare_all(&rt, &turns, &threads, folder)?,
+        None => {
+            compare_all(&rt, &turns, &threads, ".")? && compare_all(&rt, &turns, &threads, CASES)?
+        }
+    };
+    Ok(if is_well {
+        ExitCode::SUCCESS
+    } else {
+        ExitCode::FAILURE
+    })
 }
