@@ -1,6 +1,10 @@
 -- The record that a command makes stands for the state after the command.
 use Rattle.std.proofs.Common.{◌≡◌, ◌∙◌, ◌==◌, ◌||◌, zero, suc, ℕ, ◌+◌, ◌≤◌, ◌<◌, ◌^◌, List, [], ◌∷◌, slice_index, sum, Option, Some, None, is_some, nat_lt, if◌then◌else◌, true, false, Bool, refl, sym, ap, subst, arith}
-use Rattle.board_model.specs.Durable.{DurableState, refusal_of, after, fallback_by, booted_by, attempted}
+use Rattle.board_model.specs.Durable.{DurableState, HasValidNumbers, refusal_of, after}
+use Rattle.board_model.proofs.Steps.{ByCommand, Drops, Keeps, by_command}
+use Rattle.board_model.proofs.Table.{stays_valid}
+use Rattle.std.specs.Prelude.{IfSome}
+use Rattle.store.specs.Entries.{is_change}
 use Rattle.board_model.specs.declared.durable.Entry.TheVariants as entries
 use Rattle.std.proofs.lemmas.Bool.Decides.{nat_tests}
 use Rattle.std.proofs.lemmas.List.Sums.{sum_by-cons}
@@ -8,7 +12,6 @@ use Rattle.board_model.specs.declared.durable.ImageHead.{ImageHead}
 use Rattle.board_model.specs.Shapes.{Size, IsSize, IsValidAddress}
 use Rattle.board_model.specs.Views.{change_of, durable_of, head_of, reason_number}
 use Rattle.board_model.specs.declared.durable.Command.{Command}
-use Rattle.board_model.specs.declared.durable.Command.TheVariants.{Slot, Reset, Consume, Discard, Tries, Good, Attempt}
 use Rattle.board_model.specs.declared.durable.Durable.{Durable}
 use Rattle.board_model.specs.declared.durable.Trial.{Trial}
 use Rattle.board_model.specs.declared.durable.Reason.{Reason}
@@ -46,71 +49,14 @@ small_reason : (reason : Reason) → reason_number reason < 256 ^ 4
 small_reason NoReason = omega arith
 small_reason SystemFailure = omega arith
 
--- without a refusal the slot is at most 3
-slot_fits : (n : ℕ) → ◌≡◌ {A = Option ℕ} (if nat_lt 3 n then Some 9 else None) None → n ≤ 3
-slot_fits n is = by_test (nat_lt 3 n) refl is
-  where
-    by_test : (b : Bool) → nat_lt 3 n ≡ b → ◌≡◌ {A = Option ℕ} (if b then Some 9 else None) None → n ≤ 3
-    by_test true test is = cc
-    by_test false test is = grind (arith, nat_tests)
+-- the numbers of a state, as its record has them
+trial_valid : (t : Option Trial) → IsTrialIn Two t → IfSome t (λ t. (t.fallback ≤ 3) × (t.left ≤ 7))
+trial_valid None is = tt
+trial_valid (Some t) is = let v = is t refl in (v.1, v.2)
 
--- and a trial has at most 7 boots
-trial_fits : (n boots : ℕ) → ◌≡◌ {A = Option ℕ} (if nat_lt 3 n then Some 9 else (if (boots == 0) || nat_lt 7 boots then Some 19 else None)) None
-    → (n ≤ 3) × (boots ≤ 7)
-trial_fits n boots is = by_tests (nat_lt 3 n) ((boots == 0) || nat_lt 7 boots) refl refl is
-  where
-    by_tests : (a b : Bool) → nat_lt 3 n ≡ a → ((boots == 0) || nat_lt 7 boots) ≡ b → ◌≡◌ {A = Option ℕ} (if a then Some 9 else (if b then Some 19 else None)) None
-        → (n ≤ 3) × (boots ≤ 7)
-    by_tests true b few some is = cc
-    by_tests false true few some is = cc
-    by_tests false false few some is = (grind (arith, nat_tests), grind (arith, nat_tests))
-
--- ---- the trial
-abbrev trial_of : ℕ → ℕ → Trial
-trial_of fallback left = record { fallback = fallback; left = left }
-
-some_trial_in : (f l : ℕ) → f ≤ 3 → l ≤ 7 → IsTrialIn Two (Some (trial_of f l))
-some_trial_in f l few less t is = subst (λ (x : Trial). (Two ≡ Two) × (x.fallback ≤ 3) × (x.left ≤ 7)) (same t is) (refl, few, less)
-  where
-    same : (t : Trial) → Some (trial_of f l) ≡ Some t → trial_of f l ≡ t
-    same t is = cc
-
-fallback_fits : (slot : ℕ) (t : Option Trial) → slot ≤ 3 → IsTrialIn Two t → fallback_by slot t ≤ 3
-fallback_fits slot None few is = few
-fallback_fits slot (Some t) few is = (is t refl).1
-
--- the slot and the trial after a boot
-abbrev slot_by : ℕ → ℕ → ℕ → ℕ
-slot_by slot fallback zero = fallback
-slot_by slot fallback (suc left) = slot
-
-abbrev trial_by : ℕ → ℕ → Option Trial
-trial_by fallback zero = None
-trial_by fallback (suc left) = Some (trial_of fallback left)
-
-abbrev slot_then : ℕ → Option Trial → ℕ
-slot_then slot None = slot
-slot_then slot (Some t) = slot_by slot t.fallback t.left
-
-abbrev trial_then : Option Trial → Option Trial
-trial_then None = None
-trial_then (Some t) = trial_by t.fallback t.left
-
-booted_is : (s : DurableState) (f l : ℕ) → booted_by s f l ≡ record s { slot = slot_by s.slot f l; trial = trial_by f l }
-booted_is s f zero = refl
-booted_is s f (suc l) = refl
-
-attempted_is : (s : DurableState) (t : Option Trial) → s.trial ≡ t → attempted s t ≡ record s { slot = slot_then s.slot t; trial = trial_then t }
-attempted_is s None is = ap (λ (x : Option Trial). record s { trial = x }) is
-attempted_is s (Some t) is = booted_is s t.fallback t.left
-
-booted_fits : (slot f l : ℕ) → slot ≤ 3 → f ≤ 3 → l ≤ 7 → (slot_by slot f l ≤ 3) × IsTrialIn Two (trial_by f l)
-booted_fits slot f zero few less most = (less, λ t is. cc)
-booted_fits slot f (suc l) few less most = (few, some_trial_in f l less (omega (arith, most)))
-
-boot_fits : (slot : ℕ) (t : Option Trial) → slot ≤ 3 → IsTrialIn Two t → (slot_then slot t ≤ 3) × IsTrialIn Two (trial_then t)
-boot_fits slot None few is = (few, λ t none. cc)
-boot_fits slot (Some t) few is = booted_fits slot t.fallback t.left few (is t refl).1 (is t refl).2
+valid_trial : (t : Option Trial) → IfSome t (λ t. (t.fallback ≤ 3) × (t.left ≤ 7)) → IsTrialIn Two t
+valid_trial None valid = λ t is. cc
+valid_trial (Some x) valid = λ t is. subst (λ (y : Trial). (Two ≡ Two) × (y.fallback ≤ 3) × (y.left ≤ 7)) (let same : x ≡ t = cc in same) (refl, valid.0, valid.1)
 
 module _ (size : Size) (r : Record) where
   -- a command that leaves serials and image: the record with that slot, reason and trial
@@ -149,18 +95,29 @@ module _ (size : Size) (r : Record) where
         (sym (ap (λ (s : DurableState). next_of r (durable_of s)) (next content) ∙ ap (made slot reason r.next trial) (kept_image size r.image content)))
         (kept_follows c slot reason trial next fits)
 
+    valid : (c : Command) → refusal_of here (change_of c) ≡ None → IsInRange size r → HasValidNumbers (after here (change_of c))
+    valid c goes range = stays_valid here (change_of c) (range.slot, trial_valid r.trial (trial_two range)) goes
+
+    -- by whether the command drops the image
+    follows_by : (c : Command) → ByCommand c → refusal_of here (change_of c) ≡ None → Follows size r (entries.Command c) (next_of r (durable_of (after here (change_of c))))
+    follows_by c (Drops step drops) goes =
+        subst (Follows size r (entries.Command c)) (sym (ap (λ (s : DurableState). next_of r (durable_of s)) (drops here)))
+        (record {
+          state = λ d. sym (drops (state_of size r d));
+          in_range = no_image;
+          version = refl;
+          image = λ keeps. let dropped = ap is_change step in cc;
+        })
+    follows_by c (Keeps leaves) goes =
+        let next = after here (change_of c) in
+        follows_kept c next.slot next.reason next.trial
+        (λ d.
+        leaves.apart here (image_of size r.image d)
+        ∙ ap (λ (n : ℕ). record (state_of size r d) { slot = next.slot; reason = next.reason; trial = next.trial; next = n }) (leaves.next here))
+        (λ range. let v = valid c goes range in (v.0, valid_trial next.trial v.1))
+
     follows_so : (command : Command) → refusal_of here (change_of command) ≡ None → Follows size r (entries.Command command) (next_of r (durable_of (after here (change_of command))))
-    follows_so (Slot n) goes = follows_kept (Slot n) n r.reason None (λ d. refl) (λ range. (slot_fits n goes, λ t is. cc))
-    follows_so (Reset reason) goes = follows_kept (Reset reason) r.slot reason r.trial (λ d. refl) (λ range. (range.slot, trial_two range))
-    follows_so Consume goes = record { state = λ content. refl; in_range = no_image; version = refl; image = λ keeps. cc }
-    follows_so Discard goes = record { state = λ content. refl; in_range = no_image; version = refl; image = λ keeps. cc }
-    follows_so (Tries n boots) goes =
-        let fits = trial_fits n boots goes in
-        follows_kept (Tries n boots) n r.reason (Some (trial_of (fallback_by r.slot r.trial) boots)) (λ d. refl)
-        (λ range. (fits.0, some_trial_in (fallback_by r.slot r.trial) boots (fallback_fits r.slot r.trial range.slot (trial_two range)) fits.1))
-    follows_so Good goes = follows_kept Good r.slot r.reason None (λ d. refl) (λ range. (range.slot, λ t is. cc))
-    follows_so Attempt goes =
-        follows_kept Attempt (slot_then r.slot r.trial) r.reason (trial_then r.trial) (λ d. attempted_is (state_of size r d) r.trial refl) (λ range. boot_fits r.slot r.trial range.slot (trial_two range))
+    follows_so command goes = follows_by command (by_command command) goes
 
     pub follows : (command : Command) (d : Durable) → refusal_of here (change_of command) ≡ None → d ≡ durable_of (after here (change_of command))
         → Follows size r (entries.Command command) (next_of r d)

@@ -1,11 +1,11 @@
 -- The area that the live image does not use may hold anything: the state stays, also while it is written.
-use Rattle.std.proofs.Common.{◌≡◌, ◌∙◌, ◌⊎◌, zero, suc, inl, inr, ⊎_elim, ℕ, ◌+◌, ◌*◌, ◌≤◌, ◌<◌, List, [], ◌∷◌, Option, Some, None, true, false, refl, sym, ap, subst, arith}
+use Rattle.std.proofs.Common.{◌≡◌, ◌∙◌, ◌⊎◌, ◌||◌, zero, suc, inl, inr, ⊎_elim, ℕ, ◌+◌, ◌*◌, ◌≤◌, ◌<◌, List, [], ◌∷◌, Option, Some, None, true, false, refl, sym, ap, subst, arith}
 use Rattle.std.proofs.lemmas.Bool.{cases_Bool}
-use Rattle.board_model.specs.Durable.{Image, DurableState, Tries, after, attempted, booted_by, fold}
+use Rattle.board_model.specs.Durable.{Image, DurableState, ImageStep, after, fold}
 use Rattle.board_model.specs.Shapes.{Size, area_sectors_of}
-use Rattle.board_model.specs.Views.{durable_of}
-use Rattle.board_model.specs.declared.durable.Command.TheVariants as commands
-use Rattle.board_model.specs.declared.durable.Trial.{Trial}
+use Rattle.board_model.specs.Views.{change_of, durable_of}
+use Rattle.board_model.proofs.Steps.{ByCommand, Drops, Keeps, by_command}
+use Rattle.board_model.specs.declared.durable.Command.{Command}
 use Rattle.disk.specs.Facts.{Content, Facts, Torn, Passes, LeavesSince}
 use Rattle.disk.specs.Moments.{leaves_none, leaves_more}
 use Rattle.layout.specs.Superblocks.{IsSuperblock}
@@ -13,7 +13,7 @@ use Rattle.layout.specs.Records.{selected_by, IsRecord}
 use Rattle.layout.specs.Sizes.{area_start}
 use Rattle.layout.specs.declared.records.Saved.{Saved}
 use Rattle.layout.specs.declared.records.Record.{Record}
-use Rattle.store.specs.Entries.{drop_image}
+use Rattle.store.specs.Entries.{is_change, drop_image}
 use Rattle.store.specs.Taken.{are_taken}
 use Rattle.store.specs.Standing.{image_of, state_of, memory_in, Selects, StandsFor}
 use Rattle.store.specs.Commits.{SameImage, IsUp}
@@ -34,30 +34,23 @@ apart (suc (suc i)) j n k il jl first second from below = absurd (omega arith)
 apart zero (suc (suc j)) n k il jl first second from below = absurd (omega arith)
 apart (suc zero) (suc (suc j)) n k il jl first second from below = absurd (omega arith)
 
--- a boot of a trial leaves the image, and asks nothing of it
-booted_apart : (s : DurableState) (x : Option Image) (f l : ℕ) → booted_by (record s { image = x }) f l ≡ record (booted_by s f l) { image = x }
-booted_apart s x f zero = refl
-booted_apart s x f (suc l) = refl
-
-attempted_apart : (s : DurableState) (x : Option Image) (t : Option Trial) → attempted (record s { image = x }) t ≡ record (attempted s t) { image = x }
-attempted_apart s x None = refl
-attempted_apart s x (Some t) = booted_apart s x t.fallback t.left
-
 -- where a command dropped the image, nothing is left of it
-forget : (m : List ℕ) (journal : List Entry) (s : DurableState) (x y : Option Image) → drop_image journal ≡ true
+forget_by : (c : Command) (e : ByCommand c) (m : List ℕ) (journal : List Entry)
+    → (drop_image journal ≡ true → (s : DurableState) (x y : Option Image) → fold (record s { image = x }) (told m journal) ≡ fold (record s { image = y }) (told m journal))
+    → drop_image (entries.Command c ∷ journal) ≡ true → (s : DurableState) (x y : Option Image)
+    → fold (after (record s { image = x }) (change_of c)) (told m journal) ≡ fold (after (record s { image = y }) (change_of c)) (told m journal)
+forget_by c (Drops step drops) m journal rest dropped s x y =
+    ap (λ (q : DurableState). fold q (told m journal)) (drops (record s { image = x }) ∙ sym (drops (record s { image = y })))
+forget_by c (Keeps leaves) m journal rest dropped s x y =
+    ap (λ (q : DurableState). fold q (told m journal)) (leaves.apart s x)
+    ∙ rest (sym (ap (λ (i : ImageStep). is_change i || drop_image journal) leaves.step) ∙ dropped) (after s (change_of c)) x y
+    ∙ sym (ap (λ (q : DurableState). fold q (told m journal)) (leaves.apart s y))
+
+forget : (m : List ℕ) (journal : List Entry) → drop_image journal ≡ true → (s : DurableState) (x y : Option Image)
     → fold (record s { image = x }) (told m journal) ≡ fold (record s { image = y }) (told m journal)
-forget m [] s x y drops = cc
-forget m (entries.Command (commands.Slot n) ∷ journal) s x y drops = forget m journal (record s { slot = n; trial = None }) x y drops
-forget m (entries.Command (commands.Reset r) ∷ journal) s x y drops = forget m journal (record s { reason = r }) x y drops
-forget m (entries.Command commands.Consume ∷ journal) s x y drops = refl
-forget m (entries.Command commands.Discard ∷ journal) s x y drops = refl
-forget m (entries.Command (commands.Tries n boots) ∷ journal) s x y drops = forget m journal (after s (Tries n boots)) x y drops
-forget m (entries.Command commands.Good ∷ journal) s x y drops = forget m journal (record s { trial = None }) x y drops
-forget m (entries.Command commands.Attempt ∷ journal) s x y drops =
-    ap (λ (q : DurableState). fold q (told m journal)) (attempted_apart s x s.trial)
-    ∙ forget m journal (attempted s s.trial) x y drops
-    ∙ sym (ap (λ (q : DurableState). fold q (told m journal)) (attempted_apart s y s.trial))
-forget m (entries.Suspend h a o ∷ journal) s x y drops = refl
+forget m [] drops s x y = cc
+forget m (entries.Command c ∷ journal) drops s x y = forget_by c (by_command c) m journal (forget m journal) drops s x y
+forget m (entries.Suspend h a o ∷ journal) drops s x y = refl
 
 image_back : (size : Size) (image : Option Saved) (c d : Content) → SameImage size image c d → SameImage size image d c
 image_back size image c d same = record { as_long = sym same.as_long; same = λ saved is k from below. sym (same.same saved is k from below) }
@@ -122,7 +115,7 @@ module _ (a b : Facts) (size : Size) (side : ℕ) (opened current : Record) (jou
     free_fold : fold (state_of size opened b.content) (told (memory_in size current a.content) journal) ≡ now_by a size opened current journal
     free_fold =
         ⊎_elim
-        (λ drops. forget (memory_in size current a.content) journal (state_of size opened a.content) (image_of size opened.image b.content) (image_of size opened.image a.content) drops)
+        (λ drops. forget (memory_in size current a.content) journal drops (state_of size opened a.content) (image_of size opened.image b.content) (image_of size opened.image a.content))
         (λ keeps. ap (λ (s : DurableState). fold s (told (memory_in size current a.content) journal)) (state_same size opened a.content b.content (subst (λ (i : Option Saved). SameImage size i a.content b.content) (same keeps) here)))
         (cases_Bool (drop_image journal))
 

@@ -1,7 +1,8 @@
 -- Which entries of a journal are suspensions, and which of them drop the image.
 -- Source: docs/STORE.md, "A life".
 use Rattle.std.specs.Prelude.{◌&&◌, ◌||◌, Bool, true, false, List, [], ◌∷◌}
-use Rattle.board_model.specs.declared.durable.Command.TheVariants as commands
+use Rattle.board_model.specs.Durable.{ImageStep, MakesImage, DropsImage, LeavesImage, image_step}
+use Rattle.board_model.specs.Views.{change_in}
 use Rattle.board_model.specs.declared.durable.Entry.{Entry}
 use Rattle.board_model.specs.declared.durable.Entry.TheVariants as entries
 
@@ -15,15 +16,13 @@ are_plain [] = true
 are_plain (e ∷ es) = is_plain e && are_plain es
 
 -- it drops or replaces the image that stands
+abbrev pub is_change : ImageStep → Bool
+is_change MakesImage = true
+is_change DropsImage = true
+is_change LeavesImage = false
+
 abbrev pub drops_image : Entry → Bool
-drops_image (entries.Command (commands.Slot n)) = false
-drops_image (entries.Command (commands.Reset r)) = false
-drops_image (entries.Command commands.Consume) = true
-drops_image (entries.Command commands.Discard) = true
-drops_image (entries.Command (commands.Tries n boots)) = false
-drops_image (entries.Command commands.Good) = false
-drops_image (entries.Command commands.Attempt) = false
-drops_image (entries.Suspend hart address opaque) = true
+drops_image e = is_change (image_step (change_in e []))
 
 abbrev pub drop_image : List Entry → Bool
 drop_image [] = false

@@ -327,7 +327,7 @@ impl<D: Disk + Drop> Store<D> {
         ensures life { IsErrOf result Refusal.Down → Failed (failures_at_open self.new) (disk_of self.new).failures }
         ensures stays { StaysOpen (view_of self.old) (view_of self.new) }
     {
-        let ends = ends_life(&entry);
+        let ends = entry.ends_life();
         match commit(&mut self.disk, self.side, &next) {
             Ok(()) => {
                 self.side = self.side.other();
@@ -450,16 +450,16 @@ impl<D: Disk + Drop> Store<D> {
     }
 }
 
-/// The record that the command makes. Refused `BadSlot`, `NoImage`, `BadTries` and `NoTrial` by the table of
-/// commands.
+/// The record that the command makes. Refused by the table of commands, and so by none of the refusals that a
+/// store has of its own.
 fn record_after(old: &Record, command: Command) -> Result<Record, Refusal>
     ensures ok { IfOk result (λ next. (size : Size) (content : Content)
         → (refusal_of (state_of size old.now content) (change_of command) ≡ None)
         × Follows size old.now (Entry.Command command) next) }
     ensures refused { IfErr result (λ e. (size : Size) (content : Content)
         → refusal_of (state_of size old.now content) (change_of command) ≡ Some (number_of_refusal e)) }
-    ensures few { IfErr result (λ e. (e ≡ Refusal.BadSlot) ⊎ (e ≡ Refusal.NoImage) ⊎ (e ≡ Refusal.BadTries)
-        ⊎ (e ≡ Refusal.NoTrial)) }
+    ensures others { IfErr result
+        (λ e. (e ≡ Refusal.Device → ⊥) × (e ≡ Refusal.Down → ⊥) × (e ≡ Refusal.Memory → ⊥)) }
 {
     let durable = old.durable().after(command)?;
     Ok(next_record(old, &durable))
@@ -531,16 +531,5 @@ fn suspended(durable: &Durable, area: Side, counts: LaneCounts) -> Record
         next: durable.next,
         image: durable.image.map(|head| Saved { head, area, counts }),
         trial: durable.trial,
-    }
-}
-
-/// Whether the command ends the life in which it is issued: a reset and a suspension do.
-fn ends_life(entry: &Entry) -> bool
-    ensures { (memory : List ℕ) → result ≡ ends_life (change_in entry.now memory) }
-{
-    match entry {
-        Entry::Command(Command::Reset(_)) => true,
-        Entry::Command(_) => false,
-        Entry::Suspend(..) => true,
     }
 }
