@@ -1,6 +1,8 @@
 -- What each command does to the image and to a trial: proofs above split on these, and not on the commands.
-use Rattle.std.proofs.Common.{◌≡◌, ◌∙◌, ℕ, ◌+◌, List, Option, Some, None, refl, sym, ap, subst}
-use Rattle.board_model.specs.Durable.{DurableState, Image, Change, Slot, Suspend, Consume, Discard, Tries, Good, Attempt, after, image_step, DropsImage, LeavesImage, trial_step, DecidesTrial, SparesTrial}
+use Rattle.std.proofs.Common.{◌≡◌, ◌∙◌, ℕ, ◌+◌, List, length, Option, Some, None, refl, sym, ap, subst, arith}
+use Rattle.std.specs.Prelude.{IfSome}
+use Rattle.board_model.specs.Durable.{DurableState, Image, Change, Suspend, Consume, Discard, Attempt, after, image_step, DropsImage, LeavesImage, trial_step, DecidesTrial, CountsBoot, SparesTrial, TrialStep, IsWhole, CarriesWhole}
+use Rattle.board_model.specs.Shapes.{Size, ram_bytes_of}
 use Rattle.board_model.specs.Views.{change_of, change_in, entry_of}
 use Rattle.board_model.specs.declared.durable.Command.{Command}
 use Rattle.board_model.specs.declared.durable.Command.TheVariants as commands
@@ -39,18 +41,42 @@ image_after P s c (Dropped step drops) made dropped left = subst (λ (x : Durabl
 image_after P s c (Left leaves) made dropped left =
     subst (P (after s c).next) (sym (left_image c leaves s)) (subst (λ (n : ℕ). P n s.image) (sym (leaves.next s)) left)
 
+-- where each suspension carries the memory of its board, so does the image that stands
+whole_by : (size : Size) (s : DurableState) (c : Change) → ByImage c → IsWhole size s → CarriesWhole size c → IsWhole size (after s c)
+whole_by size s c (Made hart address opaque memory) whole carries = carries
+whole_by size s c (Dropped step drops) whole carries = subst (IsWhole size) (sym (drops s)) tt
+whole_by size s c (Left leaves) whole carries = subst (λ (i : Option Image). IfSome i (λ i. length i.memory ≡ ram_bytes_of size)) (sym (left_image c leaves s)) whole
+
+pub whole_after : (size : Size) (s : DurableState) (c : Change) → IsWhole size s → CarriesWhole size c → IsWhole size (after s c)
+whole_after size s c whole carries = whole_by size s c (by_image c) whole carries
+
+-- a command that carries no memory carries none of another size
+pub carries_none : (size : Size) (c : Command) → CarriesWhole size (change_of c)
+carries_none size (commands.Slot n) = tt
+carries_none size c = tt
+
+-- a command that spares the trial
+spared : (c : Change) → trial_step c ≡ SparesTrial → (s : DurableState) → ((after s c).slot ≡ s.slot) × ((after s c).trial ≡ s.trial)
+spared Attempt is s = cc
+spared c is s = grind arith
+
 -- a command, by what it does to the trial
 pub data ByTrial : Change → Type 0 where
   Decides : {c : Change} → trial_step c ≡ DecidesTrial → ByTrial c
   Counts : ByTrial Attempt
   Spares : {c : Change} → trial_step c ≡ SparesTrial → ((s : DurableState) → ((after s c).slot ≡ s.slot) × ((after s c).trial ≡ s.trial)) → ByTrial c
 
+counts : (c : Change) → trial_step c ≡ CountsBoot → ByTrial c
+counts Attempt is = Counts
+counts c is = cc
+
 pub by_trial : (c : Change) → ByTrial c
-by_trial (Slot n) = Decides refl
-by_trial (Tries n boots) = Decides refl
-by_trial Good = Decides refl
-by_trial Attempt = Counts
-by_trial c = Spares refl (λ s. (refl, refl))
+by_trial c = by_step (trial_step c) refl
+  where
+    by_step : (k : TrialStep) → trial_step c ≡ k → ByTrial c
+    by_step DecidesTrial is = Decides is
+    by_step CountsBoot is = counts c is
+    by_step SparesTrial is = Spares is (spared c is)
 
 -- the entry of a command is that command
 pub entry_of_command : (c : Command) → entry_of (change_of c) ≡ entries.Command c

@@ -1,20 +1,14 @@
-use Rattle.std.proofs.Common.{◌≡◌, List, [], ◌∷◌, Option, Some, length, sym, ap, subst, arith}
-use Rattle.std.specs.Prelude.{IfSome}
-use Rattle.board_model.proofs.Steps.{ByImage, Made, Dropped, Left, by_image, left_image}
+use Rattle.std.proofs.Common.{◌≡◌, List, [], ◌∷◌, Some, length, ap, arith}
+use Rattle.board_model.proofs.Steps.{whole_after}
 use Rattle.std.specs.List.{All}
 use Rattle.std.proofs.lemmas.List.Elements.{All-head, All-tail}
 use Rattle.board_model.specs.Durable.{DurableState, Image, Change, after, fold, IsWhole, CarriesWhole}
 use Rattle.board_model.specs.Shapes.{Size, IsSize, ram_bytes_of}
 use Rattle.board_model.proofs.laws.images_stay_whole.Goals as goal
 
-stays : (size : Size) (s : DurableState) (c : Change) → ByImage c → IsWhole size s → CarriesWhole size c → IsWhole size (after s c)
-stays size s c (Made hart address opaque memory) whole carries = carries
-stays size s c (Dropped step drops) whole carries = subst (IsWhole size) (sym (drops s)) tt
-stays size s c (Left leaves) whole carries = subst (λ (i : Option Image). IfSome i (λ i. length i.memory ≡ ram_bytes_of size)) (sym (left_image c leaves s)) whole
-
 all_stay : (size : Size) (s : DurableState) (cs : List Change) → IsWhole size s → All (CarriesWhole size) cs → IsWhole size (fold s cs)
 all_stay size s [] whole carry = whole
-all_stay size s (c ∷ cs) whole carry = all_stay size (after s c) cs (stays size s c (by_image c) whole (All-head (CarriesWhole size) c cs carry)) (All-tail (CarriesWhole size) c cs carry)
+all_stay size s (c ∷ cs) whole carry = all_stay size (after s c) cs (whole_after size s c whole (All-head (CarriesWhole size) c cs carry)) (All-tail (CarriesWhole size) c cs carry)
 
 some_bytes : (size : Size) (s : DurableState) (i : Image) → IsSize size → IsWhole size s → s.image ≡ Some i → i.memory ≡ [] → ⊥
 some_bytes size s i is whole image none =
@@ -23,7 +17,7 @@ some_bytes size s i is whole image none =
     omega (arith, is.2, long, short)
 
 pub returns-clause-next : goal.returns-clause-next
-returns-clause-next c = λ size s change. stays size s change (by_image change)
+returns-clause-next c = whole_after
 
 pub returns-clause-all : goal.returns-clause-all
 returns-clause-all c = all_stay
