@@ -1,6 +1,7 @@
 -- What the store says of its calls, as events.
 use Rattle.std.proofs.Common.{◌≡◌, ◌==◌, ◌||◌, ◌∙◌, ◌⊎◌, inl, inr, ℕ, List, [], ◌∷◌, ◌++◌, Option, Some, None, Result, Ok, Err, Bool, true, false, nat_lt, is_some, if◌then◌else◌, refl, sym, ap, subst}
-use Rattle.board_model.specs.Durable.{DurableState, Image, Change, Slot, Reset, Suspend, Consume, Discard, Tries, Good, Attempt, refusal_of, after, fold, ends_life}
+use Rattle.board_model.specs.Durable.{DurableState, Image, Change, Consume, refusal_of, after, fold, ends_life}
+use Rattle.board_model.proofs.Table.{of_table}
 use Rattle.board_model.specs.declared.refusal.Refusal.{Refusal}
 use Rattle.board_model.specs.declared.refusal.Refusal.TheVariants.{BadShape, Device, Down, Over, JournalFull, Memory}
 use Rattle.hart.specs.State.{ArchState as HartState}
@@ -71,19 +72,8 @@ doubtful w old new c lived calm reaches is = (
 )
 
 -- the table refuses nothing by 6
-one_of : (t : Bool) (x y : Option ℕ) → (x ≡ Some 6 → ⊥) → (y ≡ Some 6 → ⊥) → (if t then x else y) ≡ Some 6 → ⊥
-one_of true x y p q = p
-one_of false x y p q = q
-
 not_six : (s : DurableState) (c : Change) → refusal_of s c ≡ Some 6 → ⊥
-not_six s (Slot n) h = one_of (nat_lt 3 n) (Some 9) None (λ is. cc) (λ is. cc) h
-not_six s (Reset r) h = cc
-not_six s (Suspend x y z m) h = one_of _ (Some 12) None (λ is. cc) (λ is. cc) h
-not_six s Consume h = one_of (is_some s.image) None (Some 8) (λ is. cc) (λ is. cc) h
-not_six s Discard h = one_of (is_some s.image) None (Some 8) (λ is. cc) (λ is. cc) h
-not_six s (Tries n boots) h = one_of (nat_lt 3 n) (Some 9) _ (λ is. cc) (one_of ((boots == 0) || nat_lt 7 boots) (Some 19) None (λ is. cc) (λ is. cc)) h
-not_six s Good h = one_of (is_some s.trial) None (Some 20) (λ is. cc) (λ is. cc) h
-not_six s Attempt h = one_of (is_some s.trial) None (Some 20) (λ is. cc) (λ is. cc) h
+not_six s c is = let six = of_table s c 6 is in cc
 
 -- 6 is a command in doubt, and another refusal changes nothing
 down : (old new : Life) (c : Change) → Refused old c Down new → Reaches old c × (new ≡ record old { doubt = Some c })

@@ -1,7 +1,7 @@
 -- What a list of events tells of its past.
 use Rattle.std.proofs.Common.{◌≡◌, ◌∙◌, ◌⊎◌, ⊎_elim, ℕ, List, [], ◌∷◌, ◌++◌, Option, Some, None, false, refl, sym, ap, subst, append_assoc}
 use Rattle.std.proofs.lemmas.List.{append-nil}
-use Rattle.board_model.specs.Durable.{Image, Change, Slot, Reset, Suspend, Consume, Discard, Tries, Good, Attempt, refusal_of}
+use Rattle.board_model.specs.Durable.{Image, Change, Consume, refusal_of}
 use Rattle.lives.specs.Events.{Event, WasOpened, WasAcknowledged, WasRefused, WasDoubtful, WasCut, WasResumed, World, new_world, serial_of, goes_on, Happens, Runs}
 use Rattle.lives.specs.Histories.{IsBeforeAnswer, AreBeforeAnswer, AnswersOnce, EndsCommands, HaveNoOpen, HaveNoCommand}
 
@@ -52,14 +52,8 @@ kept_told past w v e one same told n is = one_more past e n one (told n (sym sam
 
 step : (past : List Event) (w : World) (e : Event) (v : World) → Runs new_world past w → Happens w e v → IsTold past w → IsTold (past ++ e ∷ []) v
 step past w (WasOpened s) v run did told = none_told _ v (ap (λ (x : World). x.dropped) did.2)
-step past w (WasAcknowledged (Slot n)) v run did told = kept_told past w v _ tt (ap (λ (x : World). x.dropped) did.1) told
-step past w (WasAcknowledged (Reset r)) v run did told = kept_told past w v _ tt (ap (λ (x : World). x.dropped) did.1) told
-step past w (WasAcknowledged (Suspend h a o m)) v run did told = kept_told past w v _ tt (ap (λ (x : World). x.dropped) did.1) told
-step past w (WasAcknowledged Discard) v run did told = kept_told past w v _ tt (ap (λ (x : World). x.dropped) did.1) told
-step past w (WasAcknowledged (Tries n boots)) v run did told = kept_told past w v _ tt (ap (λ (x : World). x.dropped) did.1) told
-step past w (WasAcknowledged Good) v run did told = kept_told past w v _ tt (ap (λ (x : World). x.dropped) did.1) told
-step past w (WasAcknowledged Attempt) v run did told = kept_told past w v _ tt (ap (λ (x : World). x.dropped) did.1) told
 step past w (WasAcknowledged Consume) v run did told = λ n is. consumed past w w.state.image n run refl (sym (ap (λ (x : World). x.dropped) did.1) ∙ is)
+step past w (WasAcknowledged c) v run did told = kept_told past w v _ tt (ap (λ (x : World). x.dropped) did.1) told
 step past w (WasRefused c) v run did told = kept_told past w v _ tt (ap (λ (x : World). x.dropped) did) told
 step past w (WasDoubtful c) v run did told = kept_told past w v _ tt (ap (λ (x : World). x.dropped) did.1) told
 step past w WasCut v run did told = none_told _ v (ap (λ (x : World). x.dropped) did)

@@ -1,8 +1,8 @@
 -- What holds of a world, from event to event.
 use Rattle.std.proofs.Common.{◌≡◌, ◌∙◌, ⊎_elim, ℕ, ◌+◌, ◌<◌, ◌≤◌, List, [], ◌∷◌, ◌++◌, Option, Some, None, true, refl, sym, ap, subst, arith}
 use Rattle.std.specs.Bool.{⊤}
-use Rattle.board_model.specs.Durable.{DurableState, Image, Change, Slot, Reset, Suspend, Consume, Discard, Tries, Good, Attempt, formatted, after, fold}
-use Rattle.board_model.proofs.Attempts.{attempt_next, attempt_image}
+use Rattle.board_model.specs.Durable.{DurableState, Image, Change, Consume, formatted, after, fold}
+use Rattle.board_model.proofs.Steps.{by_image, image_after}
 use Rattle.lives.specs.Events.{Event, WasOpened, WasAcknowledged, WasRefused, WasDoubtful, WasCut, WasResumed, World, new_world, Finds, serial_of, dropped_by, Happens, Runs, AreBelow, IsAbove, Rises}
 
 -- the image's serial was given out, and no hart with it or a later one was answered
@@ -48,17 +48,11 @@ abbrev pub InOrder : List ℕ → DurableState → Type 0
 InOrder resumed s = AreBelow resumed s.next × Fresh resumed s.next s.image
 
 good_after : (resumed : List ℕ) (s : DurableState) (c : Change) → InOrder resumed s → InOrder resumed (after s c)
-good_after resumed s (Slot n) good = good
-good_after resumed s (Reset r) good = good
-good_after resumed s (Suspend h a o m) good = (below_more resumed s.next (s.next + 1) (omega arith) good.0, (omega arith, good.0))
-good_after resumed s Consume good = (good.0, tt)
-good_after resumed s Discard good = (good.0, tt)
-good_after resumed s (Tries n boots) good = good
-good_after resumed s Good good = good
-good_after resumed s Attempt good = (
-  subst (AreBelow resumed) (sym (attempt_next s s.trial)) good.0,
-  subst (λ (n : ℕ). Fresh resumed n (after s Attempt).image) (sym (attempt_next s s.trial)) (subst (Fresh resumed s.next) (sym (attempt_image s s.trial)) good.1),
-)
+good_after resumed s c good =
+    image_after (λ next image. AreBelow resumed next × Fresh resumed next image) s c (by_image c)
+    (λ i is. (below_more resumed s.next (s.next + 1) (omega arith) good.0, (omega (arith, is), subst (AreBelow resumed) (sym is) good.0)))
+    (good.0, tt)
+    good
 
 held_none : (resumed : List ℕ) (next : ℕ) (image : Option Image) → Held resumed next image None
 held_none resumed next None = tt
@@ -79,17 +73,16 @@ held_consume : (resumed : List ℕ) (next : ℕ) (image : Option Image) → Fres
 held_consume resumed next None fresh = tt
 held_consume resumed next (Some i) fresh = fresh
 
+held_by : (w : World) (c : Change) → IsSound w → Held w.resumed (after w.state c).next (after w.state c).image w.dropped
+held_by w c sound =
+    image_after (λ next image. Held w.resumed next image w.dropped) w.state c (by_image c)
+    (λ i is. held_suspend w.resumed w.state.next w.state.image w.dropped i is sound.fresh sound.held)
+    (held_less w.resumed w.state.next w.state.image w.dropped sound.fresh sound.held)
+    sound.held
+
 held_after : (w : World) (c : Change) → IsSound w → Held w.resumed (after w.state c).next (after w.state c).image (dropped_by w c)
-held_after w (Slot n) sound = sound.held
-held_after w (Reset r) sound = sound.held
-held_after w (Suspend h a o m) sound = held_suspend w.resumed w.state.next w.state.image w.dropped (record { serial = w.state.next; hart = h; address = a; opaque = o; memory = m }) refl sound.fresh sound.held
 held_after w Consume sound = held_consume w.resumed w.state.next w.state.image sound.fresh
-held_after w Discard sound = held_less w.resumed w.state.next w.state.image w.dropped sound.fresh sound.held
-held_after w (Tries n boots) sound = sound.held
-held_after w Good sound = sound.held
-held_after w Attempt sound =
-    subst (λ (n : ℕ). Held w.resumed n (after w.state Attempt).image w.dropped) (sym (attempt_next w.state w.state.trial))
-    (subst (λ (i : Option Image). Held w.resumed w.state.next i w.dropped) (sym (attempt_image w.state w.state.trial)) sound.held)
+held_after w c sound = held_by w c sound
 
 -- an answer
 resumed_fresh : (resumed : List ℕ) (next : ℕ) (image : Option Image) (n : ℕ) → Fresh resumed next image → Held resumed next image (Some n) → Fresh (resumed ++ n ∷ []) next image
