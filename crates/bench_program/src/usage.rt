@@ -6,6 +6,7 @@ ghost use Rattle.clap.specs.declared.builder.value_parser.ValueParser.{ValuePars
 ghost use Rattle.clap.specs.declared.parser.matches.Found.{Found};
 ghost use Rattle.bench_program.specs.Usage.{crew_rule, sbibench, savers_named, work_named, IsFlag};
 
+use board_model::refusal_lines;
 use clap::error::ErrorKind;
 use clap::{Arg, ArgAction, ArgMatches, Command, Error};
 use command_line::{NoWork, flag, show, words};
@@ -25,7 +26,11 @@ With --sweep or --faults a bench runs in place of the report: the script again
 and again, with a power cut or a failure at each call of the disk, and after
 each run a power-on that must find what the disk was told to keep.";
 
-const NUMBERS: &str = "\
+/// The statuses, the refusals with their common words, and a first script.
+macro_rules! numbers {
+    ([$($line:literal)*]) => {
+        concat!(
+            "\
 Status:
   0  the script ran and its report was written; what was refused stands in the
      report
@@ -37,28 +42,9 @@ Status:
   3  a bench found something wrong: its last line counts how often
 
 Refusals, on standard error and in reports:
-   1  the disk is not formatted
-   2  the disk is formatted already
-   3  a number of the shape is out of its range, or the disk, the payload or
-      the RAM does not fit the shape
-   4  the selected record is not in its form
-   5  the device failed, and the durable state is unchanged
-   6  the fate of a command is in doubt until the disk is opened again
-   7  this life has ended by a reset or a suspension
-   8  no image stands
-   9  the boot slot is above 3
-  10  the journal of this life is full
-  11  memory was refused
-  12  every serial has been given out
-  13  a place of the image is not in its form
-  14  line K of the script is not in its form
-  15  an image stands, and a fresh boot would leave it behind
-  16  the report could not be written
-  17  the script has a line that no bench runs, or formats no disk
-  18  the board does not doze, or was woken already
-  19  a trial has 1 to 7 boots
-  20  no trial of a boot slot stands
-
+",
+            $($line,)*
+            "
 A first script:
   board 1 1 1
   format
@@ -68,7 +54,15 @@ A first script:
   on fresh
 
 docs/SCRIPT.md of the source has the language, docs/REFUSALS.md the refusals,
-and crates/examples/data more scripts, each with its report.";
+and crates/examples/data more scripts, each with its report.",
+        )
+    };
+    ([$($line:literal)*] [$name:ident $next:literal] $($rest:tt)*) => {
+        numbers!([$($line)* $next] $($rest)*)
+    };
+}
+
+const NUMBERS: &str = refusal_lines!(numbers);
 
 /// The option that chooses the crew.
 const CREW: &str = "crew";

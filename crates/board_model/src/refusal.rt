@@ -52,6 +52,39 @@ pub enum Refusal {
     NoTrial,
 }
 
+/// Hands the refusals to the macro `$help` of a program, in the order of their numbers: an empty list, and then of
+/// each refusal its name and the line that a help has for it. Such a macro goes from row to row, and puts into the
+/// list the row's line, the program's own line for that refusal, or none where the program never answers it; where no
+/// row is left it makes the text of the list. So a program's help says of the refusals only what is its own.
+#[macro_export]
+macro_rules! refusal_lines {
+    ($help:ident) => {
+        $help! {
+            []
+            [NotFormatted "   1  the disk is not formatted\n"]
+            [AlreadyFormatted "   2  the disk is formatted already\n"]
+            [BadShape "   3  a number of the shape is out of its range, or the disk, the payload or\n      the RAM does not fit the shape\n"]
+            [BadRecord "   4  the selected record is not in its form\n"]
+            [Device "   5  the device failed, and the durable state is unchanged\n"]
+            [Down "   6  the fate of a command is in doubt until the disk is opened again\n"]
+            [Over "   7  this life has ended by a reset or a suspension\n"]
+            [NoImage "   8  no image stands\n"]
+            [BadSlot "   9  the boot slot is above 3\n"]
+            [JournalFull "  10  the journal of this life is full\n"]
+            [Memory "  11  memory was refused\n"]
+            [SerialsSpent "  12  every serial has been given out\n"]
+            [BadImage "  13  a place of the image is not in its form\n"]
+            [BadScript "  14  line K of the script is not in its form\n"]
+            [ImageThere "  15  an image stands, and a fresh boot would leave it behind\n"]
+            [Output "  16  the report could not be written\n"]
+            [NotPlain "  17  the script has a line that no bench runs, or formats no disk\n"]
+            [NotDozing "  18  the board does not doze, or was woken already\n"]
+            [BadTries "  19  a trial has 1 to 7 boots\n"]
+            [NoTrial "  20  no trial of a boot slot stands\n"]
+        }
+    };
+}
+
 impl Refusal {
     /// The number of the refusal, as reports and fault texts print it (docs/REFUSALS.md).
     pub fn code(self) -> u32

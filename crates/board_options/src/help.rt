@@ -5,6 +5,7 @@ ghost use Rattle.clap.specs.Words.{app_of, rule_of};
 ghost use Rattle.clap.specs.declared.builder.value_parser.ValueParser.{ValueParser as Parser};
 ghost use Rattle.board_options.specs.Lines.{path_rule, number_rule, board_line, sbiboard};
 
+use board_model::refusal_lines;
 use clap::builder::ValueParser;
 use clap::{Arg, ArgAction, Command};
 use command_line::flag;
@@ -24,7 +25,12 @@ The disk is a file: it is read at the start, or made with --new, and written at
 the end. So leave by 'quit' or the end of input: a session that is killed
 (Ctrl-C) LOSES all that it acknowledged. With --sync it loses nothing of it.";
 
-const NUMBERS: &str = "\
+/// The console's lines, the statuses, the refusals, and a first session. This program has words of its own for what it
+/// is refused beside a disk, and never answers what a script is refused.
+macro_rules! numbers {
+    ([$($line:literal)*]) => {
+        concat!(
+            "\
 Console, a line each:
   slot S     sets the boot slot: 'slot ok K' or 'slot refused K'
   discard    drops the image: 'discard ok K' or 'discard refused K'
@@ -46,30 +52,36 @@ Status:
   2  a fault of the command line
 
 Refusals:
-   1  the disk is not formatted
-   2  the disk is formatted already
-   3  the disk's file is not whole sectors or too small for its board, or a
-      payload is longer than RAM
-   4  the selected record is not in its form
-   5  the device failed, and the durable state is unchanged
-   6  the fate of a command is in doubt until the disk is opened again
-   7  this life has ended by a reset or a suspension
-   8  no image stands
-   9  the boot slot is above 3
-  10  the journal of this life is full
-  11  memory was refused, or a thread
-  12  every serial has been given out
-  13  a place of the image is not in its form
-  15  an image stands, and a fresh boot would leave it behind
-  16  an answer could not be written
-  18  the board does not doze, or was woken already
-  19  a trial has 1 to 7 boots
-  20  no trial of a boot slot stands
-
+",
+            $($line,)*
+            "
 A first session:
   printf 'slot 1\\nstate\\nquit\\n' | sbiboard --disk board.disk --mode fresh --new --sync
 
-docs/CONSOLE.md of the source has the rest.";
+docs/CONSOLE.md of the source has the rest.",
+        )
+    };
+    ([$($line:literal)*] [BadShape $next:literal] $($rest:tt)*) => {
+        numbers!([$($line)* "   3  the disk's file is not whole sectors or too small for its board, or a\n      payload is longer than RAM\n"] $($rest)*)
+    };
+    ([$($line:literal)*] [Memory $next:literal] $($rest:tt)*) => {
+        numbers!([$($line)* "  11  memory was refused, or a thread\n"] $($rest)*)
+    };
+    ([$($line:literal)*] [BadScript $next:literal] $($rest:tt)*) => {
+        numbers!([$($line)*] $($rest)*)
+    };
+    ([$($line:literal)*] [Output $next:literal] $($rest:tt)*) => {
+        numbers!([$($line)* "  16  an answer could not be written\n"] $($rest)*)
+    };
+    ([$($line:literal)*] [NotPlain $next:literal] $($rest:tt)*) => {
+        numbers!([$($line)*] $($rest)*)
+    };
+    ([$($line:literal)*] [$name:ident $next:literal] $($rest:tt)*) => {
+        numbers!([$($line)* $next] $($rest)*)
+    };
+}
+
+const NUMBERS: &str = refusal_lines!(numbers);
 
 pub const DISK: &str = "disk";
 
