@@ -1,3 +1,4 @@
 pub mod Keeps
+pub mod Parting
 pub mod Alone
 pub mod Computed

@@ -1,5 +1,5 @@
 use Rattle.std.proofs.Common.{arith}
-use Rattle.ipi.proofs.Keeps.{joins}
+use Rattle.ipi.proofs.Parting.{joins}
 use Rattle.ipi.proofs.seats.PendingTableSeatTable.join_two.Goals as goal
 
 pub join_seat-requires : goal.join_seat-requires

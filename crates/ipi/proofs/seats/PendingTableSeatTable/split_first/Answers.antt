@@ -1,5 +1,5 @@
 use Rattle.std.proofs.Common.{arith}
-use Rattle.ipi.proofs.Keeps.{splits}
+use Rattle.ipi.proofs.Parting.{splits}
 use Rattle.ipi.proofs.seats.PendingTableSeatTable.split_first.Goals as goal
 
 pub split_seat-others-requires : goal.split_seat-others-requires

@@ -6,7 +6,7 @@ use Rattle.ipi.specs.Ledger.{opening_pending_view, PendingSeatView}
 use Rattle.ipi.specs.Pairs.{Shows}
 use Rattle.tallies.proofs.Noted.{opens_numbered, opens_seated}
 use Rattle.ipi.specs.declared.view.Action.{Action}
-use Rattle.ipi.proofs.Keeps.{opens, opens_shown}
+use Rattle.ipi.proofs.Parting.{opens, opens_shown}
 use Rattle.ipi.proofs.table.PendingTable.new.Goals as goal
 
 zeros : (n m i : ℕ) → slice_index (take n (replicate m 0)) i ≡ 0
