@@ -265,6 +265,33 @@ fn format_fails(
     )
 }
 
+/// The same with a cut behind it, which settles whether the superblock stands that was written.
+fn failed_format_is_cut(
+    rt: &(impl Abort + Threads + Sync),
+    alloc: Global,
+    call: &Call,
+    torn: &Torn,
+) -> Result<(), Fail> {
+    let again: &[u8] = if call.number >= 5 && torn.is_formatted {
+        b"format refused 2\n"
+    } else {
+        b"format ok\n"
+    };
+    told(
+        rt,
+        alloc,
+        &[
+            BOARD,
+            b"failat ",
+            call.word,
+            b"\nformat\ncut ",
+            torn.word,
+            b"format\non fresh\n",
+        ],
+        &[BLANK, b"armed\nformat refused 5\ncut\n", again, FOUND_0],
+    )
+}
+
 /// An open that fails is refused 5, and the next one finds what stood.
 fn on_fails(rt: &(impl Abort + Threads + Sync), alloc: Global, call: &Call) -> Result<(), Fail> {
     told(
@@ -363,12 +390,16 @@ fn a_failure_at_each_call_is_answered(rt: HostRuntime) -> Result<(), Fail> {
         for torn in &FILLS {
             slot_fails(&rt, alloc, call, torn)?;
             reset_fails(&rt, alloc, call, torn)?;
+            failed_format_is_cut(&rt, alloc, call, torn)?;
         }
         format_fails(&rt, alloc, call)?;
         on_fails(&rt, alloc, call)?;
     }
     for call in &LAST_TWO {
         format_fails(&rt, alloc, call)?;
+        for torn in &FILLS {
+            failed_format_is_cut(&rt, alloc, call, torn)?;
+        }
     }
     Ok(())
 }

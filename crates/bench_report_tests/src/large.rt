@@ -33,7 +33,7 @@ fn a_full_journal_refuses_a_guests_reset(rt: HostRuntime) -> Result<(), Fail> {
     script.extend_from_slice(b"board 1 1 1\nformat\non fresh\n")?;
     add_times(&mut script, b"slot 1\n", 4_097)?;
     script.extend_from_slice(
-        b"call 0 srst 0 0 0\ncall 0 susp 0 0 0x80000000 9\ncut 00\non fresh\nslot 2\n",
+        b"slot 9\ncall 0 srst 0 0 0\ncall 0 susp 0 0 0x80000000 9\ncut 00\non fresh\nslot 2\n",
     )?;
     let mut text = Vec::new(alloc);
     text.extend_from_slice(
@@ -44,7 +44,7 @@ fn a_full_journal_refuses_a_guests_reset(rt: HostRuntime) -> Result<(), Fail> {
         text.extend_from_slice(line.as_bytes())?;
     }
     text.extend_from_slice(
-        b"slot refused 10\ncall 0 error -1 value 0x0000000000000000\ncall 0 dozing\ncut\nfound slot 1 reason 0 image none next 0\non fresh\nslot ok 1\n",
+        b"slot refused 10\nslot refused 10\ncall 0 error -1 value 0x0000000000000000\ncall 0 dozing\ncut\nfound slot 1 reason 0 image none next 0\non fresh\nslot ok 1\n",
     )?;
     reports(&rt, alloc, &script, &text)
 }

@@ -3,10 +3,9 @@ ghost use Rattle.std.specs.Prelude.{◌≡◌, IfOk};
 
 use board::{Board, Payloads, Unpowered};
 use board_model::{
-    Addr, BootMode, Boots, Command, Durable, HartId, ImageHead, RAM_BASE, Reason, Refusal, Shape,
-    Slot, Trial,
+    Addr, BootMode, Boots, HartId, ImageHead, RAM_BASE, Reason, Refusal, Shape, Slot, Trial,
 };
-use crew::{Crew, Sequential};
+use crew::Sequential;
 use disk::Disk;
 use layout::{Record, Saved, Side, Version, gate_bytes, record_bytes, superblock_bytes};
 use machine::{Turned, Word};
@@ -19,20 +18,14 @@ use std::test::Fail;
 use std::thread::Threads;
 use store::format;
 
-/// A disk that was formatted for a board of that shape, and has just the sectors that it needs.
-pub fn formatted_for(alloc: Global, shape: Shape) -> Result<SimDisk, Fail>
-    ensures { IfOk result (λ disk. (⟦<SimDisk as Disk>⟧.facts disk).lent.lanes ≡ 0) }
-{
-    let mut disk = SimDisk::blank(alloc, shape.sectors())?;
-    format(&mut disk, &shape)?;
-    Ok(disk)
-}
-
 /// A disk that was formatted for a board of so many harts, of one page and one lane: 26 sectors.
 pub fn formatted(alloc: Global, harts: u64) -> Result<SimDisk, Fail>
     ensures { IfOk result (λ disk. (⟦<SimDisk as Disk>⟧.facts disk).lent.lanes ≡ 0) }
 {
-    formatted_for(alloc, Shape::new(harts, 1, 1)?)
+    let shape = Shape::new(harts, 1, 1)?;
+    let mut disk = SimDisk::blank(alloc, shape.sectors())?;
+    format(&mut disk, &shape)?;
+    Ok(disk)
 }
 
 /// A disk of 26 sectors, of which these come first, and zeros.
@@ -62,17 +55,18 @@ fn image() -> Option<Saved> {
     })
 }
 
-/// The sector of a record with that image, of slot 3, where so many boots are left of a trial that falls back to
-/// slot 1.
-fn record_with_image(left: Option<Boots>) -> Option<[u8; 512]> {
-    let fallback = Slot::new(1)?;
+/// The sector of a record with that image, of slot 3, which has one boot left of a trial that falls back to slot 1.
+fn record_with_image() -> Option<[u8; 512]> {
     let record = Record {
         version: Version::Two,
         slot: Slot::new(3)?,
         reason: Reason::SystemFailure,
         next: 5,
         image: Some(image()?),
-        trial: left.map(|left| Trial { fallback, left }),
+        trial: Some(Trial {
+            fallback: Slot::new(1)?,
+            left: Boots::new(1)?,
+        }),
     };
     Some(record_bytes(&record))
 }
@@ -82,16 +76,9 @@ fn record_with_image(left: Option<Boots>) -> Option<[u8; 512]> {
 pub fn with_image(alloc: Global) -> Result<SimDisk, Fail>
     ensures { IfOk result (λ disk. (⟦<SimDisk as Disk>⟧.facts disk).lent.lanes ≡ 0) }
 {
-    with_image_and_trial(alloc, None)
-}
-
-/// The same, where so many boots are left of a trial of that slot, which falls back to slot 1.
-pub fn with_image_and_trial(alloc: Global, left: Option<Boots>) -> Result<SimDisk, Fail>
-    ensures { IfOk result (λ disk. (⟦<SimDisk as Disk>⟧.facts disk).lent.lanes ≡ 0) }
-{
     let superblock = superblock_bytes(&Shape::new(1, 1, 1)?);
     let gate = gate_bytes(Side::first().other());
-    let record = record_with_image(left).ok_or("record")?;
+    let record = record_with_image().ok_or("record")?;
     disk_of(alloc, &[superblock, gate, [0; 512], record])
 }
 
@@ -154,30 +141,6 @@ pub fn booted(
     Ok(powered(alloc, formatted(alloc, harts)?, mode, payloads)?)
 }
 
-/// A board whose disk has an image.
-pub fn imaged(alloc: Global, mode: BootMode, payloads: &Payloads) -> Result<Board<SimDisk>, Fail> {
-    Ok(powered(alloc, with_image(alloc)?, mode, payloads)?)
-}
-
-/// The number of the receipt for a slot.
-pub fn set_slot(board: &mut Board<SimDisk>, slot: u32) -> Result<u32, Refusal> {
-    Ok(board.console(Command::Slot(slot))?.number())
-}
-
-/// The number of the receipt for a slot on trial, for so many boots.
-pub fn set_trial(board: &mut Board<SimDisk>, slot: u32, boots: u32) -> Result<u32, Refusal> {
-    Ok(board.console(Command::Tries(slot, boots))?.number())
-}
-
-/// The number of the receipt for a discarded image.
-pub fn discard(board: &mut Board<SimDisk>) -> Result<u32, Refusal> {
-    Ok(board.console(Command::Discard)?.number())
-}
-
-pub const IDLE: Word = Word::Own(Turned::Idle);
-
-pub const ENTERED: Word = Word::Own(Turned::Entered);
-
 pub const NEXT: Word = Word::Own(Turned::Next);
 
 /// One lane after another.
@@ -196,20 +159,10 @@ pub fn turns<R: AllocGlobal + Threads + Sync>(
     number: u64,
     count: u32,
 ) -> Option<(u32, Word)> {
-    turns_by(rt, &in_turn(rt)?, board, number, count)
-}
-
-/// The same, by that crew.
-pub fn turns_by<R: AllocGlobal, C: Crew>(
-    rt: &R,
-    crew: &C,
-    board: &mut Board<SimDisk>,
-    number: u64,
-    count: u32,
-) -> Option<(u32, Word)> {
+    let crew = in_turn(rt)?;
     let id = HartId::new(number)?;
     if board.machine().has(id) && 1 <= count && !board.struck() {
-        Some(board.turns(rt.alloc(), crew, id, count))
+        Some(board.turns(rt.alloc(), &crew, id, count))
     } else {
         None
     }
@@ -228,16 +181,6 @@ pub fn call<R: AllocGlobal + Threads + Sync>(
     let [eid, fid, a0, a1, a2] = asked;
     if board.machine().has(id) {
         board.call(rt.alloc(), &crew, id, eid, fid, a0, a1, a2)
-    } else {
-        None
-    }
-}
-
-/// Whether an interrupt is pending for a hart that the board has.
-pub fn pending(board: &mut Board<SimDisk>, number: u64) -> Option<bool> {
-    let id = HartId::new(number)?;
-    if board.machine().has(id) {
-        Some(board.pending(id))
     } else {
         None
     }
@@ -272,10 +215,4 @@ pub fn shown(board: &Board<SimDisk>, number: u64) -> Option<(u64, u64, u64)> {
 /// These two have to be equal.
 pub fn same<T: PartialEq + Debug + Drop>(rt: &impl Abort, found: T, wanted: T) {
     assert_eq!(rt; found, wanted);
-}
-
-/// What stands: the image's serial and opaque value, the slot, the reason and the next serial.
-pub fn numbers(state: Durable) -> (Option<(u64, u64)>, u32, Reason, u64) {
-    let image = state.image.map(|head| (head.serial, head.opaque));
-    (image, state.slot.number(), state.reason, state.next)
 }

@@ -4,18 +4,8 @@
 #[cfg(test)]
 mod boots;
 #[cfg(test)]
-mod dozes;
-#[cfg(test)]
 mod ends;
-#[cfg(test)]
-mod faults;
 #[cfg(test)]
 mod fixtures;
 #[cfg(test)]
-mod largest;
-#[cfg(test)]
 mod refusals;
-#[cfg(test)]
-mod resumes;
-#[cfg(test)]
-mod trials;

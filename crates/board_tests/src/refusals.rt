@@ -1,15 +1,17 @@
 //! Refused power-ons, in the order of docs/BOARD.md: the open, the mode, the payloads, and then what the mode
 //! does.
-ghost use Rattle.std.specs.Prelude.{◌≡◌};
+ghost use Rattle.std.specs.Prelude.{◌≡◌, IfOk};
 
-use crate::fixtures::{formatted, one_payload, powered, same, unpowered, with_image};
+use crate::fixtures::{call, formatted, one_payload, powered, same, shown, unpowered, with_image};
 use board::{Board, Payloads, Unpowered};
-use board_model::{BootMode, Refusal};
+use board_model::{BootMode, RAM_BASE, Refusal};
 use disk::Disk;
+use machine::Word;
 use simdisk::SimDisk;
 use std::alloc::Global;
 use std::process::Abort;
 use std::test::Fail;
+use std::thread::Threads;
 
 /// Payloads that one page of RAM does not hold, in a slot that no test boots.
 fn too_long(alloc: Global) -> Result<Payloads, Fail> {
@@ -69,6 +71,7 @@ fn no_image_comes_before_the_payloads(rt: HostRuntime) -> Result<(), Fail> {
     Ok(())
 }
 
+/// The image's slot is on trial, and no boot is counted.
 #[test]
 fn an_image_comes_before_the_payloads(rt: HostRuntime) -> Result<(), Fail> {
     let payloads = too_long(rt.alloc())?;
@@ -81,15 +84,6 @@ fn an_image_comes_before_the_payloads(rt: HostRuntime) -> Result<(), Fail> {
         let refusal = over_image(&rt, rt.alloc(), mode, &payloads)?;
         same(&rt, refusal, want);
     }
-    Ok(())
-}
-
-/// The area of this image has no places that are in form: it reads as no memory.
-#[test]
-fn an_image_without_its_memory_is_refused(rt: HostRuntime) -> Result<(), Fail> {
-    let payloads = Payloads::new(rt.alloc());
-    let refusal = over_image(&rt, rt.alloc(), BootMode::Resume, &payloads)?;
-    same(&rt, refusal, Refusal::BadImage);
     Ok(())
 }
 
@@ -128,5 +122,34 @@ fn memory_refused_after_the_open_tells_what_it_found(rt: HostRuntime) -> Result<
     let disk = formatted(rt.alloc(), 8)?;
     let powered = Board::power_on(rt.alloc(), disk, BootMode::Fresh, &payloads);
     told(&rt, powered);
+    Ok(())
+}
+
+/// A board of one hart and one page that was suspended by a call, whose disk is given.
+fn asleep<R: AllocGlobal + Threads + Sync + Abort>(rt: &R) -> Result<SimDisk, Fail>
+    ensures { IfOk result (λ disk. (⟦<SimDisk as Disk>⟧.facts disk).lent.lanes ≡ 0) }
+{
+    let payloads = Payloads::new(rt.alloc());
+    let disk = formatted(rt.alloc(), 1)?;
+    let mut board = powered(rt.alloc(), disk, BootMode::Fresh, &payloads)?;
+    let asked = [0x5355_5350, 0, 0x8000_0001, RAM_BASE, 7];
+    same(rt, call(rt, &mut board, 0, asked), Some(Word::Asleep));
+    Ok(board.into_disk())
+}
+
+/// The payloads are checked in this mode too, though none is booted; and nothing was loaded or consumed then.
+#[test]
+fn payloads_come_before_the_image(rt: HostRuntime) -> Result<(), Fail> {
+    let disk = asleep(&rt)?;
+    let long = one_payload(rt.alloc(), 2, &[0; 4097])?;
+    let left = unpowered(rt.alloc(), disk, BootMode::Resume, &long)?;
+    same(&rt, left.refusal, Refusal::BadShape);
+    let board = powered(
+        rt.alloc(),
+        left.disk,
+        BootMode::Resume,
+        &Payloads::new(rt.alloc()),
+    )?;
+    same(&rt, shown(&board, 0), Some((0, 7, RAM_BASE)));
     Ok(())
 }

@@ -1,4 +1,4 @@
-//! Boots of a board, and the turns of its harts after one.
+//! Turns by one look, and the parts of a board. What a boot leaves is shown by the scripts of `crates/examples`.
 
 ghost use Rattle.std.specs.Prelude.{◌≤◌, length};
 
@@ -6,8 +6,7 @@ use crate::fixtures::{booted as booted_for, same};
 use board_model::{HartId, Reason};
 use hsm::SeatTable;
 use machine::{Machine, Turned};
-use ram::Width;
-use rv_decode::{CsrNumber, Reg};
+use rv_decode::Reg;
 use std::test::Fail;
 
 const BASE: u64 = 0x8000_0000;
@@ -17,16 +16,6 @@ fn booted(rt: &HostRuntime, payload: &[u8], reason: Reason) -> Result<Machine, F
     requires { length payload.now ≤ 4096 }
 {
     booted_for(rt.alloc(), 2, payload, reason)
-}
-
-/// One turn of a hart that the board has.
-fn turn(machine: &mut Machine, number: u64) -> Option<Turned> {
-    let id = HartId::new(number)?;
-    if machine.has(id) {
-        Some(machine.turn(id))
-    } else {
-        None
-    }
 }
 
 /// Turns by one look, so many at most, of a hart that the board has.
@@ -48,63 +37,6 @@ fn shown(machine: &Machine, number: u64) -> Option<(u64, u64, u64)> {
     } else {
         None
     }
-}
-
-/// What a hart that the board has reads of a register.
-fn csr(machine: &Machine, number: u64, register: u16) -> Option<u64> {
-    let id = HartId::new(number)?;
-    if machine.has(id) {
-        machine.hart(id).csr(CsrNumber::new(register % 4096), false)
-    } else {
-        None
-    }
-}
-
-/// ADDI x10, x0, 1
-#[test]
-fn a_hart_runs_its_payload(rt: HostRuntime) -> Result<(), Fail> {
-    let mut machine = booted(&rt, &[0x13, 0x05, 0x10, 0x00], Reason::NoReason)?;
-    same(&rt, turn(&mut machine, 0), Some(Turned::Next));
-    same(&rt, shown(&machine, 0), Some((1, 0, BASE + 4)));
-    let ram = machine.ram();
-    same(&rt, ram.load(BASE, Width::Word), Ok(0x0010_0513));
-    same(&rt, ram.load(BASE + 4, Width::Word), Ok(0));
-    Ok(())
-}
-
-/// An empty RAM is an illegal instruction, and the trap vector 0 lies outside of RAM.
-#[test]
-fn an_empty_slot_traps(rt: HostRuntime) -> Result<(), Fail> {
-    let mut machine = booted(&rt, &[], Reason::NoReason)?;
-    same(&rt, turn(&mut machine, 0), Some(Turned::Next));
-    same(&rt, csr(&machine, 0, 0x142), Some(2));
-    same(&rt, shown(&machine, 0), Some((0, 0, 0)));
-    same(&rt, turn(&mut machine, 0), Some(Turned::Next));
-    same(&rt, csr(&machine, 0, 0x142), Some(1));
-    same(&rt, csr(&machine, 0, 0x141), Some(0));
-    Ok(())
-}
-
-/// ECALL: NOT_SUPPORTED is -2, and the value of an error is 0.
-#[test]
-fn a_call_is_not_supported(rt: HostRuntime) -> Result<(), Fail> {
-    let mut machine = booted(&rt, &[0x73, 0, 0, 0], Reason::SystemFailure)?;
-    let not_supported = 0xffff_ffff_ffff_fffe;
-    same(&rt, shown(&machine, 0), Some((0, 1, BASE)));
-    same(&rt, turn(&mut machine, 0), Some(Turned::Next));
-    same(&rt, shown(&machine, 0), Some((not_supported, 0, BASE + 4)));
-    Ok(())
-}
-
-#[test]
-fn a_stopped_hart_is_idle(rt: HostRuntime) -> Result<(), Fail> {
-    let mut machine = booted(&rt, &[0x13, 0x05, 0x10, 0x00], Reason::NoReason)?;
-    same(&rt, turns(&mut machine, 1, 5), Some((1, Turned::Idle)));
-    same(&rt, turn(&mut machine, 1), Some(Turned::Idle));
-    same(&rt, shown(&machine, 1), Some((0, 0, 0)));
-    same(&rt, csr(&machine, 1, 0x100), Some(0x100));
-    same(&rt, shown(&machine, 0), Some((0, 0, BASE)));
-    Ok(())
 }
 
 /// ADDI x10, x10, 1 and JAL x0, -4: 1,001 turns are 501 additions.

@@ -1,9 +1,8 @@
 //! The disks and the stores that the tests begin with, and calls of which a test reads the answer alone.
 ghost use Rattle.std.specs.Prelude.{◌≡◌, IfOk};
 
-use board_model::{Addr, Command, Durable, HartId, ImageHead, Reason, Refusal, Shape, Slot};
+use board_model::{Command, Durable, Reason, Refusal, Shape};
 use disk::{ArmedFault, Disk};
-use layout::{Record, Saved, Side, Version, gate_bytes, record_bytes, superblock_bytes};
 use simdisk::{Fill, SimDisk};
 use std::alloc::Global;
 use std::fmt::Debug;
@@ -26,56 +25,6 @@ pub fn formatted(alloc: Global) -> Result<SimDisk, Fail>
     let mut disk = SimDisk::blank(alloc, 26)?;
     format_smallest(&mut disk)?;
     Ok(disk)
-}
-
-/// A disk of 26 sectors, of which these come first, and zeros.
-pub fn disk_of(alloc: Global, first: &[[u8; 512]]) -> Result<SimDisk, Fail>
-    ensures { IfOk result (λ disk. (⟦<SimDisk as Disk>⟧.facts disk).lent.lanes ≡ 0) }
-{
-    let mut bytes = Vec::new(alloc);
-    for sector in first {
-        bytes.extend_from_slice(sector)?;
-    }
-    bytes.resize(26 * 512, 0)?;
-    Ok(SimDisk::new(alloc, &bytes)?)
-}
-
-/// What stands of the image of serial 4.
-fn image() -> Option<Saved> {
-    let head = ImageHead {
-        serial: 4,
-        hart: HartId::new(0)?,
-        address: Addr::new(0x8000_0008)?,
-        opaque: 77,
-    };
-    Some(Saved {
-        head,
-        area: Side::first(),
-        counts: [1, 0, 0, 0],
-    })
-}
-
-/// The sector of a record with that image, of slot 3.
-fn record_with_image() -> Option<[u8; 512]> {
-    let record = Record {
-        version: Version::Two,
-        slot: Slot::new(3)?,
-        reason: Reason::NoReason,
-        next: 5,
-        image: Some(image()?),
-        trial: None,
-    };
-    Some(record_bytes(&record))
-}
-
-/// A disk for the smallest board with an image in record 1, written by hand.
-pub fn with_image(alloc: Global) -> Result<SimDisk, Fail>
-    ensures { IfOk result (λ disk. (⟦<SimDisk as Disk>⟧.facts disk).lent.lanes ≡ 0) }
-{
-    let superblock = superblock_bytes(&Shape::new(1, 1, 1)?);
-    let gate = gate_bytes(Side::first().other());
-    let record = record_with_image().ok_or("record")?;
-    disk_of(alloc, &[superblock, gate, [0; 512], record])
 }
 
 /// An open of which only the refusal is told.
@@ -145,11 +94,6 @@ pub fn after_cut(
     fill: Fill,
 ) -> Result<Store<SimDisk>, Refusal> {
     open(alloc, store.into_disk().after_cut(fill))
-}
-
-/// The slot that an open finds after a cut.
-pub fn slot_after_cut(alloc: Global, store: Store<SimDisk>, fill: Fill) -> Result<u32, Refusal> {
-    Ok(after_cut(alloc, store, fill)?.found().slot.number())
 }
 
 /// The next open of the same disk.

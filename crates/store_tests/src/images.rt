@@ -3,5 +3,4 @@
 mod cuts;
 mod fixtures;
 mod migrations;
-mod sizes;
 mod suspensions;

@@ -10,8 +10,4 @@ mod fixtures;
 #[cfg(test)]
 mod images;
 #[cfg(test)]
-mod inspects;
-#[cfg(test)]
 mod tests;
-#[cfg(test)]
-mod trials;

@@ -42,14 +42,6 @@ pub fn opened_for(alloc: Global, shape: Shape) -> Result<Store<SimDisk>, Fail> {
     Ok(open(alloc, disk)?)
 }
 
-/// The same where somebody wrote the next serial into its record past the firmware.
-pub fn opened_at(alloc: Global, shape: Shape, next: u64) -> Result<Store<SimDisk>, Fail> {
-    let mut disk = SimDisk::blank(alloc, shape.sectors())?;
-    format(&mut disk, &shape)?;
-    disk.poke(2, 16, &next.to_le_bytes())?;
-    Ok(open(alloc, disk)?)
-}
-
 /// Suspends by hart 0, to be resumed at the third instruction with 77; the receipt's number.
 pub fn suspend<C: Crew>(
     alloc: Global,

@@ -2,18 +2,16 @@
 ghost use Rattle.std.specs.Prelude.{◌≡◌};
 
 use crate::fixtures::{reopened, same};
-use crate::images::fixtures::{
-    holds, memory, opened_at, opened_for, standing, suspend, suspend_by, turns,
-};
+use crate::images::fixtures::{holds, memory, opened_for, standing, suspend, suspend_by, turns};
 use board_model::{Command, Refusal, Shape};
-use crew::{Crew, Threads};
-use disk::{ArmedFault, Disk};
+use crew::Crew;
+use disk::ArmedFault;
 use ram::Ram;
 use simdisk::SimDisk;
 use std::alloc::Global;
 use std::process::Abort;
 use std::test::Fail;
-use store::{ImageSeen, Store, inspect};
+use store::Store;
 
 /// This memory is suspended as the command of that place in its life, and found at the next open, where that
 /// many serials have been given out.
@@ -33,41 +31,6 @@ fn suspended_and_found<C: Crew>(
     same(rt, store.found().next, serials);
     same(rt, holds(alloc, &mut store, ram)?, true);
     Ok(store)
-}
-
-/// A memory that is suspended is found at the next open, and a second one beside it.
-fn found_and_loaded<C: Crew>(
-    rt: &impl Abort,
-    alloc: Global,
-    shape: Shape,
-    crew: &C,
-) -> Result<(), Fail> {
-    let first = memory(alloc, shape, 9)?;
-    let second = memory(alloc, shape, 100)?;
-    let store = opened_for(alloc, shape)?;
-    let store = suspended_and_found(rt, alloc, store, &first, crew, 1, 1)?;
-    suspended_and_found(rt, alloc, store, &second, crew, 1, 2)?;
-    Ok(())
-}
-
-#[test]
-fn an_image_is_found_and_loaded(rt: HostRuntime) -> Result<(), Fail> {
-    let crew = turns(&rt)?;
-    for lanes in [1, 2, 3, 4] {
-        found_and_loaded(&rt, rt.alloc(), Shape::new(1, 5, lanes)?, &crew)?;
-    }
-    Ok(())
-}
-
-#[test]
-fn threads_save_the_same(rt: HostRuntime) -> Result<(), Fail> {
-    found_and_loaded(&rt, rt.alloc(), Shape::new(1, 5, 4)?, &Threads::new(&rt))
-}
-
-#[test]
-fn the_largest_board_is_suspended(rt: HostRuntime) -> Result<(), Fail> {
-    let crew = turns(&rt)?;
-    found_and_loaded(&rt, rt.alloc(), Shape::new(8, 256, 4)?, &crew)
 }
 
 /// What a suspension by that hart and address is refused on a board of 1 hart and 2 pages, and with a memory
@@ -168,69 +131,4 @@ fn a_discarded_image_is_written_over(rt: HostRuntime) -> Result<(), Fail> {
     let receipt = store.apply(Command::Discard)?;
     same(&rt, receipt.number(), 1);
     failed_and_again(&rt, rt.alloc(), store, 2, &crew)
-}
-
-/// The last serial is never given out: where it is the next one, a suspension is refused 12, and changes nothing.
-#[test]
-fn serials_are_spent(rt: HostRuntime) -> Result<(), Fail> {
-    let crew = turns(&rt)?;
-    let shape = Shape::new(1, 1, 1)?;
-    let ram = memory(rt.alloc(), shape, 9)?;
-    let mut store = opened_at(rt.alloc(), shape, u64::MAX)?;
-    let spent = Err(Refusal::SerialsSpent);
-    same(&rt, suspend(rt.alloc(), &mut store, &ram, &crew), spent);
-    same(&rt, store.now().next, u64::MAX);
-    let mut store = opened_at(rt.alloc(), shape, u64::MAX - 1)?;
-    same(&rt, suspend(rt.alloc(), &mut store, &ram, &crew), Ok(1));
-    Ok(())
-}
-
-/// What a load of an image of one page answers whose call of that number fails.
-fn load_failing<C: Crew>(alloc: Global, crew: &C, call: u64) -> Result<Option<Refusal>, Fail> {
-    let shape = Shape::new(1, 1, 1)?;
-    let ram = memory(alloc, shape, 9)?;
-    let mut store = standing(alloc, &ram, shape, crew, ArmedFault::FailAt(call))?;
-    let mut loaded = Ram::new(alloc, shape)?;
-    Ok(store.load_image(&mut loaded).err())
-}
-
-#[test]
-fn a_load_makes_two_calls_a_page(rt: HostRuntime) -> Result<(), Fail> {
-    let crew = turns(&rt)?;
-    let device = Some(Refusal::Device);
-    same(&rt, load_failing(rt.alloc(), &crew, 1)?, device);
-    same(&rt, load_failing(rt.alloc(), &crew, 2)?, device);
-    same(&rt, load_failing(rt.alloc(), &crew, 3)?, None);
-    Ok(())
-}
-
-/// What is said of the image of the two pages of this disk.
-fn image_seen(alloc: Global, disk: &mut SimDisk) -> Result<ImageSeen, Refusal>
-    requires { (⟦<SimDisk as Disk>⟧.facts disk.old).lent.lanes ≡ 0 }
-    ensures { (⟦<SimDisk as Disk>⟧.facts disk.new).lent.lanes ≡ 0 }
-{
-    Ok(inspect(alloc, disk)?.image)
-}
-
-#[test]
-fn an_image_is_examined(rt: HostRuntime) -> Result<(), Fail> {
-    let crew = turns(&rt)?;
-    let shape = Shape::new(1, 2, 1)?;
-    let ram = memory(rt.alloc(), shape, 9)?;
-    let mut store = opened_for(rt.alloc(), shape)?;
-    same(&rt, suspend(rt.alloc(), &mut store, &ram, &crew), Ok(1));
-    let mut disk = store.into_disk();
-    let whole = Ok(ImageSeen::Whole);
-    same(&rt, image_seen(rt.alloc(), &mut disk), whole);
-    // four calls for gate and records, and two a page
-    disk.arm(ArmedFault::FailAt(9));
-    same(&rt, image_seen(rt.alloc(), &mut disk), whole);
-    disk.arm(ArmedFault::FailAt(8));
-    let refused = Err(Refusal::Device);
-    same(&rt, image_seen(rt.alloc(), &mut disk), refused);
-    // the header of the first place now names page 5
-    disk.poke(8, 0, &[5])?;
-    let bad = Ok(ImageSeen::Bad);
-    same(&rt, image_seen(rt.alloc(), &mut disk), bad);
-    Ok(())
 }
