@@ -6,7 +6,7 @@ use crate::fixtures::{
 };
 use board::{Board, Payloads};
 use board_model::{BootMode, RAM_BASE, Reason, Refusal};
-use machine::{Turned, Word};
+use machine::{Did, Word};
 use simdisk::{Fill, SimDisk};
 use std::process::Abort;
 use std::test::Fail;
@@ -19,7 +19,9 @@ const SPI: u64 = 0x73_5049;
 
 const SUSP: u64 = 0x5355_5350;
 
-const RESUMED: Word = Word::Own(Turned::Resumed);
+const RESUMED: Word = Word::Goes(Did::Resumed);
+
+const DOZING: Word = Word::Goes(Did::Dozing);
 
 /// A board of so many harts with that payload, whose hart 0 was put to sleep in its RAM by a call, to go on
 /// at the start of RAM with 9.
@@ -30,7 +32,7 @@ fn dozing<R: AllocGlobal + Threads + Sync + Abort>(
 ) -> Result<Board<SimDisk>, Fail> {
     let mut board = booted(rt.alloc(), harts, BootMode::Fresh, payloads)?;
     let asked = [SUSP, 0, 0, RAM_BASE, 9];
-    same(rt, call(rt, &mut board, 0, asked), Some(Word::Dozing));
+    same(rt, call(rt, &mut board, 0, asked), Some(DOZING));
     Ok(board)
 }
 
@@ -72,7 +74,7 @@ fn a_doze_takes_its_own_interrupts(rt: HostRuntime) -> Result<(), Fail> {
     let mut board = booted(rt.alloc(), 2, BootMode::Fresh, &Payloads::new(rt.alloc()))?;
     same(&rt, call(&rt, &mut board, 0, [SPI, 0, 3, 0, 0]), Some(NEXT));
     let asked = [SUSP, 0, 0, RAM_BASE, 9];
-    same(&rt, call(&rt, &mut board, 0, asked), Some(Word::Dozing));
+    same(&rt, call(&rt, &mut board, 0, asked), Some(DOZING));
     same(&rt, turn(&rt, &mut board, 0), Some(IDLE));
     same(&rt, turn(&rt, &mut board, 1), Some(IDLE));
     same(&rt, pending(&mut board, 0), Some(true));
@@ -96,8 +98,7 @@ const DOZES: [u8; 28] = [
 fn a_row_of_turns_ends_dozing(rt: HostRuntime) -> Result<(), Fail> {
     let payloads = one_payload(rt.alloc(), 0, &DOZES)?;
     let mut board = booted(rt.alloc(), 1, BootMode::Fresh, &payloads)?;
-    let dozes = Word::Dozing;
-    same(&rt, turns(&rt, &mut board, 0, 9), Some((7, dozes)));
+    same(&rt, turns(&rt, &mut board, 0, 9), Some((7, DOZING)));
     same(&rt, turns(&rt, &mut board, 0, 9), Some((9, IDLE)));
     same(&rt, board.wake(), Ok(()));
     same(&rt, turns(&rt, &mut board, 0, 5), Some((5, NEXT)));

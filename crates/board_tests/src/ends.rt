@@ -7,7 +7,7 @@ use crate::fixtures::{
 use board::Payloads;
 use board_model::{BootMode, RAM_BASE, Reason, Shape};
 use disk::ArmedFault;
-use machine::{ResetType, Word};
+use machine::{LifeEnd, ResetType, Word};
 use std::test::Fail;
 
 const SRST: u64 = 0x5352_5354;
@@ -26,7 +26,7 @@ fn a_call_resets_the_board(rt: HostRuntime) -> Result<(), Fail> {
         let answered = 0u64.wrapping_sub(error);
         same(&rt, shown(&board, 0).map(|found| found.0), Some(answered));
     }
-    let reset = Some(Word::Reset(ResetType::ColdReboot));
+    let reset = Some(Word::Over(LifeEnd::Reset(ResetType::ColdReboot)));
     same(&rt, call(&rt, &mut board, 0, [SRST, 0, 1, 1, 0]), reset);
     same(&rt, board.now().reason, Reason::SystemFailure);
     let board = powered(rt.alloc(), board.into_disk(), BootMode::Fresh, &payloads)?;
@@ -48,7 +48,7 @@ const SHUTDOWN: [u8; 20] = [
 #[test]
 fn a_row_of_turns_ends_with_the_life_or_a_cut(rt: HostRuntime) -> Result<(), Fail> {
     let payloads = one_payload(rt.alloc(), 0, &SHUTDOWN)?;
-    let off = Word::Reset(ResetType::Shutdown);
+    let off = Word::Over(LifeEnd::Reset(ResetType::Shutdown));
     for (fault, made, word, struck) in [
         (ArmedFault::FailAt(0), 4, off, false),
         (ArmedFault::FailAt(1), 7, off, false),
@@ -76,7 +76,7 @@ fn a_row_of_turns_ends_asleep(rt: HostRuntime) -> Result<(), Fail> {
     let payloads = one_payload(rt.alloc(), 0, &SUSPENDS)?;
     let disk = formatted_for(rt.alloc(), Shape::new(2, 4, 2)?)?;
     let mut board = powered(rt.alloc(), disk, BootMode::Fresh, &payloads)?;
-    same(&rt, turns(&rt, &mut board, 0, 9), Some((8, Word::Asleep)));
+    same(&rt, turns(&rt, &mut board, 0, 9), Some((8, Word::Over(LifeEnd::Asleep))));
     let board = powered(rt.alloc(), board.into_disk(), BootMode::Keep, &payloads)?;
     let image = Some((0, u64::MAX));
     same(&rt, numbers(board.found()), (image, 0, Reason::NoReason, 1));
@@ -92,7 +92,7 @@ fn a_board_that_was_reset_takes_no_reset(rt: HostRuntime) -> Result<(), Fail> {
     same(
         &rt,
         turn(&rt, &mut board, 0),
-        Some(Word::Reset(ResetType::Shutdown)),
+        Some(Word::Over(LifeEnd::Reset(ResetType::Shutdown))),
     );
     same(&rt, shown(&board, 0), Some((0, 0, RAM_BASE + 12)));
     same(&rt, turn(&rt, &mut board, 0), Some(NEXT));

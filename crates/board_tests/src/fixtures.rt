@@ -9,7 +9,7 @@ use board_model::{
 use crew::{Crew, Turns};
 use disk::Disk;
 use layout::{Record, Saved, Side, Version, gate_bytes, record_bytes, superblock_bytes};
-use machine::{Turned, Word};
+use machine::{Did, Word};
 use rv_decode::Reg;
 use simdisk::SimDisk;
 use std::alloc::Global;
@@ -174,11 +174,11 @@ pub fn discard(board: &mut Board<SimDisk>) -> Result<u32, Refusal> {
     Ok(board.console(Command::Discard)?.number())
 }
 
-pub const IDLE: Word = Word::Own(Turned::Idle);
+pub const IDLE: Word = Word::Goes(Did::Idle);
 
-pub const ENTERED: Word = Word::Own(Turned::Entered);
+pub const ENTERED: Word = Word::Goes(Did::Entered);
 
-pub const NEXT: Word = Word::Own(Turned::Next);
+pub const NEXT: Word = Word::Goes(Did::Next);
 
 /// One lane after another.
 pub fn in_turn<R: Threads + Sync>(_rt: &R) -> Option<Turns<R>> {

@@ -11,7 +11,7 @@ use board::{Board, Payloads};
 use board_model::{BootMode, RAM_BASE, Reason, Refusal, Shape};
 use crew::{Crew, Threads};
 use disk::{ArmedFault, Disk};
-use machine::{Turned, Word};
+use machine::{Did, LifeEnd, Word};
 use ram::Width;
 use simdisk::{Fill, SimDisk};
 use std::alloc::Global;
@@ -39,7 +39,7 @@ const SUSPENDS: [u8; 44] = [
 
 const SITE: u64 = RAM_BASE + 0x100c;
 
-const ASLEEP: Option<(u32, Word)> = Some((10, Word::Asleep));
+const ASLEEP: Option<(u32, Word)> = Some((10, Word::Over(LifeEnd::Asleep)));
 
 fn four_pages(alloc: Global, payloads: &Payloads) -> Result<Board<SimDisk>, Fail> {
     let disk = formatted_for(alloc, Shape::new(2, 4, 2)?)?;
@@ -153,7 +153,7 @@ fn the_hart_that_suspended_goes_on(rt: HostRuntime) -> Result<(), Fail> {
         call(&rt, &mut board, 0, [HSM, 0, 1, RAM_BASE + 4, 7]),
         Some(NEXT),
     );
-    let ended = Some(Word::Own(Turned::Stopped));
+    let ended = Some(Word::Goes(Did::Stopped));
     same(&rt, call(&rt, &mut board, 0, [HSM, 1, 0, 0, 0]), ended);
     same(&rt, turn(&rt, &mut board, 1), Some(ENTERED));
     same(&rt, turns(&rt, &mut board, 1, 11), ASLEEP);
@@ -172,7 +172,7 @@ fn asleep<R: AllocGlobal + thread::Threads + Sync + Abort>(rt: &R) -> Result<Sim
     let disk = formatted_for(rt.alloc(), Shape::new(1, 1, 1)?)?;
     let mut board = powered(rt.alloc(), disk, BootMode::Fresh, &payloads)?;
     let asked = [SUSP, 0, TO_DISK, RAM_BASE, 7];
-    same(rt, call(rt, &mut board, 0, asked), Some(Word::Asleep));
+    same(rt, call(rt, &mut board, 0, asked), Some(Word::Over(LifeEnd::Asleep)));
     Ok(board.into_disk())
 }
 

@@ -9,7 +9,7 @@ use crate::fixtures::{
 use board::{Board, Payloads};
 use board_model::{BootMode, Boots, Durable, RAM_BASE, Refusal};
 use disk::{ArmedFault, Disk};
-use machine::Word;
+use machine::{LifeEnd, Word};
 use ram::Width;
 use simdisk::{Fill, SimDisk};
 use std::alloc::Global;
@@ -146,7 +146,7 @@ fn a_resume_counts_no_boot(rt: HostRuntime) -> Result<(), Fail> {
     let disk = on_trial(&rt, rt.alloc(), 1)?;
     let mut board = powered(rt.alloc(), disk, BootMode::Fresh, &payloads)?;
     let asked = [SUSP, 0, TO_DISK, RAM_BASE, 7];
-    same(&rt, call(&rt, &mut board, 0, asked), Some(Word::Asleep));
+    same(&rt, call(&rt, &mut board, 0, asked), Some(Word::Over(LifeEnd::Asleep)));
     let mut board = powered(rt.alloc(), board.into_disk(), BootMode::Resume, &payloads)?;
     same(&rt, tried(board.found()), (2, Some((0, 0))));
     same(&rt, tried(board.now()), (2, Some((0, 0))));

@@ -1,9 +1,9 @@
 //! System reset (SBI specification 2.0, chapter 10; docs/SBI.md).
-use crate::sites::{Asked, NONE, Other, Told, ask, minus, no_trial, once, opened, same, twice};
+use crate::sites::{Asked, NEXT, NONE, Other, Told, ask, minus, no_trial, once, opened, same, twice};
 use board_model::{Command, Reason, Refusal};
 use crew::Turns;
 use disk::ArmedFault;
-use sbi::{Held, ResetType};
+use sbi::{LifeEnd, ResetType, Word};
 use std::alloc::Global;
 use std::test::Fail;
 use std::thread::Threads;
@@ -30,7 +30,7 @@ fn the_arguments_are_checked_in_order(rt: HostRuntime) -> Result<(), Fail> {
         (0x1_0000_0002, 0x1_0000_0001, 2),
     ] {
         let (told, found, none) = once(rt.alloc(), &crew, Other::Started, reset(kind, reason))?;
-        same(&rt, (told.held, told.error), (Held::Goes, minus(error)));
+        same(&rt, (told.word, told.error), (NEXT, minus(error)));
         same(&rt, (told.value, told.moved), (0, 4));
         same(&rt, (told.now, none), (found, true));
     }
@@ -42,7 +42,7 @@ fn the_arguments_are_checked_in_order(rt: HostRuntime) -> Result<(), Fail> {
 #[test]
 fn a_reset_ends_the_life(rt: HostRuntime) -> Result<(), Fail> {
     let crew: Turns<HostRuntime> = Turns::new([0, 1, 2, 3])?;
-    for (kind, reason, held, kept) in [
+    for (kind, reason, ended, kept) in [
         (0, 0, ResetType::Shutdown, Reason::NoReason),
         (0, 1, ResetType::Shutdown, Reason::SystemFailure),
         (1, 1, ResetType::ColdReboot, Reason::SystemFailure),
@@ -55,12 +55,12 @@ fn a_reset_ends_the_life(rt: HostRuntime) -> Result<(), Fail> {
     ] {
         let (told, again, _found) = twice(rt.alloc(), &crew, NONE, reset(kind, reason))?;
         let now = told.now;
-        same(&rt, (told.held, told.moved), (Held::Reset(held), 0));
+        same(&rt, (told.word, told.moved), (Word::Over(LifeEnd::Reset(ended)), 0));
         same(&rt, (told.error, told.value), (kind, reason));
         same(&rt, now.reason, kept);
         same(&rt, now.image, None);
         same(&rt, now.trial, no_trial());
-        same(&rt, (again.held, again.error), (Held::Goes, minus(1)));
+        same(&rt, (again.word, again.error), (NEXT, minus(1)));
         same(&rt, again.now, now);
     }
     Ok(())
@@ -72,20 +72,20 @@ fn a_reset_ends_the_life(rt: HostRuntime) -> Result<(), Fail> {
 fn what_the_store_refuses_is_minus_1(rt: HostRuntime) -> Result<(), Fail> {
     let crew: Turns<HostRuntime> = Turns::new([0, 1, 2, 3])?;
     for (call, then) in [
-        (1, Held::Reset(ResetType::ColdReboot)),
-        (2, Held::Reset(ResetType::ColdReboot)),
-        (3, Held::Goes),
-        (4, Held::Goes),
+        (1, Word::Over(LifeEnd::Reset(ResetType::ColdReboot))),
+        (2, Word::Over(LifeEnd::Reset(ResetType::ColdReboot))),
+        (3, NEXT),
+        (4, NEXT),
     ] {
         let fault = ArmedFault::FailAt(call);
         let (told, again, found) = twice(rt.alloc(), &crew, fault, reset(1, 1))?;
-        same(&rt, (told.held, told.error), (Held::Goes, minus(1)));
+        same(&rt, (told.word, told.error), (NEXT, minus(1)));
         same(&rt, (told.value, told.moved), (0, 4));
         let now = told.now;
         same(&rt, now.image, None);
         same(&rt, now.trial, no_trial());
         same(&rt, now, found);
-        same(&rt, again.held, then);
+        same(&rt, again.word, then);
     }
     Ok(())
 }
@@ -110,7 +110,7 @@ fn a_full_journal_is_minus_1(rt: HostRuntime) -> Result<(), Fail> {
     let crew: Turns<HostRuntime> = Turns::new([0, 1, 2, 3])?;
     let told = after_slots(rt.alloc(), &crew, 4096, reset(0, 1))?;
     let now = told.now;
-    same(&rt, (told.held, told.error), (Held::Goes, minus(1)));
+    same(&rt, (told.word, told.error), (NEXT, minus(1)));
     same(&rt, now.reason, Reason::NoReason);
     same(&rt, now.image, None);
     same(&rt, now.trial, no_trial());

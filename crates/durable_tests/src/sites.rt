@@ -13,7 +13,7 @@ use hsm::{HartSeat, HartTable};
 use ipi::PendingTable;
 use ram::Ram;
 use rv_decode::Reg;
-use sbi::{Held, dispatch_held};
+use sbi::{Did, LifeEnd, Word, dispatch_held};
 use sbi_calls::{Seats, Tables};
 use simdisk::SimDisk;
 use std::alloc::Global;
@@ -65,11 +65,20 @@ fn slept(doze: Doze) -> Slept {
     )
 }
 
+/// The hart was answered.
+pub const NEXT: Word = Word::Goes(Did::Next);
+
+/// The board sleeps in its RAM.
+pub const DOZING: Word = Word::Goes(Did::Dozing);
+
+/// The board sleeps to its disk.
+pub const ASLEEP: Word = Word::Over(LifeEnd::Asleep);
+
 /// What a call came to: the firmware's word, a0 and a1 of the calling hart and how far its pc moved, the doze
 /// that stands, whether the memory is as it was, and the durable state.
 #[derive(Clone, Copy, Debug, PartialEq, Eq, Drop)]
 pub struct Told {
-    pub held: Held,
+    pub word: Word,
     pub error: u64,
     pub value: u64,
     pub moved: u64,
@@ -144,9 +153,9 @@ fn made<R: Threads + Sync>(
     requires hart { zero < hart_count tables.now }
 {
     let mut hart = asking(zero, asked);
-    let (_seats, held) = dispatch_held(alloc, &mut hart, seats, tables, bus, store, crew);
+    let (_seats, word) = dispatch_held(alloc, &mut hart, seats, tables, bus, store, crew);
     Told {
-        held,
+        word,
         error: hart.reg(Reg::new(10)),
         value: hart.reg(Reg::new(11)),
         moved: hart.pc().wrapping_sub(RAM),

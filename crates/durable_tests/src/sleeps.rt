@@ -1,12 +1,11 @@
 //! System suspend, and waking from it (SBI specification 2.0, chapter 13; docs/SBI.md).
-use crate::sites::{Asked, NONE, Other, RAM, ask, minus, no_trial, once, opened, same, twice};
+use crate::sites::{ASLEEP, Asked, DOZING, NEXT, NONE, Other, RAM, ask, minus, no_trial, once, opened, same, twice};
 use board_model::{Addr, Command, Durable, HartId, ImageHead, Refusal, Shape};
 use crew::Turns;
 use disk::ArmedFault;
 use hart::Hart;
 use ram::Ram;
 use rv_decode::Reg;
-use sbi::Held;
 use simdisk::SimDisk;
 use std::alloc::Global;
 use std::test::Fail;
@@ -46,7 +45,7 @@ fn the_checks_are_made_in_order(rt: HostRuntime) -> Result<(), Fail> {
         (0x1_0000_0000, RAM + 2, Other::Stopped, 5),
     ] {
         let (told, found, none) = once(rt.alloc(), &crew, other, suspend(kind, address, 0))?;
-        same(&rt, (told.held, told.error), (Held::Goes, minus(error)));
+        same(&rt, (told.word, told.error), (NEXT, minus(error)));
         same(&rt, (told.value, told.moved), (0, 4));
         same(&rt, (told.doze, told.kept), (None, true));
         same(&rt, (told.now, none), (found, true));
@@ -71,7 +70,7 @@ fn dozing_without_a_command(rt: HostRuntime) -> Result<(), Fail> {
     for (kind, address, opaque) in [(0, RAM, 9), (0x5_0000_0000, RAM + 0xffc, u64::MAX)] {
         let asked = suspend(kind, address, opaque);
         let (told, found, none) = once(rt.alloc(), &crew, Other::Stopped, asked)?;
-        same(&rt, (told.held, told.moved), (Held::Dozing, 0));
+        same(&rt, (told.word, told.moved), (DOZING, 0));
         same(&rt, (told.error, told.value), (kind, address));
         same(&rt, told.doze, Some((0, address, opaque, false)));
         same(&rt, (told.kept, told.now, none), (true, found, true));
@@ -84,18 +83,18 @@ fn dozing_without_a_command(rt: HostRuntime) -> Result<(), Fail> {
 #[test]
 fn dozing_where_the_store_refuses(rt: HostRuntime) -> Result<(), Fail> {
     let crew: Turns<HostRuntime> = Turns::new([0, 1, 2, 3])?;
-    for (fault, held) in [(ArmedFault::FailAt(4), Held::Goes), (NONE, Held::Asleep)] {
+    for (fault, word) in [(ArmedFault::FailAt(4), NEXT), (NONE, ASLEEP)] {
         let mut store = opened(rt.alloc())?;
         store.arm(fault);
         let to_disk = suspend(TO_DISK, RAM, 8);
         let first = ask(rt.alloc(), &mut store, &crew, Other::Stopped, to_disk)?;
-        same(&rt, first.held, held);
+        same(&rt, first.word, word);
         let to_ram = suspend(0, RAM, 8);
         let told = ask(rt.alloc(), &mut store, &crew, Other::Stopped, to_ram)?;
         same(
             &rt,
-            (told.held, told.doze),
-            (Held::Dozing, Some((0, RAM, 8, false))),
+            (told.word, told.doze),
+            (DOZING, Some((0, RAM, 8, false))),
         );
         same(&rt, told.now, first.now);
     }
@@ -119,8 +118,8 @@ fn dozing_where_the_journal_is_full(rt: HostRuntime) -> Result<(), Fail> {
     let told = ask(rt.alloc(), &mut store, &crew, Other::Stopped, asked)?;
     same(
         &rt,
-        (told.held, told.doze),
-        (Held::Dozing, Some((0, RAM, 9, false))),
+        (told.word, told.doze),
+        (DOZING, Some((0, RAM, 9, false))),
     );
     same(&rt, told.now.slot.number(), 1);
     Ok(())
@@ -159,12 +158,12 @@ fn asleep_after_the_command(rt: HostRuntime) -> Result<(), Fail> {
         let asked = suspend(kind, address, opaque);
         let (told, again, _found) = twice(rt.alloc(), &crew, NONE, asked)?;
         let now = told.now;
-        same(&rt, (told.held, told.moved), (Held::Asleep, 0));
+        same(&rt, (told.word, told.moved), (ASLEEP, 0));
         same(&rt, (told.error, told.value), (kind, address));
         same(&rt, now.image, image(address, opaque));
         same(&rt, now.next, 1);
         same(&rt, now.trial, no_trial());
-        same(&rt, (again.held, again.error), (Held::Goes, minus(1)));
+        same(&rt, (again.word, again.error), (NEXT, minus(1)));
         same(&rt, again.now, now);
     }
     Ok(())
@@ -177,21 +176,21 @@ fn asleep_after_the_command(rt: HostRuntime) -> Result<(), Fail> {
 fn what_the_store_refuses_is_minus_1(rt: HostRuntime) -> Result<(), Fail> {
     let crew: Turns<HostRuntime> = Turns::new([0, 1, 2, 3])?;
     for (fault, then) in [
-        (ArmedFault::FailLane(0, 1), Held::Asleep),
-        (ArmedFault::FailLane(0, 2), Held::Asleep),
-        (ArmedFault::FailAt(1), Held::Asleep),
-        (ArmedFault::FailAt(3), Held::Asleep),
-        (ArmedFault::FailAt(4), Held::Goes),
-        (ArmedFault::FailAt(5), Held::Goes),
+        (ArmedFault::FailLane(0, 1), ASLEEP),
+        (ArmedFault::FailLane(0, 2), ASLEEP),
+        (ArmedFault::FailAt(1), ASLEEP),
+        (ArmedFault::FailAt(3), ASLEEP),
+        (ArmedFault::FailAt(4), NEXT),
+        (ArmedFault::FailAt(5), NEXT),
     ] {
         let (told, again, found) = twice(rt.alloc(), &crew, fault, suspend(TO_DISK, RAM, 8))?;
-        same(&rt, (told.held, told.error), (Held::Goes, minus(1)));
+        same(&rt, (told.word, told.error), (NEXT, minus(1)));
         same(&rt, (told.value, told.moved), (0, 4));
         let now = told.now;
         same(&rt, now.image, None);
         same(&rt, now.trial, no_trial());
         same(&rt, now, found);
-        same(&rt, again.held, then);
+        same(&rt, again.word, then);
     }
     Ok(())
 }

@@ -5,7 +5,7 @@ ghost use Rattle.std.specs.Prelude.{◌≤◌, length};
 use crate::fixtures::{booted as booted_for, same};
 use board_model::{HartId, Reason};
 use hsm::SeatTable;
-use machine::{Machine, Turned};
+use machine::{Did, Machine, Turned};
 use ram::Width;
 use rv_decode::{CsrNumber, Reg};
 use std::test::Fail;
@@ -64,7 +64,7 @@ fn csr(machine: &Machine, number: u64, register: u16) -> Option<u64> {
 #[test]
 fn a_hart_runs_its_payload(rt: HostRuntime) -> Result<(), Fail> {
     let mut machine = booted(&rt, &[0x13, 0x05, 0x10, 0x00], Reason::NoReason)?;
-    same(&rt, turn(&mut machine, 0), Some(Turned::Next));
+    same(&rt, turn(&mut machine, 0), Some(Turned::Made(Did::Next)));
     same(&rt, shown(&machine, 0), Some((1, 0, BASE + 4)));
     let ram = machine.ram();
     same(&rt, ram.load(BASE, Width::Word), Ok(0x0010_0513));
@@ -76,10 +76,10 @@ fn a_hart_runs_its_payload(rt: HostRuntime) -> Result<(), Fail> {
 #[test]
 fn an_empty_slot_traps(rt: HostRuntime) -> Result<(), Fail> {
     let mut machine = booted(&rt, &[], Reason::NoReason)?;
-    same(&rt, turn(&mut machine, 0), Some(Turned::Next));
+    same(&rt, turn(&mut machine, 0), Some(Turned::Made(Did::Next)));
     same(&rt, csr(&machine, 0, 0x142), Some(2));
     same(&rt, shown(&machine, 0), Some((0, 0, 0)));
-    same(&rt, turn(&mut machine, 0), Some(Turned::Next));
+    same(&rt, turn(&mut machine, 0), Some(Turned::Made(Did::Next)));
     same(&rt, csr(&machine, 0, 0x142), Some(1));
     same(&rt, csr(&machine, 0, 0x141), Some(0));
     Ok(())
@@ -91,7 +91,7 @@ fn a_call_is_not_supported(rt: HostRuntime) -> Result<(), Fail> {
     let mut machine = booted(&rt, &[0x73, 0, 0, 0], Reason::SystemFailure)?;
     let not_supported = 0xffff_ffff_ffff_fffe;
     same(&rt, shown(&machine, 0), Some((0, 1, BASE)));
-    same(&rt, turn(&mut machine, 0), Some(Turned::Next));
+    same(&rt, turn(&mut machine, 0), Some(Turned::Made(Did::Next)));
     same(&rt, shown(&machine, 0), Some((not_supported, 0, BASE + 4)));
     Ok(())
 }
@@ -99,8 +99,8 @@ fn a_call_is_not_supported(rt: HostRuntime) -> Result<(), Fail> {
 #[test]
 fn a_stopped_hart_is_idle(rt: HostRuntime) -> Result<(), Fail> {
     let mut machine = booted(&rt, &[0x13, 0x05, 0x10, 0x00], Reason::NoReason)?;
-    same(&rt, turns(&mut machine, 1, 5), Some((1, Turned::Idle)));
-    same(&rt, turn(&mut machine, 1), Some(Turned::Idle));
+    same(&rt, turns(&mut machine, 1, 5), Some((1, Turned::Made(Did::Idle))));
+    same(&rt, turn(&mut machine, 1), Some(Turned::Made(Did::Idle)));
     same(&rt, shown(&machine, 1), Some((0, 0, 0)));
     same(&rt, csr(&machine, 1, 0x100), Some(0x100));
     same(&rt, shown(&machine, 0), Some((0, 0, BASE)));
@@ -115,7 +115,7 @@ fn many_turns_run_a_loop(rt: HostRuntime) -> Result<(), Fail> {
     same(
         &rt,
         turns(&mut machine, 0, 1001),
-        Some((1001, Turned::Next)),
+        Some((1001, Turned::Made(Did::Next))),
     );
     same(&rt, shown(&machine, 0), Some((501, 0, BASE + 4)));
     let parts = machine.into_parts();

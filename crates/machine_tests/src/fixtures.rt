@@ -2,8 +2,8 @@
 
 ghost use Rattle.std.specs.Prelude.{◌≤◌, length};
 
-use board_model::{Reason, Shape};
-use machine::Machine;
+use board_model::{HartId, Reason, Shape};
+use machine::{Machine, Turned, Word};
 use machine_lines::MachineLine;
 use std::alloc::Global;
 use std::fmt::Debug;
@@ -24,6 +24,23 @@ pub fn booted(alloc: Global, harts: u64, payload: &[u8], reason: Reason) -> Resu
     let mut machine = Machine::new(alloc, &shape, first)?;
     machine.boot(&shape, payload, reason);
     Ok(machine)
+}
+
+/// What is said where the hart of a machine without a store is not at a durable call.
+pub fn said(turned: Turned) -> Result<Word, Fail> {
+    match turned {
+        Turned::Made(did) => Ok(Word::Goes(did)),
+        Turned::Durable => Err(Fail::new(format_args!("a durable call"))),
+    }
+}
+
+/// The line of one turn of a hart.
+pub fn turn(machine: &mut Machine, hart: HartId) -> Result<MachineLine, Fail> {
+    if !machine.has(hart) {
+        return Ok(MachineLine::Off);
+    }
+    let word = said(machine.turn(hart))?;
+    Ok(MachineLine::Turn(hart, 1, word))
 }
 
 /// The lines as they are written, each with a line feed.

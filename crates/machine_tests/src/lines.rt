@@ -2,10 +2,10 @@
 
 ghost use Rattle.std.specs.Prelude.{◌≡◌, ◌≤◌, length, IfOk};
 
-use crate::fixtures::{all_say, booted as booted_for};
+use crate::fixtures::{all_say, booted as booted_for, turn};
 use board_model::{HartId, Reason};
 use machine::Machine;
-use machine_lines::{MachineLine, csr, mem, pc, reg, turn};
+use machine_lines::{MachineLine, csr, mem, pc, reg};
 use std::test::Fail;
 
 fn first_hart() -> Result<HartId, Fail>
@@ -29,7 +29,7 @@ fn booted(rt: &HostRuntime, payload: &[u8]) -> Result<Machine, Fail>
 fn shows_what_an_instruction_did(rt: HostRuntime) -> Result<(), Fail> {
     let mut machine = booted(&rt, &[0x13, 0x05, 0x10, 0x00])?;
     let hart = first_hart()?;
-    let turned = turn(&mut machine, hart, 1);
+    let turned = turn(&mut machine, hart)?;
     let lines = [
         turned,
         reg(&machine, hart, 10),
@@ -45,11 +45,11 @@ fn shows_what_an_instruction_did(rt: HostRuntime) -> Result<(), Fail> {
 }
 
 /// The lines of a turn, and of the trap that it took: its cause, the pc that it saved, and the pc.
-fn trap_lines(machine: &mut Machine, hart: HartId) -> [MachineLine; 4] {
-    let turned = turn(machine, hart, 1);
+fn trap_lines(machine: &mut Machine, hart: HartId) -> Result<[MachineLine; 4], Fail> {
+    let turned = turn(machine, hart)?;
     let cause = csr(machine, hart, 0x142);
     let saved = csr(machine, hart, 0x141);
-    [turned, cause, saved, pc(machine, hart)]
+    Ok([turned, cause, saved, pc(machine, hart)])
 }
 
 #[test]
@@ -59,13 +59,13 @@ fn shows_traps(rt: HostRuntime) -> Result<(), Fail> {
     all_say(
         &rt,
         rt.alloc(),
-        &trap_lines(&mut machine, hart),
+        &trap_lines(&mut machine, hart)?,
         "turn 0 1 next\ncsr 0 0x142 0x0000000000000002\ncsr 0 0x141 0x0000000080000000\npc 0 0x0000000000000000\n",
     )?;
     all_say(
         &rt,
         rt.alloc(),
-        &trap_lines(&mut machine, hart),
+        &trap_lines(&mut machine, hart)?,
         "turn 0 1 next\ncsr 0 0x142 0x0000000000000001\ncsr 0 0x141 0x0000000000000000\npc 0 0x0000000000000000\n",
     )
 }
