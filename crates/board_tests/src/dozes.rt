@@ -103,7 +103,7 @@ fn a_row_of_turns_ends_dozing(rt: HostRuntime) -> Result<(), Fail> {
     same(&rt, board.wake(), Ok(()));
     same(&rt, turns(&rt, &mut board, 0, 5), Some((5, NEXT)));
     same(&rt, shown(&board, 0), Some((0, RAM_BASE, RAM_BASE + 16)));
-    same(&rt, turns(&rt, &mut board, 0, 9), Some((3, dozes)));
+    same(&rt, turns(&rt, &mut board, 0, 9), Some((3, DOZING)));
     same(&rt, board.now(), board.found());
     Ok(())
 }
