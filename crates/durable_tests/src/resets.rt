@@ -1,5 +1,7 @@
 //! System reset (SBI specification 2.0, chapter 10; docs/SBI.md).
-use crate::sites::{Asked, NEXT, NONE, Other, Told, ask, minus, no_trial, once, opened, same, twice};
+use crate::sites::{
+    Asked, NEXT, NONE, Other, Told, ask, minus, no_trial, once, opened, same, twice,
+};
 use board_model::{Command, Reason, Refusal};
 use crew::Turns;
 use disk::ArmedFault;
@@ -55,7 +57,11 @@ fn a_reset_ends_the_life(rt: HostRuntime) -> Result<(), Fail> {
     ] {
         let (told, again, _found) = twice(rt.alloc(), &crew, NONE, reset(kind, reason))?;
         let now = told.now;
-        same(&rt, (told.word, told.moved), (Word::Over(LifeEnd::Reset(ended)), 0));
+        same(
+            &rt,
+            (told.word, told.moved),
+            (Word::Over(LifeEnd::Reset(ended)), 0),
+        );
         same(&rt, (told.error, told.value), (kind, reason));
         same(&rt, now.reason, kept);
         same(&rt, now.image, None);

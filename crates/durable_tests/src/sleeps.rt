@@ -1,5 +1,7 @@
 //! System suspend, and waking from it (SBI specification 2.0, chapter 13; docs/SBI.md).
-use crate::sites::{ASLEEP, Asked, DOZING, NEXT, NONE, Other, RAM, ask, minus, no_trial, once, opened, same, twice};
+use crate::sites::{
+    ASLEEP, Asked, DOZING, NEXT, NONE, Other, RAM, ask, minus, no_trial, once, opened, same, twice,
+};
 use board_model::{Addr, Command, Durable, HartId, ImageHead, Refusal, Shape};
 use crew::Turns;
 use disk::ArmedFault;

@@ -279,7 +279,15 @@ impl Machine {
     /// An SBI call that is made in the place of a hart: sets a0 to a2, a6 and a7, and acts as if ECALL stood
     /// at its pc. After `Next` it was answered. A hart that is not STARTED, or that dozes, makes none, and stays
     /// as it was.
-    pub fn call(&mut self, id: HartId, eid: u64, fid: u64, a0: u64, a1: u64, a2: u64) -> Option<Turned>
+    pub fn call(
+        &mut self,
+        id: HartId,
+        eid: u64,
+        fid: u64,
+        a0: u64,
+        a1: u64,
+        a2: u64,
+    ) -> Option<Turned>
         requires { id < length self.old.harts }
         ensures calls { MakesOneCall id eid fid a0 a1 a2 self.old self.new result }
         ensures asks { result ≡ Some Durable → StandsAtCall id self.new }

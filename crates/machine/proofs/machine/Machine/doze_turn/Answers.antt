@@ -67,4 +67,4 @@ returns c =
     let same : new ≡ resumed d id (shown_as i) = l.made ∙ ap (λ (m : Moment). let r : Machine = record (with_moment id (shown_as i) m) { doze = None } in r) l.did in
     let turn : DozeTurn true d id c.args.self.now new (Made Resumed) = (subst (λ (m : Machine). new ≡ resumed d id m) c.self.view_is same, refl) in
     let is : true ≡ d.woken = not_not d.woken c.if-not-doze.false in
-    subst (λ (b : Bool). DozeTurn b d id c.args.self.now new Resumed) is turn
+    subst (λ (b : Bool). DozeTurn b d id c.args.self.now new (Made Resumed)) is turn
