@@ -17,8 +17,12 @@ abbrev pub HasHart : Machine → ℕ → Type 0
 HasHart m h = h < length m.harts
 
 -- what a call that was made says of its hart: one that was answered shows the answer
+abbrev pub own_line_by : Bool → ℕ → ArchState → Did → MachineLine
+own_line_by true h s did = lines.Answered h (reg s 10) (reg s 11)
+own_line_by false h s did = lines.Called h (Goes did)
+
 abbrev pub own_line : ℕ → ArchState → Did → MachineLine
-own_line h s did = if is_answered did then lines.Answered h (reg s 10) (reg s 11) else lines.Called h (Goes did)
+own_line h s did = own_line_by (is_answered did) h s did
 
 abbrev pub made_line : ℕ → ArchState → Word → MachineLine
 made_line h s (Goes did) = own_line h s did
