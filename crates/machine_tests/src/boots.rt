@@ -99,7 +99,11 @@ fn a_call_is_not_supported(rt: HostRuntime) -> Result<(), Fail> {
 #[test]
 fn a_stopped_hart_is_idle(rt: HostRuntime) -> Result<(), Fail> {
     let mut machine = booted(&rt, &[0x13, 0x05, 0x10, 0x00], Reason::NoReason)?;
-    same(&rt, turns(&mut machine, 1, 5), Some((1, Turned::Made(Did::Idle))));
+    same(
+        &rt,
+        turns(&mut machine, 1, 5),
+        Some((1, Turned::Made(Did::Idle))),
+    );
     same(&rt, turn(&mut machine, 1), Some(Turned::Made(Did::Idle)));
     same(&rt, shown(&machine, 1), Some((0, 0, 0)));
     same(&rt, csr(&machine, 1, 0x100), Some(0x100));
