@@ -41,7 +41,7 @@ module _ {D L : Type 0} {g : Ghosts D L} {l : Lanes L} where
         })
     | inr x ↦ (
         let turn : TurnsHeld h m x.0 old old (Goes Next) = (x.0, Made Next, x.1, (refl, refl, refl)) in
-        let r = row_reaches h count k x.0 mid n old new did word (omega (arith, low)) calm x.2 came in
+        let r = row_reaches h count k x.0 mid n old new turned word (omega (arith, low)) calm x.2 came in
         record {
           stops = λ left sum last. (x.0, old, Goes Next, turn, inr (refl, calm, k, refl, r.stops left (omega (arith, sum)) last));
           goes_on = λ on still left rest total end store last sum all more. (x.0, old, Goes Next, turn, inr (refl, calm, k + rest, omega (arith, all), r.goes_on on still left rest (k + rest) end store last (omega (arith, sum)) refl more));
