@@ -76,7 +76,11 @@ fn a_row_of_turns_ends_asleep(rt: HostRuntime) -> Result<(), Fail> {
     let payloads = one_payload(rt.alloc(), 0, &SUSPENDS)?;
     let disk = formatted_for(rt.alloc(), Shape::new(2, 4, 2)?)?;
     let mut board = powered(rt.alloc(), disk, BootMode::Fresh, &payloads)?;
-    same(&rt, turns(&rt, &mut board, 0, 9), Some((8, Word::Over(LifeEnd::Asleep))));
+    same(
+        &rt,
+        turns(&rt, &mut board, 0, 9),
+        Some((8, Word::Over(LifeEnd::Asleep))),
+    );
     let board = powered(rt.alloc(), board.into_disk(), BootMode::Keep, &payloads)?;
     let image = Some((0, u64::MAX));
     same(&rt, numbers(board.found()), (image, 0, Reason::NoReason, 1));

@@ -172,7 +172,11 @@ fn asleep<R: AllocGlobal + thread::Threads + Sync + Abort>(rt: &R) -> Result<Sim
     let disk = formatted_for(rt.alloc(), Shape::new(1, 1, 1)?)?;
     let mut board = powered(rt.alloc(), disk, BootMode::Fresh, &payloads)?;
     let asked = [SUSP, 0, TO_DISK, RAM_BASE, 7];
-    same(rt, call(rt, &mut board, 0, asked), Some(Word::Over(LifeEnd::Asleep)));
+    same(
+        rt,
+        call(rt, &mut board, 0, asked),
+        Some(Word::Over(LifeEnd::Asleep)),
+    );
     Ok(board.into_disk())
 }
 

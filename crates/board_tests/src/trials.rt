@@ -146,7 +146,11 @@ fn a_resume_counts_no_boot(rt: HostRuntime) -> Result<(), Fail> {
     let disk = on_trial(&rt, rt.alloc(), 1)?;
     let mut board = powered(rt.alloc(), disk, BootMode::Fresh, &payloads)?;
     let asked = [SUSP, 0, TO_DISK, RAM_BASE, 7];
-    same(&rt, call(&rt, &mut board, 0, asked), Some(Word::Over(LifeEnd::Asleep)));
+    same(
+        &rt,
+        call(&rt, &mut board, 0, asked),
+        Some(Word::Over(LifeEnd::Asleep)),
+    );
     let mut board = powered(rt.alloc(), board.into_disk(), BootMode::Resume, &payloads)?;
     same(&rt, tried(board.found()), (2, Some((0, 0))));
     same(&rt, tried(board.now()), (2, Some((0, 0))));
