@@ -30,17 +30,18 @@ use Rattle.sbi_abi.specs.declared.call.Call.TheVariants as calls
 use Rattle.sbi_abi.specs.declared.ret.SbiError.{SbiError}
 use Rattle.sbi_abi.specs.declared.ret.SbiError.TheVariants.{Failed, NotSupported, Denied}
 use Rattle.sbi.specs.declared.resets.ResetType.{ResetType}
-use Rattle.sbi.specs.declared.dispatches.Held.{Held as Made}
-use Rattle.sbi.specs.declared.dispatches.Held.TheVariants as helds
+use Rattle.sbi.specs.declared.words.LifeEnd.{LifeEnd}
+use Rattle.sbi.specs.declared.words.LifeEnd.TheVariants as life_ends
+use Rattle.sbi.specs.Words.{ends, word_of_sleep}
 use Rattle.sbi.specs.Resets.{reset_of}
 use Rattle.sbi.specs.Helds.{Refuses as Refused_to, EndsReset, EndsSleep, MakesReset, SleepsIn, HeldIn}
-use Rattle.turns.specs.declared.words.Turned.{Turned}
-use Rattle.turns.specs.declared.words.Turned.TheVariants.{Durable}
+use Rattle.sbi_calls.specs.declared.words.Turned.{Turned}
+use Rattle.sbi_calls.specs.declared.words.Turned.TheVariants.{Made, Durable}
+use Rattle.sbi_calls.specs.declared.words.Did.TheVariants.{Next}
 use Rattle.machine.specs.Machine.{Machine, hart_at}
-use Rattle.machine.specs.Words.{ends, word_by}
 use Rattle.machine.specs.Durables.{MakesCall as MachineCall}
-use Rattle.machine.specs.declared.parts.Word.{Word}
-use Rattle.machine.specs.declared.parts.Word.TheVariants as words
+use Rattle.sbi.specs.declared.words.Word.{Word}
+use Rattle.sbi.specs.declared.words.Word.TheVariants as words
 use Rattle.board.specs.Turns as boards
 use Rattle.bench_report.specs.Views.{SimStore, IsLife, IsAs, store_size, store_fault_state, store_facts}
 use Rattle.bench_report.specs.Bench.{BenchLife, Bench}
@@ -60,10 +61,8 @@ IsEnded size b store = (b.power ≡ None) × IsOver size b.disk_state b.kept sto
 
 -- a board after what is said of a turn or a call
 abbrev pub Stands : Size → Word → Bench → Machine → SimStore → Type 0
-Stands size (words.Own did) b m store = Running size b m store
-Stands size words.Dozing b m store = Running size b m store
-Stands size words.Asleep b m store = IsEnded size b store
-Stands size (words.Reset kind) b m store = IsEnded size b store
+Stands size (words.Goes did) b m store = Running size b m store
+Stands size (words.Over end) b m store = IsEnded size b store
 
 -- the machine whose hart h is answered with the error
 abbrev answering : ℕ → SbiError → Machine → Machine
@@ -77,11 +76,11 @@ has_other size b life m store same is = (follows_with size b.disk_state b.kept l
 module _ (size : Size) (b : Bench) (life : BenchLife) (h : ℕ) (n : Machine) (old new : SimStore) (on : b.power ≡ Some life) (was : StoreIs size b.disk_state b.kept life old) (device : DeviceIs size b (store_fault_state old) (store_facts old))
     (t : ArchState) (doze : Option Doze) (made : n ≡ record life.machine { doze = doze; harts = slice_set life.machine.harts h t }) where
   -- it came to that
-  abbrev pub Came : (Word → Bench → Type 0) → Made → Type 0
-  Came step held = (x : Bench) × step (word_by held) x × Stands size (word_by held) x n new × (x.payloads ≡ b.payloads)
+  abbrev pub Came : (Word → Bench → Type 0) → Word → Type 0
+  Came step word = (x : Bench) × step word x × Stands size word x n new × (x.payloads ≡ b.payloads)
 
-  by_held : (step : Word → Bench → Type 0) (held reported : Made) → held ≡ reported → Came step reported → Came step held
-  by_held step held reported e came = let P : Made → Type 0 = Came step in subst P (sym e) came
+  by_held : (step : Word → Bench → Type 0) (held reported : Word) → held ≡ reported → Came step reported → Came step held
+  by_held step held reported e came = subst (Came step) (sym e) came
 
   -- the hart was answered so, and goes on
   goes : (e : SbiError) (mid : Bench) → doze ≡ life.machine.doze → Running size mid life.machine new → t ≡ answered (hart_at life.machine h) (error_of (Err e)) 0
@@ -92,48 +91,48 @@ module _ (size : Size) (b : Bench) (life : BenchLife) (h : ℕ) (n : Machine) (o
       (next, at, (refused h e next, refl, (follows_with size mid.disk_state mid.kept next (answering h e next.machine) (store_size new) refl store.0, store.1), made ∙ ap F is ∙ ap G still ∙ ap (answering h e) same, now))
 
   -- it was refused by its arguments
-  refuses : (e : SbiError) (held : Made) → Refused_to e (hart_at life.machine h) t held → doze ≡ life.machine.doze → new ≡ old → Came (λ word x. AnswersError e h life b word x) held
+  refuses : (e : SbiError) (held : Word) → Refused_to e (hart_at life.machine h) t held → doze ≡ life.machine.doze → new ≡ old → Came (λ word x. AnswersError e h life b word x) held
   refuses e held (is, at) still same =
       let Q : SimStore → Type 0 = λ store. StoreIs size b.disk_state b.kept life store in
       let S : SimStore → Type 0 = λ store. DeviceIs size b (store_fault_state store) (store_facts store) in
       let did = goes e b still (life, on, subst Q (sym same) was, refl, subst S (sym same) device) is in
       let next : did.0 ≡ life = one did.0 did.1 in
       let P : BenchLife → Type 0 = λ l. Running size (on_with (refused h e l) b) n new in
-      by_held (λ word x. AnswersError e h life b word x) held helds.Goes at (on_with (refused h e life) b, (refl, refl), subst P next did.2, refl)
+      by_held (λ word x. AnswersError e h life b word x) held (words.Goes Next) at (on_with (refused h e life) b, (refl, refl), subst P next did.2, refl)
     where
       one : (l : BenchLife) → b.power ≡ Some l → l ≡ life
       one l f = let g : Some l ≡ Some life = sym f ∙ on in let i : l ≡ life = cc in i
 
   -- its command was refused by the store
-  fails : (n : ℕ) (said : Word) (mid : Bench) (held : Made) → doze ≡ life.machine.doze → Running size mid life.machine new → mid.payloads ≡ b.payloads → Refused_to Failed (hart_at life.machine h) t held
+  fails : (n : ℕ) (said : LifeEnd) (mid : Bench) (held : Word) → doze ≡ life.machine.doze → Running size mid life.machine new → mid.payloads ≡ b.payloads → Refused_to Failed (hart_at life.machine h) t held
       → Came (λ word x. HartCommand (Err n) said h mid word x) held
   fails n said mid held still is payloads (at, e) =
       let did = goes Failed mid still is at in
-      by_held (λ word x. HartCommand (Err n) said h mid word x) held helds.Goes e (on_with (refused h Failed did.0) mid, (did.0, did.1, (refl, refl)), did.2, payloads)
+      by_held (λ word x. HartCommand (Err n) said h mid word x) held (words.Goes Next) e (on_with (refused h Failed did.0) mid, (did.0, did.1, (refl, refl)), did.2, payloads)
 
   calm_life : life.doubt ≡ None → IsLife (life_of old) life.now life.receipts None
   calm_life none = let Q : Option Change → Type 0 = λ d. IsAs old life.now life.receipts d in subst Q none was.1
 
   -- ---- a reset
-  resets_ok : (kind : ResetType) (r : Reason) (k : ℕ) (held : Made) → Asked Applied old (Reset r) (Ok k) new → held ≡ helds.Reset kind → Came (λ word x. Resets (Ok (kind, r)) h life b word x) held
+  resets_ok : (kind : ResetType) (r : Reason) (k : ℕ) (held : Word) → Asked Applied old (Reset r) (Ok k) new → held ≡ words.Over (life_ends.Reset kind) → Came (λ word x. Resets (Ok (kind, r)) h life b word x) held
   resets_ok kind r k held asked e =
       let did = reported_end size b life (Reset r) old new (life_of old) on was device asked.stays.board asked.stays.length asked.stays.no_fewer calm_life life.doubt refl k
       (λ none. (asked.answered none).life) asked.down (λ none. (asked.answered none).cause) (λ none. ((asked.answered none).written, (asked.answered none).leaves.acknowledged.kept)) in
       let mid = acknowledged (Reset r) life b in
-      by_held (λ word x. Resets (Ok (kind, r)) h life b word x) held (helds.Reset kind) e (off mid, (Ok k, mid, did.0, (refl, refl)), (refl, did.1, did.2), refl)
+      by_held (λ word x. Resets (Ok (kind, r)) h life b word x) held (words.Over (life_ends.Reset kind)) e (off mid, (Ok k, mid, did.0, (refl, refl)), (refl, did.1, did.2), refl)
 
-  resets_err : (kind : ResetType) (r : Reason) (e : Refusal) (held : Made) → doze ≡ life.machine.doze → Asked Applied old (Reset r) (Err e) new → Refused_to Failed (hart_at life.machine h) t held → Came (λ word x. Resets (Ok (kind, r)) h life b word x) held
+  resets_err : (kind : ResetType) (r : Reason) (e : Refusal) (held : Word) → doze ≡ life.machine.doze → Asked Applied old (Reset r) (Err e) new → Refused_to Failed (hart_at life.machine h) t held → Came (λ word x. Resets (Ok (kind, r)) h life b word x) held
   resets_err kind r e held still asked refused =
       let did = reported_err size b life (Reset r) old new (life_of old) on was device asked.stays.board asked.stays.length asked.stays.no_fewer calm_life life.doubt refl e
       (λ none. (asked.answered none).life) asked.down (λ none. (asked.answered none).cause) (λ none. (asked.answered none).counts) asked.untouched in
-      let last = fails (number_of_refusal e) (words.Reset kind) did.0 held still did.2 did.3 refused in
+      let last = fails (number_of_refusal e) (life_ends.Reset kind) did.0 held still did.2 did.3 refused in
       (last.0, (Err (number_of_refusal e), did.0, did.1, last.1), last.2, last.3)
 
-  resets_by : (kind : ResetType) (r : Reason) (o : Result ℕ Refusal) (held : Made) → doze ≡ life.machine.doze → Asked Applied old (Reset r) o new → EndsReset kind o (hart_at life.machine h) t held → Came (λ word x. Resets (Ok (kind, r)) h life b word x) held
+  resets_by : (kind : ResetType) (r : Reason) (o : Result ℕ Refusal) (held : Word) → doze ≡ life.machine.doze → Asked Applied old (Reset r) o new → EndsReset kind o (hart_at life.machine h) t held → Came (λ word x. Resets (Ok (kind, r)) h life b word x) held
   resets_by kind r (Ok k) held still asked ended = resets_ok kind r k held asked ended.1
   resets_by kind r (Err e) held still asked ended = resets_err kind r e held still asked ended
 
-  resets : (asked : Result (ResetType × Reason) SbiError) (held : Made) → doze ≡ life.machine.doze → MakesReset asked (hart_at life.machine h) t old new held → Came (λ word x. Resets asked h life b word x) held
+  resets : (asked : Result (ResetType × Reason) SbiError) (held : Word) → doze ≡ life.machine.doze → MakesReset asked (hart_at life.machine h) t old new held → Came (λ word x. Resets asked h life b word x) held
   resets (Err e) held still x = refuses e held x.0 still x.1
   resets (Ok reset) held still (o, asked, ended) = resets_by reset.0 reset.1 o held still asked ended
 
@@ -254,7 +253,7 @@ module _ (size : Size) (b : Bench) (life : BenchLife) (h : ℕ) (n : Machine) (o
   same_doze e = ap (λ (x : Bus). x.doze) e
 
   -- once every other hart is STOPPED: to RAM
-  dozes_so : (site opaque : ℕ) (held : Made) → IsAlone the_hart.id life.machine → doze ≡ Some (dozing the_hart.id site opaque) → new ≡ old → t ≡ the_hart → held ≡ helds.Dozing
+  dozes_so : (site opaque : ℕ) (held : Word) → IsAlone the_hart.id life.machine → doze ≡ Some (dozing the_hart.id site opaque) → new ≡ old → t ≡ the_hart → held ≡ word_of_sleep ToRam
       → Came (λ word x. BenchSleeps ToRam site opaque h life b word x) held
   dozes_so site opaque held alone fell same as_before at =
       let next : BenchLife = dozes h site opaque life in
@@ -264,24 +263,24 @@ module _ (size : Size) (b : Bench) (life : BenchLife) (h : ℕ) (n : Machine) (o
       let is : n ≡ next.machine = made ∙ ap G fell ∙ ap F as_before ∙ ap H (set-get_or life.machine.harts h (never_started h)) in
       let Q : SimStore → Type 0 = λ store. StoreIs size b.disk_state b.kept life store in
       let S : SimStore → Type 0 = λ store. DeviceIs size b (store_fault_state store) (store_facts store) in
-      by_held (λ word x. BenchSleeps ToRam site opaque h life b word x) held helds.Dozing at
+      by_held (λ word x. BenchSleeps ToRam site opaque h life b word x) held (word_of_sleep ToRam) at
       (on_with next b, inr (alone, (refl, refl)), (next, refl, has_other size b life next.machine new refl (subst Q (sym same) was), is, subst S (sym same) device), refl)
 
   -- to disk
-  sleeps_by : (site opaque : ℕ) (r : Result ℕ Refusal) (fell : Result Sleep SbiError) (held : Made) → doze ≡ life.machine.doze → IsValidAddress life.machine.size site → IsAlone the_hart.id life.machine
+  sleeps_by : (site opaque : ℕ) (r : Result ℕ Refusal) (fell : Result Sleep SbiError) (held : Word) → doze ≡ life.machine.doze → IsValidAddress life.machine.size site → IsAlone the_hart.id life.machine
       → Asked (Suspended (FitsBoard life.machine.size life.machine.memory the_hart.id site)) old (Suspend the_hart.id site opaque life.machine.memory) r new
       → Answers r fell → EndsSleep fell the_hart t held → Came (λ word x. BenchSleeps ToDisk site opaque h life b word x) held
   sleeps_by site opaque (Ok k) fell held still address alone asked e ended =
       let P : Result Sleep SbiError → Type 0 = λ o. EndsSleep o the_hart t held in
       let did = suspend_ok the_hart.id site opaque life.machine.memory address k asked in
-      by_held (λ word x. BenchSleeps ToDisk site opaque h life b word x) held helds.Asleep (subst P e ended).1 (off did.0, inr (alone, (Ok k, did.0, did.1, (refl, refl))), did.3, ap (λ (y : Bench). y.payloads) did.2)
+      by_held (λ word x. BenchSleeps ToDisk site opaque h life b word x) held (words.Over life_ends.Asleep) (subst P e ended).1 (off did.0, inr (alone, (Ok k, did.0, did.1, (refl, refl))), did.3, ap (λ (y : Bench). y.payloads) did.2)
   sleeps_by site opaque (Err f) fell held still address alone asked e ended =
       let P : Result Sleep SbiError → Type 0 = λ o. EndsSleep o the_hart t held in
       let did = suspend_err the_hart.id site opaque life.machine.memory address f asked in
-      let last = fails did.0 words.Asleep did.1.0 held still did.1.2 did.1.3 (subst P e ended) in
+      let last = fails did.0 life_ends.Asleep did.1.0 held still did.1.2 did.1.3 (subst P e ended) in
       (last.0, inr (alone, (Err did.0, did.1.0, did.1.1, last.1)), last.2, last.3)
 
-  falls : (sleep : Sleep) (site opaque : ℕ) (fell : Result Sleep SbiError) (held : Made) → IsValidAddress life.machine.size site → IsAlone the_hart.id life.machine
+  falls : (sleep : Sleep) (site opaque : ℕ) (fell : Result Sleep SbiError) (held : Word) → IsValidAddress life.machine.size site → IsAlone the_hart.id life.machine
       → FallsAsleepBy sleep the_hart.id site opaque (bus life.machine.doze) old fell (bus doze) new → life.machine.size ≡ store_size old → EndsSleep fell the_hart t held
       → Came (λ word x. BenchSleeps sleep site opaque h life b word x) held
   falls ToRam site opaque fell held address alone (is, dozed, same) sized ended =
@@ -292,7 +291,7 @@ module _ (size : Size) (b : Bench) (life : BenchLife) (h : ℕ) (n : Machine) (o
       let P : Size → Type 0 = λ z. Asked (Suspended (FitsBoard z life.machine.memory the_hart.id site)) old (Suspend the_hart.id site opaque life.machine.memory) r new in
       sleeps_by site opaque r fell held (same_doze kept) address alone (subst P (sym sized) asked) answers ended
 
-  sleeps : (kind address opaque : ℕ) (asked : Result (Sleep × ℕ) SbiError) (fell : Result Sleep SbiError) (held : Made) → IsChecked life.machine.size kind address asked
+  sleeps : (kind address opaque : ℕ) (asked : Result (Sleep × ℕ) SbiError) (fell : Result Sleep SbiError) (held : Word) → IsChecked life.machine.size kind address asked
       → StoreSleeps life.machine.size.harts the_hart.id asked opaque (listed life.machine.table.states) (bus life.machine.doze) old fell (bus doze) new → life.machine.size ≡ store_size old → EndsSleep fell the_hart t held
       → Came (λ word x. BenchSleepsBy asked opaque h life b word x) held
   sleeps kind address opaque (Err e) fell held checked (is, kept, same) sized ended =
@@ -309,7 +308,7 @@ module _ (size : Size) (b : Bench) (life : BenchLife) (h : ℕ) (n : Machine) (o
       valid x = x.2
 
   -- ---- the call
-  suspends : (kind address opaque : ℕ) (held : Made) → SleepsIn life.machine.size.harts kind address opaque the_hart t life.machine.table (bus life.machine.doze) (bus doze) old new held → life.machine.size ≡ store_size old
+  suspends : (kind address opaque : ℕ) (held : Word) → SleepsIn life.machine.size.harts kind address opaque the_hart t life.machine.table (bus life.machine.doze) (bus doze) old new held → life.machine.size ≡ store_size old
       → Came (λ word x. (asked : Result (Sleep × ℕ) SbiError) × IsChecked life.machine.size kind address asked × BenchSleepsBy asked opaque h life b word x) held
   suspends kind address opaque held (fell, alone, ended) sized =
       let P : Size → Type 0 = λ z. IsChecked z kind address alone.asked in
@@ -317,7 +316,7 @@ module _ (size : Size) (b : Bench) (life : BenchLife) (h : ℕ) (n : Machine) (o
       let did = sleeps kind address opaque alone.asked fell held checked alone.slept sized ended in
       (did.0, (alone.asked, checked, did.1), did.2, did.3)
 
-  makes : (call : Call) (held : Made) → HeldIn life.machine.size.harts call the_hart t life.machine.table (bus life.machine.doze) (bus doze) old new held → life.machine.size ≡ store_size old → Came (λ word x. BenchMakesCall call h life b word x) held
+  makes : (call : Call) (held : Word) → HeldIn life.machine.size.harts call the_hart t life.machine.table (bus life.machine.doze) (bus doze) old new held → life.machine.size ≡ store_size old → Came (λ word x. BenchMakesCall call h life b word x) held
   makes (calls.SystemReset kind reason) held x sized = resets (reset_of kind reason) held (same_doze x.1) x.0
   makes (calls.SystemSuspend kind address opaque) held x sized = suspends kind address opaque held x sized
   makes call held x sized = refuses NotSupported held x.0 (same_doze x.2) x.1
@@ -327,7 +326,7 @@ abbrev Comes_so : Size → (Word → Bench → Type 0) → Bench → Word → Ma
 Comes_so size step b word n new = (x : Bench) × step word x × Stands size word x n new × (x.payloads ≡ b.payloads)
 
 module _ (size : Size) (b : Bench) (life : BenchLife) (h : ℕ) (n : Machine) (old new : SimStore) (on : b.power ≡ Some life) (was : StoreIs size b.disk_state b.kept life old) (device : DeviceIs size b (store_fault_state old) (store_facts old)) where
-  called : (held : Made) → MachineCall h life.machine n old new held → Comes_so size (λ word x. ComesTo Durable h life b word x) b (word_by held) n new
+  called : (held : Word) → MachineCall h life.machine n old new held → Comes_so size (λ word x. ComesTo Durable h life b word x) b held n new
   called held (doze, after, is, e) =
       let F : Machine = record life.machine { doze = doze; harts = slice_set life.machine.harts h after.hart } in
       let made : n ≡ F = e ∙ ap (λ x. record { size = life.machine.size; memory = after.memory; doze = doze; harts = slice_set life.machine.harts h after.hart; table = x }) is.1
@@ -337,11 +336,9 @@ module _ (size : Size) (b : Bench) (life : BenchLife) (h : ℕ) (n : Machine) (o
       makes size b life h n old new on was device after.hart doze made (call_of (hart_at life.machine h)) held (subst P is.2 is.0) (sized_for size b.disk_state b.kept life (store_size old) was.0)
 
   pub comes : (did : Turned) (word : Word) → boards.Comes did h life.machine n old new word → Comes_so size (λ word x. ComesTo did h life b word x) b word n new
-  comes Durable word (held, made, e) =
-      let P : Word → Type 0 = λ w. Comes_so size (λ word x. ComesTo Durable h life b word x) b w n new in
-      subst P (sym e) (called held made)
-  comes did word (same, still, e) =
-      let P : Word → Type 0 = λ w. Comes_so size (λ word x. ComesTo did h life b word x) b w n new in
+  comes Durable word made = called word made
+  comes (Made did) word (same, still, e) =
+      let P : Word → Type 0 = λ w. Comes_so size (λ word x. ComesTo (Made did) h life b word x) b w n new in
       let Q : SimStore → Type 0 = λ store. StoreIs size b.disk_state b.kept life store in
       let S : SimStore → Type 0 = λ store. DeviceIs size b (store_fault_state store) (store_facts store) in
       subst P (sym e) (b, (refl, refl), (life, on, subst Q (sym still) was, same, subst S (sym still) device), refl)
@@ -355,16 +352,12 @@ turn size h b life n old new word on was device (m, did, turned, came) =
     (rest.0, (m, did, turned, rest.1), rest.2, rest.3)
 
 struck_as : (size : Size) (word : Word) (b : Bench) (m : Machine) (store : SimStore) → Stands size word b m store → b.fault_state.struck ≡ (store_fault_state store).struck
-struck_as size (words.Own did) b m store (life, on, is, same, device) = ap (λ x. x.struck) device.0
-struck_as size words.Dozing b m store (life, on, is, same, device) = ap (λ x. x.struck) device.0
-struck_as size words.Asleep b m store (off, is, device) = ap (λ x. x.struck) device.0
-struck_as size (words.Reset kind) b m store (off, is, device) = ap (λ x. x.struck) device.0
+struck_as size (words.Goes did) b m store (life, on, is, same, device) = ap (λ x. x.struck) device.0
+struck_as size (words.Over end) b m store (off, is, device) = ap (λ x. x.struck) device.0
 
 runs : (size : Size) (word : Word) (b : Bench) (m : Machine) (store : SimStore) → ends word ≡ false → Stands size word b m store → Running size b m store
-runs size (words.Own did) b m store e is = is
-runs size words.Dozing b m store e is = absurd (let no : ⊥ = cc in no)
-runs size words.Asleep b m store e is = absurd (let no : ⊥ = cc in no)
-runs size (words.Reset kind) b m store e is = absurd (let no : ⊥ = cc in no)
+runs size (words.Goes did) b m store e is = is
+runs size (words.Over end) b m store e is = absurd (let no : ⊥ = cc in no)
 
 pub turns : (size : Size) (h count : ℕ) (b : Bench) (m n : Machine) (old new : SimStore) (made : ℕ) (word : Word) → Running size b m old → boards.TurnsManyHeld h count m n old new made word
     → Comes_so size (λ word x. GuestTurns h count b made word x) b word n new

@@ -11,12 +11,13 @@ use Rattle.machine.specs.Machine.{Machine}
 use Rattle.machine_lines.specs.declared.line.MachineLine.{MachineLine}
 use Rattle.machine_lines.specs.declared.line.MachineLine.TheVariants as shown
 use Rattle.machine.specs.Machine.{hart_at}
-use Rattle.machine.specs.declared.parts.Word.{Word}
-use Rattle.machine.specs.declared.parts.Word.TheVariants as words
-use Rattle.machine.specs.declared.parts.Called.{Called}
-use Rattle.machine.specs.declared.parts.Called.TheVariants.{NotStarted, Made}
-use Rattle.turns.specs.declared.words.Turned.{Turned}
-use Rattle.turns.specs.declared.words.Turned.TheVariants.{Next, Durable}
+use Rattle.sbi.specs.declared.words.Word.{Word}
+use Rattle.sbi.specs.declared.words.Word.TheVariants as words
+use Rattle.sbi.specs.declared.words.LifeEnd.{LifeEnd}
+use Rattle.sbi.specs.declared.words.LifeEnd.TheVariants as life_ends
+use Rattle.sbi_calls.specs.declared.words.Turned.{Turned}
+use Rattle.sbi_calls.specs.declared.words.Turned.TheVariants.{Made, Durable}
+use Rattle.sbi_calls.specs.declared.words.Did.TheVariants.{Next}
 use Rattle.sbi_abi.specs.Calls.{call_of}
 use Rattle.sbi_abi.specs.declared.call.Call.{Call}
 use Rattle.sbi_abi.specs.declared.call.Call.TheVariants as calls
@@ -168,27 +169,27 @@ read_at (Some life) says_so b a new x = as_many b b new refl refl x.3
 -- ---- turns and calls
 -- a word that shows that no command was refused
 abbrev IsFree : Word → Type 0
-IsFree word = word ≢ words.Own Next
+IsFree word = word ≢ words.Goes Next
 
 refuses_free : {A : Type 0} (e : SbiError) (h : ℕ) (life : BenchLife) (b : Bench) (word : Word) (new : Bench) → AnswersError e h life b word new → IsFree word → A
 refuses_free e h life b word new x free = absurd (free x.0)
 
-held_free : (c : Change) (o : Result ℕ ℕ) (said : Word) (h : ℕ) (life : BenchLife) (b mid : Bench) (word : Word) (new : Bench) → Issued c life b o mid → HartCommand o said h mid word new → IsFree word → AsMany b new
+held_free : (c : Change) (o : Result ℕ ℕ) (said : LifeEnd) (h : ℕ) (life : BenchLife) (b mid : Bench) (word : Word) (new : Bench) → Issued c life b o mid → HartCommand o said h mid word new → IsFree word → AsMany b new
 held_free c (Ok n) said h life b mid word new i x free = many_then b mid new (issued_failure_free life.doubt c life b (Ok n) mid i tt) (as_many mid (off mid) new refl refl x.1)
 held_free c (Err n) said h life b mid word new i (at, on, x) free = refuses_free Failed h at mid word new x free
 
 resets_free : (asked : Result (ResetType × Reason) SbiError) (h : ℕ) (life : BenchLife) (b : Bench) (word : Word) (new : Bench) → Resets asked h life b word new → IsFree word → AsMany b new
 resets_free (Err e) h life b word new x free = refuses_free e h life b word new x free
-resets_free (Ok reset) h life b word new (o, mid, i, x) free = held_free (Reset reset.1) o (words.Reset reset.0) h life b mid word new i x free
+resets_free (Ok reset) h life b word new (o, mid, i, x) free = held_free (Reset reset.1) o (life_ends.Reset reset.0) h life b mid word new i x free
 
-refused_held : {A : Type 0} (n : ℕ) (o : Result ℕ ℕ) (h : ℕ) (b : Bench) (word : Word) (new : Bench) → o ≡ Err n → HartCommand o words.Asleep h b word new → IsFree word → A
+refused_held : {A : Type 0} (n : ℕ) (o : Result ℕ ℕ) (h : ℕ) (b : Bench) (word : Word) (new : Bench) → o ≡ Err n → HartCommand o life_ends.Asleep h b word new → IsFree word → A
 refused_held n o h b word new e x free =
-    let P : Result ℕ ℕ → Type 0 = λ r. HartCommand r words.Asleep h b word new in
+    let P : Result ℕ ℕ → Type 0 = λ r. HartCommand r life_ends.Asleep h b word new in
     let at = subst P e x in
     refuses_free Failed h at.0 b word new at.2 free
 
-sleeps_held : (Fits : Type 0) (c : Change) (o : Result ℕ ℕ) (h : ℕ) (life : BenchLife) (b mid : Bench) (word : Word) (new : Bench) → SuspendIssued Fits c life b o mid → HartCommand o words.Asleep h mid word new → IsFree word → AsMany b new
-sleeps_held Fits c o h life b mid word new (inl i) x free = held_free c o words.Asleep h life b mid word new i.1 x free
+sleeps_held : (Fits : Type 0) (c : Change) (o : Result ℕ ℕ) (h : ℕ) (life : BenchLife) (b mid : Bench) (word : Word) (new : Bench) → SuspendIssued Fits c life b o mid → HartCommand o life_ends.Asleep h mid word new → IsFree word → AsMany b new
+sleeps_held Fits c o h life b mid word new (inl i) x free = held_free c o life_ends.Asleep h life b mid word new i.1 x free
 sleeps_held Fits c o h life b mid word new (inr (inl i)) x free = refused_held 11 o h mid word new i.1 x free
 sleeps_held Fits c o h life b mid word new (inr (inr i)) x free = refused_held 3 o h mid word new i.1 x free
 
@@ -208,7 +209,7 @@ makes_free call h life b word new x free = refuses_free NotSupported h life b wo
 
 comes_free : (did : Turned) (h : ℕ) (life : BenchLife) (b : Bench) (word : Word) (new : Bench) → ComesTo did h life b word new → IsFree word → AsMany b new
 comes_free Durable h life b word new x free = makes_free (call_of (hart_at life.machine h)) h life b word new x free
-comes_free did h life b word new x free = as_many b b new refl refl x.1
+comes_free (Made did) h life b word new x free = as_many b b new refl refl x.1
 
 turn_free : (h : ℕ) (life : BenchLife) (b : Bench) (word : Word) (new : Bench) → GuestTurn h life b word new → IsFree word → AsMany b new
 turn_free h life b word new (m, did, turned, x) free = let rest = comes_free did h (has_machine m life) (on_with (has_machine m life) b) word new x free in (rest.0, rest.1)
@@ -217,7 +218,7 @@ turn_free h life b word new (m, did, turned, x) free = let rest = comes_free did
 turns_free : (h n : ℕ) (b : Bench) (made : ℕ) (word : Word) (new : Bench) → GuestTurns h n b made word new → made ≡ 1 → IsFree word → AsMany b new
 turns_free h zero b made word new x one free = absurd x
 turns_free h (suc n) b made word new (life, on, said, mid, turned, inl x) one free =
-    let P : Word → Type 0 = λ w. w ≢ words.Own Next in
+    let P : Word → Type 0 = λ w. w ≢ words.Goes Next in
     many_then b mid new (turn_free h life b said mid turned (subst P x.2 free)) (as_many mid mid new refl refl x.3)
 turns_free h (suc n) b made word new (life, on, said, mid, turned, inr x) one free =
     let P : ℕ → Type 0 = λ k. GuestTurns h n mid k word new in
@@ -240,9 +241,9 @@ call_free h word new a reported failure_free e =
     let at = subst P e reported in
     of_answer a (printed.Shown (shown.Answered h _ _)) at.2 failure_free
 
-called_at : (called : Called) (h : ℕ) (life : BenchLife) (b : Bench) (a : Answer) (new : Bench) → GuestCall called h life b a new → ShowsNoFailure a.line → AsMany b new
-called_at NotStarted h life b a new x failure_free = as_many b b new refl refl x.1
-called_at (Made did) h life b a new (word, x, reported) failure_free = comes_free did h life b word new x (call_free h word new a reported failure_free)
+called_at : (called : Option Turned) (h : ℕ) (life : BenchLife) (b : Bench) (a : Answer) (new : Bench) → GuestCall called h life b a new → ShowsNoFailure a.line → AsMany b new
+called_at None h life b a new x failure_free = as_many b b new refl refl x.1
+called_at (Some did) h life b a new (word, x, reported) failure_free = comes_free did h life b word new x (call_free h word new a reported failure_free)
 
 call_at : (p : Option BenchLife) (h e f x y z : ℕ) (b : Bench) (a : Answer) (new : Bench) → CallStep p h e f x y z b a new → ShowsNoFailure a.line → AsMany b new
 call_at None h e f x y z b a new g failure_free = as_many b b new refl refl g.1

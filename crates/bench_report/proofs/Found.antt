@@ -14,13 +14,15 @@ use Rattle.script_lang.specs.declared.line.Line.{Line}
 use Rattle.script_lang.specs.declared.line.Line.TheVariants as lines
 use Rattle.machine.specs.Machine.{hart_at}
 use Rattle.hart.specs.State.{ArchState}
-use Rattle.machine_lines.specs.Shows.{own_line}
-use Rattle.machine.specs.declared.parts.Called.{Called}
-use Rattle.machine.specs.declared.parts.Called.TheVariants.{NotStarted, Made}
-use Rattle.turns.specs.declared.words.Turned.{Turned}
-use Rattle.turns.specs.declared.words.Turned.TheVariants as dids
-use Rattle.machine.specs.declared.parts.Word.{Word}
-use Rattle.machine.specs.declared.parts.Word.TheVariants as words
+use Rattle.machine_lines.specs.Shows.{own_line, own_line_by}
+use Rattle.sbi_calls.specs.Words.{is_answered}
+use Rattle.sbi_calls.specs.declared.words.Did.{Did}
+use Rattle.sbi_calls.specs.declared.words.Turned.{Turned}
+use Rattle.sbi_calls.specs.declared.words.Turned.TheVariants.{Made, Durable}
+use Rattle.sbi.specs.declared.words.Word.{Word}
+use Rattle.sbi.specs.declared.words.Word.TheVariants as words
+use Rattle.sbi.specs.declared.words.LifeEnd.{LifeEnd}
+use Rattle.sbi.specs.declared.words.LifeEnd.TheVariants as life_ends
 use Rattle.sbi_abi.specs.Calls.{call_of}
 use Rattle.sbi_abi.specs.declared.call.Call.{Call}
 use Rattle.sbi_abi.specs.declared.call.Call.TheVariants as calls
@@ -44,7 +46,7 @@ use Rattle.bench_report.specs.Turns.{refused, AnswersError, HartCommand, Resets,
 use Rattle.bench_report.specs.PowerOns.{life_begun, IsBooted, BootsFrom, Begins, Boots, Opens, IsOpenRefusal}
 use Rattle.bench_report.specs.Steps.{console_reported, CallReported, GuestCall, OnStep, ConsoleStep, TurnStep, CallStep, Step, Run}
 use Rattle.bench_report.specs.Reports.{AreByFirmware, IsReport}
-use Rattle.bench_report.specs.Prefix.{AskedLine, Boot, Command, Guest, Nothing, Keeps, Hides, TellsLine, may_hide, may_hide_before, asked_by, LineImplies, ShowsIts, is_format_ok}
+use Rattle.bench_report.specs.Prefix.{AskedLine, Boot, Command, Guest, Nothing, Keeps, Hides, TellsLine, may_hide, asked_by, LineImplies, ShowsIts, is_format_ok}
 use Rattle.bench_report.specs.AllFound.{LineMakes, ShownMakes, AreAllFound, FindAll, FindsAll}
 use Rattle.bench_report.proofs.Issues.{is_up, takes_more, GoesOn, IsSound}
 use Rattle.bench_report.proofs.Rows.{commands_taken, few_commands, all_or_failed}
@@ -58,10 +60,8 @@ IsPowered None = ⊥
 IsPowered (Some life) = ⊤
 
 abbrev IsOwn : Word → Type 0
-IsOwn (words.Own did) = ⊤
-IsOwn words.Dozing = ⊤
-IsOwn words.Asleep = ⊥
-IsOwn (words.Reset kind) = ⊥
+IsOwn (words.Goes did) = ⊤
+IsOwn (words.Over end) = ⊥
 
 powered : (p : Option BenchLife) (life : BenchLife) → p ≡ Some life → IsPowered p
 powered p life e = subst IsPowered (sym e) tt
@@ -72,17 +72,17 @@ as_powered new x e on = subst (λ (m : Bench). IsPowered m.power) (sym e) on
 answers_on : (e : SbiError) (h : ℕ) (life : BenchLife) (b : Bench) (word : Word) (new : Bench) → AnswersError e h life b word new → IsPowered new.power
 answers_on e h life b word new x = as_powered new (on_with (refused h e life) b) x.1 tt
 
-held_on : (o : Result ℕ ℕ) (said : Word) (h : ℕ) (b : Bench) (word : Word) (new : Bench) → (IsOwn said → ⊥) → HartCommand o said h b word new → IsOwn word → IsPowered new.power
-held_on (Ok n) said h b word new ends x own = absurd (ends (subst IsOwn x.0 own))
-held_on (Err n) said h b word new ends (life, on, x) own = answers_on Failed h life b word new x
+held_on : (o : Result ℕ ℕ) (said : LifeEnd) (h : ℕ) (b : Bench) (word : Word) (new : Bench) → HartCommand o said h b word new → IsOwn word → IsPowered new.power
+held_on (Ok n) said h b word new x own = absurd (subst IsOwn x.0 own)
+held_on (Err n) said h b word new (life, on, x) own = answers_on Failed h life b word new x
 
 resets_on : (asked : Result (ResetType × Reason) SbiError) (h : ℕ) (life : BenchLife) (b : Bench) (word : Word) (new : Bench) → Resets asked h life b word new → IsOwn word → IsPowered new.power
 resets_on (Err e) h life b word new x own = answers_on e h life b word new x
-resets_on (Ok reset) h life b word new (o, mid, i, x) own = held_on o (words.Reset reset.0) h mid word new (λ no. no) x own
+resets_on (Ok reset) h life b word new (o, mid, i, x) own = held_on o (life_ends.Reset reset.0) h mid word new x own
 
 falls_on : (sleep : Sleep) (site opaque h : ℕ) (life : BenchLife) (b : Bench) (word : Word) (new : Bench) → BenchFallsAsleep sleep site opaque h life b word new → IsOwn word → IsPowered new.power
 falls_on ToRam site opaque h life b word new x own = as_powered new (on_with (dozes h site opaque life) b) x.1 tt
-falls_on ToDisk site opaque h life b word new (o, mid, i, x) own = held_on o words.Asleep h mid word new (λ no. no) x own
+falls_on ToDisk site opaque h life b word new (o, mid, i, x) own = held_on o life_ends.Asleep h mid word new x own
 
 sleeps_on : (asked : Result (Sleep × ℕ) SbiError) (opaque h : ℕ) (life : BenchLife) (b : Bench) (word : Word) (new : Bench) → BenchSleepsBy asked opaque h life b word new → IsOwn word → IsPowered new.power
 sleeps_on (Err e) opaque h life b word new x own = answers_on e h life b word new x
@@ -95,8 +95,8 @@ makes_on (calls.SystemSuspend kind address opaque) h life b word new (asked, che
 makes_on call h life b word new x own = answers_on NotSupported h life b word new x
 
 comes_on : (did : Turned) (h : ℕ) (life : BenchLife) (b : Bench) (word : Word) (new : Bench) → IsPowered b.power → ComesTo did h life b word new → IsOwn word → IsPowered new.power
-comes_on dids.Durable h life b word new on x own = makes_on (call_of (hart_at life.machine h)) h life b word new x own
-comes_on did h life b word new on x own = as_powered new b x.1 on
+comes_on Durable h life b word new on x own = makes_on (call_of (hart_at life.machine h)) h life b word new x own
+comes_on (Made did) h life b word new on x own = as_powered new b x.1 on
 
 turns_on : (h n : ℕ) (b : Bench) (made : ℕ) (word : Word) (new : Bench) → GuestTurns h n b made word new → IsOwn word → IsPowered new.power
 turns_on h zero b made word new x own = absurd x
@@ -180,8 +180,7 @@ step_still size line b a new calm well h refused = absurd refused
 -- ---- what is known of a line beside what it says: a line that goes on leaves a board that takes commands
 abbrev IsQuiet : AskedLine → Printed → Bool → Type 0
 IsQuiet (Command c) (printed.CommandRefused word n) now = now ≡ true
-IsQuiet Guest (printed.Shown (shown_lines.Turn h made (words.Own did))) now = now ≡ true
-IsQuiet Guest (printed.Shown (shown_lines.Turn h made words.Dozing)) now = now ≡ true
+IsQuiet Guest (printed.Shown (shown_lines.Turn h made (words.Goes did))) now = now ≡ true
 IsQuiet Guest (printed.Shown (shown_lines.Answered h e v)) now = now ≡ true
 IsQuiet Nothing printed.PowerLost now = ⊤
 IsQuiet asked printed.PowerLost now = ⊥
@@ -229,35 +228,25 @@ module _ (now : Bool) where
   console_quiet word c (Some life) b a new on up (o, i, e) = reported_quiet word c o a (up (issued_on life.doubt c life b o new (powered b.power life on) i)) e
 
   word_quiet : (h made : ℕ) (word : Word) → (IsOwn word → now ≡ true) → IsQuiet Guest (printed.Shown (shown_lines.Turn h made word)) now
-  word_quiet h made (words.Own did) up = up tt
-  word_quiet h made words.Dozing up = up tt
-  word_quiet h made words.Asleep up = tt
-  word_quiet h made (words.Reset kind) up = tt
+  word_quiet h made (words.Goes did) up = up tt
+  word_quiet h made (words.Over end) up = tt
 
   turn_quiet : (p : Option BenchLife) (h n : ℕ) (b : Bench) (a : Answer) (new : Bench) → (IsPowered new.power → now ≡ true) → TurnStep p h n b a new → IsQuiet Guest a.line now
   turn_quiet None h n b a new up x = quiet Guest a (printed.Shown shown_lines.Off) now x.0 tt
   turn_quiet (Some life) h n b a new up (inl (has, made, word, x, e)) = quiet Guest a (printed.Shown (shown_lines.Turn h made word)) now e (word_quiet h made word (λ own. up (turns_on h n b made word new x own)))
   turn_quiet (Some life) h n b a new up (inr x) = quiet Guest a (printed.Shown shown_lines.Off) now x.1 tt
 
-  own_quiet : (h : ℕ) (hart : ArchState) (did : Turned) → now ≡ true → IsQuiet Guest (printed.Shown (own_line h hart did)) now
-  own_quiet h hart dids.Next up = up
-  own_quiet h hart dids.Idle up = tt
-  own_quiet h hart dids.Entered up = tt
-  own_quiet h hart dids.Woke up = tt
-  own_quiet h hart dids.Resumed up = tt
-  own_quiet h hart dids.Suspended up = tt
-  own_quiet h hart dids.Stopped up = tt
-  own_quiet h hart dids.Durable up = tt
+  own_quiet : (answered : Bool) (h : ℕ) (hart : ArchState) (did : Did) → now ≡ true → IsQuiet Guest (printed.Shown (own_line_by answered h hart did)) now
+  own_quiet true h hart did up = up
+  own_quiet false h hart did up = tt
 
   reported_call : (word : Word) (h : ℕ) (new : Bench) (a : Answer) → (IsOwn word → now ≡ true) → CallReported h word new a → IsQuiet Guest a.line now
-  reported_call (words.Own did) h new a up (life, on, e) = quiet Guest a (printed.Shown (own_line h (hart_at life.machine h) did)) now e (own_quiet h (hart_at life.machine h) did (up tt))
-  reported_call words.Dozing h new a up e = quiet Guest a (printed.Shown (shown_lines.Called h words.Dozing)) now e tt
-  reported_call words.Asleep h new a up e = quiet Guest a (printed.Shown (shown_lines.Called h words.Asleep)) now e tt
-  reported_call (words.Reset kind) h new a up e = quiet Guest a (printed.Shown (shown_lines.Called h (words.Reset kind))) now e tt
+  reported_call (words.Goes did) h new a up (life, on, e) = quiet Guest a (printed.Shown (own_line h (hart_at life.machine h) did)) now e (own_quiet (is_answered did) h (hart_at life.machine h) did (up tt))
+  reported_call (words.Over end) h new a up e = quiet Guest a (printed.Shown (shown_lines.Called h (words.Over end))) now e tt
 
-  called_quiet : (called : Called) (h : ℕ) (life : BenchLife) (b : Bench) (a : Answer) (new : Bench) → IsPowered b.power → (IsPowered new.power → now ≡ true) → GuestCall called h life b a new → IsQuiet Guest a.line now
-  called_quiet NotStarted h life b a new on up x = quiet Guest a (printed.Shown (shown_lines.NotStarted h)) now x.0 tt
-  called_quiet (Made did) h life b a new on up (word, x, e) = reported_call word h new a (λ own. up (comes_on did h life b word new on x own)) e
+  called_quiet : (called : Option Turned) (h : ℕ) (life : BenchLife) (b : Bench) (a : Answer) (new : Bench) → IsPowered b.power → (IsPowered new.power → now ≡ true) → GuestCall called h life b a new → IsQuiet Guest a.line now
+  called_quiet None h life b a new on up x = quiet Guest a (printed.Shown (shown_lines.NotStarted h)) now x.0 tt
+  called_quiet (Some did) h life b a new on up (word, x, e) = reported_call word h new a (λ own. up (comes_on did h life b word new on x own)) e
 
   call_quiet : (p : Option BenchLife) (h e f x y z : ℕ) (b : Bench) (a : Answer) (new : Bench) → (IsPowered new.power → now ≡ true) → CallStep p h e f x y z b a new → IsQuiet Guest a.line now
   call_quiet None h e f x y z b a new up g = quiet Guest a (printed.Shown shown_lines.Off) now g.0 tt
@@ -303,14 +292,10 @@ module _ (s t : DurableState) (up now : Bool) where
   either_keeps false on k = k.0
 
   makes_shown : (line : MachineLine) → IsQuiet Guest (printed.Shown line) now → TellsLine line s up t now → ShownMakes line s t
-  makes_shown (shown_lines.Turn h made (words.Own did)) q x = either_keeps (may_hide made did) q x
-  makes_shown (shown_lines.Turn h made words.Dozing) q x = either_keeps (may_hide_before made) q x
-  makes_shown (shown_lines.Turn h made words.Asleep) q x = (x.2, x.3, x.4)
-  makes_shown (shown_lines.Turn h made (words.Reset kind)) q x = (x.2, x.3, x.4)
-  makes_shown (shown_lines.Called h (words.Own did)) q x = x.0
-  makes_shown (shown_lines.Called h words.Dozing) q x = x.0
-  makes_shown (shown_lines.Called h words.Asleep) q x = (x.2, x.3, x.4)
-  makes_shown (shown_lines.Called h (words.Reset kind)) q x = (x.2, x.3, x.4)
+  makes_shown (shown_lines.Turn h made (words.Goes did)) q x = either_keeps (may_hide made did) q x
+  makes_shown (shown_lines.Turn h made (words.Over end)) q x = (x.2, x.3, x.4)
+  makes_shown (shown_lines.Called h (words.Goes did)) q x = x.0
+  makes_shown (shown_lines.Called h (words.Over end)) q x = (x.2, x.3, x.4)
   makes_shown (shown_lines.Answered h e v) q x = either_keeps (e == 2 ^ 64 - 1) q x
   makes_shown line q x = x.0
 

@@ -9,11 +9,14 @@ use Rattle.susp.specs.declared.sleeps.Sleep.{Sleep}
 use Rattle.susp.specs.declared.sleeps.Sleep.TheVariants.{ToRam, ToDisk}
 use Rattle.machine.specs.Machine.{Machine, hart_at}
 use Rattle.machine.specs.Turns.{MakesTurn}
-use Rattle.machine.specs.Words.{ends}
-use Rattle.machine.specs.declared.parts.Word.{Word}
-use Rattle.machine.specs.declared.parts.Word.TheVariants as words
-use Rattle.turns.specs.declared.words.Turned.{Turned}
-use Rattle.turns.specs.declared.words.Turned.TheVariants.{Next, Durable}
+use Rattle.sbi.specs.Words.{ends, word_of_sleep}
+use Rattle.sbi.specs.declared.words.Word.{Word}
+use Rattle.sbi.specs.declared.words.Word.TheVariants as words
+use Rattle.sbi.specs.declared.words.LifeEnd.{LifeEnd}
+use Rattle.sbi.specs.declared.words.LifeEnd.TheVariants as life_ends
+use Rattle.sbi_calls.specs.declared.words.Turned.{Turned}
+use Rattle.sbi_calls.specs.declared.words.Turned.TheVariants.{Made, Durable}
+use Rattle.sbi_calls.specs.declared.words.Did.TheVariants.{Next}
 use Rattle.sbi_abi.specs.declared.call.Call.{Call}
 use Rattle.sbi_abi.specs.declared.call.Call.TheVariants as calls
 use Rattle.sbi_abi.specs.declared.ret.SbiError.{SbiError}
@@ -33,13 +36,13 @@ IsOneTurn = (h : ℕ) (old new other : Machine) (word also : Turned) → MakesTu
 refuses_fair : (e : SbiError) (h : ℕ) (life : BenchLife) (b : Bench) (word : Word) (new : Bench) → AnswersError e h life b word new → Fair b new
 refuses_fair e h life b word new x = fair_to b new (on_with (refused h e life) b) x.1 (λ s. s, λ c. inr c, λ s. s)
 
-held_fair : (o : Result ℕ ℕ) (said : Word) (h : ℕ) (b : Bench) (word : Word) (new : Bench) → HartCommand o said h b word new → Fair b new
+held_fair : (o : Result ℕ ℕ) (said : LifeEnd) (h : ℕ) (b : Bench) (word : Word) (new : Bench) → HartCommand o said h b word new → Fair b new
 held_fair (Ok n) said h b word new x = fair_to b new (off b) x.1 (λ s. s, λ c. inr c, λ s. s)
 held_fair (Err n) said h b word new (life, on, x) = refuses_fair Failed h life b word new x
 
 resets_fair : (asked : Result (ResetType × Reason) SbiError) (h : ℕ) (life : BenchLife) (b : Bench) (word : Word) (new : Bench) → Resets asked h life b word new → Fair b new
 resets_fair (Err e) h life b word new x = refuses_fair e h life b word new x
-resets_fair (Ok reset) h life b word new (o, mid, i, x) = fair_then b mid new (issued_fair (Reset reset.1) life b o mid i) (held_fair o (words.Reset reset.0) h mid word new x)
+resets_fair (Ok reset) h life b word new (o, mid, i, x) = fair_then b mid new (issued_fair (Reset reset.1) life b o mid i) (held_fair o (life_ends.Reset reset.0) h mid word new x)
 
 suspends_fair : (Fits : Type 0) (c : Change) (life : BenchLife) (b : Bench) (o : Result ℕ ℕ) (new : Bench) → SuspendIssued Fits c life b o new → Fair b new
 suspends_fair Fits c life b o new (inl x) = issued_fair c life b o new x.1
@@ -48,7 +51,7 @@ suspends_fair Fits c life b o new (inr (inr x)) = unmoved b new x.2
 
 falls_fair : (sleep : Sleep) (site opaque h : ℕ) (life : BenchLife) (b : Bench) (word : Word) (new : Bench) → BenchFallsAsleep sleep site opaque h life b word new → Fair b new
 falls_fair ToRam site opaque h life b word new x = fair_to b new (on_with (dozes h site opaque life) b) x.1 (λ s. s, λ c. inr c, λ s. s)
-falls_fair ToDisk site opaque h life b word new (o, mid, i, x) = fair_then b mid new (suspends_fair _ _ life b o mid i) (held_fair o words.Asleep h mid word new x)
+falls_fair ToDisk site opaque h life b word new (o, mid, i, x) = fair_then b mid new (suspends_fair _ _ life b o mid i) (held_fair o life_ends.Asleep h mid word new x)
 
 sleeps_fair : (sleep : Sleep) (site opaque h : ℕ) (life : BenchLife) (b : Bench) (word : Word) (new : Bench) → BenchSleeps sleep site opaque h life b word new → Fair b new
 sleeps_fair sleep site opaque h life b word new (inl x) = refuses_fair Denied h life b word new x.1
@@ -65,7 +68,7 @@ makes_fair call h life b word new x = refuses_fair NotSupported h life b word ne
 
 pub comes_fair : (did : Turned) (h : ℕ) (life : BenchLife) (b : Bench) (word : Word) (new : Bench) → ComesTo did h life b word new → Fair b new
 comes_fair Durable h life b word new x = makes_fair (call_of (hart_at life.machine h)) h life b word new x
-comes_fair did h life b word new x = unmoved b new x.1
+comes_fair (Made did) h life b word new x = unmoved b new x.1
 
 turn_fair : (h : ℕ) (life : BenchLife) (b : Bench) (word : Word) (new : Bench) → GuestTurn h life b word new → Fair b new
 turn_fair h life b word new (m, did, turn, x) = let rest = comes_fair did h (has_machine m life) (on_with (has_machine m life) b) word new x in (λ s. rest.0 s, λ c. rest.1 c, λ s. rest.2 s)
@@ -77,9 +80,9 @@ turns_fair h (suc n) b made word new (life, on, said, mid, turn, inr x) = fair_t
 
 -- ---- one
 refuses_one : (e : SbiError) (h : ℕ) (life : BenchLife) (b : Bench) (word also : Word) (new last : Bench) → AnswersError e h life b word new → AnswersError e h life b also last → Agree word also new last
-refuses_one e h life b word also new last x y = same word also (words.Own Next) new last (on_with (refused h e life) b) x.0 y.0 x.1 y.1
+refuses_one e h life b word also new last x y = same word also (words.Goes Next) new last (on_with (refused h e life) b) x.0 y.0 x.1 y.1
 
-held_one : (o p : Result ℕ ℕ) (said : Word) (h : ℕ) (b d : Bench) (word also : Word) (new last : Bench) → Agree o p b d → HartCommand o said h b word new → HartCommand p said h d also last → Agree word also new last
+held_one : (o p : Result ℕ ℕ) (said : LifeEnd) (h : ℕ) (b d : Bench) (word also : Word) (new last : Bench) → Agree o p b d → HartCommand o said h b word new → HartCommand p said h d also last → Agree word also new last
 held_one o p said h b d word also new last (inl f) x y = inl ((held_fair o said h b word new x).0 f)
 held_one o p said h b d word also new last (inr (inl f)) x y = inr (inl ((held_fair p said h d also last y).0 f))
 held_one o p said h b d word also new last (inr (inr e)) x y =
@@ -88,12 +91,12 @@ held_one o p said h b d word also new last (inr (inr e)) x y =
     alike o x (subst Q (sym e.1) (subst P (sym e.0) y))
   where
     alike : (o : Result ℕ ℕ) → HartCommand o said h b word new → HartCommand o said h b also last → Agree word also new last
-    alike (Ok n) x y = same word also said new last (off b) x.0 y.0 x.1 y.1
+    alike (Ok n) x y = same word also (words.Over said) new last (off b) x.0 y.0 x.1 y.1
     alike (Err n) (life, on, x) (other, at, y) = let P : BenchLife → Type 0 = λ l. AnswersError Failed h l b also last in refuses_one Failed h life b word also new last x (subst P (some_inj life other b.power on at) y)
 
 resets_one : (asked : Result (ResetType × Reason) SbiError) (h : ℕ) (life : BenchLife) (b : Bench) (word also : Word) (new last : Bench) → Resets asked h life b word new → Resets asked h life b also last → Agree word also new last
 resets_one (Err e) h life b word also new last x y = refuses_one e h life b word also new last x y
-resets_one (Ok reset) h life b word also new last (o, mid, i, x) (p, mid2, j, y) = held_one o p (words.Reset reset.0) h mid mid2 word also new last (issued (Reset reset.1) life b o p mid mid2 i j) x y
+resets_one (Ok reset) h life b word also new last (o, mid, i, x) (p, mid2, j, y) = held_one o p (life_ends.Reset reset.0) h mid mid2 word also new last (issued (Reset reset.1) life b o p mid mid2 i j) x y
 
 suspends_one : (Fits : Type 0) (c : Change) (life : BenchLife) (b : Bench) (o p : Result ℕ ℕ) (new last : Bench) → SuspendIssued Fits c life b o new → SuspendIssued Fits c life b p last → Agree o p new last
 suspends_one Fits c life b o p new last (inl x) (inl y) = issued c life b o p new last x.1 y.1
@@ -105,8 +108,8 @@ suspends_one Fits c life b o p new last (inr (inr x)) (inl y) = absurd (x.0 y.0)
 suspends_one Fits c life b o p new last (inr (inr x)) (inr (inr y)) = same o p (Err 3) new last b x.1 y.1 x.2 y.2
 
 falls_one : (sleep : Sleep) (site opaque h : ℕ) (life : BenchLife) (b : Bench) (word also : Word) (new last : Bench) → BenchFallsAsleep sleep site opaque h life b word new → BenchFallsAsleep sleep site opaque h life b also last → Agree word also new last
-falls_one ToRam site opaque h life b word also new last x y = same word also words.Dozing new last (on_with (dozes h site opaque life) b) x.0 y.0 x.1 y.1
-falls_one ToDisk site opaque h life b word also new last (o, mid, i, x) (p, mid2, j, y) = held_one o p words.Asleep h mid mid2 word also new last (suspends_one _ _ life b o p mid mid2 i j) x y
+falls_one ToRam site opaque h life b word also new last x y = same word also (word_of_sleep ToRam) new last (on_with (dozes h site opaque life) b) x.0 y.0 x.1 y.1
+falls_one ToDisk site opaque h life b word also new last (o, mid, i, x) (p, mid2, j, y) = held_one o p life_ends.Asleep h mid mid2 word also new last (suspends_one _ _ life b o p mid mid2 i j) x y
 
 sleeps_one : (sleep : Sleep) (site opaque h : ℕ) (life : BenchLife) (b : Bench) (word also : Word) (new last : Bench) → BenchSleeps sleep site opaque h life b word new → BenchSleeps sleep site opaque h life b also last → Agree word also new last
 sleeps_one sleep site opaque h life b word also new last (inl x) (inl y) = refuses_one Denied h life b word also new last x.1 y.1
@@ -161,7 +164,7 @@ makes_one call h life b word also new last x y = refuses_one NotSupported h life
 
 pub comes_one : (did : Turned) (h : ℕ) (life : BenchLife) (b : Bench) (word also : Word) (new last : Bench) → ComesTo did h life b word new → ComesTo did h life b also last → Agree word also new last
 comes_one Durable h life b word also new last x y = makes_one (call_of (hart_at life.machine h)) h life b word also new last x y
-comes_one did h life b word also new last x y = same word also (words.Own did) new last b x.0 y.0 x.1 y.1
+comes_one (Made did) h life b word also new last x y = same word also (words.Goes did) new last b x.0 y.0 x.1 y.1
 
 turn_one : IsOneTurn → (h : ℕ) (life : BenchLife) (b : Bench) (word also : Word) (new last : Bench) → GuestTurn h life b word new → GuestTurn h life b also last → Agree word also new last
 turn_one one h life b word also new last (m, did, t, x) (other, did2, t2, y) =

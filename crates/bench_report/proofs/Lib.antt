@@ -25,7 +25,7 @@ pub mod Unsaid
 pub mod Lost
 pub mod Serials
 pub mod Wholes
-pub mod Resumed
+pub mod PowerOns
 pub mod Prefixed
 pub mod Issues
 pub mod Allowed

@@ -9,11 +9,10 @@ use Rattle.simdisk.specs.declared.SimDisk.{SimDisk}
 use Rattle.machine.specs.Machine.{Machine, hart_at}
 use Rattle.machine.specs.Turns.{MakesOneCall, calling}
 use Rattle.susp.specs.Dozes.{doze_of, can_wake, after_wake}
-use Rattle.machine.specs.declared.parts.Word.{Word}
-use Rattle.machine.specs.declared.parts.Word.TheVariants as words
+use Rattle.sbi.specs.declared.words.Word.{Word}
+use Rattle.sbi.specs.declared.words.Word.TheVariants as words
 use Rattle.board.specs.Turns as boards
-use Rattle.machine.specs.declared.parts.Called.{Called}
-use Rattle.machine.specs.declared.parts.Called.TheVariants.{NotStarted, Made}
+use Rattle.sbi_calls.specs.declared.words.Turned.{Turned}
 use Rattle.machine_lines.specs.Shows.{HasHart, own_line, made_line, called_line}
 use Rattle.machine_lines.specs.declared.line.MachineLine.{MachineLine}
 use Rattle.machine_lines.specs.declared.line.MachineLine.TheVariants as shown
@@ -73,10 +72,8 @@ on_runs : (size : Size) (b : Bench) (life : BenchLife) (board : SimBoard) → b.
 on_runs size b life board on is device = (life, on, is.0, is.1, device)
 
 stands_by : (size : Size) (word : Word) (b : Bench) (board : SimBoard) → Stands size word b (machine_in board) (store_in board) → BoardAfter size word b board
-stands_by size (words.Own did) b board is = running_on size b board is
-stands_by size words.Dozing b board is = running_on size b board is
-stands_by size words.Asleep b board is = is
-stands_by size (words.Reset kind) b board is = is
+stands_by size (words.Goes did) b board is = running_on size b board is
+stands_by size (words.Over end) b board is = is
 
 -- a line of turns, by what the board did
 pub on_turns : (size : Size) (b : Bench) (old new : SimBoard) (h n made : ℕ) (word : Word) (after : Power) → OnIs size b old → HasHart (machine_in old) h
@@ -104,10 +101,8 @@ calls_off size b board h e f x y z was not = (b, lacks size b board h b.power wa
 
 -- a line of a call, by what the board did
 reported_as : (size : Size) (h : ℕ) (word : Word) (b : Bench) (n : Machine) (store : SimStore) (line : MachineLine) → Stands size word b n store → line ≡ made_line h (hart_at n h) word → CallReported h word b (shows line)
-reported_as size h (words.Own did) b n store line (life, on, is, same, device) e = (life, on, ap shows (e ∙ ap (λ m. own_line h (hart_at m h) did) same))
-reported_as size h words.Dozing b n store line is e = ap shows e
-reported_as size h words.Asleep b n store line is e = ap shows e
-reported_as size h (words.Reset kind) b n store line is e = ap shows e
+reported_as size h (words.Goes did) b n store line (life, on, is, same, device) e = (life, on, ap shows (e ∙ ap (λ m. own_line h (hart_at m h) did) same))
+reported_as size h (words.Over end) b n store line is e = ap shows e
 
 module _ (size : Size) (b : Bench) (old new : SimBoard) (h e f x y z : ℕ) (said : Option Word) (line : MachineLine) (after : Power) (was : OnIs size b old) (has : HasHart (machine_in old) h) (shows_it : line ≡ called_line h (hart_at (machine_in new) h) said) where
   -- what the board is, where a word was said and where none was
@@ -115,17 +110,17 @@ module _ (size : Size) (b : Bench) (old new : SimBoard) (h e f x y z : ℕ) (sai
   Follows None = (w : Bench) → OnIs size w new → Agrees size w after
   Follows (Some word) = (w : Bench) → BoardAfter size word w new → Agrees size w after
 
-  came : (life : BenchLife) (m : Machine) (called : Called) → b.power ≡ Some life → BoardIs size b.disk_state b.kept (Some life) old → m.size ≡ life.machine.size
+  came : (life : BenchLife) (m : Machine) (called : Option Turned) → b.power ≡ Some life → BoardIs size b.disk_state b.kept (Some life) old → m.size ≡ life.machine.size
       → boards.ComesOf called h m (machine_in new) (store_in old) (store_in new) said → Follows said
       → (w : Bench) × GuestCall called h (has_machine m life) (on_with (has_machine m life) b) (shows line) w × Agrees size w after × (w.payloads ≡ b.payloads)
-  came life m NotStarted on is sized (same, still, none) follows =
+  came life m None on is sized (same, still, none) follows =
       let x : Bench = on_with (has_machine m life) b in
       let Q : SimStore → Type 0 = λ store. StoreIs size b.disk_state b.kept (has_machine m life) store in
       let S : SimStore → Type 0 = λ store. DeviceIs size b (store_fault_state store) (store_facts store) in
       let F : Option Word → Type 0 = Follows in
       let on_new : OnIs size x new = ((subst Q (sym still) (has_other size b life m (store_in old) sized is.0), same), subst S (sym still) was.1) in
       (x, (ap shows (shows_it ∙ ap (called_line h (hart_at (machine_in new) h)) none), refl), subst F none follows x on_new, refl)
-  came life m (Made did) on is sized (word, made, some) follows =
+  came life m (Some did) on is sized (word, made, some) follows =
       let x : Bench = on_with (has_machine m life) b in
       let F : Option Word → Type 0 = Follows in
       let did_so = comes size x (has_machine m life) h (machine_in new) (store_in old) (store_in new) refl (has_other size b life m (store_in old) sized is.0) was.1 did word made in

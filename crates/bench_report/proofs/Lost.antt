@@ -3,15 +3,16 @@
 use Rattle.std.proofs.Common.{◌≡◌, ◌⊎◌, ℕ, inl, inr, ◌-◌, ◌^◌, ◌==◌, List, [], ◌∷◌, Bool, true, false, MatchBool}
 use Rattle.board_model.specs.Durable.{DurableState, Change, after}
 use Rattle.board_model.specs.declared.boot_mode.BootMode.{BootMode}
-use Rattle.machine.specs.declared.parts.Word.{Word}
-use Rattle.machine.specs.declared.parts.Word.TheVariants as words
+use Rattle.sbi.specs.declared.words.Word.{Word}
+use Rattle.sbi.specs.declared.words.Word.TheVariants as words
 use Rattle.machine_lines.specs.declared.line.MachineLine.{MachineLine}
 use Rattle.machine_lines.specs.declared.line.MachineLine.TheVariants as shown_lines
 use Rattle.bench_report.specs.declared.printed.Printed.{Printed}
 use Rattle.bench_report.specs.declared.printed.Printed.TheVariants as printed
 use Rattle.bench_report.specs.PowerOns.{commands_of}
 use Rattle.bench_report.specs.Taken.{TakesAll, TakesSome, TakesFewer}
-use Rattle.bench_report.specs.Prefix.{AskedLine, Boot, Command, Guest, Nothing, IsOfHarts, Keeps, Hides, may_hide, may_hide_before, TellsTurns, TellsCall, TellsLine, RefusedChange, Lost, LineImplies}
+use Rattle.bench_report.specs.Prefix.{AskedLine, Boot, Command, Guest, Nothing, IsOfHarts, Keeps, Hides, may_hide, TellsTurns, TellsCall, TellsLine, RefusedChange, Lost, LineImplies}
+use Rattle.bench_report.proofs.Unsaid.{of_harts}
 
 none_some : (cs : List Change) (s t : DurableState) → t ≡ s → TakesSome cs s t
 none_some [] s t e = e
@@ -58,16 +59,12 @@ lost_either true s t up now h = lost_hides s t up now h
 lost_either false s t up now h = inl h.0
 
 lost_turns : (made : ℕ) (word : Word) (s t : DurableState) (up now : Bool) → TellsTurns made word s up t now → LostGuest s up t
-lost_turns made (words.Own did) s t up now h = lost_either (may_hide made did) s t up now h
-lost_turns made words.Dozing s t up now h = lost_either (may_hide_before made) s t up now h
-lost_turns made words.Asleep s t up now h = inr (h.0, h.2, inr h.3, all_some (h.2 ∷ []) s t h.4)
-lost_turns made (words.Reset kind) s t up now h = inr (h.0, h.2, inl h.3, all_some (h.2 ∷ []) s t h.4)
+lost_turns made (words.Goes did) s t up now h = lost_either (may_hide made did) s t up now h
+lost_turns made (words.Over end) s t up now h = inr (h.0, h.2, of_harts end h.2 h.3, all_some (h.2 ∷ []) s t h.4)
 
 lost_call : (word : Word) (s t : DurableState) (up now : Bool) → TellsCall word s up t now → LostGuest s up t
-lost_call (words.Own did) s t up now h = inl h.0
-lost_call words.Dozing s t up now h = inl h.0
-lost_call words.Asleep s t up now h = inr (h.0, h.2, inr h.3, all_some (h.2 ∷ []) s t h.4)
-lost_call (words.Reset kind) s t up now h = inr (h.0, h.2, inl h.3, all_some (h.2 ∷ []) s t h.4)
+lost_call (words.Goes did) s t up now h = inl h.0
+lost_call (words.Over end) s t up now h = inr (h.0, h.2, of_harts end h.2 h.3, all_some (h.2 ∷ []) s t h.4)
 
 lost_line : (line : MachineLine) (s t : DurableState) (up now : Bool) → TellsLine line s up t now → LostGuest s up t
 lost_line (shown_lines.Turn h made word) s t up now x = lost_turns made word s t up now x

@@ -14,14 +14,13 @@ use Rattle.script_lang.specs.Scripts.{Script}
 use Rattle.script_lang.specs.declared.line.Line.{Line}
 use Rattle.script_lang.specs.declared.line.Line.TheVariants as lines
 use Rattle.machine.specs.Machine.{Machine, hart_at}
-use Rattle.machine_lines.specs.Shows.{own_line}
-use Rattle.machine.specs.declared.parts.Called.{Called}
-use Rattle.machine.specs.declared.parts.Called.TheVariants.{NotStarted, Made}
-use Rattle.hart.specs.State.{reg}
-use Rattle.turns.specs.declared.words.Turned.{Turned}
-use Rattle.turns.specs.declared.words.Turned.TheVariants as dids
-use Rattle.machine.specs.declared.parts.Word.{Word}
-use Rattle.machine.specs.declared.parts.Word.TheVariants as words
+use Rattle.machine_lines.specs.Shows.{own_line, own_line_by}
+use Rattle.sbi_calls.specs.Words.{is_answered}
+use Rattle.sbi_calls.specs.declared.words.Did.{Did}
+use Rattle.hart.specs.State.{ArchState, reg}
+use Rattle.sbi_calls.specs.declared.words.Turned.{Turned}
+use Rattle.sbi.specs.declared.words.Word.{Word}
+use Rattle.sbi.specs.declared.words.Word.TheVariants as words
 use Rattle.machine_lines.specs.declared.line.MachineLine.{MachineLine}
 use Rattle.machine_lines.specs.declared.line.MachineLine.TheVariants as shown_lines
 use Rattle.board_console.specs.declared.command_words.ConsoleWord.{ConsoleWord}
@@ -40,7 +39,7 @@ use Rattle.bench_report.specs.Steps.{console_reported, FormatStep, OnStep, Conso
 use Rattle.bench_report.specs.Reports.{IsByFirmware, AreByFirmware, IsReport}
 use Rattle.bench_report.specs.Prefix.{AskedLine, Boot, Command, Guest, Nothing, Keeps, Hides, TellsTurns, TellsLine, asked_by, RefusedChange, Lost, LineImplies, ShowsIts, IsPrefixed, resumes, RisesFrom, AreLoaded, is_format_ok, IsFoundByPrefix, KeepsPrefixLaw}
 use Rattle.bench_report.proofs.Refused.{WasRefused, one_life}
-use Rattle.bench_report.proofs.Unsaid.{Hidden, TellsOne, GoesBy, TurnsGoBy, comes_back, turns_back}
+use Rattle.bench_report.proofs.Unsaid.{Hidden, TellsDid, TellsOne, GoesBy, TurnsGoBy, comes_back, turns_back}
 use Rattle.bench_report.proofs.Lost.{lost}
 use Rattle.bench_report.proofs.Serials.{serials_rise}
 use Rattle.bench_report.proofs.Wholes.{IsKeptWhole, all_loaded}
@@ -235,29 +234,21 @@ keeps_either false s t up now k = k
 
 -- the line of a call shows the hart as the bench has it
 module _ (h : ℕ) (new : Bench) (life : BenchLife) (on : new.power ≡ Some life) (s t : DurableState) (up now : Bool) where
-  answer_tells : Keeps s up t now ⊎ (WasRefused h new × Hidden s up t now) → TellsLine (own_line h (hart_at life.machine h) dids.Next) s up t now
-  answer_tells (inl k) = keeps_either _ s t up now k
-  answer_tells (inr ((other, also, is), hid)) =
+  answer_tells : (did : Did) → Keeps s up t now ⊎ (WasRefused h new × Hidden s up t now) → TellsLine (own_line_by true h (hart_at life.machine h) did) s up t now
+  answer_tells did (inl k) = keeps_either _ s t up now k
+  answer_tells did (inr ((other, also, is), hid)) =
       let L : BenchLife → Type 0 = λ l. reg (hart_at l.machine h) 10 ≡ 2 ^ 64 - 1 in
       let P : ℕ → Type 0 = λ n. MatchBool (n == 2 ^ 64 - 1) (Hides s up t now) (Keeps s up t now) in
       subst P (sym (subst L (one_life new.power life other on also) is)) (inr hid)
 
-  own_tells : (did : Turned) → TellsOne h new (words.Own did) s up t now → TellsLine (own_line h (hart_at life.machine h) did) s up t now
-  own_tells dids.Next w = answer_tells w
-  own_tells dids.Idle w = w
-  own_tells dids.Entered w = w
-  own_tells dids.Woke w = w
-  own_tells dids.Resumed w = w
-  own_tells dids.Suspended w = w
-  own_tells dids.Stopped w = w
-  own_tells dids.Durable w = w
+  own_tells : (answered : Bool) (did : Did) → TellsDid answered h new s up t now → TellsLine (own_line_by answered h (hart_at life.machine h) did) s up t now
+  own_tells true did w = answer_tells did w
+  own_tells false did w = w
 
 call_says : (word : Word) (h : ℕ) (b : Bench) (a : Answer) (new : Bench) → GoesBy h word b new → CallReported h word new a → Tell Guest b a new
-call_says (words.Own did) h b a new back (life, on, e) =
-    line_says h (words.Own did) (own_line h (hart_at life.machine h) did) b a new back e (λ s t w. own_tells h new life on s t (is_up b.power) (is_up new.power) did w)
-call_says words.Dozing h b a new back e = line_says h words.Dozing (shown_lines.Called h words.Dozing) b a new back e (λ s t w. w)
-call_says words.Asleep h b a new back e = line_says h words.Asleep (shown_lines.Called h words.Asleep) b a new back e (λ s t w. w)
-call_says (words.Reset kind) h b a new back e = line_says h (words.Reset kind) (shown_lines.Called h (words.Reset kind)) b a new back e (λ s t w. w)
+call_says (words.Goes did) h b a new back (life, on, e) =
+    line_says h (words.Goes did) (own_line h (hart_at life.machine h) did) b a new back e (λ s t w. own_tells h new life on s t (is_up b.power) (is_up new.power) (is_answered did) did w)
+call_says (words.Over end) h b a new back e = line_says h (words.Over end) (shown_lines.Called h (words.Over end)) b a new back e (λ s t w. w)
 
 stays_off : (b : Bench) (a : Answer) (new : Bench) → IsSound b → a ≡ shows shown_lines.Off → new ≡ b → Tell Guest b a new
 stays_off b a new sound e f = stays Guest b a (printed.Shown shown_lines.Off) new e f sound (λ s t e. (e, refl))
@@ -267,11 +258,11 @@ turn_at None h n b a new sound x = stays_off b a new sound x.0 x.1
 turn_at (Some life) h n b a new sound (inl (has, made, word, x, e)) = turn_says word h made b a new (turns_back h n b made word new sound x) e
 turn_at (Some life) h n b a new sound (inr x) = stays_off b a new sound x.1 x.2
 
-called_at : (called : Called) (h : ℕ) (m : Machine) (life : BenchLife) (b : Bench) (a : Answer) (new : Bench) → IsSound b → b.power ≡ Some life → GuestCall called h (has_machine m life) (on_with (has_machine m life) b) a new → Tell Guest b a new
-called_at NotStarted h m life b a new sound on x =
+called_at : (called : Option Turned) (h : ℕ) (m : Machine) (life : BenchLife) (b : Bench) (a : Answer) (new : Bench) → IsSound b → b.power ≡ Some life → GuestCall called h (has_machine m life) (on_with (has_machine m life) b) a new → Tell Guest b a new
+called_at None h m life b a new sound on x =
     let F : Option BenchLife → Type 0 = λ p. GoesOn b.kept p in
     same Guest b a (printed.Shown (shown_lines.NotStarted h)) new (on_with (has_machine m life) b) x.0 x.1 refl refl (sym (ap is_up on)) (subst F on sound.1) sound (λ s t e. (e, refl))
-called_at (Made did) h m life b a new sound on (word, x, e) = call_says word h b a new (comes_back did h life (has_machine m life) b word new sound on refl refl x) e
+called_at (Some did) h m life b a new sound on (word, x, e) = call_says word h b a new (comes_back did h life (has_machine m life) b word new sound on refl refl x) e
 
 call_at : (p : Option BenchLife) (h e f x y z : ℕ) (b : Bench) (a : Answer) (new : Bench) → IsSound b → b.power ≡ p → CallStep p h e f x y z b a new → Tell Guest b a new
 call_at None h e f x y z b a new sound on g = stays_off b a new sound g.0 g.1
@@ -420,15 +411,17 @@ turn_no None h n b a new x ok = other a _ x.0 refl ok
 turn_no (Some life) h n b a new (inl (has, made, word, x, e)) ok = other a _ e refl ok
 turn_no (Some life) h n b a new (inr x) ok = other a _ x.1 refl ok
 
-call_word_no : {T : Type 0} (word : Word) (h : ℕ) (new : Bench) (a : Answer) → CallReported h word new a → is_format_ok a.line ≡ true → T
-call_word_no (words.Own did) h new a (life, on, e) ok = other a _ e refl ok
-call_word_no words.Dozing h new a e ok = other a _ e refl ok
-call_word_no words.Asleep h new a e ok = other a _ e refl ok
-call_word_no (words.Reset kind) h new a e ok = other a _ e refl ok
+own_no : {T : Type 0} (answered : Bool) (h : ℕ) (hart : ArchState) (did : Did) (a : Answer) → a ≡ shows (own_line_by answered h hart did) → is_format_ok a.line ≡ true → T
+own_no true h hart did a e ok = other a _ e refl ok
+own_no false h hart did a e ok = other a _ e refl ok
 
-called_no : {T : Type 0} (called : Called) (h : ℕ) (life : BenchLife) (b : Bench) (a : Answer) (new : Bench) → GuestCall called h life b a new → is_format_ok a.line ≡ true → T
-called_no NotStarted h life b a new x ok = other a _ x.0 refl ok
-called_no (Made did) h life b a new (word, x, e) ok = call_word_no word h new a e ok
+call_word_no : {T : Type 0} (word : Word) (h : ℕ) (new : Bench) (a : Answer) → CallReported h word new a → is_format_ok a.line ≡ true → T
+call_word_no (words.Goes did) h new a (life, on, e) ok = own_no (is_answered did) h (hart_at life.machine h) did a e ok
+call_word_no (words.Over end) h new a e ok = other a _ e refl ok
+
+called_no : {T : Type 0} (called : Option Turned) (h : ℕ) (life : BenchLife) (b : Bench) (a : Answer) (new : Bench) → GuestCall called h life b a new → is_format_ok a.line ≡ true → T
+called_no None h life b a new x ok = other a _ x.0 refl ok
+called_no (Some did) h life b a new (word, x, e) ok = call_word_no word h new a e ok
 
 call_no : {T : Type 0} (p : Option BenchLife) (h e f x y z : ℕ) (b : Bench) (a : Answer) (new : Bench) → CallStep p h e f x y z b a new → is_format_ok a.line ≡ true → T
 call_no None h e f x y z b a new g ok = other a _ g.0 refl ok

@@ -11,10 +11,9 @@ use Rattle.machine_lines.specs.declared.line.MachineLine.TheVariants as shown_li
 use Rattle.machine_lines.specs.Shows.{CsrLine}
 use Rattle.machine.specs.Turns.{MakesOneCall}
 use Rattle.susp.specs.Dozes.{can_wake}
-use Rattle.machine.specs.declared.parts.Word.{Word}
-use Rattle.machine.specs.declared.parts.Word.TheVariants as words
-use Rattle.machine.specs.declared.parts.Called.{Called}
-use Rattle.machine.specs.declared.parts.Called.TheVariants.{NotStarted, Made}
+use Rattle.sbi.specs.declared.words.Word.{Word}
+use Rattle.sbi.specs.declared.words.Word.TheVariants as words
+use Rattle.sbi_calls.specs.declared.words.Turned.{Turned}
 use Rattle.script_lang.specs.Scripts.{Script}
 use Rattle.script_lang.specs.declared.line.Line.{Line}
 use Rattle.script_lang.specs.declared.line.Line.TheVariants as lines
@@ -32,7 +31,7 @@ use Rattle.bench_report.proofs.Determined.{some_inj, HasFailed, DiskHasFailed, I
 
 -- what the lines leave nothing open of
 abbrev pub IsOneCall : Type 0
-IsOneCall = (h eid fid a0 a1 a2 : ℕ) (old new other : Machine) (called also : Called) → MakesOneCall h eid fid a0 a1 a2 old new called → MakesOneCall h eid fid a0 a1 a2 old other also → (new ≡ other) × (called ≡ also)
+IsOneCall = (h eid fid a0 a1 a2 : ℕ) (old new other : Machine) (called also : Option Turned) → MakesOneCall h eid fid a0 a1 a2 old new called → MakesOneCall h eid fid a0 a1 a2 old other also → (new ≡ other) × (called ≡ also)
 
 abbrev pub IsOneCsr : Type 0
 IsOneCsr = (h n : ℕ) (m : Machine) (line also : MachineLine) → CsrLine h n m line → CsrLine h n m also → line ≡ also
@@ -59,9 +58,9 @@ turn_fair None h n b a new x = unmoved b new x.1
 turn_fair (Some life) h n b a new (inl (has, made, word, x, e)) = turns_fair h n b made word new x
 turn_fair (Some life) h n b a new (inr x) = unmoved b new x.2
 
-called_fair : (called : Called) (h : ℕ) (life : BenchLife) (b : Bench) (a : Answer) (new : Bench) → GuestCall called h life b a new → Fair b new
-called_fair NotStarted h life b a new x = unmoved b new x.1
-called_fair (Made did) h life b a new (word, x, e) = comes_fair did h life b word new x
+called_fair : (called : Option Turned) (h : ℕ) (life : BenchLife) (b : Bench) (a : Answer) (new : Bench) → GuestCall called h life b a new → Fair b new
+called_fair None h life b a new x = unmoved b new x.1
+called_fair (Some did) h life b a new (word, x, e) = comes_fair did h life b word new x
 
 call_fair : (p : Option BenchLife) (h e f x y z : ℕ) (b : Bench) (a : Answer) (new : Bench) → CallStep p h e f x y z b a new → Fair b new
 call_fair None h e f x y z b a new g = unmoved b new g.1
@@ -170,12 +169,10 @@ turn_at one (Some life) h n b a z new last (inr x) (inl y) = absurd (x.0 y.0)
 turn_at one (Some life) h n b a z new last (inr x) (inr y) = same a z _ new last b x.1 y.1 x.2 y.2
 
 reported_at : (h : ℕ) (word : Word) (new : Bench) (a z : Answer) → CallReported h word new a → CallReported h word new z → a ≡ z
-reported_at h (words.Own did) new a z (life, on, e) (life2, on2, e2) =
+reported_at h (words.Goes did) new a z (life, on, e) (life2, on2, e2) =
     let P : BenchLife → Type 0 = λ l. z ≡ shows (own_line h (hart_at l.machine h) did) in
     e ∙ sym (subst P (some_inj life life2 new.power on on2) e2)
-reported_at h words.Dozing new a z e e2 = e ∙ sym e2
-reported_at h words.Asleep new a z e e2 = e ∙ sym e2
-reported_at h (words.Reset kind) new a z e e2 = e ∙ sym e2
+reported_at h (words.Over end) new a z e e2 = e ∙ sym e2
 
 reported_one : (h : ℕ) (word also : Word) (a z : Answer) (new last : Bench) → Agree word also new last → CallReported h word new a → CallReported h also last z → Agree a z new last
 reported_one h word also a z new last (inl s) x y = inl s
@@ -185,16 +182,16 @@ reported_one h word also a z new last (inr (inr e)) x y =
     let Q : Bench → Type 0 = λ m. CallReported h word m z in
     inr (inr (reported_at h word new a z x (subst Q (sym e.1) (subst P (sym e.0) y)), e.1))
 
-called_at : (called : Called) (h : ℕ) (life : BenchLife) (b : Bench) (a z : Answer) (new last : Bench) → GuestCall called h life b a new → GuestCall called h life b z last → Agree a z new last
-called_at NotStarted h life b a z new last x y = same a z _ new last b x.0 y.0 x.1 y.1
-called_at (Made did) h life b a z new last (word, x, e) (also, y, e2) = reported_one h word also a z new last (comes_one did h life b word also new last x y) e e2
+called_at : (called : Option Turned) (h : ℕ) (life : BenchLife) (b : Bench) (a z : Answer) (new last : Bench) → GuestCall called h life b a new → GuestCall called h life b z last → Agree a z new last
+called_at None h life b a z new last x y = same a z _ new last b x.0 y.0 x.1 y.1
+called_at (Some did) h life b a z new last (word, x, e) (also, y, e2) = reported_one h word also a z new last (comes_one did h life b word also new last x y) e e2
 
 call_at : IsOneCall → (p : Option BenchLife) (h e f u v w : ℕ) (b : Bench) (a z : Answer) (new last : Bench) → CallStep p h e f u v w b a new → CallStep p h e f u v w b z last → Agree a z new last
 call_at one None h e f u v w b a z new last x y = same a z _ new last b x.0 y.0 x.1 y.1
 call_at one (Some life) h e f u v w b a z new last (inl (has, m, called, did, x)) (inl (has2, other, also, did2, y)) =
     let is = one h e f u v w life.machine m other called also did did2 in
     let P : Machine → Type 0 = λ k. GuestCall also h (has_machine k life) (on_with (has_machine k life) b) z last in
-    let Q : Called → Type 0 = λ c. GuestCall c h (has_machine m life) (on_with (has_machine m life) b) z last in
+    let Q : Option Turned → Type 0 = λ c. GuestCall c h (has_machine m life) (on_with (has_machine m life) b) z last in
     called_at called h (has_machine m life) (on_with (has_machine m life) b) a z new last x (subst Q (sym is.1) (subst P (sym is.0) y))
 call_at one (Some life) h e f u v w b a z new last (inl x) (inr y) = absurd (y.0 x.0)
 call_at one (Some life) h e f u v w b a z new last (inr x) (inl y) = absurd (x.0 y.0)

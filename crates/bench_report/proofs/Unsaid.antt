@@ -1,4 +1,5 @@
 -- What turns and calls of harts make of the state that the disk stands for, read backwards.
+use Rattle.std.specs.Prelude.{MatchBool}
 use Rattle.std.proofs.Common.{◌≡◌, ◌≢◌, ◌⊎◌, ℕ, zero, suc, ◌-◌, ◌^◌, inl, inr, [], ◌∷◌, Bool, true, false, Option, Some, Result, Ok, Err, refl, sym, ◌∙◌, ap, subst, arith}
 use Rattle.board_model.specs.Durable.{DurableState, Change, Reset, Suspend}
 use Rattle.board_model.specs.Kept.{Kept, MayFind}
@@ -6,11 +7,16 @@ use Rattle.board_model.specs.declared.durable.Reason.{Reason}
 use Rattle.susp.specs.declared.sleeps.Sleep.{Sleep}
 use Rattle.susp.specs.declared.sleeps.Sleep.TheVariants.{ToRam, ToDisk}
 use Rattle.machine.specs.Machine.{Machine, hart_at}
-use Rattle.machine.specs.Words.{ends}
-use Rattle.machine.specs.declared.parts.Word.{Word}
-use Rattle.machine.specs.declared.parts.Word.TheVariants as words
-use Rattle.turns.specs.declared.words.Turned.{Turned}
-use Rattle.turns.specs.declared.words.Turned.TheVariants.{Next, Durable}
+use Rattle.sbi.specs.Words.{ends, word_of_sleep}
+use Rattle.sbi.specs.declared.words.Word.{Word}
+use Rattle.sbi.specs.declared.words.Word.TheVariants as words
+use Rattle.sbi.specs.declared.words.LifeEnd.{LifeEnd}
+use Rattle.sbi.specs.declared.words.LifeEnd.TheVariants as life_ends
+use Rattle.sbi_calls.specs.Words.{is_answered}
+use Rattle.sbi_calls.specs.declared.words.Did.{Did}
+use Rattle.sbi_calls.specs.declared.words.Turned.{Turned}
+use Rattle.sbi_calls.specs.declared.words.Turned.TheVariants.{Made, Durable}
+use Rattle.sbi_calls.specs.declared.words.Did.TheVariants.{Next}
 use Rattle.sbi_abi.specs.Calls.{call_of}
 use Rattle.sbi_abi.specs.declared.call.Call.{Call}
 use Rattle.sbi_abi.specs.declared.call.Call.TheVariants as calls
@@ -20,7 +26,7 @@ use Rattle.sbi.specs.declared.resets.ResetType.{ResetType}
 use Rattle.sbi.specs.Resets.{reset_of}
 use Rattle.bench_report.specs.Taken.{TakesAll, TakesSome}
 use Rattle.bench_report.specs.Bench.{BenchLife, Bench}
-use Rattle.bench_report.specs.Prefix.{IsReset, IsSuspension, IsOfHarts, EndsLife, Keeps, Hides, TellsTurns}
+use Rattle.bench_report.specs.Prefix.{IsOfHarts, IsEndBy, EndsLife, Keeps, Hides, TellsTurns}
 use Rattle.bench_report.proofs.Refused.{WasRefused, issued_machine, suspended_machine, shown_answer}
 use Rattle.bench_report.specs.Happens.{out_of_memory, off, on_with, has_machine}
 use Rattle.bench_report.specs.Turns.{refused, AnswersError, HartCommand, Resets, SuspendIssued, dozes, BenchFallsAsleep, BenchSleeps, BenchSleepsBy, BenchMakesCall, ComesTo, GuestTurn, GuestTurns}
@@ -30,20 +36,20 @@ use Rattle.bench_report.proofs.Issues.{takes_more, is_up, GoesOn, IsSound, Back,
 abbrev pub Hidden : DurableState → Bool → DurableState → Bool → Type 0
 Hidden s up t now = (up ≡ true) × (now ≡ false) × (c : Change) × IsOfHarts c × TakesSome (c ∷ []) s t
 
--- what the word of one turn or call of hart h tells: a hart whose command is in doubt was answered -1
+-- what one turn or call of hart h tells after which the life goes on: a hart whose command is in doubt was answered -1
+abbrev pub TellsDid : Bool → ℕ → Bench → DurableState → Bool → DurableState → Bool → Type 0
+TellsDid true h new s up t now = Keeps s up t now ⊎ (WasRefused h new × Hidden s up t now)
+TellsDid false h new s up t now = Keeps s up t now
+
+-- and its word
 abbrev pub TellsOne : ℕ → Bench → Word → DurableState → Bool → DurableState → Bool → Type 0
-TellsOne h new (words.Own Next) s up t now = Keeps s up t now ⊎ (WasRefused h new × Hidden s up t now)
-TellsOne h new (words.Own did) s up t now = Keeps s up t now
-TellsOne h new words.Dozing s up t now = Keeps s up t now
-TellsOne h new words.Asleep s up t now = EndsLife IsSuspension s up t now
-TellsOne h new (words.Reset kind) s up t now = EndsLife IsReset s up t now
+TellsOne h new (words.Goes did) s up t now = TellsDid (is_answered did) h new s up t now
+TellsOne h new (words.Over end) s up t now = EndsLife (IsEndBy end) s up t now
 
 -- and of a row of turns, where an earlier one may hide a command
 abbrev pub TellsWord : Word → DurableState → Bool → DurableState → Bool → Type 0
-TellsWord (words.Own did) s up t now = Hides s up t now
-TellsWord words.Dozing s up t now = Hides s up t now
-TellsWord words.Asleep s up t now = EndsLife IsSuspension s up t now
-TellsWord (words.Reset kind) s up t now = EndsLife IsReset s up t now
+TellsWord (words.Goes did) s up t now = Hides s up t now
+TellsWord (words.Over end) s up t now = EndsLife (IsEndBy end) s up t now
 
 -- the state before and after, by the word
 abbrev pub GoesBy : ℕ → Word → Bench → Bench → Type 0
@@ -58,9 +64,9 @@ by_eqs h word reported b new n e f x =
     let Q : Bench → Type 0 = λ m. GoesBy h reported b m in
     subst P (sym e) (subst Q (sym f) x)
 
-keeps_one : (h : ℕ) (new : Bench) (did : Turned) (s t : DurableState) (up now : Bool) → Keeps s up t now → TellsOne h new (words.Own did) s up t now
-keeps_one h new Next s t up now k = inl k
-keeps_one h new did s t up now k = k
+keeps_one : (h : ℕ) (new : Bench) (answered : Bool) (s t : DurableState) (up now : Bool) → Keeps s up t now → TellsDid answered h new s up t now
+keeps_one h new true s t up now k = inl k
+keeps_one h new false s t up now k = k
 
 -- the life goes on with another machine
 same_life : (life : BenchLife) (b : Bench) → IsSound b → b.power ≡ Some life → (other : BenchLife) → other.now ≡ life.now → other.doubt ≡ life.doubt → IsSound (on_with other b)
@@ -75,42 +81,28 @@ stays life b other sound on now doubt =
     (same_life life b sound on other now doubt, λ t found. (t, found, (refl, ap takes_more doubt ∙ sym (ap is_up on))))
 
 -- a word that tells of no command
-goes_on : (h : ℕ) (did : Turned) (life : BenchLife) (b other_bench : Bench) (other : BenchLife) → other_bench ≡ on_with other b → (word : Word) → word ≡ words.Own did → IsSound b → b.power ≡ Some life → other.now ≡ life.now → other.doubt ≡ life.doubt → GoesBy h word b other_bench
+goes_on : (h : ℕ) (did : Did) (life : BenchLife) (b other_bench : Bench) (other : BenchLife) → other_bench ≡ on_with other b → (word : Word) → word ≡ words.Goes did → IsSound b → b.power ≡ Some life → other.now ≡ life.now → other.doubt ≡ life.doubt → GoesBy h word b other_bench
 goes_on h did life b new other f word e sound on now doubt =
-    by_eqs h word (words.Own did) b new (on_with other b) e f
-    (said b (on_with other b) (λ s t. Keeps s (is_up b.power) t (is_up (on_with other b).power)) (λ s t. TellsOne h (on_with other b) (words.Own did) s (is_up b.power) t (is_up (on_with other b).power)) (stays life b other sound on now doubt)
-    (λ s t k. keeps_one h (on_with other b) did s t (is_up b.power) (is_up (on_with other b).power) k))
+    by_eqs h word (words.Goes did) b new (on_with other b) e f
+    (said b (on_with other b) (λ s t. Keeps s (is_up b.power) t (is_up (on_with other b).power)) (λ s t. TellsOne h (on_with other b) (words.Goes did) s (is_up b.power) t (is_up (on_with other b).power)) (stays life b other sound on now doubt)
+    (λ s t k. keeps_one h (on_with other b) (is_answered did) s t (is_up b.power) (is_up (on_with other b).power) k))
 
 -- ---- a command
--- the command by which a word ends a life
-abbrev OfWord : Word → Change → Type 0
-OfWord (words.Own did) c = ⊥
-OfWord words.Dozing c = ⊥
-OfWord words.Asleep c = IsSuspension c
-OfWord (words.Reset kind) c = IsReset c
-
-of_harts : (word : Word) (c : Change) → OfWord word c → IsOfHarts c
-of_harts (words.Own did) c is = absurd is
-of_harts words.Dozing c is = absurd is
-of_harts words.Asleep c is = inr is
-of_harts (words.Reset kind) c is = inl is
-
-tells_end : (h : ℕ) (new : Bench) (word : Word) (c : Change) → OfWord word c → (up : Bool) (s t : DurableState) → up ≡ true → TakesAll (c ∷ []) s t → TellsOne h new word s up t false
-tells_end h new (words.Own did) c is up s t on takes = absurd is
-tells_end h new words.Dozing c is up s t on takes = absurd is
-tells_end h new words.Asleep c is up s t on takes = (on, refl, c, is, takes)
-tells_end h new (words.Reset kind) c is up s t on takes = (on, refl, c, is, takes)
+-- the command by which a life ends is a hart's
+pub of_harts : (end : LifeEnd) (c : Change) → IsEndBy end c → IsOfHarts c
+of_harts life_ends.Asleep c is = inr is
+of_harts (life_ends.Reset kind) c is = inl is
 
 refuses_back : (e : SbiError) (h : ℕ) (life : BenchLife) (b : Bench) (word : Word) (new : Bench) → IsSound b → b.power ≡ Some life → AnswersError e h life b word new → GoesBy h word b new
 refuses_back e h life b word new sound on x = goes_on h Next life b new (refused h e life) x.1 word x.0 sound on refl refl
 
-held_back : (o : Result ℕ ℕ) (reported : Word) (c : Change) → OfWord reported c → (h : ℕ) (m : Machine) → call_of (hart_at m h) ≢ calls.Unknown → (b mid : Bench) (word : Word) (new : Bench)
-    → Back b mid (Went o c (is_up b.power) (is_up mid.power)) → ((life : BenchLife) → mid.power ≡ Some life → life.machine ≡ m) → HartCommand o reported h mid word new → GoesBy h word b new
-held_back (Ok n) reported c is h m known b mid word new back same x =
-    by_eqs h word reported b new (off mid) x.0 x.1
-    ((back.0.0, tt), λ t found. (let s = back.1 t found in (s.0, s.1, tells_end h (off mid) reported c is (is_up b.power) s.0 t s.2.0 (s.2.1, s.2.2))))
-held_back (Err n) reported c is h m known b mid word new back same (life, on, (e, f)) =
-    by_eqs h word (words.Own Next) b new last e f
+held_back : (o : Result ℕ ℕ) (end : LifeEnd) (c : Change) → IsEndBy end c → (h : ℕ) (m : Machine) → call_of (hart_at m h) ≢ calls.Unknown → (b mid : Bench) (word : Word) (new : Bench)
+    → Back b mid (Went o c (is_up b.power) (is_up mid.power)) → ((life : BenchLife) → mid.power ≡ Some life → life.machine ≡ m) → HartCommand o end h mid word new → GoesBy h word b new
+held_back (Ok n) end c is h m known b mid word new back same x =
+    by_eqs h word (words.Over end) b new (off mid) x.0 x.1
+    ((back.0.0, tt), λ t found. (let s = back.1 t found in (s.0, s.1, (s.2.0, refl, c, is, (s.2.1, s.2.2)))))
+held_back (Err n) end c is h m known b mid word new back same (life, on, (e, f)) =
+    by_eqs h word (words.Goes Next) b new last e f
     (same_life life mid back.0 on (refused h Failed life) refl refl, λ t found. (let s = back.1 t found in (s.0, s.1, went s.0 t s.2)))
   where
     last : Bench
@@ -122,15 +114,15 @@ held_back (Err n) reported c is h m known b mid word new back same (life, on, (e
     shows : WasRefused h last
     shows = (refused h Failed life, refl, shown_answer life.machine h (2 ^ 64 - 1) stands)
 
-    went : (s t : DurableState) → Went (Err n) c (is_up b.power) (is_up mid.power) s t → TellsOne h last (words.Own Next) s (is_up b.power) t (takes_more life.doubt)
+    went : (s t : DurableState) → Went (Err n) c (is_up b.power) (is_up mid.power) s t → TellsOne h last (words.Goes Next) s (is_up b.power) t (takes_more life.doubt)
     went s t (inl w) = inl (w.1, sym (ap is_up on) ∙ w.2)
     went s t (inr (inl w)) = inl (w.1, sym (ap is_up on) ∙ w.3 ∙ sym w.2)
-    went s t (inr (inr w)) = inr (shows, (w.1, sym (ap is_up on) ∙ w.2, c, of_harts reported c is, w.3))
+    went s t (inr (inr w)) = inr (shows, (w.1, sym (ap is_up on) ∙ w.2, c, of_harts end c is, w.3))
 
 resets_back : (asked : Result (ResetType × Reason) SbiError) (h : ℕ) (life : BenchLife) (b : Bench) (word : Word) (new : Bench) → IsSound b → b.power ≡ Some life → call_of (hart_at life.machine h) ≢ calls.Unknown → Resets asked h life b word new → GoesBy h word b new
 resets_back (Err e) h life b word new sound on known x = refuses_back e h life b word new sound on x
 resets_back (Ok reset) h life b word new sound on known (o, mid, i, x) =
-    held_back o (words.Reset reset.0) (Reset reset.1) (reset.1, refl) h life.machine known b mid word new (issued_back (Reset reset.1) life b o mid sound on i) (issued_machine (Reset reset.1) life b o mid on i) x
+    held_back o (life_ends.Reset reset.0) (Reset reset.1) (reset.1, refl) h life.machine known b mid word new (issued_back (Reset reset.1) life b o mid sound on i) (issued_machine (Reset reset.1) life b o mid on i) x
 
 -- where there was no memory, or the command did not fit, nothing went to the disk
 none_went : (n : ℕ) (c : Change) (b mid : Bench) → IsSound b → n ≢ 6 → mid.disk_state ≡ b.disk_state → mid.kept ≡ b.kept → mid.power ≡ b.power → Back b mid (Went (Err n) c (is_up b.power) (is_up mid.power))
@@ -159,11 +151,11 @@ suspends_back Fits c life b o mid sound on (inr (inr x)) = at 3 b x.1 x.2 (none_
 
 falls_back : (sleep : Sleep) (site opaque h : ℕ) (life : BenchLife) (b : Bench) (word : Word) (new : Bench) → IsSound b → b.power ≡ Some life → call_of (hart_at life.machine h) ≢ calls.Unknown → BenchFallsAsleep sleep site opaque h life b word new → GoesBy h word b new
 falls_back ToRam site opaque h life b word new sound on known x =
-    let next : BenchLife = dozes h site opaque life in by_eqs h word words.Dozing b new (on_with next b) x.0 x.1 (stays life b next sound on refl refl)
+    let next : BenchLife = dozes h site opaque life in by_eqs h word (word_of_sleep ToRam) b new (on_with next b) x.0 x.1 (stays life b next sound on refl refl)
 falls_back ToDisk site opaque h life b word new sound on known (o, mid, i, x) =
     let hart = (hart_at life.machine h).id in
     let c : Change = Suspend hart site opaque life.machine.memory in
-    held_back o words.Asleep c (hart, site, opaque, life.machine.memory, refl) h life.machine known b mid word new
+    held_back o life_ends.Asleep c (hart, site, opaque, life.machine.memory, refl) h life.machine known b mid word new
     (suspends_back _ c life b o mid sound on i) (suspended_machine _ c life b o mid on i) x
 
 sleeps_back : (sleep : Sleep) (site opaque h : ℕ) (life : BenchLife) (b : Bench) (word : Word) (new : Bench) → IsSound b → b.power ≡ Some life → call_of (hart_at life.machine h) ≢ calls.Unknown → BenchSleeps sleep site opaque h life b word new → GoesBy h word b new
@@ -182,34 +174,36 @@ makes_back (calls.SystemSuspend kind address opaque) h life b word new sound on 
 makes_back call h life b word new sound on at x = refuses_back NotSupported h life b word new sound on x
 
 -- what comes of what the machine did, from the bench before it
-pub comes_back : (did : Turned) (h : ℕ) (life other : BenchLife) (b : Bench) (word : Word) (new : Bench) → IsSound b → b.power ≡ Some life → other.now ≡ life.now → other.doubt ≡ life.doubt → ComesTo did h other (on_with other b) word new → GoesBy h word b new
+pub comes_back : (turned : Turned) (h : ℕ) (life other : BenchLife) (b : Bench) (word : Word) (new : Bench) → IsSound b → b.power ≡ Some life → other.now ≡ life.now → other.doubt ≡ life.doubt → ComesTo turned h other (on_with other b) word new → GoesBy h word b new
 comes_back Durable h life other b word new sound on now doubt x =
     let start : Bench = on_with other b in
     let back : GoesBy h word start new = makes_back (call_of (hart_at other.machine h)) h other start word new (same_life life b sound on other now doubt) refl refl x in
     let up : is_up start.power ≡ is_up b.power = ap takes_more doubt ∙ sym (ap is_up on) in
     let P : Bool → Type 0 = λ u. (t : DurableState) → MayFind new.kept t → (s : DurableState) × MayFind b.kept s × TellsOne h new word s u t (is_up new.power) in
     (back.0, subst P up back.1)
-comes_back did h life other b word new sound on now doubt x = goes_on h did life b new other x.1 word x.0 sound on now doubt
+comes_back (Made did) h life other b word new sound on now doubt x = goes_on h did life b new other x.1 word x.0 sound on now doubt
 
 turn_back : (h : ℕ) (life : BenchLife) (b : Bench) (word : Word) (new : Bench) → IsSound b → b.power ≡ Some life → GuestTurn h life b word new → GoesBy h word b new
 turn_back h life b word new sound on (m, did, turn, x) = comes_back did h life (has_machine m life) b word new sound on refl refl x
 
 -- what one turn tells, as the only one of its line, and as one of a row
+did_once : (answered : Bool) (h : ℕ) (last : Bench) (s t : DurableState) (up now : Bool) → TellsDid answered h last s up t now → MatchBool answered (Hides s up t now) (Keeps s up t now)
+did_once true h last s t up now (inl k) = inl k
+did_once true h last s t up now (inr x) = inr x.1
+did_once false h last s t up now k = k
+
 as_one : (h : ℕ) (last : Bench) (word : Word) (s t : DurableState) (up now : Bool) → TellsOne h last word s up t now → TellsTurns 1 word s up t now
-as_one h last (words.Own Next) s t up now (inl k) = inl k
-as_one h last (words.Own Next) s t up now (inr x) = inr x.1
-as_one h last (words.Own did) s t up now k = k
-as_one h last words.Dozing s t up now k = k
-as_one h last words.Asleep s t up now x = x
-as_one h last (words.Reset kind) s t up now x = x
+as_one h last (words.Goes did) s t up now x = did_once (is_answered did) h last s t up now x
+as_one h last (words.Over end) s t up now x = x
+
+did_in_row : (answered : Bool) (h : ℕ) (last : Bench) (s t : DurableState) (up now : Bool) → TellsDid answered h last s up t now → Hides s up t now
+did_in_row true h last s t up now (inl k) = inl k
+did_in_row true h last s t up now (inr x) = inr x.1
+did_in_row false h last s t up now k = inl k
 
 in_row : (h : ℕ) (last : Bench) (word : Word) (s t : DurableState) (up now : Bool) → TellsOne h last word s up t now → TellsWord word s up t now
-in_row h last (words.Own Next) s t up now (inl k) = inl k
-in_row h last (words.Own Next) s t up now (inr x) = inr x.1
-in_row h last (words.Own did) s t up now k = inl k
-in_row h last words.Dozing s t up now k = inl k
-in_row h last words.Asleep s t up now x = x
-in_row h last (words.Reset kind) s t up now x = x
+in_row h last (words.Goes did) s t up now x = did_in_row (is_answered did) h last s t up now x
+in_row h last (words.Over end) s t up now x = x
 
 row_of_one : (h : ℕ) (word : Word) (b new : Bench) → GoesBy h word b new → RowGoesBy word b new
 row_of_one h word b new one = said b new (λ s t. TellsOne h new word s (is_up b.power) t (is_up new.power)) (λ s t. TellsWord word s (is_up b.power) t (is_up new.power)) one (λ s t x. in_row h new word s t (is_up b.power) (is_up new.power) x)
@@ -220,23 +214,16 @@ followed word up mid now s u t (inl x) y =
     let P : DurableState → Type 0 = λ v. TellsWord word v up t now in
     let Q : Bool → Type 0 = λ m. TellsWord word u m t now in
     subst P x.0 (subst Q x.1 y)
-followed (words.Own did) up mid now s u t (inr x) (inl y) =
+followed (words.Goes did) up mid now s u t (inr x) (inl y) =
     let P : DurableState → Type 0 = TakesSome (x.2 ∷ []) s in
     inr (x.0, y.1 ∙ x.1, x.2, x.3, subst P (sym y.0) x.4)
-followed (words.Own did) up mid now s u t (inr x) (inr y) = absurd (let e : true ≡ false = sym y.0 ∙ x.1 in let no : ⊥ = cc in no)
-followed words.Dozing up mid now s u t (inr x) (inl y) =
-    let P : DurableState → Type 0 = TakesSome (x.2 ∷ []) s in
-    inr (x.0, y.1 ∙ x.1, x.2, x.3, subst P (sym y.0) x.4)
-followed words.Dozing up mid now s u t (inr x) (inr y) = absurd (let e : true ≡ false = sym y.0 ∙ x.1 in let no : ⊥ = cc in no)
-followed words.Asleep up mid now s u t (inr x) y = absurd (let e : true ≡ false = sym y.0 ∙ x.1 in let no : ⊥ = cc in no)
-followed (words.Reset kind) up mid now s u t (inr x) y = absurd (let e : true ≡ false = sym y.0 ∙ x.1 in let no : ⊥ = cc in no)
+followed (words.Goes did) up mid now s u t (inr x) (inr y) = absurd (let e : true ≡ false = sym y.0 ∙ x.1 in let no : ⊥ = cc in no)
+followed (words.Over end) up mid now s u t (inr x) y = absurd (let e : true ≡ false = sym y.0 ∙ x.1 in let no : ⊥ = cc in no)
 
 -- a word that does not end a line tells no end of a life
 hides : (word : Word) (up now : Bool) (s t : DurableState) → ends word ≡ false → TellsWord word s up t now → Hides s up t now
-hides (words.Own did) up now s t e x = x
-hides words.Dozing up now s t e x = absurd (let no : ⊥ = cc in no)
-hides words.Asleep up now s t e x = absurd (let no : ⊥ = cc in no)
-hides (words.Reset kind) up now s t e x = absurd (let no : ⊥ = cc in no)
+hides (words.Goes did) up now s t e x = x
+hides (words.Over end) up now s t e x = absurd (let no : ⊥ = cc in no)
 
 rows_back : (h n : ℕ) (b : Bench) (made : ℕ) (word : Word) (new : Bench) → IsSound b → GuestTurns h n b made word new → RowGoesBy word b new
 rows_back h zero b made word new sound x = absurd x
@@ -255,10 +242,8 @@ none_made h (suc n) b word new (life, on, said, mid, turned, inr x) = absurd (om
 
 -- a row of several turns
 tells_row : (made : ℕ) (word : Word) (s t : DurableState) (up now : Bool) → TellsWord word s up t now → TellsTurns (suc (suc made)) word s up t now
-tells_row made (words.Own did) s t up now x = x
-tells_row made words.Dozing s t up now x = x
-tells_row made words.Asleep s t up now x = x
-tells_row made (words.Reset kind) s t up now x = x
+tells_row made (words.Goes did) s t up now x = x
+tells_row made (words.Over end) s t up now x = x
 
 -- what a line of turns tells
 abbrev pub TurnsGoBy : ℕ → Word → Bench → Bench → Type 0

@@ -13,9 +13,8 @@ use Rattle.board_model.specs.declared.durable.Trial.{Trial}
 use Rattle.board.specs.Boots.{boot_refusal}
 use Rattle.board.specs.Moments.{attempts_of, commands_by}
 use Rattle.machine.specs.Machine.{Machine, hart_at}
-use Rattle.machine.specs.declared.parts.Word.{Word}
-use Rattle.machine.specs.declared.parts.Called.{Called}
-use Rattle.machine.specs.declared.parts.Called.TheVariants.{NotStarted, Made}
+use Rattle.sbi.specs.declared.words.Word.{Word}
+use Rattle.sbi.specs.declared.words.LifeEnd.{LifeEnd}
 use Rattle.machine_lines.specs.declared.line.MachineLine.{MachineLine}
 use Rattle.script_lang.specs.declared.line.Line.{Line}
 use Rattle.script_lang.specs.declared.line.Line.TheVariants as lines
@@ -27,8 +26,8 @@ use Rattle.sbi_abi.specs.declared.call.Call.TheVariants as calls
 use Rattle.sbi_abi.specs.declared.ret.SbiError.{SbiError}
 use Rattle.sbi_abi.specs.declared.ret.SbiError.TheVariants.{Failed, NotSupported, Denied}
 use Rattle.store.specs.Follows.{FitsBoard}
-use Rattle.turns.specs.declared.words.Turned.{Turned}
-use Rattle.turns.specs.declared.words.Turned.TheVariants.{Durable}
+use Rattle.sbi_calls.specs.declared.words.Turned.{Turned}
+use Rattle.sbi_calls.specs.declared.words.Turned.TheVariants.{Made, Durable}
 use Rattle.disk.specs.FaultState.{FaultArmed, CutArmed}
 use Rattle.bench_report.specs.declared.printed.Answer.{Answer}
 use Rattle.board_console.specs.declared.command_words.ConsoleWord.{ConsoleWord}
@@ -123,7 +122,7 @@ module _ (size : Size) where
   refuses : (e : SbiError) (h : ℕ) (life : BenchLife) (b : Bench) (word : Word) (new : Bench) → b.power ≡ Some life → IsKeptWhole size b → AnswersError e h life b word new → IsKeptWhole size new
   refuses e h life b word new on k x = same_as (on_with (refused h e life) b) new x.1 (k.0, k.1, k.2, sized life b on k)
 
-  held : (o : Result ℕ ℕ) (said : Word) (h : ℕ) (b : Bench) (word : Word) (new : Bench) → IsKeptWhole size b → HartCommand o said h b word new → IsKeptWhole size new
+  held : (o : Result ℕ ℕ) (said : LifeEnd) (h : ℕ) (b : Bench) (word : Word) (new : Bench) → IsKeptWhole size b → HartCommand o said h b word new → IsKeptWhole size new
   held (Ok n) said h b word new k x = same_as (off b) new x.1 (k.0, k.1, k.2, tt)
   held (Err n) said h b word new k (life, on, x) = refuses Failed h life b word new on k x
 
@@ -160,7 +159,7 @@ module _ (size : Size) where
 
   comes : (did : Turned) (h : ℕ) (life : BenchLife) (b : Bench) (word : Word) (new : Bench) → b.power ≡ Some life → IsKeptWhole size b → ComesTo did h life b word new → IsKeptWhole size new
   comes Durable h life b word new on k x = makes (call_of (hart_at life.machine h)) h life b word new on k x
-  comes did h life b word new on k x = same_as b new x.1 k
+  comes (Made did) h life b word new on k x = same_as b new x.1 k
 
   -- the life goes on with another machine of its size
   goes_on : (m : Machine) (life : BenchLife) (b : Bench) → m.size ≡ life.machine.size → b.power ≡ Some life → IsKeptWhole size b → IsKeptWhole size (on_with (has_machine m life) b)
@@ -180,9 +179,9 @@ module _ (size : Size) where
   turn_line (Some life) h n b a new k (inl (has, made, word, x, e)) = turns h n b made word new k x
   turn_line (Some life) h n b a new k (inr x) = same_as b new x.2 k
 
-  called : (did : Called) (h : ℕ) (life : BenchLife) (b : Bench) (a : Answer) (new : Bench) → b.power ≡ Some life → IsKeptWhole size b → GuestCall did h life b a new → IsKeptWhole size new
-  called NotStarted h life b a new on k x = same_as b new x.1 k
-  called (Made did) h life b a new on k (word, x, e) = comes did h life b word new on k x
+  called : (did : Option Turned) (h : ℕ) (life : BenchLife) (b : Bench) (a : Answer) (new : Bench) → b.power ≡ Some life → IsKeptWhole size b → GuestCall did h life b a new → IsKeptWhole size new
+  called None h life b a new on k x = same_as b new x.1 k
+  called (Some did) h life b a new on k (word, x, e) = comes did h life b word new on k x
 
   call_line : (p : Option BenchLife) (h e f x y z : ℕ) (b : Bench) (a : Answer) (new : Bench) → b.power ≡ p → IsKeptWhole size b → CallStep p h e f x y z b a new → IsKeptWhole size new
   call_line None h e f x y z b a new on k g = same_as b new g.1 k

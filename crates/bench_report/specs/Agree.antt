@@ -16,8 +16,8 @@ use Rattle.simdisk.specs.Pokes.{PokeFits, StandsSo, poked}
 use Rattle.script_lang.specs.declared.line.Line.{Line}
 use Rattle.script_lang.specs.declared.line.Line.TheVariants as lines
 use Rattle.store.specs.Leaves.{Leaves, IsBlank, IsKept, IsIdle}
-use Rattle.machine.specs.declared.parts.Word.{Word}
-use Rattle.machine.specs.declared.parts.Word.TheVariants as words
+use Rattle.sbi.specs.declared.words.Word.{Word}
+use Rattle.sbi.specs.declared.words.Word.TheVariants as words
 use Rattle.bench_report.specs.declared.power.Power.{Power}
 use Rattle.bench_report.specs.declared.power.Power.TheVariants.{Off, On}
 use Rattle.bench_report.specs.Views.{SimStore, SimBoard, store_in, machine_in, disk_in, facts, arms, store_arms, sim_log_of, fault_state, store_facts, store_fault_state, store_size, store_now, store_doubt, IsAs}
@@ -81,10 +81,8 @@ OverIs size b board =
 
 -- a board after what is said of a turn or a call
 abbrev pub BoardAfter : Size → Word → Bench → SimBoard → Type 0
-BoardAfter size (words.Own did) b board = OnIs size b board
-BoardAfter size words.Dozing b board = OnIs size b board
-BoardAfter size words.Asleep b board = OverIs size b board
-BoardAfter size (words.Reset kind) b board = OverIs size b board
+BoardAfter size (words.Goes did) b board = OnIs size b board
+BoardAfter size (words.Over end) b board = OverIs size b board
 
 abbrev pub Agrees : Size → Bench → Power → Type 0
 Agrees size b (Off disk) = OffIs size b disk

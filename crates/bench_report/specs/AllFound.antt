@@ -4,8 +4,8 @@
 use Rattle.std.specs.Prelude.{◌≡◌, List, [], ◌∷◌, None, MatchBool, ⊤}
 use Rattle.board_model.specs.Durable.{DurableState, Change, formatted}
 use Rattle.board.specs.Boots.{boot_refusal}
-use Rattle.machine.specs.declared.parts.Word.{Word}
-use Rattle.machine.specs.declared.parts.Word.TheVariants as words
+use Rattle.sbi.specs.declared.words.Word.{Word}
+use Rattle.sbi.specs.declared.words.Word.TheVariants as words
 use Rattle.machine_lines.specs.declared.line.MachineLine.{MachineLine}
 use Rattle.machine_lines.specs.declared.line.MachineLine.TheVariants as shown
 use Rattle.script_lang.specs.declared.line.Line.{Line}
@@ -14,17 +14,15 @@ use Rattle.bench_report.specs.declared.printed.Printed.{Printed}
 use Rattle.bench_report.specs.declared.printed.Printed.TheVariants as printed
 use Rattle.bench_report.specs.PowerOns.{commands_of}
 use Rattle.bench_report.specs.Taken.{TakesAll}
-use Rattle.bench_report.specs.Prefix.{AskedLine, Boot, Command, Guest, Nothing, asked_by, IsReset, IsSuspension, ShowsIts, is_format_ok}
+use Rattle.bench_report.specs.Prefix.{AskedLine, Boot, Command, Guest, Nothing, asked_by, IsEndBy, ShowsIts, is_format_ok}
 
 -- a hart's command of this kind was acknowledged
 abbrev pub Acknowledges : (Change → Type 0) → DurableState → DurableState → Type 0
 Acknowledges Is s t = (c : Change) × Is c × TakesAll (c ∷ []) s t
 
 abbrev pub WordMakes : Word → DurableState → DurableState → Type 0
-WordMakes (words.Own did) s t = t ≡ s
-WordMakes words.Dozing s t = t ≡ s
-WordMakes words.Asleep s t = Acknowledges IsSuspension s t
-WordMakes (words.Reset kind) s t = Acknowledges IsReset s t
+WordMakes (words.Goes did) s t = t ≡ s
+WordMakes (words.Over end) s t = Acknowledges (IsEndBy end) s t
 
 abbrev pub ShownMakes : MachineLine → DurableState → DurableState → Type 0
 ShownMakes (shown.Turn h made word) s t = WordMakes word s t

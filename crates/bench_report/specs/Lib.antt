@@ -30,7 +30,7 @@ pub mod AllFound
 -- What of both a whole report keeps.
 pub mod Laws
 -- A power-on at any point of a run, and the board that goes on with an image.
-pub mod Resumed
+pub mod Resumes
 -- What the layers below say of a disk in memory and of a board over it.
 pub mod Views
 -- How the code's disk and board stand for the bench of the model.

@@ -13,8 +13,8 @@ use Rattle.board.specs.Moments.{commands_by}
 use Rattle.board_model.specs.declared.boot_mode.BootMode.{BootMode}
 use Rattle.script_lang.specs.declared.line.Line.{Line}
 use Rattle.script_lang.specs.declared.line.Line.TheVariants as lines
-use Rattle.machine.specs.declared.parts.Word.TheVariants as words
-use Rattle.turns.specs.declared.words.Turned.TheVariants.{Next}
+use Rattle.sbi.specs.declared.words.Word.TheVariants as words
+use Rattle.sbi_calls.specs.declared.words.Did.TheVariants.{Next}
 use Rattle.machine_lines.specs.declared.line.MachineLine.{MachineLine}
 use Rattle.machine_lines.specs.declared.line.MachineLine.TheVariants as shown
 use Rattle.bench_report.specs.declared.printed.Answer.{Answer}
@@ -139,7 +139,7 @@ ArePlain (line ∷ more) = IsPlain line × ArePlain more
 -- hart did not just go on, or a call that was not answered. (A refused command is answered, and the hart goes
 -- on.)
 abbrev pub IsFailureFreeLine : MachineLine → Type 0
-IsFailureFreeLine (shown.Turn h made word) = (made ≡ 1) × (word ≢ words.Own Next)
+IsFailureFreeLine (shown.Turn h made word) = (made ≡ 1) × (word ≢ words.Goes Next)
 IsFailureFreeLine (shown.Answered h e v) = ⊥
 IsFailureFreeLine line = ⊤
 

@@ -13,10 +13,12 @@ use Rattle.board_model.specs.declared.durable.ImageHead.{ImageHead}
 use Rattle.board_model.specs.declared.boot_mode.BootMode.{BootMode}
 use Rattle.board_model.specs.declared.boot_mode.BootMode.TheVariants as modes
 use Rattle.board.specs.Boots.{boot_refusal}
-use Rattle.machine.specs.declared.parts.Word.{Word}
-use Rattle.machine.specs.declared.parts.Word.TheVariants as words
-use Rattle.turns.specs.declared.words.Turned.{Turned}
-use Rattle.turns.specs.declared.words.Turned.TheVariants.{Next}
+use Rattle.sbi.specs.declared.words.Word.{Word}
+use Rattle.sbi.specs.declared.words.Word.TheVariants as words
+use Rattle.sbi_calls.specs.Words.{is_answered}
+use Rattle.sbi_calls.specs.declared.words.Did.{Did}
+use Rattle.sbi.specs.declared.words.LifeEnd.{LifeEnd}
+use Rattle.sbi.specs.declared.words.LifeEnd.TheVariants as life_ends
 use Rattle.machine_lines.specs.declared.line.MachineLine.{MachineLine}
 use Rattle.machine_lines.specs.declared.line.MachineLine.TheVariants as shown
 use Rattle.script_lang.specs.declared.line.Line.{Line}
@@ -58,6 +60,11 @@ IsReset c = (r : Reason) × (c ≡ Reset r)
 abbrev pub IsSuspension : Change → Type 0
 IsSuspension c = (hart address opaque : ℕ) × (memory : List ℕ) × (c ≡ Suspend hart address opaque memory)
 
+-- the command with which a life ends so
+abbrev pub IsEndBy : LifeEnd → Change → Type 0
+IsEndBy life_ends.Asleep c = IsSuspension c
+IsEndBy (life_ends.Reset kind) c = IsReset c
+
 abbrev pub IsOfHarts : Change → Type 0
 IsOfHarts c = IsReset c ⊎ IsSuspension c
 
@@ -75,34 +82,21 @@ abbrev pub Hides : DurableState → Bool → DurableState → Bool → Type 0
 Hides s up t now = Keeps s up t now
     ⊎ ((up ≡ true) × (now ≡ false) × (c : Change) × IsOfHarts c × TakesSome (c ∷ []) s t)
 
-abbrev pub is_next : Turned → Bool
-is_next Next = true
-is_next did = false
-
 -- A hart whose command is in doubt is answered -1, and goes on. So one turn that ended otherwise hides none; of a
 -- row of turns the line tells the last alone.
-abbrev pub may_hide : ℕ → Turned → Bool
-may_hide (suc zero) did = is_next did
+abbrev pub may_hide : ℕ → Did → Bool
+may_hide (suc zero) did = is_answered did
 may_hide made did = true
-
--- a turn before the last of a row may hide one, also where the board then dozes, which asks nothing of the disk
-abbrev pub may_hide_before : ℕ → Bool
-may_hide_before (suc zero) = false
-may_hide_before made = true
 
 -- what a line of so many turns tells by the word of the last
 abbrev pub TellsTurns : ℕ → Word → DurableState → Bool → DurableState → Bool → Type 0
-TellsTurns made (words.Own did) s up t now = MatchBool (may_hide made did) (Hides s up t now) (Keeps s up t now)
-TellsTurns made words.Dozing s up t now = MatchBool (may_hide_before made) (Hides s up t now) (Keeps s up t now)
-TellsTurns made words.Asleep s up t now = EndsLife IsSuspension s up t now
-TellsTurns made (words.Reset kind) s up t now = EndsLife IsReset s up t now
+TellsTurns made (words.Goes did) s up t now = MatchBool (may_hide made did) (Hides s up t now) (Keeps s up t now)
+TellsTurns made (words.Over end) s up t now = EndsLife (IsEndBy end) s up t now
 
 -- what the word of a call tells that was not answered
 abbrev pub TellsCall : Word → DurableState → Bool → DurableState → Bool → Type 0
-TellsCall (words.Own did) s up t now = Keeps s up t now
-TellsCall words.Dozing s up t now = Keeps s up t now
-TellsCall words.Asleep s up t now = EndsLife IsSuspension s up t now
-TellsCall (words.Reset kind) s up t now = EndsLife IsReset s up t now
+TellsCall (words.Goes did) s up t now = Keeps s up t now
+TellsCall (words.Over end) s up t now = EndsLife (IsEndBy end) s up t now
 
 -- what a line of harts tells; a call that was answered hides a command where the answer is -1
 abbrev pub TellsLine : MachineLine → DurableState → Bool → DurableState → Bool → Type 0

@@ -10,10 +10,9 @@ use Rattle.script_lang.specs.declared.line.Line.{Line}
 use Rattle.script_lang.specs.declared.line.Line.TheVariants as lines
 use Rattle.machine_lines.specs.Shows.{HasHart, own_line, reg_line, pc_line, CsrLine, pending_line, mem_line}
 use Rattle.machine.specs.Turns.{MakesOneCall}
-use Rattle.machine.specs.declared.parts.Word.{Word}
-use Rattle.machine.specs.declared.parts.Word.TheVariants as words
-use Rattle.machine.specs.declared.parts.Called.{Called}
-use Rattle.machine.specs.declared.parts.Called.TheVariants.{NotStarted, Made}
+use Rattle.sbi.specs.declared.words.Word.{Word}
+use Rattle.sbi.specs.declared.words.Word.TheVariants as words
+use Rattle.sbi_calls.specs.declared.words.Turned.{Turned}
 use Rattle.machine_lines.specs.declared.line.MachineLine.{MachineLine}
 use Rattle.machine_lines.specs.declared.line.MachineLine.TheVariants as shown
 use Rattle.board_console.specs.declared.command_words.ConsoleWord.{ConsoleWord}
@@ -62,22 +61,20 @@ TurnStep (Some life) h n b answer new =
 
 -- what a line of a call says of its hart, on the bench after it
 abbrev pub CallReported : ℕ → Word → Bench → Answer → Type 0
-CallReported h (words.Own did) new answer =
+CallReported h (words.Goes did) new answer =
     (life : BenchLife) × (new.power ≡ Some life) × (answer ≡ shows (own_line h (hart_at life.machine h) did))
-CallReported h words.Dozing new answer = answer ≡ shows (shown.Called h words.Dozing)
-CallReported h words.Asleep new answer = answer ≡ shows (shown.Called h words.Asleep)
-CallReported h (words.Reset kind) new answer = answer ≡ shows (shown.Called h (words.Reset kind))
+CallReported h (words.Over end) new answer = answer ≡ shows (shown.Called h (words.Over end))
 
 -- a call that the machine made in the place of hart h, once the life has the machine
-abbrev pub GuestCall : Called → ℕ → BenchLife → Bench → Answer → Bench → Type 0
-GuestCall NotStarted h life b answer new = (answer ≡ shows (shown.NotStarted h)) × (new ≡ b)
-GuestCall (Made did) h life b answer new =
-    (word : Word) × ComesTo did h life b word new × CallReported h word new answer
+abbrev pub GuestCall : Option Turned → ℕ → BenchLife → Bench → Answer → Bench → Type 0
+GuestCall None h life b answer new = (answer ≡ shows (shown.NotStarted h)) × (new ≡ b)
+GuestCall (Some turned) h life b answer new =
+    (word : Word) × ComesTo turned h life b word new × CallReported h word new answer
 
 abbrev pub CallStep : Option BenchLife → ℕ → ℕ → ℕ → ℕ → ℕ → ℕ → Bench → Answer → Bench → Type 0
 CallStep None h e f x y z b answer new = (answer ≡ shows shown.Off) × (new ≡ b)
 CallStep (Some life) h e f x y z b answer new =
-    (HasHart life.machine h × (m : Machine) × (called : Called) × MakesOneCall h e f x y z life.machine m called
+    (HasHart life.machine h × (m : Machine) × (called : Option Turned) × MakesOneCall h e f x y z life.machine m called
     × GuestCall called h (has_machine m life) (on_with (has_machine m life) b) answer new)
     ⊎ ((HasHart life.machine h → ⊥) × (answer ≡ shows shown.Off) × (new ≡ b))
 

@@ -4,11 +4,14 @@ use Rattle.std.specs.Prelude.{◌≡◌, ℕ, zero, suc, ◌⊎◌, true, false,
 use Rattle.board_model.specs.Durable.{Change, Reset, Suspend}
 use Rattle.machine.specs.Machine.{Machine, hart_at}
 use Rattle.machine.specs.Turns.{MakesTurn}
-use Rattle.machine.specs.Words.{ends}
-use Rattle.machine.specs.declared.parts.Word.{Word}
-use Rattle.machine.specs.declared.parts.Word.TheVariants as words
-use Rattle.turns.specs.declared.words.Turned.{Turned}
-use Rattle.turns.specs.declared.words.Turned.TheVariants as dids
+use Rattle.sbi.specs.Words.{ends, word_of_sleep}
+use Rattle.sbi.specs.declared.words.LifeEnd.{LifeEnd}
+use Rattle.sbi.specs.declared.words.LifeEnd.TheVariants as life_ends
+use Rattle.sbi.specs.declared.words.Word.{Word}
+use Rattle.sbi.specs.declared.words.Word.TheVariants as words
+use Rattle.sbi_calls.specs.declared.words.Turned.{Turned}
+use Rattle.sbi_calls.specs.declared.words.Turned.TheVariants.{Made, Durable}
+use Rattle.sbi_calls.specs.declared.words.Did.TheVariants as dids
 use Rattle.hart.specs.State.{answered}
 use Rattle.sbi_abi.specs.Answers.{error_of}
 use Rattle.sbi_abi.specs.Calls.{call_of}
@@ -38,13 +41,13 @@ refused h e life =
     }) life
 
 abbrev pub AnswersError : SbiError → ℕ → BenchLife → Bench → Word → Bench → Type 0
-AnswersError e h life b word new = (word ≡ words.Own dids.Next) × (new ≡ on_with (refused h e life) b)
+AnswersError e h life b word new = (word ≡ words.Goes dids.Next) × (new ≡ on_with (refused h e life) b)
 
 -- the command of a hart, by its receipt or number: acknowledged, it ends the life as it says, and the board
 -- is off; refused, it is answered -1
-abbrev pub HartCommand : Result ℕ ℕ → Word → ℕ → Bench → Word → Bench → Type 0
-HartCommand (Ok n) said h b word new = (word ≡ said) × (new ≡ off b)
-HartCommand (Err n) said h b word new =
+abbrev pub HartCommand : Result ℕ ℕ → LifeEnd → ℕ → Bench → Word → Bench → Type 0
+HartCommand (Ok n) end h b word new = (word ≡ words.Over end) × (new ≡ off b)
+HartCommand (Err n) end h b word new =
     (life : BenchLife) × (b.power ≡ Some life) × AnswersError Failed h life b word new
 
 -- a reset, by what its arguments say
@@ -52,7 +55,7 @@ abbrev pub Resets : Result (ResetType × Reason) SbiError → ℕ → BenchLife 
 Resets (Err e) h life b word new = AnswersError e h life b word new
 Resets (Ok reset) h life b word new =
     (o : Result ℕ ℕ) × (mid : Bench) × Issued (Reset reset.1) life b o mid
-    × HartCommand o (words.Reset reset.0) h mid word new
+    × HartCommand o (life_ends.Reset reset.0) h mid word new
 
 -- the command of a suspension, where it fits the board or not: as other commands; or it is refused because
 -- memory ran out (11), or for what is not of the board (3)
@@ -75,12 +78,12 @@ dozes h site opaque life =
 -- disk the image has the memory of this moment.
 abbrev pub BenchFallsAsleep : Sleep → ℕ → ℕ → ℕ → BenchLife → Bench → Word → Bench → Type 0
 BenchFallsAsleep ToRam site opaque h life b word new =
-    (word ≡ words.Dozing) × (new ≡ on_with (dozes h site opaque life) b)
+    (word ≡ word_of_sleep ToRam) × (new ≡ on_with (dozes h site opaque life) b)
 BenchFallsAsleep ToDisk site opaque h life b word new =
     (o : Result ℕ ℕ) × (mid : Bench)
     × SuspendIssued (FitsBoard life.machine.size life.machine.memory (hart_at life.machine h).id site)
     (Suspend (hart_at life.machine h).id site opaque life.machine.memory) life b o mid
-    × HartCommand o words.Asleep h mid word new
+    × HartCommand o life_ends.Asleep h mid word new
 
 -- a suspension, whose arguments were checked: by a hart beside which another is not STOPPED it is denied
 abbrev pub BenchSleeps : Sleep → ℕ → ℕ → ℕ → BenchLife → Bench → Word → Bench → Type 0
@@ -100,16 +103,16 @@ BenchMakesCall (calls.SystemSuspend kind address opaque) h life b word new =
     × BenchSleepsBy asked opaque h life b word new
 BenchMakesCall call h life b word new = AnswersError NotSupported h life b word new
 
--- What comes of what hart h did, once the life has the machine: it stands at a durable call, which is made;
--- or that is its word.
+-- What comes of a turn of hart h, once the life has the machine: it stands at a durable call, which is made; or
+-- what it did is said of it.
 abbrev pub ComesTo : Turned → ℕ → BenchLife → Bench → Word → Bench → Type 0
-ComesTo dids.Durable h life b word new = BenchMakesCall (call_of (hart_at life.machine h)) h life b word new
-ComesTo did h life b word new = (word ≡ words.Own did) × (new ≡ b)
+ComesTo Durable h life b word new = BenchMakesCall (call_of (hart_at life.machine h)) h life b word new
+ComesTo (Made did) h life b word new = (word ≡ words.Goes did) × (new ≡ b)
 
 abbrev pub GuestTurn : ℕ → BenchLife → Bench → Word → Bench → Type 0
 GuestTurn h life b word new =
-    (m : Machine) × (did : Turned) × MakesTurn h life.machine m did
-    × ComesTo did h (has_machine m life) (on_with (has_machine m life) b) word new
+    (m : Machine) × (turned : Turned) × MakesTurn h life.machine m turned
+    × ComesTo turned h (has_machine m life) (on_with (has_machine m life) b) word new
 
 -- the turn is the last of its line, with so many that might follow: it ends the line, none is left, or a cut
 -- struck in it

@@ -17,7 +17,7 @@ ghost use Rattle.bench_report.specs.Plain.{ArePlain, ShowNoFailure, plain_report
 ghost use Rattle.bench_report.specs.AllFound.{FindsAll};
 ghost use Rattle.bench_report.specs.Prefix.{KeepsPrefixLaw};
 ghost use Rattle.bench_report.specs.Reports.{AreByFirmware, IsReport};
-ghost use Rattle.bench_report.specs.Resumed.{IsResumedFrom};
+ghost use Rattle.bench_report.specs.Resumes.{IsResumedFrom};
 ghost use Rattle.bench_report.specs.Steps.{Moves, Run};
 ghost use Rattle.bench_report.specs.declared.printed.Answer.{Answer};
 ghost use Rattle.bench_report.specs.declared.printed.Printed.TheVariants as printed;

@@ -316,10 +316,8 @@ pub fn after(board: Board<SimDisk>, word: Word) -> Power
     ensures resting { IsResting result }
 {
     match word {
-        Word::Own(_) => Power::On(board),
-        Word::Dozing => Power::On(board),
-        Word::Asleep => Power::Off(board.into_disk()),
-        Word::Reset(_) => Power::Off(board.into_disk()),
+        Word::Goes(_) => Power::On(board),
+        Word::Over(_) => Power::Off(board.into_disk()),
     }
 }
 

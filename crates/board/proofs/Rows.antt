@@ -4,13 +4,14 @@ use Rattle.disk.specs.declared.device.Disk.{Ghosts}
 use Rattle.disk.specs.declared.device.Lane.{Ghosts as Lanes}
 use Rattle.store.specs.declared.stores.Store.{Store}
 use Rattle.store.specs.Views.{fault_state_of}
-use Rattle.turns.specs.declared.words.Turned.{Turned}
-use Rattle.turns.specs.declared.words.Turned.TheVariants.{Next}
+use Rattle.sbi_calls.specs.declared.words.Turned.{Turned}
+use Rattle.sbi_calls.specs.declared.words.Did.TheVariants.{Next}
+use Rattle.sbi_calls.specs.declared.words.Turned.TheVariants.{Made}
 use Rattle.machine.specs.Machine.{Machine}
 use Rattle.machine.specs.Turns as machines
-use Rattle.machine.specs.Words.{ends}
-use Rattle.machine.specs.declared.parts.Word.{Word}
-use Rattle.machine.specs.declared.parts.Word.TheVariants.{Own}
+use Rattle.sbi.specs.Words.{ends}
+use Rattle.sbi.specs.declared.words.Word.{Word}
+use Rattle.sbi.specs.declared.words.Word.TheVariants.{Goes}
 use Rattle.board.specs.Turns.{Comes, TurnsHeld, IsLastHeld, TurnsManyHeld, RowHeld}
 
 module _ {D L : Type 0} {g : Ghosts D L} {l : Lanes L} where
@@ -26,24 +27,24 @@ module _ {D L : Type 0} {g : Ghosts D L} {l : Lanes L} where
         → TurnsManyHeld h count m end old store total last
 
   -- a turn that said Next asks nothing of the store
-  pub row_reaches : (h count made : ℕ) (m mid n : Machine) (old new : Store D L g l) (did : Turned) (word : Word) → made ≤ count → IsCalm old → machines.MakesRow h made m mid did → Comes did h mid n old new word → Reaches h count made m n old new word
-  row_reaches h count zero m mid n old new did word low calm p came = absurd p
-  row_reaches h zero (suc k) m mid n old new did word low calm p came = absurd (let no : ⊥ = omega (arith, low) in no)
-  row_reaches h (suc count) (suc k) m mid n old new did word low calm p came = elim p [
+  pub row_reaches : (h count made : ℕ) (m mid n : Machine) (old new : Store D L g l) (turned : Turned) (word : Word) → made ≤ count → IsCalm old → machines.MakesRow h made m mid turned → Comes turned h mid n old new word → Reaches h count made m n old new word
+  row_reaches h count zero m mid n old new turned word low calm p came = absurd p
+  row_reaches h zero (suc k) m mid n old new turned word low calm p came = absurd (let no : ⊥ = omega (arith, low) in no)
+  row_reaches h (suc count) (suc k) m mid n old new turned word low calm p came = elim p [
     | inl x ↦ (
         let z = x.0 in
-        let turn : TurnsHeld h m n old new word = (mid, did, x.1, came) in
+        let turn : TurnsHeld h m n old new word = (mid, turned, x.1, came) in
         let one : suc k ≡ 1 = omega (arith, z) in
         record {
           stops = λ left sum last. (n, new, word, turn, inl (subst (λ (j : ℕ). IsLastHeld word j new) (omega (arith, sum, z)) last, refl, refl, one, refl));
           goes_on = λ on still left rest total end store last sum all more. (n, new, word, turn, inr (on, still, rest, omega (arith, all, z), subst (λ (j : ℕ). TurnsManyHeld h j n end new store rest last) (omega (arith, sum, z)) more));
         })
     | inr x ↦ (
-        let turn : TurnsHeld h m x.0 old old (Own Next) = (x.0, Next, x.1, (refl, refl, refl)) in
-        let r = row_reaches h count k x.0 mid n old new did word (omega (arith, low)) calm x.2 came in
+        let turn : TurnsHeld h m x.0 old old (Goes Next) = (x.0, Made Next, x.1, (refl, refl, refl)) in
+        let r = row_reaches h count k x.0 mid n old new turned word (omega (arith, low)) calm x.2 came in
         record {
-          stops = λ left sum last. (x.0, old, Own Next, turn, inr (refl, calm, k, refl, r.stops left (omega (arith, sum)) last));
-          goes_on = λ on still left rest total end store last sum all more. (x.0, old, Own Next, turn, inr (refl, calm, k + rest, omega (arith, all), r.goes_on on still left rest (k + rest) end store last (omega (arith, sum)) refl more));
+          stops = λ left sum last. (x.0, old, Goes Next, turn, inr (refl, calm, k, refl, r.stops left (omega (arith, sum)) last));
+          goes_on = λ on still left rest total end store last sum all more. (x.0, old, Goes Next, turn, inr (refl, calm, k + rest, omega (arith, all), r.goes_on on still left rest (k + rest) end store last (omega (arith, sum)) refl more));
         })
   ]
 

@@ -5,29 +5,26 @@ use Rattle.disk.specs.declared.device.Disk.{Ghosts}
 use Rattle.disk.specs.declared.device.Lane.{Ghosts as Lanes}
 use Rattle.store.specs.declared.stores.Store.{Store}
 use Rattle.store.specs.Views.{fault_state_of}
-use Rattle.sbi.specs.declared.dispatches.Held.{Held}
-use Rattle.turns.specs.declared.words.Turned.{Turned}
-use Rattle.turns.specs.declared.words.Turned.TheVariants.{Durable}
+use Rattle.sbi_calls.specs.declared.words.Turned.{Turned}
+use Rattle.sbi_calls.specs.declared.words.Turned.TheVariants.{Made, Durable}
+use Rattle.sbi.specs.Words.{ends}
+use Rattle.sbi.specs.declared.words.Word.{Word}
+use Rattle.sbi.specs.declared.words.Word.TheVariants.{Goes}
 use Rattle.machine.specs.Machine.{Machine}
 use Rattle.machine.specs.Turns as machines
-use Rattle.machine.specs.Words.{ends, word_by}
 use Rattle.machine.specs.Durables.{MakesCall}
-use Rattle.machine.specs.declared.parts.Called.{Called}
-use Rattle.machine.specs.declared.parts.Called.TheVariants.{NotStarted, Made}
-use Rattle.machine.specs.declared.parts.Word.{Word}
-use Rattle.machine.specs.declared.parts.Word.TheVariants.{Own}
 
 module _ {D L : Type 0} {g : Ghosts D L} {l : Lanes L} where
-  -- What comes of what hart h did, on a board whose machine then is m: it stands at a durable call, which is
-  -- made with the store; or that is its word, and the store is not asked.
+  -- What comes of a turn of hart h, on a board whose machine then is m: it stands at a durable call, which is made
+  -- with the store; or what it did is said of it, and the store is not asked.
   abbrev pub Comes : Turned → ℕ → Machine → Machine → Store D L g l → Store D L g l → Word → Type 0
-  Comes Durable h m n old new word = (held : Held) × MakesCall h m n old new held × (word ≡ word_by held)
-  Comes did h m n old new word = (n ≡ m) × (new ≡ old) × (word ≡ Own did)
+  Comes Durable h m n old new word = MakesCall h m n old new word
+  Comes (Made did) h m n old new word = (n ≡ m) × (new ≡ old) × (word ≡ Goes did)
 
   -- a turn of hart h
   abbrev pub TurnsHeld : ℕ → Machine → Machine → Store D L g l → Store D L g l → Word → Type 0
   TurnsHeld h m n old new word =
-      (mid : Machine) × (did : Turned) × machines.MakesTurn h m mid did × Comes did h mid n old new word
+      (mid : Machine) × (turned : Turned) × machines.MakesTurn h m mid turned × Comes turned h mid n old new word
 
   -- the turn is the last of a line, with so many that might follow: it ends the line, none is left, or a cut
   -- struck in it
@@ -44,19 +41,19 @@ module _ {D L : Type 0} {g : Ghosts D L} {l : Lanes L} where
       × TurnsManyHeld h count mid n store new rest word))
 
   -- what comes of a call that the machine made in the place of hart h, or did not
-  abbrev pub ComesOf : Called → ℕ → Machine → Machine → Store D L g l → Store D L g l → Option Word → Type 0
-  ComesOf NotStarted h m n old new said = (n ≡ m) × (new ≡ old) × (said ≡ None)
-  ComesOf (Made did) h m n old new said = (word : Word) × Comes did h m n old new word × (said ≡ Some word)
+  abbrev pub ComesOf : Option Turned → ℕ → Machine → Machine → Store D L g l → Store D L g l → Option Word → Type 0
+  ComesOf None h m n old new said = (n ≡ m) × (new ≡ old) × (said ≡ None)
+  ComesOf (Some turned) h m n old new said = (word : Word) × Comes turned h m n old new word × (said ≡ Some word)
 
   -- a call in the place of hart h with these registers
   abbrev pub CallsHeld : ℕ → ℕ → ℕ → ℕ → ℕ → ℕ → Machine → Machine → Store D L g l → Store D L g l → Option Word
       → Type 0
   CallsHeld h eid fid a0 a1 a2 m n old new said =
-      (mid : Machine) × (called : Called) × machines.MakesOneCall h eid fid a0 a1 a2 m mid called
+      (mid : Machine) × (called : Option Turned) × machines.MakesOneCall h eid fid a0 a1 a2 m mid called
       × ComesOf called h mid n old new said
 
   -- ---- a row within a line
   -- turns by one look, of which the last alone may ask the store
   abbrev pub RowHeld : ℕ → Machine → Machine → Store D L g l → Store D L g l → ℕ → Word → Type 0
   RowHeld h m n old new made word =
-      (mid : Machine) × (did : Turned) × machines.MakesRow h made m mid did × Comes did h mid n old new word
+      (mid : Machine) × (turned : Turned) × machines.MakesRow h made m mid turned × Comes turned h mid n old new word

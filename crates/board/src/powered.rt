@@ -6,7 +6,7 @@ use board_model::{BootMode, Command, Durable, Entry, HartId, Refusal, Shape};
 use crew::Crew;
 use disk::{ArmedFault, Disk};
 use hart::Hart;
-use machine::{Called, Machine, Turned, Word, ends, word_by};
+use machine::{Machine, Turned, Word};
 use ram::Ram;
 use sbi_calls::{Seats, Tables};
 use std::alloc::Global;
@@ -65,7 +65,7 @@ impl<D: Disk + Drop> Board<D> {
     ghost use Rattle.store.specs.Views.{device_of, disk_of, fault_state_of, arms_of, size_of_store, life_of, found_state, now_state, doubt_of, failures_at_open, view_of, Stands, Doubts};
     ghost use Rattle.machine.specs.Machine.{hart_at};
     ghost use Rattle.machine.specs.Durables.{StandsAtCall};
-    ghost use Rattle.turns.specs.declared.words.Turned.TheVariants as did;
+    ghost use Rattle.sbi_calls.specs.declared.words.Turned.TheVariants as turns;
     ghost use Rattle.machine.specs.Held.{shown_by, IsHeld};
     ghost use Rattle.turns.specs.Turns.{has_pending};
     ghost use Rattle.board.specs.Boots.{IsConsoleCommand};
@@ -163,31 +163,22 @@ impl<D: Disk + Drop> Board<D> {
     /// What comes of what a hart did: where it stands at a durable call, that call is made with the store.
     fn settle<C: Crew>(&mut self, alloc: Global, crew: &C, hart: HartId, turned: Turned) -> Word
         requires hart { hart < length (machine_of self.old).harts }
-        requires asks { turned ≡ did.Durable → StandsAtCall hart (machine_of self.old) }
+        requires asks { turned ≡ turns.Durable → StandsAtCall hart (machine_of self.old) }
         ensures comes { Comes turned hart (machine_of self.old) (machine_of self.new) (store_of self.old)
             (store_of self.new) result }
         ensures harts { length (machine_of self.new).harts ≡ length (machine_of self.old).harts }
     {
         match turned {
-            Turned::Durable => {
-                let held = self.machine.make_call(alloc, hart, &mut self.store, crew);
-                word_by(held)
-            }
-            Turned::Idle
-            | Turned::Entered
-            | Turned::Woke
-            | Turned::Resumed
-            | Turned::Next
-            | Turned::Suspended
-            | Turned::Stopped => Word::Own(turned),
+            Turned::Made(did) => Word::Goes(did),
+            Turned::Durable => self.machine.make_call(alloc, hart, &mut self.store, crew),
         }
     }
 
     /// One turn of a hart of this board, and the command that it may make of the store: a system reset, or a
-    /// system suspend with the memory of this turn. `Asleep` and `Reset` end the life, once that command was
-    /// acknowledged; no hart makes a turn after them. A system suspend to RAM asks nothing of the store: the
-    /// board is `Dozing`, and until it is woken the turns of its hart are `Idle`; then one is `Resumed`. Where
-    /// the store refuses, the hart is answered -1, and that is `Next`. Memory is taken for a suspend alone.
+    /// system suspend with the memory of this turn. Once that command was acknowledged the life is `Over`, and no
+    /// hart makes a turn after it. A system suspend to RAM asks nothing of the store: the board dozes, and until it
+    /// is woken the turns of its hart are `Idle`; in the turn after that the hart begins again. Where the store
+    /// refuses, the hart is answered -1, and that is `Next`. Memory is taken for a suspend alone.
     #[inline(always)]
     pub fn turn<C: Crew>(&mut self, alloc: Global, crew: &C, hart: HartId) -> Word
         requires { hart < length (machine_of self.old).harts }
@@ -279,7 +270,7 @@ impl<D: Disk + Drop> Board<D> {
         let (first, said) = self.row(alloc, crew, hart, count);
         let mut made = first;
         let mut word = said;
-        while made < count && !ends(word) && !self.store.struck() {
+        while made < count && !word.ends_row() && !self.store.struck() {
             let (more, next) = self.row(alloc, crew, hart, count - made);
             made += more;
             word = next;
@@ -307,8 +298,8 @@ impl<D: Disk + Drop> Board<D> {
         ensures harts { length (machine_of self.new).harts ≡ length (machine_of self.old).harts }
     {
         match self.machine.call(hart, eid, fid, a0, a1, a2) {
-            Called::NotStarted => None,
-            Called::Made(turned) => Some(self.settle(alloc, crew, hart, turned)),
+            None => None,
+            Some(turned) => Some(self.settle(alloc, crew, hart, turned)),
         }
     }
 

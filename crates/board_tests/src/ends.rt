@@ -2,7 +2,7 @@
 
 use crate::fixtures::{NEXT, booted, one_payload, same, shown, turn, turns};
 use board_model::{BootMode, RAM_BASE};
-use machine::{ResetType, Word};
+use machine::{LifeEnd, ResetType, Word};
 use std::test::Fail;
 
 // LUI x17, 0x53525; ADDI x17, x17, 0x354; ADDI x10, x0, 0; ECALL; JAL x0, -8: asks for a shutdown again and
@@ -21,7 +21,7 @@ fn a_board_that_was_reset_takes_no_reset(rt: HostRuntime) -> Result<(), Fail> {
     same(
         &rt,
         turn(&rt, &mut board, 0),
-        Some(Word::Reset(ResetType::Shutdown)),
+        Some(Word::Over(LifeEnd::Reset(ResetType::Shutdown))),
     );
     same(&rt, shown(&board, 0), Some((0, 0, RAM_BASE + 12)));
     same(&rt, turn(&rt, &mut board, 0), Some(NEXT));

@@ -8,7 +8,7 @@ use board_model::{
 use crew::Sequential;
 use disk::Disk;
 use layout::{Record, Saved, Side, Version, gate_bytes, record_bytes, superblock_bytes};
-use machine::{Turned, Word};
+use machine::{Did, Word};
 use rv_decode::Reg;
 use simdisk::SimDisk;
 use std::alloc::Global;
@@ -141,7 +141,7 @@ pub fn booted(
     Ok(powered(alloc, formatted(alloc, harts)?, mode, payloads)?)
 }
 
-pub const NEXT: Word = Word::Own(Turned::Next);
+pub const NEXT: Word = Word::Goes(Did::Next);
 
 /// One lane after another.
 pub fn in_turn<R: Threads + Sync>(_rt: &R) -> Option<Sequential<R>> {

@@ -1,5 +1,5 @@
 -- A call as something that a hart of a machine did.
-use Rattle.std.proofs.Common.{◌≡◌, ◌≢◌, ℕ, List, refl, sym, ap, ◌∙◌, subst, ⊎_elim, inl, inr}
+use Rattle.std.proofs.Common.{Some, None, ◌≡◌, ◌≢◌, ℕ, List, refl, sym, ap, ◌∙◌, subst, ⊎_elim, inl, inr}
 use Rattle.atomic_table.specs.declared.shared.Seat.{Seat}
 use Rattle.board_model.specs.Shapes.{Size}
 use Rattle.hart.specs.State.{ArchState}
@@ -16,8 +16,7 @@ use Rattle.sbi_calls.specs.declared.tables.Tables.{Tables}
 use Rattle.sbi_calls.specs.declared.tables.Seats.{Seats}
 use Rattle.sbi_calls.specs.Both.{TableState, IsTable, AreSeatsOfBoth, GivesBack, views, harts_known}
 use Rattle.turns.specs.Turns.{RestsAt, Finishes, FinishesAlone}
-use Rattle.turns.specs.declared.words.Turned.{Turned}
-use Rattle.machine.specs.declared.parts.Called.TheVariants.{NotStarted, Made}
+use Rattle.sbi_calls.specs.declared.words.Turned.{Turned}
 use Rattle.machine.specs.Turns.{MakesCallAlone}
 use Rattle.turns.proofs.Begun.{is_started}
 
@@ -57,14 +56,14 @@ looked n size s harts by h name e f acts t is =
 module _ (size : Size) (n by : ℕ) (s u : ArchState) (m : List ℕ) where
   -- a hart that is named otherwise makes no call
   pub not_made_alone : (seats : Seats) (harts : Seat (Unit {0}) HartSeatView) (name : Code) → n ≡ size.harts → by ≡ s.id → name ≢ codes.Started → LooksAlone n (harts_known seats) (seating.hart_view_of_seat harts) by name
-      → MakesCallAlone size s u s m seats (with_harts seats harts) NotStarted
+      → MakesCallAlone size s u s m seats (with_harts seats harts) None
   not_made_alone seats harts name e f ne acts t is =
       let a = looked n size seats harts by s.id name e f acts t is in
       (t, record { made = λ at. absurd (ne (a.0 ∙ ap named at)); not_started = λ _. (refl, refl) }, a.1)
 
   -- one that is STARTED stands at the ECALL, and is answered
   pub made_alone : (v t : ArchState) (seats : Seats) (harts : Seat (Unit {0}) HartSeatView) (after : Seats) (name : Code) (word : Turned) → n ≡ size.harts → by ≡ s.id → name ≡ codes.Started → v ≡ u → LooksAlone n (harts_known seats) (seating.hart_view_of_seat harts) by name
-      → FinishesAlone size Ecall v t (with_harts seats harts) after word → MakesCallAlone size s u t m seats after (Made word)
+      → FinishesAlone size Ecall v t (with_harts seats harts) after word → MakesCallAlone size s u t m seats after (Some word)
   made_alone v t seats harts after name word e f at same acts finishes x is =
       let a = looked n size seats harts by s.id name e f acts x is in
       let did = finishes x a.1 in (

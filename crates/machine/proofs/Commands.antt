@@ -28,14 +28,14 @@ use Rattle.susp.specs.declared.sleeps.Sleep.TheVariants.{ToRam, ToDisk}
 use Rattle.susp.specs.Sleeps.{AreStopped, Answers, FallsAsleepBy, SleepsBy}
 use Rattle.sbi.specs.Resets.{reset_of}
 use Rattle.sbi.specs.declared.resets.ResetType.{ResetType}
-use Rattle.sbi.specs.declared.dispatches.Held.{Held}
-use Rattle.sbi.specs.declared.dispatches.Held.TheVariants as helds
+use Rattle.sbi.specs.declared.words.Word.{Word}
+use Rattle.sbi.specs.Words.{word_of_sleep}
 use Rattle.sbi.specs.Helds.{Refuses, EndsReset, EndsSleep, MakesReset, SleepsIn, HeldIn, HeldAlone}
 use Rattle.turns.specs.Turns.{Rests, RestsAt}
 use Rattle.machine.specs.declared.machine.Machine.TheInside.{Inside}
 use Rattle.machine.specs.Held.{table_of, shown_by, stage_settled, RestsBy}
 use Rattle.machine.specs.Durables.{StandsAtCall, HeldOf, bus_at}
-use Rattle.machine.proofs.Dozing.{its_own, none_beside}
+use Rattle.machine.proofs.Owners.{its_own, none_beside}
 use Rattle.machine.proofs.Holding.{Finds, shown_as, seats_found, low_number, doze_found, seat_rests, others_rest, DoneAlone}
 
 -- ---- a STARTED hart at rest has nothing in flight
@@ -64,70 +64,70 @@ started_acts {a} {s} {i} {id} {x} found is =
     (runs_at x.id (harts_known s) shown rests.0, rests.1)
 
 -- ---- what a call leaves of the bus
--- a doze began that was not woken, with every other hart STOPPED, or the bus is as it was
-abbrev pub LeavesBus : ℕ → ℕ → (ℕ → HartState) → Bus → Bus → Held → Type 0
-LeavesBus harts by states bus bus' held =
-    ((held ≡ helds.Dozing) × AreStopped harts by states × (d : Doze) × (d.hart ≡ by) × (d.woken ≡ false) × (bus' ≡ record bus { doze = Some d }))
-    ⊎ ((held ≡ helds.Dozing → ⊥) × (bus' ≡ bus))
+-- a doze began that was not woken, with every other hart STOPPED, or the bus is as it was and the hart STARTED
+abbrev pub LeavesBus : ℕ → ℕ → (ℕ → HartState) → Bus → Bus → Word → Type 0
+LeavesBus harts by states bus bus' word =
+    ((word ≡ word_of_sleep ToRam) × AreStopped harts by states × (d : Doze) × (d.hart ≡ by) × (d.woken ≡ false) × (bus' ≡ record bus { doze = Some d }))
+    ⊎ ((stage_settled word ≡ Running) × (bus' ≡ bus))
 
 module _ (harts by : ℕ) (states : ℕ → HartState) (bus bus' : Bus) where
-  refused_bus : (e : SbiError) (s t : ArchState) (held : Held) → Refuses e s t held → bus' ≡ bus → LeavesBus harts by states bus bus' held
-  refused_bus e s t held p same = inr ((λ is. let z : helds.Goes ≡ helds.Dozing = sym p.1 ∙ is in let n : ⊥ = cc in n), same)
+  refused_bus : (e : SbiError) (s t : ArchState) (word : Word) → Refuses e s t word → bus' ≡ bus → LeavesBus harts by states bus bus' word
+  refused_bus e s t word p same = inr (ap stage_settled p.1, same)
 
-  asleep_bus : (s t : ArchState) (held : Held) → EndsSleep (Ok ToDisk) s t held → bus' ≡ bus → LeavesBus harts by states bus bus' held
-  asleep_bus s t held p same = inr ((λ is. let z : helds.Asleep ≡ helds.Dozing = sym p.1 ∙ is in let n : ⊥ = cc in n), same)
+  asleep_bus : (s t : ArchState) (word : Word) → EndsSleep (Ok ToDisk) s t word → bus' ≡ bus → LeavesBus harts by states bus bus' word
+  asleep_bus s t word p same = inr (ap stage_settled p.1, same)
 
   -- as it fell asleep
-  fell_bus : (fell want : Result Sleep SbiError) (s t : ArchState) (held : Held) → fell ≡ want → EndsSleep fell s t held → EndsSleep want s t held
-  fell_bus fell want s t held e p = subst (λ (f : Result Sleep SbiError). EndsSleep f s t held) e p
+  fell_bus : (fell want : Result Sleep SbiError) (s t : ArchState) (word : Word) → fell ≡ want → EndsSleep fell s t word → EndsSleep want s t word
+  fell_bus fell want s t word e p = subst (λ (f : Result Sleep SbiError). EndsSleep f s t word) e p
 
-  reset_bus : {D L : Type 0} {g : Ghosts D L} {l : Lanes L} (asked : Result (ResetType × Reason) SbiError) (s t : ArchState) (old new : Store D L g l) (held : Held) → MakesReset asked s t old new held → bus' ≡ bus
-      → LeavesBus harts by states bus bus' held
-  reset_bus (Err e) s t old new held p same = refused_bus e s t held p.0 same
-  reset_bus (Ok reset) s t old new held (r, asked, ends) same = ended r ends
+  reset_bus : {D L : Type 0} {g : Ghosts D L} {l : Lanes L} (asked : Result (ResetType × Reason) SbiError) (s t : ArchState) (old new : Store D L g l) (word : Word) → MakesReset asked s t old new word → bus' ≡ bus
+      → LeavesBus harts by states bus bus' word
+  reset_bus (Err e) s t old new word p same = refused_bus e s t word p.0 same
+  reset_bus (Ok reset) s t old new word (r, asked, ends) same = ended r ends
     where
-      ended : (r : Result ℕ Refusal) → EndsReset reset.0 r s t held → LeavesBus harts by states bus bus' held
-      ended (Ok n) q = inr ((λ is. let z : helds.Reset reset.0 ≡ helds.Dozing = sym q.1 ∙ is in let n : ⊥ = cc in n), same)
-      ended (Err e) q = refused_bus Failed s t held q same
+      ended : (r : Result ℕ Refusal) → EndsReset reset.0 r s t word → LeavesBus harts by states bus bus' word
+      ended (Ok n) q = inr (ap stage_settled q.1, same)
+      ended (Err e) q = refused_bus Failed s t word q same
 
-  answers_bus : (r : Result ℕ Refusal) (fell : Result Sleep SbiError) (s t : ArchState) (held : Held) → Answers r fell → EndsSleep fell s t held → bus' ≡ bus → LeavesBus harts by states bus bus' held
-  answers_bus (Ok n) fell s t held e p same = asleep_bus s t held (fell_bus fell (Ok ToDisk) s t held e p) same
-  answers_bus (Err f) fell s t held e p same = refused_bus Failed s t held (fell_bus fell (Err Failed) s t held e p) same
+  answers_bus : (r : Result ℕ Refusal) (fell : Result Sleep SbiError) (s t : ArchState) (word : Word) → Answers r fell → EndsSleep fell s t word → bus' ≡ bus → LeavesBus harts by states bus bus' word
+  answers_bus (Ok n) fell s t word e p same = asleep_bus s t word (fell_bus fell (Ok ToDisk) s t word e p) same
+  answers_bus (Err f) fell s t word e p same = refused_bus Failed s t word (fell_bus fell (Err Failed) s t word e p) same
 
-  module _ {D L : Type 0} {g : Ghosts D L} {l : Lanes L} (opaque : ℕ) (s t : ArchState) (old new : Store D L g l) (fell : Result Sleep SbiError) (held : Held) (ends : EndsSleep fell s t held) where
-    falls_bus : (sleep : Sleep) (site : ℕ) → AreStopped harts by states → FallsAsleepBy sleep by site opaque bus old fell bus' new → LeavesBus harts by states bus bus' held
-    falls_bus ToRam site are p = inl ((fell_bus fell (Ok ToRam) s t held p.0 ends).1, are, dozing by site opaque, refl, refl, p.1)
-    falls_bus ToDisk site are (r, asks, answers, same) = answers_bus r fell s t held answers ends same
+  module _ {D L : Type 0} {g : Ghosts D L} {l : Lanes L} (opaque : ℕ) (s t : ArchState) (old new : Store D L g l) (fell : Result Sleep SbiError) (word : Word) (ends : EndsSleep fell s t word) where
+    falls_bus : (sleep : Sleep) (site : ℕ) → AreStopped harts by states → FallsAsleepBy sleep by site opaque bus old fell bus' new → LeavesBus harts by states bus bus' word
+    falls_bus ToRam site are p = inl ((fell_bus fell (Ok ToRam) s t word p.0 ends).1, are, dozing by site opaque, refl, refl, p.1)
+    falls_bus ToDisk site are (r, asks, answers, same) = answers_bus r fell s t word answers ends same
 
-    slept_bus : (asked : Result (Sleep × ℕ) SbiError) → SleepsBy harts by asked opaque states bus old fell bus' new → LeavesBus harts by states bus bus' held
-    slept_bus (Err e) p = refused_bus e s t held (fell_bus fell (Err e) s t held p.0 ends) p.1
-    slept_bus (Ok asked) (inl (busy, is, same, still)) = refused_bus Denied s t held (fell_bus fell (Err Denied) s t held is ends) same
+    slept_bus : (asked : Result (Sleep × ℕ) SbiError) → SleepsBy harts by asked opaque states bus old fell bus' new → LeavesBus harts by states bus bus' word
+    slept_bus (Err e) p = refused_bus e s t word (fell_bus fell (Err e) s t word p.0 ends) p.1
+    slept_bus (Ok asked) (inl (busy, is, same, still)) = refused_bus Denied s t word (fell_bus fell (Err Denied) s t word is ends) same
     slept_bus (Ok asked) (inr (are, falls)) = falls_bus asked.0 asked.1 are falls
 
 -- the memory stays
-pub leaves_memory : (harts by : ℕ) (states : ℕ → HartState) (bus bus' : Bus) (held : Held) → LeavesBus harts by states bus bus' held → bus'.ram ≡ bus.ram
-leaves_memory harts by states bus bus' held (inl (is, are, d, at, fresh, e)) = ap (λ (b : Bus). b.ram) e
-leaves_memory harts by states bus bus' held (inr (none, e)) = ap (λ (b : Bus). b.ram) e
+pub leaves_memory : (harts by : ℕ) (states : ℕ → HartState) (bus bus' : Bus) (word : Word) → LeavesBus harts by states bus bus' word → bus'.ram ≡ bus.ram
+leaves_memory harts by states bus bus' word (inl (is, are, d, at, fresh, e)) = ap (λ (b : Bus). b.ram) e
+leaves_memory harts by states bus bus' word (inr (none, e)) = ap (λ (b : Bus). b.ram) e
 
 -- ---- with a store
 module _ {D L : Type 0} {g : Ghosts D L} {l : Lanes L} where
-  pub leaves_bus : (harts : ℕ) (call : Call) (s t : ArchState) (x : TableState) (bus bus' : Bus) (old new : Store D L g l) (held : Held) → HeldIn harts call s t x bus bus' old new held → LeavesBus harts s.id (listed x.states) bus bus' held
-  leaves_bus harts (calls.SystemReset kind reason) s t x bus bus' old new held p = reset_bus harts s.id (listed x.states) bus bus' (reset_of kind reason) s t old new held p.0 p.1
-  leaves_bus harts (calls.SystemSuspend kind address opaque) s t x bus bus' old new held p =
-      slept_bus harts s.id (listed x.states) bus bus' opaque s t old new p.0 held p.2 p.1.asked p.1.slept
-  leaves_bus harts call s t x bus bus' old new held p = refused_bus harts s.id (listed x.states) bus bus' NotSupported s t held p.0 p.2
+  pub leaves_bus : (harts : ℕ) (call : Call) (s t : ArchState) (x : TableState) (bus bus' : Bus) (old new : Store D L g l) (word : Word) → HeldIn harts call s t x bus bus' old new word → LeavesBus harts s.id (listed x.states) bus bus' word
+  leaves_bus harts (calls.SystemReset kind reason) s t x bus bus' old new word p = reset_bus harts s.id (listed x.states) bus bus' (reset_of kind reason) s t old new word p.0 p.1
+  leaves_bus harts (calls.SystemSuspend kind address opaque) s t x bus bus' old new word p =
+      slept_bus harts s.id (listed x.states) bus bus' opaque s t old new p.0 word p.2 p.1.asked p.1.slept
+  leaves_bus harts call s t x bus bus' old new word p = refused_bus harts s.id (listed x.states) bus bus' NotSupported s t word p.0 p.2
 
   -- after the call the tables show what they showed
-  pub held_then : (n m : ℕ) (call : Call) (s t : ArchState) (a b c : Seats) (bus bus' : Bus) (old new : Store D L g l) (held : Held) → n ≡ m → HeldAlone n call s t a b bus bus' old new held
-      → ((x : TableState) → IsTable n b x → IsTable n c x) → HeldAlone m call s t a c bus bus' old new held
-  held_then n m call s t a b c bus bus' old new held e did still =
-      subst (λ (k : ℕ). HeldAlone k call s t a c bus bus' old new held) e (λ x are. let r = did x are in (r.0, still x r.1))
+  pub held_then : (n m : ℕ) (call : Call) (s t : ArchState) (a b c : Seats) (bus bus' : Bus) (old new : Store D L g l) (word : Word) → n ≡ m → HeldAlone n call s t a b bus bus' old new word
+      → ((x : TableState) → IsTable n b x → IsTable n c x) → HeldAlone m call s t a c bus bus' old new word
+  held_then n m call s t a b c bus bus' old new word e did still =
+      subst (λ (k : ℕ). HeldAlone k call s t a c bus bus' old new word) e (λ x are. let r = did x are in (r.0, still x r.1))
 
-  pub held_action : (size : Size) (s t : ArchState) (a b : Seats) (bus bus' : Bus) (old new : Store D L g l) (held : Held) → HeldAlone size.harts (call_of s) s t a b bus bus' old new held
-      → DoneAlone (λ z x y. HeldOf z bus.doze bus'.doze x y old new held) size s bus.ram t bus'.ram a b
-  held_action size s t a b bus bus' old new held did x are =
+  pub held_action : (size : Size) (s t : ArchState) (a b : Seats) (bus bus' : Bus) (old new : Store D L g l) (word : Word) → HeldAlone size.harts (call_of s) s t a b bus bus' old new word
+      → DoneAlone (λ z x y. HeldOf z bus.doze bus'.doze x y old new word) size s bus.ram t bus'.ram a b
+  held_action size s t a b bus bus' old new word did x are =
       let r = did x are in
-      let same = leaves_memory size.harts s.id (listed x.states) bus bus' held (leaves_bus size.harts (call_of s) s t x bus bus' old new held r.0) in
+      let same = leaves_memory size.harts s.id (listed x.states) bus bus' word (leaves_bus size.harts (call_of s) s t x bus bus' old new word r.0) in
       (x, (r.0, refl, same), r.1)
 
 -- ---- how the harts then stand
@@ -140,24 +140,18 @@ rests_unless : (o : Option Doze) (h : ℕ) (s : Seats) → RestsBy o h s → (Ac
 rests_unless None h s r never = r
 rests_unless (Some d) h s r never = absurd (never r)
 
-settles_running : (held : Held) → (held ≡ helds.Dozing → ⊥) → stage_settled held ≡ Running
-settles_running helds.Goes never = refl
-settles_running helds.Dozing never = absurd (never refl)
-settles_running helds.Asleep never = refl
-settles_running (helds.Reset kind) never = refl
-
-module _ {a : Inside} {s s' : Seats} {i id : ℕ} {x : ArchState} (found : Finds a s i id x) (is : StandsAtCall id (shown_as a)) (bus' : Bus) (held : Held)
-    (left : LeavesBus a.shape.harts x.id (listed (shown_by a.shape.harts s).states) a.bus bus' held) (gives : GivesBack a.tables x.id s s') (acts : Acts x.id (stage_settled held) s') where
+module _ {a : Inside} {s s' : Seats} {i id : ℕ} {x : ArchState} (found : Finds a s i id x) (is : StandsAtCall id (shown_as a)) (bus' : Bus) (word : Word)
+    (left : LeavesBus a.shape.harts x.id (listed (shown_by a.shape.harts s).states) a.bus bus' word) (gives : GivesBack a.tables x.id s s') (acts : Acts x.id (stage_settled word) s') where
   -- the hart of the call rests, or is quiet in its doze
   pub own_then : RestsBy (doze_of x.id bus'.doze) x.id s'
   own_then =
       elim left [
         | inl p ↦ (
-            let quiet : Acts x.id Quiet s' = subst (λ (h : Held). Acts x.id (stage_settled h) s') p.0 acts in
+            let quiet : Acts x.id Quiet s' = subst (λ (h : Word). Acts x.id (stage_settled h) s') p.0 acts in
             let e : doze_of x.id bus'.doze ≡ Some p.2 = ap (λ (b : Bus). doze_of x.id b.doze) p.5 ∙ its_own x.id p.2 p.3 in
             subst (λ (o : Option Doze). RestsBy o x.id s') (sym e) quiet)
         | inr p ↦ (
-            let run : Acts x.id Running s' = subst (λ (st : Stage). Acts x.id st s') (settles_running held p.0) acts in
+            let run : Acts x.id Running s' = subst (λ (st : Stage). Acts x.id st s') p.0 acts in
             let rests : Rests x.id s' = (inr (inl run.0), run.1) in
             let e : doze_of x.id bus'.doze ≡ None = ap (λ (b : Bus). doze_of x.id b.doze) p.1 ∙ (doze_found found ∙ is.1) in
             subst (λ (o : Option Doze). RestsBy o x.id s') (sym e) rests)

@@ -10,17 +10,14 @@ use Rattle.hsm.specs.Views.{listed}
 use Rattle.sbi_abi.specs.Calls.{call_of}
 use Rattle.sbi_calls.specs.declared.endings.Ending.{Ending}
 use Rattle.sbi_calls.specs.declared.endings.Ending.TheVariants.{Answers, Stops, Suspends, SuspendsAfresh, Defers}
-use Rattle.sbi_calls.specs.declared.endings.After.{After}
 use Rattle.sbi_calls.specs.Both.{TableState}
 use Rattle.sbi_calls.specs.Answers.{Ends, answer}
-use Rattle.turns.specs.declared.words.Turned.{Turned}
-use Rattle.turns.specs.declared.words.Ready.{Ready}
-use Rattle.turns.specs.declared.words.Ready.TheVariants as readies
-use Rattle.turns.specs.Turns.{Moment, moment, turn_begun, turned_by, Finishes, TurnAs, TurnOf}
+use Rattle.sbi_calls.specs.declared.words.Turned.{Turned}
+use Rattle.turns.specs.declared.readies.Ready.{Ready}
+use Rattle.turns.specs.declared.readies.Ready.TheVariants as readies
+use Rattle.turns.specs.Turns.{Moment, moment, turn_begun, Finishes, TurnAs, TurnOf}
 use Rattle.susp.specs.Dozes.{doze_of}
 use Rattle.susp.specs.declared.buses.Doze.{Doze}
-use Rattle.machine.specs.declared.parts.Called.{Called}
-use Rattle.machine.specs.declared.parts.Called.TheVariants.{Made}
 use Rattle.machine.specs.Machine.{Machine, hart_at}
 use Rattle.machine.specs.Turns as turns
 
@@ -28,7 +25,7 @@ use Rattle.machine.specs.Turns as turns
 abbrev pub IsOneStep : Type 0
 IsOneStep = (p : Bool) (s t u : ArchState) (m n l : List ℕ) (o q : Outcome) → Steps p s m t n o → Steps p s m u l q → IsSame t u n l o q
 
-one_end : (e : Ending) (s t u : ArchState) (a b : After) → Ends e s t a → Ends e s u b → (t ≡ u) × (a ≡ b)
+one_end : (e : Ending) (s t u : ArchState) (a b : Turned) → Ends e s t a → Ends e s u b → (t ≡ u) × (a ≡ b)
 one_end (Answers x) s t u a b p q = (p.0 ∙ sym q.0, p.1 ∙ sym q.1)
 one_end Stops s t u a b p q = (p.0 ∙ sym q.0, p.1 ∙ sym q.1)
 one_end Suspends s t u a b p q = (p.0 ∙ sym q.0, p.1 ∙ sym q.1)
@@ -39,8 +36,8 @@ one_finish : (size : Size) (o : Outcome) (x : TableState) (u : ArchState) (y z :
 one_finish size outcomes.Next x u y z v w word also p q = (p.0 ∙ sym q.0, p.1 ∙ sym q.1, p.2 ∙ sym q.2)
 one_finish size outcomes.TakePending x u y z v w word also p q = (p.0 ∙ sym q.0, p.1 ∙ sym q.1, p.2 ∙ sym q.2)
 one_finish size outcomes.Ecall x u y z v w word also p q =
-    let e = one_end (answer size u.id (call_of u) x).ending u v w p.0 q.0 p.1 q.1 in
-    (p.2 ∙ sym q.2, e.0, p.3 ∙ (ap turned_by e.1 ∙ sym q.3))
+    let e = one_end (answer size u.id (call_of u) x).ending u v w word also p.0 q.0 in
+    (p.1 ∙ sym q.1, e.0, e.1)
 
 one_moment : (b c : Moment) → b.table ≡ c.table → b.hart ≡ c.hart → b.memory ≡ c.memory → b ≡ c
 one_moment b c e f g =
@@ -84,22 +81,22 @@ is_decided (start_pending a o) = inr (λ e. cc)
 is_decided started = inl refl
 is_decided suspended = inr (λ e. cc)
 
-call_of_one : (size : Size) (u : ArchState) (a b c : Moment) (called also : Called) → turns.CallOf size u a b called → turns.CallOf size u a c also → (b ≡ c) × (called ≡ also)
+call_of_one : (size : Size) (u : ArchState) (a b c : Moment) (called also : Option Turned) → turns.CallOf size u a b called → turns.CallOf size u a c also → (b ≡ c) × (called ≡ also)
 call_of_one size u a b c called also x y =
     elim (is_decided (listed a.table.states a.hart.id)) [
       | inl at ↦ (
           let p = x.made at in
           let q = y.made at in
           let e = one_finish size outcomes.Ecall a.table u b.table c.table b.hart c.hart p.0 q.0 p.1 q.1 in
-          (one_moment b c e.0 e.1 (p.2 ∙ sym q.2), p.3 ∙ (ap Made e.2 ∙ sym q.3)))
+          (one_moment b c e.0 e.1 (p.2 ∙ sym q.2), p.3 ∙ (ap (λ (w : Turned). Some w) e.2 ∙ sym q.3)))
       | inr none ↦ ((x.not_started none).0 ∙ sym (y.not_started none).0, (x.not_started none).1 ∙ sym (y.not_started none).1)
     ]
 
-one_call_by : (o : Option Doze) (h : ℕ) (u : ArchState) (old new other : Machine) (called also : Called) → turns.CallBy o h u old new called → turns.CallBy o h u old other also → (new ≡ other) × (called ≡ also)
+one_call_by : (o : Option Doze) (h : ℕ) (u : ArchState) (old new other : Machine) (called also : Option Turned) → turns.CallBy o h u old new called → turns.CallBy o h u old other also → (new ≡ other) × (called ≡ also)
 one_call_by None h u old new other called also p q =
     let e = call_of_one old.size u (turns.moment_of h old) p.0 q.0 called also p.1 q.1 in
     (with_same h old new other p.0 q.0 p.2 q.2 e.0, e.1)
 one_call_by (Some d) h u old new other called also p q = (p.0 ∙ sym q.0, p.1 ∙ sym q.1)
 
-pub one_call : (h eid fid a0 a1 a2 : ℕ) (old new other : Machine) (called also : Called) → turns.MakesOneCall h eid fid a0 a1 a2 old new called → turns.MakesOneCall h eid fid a0 a1 a2 old other also → (new ≡ other) × (called ≡ also)
+pub one_call : (h eid fid a0 a1 a2 : ℕ) (old new other : Machine) (called also : Option Turned) → turns.MakesOneCall h eid fid a0 a1 a2 old new called → turns.MakesOneCall h eid fid a0 a1 a2 old other also → (new ≡ other) × (called ≡ also)
 one_call h eid fid a0 a1 a2 old new other called also p q = one_call_by (doze_of h old.doze) h (turns.calling (hart_at old h) eid fid a0 a1 a2) old new other called also p q

@@ -11,7 +11,7 @@ use Rattle.susp.specs.declared.buses.Doze.{Doze}
 use Rattle.machine.specs.Held.{AreNumbered}
 use Rattle.machine.specs.Machine.{Machine, hart_at, state_at}
 use Rattle.machine.specs.Dozes.{Dozes}
-use Rattle.machine.proofs.Dozing.{is_other}
+use Rattle.machine.proofs.Owners.{is_other}
 
 -- a hart has its number, also one that the board lacks
 number_at : (harts : List ArchState) → AreNumbered harts → (h : ℕ) → (get_or harts h (never_started h)).id ≡ h

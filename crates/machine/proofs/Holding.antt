@@ -22,7 +22,7 @@ use Rattle.machine.specs.declared.machine.Machine.TheInside.{Inside}
 use Rattle.machine.specs.Machine.{Machine}
 use Rattle.machine.specs.Turns.{DoneBy, moment_of, with_moment}
 use Rattle.machine.specs.Held.{shown_by, table_of, RestsBy, AreWhole, AreAllSeats, AreNumbered, IsHeld}
-use Rattle.machine.proofs.Dozing.{rests_moved}
+use Rattle.machine.proofs.Owners.{rests_moved}
 
 abbrev pub IsOneList : Type 0
 IsOneList = (harts : ℕ) (c : HartSeatView) (states : List HartState) → AreStates harts c states → states_in harts c ≡ states

@@ -14,7 +14,7 @@ use Rattle.hsm_steps.specs.Seating.{harts_in}
 use Rattle.hsm_rule.specs.Rule.{stands}
 use Rattle.machine.specs.Machine.{Machine}
 use Rattle.machine.specs.Held.{shown_by, table_of, AreWhole, IsHeld}
-use Rattle.machine.proofs.Dozing.{rests_moved}
+use Rattle.machine.proofs.Owners.{rests_moved}
 use Rattle.machine.proofs.Holding.{IsOneList, IsOneSet, one_shown, all_seats}
 
 module _ (size : Size) (memory : List ℕ) (harts : List ArchState) (t : Tables) (os : Option Seats) (doze : Option Doze) (s s' : Seats) (n id : ℕ) (found : Bool) (one : IsOneList) (set : IsOneSet) (held : IsHeld size harts t os doze) (taken : os ≡ Some s)

@@ -3,8 +3,9 @@ use Rattle.std.proofs.Common.{◌≡◌, ℕ, zero, suc, ◌+◌, ◌<◌, Bool,
 use Rattle.std.specs.Prelude.{length}
 use Rattle.std.proofs.lemmas.List.{get_or-set_same, set-set, set-get_or, length-set}
 use Rattle.hart.specs.State.{ArchState, never_started, started as fresh}
-use Rattle.turns.specs.declared.words.Turned.{Turned}
-use Rattle.turns.specs.declared.words.Turned.TheVariants.{Next}
+use Rattle.sbi_calls.specs.declared.words.Turned.{Turned}
+use Rattle.sbi_calls.specs.declared.words.Did.TheVariants.{Next}
+use Rattle.sbi_calls.specs.declared.words.Turned.TheVariants.{Made}
 use Rattle.turns.specs.Turns.{Moment, moment, TurnOf}
 use Rattle.turns.specs.Many.{NextTurns, RowOf}
 use Rattle.susp.specs.Dozes.{doze_of}
@@ -38,7 +39,7 @@ module _ (h : ℕ) (old : Machine) (lt : h < length old.harts) (awake : doze_of 
       subst (λ (j : ℕ). MakesRow h j old new word) z (subst (λ (m : Machine). MakesRow h n m new word) (ap (with_moment h old) e ∙ put_same h old) row)
   nexts_on (suc k) b x n new word row =
       let z : suc n + k ≡ n + suc k = omega arith in
-      subst (λ (j : ℕ). MakesRow h j old new word) z (nexts_on k x.0 x.1 (suc n) new word (inr (with_moment h old b, one_more x.0 b Next x.2, row)))
+      subst (λ (j : ℕ). MakesRow h j old new word) z (nexts_on k x.0 x.1 (suc n) new word (inr (with_moment h old b, one_more x.0 b (Made Next) x.2, row)))
 
   pub own_row : (count : ℕ) (new : Machine) (word : Turned) → DoneBy (λ a b. RowOf old.size count a b word) h old new → MakesRow h count old new word
   own_row count new word r =
@@ -69,5 +70,5 @@ rows_as_many h zero old new word p = absurd p
 rows_as_many h (suc n) old new word p =
     elim p [
       | inl x ↦ turns_as_many h old new word x.1
-      | inr x ↦ rows_as_many h n x.0 new word x.2 ∙ turns_as_many h old x.0 Next x.1
+      | inr x ↦ rows_as_many h n x.0 new word x.2 ∙ turns_as_many h old x.0 (Made Next) x.1
     ]

@@ -9,31 +9,30 @@ use Rattle.hsm_rule.specs.States.{HartState, stopped, started}
 use Rattle.hsm.specs.Views.{listed}
 use Rattle.susp.specs.Dozes.{doze_of}
 use Rattle.susp.specs.declared.buses.Doze.{Doze}
-use Rattle.turns.specs.declared.words.Turned.{Turned}
-use Rattle.turns.specs.declared.words.Turned.TheVariants.{Idle}
+use Rattle.sbi_calls.specs.declared.words.Turned.{Turned}
+use Rattle.sbi_calls.specs.declared.words.Did.TheVariants.{Idle}
+use Rattle.sbi_calls.specs.declared.words.Turned.TheVariants.{Made}
 use Rattle.turns.specs.Turns.{Moment, begun_by, TurnAs, TurnOf}
-use Rattle.machine.specs.declared.parts.Called.{Called}
-use Rattle.machine.specs.declared.parts.Called.TheVariants.{NotStarted}
 use Rattle.machine.specs.Machine.{Machine, hart_at, state_at}
 use Rattle.machine.specs.Turns.{moment_of, with_moment, DozeTurn, TurnBy, MakesTurn, CallBy, MakesOneCall, calling}
 use Rattle.machine.specs.Durables.{StandsAtCall}
 use Rattle.machine.specs.Dozes.{Dozes, Moves, MovesOften}
-use Rattle.machine.proofs.Dozing.{doze_is}
+use Rattle.machine.proofs.Owners.{doze_is}
 use Rattle.machine.proofs.Rows.{put_same}
 
 -- ---- a turn
-stopped_turn : (size : Size) (a b : Moment) (word : Turned) (s : HartState) → s ≡ stopped → TurnAs size (begun_by a.hart.id a.table s).ready (begun_by a.hart.id a.table s).table a b word → (b ≡ a) × (word ≡ Idle)
+stopped_turn : (size : Size) (a b : Moment) (word : Turned) (s : HartState) → s ≡ stopped → TurnAs size (begun_by a.hart.id a.table s).ready (begun_by a.hart.id a.table s).table a b word → (b ≡ a) × (word ≡ Made Idle)
 stopped_turn size a b word s e p =
     subst (λ (x : HartState). TurnAs size (begun_by a.hart.id a.table x).ready (begun_by a.hart.id a.table x).table a b word) e p
 
 -- a turn of the hart of a doze that was not woken
-asleep : (woken : Bool) (d : Doze) (h : ℕ) (old new : Machine) (word : Turned) → woken ≡ false → DozeTurn woken d h old new word → (new ≡ old) × (word ≡ Idle)
+asleep : (woken : Bool) (d : Doze) (h : ℕ) (old new : Machine) (word : Turned) → woken ≡ false → DozeTurn woken d h old new word → (new ≡ old) × (word ≡ Made Idle)
 asleep woken d h old new word e p = subst (λ (w : Bool). DozeTurn w d h old new word) e p
 
 stays : (h : ℕ) (old new : Machine) (b : Moment) → new ≡ with_moment h old b → b ≡ moment_of h old → new ≡ old
 stays h old new b e same = e ∙ (ap (with_moment h old) same ∙ put_same h old)
 
-turn_by : (o : Option Doze) (h : ℕ) (old new : Machine) (word : Turned) → Dozes old → doze_of h old.doze ≡ o → TurnBy o h old new word → (new ≡ old) × (word ≡ Idle)
+turn_by : (o : Option Doze) (h : ℕ) (old new : Machine) (word : Turned) → Dozes old → doze_of h old.doze ≡ o → TurnBy o h old new word → (new ≡ old) × (word ≡ Made Idle)
 turn_by (Some d) h old new word dozes e p =
     let same : d ≡ dozes.doze = doze_is h old.doze dozes.doze d dozes.stands e in
     asleep d.woken d h old new word (ap (λ (x : Doze). x.woken) same ∙ dozes.sleeps) p
@@ -42,21 +41,21 @@ turn_by None h old new word dozes e p =
     let q = stopped_turn old.size a p.0 word (listed a.table.states a.hart.id) (dozes.others h e) p.1 in
     (stays h old new p.0 p.2 q.0, q.1)
 
-pub no_turn : (h : ℕ) (old new : Machine) (word : Turned) → Dozes old → MakesTurn h old new word → (new ≡ old) × (word ≡ Idle)
+pub no_turn : (h : ℕ) (old new : Machine) (word : Turned) → Dozes old → MakesTurn h old new word → (new ≡ old) × (word ≡ Made Idle)
 no_turn h old new word dozes p = turn_by (doze_of h old.doze) h old new word dozes refl p
 
 -- ---- a call
 not_started : (s : HartState) → s ≡ stopped → s ≡ started → ⊥
 not_started s e f = let z : stopped ≡ started = sym e ∙ f in let n : ⊥ = cc in n
 
-call_by : (o : Option Doze) (h : ℕ) (u : ArchState) (old new : Machine) (called : Called) → Dozes old → doze_of h old.doze ≡ o → CallBy o h u old new called → (new ≡ old) × (called ≡ NotStarted)
+call_by : (o : Option Doze) (h : ℕ) (u : ArchState) (old new : Machine) (called : Option Turned) → Dozes old → doze_of h old.doze ≡ o → CallBy o h u old new called → (new ≡ old) × (called ≡ None)
 call_by (Some d) h u old new called dozes e p = p
 call_by None h u old new called dozes e p =
     let a = moment_of h old in
     let q = p.1.not_started (not_started (listed a.table.states a.hart.id) (dozes.others h e)) in
     (stays h old new p.0 p.2 q.0, q.1)
 
-pub no_call : (h eid fid a0 a1 a2 : ℕ) (old new : Machine) (called : Called) → Dozes old → MakesOneCall h eid fid a0 a1 a2 old new called → (new ≡ old) × (called ≡ NotStarted)
+pub no_call : (h eid fid a0 a1 a2 : ℕ) (old new : Machine) (called : Option Turned) → Dozes old → MakesOneCall h eid fid a0 a1 a2 old new called → (new ≡ old) × (called ≡ None)
 no_call h eid fid a0 a1 a2 old new called dozes p = call_by (doze_of h old.doze) h (calling (hart_at old h) eid fid a0 a1 a2) old new called dozes refl p
 
 -- ---- many of them

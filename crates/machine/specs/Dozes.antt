@@ -4,8 +4,7 @@ use Rattle.std.specs.Prelude.{◌≡◌, ◌⊎◌, ℕ, zero, suc, false, Optio
 use Rattle.hsm_rule.specs.States.{stopped}
 use Rattle.susp.specs.Dozes.{doze_of}
 use Rattle.susp.specs.declared.buses.Doze.{Doze}
-use Rattle.turns.specs.declared.words.Turned.{Turned}
-use Rattle.machine.specs.declared.parts.Called.{Called}
+use Rattle.sbi_calls.specs.declared.words.Turned.{Turned}
 use Rattle.machine.specs.Machine.{Machine, hart_at, state_at}
 use Rattle.machine.specs.Turns.{MakesTurn, MakesOneCall}
 
@@ -20,7 +19,7 @@ pub record Dozes (m : Machine) : Type 0 where
 abbrev pub Moves : Machine → Machine → Type 0
 Moves old new =
     ((h : ℕ) × (word : Turned) × MakesTurn h old new word)
-    ⊎ ((h : ℕ) × (eid : ℕ) × (fid : ℕ) × (a0 : ℕ) × (a1 : ℕ) × (a2 : ℕ) × (called : Called)
+    ⊎ ((h : ℕ) × (eid : ℕ) × (fid : ℕ) × (a0 : ℕ) × (a1 : ℕ) × (a2 : ℕ) × (called : Option Turned)
     × MakesOneCall h eid fid a0 a1 a2 old new called)
 
 -- so many of them, one after another, of any harts

@@ -8,7 +8,7 @@ use Rattle.hsm_rule.specs.States.{started}
 use Rattle.hsm.specs.Views.{listed}
 use Rattle.sbi_abi.specs.Calls.{call_of}
 use Rattle.store.specs.declared.stores.Store.{Store}
-use Rattle.sbi.specs.declared.dispatches.Held.{Held}
+use Rattle.sbi.specs.declared.words.Word.{Word}
 use Rattle.sbi.specs.Helds.{HeldIn}
 use Rattle.turns.specs.Turns.{Moment}
 use Rattle.susp.specs.Dozes.{doze_of}
@@ -27,14 +27,14 @@ bus_at a doze = record { ram = a.memory; doze = doze }
 
 module _ {D L : Type 0} {g : Ghosts D L} {l : Lanes L} where
   -- the durable call at which its hart stands, by the table of answers: the tables and the memory stay
-  abbrev pub HeldOf : Size → Option Doze → Option Doze → Moment → Moment → Store D L g l → Store D L g l → Held
+  abbrev pub HeldOf : Size → Option Doze → Option Doze → Moment → Moment → Store D L g l → Store D L g l → Word
       → Type 0
-  HeldOf size doze doze' a b old new held =
-      HeldIn size.harts (call_of a.hart) a.hart b.hart a.table (bus_at a doze) (bus_at b doze') old new held
+  HeldOf size doze doze' a b old new word =
+      HeldIn size.harts (call_of a.hart) a.hart b.hart a.table (bus_at a doze) (bus_at b doze') old new word
       × (b.table ≡ a.table) × (b.memory ≡ a.memory)
 
   -- the durable call at which hart h stands, made with a store: it may leave a doze
-  abbrev pub MakesCall : ℕ → Machine → Machine → Store D L g l → Store D L g l → Held → Type 0
-  MakesCall h m n old new held =
-      (doze : Option Doze) × (after : Moment) × HeldOf m.size m.doze doze (moment_of h m) after old new held
+  abbrev pub MakesCall : ℕ → Machine → Machine → Store D L g l → Store D L g l → Word → Type 0
+  MakesCall h m n old new word =
+      (doze : Option Doze) × (after : Moment) × HeldOf m.size m.doze doze (moment_of h m) after old new word
       × (n ≡ record (with_moment h m after) { doze = doze })

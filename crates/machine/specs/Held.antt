@@ -8,8 +8,9 @@ use Rattle.sbi_calls.specs.declared.tables.Tables.{Tables}
 use Rattle.sbi_calls.specs.declared.tables.Seats.{Seats}
 use Rattle.hsm_rule.specs.declared.view.Stage.{Stage}
 use Rattle.hsm_rule.specs.declared.view.Stage.TheVariants.{Running, Quiet}
-use Rattle.sbi.specs.declared.dispatches.Held.{Held}
-use Rattle.sbi.specs.declared.dispatches.Held.TheVariants as helds
+use Rattle.sbi.specs.declared.words.Word.{Word}
+use Rattle.sbi.specs.declared.words.Word.TheVariants.{Goes, Over}
+use Rattle.sbi_calls.specs.Words.{stage_of}
 use Rattle.sbi_calls.specs.Both.{TableState, AreTablesOf, AreSeatsOfBoth, AreOfAll, Acts, IsTable, harts_known, pair_crew}
 use Rattle.susp.specs.Dozes.{doze_of}
 use Rattle.susp.specs.declared.buses.Doze.{Doze}
@@ -25,11 +26,9 @@ table_of harts (Some s) = shown_by harts s
 
 -- where a hart stands once a durable call of it was made: a doze is quiet, and after a suspension to disk the
 -- quiet is ended
-abbrev pub stage_settled : Held → Stage
-stage_settled helds.Goes = Running
-stage_settled helds.Dozing = Quiet
-stage_settled helds.Asleep = Running
-stage_settled (helds.Reset kind) = Running
+abbrev pub stage_settled : Word → Stage
+stage_settled (Goes did) = stage_of did
+stage_settled (Over end) = Running
 
 -- between two turns a hart in whose doze the board is is quiet, and any other rests
 abbrev pub RestsBy : Option Doze → ℕ → Seats → Type 0

@@ -1,6 +1,5 @@
 pub mod Machine
 pub mod Turns
 pub mod Held
-pub mod Words
 pub mod Durables
 pub mod Dozes

@@ -8,11 +8,10 @@ use Rattle.hsm_rule.specs.States.{started}
 use Rattle.hsm.specs.Views.{listed}
 use Rattle.sbi_calls.specs.declared.tables.Seats.{Seats}
 use Rattle.sbi_calls.specs.Both.{TableState, IsTable}
-use Rattle.turns.specs.declared.words.Turned.{Turned}
-use Rattle.turns.specs.declared.words.Turned.TheVariants.{Idle, Resumed, Next}
+use Rattle.sbi_calls.specs.declared.words.Turned.{Turned}
+use Rattle.sbi_calls.specs.declared.words.Did.TheVariants.{Idle, Resumed, Next}
+use Rattle.sbi_calls.specs.declared.words.Turned.TheVariants.{Made}
 use Rattle.turns.specs.Turns.{Moment, moment, TurnOf, Finishes, after_take}
-use Rattle.machine.specs.declared.parts.Called.{Called}
-use Rattle.machine.specs.declared.parts.Called.TheVariants.{NotStarted, Made}
 use Rattle.susp.specs.Dozes.{doze_of}
 use Rattle.susp.specs.declared.buses.Doze.{Doze}
 use Rattle.machine.specs.Machine.{Machine, hart_at}
@@ -45,8 +44,8 @@ resumed d h m =
 
 -- a turn of the hart of a doze, which was woken or not: until then it is idle
 abbrev pub DozeTurn : Bool → Doze → ℕ → Machine → Machine → Turned → Type 0
-DozeTurn false d h old new word = (new ≡ old) × (word ≡ Idle)
-DozeTurn true d h old new word = (new ≡ resumed d h old) × (word ≡ Resumed)
+DozeTurn false d h old new word = (new ≡ old) × (word ≡ Made Idle)
+DozeTurn true d h old new word = (new ≡ resumed d h old) × (word ≡ Made Resumed)
 
 -- ---- a turn of hart h, by the doze of the board where it is that hart's
 abbrev pub TurnBy : Option Doze → ℕ → Machine → Machine → Turned → Type 0
@@ -61,7 +60,7 @@ abbrev pub MakesRow : ℕ → ℕ → Machine → Machine → Turned → Type 0
 MakesRow h zero old new word = ⊥
 MakesRow h (suc n) old new word =
     ((n ≡ 0) × MakesTurn h old new word)
-    ⊎ ((mid : Machine) × MakesTurn h old mid Next × MakesRow h n mid new word)
+    ⊎ ((mid : Machine) × MakesTurn h old mid (Made Next) × MakesRow h n mid new word)
 
 -- ---- a call that is made in the place of a hart
 -- the registers of a call: the extension in a7, the function in a6, the arguments in a0 to a2
@@ -69,23 +68,23 @@ abbrev pub calling : ArchState → ℕ → ℕ → ℕ → ℕ → ℕ → ArchS
 calling s eid fid a0 a1 a2 = put (put (put (put (put s 10 a0) 11 a1) 12 a2) 16 fid) 17 eid
 
 -- the call of a hart that then stands as u at an ECALL: none where the hart is not STARTED
-pub record CallOf (size : Size) (u : ArchState) (a b : Moment) (called : Called) : Type 0 where
+pub record CallOf (size : Size) (u : ArchState) (a b : Moment) (called : Option Turned) : Type 0 where
   pub made : listed a.table.states a.hart.id ≡ started
       → (word : Turned) × Finishes size Ecall a.table u b.table b.hart word × (b.memory ≡ a.memory)
-      × (called ≡ Made word)
-  pub not_started : (listed a.table.states a.hart.id ≡ started → ⊥) → (b ≡ a) × (called ≡ NotStarted)
+      × (called ≡ Some word)
+  pub not_started : (listed a.table.states a.hart.id ≡ started → ⊥) → (b ≡ a) × (called ≡ None)
 
 -- with the one seat of all harts
-abbrev pub MakesCallAlone : Size → ArchState → ArchState → ArchState → List ℕ → Seats → Seats → Called → Type 0
+abbrev pub MakesCallAlone : Size → ArchState → ArchState → ArchState → List ℕ → Seats → Seats → Option Turned → Type 0
 MakesCallAlone size s u t m before after called = (x : TableState) → IsTable size.harts before x
     → (y : TableState) × CallOf size u (moment x s m) (moment y t m) called × IsTable size.harts after y
 
 -- a call of hart h, which then stands as u at an ECALL: a hart that dozes makes none
-abbrev pub CallBy : Option Doze → ℕ → ArchState → Machine → Machine → Called → Type 0
+abbrev pub CallBy : Option Doze → ℕ → ArchState → Machine → Machine → Option Turned → Type 0
 CallBy None h u old new called = DoneBy (λ a b. CallOf old.size u a b called) h old new
-CallBy (Some d) h u old new called = (new ≡ old) × (called ≡ NotStarted)
+CallBy (Some d) h u old new called = (new ≡ old) × (called ≡ None)
 
 -- a call of hart h with these registers
-abbrev pub MakesOneCall : ℕ → ℕ → ℕ → ℕ → ℕ → ℕ → Machine → Machine → Called → Type 0
+abbrev pub MakesOneCall : ℕ → ℕ → ℕ → ℕ → ℕ → ℕ → Machine → Machine → Option Turned → Type 0
 MakesOneCall h eid fid a0 a1 a2 old new called =
     CallBy (doze_of h old.doze) h (calling (hart_at old h) eid fid a0 a1 a2) old new called

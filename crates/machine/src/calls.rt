@@ -5,12 +5,11 @@ ghost use Rattle.sbi_calls.specs.Both.{AreTablesOf, AreSeatsOfBoth, GivesBack};
 ghost use Rattle.turns.specs.Turns.{Rests};
 ghost use Rattle.machine.specs.Turns.{calling, MakesCallAlone};
 
-use crate::parts::Called;
 use board_model::Shape;
 use hart::{Hart, Outcome};
 use hsm::State;
 use rv_decode::Reg;
-use sbi_calls::{Seats, Tables};
+use sbi_calls::{Seats, Tables, Turned};
 
 /// The registers of a call (SBI specification 2.0, chapter 3).
 #[derive(Clone, Copy, Drop)]
@@ -36,14 +35,14 @@ fn set_registers(hart: &mut Hart, call: &Registers)
     hart.put(Reg::new(17), call.eid);
 }
 
-/// Where the hart is STARTED, sets the registers and makes the call.
+/// Where the hart is STARTED, sets the registers and makes the call: what it comes to. Else nothing is done.
 pub fn call_in_place(
     hart: &mut Hart,
     seats: Seats,
     tables: &Tables,
     shape: &Shape,
     call: &Registers,
-) -> (Seats, Called)
+) -> (Seats, Option<Turned>)
     requires tables { AreTablesOf shape.now tables.now }
     requires seats { AreSeatsOfBoth tables.now seats }
     requires hart { hart.old.id < shape.now.harts }
@@ -64,8 +63,8 @@ pub fn call_in_place(
         State::Started => {
             set_registers(hart, call);
             let (seats, turned) = turns::finish(Outcome::Ecall, hart, seats, tables, shape);
-            (seats, Called::Made(turned))
+            (seats, Some(turned))
         }
-        _ => (seats, Called::NotStarted),
+        _ => (seats, None),
     }
 }

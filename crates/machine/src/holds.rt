@@ -4,14 +4,15 @@ ghost use Rattle.std.specs.Prelude.{◌≡◌, ◌<◌, ℕ};
 ghost use Rattle.hsm_rule.specs.declared.view.Stage.TheVariants.{Running};
 ghost use Rattle.sbi_abi.specs.Calls.{call_of};
 ghost use Rattle.sbi_calls.specs.Both.{TableState, IsTable, AreTablesOf, AreSeatsOfBoth, GivesBack, Acts, harts_of_both};
-ghost use Rattle.sbi.specs.Helds.{stage_by_held, HeldAlone};
+ghost use Rattle.sbi.specs.Helds.{HeldAlone};
+ghost use Rattle.sbi.specs.Words.{stage_told};
 ghost use Rattle.machine.specs.Held.{stage_settled};
 
 use board_model::{HartId, Shape};
 use crew::Crew;
 use disk::Disk;
 use hart::Hart;
-use sbi::{Held, dispatch_held};
+use sbi::{LifeEnd, Word, dispatch_held};
 use sbi_calls::{Seats, Tables};
 use std::alloc::Global;
 use store::Store;
@@ -19,17 +20,17 @@ use susp::Bus;
 
 /// Ends the quiet of a hart whose board sleeps to its disk, so that each hart of the seats is at rest. That
 /// life is over, and none of them acts any more. The quiet of a hart that dozes lasts until it is resumed.
-fn settle(seats: Seats, tables: &Tables, by: HartId, held: Held) -> Seats
+fn settle(seats: Seats, tables: &Tables, by: HartId, word: Word) -> Seats
     requires seats { AreSeatsOfBoth tables.now seats }
-    requires acts { Acts by (stage_by_held held) seats }
+    requires acts { Acts by (stage_told word) seats }
     ensures gives { GivesBack tables.entry.now by seats result }
-    ensures acts { Acts by (stage_settled held) result }
+    ensures acts { Acts by (stage_settled word) result }
     ensures alone { (x : TableState) → IsTable (harts_of_both tables.entry.now) seats x
         → IsTable (harts_of_both tables.entry.now) result x }
 {
-    match held {
-        Held::Goes | Held::Reset(_) | Held::Dozing => seats,
-        Held::Asleep => {
+    match word {
+        Word::Goes(_) | Word::Over(LifeEnd::Reset(_)) => seats,
+        Word::Over(LifeEnd::Asleep) => {
             let Seats { harts, pending } = seats;
             let harts = hsm::unquiet(&tables.harts, harts, by);
             Seats { harts, pending }
@@ -48,7 +49,7 @@ pub fn make_held<D: Disk + Drop, C: Crew>(
     bus: &mut Bus,
     store: &mut Store<D>,
     crew: &C,
-) -> (Seats, Held)
+) -> (Seats, Word)
     requires tables { AreTablesOf shape.now tables.now }
     requires seats { AreSeatsOfBoth tables.now seats }
     requires hart { hart.old.id < shape.now.harts }
@@ -60,6 +61,6 @@ pub fn make_held<D: Disk + Drop, C: Crew>(
         store.old store.new result.1 }
 {
     let by = hart.id();
-    let (seats, held) = dispatch_held(alloc, hart, seats, tables, bus, store, crew);
-    (settle(seats, tables, by, held), held)
+    let (seats, word) = dispatch_held(alloc, hart, seats, tables, bus, store, crew);
+    (settle(seats, tables, by, word), word)
 }

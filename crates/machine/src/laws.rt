@@ -1,13 +1,12 @@
 //! Laws of the definitions, the contracts of functions that do nothing: turns and calls of a hart leave nothing
 //! open, and a board that dozes stands still.
 
-ghost use Rattle.std.specs.Prelude.{◌≡◌, ℕ};
-ghost use Rattle.turns.specs.declared.words.Turned.{Turned};
-ghost use Rattle.turns.specs.declared.words.Turned.TheVariants.{Idle};
+ghost use Rattle.std.specs.Prelude.{◌≡◌, ℕ, Option, None};
+ghost use Rattle.sbi_calls.specs.declared.words.Turned.{Turned};
+ghost use Rattle.sbi_calls.specs.declared.words.Did.TheVariants.{Idle};
+ghost use Rattle.sbi_calls.specs.declared.words.Turned.TheVariants.{Made};
 ghost use Rattle.machine.specs.Machine.{Machine};
 ghost use Rattle.machine.specs.Turns.{MakesTurn, MakesOneCall};
-ghost use Rattle.machine.specs.declared.parts.Called.{Called};
-ghost use Rattle.machine.specs.declared.parts.Called.TheVariants.{NotStarted};
 ghost use Rattle.machine.specs.Durables.{StandsAtCall};
 ghost use Rattle.machine.specs.Dozes.{Dozes, MovesOften};
 
@@ -16,7 +15,7 @@ ghost use Rattle.machine.specs.Dozes.{Dozes, MovesOften};
 pub fn one_turn()
     ensures turn { (h : ℕ) (old new other : Machine) (word also : Turned) → MakesTurn h old new word
         → MakesTurn h old other also → (new ≡ other) × (word ≡ also) }
-    ensures call { (h eid fid a0 a1 a2 : ℕ) (old new other : Machine) (called also : Called)
+    ensures call { (h eid fid a0 a1 a2 : ℕ) (old new other : Machine) (called also : Option Turned)
         → MakesOneCall h eid fid a0 a1 a2 old new called → MakesOneCall h eid fid a0 a1 a2 old other also
         → (new ≡ other) × (called ≡ also) }
 {
@@ -28,9 +27,9 @@ pub fn one_turn()
 /// are made and of whichever harts. No hart of it stands at a durable call.
 pub fn a_doze_stands()
     ensures turn { (h : ℕ) (old new : Machine) (word : Turned) → Dozes old → MakesTurn h old new word
-        → (new ≡ old) × (word ≡ Idle) }
-    ensures call { (h eid fid a0 a1 a2 : ℕ) (old new : Machine) (called : Called) → Dozes old
-        → MakesOneCall h eid fid a0 a1 a2 old new called → (new ≡ old) × (called ≡ NotStarted) }
+        → (new ≡ old) × (word ≡ Made Idle) }
+    ensures call { (h eid fid a0 a1 a2 : ℕ) (old new : Machine) (called : Option Turned) → Dozes old
+        → MakesOneCall h eid fid a0 a1 a2 old new called → (new ≡ old) × (called ≡ None) }
     ensures moves { (n : ℕ) (old new : Machine) → Dozes old → MovesOften n old new → new ≡ old }
     ensures asks { (h : ℕ) (m : Machine) → Dozes m → StandsAtCall h m → ⊥ }
 {}

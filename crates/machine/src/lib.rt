@@ -11,6 +11,5 @@ mod parts;
 
 pub use laws::{a_doze_stands, one_turn};
 pub use machine::Machine;
-pub use parts::{Called, Parts, Word, ends, word_by};
-pub use sbi::{Held, ResetType};
-pub use turns::Turned;
+pub use parts::Parts;
+pub use sbi::{Did, LifeEnd, ResetType, Turned, Word};

@@ -6,8 +6,7 @@ ghost use Rattle.board_model.specs.Shapes.{ram_bytes_of};
 ghost use Rattle.board_model.specs.declared.refusal.Refusal.TheVariants.{Memory, NotDozing};
 ghost use Rattle.turns.specs.Turns.{has_pending, TurnOf};
 ghost use Rattle.susp.specs.Dozes.{doze_of, can_wake, after_wake};
-ghost use Rattle.turns.specs.declared.words.Turned.TheVariants.{Durable};
-ghost use Rattle.machine.specs.declared.parts.Called.TheVariants.{Made};
+ghost use Rattle.sbi_calls.specs.declared.words.Turned.TheVariants.{Durable};
 ghost use Rattle.store.specs.Views.{size_of_store, now_state, view_of};
 ghost use Rattle.store.specs.Answers.{StaysOpen};
 ghost use Rattle.susp.specs.Wakes.{IsUnloaded, IsConsumed};
@@ -17,11 +16,12 @@ ghost use Rattle.machine.specs.Turns.{MakesTurn, MakesRow, MakesOneCall, DoneBy,
 ghost use Rattle.machine.specs.Held.{IsHeld, shown_by};
 ghost use Rattle.machine.specs.Durables.{StandsAtCall, MakesCall};
 ghost use Rattle.machine.specs.Dozes.{Dozes};
-ghost use Rattle.sbi.specs.declared.dispatches.Held.TheVariants.{Dozing};
+ghost use Rattle.sbi.specs.Words.{word_of_sleep};
+ghost use Rattle.susp.specs.declared.sleeps.Sleep.TheVariants.{ToRam};
 
 use crate::calls::{Registers, call_in_place};
 use crate::holds::make_held;
-use crate::parts::{Called, Parts};
+use crate::parts::Parts;
 use board_model::{HartId, RAM_BASE, Reason, Refusal, Shape};
 use crew::Crew;
 use disk::Disk;
@@ -29,13 +29,12 @@ use hart::Hart;
 use hsm::HartTable;
 use ipi::PendingTable;
 use ram::Ram;
-use sbi::Held;
-use sbi_calls::{Seats, Tables};
+use sbi::Word;
+use sbi_calls::{Did, Seats, Tables, Turned};
 use std::alloc::Global;
 use std::marker::Model;
 use store::Store;
 use susp::{Bus, Doze, doze_of, wake_image};
-use turns::Turned;
 
 /// A board's memory, harts and tables, which contracts see as the record `Machine` of specs/. The seats are
 /// out of their place only within a call.
@@ -186,7 +185,7 @@ impl Machine {
         ensures { DozeTurn doze.woken doze id self.old self.new result }
     {
         if !doze.woken {
-            return Turned::Idle;
+            return Turned::Made(Did::Idle);
         }
         let seats = self.seats.take().unwrap();
         let seats = turns::resume(
@@ -200,7 +199,7 @@ impl Machine {
         ipi::one_set();
         self.bus.doze = None;
         self.seats = Some(seats);
-        Turned::Resumed
+        Turned::Made(Did::Resumed)
     }
 
     /// One turn of a hart. In a doze its hart does nothing until the board is woken.
@@ -278,11 +277,20 @@ impl Machine {
     }
 
     /// An SBI call that is made in the place of a hart: sets a0 to a2, a6 and a7, and acts as if ECALL stood
-    /// at its pc. A hart that is not STARTED, or that dozes, makes none, and stays as it was.
-    pub fn call(&mut self, id: HartId, eid: u64, fid: u64, a0: u64, a1: u64, a2: u64) -> Called
+    /// at its pc. After `Next` it was answered. A hart that is not STARTED, or that dozes, makes none, and stays
+    /// as it was.
+    pub fn call(
+        &mut self,
+        id: HartId,
+        eid: u64,
+        fid: u64,
+        a0: u64,
+        a1: u64,
+        a2: u64,
+    ) -> Option<Turned>
         requires { id < length self.old.harts }
         ensures calls { MakesOneCall id eid fid a0 a1 a2 self.old self.new result }
-        ensures asks { result ≡ Made Durable → StandsAtCall id self.new }
+        ensures asks { result ≡ Some Durable → StandsAtCall id self.new }
         ensures harts { length self.new.harts ≡ length self.old.harts }
     {
         let call = Registers {
@@ -293,13 +301,13 @@ impl Machine {
             a2,
         };
         match self.dozes(id) {
-            Some(_) => Called::NotStarted,
+            Some(_) => None,
             None => self.own_call(id, &call),
         }
     }
 
     /// The same of a hart in whose doze the board is not.
-    fn own_call(&mut self, id: HartId, call: &Registers) -> Called
+    fn own_call(&mut self, id: HartId, call: &Registers) -> Option<Turned>
         requires hart { id < length self.old.harts }
         requires awake { doze_of id self.old.doze ≡ None }
         ensures { DoneBy (λ a b. CallOf self.old.size
@@ -329,15 +337,15 @@ impl Machine {
         id: HartId,
         store: &mut Store<D>,
         crew: &C,
-    ) -> Held
+    ) -> Word
         requires hart { id < length self.old.harts }
         requires stands { StandsAtCall id self.old }
         ensures makes { MakesCall id self.old self.new store.old store.new result }
-        ensures dozes { result ≡ Dozing → Dozes self.new }
+        ensures dozes { result ≡ word_of_sleep ToRam → Dozes self.new }
         ensures harts { length self.new.harts ≡ length self.old.harts }
     {
         let seats = self.seats.take().unwrap();
-        let (seats, held) = make_held(
+        let (seats, word) = make_held(
             alloc,
             &mut self.harts[id.index()],
             seats,
@@ -350,7 +358,7 @@ impl Machine {
         hsm::one_table();
         ipi::one_set();
         self.seats = Some(seats);
-        held
+        word
     }
 
     /// Calls the wake-up device, as `susp::wake`: a board that dozes is woken, once. Refused `NotDozing` where

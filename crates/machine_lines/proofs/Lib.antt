@@ -1,3 +1,2 @@
 mod Padded
 mod Determined
-mod InLine

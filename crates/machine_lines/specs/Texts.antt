@@ -3,12 +3,14 @@ use Rattle.std.specs.Prelude.{ℕ, List, ◌++◌, ◌-◌, length, replicate, t
 use Rattle.std.specs.Fmt.{decimal, digits, signed_decimal}
 use Rattle.std.specs.Int.{cast_signed, w64}
 use Rattle.std.specs.List.{flat_map}
-use Rattle.turns.specs.declared.words.Turned.{Turned}
-use Rattle.turns.specs.declared.words.Turned.TheVariants.{Idle, Entered, Woke, Resumed, Next, Suspended, Stopped, Durable}
+use Rattle.sbi_calls.specs.declared.words.Did.{Did}
+use Rattle.sbi_calls.specs.declared.words.Did.TheVariants.{Idle, Entered, Woke, Resumed, Next, Suspended, Stopped, Dozing}
 use Rattle.sbi.specs.declared.resets.ResetType.{ResetType}
 use Rattle.sbi.specs.declared.resets.ResetType.TheVariants.{Shutdown, ColdReboot}
-use Rattle.machine.specs.declared.parts.Word.{Word}
-use Rattle.machine.specs.declared.parts.Word.TheVariants.{Own, Dozing, Asleep, Reset}
+use Rattle.sbi.specs.declared.words.LifeEnd.{LifeEnd}
+use Rattle.sbi.specs.declared.words.LifeEnd.TheVariants.{Asleep, Reset}
+use Rattle.sbi.specs.declared.words.Word.{Word}
+use Rattle.sbi.specs.declared.words.Word.TheVariants.{Goes, Over}
 use Rattle.machine_lines.specs.declared.line.MachineLine.{MachineLine}
 use Rattle.machine_lines.specs.declared.line.MachineLine.TheVariants as lines
 use lib.Chars.{codes}
@@ -20,26 +22,29 @@ hex_text width n = replicate (width - length (digits 16 false n)) 48 ++ digits 1
 abbrev pub bytes_text : List ℕ → List ℕ
 bytes_text bytes = flat_map (hex_text 2) bytes
 
--- what a hart did; a board does not leave it at a durable call
-abbrev pub turned_text : Turned → List ℕ
-turned_text Idle = codes "idle"
-turned_text Entered = codes "entered"
-turned_text Woke = codes "woke"
-turned_text Resumed = codes "resumed"
-turned_text Next = codes "next"
-turned_text Suspended = codes "suspended"
-turned_text Stopped = codes "stopped"
-turned_text Durable = codes "durable"
+-- what a hart did
+abbrev pub did_text : Did → List ℕ
+did_text Idle = codes "idle"
+did_text Entered = codes "entered"
+did_text Woke = codes "woke"
+did_text Resumed = codes "resumed"
+did_text Next = codes "next"
+did_text Suspended = codes "suspended"
+did_text Stopped = codes "stopped"
+did_text Dozing = codes "dozing"
 
 abbrev pub reset_text : ResetType → List ℕ
 reset_text Shutdown = codes "shutdown"
 reset_text ColdReboot = codes "reboot"
 
+-- how the life ended
+abbrev pub end_text : LifeEnd → List ℕ
+end_text Asleep = codes "asleep"
+end_text (Reset kind) = reset_text kind
+
 abbrev pub word_text : Word → List ℕ
-word_text (Own did) = turned_text did
-word_text Dozing = codes "dozing"
-word_text Asleep = codes "asleep"
-word_text (Reset kind) = reset_text kind
+word_text (Goes did) = did_text did
+word_text (Over end) = end_text end
 
 abbrev pub machine_line_text : MachineLine → List ℕ
 machine_line_text (lines.Turn h k word) =

@@ -1,5 +1,4 @@
-//! The report lines of a script that show a board's memory and harts, or have a hart make turns
-//! (docs/SCRIPT.md).
+//! The report lines of a script that show a board's memory and harts, or say what a hart did (docs/SCRIPT.md).
 #![tactic(auto)]
 
 mod laws;
@@ -8,4 +7,4 @@ mod shows;
 
 pub use laws::one_line;
 pub use line::{MachineLine, MemBytes, Value};
-pub use shows::{call, called, csr, csr_of, mem, pc, pending, reg, turn};
+pub use shows::{called, csr, csr_of, mem, pc, pending, reg};

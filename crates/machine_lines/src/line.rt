@@ -1,10 +1,10 @@
 //! The lines, and their texts.
 
 ghost use Rattle.std.specs.Prelude.{◌≡◌, ◌++◌, ◌≤◌, Some, take};
-ghost use Rattle.machine_lines.specs.Texts.{turned_text, reset_text, word_text, hex_text, bytes_text, machine_line_text};
+ghost use Rattle.machine_lines.specs.Texts.{did_text, reset_text, end_text, word_text, hex_text, bytes_text, machine_line_text};
 
 use board_model::{HartId, Slot};
-use machine::{ResetType, Turned, Word};
+use machine::{Did, LifeEnd, ResetType, Word};
 use std::fmt;
 
 /// Up to 64 bytes of memory.
@@ -46,21 +46,21 @@ pub enum MachineLine {
 }
 
 #[derive(Drop)]
-struct TurnedName(Turned);
+struct DidName(Did);
 
-impl fmt::Display for TurnedName {
-    ghost output = { λ t. Some (turned_text t.0) };
+impl fmt::Display for DidName {
+    ghost output = { λ d. Some (did_text d.0) };
 
     fn fmt<W: fmt::Write>(&self, f: &mut fmt::Formatter<W>) -> fmt::Result {
         match self.0 {
-            Turned::Idle => write!(f, "idle"),
-            Turned::Entered => write!(f, "entered"),
-            Turned::Woke => write!(f, "woke"),
-            Turned::Resumed => write!(f, "resumed"),
-            Turned::Next => write!(f, "next"),
-            Turned::Suspended => write!(f, "suspended"),
-            Turned::Stopped => write!(f, "stopped"),
-            Turned::Durable => write!(f, "durable"),
+            Did::Idle => write!(f, "idle"),
+            Did::Entered => write!(f, "entered"),
+            Did::Woke => write!(f, "woke"),
+            Did::Resumed => write!(f, "resumed"),
+            Did::Next => write!(f, "next"),
+            Did::Suspended => write!(f, "suspended"),
+            Did::Stopped => write!(f, "stopped"),
+            Did::Dozing => write!(f, "dozing"),
         }
     }
 }
@@ -80,6 +80,23 @@ impl fmt::Display for ResetName {
 }
 
 #[derive(Drop)]
+struct EndName(LifeEnd);
+
+impl fmt::Display for EndName {
+    ghost output = { λ e. Some (end_text e.0) };
+
+    fn fmt<W: fmt::Write>(&self, f: &mut fmt::Formatter<W>) -> fmt::Result {
+        match self.0 {
+            LifeEnd::Asleep => write!(f, "asleep"),
+            LifeEnd::Reset(kind) => {
+                let text = ResetName(kind);
+                write!(f, "{text}")
+            }
+        }
+    }
+}
+
+#[derive(Drop)]
 struct WordText(Word);
 
 impl fmt::Display for WordText {
@@ -87,14 +104,12 @@ impl fmt::Display for WordText {
 
     fn fmt<W: fmt::Write>(&self, f: &mut fmt::Formatter<W>) -> fmt::Result {
         match self.0 {
-            Word::Own(turned) => {
-                let text = TurnedName(turned);
+            Word::Goes(did) => {
+                let text = DidName(did);
                 write!(f, "{text}")
             }
-            Word::Dozing => write!(f, "dozing"),
-            Word::Asleep => write!(f, "asleep"),
-            Word::Reset(kind) => {
-                let text = ResetName(kind);
+            Word::Over(end) => {
+                let text = EndName(end);
                 write!(f, "{text}")
             }
         }

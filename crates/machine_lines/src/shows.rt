@@ -2,11 +2,11 @@
 
 ghost use Rattle.std.specs.Prelude.{◌≡◌, ◌<◌, ◌≤◌, ◌++◌, ◌-◌, length, replicate};
 ghost use Rattle.machine.specs.Machine.{hart_at};
-ghost use Rattle.machine_lines.specs.Shows.{ends_line, TurnsMany, TurnsLine, CallLine, own_line, made_line, called_line, word_after_call, waits, pending_line, reg_line, pc_line, CsrLine, mem_line};
+ghost use Rattle.machine_lines.specs.Shows.{own_line, made_line, called_line, waits, pending_line, reg_line, pc_line, CsrLine, mem_line};
 
 use crate::line::{MachineLine, MemBytes};
 use board_model::{HartId, RAM_BASE};
-use machine::{Called, Machine, Turned, Word};
+use machine::{Did, Machine, Word};
 use rv_decode::{CsrNumber, Reg};
 
 /// `reg H R`: a register, 0 to 31.
@@ -30,95 +30,15 @@ pub fn pc(machine: &Machine, hart: HartId) -> MachineLine
     MachineLine::Pc(hart, machine.hart(hart).pc())
 }
 
-/// Whether no turn of the hart follows in a line of a machine without a store.
-fn ends_line(turned: Turned) -> bool
-    ensures { result ≡ ends_line turned }
-{
-    match turned {
-        Turned::Stopped | Turned::Durable => true,
-        Turned::Idle
-        | Turned::Entered
-        | Turned::Woke
-        | Turned::Resumed
-        | Turned::Next
-        | Turned::Suspended => false,
-    }
-}
-
-/// At most so many turns of a hart, one after another: how many were made, and what the last one did.
-fn turns(machine: &mut Machine, hart: HartId, count: u32) -> (u32, Turned)
-    requires hart { hart < length machine.old.harts }
-    requires some { 1 ≤ count }
-    ensures { TurnsMany hart count machine.old machine.new result.0 result.1 }
-{
-    let first = machine.turn(hart);
-    let mut made = 1;
-    let mut turned = first;
-    while made < count && !ends_line(turned) {
-        let next = machine.turn(hart);
-        made += 1;
-        turned = next;
-    }
-    (made, turned)
-}
-
-/// `turn H N` of a machine without a store: at most so many turns of a hart, one after another. One that
-/// stops the hart is the last, and so is one that leaves it at a durable call.
-pub fn turn(machine: &mut Machine, hart: HartId, count: u32) -> MachineLine
-    ensures { TurnsLine hart count machine.old machine.new result }
-{
-    if !machine.has(hart) || count == 0 {
-        return MachineLine::Off;
-    }
-    let (made, turned) = turns(machine, hart, count);
-    MachineLine::Turn(hart, made, Word::Own(turned))
-}
-
-fn word_of(called: Called) -> Option<Word>
-    ensures { result ≡ word_after_call called }
-{
-    match called {
-        Called::NotStarted => None,
-        Called::Made(turned) => Some(Word::Own(turned)),
-    }
-}
-
-/// `call H EID FID A0 A1 A2` of a machine without a store: a call that is made in the place of a hart.
-pub fn call(
-    machine: &mut Machine,
-    hart: HartId,
-    eid: u64,
-    fid: u64,
-    a0: u64,
-    a1: u64,
-    a2: u64,
-) -> MachineLine
-    ensures { CallLine hart eid fid a0 a1 a2 machine.old machine.new result }
-{
-    if !machine.has(hart) {
-        return MachineLine::Off;
-    }
-    let made = machine.call(hart, eid, fid, a0, a1, a2);
-    called(machine, hart, word_of(made))
-}
-
-fn own(machine: &Machine, hart: HartId, turned: Turned) -> MachineLine
+fn own(machine: &Machine, hart: HartId, did: Did) -> MachineLine
     requires { hart < length machine.now.harts }
-    ensures { result ≡ own_line hart (hart_at machine.now hart) turned }
+    ensures { result ≡ own_line hart (hart_at machine.now hart) did }
 {
-    match turned {
-        Turned::Next => {
-            let state = machine.hart(hart);
-            MachineLine::Answered(hart, state.reg(Reg::new(10)), state.reg(Reg::new(11)))
-        }
-        Turned::Idle
-        | Turned::Entered
-        | Turned::Woke
-        | Turned::Resumed
-        | Turned::Suspended
-        | Turned::Stopped
-        | Turned::Durable => MachineLine::Called(hart, Word::Own(turned)),
+    if !did.is_answered() {
+        return MachineLine::Called(hart, Word::Goes(did));
     }
+    let state = machine.hart(hart);
+    MachineLine::Answered(hart, state.reg(Reg::new(10)), state.reg(Reg::new(11)))
 }
 
 fn made(machine: &Machine, hart: HartId, word: Word) -> MachineLine
@@ -126,8 +46,8 @@ fn made(machine: &Machine, hart: HartId, word: Word) -> MachineLine
     ensures { result ≡ made_line hart (hart_at machine.now hart) word }
 {
     match word {
-        Word::Own(turned) => own(machine, hart, turned),
-        Word::Dozing | Word::Asleep | Word::Reset(_) => MachineLine::Called(hart, word),
+        Word::Goes(did) => own(machine, hart, did),
+        Word::Over(_) => MachineLine::Called(hart, word),
     }
 }
 

@@ -5,7 +5,7 @@ ghost use Rattle.std.specs.Prelude.{◌≤◌, length};
 use crate::fixtures::{booted as booted_for, same};
 use board_model::{HartId, Reason};
 use hsm::SeatTable;
-use machine::{Machine, Turned};
+use machine::{Did, Machine, Turned};
 use rv_decode::Reg;
 use std::test::Fail;
 
@@ -47,7 +47,7 @@ fn many_turns_run_a_loop(rt: HostRuntime) -> Result<(), Fail> {
     same(
         &rt,
         turns(&mut machine, 0, 1001),
-        Some((1001, Turned::Next)),
+        Some((1001, Turned::Made(Did::Next))),
     );
     same(&rt, shown(&machine, 0), Some((501, 0, BASE + 4)));
     let parts = machine.into_parts();

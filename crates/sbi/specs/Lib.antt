@@ -1,2 +1,3 @@
 pub mod Resets
+pub mod Words
 pub mod Helds

@@ -5,60 +5,50 @@ ghost use Rattle.hsm_rule.specs.declared.view.Stage.TheVariants.{Running};
 ghost use Rattle.sbi_abi.specs.Calls.{call_of};
 ghost use Rattle.sbi_calls.specs.Both.{AreSeatsOfBoth, GivesBack, Acts, harts_of_both, known};
 ghost use Rattle.sbi.specs.Resets.{reset_of};
-ghost use Rattle.sbi.specs.Helds.{Refuses, MakesReset, MakesSleep, MakesHeld, SleptAlone, HeldAlone, held_by, stage_by_held};
+ghost use Rattle.sbi.specs.Words.{stage_told};
+ghost use Rattle.sbi.specs.Helds.{Refuses, EndsSleep, MakesReset, MakesSleep, MakesHeld, SleptAlone, HeldAlone};
 
-use crate::resets::{ResetType, reset_of};
+use crate::resets::reset_of;
+use crate::words::{LifeEnd, Word};
 use board_model::Command;
 use crew::Crew;
 use disk::Disk;
 use hart::Hart;
 use sbi_abi::{Call, SbiError, put};
-use sbi_calls::{Seats, Tables};
+use sbi_calls::{Did, Seats, Tables};
 use std::alloc::Global;
 use store::Store;
 use susp::{Bus, Sleep};
 
-/// What such a call leaves to the firmware.
-#[derive(Clone, Copy, Debug, PartialEq, Eq, Drop)]
-pub enum Held {
-    /// It was answered, and the hart goes on.
-    Goes,
-    /// The life ended: the board sleeps, and the hart is quiet.
-    Asleep,
-    /// The board sleeps in its RAM, and the hart is quiet. The life goes on.
-    Dozing,
-    /// The life ended: the board is reset.
-    Reset(ResetType),
-}
-
 /// Answers the call with an error.
-fn refuse(hart: &mut Hart, error: SbiError) -> Held
+fn refuse(hart: &mut Hart, error: SbiError) -> Word
     ensures { Refuses error hart.old hart.new result }
 {
     put(hart, Err(error));
-    Held::Goes
+    Word::Goes(Did::Next)
 }
 
 /// `system_reset`: -1 where the store refuses.
-fn reset<D: Disk + Drop>(hart: &mut Hart, store: &mut Store<D>, kind: u32, reason: u32) -> Held
+fn reset<D: Disk + Drop>(hart: &mut Hart, store: &mut Store<D>, kind: u32, reason: u32) -> Word
     ensures { MakesReset (reset_of kind reason) hart.old hart.new store.old store.new result }
 {
     match reset_of(kind, reason) {
         Err(error) => refuse(hart, error),
         Ok(asked) => match store.apply(Command::Reset(asked.1)) {
-            Ok(_) => Held::Reset(asked.0),
+            Ok(_) => Word::Over(LifeEnd::Reset(asked.0)),
             Err(_) => refuse(hart, SbiError::Failed),
         },
     }
 }
 
-/// What is told of a board that sleeps.
-fn held_by(sleep: Sleep) -> Held
-    ensures { result ≡ held_by sleep }
+/// What is told of a suspend, by how the board sleeps or the error that the hart finds.
+fn told_of_sleep(hart: &mut Hart, slept: Result<Sleep, SbiError>) -> Word
+    ensures { EndsSleep slept hart.old hart.new result }
 {
-    match sleep {
-        Sleep::ToRam => Held::Dozing,
-        Sleep::ToDisk => Held::Asleep,
+    match slept {
+        Ok(Sleep::ToRam) => Word::Goes(Did::Dozing),
+        Ok(Sleep::ToDisk) => Word::Over(LifeEnd::Asleep),
+        Err(error) => refuse(hart, error),
     }
 }
 
@@ -74,12 +64,12 @@ fn sleep<D: Disk + Drop, C: Crew>(
     kind: u32,
     address: u64,
     opaque: u64,
-) -> (Seats, Held)
+) -> (Seats, Word)
     requires seats { AreSeatsOfBoth tables.now seats }
     requires acts { Acts hart.old.id Running seats }
     requires hart { hart.old.id < harts_of_both tables.now }
     ensures gives { GivesBack tables.entry.now hart.old.id seats result.0 }
-    ensures acts { Acts hart.old.id (stage_by_held result.1) result.0 }
+    ensures acts { Acts hart.old.id (stage_told result.1) result.0 }
     ensures makes { MakesSleep (harts_of_both tables.entry.now) kind address opaque hart.old hart.new
         (known seats) (known result.0) bus.old bus.new store.old store.new result.1 }
     ensures alone { SleptAlone (harts_of_both tables.entry.now) kind address opaque hart.old hart.new seats
@@ -87,7 +77,7 @@ fn sleep<D: Disk + Drop, C: Crew>(
 {
     let Seats { harts, pending } = seats;
     let by = hart.id();
-    match susp::suspend(
+    let (harts, slept) = susp::suspend(
         alloc,
         harts,
         by,
@@ -98,17 +88,9 @@ fn sleep<D: Disk + Drop, C: Crew>(
         kind,
         address,
         opaque,
-    ) {
-        Ok(asleep) => {
-            let harts = asleep.seat;
-            (Seats { harts, pending }, held_by(asleep.sleep))
-        }
-        Err(refused) => {
-            let (harts, error) = refused;
-            let held = refuse(hart, error);
-            (Seats { harts, pending }, held)
-        }
-    }
+    );
+    let word = told_of_sleep(hart, slept);
+    (Seats { harts, pending }, word)
 }
 
 /// Makes the call at which a hart stands, where `sbi_calls::dispatch` told that it comes to a durable
@@ -125,12 +107,12 @@ pub fn dispatch_held<D: Disk + Drop, C: Crew>(
     bus: &mut Bus,
     store: &mut Store<D>,
     crew: &C,
-) -> (Seats, Held)
+) -> (Seats, Word)
     requires seats { AreSeatsOfBoth tables.now seats }
     requires acts { Acts hart.old.id Running seats }
     requires hart { hart.old.id < harts_of_both tables.now }
     ensures gives { GivesBack tables.entry.now hart.old.id seats result.0 }
-    ensures acts { Acts hart.old.id (stage_by_held result.1) result.0 }
+    ensures acts { Acts hart.old.id (stage_told result.1) result.0 }
     ensures id { hart.new.id ≡ hart.old.id }
     ensures makes { MakesHeld (harts_of_both tables.entry.now) (call_of hart.old) hart.old hart.new
         (known seats) (known result.0) bus.old bus.new store.old store.new result.1 }

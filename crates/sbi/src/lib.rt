@@ -5,6 +5,9 @@
 
 mod dispatches;
 mod resets;
+mod words;
 
-pub use dispatches::{Held, dispatch_held};
+pub use dispatches::dispatch_held;
 pub use resets::{ResetType, reset_of};
+pub use sbi_calls::{Did, Turned};
+pub use words::{LifeEnd, Word};

@@ -18,8 +18,9 @@ use Rattle.sbi_abi.specs.declared.ret.SbiError.TheVariants.{AlreadyAvailable}
 use Rattle.sbi_calls.specs.declared.requests.Request.TheVariants.{Value, Start, Stop, Status, Suspend, SuspendAfresh, Send, Command}
 use Rattle.sbi_calls.specs.declared.endings.Ending.{Ending}
 use Rattle.sbi_calls.specs.declared.endings.Ending.TheVariants.{Answers, Stops, Suspends, SuspendsAfresh, Defers}
-use Rattle.sbi_calls.specs.declared.endings.After.{After}
-use Rattle.sbi_calls.specs.declared.endings.After.TheVariants as afters
+use Rattle.sbi_calls.specs.declared.words.Did.TheVariants as dids
+use Rattle.sbi_calls.specs.declared.words.Turned.{Turned}
+use Rattle.sbi_calls.specs.declared.words.Turned.TheVariants.{Made, Durable}
 use Rattle.sbi_calls.specs.Requests.{Checked, request_of}
 use Rattle.sbi_calls.specs.declared.tables.Seats.{Seats}
 use Rattle.sbi_calls.specs.Both.{TableState, IsTable}
@@ -70,13 +71,13 @@ row by (Ok Command) t = record { ending = Defers; table = t }
 abbrev pub answer : Size → ℕ → Call → TableState → Row
 answer size by call t = row by (request_of size call) t
 
--- ---- what an ending makes of the calling hart, and what the firmware is told
-abbrev pub Ends : Ending → ArchState → ArchState → After → Type 0
-Ends (Answers a) old new after = (new ≡ answered old (error_of a) (value_of a)) × (after ≡ afters.Goes)
-Ends Stops old new after = (new ≡ old) × (after ≡ afters.Stopped)
-Ends Suspends old new after = (new ≡ answered old 0 0) × (after ≡ afters.Suspended)
-Ends (SuspendsAfresh a o) old new after = (new ≡ fresh old.id a o) × (after ≡ afters.Suspended)
-Ends Defers old new after = (new ≡ old) × (after ≡ afters.Durable)
+-- ---- what an ending makes of the calling hart, and what the call comes to
+abbrev pub Ends : Ending → ArchState → ArchState → Turned → Type 0
+Ends (Answers a) old new word = (new ≡ answered old (error_of a) (value_of a)) × (word ≡ Made dids.Next)
+Ends Stops old new word = (new ≡ old) × (word ≡ Made dids.Stopped)
+Ends Suspends old new word = (new ≡ answered old 0 0) × (word ≡ Made dids.Suspended)
+Ends (SuspendsAfresh a o) old new word = (new ≡ fresh old.id a o) × (word ≡ Made dids.Suspended)
+Ends Defers old new word = (new ≡ old) × (word ≡ Durable)
 
 -- where the hart then stands in the hart table
 abbrev pub stage_of_ending : Ending → Stage
@@ -86,12 +87,6 @@ stage_of_ending Suspends = Suspended
 stage_of_ending (SuspendsAfresh a o) = Suspended
 stage_of_ending Defers = Running
 
-abbrev pub stage_by : After → Stage
-stage_by afters.Goes = Running
-stage_by afters.Stopped = Out
-stage_by afters.Suspended = Suspended
-stage_by afters.Durable = Running
-
 -- ---- with the one seat of all harts
 -- whatever the tables are, the request ends by its row
 abbrev pub DoesAlone : ℕ → ℕ → Checked → Seats → Seats → Ending → Type 0
@@ -99,7 +94,7 @@ DoesAlone harts by asked s s' end =
     (t : TableState) → IsTable harts s t → (end ≡ (row by asked t).ending) × IsTable harts s' (row by asked t).table
 
 -- whatever the tables are, the call at which the hart stood was answered by the table of answers
-abbrev pub CallsAlone : Size → ArchState → ArchState → Seats → Seats → After → Type 0
-CallsAlone size old new s s' after = (t : TableState) → IsTable size.harts s t
-    → Ends (answer size old.id (call_of old) t).ending old new after
+abbrev pub CallsAlone : Size → ArchState → ArchState → Seats → Seats → Turned → Type 0
+CallsAlone size old new s s' word = (t : TableState) → IsTable size.harts s t
+    → Ends (answer size old.id (call_of old) t).ending old new word
     × IsTable size.harts s' (answer size old.id (call_of old) t).table

@@ -1,4 +1,5 @@
 pub mod Same
+pub mod Words
 pub mod Both
 pub mod Requests
 pub mod Answers

@@ -16,7 +16,7 @@ use Rattle.sbi_abi.specs.Masks.{Has}
 use Rattle.sbi_calls.specs.declared.requests.Request.TheVariants.{Value, Start, Stop, Status, Suspend, SuspendAfresh, Send, Command}
 use Rattle.sbi_calls.specs.declared.endings.Ending.{Ending}
 use Rattle.sbi_calls.specs.declared.endings.Ending.TheVariants.{Answers, Stops, Suspends, SuspendsAfresh, Defers}
-use Rattle.sbi_calls.specs.declared.endings.After.{After}
+use Rattle.sbi_calls.specs.declared.words.Turned.{Turned}
 use Rattle.sbi_calls.specs.Both.{Known}
 use Rattle.sbi_calls.specs.Requests.{Checked, request_of}
 use Rattle.sbi_calls.specs.Answers.{start_answer, Ends}
@@ -55,6 +55,6 @@ Does harts by (Ok (Send targets)) k k' end =
 Does harts by (Ok Command) k k' end = (k' ≡ k) × (end ≡ Defers)
 
 -- the call at which the hart stood made its own steps, and ended by what they found
-abbrev pub Calls : Size → ArchState → ArchState → Known → Known → After → Type 0
-Calls size old new k k' after =
-    (end : Ending) × Does size.harts old.id (request_of size (call_of old)) k k' end × Ends end old new after
+abbrev pub Calls : Size → ArchState → ArchState → Known → Known → Turned → Type 0
+Calls size old new k k' word =
+    (end : Ending) × Does size.harts old.id (request_of size (call_of old)) k k' end × Ends end old new word

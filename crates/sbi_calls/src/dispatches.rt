@@ -3,15 +3,17 @@
 ghost use Rattle.std.specs.Prelude.{◌≡◌, ◌<◌, Ok};
 ghost use Rattle.hsm_rule.specs.declared.view.Stage.TheVariants.{Running};
 ghost use Rattle.sbi_calls.specs.Requests.{IsWithin};
-ghost use Rattle.sbi_calls.specs.Answers.{stage_of_ending, stage_by, DoesAlone, CallsAlone};
+ghost use Rattle.sbi_calls.specs.Answers.{stage_of_ending, DoesAlone, CallsAlone};
 ghost use Rattle.sbi_calls.specs.Steps.{Does, Calls};
+ghost use Rattle.sbi_calls.specs.Words.{stage_by};
 ghost use Rattle.sbi_calls.specs.Both.{AreTablesOf, AreSeatsOfBoth, GivesBack, Acts, harts_of_both, known};
 
-use crate::endings::{After, Ending, end};
+use crate::endings::{Ending, end};
 use crate::requests::{Request, request_of};
 use crate::sends::send;
 use crate::serves::{start, status, stop, suspend, suspend_afresh};
 use crate::tables::{Seats, Tables};
+use crate::words::Turned;
 use board_model::{HartId, Shape};
 use hart::Hart;
 use sbi_abi::{Call, SbiError};
@@ -63,7 +65,7 @@ fn serve(
 
 /// Answers the SBI call at which a hart stands, by the tables (docs/SBI.md). The hart is STARTED and not
 /// quiet, and is one of the seats. A call that comes to a durable command is told so, with nothing changed.
-pub fn dispatch(hart: &mut Hart, seats: Seats, tables: &Tables, shape: &Shape) -> (Seats, After)
+pub fn dispatch(hart: &mut Hart, seats: Seats, tables: &Tables, shape: &Shape) -> (Seats, Turned)
     requires tables { AreTablesOf shape.now tables.now }
     requires seats { AreSeatsOfBoth tables.now seats }
     requires acts { Acts hart.old.id Running seats }

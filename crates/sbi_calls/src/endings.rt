@@ -3,22 +3,10 @@
 ghost use Rattle.std.specs.Prelude.{◌≡◌};
 ghost use Rattle.sbi_calls.specs.Answers.{Ends};
 
+use crate::words::{Did, Turned};
 use board_model::Addr;
 use hart::Hart;
 use sbi_abi::{SbiRet, put};
-
-/// What a call leaves to the firmware.
-#[derive(Clone, Copy, Debug, PartialEq, Eq, Drop)]
-pub enum After {
-    /// The call was answered, and the hart goes on.
-    Goes,
-    /// The hart stopped.
-    Stopped,
-    /// The hart is suspended.
-    Suspended,
-    /// The call comes to a durable command. Nothing was done, and the hart still stands at it.
-    Durable,
-}
 
 /// How a call ends.
 #[derive(Clone, Copy, Debug, PartialEq, Eq, Drop)]
@@ -36,24 +24,24 @@ pub enum Ending {
 }
 
 /// Gives the hart what the call ends with. What a suspended hart finds when it wakes is put at once.
-pub(crate) fn end(hart: &mut Hart, ending: Ending) -> After
+pub(crate) fn end(hart: &mut Hart, ending: Ending) -> Turned
     ensures ends { Ends ending hart.old hart.new result }
     ensures id { hart.new.id ≡ hart.old.id }
 {
     match ending {
         Ending::Answers(answer) => {
             put(hart, answer);
-            After::Goes
+            Turned::Made(Did::Next)
         }
-        Ending::Stops => After::Stopped,
+        Ending::Stops => Turned::Made(Did::Stopped),
         Ending::Suspends => {
             put(hart, Ok(0));
-            After::Suspended
+            Turned::Made(Did::Suspended)
         }
         Ending::SuspendsAfresh(site, opaque) => {
             *hart = Hart::fresh(hart.id(), site.value(), opaque);
-            After::Suspended
+            Turned::Made(Did::Suspended)
         }
-        Ending::Defers => After::Durable,
+        Ending::Defers => Turned::Durable,
     }
 }

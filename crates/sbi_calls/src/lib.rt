@@ -10,9 +10,11 @@ mod requests;
 mod sends;
 mod serves;
 mod tables;
+mod words;
 
 pub use dispatches::dispatch;
-pub use endings::{After, Ending};
+pub use endings::Ending;
 pub use laws::one_table_of_answers;
 pub use requests::{Request, request_of};
 pub use tables::{Seats, Tables};
+pub use words::{Did, Turned};

@@ -10,10 +10,11 @@ ghost use Rattle.store.specs.Asked.{Asked};
 ghost use Rattle.hsm_rule.specs.declared.view.Stage.TheVariants.{Running};
 ghost use Rattle.sbi_abi.specs.Calls.{call_of};
 ghost use Rattle.sbi_calls.specs.Both.{AreSeatsOfBoth, GivesBack, Acts, harts_of_both, known};
-ghost use Rattle.sbi.specs.Helds.{MakesHeld, stage_by_held};
+ghost use Rattle.sbi.specs.Helds.{MakesHeld};
+ghost use Rattle.sbi.specs.Words.{stage_told};
 ghost use Rattle.receipts.specs.Books.{entries_of};
 ghost use Rattle.shared_store.specs.Noted.{entries_in, part_after, part_by};
-ghost use Rattle.shared_store.specs.Called.{IsToldBy, IsLastOf, added};
+ghost use Rattle.shared_store.specs.Called.{IsToldBy, IsLastOf};
 ghost use Rattle.shared_store.specs.Legal.{BeginsWith, IsNamed, MayAnswer, MayShow, number_told};
 
 use crate::told::Told;
@@ -23,7 +24,7 @@ use crew::Crew;
 use disk::Disk;
 use hart::Hart;
 use receipts::{Book, Journal, Keeper, Part};
-use sbi::{Held, dispatch_held};
+use sbi::{Word, dispatch_held};
 use sbi_calls::{Seats, Tables};
 use std::alloc::Global;
 use store::Store;
@@ -96,7 +97,7 @@ impl<D: Disk + Drop, J: Journal> SharedStore<D, J> {
     }
 
     /// The durable call at which a hart stands, as `dispatch_held`, and the receipt of its command, where that was
-    /// acknowledged. A doze adds no command, and has no receipt.
+    /// acknowledged: then the life is over. A doze adds no command, and has no receipt.
     pub fn call<C: Crew>(
         &mut self,
         alloc: Global,
@@ -106,12 +107,12 @@ impl<D: Disk + Drop, J: Journal> SharedStore<D, J> {
         bus: &mut Bus,
         crew: &C,
         part: Part<J>,
-    ) -> (Seats, Held, Option<Told<J>>, Part<J>)
+    ) -> (Seats, Word, Option<Told<J>>, Part<J>)
         requires seats { AreSeatsOfBoth tables.now seats }
         requires acts { Acts hart.old.id Running seats }
         requires hart { hart.old.id < harts_of_both tables.now }
         ensures gives { GivesBack tables.entry.now hart.old.id seats result.0 }
-        ensures acts { Acts hart.old.id (stage_by_held result.1) result.0 }
+        ensures acts { Acts hart.old.id (stage_told result.1) result.0 }
         ensures id { hart.new.id ≡ hart.old.id }
         ensures makes { MakesHeld (harts_of_both tables.entry.now) (call_of hart.old) hart.old hart.new
             (known seats) (known result.0) bus.old bus.new (store_in self.old) (store_in self.new) result.1 }
@@ -119,19 +120,20 @@ impl<D: Disk + Drop, J: Journal> SharedStore<D, J> {
         ensures told { IsToldBy J.size (call_of hart.old) hart.old.id result.1 result.2 }
         ensures noted { result.3 ≡ part_after result.2 part }
     {
-        let (seats, held) = dispatch_held(alloc, hart, seats, tables, bus, &mut self.store, crew);
-        let more = added(held);
-        self.count += more;
-        if more == 0 {
-            return (seats, held, None, part);
+        let (seats, word) = dispatch_held(alloc, hart, seats, tables, bus, &mut self.store, crew);
+        match word {
+            Word::Goes(_) => (seats, word, None, part),
+            Word::Over(_) => {
+                self.count += 1;
+                let Some(entry) = last_entry(&self.store, self.count) else {
+                    unreachable!()
+                };
+                let told = Told::new(self.count, entry);
+                let noted = told.entry();
+                let part = self.book.note(&mut self.keeper, part, noted);
+                (seats, word, Some(told), part)
+            }
         }
-        let Some(entry) = last_entry(&self.store, self.count) else {
-            unreachable!()
-        };
-        let told = Told::new(self.count, entry);
-        let noted = told.entry();
-        let part = self.book.note(&mut self.keeper, part, noted);
-        (seats, held, Some(told), part)
     }
 
     /// The store and its book, no longer shared.
@@ -161,14 +163,4 @@ fn last_entry<D: Disk + Drop>(store: &Store<D>, count: u32) -> Option<Entry>
     ensures none { result ≡ None → count ≡ 0 }
 {
     store.entry(u64::from(count))
-}
-
-/// How many commands a durable call added to the journal, by what was told of it.
-fn added(held: Held) -> u32
-    ensures { result ≡ added held }
-{
-    match held {
-        Held::Goes | Held::Dozing => 0,
-        Held::Asleep | Held::Reset(_) => 1,
-    }
 }

@@ -20,7 +20,6 @@ use Rattle.store.specs.Follows.{FitsBoard}
 use Rattle.store.specs.Lives.{Suspended}
 use Rattle.store.specs.Views.{size_of_store}
 use Rattle.store.specs.declared.stores.Store.{Store}
-use Rattle.susp.specs.declared.sleeps.Asleep.{Asleep}
 use Rattle.susp.specs.declared.sleeps.Sleep.{Sleep}
 use Rattle.susp.specs.declared.sleeps.Sleep.TheVariants.{ToRam, ToDisk}
 use Rattle.susp.specs.declared.buses.Bus.{Bus}
@@ -29,17 +28,7 @@ use Rattle.store.specs.Asked.{Asked}
 use Rattle.susp.specs.Checks.{IsChecked}
 
 -- ---- what the call answers
--- the seat of the hart, given back or kept in the board that sleeps
-abbrev pub seat_after : Result Asleep (Seat (Unit {0}) HartSeatView × SbiError) → Seat (Unit {0}) HartSeatView
-seat_after (Ok asleep) = asleep.seat
-seat_after (Err e) = e.0
-
--- how the board sleeps, or the error where it does not
-abbrev pub sleep_after : Result Asleep (Seat (Unit {0}) HartSeatView × SbiError) → Result Sleep SbiError
-sleep_after (Ok asleep) = Ok asleep.sleep
-sleep_after (Err e) = Err e.1
-
--- where the hart then stands
+-- where the hart then stands, by how the board sleeps or the error where it does not
 abbrev pub stage_after : Result Sleep SbiError → Stage
 stage_after (Ok sleep) = Quiet
 stage_after (Err e) = Running

@@ -6,7 +6,7 @@ ghost use Rattle.hsm_rule.specs.Rule.{stands};
 ghost use Rattle.hsm.specs.Calls.{KeepsOthers, ActsAlone};
 ghost use Rattle.hsm_steps.specs.Seating.{IsSeatOf, harts_of, hart_view_of_seat, harts_in};
 ghost use Rattle.susp.specs.Checks.{IsChecked};
-ghost use Rattle.susp.specs.Sleeps.{seat_after, sleep_after, stage_after, FallsAsleep, FallsAsleepBy, Sleeps, SleepsAlone};
+ghost use Rattle.susp.specs.Sleeps.{stage_after, FallsAsleep, FallsAsleepBy, Sleeps, SleepsAlone};
 
 use crate::buses::{Bus, Doze};
 use board_model::{Addr, HartId, Shape};
@@ -24,15 +24,6 @@ pub enum Sleep {
     ToRam,
     /// Its image is durable, and its life is over.
     ToDisk,
-}
-
-/// A board that sleeps. No other hart leaves STOPPED while the seat is kept here.
-#[derive(Drop)]
-pub struct Asleep {
-    /// How it sleeps.
-    pub sleep: Sleep,
-    /// The seat of the hart that suspended it, which is quiet.
-    pub seat: HartSeat,
 }
 
 /// Suspend to disk (SBI specification 2.0, `sbi_system_suspend`: a platform-specific type).
@@ -67,17 +58,17 @@ fn fall_asleep<D: Disk + Drop, C: Crew>(
     sleep: Sleep,
     site: Addr,
     opaque: u64,
-) -> Result<Asleep, (HartSeat, SbiError)>
+) -> (HartSeat, Result<Sleep, SbiError>)
     requires seat { IsSeatOf table.now seat }
     requires quiet { stands by Quiet (harts_in seat) }
-    ensures seat { IsSeatOf table.entry.now (seat_after result) }
-    ensures stands { stands by (stage_after (sleep_after result)) (harts_in (seat_after result)) }
-    ensures others { KeepsOthers by (harts_in seat) (harts_in (seat_after result)) }
-    ensures falls { FallsAsleep sleep by site opaque (harts_in seat) bus.old store.old (sleep_after result)
-        (harts_in (seat_after result)) bus.new store.new }
+    ensures seat { IsSeatOf table.entry.now result.0 }
+    ensures stands { stands by (stage_after result.1) (harts_in result.0) }
+    ensures others { KeepsOthers by (harts_in seat) (harts_in result.0) }
+    ensures falls { FallsAsleep sleep by site opaque (harts_in seat) bus.old store.old result.1
+        (harts_in result.0) bus.new store.new }
     ensures alone { ActsAlone (harts_of table.entry.now) (hart_view_of_seat seat)
-        (hart_view_of_seat (seat_after result))
-        (λ states. FallsAsleepBy sleep by site opaque bus.old store.old (sleep_after result) bus.new store.new)
+        (hart_view_of_seat result.0)
+        (λ states. FallsAsleepBy sleep by site opaque bus.old store.old result.1 bus.new store.new)
         (λ states. states) }
 {
     match sleep {
@@ -88,11 +79,11 @@ fn fall_asleep<D: Disk + Drop, C: Crew>(
                 opaque,
                 woken: false,
             });
-            Ok(Asleep { sleep, seat })
+            (seat, Ok(sleep))
         }
         Sleep::ToDisk => match store.suspend(alloc, &bus.ram, crew, by, site, opaque) {
-            Ok(_) => Ok(Asleep { sleep, seat }),
-            Err(_) => Err((hsm::unquiet(table, seat, by), SbiError::Failed)),
+            Ok(_) => (seat, Ok(sleep)),
+            Err(_) => (hsm::unquiet(table, seat, by), Err(SbiError::Failed)),
         },
     }
 }
@@ -104,7 +95,7 @@ fn fall_asleep<D: Disk + Drop, C: Crew>(
 /// STOPPED. To RAM (type 0) the board then dozes: neither the store is asked nor the memory changed. To disk
 /// the store is asked, -1 where it refuses, and the quiet of the hart ends; the board sleeps only once its
 /// suspension was acknowledged: the image has the memory of the bus that was lent, and the hart, address and
-/// opaque value.
+/// opaque value. The seat is given back; while it is quiet no other hart leaves STOPPED.
 pub fn suspend<D: Disk + Drop, C: Crew>(
     alloc: Global,
     seat: HartSeat,
@@ -116,27 +107,27 @@ pub fn suspend<D: Disk + Drop, C: Crew>(
     kind: u32,
     address: u64,
     opaque: u64,
-) -> Result<Asleep, (HartSeat, SbiError)>
+) -> (HartSeat, Result<Sleep, SbiError>)
     requires seat { IsSeatOf table.now seat }
     requires acts { stands by Running (harts_in seat) }
     requires by { by < harts_of table.now }
-    ensures seat { IsSeatOf table.entry.now (seat_after result) }
-    ensures stands { stands by (stage_after (sleep_after result)) (harts_in (seat_after result)) }
-    ensures others { KeepsOthers by (harts_in seat) (harts_in (seat_after result)) }
+    ensures seat { IsSeatOf table.entry.now result.0 }
+    ensures stands { stands by (stage_after result.1) (harts_in result.0) }
+    ensures others { KeepsOthers by (harts_in seat) (harts_in result.0) }
     ensures sleeps { Sleeps (harts_of table.entry.now) by kind address opaque (harts_in seat) bus.old store.old
-        (sleep_after result) (harts_in (seat_after result)) bus.new store.new }
+        result.1 (harts_in result.0) bus.new store.new }
     ensures alone { ActsAlone (harts_of table.entry.now) (hart_view_of_seat seat)
-        (hart_view_of_seat (seat_after result))
+        (hart_view_of_seat result.0)
         (λ states. SleepsAlone (harts_of table.entry.now) by kind address opaque states bus.old store.old
-        (sleep_after result) bus.new store.new) (λ states. states) }
+        result.1 bus.new store.new) (λ states. states) }
 {
     let (sleep, site) = match asked_sleep(&store.shape(), kind, address) {
         Ok(asked) => asked,
-        Err(error) => return Err((seat, error)),
+        Err(error) => return (seat, Err(error)),
     };
     let (seat, quiet) = hsm::quiet(table, seat, by);
     if !quiet {
-        return Err((seat, SbiError::Denied));
+        return (seat, Err(SbiError::Denied));
     }
     fall_asleep(
         alloc, seat, by, table, bus, store, crew, sleep, site, opaque,

@@ -12,25 +12,23 @@ use Rattle.sbi_abi.specs.Calls.{call_of}
 use Rattle.sbi_calls.specs.declared.requests.Request.TheVariants.{Value, Start, Stop, Status, Suspend, SuspendAfresh, Send, Command}
 use Rattle.sbi_calls.specs.declared.endings.Ending.{Ending}
 use Rattle.sbi_calls.specs.declared.endings.Ending.TheVariants as endings
-use Rattle.sbi_calls.specs.declared.endings.After.{After}
 use Rattle.sbi_calls.specs.declared.tables.Tables.{Tables}
 use Rattle.sbi_calls.specs.declared.tables.Seats.{Seats}
 use Rattle.sbi_calls.specs.Both.{Known, GivesBack, Acts, known}
 use Rattle.sbi_calls.specs.Requests.{Checked, request_of}
 use Rattle.sbi_calls.specs.Answers.{Ends}
 use Rattle.sbi_calls.specs.Steps.{Does}
-use Rattle.turns.specs.declared.words.Turned.{Turned}
-use Rattle.turns.specs.declared.words.Turned.TheVariants.{Next, Suspended, Stopped, Durable}
-use Rattle.turns.specs.Turns.{turned_by}
+use Rattle.sbi_calls.specs.declared.words.Turned.{Turned}
+use Rattle.sbi_calls.specs.declared.words.Turned.TheVariants.{Durable}
 use Rattle.turns.specs.Own.{FinishesOwn}
 
 -- ---- a call that is told durable was left to the firmware
-deferred : (end : Ending) (u v : ArchState) (after : After) → Ends end u v after → Durable ≡ turned_by after → end ≡ endings.Defers
-deferred (endings.Answers a) u v after p w = let z : Durable ≡ Next = w ∙ ap turned_by p.1 in let n : ⊥ = cc in absurd n
-deferred endings.Stops u v after p w = let z : Durable ≡ Stopped = w ∙ ap turned_by p.1 in let n : ⊥ = cc in absurd n
-deferred endings.Suspends u v after p w = let z : Durable ≡ Suspended = w ∙ ap turned_by p.1 in let n : ⊥ = cc in absurd n
-deferred (endings.SuspendsAfresh a o) u v after p w = let z : Durable ≡ Suspended = w ∙ ap turned_by p.1 in let n : ⊥ = cc in absurd n
-deferred endings.Defers u v after p w = refl
+deferred : (end : Ending) (u v : ArchState) → Ends end u v Durable → end ≡ endings.Defers
+deferred (endings.Answers a) u v p = let z = p.1 in let n : ⊥ = cc in absurd n
+deferred endings.Stops u v p = let z = p.1 in let n : ⊥ = cc in absurd n
+deferred endings.Suspends u v p = let z = p.1 in let n : ⊥ = cc in absurd n
+deferred (endings.SuspendsAfresh a o) u v p = let z = p.1 in let n : ⊥ = cc in absurd n
+deferred endings.Defers u v p = refl
 
 -- and then it made no step
 still : (harts by : ℕ) (asked : Checked) (k k' : Known) (end : Ending) → Does harts by asked k k' end → end ≡ endings.Defers → k' ≡ k
@@ -46,8 +44,8 @@ still harts by (Ok Command) k k' end p d = p.0
 
 knew : (size : Size) (o : Outcome) (u v : ArchState) (k k' : Known) → FinishesOwn size o u v k k' Durable → k' ≡ k
 knew size outcomes.Next u v k k' p = p.0
-knew size outcomes.TakePending u v k k' p = let z : Durable ≡ Next = p.2 in let n : ⊥ = cc in absurd n
-knew size outcomes.Ecall u v k k' p = still size.harts u.id (request_of size (call_of u)) k k' p.1.0 p.1.1 (deferred p.1.0 u v p.0 p.1.2 p.2)
+knew size outcomes.TakePending u v k k' p = let z = p.2 in let n : ⊥ = cc in absurd n
+knew size outcomes.Ecall u v k k' p = still size.harts u.id (request_of size (call_of u)) k k' p.0 p.1 (deferred p.0 u v p.2)
 
 -- ---- so the hart acts as before
 pub asks : (size : Size) (o : Outcome) (u v : ArchState) (t : Tables) (by : ℕ) (s s' : Seats) (word : Turned) → FinishesOwn size o u v (known s) (known s') word → GivesBack t by s s' → Acts by Running s → word ≡ Durable → Acts by Running s'

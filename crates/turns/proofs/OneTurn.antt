@@ -5,10 +5,11 @@ use Rattle.hart.specs.State.{ArchState, started as fresh}
 use Rattle.hart.specs.Means.{Steps}
 use Rattle.hart.specs.declared.Outcome.{Outcome}
 use Rattle.sbi_calls.specs.declared.tables.Seats.{Seats}
-use Rattle.turns.specs.declared.words.Turned.{Turned}
-use Rattle.turns.specs.declared.words.Turned.TheVariants as words
-use Rattle.turns.specs.declared.words.Ready.{Ready}
-use Rattle.turns.specs.declared.words.Ready.TheVariants as readies
+use Rattle.sbi_calls.specs.declared.words.Turned.{Turned}
+use Rattle.sbi_calls.specs.declared.words.Did.TheVariants as dids
+use Rattle.sbi_calls.specs.declared.words.Turned.TheVariants.{Made}
+use Rattle.turns.specs.declared.readies.Ready.{Ready}
+use Rattle.turns.specs.declared.readies.Ready.TheVariants as readies
 use Rattle.sbi_calls.specs.Both.{known}
 use Rattle.turns.specs.Own.{BeginsOwn, FinishesOwn, TurnOwn}
 use Rattle.turns.specs.Turns.{RestsAs, turn_begun, BeginsAlone, FinishesAlone, TurnAs, TurnsAlone, moment}
@@ -33,29 +34,29 @@ abbrev pub Turns : Size → ArchState → List ℕ → ArchState → List ℕ �
 Turns size s m t n b d word = TurnOwn size s m t n (known b) (known d) word × TurnsAlone size s m t n b d word
 
 -- one that makes no step leaves the memory as it was
-pub idle_turn : (size : Size) (s : ArchState) (m : List ℕ) (b c : Seats) → Comes size s b c readies.Idle → Turns size s m s m b c words.Idle
+pub idle_turn : (size : Size) (s : ArchState) (m : List ℕ) (b c : Seats) → Comes size s b c readies.Idle → Turns size s m s m b c (Made dids.Idle)
 idle_turn size s m b c began = (
   (readies.Idle, known c, began.own, (refl, refl, refl, refl)),
   λ x are. let a = began.alone x are in let y = (turn_begun s.id x).table in
-      (y, subst (λ (q : Ready). TurnAs size q y (moment x s m) (moment y s m) words.Idle) a.0 (refl, refl), a.1),
+      (y, subst (λ (q : Ready). TurnAs size q y (moment x s m) (moment y s m) (Made dids.Idle)) a.0 (refl, refl), a.1),
 )
 
-pub woke_turn : (size : Size) (s : ArchState) (m : List ℕ) (b c : Seats) → Comes size s b c readies.Woke → Turns size s m s m b c words.Woke
+pub woke_turn : (size : Size) (s : ArchState) (m : List ℕ) (b c : Seats) → Comes size s b c readies.Woke → Turns size s m s m b c (Made dids.Woke)
 woke_turn size s m b c began = (
   (readies.Woke, known c, began.own, (refl, refl, refl, refl)),
   λ x are. let a = began.alone x are in let y = (turn_begun s.id x).table in
-      (y, subst (λ (q : Ready). TurnAs size q y (moment x s m) (moment y s m) words.Woke) a.0 (refl, refl), a.1),
+      (y, subst (λ (q : Ready). TurnAs size q y (moment x s m) (moment y s m) (Made dids.Woke)) a.0 (refl, refl), a.1),
 )
 
 -- the hart that the code makes, where it enters by these
 pub entered : (s t : ArchState) (id value site opaque : ℕ) → t ≡ fresh id value opaque → id ≡ s.id → value ≡ site → t ≡ fresh s.id site opaque
 entered s t id value site opaque made e f = made ∙ (ap (λ (k : ℕ). fresh k value opaque) e ∙ ap (λ (k : ℕ). fresh s.id k opaque) f)
 
-pub enters_turn : (size : Size) (s t : ArchState) (m : List ℕ) (b c : Seats) (site opaque : ℕ) → Comes size s b c (readies.Enters site opaque) → t ≡ fresh s.id site opaque → Turns size s m t m b c words.Entered
+pub enters_turn : (size : Size) (s t : ArchState) (m : List ℕ) (b c : Seats) (site opaque : ℕ) → Comes size s b c (readies.Enters site opaque) → t ≡ fresh s.id site opaque → Turns size s m t m b c (Made dids.Entered)
 enters_turn size s t m b c site opaque began f = (
   (readies.Enters site opaque, known c, began.own, (f, refl, refl, refl)),
   λ x are. let a = began.alone x are in let y = (turn_begun s.id x).table in
-      (y, subst (λ (q : Ready). TurnAs size q y (moment x s m) (moment y t m) words.Entered) a.0 (ap (λ (h : ArchState). moment y h m) f, refl), a.1),
+      (y, subst (λ (q : Ready). TurnAs size q y (moment x s m) (moment y t m) (Made dids.Entered)) a.0 (ap (λ (h : ArchState). moment y h m) f, refl), a.1),
 )
 
 pub steps_turn : (size : Size) (s u t : ArchState) (m n : List ℕ) (b c d : Seats) (pending : Bool) (o : Outcome) (word : Turned) → Comes size s b c (readies.Steps pending) → Steps pending s m u n o

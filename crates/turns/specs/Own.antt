@@ -14,14 +14,13 @@ use Rattle.hsm.specs.declared.state.State.{State as Code}
 use Rattle.hsm.specs.declared.state.State.TheVariants as codes
 use Rattle.ipi.specs.Ledger.{HasNoted}
 use Rattle.ipi.specs.declared.view.Action.TheVariants.{Took, Looked as LookedAt}
-use Rattle.sbi_calls.specs.declared.endings.After.{After}
 use Rattle.sbi_calls.specs.Both.{Known}
 use Rattle.sbi_calls.specs.Steps.{OneStep, Calls}
-use Rattle.turns.specs.declared.words.Turned.{Turned}
-use Rattle.turns.specs.declared.words.Turned.TheVariants as words
-use Rattle.turns.specs.declared.words.Ready.{Ready}
-use Rattle.turns.specs.declared.words.Ready.TheVariants as readies
-use Rattle.turns.specs.Turns.{turned_by}
+use Rattle.sbi_calls.specs.declared.words.Turned.{Turned}
+use Rattle.sbi_calls.specs.declared.words.Did.TheVariants as dids
+use Rattle.sbi_calls.specs.declared.words.Turned.TheVariants.{Made}
+use Rattle.turns.specs.declared.readies.Ready.{Ready}
+use Rattle.turns.specs.declared.readies.Ready.TheVariants as readies
 
 -- one look at what is pending for the hart, and whether there was any
 abbrev pub LooksOwn : ℕ → Known → Known → Bool → Type 0
@@ -69,16 +68,16 @@ BeginsOwn by k k' ready =
 
 -- ---- after the step
 abbrev pub FinishesOwn : Size → Outcome → ArchState → ArchState → Known → Known → Turned → Type 0
-FinishesOwn size outcomes.Next u v k k' word = (k' ≡ k) × (v ≡ u) × (word ≡ words.Next)
-FinishesOwn size outcomes.TakePending u v k k' word = TakesOwn u.id k k' × (v ≡ u) × (word ≡ words.Next)
-FinishesOwn size outcomes.Ecall u v k k' word = (after : After) × Calls size u v k k' after × (word ≡ turned_by after)
+FinishesOwn size outcomes.Next u v k k' word = (k' ≡ k) × (v ≡ u) × (word ≡ Made dids.Next)
+FinishesOwn size outcomes.TakePending u v k k' word = TakesOwn u.id k k' × (v ≡ u) × (word ≡ Made dids.Next)
+FinishesOwn size outcomes.Ecall u v k k' word = Calls size u v k k' word
 
 -- ---- a whole turn
 abbrev pub TurnAsOwn : Size → Ready → ArchState → List ℕ → ArchState → List ℕ → Known → Known → Turned → Type 0
-TurnAsOwn size readies.Idle s m t n k k' word = (t ≡ s) × (n ≡ m) × (k' ≡ k) × (word ≡ words.Idle)
-TurnAsOwn size readies.Woke s m t n k k' word = (t ≡ s) × (n ≡ m) × (k' ≡ k) × (word ≡ words.Woke)
+TurnAsOwn size readies.Idle s m t n k k' word = (t ≡ s) × (n ≡ m) × (k' ≡ k) × (word ≡ Made dids.Idle)
+TurnAsOwn size readies.Woke s m t n k k' word = (t ≡ s) × (n ≡ m) × (k' ≡ k) × (word ≡ Made dids.Woke)
 TurnAsOwn size (readies.Enters a o) s m t n k k' word =
-    (t ≡ fresh s.id a o) × (n ≡ m) × (k' ≡ k) × (word ≡ words.Entered)
+    (t ≡ fresh s.id a o) × (n ≡ m) × (k' ≡ k) × (word ≡ Made dids.Entered)
 TurnAsOwn size (readies.Steps pending) s m t n k k' word =
     (u : ArchState) × (outcome : Outcome) × Steps pending s m u n outcome × FinishesOwn size outcome u t k k' word
 

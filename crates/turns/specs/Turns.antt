@@ -14,14 +14,13 @@ use Rattle.ipi.specs.Pairs.{Sits}
 use Rattle.ipi.specs.Views.{row_of, pairs_without}
 use Rattle.sbi_abi.specs.Calls.{call_of}
 use Rattle.sbi_calls.specs.declared.tables.Seats.{Seats}
-use Rattle.sbi_calls.specs.declared.endings.After.{After}
-use Rattle.sbi_calls.specs.declared.endings.After.TheVariants as afters
 use Rattle.sbi_calls.specs.Both.{TableState, IsTable, views, pair_crew}
 use Rattle.sbi_calls.specs.Answers.{answer, with_state, Ends}
-use Rattle.turns.specs.declared.words.Turned.{Turned}
-use Rattle.turns.specs.declared.words.Turned.TheVariants as words
-use Rattle.turns.specs.declared.words.Ready.{Ready}
-use Rattle.turns.specs.declared.words.Ready.TheVariants as readies
+use Rattle.sbi_calls.specs.declared.words.Turned.{Turned}
+use Rattle.sbi_calls.specs.declared.words.Did.TheVariants as dids
+use Rattle.sbi_calls.specs.declared.words.Turned.TheVariants.{Made}
+use Rattle.turns.specs.declared.readies.Ready.{Ready}
+use Rattle.turns.specs.declared.readies.Ready.TheVariants as readies
 
 -- ---- between two turns
 -- the hart has not entered, or it is STARTED with nothing in flight, or SUSPENDED
@@ -102,19 +101,12 @@ BeginsAlone harts by s s' ready =
     (t : TableState) → IsTable harts s t → (ready ≡ (turn_begun by t).ready) × IsTable harts s' (turn_begun by t).table
 
 -- ---- after the step
-abbrev pub turned_by : After → Turned
-turned_by afters.Goes = words.Next
-turned_by afters.Stopped = words.Stopped
-turned_by afters.Suspended = words.Suspended
-turned_by afters.Durable = words.Durable
-
 -- the hart u and the tables x, once the step answered that, become v and y
 abbrev pub Finishes : Size → Outcome → TableState → ArchState → TableState → ArchState → Turned → Type 0
-Finishes size outcomes.Next x u y v word = (y ≡ x) × (v ≡ u) × (word ≡ words.Next)
-Finishes size outcomes.TakePending x u y v word = (y ≡ after_take x u.id) × (v ≡ u) × (word ≡ words.Next)
+Finishes size outcomes.Next x u y v word = (y ≡ x) × (v ≡ u) × (word ≡ Made dids.Next)
+Finishes size outcomes.TakePending x u y v word = (y ≡ after_take x u.id) × (v ≡ u) × (word ≡ Made dids.Next)
 Finishes size outcomes.Ecall x u y v word =
-    (after : After) × Ends (answer size u.id (call_of u) x).ending u v after
-    × (y ≡ (answer size u.id (call_of u) x).table) × (word ≡ turned_by after)
+    Ends (answer size u.id (call_of u) x).ending u v word × (y ≡ (answer size u.id (call_of u) x).table)
 
 abbrev pub FinishesAlone : Size → Outcome → ArchState → ArchState → Seats → Seats → Turned → Type 0
 FinishesAlone size outcome u v s s' word =
@@ -133,10 +125,10 @@ moment t s m = record { table = t; hart = s; memory = m }
 
 -- by what the turn came to before the step
 abbrev pub TurnAs : Size → Ready → TableState → Moment → Moment → Turned → Type 0
-TurnAs size readies.Idle x a b word = (b ≡ record a { table = x }) × (word ≡ words.Idle)
-TurnAs size readies.Woke x a b word = (b ≡ record a { table = x }) × (word ≡ words.Woke)
+TurnAs size readies.Idle x a b word = (b ≡ record a { table = x }) × (word ≡ Made dids.Idle)
+TurnAs size readies.Woke x a b word = (b ≡ record a { table = x }) × (word ≡ Made dids.Woke)
 TurnAs size (readies.Enters site opaque) x a b word =
-    (b ≡ record a { table = x; hart = fresh a.hart.id site opaque }) × (word ≡ words.Entered)
+    (b ≡ record a { table = x; hart = fresh a.hart.id site opaque }) × (word ≡ Made dids.Entered)
 TurnAs size (readies.Steps pending) x a b word =
     (u : ArchState) × (outcome : Outcome) × Steps pending a.hart a.memory u b.memory outcome
     × Finishes size outcome x u b.table b.hart word

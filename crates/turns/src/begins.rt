@@ -7,7 +7,7 @@ ghost use Rattle.sbi_calls.specs.Both.{AreSeatsOfBoth, GivesBack, Acts, harts_of
 ghost use Rattle.turns.specs.Turns.{Rests, RestsAs, BeginsAlone, LooksAlone, TakesAlone, EntersAlone, WakesAlone};
 ghost use Rattle.turns.specs.Own.{LooksOwn, TakesOwn, EntersOwn, WakesOwn, BeginsOwn};
 
-use crate::words::Ready;
+use crate::readies::Ready;
 use board_model::HartId;
 use hsm::State;
 use sbi_calls::{Seats, Tables};

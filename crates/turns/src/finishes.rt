@@ -4,24 +4,12 @@ ghost use Rattle.std.specs.Prelude.{◌≡◌, ◌<◌};
 ghost use Rattle.hsm_rule.specs.declared.view.Stage.TheVariants.{Running};
 ghost use Rattle.sbi_calls.specs.Both.{AreTablesOf, AreSeatsOfBoth, GivesBack, Acts, known};
 ghost use Rattle.turns.specs.Own.{FinishesOwn};
-ghost use Rattle.turns.specs.Turns.{Rests, FinishesAlone, turned_by};
+ghost use Rattle.turns.specs.Turns.{Rests, FinishesAlone};
 
 use crate::begins::take;
-use crate::words::Turned;
 use board_model::Shape;
 use hart::{Hart, Outcome};
-use sbi_calls::{After, Seats, Tables, dispatch};
-
-fn told(after: After) -> Turned
-    ensures { result ≡ turned_by after }
-{
-    match after {
-        After::Goes => Turned::Next,
-        After::Stopped => Turned::Stopped,
-        After::Suspended => Turned::Suspended,
-        After::Durable => Turned::Durable,
-    }
-}
+use sbi_calls::{Did, Seats, Tables, Turned, dispatch};
 
 /// What comes after the step: the call at which the hart stands is dispatched, and what the hart took is
 /// taken.
@@ -44,11 +32,8 @@ pub fn finish(
     ensures alone { FinishesAlone shape.now outcome hart.old hart.new seats result.0 result.1 }
 {
     match outcome {
-        Outcome::Next => (seats, Turned::Next),
-        Outcome::TakePending => (take(seats, tables, hart.id()), Turned::Next),
-        Outcome::Ecall => {
-            let (seats, after) = dispatch(hart, seats, tables, shape);
-            (seats, told(after))
-        }
+        Outcome::Next => (seats, Turned::Made(Did::Next)),
+        Outcome::TakePending => (take(seats, tables, hart.id()), Turned::Made(Did::Next)),
+        Outcome::Ecall => dispatch(hart, seats, tables, shape),
     }
 }

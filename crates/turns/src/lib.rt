@@ -7,14 +7,15 @@ mod begins;
 mod buses;
 mod finishes;
 mod many;
+mod readies;
 mod resumes;
 mod whole;
-mod words;
 
 pub use begins::{begin, look};
 pub use buses::MemoryBus;
 pub use finishes::finish;
 pub use many::turns_by_one_look;
+pub use readies::Ready;
 pub use resumes::resume;
+pub use sbi_calls::{Did, Turned};
 pub use whole::{turn, turn_by_bus};
-pub use words::{Ready, Turned};

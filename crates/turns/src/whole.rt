@@ -5,16 +5,16 @@ ghost use Rattle.hsm_rule.specs.declared.view.Stage.TheVariants.{Running};
 ghost use Rattle.sbi_calls.specs.Both.{AreTablesOf, AreSeatsOfBoth, GivesBack, Acts, known};
 ghost use Rattle.turns.specs.Own.{TurnOwn};
 ghost use Rattle.turns.specs.Turns.{Rests, TurnsAlone};
-ghost use Rattle.turns.specs.declared.words.Turned.TheVariants as did;
+ghost use Rattle.sbi_calls.specs.declared.words.Turned.TheVariants.{Durable};
 
 use crate::begins::begin;
 use crate::buses::MemoryBus;
 use crate::finishes::finish;
-use crate::words::{Ready, Turned};
+use crate::readies::Ready;
 use board_model::Shape;
 use hart::Hart;
 use ram::Ram;
-use sbi_calls::{Seats, Tables};
+use sbi_calls::{Did, Seats, Tables, Turned};
 
 /// One turn of a hart, wherever its step finds the memory. The bus is asked for a step of a STARTED hart
 /// alone.
@@ -33,18 +33,18 @@ pub fn turn_by_bus<B: MemoryBus>(
     ensures gives { GivesBack tables.entry.now hart.old.id seats result.0 }
     ensures rests { Rests hart.old.id result.0 }
     ensures id { hart.new.id ≡ hart.old.id }
-    ensures asks { result.1 ≡ did.Durable → Acts hart.old.id Running result.0 }
+    ensures asks { result.1 ≡ Durable → Acts hart.old.id Running result.0 }
     ensures turns { (found : List ℕ) × (left : List ℕ) × B.may_hold bus.old found × B.may_hold bus.new left
         × TurnOwn shape.now hart.old found hart.new left (known seats) (known result.0) result.1
         × TurnsAlone shape.now hart.old found hart.new left seats result.0 result.1 }
 {
     let (seats, ready) = begin(seats, tables, hart.id());
     match ready {
-        Ready::Idle => (seats, Turned::Idle),
-        Ready::Woke => (seats, Turned::Woke),
+        Ready::Idle => (seats, Turned::Made(Did::Idle)),
+        Ready::Woke => (seats, Turned::Made(Did::Woke)),
         Ready::Enters(address, opaque) => {
             *hart = Hart::fresh(hart.id(), address.value(), opaque);
-            (seats, Turned::Entered)
+            (seats, Turned::Made(Did::Entered))
         }
         Ready::Steps(pending) => {
             let outcome = bus.step(hart, pending);

@@ -1,4 +1,4 @@
-use Rattle.bench_report.proofs.Resumed.{finds, sure, finds_all, resumed_from}
+use Rattle.bench_report.proofs.PowerOns.{finds, sure, finds_all, resumed_from}
 use Rattle.bench_report.proofs.laws.power_ons.Goals as goal
 
 pub returns-clause-finds : goal.returns-clause-finds

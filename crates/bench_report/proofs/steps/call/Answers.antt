@@ -1,6 +1,6 @@
 use Rattle.std.proofs.Common.{◌≡◌, Option, refl, sym, subst}
 use Rattle.machine.specs.Machine.{Machine, hart_at}
-use Rattle.machine.specs.declared.parts.Word.{Word}
+use Rattle.sbi.specs.declared.words.Word.{Word}
 use Rattle.bench_report.specs.declared.power.Power.TheVariants.{On}
 use Rattle.bench_report.specs.Views.{machine_in}
 use Rattle.machine_lines.specs.Shows.{HasHart, called_line}

@@ -1,13 +1,13 @@
 use Rattle.std.proofs.Common.{ℕ, sym, subst}
 use Rattle.sbi_abi.specs.Calls.{call_of}
 use Rattle.sbi_calls.specs.Both.{GivesBack, Acts, harts_of_both}
-use Rattle.sbi.specs.Helds.{stage_by_held}
+use Rattle.sbi.specs.Words.{stage_told}
 use Rattle.turns.proofs.Begun.{gives_then}
 use Rattle.machine.proofs.Commands.{held_then}
 use Rattle.machine.proofs.holds.make_held.Goals as goal
 
 pub settle-requires-clause-acts : goal.settle-requires-clause-acts
-settle-requires-clause-acts g c = subst (λ (h : ℕ). Acts h (stage_by_held c.dispatch_held-seats.result.1) c.dispatch_held-seats.result.0) (sym c.id-by.ensures) c.dispatch_held-seats.ensures.acts
+settle-requires-clause-acts g c = subst (λ (h : ℕ). Acts h (stage_told c.dispatch_held-seats.result.1) c.dispatch_held-seats.result.0) (sym c.id-by.ensures) c.dispatch_held-seats.ensures.acts
 
 pub returns-clause-gives : goal.returns-clause-gives
 returns-clause-gives g c =

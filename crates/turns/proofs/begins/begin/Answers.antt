@@ -9,7 +9,7 @@ use Rattle.hsm.specs.Views.{listed}
 use Rattle.hsm.specs.declared.state.State.{State as Code}
 use Rattle.hsm.specs.declared.state.State.TheVariants as codes
 use Rattle.sbi_calls.specs.Both.{harts_of_both, known, views, IsTable}
-use Rattle.turns.specs.declared.words.Ready.TheVariants as readies
+use Rattle.turns.specs.declared.readies.Ready.TheVariants as readies
 use Rattle.turns.specs.Turns.{begun_by}
 use Rattle.turns.proofs.Begun.{sits, runs, suspends, is_out, gives_then, is_started, is_suspended, named_out, IsOutCode}
 use Rattle.turns.specs.Own.{GoesOwn}

@@ -8,7 +8,7 @@ use Rattle.hsm.specs.Views.{listed, AreStates}
 use Rattle.sbi_calls.specs.declared.tables.Seats.{Seats}
 use Rattle.sbi_calls.specs.Both.{harts_of_both, harts_known, known, IsTable}
 use Rattle.sbi_calls.specs.Answers.{with_state}
-use Rattle.turns.specs.declared.words.Ready.TheVariants as readies
+use Rattle.turns.specs.declared.readies.Ready.TheVariants as readies
 use Rattle.turns.specs.Turns.{begun_by}
 use Rattle.turns.proofs.Begun.{gives_then, none_is, some_is}
 use Rattle.turns.proofs.begins.enter.Goals as goal

@@ -3,7 +3,7 @@ use Rattle.hsm_rule.specs.States.{HartState, started}
 use Rattle.hsm.specs.Views.{listed}
 use Rattle.sbi_calls.specs.declared.tables.Seats.{Seats}
 use Rattle.sbi_calls.specs.Both.{harts_of_both, known, IsTable}
-use Rattle.turns.specs.declared.words.Ready.TheVariants as readies
+use Rattle.turns.specs.declared.readies.Ready.TheVariants as readies
 use Rattle.turns.specs.Turns.{begun_by, woken_turn}
 use Rattle.turns.proofs.Begun.{gives_then}
 use Rattle.turns.specs.Own.{LooksOwn}

@@ -16,7 +16,7 @@ returns-in-TakePending-clause-alone c = λ x are.
     rw c.in-TakePending.is (after_take x c.id.result, (ap (after_take x) c.id.ensures, refl, refl), after)
 
 pub returns-in-Ecall-clause-alone : goal.returns-in-Ecall-clause-alone
-returns-in-Ecall-clause-alone c = λ x are. let a = c.dispatch-seats.ensures.alone x are in rw c.in-Ecall.is (_, (c.dispatch-seats.result.1, a.0, refl, c.told.ensures), a.1)
+returns-in-Ecall-clause-alone c = λ x are. let a = c.dispatch.ensures.alone x are in rw c.in-Ecall.is (_, (a.0, refl), a.1)
 
 pub returns-in-Next-clause-own : goal.returns-in-Next-clause-own
 returns-in-Next-clause-own c = rw c.in-Next.is (refl, refl, refl)
@@ -27,4 +27,4 @@ returns-in-TakePending-clause-own c =
     rw c.in-TakePending.is (own, refl, refl)
 
 pub returns-in-Ecall-clause-own : goal.returns-in-Ecall-clause-own
-returns-in-Ecall-clause-own c = rw c.in-Ecall.is (c.dispatch-seats.result.1, c.dispatch-seats.ensures.calls, c.told.ensures)
+returns-in-Ecall-clause-own c = rw c.in-Ecall.is c.dispatch.ensures.calls

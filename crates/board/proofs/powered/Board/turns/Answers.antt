@@ -1,6 +1,6 @@
 use Rattle.std.proofs.Common.{rules, ◌≡◌, ◌-◌, true, false, inl, inr, refl, ◌∙◌, arith}
 use Rattle.store.specs.Views.{fault_state_of}
-use Rattle.machine.specs.Words.{ends}
+use Rattle.sbi.specs.Words.{ends}
 use Rattle.board.specs.Views.{store_of, machine_of}
 use Rattle.board.proofs.Rows.{first_row, more_row}
 use Rattle.board.proofs.powered.Board.turns.Goals as goal
@@ -31,8 +31,8 @@ returns-after-loop-made-clause-turns g c =
     let i = c.loop-made.invariant in
     i.reaches.stops 0 (let low = i.range in omega arith) (inr (inl refl))
 
-pub returns-else-not-ends-clause-turns : goal.returns-else-not-ends-clause-turns
-returns-else-not-ends-clause-turns g c =
+pub returns-else-not-ends_row-clause-turns : goal.returns-else-not-ends_row-clause-turns
+returns-else-not-ends_row-clause-turns g c =
     let i = c.loop-made.invariant in
     let last : ends c.loop-made.word ≡ true = search rules in
     i.reaches.stops (c.args.count - c.loop-made.made) (let low = i.range in omega arith) (inl last)

@@ -1,12 +1,11 @@
 use Rattle.std.proofs.Common.{Some, None, refl, sym, ◌∙◌, subst}
 use Rattle.machine.specs.Machine.{hart_at}
-use Rattle.machine.specs.declared.parts.Called.TheVariants.{NotStarted}
 use Rattle.machine.specs.Turns.{CallBy, calling}
 use Rattle.machine.proofs.Asking.{call_asks, calls_as_many}
 use Rattle.machine.proofs.machine.Machine.call.Goals as goal
 
 pub returns-in-Some-clause-calls : goal.returns-in-Some-clause-calls
-returns-in-Some-clause-calls c = subst (λ o. CallBy o c.args.id (calling (hart_at c.args.self.now c.args.id) c.args.eid c.args.fid c.args.a0 c.args.a1 c.args.a2) c.args.self.now c.args.self.now NotStarted) (sym c.in-Some.is ∙ c.dozes.ensures) (refl, refl)
+returns-in-Some-clause-calls c = subst (λ o. CallBy o c.args.id (calling (hart_at c.args.self.now c.args.id) c.args.eid c.args.fid c.args.a0 c.args.a1 c.args.a2) c.args.self.now c.args.self.now None) (sym c.in-Some.is ∙ c.dozes.ensures) (refl, refl)
 
 pub returns-in-None-clause-calls : goal.returns-in-None-clause-calls
 returns-in-None-clause-calls c = subst (λ o. CallBy o c.args.id (calling (hart_at c.args.self.now c.args.id) c.args.eid c.args.fid c.args.a0 c.args.a1 c.args.a2) c.args.self.now c.own_call.new.self c.own_call.result) (sym c.in-None.is ∙ c.dozes.ensures) c.own_call.ensures

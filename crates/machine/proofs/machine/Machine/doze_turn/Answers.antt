@@ -3,12 +3,13 @@ use Rattle.hart.specs.State.{ArchState, started as fresh}
 use Rattle.susp.specs.Dozes.{doze_of}
 use Rattle.std.specs.Prelude.{slice_set, not}
 use Rattle.susp.specs.declared.buses.Doze.{Doze}
-use Rattle.turns.specs.declared.words.Turned.TheVariants.{Resumed}
+use Rattle.sbi_calls.specs.declared.words.Turned.TheVariants.{Made}
+use Rattle.sbi_calls.specs.declared.words.Did.TheVariants.{Resumed}
 use Rattle.turns.specs.Turns.{Moment, moment, Rests, TakesAlone, after_take}
 use Rattle.machine.specs.Held.{RestsBy, shown_by}
 use Rattle.machine.specs.Machine.{Machine}
 use Rattle.machine.specs.Turns.{DozeTurn, resumed, with_moment}
-use Rattle.machine.proofs.Dozing.{of_no_other}
+use Rattle.machine.proofs.Owners.{of_no_other}
 use Rattle.machine.proofs.Holding.{Action, shown_as, Finds, Left, finds, seats_found, rests_found, number_found, low_number, others_rest, left}
 use Rattle.machine.proofs.machine.Machine.doze_turn.Goals.{After-index_mut, After-one_set}
 use Rattle.machine.proofs.machine.Machine.doze_turn.Goals as goal
@@ -64,6 +65,6 @@ returns c =
     let l = did at.After-one_set (found at.After-index_mut) (dozes at.After-index_mut) in
     let new : Machine = record { size = i.shape; memory = i.bus.ram; doze = None; harts = slice_set i.harts.items c.index.result c.resume-seats.new.hart; table = shown_by i.shape.harts c.resume-seats.result } in
     let same : new ≡ resumed d id (shown_as i) = l.made ∙ ap (λ (m : Moment). let r : Machine = record (with_moment id (shown_as i) m) { doze = None } in r) l.did in
-    let turn : DozeTurn true d id c.args.self.now new Resumed = (subst (λ (m : Machine). new ≡ resumed d id m) c.self.view_is same, refl) in
+    let turn : DozeTurn true d id c.args.self.now new (Made Resumed) = (subst (λ (m : Machine). new ≡ resumed d id m) c.self.view_is same, refl) in
     let is : true ≡ d.woken = not_not d.woken c.if-not-doze.false in
-    subst (λ (b : Bool). DozeTurn b d id c.args.self.now new Resumed) is turn
+    subst (λ (b : Bool). DozeTurn b d id c.args.self.now new (Made Resumed)) is turn

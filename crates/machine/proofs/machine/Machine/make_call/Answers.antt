@@ -3,7 +3,8 @@ use Rattle.std.specs.Prelude.{slice_set}
 use Rattle.hsm.specs.Views.{listed}
 use Rattle.sbi_abi.specs.Calls.{call_of}
 use Rattle.machine.specs.Machine.{Machine}
-use Rattle.machine.specs.Held.{shown_by}
+use Rattle.hsm_rule.specs.declared.view.Stage.TheVariants.{Running, Quiet}
+use Rattle.machine.specs.Held.{shown_by, stage_settled}
 use Rattle.machine.specs.Durables.{StandsAtCall, HeldOf, MakesCall}
 use Rattle.machine.proofs.Holding.{Action, shown_as, Finds, Left, finds, seats_found, one_shown, left}
 use Rattle.machine.proofs.Fallen.{stands_still}
@@ -32,13 +33,13 @@ did g c it is =
     let x = c.index_mut.result.now in
     let s = c.unwrap-seats.result in
     let bus = c.make_held-seats.new.bus in
-    let held = c.make_held-seats.result.1 in
+    let word = c.make_held-seats.result.1 in
     let made = e.alone (shown_by i.shape.harts s) (seats_found it).shows in
-    let leaves : LeavesBus i.shape.harts x.id (listed (shown_by i.shape.harts s).states) i.bus bus held =
-    leaves_bus i.shape.harts (call_of x) x c.make_held-seats.new.hart (shown_by i.shape.harts s) i.bus bus c.args.store.now c.make_held-seats.new.store held made.0 in
+    let leaves : LeavesBus i.shape.harts x.id (listed (shown_by i.shape.harts s).states) i.bus bus word =
+    leaves_bus i.shape.harts (call_of x) x c.make_held-seats.new.hart (shown_by i.shape.harts s) i.bus bus c.args.store.now c.make_held-seats.new.store word made.0 in
     left it (makes g c) bus.doze c.one_table.ensures.list c.one_set.ensures.list
-    (held_action i.shape x c.make_held-seats.new.hart s c.make_held-seats.result.0 i.bus bus c.args.store.now c.make_held-seats.new.store held e.alone)
-    e.id e.gives (own_then it is bus held leaves e.gives e.acts) (others_then it is bus held leaves e.gives e.acts)
+    (held_action i.shape x c.make_held-seats.new.hart s c.make_held-seats.result.0 i.bus bus c.args.store.now c.make_held-seats.new.store word e.alone)
+    e.id e.gives (own_then it is bus word leaves e.gives e.acts) (others_then it is bus word leaves e.gives e.acts)
 
 pub returns-clause-dozes : goal.returns-clause-dozes
 returns-clause-dozes g c is =
@@ -50,17 +51,17 @@ returns-clause-dozes g c is =
     let s = c.unwrap-seats.result in
     let s' = c.make_held-seats.result.0 in
     let bus = c.make_held-seats.new.bus in
-    let held = c.make_held-seats.result.1 in
+    let word = c.make_held-seats.result.1 in
     let made = c.make_held-seats.ensures.alone (shown_by i.shape.harts s) (seats_found it).shows in
-    let leaves : LeavesBus i.shape.harts x.id (listed (shown_by i.shape.harts s).states) i.bus bus held =
-    leaves_bus i.shape.harts (call_of x) x c.make_held-seats.new.hart (shown_by i.shape.harts s) i.bus bus c.args.store.now c.make_held-seats.new.store held made.0 in
+    let leaves : LeavesBus i.shape.harts x.id (listed (shown_by i.shape.harts s).states) i.bus bus word =
+    leaves_bus i.shape.harts (call_of x) x c.make_held-seats.new.hart (shown_by i.shape.harts s) i.bus bus c.args.store.now c.make_held-seats.new.store word made.0 in
     let same : shown_by i.shape.harts s' ≡ shown_by i.shape.harts s = one_shown c.one_table.ensures.list c.one_set.ensures.list i.shape.harts s' (shown_by i.shape.harts s) made.1 in
     let new : Machine = record { size = i.shape; memory = bus.ram; doze = bus.doze; harts = slice_set i.harts.items c.index.result c.make_held-seats.new.hart; table = shown_by i.shape.harts s' } in
     elim leaves [
       | inl p ↦ (
           stands_still i.shape.harts new x.id p.2 (ap (λ (b : Bus). b.doze) p.5) p.3 p.4 l.held.numbered l.held.seats.shows.0.0
           (subst (λ (t : TableState). AreStopped i.shape.harts x.id (listed t.states)) (sym same) p.1))
-      | inr p ↦ absurd (p.0 is)
+      | inr p ↦ absurd (let z : Running ≡ Quiet = sym p.0 ∙ ap stage_settled is in let n : ⊥ = cc in n)
     ]
 
 pub make_held-seats-requires-clause-acts : goal.make_held-seats-requires-clause-acts

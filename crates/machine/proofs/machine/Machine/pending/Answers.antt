@@ -3,7 +3,7 @@ use Rattle.std.specs.Prelude.{length}
 use Rattle.susp.specs.Dozes.{doze_of}
 use Rattle.turns.specs.Turns.{has_pending}
 use Rattle.machine.specs.Machine.{Machine}
-use Rattle.machine.proofs.Dozing.{sits_by}
+use Rattle.machine.proofs.Owners.{sits_by}
 use Rattle.machine.proofs.Holding.{all_seats}
 use Rattle.machine.proofs.Looks.{held_still, shows_still, found_it}
 use Rattle.machine.proofs.machine.Machine.pending.Goals as goal

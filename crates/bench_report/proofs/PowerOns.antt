@@ -20,7 +20,7 @@ use Rattle.bench_report.specs.Commands.{Writes, Issued, IssuesAll}
 use Rattle.bench_report.specs.PowerOns.{life_begun, ShowsFound, IsBooted, BootsFrom, Resumes, Boots, Opens, IsOpenRefusal, PowersOn}
 use Rattle.bench_report.specs.Steps.{OnStep, Moves}
 use Rattle.bench_report.specs.Reports.{AreByFirmware, IsReport}
-use Rattle.bench_report.specs.Resumed.{IsMadeIn, IsResumedFrom}
+use Rattle.bench_report.specs.Resumes.{IsMadeIn, IsResumedFrom}
 use Rattle.bench_report.proofs.Determined.{HasFailed, CalmDisk, starves, hinders, some_inj}
 use Rattle.bench_report.proofs.Single.{run_fair, clean, moves_fair}
 
