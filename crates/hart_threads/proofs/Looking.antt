@@ -1,12 +1,12 @@
 -- A turn of a hart in whose doze its board is, by what its look at the bus found.
-use Rattle.std.proofs.Common.{◌≡◌, ◌+◌, ℕ, Bool, true, false, Option, Some, None, refl, ap, subst}
+use Rattle.std.proofs.Common.{◌≡◌, ◌+◌, Bool, true, false, Option, Some, None, refl, ap, subst}
 use Rattle.hart.specs.State.{ArchState, started as fresh}
 use Rattle.sbi_calls.specs.Both.{Known}
 use Rattle.susp.specs.declared.buses.Doze.{Doze}
 use Rattle.turns.specs.Own.{ResumesOwn}
-use Rattle.turns.specs.declared.words.Turned.TheVariants.{Idle, Resumed}
-use Rattle.machine.specs.declared.parts.Word.TheVariants.{Own}
-use Rattle.hart_threads.specs.Dozing.{Looked, after_look, doze_left}
+use Rattle.sbi_calls.specs.declared.words.Did.TheVariants.{Idle, Resumed}
+use Rattle.sbi.specs.declared.words.Word.TheVariants.{Goes}
+use Rattle.hart_threads.specs.Looks.{Looked, after_look, doze_left}
 use Rattle.hart_threads.specs.Threads.{seated, DozeOnce}
 
 pub one_look : (woken : Bool) (old new : Looked) → new ≡ after_look woken old → new.made ≡ old.made + 1
@@ -14,18 +14,18 @@ one_look false old new is = ap (λ (l : Looked). l.made) is
 one_look true old new is = ap (λ (l : Looked). l.made) is
 
 -- it was not woken
-pub idle_once : (woken : Bool) (d : Doze) (s : ArchState) (k : Known) (old new : Looked) → false ≡ woken → new ≡ after_look false old → DozeOnce woken d (seated s k (Some d) old) (seated s k (Some d) new) (Own Idle)
+pub idle_once : (woken : Bool) (d : Doze) (s : ArchState) (k : Known) (old new : Looked) → false ≡ woken → new ≡ after_look false old → DozeOnce woken d (seated s k (Some d) old) (seated s k (Some d) new) (Goes Idle)
 idle_once woken d s k old new asleep is =
-    subst (λ (w : Bool). DozeOnce w d (seated s k (Some d) old) (seated s k (Some d) new) (Own Idle)) asleep (ap (λ (l : Looked). seated s k (Some d) l) is, refl)
+    subst (λ (w : Bool). DozeOnce w d (seated s k (Some d) old) (seated s k (Some d) new) (Goes Idle)) asleep (ap (λ (l : Looked). seated s k (Some d) l) is, refl)
 
 pub idle_left : (woken : Bool) (found : Option Doze) → false ≡ woken → found ≡ doze_left woken found
 idle_left woken found asleep = subst (λ (w : Bool). found ≡ doze_left w found) asleep refl
 
 -- it was
 pub woken_once : (woken : Bool) (d : Doze) (s t : ArchState) (k k' : Known) (old new : Looked) → true ≡ woken → t ≡ fresh s.id d.address d.opaque → ResumesOwn s.id k k' → new ≡ after_look true old
-    → DozeOnce woken d (seated s k (Some d) old) (seated t k' None new) (Own Resumed)
+    → DozeOnce woken d (seated s k (Some d) old) (seated t k' None new) (Goes Resumed)
 woken_once woken d s t k k' old new called begins own is =
-    subst (λ (w : Bool). DozeOnce w d (seated s k (Some d) old) (seated t k' None new) (Own Resumed)) called (begins, own, refl, is, refl)
+    subst (λ (w : Bool). DozeOnce w d (seated s k (Some d) old) (seated t k' None new) (Goes Resumed)) called (begins, own, refl, is, refl)
 
 pub woken_left : (woken : Bool) (found : Option Doze) → true ≡ woken → None ≡ doze_left woken found
 woken_left woken found called = subst (λ (w : Bool). None ≡ doze_left w found) called refl

@@ -19,6 +19,9 @@ use Rattle.sbi_abi.specs.declared.call.Call.TheVariants as calls
 use Rattle.sbi_abi.specs.declared.ret.SbiError.{SbiError}
 use Rattle.sbi_abi.specs.declared.ret.SbiError.TheVariants.{Failed, Denied, NotSupported}
 use Rattle.sbi_calls.specs.Both.{Known}
+use Rattle.sbi_calls.specs.declared.words.Did.TheVariants.{Idle, Resumed, Next, Dozing}
+use Rattle.sbi_calls.specs.declared.words.Turned.{Turned}
+use Rattle.sbi_calls.specs.declared.words.Turned.TheVariants.{Made, Durable}
 use Rattle.shared_store.specs.Called.{AsksDoze, IsToldBy}
 use Rattle.susp.specs.Checks.{IsChecked}
 use Rattle.susp.specs.Dozes.{dozing}
@@ -28,15 +31,12 @@ use Rattle.susp.specs.declared.sleeps.Sleep.{Sleep}
 use Rattle.susp.specs.declared.sleeps.Sleep.TheVariants.{ToDisk}
 use Rattle.sbi.specs.Resets.{reset_of}
 use Rattle.sbi.specs.declared.resets.ResetType.{ResetType}
-use Rattle.sbi.specs.declared.dispatches.Held.{Held}
-use Rattle.sbi.specs.declared.dispatches.Held.TheVariants as helds
+use Rattle.sbi.specs.Words.{word_of_sleep}
+use Rattle.sbi.specs.declared.words.LifeEnd.TheVariants as ends
+use Rattle.sbi.specs.declared.words.Word.{Word}
+use Rattle.sbi.specs.declared.words.Word.TheVariants.{Goes, Over}
 use Rattle.turns.specs.Own.{TurnOwn, ResumesOwn}
-use Rattle.turns.specs.declared.words.Turned.{Turned}
-use Rattle.turns.specs.declared.words.Turned.TheVariants as words
-use Rattle.machine.specs.Words.{word_by}
-use Rattle.machine.specs.declared.parts.Word.{Word}
-use Rattle.machine.specs.declared.parts.Word.TheVariants.{Own, Dozing, Asleep, Reset as ResetBy}
-use Rattle.hart_threads.specs.Dozing.{Looked, after_look}
+use Rattle.hart_threads.specs.Looks.{Looked, after_look}
 use Rattle.hart_threads.specs.declared.loops.Why.{Why}
 use Rattle.hart_threads.specs.declared.loops.Why.TheVariants as whys
 
@@ -63,30 +63,33 @@ Finds size (calls.SystemSuspend kind address value) by e vs vs' =
 Finds size call by e vs vs' = (e ≡ NotSupported) × (vs' ≡ vs)
 
 -- ---- a call that comes to a durable command, made in one hold of the bus and of the store
--- What it came to, by what was told of it: the hart found an error and goes on; or it stands where it stood,
--- a suspension with every other hart STOPPED at its one look, and keeps that hart quiet. On the board's size.
-abbrev pub HeldOnce : Size → Call → ArchState → ArchState → Known → Known → Held → Type 0
-HeldOnce size call s t k k' helds.Goes =
+-- the hart found an error, and goes on
+abbrev pub FindsOnce : Size → Call → ArchState → ArchState → Known → Known → Type 0
+FindsOnce size call s t k k' =
     (e : SbiError) × Finds size call s.id e k.harts k'.harts × (t ≡ answered s (error_of (Err e)) 0)
     × (k'.pairs ≡ k.pairs)
-HeldOnce size call s t k k' (helds.Reset type) = (t ≡ s) × (k' ≡ k)
-HeldOnce size call s t k k' helds.Asleep =
-    (found : ℕ) × AreUnclaimed size.harts s.id found
-    × HasNoted s.id (after_quiet size.harts s.id found) (Quieted found) k.harts k'.harts
-    × (t ≡ s) × (k'.pairs ≡ k.pairs)
-HeldOnce size call s t k k' helds.Dozing =
+
+-- its board sleeps: every other hart was STOPPED at its one look; it stands where it stood, and is quiet
+abbrev pub SleepsOnce : Size → ArchState → ArchState → Known → Known → Type 0
+SleepsOnce size s t k k' =
     (found : ℕ) × AreUnclaimed size.harts s.id found
     × HasNoted s.id (after_quiet size.harts s.id found) (Quieted found) k.harts k'.harts
     × (t ≡ s) × (k'.pairs ≡ k.pairs)
 
+-- What such a call came to, and what is said of it: an error that the hart found, with which it goes on; a board that
+-- sleeps in its RAM or to its disk; or a reset, with the hart where it stood. Nothing else is said. On the board's size.
+abbrev pub HeldOnce : Size → Call → ArchState → ArchState → Known → Known → Word → Type 0
+HeldOnce size call s t k k' word =
+    (FindsOnce size call s t k k' × (word ≡ Goes Next))
+    ⊎ ((sleep : Sleep) × SleepsOnce size s t k k' × (word ≡ word_of_sleep sleep))
+    ⊎ ((kind : ResetType) × (t ≡ s) × (k' ≡ k) × (word ≡ Over (ends.Reset kind)))
+
 -- the doze of which the hart then keeps a copy: the one that its call asked for, with the arguments in order on the
 -- board's size; after any other call none
-abbrev pub IsDozeBy : Size → Call → ℕ → Held → Option Doze → Type 0
-IsDozeBy size call by helds.Goes doze = doze ≡ None
-IsDozeBy size call by (helds.Reset type) doze = doze ≡ None
-IsDozeBy size call by helds.Asleep doze = doze ≡ None
-IsDozeBy size call by helds.Dozing doze =
+abbrev pub IsDozeBy : Size → Call → ℕ → Word → Option Doze → Type 0
+IsDozeBy size call by (Goes Dozing) doze =
     (site : ℕ) × (opaque : ℕ) × AsksDoze size call site opaque × (doze ≡ Some (dozing by site opaque))
+IsDozeBy size call by word doze = doze ≡ None
 
 -- ---- a turn
 -- a hart, what its seats know, its copy of its doze, and its looks at the bus in a doze, between two of its turns
@@ -102,11 +105,11 @@ seated s k doze looks = record { hart = s; known = k; doze = doze; looks = looks
 -- what comes of what the hart did: a durable call is made, and has the receipt of its command where that was
 -- acknowledged; anything else is the turn's word
 abbrev pub ComesOnce : Size → Turned → Seated → Seated → Word → Option (ℕ × Entry) → Type 0
-ComesOnce size words.Durable a b word told =
-    (held : Held) × HeldOnce size (call_of a.hart) a.hart b.hart a.known b.known held
-    × IsToldBy size (call_of a.hart) a.hart.id held told × (word ≡ word_by held)
-    × IsDozeBy size (call_of a.hart) a.hart.id held b.doze × (b.looks ≡ a.looks)
-ComesOnce size did a b word told = (b ≡ a) × (word ≡ Own did) × (told ≡ None)
+ComesOnce size Durable a b word told =
+    HeldOnce size (call_of a.hart) a.hart b.hart a.known b.known word
+    × IsToldBy size (call_of a.hart) a.hart.id word told
+    × IsDozeBy size (call_of a.hart) a.hart.id word b.doze × (b.looks ≡ a.looks)
+ComesOnce size (Made did) a b word told = (b ≡ a) × (word ≡ Goes did) × (told ≡ None)
 
 -- a turn of a hart that does not doze, with the memory as its one hold of the bus found it and as it left it
 abbrev pub OwnOnce : Size → Seated → Seated → Word → Option (ℕ × Entry) → Type 0
@@ -119,10 +122,10 @@ OwnOnce size a b word told =
 -- again at the address of its own copy, with that opaque value; it has taken what was pending for it, and its quiet has
 -- ended. The look is counted, and so is what it found.
 abbrev pub DozeOnce : Bool → Doze → Seated → Seated → Word → Type 0
-DozeOnce false d a b word = (b ≡ record a { looks = after_look false a.looks }) × (word ≡ Own words.Idle)
+DozeOnce false d a b word = (b ≡ record a { looks = after_look false a.looks }) × (word ≡ Goes Idle)
 DozeOnce true d a b word =
     (b.hart ≡ fresh a.hart.id d.address d.opaque) × ResumesOwn a.hart.id a.known b.known × (b.doze ≡ None)
-    × (b.looks ≡ after_look true a.looks) × (word ≡ Own words.Resumed)
+    × (b.looks ≡ after_look true a.looks) × (word ≡ Goes Resumed)
 
 -- one turn of the hart, by its copy of its doze: no receipt comes of a turn in a doze
 abbrev pub TurnOnceBy : Option Doze → Size → Seated → Seated → Word → Option (ℕ × Entry) → Type 0
@@ -135,10 +138,8 @@ TurnOnce size a b word told = TurnOnceBy a.doze size a b word told
 -- ---- the turns of a loop
 -- the life goes on after it
 abbrev pub loop_goes_on : Word → Bool
-loop_goes_on (Own did) = true
-loop_goes_on Dozing = true
-loop_goes_on Asleep = false
-loop_goes_on (ResetBy kind) = false
+loop_goes_on (Goes did) = true
+loop_goes_on (Over end) = false
 
 -- so many turns, after each of which the life went on: the gate let each begin, and heard of each
 abbrev pub TurnsOn : Size → (ℕ → Bool → Type 0) → (ℕ → Type 0) → ℕ → Seated → Seated → Type 0

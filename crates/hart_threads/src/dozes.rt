@@ -3,13 +3,13 @@
 ghost use Rattle.std.specs.Prelude.{◌≡◌, ◌+◌, ◌≤◌, ◌<◌, ◌-◌, ◌^◌, Some};
 ghost use Rattle.hsm_rule.specs.declared.view.Stage.TheVariants.{Quiet};
 ghost use Rattle.sbi_calls.specs.Both.{AreSeatsOfBoth, GivesBack, Acts, harts_of_both, known};
-ghost use Rattle.hart_threads.specs.Dozing.{Looked, no_looks, after_look, is_woken, doze_left, doze_by};
+ghost use Rattle.hart_threads.specs.Looks.{Looked, no_looks, after_look, is_woken, doze_left, doze_by};
 ghost use Rattle.hart_threads.specs.Seated.{StandsAfterTurn};
 ghost use Rattle.hart_threads.specs.Threads.{seated, DozeOnce};
 
 use board_model::HartId;
 use hart::Hart;
-use machine::{Held, Turned, Word};
+use sbi::{Did, Word};
 use sbi_calls::{Seats, Tables};
 use std::marker::Model;
 use susp::{Bus, Doze, doze_of};
@@ -79,12 +79,12 @@ fn is_woken(found: &Option<Doze>, by: HartId) -> bool
 }
 
 /// The doze of which a hart keeps a copy once a durable call of it was made, by the doze that the bus then has.
-pub(crate) fn doze_by(held: Held, found: Option<Doze>) -> Option<Doze>
-    ensures { result ≡ doze_by held found }
+pub(crate) fn doze_by(word: Word, found: Option<Doze>) -> Option<Doze>
+    ensures { result ≡ doze_by word found }
 {
-    match held {
-        Held::Dozing => found,
-        Held::Goes | Held::Asleep | Held::Reset(_) => None,
+    match word {
+        Word::Goes(did) if did.is_doze() => found,
+        Word::Goes(_) | Word::Over(_) => None,
     }
 }
 
@@ -113,9 +113,9 @@ pub(crate) fn doze_turn(
     ensures left { bus.new.doze ≡ doze_left (is_woken hart.old.id bus.old.doze) bus.old.doze }
 {
     if !looks.look(bus, hart.id()) {
-        return (seats, Word::Own(Turned::Idle), Some(doze));
+        return (seats, Word::Goes(Did::Idle), Some(doze));
     }
     let seats = resume(hart, seats, tables, doze.address, doze.opaque);
     bus.doze = None;
-    (seats, Word::Own(Turned::Resumed), None)
+    (seats, Word::Goes(Did::Resumed), None)
 }

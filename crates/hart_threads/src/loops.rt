@@ -5,7 +5,7 @@ ghost use Rattle.std.specs.Option.{option_to_list};
 ghost use Rattle.sbi_calls.specs.Both.{AreTablesOf, GivesBack, known};
 ghost use Rattle.shared_store.specs.Noted.{part_after};
 ghost use Rattle.hart_threads.specs.declared.loops.Why.TheVariants.{Life};
-ghost use Rattle.hart_threads.specs.Dozing.{no_looks};
+ghost use Rattle.hart_threads.specs.Looks.{no_looks};
 ghost use Rattle.hart_threads.specs.Seated.{IsSeated, StandsAfterTurn, StandsAfter};
 ghost use Rattle.hart_threads.specs.Threads.{seated, loop_goes_on, ends_life, TurnOnce, LoopOnce};
 
@@ -16,7 +16,8 @@ use crate::shared::{HartLocal, SharedBoard};
 use crew::Crew;
 use disk::Disk;
 use hart::Hart;
-use machine::{Turned, Word, word_by};
+use sbi::Word;
+use sbi_calls::Turned;
 use shared_store::{Journal, Told};
 use std::sync::Wait;
 use turns::turn_by_bus;
@@ -56,8 +57,8 @@ fn goes_on(word: Word) -> bool
     ensures { result ≡ loop_goes_on word }
 {
     match word {
-        Word::Own(_) | Word::Dozing => true,
-        Word::Asleep | Word::Reset(_) => false,
+        Word::Goes(_) => true,
+        Word::Over(_) => false,
     }
 }
 
@@ -92,19 +93,10 @@ fn whole_turn<R: Wait, D: Disk + Drop, J: Journal, C: Crew>(
     let mut shared = SharedBus { rt, bus: board.bus };
     let (seats, turned) = turn_by_bus(hart, seats, board.tables, &mut shared, board.shape);
     match turned {
-        Turned::Durable => {
-            let (local, held, told) = call_locked(rt, board, hart, seats, part);
-            (local, word_by(held), told)
-        }
-        Turned::Idle
-        | Turned::Entered
-        | Turned::Woke
-        | Turned::Resumed
-        | Turned::Next
-        | Turned::Suspended
-        | Turned::Stopped => {
+        Turned::Durable => call_locked(rt, board, hart, seats, part),
+        Turned::Made(did) => {
             let doze = None;
-            (HartLocal { seats, doze, part }, Word::Own(turned), None)
+            (HartLocal { seats, doze, part }, Word::Goes(did), None)
         }
     }
 }

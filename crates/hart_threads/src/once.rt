@@ -4,7 +4,7 @@ ghost use Rattle.std.specs.Prelude.{◌≡◌, ◌<◌, []};
 ghost use Rattle.hsm_rule.specs.declared.view.Stage.TheVariants.{Running};
 ghost use Rattle.sbi_abi.specs.Calls.{call_of};
 ghost use Rattle.sbi_calls.specs.Both.{AreTablesOf, AreSeatsOfBoth, GivesBack, Acts, known};
-ghost use Rattle.sbi.specs.Helds.{stage_by_held};
+ghost use Rattle.sbi.specs.Words.{stage_told};
 ghost use Rattle.shared_store.specs.Called.{IsToldBy};
 ghost use Rattle.shared_store.specs.Noted.{part_after};
 ghost use Rattle.hart_threads.specs.Threads.{HeldOnce, IsDozeBy};
@@ -14,7 +14,7 @@ use crate::shared::{HartLocal, SharedBoard};
 use crew::Crew;
 use disk::Disk;
 use hart::{Hart, Outcome};
-use machine::Held;
+use sbi::Word;
 use sbi_calls::Seats;
 use shared_store::{Journal, Part, Told};
 use std::sync::{Mutex, Wait};
@@ -49,14 +49,14 @@ pub(crate) fn call_locked<R: Wait, D: Disk + Drop, J: Journal, C: Crew>(
     hart: &mut Hart,
     seats: Seats,
     part: Part<J>,
-) -> (HartLocal<J>, Held, Option<Told<J>>)
+) -> (HartLocal<J>, Word, Option<Told<J>>)
     requires tables { AreTablesOf board.shape.now board.tables.now }
     requires seats { AreSeatsOfBoth board.tables.now seats }
     requires hart { hart.old.id < board.shape.now.harts }
     requires board { board.shape.now ≡ J.size }
     requires acts { Acts hart.old.id Running seats }
     ensures gives { GivesBack board.entry.tables.now hart.old.id seats result.0.seats }
-    ensures acts { Acts hart.old.id (stage_by_held result.1) result.0.seats }
+    ensures acts { Acts hart.old.id (stage_told result.1) result.0.seats }
     ensures id { hart.new.id ≡ hart.old.id }
     ensures told { IsToldBy board.entry.shape.now (call_of hart.old) hart.old.id result.1 result.2 }
     ensures noted { result.0.part ≡ part_after result.2 part }
@@ -67,7 +67,7 @@ pub(crate) fn call_locked<R: Wait, D: Disk + Drop, J: Journal, C: Crew>(
     let mut guard = board.bus.lock(rt);
     let bus = &mut *guard;
     let mut store = board.store.lock(rt);
-    let (seats, held, told, part) = store.call(
+    let (seats, word, told, part) = store.call(
         board.alloc,
         hart,
         seats,
@@ -76,6 +76,6 @@ pub(crate) fn call_locked<R: Wait, D: Disk + Drop, J: Journal, C: Crew>(
         board.crew,
         part,
     );
-    let doze = doze_by(held, bus.doze);
-    (HartLocal { seats, doze, part }, held, told)
+    let doze = doze_by(word, bus.doze);
+    (HartLocal { seats, doze, part }, word, told)
 }

@@ -14,7 +14,7 @@ use board_model::{Command, HartId, RAM_BASE, Reason, Shape};
 use crew::Sequential;
 use disk::ArmedFault;
 use hart_threads::{Ended, Gate, SharedBoard, Why, drive};
-use machine::Word;
+use machine::{Did, Word};
 use rv_decode::Reg;
 use shared_store::{Journal, NewBook, Unshared};
 use simdisk::SimDisk;
@@ -106,7 +106,7 @@ fn dozing_parts<R: AllocGlobal + Threads + Sync>(rt: &R) -> Result<(Parts<SimDis
 {
     let crew = Sequential::new([0, 1, 2, 3])?;
     let mut board = booted(rt.alloc(), &Shape::new(2, 1, 1)?, &WAITER)?;
-    if put_to_sleep(rt, &crew, &mut board) != Some(Word::Dozing) {
+    if put_to_sleep(rt, &crew, &mut board) != Some(Word::Goes(Did::Dozing)) {
         Err("the board does not doze")?
     }
     match taken_apart(board) {

@@ -1,5 +1,5 @@
 -- The commands that a boot issued are noted, one after another, for the boot's part.
-use Rattle.std.proofs.Common.{◌≡◌, ◌∙◌, ◌⊎◌, ⊎_elim, ℕ, suc, ◌+◌, ◌<◌, ◌≤◌, List, [], ◌∷◌, ◌++◌, length, get_or, drop, refl, sym, ap, subst, arith}
+use Rattle.std.proofs.Common.{◌≡◌, ◌∙◌, ◌⊎◌, ⊎_elim, ℕ, suc, ◌+◌, ◌<◌, ◌≤◌, List, [], ◌∷◌, ◌++◌, length, get_or, drop, sym, ap, arith}
 use Rattle.std.proofs.lemmas.List.{append_assoc, drop_more}
 use Rattle.board_model.specs.Durable.{Change}
 use Rattle.board_model.specs.Views.{change_in}

@@ -1,5 +1,5 @@
 -- The last command of a journal, and its receipt.
-use Rattle.std.proofs.Common.{◌≡◌, ◌∙◌, ℕ, zero, suc, ◌+◌, ◌-◌, ◌≤◌, ◌<◌, true, List, [], ◌∷◌, ◌++◌, Option, Some, None, IfSome, length, get_or, arith, refl, sym, ap, subst}
+use Rattle.std.proofs.Common.{◌≡◌, ◌∙◌, ℕ, zero, suc, ◌+◌, ◌-◌, ◌≤◌, ◌<◌, true, List, [], ◌∷◌, ◌++◌, Some, length, get_or, arith, refl, sym, ap, subst}
 use Rattle.board_model.specs.Durable.{DurableState, Change}
 use Rattle.board_model.specs.Shapes.{Size}
 use Rattle.board_model.specs.Views.{change_in}
@@ -11,7 +11,7 @@ use Rattle.sbi.specs.declared.words.Word.{Word}
 use Rattle.sbi.specs.declared.words.Word.TheVariants.{Goes, Over}
 use Rattle.store.specs.Taken.{are_taken}
 use Rattle.shared_store.specs.Legal.{BeginsWith, IsToldOf}
-use Rattle.shared_store.proofs.Naming.{begins_on, begins_still}
+use Rattle.shared_store.proofs.Naming.{begins_on}
 use Rattle.tallies.specs.Logs.{Log}
 use Rattle.receipts.specs.Books.{entries_of}
 use Rattle.shared_store.specs.Noted.{entry_in, entries_in}

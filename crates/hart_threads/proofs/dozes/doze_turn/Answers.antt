@@ -1,7 +1,7 @@
-use Rattle.std.proofs.Common.{◌≡◌, ◌∙◌, ℕ, Bool, true, false, Some, ap, inl, inr, sym, subst}
+use Rattle.std.proofs.Common.{◌≡◌, ◌∙◌, ℕ, Bool, true, false, ap, inl, inr, sym, subst}
 use Rattle.hart.specs.State.{ArchState}
 use Rattle.sbi_calls.specs.Both.{known}
-use Rattle.hart_threads.specs.Dozing.{Looked, is_woken, after_look}
+use Rattle.hart_threads.specs.Looks.{is_woken, after_look}
 use Rattle.hart_threads.proofs.Looking.{idle_left, idle_once, one_look, woken_left, woken_once}
 use Rattle.hart_threads.proofs.Looping.{gives_none}
 use Rattle.hart_threads.proofs.dozes.doze_turn.Goals as goal

@@ -1,5 +1,5 @@
 use Rattle.std.proofs.Common.{◌∙◌, sym, ap}
-use Rattle.hart_threads.specs.Dozing.{woken_in}
+use Rattle.hart_threads.specs.Looks.{woken_in}
 use Rattle.hart_threads.proofs.dozes.is_woken.Goals as goal
 
 pub returns-in-Some : goal.returns-in-Some

@@ -1,7 +1,7 @@
-use Rattle.std.proofs.Common.{ℕ, ◌≡◌, ◌≤◌, ◌+◌, ◌<◌, true, false, arith, ap, refl, sym, ◌∙◌, subst}
+use Rattle.std.proofs.Common.{ℕ, ◌<◌, true, false, arith, ap, refl, sym, ◌∙◌, subst}
 use Rattle.sbi_calls.specs.Both.{GivesBack, known}
 use Rattle.turns.proofs.Begun.{gives_then}
-use Rattle.hart_threads.specs.Dozing.{Looked, no_looks}
+use Rattle.hart_threads.specs.Looks.{Looked, no_looks}
 use Rattle.hart_threads.specs.Seated.{IsSeated, StandsAfterTurn, StandsAfter}
 use Rattle.hart_threads.specs.Threads.{seated}
 use Rattle.hart_threads.specs.declared.loops.Why.TheVariants as whys

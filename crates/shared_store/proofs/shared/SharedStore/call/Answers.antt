@@ -1,4 +1,4 @@
-use Rattle.std.proofs.Common.{◌≡◌, ◌∙◌, ◌+◌, ◌≤◌, ℕ, List, ◌∷◌, length, sym, ap, arith}
+use Rattle.std.proofs.Common.{◌≡◌, ◌∙◌, ◌+◌, ℕ, List, ◌∷◌, length, sym, ap, arith}
 use Rattle.board_model.specs.Durable.{Change}
 use Rattle.board_model.specs.declared.durable.Entry.{Entry}
 use Rattle.receipts.specs.Books.{entries_of, told_after}
