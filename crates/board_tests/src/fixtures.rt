@@ -3,8 +3,8 @@ ghost use Rattle.std.specs.Prelude.{◌≡◌, IfOk};
 
 use board::{Board, Payloads, Unpowered};
 use board_model::{
-    Addr, BootMode, Boots, Command, Durable, HartId, ImageHead, RAM_BASE, Reason, Refusal, Shape,
-    Slot, Trial,
+    Addr, BootMode, Boots, CallWords, ConsoleCommand, Durable, HartId, ImageHead, RAM_BASE, Reason,
+    Refusal, Shape, Slot, Trial,
 };
 use crew::{Crew, Turns};
 use disk::Disk;
@@ -161,17 +161,17 @@ pub fn imaged(alloc: Global, mode: BootMode, payloads: &Payloads) -> Result<Boar
 
 /// The number of the receipt for a slot.
 pub fn set_slot(board: &mut Board<SimDisk>, slot: u32) -> Result<u32, Refusal> {
-    Ok(board.console(Command::Slot(slot))?.number())
+    Ok(board.console(ConsoleCommand::Slot(slot))?.number())
 }
 
 /// The number of the receipt for a slot on trial, for so many boots.
 pub fn set_trial(board: &mut Board<SimDisk>, slot: u32, boots: u32) -> Result<u32, Refusal> {
-    Ok(board.console(Command::Tries(slot, boots))?.number())
+    Ok(board.console(ConsoleCommand::Tries(slot, boots))?.number())
 }
 
 /// The number of the receipt for a discarded image.
 pub fn discard(board: &mut Board<SimDisk>) -> Result<u32, Refusal> {
-    Ok(board.console(Command::Discard)?.number())
+    Ok(board.console(ConsoleCommand::Discard)?.number())
 }
 
 pub const IDLE: Word = Word::Own(Turned::Idle);
@@ -226,8 +226,15 @@ pub fn call<R: AllocGlobal + Threads + Sync>(
     let crew = in_turn(rt)?;
     let id = HartId::new(number)?;
     let [eid, fid, a0, a1, a2] = asked;
+    let words = CallWords {
+        eid,
+        fid,
+        a0,
+        a1,
+        a2,
+    };
     if board.machine().has(id) {
-        board.call(rt.alloc(), &crew, id, eid, fid, a0, a1, a2)
+        board.call(rt.alloc(), &crew, id, words)
     } else {
         None
     }

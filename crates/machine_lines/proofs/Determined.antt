@@ -1,4 +1,5 @@
 -- A line of turns has one outcome, and so has a line of a control and status register.
+use Rattle.board_model.specs.declared.call_words.CallWords.{CallWords}
 use Rattle.std.proofs.Common.{ℕ, zero, suc, ◌≡◌, ◌≢◌, ◌⊎◌, ◌≤◌, List, [], ◌∷◌, length, inl, inr, sym, ◌∙◌, ap, subst, arith}
 use Rattle.std.proofs.lemmas.Bool.{cases_eq, cases_lt}
 use Rattle.hart.specs.Csrs.{csr_number}
@@ -18,7 +19,7 @@ abbrev pub IsOneTurn : Type 0
 IsOneTurn = (h : ℕ) (old new other : Machine) (word also : Turned) → MakesTurn h old new word → MakesTurn h old other also → (new ≡ other) × (word ≡ also)
 
 abbrev pub IsOneCall : Type 0
-IsOneCall = (h eid fid a0 a1 a2 : ℕ) (old new other : Machine) (called also : Called) → MakesOneCall h eid fid a0 a1 a2 old new called → MakesOneCall h eid fid a0 a1 a2 old other also → (new ≡ other) × (called ≡ also)
+IsOneCall = (h : ℕ) (asked : CallWords) (old new other : Machine) (called also : Called) → MakesOneCall h asked old new called → MakesOneCall h asked old other also → (new ≡ other) × (called ≡ also)
 
 many : IsOneTurn → (h n k l : ℕ) (old new other : Machine) (word also : Turned) → TurnsMany h n old new k word → TurnsMany h n old other l also → (new ≡ other) × (k ≡ l) × (word ≡ also)
 many one h zero k l old new other word also p q = absurd p
@@ -55,13 +56,13 @@ one_line one h n old new other line also x y =
       ]
     ]
 
-pub one_call : IsOneCall → (h eid fid a0 a1 a2 : ℕ) (old new other : Machine) (line also : MachineLine) → CallLine h eid fid a0 a1 a2 old new line → CallLine h eid fid a0 a1 a2 old other also → (new ≡ other) × (line ≡ also)
-one_call call h eid fid a0 a1 a2 old new other line also x y =
+pub one_call : IsOneCall → (h : ℕ) (asked : CallWords) (old new other : Machine) (line also : MachineLine) → CallLine h asked old new line → CallLine h asked old other also → (new ≡ other) × (line ≡ also)
+one_call call h asked old new other line also x y =
     elim (cases_lt h (length old.harts)) [
       | inl has ↦ (
           let a = x.made has in
           let b = y.made has in
-          let same = call h eid fid a0 a1 a2 old new other a.0 b.0 a.1 b.1 in
+          let same = call h asked old new other a.0 b.0 a.1 b.1 in
           (same.0, a.2 ∙ (ap (λ (m : Machine). called_line h (hart_at m h) (word_after_call a.0)) same.0 ∙ (ap (λ (c : Called). called_line h (hart_at other h) (word_after_call c)) same.1 ∙ sym b.2))))
       | inr past ↦ (let lacks : HasHart old h → ⊥ = λ has. omega (arith, has, past) in
           ((x.lacks lacks).0 ∙ sym (y.lacks lacks).0, (x.lacks lacks).1 ∙ sym (y.lacks lacks).1))

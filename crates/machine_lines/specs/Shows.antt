@@ -1,5 +1,6 @@
 -- What the lines that show a board's memory and harts say, and what a line of turns makes of them. A line
 -- whose hart or whose bytes the board lacks says `off`, and does nothing. Source: docs/SCRIPT.md.
+use Rattle.board_model.specs.declared.call_words.CallWords.{CallWords}
 use Rattle.std.specs.Prelude.{◌≡◌, ◌≢◌, ◌⊎◌, ℕ, zero, suc, ◌+◌, ◌-◌, ◌^◌, ◌<◌, ◌≤◌, ◌++◌, Bool, true, false, Option, Some, None, length, replicate, slice_range, nat_lt, nat_le, ◌&&◌, if◌then◌else◌}
 use Rattle.hart.specs.State.{ArchState, reg}
 use Rattle.hart.specs.Csrs.{csr_number, csr_read}
@@ -74,9 +75,9 @@ word_after_call NotStarted = None
 word_after_call (Made did) = Some (Own did)
 
 -- `call H EID FID A0 A1 A2`, of a machine without a store
-pub record CallLine (h eid fid a0 a1 a2 : ℕ) (old new : Machine) (line : MachineLine) : Type 0 where
+pub record CallLine (h : ℕ) (asked : CallWords) (old new : Machine) (line : MachineLine) : Type 0 where
   pub made : HasHart old h
-      → (called : Called) × MakesOneCall h eid fid a0 a1 a2 old new called
+      → (called : Called) × MakesOneCall h asked old new called
       × (line ≡ called_line h (hart_at new h) (word_after_call called))
   pub lacks : (HasHart old h → ⊥) → (new ≡ old) × (line ≡ lines.Off)
 

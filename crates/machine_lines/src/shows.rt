@@ -5,7 +5,7 @@ ghost use Rattle.machine.specs.Machine.{hart_at};
 ghost use Rattle.machine_lines.specs.Shows.{ends_line, TurnsMany, TurnsLine, CallLine, own_line, made_line, called_line, word_after_call, waits, pending_line, reg_line, pc_line, CsrLine, mem_line};
 
 use crate::line::{MachineLine, MemBytes};
-use board_model::{HartId, RAM_BASE};
+use board_model::{CallWords, HartId, RAM_BASE};
 use machine::{Called, Machine, Turned, Word};
 use rv_decode::{CsrNumber, Reg};
 
@@ -84,21 +84,13 @@ fn word_of(called: Called) -> Option<Word>
 }
 
 /// `call H EID FID A0 A1 A2` of a machine without a store: a call that is made in the place of a hart.
-pub fn call(
-    machine: &mut Machine,
-    hart: HartId,
-    eid: u64,
-    fid: u64,
-    a0: u64,
-    a1: u64,
-    a2: u64,
-) -> MachineLine
-    ensures { CallLine hart eid fid a0 a1 a2 machine.old machine.new result }
+pub fn call(machine: &mut Machine, hart: HartId, words: CallWords) -> MachineLine
+    ensures { CallLine hart words machine.old machine.new result }
 {
     if !machine.has(hart) {
         return MachineLine::Off;
     }
-    let made = machine.call(hart, eid, fid, a0, a1, a2);
+    let made = machine.call(hart, words);
     called(machine, hart, word_of(made))
 }
 
