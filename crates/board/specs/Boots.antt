@@ -5,8 +5,6 @@ use Rattle.board_model.specs.Durable.{DurableState}
 use Rattle.board_model.specs.Shapes.{Size, ram_bytes_of}
 use Rattle.board_model.specs.declared.boot_mode.BootMode.{BootMode}
 use Rattle.board_model.specs.declared.boot_mode.BootMode.TheVariants as modes
-use Rattle.board_model.specs.declared.durable.Command.{Command}
-use Rattle.board_model.specs.declared.durable.Command.TheVariants as commands
 use Rattle.machine.specs.Machine.{Machine, machine_begun as begun_machine}
 use Rattle.store.specs.Lives.{Life, begun}
 use Rattle.board.specs.Moments.{commands_by}
@@ -21,16 +19,6 @@ boot_refusal s modes.Resume = if is_some s.image then None else Some 8
 -- the life that a boot begins in a state: with the commands that the mode issues there
 abbrev pub life_after : BootMode → DurableState → Life
 life_after mode s = record (begun s) { journal = commands_by mode s }
-
--- the commands that the console may issue: the others are the guest's and the boot's
-abbrev pub IsConsoleCommand : Command → Type 0
-IsConsoleCommand (commands.Slot _) = Unit {0}
-IsConsoleCommand (commands.Reset _) = ⊥
-IsConsoleCommand commands.Consume = ⊥
-IsConsoleCommand commands.Discard = Unit {0}
-IsConsoleCommand (commands.Tries n boots) = Unit {0}
-IsConsoleCommand commands.Good = Unit {0}
-IsConsoleCommand commands.Attempt = ⊥
 
 -- each of the payloads fits into RAM
 abbrev pub PayloadsFit : Size → List (List ℕ) → Type 0

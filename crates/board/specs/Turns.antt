@@ -1,5 +1,6 @@
 -- Turns and calls of a board's harts: what the machine makes of them, and the command that one of them may
 -- make of the store. Source: docs/BOARD.md; SBI specification 2.0, chapters 10 and 13.
+use Rattle.board_model.specs.declared.call_words.CallWords.{CallWords}
 use Rattle.std.specs.Prelude.{◌≡◌, ◌⊎◌, ℕ, zero, suc, true, false, Option, Some, None}
 use Rattle.disk.specs.declared.device.Disk.{Ghosts}
 use Rattle.disk.specs.declared.device.Lane.{Ghosts as Lanes}
@@ -46,10 +47,9 @@ module _ {D L : Type 0} {g : Ghosts D L} {l : Lanes L} where
   ComesOf (Some turned) h m n old new said = (word : Word) × Comes turned h m n old new word × (said ≡ Some word)
 
   -- a call in the place of hart h with these registers
-  abbrev pub CallsHeld : ℕ → ℕ → ℕ → ℕ → ℕ → ℕ → Machine → Machine → Store D L g l → Store D L g l → Option Word
-      → Type 0
-  CallsHeld h eid fid a0 a1 a2 m n old new said =
-      (mid : Machine) × (called : Option Turned) × machines.MakesOneCall h eid fid a0 a1 a2 m mid called
+  abbrev pub CallsHeld : ℕ → CallWords → Machine → Machine → Store D L g l → Store D L g l → Option Word → Type 0
+  CallsHeld h asked m n old new said =
+      (mid : Machine) × (called : Option Turned) × machines.MakesOneCall h asked m mid called
       × ComesOf called h mid n old new said
 
   -- ---- a row within a line

@@ -2,7 +2,7 @@
 
 use crate::payloads::Payloads;
 use crate::ready::ready;
-use board_model::{BootMode, Command, Durable, Entry, HartId, Refusal, Shape};
+use board_model::{BootMode, CallWords, ConsoleCommand, Durable, Entry, HartId, Refusal, Shape};
 use crew::Crew;
 use disk::{ArmedFault, Disk};
 use hart::Hart;
@@ -68,7 +68,7 @@ impl<D: Disk + Drop> Board<D> {
     ghost use Rattle.sbi_calls.specs.declared.words.Turned.TheVariants as turns;
     ghost use Rattle.machine.specs.Held.{shown_by, IsHeld};
     ghost use Rattle.turns.specs.Turns.{has_pending};
-    ghost use Rattle.board.specs.Boots.{IsConsoleCommand};
+    ghost use Rattle.board_model.specs.ConsoleCommands.{console_change};
     ghost use Rattle.board.specs.Views.{store_of, machine_of};
     ghost use Rattle.board.specs.Turns.{Comes, TurnsHeld, RowHeld, TurnsManyHeld, CallsHeld};
     ghost use Rattle.board.specs.PowersOn.{IsOn, IsUnpowered, KeepsDisk, GivesDisk};
@@ -286,18 +286,14 @@ impl<D: Disk + Drop> Board<D> {
         alloc: Global,
         crew: &C,
         hart: HartId,
-        eid: u64,
-        fid: u64,
-        a0: u64,
-        a1: u64,
-        a2: u64,
+        words: CallWords,
     ) -> Option<Word>
         requires { hart < length (machine_of self.old).harts }
-        ensures calls { CallsHeld hart eid fid a0 a1 a2 (machine_of self.old) (machine_of self.new) (store_of self.old)
+        ensures calls { CallsHeld hart words (machine_of self.old) (machine_of self.new) (store_of self.old)
             (store_of self.new) result }
         ensures harts { length (machine_of self.new).harts ≡ length (machine_of self.old).harts }
     {
-        match self.machine.call(hart, eid, fid, a0, a1, a2) {
+        match self.machine.call(hart, words) {
             None => None,
             Some(turned) => Some(self.settle(alloc, crew, hart, turned)),
         }
@@ -324,17 +320,15 @@ impl<D: Disk + Drop> Board<D> {
         self.machine.pending(hart)
     }
 
-    /// Issues a durable command of the console, Slot, Tries, Good or Discard, and answers its place in the
-    /// journal of this life.
+    /// Issues a durable command of the console, and answers its place in the journal of this life.
     ///
     /// Refused as `Store::apply` says; memory and harts stay as they are.
-    pub fn console(&mut self, command: Command) -> Result<Receipt, Refusal>
-        requires { IsConsoleCommand command }
+    pub fn console(&mut self, command: ConsoleCommand) -> Result<Receipt, Refusal>
         ensures machine { machine_of self.new ≡ machine_of self.old }
-        ensures asked { Asked Applied (store_of self.old) (change_of command) result (store_of self.new) }
+        ensures asked { Asked Applied (store_of self.old) (console_change command) result (store_of self.new) }
         ensures not_memory { IsErrOf result Refusal.Memory → ⊥ }
     {
-        self.store.apply(command)
+        self.store.apply(command.command())
     }
 
     /// Turns the board off, and gives back the disk that its store held, as it is: a crash leaves the state

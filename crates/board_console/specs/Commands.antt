@@ -1,10 +1,10 @@
 -- What the console makes of a line, with the store at hand, or the bus. Source: docs/CONSOLE.md, "The console";
 -- docs/DURABLE.md.
 use Rattle.std.specs.Prelude.{◌≡◌, ℕ, Bool, true, false, List, ◌∷◌, Result, Ok, Err}
-use Rattle.board_model.specs.Durable.{DurableState, Change, Slot, Discard, Tries, Good}
-use Rattle.board_model.specs.Views.{durable_of, change_of}
-use Rattle.board_model.specs.declared.durable.Command.{Command}
-use Rattle.board_model.specs.declared.durable.Command.TheVariants as commands
+use Rattle.board_model.specs.Durable.{DurableState}
+use Rattle.board_model.specs.Views.{durable_of}
+use Rattle.board_model.specs.ConsoleCommands.{command_of, console_change}
+use Rattle.board_model.specs.declared.console_command.ConsoleCommand.{ConsoleCommand}
 use Rattle.board_model.specs.declared.durable.Durable.{Durable}
 use Rattle.board_model.specs.declared.durable.Entry.{Entry}
 use Rattle.board_model.specs.declared.durable.Entry.TheVariants as entries
@@ -18,17 +18,15 @@ use Rattle.store.specs.Asked.{Asked}
 use Rattle.shared_store.specs.Legal.{MayAnswer, MayShow}
 use Rattle.susp.specs.declared.buses.Bus.{Bus}
 use Rattle.board_console.specs.Wakes.{Wakes, MayWake}
-use Rattle.board_console.specs.declared.command_words.ConsoleWord.{ConsoleWord}
-use Rattle.board_console.specs.declared.command_words.ConsoleWord.TheVariants as names
 use Rattle.board_console.specs.declared.words.Said.{Said}
 use Rattle.board_console.specs.declared.words.Said.TheVariants as saids
 use Rattle.board_console.specs.declared.answer.Answer.{Answer}
 use Rattle.board_console.specs.declared.answer.Answer.TheVariants as answers
 
 -- the answer to a command: the receipt of one that was acknowledged, the number of one that was refused
-abbrev pub command_answer : ConsoleWord → Result ℕ Refusal → Answer
-command_answer word (Ok n) = answers.Acknowledged word n
-command_answer word (Err e) = answers.Refused word e
+abbrev pub command_answer : ConsoleCommand → Result ℕ Refusal → Answer
+command_answer command (Ok n) = answers.Acknowledged command n
+command_answer command (Err e) = answers.Refused command e
 
 -- the receipts, the newest first, once a command was answered
 abbrev pub told_by : Entry → Result ℕ Refusal → List (ℕ × Entry) → List (ℕ × Entry)
@@ -40,21 +38,16 @@ abbrev pub IsWakeAnswer : Answer → Type 0
 IsWakeAnswer answer = (r : Result (Unit {0}) Refusal) × MayWake r × (answer ≡ answers.Wake r)
 
 -- What a line with a command may be answered, and which receipts were told before it and then.
-abbrev pub IsCommandAnswer : DurableState → ConsoleWord → Command → Answer → List (ℕ × Entry) → List (ℕ × Entry)
-    → Type 0
-IsCommandAnswer found word command answer old new =
-    (r : Result ℕ Refusal) × MayAnswer found (change_of command) r × (answer ≡ command_answer word r)
-    × (new ≡ told_by (entries.Command command) r old)
+abbrev pub IsCommandAnswer : DurableState → ConsoleCommand → Answer → List (ℕ × Entry) → List (ℕ × Entry) → Type 0
+IsCommandAnswer found command answer old new =
+    (r : Result ℕ Refusal) × MayAnswer found (console_change command) r × (answer ≡ command_answer command r)
+    × (new ≡ told_by (entries.Command (command_of command)) r old)
 
 -- What a line may be answered in a life that began in that state: as some commands explain it that the table
 -- takes, one after another from there. The receipts that were told before it, and those that were told then: a
 -- receipt is answered where it is told, with just that command, and none else is told.
 abbrev pub IsAnswerTo : DurableState → Said → Answer → List (ℕ × Entry) → List (ℕ × Entry) → Type 0
-IsAnswerTo found (saids.Slot n) answer old new = IsCommandAnswer found names.Slot (commands.Slot n) answer old new
-IsAnswerTo found saids.Discard answer old new = IsCommandAnswer found names.Discard commands.Discard answer old new
-IsAnswerTo found (saids.Tries n boots) answer old new =
-    IsCommandAnswer found names.Tries (commands.Tries n boots) answer old new
-IsAnswerTo found saids.Good answer old new = IsCommandAnswer found names.Good commands.Good answer old new
+IsAnswerTo found (saids.Command command) answer old new = IsCommandAnswer found command answer old new
 IsAnswerTo found saids.State answer old new =
     (d : Durable) × MayShow found d × (answer ≡ answers.State d) × (new ≡ old)
 IsAnswerTo found saids.Wake answer old new = IsWakeAnswer answer × (new ≡ old)
@@ -67,27 +60,21 @@ AnswersWake old new answer = (r : Result (Unit {0}) Refusal) × Wakes old new r 
 
 -- the line asks the store; `wake` asks the bus, and the others ask nothing
 abbrev pub asks_store : Said → Bool
-asks_store (saids.Slot n) = true
-asks_store saids.Discard = true
-asks_store (saids.Tries n boots) = true
-asks_store saids.Good = true
+asks_store (saids.Command command) = true
 asks_store saids.State = true
 asks_store saids.Wake = false
 asks_store saids.Quit = false
 asks_store saids.Other = false
 
 module _ {D L : Type 0} {g : Ghosts D L} {l : Lanes L} where
-  -- a command is asked of the store once, and answered by that word
-  abbrev pub AnswersCommand : ConsoleWord → Change → Store D L g l → Store D L g l → Answer → Type 0
-  AnswersCommand word c old new answer =
-      (r : Result ℕ Refusal) × Asked Applied old c r new × (answer ≡ command_answer word r)
+  -- a command is asked of the store once, and answered by its word
+  abbrev pub AnswersCommand : ConsoleCommand → Store D L g l → Store D L g l → Answer → Type 0
+  AnswersCommand command old new answer =
+      (r : Result ℕ Refusal) × Asked Applied old (console_change command) r new × (answer ≡ command_answer command r)
 
   -- A line with a command asks the store once; `state` is the state now, without a command in doubt. No other
   -- line asks the store.
   abbrev pub AnswersSaid : Said → Store D L g l → Store D L g l → Answer → Type 0
-  AnswersSaid (saids.Slot n) old new answer = AnswersCommand names.Slot (Slot n) old new answer
-  AnswersSaid saids.Discard old new answer = AnswersCommand names.Discard Discard old new answer
-  AnswersSaid (saids.Tries n boots) old new answer = AnswersCommand names.Tries (Tries n boots) old new answer
-  AnswersSaid saids.Good old new answer = AnswersCommand names.Good Good old new answer
+  AnswersSaid (saids.Command command) old new answer = AnswersCommand command old new answer
   AnswersSaid saids.State old new answer = (new ≡ old) × (answer ≡ answers.State (durable_of (now_state old)))
   AnswersSaid said old new answer = ⊥

@@ -1,33 +1,30 @@
 //! What the console makes of a line.
 
 ghost use Rattle.std.specs.Prelude.{◌≡◌, true};
-ghost use Rattle.board_model.specs.Views.{change_of};
 ghost use Rattle.shared_store.specs.Views.{store_in};
 ghost use Rattle.board_console.specs.Commands.{AnswersCommand, AnswersSaid, AnswersWake, IsCommandAnswer, IsAnswerTo, IsWakeAnswer, asks_store};
 
 use crate::answer::Answer;
-use crate::command_words::ConsoleWord;
 use crate::waking::Waking;
 use crate::words::Said;
-use board_model::Command;
+use board_model::ConsoleCommand;
 use disk::Disk;
 use shared_store::{Journal, Part, SharedStore};
 use susp::Bus;
 
-/// Issues a command, which is answered by that word.
+/// Issues a command, which is answered by its word.
 fn issue<D: Disk + Drop, J: Journal>(
     store: &mut SharedStore<D, J>,
     part: Part<J>,
-    word: ConsoleWord,
-    command: Command,
+    command: ConsoleCommand,
 ) -> (Part<J>, Answer)
-    ensures asks { AnswersCommand word (change_of command) (store_in store.old) (store_in store.new) result.1 }
-    ensures fits { IsCommandAnswer J.found word command result.1 part.told result.0.told }
+    ensures asks { AnswersCommand command (store_in store.old) (store_in store.new) result.1 }
+    ensures fits { IsCommandAnswer J.found command result.1 part.told result.0.told }
 {
-    let (part, answered) = store.apply(part, command);
+    let (part, answered) = store.apply(part, command.command());
     match answered {
-        Ok(told) => (part, Answer::Acknowledged(word, told.number())),
-        Err(refusal) => (part, Answer::Refused(word, refusal)),
+        Ok(told) => (part, Answer::Acknowledged(command, told.number())),
+        Err(refusal) => (part, Answer::Refused(command, refusal)),
     }
 }
 
@@ -45,12 +42,7 @@ pub fn obey<D: Disk + Drop, J: Journal>(
     ensures fits { IsAnswerTo J.found said result.1 part.told result.0.told }
 {
     match said {
-        Said::Slot(slot) => issue(store, part, ConsoleWord::Slot, Command::Slot(slot)),
-        Said::Discard => issue(store, part, ConsoleWord::Discard, Command::Discard),
-        Said::Tries(slot, boots) => {
-            issue(store, part, ConsoleWord::Tries, Command::Tries(slot, boots))
-        }
-        Said::Good => issue(store, part, ConsoleWord::Good, Command::Good),
+        Said::Command(command) => issue(store, part, command),
         Said::State => (part, Answer::State(store.now())),
         Said::Wake | Said::Quit | Said::Other => unreachable!(),
     }

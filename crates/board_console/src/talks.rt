@@ -35,13 +35,7 @@ fn is_quit(said: Said) -> bool
 {
     match said {
         Said::Quit => true,
-        Said::Slot(_)
-        | Said::Discard
-        | Said::Tries(..)
-        | Said::Good
-        | Said::State
-        | Said::Wake
-        | Said::Other => false,
+        Said::Command(_) | Said::State | Said::Wake | Said::Other => false,
     }
 }
 
@@ -66,9 +60,7 @@ fn answer_to<R: Wait, D: Disk + Drop, J: Journal>(
     ensures { IsAnswerTo J.found said result.1 part.told result.0.told }
 {
     match said {
-        Said::Slot(_) | Said::Discard | Said::Tries(_, _) | Said::Good | Said::State => {
-            obey(&mut store.lock(rt), part, said)
-        }
+        Said::Command(_) | Said::State => obey(&mut store.lock(rt), part, said),
         Said::Wake => (part, rouse(&mut bus.lock(rt))),
         Said::Quit => (part, Answer::Quit),
         Said::Other => (part, Answer::Unknown),

@@ -2,6 +2,7 @@
 
 use arrayvec::ArrayVec;
 use board_console::{Said, line_said, next_line};
+use board_model::ConsoleCommand;
 use std::test::*;
 
 #[test]
@@ -36,13 +37,22 @@ fn a_line_of_the_console_has_256_bytes_at_most(rt: HostRuntime) -> Result<(), Fa
 
 #[test]
 fn lines_say_what_their_words_are(rt: HostRuntime) -> Result<(), Fail> {
-    assert_eq!(&rt; line_said(b"slot 4294967295"), Said::Slot(4_294_967_295));
-    assert_eq!(&rt; line_said(b"slot 0x2"), Said::Slot(2));
+    assert_eq!(&rt;
+        line_said(b"slot 4294967295"),
+        Said::Command(ConsoleCommand::Slot(4_294_967_295))
+    );
+    assert_eq!(&rt;
+        line_said(b"slot 0x2"),
+        Said::Command(ConsoleCommand::Slot(2))
+    );
     assert_eq!(&rt; line_said(b"slot 4294967296"), Said::Other);
     assert_eq!(&rt; line_said(b"slot  1"), Said::Other);
     assert_eq!(&rt; line_said(b"slot 1 "), Said::Other);
     assert_eq!(&rt; line_said(b"slot"), Said::Other);
-    assert_eq!(&rt; line_said(b"discard"), Said::Discard);
+    assert_eq!(&rt;
+        line_said(b"discard"),
+        Said::Command(ConsoleCommand::Discard)
+    );
     assert_eq!(&rt; line_said(b"Discard"), Said::Other);
     assert_eq!(&rt; line_said(b"state"), Said::State);
     assert_eq!(&rt; line_said(b"wake"), Said::Wake);
@@ -56,12 +66,21 @@ fn lines_say_what_their_words_are(rt: HostRuntime) -> Result<(), Fail> {
 #[test]
 fn trials_say_their_slot_and_their_boots(rt: HostRuntime) -> Result<(), Fail> {
     let most = 4_294_967_295;
-    assert_eq!(&rt; line_said(b"tries 2 1"), Said::Tries(2, 1));
-    assert_eq!(&rt; line_said(b"tries 4 0"), Said::Tries(4, 0));
-    assert_eq!(&rt; line_said(b"tries 0x3 007"), Said::Tries(3, 7));
+    assert_eq!(&rt;
+        line_said(b"tries 2 1"),
+        Said::Command(ConsoleCommand::Tries(2, 1))
+    );
+    assert_eq!(&rt;
+        line_said(b"tries 4 0"),
+        Said::Command(ConsoleCommand::Tries(4, 0))
+    );
+    assert_eq!(&rt;
+        line_said(b"tries 0x3 007"),
+        Said::Command(ConsoleCommand::Tries(3, 7))
+    );
     assert_eq!(&rt;
         line_said(b"tries 4294967295 4294967295"),
-        Said::Tries(most, most)
+        Said::Command(ConsoleCommand::Tries(most, most))
     );
     assert_eq!(&rt; line_said(b"tries 4294967296 1"), Said::Other);
     assert_eq!(&rt; line_said(b"tries 1 4294967296"), Said::Other);
@@ -76,7 +95,7 @@ fn trials_say_their_slot_and_their_boots(rt: HostRuntime) -> Result<(), Fail> {
     assert_eq!(&rt; line_said(b"tries 1 2\r"), Said::Other);
     assert_eq!(&rt; line_said(b"tries 1\t2"), Said::Other);
     assert_eq!(&rt; line_said(b"Tries 1 2"), Said::Other);
-    assert_eq!(&rt; line_said(b"good"), Said::Good);
+    assert_eq!(&rt; line_said(b"good"), Said::Command(ConsoleCommand::Good));
     assert_eq!(&rt; line_said(b"good "), Said::Other);
     assert_eq!(&rt; line_said(b"good 1"), Said::Other);
     assert_eq!(&rt; line_said(b"goods"), Said::Other);

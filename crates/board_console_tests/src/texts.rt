@@ -1,7 +1,7 @@
 //! How answers print.
 
-use board_console::{Answer, ConsoleWord};
-use board_model::{Boots, Durable, Reason, Refusal, Slot, Trial};
+use board_console::Answer;
+use board_model::{Boots, ConsoleCommand, Durable, Reason, Refusal, Slot, Trial};
 use std::alloc::Global;
 use std::process::Abort;
 use std::test::*;
@@ -55,18 +55,18 @@ fn a_state_ends_with_its_trial(rt: HostRuntime) -> Result<(), Fail> {
 #[test]
 fn commands_are_answered_by_their_words(rt: HostRuntime) -> Result<(), Fail> {
     let alloc = rt.alloc();
-    let told = Answer::Acknowledged(ConsoleWord::Tries, 1);
+    let told = Answer::Acknowledged(ConsoleCommand::Tries(2, 1), 1);
     prints(&rt, alloc, told, "tries ok 1")?;
-    let told = Answer::Acknowledged(ConsoleWord::Good, 4096);
+    let told = Answer::Acknowledged(ConsoleCommand::Good, 4096);
     prints(&rt, alloc, told, "good ok 4096")?;
-    let told = Answer::Refused(ConsoleWord::Tries, Refusal::BadSlot);
+    let told = Answer::Refused(ConsoleCommand::Tries(2, 1), Refusal::BadSlot);
     prints(&rt, alloc, told, "tries refused 9")?;
-    let told = Answer::Refused(ConsoleWord::Tries, Refusal::BadTries);
+    let told = Answer::Refused(ConsoleCommand::Tries(2, 1), Refusal::BadTries);
     prints(&rt, alloc, told, "tries refused 19")?;
-    let told = Answer::Refused(ConsoleWord::Good, Refusal::NoTrial);
+    let told = Answer::Refused(ConsoleCommand::Good, Refusal::NoTrial);
     prints(&rt, alloc, told, "good refused 20")?;
-    let told = Answer::Acknowledged(ConsoleWord::Slot, 1);
+    let told = Answer::Acknowledged(ConsoleCommand::Slot(1), 1);
     prints(&rt, alloc, told, "slot ok 1")?;
-    let told = Answer::Refused(ConsoleWord::Discard, Refusal::NoImage);
+    let told = Answer::Refused(ConsoleCommand::Discard, Refusal::NoImage);
     prints(&rt, alloc, told, "discard refused 8")
 }

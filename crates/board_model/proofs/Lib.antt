@@ -1,3 +1,4 @@
 pub mod Attempts
+pub mod Console
 pub mod Steps
 pub mod Table

@@ -3,7 +3,8 @@ ghost use Rattle.std.specs.Prelude.{◌≡◌, IfOk};
 
 use board::{Board, Payloads, Unpowered};
 use board_model::{
-    Addr, BootMode, Boots, HartId, ImageHead, RAM_BASE, Reason, Refusal, Shape, Slot, Trial,
+    Addr, BootMode, Boots, CallWords, HartId, ImageHead, RAM_BASE, Reason, Refusal, Shape, Slot,
+    Trial,
 };
 use crew::Sequential;
 use disk::Disk;
@@ -179,8 +180,15 @@ pub fn call<R: AllocGlobal + Threads + Sync>(
     let crew = in_turn(rt)?;
     let id = HartId::new(number)?;
     let [eid, fid, a0, a1, a2] = asked;
+    let words = CallWords {
+        eid,
+        fid,
+        a0,
+        a1,
+        a2,
+    };
     if board.machine().has(id) {
-        board.call(rt.alloc(), &crew, id, eid, fid, a0, a1, a2)
+        board.call(rt.alloc(), &crew, id, words)
     } else {
         None
     }

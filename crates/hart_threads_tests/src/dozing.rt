@@ -10,7 +10,7 @@ use crate::fixtures::{Open, booted, parts_of};
 use crate::looped::looped;
 use board::{Board, Parts};
 use board_console::console;
-use board_model::{Command, HartId, RAM_BASE, Reason, Shape};
+use board_model::{CallWords, Command, HartId, RAM_BASE, Reason, Shape};
 use crew::Sequential;
 use disk::ArmedFault;
 use hart_threads::{Ended, Gate, SharedBoard, Why, drive};
@@ -53,7 +53,14 @@ fn call<R: AllocGlobal + Threads + Sync>(
         return None;
     }
     let [eid, fid, a0, a1, a2] = words;
-    board.call(rt.alloc(), crew, hart, eid, fid, a0, a1, a2)
+    let words = CallWords {
+        eid,
+        fid,
+        a0,
+        a1,
+        a2,
+    };
+    board.call(rt.alloc(), crew, hart, words)
 }
 
 /// A turn of a hart.

@@ -1,4 +1,5 @@
 -- A hart that is told to stand at a durable call is STARTED.
+use Rattle.board_model.specs.declared.call_words.CallWords.{CallWords}
 use Rattle.std.proofs.Common.{◌≡◌, ℕ, zero, suc, ◌<◌, Bool, true, false, List, Option, Some, None, Ok, Err, refl, sym, ap, ◌∙◌, subst, inl, inr}
 use Rattle.std.specs.Prelude.{length}
 use Rattle.std.proofs.lemmas.List.{get_or-set_same, length-set}
@@ -117,12 +118,12 @@ asks_in_call None h u old new called lt same awake p is =
       | inr none ↦ absurd (let e : ◌≡◌ {A = Option Turned} None (Some Durable) = sym (p.1.not_started none).1 ∙ is in let n : ⊥ = cc in n)
     ]
 
-pub call_asks : (h eid fid a0 a1 a2 : ℕ) (old new : Machine) (called : Option Turned) → h < length old.harts → MakesOneCall h eid fid a0 a1 a2 old new called → called ≡ Some Durable → StandsAtCall h new
-call_asks h eid fid a0 a1 a2 old new called lt p is = asks_in_call (doze_of h old.doze) h (calling (hart_at old h) eid fid a0 a1 a2) old new called lt refl refl p is
+pub call_asks : (h : ℕ) (asked : CallWords) (old new : Machine) (called : Option Turned) → h < length old.harts → MakesOneCall h asked old new called → called ≡ Some Durable → StandsAtCall h new
+call_asks h asked old new called lt p is = asks_in_call (doze_of h old.doze) h (calling (hart_at old h) asked) old new called lt refl refl p is
 
 call_as_many : (o : Option Doze) (h : ℕ) (u : ArchState) (old new : Machine) (called : Option Turned) → CallBy o h u old new called → length new.harts ≡ length old.harts
 call_as_many None h u old new called p = ap (λ (m : Machine). length m.harts) p.2 ∙ length-set old.harts h p.0.hart
 call_as_many (Some d) h u old new called p = ap (λ (m : Machine). length m.harts) p.0
 
-pub calls_as_many : (h eid fid a0 a1 a2 : ℕ) (old new : Machine) (called : Option Turned) → MakesOneCall h eid fid a0 a1 a2 old new called → length new.harts ≡ length old.harts
-calls_as_many h eid fid a0 a1 a2 old new called p = call_as_many (doze_of h old.doze) h (calling (hart_at old h) eid fid a0 a1 a2) old new called p
+pub calls_as_many : (h : ℕ) (asked : CallWords) (old new : Machine) (called : Option Turned) → MakesOneCall h asked old new called → length new.harts ≡ length old.harts
+calls_as_many h asked old new called p = call_as_many (doze_of h old.doze) h (calling (hart_at old h) asked) old new called p

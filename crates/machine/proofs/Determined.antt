@@ -1,4 +1,5 @@
 -- A turn of a hart is one outcome, and so is a call.
+use Rattle.board_model.specs.declared.call_words.CallWords.{CallWords}
 use Rattle.std.proofs.Common.{ℕ, Bool, true, false, ◌≡◌, ◌⊎◌, List, Option, Some, None, sym, ◌∙◌, ap, refl, subst, inl, inr}
 use Rattle.board_model.specs.Shapes.{Size}
 use Rattle.hart.specs.State.{ArchState}
@@ -98,5 +99,5 @@ one_call_by None h u old new other called also p q =
     (with_same h old new other p.0 q.0 p.2 q.2 e.0, e.1)
 one_call_by (Some d) h u old new other called also p q = (p.0 ∙ sym q.0, p.1 ∙ sym q.1)
 
-pub one_call : (h eid fid a0 a1 a2 : ℕ) (old new other : Machine) (called also : Option Turned) → turns.MakesOneCall h eid fid a0 a1 a2 old new called → turns.MakesOneCall h eid fid a0 a1 a2 old other also → (new ≡ other) × (called ≡ also)
-one_call h eid fid a0 a1 a2 old new other called also p q = one_call_by (doze_of h old.doze) h (turns.calling (hart_at old h) eid fid a0 a1 a2) old new other called also p q
+pub one_call : (h : ℕ) (asked : CallWords) (old new other : Machine) (called also : Option Turned) → turns.MakesOneCall h asked old new called → turns.MakesOneCall h asked old other also → (new ≡ other) × (called ≡ also)
+one_call h asked old new other called also p q = one_call_by (doze_of h old.doze) h (turns.calling (hart_at old h) asked) old new other called also p q

@@ -1,4 +1,5 @@
 -- A doze that was not woken stands.
+use Rattle.board_model.specs.declared.call_words.CallWords.{CallWords}
 use Rattle.std.proofs.Common.{◌≡◌, ◌≢◌, ℕ, zero, suc, Bool, true, false, Option, Some, None, refl, sym, ap, ◌∙◌, subst, inl, inr, ne_eqb, eq-eqb}
 use Rattle.std.specs.Prelude.{length}
 use mathlib.Core.Logic.{dite}
@@ -55,13 +56,13 @@ call_by None h u old new called dozes e p =
     let q = p.1.not_started (not_started (listed a.table.states a.hart.id) (dozes.others h e)) in
     (stays h old new p.0 p.2 q.0, q.1)
 
-pub no_call : (h eid fid a0 a1 a2 : ℕ) (old new : Machine) (called : Option Turned) → Dozes old → MakesOneCall h eid fid a0 a1 a2 old new called → (new ≡ old) × (called ≡ None)
-no_call h eid fid a0 a1 a2 old new called dozes p = call_by (doze_of h old.doze) h (calling (hart_at old h) eid fid a0 a1 a2) old new called dozes refl p
+pub no_call : (h : ℕ) (asked : CallWords) (old new : Machine) (called : Option Turned) → Dozes old → MakesOneCall h asked old new called → (new ≡ old) × (called ≡ None)
+no_call h asked old new called dozes p = call_by (doze_of h old.doze) h (calling (hart_at old h) asked) old new called dozes refl p
 
 -- ---- many of them
 no_move : (old new : Machine) → Dozes old → Moves old new → new ≡ old
 no_move old new dozes (inl p) = (no_turn p.0 old new p.1 dozes p.2).0
-no_move old new dozes (inr p) = (no_call p.0 p.1 p.2 p.3 p.4 p.5 old new p.6 dozes p.7).0
+no_move old new dozes (inr p) = (no_call p.0 p.1 old new p.2 dozes p.3).0
 
 pub no_moves : (n : ℕ) (old new : Machine) → Dozes old → MovesOften n old new → new ≡ old
 no_moves zero old new dozes p = p

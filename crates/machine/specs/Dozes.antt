@@ -1,5 +1,6 @@
 -- A board that dozes and was not woken: but for its wake-up device nothing moves it. Source: docs/BOARD.md, "A
 -- doze"; SBI specification 2.0, chapter 13.
+use Rattle.board_model.specs.declared.call_words.CallWords.{CallWords}
 use Rattle.std.specs.Prelude.{◌≡◌, ◌⊎◌, ℕ, zero, suc, false, Option, Some, None}
 use Rattle.hsm_rule.specs.States.{stopped}
 use Rattle.susp.specs.Dozes.{doze_of}
@@ -19,8 +20,8 @@ pub record Dozes (m : Machine) : Type 0 where
 abbrev pub Moves : Machine → Machine → Type 0
 Moves old new =
     ((h : ℕ) × (word : Turned) × MakesTurn h old new word)
-    ⊎ ((h : ℕ) × (eid : ℕ) × (fid : ℕ) × (a0 : ℕ) × (a1 : ℕ) × (a2 : ℕ) × (called : Option Turned)
-    × MakesOneCall h eid fid a0 a1 a2 old new called)
+    ⊎ ((h : ℕ) × (asked : CallWords) × (called : Option Turned)
+    × MakesOneCall h asked old new called)
 
 -- so many of them, one after another, of any harts
 abbrev pub MovesOften : ℕ → Machine → Machine → Type 0

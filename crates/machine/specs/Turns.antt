@@ -1,5 +1,6 @@
 -- Turns of a hart, and calls that are made in its place. Source: docs/BOARD.md; SBI specification 2.0,
 -- chapters 3 and 9.
+use Rattle.board_model.specs.declared.call_words.CallWords.{CallWords}
 use Rattle.std.specs.Prelude.{◌≡◌, ◌⊎◌, ℕ, zero, suc, Bool, true, false, List, slice_set, Option, Some, None}
 use Rattle.board_model.specs.Shapes.{Size}
 use Rattle.hart.specs.State.{ArchState, put, started as fresh}
@@ -64,8 +65,8 @@ MakesRow h (suc n) old new word =
 
 -- ---- a call that is made in the place of a hart
 -- the registers of a call: the extension in a7, the function in a6, the arguments in a0 to a2
-abbrev pub calling : ArchState → ℕ → ℕ → ℕ → ℕ → ℕ → ArchState
-calling s eid fid a0 a1 a2 = put (put (put (put (put s 10 a0) 11 a1) 12 a2) 16 fid) 17 eid
+abbrev pub calling : ArchState → CallWords → ArchState
+calling s asked = put (put (put (put (put s 10 asked.a0) 11 asked.a1) 12 asked.a2) 16 asked.fid) 17 asked.eid
 
 -- the call of a hart that then stands as u at an ECALL: none where the hart is not STARTED
 pub record CallOf (size : Size) (u : ArchState) (a b : Moment) (called : Option Turned) : Type 0 where
@@ -85,6 +86,6 @@ CallBy None h u old new called = DoneBy (λ a b. CallOf old.size u a b called) h
 CallBy (Some d) h u old new called = (new ≡ old) × (called ≡ None)
 
 -- a call of hart h with these registers
-abbrev pub MakesOneCall : ℕ → ℕ → ℕ → ℕ → ℕ → ℕ → Machine → Machine → Option Turned → Type 0
-MakesOneCall h eid fid a0 a1 a2 old new called =
-    CallBy (doze_of h old.doze) h (calling (hart_at old h) eid fid a0 a1 a2) old new called
+abbrev pub MakesOneCall : ℕ → CallWords → Machine → Machine → Option Turned → Type 0
+MakesOneCall h asked old new called =
+    CallBy (doze_of h old.doze) h (calling (hart_at old h) asked) old new called

@@ -5,28 +5,15 @@ ghost use Rattle.sbi_calls.specs.Both.{AreTablesOf, AreSeatsOfBoth, GivesBack};
 ghost use Rattle.turns.specs.Turns.{Rests};
 ghost use Rattle.machine.specs.Turns.{calling, MakesCallAlone};
 
-use board_model::Shape;
+use board_model::{CallWords, Shape};
 use hart::{Hart, Outcome};
 use hsm::State;
 use rv_decode::Reg;
 use sbi_calls::{Seats, Tables, Turned};
 
-/// The registers of a call (SBI specification 2.0, chapter 3).
-#[derive(Clone, Copy, Drop)]
-pub struct Registers {
-    /// The extension, in a7.
-    pub eid: u64,
-    /// The function, in a6.
-    pub fid: u64,
-    /// The arguments, in a0 to a2.
-    pub a0: u64,
-    pub a1: u64,
-    pub a2: u64,
-}
-
-/// Sets the registers, and leaves all else of the hart.
-fn set_registers(hart: &mut Hart, call: &Registers)
-    ensures { hart.new ≡ calling hart.old call.now.eid call.now.fid call.now.a0 call.now.a1 call.now.a2 }
+/// Sets the registers of a call, and leaves all else of the hart.
+fn set_registers(hart: &mut Hart, call: CallWords)
+    ensures { hart.new ≡ calling hart.old call }
 {
     hart.put(Reg::new(10), call.a0);
     hart.put(Reg::new(11), call.a1);
@@ -41,7 +28,7 @@ pub fn call_in_place(
     seats: Seats,
     tables: &Tables,
     shape: &Shape,
-    call: &Registers,
+    call: CallWords,
 ) -> (Seats, Option<Turned>)
     requires tables { AreTablesOf shape.now tables.now }
     requires seats { AreSeatsOfBoth tables.now seats }
@@ -52,8 +39,7 @@ pub fn call_in_place(
     ensures id { hart.new.id ≡ hart.old.id }
     ensures alone { (m : List ℕ)
         → MakesCallAlone shape.now hart.old
-        (calling hart.old call.entry.now.eid call.entry.now.fid call.entry.now.a0 call.entry.now.a1
-        call.entry.now.a2) hart.new m seats result.0 result.1 }
+        (calling hart.old call) hart.new m seats result.0 result.1 }
 {
     let by = hart.id();
     let Seats { harts, pending } = seats;

@@ -1,6 +1,7 @@
 //! Laws of the definitions, the contracts of functions that do nothing: turns and calls of a hart leave nothing
 //! open, and a board that dozes stands still.
 
+ghost use Rattle.board_model.specs.declared.call_words.CallWords.{CallWords};
 ghost use Rattle.std.specs.Prelude.{◌≡◌, ℕ, Option, None};
 ghost use Rattle.sbi_calls.specs.declared.words.Turned.{Turned};
 ghost use Rattle.sbi_calls.specs.declared.words.Did.TheVariants.{Idle};
@@ -15,8 +16,8 @@ ghost use Rattle.machine.specs.Dozes.{Dozes, MovesOften};
 pub fn one_turn()
     ensures turn { (h : ℕ) (old new other : Machine) (word also : Turned) → MakesTurn h old new word
         → MakesTurn h old other also → (new ≡ other) × (word ≡ also) }
-    ensures call { (h eid fid a0 a1 a2 : ℕ) (old new other : Machine) (called also : Option Turned)
-        → MakesOneCall h eid fid a0 a1 a2 old new called → MakesOneCall h eid fid a0 a1 a2 old other also
+    ensures call { (h : ℕ) (asked : CallWords) (old new other : Machine) (called also : Option Turned)
+        → MakesOneCall h asked old new called → MakesOneCall h asked old other also
         → (new ≡ other) × (called ≡ also) }
 {
     hart::one_step();
@@ -28,8 +29,8 @@ pub fn one_turn()
 pub fn a_doze_stands()
     ensures turn { (h : ℕ) (old new : Machine) (word : Turned) → Dozes old → MakesTurn h old new word
         → (new ≡ old) × (word ≡ Made Idle) }
-    ensures call { (h eid fid a0 a1 a2 : ℕ) (old new : Machine) (called : Option Turned) → Dozes old
-        → MakesOneCall h eid fid a0 a1 a2 old new called → (new ≡ old) × (called ≡ None) }
+    ensures call { (h : ℕ) (asked : CallWords) (old new : Machine) (called : Option Turned) → Dozes old
+        → MakesOneCall h asked old new called → (new ≡ old) × (called ≡ None) }
     ensures moves { (n : ℕ) (old new : Machine) → Dozes old → MovesOften n old new → new ≡ old }
     ensures asks { (h : ℕ) (m : Machine) → Dozes m → StandsAtCall h m → ⊥ }
 {}

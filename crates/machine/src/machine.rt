@@ -19,10 +19,10 @@ ghost use Rattle.machine.specs.Dozes.{Dozes};
 ghost use Rattle.sbi.specs.Words.{word_of_sleep};
 ghost use Rattle.susp.specs.declared.sleeps.Sleep.TheVariants.{ToRam};
 
-use crate::calls::{Registers, call_in_place};
+use crate::calls::call_in_place;
 use crate::holds::make_held;
 use crate::parts::Parts;
-use board_model::{HartId, RAM_BASE, Reason, Refusal, Shape};
+use board_model::{CallWords, HartId, RAM_BASE, Reason, Refusal, Shape};
 use crew::Crew;
 use disk::Disk;
 use hart::Hart;
@@ -279,40 +279,24 @@ impl Machine {
     /// An SBI call that is made in the place of a hart: sets a0 to a2, a6 and a7, and acts as if ECALL stood
     /// at its pc. After `Next` it was answered. A hart that is not STARTED, or that dozes, makes none, and stays
     /// as it was.
-    pub fn call(
-        &mut self,
-        id: HartId,
-        eid: u64,
-        fid: u64,
-        a0: u64,
-        a1: u64,
-        a2: u64,
-    ) -> Option<Turned>
+    pub fn call(&mut self, id: HartId, call: CallWords) -> Option<Turned>
         requires { id < length self.old.harts }
-        ensures calls { MakesOneCall id eid fid a0 a1 a2 self.old self.new result }
+        ensures calls { MakesOneCall id call self.old self.new result }
         ensures asks { result ≡ Some Durable → StandsAtCall id self.new }
         ensures harts { length self.new.harts ≡ length self.old.harts }
     {
-        let call = Registers {
-            eid,
-            fid,
-            a0,
-            a1,
-            a2,
-        };
         match self.dozes(id) {
             Some(_) => None,
-            None => self.own_call(id, &call),
+            None => self.own_call(id, call),
         }
     }
 
     /// The same of a hart in whose doze the board is not.
-    fn own_call(&mut self, id: HartId, call: &Registers) -> Option<Turned>
+    fn own_call(&mut self, id: HartId, call: CallWords) -> Option<Turned>
         requires hart { id < length self.old.harts }
         requires awake { doze_of id self.old.doze ≡ None }
         ensures { DoneBy (λ a b. CallOf self.old.size
-            (calling a.hart call.entry.now.eid call.entry.now.fid call.entry.now.a0 call.entry.now.a1
-            call.entry.now.a2) a b result) id self.old self.new }
+            (calling a.hart call) a b result) id self.old self.new }
     {
         let seats = self.seats.take().unwrap();
         let (seats, called) = call_in_place(

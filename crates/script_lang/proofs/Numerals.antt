@@ -14,7 +14,7 @@ use Rattle.std.specs.Str.Parse.{AllDigits, digits_value_after}
 use Rattle.hex.specs.Hex.{encode_lower, encode_with, lower_digits, IsBytes}
 use Rattle.hex.proofs.HexLemmas.{decode_of-encode_lower, length-encode_with}
 use Rattle.script_lang.specs.Words.{words_of, digits_after, number_of, ranged, hex_of, fill_of}
-use Rattle.script_lang.specs.Spellings.{fill_text, FitsFill}
+use Rattle.script_lang.specs.Words.{fill_text, FitsFill}
 use Rattle.simdisk.specs.declared.fill.Fill.{Fill}
 use Rattle.simdisk.specs.declared.fill.Fill.TheVariants.{Old, New, Byte, Alternating}
 use lib.Chars.{codes}

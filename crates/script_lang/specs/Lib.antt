@@ -1,6 +1,7 @@
 pub mod Words
-pub mod Rows
-pub mod Ranges
+pub mod Commands
+pub mod Looks
+pub mod Armings
 pub mod Lines
 pub mod Scripts
 pub mod Spellings

@@ -1,9 +1,9 @@
 -- The words of a line, and the numbers and bytes that they write.
-use Rattle.std.specs.Prelude.{ℕ, ◌+◌, ◌*◌, ◌^◌, List, [], ◌∷◌, length, drop, take, Option, Some, None, Result, Ok, Err, nat_lt, nat_le, ◌&&◌, ◌==◌, if◌then◌else◌}
+use Rattle.std.specs.Prelude.{ℕ, ◌+◌, ◌*◌, ◌^◌, ◌<◌, ◌≤◌, List, [], ◌∷◌, length, drop, take, Option, Some, None, Result, Ok, Err, nat_lt, nat_le, ◌&&◌, ◌==◌, if◌then◌else◌}
 use Rattle.std.specs.List.{slice_split}
 use Rattle.std.specs.Char.{digit_value}
 use Rattle.std.specs.Str.{bytes_eq}
-use Rattle.hex.specs.Hex.{decode_of}
+use Rattle.hex.specs.Hex.{decode_of, encode_lower}
 use Rattle.hex.specs.declared.FromHexError.{FromHexError}
 use Rattle.simdisk.specs.declared.fill.Fill.{Fill}
 use Rattle.simdisk.specs.declared.fill.Fill.TheVariants.{Old, New, Byte, Alternating}
@@ -13,6 +13,11 @@ infixl 10 ◌>>=◌
 abbrev pub ◌>>=◌ : {A B : Type 0} → Option A → (A → Option B) → Option B
 None >>= f = None
 (Some x) >>= f = f x
+
+-- what is read, as that kind of line, or else the other reading
+abbrev pub or_else : {A B : Type 0} → (A → B) → Option A → Option B → Option B
+or_else kind None other = other
+or_else kind (Some x) other = Some (kind x)
 
 -- the parts between spaces: single spaces between words and none at the ends leave no part empty
 abbrev pub words_of : List ℕ → List (List ℕ)
@@ -57,6 +62,23 @@ fill_of word =
     (if bytes_eq word (codes "alt") then Some Alternating else
     (if length word == 2 then fill_byte (digits_after 16 0 word) else None)))
 
+-- a fill as it is written out, and its byte, which fits the code's type for it
+abbrev pub fill_text : Fill → List ℕ
+fill_text Old = codes "old"
+fill_text New = codes "new"
+fill_text Alternating = codes "alt"
+fill_text (Byte b) = encode_lower (b ∷ [])
+
+abbrev pub FitsFill : Fill → Type 0
+FitsFill Old = Unit {0}
+FitsFill New = Unit {0}
+FitsFill Alternating = Unit {0}
+FitsFill (Byte b) = b < 256
+
+-- how many disk calls or turns a line may name
+abbrev pub IsCount : ℕ → Type 0
+IsCount n = (1 ≤ n) × (n ≤ 1000000)
+
 abbrev pub decoded : Result (List ℕ) FromHexError → Option (List ℕ)
 decoded (Ok bytes) = Some bytes
 decoded (Err e) = None
@@ -69,6 +91,12 @@ hex_of word = if length word == 0 then None else decoded (decode_of word)
 abbrev pub none_of : List (List ℕ) → Option (Unit {0})
 none_of [] = Some tt
 none_of (a ∷ more) = None
+
+-- what has no words of its own
+abbrev pub alone : {A : Type 0} → A → List (List ℕ) → Option A
+alone said words = do
+  nothing ← none_of words
+  Some said
 
 abbrev pub one_of : List (List ℕ) → Option (List ℕ)
 one_of [] = None

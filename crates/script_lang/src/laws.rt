@@ -4,10 +4,9 @@ ghost use Rattle.std.specs.Prelude.{◌≡◌, ℕ, ◌+◌, List, ◌++◌, len
 ghost use Rattle.board_model.specs.Shapes.{Size, IsSize};
 ghost use Rattle.script_lang.specs.declared.line.Line.{Line};
 ghost use Rattle.script_lang.specs.Words.{words_of};
-ghost use Rattle.script_lang.specs.Lines.{line_of};
-ghost use Rattle.script_lang.specs.Ranges.{IsLineInRange};
+ghost use Rattle.script_lang.specs.Lines.{line_of, text_of, FitsLine, IsLineInRange};
 ghost use Rattle.script_lang.specs.Scripts.{◌>>>◌, rest_of, Script, script_of};
-ghost use Rattle.script_lang.specs.Spellings.{text_of, FitsLine, script_text, IsWritable};
+ghost use Rattle.script_lang.specs.Spellings.{script_text, IsWritable};
 
 /// Every line in its ranges is read from its spelling.
 pub fn lines_read_as_spelled()

@@ -1,17 +1,21 @@
 //! The script language of the bench: bytes to lines, or the first fault.
 #![tactic(auto)]
 
+mod armings;
 mod bytes;
+mod commands;
 mod laws;
 mod line;
-mod lines;
+mod looks;
 mod rows;
 mod scripts;
 mod words;
 
+pub use armings::Arming;
 pub use bytes::Bytes;
 pub use laws::{lines_read_as_spelled, lines_read_in_order, scripts_read_as_written};
 pub use line::Line;
+pub use looks::Look;
 pub use rows::mode;
 pub use scripts::{Script, parse_script};
 pub use words::{in_range, number};

@@ -1,35 +1,17 @@
 //! What a line of a script says.
 
-use crate::bytes::Bytes;
-use board_model::{BootMode, HartId, Slot};
-use simdisk::Fill;
+ghost use Rattle.std.specs.Prelude.{◌≡◌, map, IfOk, IfSome};
+ghost use Rattle.script_lang.specs.Lines.{other_said, line_of, IsLineInRange};
 
-/// The first word of a line.
-#[derive(Clone, Copy, Drop)]
-pub enum Keyword {
-    Payload,
-    Format,
-    On,
-    Slot,
-    Discard,
-    Turn,
-    Call,
-    Reg,
-    Pc,
-    Csr,
-    Pending,
-    Mem,
-    CutAt,
-    CutLane,
-    FailAt,
-    FailLane,
-    Cut,
-    Poke,
-    Inspect,
-    Wake,
-    Tries,
-    Good,
-}
+use crate::armings::{Arming, arming_said};
+use crate::bytes::Bytes;
+use crate::commands::command_said;
+use crate::looks::{Look, look_said};
+use crate::rows;
+use crate::words::alone;
+use board_model::{BootMode, CallWords, ConsoleCommand, HartId, Shape, Slot};
+use simdisk::Fill;
+use std::alloc::{AllocError, Global};
 
 /// A line after the board line. Harts, lanes, addresses and sectors are in the ranges of that board.
 #[derive(Debug, PartialEq, Eq, Drop)]
@@ -40,32 +22,16 @@ pub enum Line {
     Format,
     /// `on MODE`: power on.
     On(BootMode),
-    /// `slot S`: the durable command, with any number below 2^32.
-    Slot(u32),
-    /// `discard`: the durable command.
-    Discard,
+    /// `slot S`, `discard`, `tries S N` or `good`: a durable command of the console, with any numbers below 2^32.
+    Command(ConsoleCommand),
     /// `turn H N`: up to N turns of the hart, 1 to 1,000,000.
     Turn(HartId, u32),
     /// `call H EID FID A0 A1 A2`: an SBI call of the hart; missing arguments are 0.
-    Call(HartId, u64, u64, u64, u64, u64),
-    /// `reg H R`: a register, 0 to 31.
-    Reg(HartId, u32),
-    /// `pc H`
-    Pc(HartId),
-    /// `csr H C`: one of the nine CSRs, by its number.
-    Csr(HartId, u32),
-    /// `pending`
-    Pending,
-    /// `mem A N`: that many bytes of RAM from an address on, 1 to 64.
-    Mem(u64, u32),
-    /// `cutat N FILL`: power fails at the N-th disk call from here on, 1 to 1,000,000.
-    CutAt(u32, Fill),
-    /// `cutlane I N FILL`: power fails at the N-th call of that lane from here on.
-    CutLane(u32, u32, Fill),
-    /// `failat N`: the N-th disk call from here on fails.
-    FailAt(u32),
-    /// `faillane I N`: the N-th call of that lane from here on fails.
-    FailLane(u32, u32),
+    Call(HartId, CallWords),
+    /// `reg H R`, `pc H`, `csr H C`, `pending` or `mem A N`: what is shown of a board that is on.
+    Show(Look),
+    /// `cutat N FILL`, `cutlane I N FILL`, `failat N` or `faillane I N`: a fault of the disk is armed.
+    Arm(Arming),
     /// `cut FILL`: power fails now.
     Cut(Fill),
     /// `poke SECTOR OFFSET HEX`: bytes written into one sector past the firmware.
@@ -74,8 +40,64 @@ pub enum Line {
     Inspect,
     /// `wake`: the wake-up device calls a board that sleeps to RAM.
     Wake,
-    /// `tries S N`: the boot slot becomes S, on trial for N boots.
-    Tries(u32, u32),
-    /// `good`: the slot on trial is kept.
-    Good,
+}
+
+/// The line of no class that a keyword and the words after it say.
+fn other_said(
+    alloc: Global,
+    shape: &Shape,
+    keyword: &[u8],
+    words: &[&[u8]],
+) -> Result<Option<Line>, AllocError>
+    ensures value { IfOk result (λ line. line ≡ other_said shape.now keyword.now (map (λ w. w.now) words.now)) }
+    ensures range { IfOk result (λ line. IfSome line (IsLineInRange shape.now)) }
+{
+    if keyword == b"payload".as_slice() {
+        return rows::payload(alloc, words);
+    }
+    if keyword == b"format".as_slice() {
+        return Ok(alone(Line::Format, words));
+    }
+    if keyword == b"on".as_slice() {
+        return Ok(rows::on(words));
+    }
+    if keyword == b"turn".as_slice() {
+        return Ok(rows::turn(shape, words));
+    }
+    if keyword == b"call".as_slice() {
+        return Ok(rows::call(shape, words));
+    }
+    if keyword == b"cut".as_slice() {
+        return Ok(rows::cut(words));
+    }
+    if keyword == b"poke".as_slice() {
+        return rows::poke(alloc, shape, words);
+    }
+    if keyword == b"inspect".as_slice() {
+        return Ok(alone(Line::Inspect, words));
+    }
+    if keyword == b"wake".as_slice() {
+        return Ok(alone(Line::Wake, words));
+    }
+    Ok(None)
+}
+
+/// The line that its words say on a board of this shape; None where they are no line.
+pub fn line_said(alloc: Global, shape: &Shape, words: &[&[u8]]) -> Result<Option<Line>, AllocError>
+    ensures value { IfOk result (λ line. line ≡ line_of shape.now (map (λ w. w.now) words.now)) }
+    ensures range { IfOk result (λ line. IfSome line (IsLineInRange shape.now)) }
+{
+    let [keyword, others @ ..] = words else {
+        return Ok(None);
+    };
+    if let Some(command) = command_said(keyword, others) {
+        return Ok(Some(Line::Command(command)));
+    }
+    if let Some(look) = look_said(shape, keyword, others) {
+        return Ok(Some(Line::Show(look)));
+    }
+    if let Some(arming) = arming_said(shape, keyword, others) {
+        return Ok(Some(Line::Arm(arming)));
+    }
+    other_said(alloc, shape, keyword, others)
 }

@@ -3,13 +3,12 @@
 ghost use Rattle.std.specs.Prelude.{◌≡◌, ◌+◌, ◌≤◌, ◌==◌, map, length, take, All, IfOk, OnOk, Ok, ◌++◌, ℕ};
 ghost use Rattle.std.specs.List.{slice_split};
 ghost use Rattle.script_lang.specs.Words.{words_of, three_of};
-ghost use Rattle.script_lang.specs.Ranges.{IsLineInRange};
+ghost use Rattle.script_lang.specs.Lines.{IsLineInRange};
 ghost use Rattle.script_lang.specs.Lines.{line_of};
 ghost use Rattle.script_lang.specs.Scripts.{Gives, is_sound, is_passed, whole_lines, size_of_words, board_of, or_fault, ◌>>>◌, said_of, rest_of, from_board, lines_from, script_of};
 ghost use Rattle.script_lang.specs.Views.{view};
 
-use crate::line::Line;
-use crate::lines::line;
+use crate::line::{Line, line_said};
 use crate::words::{number, three};
 use board_model::{MAX_LINE_BYTES, MAX_SCRIPT_LINES, Refusal, Shape};
 use std::alloc::{AllocError, Global};
@@ -79,7 +78,7 @@ fn line_at(alloc: Global, shape: &Shape, n: u64, bytes: &[u8]) -> Result<Line, R
     ensures range { IfOk result (IsLineInRange shape.now) }
 {
     let words = words(alloc, bytes)?;
-    match line(alloc, shape, &words)? {
+    match line_said(alloc, shape, &words)? {
         Some(line) => Ok(line),
         None => Err(Refusal::BadScript(n)),
     }

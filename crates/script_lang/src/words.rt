@@ -2,9 +2,10 @@
 
 ghost use Rattle.std.specs.Prelude.{◌≡◌, ◌≤◌, ◌*◌, ◌^◌, ◌<◌, length, map, IfSome, IfOk};
 ghost use Rattle.std.specs.Option.{option_map};
-ghost use Rattle.script_lang.specs.Words.{digits_after, numeral_of, number_of, ranged, fill_of, hex_of, none_of, one_of, two_of, three_of};
+ghost use Rattle.script_lang.specs.Words.{digits_after, numeral_of, number_of, ranged, fill_of, hex_of, alone, none_of, IsCount, one_of, two_of, three_of};
 
 use crate::bytes::Bytes;
+use board_model::{HartId, Shape};
 use hex::FromHexError;
 use simdisk::Fill;
 use std::alloc::{AllocError, Global};
@@ -67,6 +68,22 @@ pub fn in_range(least: u64, bound: u64, word: &[u8]) -> Option<u32>
     }
 }
 
+/// A hart of the board.
+pub fn hart(shape: &Shape, word: &[u8]) -> Option<HartId>
+    ensures value { result ≡ ranged 0 shape.now.harts word.now }
+    ensures range { IfSome result (λ h. h < shape.now.harts) }
+{
+    shape.hart(number(word)?)
+}
+
+/// A number of disk calls, 1 to 1,000,000.
+pub fn calls(word: &[u8]) -> Option<u32>
+    ensures value { result ≡ ranged 1 1000001 word.now }
+    ensures range { IfSome result IsCount }
+{
+    in_range(1, 1_000_001, word)
+}
+
 /// `old`, `new`, `alt` or two hexadecimal digits.
 pub fn fill(word: &[u8]) -> Option<Fill>
     ensures { result ≡ fill_of word.now }
@@ -107,6 +124,14 @@ pub fn none(words: &[&[u8]]) -> Option<()>
     ensures { result ≡ none_of (map (λ w. w.now) words.now) }
 {
     if words.is_empty() { Some(()) } else { None }
+}
+
+/// What has no words of its own.
+pub fn alone<T: Drop>(said: T, words: &[&[u8]]) -> Option<T>
+    ensures { result ≡ alone said (map (λ w. w.now) words.now) }
+{
+    none(words)?;
+    Some(said)
 }
 
 /// Just one word.

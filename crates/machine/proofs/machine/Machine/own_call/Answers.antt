@@ -10,11 +10,11 @@ found : (c : After-index_mut) → Finds c.self.inside c.unwrap-seats.result c.in
 found c = finds c.self.view_is c.self.invariant (sym c.take.ensures.value ∙ c.unwrap-seats.ensures) c.index.ensures.value c.requires.hart c.index_mut.ensures.value
 
 did : (c : After-one_set) → Finds c.self.inside c.unwrap-seats.result c.index.result c.args.id c.index_mut.result.now
-    → Left (λ size a b. CallOf size (calling a.hart c.args.call.now.eid c.args.call.now.fid c.args.call.now.a0 c.args.call.now.a1 c.args.call.now.a2) a b c.call_in_place-seats.result.1) c.self.inside c.call_in_place-seats.result.0 c.index.result c.args.id c.call_in_place-seats.new.hart c.self.inside.bus.ram c.self.inside.bus.doze
+    → Left (λ size a b. CallOf size (calling a.hart c.args.call) a b c.call_in_place-seats.result.1) c.self.inside c.call_in_place-seats.result.0 c.index.result c.args.id c.call_in_place-seats.new.hart c.self.inside.bus.ram c.self.inside.bus.doze
 did c it =
     let e = c.call_in_place-seats.ensures in
     let awake : doze_of c.args.id c.self.inside.bus.doze ≡ None = subst (λ (m : Machine). doze_of c.args.id m.doze ≡ None) (sym c.self.view_is) c.requires.awake in
-    left_own it (λ size a b. CallOf size (calling a.hart c.args.call.now.eid c.args.call.now.fid c.args.call.now.a0 c.args.call.now.a1 c.args.call.now.a2) a b c.call_in_place-seats.result.1) c.one_table.ensures.list c.one_set.ensures.list awake (e.alone c.self.inside.bus.ram) e.id e.gives e.rests
+    left_own it (λ size a b. CallOf size (calling a.hart c.args.call) a b c.call_in_place-seats.result.1) c.one_table.ensures.list c.one_set.ensures.list awake (e.alone c.self.inside.bus.ram) e.id e.gives e.rests
 
 pub call_in_place-seats-requires-clause-rests : goal.call_in_place-seats-requires-clause-rests
 call_in_place-seats-requires-clause-rests c =
@@ -25,4 +25,4 @@ pub invariant_of-self : goal.invariant_of-self
 invariant_of-self c = let at = goal.at.invariant_of-self c in (did at.After-one_set (found at.After-index_mut)).held
 
 pub returns : goal.returns
-returns c = let at = goal.at.returns c in done_by (λ size a b. CallOf size (calling a.hart c.args.call.now.eid c.args.call.now.fid c.args.call.now.a0 c.args.call.now.a1 c.args.call.now.a2) a b c.call_in_place-seats.result.1) _ _ _ _ _ _ _ c.self.view_is (did at.After-one_set (found at.After-index_mut))
+returns c = let at = goal.at.returns c in done_by (λ size a b. CallOf size (calling a.hart c.args.call) a b c.call_in_place-seats.result.1) _ _ _ _ _ _ _ c.self.view_is (did at.After-one_set (found at.After-index_mut))

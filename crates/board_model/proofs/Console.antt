@@ -1,0 +1,28 @@
+-- What all commands of the operator's console have in common.
+use Rattle.std.proofs.Common.{◌≡◌, None, false, refl}
+use Rattle.board_model.specs.Durable.{DurableState, after, ends_life, CarriesWhole}
+use Rattle.board_model.specs.Shapes.{Size}
+use Rattle.board_model.specs.ConsoleCommands.{console_change}
+use Rattle.board_model.specs.declared.console_command.ConsoleCommand.{ConsoleCommand}
+use Rattle.board_model.specs.declared.console_command.ConsoleCommand.TheVariants.{Slot, Discard, Tries, Good}
+
+-- it ends no life
+pub ends_life-console : (command : ConsoleCommand) → ends_life (console_change command) ≡ false
+ends_life-console (Slot n) = refl
+ends_life-console Discard = refl
+ends_life-console (Tries n boots) = refl
+ends_life-console Good = refl
+
+-- it makes no image
+pub image_after-console : (command : ConsoleCommand) (s : DurableState) → s.image ≡ None → (after s (console_change command)).image ≡ None
+image_after-console (Slot n) s none = none
+image_after-console Discard s none = refl
+image_after-console (Tries n boots) s none = none
+image_after-console Good s none = none
+
+-- it carries no memory, so it carries a whole one
+pub CarriesWhole-console : (command : ConsoleCommand) (size : Size) → CarriesWhole size (console_change command)
+CarriesWhole-console (Slot n) size = tt
+CarriesWhole-console Discard size = tt
+CarriesWhole-console (Tries n boots) size = tt
+CarriesWhole-console Good size = tt

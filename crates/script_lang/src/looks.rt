@@ -1,0 +1,99 @@
+//! The lines that show memory or harts.
+
+ghost use Rattle.std.specs.Prelude.{◌≡◌, map, IfSome};
+ghost use Rattle.script_lang.specs.Looks.{reg_of, pc_of, csr_number_of, csr_of, mem_of, look_said, IsCsr, IsLookInRange};
+
+use crate::words::{alone, hart, in_range, number, one, two};
+use board_model::{HartId, RAM_BASE, Shape};
+
+/// What a line shows of a board that is on.
+#[derive(Clone, Copy, Debug, PartialEq, Eq, Drop)]
+pub enum Look {
+    /// `reg H R`: a register, 0 to 31.
+    Reg(HartId, u32),
+    /// `pc H`
+    Pc(HartId),
+    /// `csr H C`: one of the nine CSRs, by its number.
+    Csr(HartId, u32),
+    /// `pending`
+    Pending,
+    /// `mem A N`: that many bytes of RAM from an address on, 1 to 64.
+    Mem(u64, u32),
+}
+
+/// `reg H R`: a register below 32.
+fn reg(shape: &Shape, words: &[&[u8]]) -> Option<Look>
+    ensures value { result ≡ reg_of shape.now (map (λ w. w.now) words.now) }
+    ensures range { IfSome result (IsLookInRange shape.now) }
+{
+    let (h, r) = two(words)?;
+    let hart = hart(shape, h)?;
+    Some(Look::Reg(hart, in_range(0, 32, r)?))
+}
+
+/// `pc H`.
+fn pc(shape: &Shape, words: &[&[u8]]) -> Option<Look>
+    ensures value { result ≡ pc_of shape.now (map (λ w. w.now) words.now) }
+    ensures range { IfSome result (IsLookInRange shape.now) }
+{
+    Some(Look::Pc(hart(shape, one(words)?)?))
+}
+
+/// The number of one of the nine CSRs (RISC-V privileged ISA, supervisor CSRs).
+fn csr_number(word: &[u8]) -> Option<u32>
+    ensures value { result ≡ csr_number_of word.now }
+    ensures range { IfSome result IsCsr }
+{
+    let number = number(word)?;
+    match number {
+        0x100 | 0x104 | 0x105 | 0x140..=0x144 | 0x180 => Some(number as u32),
+        _ => None,
+    }
+}
+
+/// `csr H C`: the hart and the number of a CSR.
+fn csr(shape: &Shape, words: &[&[u8]]) -> Option<Look>
+    ensures value { result ≡ csr_of shape.now (map (λ w. w.now) words.now) }
+    ensures range { IfSome result (IsLookInRange shape.now) }
+{
+    let (h, c) = two(words)?;
+    let hart = hart(shape, h)?;
+    Some(Look::Csr(hart, csr_number(c)?))
+}
+
+/// `mem A N`: 1 to 64 bytes, all of them in RAM.
+fn mem(shape: &Shape, words: &[&[u8]]) -> Option<Look>
+    ensures value { result ≡ mem_of shape.now (map (λ w. w.now) words.now) }
+    ensures range { IfSome result (IsLookInRange shape.now) }
+{
+    let (a, n) = two(words)?;
+    let address = number(a)?;
+    let count = in_range(1, 65, n)?;
+    if address < RAM_BASE || shape.ram_bytes() as u64 - u64::from(count) < address - RAM_BASE {
+        return None;
+    }
+    Some(Look::Mem(address, count))
+}
+
+/// What a keyword and the words after it are to show.
+pub fn look_said(shape: &Shape, keyword: &[u8], words: &[&[u8]]) -> Option<Look>
+    ensures value { result ≡ look_said shape.now keyword.now (map (λ w. w.now) words.now) }
+    ensures range { IfSome result (IsLookInRange shape.now) }
+{
+    if keyword == b"reg".as_slice() {
+        return reg(shape, words);
+    }
+    if keyword == b"pc".as_slice() {
+        return pc(shape, words);
+    }
+    if keyword == b"csr".as_slice() {
+        return csr(shape, words);
+    }
+    if keyword == b"pending".as_slice() {
+        return alone(Look::Pending, words);
+    }
+    if keyword == b"mem".as_slice() {
+        return mem(shape, words);
+    }
+    None
+}
