@@ -12,7 +12,7 @@ mod reported;
 
 use crate::left::tell;
 use crate::reported::{AsReported, Fault, compare_report};
-use crew::{Crew, Threads, Sequential};
+use crew::{Crew, Sequential, Threads};
 use std::path::Path;
 use std::process::ExitCode;
 use std::{env, fs, io};

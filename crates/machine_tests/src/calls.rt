@@ -1,7 +1,7 @@
 //! A durable call of a board without a store. What other calls do is shown by the scripts of `crates/examples`.
 
 use crate::fixtures::{all_say, booted, same};
-use board_model::{HartId, Reason};
+use board_model::{CallWords, HartId, Reason};
 use machine::{LifeEnd, Machine, ResetType, Turned, Word};
 use machine_lines::{MachineLine, pc, reg};
 use std::test::Fail;
@@ -15,7 +15,14 @@ fn hart(number: u64) -> Result<HartId, Fail> {
 /// A hart that the board has makes this call with its other registers 0.
 fn made(machine: &mut Machine, id: HartId, eid: u64) -> Option<Option<Turned>> {
     if machine.has(id) {
-        Some(machine.call(id, eid, 0, 0, 0, 0))
+        let words = CallWords {
+            eid,
+            fid: 0,
+            a0: 0,
+            a1: 0,
+            a2: 0,
+        };
+        Some(machine.call(id, words))
     } else {
         None
     }
