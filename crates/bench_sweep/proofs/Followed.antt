@@ -20,10 +20,11 @@ use Rattle.board_model.specs.declared.refusal.Refusal.{Refusal}
 use Rattle.board_model.specs.declared.refusal.Refusal.TheVariants.{Memory, NoImage}
 use Rattle.bench_report.specs.declared.printed.Printed.{Printed}
 use Rattle.board_model.specs.declared.plain.PlainImage.{PlainImage}
-use Rattle.turns.specs.declared.words.Turned.{Turned}
+use Rattle.sbi_calls.specs.declared.words.Did.{Did}
 use Rattle.sbi.specs.declared.resets.ResetType.{ResetType}
-use Rattle.machine.specs.declared.parts.Word.{Word}
-use Rattle.machine.specs.declared.parts.Word.TheVariants as words
+use Rattle.sbi.specs.declared.words.Word.{Word}
+use Rattle.sbi.specs.declared.words.Word.TheVariants as words
+use Rattle.sbi.specs.declared.words.LifeEnd.TheVariants as life_ends
 use Rattle.bench_report.specs.Views.{SimStore, SimBoard, store_in, machine_in, store_now, store_doubt}
 use Rattle.bench_report.specs.Bench.{DiskState, Formatted, BenchLife, Bench}
 use Rattle.bench_report.specs.Agree.{BoardIs, OnIs, IsOver}
@@ -162,16 +163,16 @@ module _ (size : Size) (b new : Bench) (board : SimBoard) (l : Ledger) (was : Fo
   ram = (machine_in board).memory
 
   -- a hart goes on, and none of its commands is in doubt
-  pub calm_hart : (did : Turned) → HartMoves size b (words.Own did) new board → store_doubt (store_in board) ≡ None → Follows size new l
+  pub calm_hart : (did : Did) → HartMoves size b (words.Goes did) new board → store_doubt (store_in board) ≡ None → Follows size new l
   calm_hart did moved none = by moved.told
     where
       no_doubt : new.kept.doubt ≡ None
       no_doubt = doubt_link size new board (moved.same ∙ was.formatted) moved.after ∙ none
 
-      by : HartTold size (words.Own did) ram b.kept new.kept → Follows size new l
+      by : HartTold size (words.Goes did) ram b.kept new.kept → Follows size new l
       by (inl e) = follows_same size b new l was e moved.same
-      by (inr (c, of_hart, inl x)) = follows_same size b new l was x.1 moved.same
-      by (inr (c, of_hart, inr (six, calm, allowed, is))) = absurd (let e : Some c ≡ None = sym (ap (λ (k : Kept). k.doubt) is) ∙ no_doubt in let no : ⊥ = cc in no)
+      by (inr (next, c, of_hart, inl x)) = follows_same size b new l was x.1 moved.same
+      by (inr (next, c, of_hart, inr (six, calm, allowed, is))) = absurd (let e : Some c ≡ None = sym (ap (λ (k : Kept). k.doubt) is) ∙ no_doubt in let no : ⊥ = cc in no)
 
   -- the command of an entry, with the memory of this moment
   entry_is : (e : Entry) (bytes : List ℕ) (c : Change) → c ≡ change_in e bytes → IsOfHart size ram c → (change_in e ram ≡ c) × CarriesWhole size c
@@ -193,7 +194,7 @@ module _ (size : Size) (b new : Bench) (board : SimBoard) (l : Ledger) (was : Fo
       (ap (λ m. Suspend hart address opaque m) (sym at.0) ∙ sym is, subst Q (sym is) (ap length at.0 ∙ at.1))
 
   -- a hart goes on, and a command is in doubt
-  pub doubted_hart : (did : Turned) (e : Entry) (bytes : List ℕ) (m : Ledger) → HartMoves size b (words.Own did) new board → store_doubt (store_in board) ≡ Some (change_in e bytes)
+  pub doubted_hart : (did : Did) (e : Entry) (bytes : List ℕ) (m : Ledger) → HartMoves size b (words.Goes did) new board → store_doubt (store_in board) ≡ Some (change_in e bytes)
       → ((z : Size) (k : Kept) (d : Change) → TellsWhole z l k → k.doubt ≡ Some d → TellsWhole z m k)
       → ((z : Size) (k n : Kept) → TellsWhole z l k → CarriesWhole z (change_in e ram) → IssuedTold (Some 6) (change_in e ram) k n → TellsWhole z m n) → Follows size new m
   doubted_hart did e bytes m moved some stays takes = by moved.told
@@ -207,10 +208,10 @@ module _ (size : Size) (b new : Bench) (board : SimBoard) (l : Ledger) (was : Fo
         kept = as_before size m b.kept new.kept (stays size b.kept (change_in e bytes) was.kept (ap (λ (k : Kept). k.doubt) (sym is) ∙ doubt)) is;
       }
 
-      by : HartTold size (words.Own did) ram b.kept new.kept → Follows size new m
+      by : HartTold size (words.Goes did) ram b.kept new.kept → Follows size new m
       by (inl is) = same is
-      by (inr (c, of_hart, inl x)) = same x.1
-      by (inr (c, of_hart, inr (six, calm, allowed, is))) =
+      by (inr (next, c, of_hart, inl x)) = same x.1
+      by (inr (next, c, of_hart, inr (six, calm, allowed, is))) =
           let f : Some c ≡ Some (change_in e bytes) = sym (ap (λ (k : Kept). k.doubt) is) ∙ doubt in
           let g : c ≡ change_in e bytes = cc in
           let at = entry_is e bytes c g of_hart in
@@ -229,14 +230,14 @@ module _ (size : Size) (b new : Bench) (board : SimBoard) (l : Ledger) (was : Fo
   now_is c formatted over is = over_link formatted over ∙ ap (λ (k : Kept). found_of k.changes) is ∙ found_more b.kept.changes c
 
   -- what a board that sleeps tells of its suspension
-  pub asleep : HartMoves size b words.Asleep new board → (h a o : ℕ) × ((durable_of (store_now (store_in board))).image ≡ Some (record { serial = (found_of b.kept.changes).next; hart = h; address = a; opaque = o })) × CarriesWhole size (Suspend h a o ram) × IssuedTold None (Suspend h a o ram) b.kept new.kept
+  pub asleep : HartMoves size b (words.Over life_ends.Asleep) new board → (h a o : ℕ) × ((durable_of (store_now (store_in board))).image ≡ Some (record { serial = (found_of b.kept.changes).next; hart = h; address = a; opaque = o })) × CarriesWhole size (Suspend h a o ram) × IssuedTold None (Suspend h a o ram) b.kept new.kept
   asleep moved =
       let t = moved.told in
       let now = now_is (Suspend t.0 t.1 t.2 ram) (moved.same ∙ was.formatted) moved.after.1 t.4.2 in
       (t.0, t.1, t.2, ap (λ (s : DurableState). (durable_of s).image) now, t.3, t.4)
 
   -- and one that was reset of its reset
-  pub reset : (kind : ResetType) → HartMoves size b (words.Reset kind) new board → IssuedTold None (Reset (durable_of (store_now (store_in board))).reason) b.kept new.kept
+  pub reset : (kind : ResetType) → HartMoves size b (words.Over (life_ends.Reset kind)) new board → IssuedTold None (Reset (durable_of (store_now (store_in board))).reason) b.kept new.kept
   reset kind moved =
       let t = moved.told in
       let now = now_is (Reset t.0) (moved.same ∙ was.formatted) moved.after.1 t.1.2 in
@@ -285,14 +286,14 @@ commands_kept (Ok u) l m line x said c is tells kept = λ size old new was carri
 -- a hart goes on, and a command is in doubt
 pub doubted_kept : {E : Type 0} (r : Result (Unit {0}) E) (l m : Ledger) (board : SimBoard) (e : Entry) (bytes : List ℕ) → store_doubt (store_in board) ≡ Some (change_in e bytes)
     → OnOk r (Already l m (Some 6)) → OnOk r (IssuedKept l m (Some 6) (change_in e (machine_in board).memory))
-    → OnOk r ((size : Size) (b new : Bench) (did : Turned) → Follows size b l → HartMoves size b (words.Own did) new board → Follows size new m)
+    → OnOk r ((size : Size) (b new : Bench) (did : Did) → Follows size b l → HartMoves size b (words.Goes did) new board → Follows size new m)
 doubted_kept (Err f) l m board e bytes some stays takes = tt
 doubted_kept (Ok u) l m board e bytes some stays takes = λ size b new did was moved. doubted_hart size b new board l was did e bytes m moved some (λ z k d t is. stays z k d 6 t is refl) takes
 
 -- a board sleeps
 pub asleep_kept : {E : Type 0} (r : Result (Unit {0}) E) (l m : Ledger) (board : SimBoard) (head : ImageHead) → (durable_of (store_now (store_in board))).image ≡ Some head
     → OnOk r (IssuedKept l m None (Suspend head.hart head.address head.opaque (machine_in board).memory))
-    → OnOk r ((size : Size) (b new : Bench) → Follows size b l → HartMoves size b words.Asleep new board → Follows size new m)
+    → OnOk r ((size : Size) (b new : Bench) → Follows size b l → HartMoves size b (words.Over life_ends.Asleep) new board → Follows size new m)
 asleep_kept (Err f) l m board head is takes = tt
 asleep_kept (Ok u) l m board head is takes = λ size b new was moved.
     (let t = asleep size b new board l was moved in
@@ -303,14 +304,14 @@ asleep_kept (Ok u) l m board head is takes = λ size b new was moved.
     record { formatted = moved.same ∙ was.formatted; kept = takes size b.kept new.kept was.kept (subst C f t.4) (subst I f t.5) })
 
 -- there is an image then
-pub asleep_has : {A : Type 0} (size : Size) (b new : Bench) (board : SimBoard) (l : Ledger) → Follows size b l → HartMoves size b words.Asleep new board → (durable_of (store_now (store_in board))).image ≡ None → A
+pub asleep_has : {A : Type 0} (size : Size) (b new : Bench) (board : SimBoard) (l : Ledger) → Follows size b l → HartMoves size b (words.Over life_ends.Asleep) new board → (durable_of (store_now (store_in board))).image ≡ None → A
 asleep_has size b new board l was moved none =
     let t = asleep size b new board l was moved in
     absurd (let e : Some (record { serial = (found_of b.kept.changes).next; hart = t.0; address = t.1; opaque = t.2 }) ≡ None = sym t.3 ∙ none in let no : ⊥ = cc in no)
 
 -- a board was reset
 pub reset_kept : {E : Type 0} (r : Result (Unit {0}) E) (l m : Ledger) (board : SimBoard) (cause : Reason) → (durable_of (store_now (store_in board))).reason ≡ cause → OnOk r (IssuedKept l m None (Reset cause))
-    → OnOk r ((size : Size) (b new : Bench) (kind : ResetType) → Follows size b l → HartMoves size b (words.Reset kind) new board → Follows size new m)
+    → OnOk r ((size : Size) (b new : Bench) (kind : ResetType) → Follows size b l → HartMoves size b (words.Over (life_ends.Reset kind)) new board → Follows size new m)
 reset_kept (Err f) l m board cause is takes = tt
 reset_kept (Ok u) l m board cause is takes = λ size b new kind was moved.
     (let I : Reason → Type 0 = λ r. IssuedTold None (Reset r) b.kept new.kept in
@@ -323,22 +324,15 @@ HartKept l m word board = (size : Size) (b new : Bench) → Follows size b l →
 pub by_word : {E : Type 0} (r : Result (Unit {0}) E) (l m : Ledger) (board : SimBoard) (word x : Word) → word ≡ x → OnOk r (HartKept l m x board) → OnOk r (HartKept l m word board)
 by_word r l m board word x is kept = let P : Word → Type 0 = λ w. OnOk r (HartKept l m w board) in subst P (sym is) kept
 
-pub own_kept : {E : Type 0} (r : Result (Unit {0}) E) (l m : Ledger) (board : SimBoard) (did : Turned) → OnOk r ((size : Size) (b new : Bench) (did : Turned) → Follows size b l → HartMoves size b (words.Own did) new board → Follows size new m)
-    → OnOk r (HartKept l m (words.Own did) board)
+pub own_kept : {E : Type 0} (r : Result (Unit {0}) E) (l m : Ledger) (board : SimBoard) (did : Did) → OnOk r ((size : Size) (b new : Bench) (did : Did) → Follows size b l → HartMoves size b (words.Goes did) new board → Follows size new m)
+    → OnOk r (HartKept l m (words.Goes did) board)
 own_kept (Err f) l m board did kept = tt
 own_kept (Ok u) l m board did kept = λ size b new was moved. kept size b new did was moved
 
-pub resets_kept : {E : Type 0} (r : Result (Unit {0}) E) (l m : Ledger) (board : SimBoard) (kind : ResetType) → OnOk r ((size : Size) (b new : Bench) (kind : ResetType) → Follows size b l → HartMoves size b (words.Reset kind) new board → Follows size new m)
-    → OnOk r (HartKept l m (words.Reset kind) board)
+pub resets_kept : {E : Type 0} (r : Result (Unit {0}) E) (l m : Ledger) (board : SimBoard) (kind : ResetType) → OnOk r ((size : Size) (b new : Bench) (kind : ResetType) → Follows size b l → HartMoves size b (words.Over (life_ends.Reset kind)) new board → Follows size new m)
+    → OnOk r (HartKept l m (words.Over (life_ends.Reset kind)) board)
 resets_kept (Err f) l m board kind kept = tt
 resets_kept (Ok u) l m board kind kept = λ size b new was moved. kept size b new kind was moved
-
--- a board that dozes
-pub dozing_kept : (l : Ledger) (board : SimBoard) (word : Word) → word ≡ words.Dozing → HartKept l l word board
-dozing_kept l board word is size b new was moved =
-    let P : Word → Type 0 = λ w. HartMoves size b w new board in
-    let did = subst P is moved in
-    follows_same size b new l was did.told did.same
 
 -- ---- what is told in other words
 -- where Told holds of what was kept before and after, the ledger follows

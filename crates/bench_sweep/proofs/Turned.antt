@@ -15,15 +15,15 @@ use Rattle.susp.specs.declared.sleeps.Sleep.{Sleep}
 use Rattle.susp.specs.declared.sleeps.Sleep.TheVariants.{ToRam, ToDisk}
 use Rattle.sbi.specs.declared.resets.ResetType.{ResetType}
 use Rattle.sbi.specs.Resets.{reset_of}
-use Rattle.turns.specs.declared.words.Turned.{Turned}
-use Rattle.turns.specs.declared.words.Turned.TheVariants.{Next, Durable}
+use Rattle.sbi_calls.specs.declared.words.Turned.{Turned}
+use Rattle.sbi_calls.specs.declared.words.Turned.TheVariants.{Made, Durable}
+use Rattle.sbi_calls.specs.declared.words.Did.TheVariants.{Next}
 use Rattle.machine.specs.Machine.{Machine, hart_at}
 use Rattle.machine.specs.Turns.{MakesTurn, MakesOneCall, calling}
-use Rattle.machine.specs.Words.{ends}
-use Rattle.machine.specs.declared.parts.Called.{Called}
-use Rattle.machine.specs.declared.parts.Called.TheVariants.{NotStarted, Made}
-use Rattle.machine.specs.declared.parts.Word.{Word}
-use Rattle.machine.specs.declared.parts.Word.TheVariants as words
+use Rattle.sbi.specs.Words.{ends, word_of_sleep}
+use Rattle.sbi.specs.declared.words.Word.{Word}
+use Rattle.sbi.specs.declared.words.Word.TheVariants as words
+use Rattle.sbi.specs.declared.words.LifeEnd.TheVariants as life_ends
 use Rattle.machine_lines.specs.Shows.{HasHart, own_line}
 use Rattle.machine_lines.specs.declared.line.MachineLine.TheVariants as shown
 use Rattle.script_lang.specs.declared.line.Line.{Line}
@@ -68,18 +68,18 @@ module _ (size : Size) (h : ℕ) (life : BenchLife) (b : Bench) (word : Word) (n
   memory = life.machine.memory
 
   -- a hart that was answered goes on
-  refuses : (e : SbiError) (life2 : BenchLife) (mid : Bench) → HartTold size (words.Own Next) memory b.kept mid.kept → mid.disk_state ≡ b.disk_state → AnswersError e h life2 mid word new → Told size memory b word new
-  refuses e life2 mid tells same x = told_by size memory b word (words.Own Next) new (on_with (refused h e life2) mid) x.0 x.1 (tells, same)
+  refuses : (e : SbiError) (life2 : BenchLife) (mid : Bench) → HartTold size (words.Goes Next) memory b.kept mid.kept → mid.disk_state ≡ b.disk_state → AnswersError e h life2 mid word new → Told size memory b word new
+  refuses e life2 mid tells same x = told_by size memory b word (words.Goes Next) new (on_with (refused h e life2) mid) x.0 x.1 (tells, same)
 
   -- its command was refused
-  hides : (c : Change) (n : ℕ) (old now : Kept) → IsOfHart size memory c → IssuedTold (Some n) c old now → HartTold size (words.Own Next) memory old now
+  hides : (c : Change) (n : ℕ) (old now : Kept) → IsOfHart size memory c → IssuedTold (Some n) c old now → HartTold size (words.Goes Next) memory old now
   hides c n old now of_hart (inl x) = inl x.1
-  hides c n old now of_hart (inr x) = inr (c, of_hart, inr (refl, x.1, x.2, x.3))
+  hides c n old now of_hart (inr x) = inr (refl, c, of_hart, inr (refl, x.1, x.2, x.3))
 
-  reset : (kind : ResetType) (r : Reason) (o : Result ℕ ℕ) (mid : Bench) → Issued (Reset r) life b o mid → HartCommand o (words.Reset kind) h mid word new → Told size memory b word new
+  reset : (kind : ResetType) (r : Reason) (o : Result ℕ ℕ) (mid : Bench) → Issued (Reset r) life b o mid → HartCommand o (life_ends.Reset kind) h mid word new → Told size memory b word new
   reset kind r (Ok n) mid issued x =
       let t = issued_tells (Reset r) life b (Ok n) mid sound on issued in
-      told_by size memory b word (words.Reset kind) new (off mid) x.0 x.1 ((r, t.0), t.1)
+      told_by size memory b word (words.Over (life_ends.Reset kind)) new (off mid) x.0 x.1 ((r, t.0), t.1)
   reset kind r (Err n) mid issued (life2, at, x) =
       let t = issued_tells (Reset r) life b (Err n) mid sound on issued in
       refuses Failed life2 mid (hides (Reset r) n b.kept mid.kept tt t.0) t.1 x
@@ -91,24 +91,24 @@ module _ (size : Size) (h : ℕ) (life : BenchLife) (b : Bench) (word : Word) (n
   long : (id site : ℕ) → FitsBoard life.machine.size memory id site → length memory ≡ ram_bytes_of size
   long id site fits = fits.0 ∙ ap ram_bytes_of sized
 
-  slept : (id site opaque : ℕ) (o : Result ℕ ℕ) (mid : Bench) → FitsBoard life.machine.size memory id site → Issued (Suspend id site opaque memory) life b o mid → HartCommand o words.Asleep h mid word new → Told size memory b word new
+  slept : (id site opaque : ℕ) (o : Result ℕ ℕ) (mid : Bench) → FitsBoard life.machine.size memory id site → Issued (Suspend id site opaque memory) life b o mid → HartCommand o life_ends.Asleep h mid word new → Told size memory b word new
   slept id site opaque (Ok n) mid fits issued x =
       let t = issued_tells (Suspend id site opaque memory) life b (Ok n) mid sound on issued in
-      told_by size memory b word words.Asleep new (off mid) x.0 x.1 ((id, site, opaque, long id site fits, t.0), t.1)
+      told_by size memory b word (words.Over life_ends.Asleep) new (off mid) x.0 x.1 ((id, site, opaque, long id site fits, t.0), t.1)
   slept id site opaque (Err n) mid fits issued (life2, at, x) =
       let t = issued_tells (Suspend id site opaque memory) life b (Err n) mid sound on issued in
       refuses Failed life2 mid (hides (Suspend id site opaque memory) n b.kept mid.kept (refl, long id site fits) t.0) t.1 x
 
   -- a suspension that never came to the disk
-  awake : (n : ℕ) (o : Result ℕ ℕ) (mid as_was : Bench) → o ≡ Err n → mid ≡ as_was → as_was.kept ≡ b.kept → as_was.disk_state ≡ b.disk_state → HartCommand o words.Asleep h mid word new → Told size memory b word new
+  awake : (n : ℕ) (o : Result ℕ ℕ) (mid as_was : Bench) → o ≡ Err n → mid ≡ as_was → as_was.kept ≡ b.kept → as_was.disk_state ≡ b.disk_state → HartCommand o life_ends.Asleep h mid word new → Told size memory b word new
   awake n o mid as_was e is kept same x =
-      let P : Result ℕ ℕ → Type 0 = λ r. HartCommand r words.Asleep h mid word new in
+      let P : Result ℕ ℕ → Type 0 = λ r. HartCommand r life_ends.Asleep h mid word new in
       let y = subst P e x in
       refuses Failed y.0 mid (inl (ap (λ (m : Bench). m.kept) is ∙ kept)) (ap (λ (m : Bench). m.disk_state) is ∙ same) y.2
 
   -- to RAM nothing is asked of the disk
   falls : (sleep : Sleep) (site opaque : ℕ) → BenchFallsAsleep sleep site opaque h life b word new → Told size memory b word new
-  falls ToRam site opaque x = told_by size memory b word words.Dozing new (on_with (dozes h site opaque life) b) x.0 x.1 (refl, refl)
+  falls ToRam site opaque x = told_by size memory b word (word_of_sleep ToRam) new (on_with (dozes h site opaque life) b) x.0 x.1 (inl refl, refl)
   falls ToDisk site opaque (o, mid, inl x, y) = slept (hart_at life.machine h).id site opaque o mid x.0 x.1 y
   falls ToDisk site opaque (o, mid, inr (inl x), y) = awake 11 o mid (out_of_memory b) x.1 x.2 refl refl y
   falls ToDisk site opaque (o, mid, inr (inr x), y) = awake 3 o mid b x.1 x.2 refl refl y
@@ -128,19 +128,17 @@ module _ (size : Size) (h : ℕ) (life : BenchLife) (b : Bench) (word : Word) (n
 
   came_to : (did : Turned) → ComesTo did h life b word new → Told size memory b word new
   came_to Durable x = makes (call_of (hart_at life.machine h)) x
-  came_to did x = told_by size memory b word (words.Own did) new b x.0 x.1 (inl refl, refl)
+  came_to (Made did) x = told_by size memory b word (words.Goes did) new b x.0 x.1 (inl refl, refl)
 
 -- the memory stays
 memory_stays : (did : Turned) (h : ℕ) (m n : Machine) (old new : SimStore) (word : Word) → boards.Comes did h m n old new word → n.memory ≡ m.memory
-memory_stays Durable h m n old new word (held, (doze, after, does, e), w) = ap (λ (k : Machine). k.memory) e ∙ does.2
-memory_stays did h m n old new word x = ap (λ (k : Machine). k.memory) x.0
+memory_stays Durable h m n old new word (doze, after, does, e) = ap (λ (k : Machine). k.memory) e ∙ does.2
+memory_stays (Made did) h m n old new word x = ap (λ (k : Machine). k.memory) x.0
 
 -- ---- on a board
 stands_by : (size : Size) (word : Word) (b : Bench) (board : SimBoard) → Stands size word b (machine_in board) (store_in board) → BoardAfter size word b board
-stands_by size (words.Own did) b board is = running_on size b board is
-stands_by size words.Dozing b board is = running_on size b board is
-stands_by size words.Asleep b board is = is
-stands_by size (words.Reset kind) b board is = is
+stands_by size (words.Goes did) b board is = running_on size b board is
+stands_by size (words.Over end) b board is = is
 
 -- a life of a formatted disk goes on from what it keeps, on a board of its size
 linked : (size : Size) (b : Bench) (life : BenchLife) (z : Size) → b.disk_state ≡ Formatted → LifeIs size b.disk_state b.kept life z → GoesOn b.kept (Some life) × (life.machine.size ≡ size)
@@ -159,10 +157,8 @@ by_life size b board X was then = go b.power refl was.0
 
 -- what the line of a call says of its hart then
 reports : (size : Size) (h : ℕ) (word : Word) (b : Bench) (board : SimBoard) → BoardAfter size word b board → (a : Answer) × CallReported h word b a
-reports size h (words.Own did) b board is = by_life size b board ((a : Answer) × CallReported h (words.Own did) b a) is (λ life on at. (shows (own_line h (hart_at life.machine h) did), (life, on, refl)))
-reports size h words.Dozing b board is = (shows (shown.Called h words.Dozing), refl)
-reports size h words.Asleep b board is = (shows (shown.Called h words.Asleep), refl)
-reports size h (words.Reset kind) b board is = (shows (shown.Called h (words.Reset kind)), refl)
+reports size h (words.Goes did) b board is = by_life size b board ((a : Answer) × CallReported h (words.Goes did) b a) is (λ life on at. (shows (own_line h (hart_at life.machine h) did), (life, on, refl)))
+reports size h (words.Over end) b board is = (shows (shown.Called h (words.Over end)), refl)
 
 module _ (size : Size) (b : Bench) (old new : SimBoard) (h : ℕ) (formatted : b.disk_state ≡ Formatted) where
   -- the bench then, what it tells, and the step
@@ -203,27 +199,27 @@ module _ (size : Size) (b : Bench) (old new : SimBoard) (h : ℕ) (formatted : b
     CallMoves None = (n : Bench) × OnIs size n new × (n.kept ≡ b.kept) × (n.disk_state ≡ b.disk_state) × Does n
     CallMoves (Some word) = (n : Bench) × HartMoves size b word n new × Does n
 
-    does : (life : BenchLife) (mid : Machine) (by : Called) (a : Answer) (n : Bench) → b.power ≡ Some life → machine_in old ≡ life.machine → MakesOneCall h e f x y z life.machine mid by
+    does : (life : BenchLife) (mid : Machine) (by : Option Turned) (a : Answer) (n : Bench) → b.power ≡ Some life → machine_in old ≡ life.machine → MakesOneCall h e f x y z life.machine mid by
         → GuestCall by h (has_machine mid life) (on_with (has_machine mid life) b) a n → Does n
     does life mid by a n on same makes_it did =
         let H : Machine → Type 0 = λ m. HasHart m h in
         let P : Option BenchLife → Type 0 = λ p. CallStep p h e f x y z b a n in
         (a, subst P (sym on) (inl (subst H same has, mid, by, makes_it, did)))
 
-    called : (life : BenchLife) (mid : Machine) (by : Called) (said : Option Word) → b.power ≡ Some life → BoardIs size b.disk_state b.kept (Some life) old → DeviceIs size b (store_fault_state (store_in old)) (store_facts (store_in old)) → mid.size ≡ life.machine.size
+    called : (life : BenchLife) (mid : Machine) (by : Option Turned) (said : Option Word) → b.power ≡ Some life → BoardIs size b.disk_state b.kept (Some life) old → DeviceIs size b (store_fault_state (store_in old)) (store_facts (store_in old)) → mid.size ≡ life.machine.size
         → MakesOneCall h e f x y z life.machine mid by → boards.ComesOf by h mid (machine_in new) (store_in old) (store_in new) said → CallMoves said
-    called life mid NotStarted said on is device same makes_it (machine, still, none) =
+    called life mid None said on is device same makes_it (machine, still, none) =
         let n : Bench = on_with (has_machine mid life) b in
         let Q : SimStore → Type 0 = λ store. StoreIs size b.disk_state b.kept (has_machine mid life) store in
         let S : SimStore → Type 0 = λ store. DeviceIs size b (store_fault_state store) (store_facts store) in
         let C : Option Word → Type 0 = CallMoves in
-        let did = does life mid NotStarted (shows (shown.NotStarted h)) n on is.1 makes_it (refl, refl) in
+        let did = does life mid None (shows (shown.NotStarted h)) n on is.1 makes_it (refl, refl) in
         subst C (sym none) (n, ((subst Q (sym still) (has_other size b life mid (store_in old) same is.0), machine), subst S (sym still) device), refl, refl, did)
-    called life mid (Made did) said on is device same makes_it (word, came, some) =
+    called life mid (Some did) said on is device same makes_it (word, came, some) =
         let C : Option Word → Type 0 = CallMoves in
         let m = moved life mid did word is device same came in
         let r = reports size h word m.0 new m.1.after in
-        subst C (sym some) (m.0, m.1, does life mid (Made did) r.0 m.0 on is.1 makes_it (word, m.2, r.1))
+        subst C (sym some) (m.0, m.1, does life mid (Some did) r.0 m.0 on is.1 makes_it (word, m.2, r.1))
 
     pub call_moves : (said : Option Word) → OnIs size b old → boards.CallsHeld h e f x y z (machine_in old) (machine_in new) (store_in old) (store_in new) said → CallMoves said
     call_moves said was (mid, by, makes_it, came) = by_life size b old (CallMoves said) was calls_by
@@ -279,17 +275,13 @@ next_turn h left count b word mid said new far goes_on calm (life, on, turn) = r
 
 -- a board whose life goes on
 goes_still : (size : Size) (word : Word) (b : Bench) (board : SimBoard) → ends word ≡ false → BoardAfter size word b board → OnIs size b board
-goes_still size (words.Own did) b board e is = is
-goes_still size words.Dozing b board e is = absurd (let no : ⊥ = cc in no)
-goes_still size words.Asleep b board e is = absurd (let no : ⊥ = cc in no)
-goes_still size (words.Reset kind) b board e is = absurd (let no : ⊥ = cc in no)
+goes_still size (words.Goes did) b board e is = is
+goes_still size (words.Over end) b board e is = absurd (let no : ⊥ = cc in no)
 
 -- whether a cut struck, by the disk
 struck_as : (size : Size) (word : Word) (b : Bench) (board : SimBoard) → BoardAfter size word b board → b.fault_state.struck ≡ (store_fault_state (store_in board)).struck
-struck_as size (words.Own did) b board is = ap (λ (m : FaultState). m.struck) is.1.0
-struck_as size words.Dozing b board is = ap (λ (m : FaultState). m.struck) is.1.0
-struck_as size words.Asleep b board is = ap (λ (m : FaultState). m.struck) is.2.0
-struck_as size (words.Reset kind) b board is = ap (λ (m : FaultState). m.struck) is.2.0
+struck_as size (words.Goes did) b board is = ap (λ (m : FaultState). m.struck) is.1.0
+struck_as size (words.Over end) b board is = ap (λ (m : FaultState). m.struck) is.2.0
 
 module _ (size : Size) (h count : ℕ) (b : Bench) where
   -- the turns so far

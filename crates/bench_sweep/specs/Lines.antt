@@ -1,7 +1,7 @@
 -- What a line that moves harts does, by the steps of the model, and that the ledger follows it.
 use Rattle.std.specs.Prelude.{◌≡◌, ℕ, Option, None, Some}
 use Rattle.board_model.specs.Shapes.{Size}
-use Rattle.machine.specs.declared.parts.Word.{Word}
+use Rattle.sbi.specs.declared.words.Word.{Word}
 use Rattle.script_lang.specs.declared.line.Line.{Line}
 use Rattle.bench_report.specs.declared.printed.Answer.{Answer}
 use Rattle.bench_report.specs.declared.power.Power.{Power}

@@ -9,7 +9,7 @@ use Rattle.board_model.specs.Views.{durable_of}
 use Rattle.board_model.specs.declared.durable.Durable.{Durable}
 use Rattle.disk.specs.FaultState.{FaultState, fault_state_left}
 use Rattle.simdisk.specs.declared.SimDisk.{SimDisk}
-use Rattle.machine.specs.declared.parts.Word.{Word}
+use Rattle.sbi.specs.declared.words.Word.{Word}
 use Rattle.script_lang.specs.declared.line.Line.{Line}
 use Rattle.script_lang.specs.declared.line.Line.TheVariants as lines
 use Rattle.bench_report.specs.declared.printed.Answer.{Answer}

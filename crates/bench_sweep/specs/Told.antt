@@ -14,8 +14,10 @@ use Rattle.board_console.specs.declared.command_words.ConsoleWord.{ConsoleWord}
 use Rattle.board_console.specs.declared.command_words.ConsoleWord.TheVariants as names
 use Rattle.script_lang.specs.declared.line.Line.{Line}
 use Rattle.script_lang.specs.declared.line.Line.TheVariants as lines
-use Rattle.machine.specs.declared.parts.Word.{Word}
-use Rattle.machine.specs.declared.parts.Word.TheVariants as words
+use Rattle.sbi.specs.declared.words.Word.{Word}
+use Rattle.sbi.specs.declared.words.Word.TheVariants as words
+use Rattle.sbi.specs.declared.words.LifeEnd.TheVariants as life_ends
+use Rattle.sbi_calls.specs.Words.{is_answered}
 use Rattle.bench_report.specs.declared.printed.Printed.{Printed}
 use Rattle.bench_report.specs.declared.printed.Printed.TheVariants as printed
 use Rattle.bench_report.specs.declared.printed.Answer.{Answer}
@@ -113,13 +115,13 @@ IsOfHart size memory (Reset r) = Unit {0}
 IsOfHart size memory (Suspend hart address opaque bytes) = (bytes ≡ memory) × (length memory ≡ ram_bytes_of size)
 IsOfHart size memory c = ⊥
 
--- what a turn of a hart, or its call, tells by its word, where that is the memory then: one that goes on may hide a
--- command in doubt; a board that dozes asked nothing of the disk
+-- what a turn of a hart, or its call, tells by its word, where that is the memory then: a hart that was answered, or
+-- made a step, may hide a command in doubt
 abbrev pub HartTold : Size → Word → List ℕ → Kept → Kept → Type 0
-HartTold size (words.Own did) memory old new =
-    (new ≡ old) ⊎ ((c : Change) × IsOfHart size memory c × IssuedTold (Some 6) c old new)
-HartTold size words.Dozing memory old new = new ≡ old
-HartTold size words.Asleep memory old new =
+HartTold size (words.Goes did) memory old new =
+    (new ≡ old)
+    ⊎ ((is_answered did ≡ true) × (c : Change) × IsOfHart size memory c × IssuedTold (Some 6) c old new)
+HartTold size (words.Over life_ends.Asleep) memory old new =
     (hart address opaque : ℕ) × (length memory ≡ ram_bytes_of size)
     × IssuedTold None (Suspend hart address opaque memory) old new
-HartTold size (words.Reset kind) memory old new = (r : Reason) × IssuedTold None (Reset r) old new
+HartTold size (words.Over (life_ends.Reset kind)) memory old new = (r : Reason) × IssuedTold None (Reset r) old new

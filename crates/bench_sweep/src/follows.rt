@@ -9,9 +9,10 @@ ghost use Rattle.board_model.specs.declared.durable.ImageHead.{ImageHead};
 ghost use Rattle.board_model.specs.declared.refusal.Refusal.TheVariants.{Memory};
 ghost use Rattle.board.specs.Moments.{attempts_of};
 ghost use Rattle.bench_report.specs.declared.printed.Printed.TheVariants.{OnRefused};
-ghost use Rattle.turns.specs.declared.words.Turned.{Turned};
+ghost use Rattle.sbi_calls.specs.declared.words.Did.{Did};
 ghost use Rattle.sbi.specs.declared.resets.ResetType.{ResetType};
-ghost use Rattle.machine.specs.declared.parts.Word.TheVariants as words;
+ghost use Rattle.sbi.specs.declared.words.Word.TheVariants as words;
+ghost use Rattle.sbi.specs.declared.words.LifeEnd.TheVariants as life_ends;
 ghost use Rattle.bench_report.specs.Bench.{Bench};
 ghost use Rattle.bench_sweep.specs.Runs.{TellsWhole, Follows, HartMoves};
 ghost use Rattle.bench_sweep.specs.Resumes.{image_told, serial_of, consumed, booted, powered, power_resumes, Resumes};
@@ -21,7 +22,7 @@ use bench_judge::Ledger;
 use bench_report::{Answer, Printed};
 use board::Board;
 use board_model::{BootMode, Command, Durable, Entry, Refusal, Trial};
-use machine::Word;
+use machine::{LifeEnd, Word};
 use script_lang::Line;
 use simdisk::SimDisk;
 use std::alloc::Global;
@@ -316,8 +317,8 @@ pub fn follows(
 
 /// A hart of that board goes on: a command of it may be in doubt.
 fn goes_on(ledger: &mut Ledger, alloc: Global, board: &Board<SimDisk>) -> Result<(), Refusal>
-    ensures kept { OnOk result ((size : Size) (b new : Bench) (did : Turned) → Follows size b ledger.old
-        → HartMoves size b (words.Own did) new board.now → Follows size new ledger.new) }
+    ensures kept { OnOk result ((size : Size) (b new : Bench) (did : Did) → Follows size b ledger.old
+        → HartMoves size b (words.Goes did) new board.now → Follows size new ledger.new) }
     ensures resumed { ledger.new.resumed ≡ ledger.old.resumed }
     ensures memory { IfErr result (λ e. e ≡ Memory) }
 {
@@ -342,7 +343,7 @@ fn suspension_in(now: Durable) -> Option<Entry>
 /// That board sleeps; the memory of its suspension is still the one of the call.
 fn sleeps(ledger: &mut Ledger, alloc: Global, board: &Board<SimDisk>) -> Result<(), Refusal>
     ensures kept { OnOk result ((size : Size) (b new : Bench) → Follows size b ledger.old
-        → HartMoves size b words.Asleep new board.now → Follows size new ledger.new) }
+        → HartMoves size b (words.Over life_ends.Asleep) new board.now → Follows size new ledger.new) }
     ensures resumed { ledger.new.resumed ≡ ledger.old.resumed }
     ensures memory { IfErr result (λ e. e ≡ Memory) }
 {
@@ -358,12 +359,30 @@ fn sleeps(ledger: &mut Ledger, alloc: Global, board: &Board<SimDisk>) -> Result<
 /// That board was reset.
 fn resets(ledger: &mut Ledger, alloc: Global, board: &Board<SimDisk>) -> Result<(), Refusal>
     ensures kept { OnOk result ((size : Size) (b new : Bench) (kind : ResetType) → Follows size b ledger.old
-        → HartMoves size b (words.Reset kind) new board.now → Follows size new ledger.new) }
+        → HartMoves size b (words.Over (life_ends.Reset kind)) new board.now → Follows size new ledger.new) }
     ensures resumed { ledger.new.resumed ≡ ledger.old.resumed }
     ensures memory { IfErr result (λ e. e ≡ Memory) }
 {
     let entry = Entry::Command(Command::Reset(board.now().reason));
     issued(ledger, alloc, entry, &[], None)
+}
+
+/// A hart of that board ended the life so.
+fn ended(
+    ledger: &mut Ledger,
+    alloc: Global,
+    board: &Board<SimDisk>,
+    end: LifeEnd,
+) -> Result<(), Refusal>
+    ensures kept { OnOk result ((size : Size) (b new : Bench) → Follows size b ledger.old
+        → HartMoves size b (words.Over end) new board.now → Follows size new ledger.new) }
+    ensures resumed { ledger.new.resumed ≡ ledger.old.resumed }
+    ensures memory { IfErr result (λ e. e ≡ Memory) }
+{
+    match end {
+        LifeEnd::Asleep => sleeps(ledger, alloc, board),
+        LifeEnd::Reset(_) => resets(ledger, alloc, board),
+    }
 }
 
 /// A turn of a hart of that board, or its call, ended so. The hart asked for one command at most, and the memory
@@ -380,10 +399,7 @@ pub fn follows_hart(
     ensures memory { IfErr result (λ e. e ≡ Memory) }
 {
     match word {
-        Word::Own(_) => goes_on(ledger, alloc, board),
-        // the disk was not asked
-        Word::Dozing => Ok(()),
-        Word::Asleep => sleeps(ledger, alloc, board),
-        Word::Reset(_) => resets(ledger, alloc, board),
+        Word::Goes(_) => goes_on(ledger, alloc, board),
+        Word::Over(end) => ended(ledger, alloc, board, end),
     }
 }

@@ -18,7 +18,7 @@ use bench_report::{Power, after};
 use board::Board;
 use board_model::{HartId, Refusal, Shape};
 use crew::Crew;
-use machine::{Word, ends};
+use machine::Word;
 use script_lang::Line;
 use simdisk::SimDisk;
 use std::alloc::Global;
@@ -61,7 +61,7 @@ fn turned<C: Crew>(
 {
     let mut word = turned_once(alloc, crew, board, hart, ledger)?;
     let mut left = count - 1;
-    while 0 < left && !ends(word) && !board.struck() {
+    while 0 < left && !word.ends_row() && !board.struck() {
         word = turned_once(alloc, crew, board, hart, ledger)?;
         left -= 1;
     }

@@ -1,5 +1,5 @@
 use Rattle.std.proofs.Common.{◌≡◌, ◌-◌, true, false, inl, inr, refl, ◌∙◌, rules, arith}
-use Rattle.machine.specs.Words.{ends}
+use Rattle.sbi.specs.Words.{ends}
 use Rattle.bench_report.specs.Views.{store_in, store_fault_state}
 use Rattle.bench_sweep.proofs.Turned.{far_first, far_more, far_all}
 use Rattle.bench_sweep.proofs.harts.turned.Goals as goal
@@ -28,8 +28,8 @@ returns-after-loop-left-clause-goes g c = λ size b was told.
     let none : c.loop-left.left ≡ 0 = omega arith in
     far_all size c.args.hart c.args.count b c.loop-left.left c.loop-left.word c.loop-left.board c.loop-left.ledger (inr (inl none)) (c.loop-left.invariant.goes size b was told)
 
-pub returns-else-not-ends-clause-goes : goal.returns-else-not-ends-clause-goes
-returns-else-not-ends-clause-goes g c = λ size b was told.
+pub returns-else-not-ends_row-clause-goes : goal.returns-else-not-ends_row-clause-goes
+returns-else-not-ends_row-clause-goes g c = λ size b was told.
     let last : ends c.loop-left.word ≡ true = search rules in
     far_all size c.args.hart c.args.count b c.loop-left.left c.loop-left.word c.loop-left.board c.loop-left.ledger (inl last) (c.loop-left.invariant.goes size b was told)
 
