@@ -1,7 +1,7 @@
 -- What a hart did, by what follows from it. Source: docs/BOARD.md, "A turn of a hart".
 use Rattle.std.specs.Prelude.{Bool, true, false}
 use Rattle.hsm_rule.specs.declared.view.Stage.{Stage}
-use Rattle.hsm_rule.specs.declared.view.Stage.TheVariants.{Out, Running, Asleep, Quiet}
+use Rattle.hsm_rule.specs.declared.view.Stage.TheVariants as stages
 use Rattle.sbi_calls.specs.declared.words.Did.{Did}
 use Rattle.sbi_calls.specs.declared.words.Did.TheVariants.{Next, Suspended, Stopped, Dozing}
 use Rattle.sbi_calls.specs.declared.words.Turned.{Turned}
@@ -25,12 +25,12 @@ ends_row did = false
 
 -- where a hart that made a call then stands in the hart table: the hart of a doze is quiet
 abbrev pub stage_of : Did → Stage
-stage_of Suspended = Asleep
-stage_of Stopped = Out
-stage_of Dozing = Quiet
-stage_of did = Running
+stage_of Suspended = stages.Suspended
+stage_of Stopped = stages.Out
+stage_of Dozing = stages.Quiet
+stage_of did = stages.Running
 
 -- and one that stands at a durable call is STARTED
 abbrev pub stage_by : Turned → Stage
 stage_by (Made did) = stage_of did
-stage_by Durable = Running
+stage_by Durable = stages.Running
