@@ -2,15 +2,13 @@
 use Rattle.std.proofs.Common.{◌≡◌, ◌↔◌, ◌∙◌, ℕ, Bool, true, false, true≢false, IsTrue, List, Result, Ok, Err, refl, sym, inl, inr}
 use Rattle.disk.specs.declared.device.Disk.{Ghosts}
 use Rattle.disk.specs.declared.device.Lane.{Ghosts as Lanes}
-use Rattle.board_model.specs.declared.refusal.Refusal.{Refusal}
 use Rattle.hsm.specs.Calls.{KeepsOthers, ActsAlone}
 use Rattle.hsm_rule.specs.Words.{HartSeatView, HartView}
-use Rattle.hsm_rule.specs.declared.view.Stage.TheVariants.{Running}
-use Rattle.hsm_rule.specs.declared.view.Action.TheVariants.{Quieted, Unquieted}
+use Rattle.hsm_rule.specs.declared.view.Action.TheVariants.{Quieted}
 use Rattle.hsm_rule.specs.Rule.{HasNoted}
 use Rattle.hsm_rule.specs.States.{HartState, Shows}
 use Rattle.hsm_steps.specs.Outcomes.{after_quiet}
-use Rattle.sbi_abi.specs.declared.ret.SbiError.TheVariants.{Failed, Denied}
+use Rattle.sbi_abi.specs.declared.ret.SbiError.TheVariants.{Denied}
 use Rattle.store.specs.Views.{size_of_store}
 use Rattle.store.specs.declared.stores.Store.{Store}
 use Rattle.susp.specs.Checks.{IsChecked}

@@ -1,13 +1,12 @@
 -- What a system suspend does, in its order: its arguments, the quiet, the store. Source: SBI specification
 -- 2.0, chapter 13; docs/SBI.md.
-use Rattle.std.specs.Prelude.{◌≡◌, ◌≢◌, ◌⊎◌, ◌<◌, ℕ, List, Option, Some, None, Result, Ok, Err}
+use Rattle.std.specs.Prelude.{◌≡◌, ◌≢◌, ◌⊎◌, ◌<◌, ℕ, List, Some, Result, Ok, Err}
 use Rattle.std.specs.Int.{bit_at}
-use Rattle.atomic_table.specs.declared.shared.Seat.{Seat}
 use Rattle.board_model.specs.Durable.{Suspend}
 use Rattle.board_model.specs.declared.refusal.Refusal.{Refusal}
 use Rattle.disk.specs.declared.device.Disk.{Ghosts}
 use Rattle.disk.specs.declared.device.Lane.{Ghosts as Lanes}
-use Rattle.hsm_rule.specs.Words.{HartSeatView, HartView}
+use Rattle.hsm_rule.specs.Words.{HartView}
 use Rattle.hsm_rule.specs.declared.view.Stage.{Stage}
 use Rattle.hsm_rule.specs.declared.view.Stage.TheVariants.{Running, Quiet}
 use Rattle.hsm_rule.specs.declared.view.Action.TheVariants.{Quieted, Unquieted}
