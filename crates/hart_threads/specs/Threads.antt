@@ -1,9 +1,9 @@
 -- A hart's turns on a thread of its own: each turn's own steps on the tables and what came of it, whatever
 -- the other threads do between two of them. Source: docs/THREADS.md; docs/BOARD.md, "A turn of a hart".
-use Rattle.std.specs.Prelude.{◌≡◌, ◌⊎◌, ◌<◌, ℕ, zero, suc, Bool, true, false, List, Option, Some, None, Result, Ok, Err}
-use Rattle.board_model.specs.declared.durable.Command.TheVariants as commands
+use Rattle.std.specs.Prelude.{◌≡◌, ◌⊎◌, ◌<◌, ℕ, zero, suc, Bool, true, false, List, [], Option, Some, None, Result, Ok, Err}
+use Rattle.board_model.specs.Durable.{ends_life as ends_the_life}
+use Rattle.board_model.specs.Views.{change_in}
 use Rattle.board_model.specs.declared.durable.Entry.{Entry}
-use Rattle.board_model.specs.declared.durable.Entry.TheVariants as entries
 use Rattle.board_model.specs.Shapes.{Size}
 use Rattle.board_model.specs.declared.durable.Reason.{Reason}
 use Rattle.hart.specs.State.{ArchState, answered, started as fresh}
@@ -160,16 +160,9 @@ LoopOnce size answers hears turns made a b whys.Gate told =
 LoopOnce size answers hears turns made a b whys.Turns told =
     TurnsOn size answers hears made a b × (made ≡ turns) × (told ≡ None)
 
--- a reset or a suspension
+-- a command that ends the life
 abbrev pub is_end : Entry → Bool
-is_end (entries.Command (commands.Slot n)) = false
-is_end (entries.Command (commands.Reset cause)) = true
-is_end (entries.Command commands.Consume) = false
-is_end (entries.Command commands.Discard) = false
-is_end (entries.Command (commands.Tries n boots)) = false
-is_end (entries.Command commands.Good) = false
-is_end (entries.Command commands.Attempt) = false
-is_end (entries.Suspend hart address opaque) = true
+is_end entry = ends_the_life (change_in entry [])
 
 -- the receipt that a loop has, if it has one, is that of such a command
 abbrev pub ends_life : Option (ℕ × Entry) → Bool

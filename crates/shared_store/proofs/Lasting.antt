@@ -2,7 +2,8 @@
 use Rattle.std.proofs.Common.{◌≡◌, ◌∙◌, ℕ, zero, suc, ◌+◌, ◌-◌, ◌≤◌, ◌<◌, true, List, [], ◌∷◌, ◌++◌, Some, length, get_or, arith, refl, sym, ap, subst}
 use Rattle.board_model.specs.Durable.{DurableState, Change}
 use Rattle.board_model.specs.Shapes.{Size}
-use Rattle.board_model.specs.Views.{change_in}
+use Rattle.board_model.specs.Views.{change_in, entry_of}
+use Rattle.board_model.proofs.Steps.{entry_of_change}
 use Rattle.board_model.specs.declared.durable.Entry.{Entry}
 use Rattle.sbi_abi.specs.declared.call.Call.{Call}
 use Rattle.sbi_calls.specs.declared.words.Did.{Did}
@@ -14,8 +15,8 @@ use Rattle.shared_store.specs.Legal.{BeginsWith, IsToldOf}
 use Rattle.shared_store.proofs.Naming.{begins_on}
 use Rattle.tallies.specs.Logs.{Log}
 use Rattle.receipts.specs.Books.{entries_of}
-use Rattle.shared_store.specs.Noted.{entry_in, entries_in}
-use Rattle.shared_store.proofs.Noting.{entry_of_change, number, tied_on}
+use Rattle.shared_store.specs.Noted.{entries_in}
+use Rattle.shared_store.proofs.Noting.{number, tied_on}
 use Rattle.shared_store.specs.Called.{AsksFor, AddsBy, IsLastOf, IsToldBy}
 
 pub one_longer : (xs ys : List Change) (c : Change) → ys ≡ xs ++ c ∷ [] → length ys ≡ length xs + 1
@@ -80,7 +81,7 @@ module _ (size : Size) (call : Call) (by : ℕ) (end : LifeEnd) (old new : List 
       let longer = g.longer in
       let place : n - 1 ≡ length old = omega (arith, last.1, longer) in
       let same : d ≡ c = sym last.2.1 ∙ ap (λ (xs : List Change). get_or xs (n - 1) d) g.grown ∙ ap (λ (k : ℕ). get_or (old ++ c ∷ []) k d) place ∙ at_end old c d in
-      sym (entry_of_change entry last.2.0) ∙ ap entry_in same ∙ entry_of_change g.entry g.memory
+      sym (entry_of_change entry last.2.0) ∙ ap entry_of same ∙ entry_of_change g.entry g.memory
 
   pub told_of : (word : Word) (t told : ℕ × Entry) → word ≡ Over end → told ≡ t → IsLastOf new t.0 t.1 → IsToldBy size call by word (Some told)
   told_of word t told is made last =

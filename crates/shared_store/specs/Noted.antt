@@ -1,26 +1,15 @@
 -- The receipts of a journal's commands, and whom they were told. Source: docs/THREADS.md, "Receipts".
 use Rattle.std.specs.Prelude.{ℕ, suc, List, [], ◌∷◌, length, Option, Some, None, Result, Ok, Err, map}
-use Rattle.board_model.specs.Durable.{Change, Slot, Reset, Suspend, Consume, Discard, Tries, Good, Attempt}
-use Rattle.board_model.specs.declared.durable.Command.TheVariants as commands
+use Rattle.board_model.specs.Durable.{Change}
+use Rattle.board_model.specs.Views.{entry_of}
 use Rattle.board_model.specs.declared.durable.Entry.{Entry}
-use Rattle.board_model.specs.declared.durable.Entry.TheVariants as entries
 use Rattle.board_model.specs.declared.refusal.Refusal.{Refusal}
 use Rattle.receipts.specs.Books.{told_after}
 use Rattle.receipts.specs.declared.views.PartView.{PartView}
 
--- a command of a journal without the memory of a suspension
-abbrev pub entry_in : Change → Entry
-entry_in (Slot n) = entries.Command (commands.Slot n)
-entry_in (Reset r) = entries.Command (commands.Reset r)
-entry_in Consume = entries.Command commands.Consume
-entry_in Discard = entries.Command commands.Discard
-entry_in (Tries n boots) = entries.Command (commands.Tries n boots)
-entry_in Good = entries.Command commands.Good
-entry_in Attempt = entries.Command commands.Attempt
-entry_in (Suspend hart address opaque memory) = entries.Suspend hart address opaque
-
+-- the commands of a journal, without the memory of a suspension
 abbrev pub entries_in : List Change → List Entry
-entries_in = map entry_in
+entries_in = map entry_of
 
 -- a part, after what was told
 abbrev pub part_after : Option (ℕ × Entry) → PartView → PartView
@@ -35,7 +24,7 @@ part_by (Err e) d = d
 -- after those before it
 abbrev pub told_on : List Change → List (ℕ × Entry) → List (ℕ × Entry)
 told_on [] told = told
-told_on (c ∷ cs) told = told_on cs ((suc (length told), entry_in c) ∷ told)
+told_on (c ∷ cs) told = told_on cs ((suc (length told), entry_of c) ∷ told)
 
 -- what the boot's part was told: the receipts of all commands that the boot issued, from 1
 abbrev pub boot_told : List Change → List (ℕ × Entry)

@@ -10,7 +10,8 @@ use Rattle.board_model.specs.declared.durable.Entry.TheVariants as entries
 use Rattle.receipts.specs.Books.{entries_of, told_after}
 use Rattle.receipts.specs.declared.views.BookView.{BookView}
 use Rattle.shared_store.specs.Noted.{entries_in}
-use Rattle.shared_store.proofs.Noting.{entry_of_command, number, tied_on}
+use Rattle.board_model.proofs.Steps.{entry_of_command}
+use Rattle.shared_store.proofs.Noting.{number, tied_on}
 use Rattle.shared_store.proofs.Lasting.{one_longer}
 use Rattle.shared_store.proofs.shared.SharedStore.apply.Goals as goal
 
