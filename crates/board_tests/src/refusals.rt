@@ -6,7 +6,7 @@ use crate::fixtures::{call, formatted, one_payload, powered, same, shown, unpowe
 use board::{Board, Payloads, Unpowered};
 use board_model::{BootMode, RAM_BASE, Refusal};
 use disk::Disk;
-use machine::Word;
+use machine::{LifeEnd, Word};
 use simdisk::SimDisk;
 use std::alloc::Global;
 use std::process::Abort;
@@ -133,7 +133,11 @@ fn asleep<R: AllocGlobal + Threads + Sync + Abort>(rt: &R) -> Result<SimDisk, Fa
     let disk = formatted(rt.alloc(), 1)?;
     let mut board = powered(rt.alloc(), disk, BootMode::Fresh, &payloads)?;
     let asked = [0x5355_5350, 0, 0x8000_0001, RAM_BASE, 7];
-    same(rt, call(rt, &mut board, 0, asked), Some(Word::Asleep));
+    same(
+        rt,
+        call(rt, &mut board, 0, asked),
+        Some(Word::Over(LifeEnd::Asleep)),
+    );
     Ok(board.into_disk())
 }
 
