@@ -72,7 +72,11 @@ fn slept(doze: &Option<Doze>) -> Option<(u32, u64, u64, bool)> {
 fn a_doze_is_taken_apart(rt: HostRuntime) -> Result<(), Fail> {
     let mut board = booted(rt.alloc(), 1, BootMode::Fresh, &Payloads::new(rt.alloc()))?;
     let asked = [0x5355_5350, 0, 0, RAM_BASE, 9];
-    same(&rt, call(&rt, &mut board, 0, asked), Some(Word::Goes(Did::Dozing)));
+    same(
+        &rt,
+        call(&rt, &mut board, 0, asked),
+        Some(Word::Goes(Did::Dozing)),
+    );
     let parts = board.into_parts();
     same(&rt, slept(&parts.bus.doze), Some((0, RAM_BASE, 9, false)));
     Ok(())

@@ -133,7 +133,11 @@ fn asleep<R: AllocGlobal + Threads + Sync + Abort>(rt: &R) -> Result<SimDisk, Fa
     let disk = formatted(rt.alloc(), 1)?;
     let mut board = powered(rt.alloc(), disk, BootMode::Fresh, &payloads)?;
     let asked = [0x5355_5350, 0, 0x8000_0001, RAM_BASE, 7];
-    same(rt, call(rt, &mut board, 0, asked), Some(Word::Over(LifeEnd::Asleep)));
+    same(
+        rt,
+        call(rt, &mut board, 0, asked),
+        Some(Word::Over(LifeEnd::Asleep)),
+    );
     Ok(board.into_disk())
 }
 
