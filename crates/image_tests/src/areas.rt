@@ -214,7 +214,7 @@ fn places_in_use<C: Crew>(alloc: Global, crew: &C, pages: u64, lanes: u64) -> Re
     Ok(places)
 }
 
-/// No number of pages from that one on, 32 in all, is refused memory that there is.
+/// No number of pages from that one on, 128 in all, is refused memory that there is.
 fn are_written<R: Abort + thread::Threads + Sync>(
     rt: &R,
     alloc: Global,
@@ -223,7 +223,7 @@ fn are_written<R: Abort + thread::Threads + Sync>(
     requires { first ≤ 256 }
 {
     let turns: Sequential<R> = Sequential::new([1, 3, 0, 2])?;
-    for pages in first..first + 32 {
+    for pages in first..first + 128 {
         let places = places_in_use(alloc, &turns, pages, pages % 4 + 1)?;
         same(rt, places, pages);
     }
@@ -231,43 +231,13 @@ fn are_written<R: Abort + thread::Threads + Sync>(
 }
 
 #[test]
-fn each_number_of_pages_to_32(rt: HostRuntime) -> Result<(), Fail> {
+fn each_number_of_pages_to_128(rt: HostRuntime) -> Result<(), Fail> {
     are_written(&rt, rt.alloc(), 1)
 }
 
 #[test]
-fn each_number_of_pages_to_64(rt: HostRuntime) -> Result<(), Fail> {
-    are_written(&rt, rt.alloc(), 33)
-}
-
-#[test]
-fn each_number_of_pages_to_96(rt: HostRuntime) -> Result<(), Fail> {
-    are_written(&rt, rt.alloc(), 65)
-}
-
-#[test]
-fn each_number_of_pages_to_128(rt: HostRuntime) -> Result<(), Fail> {
-    are_written(&rt, rt.alloc(), 97)
-}
-
-#[test]
-fn each_number_of_pages_to_160(rt: HostRuntime) -> Result<(), Fail> {
-    are_written(&rt, rt.alloc(), 129)
-}
-
-#[test]
-fn each_number_of_pages_to_192(rt: HostRuntime) -> Result<(), Fail> {
-    are_written(&rt, rt.alloc(), 161)
-}
-
-#[test]
-fn each_number_of_pages_to_224(rt: HostRuntime) -> Result<(), Fail> {
-    are_written(&rt, rt.alloc(), 193)
-}
-
-#[test]
 fn each_number_of_pages_to_256(rt: HostRuntime) -> Result<(), Fail> {
-    are_written(&rt, rt.alloc(), 225)
+    are_written(&rt, rt.alloc(), 129)
 }
 
 #[test]
