@@ -4,11 +4,8 @@ use Rattle.board_model.specs.Durable.{Change, after, ends_life}
 use Rattle.board_model.specs.Kept.{Kept}
 use Rattle.board_model.specs.Shapes.{Size}
 use Rattle.board_model.specs.Views.{number_of_refusal, change_of}
-use Rattle.board_model.specs.declared.durable.Command.{Command}
-use Rattle.board_model.specs.declared.durable.Command.TheVariants as commands
 use Rattle.board_model.specs.declared.refusal.Refusal.{Refusal}
 use Rattle.board_model.specs.declared.refusal.Refusal.TheVariants.{Device, Down, Memory, JournalFull}
-use Rattle.board.specs.Boots.{IsConsoleCommand}
 use Rattle.disk.specs.Facts.{Failed}
 use Rattle.machine.specs.Machine.{Machine}
 use Rattle.simdisk.specs.contracts.device.SimDiskDisk.TheImpl.Laws.{may_keep-law}
@@ -29,16 +26,6 @@ use Rattle.bench_report.proofs.Sides.{commanded}
 use Rattle.bench_report.proofs.Ended.{found_more}
 use Rattle.bench_report.proofs.Formats.{same_error}
 use Rattle.bench_report.proofs.Table.{not_device, not_down, not_memory}
-
--- a command of the console ends no life
-pub console_goes_on : (command : Command) → IsConsoleCommand command → ends_life (change_of command) ≡ false
-console_goes_on (commands.Slot n) is = refl
-console_goes_on (commands.Reset r) is = absurd is
-console_goes_on commands.Consume is = absurd is
-console_goes_on commands.Discard is = refl
-console_goes_on (commands.Tries n boots) is = refl
-console_goes_on commands.Good is = refl
-console_goes_on commands.Attempt is = absurd is
 
 -- a board that is on, by its machine and its store
 abbrev pub Running : Size → Bench → Machine → SimStore → Type 0

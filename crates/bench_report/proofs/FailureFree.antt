@@ -1,4 +1,5 @@
 -- A report whose lines are failure-free: no power-on was refused memory, and no failure was answered.
+use Rattle.board_model.specs.declared.call_words.CallWords.{CallWords}
 use Rattle.std.proofs.Common.{◌≡◌, ◌≢◌, ℕ, zero, suc, arith, inl, inr, List, [], ◌∷◌, Bool, true, false, Option, None, Some, Result, Ok, Err, refl, ◌∙◌, ap, subst}
 use Rattle.std.specs.Bool.{⊤}
 use Rattle.board_model.specs.Durable.{DurableState, Change, Slot, Reset, Discard, Tries, Good, refusal_of}
@@ -29,11 +30,10 @@ use Rattle.board_model.specs.declared.durable.Reason.{Reason}
 use Rattle.script_lang.specs.Scripts.{Script}
 use Rattle.script_lang.specs.declared.line.Line.{Line}
 use Rattle.script_lang.specs.declared.line.Line.TheVariants as lines
-use Rattle.board_console.specs.declared.command_words.ConsoleWord.{ConsoleWord}
-use Rattle.board_console.specs.declared.command_words.ConsoleWord.TheVariants as names
+use Rattle.board_model.specs.declared.console_command.ConsoleCommand.{ConsoleCommand}
+use Rattle.board_model.specs.ConsoleCommands.{console_change}
 use Rattle.bench_report.specs.declared.printed.Printed.{Printed}
 use Rattle.bench_report.specs.declared.printed.Printed.TheVariants as printed
-use Rattle.disk.specs.FaultState.{FaultArmed, CutArmed}
 use Rattle.bench_report.specs.declared.printed.Answer.{Answer}
 use Rattle.bench_report.specs.Bench.{DiskState, Blank, Unknown, Formatted, BenchLife, Bench, IsFailureFree, blank_bench}
 use Rattle.bench_report.specs.Happens.{says, off, on_with, unpowered, written_past, armed_with, formatted_anew, settled, has_machine, acknowledged}
@@ -44,10 +44,11 @@ use Rattle.susp.specs.Dozes.{can_wake}
 use Rattle.bench_report.specs.Turns.{AnswersError, HartCommand, Resets, SuspendIssued, dozes, BenchFallsAsleep, BenchSleepsBy, BenchMakesCall, ComesTo, GuestTurn, GuestTurns}
 use Rattle.bench_report.specs.PowerOns.{life_begun, FormatsOn, IsBooted, BootsFrom, Resumes, Begins, Boots, Opens, PowersOn}
 use Rattle.bench_report.specs.Examined.{InspectStep}
-use Rattle.bench_report.specs.Steps.{console_reported, FormatStep, OnStep, ConsoleStep, PayloadStep, ReadStep, PokeStep, TurnStep, CallReported, GuestCall, CallStep, Wakes, WakeStep, Step, Moves, Run}
+use Rattle.bench_report.specs.Steps.{console_reported, FormatStep, OnStep, ConsoleStep, ReadStep, TurnStep, CallReported, GuestCall, CallStep, Step, Moves, Run}
 use Rattle.bench_report.specs.Reports.{IsReport}
 use Rattle.bench_report.proofs.Unsaid.{none_made}
 use Rattle.bench_report.specs.Plain.{ShowsNoFailure, ShowNoFailure}
+use Rattle.bench_report.specs.Asides.{Effect, Stays, SetsPayloads, Arms, CutsPower, WakesBoard, WritesPast, aside, affected}
 
 -- as many growths were refused and failures answered as before
 abbrev pub AsMany : Bench → Bench → Type 0
@@ -150,17 +151,13 @@ on_at : (size : Size) (p : Option BenchLife) (mode : BootMode) (b : Bench) (a : 
 on_at size None mode b a new h failure_free = powers_failure_free size mode b a new h failure_free
 on_at size (Some life) mode b a new h failure_free = as_many b b new refl refl h.1
 
-reported_failure_free : (word : ConsoleWord) (o : Result ℕ ℕ) (a : Answer) → a ≡ console_reported word o → ShowsNoFailure a.line → IsFailureFreeResult o
-reported_failure_free word (Ok n) a e failure_free = tt
-reported_failure_free word (Err n) a e failure_free = of_answer a (printed.CommandRefused word n) e failure_free
+reported_failure_free : (c : ConsoleCommand) (o : Result ℕ ℕ) (a : Answer) → a ≡ console_reported c o → ShowsNoFailure a.line → IsFailureFreeResult o
+reported_failure_free c (Ok n) a e failure_free = tt
+reported_failure_free c (Err n) a e failure_free = of_answer a (printed.CommandRefused c n) e failure_free
 
-console_at : (word : ConsoleWord) (c : Change) (p : Option BenchLife) (b : Bench) (a : Answer) (new : Bench) → ConsoleStep word c p b a new → ShowsNoFailure a.line → AsMany b new
-console_at word c None b a new h failure_free = as_many b b new refl refl h.1
-console_at word c (Some life) b a new h failure_free = issued_failure_free life.doubt c life b h.0 new h.1 (reported_failure_free word h.0 a h.2 failure_free)
-
-payload_at : (p : Option BenchLife) (slot : ℕ) (bytes : List ℕ) (b : Bench) (a : Answer) (new : Bench) → PayloadStep p slot bytes b a new → AsMany b new
-payload_at None slot bytes b a new h = as_many b _ new refl refl h.1
-payload_at (Some life) slot bytes b a new h = as_many b b new refl refl h.1
+console_at : (c : ConsoleCommand) (p : Option BenchLife) (b : Bench) (a : Answer) (new : Bench) → ConsoleStep c p b a new → ShowsNoFailure a.line → AsMany b new
+console_at c None b a new h failure_free = as_many b b new refl refl h.1
+console_at c (Some life) b a new h failure_free = issued_failure_free life.doubt (console_change c) life b h.0 new h.1 (reported_failure_free c h.0 a h.2 failure_free)
 
 read_at : (p : Option BenchLife) (says_so : Machine → MachineLine → Type 0) (b : Bench) (a : Answer) (new : Bench) → ReadStep p says_so b a new → AsMany b new
 read_at None says_so b a new x = as_many b b new refl refl x.1
@@ -245,15 +242,11 @@ called_at : (called : Option Turned) (h : ℕ) (life : BenchLife) (b : Bench) (a
 called_at None h life b a new x failure_free = as_many b b new refl refl x.1
 called_at (Some did) h life b a new (word, x, reported) failure_free = comes_free did h life b word new x (call_free h word new a reported failure_free)
 
-call_at : (p : Option BenchLife) (h e f x y z : ℕ) (b : Bench) (a : Answer) (new : Bench) → CallStep p h e f x y z b a new → ShowsNoFailure a.line → AsMany b new
-call_at None h e f x y z b a new g failure_free = as_many b b new refl refl g.1
-call_at (Some life) h e f x y z b a new (inl (has, m, called, did, g)) failure_free =
+call_at : (p : Option BenchLife) (h : ℕ) (asked : CallWords) (b : Bench) (a : Answer) (new : Bench) → CallStep p h asked b a new → ShowsNoFailure a.line → AsMany b new
+call_at None h asked b a new g failure_free = as_many b b new refl refl g.1
+call_at (Some life) h asked b a new (inl (has, m, called, did, g)) failure_free =
     let rest = called_at called h (has_machine m life) (on_with (has_machine m life) b) a new g failure_free in (rest.0, rest.1)
-call_at (Some life) h e f x y z b a new (inr g) failure_free = as_many b b new refl refl g.2
-
-poke_at : (p : Option BenchLife) (b : Bench) (a : Answer) (new : Bench) → PokeStep p b a new → AsMany b new
-poke_at None b a new h = as_many b (written_past b) new refl refl h.1
-poke_at (Some life) b a new h = as_many b b new refl refl h.1
+call_at (Some life) h asked b a new (inr g) failure_free = as_many b b new refl refl g.2
 
 inspect_at : (size : Size) (p : Option BenchLife) (b : Bench) (a : Answer) (new : Bench) → InspectStep size p b a new → ShowsNoFailure a.line → AsMany b new
 inspect_at size None b a new (inl (c, reads, inl (line, tells, e, is))) failure_free = as_many b b new refl refl is
@@ -261,37 +254,23 @@ inspect_at size None b a new (inl (c, reads, inr x)) failure_free = absurd ((of_
 inspect_at size None b a new (inr x) failure_free = absurd ((of_answer a (printed.InspectRefused 5) x.0 failure_free).0 refl)
 inspect_at size (Some life) b a new x failure_free = as_many b b new refl refl x.1
 
-wakes_at : (can : Bool) (life : BenchLife) (b : Bench) (a : Answer) (new : Bench) → Wakes can life b a new → AsMany b new
-wakes_at true life b a new x = as_many b _ new refl refl x.1
-wakes_at false life b a new x = as_many b b new refl refl x.1
-
-wake_at : (p : Option BenchLife) (b : Bench) (a : Answer) (new : Bench) → WakeStep p b a new → AsMany b new
-wake_at None b a new x = as_many b b new refl refl x.1
-wake_at (Some life) b a new x = wakes_at (can_wake life.machine.doze) life b a new x
+aside_many : (e : Effect) (b new : Bench) → new ≡ affected e b → AsMany b new
+aside_many Stays b new x = as_many b b new refl refl x
+aside_many (SetsPayloads payloads) b new x = as_many b _ new refl refl x
+aside_many (Arms armed) b new x = as_many b _ new refl refl x
+aside_many CutsPower b new x = as_many b _ new refl refl x
+aside_many (WakesBoard life) b new x = as_many b _ new refl refl x
+aside_many WritesPast b new x = as_many b _ new refl refl x
 
 step_failure_free : (size : Size) (line : Line) (b : Bench) (a : Answer) (new : Bench) → Step size line b a new → ShowsNoFailure a.line → AsMany b new
-step_failure_free size (lines.Payload x y) b a new h failure_free = payload_at b.power x y b a new h
 step_failure_free size lines.Format b a new h failure_free = format_at b.power b a new h failure_free
 step_failure_free size (lines.On mode) b a new h failure_free = on_at size b.power mode b a new h failure_free
-step_failure_free size (lines.Slot n) b a new h failure_free = console_at names.Slot (Slot n) b.power b a new h failure_free
-step_failure_free size lines.Discard b a new h failure_free = console_at names.Discard Discard b.power b a new h failure_free
-step_failure_free size (lines.Tries n boots) b a new h failure_free = console_at names.Tries (Tries n boots) b.power b a new h failure_free
-step_failure_free size lines.Good b a new h failure_free = console_at names.Good Good b.power b a new h failure_free
+step_failure_free size (lines.Command c) b a new h failure_free = console_at c b.power b a new h failure_free
 step_failure_free size (lines.Turn x y) b a new h failure_free = turn_at b.power x y b a new h failure_free
-step_failure_free size (lines.Call x y z u v w) b a new h failure_free = call_at b.power x y z u v w b a new h failure_free
-step_failure_free size (lines.Reg x y) b a new h failure_free = read_at b.power _ b a new h
-step_failure_free size (lines.Pc x) b a new h failure_free = read_at b.power _ b a new h
-step_failure_free size (lines.Csr x y) b a new h failure_free = read_at b.power _ b a new h
-step_failure_free size lines.Pending b a new h failure_free = read_at b.power _ b a new h
-step_failure_free size (lines.Mem x y) b a new h failure_free = read_at b.power _ b a new h
-step_failure_free size (lines.CutAt x y) b a new h failure_free = as_many b (armed_with CutArmed b) new refl refl h.1
-step_failure_free size (lines.CutLane x y z) b a new h failure_free = as_many b (armed_with CutArmed b) new refl refl h.1
-step_failure_free size (lines.FailAt x) b a new h failure_free = as_many b (armed_with FaultArmed b) new refl refl h.1
-step_failure_free size (lines.FailLane x y) b a new h failure_free = as_many b (armed_with FaultArmed b) new refl refl h.1
-step_failure_free size (lines.Cut fill) b a new h failure_free = as_many b (unpowered b) new refl refl h.1
-step_failure_free size (lines.Poke x y z) b a new h failure_free = poke_at b.power b a new h
+step_failure_free size (lines.Call i asked) b a new h failure_free = call_at b.power i asked b a new h failure_free
+step_failure_free size (lines.Show look) b a new h failure_free = read_at b.power _ b a new h
 step_failure_free size lines.Inspect b a new h failure_free = inspect_at size b.power b a new h failure_free
-step_failure_free size lines.Wake b a new h failure_free = wake_at b.power b a new h
+step_failure_free size line b a new h failure_free = aside_many (aside line b.power b.payloads).1 b new h.1
 
 -- within a failure-free line no cut struck
 moves_failure_free : (size : Size) (line : Line) (b : Bench) (a : Answer) (new : Bench) → Moves size line b a new → ShowsNoFailure a.line → AsMany b new

@@ -1,4 +1,5 @@
 -- Where the disk never failed, each power-on finds what all acknowledged commands make.
+use Rattle.board_model.specs.declared.call_words.CallWords.{CallWords}
 use Rattle.std.proofs.Common.{◌≡◌, ◌⊎◌, ℕ, zero, suc, ◌-◌, ◌^◌, ◌==◌, inl, inr, List, [], ◌∷◌, Option, None, Some, Result, Ok, Err, refl, sym, ◌∙◌, ap, subst, arith, Bool, true, false, MatchBool}
 use Rattle.std.specs.Bool.{⊤}
 use Rattle.board_model.specs.Durable.{DurableState, Change, Slot, Discard, Tries, Good, formatted, refusal_of}
@@ -32,8 +33,8 @@ use Rattle.sbi.specs.declared.resets.ResetType.{ResetType}
 use Rattle.sbi.specs.Resets.{reset_of}
 use Rattle.machine_lines.specs.declared.line.MachineLine.{MachineLine}
 use Rattle.machine_lines.specs.declared.line.MachineLine.TheVariants as shown_lines
-use Rattle.board_console.specs.declared.command_words.ConsoleWord.{ConsoleWord}
-use Rattle.board_console.specs.declared.command_words.ConsoleWord.TheVariants as names
+use Rattle.board_model.specs.declared.console_command.ConsoleCommand.{ConsoleCommand}
+use Rattle.board_model.specs.ConsoleCommands.{console_change}
 use Rattle.bench_report.specs.declared.printed.Printed.{Printed}
 use Rattle.bench_report.specs.declared.printed.Printed.TheVariants as printed
 use Rattle.bench_report.specs.declared.printed.Answer.{Answer}
@@ -219,13 +220,13 @@ module _ (now : Bool) where
   on_quiet size None mode b a new sound (inr (inr (inl h))) = quiet (Boot mode) a (printed.OnRefused 11) now h.1 tt
   on_quiet size None mode b a new sound (inr (inr (inr h))) = quiet (Boot mode) a (printed.OnRefused 5) now h.0 tt
 
-  reported_quiet : (word : ConsoleWord) (c : Change) (o : Result ℕ ℕ) (a : Answer) → now ≡ true → a ≡ console_reported word o → IsQuiet (Command c) a.line now
-  reported_quiet word c (Ok n) a up e = quiet (Command c) a (printed.Acknowledged word n) now e tt
-  reported_quiet word c (Err n) a up e = quiet (Command c) a (printed.CommandRefused word n) now e up
+  reported_quiet : (c : ConsoleCommand) (o : Result ℕ ℕ) (a : Answer) → now ≡ true → a ≡ console_reported c o → IsQuiet (Command (console_change c)) a.line now
+  reported_quiet c (Ok n) a up e = quiet (Command (console_change c)) a (printed.Acknowledged c n) now e tt
+  reported_quiet c (Err n) a up e = quiet (Command (console_change c)) a (printed.CommandRefused c n) now e up
 
-  console_quiet : (word : ConsoleWord) (c : Change) (p : Option BenchLife) (b : Bench) (a : Answer) (new : Bench) → b.power ≡ p → (IsPowered new.power → now ≡ true) → ConsoleStep word c p b a new → IsQuiet (Command c) a.line now
-  console_quiet word c None b a new on up h = quiet (Command c) a printed.Off now h.0 tt
-  console_quiet word c (Some life) b a new on up (o, i, e) = reported_quiet word c o a (up (issued_on life.doubt c life b o new (powered b.power life on) i)) e
+  console_quiet : (c : ConsoleCommand) (p : Option BenchLife) (b : Bench) (a : Answer) (new : Bench) → b.power ≡ p → (IsPowered new.power → now ≡ true) → ConsoleStep c p b a new → IsQuiet (Command (console_change c)) a.line now
+  console_quiet c None b a new on up h = quiet (Command (console_change c)) a printed.Off now h.0 tt
+  console_quiet c (Some life) b a new on up (o, i, e) = reported_quiet c o a (up (issued_on life.doubt (console_change c) life b o new (powered b.power life on) i)) e
 
   word_quiet : (h made : ℕ) (word : Word) → (IsOwn word → now ≡ true) → IsQuiet Guest (printed.Shown (shown_lines.Turn h made word)) now
   word_quiet h made (words.Goes did) up = up tt
@@ -248,10 +249,10 @@ module _ (now : Bool) where
   called_quiet None h life b a new on up x = quiet Guest a (printed.Shown (shown_lines.NotStarted h)) now x.0 tt
   called_quiet (Some did) h life b a new on up (word, x, e) = reported_call word h new a (λ own. up (comes_on did h life b word new on x own)) e
 
-  call_quiet : (p : Option BenchLife) (h e f x y z : ℕ) (b : Bench) (a : Answer) (new : Bench) → (IsPowered new.power → now ≡ true) → CallStep p h e f x y z b a new → IsQuiet Guest a.line now
-  call_quiet None h e f x y z b a new up g = quiet Guest a (printed.Shown shown_lines.Off) now g.0 tt
-  call_quiet (Some life) h e f x y z b a new up (inl (has, m, called, did, g)) = called_quiet called h (has_machine m life) (on_with (has_machine m life) b) a new tt up g
-  call_quiet (Some life) h e f x y z b a new up (inr g) = quiet Guest a (printed.Shown shown_lines.Off) now g.1 tt
+  call_quiet : (p : Option BenchLife) (h : ℕ) (asked : CallWords) (b : Bench) (a : Answer) (new : Bench) → (IsPowered new.power → now ≡ true) → CallStep p h asked b a new → IsQuiet Guest a.line now
+  call_quiet None h asked b a new up g = quiet Guest a (printed.Shown shown_lines.Off) now g.0 tt
+  call_quiet (Some life) h asked b a new up (inl (has, m, called, did, g)) = called_quiet called h (has_machine m life) (on_with (has_machine m life) b) a new tt up g
+  call_quiet (Some life) h asked b a new up (inr g) = quiet Guest a (printed.Shown shown_lines.Off) now g.1 tt
 
 nothing_quiet : (x : Printed) (now : Bool) → IsQuiet Nothing x now
 nothing_quiet printed.PowerLost now = tt
@@ -259,12 +260,9 @@ nothing_quiet x now = tt
 
 step_quiet : (size : Size) (line : Line) (b : Bench) (a : Answer) (new : Bench) → IsSound b → (IsPowered new.power → is_up new.power ≡ true) → Step size line b a new → IsQuiet (asked_by line) a.line (is_up new.power)
 step_quiet size (lines.On mode) b a new sound up h = on_quiet (is_up new.power) size b.power mode b a new sound h
-step_quiet size (lines.Slot n) b a new sound up h = console_quiet (is_up new.power) names.Slot (Slot n) b.power b a new refl up h
-step_quiet size lines.Discard b a new sound up h = console_quiet (is_up new.power) names.Discard Discard b.power b a new refl up h
-step_quiet size (lines.Tries n boots) b a new sound up h = console_quiet (is_up new.power) names.Tries (Tries n boots) b.power b a new refl up h
-step_quiet size lines.Good b a new sound up h = console_quiet (is_up new.power) names.Good Good b.power b a new refl up h
+step_quiet size (lines.Command c) b a new sound up h = console_quiet (is_up new.power) c b.power b a new refl up h
 step_quiet size (lines.Turn x y) b a new sound up h = turn_quiet (is_up new.power) b.power x y b a new up h
-step_quiet size (lines.Call x y z u v w) b a new sound up h = call_quiet (is_up new.power) b.power x y z u v w b a new up h
+step_quiet size (lines.Call i asked) b a new sound up h = call_quiet (is_up new.power) b.power i asked b a new up h
 step_quiet size line b a new sound up h = nothing_quiet a.line (is_up new.power)
 
 -- ---- so a line makes just what it says

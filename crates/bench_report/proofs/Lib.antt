@@ -4,7 +4,7 @@ pub mod Sides
 pub mod Devices
 pub mod Adapted
 pub mod Formats
-pub mod Armings
+pub mod Armed
 pub mod Pokes
 pub mod Examining
 pub mod Opening
@@ -15,6 +15,7 @@ pub mod Written
 pub mod Told
 pub mod Determined
 pub mod Rows
+pub mod Beside
 pub mod FailureFree
 pub mod Inspected
 pub mod Guests

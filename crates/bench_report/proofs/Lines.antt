@@ -1,4 +1,5 @@
 -- Lines that speak of memory and harts, or keep a payload, by what the code's board did.
+use Rattle.board_model.specs.declared.call_words.CallWords.{CallWords}
 use Rattle.std.proofs.Common.{◌≡◌, inl, inr, slice_set, ℕ, List, length, Bool, true, false, Option, None, Some, Result, Ok, MatchResult, refl, sym, ◌∙◌, ap, subst}
 use Rattle.board_model.specs.declared.boot_mode.BootMode.{BootMode}
 use Rattle.board_model.specs.Shapes.{Size}
@@ -25,11 +26,13 @@ use Rattle.bench_report.specs.Happens.{says, shows, on_with, has_machine}
 use Rattle.bench_report.specs.declared.printed.Printed.TheVariants as printed
 use Rattle.bench_report.specs.PowerOns.{FormatsOn, PowersOn}
 use Rattle.bench_report.specs.Examined.{InspectsOn, InspectStep}
-use Rattle.bench_report.specs.Steps.{Step, FormatStep, OnStep, PayloadStep, CallReported, GuestCall, TurnStep, CallStep, ReadStep, Wakes, WakeStep}
+use Rattle.bench_report.specs.Steps.{Step, FormatStep, OnStep, CallReported, GuestCall, TurnStep, CallStep, ReadStep}
 use Rattle.bench_report.proofs.Commanded.{Running, running_on}
 use Rattle.bench_report.proofs.Dozed.{call_size}
 use Rattle.bench_report.proofs.Came.{Stands, has_other, comes, turns}
 use Rattle.bench_report.specs.Agree.{StoreIs, BoardIs, DeviceIs, OffIs, OnIs, BoardAfter, Agrees, IsBench, Matches, StepsTo}
+use Rattle.bench_report.specs.Asides.{AsideStep, affected, wakes}
+use Rattle.script_lang.specs.declared.line.Line.TheVariants as lines
 
 -- a board that is off
 pub off_formats : (size : Size) (b : Bench) (a : Answer) (after : Power) → b.power ≡ None → StepsTo size b after (FormatsOn b.disk_state b a) → StepsTo size b after (FormatStep b.power b a)
@@ -96,15 +99,15 @@ lacks size b board h (Some life) is not step then = let P : Machine → Type 0 =
 pub turns_off : (size : Size) (b : Bench) (board : SimBoard) (h n : ℕ) → OnIs size b board → (HasHart (machine_in board) h → ⊥) → StepsTo size b (On board) (TurnStep b.power h n b (shows shown.Off))
 turns_off size b board h n was not = (b, lacks size b board h b.power was.0 not (λ p. TurnStep p h n b (shows shown.Off) b) (λ life no. inr (no, refl, refl)), was, refl)
 
-pub calls_off : (size : Size) (b : Bench) (board : SimBoard) (h e f x y z : ℕ) → OnIs size b board → (HasHart (machine_in board) h → ⊥) → StepsTo size b (On board) (CallStep b.power h e f x y z b (shows shown.Off))
-calls_off size b board h e f x y z was not = (b, lacks size b board h b.power was.0 not (λ p. CallStep p h e f x y z b (shows shown.Off) b) (λ life no. inr (no, refl, refl)), was, refl)
+pub calls_off : (size : Size) (b : Bench) (board : SimBoard) (h : ℕ) (asked : CallWords) → OnIs size b board → (HasHart (machine_in board) h → ⊥) → StepsTo size b (On board) (CallStep b.power h asked b (shows shown.Off))
+calls_off size b board h asked was not = (b, lacks size b board h b.power was.0 not (λ p. CallStep p h asked b (shows shown.Off) b) (λ life no. inr (no, refl, refl)), was, refl)
 
 -- a line of a call, by what the board did
 reported_as : (size : Size) (h : ℕ) (word : Word) (b : Bench) (n : Machine) (store : SimStore) (line : MachineLine) → Stands size word b n store → line ≡ made_line h (hart_at n h) word → CallReported h word b (shows line)
 reported_as size h (words.Goes did) b n store line (life, on, is, same, device) e = (life, on, ap shows (e ∙ ap (λ m. own_line h (hart_at m h) did) same))
 reported_as size h (words.Over end) b n store line is e = ap shows e
 
-module _ (size : Size) (b : Bench) (old new : SimBoard) (h e f x y z : ℕ) (said : Option Word) (line : MachineLine) (after : Power) (was : OnIs size b old) (has : HasHart (machine_in old) h) (shows_it : line ≡ called_line h (hart_at (machine_in new) h) said) where
+module _ (size : Size) (b : Bench) (old new : SimBoard) (h : ℕ) (asked : CallWords) (said : Option Word) (line : MachineLine) (after : Power) (was : OnIs size b old) (has : HasHart (machine_in old) h) (shows_it : line ≡ called_line h (hart_at (machine_in new) h) said) where
   -- what the board is, where a word was said and where none was
   abbrev pub Follows : Option Word → Type 0
   Follows None = (w : Bench) → OnIs size w new → Agrees size w after
@@ -127,15 +130,15 @@ module _ (size : Size) (b : Bench) (old new : SimBoard) (h e f x y z : ℕ) (sai
       let reported = reported_as size h word did_so.0 (machine_in new) (store_in new) line did_so.2 (shows_it ∙ ap (called_line h (hart_at (machine_in new) h)) some) in
       (did_so.0, (word, did_so.1, reported), subst F some follows did_so.0 (stands_by size word did_so.0 new did_so.2), did_so.3)
 
-  pub on_calls : boards.CallsHeld h e f x y z (machine_in old) (machine_in new) (store_in old) (store_in new) said → Follows said → StepsTo size b after (CallStep b.power h e f x y z b (shows line))
+  pub on_calls : boards.CallsHeld h asked (machine_in old) (machine_in new) (store_in old) (store_in new) said → Follows said → StepsTo size b after (CallStep b.power h asked b (shows line))
   on_calls (m, called, call, comes_of) follows = by b.power was.0 refl
     where
-      by : (p : Option BenchLife) → BoardIs size b.disk_state b.kept p old → b.power ≡ p → StepsTo size b after (CallStep p h e f x y z b (shows line))
+      by : (p : Option BenchLife) → BoardIs size b.disk_state b.kept p old → b.power ≡ p → StepsTo size b after (CallStep p h asked b (shows line))
       by None is on = absurd is
       by (Some life) is on =
           let P : Machine → Type 0 = λ k. HasHart k h in
-          let C : Machine → Type 0 = λ k. MakesOneCall h e f x y z k m called in
-          let sized : m.size ≡ life.machine.size = call_size (doze_of h (machine_in old).doze) h (calling (hart_at (machine_in old) h) e f x y z) (machine_in old) m called call ∙ ap (λ (k : Machine). k.size) is.1 in
+          let C : Machine → Type 0 = λ k. MakesOneCall h asked k m called in
+          let sized : m.size ≡ life.machine.size = call_size (doze_of h (machine_in old).doze) h (calling (hart_at (machine_in old) h) asked) (machine_in old) m called call ∙ ap (λ (k : Machine). k.size) is.1 in
           let did = came life m called on is sized comes_of follows in
           (did.0, inl (subst P is.1 has, m, called, subst C is.1 call, did.1), did.2, did.3)
 
@@ -148,7 +151,7 @@ on_looks size b old new says_so line was so still same = (b, on_reads size b old
 module _ (size : Size) (b : Bench) (life : BenchLife) (old new : SimBoard) (on : b.power ≡ Some life) (was : OnIs size b old) (still : store_in new ≡ store_in old) where
   -- it answers so, and the board is on
   abbrev pub Woke : Answer → Type 0
-  Woke answer = (x : Bench) × WakeStep (Some life) b answer x × OnIs size x new × (x.payloads ≡ b.payloads)
+  Woke answer = (x : Bench) × AsideStep lines.Wake (Some life) b answer x × OnIs size x new × (x.payloads ≡ b.payloads)
 
   here : BoardIs size b.disk_state b.kept (Some life) old
   here = let P : Option BenchLife → Type 0 = λ p. BoardIs size b.disk_state b.kept p old in subst P on was.0
@@ -160,14 +163,14 @@ module _ (size : Size) (b : Bench) (life : BenchLife) (old new : SimBoard) (on :
   on_wakes dozes made =
       let next : BenchLife = has_machine (record life.machine { doze = after_wake life.machine.doze }) life in
       let F : Machine → Machine = λ m. record m { doze = after_wake m.doze } in
-      let W : Bool → Type 0 = λ k. Wakes k life b (says printed.Woken) (on_with next b) in
+      let W : Bool → Type 0 = λ k. (says printed.Woken ≡ says (wakes k life).0) × (on_with next b ≡ affected (wakes k life).1 b) in
       let Q : SimStore → Type 0 = λ store. StoreIs size b.disk_state b.kept life store in
       let S : SimStore → Type 0 = λ store. DeviceIs size b (store_fault_state store) (store_facts store) in
       (on_with next b, subst W (sym dozes ∙ can) (refl, refl), ((has_other size b life next.machine (store_in new) refl (subst Q (sym still) here.0), made ∙ ap F here.1), subst S (sym still) was.1), refl)
 
   pub on_sleeps_on : (can_wake (machine_in old).doze ≡ true → ⊥) → machine_in new ≡ machine_in old → Woke (says (printed.WakeRefused 18))
   on_sleeps_on not same =
-      let W : Bool → Type 0 = λ k. Wakes k life b (says (printed.WakeRefused 18)) b in
+      let W : Bool → Type 0 = λ k. (says (printed.WakeRefused 18) ≡ says (wakes k life).0) × (b ≡ affected (wakes k life).1 b) in
       (b, subst W (sym (not_true (can_wake (machine_in old).doze) not) ∙ can) (refl, refl), as_it_was size b old new was same still, refl)
     where
       not_true : (k : Bool) → (k ≡ true → ⊥) → k ≡ false
@@ -176,13 +179,13 @@ module _ (size : Size) (b : Bench) (life : BenchLife) (old new : SimBoard) (on :
 
 -- a payload
 abbrev pub Keeps : Size → Bench → Power → ℕ → List ℕ → MachineLine → List (List ℕ) → Type 0
-Keeps size b power slot bytes line payloads = (new : Bench) × PayloadStep b.power slot bytes b (shows line) new × Matches size new power payloads
+Keeps size b power slot bytes line payloads = (new : Bench) × AsideStep (lines.Payload slot bytes) b.power b (shows line) new × Matches size new power payloads
 
 pub keeps_off : (size : Size) (b : Bench) (power : Power) (disk : SimDisk) (slot : ℕ) (bytes : List ℕ) (old new : List (List ℕ)) → power ≡ Off disk → IsBench size b power old → new ≡ slice_set old slot bytes
     → Keeps size b power slot bytes (shown.Payload slot (length bytes)) new
 keeps_off size b power disk slot bytes old new at was set =
     let next : Bench = record b { payloads = slice_set b.payloads slot bytes } in
-    let P : Option BenchLife → Type 0 = λ p. PayloadStep p slot bytes b (shows (shown.Payload slot (length bytes))) next in
+    let P : Option BenchLife → Type 0 = λ p. AsideStep (lines.Payload slot bytes) p b (shows (shown.Payload slot (length bytes))) next in
     let Q : Power → Type 0 = λ p. Agrees size b p in
     let R : Power → Type 0 = λ p. Agrees size next p in
     let off : OffIs size b disk = subst Q at was.0 in
@@ -190,7 +193,7 @@ keeps_off size b power disk slot bytes old new at was set =
     (next, subst P (sym off.0) (refl, refl), (subst R (sym at) next_off, set ∙ ap (λ ps. slice_set ps slot bytes) was.1))
 
 busy_on : (size : Size) (b : Bench) (power : Power) (board : SimBoard) (p : Option BenchLife) (slot : ℕ) (bytes : List ℕ) (old : List (List ℕ)) → BoardIs size b.disk_state b.kept p board → IsBench size b power old
-    → (new : Bench) × PayloadStep p slot bytes b (shows shown.Busy) new × Matches size new power old
+    → (new : Bench) × AsideStep (lines.Payload slot bytes) p b (shows shown.Busy) new × Matches size new power old
 busy_on size b power board None slot bytes old is was = absurd is
 busy_on size b power board (Some life) slot bytes old is was = (b, (refl, refl), (was.0, was.1))
 

@@ -14,18 +14,17 @@ use Rattle.board_model.specs.declared.boot_mode.BootMode.TheVariants as modes
 use Rattle.script_lang.specs.Scripts.{Script}
 use Rattle.script_lang.specs.declared.line.Line.{Line}
 use Rattle.script_lang.specs.declared.line.Line.TheVariants as lines
-use Rattle.disk.specs.FaultState.{FaultArmed, CutArmed}
-use Rattle.board_console.specs.declared.command_words.ConsoleWord.{ConsoleWord}
-use Rattle.board_console.specs.declared.command_words.ConsoleWord.TheVariants as names
+use Rattle.board_model.specs.declared.console_command.ConsoleCommand.{ConsoleCommand}
+use Rattle.board_model.specs.ConsoleCommands.{console_change}
 use Rattle.bench_report.specs.declared.printed.Answer.{Answer}
 use Rattle.bench_report.specs.Bench.{DiskState, Blank, Unknown, Formatted, BenchLife, Bench, IsFailureFree, blank_bench}
 use Rattle.bench_report.specs.Happens.{says, on_with, settled, acknowledged, life_with, all_acknowledged}
 use Rattle.bench_report.specs.Commands.{Writes, Issued, IssuedBy, IssuesAll}
 use Rattle.bench_report.specs.PowerOns.{life_begun, ShowsFound, FormatsOn, BootsFrom, Boots, Begins, Opens, IsOpenRefusal, PowersOn}
 use Rattle.susp.specs.Dozes.{can_wake}
-use Rattle.bench_report.specs.Steps.{ArmStep, FormatStep, OnStep, ConsoleStep, PayloadStep, Wakes, WakeStep, Step, Moves, Run}
+use Rattle.bench_report.specs.Steps.{FormatStep, OnStep, ConsoleStep, Step, Moves, Run}
 use Rattle.bench_report.specs.Reports.{IsByFirmware, AreByFirmware, board_answer, IsReport}
-use Rattle.bench_report.specs.Plain.{plain_written, plain_issued, plain_console, plain_format, plain_slot, plain_boot, plain_on, plain_inspect, plain_wake, plain_at, plain, plain_answers, plain_report, IsPlain, ArePlain}
+use Rattle.bench_report.specs.Plain.{plain_written, plain_issued, plain_console, plain_format, plain_slot, plain_boot, plain_on, plain_inspect, plain_at, plain, plain_answers, plain_report, IsPlain, ArePlain}
 use Rattle.bench_report.proofs.Adapted.{grows}
 use Rattle.bench_report.proofs.Determined.{CalmDisk, IsCalm, HasFailed, Agree}
 use Rattle.bench_report.proofs.FailureFree.{AsMany}
@@ -34,6 +33,9 @@ use Rattle.bench_report.proofs.Single.{IsOneCall, IsOneCsr, moves, moves_fair, r
 use Rattle.bench_report.proofs.Examiners.{said_by, said}
 use Rattle.bench_report.proofs.Guests.{IsOneTurn}
 use Rattle.bench_report.proofs.Inspected.{ContentLaws, said_of}
+use Rattle.board_model.proofs.Console.{image_after-console}
+use Rattle.bench_report.specs.Asides.{Effect, Stays, SetsPayloads, Arms, CutsPower, WakesBoard, WritesPast, aside, affected, AsideStep}
+use Rattle.bench_report.proofs.Beside.{OfFirmware, FitsPower, is_aside}
 
 -- nothing is in doubt, and a life has room for its receipts
 abbrev CalmPower : Option BenchLife → Type 0
@@ -84,11 +86,11 @@ issued false c life b none at calm few good =
     less : (n : ℕ) → (n == 4096) ≡ false → n ≤ 4096 → n < 4096
     less n h few = grind (arith, h, few)
 
-console_at : (word : ConsoleWord) (c : Change) (p : Option BenchLife) (b : Bench) → MakesNone c → CalmPower p → IsGood b → Well b (ConsoleStep word c p b) (plain_console word c p b)
-console_at word c None b none calm good = still b (ConsoleStep word c None b) (plain_console word c None b) (refl, refl) refl good
-console_at word c (Some life) b none calm good =
-    let reported = plain_issued c life b in
-    let did = issued (life.receipts == 4096) c life b none refl calm.0 calm.1 good in
+console_at : (c : ConsoleCommand) (p : Option BenchLife) (b : Bench) → CalmPower p → IsGood b → Well b (ConsoleStep c p b) (plain_console c p b)
+console_at c None b calm good = still b (ConsoleStep c None b) (plain_console c None b) (refl, refl) refl good
+console_at c (Some life) b calm good =
+    let reported = plain_issued (console_change c) life b in
+    let did = issued (life.receipts == 4096) (console_change c) life b (image_after-console c) refl calm.0 calm.1 good in
     ((reported.0, did.0, refl), did.1, did.2)
 
 -- ---- format
@@ -159,13 +161,21 @@ on_at : (size : Size) (p : Option BenchLife) (mode : BootMode) (b : Bench) → I
 on_at size None mode b good = powers size b.disk_state mode b refl good.0 good
 on_at size (Some life) mode b good = ((refl, refl), good, (refl, refl))
 
-payload_at : (size : Size) (p : Option BenchLife) (slot : ℕ) (bytes : List ℕ) (b : Bench) → IsGood b → Well b (PayloadStep p slot bytes b) (plain_at size p (lines.Payload slot bytes) b)
-payload_at size None slot bytes b good = ((refl, refl), good, (refl, refl))
-payload_at size (Some life) slot bytes b good = ((refl, refl), good, (refl, refl))
+-- a line that asks nothing of the disk and of no hart
+aside_good : (e : Effect) (b : Bench) → OfFirmware e → FitsPower b.power e → IsGood b → IsGood (affected e b) × AsMany b (affected e b)
+aside_good Stays b by fits good = (good, (refl, refl))
+aside_good (SetsPayloads payloads) b by fits good = (good, (refl, refl))
+aside_good (Arms armed) b by fits good = (good, (refl, refl))
+aside_good CutsPower b by fits good = ((good.0, tt, refl, good.3), (refl, refl))
+aside_good (WakesBoard life) b by fits good = let P : Option BenchLife → Type 0 = CalmPower in ((good.0, subst P fits good.1, good.2, good.3), (refl, refl))
+aside_good WritesPast b by fits good = absurd by
 
-wakes_at : (can : Bool) (life : BenchLife) (b : Bench) → CalmPower (Some life) → IsGood b → Well b (Wakes can life b) (plain_wake can life b)
-wakes_at true life b calm good = ((refl, refl), (good.0, calm, good.2, good.3), (refl, refl))
-wakes_at false life b calm good = ((refl, refl), good, (refl, refl))
+aside_at : (line : Line) (p : Option BenchLife) (b : Bench) → b.power ≡ p → IsByFirmware line → IsGood b → Well b (AsideStep line p b) (says (aside line p b.payloads).0, affected (aside line p b.payloads).1 b)
+aside_at line p b on by good =
+    let is = is_aside line p b.payloads in
+    let F : Option BenchLife → Type 0 = λ q. FitsPower q (aside line p b.payloads).1 in
+    let rest = aside_good (aside line p b.payloads).1 b (is.firmware by) (subst F (sym on) is.fits) good in
+    ((refl, refl), rest.0, rest.1)
 
 -- ---- lines
 by_power : (p : Option BenchLife) (P : Option BenchLife → Type 0) → P None → ((life : BenchLife) → P (Some life)) → P p
@@ -177,43 +187,24 @@ abbrev IsNoExaminer : Line → Type 0
 IsNoExaminer lines.Inspect = ⊥
 IsNoExaminer line = ⊤
 
-steps : (size : Size) (line : Line) (b : Bench) → IsPlain line → IsNoExaminer line → IsGood b → Well b (Step size line b) (plain size line b)
-steps size (lines.Payload x y) b plain blind good = payload_at size b.power x y b good
-steps size lines.Format b plain blind good = format_at size b.power b good
-steps size (lines.On mode) b plain blind good = on_at size b.power mode b good
-steps size (lines.Slot n) b plain blind good =
-    by_power b.power (λ p. CalmPower p → Well b (ConsoleStep names.Slot (Slot n) p b) (plain_at size p (lines.Slot n) b))
-    (λ calm. console_at names.Slot (Slot n) None b (λ s e. e) calm good) (λ life calm. console_at names.Slot (Slot n) (Some life) b (λ s e. e) calm good) good.1
-steps size lines.Discard b plain blind good =
-    by_power b.power (λ p. CalmPower p → Well b (ConsoleStep names.Discard Discard p b) (plain_at size p lines.Discard b))
-    (λ calm. console_at names.Discard Discard None b (λ s e. refl) calm good) (λ life calm. console_at names.Discard Discard (Some life) b (λ s e. refl) calm good) good.1
-steps size (lines.Tries n boots) b plain blind good =
-    by_power b.power (λ p. CalmPower p → Well b (ConsoleStep names.Tries (Tries n boots) p b) (plain_at size p (lines.Tries n boots) b))
-    (λ calm. console_at names.Tries (Tries n boots) None b (λ s e. e) calm good) (λ life calm. console_at names.Tries (Tries n boots) (Some life) b (λ s e. e) calm good) good.1
-steps size lines.Good b plain blind good =
-    by_power b.power (λ p. CalmPower p → Well b (ConsoleStep names.Good Good p b) (plain_at size p lines.Good b))
-    (λ calm. console_at names.Good Good None b (λ s e. e) calm good) (λ life calm. console_at names.Good Good (Some life) b (λ s e. e) calm good) good.1
-steps size (lines.CutAt x y) b plain blind good = by_power b.power (λ p. Well b (ArmStep CutArmed b) (plain_at size p (lines.CutAt x y) b)) ((refl, refl), good, (refl, refl)) (λ life. ((refl, refl), good, (refl, refl)))
-steps size (lines.CutLane x y z) b plain blind good = by_power b.power (λ p. Well b (ArmStep CutArmed b) (plain_at size p (lines.CutLane x y z) b)) ((refl, refl), good, (refl, refl)) (λ life. ((refl, refl), good, (refl, refl)))
-steps size (lines.FailAt x) b plain blind good = by_power b.power (λ p. Well b (ArmStep FaultArmed b) (plain_at size p (lines.FailAt x) b)) ((refl, refl), good, (refl, refl)) (λ life. ((refl, refl), good, (refl, refl)))
-steps size (lines.FailLane x y) b plain blind good = by_power b.power (λ p. Well b (ArmStep FaultArmed b) (plain_at size p (lines.FailLane x y) b)) ((refl, refl), good, (refl, refl)) (λ life. ((refl, refl), good, (refl, refl)))
-steps size (lines.Poke x y z) b plain blind good = absurd plain
-steps size lines.Inspect b plain blind good = absurd blind
-steps size lines.Wake b plain blind good = by_power b.power (λ p. CalmPower p → Well b (WakeStep p b) (plain_at size p lines.Wake b)) (λ calm. ((refl, refl), good, (refl, refl))) (λ life calm. wakes_at (can_wake life.machine.doze) life b calm good) good.1
-steps size (lines.Cut fill) b plain blind good =
-    by_power b.power (λ p. Well b (Step size (lines.Cut fill) b) (plain_at size p (lines.Cut fill) b)) ((refl, refl), (good.0, tt, refl, good.3), (refl, refl)) (λ life. ((refl, refl), (good.0, tt, refl, good.3), (refl, refl)))
-steps size (lines.Turn x y) b plain blind good = absurd plain
-steps size (lines.Call x y z u v w) b plain blind good = absurd plain
-steps size (lines.Reg x y) b plain blind good = absurd plain
-steps size (lines.Pc x) b plain blind good = absurd plain
-steps size (lines.Csr x y) b plain blind good = absurd plain
-steps size lines.Pending b plain blind good = absurd plain
-steps size (lines.Mem x y) b plain blind good = absurd plain
-
 -- a plain line writes no disk past the firmware
 plain_by : (line : Line) → IsPlain line → IsByFirmware line
 plain_by (lines.Poke x y z) plain = absurd plain
 plain_by line plain = tt
+
+steps : (size : Size) (line : Line) (b : Bench) → IsPlain line → IsNoExaminer line → IsGood b → Well b (Step size line b) (plain size line b)
+steps size lines.Format b plain blind good = format_at size b.power b good
+steps size (lines.On mode) b plain blind good = on_at size b.power mode b good
+steps size (lines.Command c) b plain blind good =
+    by_power b.power (λ p. CalmPower p → Well b (ConsoleStep c p b) (plain_at size p (lines.Command c) b))
+    (λ calm. console_at c None b calm good) (λ life calm. console_at c (Some life) b calm good) good.1
+steps size lines.Inspect b plain blind good = absurd blind
+steps size (lines.Turn x y) b plain blind good = absurd plain
+steps size (lines.Call h asked) b plain blind good = absurd plain
+steps size (lines.Show look) b plain blind good = absurd plain
+steps size line b plain blind good =
+    by_power b.power (λ p. b.power ≡ p → Well b (AsideStep line p b) (plain_at size p line b))
+    (λ on. aside_at line None b on (plain_by line plain) good) (λ life on. aside_at line (Some life) b on (plain_by line plain) good) refl
 
 are_by : (ls : List Line) → ArePlain ls → AreByFirmware ls
 are_by [] are = tt

@@ -1,5 +1,6 @@
 -- The prefix law, one induction over the lines, backwards: the state before a line comes of the one after it,
 -- so that the fate of a command in doubt is reported by the open that settles it.
+use Rattle.board_model.specs.declared.call_words.CallWords.{CallWords}
 use Rattle.std.proofs.Common.{◌≡◌, ◌⊎◌, ℕ, ◌-◌, ◌^◌, ◌==◌, inl, inr, List, [], ◌∷◌, Option, None, Some, Result, Ok, Err, refl, sym, ◌∙◌, ap, subst, Bool, true, false, MatchBool}
 use Rattle.board_model.specs.Durable.{DurableState, Change, Slot, Discard, Tries, Good, formatted}
 use Rattle.board_model.specs.Kept.{Kept, nothing_kept, found_of, MayKeep, MayFind}
@@ -23,11 +24,10 @@ use Rattle.sbi.specs.declared.words.Word.{Word}
 use Rattle.sbi.specs.declared.words.Word.TheVariants as words
 use Rattle.machine_lines.specs.declared.line.MachineLine.{MachineLine}
 use Rattle.machine_lines.specs.declared.line.MachineLine.TheVariants as shown_lines
-use Rattle.board_console.specs.declared.command_words.ConsoleWord.{ConsoleWord}
-use Rattle.board_console.specs.declared.command_words.ConsoleWord.TheVariants as names
+use Rattle.board_model.specs.declared.console_command.ConsoleCommand.{ConsoleCommand}
+use Rattle.board_model.specs.ConsoleCommands.{console_change}
 use Rattle.bench_report.specs.declared.printed.Printed.{Printed}
 use Rattle.bench_report.specs.declared.printed.Printed.TheVariants as printed
-use Rattle.disk.specs.FaultState.{FaultArmed, CutArmed}
 use Rattle.bench_report.specs.declared.printed.Answer.{Answer}
 use Rattle.bench_report.specs.Bench.{DiskState, Blank, Unknown, Formatted, BenchLife, Bench, blank_bench}
 use Rattle.bench_report.specs.Happens.{says, shows, out_of_memory, failed, on_with, unpowered, armed_with, formatted_anew, settled, has_machine}
@@ -35,7 +35,7 @@ use Rattle.bench_report.specs.PowerOns.{life_begun, commands_of, IsBooted, Boots
 use Rattle.bench_report.specs.Examined.{Tells, InspectStep}
 use Rattle.disk.specs.Facts.{Content}
 use Rattle.susp.specs.Dozes.{can_wake}
-use Rattle.bench_report.specs.Steps.{console_reported, FormatStep, OnStep, ConsoleStep, PayloadStep, CallReported, GuestCall, TurnStep, CallStep, ReadStep, Wakes, WakeStep, PokeStep, Step, Moves, Run}
+use Rattle.bench_report.specs.Steps.{console_reported, FormatStep, OnStep, ConsoleStep, CallReported, GuestCall, TurnStep, CallStep, ReadStep, Step, Moves, Run}
 use Rattle.bench_report.specs.Reports.{IsByFirmware, AreByFirmware, IsReport}
 use Rattle.bench_report.specs.Prefix.{AskedLine, Boot, Command, Guest, Nothing, Keeps, Hides, TellsTurns, TellsLine, asked_by, RefusedChange, Lost, LineImplies, ShowsIts, IsPrefixed, resumes, RisesFrom, AreLoaded, is_format_ok, IsFoundByPrefix, KeepsPrefixLaw}
 use Rattle.bench_report.proofs.Refused.{WasRefused, one_life}
@@ -45,6 +45,8 @@ use Rattle.bench_report.proofs.Serials.{serials_rise}
 use Rattle.bench_report.proofs.Wholes.{IsKeptWhole, all_loaded}
 use Rattle.bench_report.proofs.Allowed.{all_issued}
 use Rattle.bench_report.proofs.Issues.{takes_more, is_up, GoesOn, IsSound, Back, joined, said, Went, Does, issued_back, AllWent, all_back}
+use Rattle.bench_report.specs.Asides.{Effect, Stays, SetsPayloads, Arms, CutsPower, WakesBoard, WritesPast, aside, affected}
+use Rattle.bench_report.proofs.Beside.{OfFirmware, FitsPower, TellsNothing, is_aside}
 
 -- ---- a line that leaves what the disk stands for
 abbrev pub LineReports : AskedLine → Answer → Bool → Bool → DurableState → DurableState → Type 0
@@ -183,20 +185,20 @@ powers size mode b a new sound on (inr (inr (inl h))) = same (Boot mode) b a (pr
 powers size mode b a new sound on (inr (inr (inr h))) = same (Boot mode) b a (printed.OnRefused 5) new (failed h.1.0 b) h.0 h.1.2 refl refl refl sound.1 sound (λ s t e. (ap is_up on, ap is_up on, inl e))
 
 -- ---- the other lines
-console_says : (word : ConsoleWord) (c : Change) (o : Result ℕ ℕ) (b : Bench) (a : Answer) (new : Bench) → Does c (is_up b.power) b o new → a ≡ console_reported word o → Tell (Command c) b a new
-console_says word c (Ok k) b a new one e =
-    by_eqs (Command c) b a _ new new e refl (said b new (Went (Ok k) c (is_up b.power) (is_up new.power)) (λ s t. LineReports (Command c) (says (printed.Acknowledged word k)) (is_up b.power) (is_up new.power) s t) one (λ s t w. (tt, (w.0, (w.1, w.2), w.3))))
-console_says word c (Err k) b a new one e =
-    by_eqs (Command c) b a _ new new e refl (said b new (Went (Err k) c (is_up b.power) (is_up new.power)) (λ s t. LineReports (Command c) (says (printed.CommandRefused word k)) (is_up b.power) (is_up new.power) s t) one (λ s t w. (tt, down s t w)))
+console_says : (c : ConsoleCommand) (o : Result ℕ ℕ) (b : Bench) (a : Answer) (new : Bench) → Does (console_change c) (is_up b.power) b o new → a ≡ console_reported c o → Tell (Command (console_change c)) b a new
+console_says c (Ok k) b a new one e =
+    by_eqs (Command (console_change c)) b a _ new new e refl (said b new (Went (Ok k) (console_change c) (is_up b.power) (is_up new.power)) (λ s t. LineReports (Command (console_change c)) (says (printed.Acknowledged c k)) (is_up b.power) (is_up new.power) s t) one (λ s t w. (tt, (w.0, (w.1, w.2), w.3))))
+console_says c (Err k) b a new one e =
+    by_eqs (Command (console_change c)) b a _ new new e refl (said b new (Went (Err k) (console_change c) (is_up b.power) (is_up new.power)) (λ s t. LineReports (Command (console_change c)) (says (printed.CommandRefused c k)) (is_up b.power) (is_up new.power) s t) one (λ s t w. (tt, down s t w)))
   where
-    down : (s t : DurableState) → Went (Err k) c (is_up b.power) (is_up new.power) s t → RefusedChange k c s (is_up b.power) t (is_up new.power)
+    down : (s t : DurableState) → Went (Err k) (console_change c) (is_up b.power) (is_up new.power) s t → RefusedChange k (console_change c) s (is_up b.power) t (is_up new.power)
     down s t (inl w) = inl w
     down s t (inr (inl w)) = inr (w.0, w.3, inl w.1)
     down s t (inr (inr w)) = inr (w.0, w.2, inr (w.1, w.3))
 
-consoles : (word : ConsoleWord) (c : Change) (p : Option BenchLife) (b : Bench) (a : Answer) (new : Bench) → IsSound b → b.power ≡ p → ConsoleStep word c p b a new → Tell (Command c) b a new
-consoles word c None b a new sound on h = stays (Command c) b a printed.Off new h.0 h.1 sound (λ s t e. (e, refl))
-consoles word c (Some life) b a new sound on (o, issued, e) = console_says word c o b a new (issued_back c life b o new sound on issued) e
+consoles : (c : ConsoleCommand) (p : Option BenchLife) (b : Bench) (a : Answer) (new : Bench) → IsSound b → b.power ≡ p → ConsoleStep c p b a new → Tell (Command (console_change c)) b a new
+consoles c None b a new sound on h = stays (Command (console_change c)) b a printed.Off new h.0 h.1 sound (λ s t e. (e, refl))
+consoles c (Some life) b a new sound on (o, issued, e) = console_says c o b a new (issued_back (console_change c) life b o new sound on issued) e
 
 formats : (m : DiskState) (b : Bench) (a : Answer) (new : Bench) → IsSound b → b.disk_state ≡ m → FormatsOn m b a new → Tell Nothing b a new
 formats Blank b a new sound at h = absurd (let e : Blank ≡ Formatted = sym at ∙ sound.0 in let no : ⊥ = cc in no)
@@ -214,10 +216,6 @@ on_at size (Some life) mode b a new sound on h = stays (Boot mode) b a printed.B
 
 shows_on : (line : MachineLine) (b : Bench) (a : Answer) (new : Bench) → IsSound b → a ≡ shows line → new ≡ b → Tell Nothing b a new
 shows_on line b a new sound e f = stays Nothing b a (printed.Shown line) new e f sound (λ s t e. (e, refl))
-
-payload_at : (p : Option BenchLife) (slot : ℕ) (bytes : List ℕ) (b : Bench) (a : Answer) (new : Bench) → IsSound b → PayloadStep p slot bytes b a new → Tell Nothing b a new
-payload_at (Some life) slot bytes b a new sound h = shows_on _ b a new sound h.0 h.1
-payload_at None slot bytes b a new sound h = same Nothing b a _ new _ h.0 h.1 refl refl refl sound.1 sound (λ s t e. (e, refl))
 
 -- turns and calls
 turn_says : (word : Word) (h made : ℕ) (b : Bench) (a : Answer) (new : Bench) → TurnsGoBy made word b new → a ≡ shows (shown_lines.Turn h made word) → Tell Guest b a new
@@ -264,10 +262,10 @@ called_at None h m life b a new sound on x =
     same Guest b a (printed.Shown (shown_lines.NotStarted h)) new (on_with (has_machine m life) b) x.0 x.1 refl refl (sym (ap is_up on)) (subst F on sound.1) sound (λ s t e. (e, refl))
 called_at (Some did) h m life b a new sound on (word, x, e) = call_says word h b a new (comes_back did h life (has_machine m life) b word new sound on refl refl x) e
 
-call_at : (p : Option BenchLife) (h e f x y z : ℕ) (b : Bench) (a : Answer) (new : Bench) → IsSound b → b.power ≡ p → CallStep p h e f x y z b a new → Tell Guest b a new
-call_at None h e f x y z b a new sound on g = stays_off b a new sound g.0 g.1
-call_at (Some life) h e f x y z b a new sound on (inl (has, m, called, did, g)) = called_at called h m life b a new sound on g
-call_at (Some life) h e f x y z b a new sound on (inr g) = stays_off b a new sound g.1 g.2
+call_at : (p : Option BenchLife) (h : ℕ) (asked : CallWords) (b : Bench) (a : Answer) (new : Bench) → IsSound b → b.power ≡ p → CallStep p h asked b a new → Tell Guest b a new
+call_at None h asked b a new sound on g = stays_off b a new sound g.0 g.1
+call_at (Some life) h asked b a new sound on (inl (has, m, called, did, g)) = called_at called h m life b a new sound on g
+call_at (Some life) h asked b a new sound on (inr g) = stays_off b a new sound g.1 g.2
 
 read_at : (p : Option BenchLife) (says_so : Machine → MachineLine → Type 0) (b : Bench) (a : Answer) (new : Bench) → IsSound b → ReadStep p says_so b a new → Tell Nothing b a new
 read_at None says_so b a new sound x = shows_on _ b a new sound x.0 x.1
@@ -284,39 +282,30 @@ inspect_at size None b a new sound (inl (c, reads, inr x)) = same Nothing b a (p
 inspect_at size None b a new sound (inr x) = same Nothing b a (printed.InspectRefused 5) new (failed x.1.0 b) x.0 x.1.2 refl refl refl sound.1 sound (λ s t e. (e, refl))
 inspect_at size (Some life) b a new sound x = stays Nothing b a printed.Busy new x.0 x.1 sound (λ s t e. (e, refl))
 
-wakes_at : (can : Bool) (life : BenchLife) (b : Bench) (a : Answer) (new : Bench) → IsSound b → b.power ≡ Some life → Wakes can life b a new → Tell Nothing b a new
-wakes_at true life b a new sound on x =
+-- a line that asks nothing of the disk and of no hart
+aside_at : (said : Printed) (e : Effect) (b : Bench) (a : Answer) (new : Bench) → OfFirmware e → FitsPower b.power e → TellsNothing said e → IsSound b → a ≡ says said → new ≡ affected e b → Tell Nothing b a new
+aside_at said Stays b a new by fits tells sound h x = stays Nothing b a said new h x sound (λ s t e. tells s t (is_up b.power) e)
+aside_at said (SetsPayloads payloads) b a new by fits tells sound h x = same Nothing b a said new _ h x refl refl refl sound.1 sound (λ s t e. tells s t (is_up b.power) e)
+aside_at said (Arms armed) b a new by fits tells sound h x = same Nothing b a said new (armed_with armed b) h x refl refl refl sound.1 sound (λ s t e. tells s t (is_up b.power) e)
+aside_at said CutsPower b a new by fits tells sound h x =
+    by_eqs Nothing b a (says printed.Cut) new (unpowered b) (h ∙ ap says tells) x ((sound.0, tt), λ t f. (t, f, (tt, (refl, refl))))
+aside_at said (WakesBoard life) b a new by fits tells sound h x =
     let F : Option BenchLife → Type 0 = λ p. GoesOn b.kept p in
-    same Nothing b a printed.Woken new _ x.0 x.1 refl refl (sym (ap is_up on)) (subst F on sound.1) sound (λ s t e. (e, refl))
-wakes_at false life b a new sound on x = stays Nothing b a (printed.WakeRefused 18) new x.0 x.1 sound (λ s t e. (e, refl))
-
-wake_at : (p : Option BenchLife) (b : Bench) (a : Answer) (new : Bench) → IsSound b → b.power ≡ p → WakeStep p b a new → Tell Nothing b a new
-wake_at None b a new sound on x = stays Nothing b a printed.Off new x.0 x.1 sound (λ s t e. (e, refl))
-wake_at (Some life) b a new sound on x = wakes_at (can_wake life.machine.doze) life b a new sound on x
+    same Nothing b a said new _ h x refl refl (sym (ap is_up fits)) (subst F fits sound.1) sound (λ s t e. tells s t (is_up b.power) e)
+aside_at said WritesPast b a new by fits tells sound h x = absurd by
 
 pub steps : (size : Size) (line : Line) (b : Bench) (a : Answer) (new : Bench) → IsByFirmware line → IsSound b → Step size line b a new → Tell (asked_by line) b a new
-steps size (lines.Payload x y) b a new by sound h = payload_at b.power x y b a new sound h
 steps size lines.Format b a new by sound h = format_at b.power b a new sound h
 steps size (lines.On mode) b a new by sound h = on_at size b.power mode b a new sound refl h
-steps size (lines.Slot n) b a new by sound h = consoles names.Slot (Slot n) b.power b a new sound refl h
-steps size lines.Discard b a new by sound h = consoles names.Discard Discard b.power b a new sound refl h
-steps size (lines.Tries n boots) b a new by sound h = consoles names.Tries (Tries n boots) b.power b a new sound refl h
-steps size lines.Good b a new by sound h = consoles names.Good Good b.power b a new sound refl h
+steps size (lines.Command c) b a new by sound h = consoles c b.power b a new sound refl h
 steps size (lines.Turn x y) b a new by sound h = turn_at b.power x y b a new sound h
-steps size (lines.Call x y z u v w) b a new by sound h = call_at b.power x y z u v w b a new sound refl h
-steps size (lines.Reg x y) b a new by sound h = read_at b.power _ b a new sound h
-steps size (lines.Pc x) b a new by sound h = read_at b.power _ b a new sound h
-steps size (lines.Csr x y) b a new by sound h = read_at b.power _ b a new sound h
-steps size lines.Pending b a new by sound h = read_at b.power _ b a new sound h
-steps size (lines.Mem x y) b a new by sound h = read_at b.power _ b a new sound h
-steps size (lines.CutAt x y) b a new by sound h = same Nothing b a _ new (armed_with CutArmed b) h.0 h.1 refl refl refl sound.1 sound (λ s t e. (e, refl))
-steps size (lines.CutLane x y z) b a new by sound h = same Nothing b a _ new (armed_with CutArmed b) h.0 h.1 refl refl refl sound.1 sound (λ s t e. (e, refl))
-steps size (lines.FailAt x) b a new by sound h = same Nothing b a _ new (armed_with FaultArmed b) h.0 h.1 refl refl refl sound.1 sound (λ s t e. (e, refl))
-steps size (lines.FailLane x y) b a new by sound h = same Nothing b a _ new (armed_with FaultArmed b) h.0 h.1 refl refl refl sound.1 sound (λ s t e. (e, refl))
-steps size (lines.Cut fill) b a new by sound h = by_eqs Nothing b a _ new (unpowered b) h.0 h.1 ((sound.0, tt), λ t f. (t, f, (tt, (refl, refl))))
-steps size (lines.Poke x y z) b a new by sound h = absurd by
+steps size (lines.Call i asked) b a new by sound h = call_at b.power i asked b a new sound refl h
+steps size (lines.Show look) b a new by sound h = read_at b.power _ b a new sound h
 steps size lines.Inspect b a new by sound h = inspect_at size b.power b a new sound h
-steps size lines.Wake b a new by sound h = wake_at b.power b a new sound refl h
+steps size line b a new by sound h =
+    let is = is_aside line b.power b.payloads in
+    let did = aside line b.power b.payloads in
+    aside_at did.0 did.1 b a new (is.firmware by) is.fits is.tells sound h.0 h.1
 
 lost_tells : (asked : AskedLine) (s t : DurableState) (up : Bool) → Lost asked s up t → LineImplies asked printed.PowerLost s up t false
 lost_tells (Boot mode) s t up h = (h, refl)
@@ -394,17 +383,13 @@ powers_no size None mode b a new (inr (inl h)) ok = other a _ h.2 refl ok
 powers_no size None mode b a new (inr (inr (inl h))) ok = other a _ h.1 refl ok
 powers_no size None mode b a new (inr (inr (inr h))) ok = other a _ h.0 refl ok
 
-reported_no : {T : Type 0} (word : ConsoleWord) (o : Result ℕ ℕ) (a : Answer) → a ≡ console_reported word o → is_format_ok a.line ≡ true → T
-reported_no word (Ok n) a e ok = other a _ e refl ok
-reported_no word (Err n) a e ok = other a _ e refl ok
+reported_no : {T : Type 0} (c : ConsoleCommand) (o : Result ℕ ℕ) (a : Answer) → a ≡ console_reported c o → is_format_ok a.line ≡ true → T
+reported_no c (Ok n) a e ok = other a _ e refl ok
+reported_no c (Err n) a e ok = other a _ e refl ok
 
-console_no : {T : Type 0} (word : ConsoleWord) (c : Change) (p : Option BenchLife) (b : Bench) (a : Answer) (new : Bench) → ConsoleStep word c p b a new → is_format_ok a.line ≡ true → T
-console_no word c None b a new h ok = other a _ h.0 refl ok
-console_no word c (Some life) b a new h ok = reported_no word h.0 a h.2 ok
-
-payload_no : {T : Type 0} (p : Option BenchLife) (slot : ℕ) (bytes : List ℕ) (b : Bench) (a : Answer) (new : Bench) → PayloadStep p slot bytes b a new → is_format_ok a.line ≡ true → T
-payload_no None slot bytes b a new h ok = other a _ h.0 refl ok
-payload_no (Some life) slot bytes b a new h ok = other a _ h.0 refl ok
+console_no : {T : Type 0} (c : ConsoleCommand) (p : Option BenchLife) (b : Bench) (a : Answer) (new : Bench) → ConsoleStep c p b a new → is_format_ok a.line ≡ true → T
+console_no c None b a new h ok = other a _ h.0 refl ok
+console_no c (Some life) b a new h ok = reported_no c h.0 a h.2 ok
 
 turn_no : {T : Type 0} (p : Option BenchLife) (h n : ℕ) (b : Bench) (a : Answer) (new : Bench) → TurnStep p h n b a new → is_format_ok a.line ≡ true → T
 turn_no None h n b a new x ok = other a _ x.0 refl ok
@@ -423,18 +408,14 @@ called_no : {T : Type 0} (called : Option Turned) (h : ℕ) (life : BenchLife) (
 called_no None h life b a new x ok = other a _ x.0 refl ok
 called_no (Some did) h life b a new (word, x, e) ok = call_word_no word h new a e ok
 
-call_no : {T : Type 0} (p : Option BenchLife) (h e f x y z : ℕ) (b : Bench) (a : Answer) (new : Bench) → CallStep p h e f x y z b a new → is_format_ok a.line ≡ true → T
-call_no None h e f x y z b a new g ok = other a _ g.0 refl ok
-call_no (Some life) h e f x y z b a new (inl (has, m, called, did, g)) ok = called_no called h (has_machine m life) (on_with (has_machine m life) b) a new g ok
-call_no (Some life) h e f x y z b a new (inr g) ok = other a _ g.1 refl ok
+call_no : {T : Type 0} (p : Option BenchLife) (h : ℕ) (asked : CallWords) (b : Bench) (a : Answer) (new : Bench) → CallStep p h asked b a new → is_format_ok a.line ≡ true → T
+call_no None h asked b a new g ok = other a _ g.0 refl ok
+call_no (Some life) h asked b a new (inl (has, m, called, did, g)) ok = called_no called h (has_machine m life) (on_with (has_machine m life) b) a new g ok
+call_no (Some life) h asked b a new (inr g) ok = other a _ g.1 refl ok
 
 read_no : {T : Type 0} (p : Option BenchLife) (says_so : Machine → MachineLine → Type 0) (b : Bench) (a : Answer) (new : Bench) → ReadStep p says_so b a new → is_format_ok a.line ≡ true → T
 read_no None says_so b a new x ok = other a _ x.0 refl ok
 read_no (Some life) says_so b a new x ok = other a _ x.2 refl ok
-
-poke_no : {T : Type 0} (p : Option BenchLife) (b : Bench) (a : Answer) (new : Bench) → PokeStep p b a new → is_format_ok a.line ≡ true → T
-poke_no None b a new x ok = other a _ x.0 refl ok
-poke_no (Some life) b a new x ok = other a _ x.0 refl ok
 
 told_no : {T : Type 0} (c : Content) (line : Printed) (a : Answer) → Tells c line → a ≡ says line → is_format_ok a.line ≡ true → T
 told_no c (printed.Inspected i) a tells e ok = other a _ e refl ok
@@ -447,37 +428,15 @@ inspect_no size None b a new (inl (c, reads, inr x)) ok = other a _ x.1 refl ok
 inspect_no size None b a new (inr x) ok = other a _ x.0 refl ok
 inspect_no size (Some life) b a new x ok = other a _ x.0 refl ok
 
-wakes_no : {T : Type 0} (can : Bool) (life : BenchLife) (b : Bench) (a : Answer) (new : Bench) → Wakes can life b a new → is_format_ok a.line ≡ true → T
-wakes_no true life b a new x ok = other a _ x.0 refl ok
-wakes_no false life b a new x ok = other a _ x.0 refl ok
-
-wake_no : {T : Type 0} (p : Option BenchLife) (b : Bench) (a : Answer) (new : Bench) → WakeStep p b a new → is_format_ok a.line ≡ true → T
-wake_no None b a new x ok = other a _ x.0 refl ok
-wake_no (Some life) b a new x ok = wakes_no (can_wake life.machine.doze) life b a new x ok
-
 step_formats : (size : Size) (line : Line) (b : Bench) (a : Answer) (new : Bench) → Step size line b a new → is_format_ok a.line ≡ true → IsFresh new
-step_formats size (lines.Payload x y) b a new h ok = payload_no b.power x y b a new h ok
 step_formats size lines.Format b a new h ok = formatted_at b.power b a new refl h ok
 step_formats size (lines.On mode) b a new h ok = powers_no size b.power mode b a new h ok
-step_formats size (lines.Slot n) b a new h ok = console_no names.Slot (Slot n) b.power b a new h ok
-step_formats size lines.Discard b a new h ok = console_no names.Discard Discard b.power b a new h ok
-step_formats size (lines.Tries n boots) b a new h ok = console_no names.Tries (Tries n boots) b.power b a new h ok
-step_formats size lines.Good b a new h ok = console_no names.Good Good b.power b a new h ok
+step_formats size (lines.Command c) b a new h ok = console_no c b.power b a new h ok
 step_formats size (lines.Turn x y) b a new h ok = turn_no b.power x y b a new h ok
-step_formats size (lines.Call x y z u v w) b a new h ok = call_no b.power x y z u v w b a new h ok
-step_formats size (lines.Reg x y) b a new h ok = read_no b.power _ b a new h ok
-step_formats size (lines.Pc x) b a new h ok = read_no b.power _ b a new h ok
-step_formats size (lines.Csr x y) b a new h ok = read_no b.power _ b a new h ok
-step_formats size lines.Pending b a new h ok = read_no b.power _ b a new h ok
-step_formats size (lines.Mem x y) b a new h ok = read_no b.power _ b a new h ok
-step_formats size (lines.CutAt x y) b a new h ok = other a _ h.0 refl ok
-step_formats size (lines.CutLane x y z) b a new h ok = other a _ h.0 refl ok
-step_formats size (lines.FailAt x) b a new h ok = other a _ h.0 refl ok
-step_formats size (lines.FailLane x y) b a new h ok = other a _ h.0 refl ok
-step_formats size (lines.Cut x) b a new h ok = other a _ h.0 refl ok
-step_formats size (lines.Poke x y z) b a new h ok = poke_no b.power b a new h ok
+step_formats size (lines.Call i asked) b a new h ok = call_no b.power i asked b a new h ok
+step_formats size (lines.Show look) b a new h ok = read_no b.power _ b a new h ok
 step_formats size lines.Inspect b a new h ok = inspect_no size b.power b a new h ok
-step_formats size lines.Wake b a new h ok = wake_no b.power b a new h ok
+step_formats size line b a new h ok = other a _ h.0 (is_aside line b.power b.payloads).no_format ok
 
 pub moves_format : (size : Size) (line : Line) (b : Bench) (a : Answer) (new : Bench) → Moves size line b a new → is_format_ok a.line ≡ true → IsFresh new
 moves_format size line b a new (inl h) ok = step_formats size line b a new h.0 ok

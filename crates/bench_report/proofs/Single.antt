@@ -1,9 +1,9 @@
 -- One report: the lines, and the one induction over them.
+use Rattle.board_model.specs.declared.call_words.CallWords.{CallWords}
 use Rattle.std.proofs.Common.{◌≡◌, ◌⊎◌, ℕ, inl, inr, List, [], ◌∷◌, Option, None, Some, refl, sym, ◌∙◌, ap, subst, arith, Bool, true, false}
 use Rattle.board_model.specs.Durable.{Change, Slot, Discard, Tries, Good}
 use Rattle.board_model.specs.Shapes.{Size}
 use Rattle.board_model.specs.declared.boot_mode.BootMode.{BootMode}
-use Rattle.disk.specs.FaultState.{FaultArmed, CutArmed}
 use Rattle.machine.specs.Machine.{Machine, hart_at}
 use Rattle.machine_lines.specs.Shows.{own_line}
 use Rattle.machine_lines.specs.declared.line.MachineLine.{MachineLine}
@@ -17,21 +17,26 @@ use Rattle.sbi_calls.specs.declared.words.Turned.{Turned}
 use Rattle.script_lang.specs.Scripts.{Script}
 use Rattle.script_lang.specs.declared.line.Line.{Line}
 use Rattle.script_lang.specs.declared.line.Line.TheVariants as lines
-use Rattle.board_console.specs.declared.command_words.ConsoleWord.{ConsoleWord}
-use Rattle.board_console.specs.declared.command_words.ConsoleWord.TheVariants as names
+use Rattle.board_model.specs.declared.console_command.ConsoleCommand.{ConsoleCommand}
+use Rattle.board_model.specs.ConsoleCommands.{console_change}
 use Rattle.bench_report.specs.declared.printed.Answer.{Answer}
 use Rattle.bench_report.specs.Bench.{BenchLife, Bench, IsFailureFree, blank_bench}
 use Rattle.bench_report.specs.Happens.{shows, unpowered, written_past, armed_with, on_with, has_machine}
 use Rattle.bench_report.specs.Examined.{InspectStep}
-use Rattle.bench_report.specs.Steps.{console_reported, FormatStep, OnStep, ConsoleStep, PayloadStep, CallReported, GuestCall, TurnStep, CallStep, ReadStep, Wakes, WakeStep, PokeStep, Step, Moves, Run}
+use Rattle.bench_report.specs.Steps.{console_reported, FormatStep, OnStep, ConsoleStep, CallReported, GuestCall, TurnStep, CallStep, ReadStep, Step, Moves, Run}
 use Rattle.bench_report.specs.Reports.{IsByFirmware, AreByFirmware, IsReport}
 use Rattle.bench_report.proofs.Inspected.{ContentLaws, inspect_at}
 use Rattle.bench_report.proofs.Guests.{IsOneTurn, Row, row, comes_fair, comes_one, turns_fair, turns_one}
 use Rattle.bench_report.proofs.Determined.{some_inj, HasFailed, DiskHasFailed, IsCalm, Fair, fair_to, fair_then, unmoved, spoils, fails, starved, issued_fair, Agree, same, issued, formats_fair, formats, powers_fair, powers}
+use Rattle.script_lang.specs.declared.looks.Look.{Look}
+use Rattle.script_lang.specs.declared.looks.Look.TheVariants as looks
+use Rattle.bench_report.specs.Looks.{IsShown}
+use Rattle.bench_report.specs.Asides.{Effect, Stays, SetsPayloads, Arms, CutsPower, WakesBoard, WritesPast, aside, affected}
+use Rattle.bench_report.proofs.Beside.{OfFirmware, is_aside}
 
 -- what the lines leave nothing open of
 abbrev pub IsOneCall : Type 0
-IsOneCall = (h eid fid a0 a1 a2 : ℕ) (old new other : Machine) (called also : Option Turned) → MakesOneCall h eid fid a0 a1 a2 old new called → MakesOneCall h eid fid a0 a1 a2 old other also → (new ≡ other) × (called ≡ also)
+IsOneCall = (h : ℕ) (asked : CallWords) (old new other : Machine) (called also : Option Turned) → MakesOneCall h asked old new called → MakesOneCall h asked old other also → (new ≡ other) × (called ≡ also)
 
 abbrev pub IsOneCsr : Type 0
 IsOneCsr = (h n : ℕ) (m : Machine) (line also : MachineLine) → CsrLine h n m line → CsrLine h n m also → line ≡ also
@@ -45,13 +50,9 @@ on_fair : (size : Size) (p : Option BenchLife) (mode : BootMode) (b : Bench) (a 
 on_fair size None mode b a new h = powers_fair size mode b a new h
 on_fair size (Some life) mode b a new h = unmoved b new h.1
 
-console_fair : (word : ConsoleWord) (c : Change) (p : Option BenchLife) (b : Bench) (a : Answer) (new : Bench) → ConsoleStep word c p b a new → Fair b new
-console_fair word c None b a new h = unmoved b new h.1
-console_fair word c (Some life) b a new h = issued_fair c life b h.0 new h.1
-
-payload_fair : (p : Option BenchLife) (slot : ℕ) (bytes : List ℕ) (b : Bench) (a : Answer) (new : Bench) → PayloadStep p slot bytes b a new → Fair b new
-payload_fair None slot bytes b a new h = fair_to b new _ h.1 (λ s. s, λ c. inr c, λ s. s)
-payload_fair (Some life) slot bytes b a new h = unmoved b new h.1
+console_fair : (c : ConsoleCommand) (p : Option BenchLife) (b : Bench) (a : Answer) (new : Bench) → ConsoleStep c p b a new → Fair b new
+console_fair c None b a new h = unmoved b new h.1
+console_fair c (Some life) b a new h = issued_fair (console_change c) life b h.0 new h.1
 
 turn_fair : (p : Option BenchLife) (h n : ℕ) (b : Bench) (a : Answer) (new : Bench) → TurnStep p h n b a new → Fair b new
 turn_fair None h n b a new x = unmoved b new x.1
@@ -62,11 +63,11 @@ called_fair : (called : Option Turned) (h : ℕ) (life : BenchLife) (b : Bench) 
 called_fair None h life b a new x = unmoved b new x.1
 called_fair (Some did) h life b a new (word, x, e) = comes_fair did h life b word new x
 
-call_fair : (p : Option BenchLife) (h e f x y z : ℕ) (b : Bench) (a : Answer) (new : Bench) → CallStep p h e f x y z b a new → Fair b new
-call_fair None h e f x y z b a new g = unmoved b new g.1
-call_fair (Some life) h e f x y z b a new (inl (has, m, called, did, g)) =
+call_fair : (p : Option BenchLife) (h : ℕ) (asked : CallWords) (b : Bench) (a : Answer) (new : Bench) → CallStep p h asked b a new → Fair b new
+call_fair None h asked b a new g = unmoved b new g.1
+call_fair (Some life) h asked b a new (inl (has, m, called, did, g)) =
     let rest = called_fair called h (has_machine m life) (on_with (has_machine m life) b) a new g in (λ s. rest.0 s, λ c. rest.1 c, λ s. rest.2 s)
-call_fair (Some life) h e f x y z b a new (inr g) = unmoved b new g.2
+call_fair (Some life) h asked b a new (inr g) = unmoved b new g.2
 
 read_fair : (p : Option BenchLife) (says_so : Machine → MachineLine → Type 0) (b : Bench) (a : Answer) (new : Bench) → ReadStep p says_so b a new → Fair b new
 read_fair None says_so b a new x = unmoved b new x.1
@@ -78,37 +79,23 @@ inspect_fair size None b a new (inl (c, reads, inr x)) = starved b new x.2
 inspect_fair size None b a new (inr x) = spoils b new (fails b new x.1)
 inspect_fair size (Some life) b a new x = unmoved b new x.1
 
-wakes_fair : (can : Bool) (life : BenchLife) (b : Bench) (a : Answer) (new : Bench) → Wakes can life b a new → Fair b new
-wakes_fair true life b a new x = fair_to b new _ x.1 (λ s. s, λ c. inr c, λ s. s)
-wakes_fair false life b a new x = unmoved b new x.1
-
-wake_fair : (p : Option BenchLife) (b : Bench) (a : Answer) (new : Bench) → WakeStep p b a new → Fair b new
-wake_fair None b a new x = unmoved b new x.1
-wake_fair (Some life) b a new x = wakes_fair (can_wake life.machine.doze) life b a new x
+aside_fair : (e : Effect) (b new : Bench) → OfFirmware e → new ≡ affected e b → Fair b new
+aside_fair Stays b new by x = unmoved b new x
+aside_fair (SetsPayloads payloads) b new by x = fair_to b new _ x (λ s. s, λ c. inr c, λ s. s)
+aside_fair (Arms armed) b new by x = fair_to b new _ x (λ s. s, λ c. inr c, λ s. s)
+aside_fair CutsPower b new by x = fair_to b new (unpowered b) x (λ s. s, λ c. inr (c.0, refl, c.2), λ s. s)
+aside_fair (WakesBoard life) b new by x = fair_to b new _ x (λ s. s, λ c. inr c, λ s. s)
+aside_fair WritesPast b new by x = absurd by
 
 step_fair : (size : Size) (line : Line) (b : Bench) (a : Answer) (new : Bench) → IsByFirmware line → Step size line b a new → Fair b new
-step_fair size (lines.Payload x y) b a new by h = payload_fair b.power x y b a new h
 step_fair size lines.Format b a new by h = format_fair b.power b a new h
 step_fair size (lines.On mode) b a new by h = on_fair size b.power mode b a new h
-step_fair size (lines.Slot n) b a new by h = console_fair names.Slot (Slot n) b.power b a new h
-step_fair size lines.Discard b a new by h = console_fair names.Discard Discard b.power b a new h
-step_fair size (lines.Tries n boots) b a new by h = console_fair names.Tries (Tries n boots) b.power b a new h
-step_fair size lines.Good b a new by h = console_fair names.Good Good b.power b a new h
+step_fair size (lines.Command c) b a new by h = console_fair c b.power b a new h
 step_fair size (lines.Turn x y) b a new by h = turn_fair b.power x y b a new h
-step_fair size (lines.Call x y z u v w) b a new by h = call_fair b.power x y z u v w b a new h
-step_fair size (lines.Reg x y) b a new by h = read_fair b.power _ b a new h
-step_fair size (lines.Pc x) b a new by h = read_fair b.power _ b a new h
-step_fair size (lines.Csr x y) b a new by h = read_fair b.power _ b a new h
-step_fair size lines.Pending b a new by h = read_fair b.power _ b a new h
-step_fair size (lines.Mem x y) b a new by h = read_fair b.power _ b a new h
-step_fair size (lines.CutAt x y) b a new by h = fair_to b new (armed_with CutArmed b) h.1 (λ s. s, λ c. inr c, λ s. s)
-step_fair size (lines.CutLane x y z) b a new by h = fair_to b new (armed_with CutArmed b) h.1 (λ s. s, λ c. inr c, λ s. s)
-step_fair size (lines.FailAt x) b a new by h = fair_to b new (armed_with FaultArmed b) h.1 (λ s. s, λ c. inr c, λ s. s)
-step_fair size (lines.FailLane x y) b a new by h = fair_to b new (armed_with FaultArmed b) h.1 (λ s. s, λ c. inr c, λ s. s)
-step_fair size (lines.Cut fill) b a new by h = fair_to b new (unpowered b) h.1 (λ s. s, λ c. inr (c.0, refl, c.2), λ s. s)
-step_fair size (lines.Poke x y z) b a new by h = absurd by
+step_fair size (lines.Call i asked) b a new by h = call_fair b.power i asked b a new h
+step_fair size (lines.Show look) b a new by h = read_fair b.power _ b a new h
 step_fair size lines.Inspect b a new by h = inspect_fair size b.power b a new h
-step_fair size lines.Wake b a new by h = wake_fair b.power b a new h
+step_fair size line b a new by h = aside_fair (aside line b.power b.payloads).1 b new ((is_aside line b.power b.payloads).firmware by) h.1
 
 pub moves_fair : (size : Size) (line : Line) (b : Bench) (a : Answer) (new : Bench) → IsByFirmware line → Moves size line b a new → Fair b new
 moves_fair size line b a new by (inl x) = step_fair size line b a new by x.0
@@ -152,13 +139,9 @@ on_at : (size : Size) (p : Option BenchLife) (mode : BootMode) (b : Bench) (a z 
 on_at size None mode b a z new last calm x y = powers size mode b a z new last calm x y
 on_at size (Some life) mode b a z new last calm x y = same a z _ new last b x.0 y.0 x.1 y.1
 
-console_at : (word : ConsoleWord) (c : Change) (p : Option BenchLife) (b : Bench) (a z : Answer) (new last : Bench) → ConsoleStep word c p b a new → ConsoleStep word c p b z last → Agree a z new last
-console_at word c None b a z new last x y = same a z _ new last b x.0 y.0 x.1 y.1
-console_at word c (Some life) b a z new last x y = by_word (λ o. console_reported word o) x.0 y.0 a z new last x.2 y.2 (issued c life b x.0 y.0 new last x.1 y.1)
-
-payload_at : (p : Option BenchLife) (slot : ℕ) (bytes : List ℕ) (b : Bench) (a z : Answer) (new last : Bench) → PayloadStep p slot bytes b a new → PayloadStep p slot bytes b z last → Agree a z new last
-payload_at None slot bytes b a z new last x y = same a z _ new last _ x.0 y.0 x.1 y.1
-payload_at (Some life) slot bytes b a z new last x y = same a z _ new last b x.0 y.0 x.1 y.1
+console_at : (c : ConsoleCommand) (p : Option BenchLife) (b : Bench) (a z : Answer) (new last : Bench) → ConsoleStep c p b a new → ConsoleStep c p b z last → Agree a z new last
+console_at c None b a z new last x y = same a z _ new last b x.0 y.0 x.1 y.1
+console_at c (Some life) b a z new last x y = by_word (λ o. console_reported c o) x.0 y.0 a z new last x.2 y.2 (issued (console_change c) life b x.0 y.0 new last x.1 y.1)
 
 turn_at : IsOneTurn → (p : Option BenchLife) (h n : ℕ) (b : Bench) (a z : Answer) (new last : Bench) → TurnStep p h n b a new → TurnStep p h n b z last → Agree a z new last
 turn_at one None h n b a z new last x y = same a z _ new last b x.0 y.0 x.1 y.1
@@ -186,57 +169,39 @@ called_at : (called : Option Turned) (h : ℕ) (life : BenchLife) (b : Bench) (a
 called_at None h life b a z new last x y = same a z _ new last b x.0 y.0 x.1 y.1
 called_at (Some did) h life b a z new last (word, x, e) (also, y, e2) = reported_one h word also a z new last (comes_one did h life b word also new last x y) e e2
 
-call_at : IsOneCall → (p : Option BenchLife) (h e f u v w : ℕ) (b : Bench) (a z : Answer) (new last : Bench) → CallStep p h e f u v w b a new → CallStep p h e f u v w b z last → Agree a z new last
-call_at one None h e f u v w b a z new last x y = same a z _ new last b x.0 y.0 x.1 y.1
-call_at one (Some life) h e f u v w b a z new last (inl (has, m, called, did, x)) (inl (has2, other, also, did2, y)) =
-    let is = one h e f u v w life.machine m other called also did did2 in
+call_at : IsOneCall → (p : Option BenchLife) (h : ℕ) (asked : CallWords) (b : Bench) (a z : Answer) (new last : Bench) → CallStep p h asked b a new → CallStep p h asked b z last → Agree a z new last
+call_at one None h asked b a z new last x y = same a z _ new last b x.0 y.0 x.1 y.1
+call_at one (Some life) h asked b a z new last (inl (has, m, called, did, x)) (inl (has2, other, also, did2, y)) =
+    let is = one h asked life.machine m other called also did did2 in
     let P : Machine → Type 0 = λ k. GuestCall also h (has_machine k life) (on_with (has_machine k life) b) z last in
     let Q : Option Turned → Type 0 = λ c. GuestCall c h (has_machine m life) (on_with (has_machine m life) b) z last in
     called_at called h (has_machine m life) (on_with (has_machine m life) b) a z new last x (subst Q (sym is.1) (subst P (sym is.0) y))
-call_at one (Some life) h e f u v w b a z new last (inl x) (inr y) = absurd (y.0 x.0)
-call_at one (Some life) h e f u v w b a z new last (inr x) (inl y) = absurd (x.0 y.0)
-call_at one (Some life) h e f u v w b a z new last (inr x) (inr y) = same a z _ new last b x.1 y.1 x.2 y.2
+call_at one (Some life) h asked b a z new last (inl x) (inr y) = absurd (y.0 x.0)
+call_at one (Some life) h asked b a z new last (inr x) (inl y) = absurd (x.0 y.0)
+call_at one (Some life) h asked b a z new last (inr x) (inr y) = same a z _ new last b x.1 y.1 x.2 y.2
 
 read_at : (says_so : Machine → MachineLine → Type 0) → ((m : Machine) (line also : MachineLine) → says_so m line → says_so m also → line ≡ also) → (p : Option BenchLife) (b : Bench) (a z : Answer) (new last : Bench)
     → ReadStep p says_so b a new → ReadStep p says_so b z last → Agree a z new last
 read_at says_so one None b a z new last x y = same a z _ new last b x.0 y.0 x.1 y.1
 read_at says_so one (Some life) b a z new last (line, so, e, f) (also, so2, e2, f2) = inr (inr (e ∙ ap shows (one life.machine line also so so2) ∙ sym e2, f ∙ sym f2))
 
-poke_at : (p : Option BenchLife) (b : Bench) (a z : Answer) (new last : Bench) → PokeStep p b a new → PokeStep p b z last → Agree a z new last
-poke_at None b a z new last x y = same a z _ new last (written_past b) x.0 y.0 x.1 y.1
-poke_at (Some life) b a z new last x y = same a z _ new last b x.0 y.0 x.1 y.1
-
-wakes_at : (can : Bool) (life : BenchLife) (b : Bench) (a z : Answer) (new last : Bench) → Wakes can life b a new → Wakes can life b z last → Agree a z new last
-wakes_at true life b a z new last x y = same a z _ new last _ x.0 y.0 x.1 y.1
-wakes_at false life b a z new last x y = same a z _ new last b x.0 y.0 x.1 y.1
-
-wake_at : (p : Option BenchLife) (b : Bench) (a z : Answer) (new last : Bench) → WakeStep p b a new → WakeStep p b z last → Agree a z new last
-wake_at None b a z new last x y = same a z _ new last b x.0 y.0 x.1 y.1
-wake_at (Some life) b a z new last x y = wakes_at (can_wake life.machine.doze) life b a z new last x y
+-- a look shows one line
+one_look : IsOneCsr → (look : Look) (m : Machine) (line also : MachineLine) → IsShown look m line → IsShown look m also → line ≡ also
+one_look csr (looks.Reg h r) m line also p q = p ∙ sym q
+one_look csr (looks.Pc h) m line also p q = p ∙ sym q
+one_look csr (looks.Csr h n) m line also p q = csr h n m line also p q
+one_look csr looks.Pending m line also p q = p ∙ sym q
+one_look csr (looks.Mem i n) m line also p q = p ∙ sym q
 
 steps : ContentLaws → IsOneTurn → IsOneCall → IsOneCsr → (size : Size) (line : Line) (b : Bench) (a z : Answer) (new last : Bench) → IsCalm b → Step size line b a new → Step size line b z last → Agree a z new last
-steps laws turns call csr size (lines.Payload s bytes) b a z new last calm x y = payload_at b.power s bytes b a z new last x y
 steps laws turns call csr size lines.Format b a z new last calm x y = format_at b.power b a z new last calm x y
 steps laws turns call csr size (lines.On mode) b a z new last calm x y = on_at size b.power mode b a z new last calm x y
-steps laws turns call csr size (lines.Slot n) b a z new last calm x y = console_at names.Slot (Slot n) b.power b a z new last x y
-steps laws turns call csr size lines.Discard b a z new last calm x y = console_at names.Discard Discard b.power b a z new last x y
-steps laws turns call csr size (lines.Tries n boots) b a z new last calm x y = console_at names.Tries (Tries n boots) b.power b a z new last x y
-steps laws turns call csr size lines.Good b a z new last calm x y = console_at names.Good Good b.power b a z new last x y
+steps laws turns call csr size (lines.Command c) b a z new last calm x y = console_at c b.power b a z new last x y
 steps laws turns call csr size (lines.Turn h n) b a z new last calm x y = turn_at turns b.power h n b a z new last x y
-steps laws turns call csr size (lines.Call h e f u v w) b a z new last calm x y = call_at call b.power h e f u v w b a z new last x y
-steps laws turns call csr size (lines.Reg h r) b a z new last calm x y = read_at _ (λ m line also p q. p ∙ sym q) b.power b a z new last x y
-steps laws turns call csr size (lines.Pc h) b a z new last calm x y = read_at _ (λ m line also p q. p ∙ sym q) b.power b a z new last x y
-steps laws turns call csr size (lines.Csr h n) b a z new last calm x y = read_at (λ m line. CsrLine h n m line) (csr h n) b.power b a z new last x y
-steps laws turns call csr size lines.Pending b a z new last calm x y = read_at _ (λ m line also p q. p ∙ sym q) b.power b a z new last x y
-steps laws turns call csr size (lines.Mem i n) b a z new last calm x y = read_at _ (λ m line also p q. p ∙ sym q) b.power b a z new last x y
-steps laws turns call csr size (lines.CutAt n fill) b a z new last calm x y = same a z _ new last _ x.0 y.0 x.1 y.1
-steps laws turns call csr size (lines.CutLane i n fill) b a z new last calm x y = same a z _ new last _ x.0 y.0 x.1 y.1
-steps laws turns call csr size (lines.FailAt n) b a z new last calm x y = same a z _ new last _ x.0 y.0 x.1 y.1
-steps laws turns call csr size (lines.FailLane i n) b a z new last calm x y = same a z _ new last _ x.0 y.0 x.1 y.1
-steps laws turns call csr size (lines.Cut fill) b a z new last calm x y = same a z _ new last _ x.0 y.0 x.1 y.1
-steps laws turns call csr size (lines.Poke k n bytes) b a z new last calm x y = poke_at b.power b a z new last x y
+steps laws turns call csr size (lines.Call h asked) b a z new last calm x y = call_at call b.power h asked b a z new last x y
+steps laws turns call csr size (lines.Show look) b a z new last calm x y = read_at (IsShown look) (one_look csr look) b.power b a z new last x y
 steps laws turns call csr size lines.Inspect b a z new last calm x y = inspect_at laws size b.power b a z new last calm x y
-steps laws turns call csr size lines.Wake b a z new last calm x y = wake_at b.power b a z new last x y
+steps laws turns call csr size line b a z new last calm x y = same a z _ new last _ x.0 y.0 x.1 y.1
 
 true_false : {A : Type 0} (x y : Bool) → x ≡ y → x ≡ true → y ≡ false → A
 true_false x y e f g = let h : y ≡ true = sym e ∙ f in absurd (let no : ⊥ = cc in no)

@@ -1,5 +1,6 @@
 -- Each image that stands has the memory of its board, through whole runs: a suspension carries that memory,
 -- and no other command makes an image. So no power-on is refused 13.
+use Rattle.board_model.specs.declared.call_words.CallWords.{CallWords}
 use Rattle.std.proofs.Common.{◌≡◌, ◌≢◌, ◌+◌, ℕ, zero, suc, inl, inr, List, [], ◌∷◌, ◌++◌, Bool, true, false, Option, None, Some, Result, Ok, Err, refl, sym, ◌∙◌, ap, subst, arith, IfSome, length}
 use Rattle.std.specs.Bool.{⊤}
 use Rattle.board_model.specs.Durable.{DurableState, Image, Change, Slot, Reset, Suspend, Consume, Discard, Tries, Good, Attempt, formatted, refusal_of, after, IsWhole, CarriesWhole}
@@ -28,10 +29,9 @@ use Rattle.sbi_abi.specs.declared.ret.SbiError.TheVariants.{Failed, NotSupported
 use Rattle.store.specs.Follows.{FitsBoard}
 use Rattle.sbi_calls.specs.declared.words.Turned.{Turned}
 use Rattle.sbi_calls.specs.declared.words.Turned.TheVariants.{Made, Durable}
-use Rattle.disk.specs.FaultState.{FaultArmed, CutArmed}
 use Rattle.bench_report.specs.declared.printed.Answer.{Answer}
-use Rattle.board_console.specs.declared.command_words.ConsoleWord.{ConsoleWord}
-use Rattle.board_console.specs.declared.command_words.ConsoleWord.TheVariants as names
+use Rattle.board_model.specs.declared.console_command.ConsoleCommand.{ConsoleCommand}
+use Rattle.board_model.specs.ConsoleCommands.{console_change}
 use Rattle.bench_report.specs.declared.printed.Printed.{Printed}
 use Rattle.bench_report.specs.declared.printed.Printed.TheVariants as printed
 use Rattle.bench_report.specs.Bench.{DiskState, Blank, Unknown, Formatted, BenchLife, Bench}
@@ -47,10 +47,13 @@ use Rattle.bench_report.proofs.Dozed.{turn_size, call_size}
 use Rattle.bench_report.specs.Turns.{refused, AnswersError, HartCommand, Resets, SuspendIssued, dozes, BenchFallsAsleep, BenchSleeps, BenchSleepsBy, BenchMakesCall, ComesTo, GuestTurn, GuestTurns}
 use Rattle.bench_report.specs.PowerOns.{life_begun, FormatsOn, IsBooted, BootsFrom, Begins, Boots, Opens, IsOpenRefusal, PowersOn}
 use Rattle.bench_report.specs.Examined.{InspectStep}
-use Rattle.bench_report.specs.Steps.{FormatStep, OnStep, ConsoleStep, PayloadStep, GuestCall, TurnStep, CallStep, ReadStep, Wakes, WakeStep, Step, Moves, Run}
+use Rattle.bench_report.specs.Steps.{FormatStep, OnStep, ConsoleStep, GuestCall, TurnStep, CallStep, ReadStep, Step, Moves, Run}
 use Rattle.bench_report.proofs.Adapted.{grows}
 use Rattle.bench_report.proofs.Determined.{begun_size}
 use Rattle.bench_report.proofs.Table.{table_not_thirteen, mode_not_thirteen}
+use Rattle.board_model.proofs.Console.{CarriesWhole-console}
+use Rattle.bench_report.specs.Asides.{Effect, Stays, SetsPayloads, Arms, CutsPower, WakesBoard, WritesPast, aside, affected}
+use Rattle.bench_report.proofs.Beside.{OfFirmware, FitsPower, is_aside}
 
 -- ---- the states that an open may find
 abbrev DoubtWhole : Size → Option Change → Type 0
@@ -183,11 +186,11 @@ module _ (size : Size) where
   called None h life b a new on k x = same_as b new x.1 k
   called (Some did) h life b a new on k (word, x, e) = comes did h life b word new on k x
 
-  call_line : (p : Option BenchLife) (h e f x y z : ℕ) (b : Bench) (a : Answer) (new : Bench) → b.power ≡ p → IsKeptWhole size b → CallStep p h e f x y z b a new → IsKeptWhole size new
-  call_line None h e f x y z b a new on k g = same_as b new g.1 k
-  call_line (Some life) h e f x y z b a new on k (inl (has, m, did, call, g)) =
-      called did h (has_machine m life) (on_with (has_machine m life) b) a new refl (goes_on m life b (call_size (doze_of h life.machine.doze) h (calling (hart_at life.machine h) e f x y z) life.machine m did call) on k) g
-  call_line (Some life) h e f x y z b a new on k (inr g) = same_as b new g.2 k
+  call_line : (p : Option BenchLife) (h : ℕ) (asked : CallWords) (b : Bench) (a : Answer) (new : Bench) → b.power ≡ p → IsKeptWhole size b → CallStep p h asked b a new → IsKeptWhole size new
+  call_line None h asked b a new on k g = same_as b new g.1 k
+  call_line (Some life) h asked b a new on k (inl (has, m, did, call, g)) =
+      called did h (has_machine m life) (on_with (has_machine m life) b) a new refl (goes_on m life b (call_size (doze_of h life.machine.doze) h (calling (hart_at life.machine h) asked) life.machine m did call) on k) g
+  call_line (Some life) h asked b a new on k (inr g) = same_as b new g.2 k
 
   -- ---- power on
   attempts_carry : (trial : Option Trial) → AllCarry (attempts_of trial)
@@ -251,13 +254,9 @@ module _ (size : Size) where
   format_line None b a new k x = formats b.disk_state b a new refl k x
   format_line (Some life) b a new k x = same_as b new x.1 k
 
-  console : (word : ConsoleWord) (c : Change) (p : Option BenchLife) (b : Bench) (a : Answer) (new : Bench) → CarriesWhole size c → b.power ≡ p → IsKeptWhole size b → ConsoleStep word c p b a new → IsKeptWhole size new
-  console word c None b a new carries on k x = same_as b new x.1 k
-  console word c (Some life) b a new carries on k (o, i, e) = issued c life b o new carries on k i
-
-  payload : (p : Option BenchLife) (slot : ℕ) (bytes : List ℕ) (b : Bench) (a : Answer) (new : Bench) → IsKeptWhole size b → PayloadStep p slot bytes b a new → IsKeptWhole size new
-  payload None slot bytes b a new k x = same_as _ new x.1 k
-  payload (Some life) slot bytes b a new k x = same_as b new x.1 k
+  console : (c : ConsoleCommand) (p : Option BenchLife) (b : Bench) (a : Answer) (new : Bench) → b.power ≡ p → IsKeptWhole size b → ConsoleStep c p b a new → IsKeptWhole size new
+  console c None b a new on k x = same_as b new x.1 k
+  console c (Some life) b a new on k (o, i, e) = issued (console_change c) life b o new (CarriesWhole-console c size) on k i
 
   reads : (p : Option BenchLife) (says_so : Machine → MachineLine → Type 0) (b : Bench) (a : Answer) (new : Bench) → IsKeptWhole size b → ReadStep p says_so b a new → IsKeptWhole size new
   reads None says_so b a new k x = same_as b new x.1 k
@@ -269,37 +268,23 @@ module _ (size : Size) where
   inspects None b a new k (inr x) = same_as (failed x.1.0 b) new x.1.2 k
   inspects (Some life) b a new k x = same_as b new x.1 k
 
-  wakes : (can : Bool) (life : BenchLife) (b : Bench) (a : Answer) (new : Bench) → b.power ≡ Some life → IsKeptWhole size b → Wakes can life b a new → IsKeptWhole size new
-  wakes true life b a new on k x = same_as _ new x.1 (k.0, k.1, k.2, sized life b on k)
-  wakes false life b a new on k x = same_as b new x.1 k
-
-  wake_line : (p : Option BenchLife) (b : Bench) (a : Answer) (new : Bench) → b.power ≡ p → IsKeptWhole size b → WakeStep p b a new → IsKeptWhole size new
-  wake_line None b a new on k x = same_as b new x.1 k
-  wake_line (Some life) b a new on k x = wakes (can_wake life.machine.doze) life b a new on k x
+  aside_line : (e : Effect) (b new : Bench) → OfFirmware e → FitsPower b.power e → IsKeptWhole size b → new ≡ affected e b → IsKeptWhole size new
+  aside_line Stays b new by fits k x = same_as b new x k
+  aside_line (SetsPayloads payloads) b new by fits k x = same_as _ new x k
+  aside_line (Arms armed) b new by fits k x = same_as (armed_with armed b) new x k
+  aside_line CutsPower b new by fits k x = same_as (unpowered b) new x (k.0, k.1, k.2, tt)
+  aside_line (WakesBoard life) b new by fits k x = same_as _ new x (k.0, k.1, k.2, sized life b fits k)
+  aside_line WritesPast b new by fits k x = absurd by
 
   step : (line : Line) (b : Bench) (a : Answer) (new : Bench) → IsByFirmware line → IsKeptWhole size b → Step size line b a new → IsKeptWhole size new
-  step (lines.Payload x y) b a new by k h = payload b.power x y b a new k h
   step lines.Format b a new by k h = format_line b.power b a new k h
   step (lines.On mode) b a new by k h = on_line b.power mode b a new refl k h
-  step (lines.Slot n) b a new by k h = console names.Slot (Slot n) b.power b a new tt refl k h
-  step lines.Discard b a new by k h = console names.Discard Discard b.power b a new tt refl k h
-  step (lines.Tries n boots) b a new by k h = console names.Tries (Tries n boots) b.power b a new tt refl k h
-  step lines.Good b a new by k h = console names.Good Good b.power b a new tt refl k h
+  step (lines.Command c) b a new by k h = console c b.power b a new refl k h
   step (lines.Turn x y) b a new by k h = turn_line b.power x y b a new k h
-  step (lines.Call x y z u v w) b a new by k h = call_line b.power x y z u v w b a new refl k h
-  step (lines.Reg x y) b a new by k h = reads b.power _ b a new k h
-  step (lines.Pc x) b a new by k h = reads b.power _ b a new k h
-  step (lines.Csr x y) b a new by k h = reads b.power _ b a new k h
-  step lines.Pending b a new by k h = reads b.power _ b a new k h
-  step (lines.Mem x y) b a new by k h = reads b.power _ b a new k h
-  step (lines.CutAt x y) b a new by k h = same_as (armed_with CutArmed b) new h.1 k
-  step (lines.CutLane x y z) b a new by k h = same_as (armed_with CutArmed b) new h.1 k
-  step (lines.FailAt x) b a new by k h = same_as (armed_with FaultArmed b) new h.1 k
-  step (lines.FailLane x y) b a new by k h = same_as (armed_with FaultArmed b) new h.1 k
-  step (lines.Cut fill) b a new by k h = same_as (unpowered b) new h.1 (k.0, k.1, k.2, tt)
-  step (lines.Poke x y z) b a new by k h = absurd by
+  step (lines.Call i asked) b a new by k h = call_line b.power i asked b a new refl k h
+  step (lines.Show look) b a new by k h = reads b.power _ b a new k h
   step lines.Inspect b a new by k h = inspects b.power b a new k h
-  step lines.Wake b a new by k h = wake_line b.power b a new refl k h
+  step line b a new by k h = let is = is_aside line b.power b.payloads in aside_line (aside line b.power b.payloads).1 b new (is.firmware by) is.fits k h.1
 
   moves : (line : Line) (b : Bench) (a : Answer) (new : Bench) → IsByFirmware line → IsKeptWhole size b → Moves size line b a new → IsKeptWhole size new
   moves line b a new by k (inl h) = step line b a new by k h.0
@@ -376,27 +361,7 @@ module _ (size : Size) where
 
   loaded : (line : Line) (b : Bench) (a : Answer) (new : Bench) → IsKeptWhole size b → Moves size line b a new → LoadsWhole line a
   loaded (lines.On mode) b a new k h = loaded_on mode b a new k h
-  loaded (lines.Payload x y) b a new k h = tt
-  loaded lines.Format b a new k h = tt
-  loaded (lines.Slot n) b a new k h = tt
-  loaded lines.Discard b a new k h = tt
-  loaded (lines.Tries n boots) b a new k h = tt
-  loaded lines.Good b a new k h = tt
-  loaded (lines.Turn x y) b a new k h = tt
-  loaded (lines.Call x y z u v w) b a new k h = tt
-  loaded (lines.Reg x y) b a new k h = tt
-  loaded (lines.Pc x) b a new k h = tt
-  loaded (lines.Csr x y) b a new k h = tt
-  loaded lines.Pending b a new k h = tt
-  loaded (lines.Mem x y) b a new k h = tt
-  loaded (lines.CutAt x y) b a new k h = tt
-  loaded (lines.CutLane x y z) b a new k h = tt
-  loaded (lines.FailAt x) b a new k h = tt
-  loaded (lines.FailLane x y) b a new k h = tt
-  loaded (lines.Cut fill) b a new k h = tt
-  loaded (lines.Poke x y z) b a new k h = tt
-  loaded lines.Inspect b a new k h = tt
-  loaded lines.Wake b a new k h = tt
+  loaded line b a new k h = tt
 
   pub all_loaded : (ls : List Line) (b : Bench) (answers : List Answer) (end : Bench) → AreByFirmware ls → IsKeptWhole size b → Run size b ls answers end → AreLoaded ls answers
   all_loaded [] b [] end by k run = tt

@@ -7,7 +7,6 @@ use Rattle.board_model.specs.declared.refusal.Refusal.{Refusal}
 use Rattle.disk.specs.Facts.{Facts}
 use Rattle.disk.specs.FaultState.{FaultState}
 use Rattle.disk.specs.declared.device.ArmedFault.{ArmedFault}
-use Rattle.disk.specs.declared.device.ArmedFault.TheVariants as faults
 use Rattle.simdisk.specs.declared.SimDisk.{SimDisk}
 use Rattle.simdisk.specs.declared.fill.Fill.{Fill}
 use Rattle.simdisk.specs.Views.{left_by_fill}
@@ -23,6 +22,7 @@ use Rattle.bench_report.specs.declared.power.Power.TheVariants.{Off, On}
 use Rattle.bench_report.specs.Views.{SimStore, SimBoard, store_in, machine_in, disk_in, facts, arms, store_arms, sim_log_of, fault_state, store_facts, store_fault_state, store_size, store_now, store_doubt, IsAs}
 use Rattle.bench_report.specs.Bench.{DiskState, Blank, Unknown, Formatted, BenchLife, Bench}
 use Rattle.bench_report.specs.Sides.{SidesAre}
+use Rattle.bench_report.specs.Armings.{fault_of, newest_fill}
 use Rattle.bench_report.specs.Steps.{Step}
 use Rattle.bench_report.specs.Examined.{AnswersOf}
 use Rattle.bench_report.specs.declared.printed.Answer.{Answer}
@@ -114,10 +114,7 @@ IsArmed fault (On board) = store_arms (store_in board) fault
 
 -- what a line arms
 abbrev pub ArmsIts : Line → Power → Type 0
-ArmsIts (lines.CutAt n fill) power = IsArmed (faults.CutAt n) power
-ArmsIts (lines.CutLane i n fill) power = IsArmed (faults.CutLane i n) power
-ArmsIts (lines.FailAt n) power = IsArmed (faults.FailAt n) power
-ArmsIts (lines.FailLane i n) power = IsArmed (faults.FailLane i n) power
+ArmsIts (lines.Arm arming) power = IsArmed (fault_of arming) power
 ArmsIts line power = ⊤
 
 -- That sector of the disk of a board that is off stands with these bytes in it, from that one on, and nothing
@@ -146,8 +143,7 @@ InspectsIts line before did = ⊤
 
 -- what an armed cut is to leave after a line: as the line says that armed the newest one
 abbrev pub fill_after : Line → Fill → Fill
-fill_after (lines.CutAt n newest) fill = newest
-fill_after (lines.CutLane i n newest) fill = newest
+fill_after (lines.Arm arming) fill = newest_fill arming fill
 fill_after line fill = fill
 
 abbrev pub fills_after : List Line → Fill → Fill

@@ -9,6 +9,11 @@ pub mod Commands
 pub mod Turns
 -- A format, and a power-on.
 pub mod PowerOns
+-- What a line shows of memory and harts, and what it arms.
+pub mod Looks
+pub mod Armings
+-- Lines that ask nothing of the disk and of no hart.
+pub mod Asides
 -- Gate and records of its disk, by the commands that it keeps.
 pub mod Sides
 -- What a line that examines the disk may answer.

@@ -1,11 +1,10 @@
 -- The report of a script where memory was never refused and the disk never failed, computed: for scripts
 -- whose lines neither move harts nor show memory or harts, so that no image is ever made and no board dozes.
 use Rattle.std.specs.Prelude.{◌≡◌, ◌≢◌, ℕ, ◌+◌, ◌==◌, Bool, true, false, List, [], ◌∷◌, Option, Some, None, Result, Ok, Err, length, slice_set, if◌then◌else◌, ⊤}
-use Rattle.board_model.specs.Durable.{DurableState, Change, Slot, Discard, Tries, Good, refusal_of, fold}
+use Rattle.board_model.specs.Durable.{DurableState, Change, refusal_of, fold}
 use Rattle.board_model.specs.Kept.{found_of}
 use Rattle.board_model.specs.Shapes.{Size}
 use Rattle.board_model.specs.Views.{durable_of}
-use Rattle.disk.specs.FaultState.{FaultArmed, CutArmed}
 use Rattle.board_model.specs.declared.refusal.Refusal.{Refusal}
 use Rattle.script_lang.specs.Scripts.{Script, script_of, ◌>>>◌}
 use Rattle.board.specs.Boots.{boot_refusal, booted}
@@ -18,17 +17,17 @@ use Rattle.sbi_calls.specs.declared.words.Did.TheVariants.{Next}
 use Rattle.machine_lines.specs.declared.line.MachineLine.{MachineLine}
 use Rattle.machine_lines.specs.declared.line.MachineLine.TheVariants as shown
 use Rattle.bench_report.specs.declared.printed.Answer.{Answer}
-use Rattle.board_console.specs.declared.command_words.ConsoleWord.{ConsoleWord}
-use Rattle.board_console.specs.declared.command_words.ConsoleWord.TheVariants as names
+use Rattle.board_model.specs.declared.console_command.ConsoleCommand.{ConsoleCommand}
+use Rattle.board_model.specs.ConsoleCommands.{console_change}
 use Rattle.bench_report.specs.declared.printed.Printed.{Printed}
 use Rattle.bench_report.specs.declared.printed.Printed.TheVariants as printed
 use Rattle.bench_report.specs.Bench.{DiskState, Blank, Unknown, Formatted, BenchLife, Bench, blank_bench}
 use Rattle.bench_report.specs.Happens.{says, shows, on_with, unpowered, armed_with, formatted_anew, settled, has_machine, acknowledged, all_acknowledged}
 use Rattle.bench_report.specs.PowerOns.{life_begun}
 use Rattle.bench_report.specs.Examined.{inspection_of}
+use Rattle.bench_report.specs.Asides.{aside, affected}
 use Rattle.bench_report.specs.Steps.{console_reported}
 use Rattle.bench_report.specs.Reports.{board_answer, report_text}
-use Rattle.susp.specs.Dozes.{can_wake, after_wake}
 
 -- a command's receipt or number, and the bench after it, by the number with which the table refuses it
 abbrev pub plain_written : Option ℕ → Change → BenchLife → Bench → Result ℕ ℕ × Bench
@@ -38,10 +37,11 @@ plain_written None c life b = (Ok (life.receipts + 1), acknowledged c life b)
 abbrev pub plain_issued : Change → BenchLife → Bench → Result ℕ ℕ × Bench
 plain_issued c life b = if life.receipts == 4096 then (Err 10, b) else plain_written (refusal_of life.now c) c life b
 
--- a command of the console, which a line names by that word
-abbrev pub plain_console : ConsoleWord → Change → Option BenchLife → Bench → Answer × Bench
-plain_console word c None b = (says printed.Off, b)
-plain_console word c (Some life) b = (console_reported word (plain_issued c life b).0, (plain_issued c life b).1)
+-- a command of the console
+abbrev pub plain_console : ConsoleCommand → Option BenchLife → Bench → Answer × Bench
+plain_console c None b = (says printed.Off, b)
+plain_console c (Some life) b =
+    (console_reported c (plain_issued (console_change c) life b).0, (plain_issued (console_change c) life b).1)
 
 abbrev pub plain_format : DiskState → Bench → Answer × Bench
 plain_format Blank b = (says printed.Formatted, formatted_anew b)
@@ -79,34 +79,15 @@ plain_inspect Blank b = (says (printed.InspectRefused 1), b)
 plain_inspect Unknown b = (says (printed.InspectRefused 1), b)
 plain_inspect Formatted b = (says (printed.Inspected (inspection_of b.kept.changes)), b)
 
--- the wake-up device is called
-abbrev pub plain_wake : Bool → BenchLife → Bench → Answer × Bench
-plain_wake true life b =
-    (says printed.Woken, on_with (has_machine (record life.machine { doze = after_wake life.machine.doze }) life) b)
-plain_wake false life b = (says (printed.WakeRefused 18), b)
-
 abbrev pub plain_at : Size → Option BenchLife → Line → Bench → Answer × Bench
 plain_at size None lines.Format b = plain_format b.disk_state b
 plain_at size (Some life) lines.Format b = (says printed.Busy, b)
 plain_at size None (lines.On mode) b = plain_on size b.disk_state mode b
 plain_at size (Some life) (lines.On mode) b = (says printed.Busy, b)
-plain_at size p (lines.Slot n) b = plain_console names.Slot (Slot n) p b
-plain_at size p lines.Discard b = plain_console names.Discard Discard p b
-plain_at size p (lines.Tries n boots) b = plain_console names.Tries (Tries n boots) p b
-plain_at size p lines.Good b = plain_console names.Good Good p b
-plain_at size p (lines.Cut fill) b = (says printed.Cut, unpowered b)
-plain_at size p (lines.CutAt n fill) b = (says printed.Armed, armed_with CutArmed b)
-plain_at size p (lines.CutLane i n fill) b = (says printed.Armed, armed_with CutArmed b)
-plain_at size p (lines.FailAt n) b = (says printed.Armed, armed_with FaultArmed b)
-plain_at size p (lines.FailLane i n) b = (says printed.Armed, armed_with FaultArmed b)
-plain_at size None (lines.Payload s bytes) b =
-    (shows (shown.Payload s (length bytes)), record b { payloads = slice_set b.payloads s bytes })
-plain_at size (Some life) (lines.Payload s bytes) b = (shows shown.Busy, b)
+plain_at size p (lines.Command c) b = plain_console c p b
 plain_at size None lines.Inspect b = plain_inspect b.disk_state b
 plain_at size (Some life) lines.Inspect b = (says printed.Busy, b)
-plain_at size None lines.Wake b = (says printed.Off, b)
-plain_at size (Some life) lines.Wake b = plain_wake (can_wake life.machine.doze) life b
-plain_at size p line b = (says printed.Off, b)
+plain_at size p line b = (says (aside line p b.payloads).0, affected (aside line p b.payloads).1 b)
 
 -- what a line answers, and the bench after it
 abbrev pub plain : Size → Line → Bench → Answer × Bench
@@ -122,12 +103,8 @@ plain_report script = board_answer script.size ∷ plain_answers script.size scr
 -- a line that neither moves a hart, nor shows memory or harts, nor writes the disk past the firmware
 abbrev pub IsPlain : Line → Type 0
 IsPlain (lines.Turn h n) = ⊥
-IsPlain (lines.Call h e f x y z) = ⊥
-IsPlain (lines.Reg h r) = ⊥
-IsPlain (lines.Pc h) = ⊥
-IsPlain (lines.Csr h c) = ⊥
-IsPlain lines.Pending = ⊥
-IsPlain (lines.Mem a n) = ⊥
+IsPlain (lines.Call h asked) = ⊥
+IsPlain (lines.Show look) = ⊥
 IsPlain (lines.Poke k n bytes) = ⊥
 IsPlain line = ⊤
 

@@ -4,9 +4,10 @@
 -- so; where it was refused, some but not all; where it was refused 6 or lost power, some first of them. A
 -- life takes commands from its power-on to its first command in doubt, its end or a cut.
 use Rattle.std.specs.Prelude.{◌≡◌, ◌≢◌, ◌⊎◌, ℕ, zero, suc, ◌+◌, ◌-◌, ◌^◌, ◌==◌, ◌≤◌, Bool, true, false, List, [], ◌∷◌, Option, Some, None, MatchBool, ⊤}
-use Rattle.board_model.specs.Durable.{DurableState, Change, Slot, Reset, Suspend, Discard, Tries, Good, formatted}
+use Rattle.board_model.specs.Durable.{DurableState, Change, Reset, Suspend, formatted}
 use Rattle.bench_report.specs.Taken.{TakesAll, TakesSome, TakesFewer}
 use Rattle.board_model.specs.Views.{durable_of}
+use Rattle.board_model.specs.ConsoleCommands.{console_change}
 use Rattle.board_model.specs.declared.durable.Durable.{Durable}
 use Rattle.board_model.specs.declared.durable.Reason.{Reason}
 use Rattle.board_model.specs.declared.durable.ImageHead.{ImageHead}
@@ -38,12 +39,9 @@ pub data AskedLine : Type 0 where
 
 abbrev pub asked_by : Line → AskedLine
 asked_by (lines.On mode) = Boot mode
-asked_by (lines.Slot n) = Command (Slot n)
-asked_by lines.Discard = Command Discard
-asked_by (lines.Tries n boots) = Command (Tries n boots)
-asked_by lines.Good = Command Good
+asked_by (lines.Command c) = Command (console_change c)
 asked_by (lines.Turn h n) = Guest
-asked_by (lines.Call h e f x y z) = Guest
+asked_by (lines.Call h asked) = Guest
 asked_by line = Nothing
 
 -- A command was refused: by 6 it may have taken effect, and the life takes no more (up: whether it took

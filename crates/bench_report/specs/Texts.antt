@@ -2,8 +2,9 @@
 use Rattle.std.specs.Prelude.{ℕ, List, [], ◌∷◌, ◌++◌, Option, Some, None}
 use Rattle.std.specs.Fmt.{decimal}
 use Rattle.board_model.specs.declared.durable.Durable.{Durable}
-use Rattle.board_console.specs.Texts.{console_text, state_text}
-use Rattle.script_lang.specs.Spellings.{mode_text}
+use Rattle.board_model.specs.ConsoleCommands.{word_of}
+use Rattle.board_console.specs.Texts.{state_text}
+use Rattle.script_lang.specs.Lines.{mode_text}
 use Rattle.machine_lines.specs.Texts.{machine_line_text}
 use Rattle.examined.specs.Texts.{inspection_text}
 use Rattle.bench_report.specs.declared.printed.Printed.{Printed}
@@ -18,8 +19,8 @@ line_text printed.Formatted = codes "format ok"
 line_text (printed.FormatRefused n) = codes "format refused " ++ decimal n
 line_text (printed.On mode) = codes "on " ++ mode_text mode
 line_text (printed.OnRefused n) = codes "on refused " ++ decimal n
-line_text (printed.Acknowledged word n) = console_text word ++ codes " ok " ++ decimal n
-line_text (printed.CommandRefused word n) = console_text word ++ codes " refused " ++ decimal n
+line_text (printed.Acknowledged c n) = word_of c ++ codes " ok " ++ decimal n
+line_text (printed.CommandRefused c n) = word_of c ++ codes " refused " ++ decimal n
 line_text printed.Cut = codes "cut"
 line_text printed.Armed = codes "armed"
 line_text printed.PowerLost = codes "power lost"

@@ -2,10 +2,13 @@
 //! the script language and the report; specs/Steps.antt says for each line what it may answer.
 #![tactic(auto)]
 
+mod armings;
 mod laws;
+mod looks;
 mod power;
 mod printed;
 mod runs;
+mod setting;
 mod steps;
 
 pub use laws::{
@@ -14,4 +17,5 @@ pub use laws::{
 pub use power::Power;
 pub use printed::{Answer, Printed};
 pub use runs::{Report, Stopped, run, run_left, unwritten};
-pub use steps::{after, arm, console, disk_left, power_on, step, struck};
+pub use setting::Setting;
+pub use steps::{after, arm, console, disk_left, line_alone, power_on, struck};

@@ -1,11 +1,10 @@
 //! The lines of a report.
 
 ghost use Rattle.std.specs.Prelude.{◌≡◌, ◌++◌, Some, IfOk};
-ghost use Rattle.script_lang.specs.Spellings.{mode_text};
+ghost use Rattle.script_lang.specs.Lines.{mode_text};
 ghost use Rattle.bench_report.specs.Texts.{line_text};
 
-use board_console::ConsoleWord;
-use board_model::{BootMode, Durable};
+use board_model::{BootMode, ConsoleCommand, Durable};
 use examined::InspectionText;
 use machine_lines::MachineLine;
 use std::fmt;
@@ -24,10 +23,10 @@ pub enum Printed {
     On(BootMode),
     /// `on refused N`
     OnRefused(u32),
-    /// `slot ok N`, `discard ok N`: the command's place among those of this life.
-    Acknowledged(ConsoleWord, u32),
-    /// `slot refused N`, `discard refused N`
-    CommandRefused(ConsoleWord, u32),
+    /// `slot ok N`, or by the word of another command of the console: its place among those of this life.
+    Acknowledged(ConsoleCommand, u32),
+    /// `slot refused N`, or by the word of another command
+    CommandRefused(ConsoleCommand, u32),
     /// `cut`
     Cut,
     /// `armed`: a cut or a failure is armed.
@@ -91,8 +90,14 @@ impl fmt::Display for Printed {
                 write!(f, "on {name}")
             }
             Printed::OnRefused(n) => write!(f, "on refused {n}"),
-            Printed::Acknowledged(word, n) => write!(f, "{word} ok {n}"),
-            Printed::CommandRefused(word, n) => write!(f, "{word} refused {n}"),
+            Printed::Acknowledged(command, n) => {
+                let word = command.word();
+                write!(f, "{word} ok {n}")
+            }
+            Printed::CommandRefused(command, n) => {
+                let word = command.word();
+                write!(f, "{word} refused {n}")
+            }
             Printed::Cut => f.write_str("cut"),
             Printed::Armed => f.write_str("armed"),
             Printed::PowerLost => f.write_str("power lost"),

@@ -3,7 +3,7 @@
 ghost use Rattle.std.specs.Prelude.{◌≡◌, ◌≢◌, ◌⊎◌, ◌+◌, ◌++◌, ◌∷◌, [], ◌<◌, ◌≤◌, ◌^◌, length, take, Option, Result, ℕ, List, All, IfOk, IfErr, IfSome, OnErr, OnOk, Ok, Err, None, MatchResult};
 ghost use Rattle.std.specs.Io.KnownBytes.{Appends};
 ghost use Rattle.std.specs.IoError.{error_kind};
-ghost use Rattle.script_lang.specs.Ranges.{IsLineInRange};
+ghost use Rattle.script_lang.specs.Lines.{IsLineInRange};
 ghost use Rattle.script_lang.specs.Scripts.{script_of, Script as Said};
 ghost use Rattle.script_lang.specs.Views.{view};
 ghost use Rattle.store.specs.Leaves.{IsIdle};
@@ -22,10 +22,11 @@ ghost use Rattle.bench_report.specs.Steps.{Moves, Run};
 
 use crate::power::Power;
 use crate::printed::{Answer, Printed};
-use crate::steps::{disk_left, moves};
+use crate::setting::Setting;
+use crate::steps::{disk_left, line_with_cuts};
 use board::Payloads;
 use board_console::StateText;
-use board_model::{Durable, Refusal, Shape};
+use board_model::{Durable, Refusal};
 use crew::Crew;
 use script_lang::{Line, Script, parse_script};
 use simdisk::{Fill, SimDisk};
@@ -131,9 +132,7 @@ impl From<AllocError> for Stopped {
 
 /// Runs one line of a script. Where it is refused the line may have been run.
 fn run_line<C: Crew, W: Write>(
-    alloc: Global,
-    crew: &C,
-    shape: &Shape,
+    setting: &Setting<'_, C>,
     line: &Line,
     power: Power,
     payloads: &mut Payloads,
@@ -142,24 +141,24 @@ fn run_line<C: Crew, W: Write>(
     report: &mut Report,
 ) -> (Power, Result<(), Refusal>)
     requires few { report.old.lines < 2 ^ 40 }
-    requires range { IsLineInRange shape.now line.now }
+    requires range { IsLineInRange setting.now.shape.now line.now }
     requires resting { IsResting power }
     requires calm { IsUnstruck power }
     requires short { AreShort payloads.old }
     ensures resting { IsResting result.0 }
     ensures short { AreShort payloads.new }
-    ensures ok { OnOk result.1 ((b : Bench) → IsBench shape.now b power payloads.old
-        → (answer : Answer) × (new : Bench) × Moves shape.now line.now b answer new
-        × EndsBy shape.now line.now fill.new b answer result.0 × IsBench shape.now new result.0 payloads.new
+    ensures ok { OnOk result.1 ((b : Bench) → IsBench setting.now.shape.now b power payloads.old
+        → (answer : Answer) × (new : Bench) × Moves setting.now.shape.now line.now b answer new
+        × EndsBy setting.now.shape.now line.now fill.new b answer result.0 × IsBench setting.now.shape.now new result.0 payloads.new
         × Adds (W.contents out.old) (W.contents out.new) report.old report.new answer) }
     ensures fill { fill.new ≡ fill_after line.now fill.old }
     ensures few { OnOk result.1 (report.new.lines ≤ report.old.lines + 2) }
     ensures calm { OnOk result.1 (IsUnstruck result.0) }
-    ensures stopped { OnErr result.1 ((b : Bench) → IsBench shape.now b power payloads.old → Agrees shape.now b result.0
-        ⊎ ((answer : Answer) × (new : Bench) × Moves shape.now line.now b answer new × Agrees shape.now new result.0)) }
+    ensures stopped { OnErr result.1 ((b : Bench) → IsBench setting.now.shape.now b power payloads.old → Agrees setting.now.shape.now b result.0
+        ⊎ ((answer : Answer) × (new : Bench) × Moves setting.now.shape.now line.now b answer new × Agrees setting.now.shape.now new result.0)) }
     ensures err { IfErr result.1 (λ e. (e ≡ Refusal.Output) ⊎ (e ≡ Refusal.Memory)) }
 {
-    let (after, answer) = moves(alloc, crew, shape, line, power, payloads, fill);
+    let (after, answer) = line_with_cuts(setting, line, power, payloads, fill);
     match answer {
         Ok(answer) => {
             let added = add(out, report, &answer);
@@ -171,9 +170,7 @@ fn run_line<C: Crew, W: Write>(
 
 /// Runs the lines after the board line, up to the first that is refused.
 fn run_lines<C: Crew, W: Write>(
-    alloc: Global,
-    crew: &C,
-    shape: &Shape,
+    setting: &Setting<'_, C>,
     lines: &[Line],
     power: Power,
     payloads: &mut Payloads,
@@ -182,26 +179,26 @@ fn run_lines<C: Crew, W: Write>(
     report: &mut Report,
 ) -> (Power, Result<(), Refusal>)
     requires few { length lines.now ≤ 65535 }
-    requires ranges { All (IsLineInRange shape.now) lines.now }
+    requires ranges { All (IsLineInRange setting.now.shape.now) lines.now }
     requires first { report.old.lines ≤ 1 }
     requires resting { IsResting power }
     requires calm { IsUnstruck power }
     requires short { AreShort payloads.old }
     ensures resting { IsResting result.0 }
     ensures fill { OnOk result.1 (fill.new ≡ fills_after lines.now fill.old) }
-    ensures ok { OnOk result.1 ((b : Bench) → IsBench shape.now b power payloads.old
-        → (answers : List Answer) × (new : Bench) × Run shape.now b lines.now answers new
-        × Agrees shape.now new result.0
+    ensures ok { OnOk result.1 ((b : Bench) → IsBench setting.now.shape.now b power payloads.old
+        → (answers : List Answer) × (new : Bench) × Run setting.now.shape.now b lines.now answers new
+        × Agrees setting.now.shape.now new result.0
         × ((before : List Answer) (start : Option (List ℕ)) → Reported start (W.contents out.old) report.old before
         → Reported start (W.contents out.new) report.new (before ++ answers))) }
-    ensures stopped { OnErr result.1 ((b : Bench) → IsBench shape.now b power payloads.old
-        → (n : ℕ) × (answers : List Answer) × (new : Bench) × Run shape.now b (take n lines.now) answers new
-        × Agrees shape.now new result.0) }
+    ensures stopped { OnErr result.1 ((b : Bench) → IsBench setting.now.shape.now b power payloads.old
+        → (n : ℕ) × (answers : List Answer) × (new : Bench) × Run setting.now.shape.now b (take n lines.now) answers new
+        × Agrees setting.now.shape.now new result.0) }
     ensures err { IfErr result.1 (λ e. (e ≡ Refusal.Output) ⊎ (e ≡ Refusal.Memory)) }
 {
     let mut power = power;
     for line in lines {
-        let (after, ran) = run_line(alloc, crew, shape, line, power, payloads, fill, out, report);
+        let (after, ran) = run_line(setting, line, power, payloads, fill, out, report);
         if let Err(refusal) = ran {
             return (after, Err(refusal));
         }
@@ -245,10 +242,13 @@ fn run_script<C: Crew, W: Write>(
     }
     let mut payloads = Payloads::new(alloc);
     let mut fill = Fill::Old;
-    let (power, ran) = run_lines(
+    let setting = Setting {
         alloc,
         crew,
-        &shape,
+        shape: &shape,
+    };
+    let (power, ran) = run_lines(
+        &setting,
         &script.lines,
         Power::Off(disk),
         &mut payloads,

@@ -1,29 +1,29 @@
 //! One line of a script.
 
-ghost use Rattle.std.specs.Prelude.{◌≡◌, false, ◌<◌, ◌≤◌, ◌+◌, ◌*◌, ◌^◌, if◌then◌else◌, ℕ, List, length, Some, None, Ok, Err, IfOk, OnOk, OnErr, true, IsTrue, ◌↔◌, MatchResult};
+ghost use Rattle.std.specs.Prelude.{◌≡◌, false, ◌<◌, ◌≤◌, ℕ, List, length, Some, None, Ok, Err, IfOk, OnOk, OnErr, true, IsTrue, ◌↔◌, MatchResult};
 ghost use Rattle.board_model.specs.Shapes.{Size};
-ghost use Rattle.board_model.specs.Views.{change_of};
-ghost use Rattle.board.specs.Boots.{IsConsoleCommand};
-ghost use Rattle.script_lang.specs.Ranges.{IsLineInRange};
+ghost use Rattle.script_lang.specs.Lines.{IsLineInRange};
 ghost use Rattle.store.specs.Leaves.{IsIdle};
 ghost use Rattle.bench_report.specs.Views.{store_in, machine_in, facts, store_fault_state};
 ghost use Rattle.bench_report.specs.Bench.{Bench, BenchLife};
 ghost use Rattle.bench_report.specs.Happens.{off, unpowered, says, shows};
 ghost use Rattle.bench_report.specs.PowerOns.{FormatsOn, PowersOn, TellsNow};
 ghost use Rattle.bench_report.specs.Examined.{InspectsOn, InspectStep, AnswersOf};
-ghost use Rattle.bench_report.specs.Steps.{FormatStep, OnStep, ConsoleStep, PayloadStep, TurnStep, CallStep, ReadStep, WakeStep, ArmStep, PokeStep, Step, Moves};
+ghost use Rattle.bench_report.specs.Asides.{AsideStep};
+ghost use Rattle.script_lang.specs.declared.line.Line.TheVariants as lines;
+ghost use Rattle.bench_report.specs.Steps.{FormatStep, OnStep, ConsoleStep, TurnStep, CallStep, ArmStep, Step, Moves};
 ghost use Rattle.disk.specs.FaultState.{armed_by};
 ghost use Rattle.simdisk.specs.declared.SimDisk.{SimDisk};
 ghost use Rattle.bench_report.specs.Agree.{HasDisk, IsCutBy, IsArmed, ArmsIts, Pokes, PokesIts, Inspects, InspectsIts, fill_after, EndsBy, Agrees, IsResting, OffIs, OnIs, BoardAfter, AreShort, IsBench, IsUnstruck, Matches, StepsTo};
-ghost use Rattle.machine_lines.specs.Shows.{waits, reg_line, pc_line, CsrLine, pending_line, mem_line};
-ghost use Rattle.machine.specs.Machine.{Machine};
 ghost use Rattle.board_model.specs.declared.refusal.Refusal.TheVariants.{Memory};
 
+use crate::armings::{fault_of, newest_fill};
+use crate::looks::look_line;
 use crate::power::Power;
 use crate::printed::{Answer, Printed};
+use crate::setting::Setting;
 use board::{Board, Payloads};
-use board_console::ConsoleWord;
-use board_model::{BootMode, Command, Durable, HartId, Refusal, Shape};
+use board_model::{BootMode, CallWords, ConsoleCommand, Durable, HartId, Refusal, Shape};
 use crew::Crew;
 use disk::{ArmedFault, Disk};
 use machine::Word;
@@ -107,22 +107,21 @@ fn inspect_disk(alloc: Global, mut disk: SimDisk) -> (Power, Answer)
 }
 
 /// Issues a command of the console on a board that is on.
-fn issue(board: &mut Board<SimDisk>, word: ConsoleWord, command: Command) -> Answer
-    requires { IsConsoleCommand command }
+fn issue(board: &mut Board<SimDisk>, command: ConsoleCommand) -> Answer
     ensures { (size : Size) (b : Bench) (life : BenchLife) → b.power ≡ Some life → OnIs size b board.old
-        → (new : Bench) × ConsoleStep word (change_of command) (Some life) b result new × OnIs size new board.new
+        → (new : Bench) × ConsoleStep command (Some life) b result new × OnIs size new board.new
         × (new.payloads ≡ b.payloads) }
 {
     match board.console(command) {
-        Ok(receipt) => says(Printed::Acknowledged(word, receipt.number())),
-        Err(e) => says(Printed::CommandRefused(word, e.code())),
+        Ok(receipt) => says(Printed::Acknowledged(command, receipt.number())),
+        Err(e) => says(Printed::CommandRefused(command, e.code())),
     }
 }
 
 /// Calls the wake-up device of a board that is on.
 fn wake(board: &mut Board<SimDisk>) -> Answer
     ensures { (size : Size) (b : Bench) (life : BenchLife) → b.power ≡ Some life → OnIs size b board.old
-        → (new : Bench) × WakeStep (Some life) b result new × OnIs size new board.new
+        → (new : Bench) × AsideStep lines.Wake (Some life) b result new × OnIs size new board.new
         × (new.payloads ≡ b.payloads) }
 {
     match board.wake() {
@@ -179,12 +178,11 @@ pub fn arm(power: Power, fault: ArmedFault) -> (Power, Answer)
 }
 
 /// What an armed cut is to leave after this line, by what it was to leave before.
-fn newest_fill(line: &Line, fill: Fill) -> Fill
+fn fill_after(line: &Line, fill: Fill) -> Fill
     ensures { result ≡ fill_after line.now fill }
 {
     match line {
-        Line::CutAt(_, newest) => *newest,
-        Line::CutLane(_, _, newest) => *newest,
+        Line::Arm(arming) => newest_fill(*arming, fill),
         _ => fill,
     }
 }
@@ -241,35 +239,33 @@ fn on_line(alloc: Global, mode: BootMode, power: Power, payloads: &Payloads) -> 
     }
 }
 
-/// Issues a command of the console, which a line names by that word, where the board is on.
-pub fn console(word: ConsoleWord, command: Command, power: &mut Power) -> Answer
-    requires { IsConsoleCommand command }
+/// Issues a command of the console, where the board is on.
+pub fn console(command: ConsoleCommand, power: &mut Power) -> Answer
     ensures reported { (size : Size) (b : Bench) → Agrees size b power.old
-        → StepsTo size b power.new (ConsoleStep word (change_of command) b.power b result) }
+        → StepsTo size b power.new (ConsoleStep command b.power b result) }
     ensures resting { IsResting power.old → IsResting power.new }
 {
     match power {
         Power::Off(_) => says(Printed::Off),
-        Power::On(board) => issue(board, word, command),
+        Power::On(board) => issue(board, command),
     }
 }
 
-fn console_line(word: ConsoleWord, command: Command, power: Power) -> (Power, Answer)
-    requires command { IsConsoleCommand command }
+fn console_line(command: ConsoleCommand, power: Power) -> (Power, Answer)
     requires resting { IsResting power }
     ensures reported { (size : Size) (b : Bench) → Agrees size b power
-        → StepsTo size b result.0 (ConsoleStep word (change_of command) b.power b result.1) }
+        → StepsTo size b result.0 (ConsoleStep command b.power b result.1) }
     ensures resting { IsResting result.0 }
 {
     let mut power = power;
-    let answer = console(word, command, &mut power);
+    let answer = console(command, &mut power);
     (power, answer)
 }
 
 fn wake_line(power: Power) -> (Power, Answer)
     requires { IsResting power }
     ensures reported { (size : Size) (b : Bench) → Agrees size b power
-        → StepsTo size b result.0 (WakeStep b.power b result.1) }
+        → StepsTo size b result.0 (AsideStep lines.Wake b.power b result.1) }
     ensures resting { IsResting result.0 }
 {
     match power {
@@ -292,7 +288,7 @@ fn payload_line(
     requires bytes { length bytes.now ≤ 1024 }
     requires short { AreShort payloads.old }
     ensures reported { IfOk result (λ line. (size : Size) (b : Bench) → IsBench size b power.now payloads.old
-        → (new : Bench) × PayloadStep b.power slot bytes.now b (shows line) new
+        → (new : Bench) × AsideStep (lines.Payload slot bytes.now) b.power b (shows line) new
         × Matches size new power.now payloads.new) }
     ensures short { OnOk result (AreShort payloads.new) }
     ensures refused { OnErr result ((result ≡ Err Memory) × (payloads.new ≡ payloads.old)) }
@@ -368,20 +364,16 @@ fn call<C: Crew>(
     crew: &C,
     mut board: Board<SimDisk>,
     hart: HartId,
-    eid: u64,
-    fid: u64,
-    a0: u64,
-    a1: u64,
-    a2: u64,
+    words: CallWords,
 ) -> (Power, MachineLine)
     ensures reported { (size : Size) (b : Bench) → OnIs size b board
-        → StepsTo size b result.0 (CallStep b.power hart eid fid a0 a1 a2 b (shows result.1)) }
+        → StepsTo size b result.0 (CallStep b.power hart words b (shows result.1)) }
     ensures resting { IsResting result.0 }
 {
     if !board.machine().has(hart) {
         return (Power::On(board), MachineLine::Off);
     }
-    let said = board.call(alloc, crew, hart, eid, fid, a0, a1, a2);
+    let said = board.call(alloc, crew, hart, words);
     let line = machine_lines::called(board.machine(), hart, said);
     match said {
         None => (Power::On(board), line),
@@ -393,132 +385,17 @@ fn call_line<C: Crew>(
     alloc: Global,
     crew: &C,
     hart: HartId,
-    eid: u64,
-    fid: u64,
-    a0: u64,
-    a1: u64,
-    a2: u64,
+    words: CallWords,
     power: Power,
 ) -> (Power, MachineLine)
     requires { IsResting power }
     ensures reported { (size : Size) (b : Bench) → Agrees size b power
-        → StepsTo size b result.0 (CallStep b.power hart eid fid a0 a1 a2 b (shows result.1)) }
+        → StepsTo size b result.0 (CallStep b.power hart words b (shows result.1)) }
     ensures resting { IsResting result.0 }
 {
     match power {
         Power::Off(disk) => (Power::Off(disk), MachineLine::Off),
-        Power::On(board) => call(alloc, crew, board, hart, eid, fid, a0, a1, a2),
-    }
-}
-
-fn reg_line(hart: HartId, register: u32, power: &Power) -> MachineLine
-    ensures { (size : Size) (b : Bench) → Agrees size b power.now
-        → ReadStep b.power (λ m line. line ≡ reg_line hart register m) b (shows result) b }
-{
-    match power {
-        Power::Off(_) => MachineLine::Off,
-        Power::On(board) => machine_lines::reg(board.machine(), hart, register),
-    }
-}
-
-fn pc_line(hart: HartId, power: &Power) -> MachineLine
-    ensures { (size : Size) (b : Bench) → Agrees size b power.now
-        → ReadStep b.power (λ m line. line ≡ pc_line hart m) b (shows result) b }
-{
-    match power {
-        Power::Off(_) => MachineLine::Off,
-        Power::On(board) => machine_lines::pc(board.machine(), hart),
-    }
-}
-
-/// Whether the board has the hart, and an interrupt is pending for it. The board stays as it was.
-fn waits(board: &mut Board<SimDisk>, hart: HartId) -> bool
-    ensures value { result ≡ waits (machine_in board.old) hart }
-    ensures machine { machine_in board.new ≡ machine_in board.old }
-    ensures store { store_in board.new ≡ store_in board.old }
-{
-    board.machine().has(hart) && board.pending(hart)
-}
-
-/// A control and status register of a hart of a board that is on, which stays as it was.
-fn csr(board: &mut Board<SimDisk>, hart: HartId, number: u32) -> MachineLine
-    ensures reported { CsrLine hart number (machine_in board.old) result }
-    ensures machine { machine_in board.new ≡ machine_in board.old }
-    ensures store { store_in board.new ≡ store_in board.old }
-{
-    let pending = waits(board, hart);
-    machine_lines::csr_of(board.machine(), hart, number, pending)
-}
-
-fn csr_line(hart: HartId, number: u32, power: Power) -> (Power, MachineLine)
-    requires { IsResting power }
-    ensures reported { (size : Size) (b : Bench) → Agrees size b power
-        → StepsTo size b result.0 (ReadStep b.power (λ m line. CsrLine hart number m line) b (shows result.1)) }
-    ensures resting { IsResting result.0 }
-{
-    match power {
-        Power::Off(disk) => (Power::Off(disk), MachineLine::Off),
-        Power::On(mut board) => {
-            let line = csr(&mut board, hart, number);
-            (Power::On(board), line)
-        }
-    }
-}
-
-/// The bit of each hart in a set of harts.
-const BITS: [u32; 8] = [1, 2, 4, 8, 16, 32, 64, 128];
-
-/// A set of harts below that number, and this one where it is to be in it.
-fn with_hart(set: u32, number: u64, waits: bool) -> u32
-    requires number { number < 8 }
-    requires few { set ≤ 128 * number }
-    ensures value { result ≡ set + (if waits then 2 ^ number else 0) }
-    ensures few { result ≤ 128 * number + 128 }
-{
-    if waits {
-        set + BITS[number as usize]
-    } else {
-        set
-    }
-}
-
-/// The harts of a board that is on for which an interrupt is pending. The board stays as it was.
-fn pending(board: &mut Board<SimDisk>) -> MachineLine
-    ensures reported { result ≡ pending_line (machine_in board.old) }
-    ensures machine { machine_in board.new ≡ machine_in board.old }
-    ensures store { store_in board.new ≡ store_in board.old }
-{
-    let mut set = 0;
-    for number in 0..8 {
-        let hart = HartId::new(number).unwrap();
-        let waits = waits(board, hart);
-        set = with_hart(set, number, waits);
-    }
-    MachineLine::Pending(set)
-}
-
-fn pending_line(power: Power) -> (Power, MachineLine)
-    requires { IsResting power }
-    ensures reported { (size : Size) (b : Bench) → Agrees size b power
-        → StepsTo size b result.0 (ReadStep b.power (λ m line. line ≡ pending_line m) b (shows result.1)) }
-    ensures resting { IsResting result.0 }
-{
-    match power {
-        Power::Off(disk) => (Power::Off(disk), MachineLine::Off),
-        Power::On(mut board) => {
-            let line = pending(&mut board);
-            (Power::On(board), line)
-        }
-    }
-}
-
-fn mem_line(address: u64, count: u32, power: &Power) -> MachineLine
-    ensures { (size : Size) (b : Bench) → Agrees size b power.now
-        → ReadStep b.power (λ m line. line ≡ mem_line address count m) b (shows result) b }
-{
-    match power {
-        Power::Off(_) => MachineLine::Off,
-        Power::On(board) => machine_lines::mem(board.machine(), address, count),
+        Power::On(board) => call(alloc, crew, board, hart, words),
     }
 }
 
@@ -532,7 +409,7 @@ fn poke_line(
 ) -> (Power, Result<Answer, Refusal>)
     requires { IsResting power }
     ensures reported { (size : Size) (b : Bench) → Agrees size b power → MatchResult result.1
-        (λ answer. StepsTo size b result.0 (PokeStep b.power b answer)) (λ e. (e ≡ Memory) × Agrees size b result.0) }
+        (λ answer. StepsTo size b result.0 (AsideStep (lines.Poke sector offset bytes.now) b.power b answer)) (λ e. (e ≡ Memory) × Agrees size b result.0) }
     ensures pokes { OnOk result.1 (Pokes sector offset bytes.now power result.0) }
     ensures resting { IsResting result.0 }
     ensures refused { OnErr result.1 (result.1 ≡ Err Memory) }
@@ -569,22 +446,20 @@ fn shown(did: (Power, MachineLine)) -> (Power, Result<Answer, Refusal>)
 
 /// One line of a script, as far as no armed cut strikes. Refused only where there is no memory for a payload
 /// or a poke, and then the bench is as it was.
-pub fn step<C: Crew>(
-    alloc: Global,
-    crew: &C,
-    shape: &Shape,
+pub fn line_alone<C: Crew>(
+    setting: &Setting<'_, C>,
     line: &Line,
     power: Power,
     payloads: &mut Payloads,
 ) -> (Power, Result<Answer, Refusal>)
-    requires range { IsLineInRange shape.now line.now }
+    requires range { IsLineInRange setting.now.shape.now line.now }
     requires resting { IsResting power }
     requires calm { IsUnstruck power }
     requires short { AreShort payloads.old }
-    ensures reported { (b : Bench) → IsBench shape.now b power payloads.old → MatchResult result.1
-        (λ answer. (new : Bench) × Step shape.now line.now b answer new
-        × Matches shape.now new result.0 payloads.new)
-        (λ e. (e ≡ Memory) × Matches shape.now b result.0 payloads.new) }
+    ensures reported { (b : Bench) → IsBench setting.now.shape.now b power payloads.old → MatchResult result.1
+        (λ answer. (new : Bench) × Step setting.now.shape.now line.now b answer new
+        × Matches setting.now.shape.now new result.0 payloads.new)
+        (λ e. (e ≡ Memory) × Matches setting.now.shape.now b result.0 payloads.new) }
     ensures arms { ArmsIts line.now result.0 }
     ensures pokes { PokesIts line.now power result.1 result.0 }
     ensures inspects { InspectsIts line.now power result.1 }
@@ -592,15 +467,11 @@ pub fn step<C: Crew>(
     ensures short { AreShort payloads.new }
     ensures refused { OnErr result.1 (result.1 ≡ Err Memory) }
 {
+    let Setting { alloc, crew, shape } = *setting;
     match line {
         Line::Format => answered(format_line(shape, power)),
         Line::On(mode) => answered(on_line(alloc, *mode, power, payloads)),
-        Line::Slot(n) => answered(console_line(ConsoleWord::Slot, Command::Slot(*n), power)),
-        Line::Discard => answered(console_line(ConsoleWord::Discard, Command::Discard, power)),
-        Line::Tries(slot, boots) => {
-            answered(console_line(ConsoleWord::Tries, Command::Tries(*slot, *boots), power))
-        }
-        Line::Good => answered(console_line(ConsoleWord::Good, Command::Good, power)),
+        Line::Command(command) => answered(console_line(*command, power)),
         Line::Cut(fill) => (cut(power, *fill), Ok(says(Printed::Cut))),
         Line::Payload(slot, bytes) => {
             match payload_line(alloc, *slot, bytes, &power, payloads) {
@@ -609,34 +480,9 @@ pub fn step<C: Crew>(
             }
         }
         Line::Turn(hart, count) => shown(turn_line(alloc, crew, *hart, *count, power)),
-        Line::Call(hart, eid, fid, a0, a1, a2) => {
-            shown(call_line(alloc, crew, *hart, *eid, *fid, *a0, *a1, *a2, power))
-        }
-        Line::Reg(hart, register) => {
-            let shown = reg_line(*hart, *register, &power);
-            (power, Ok(says(Printed::Shown(shown))))
-        }
-        Line::Pc(hart) => {
-            let shown = pc_line(*hart, &power);
-            (power, Ok(says(Printed::Shown(shown))))
-        }
-        Line::Csr(hart, number) => shown(csr_line(*hart, *number, power)),
-        Line::Pending => shown(pending_line(power)),
-        Line::Mem(address, count) => {
-            let shown = mem_line(*address, *count, &power);
-            (power, Ok(says(Printed::Shown(shown))))
-        }
-        Line::CutAt(call, _) => answered(arm(power, ArmedFault::CutAt(u64::from(*call)))),
-        Line::CutLane(lane, call, _) => {
-            answered(arm(power, ArmedFault::CutLane(*lane as usize, u64::from(*call))))
-        }
-        Line::FailAt(call) => answered(arm(power, ArmedFault::FailAt(u64::from(*call)))),
-        Line::FailLane(lane, call) => {
-            answered(arm(
-                power,
-                ArmedFault::FailLane(*lane as usize, u64::from(*call)),
-            ))
-        }
+        Line::Call(hart, words) => shown(call_line(alloc, crew, *hart, *words, power)),
+        Line::Show(look) => shown(look_line(*look, power)),
+        Line::Arm(arming) => answered(arm(power, fault_of(*arming))),
         Line::Poke(sector, offset, bytes) => poke_line(*sector, *offset, bytes, power),
         Line::Inspect => answered(inspect_line(alloc, power)),
         Line::Wake => answered(wake_line(power)),
@@ -644,34 +490,32 @@ pub fn step<C: Crew>(
 }
 
 /// One line of a script. Where an armed cut struck within it, its report is `power lost`, and what was
-/// written since the last sync holds what the newest armed cut is to leave. Refused as [`step`] is.
-pub fn moves<C: Crew>(
-    alloc: Global,
-    crew: &C,
-    shape: &Shape,
+/// written since the last sync holds what the newest armed cut is to leave. Refused as [`line_alone`] is.
+pub fn line_with_cuts<C: Crew>(
+    setting: &Setting<'_, C>,
     line: &Line,
     power: Power,
     payloads: &mut Payloads,
     fill: &mut Fill,
 ) -> (Power, Result<Answer, Refusal>)
-    requires range { IsLineInRange shape.now line.now }
+    requires range { IsLineInRange setting.now.shape.now line.now }
     requires resting { IsResting power }
     requires calm { IsUnstruck power }
     requires short { AreShort payloads.old }
-    ensures reported { (b : Bench) → IsBench shape.now b power payloads.old → MatchResult result.1
-        (λ answer. (new : Bench) × Moves shape.now line.now b answer new
-        × IsBench shape.now new result.0 payloads.new)
-        (λ e. (e ≡ Memory) × Matches shape.now b result.0 payloads.new) }
+    ensures reported { (b : Bench) → IsBench setting.now.shape.now b power payloads.old → MatchResult result.1
+        (λ answer. (new : Bench) × Moves setting.now.shape.now line.now b answer new
+        × IsBench setting.now.shape.now new result.0 payloads.new)
+        (λ e. (e ≡ Memory) × Matches setting.now.shape.now b result.0 payloads.new) }
     ensures fill { fill.new ≡ fill_after line.now fill.old }
-    ensures exact { (b : Bench) → IsBench shape.now b power payloads.old
-        → IfOk result.1 (λ answer. EndsBy shape.now line.now fill.new b answer result.0) }
+    ensures exact { (b : Bench) → IsBench setting.now.shape.now b power payloads.old
+        → IfOk result.1 (λ answer. EndsBy setting.now.shape.now line.now fill.new b answer result.0) }
     ensures resting { IsResting result.0 }
     ensures calm { OnOk result.1 (IsUnstruck result.0) }
     ensures short { AreShort payloads.new }
     ensures refused { OnErr result.1 (result.1 ≡ Err Memory) }
 {
-    *fill = newest_fill(line, *fill);
-    let (after, answer) = step(alloc, crew, shape, line, power, payloads);
+    *fill = fill_after(line, *fill);
+    let (after, answer) = line_alone(setting, line, power, payloads);
     let Ok(answer) = answer else {
         return (after, answer);
     };

@@ -28,8 +28,8 @@ loop-line-preserved g c = record {
       let was = c.loop-line.invariant.reported b h in
       let ok = rw c.in_default.is at c.run_line-after.ensures.ok in
       let did = ok was.1 was.3 in
-      let Q : Line → Type 0 = λ line. Moves c.args.shape.now line was.1 did.0 did.1 in
-      (was.0 ++ did.0 ∷ [], did.1, run_more c.args.shape.now c.args.lines.now c.loop-line.line-index c.line-item.result b was.0 was.1 did.0 did.1 c.loop-line-test.true was.2 (subst Q c.line-item.is did.2), did.4, λ before start r. rw (← append_assoc) (reported_more start _ _ _ _ (before ++ was.0) did.0 (was.4 before start r) did.5));
+      let Q : Line → Type 0 = λ line. Moves c.args.setting.now.shape.now line was.1 did.0 did.1 in
+      (was.0 ++ did.0 ∷ [], did.1, run_more c.args.setting.now.shape.now c.args.lines.now c.loop-line.line-index c.line-item.result b was.0 was.1 did.0 did.1 c.loop-line-test.true was.2 (subst Q c.line-item.is did.2), did.4, λ before start r. rw (← append_assoc) (reported_more start _ _ _ _ (before ++ was.0) did.0 (was.4 before start r) did.5));
 }
 
 pub returns-in-Err-clause-stopped : goal.returns-in-Err-clause-stopped
@@ -39,15 +39,15 @@ returns-in-Err-clause-stopped g c = λ b h.
     elim (stopped was.1 was.3) [
       | inl same ↦ (c.loop-line.line-index, was.0, was.1, was.2, same)
       | inr did ↦ (
-          let Q : Line → Type 0 = λ line. Moves c.args.shape.now line was.1 did.0 did.1 in
-          (c.loop-line.line-index + 1, was.0 ++ did.0 ∷ [], did.1, run_more c.args.shape.now c.args.lines.now c.loop-line.line-index c.line-item.result b was.0 was.1 did.0 did.1 c.loop-line-test.true was.2 (subst Q c.line-item.is did.2), did.3)
+          let Q : Line → Type 0 = λ line. Moves c.args.setting.now.shape.now line was.1 did.0 did.1 in
+          (c.loop-line.line-index + 1, was.0 ++ did.0 ∷ [], did.1, run_more c.args.setting.now.shape.now c.args.lines.now c.loop-line.line-index c.line-item.result b was.0 was.1 did.0 did.1 c.loop-line-test.true was.2 (subst Q c.line-item.is did.2), did.3)
           )
     ]
 
 pub returns-clause-ok : goal.returns-clause-ok
 returns-clause-ok g c = λ b h.
     let was = c.loop-line.invariant.reported b h in
-    let P : List Line → Type 0 = λ ls. Run c.args.shape.now b ls was.0 was.1 in
+    let P : List Line → Type 0 = λ ls. Run c.args.setting.now.shape.now b ls was.0 was.1 in
     (was.0, was.1, subst P (take_all c.loop-line.line-index c.args.lines.now (omega arith)) was.2, was.3.0, was.4)
 
 pub returns-clause-fill : goal.returns-clause-fill

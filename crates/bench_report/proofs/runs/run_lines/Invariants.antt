@@ -14,6 +14,6 @@ invariant-loop-line g l = record {
   calm : IsUnstruck l.power;
   short : AreShort l.payloads;
   fill : l.fill ≡ fills_after (take l.line-index l.lines) l.fn.fill;
-  reported : (b : Bench) → IsBench l.shape b l.fn.power l.fn.payloads → (answers : List Answer) × (now : Bench) × Run l.shape b (take l.line-index l.lines) answers now × IsBench l.shape now l.power l.payloads
+  reported : (b : Bench) → IsBench l.setting.shape.now b l.fn.power l.fn.payloads → (answers : List Answer) × (now : Bench) × Run l.setting.shape.now b (take l.line-index l.lines) answers now × IsBench l.setting.shape.now now l.power l.payloads
       × ((before : List Answer) (start : Option (List ℕ)) → Reported start (g.W.Write.contents l.fn.out) l.fn.report before → Reported start (g.W.Write.contents l.out) l.report (before ++ answers));
 }

@@ -3,7 +3,7 @@ use Rattle.disk.specs.FaultState.{armed_by}
 use Rattle.bench_report.specs.declared.power.Power.{Power}
 use Rattle.bench_report.specs.Happens.{armed_with}
 use Rattle.bench_report.specs.Agree.{Agrees}
-use Rattle.bench_report.proofs.Armings.{armed_off, armed_on}
+use Rattle.bench_report.proofs.Armed.{armed_off, armed_on}
 use Rattle.bench_report.proofs.steps.arm.Goals as goal
 
 pub returns-in-Off-clause-reported : goal.returns-in-Off-clause-reported

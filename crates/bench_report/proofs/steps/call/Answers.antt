@@ -14,8 +14,8 @@ returns-in-None-clause-reported g c = λ size b h.
     let new = c.call-said.new.self in
     let S : Machine → Type 0 = λ m. c.called-line.result ≡ called_line c.args.hart (hart_at m c.args.hart) c.call-said.result in
     let line : S (machine_in new) = subst S c.machine-2.ensures c.called-line.ensures in
-    let F : Option Word → Type 0 = λ o. Follows size b c.args.board new c.args.hart c.args.eid c.args.fid c.args.a0 c.args.a1 c.args.a2 c.call-said.result c.called-line.result (On new) h has line o in
-    on_calls size b c.args.board new c.args.hart c.args.eid c.args.fid c.args.a0 c.args.a1 c.args.a2 c.call-said.result c.called-line.result (On new) h has line c.call-said.ensures.calls
+    let F : Option Word → Type 0 = λ o. Follows size b c.args.board new c.args.hart c.args.words c.call-said.result c.called-line.result (On new) h has line o in
+    on_calls size b c.args.board new c.args.hart c.args.words c.call-said.result c.called-line.result (On new) h has line c.call-said.ensures.calls
     (subst F (sym c.in-None.is) (λ x is. is))
 
 pub returns-in-Some-clause-reported : goal.returns-in-Some-clause-reported
@@ -25,6 +25,6 @@ returns-in-Some-clause-reported g c = λ size b h.
     let new = c.call-said.new.self in
     let S : Machine → Type 0 = λ m. c.called-line.result ≡ called_line c.args.hart (hart_at m c.args.hart) c.call-said.result in
     let line : S (machine_in new) = subst S c.machine-2.ensures c.called-line.ensures in
-    let F : Option Word → Type 0 = λ o. Follows size b c.args.board new c.args.hart c.args.eid c.args.fid c.args.a0 c.args.a1 c.args.a2 c.call-said.result c.called-line.result c.after.result h has line o in
-    on_calls size b c.args.board new c.args.hart c.args.eid c.args.fid c.args.a0 c.args.a1 c.args.a2 c.call-said.result c.called-line.result c.after.result h has line c.call-said.ensures.calls
+    let F : Option Word → Type 0 = λ o. Follows size b c.args.board new c.args.hart c.args.words c.call-said.result c.called-line.result c.after.result h has line o in
+    on_calls size b c.args.board new c.args.hart c.args.words c.call-said.result c.called-line.result c.after.result h has line c.call-said.ensures.calls
     (subst F (sym c.in-Some.is) (λ x is. c.after.ensures.reported size x is))

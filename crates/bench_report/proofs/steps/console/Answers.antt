@@ -1,5 +1,4 @@
 use Rattle.std.proofs.Common.{Option, refl, sym, subst}
-use Rattle.board_model.specs.Views.{change_of}
 use Rattle.bench_report.specs.declared.power.Power.{Power}
 use Rattle.bench_report.specs.Bench.{BenchLife}
 use Rattle.bench_report.specs.Steps.{ConsoleStep}
@@ -10,7 +9,7 @@ use Rattle.bench_report.proofs.steps.console.Goals as goal
 pub returns-in-Off-clause-reported : goal.returns-in-Off-clause-reported
 returns-in-Off-clause-reported c = λ size b h.
     let P : Power → Type 0 = λ p. Agrees size b p in
-    let Q : Option BenchLife → Type 0 = λ p. ConsoleStep c.args.word (change_of c.args.command) p b c.says.result b in
+    let Q : Option BenchLife → Type 0 = λ p. ConsoleStep c.args.command p b c.says.result b in
     let off = (subst P c.in-Off.is h).0 in
     (b, subst Q (sym off) (c.says.ensures, refl), h, refl)
 
@@ -20,6 +19,6 @@ returns-in-On-clause-reported c = λ size b h.
     let was = subst P c.in-On.is h in
     on_life size b c.in-On.board was (λ life on. (
     let did = c.issue.ensures size b life on was in
-    let Q : Option BenchLife → Type 0 = λ p. ConsoleStep c.args.word (change_of c.args.command) p b c.issue.result did.0 in
+    let Q : Option BenchLife → Type 0 = λ p. ConsoleStep c.args.command p b c.issue.result did.0 in
     (did.0, subst Q (sym on) did.1, did.2, did.3)
     ))

@@ -1,7 +1,7 @@
 use Rattle.std.proofs.Common.{◌≡◌, ◌*◌, ◌≤◌}
 use Rattle.machine_lines.specs.Shows.{pending_set}
 use Rattle.bench_report.specs.Views.{store_in, machine_in}
-use Rattle.bench_report.proofs.steps.pending.Given as goal
+use Rattle.bench_report.proofs.looks.pending.Given as goal
 
 abbrev pub invariant-loop-number : goal.invariant-loop-number
 invariant-loop-number l =

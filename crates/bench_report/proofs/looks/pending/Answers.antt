@@ -2,7 +2,7 @@ use Rattle.std.proofs.Common.{◌≡◌, ◌+◌, ◌^◌, if◌then◌else◌, 
 use Rattle.machine.specs.Machine.{Machine}
 use Rattle.machine_lines.specs.Shows.{waits, pending_set}
 use Rattle.bench_report.specs.Views.{machine_in}
-use Rattle.bench_report.proofs.steps.pending.Goals as goal
+use Rattle.bench_report.proofs.looks.pending.Goals as goal
 
 -- one hart more is in the set
 one_more : (m n : Machine) (k set to : ℕ) (w : Bool) → n ≡ m → set ≡ pending_set m k → w ≡ waits n k → to ≡ set + (if w then 2 ^ k else 0) → to ≡ pending_set m (k + 1)

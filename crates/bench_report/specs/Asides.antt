@@ -1,0 +1,55 @@
+-- Lines that ask nothing of the disk and of no hart: what each says, and what it does to the bench.
+use Rattle.std.specs.Prelude.{◌≡◌, Bool, true, false, List, ℕ, Option, Some, None, length, slice_set}
+use Rattle.disk.specs.FaultState.{Armed, armed_by}
+use Rattle.susp.specs.Dozes.{can_wake, after_wake}
+use Rattle.script_lang.specs.declared.line.Line.{Line}
+use Rattle.script_lang.specs.declared.line.Line.TheVariants as lines
+use Rattle.machine_lines.specs.declared.line.MachineLine.TheVariants as shown
+use Rattle.bench_report.specs.declared.printed.Printed.{Printed}
+use Rattle.bench_report.specs.declared.printed.Printed.TheVariants as printed
+use Rattle.bench_report.specs.declared.printed.Answer.{Answer}
+use Rattle.bench_report.specs.Bench.{BenchLife, Bench}
+use Rattle.bench_report.specs.Happens.{says, on_with, unpowered, armed_with, written_past, has_machine}
+use Rattle.bench_report.specs.Armings.{fault_of}
+
+-- it leaves the bench as it was; the slots boot these from now on; a fault is armed; power is cut; the board of that
+-- life is woken; or the disk is written past the firmware
+pub data Effect : Type 0 where
+  Stays : Effect
+  SetsPayloads : List (List ℕ) → Effect
+  Arms : Armed → Effect
+  CutsPower : Effect
+  WakesBoard : BenchLife → Effect
+  WritesPast : Effect
+
+abbrev pub affected : Effect → Bench → Bench
+affected Stays b = b
+affected (SetsPayloads payloads) b = record b { payloads = payloads }
+affected (Arms armed) b = armed_with armed b
+affected CutsPower b = unpowered b
+affected (WakesBoard life) b =
+    on_with (has_machine (record life.machine { doze = after_wake life.machine.doze }) life) b
+affected WritesPast b = written_past b
+
+-- The wake-up device is called: a board that dozes and was not woken is woken, and of any other it is refused 18
+-- (NotDozing).
+abbrev pub wakes : Bool → BenchLife → Printed × Effect
+wakes true life = (printed.Woken, WakesBoard life)
+wakes false life = (printed.WakeRefused 18, Stays)
+
+-- by the board, where it is on, and by what the slots boot
+abbrev pub aside : Line → Option BenchLife → List (List ℕ) → Printed × Effect
+aside (lines.Payload slot bytes) None payloads =
+    (printed.Shown (shown.Payload slot (length bytes)), SetsPayloads (slice_set payloads slot bytes))
+aside (lines.Payload slot bytes) (Some life) payloads = (printed.Shown shown.Busy, Stays)
+aside (lines.Arm arming) p payloads = (printed.Armed, Arms (armed_by (fault_of arming)))
+aside (lines.Cut fill) p payloads = (printed.Cut, CutsPower)
+aside (lines.Poke sector offset bytes) None payloads = (printed.Poked, WritesPast)
+aside (lines.Poke sector offset bytes) (Some life) payloads = (printed.Busy, Stays)
+aside lines.Wake None payloads = (printed.Off, Stays)
+aside lines.Wake (Some life) payloads = wakes (can_wake life.machine.doze) life
+aside line p payloads = (printed.Off, Stays)
+
+abbrev pub AsideStep : Line → Option BenchLife → Bench → Answer → Bench → Type 0
+AsideStep line p b answer new =
+    (answer ≡ says (aside line p b.payloads).0) × (new ≡ affected (aside line p b.payloads).1 b)

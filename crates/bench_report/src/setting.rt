@@ -1,0 +1,22 @@
+//! What the lines of a script are run with.
+
+use board_model::Shape;
+use std::alloc::{AllocError, Global};
+
+/// What the boards of a bench are made with.
+pub struct Setting<'a, C> {
+    /// Where their memory comes from.
+    pub alloc: Global,
+    /// Who writes the lanes of an image.
+    pub crew: &'a C,
+    /// The shape of each.
+    pub shape: &'a Shape,
+}
+
+impl<'a, C> Clone for Setting<'a, C> {
+    fn clone(&self) -> Result<Setting<'a, C>, AllocError> {
+        Ok(*self)
+    }
+}
+
+impl<'a, C> Copy for Setting<'a, C> {}
