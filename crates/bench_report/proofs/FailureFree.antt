@@ -2,7 +2,7 @@
 use Rattle.board_model.specs.declared.call_words.CallWords.{CallWords}
 use Rattle.std.proofs.Common.{◌≡◌, ◌≢◌, ℕ, zero, suc, arith, inl, inr, List, [], ◌∷◌, Bool, true, false, Option, None, Some, Result, Ok, Err, refl, ◌∙◌, ap, subst}
 use Rattle.std.specs.Bool.{⊤}
-use Rattle.board_model.specs.Durable.{DurableState, Change, Slot, Reset, Discard, Tries, Good, refusal_of}
+use Rattle.board_model.specs.Durable.{DurableState, Change, Reset, refusal_of}
 use Rattle.board_model.specs.Shapes.{Size}
 use Rattle.board.specs.Boots.{boot_refusal}
 use Rattle.board.specs.Moments.{commands_by}

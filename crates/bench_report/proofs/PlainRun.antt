@@ -1,7 +1,7 @@
 -- The plain report is one, of a run in which memory was never refused and no failure was answered.
 use Rattle.std.proofs.Common.{◌≡◌, ℕ, ◌+◌, ◌<◌, ◌≤◌, inl, inr, List, [], ◌∷◌, ◌++◌, Option, None, Some, Result, Ok, Err, refl, sym, subst, arith, Bool, true, false, ◌==◌, cond, eqb→eq, T, is_some, if◌then◌else◌, ap, ◌∙◌}
 use Rattle.std.specs.Bool.{⊤}
-use Rattle.board_model.specs.Durable.{DurableState, Image, Change, Slot, Discard, Tries, Good, formatted, refusal_of, after, fold}
+use Rattle.board_model.specs.Durable.{DurableState, Image, Change, formatted, refusal_of, after, fold}
 use Rattle.board_model.specs.declared.durable.Trial.{Trial}
 use Rattle.board_model.proofs.Attempts.{attempt_image}
 use Rattle.board_model.specs.Kept.{found_of}

@@ -1,7 +1,7 @@
 -- Power-ons at any point of a run.
 use Rattle.std.proofs.Common.{◌≡◌, ◌≢◌, ◌⊎◌, ℕ, zero, suc, inl, inr, List, [], ◌∷◌, ◌++◌, Option, None, Some, Result, Ok, Err, refl, sym, ◌∙◌, ap, subst, arith}
-use Rattle.board_model.specs.Durable.{DurableState, Image, Change, Slot, Reset, Suspend, Consume, Discard, Tries, Good, Attempt, formatted, refusal_of, after, fold}
-use Rattle.board_model.proofs.Attempts.{attempt_image}
+use Rattle.board_model.specs.Durable.{DurableState, Image, Change, Suspend, Consume, formatted, refusal_of, after, fold}
+use Rattle.board_model.proofs.Steps.{ByImage, Made, Dropped, Left, by_image, left_image}
 use Rattle.board_model.specs.Kept.{Kept, MayKeep, MayFind, TakesIn, found_of}
 use Rattle.board_model.specs.Shapes.{Size}
 use Rattle.board_model.specs.Views.{durable_of}
@@ -28,20 +28,20 @@ use Rattle.bench_report.proofs.Single.{run_fair, clean, moves_fair}
 abbrev MadeSince : DurableState → List Change → Image → Type 0
 MadeSince s cs i = (before later : List Change) × (cs ≡ before ++ Suspend i.hart i.address i.opaque i.memory ∷ later) × (i.serial ≡ (fold s before).next)
 
-made_at : (s : DurableState) (c : Change) (cs : List Change) (i : Image) → (after s c).image ≡ Some i → (s.image ≡ Some i) ⊎ MadeSince s (c ∷ cs) i
-made_at s (Slot n) cs i e = inl e
-made_at s (Reset r) cs i e = inl e
-made_at s (Suspend h a o m) cs i e =
+made_by : (s : DurableState) (c : Change) (cs : List Change) (i : Image) → ByImage c → (after s c).image ≡ Some i → (s.image ≡ Some i) ⊎ MadeSince s (c ∷ cs) i
+made_by s c cs i (Made h a o m) e =
     let it : Image = record { serial = s.next; hart = h; address = a; opaque = o; memory = m } in
     let same : i ≡ it = (let f : i ≡ it = cc in f) in
     let P : Image → Type 0 = λ j. (◌≡◌ {A = List Change} (Suspend h a o m ∷ cs) (Suspend j.hart j.address j.opaque j.memory ∷ cs)) × (j.serial ≡ s.next) in
     let at : P i = subst P (sym same) (refl, refl) in
     inr ([], cs, at.0, at.1)
-made_at s Consume cs i e = absurd (let no : ⊥ = cc in no)
-made_at s Discard cs i e = absurd (let no : ⊥ = cc in no)
-made_at s (Tries n boots) cs i e = inl e
-made_at s Good cs i e = inl e
-made_at s Attempt cs i e = inl (sym (attempt_image s s.trial) ∙ e)
+made_by s c cs i (Dropped step drops) e =
+    let none : ◌≡◌ {A = Option Image} None (Some i) = sym (ap (λ (x : DurableState). x.image) (drops s)) ∙ e in
+    absurd (let no : ⊥ = cc in no)
+made_by s c cs i (Left leaves) e = inl (sym (left_image c leaves s) ∙ e)
+
+made_at : (s : DurableState) (c : Change) (cs : List Change) (i : Image) → (after s c).image ≡ Some i → (s.image ≡ Some i) ⊎ MadeSince s (c ∷ cs) i
+made_at s c cs i e = made_by s c cs i (by_image c) e
 
 made_since : (s : DurableState) (cs : List Change) (i : Image) → (fold s cs).image ≡ Some i → (s.image ≡ Some i) ⊎ MadeSince s cs i
 made_since s [] i e = inl e

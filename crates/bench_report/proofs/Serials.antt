@@ -1,7 +1,7 @@
 -- The serials of the images that are resumed rise strictly: a consequence of the prefix law alone.
 use Rattle.std.proofs.Common.{◌≡◌, ◌≤◌, ◌<◌, ◌+◌, ℕ, inl, inr, List, [], ◌∷◌, Option, None, Some, IfSome, refl, sym, subst, arith, Bool, false}
-use Rattle.board_model.specs.Durable.{Image, DurableState, Change, Slot, Reset, Suspend, Consume, Discard, Tries, Good, Attempt, formatted, after}
-use Rattle.board_model.proofs.Attempts.{attempt_next, attempt_image}
+use Rattle.board_model.specs.Durable.{Image, DurableState, Change, Consume, formatted, after}
+use Rattle.board_model.proofs.Steps.{by_image, image_after}
 use Rattle.board_model.specs.Views.{head_of}
 use Rattle.board_model.specs.declared.durable.Durable.{Durable}
 use Rattle.board_model.specs.declared.boot_mode.BootMode.{BootMode}
@@ -22,16 +22,9 @@ abbrev Above : ℕ → DurableState → Type 0
 Above n s = (n ≤ s.next) × IfSome s.image (λ i. (n ≤ i.serial) × (i.serial < s.next))
 
 above_after : (n : ℕ) (s : DurableState) (c : Change) → Above n s → Above n (after s c)
-above_after n s (Slot k) a = a
-above_after n s (Reset r) a = a
-above_after n s (Suspend h x o m) a = (omega (arith, a.0), (a.0, omega arith))
-above_after n s Consume a = (a.0, tt)
-above_after n s Discard a = (a.0, tt)
-above_after n s (Tries k boots) a = a
-above_after n s Good a = a
-above_after n s Attempt a =
+above_after n s c a =
     let P : ℕ → Option Image → Type 0 = λ m image. (n ≤ m) × IfSome image (λ i. (n ≤ i.serial) × (i.serial < m)) in
-    subst (λ (m : ℕ). P m (after s Attempt).image) (sym (attempt_next s s.trial)) (subst (λ (image : Option Image). P s.next image) (sym (attempt_image s s.trial)) a)
+    image_after P s c (by_image c) (λ i at. (omega (arith, a.0), (omega (arith, a.0, at), omega (arith, at)))) (a.0, tt) a
 
 same : (n : ℕ) (s t : DurableState) → t ≡ s → Above n s → Above n t
 same n s t e a = let P : DurableState → Type 0 = Above n in subst P (sym e) a

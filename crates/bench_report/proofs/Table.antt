@@ -1,6 +1,7 @@
 -- The numbers of the table of commands, and of the modes of a boot.
-use Rattle.std.proofs.Common.{◌≡◌, ◌≢◌, ◌⊎◌, ◌==◌, ◌||◌, ℕ, inl, inr, Option, None, Some, ◌∙◌, ap, arith, Bool, true, false, nat_lt, is_some, if◌then◌else◌}
-use Rattle.board_model.specs.Durable.{DurableState, Change, Slot, Reset, Suspend, Consume, Discard, Tries, Good, Attempt, refusal_of}
+use Rattle.std.proofs.Common.{◌≡◌, ◌≢◌, ◌⊎◌, ◌==◌, ◌||◌, ℕ, inl, inr, Option, None, Some, ◌∙◌, refl, sym, ap, arith, Bool, true, false, nat_lt, is_some, if◌then◌else◌}
+use Rattle.board_model.specs.Durable.{DurableState, Change, refusal_of, is_table_number}
+use Rattle.board_model.proofs.Table.{of_table}
 use Rattle.board_model.specs.Views.{number_of_refusal}
 use Rattle.board_model.specs.declared.boot_mode.BootMode.{BootMode}
 use Rattle.board_model.specs.declared.boot_mode.BootMode.TheVariants as modes
@@ -12,62 +13,24 @@ one_of : (t : Bool) (x y : Option ℕ) (n : ℕ) → (if t then x else y) ≡ So
 one_of true x y n h = inl h
 one_of false x y n h = inr h
 
-abbrev pub IsOfTable : ℕ → Type 0
-IsOfTable n = (9 ≡ n) ⊎ (12 ≡ n) ⊎ (8 ≡ n) ⊎ (19 ≡ n) ⊎ (20 ≡ n)
-
-never : (n : ℕ) → None ≡ Some n → IsOfTable n
-never n h = absurd (let no : ⊥ = cc in no)
-
-nine : (n : ℕ) → Some 9 ≡ Some n → IsOfTable n
-nine n h = inl (let e : 9 ≡ n = cc in e)
-
-twelve : (n : ℕ) → Some 12 ≡ Some n → IsOfTable n
-twelve n h = inr (inl (let e : 12 ≡ n = cc in e))
-
-eight : (n : ℕ) → Some 8 ≡ Some n → IsOfTable n
-eight n h = inr (inr (inl (let e : 8 ≡ n = cc in e)))
-
-nineteen : (n : ℕ) → Some 19 ≡ Some n → IsOfTable n
-nineteen n h = inr (inr (inr (inl (let e : 19 ≡ n = cc in e))))
-
-twenty : (n : ℕ) → Some 20 ≡ Some n → IsOfTable n
-twenty n h = inr (inr (inr (inr (let e : 20 ≡ n = cc in e))))
-
--- a trial of other than 1 to 7 boots, or none
-tries : (t : Bool) (n : ℕ) → (if t then Some 19 else None) ≡ Some n → IsOfTable n
-tries t n h = elim (one_of t (Some 19) None n h) [ inl e ↦ nineteen n e | inr e ↦ never n e ]
-
-pub of_table : (s : DurableState) (c : Change) (n : ℕ) → refusal_of s c ≡ Some n → IsOfTable n
-of_table s (Slot k) n h = elim (one_of (nat_lt 3 k) (Some 9) None n h) [ inl e ↦ nine n e | inr e ↦ never n e ]
-of_table s (Reset r) n h = never n h
-of_table s (Suspend x y z m) n h = elim (one_of _ (Some 12) None n h) [ inl e ↦ twelve n e | inr e ↦ never n e ]
-of_table s Consume n h = elim (one_of (is_some s.image) None (Some 8) n h) [ inl e ↦ never n e | inr e ↦ eight n e ]
-of_table s Discard n h = elim (one_of (is_some s.image) None (Some 8) n h) [ inl e ↦ never n e | inr e ↦ eight n e ]
-of_table s (Tries k boots) n h = elim (one_of (nat_lt 3 k) (Some 9) _ n h) [ inl e ↦ nine n e | inr e ↦ tries ((boots == 0) || nat_lt 7 boots) n e ]
-of_table s Good n h = elim (one_of (is_some s.trial) None (Some 20) n h) [ inl e ↦ never n e | inr e ↦ twenty n e ]
-of_table s Attempt n h = elim (one_of (is_some s.trial) None (Some 20) n h) [ inl e ↦ never n e | inr e ↦ twenty n e ]
-
-differs : (k n : ℕ) → (9 ≡ k → ⊥) → (12 ≡ k → ⊥) → (8 ≡ k → ⊥) → (19 ≡ k → ⊥) → (20 ≡ k → ⊥) → IsOfTable n → n ≢ k
-differs k n a b c t u (inl e) f = a (e ∙ f)
-differs k n a b c t u (inr (inl e)) f = b (e ∙ f)
-differs k n a b c t u (inr (inr (inl e))) f = c (e ∙ f)
-differs k n a b c t u (inr (inr (inr (inl e)))) f = t (e ∙ f)
-differs k n a b c t u (inr (inr (inr (inr e)))) f = u (e ∙ f)
+-- a number with which the table refuses is none of the others
+differs : (s : DurableState) (c : Change) (k n : ℕ) → is_table_number k ≡ false → refusal_of s c ≡ Some n → n ≢ k
+differs s c k n other h same = let no : true ≡ false = sym (of_table s c n h) ∙ ap is_table_number same ∙ other in absurd (let n : ⊥ = cc in n)
 
 pub not_device : (s : DurableState) (c : Change) (e : Refusal) → refusal_of s c ≡ Some (number_of_refusal e) → e ≢ Device
-not_device s c e h is = differs 5 (number_of_refusal e) (λ f. omega (arith, f)) (λ f. omega (arith, f)) (λ f. omega (arith, f)) (λ f. omega (arith, f)) (λ f. omega (arith, f)) (of_table s c (number_of_refusal e) h) (ap number_of_refusal is)
+not_device s c e h is = differs s c 5 (number_of_refusal e) refl h (ap number_of_refusal is)
 
 pub not_down : (s : DurableState) (c : Change) (e : Refusal) → refusal_of s c ≡ Some (number_of_refusal e) → e ≢ Down
-not_down s c e h is = differs 6 (number_of_refusal e) (λ f. omega (arith, f)) (λ f. omega (arith, f)) (λ f. omega (arith, f)) (λ f. omega (arith, f)) (λ f. omega (arith, f)) (of_table s c (number_of_refusal e) h) (ap number_of_refusal is)
+not_down s c e h is = differs s c 6 (number_of_refusal e) refl h (ap number_of_refusal is)
 
 pub not_memory : (s : DurableState) (c : Change) (e : Refusal) → refusal_of s c ≡ Some (number_of_refusal e) → e ≢ Memory
-not_memory s c e h is = differs 11 (number_of_refusal e) (λ f. omega (arith, f)) (λ f. omega (arith, f)) (λ f. omega (arith, f)) (λ f. omega (arith, f)) (λ f. omega (arith, f)) (of_table s c (number_of_refusal e) h) (ap number_of_refusal is)
+not_memory s c e h is = differs s c 11 (number_of_refusal e) refl h (ap number_of_refusal is)
 
 pub table_not_six : (s : DurableState) (c : Change) (n : ℕ) → refusal_of s c ≡ Some n → n ≢ 6
-table_not_six s c n h = differs 6 n (λ f. omega (arith, f)) (λ f. omega (arith, f)) (λ f. omega (arith, f)) (λ f. omega (arith, f)) (λ f. omega (arith, f)) (of_table s c n h)
+table_not_six s c n h = differs s c 6 n refl h
 
 pub table_not_thirteen : (s : DurableState) (c : Change) (n : ℕ) → refusal_of s c ≡ Some n → n ≢ 13
-table_not_thirteen s c n h = differs 13 n (λ f. omega (arith, f)) (λ f. omega (arith, f)) (λ f. omega (arith, f)) (λ f. omega (arith, f)) (λ f. omega (arith, f)) (of_table s c n h)
+table_not_thirteen s c n h = differs s c 13 n refl h
 
 abbrev pub IsOfModes : ℕ → Type 0
 IsOfModes n = (15 ≡ n) ⊎ (8 ≡ n)

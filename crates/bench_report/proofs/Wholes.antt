@@ -3,8 +3,8 @@
 use Rattle.board_model.specs.declared.call_words.CallWords.{CallWords}
 use Rattle.std.proofs.Common.{◌≡◌, ◌≢◌, ◌+◌, ℕ, zero, suc, inl, inr, List, [], ◌∷◌, ◌++◌, Bool, true, false, Option, None, Some, Result, Ok, Err, refl, sym, ◌∙◌, ap, subst, arith, IfSome, length}
 use Rattle.std.specs.Bool.{⊤}
-use Rattle.board_model.specs.Durable.{DurableState, Image, Change, Slot, Reset, Suspend, Consume, Discard, Tries, Good, Attempt, formatted, refusal_of, after, IsWhole, CarriesWhole}
-use Rattle.board_model.proofs.Attempts.{attempt_image}
+use Rattle.board_model.specs.Durable.{DurableState, Image, Change, Reset, Suspend, formatted, refusal_of, after, IsWhole, CarriesWhole}
+use Rattle.board_model.proofs.Steps.{whole_after}
 use Rattle.board_model.specs.Kept.{Kept, found_of, MayKeep, TakesIn}
 use Rattle.board_model.specs.Shapes.{Size, ram_bytes_of}
 use Rattle.board_model.specs.declared.boot_mode.BootMode.{BootMode}
@@ -68,16 +68,6 @@ IsSized size (Some life) = life.machine.size ≡ size
 -- size
 abbrev pub IsKeptWhole : Size → Bench → Type 0
 IsKeptWhole size b = (b.disk_state ≡ Formatted) × IsWhole size (found_of b.kept.changes) × DoubtWhole size b.kept.doubt × IsSized size b.power
-
-whole_after : (size : Size) (s : DurableState) (c : Change) → IsWhole size s → CarriesWhole size c → IsWhole size (after s c)
-whole_after size s (Slot n) w carries = w
-whole_after size s (Reset r) w carries = w
-whole_after size s (Suspend h a o m) w carries = carries
-whole_after size s Consume w carries = tt
-whole_after size s Discard w carries = tt
-whole_after size s (Tries n boots) w carries = w
-whole_after size s Good w carries = w
-whole_after size s Attempt w carries = subst (λ (image : Option Image). IfSome image (λ i. length i.memory ≡ ram_bytes_of size)) (sym (attempt_image s s.trial)) w
 
 more_whole : (size : Size) (changes : List Change) (c : Change) → IsWhole size (found_of changes) → CarriesWhole size c → IsWhole size (found_of (changes ++ c ∷ []))
 more_whole size changes c w carries = let P : DurableState → Type 0 = IsWhole size in subst P (sym (grows formatted changes c)) (whole_after size (found_of changes) c w carries)
