@@ -13,4 +13,4 @@ returns-clause-calls g c i lt =
     let after = map facts c.save_by-lanes.result.0.items in
     let none : lane_failures after ≡ 0 = search rules in
     let low = failures_at after i in
-    all_filled c.args.shape.now (slice_index c.save_by-lanes.result.1.counts i) (lane_at (map facts c.args.lanes.items) i) (lane_at after i) (c.save_by-lanes.ensures.calls i lt) (omega (arith, low, none))
+    all_filled c.args.snapshot.now.shape.now (slice_index c.save_by-lanes.result.1.counts i) (lane_at (map facts c.args.lanes.items) i) (lane_at after i) (c.save_by-lanes.ensures.calls i lt) (omega (arith, low, none))
