@@ -1,11 +1,9 @@
 //! Saving: a saver for each lane, which draws its pages from one ticket.
 ghost use Rattle.std.specs.Prelude.{◌≡◌, ◌==◌, ◌<◌, ◌≤◌, ◌*◌, ◌++◌, ℕ, [], All, length, map, vec_capacity, slice_index, slice_index_or, OnOk, IfOk, IfErr};
-ghost use Rattle.board_model.specs.Shapes.{ram_bytes_of};
-ghost use Rattle.disk.specs.Facts.{lane_at, lane_failures};
+ghost use Rattle.disk.specs.Facts.{lane_failures};
 ghost use Rattle.layout.specs.Sizes.{lane_sectors};
-ghost use Rattle.savers.specs.Calls.{filling_calls, IsFilledBy};
-ghost use Rattle.savers.specs.Saved.{SamePlaces, LanesHold, SaveRefused};
-ghost use Rattle.savers.specs.Pages.{DrawnPages};
+ghost use Rattle.savers.specs.Saved.{SamePlaces};
+ghost use Rattle.savers.specs.Saves.{AreFresh, HasSaved, AreEnded, SaveRefused};
 ghost use Rattle.savers.specs.Jobs.{IsReady, IsSeated, JobDone, lane_of};
 ghost use Rattle.tickets.specs.Draws.{unused_view};
 ghost use Rattle.tickets.specs.Ended.{numbers_of};
@@ -32,7 +30,7 @@ pub struct SavedPages {
     pub drawn: Drawn,
 }
 
-/// Saves the snapshot's memory through the lanes, each lane by one job of the crew, and gives the lanes back, each where
+/// Saves the memory through the lanes, each lane by one job of the crew, and gives the lanes back, each where
 /// it was. Each job draws pages from one ticket and writes each into the next place of its lane, its header and
 /// then its data: what all of them drew, put together, is each page of the board once. `Ok` has how many
 /// places of each lane are in use; each page stands in one of them, under its serial. The first call of a lane
@@ -45,25 +43,12 @@ pub fn save<C: Crew, L: Lane + Send + Drop>(
     lanes: Vec<L>,
     snapshot: &Snapshot,
 ) -> (Vec<L>, Result<SavedPages, Refusal>)
-    requires many { length lanes.items ≡ snapshot.now.shape.now.lanes }
-    requires room { (i : ℕ) → i < length lanes.items
-        → length (lane_at (map L.lane_facts lanes.items) i).content ≡ lane_sectors snapshot.now.shape.now }
-    requires fresh { lane_failures (map L.lane_facts lanes.items) ≡ 0 }
+    requires fresh { AreFresh snapshot.now.shape.now (map L.lane_facts lanes.items) }
     ensures places { SamePlaces (map L.lane_facts lanes.items) (map L.lane_facts result.0.items) }
-    ensures drawn { IfOk result.1 (λ saved. DrawnPages snapshot.now.shape.now snapshot.now.ram.now snapshot.now.serial (numbers_of saved.drawn) saved.counts
+    ensures saved { IfOk result.1 (λ saved. HasSaved snapshot.now.shape.now snapshot.now.ram.now snapshot.now.serial
+        (numbers_of saved.drawn) saved.counts (map L.lane_facts lanes.items) (map L.lane_facts result.0.items)) }
+    ensures refused { IfErr result.1 (λ e. SaveRefused snapshot.now.shape.now (map L.lane_facts lanes.items) e
         (map L.lane_facts result.0.items)) }
-    ensures saved { IfOk result.1 (λ saved. LanesHold snapshot.now.shape.now snapshot.now.ram.now snapshot.now.serial saved.counts
-        (map L.lane_facts result.0.items)) }
-    ensures calls { IfOk result.1 (λ saved. (i : ℕ) → i < length lanes.items
-        → (lane_at (map L.lane_facts result.0.items) i).calls
-        ≡ (lane_at (map L.lane_facts lanes.items) i).calls ++ filling_calls (slice_index saved.counts i)) }
-    ensures ended { IfErr result.1 (λ e. e ≡ Refusal.Device → (i : ℕ) → i < length lanes.items
-        → (filled : ℕ) × IsFilledBy snapshot.now.shape.now filled (lane_at (map L.lane_facts lanes.items) i)
-        (lane_at (map L.lane_facts result.0.items) i)) }
-    ensures untouched { IfErr result.1 (λ e. e ≡ Refusal.Memory
-        → map L.lane_facts result.0.items ≡ map L.lane_facts lanes.items) }
-    ensures failures { OnOk result.1 (lane_failures (map L.lane_facts result.0.items) ≡ 0) }
-    ensures refused { IfErr result.1 (λ e. SaveRefused e (lane_failures (map L.lane_facts result.0.items))) }
 {
     let Ok((ticket, seat)) = Ticket::new(alloc) else {
         return (lanes, Err(Refusal::Memory));
@@ -92,19 +77,12 @@ fn save_by<C: Crew, L: Lane + Send + Drop>(
     requires unused { ticket_view_of seat ≡ unused_view }
     requires none { savers.items ≡ [] }
     requires space { length lanes.items ≤ vec_capacity savers }
-    requires many { length lanes.items ≡ snapshot.now.shape.now.lanes }
-    requires room { (i : ℕ) → i < length lanes.items
-        → length (lane_at (map L.lane_facts lanes.items) i).content ≡ lane_sectors snapshot.now.shape.now }
-    requires fresh { lane_failures (map L.lane_facts lanes.items) ≡ 0 }
+    requires fresh { AreFresh snapshot.now.shape.now (map L.lane_facts lanes.items) }
     ensures places { SamePlaces (map L.lane_facts lanes.items) (map L.lane_facts result.0.items) }
-    ensures drawn { lane_failures (map L.lane_facts result.0.items) ≡ 0
-        → DrawnPages snapshot.now.shape.now snapshot.now.ram.now snapshot.now.serial (numbers_of result.1.drawn) result.1.counts
-        (map L.lane_facts result.0.items) }
     ensures saved { lane_failures (map L.lane_facts result.0.items) ≡ 0
-        → LanesHold snapshot.now.shape.now snapshot.now.ram.now snapshot.now.serial result.1.counts (map L.lane_facts result.0.items) }
-    ensures calls { (i : ℕ) → i < length lanes.items
-        → IsFilledBy snapshot.now.shape.now (slice_index result.1.counts i) (lane_at (map L.lane_facts lanes.items) i)
-        (lane_at (map L.lane_facts result.0.items) i) }
+        → HasSaved snapshot.now.shape.now snapshot.now.ram.now snapshot.now.serial (numbers_of result.1.drawn)
+        result.1.counts (map L.lane_facts lanes.items) (map L.lane_facts result.0.items) }
+    ensures ended { AreEnded snapshot.now.shape.now (map L.lane_facts lanes.items) (map L.lane_facts result.0.items) }
 {
     let mut seat = seat;
     let mut lanes = lanes;
