@@ -1,5 +1,5 @@
 //! Saving: a saver for each lane, which draws its pages from one ticket.
-ghost use Rattle.std.specs.Prelude.{◌≡◌, ◌==◌, ◌<◌, ◌≤◌, ◌*◌, ◌++◌, ℕ, [], All, length, map, vec_capacity, slice_index, slice_index_or, OnOk, IfOk, IfErr};
+ghost use Rattle.std.specs.Prelude.{◌≡◌, ◌==◌, ◌<◌, ◌≤◌, ℕ, [], All, length, map, vec_capacity, slice_index_or, IfOk, IfErr};
 ghost use Rattle.disk.specs.Facts.{lane_failures};
 ghost use Rattle.layout.specs.Sizes.{lane_sectors};
 ghost use Rattle.savers.specs.Saved.{SamePlaces};
@@ -104,12 +104,13 @@ fn run_jobs<C: Crew, L: Lane + Send>(
 )
     requires few { length savers.old.items ≤ 4 }
     requires ready { All (IsReady ticket.now) savers.old.items }
-    requires room { All (λ s. length (lane_of L.lane_facts s).content ≡ lane_sectors snapshot.now.shape.now) savers.old.items }
+    requires room { All (λ s. length (lane_of L.lane_facts s).content ≡ lane_sectors snapshot.now.shape.now)
+        savers.old.items }
     ensures as_many { length savers.new.items ≡ length savers.old.items }
     ensures seated { All (IsSeated ticket.now) savers.new.items }
     ensures each { (i : ℕ) (d : _) → i < length savers.old.items
-        → JobDone L.lane_facts ticket.now snapshot.now.shape.now snapshot.now.ram.now snapshot.now.serial (slice_index_or savers.old.items i d)
-        (slice_index_or savers.new.items i d) }
+        → JobDone L.lane_facts ticket.now snapshot.now.shape.now snapshot.now.ram.now snapshot.now.serial
+        (slice_index_or savers.old.items i d) (slice_index_or savers.new.items i d) }
 {
     run_each(crew, ticket, savers, snapshot);
 }
@@ -123,19 +124,21 @@ fn run_each<C: Crew, L: Lane + Send>(
 )
     requires few { length savers.old ≤ 4 }
     requires ready { All (IsReady ticket.now) savers.old }
-    requires room { All (λ s. length (lane_of L.lane_facts s).content ≡ lane_sectors snapshot.now.shape.now) savers.old }
+    requires room { All (λ s. length (lane_of L.lane_facts s).content ≡ lane_sectors snapshot.now.shape.now)
+        savers.old }
     ensures as_many { length savers.new ≡ length savers.old }
     ensures seated { All (IsSeated ticket.now) savers.new }
     ensures each { (i : ℕ) (d : _) → i < length savers.old
-        → JobDone L.lane_facts ticket.now snapshot.now.shape.now snapshot.now.ram.now snapshot.now.serial (slice_index_or savers.old i d)
-        (slice_index_or savers.new i d) }
+        → JobDone L.lane_facts ticket.now snapshot.now.shape.now snapshot.now.ram.now snapshot.now.serial
+        (slice_index_or savers.old i d) (slice_index_or savers.new i d) }
 {
     crew.each(
         savers,
         &|_i: usize, saver: &mut Saver<L>|
             requires { IsReady ticket.now saver.old
                 × (length (lane_of L.lane_facts saver.old).content ≡ lane_sectors snapshot.now.shape.now) }
-            ensures { JobDone L.lane_facts ticket.entry.now snapshot.entry.now.shape.now snapshot.entry.now.ram.now snapshot.entry.now.serial saver.old saver.new }
+            ensures { JobDone L.lane_facts ticket.entry.now snapshot.entry.now.shape.now snapshot.entry.now.ram.now
+                snapshot.entry.now.serial saver.old saver.new }
         {
             let _ = fill(saver, ticket, snapshot);
         },
