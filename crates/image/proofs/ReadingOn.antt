@@ -1,22 +1,33 @@
 -- Reads of a disk, one after another.
-use Rattle.std.proofs.Common.{◌≡◌, ◌∙◌, Result, Ok, Err, OnOk, IfErr, refl, subst, arith}
+use Rattle.std.proofs.Common.{◌≡◌, ◌∙◌, ◌≤◌, ◌+◌, ◌*◌, ℕ, Result, Ok, Err, OnOk, IfErr, refl, subst, arith}
 use Rattle.board_model.specs.declared.refusal.Refusal.{Refusal}
 use Rattle.board_model.specs.declared.refusal.Refusal.TheVariants.{Device, BadImage}
-use Rattle.disk.specs.Facts.{Facts, Stays}
+use Rattle.disk.specs.Facts.{Facts, Stays, counted, most}
 use Rattle.disk.specs.FaultState.{FaultState, Cause}
 use Rattle.disk.specs.Moments.{passes_none, passes_stays}
-use Rattle.image.specs.Refusals.{PlaceRefused, ReadsOn, HasRead}
+use Rattle.image.specs.Refusals.{ReadRefused, StopsWithin, ReadsOn, HasRead}
+use Rattle.image.proofs.Calls.{calls_none, calls_more, stops_after}
 
-pub reads_none : (a : Facts) (m : FaultState) → a.lent.lanes ≡ 0 → HasRead a m a m
-reads_none a m idle = record { content = refl; crash = passes_none a; none_out = idle; no_fewer = omega arith; no_failure = refl; unmoved = refl; refused = tt }
+pub reads_none : (a : Facts) (m : FaultState) → a.lent.lanes ≡ 0 → a.calls ≤ most → HasRead 0 a m a m
+reads_none a m idle few = record {
+  content = refl;
+  crash = passes_none a;
+  none_out = idle;
+  no_fewer = omega arith;
+  no_failure = refl;
+  unmoved = refl;
+  refused = tt;
+  calls = calls_none a.calls few;
+  stops = tt;
+}
 
-still_refused : (old : Facts) (m : FaultState) (mid : Facts) (n : FaultState) (e : Refusal) (new : Facts) (o : FaultState) → mid.failures ≡ old.failures → n ≡ m → PlaceRefused mid n e new o → PlaceRefused old m e new o
+still_refused : (old : Facts) (m : FaultState) (mid : Facts) (n : FaultState) (e : Refusal) (new : Facts) (o : FaultState) → mid.failures ≡ old.failures → n ≡ m → ReadRefused mid n e new o → ReadRefused old m e new o
 still_refused old m mid n Device new o same calm why = (omega (arith, same, why.0), subst (λ (x : FaultState). Cause x o) calm why.1)
 still_refused old m mid n BadImage new o same calm why = (why.0 ∙ same, why.1 ∙ calm)
 still_refused old m mid n e new o same calm why = why
 
 refused_still : {T : Type 0} (old : Facts) (m : FaultState) (mid : Facts) (n : FaultState) (r : Result T Refusal) (new : Facts) (o : FaultState) → mid.failures ≡ old.failures → n ≡ m
-    → IfErr r (λ e. PlaceRefused mid n e new o) → IfErr r (λ e. PlaceRefused old m e new o)
+    → IfErr r (λ e. ReadRefused mid n e new o) → IfErr r (λ e. ReadRefused old m e new o)
 refused_still old m mid n (Ok v) new o same calm why = tt
 refused_still old m mid n (Err e) new o same calm why = still_refused old m mid n e new o same calm why
 
@@ -24,8 +35,18 @@ onward : {T A : Type 0} (r : Result T Refusal) (x y z : A) → y ≡ x → OnOk 
 onward (Ok v) x y z was more = more ∙ was
 onward (Err e) x y z was more = tt
 
-pub reads_more : {T : Type 0} (a : Facts) (m : FaultState) (b : Facts) (n : FaultState) (r : Result T Refusal) (c : Facts) (o : FaultState) → HasRead a m b n → ReadsOn b n r c o → ReadsOn a m r c o
-reads_more a m b n r c o was more = record {
+calls_on : {T : Type 0} (r : Result T Refusal) (p q places n x y : ℕ) → x ≡ counted n (2 * p) → OnOk r (y ≡ counted x (2 * q)) → OnOk r (p + q ≡ places) → OnOk r (y ≡ counted n (2 * places))
+calls_on (Ok v) p q places n x y was more all = calls_more n p q places x y was more all
+calls_on (Err e) p q places n x y was more all = tt
+
+stops_on : {T : Type 0} (r : Result T Refusal) (p q places n x y : ℕ) → x ≡ counted n (2 * p) → p + q ≤ places → IfErr r (λ e. StopsWithin q e x y) → IfErr r (λ e. StopsWithin places e n y)
+stops_on (Ok v) p q places n x y was fits stops = tt
+stops_on (Err e) p q places n x y was fits stops = stops_after p q places n x y e was fits stops
+
+-- p places were read, and then q more were to be, of so many
+pub reads_more : {T : Type 0} (p q places : ℕ) (a : Facts) (m : FaultState) (b : Facts) (n : FaultState) (r : Result T Refusal) (c : Facts) (o : FaultState)
+    → HasRead p a m b n → ReadsOn q b n r c o → p + q ≤ places → OnOk r (p + q ≡ places) → ReadsOn places a m r c o
+reads_more p q places a m b n r c o was more fits all = record {
   content = more.content ∙ was.content;
   crash = passes_stays a b c Stays was.crash more.crash;
   none_out = more.none_out;
@@ -33,4 +54,6 @@ reads_more a m b n r c o was more = record {
   no_failure = onward r a.failures b.failures c.failures was.no_failure more.no_failure;
   unmoved = onward r m n o was.unmoved more.unmoved;
   refused = refused_still a m b n r c o was.no_failure was.unmoved more.refused;
+  calls = calls_on r p q places a.calls b.calls c.calls was.calls more.calls all;
+  stops = stops_on r p q places a.calls b.calls c.calls was.calls fits more.stops;
 }

@@ -14,7 +14,7 @@ use board_model::{Addr, HartId, ImageHead, Refusal, Shape};
 use crew::{Crew, Threads, Sequential};
 use layout::{Saved, Side};
 use ram::Ram;
-use savers::LaneCounts;
+use savers::{LaneCounts, Snapshot};
 use simdisk::SimDisk;
 use std::alloc::Global;
 use std::env;
@@ -23,6 +23,9 @@ use std::time::Instant;
 
 /// The pages of the largest board.
 const PAGES: u64 = 256;
+
+/// The serial of the image.
+const SERIAL: u64 = 7;
 
 /// A memory of 256 pages, in which each page is other bytes.
 fn memory(alloc: Global, shape: &Shape) -> Result<Ram, Refusal>
@@ -51,7 +54,7 @@ fn saved(counts: LaneCounts) -> Option<Saved>
     ensures { IfSome result (λ saved. saved.counts ≡ counts) }
 {
     let head = ImageHead {
-        serial: 7,
+        serial: SERIAL,
         hart: HartId::new(0)?,
         address: Addr::new(0x8000_0000)?,
         opaque: 0,
@@ -77,7 +80,12 @@ fn measure<C: Crew>(
     let mut read = Ram::new(alloc, shape)?;
     let mut disk = SimDisk::blank(alloc, shape.sectors())?;
     let start = Instant::now(rt)?;
-    let counts = writes(alloc, &mut disk, crew, &shape, &ram, count.get())?;
+    let snapshot = Snapshot {
+        shape: &shape,
+        ram: &ram,
+        serial: SERIAL,
+    };
+    let counts = writes(alloc, &mut disk, crew, &snapshot, count.get())?;
     let write = each_took(rt, &start, count)?;
     let start = Instant::now(rt)?;
     if let Some(saved) = saved(counts) {

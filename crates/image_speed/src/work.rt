@@ -9,7 +9,7 @@ use disk::{Disk, Sector};
 use image::{read_area, write_area};
 use layout::{Saved, Side, area_start};
 use ram::Ram;
-use savers::LaneCounts;
+use savers::{LaneCounts, Snapshot};
 use std::alloc::{AllocError, Global};
 
 /// Copies the sectors.
@@ -36,25 +36,23 @@ pub fn new_copies(
     Ok(kept)
 }
 
-/// Writes the memory into area 0, under serial 7. `Ok` has the counts of the last time.
+/// Writes the memory into area 0. `Ok` has the counts of the last time.
 pub fn writes<D: Disk, C: Crew>(
     alloc: Global,
     disk: &mut D,
     crew: &C,
-    shape: &Shape,
-    ram: &Ram,
+    snapshot: &Snapshot,
     count: u32,
 ) -> Result<LaneCounts, Refusal>
     requires none_out { (D.facts disk.old).lent.lanes ≡ 0 }
-    requires enough { sectors_of shape.now ≤ length (D.facts disk.old).content }
-    requires ram { length ram.now ≡ ram_bytes_of shape.now }
-    ensures counts { IfOk result (λ counts. AreCounts shape.now counts) }
+    requires enough { sectors_of snapshot.now.shape.now ≤ length (D.facts disk.old).content }
+    ensures counts { IfOk result (λ counts. AreCounts snapshot.now.shape.now counts) }
     ensures as_long { length (D.facts disk.new).content ≡ length (D.facts disk.old).content }
     ensures none_out { (D.facts disk.new).lent.lanes ≡ 0 }
 {
-    let mut counts = write_area(alloc, disk, crew, shape, Side::first(), ram, 7)?;
+    let mut counts = write_area(alloc, disk, crew, Side::first(), snapshot)?;
     for _ in 1..count {
-        counts = write_area(alloc, disk, crew, shape, Side::first(), ram, 7)?;
+        counts = write_area(alloc, disk, crew, Side::first(), snapshot)?;
     }
     Ok(counts)
 }

@@ -12,7 +12,7 @@ use layout::{
     record_bytes,
 };
 use ram::Ram;
-use savers::LaneCounts;
+use savers::{LaneCounts, Snapshot};
 use simdisk::{Fill, SimDisk};
 use std::alloc::Global;
 use std::fmt::Debug;
@@ -114,7 +114,12 @@ impl Site {
         serial: u64,
     ) -> Result<LaneCounts, Refusal> {
         let ram = memory(alloc, &self.shape, first)?;
-        write_area(alloc, &mut self.disk, crew, &self.shape, area, &ram, serial)
+        let snapshot = Snapshot {
+            shape: &self.shape,
+            ram: &ram,
+            serial,
+        };
+        write_area(alloc, &mut self.disk, crew, area, &snapshot)
     }
 
     /// Writes the memory that begins with that byte as fixed stripes do: page k into lane `k mod L`.

@@ -1,11 +1,9 @@
 //! Saving: a saver for each lane, which draws its pages from one ticket.
-ghost use Rattle.std.specs.Prelude.{◌≡◌, ◌==◌, ◌<◌, ◌≤◌, ◌*◌, ◌++◌, ℕ, [], All, length, map, vec_capacity, slice_index, slice_index_or, OnOk, IfOk, IfErr};
-ghost use Rattle.board_model.specs.Shapes.{ram_bytes_of};
-ghost use Rattle.disk.specs.Facts.{lane_at, lane_failures};
+ghost use Rattle.std.specs.Prelude.{◌≡◌, ◌==◌, ◌<◌, ◌≤◌, ℕ, [], All, length, map, vec_capacity, slice_index_or, IfOk, IfErr};
+ghost use Rattle.disk.specs.Facts.{lane_failures};
 ghost use Rattle.layout.specs.Sizes.{lane_sectors};
-ghost use Rattle.savers.specs.Calls.{filling_calls, IsFilledBy};
-ghost use Rattle.savers.specs.Saved.{SamePlaces, LanesHold, SaveRefused};
-ghost use Rattle.savers.specs.Pages.{DrawnPages};
+ghost use Rattle.savers.specs.Saved.{SamePlaces};
+ghost use Rattle.savers.specs.Saves.{AreFresh, HasSaved, AreEnded, SaveRefused};
 ghost use Rattle.savers.specs.Jobs.{IsReady, IsSeated, JobDone, lane_of};
 ghost use Rattle.tickets.specs.Draws.{unused_view};
 ghost use Rattle.tickets.specs.Ended.{numbers_of};
@@ -14,10 +12,10 @@ ghost use Rattle.tickets.specs.Seats.{IsSeatOf, ticket_view_of};
 use crate::fill::fill;
 use crate::saver::Saver;
 use crate::seating::{hand_out, take_back};
-use board_model::{Refusal, Shape};
+use crate::snapshot::Snapshot;
+use board_model::Refusal;
 use crew::Crew;
 use disk::Lane;
-use ram::Ram;
 use std::alloc::Global;
 use tickets::{Drawn, Ticket, TicketSeat};
 
@@ -35,7 +33,7 @@ pub struct SavedPages {
 /// Saves the memory through the lanes, each lane by one job of the crew, and gives the lanes back, each where
 /// it was. Each job draws pages from one ticket and writes each into the next place of its lane, its header and
 /// then its data: what all of them drew, put together, is each page of the board once. `Ok` has how many
-/// places of each lane are in use; each page stands in one of them, under that serial. The first call of a lane
+/// places of each lane are in use; each page stands in one of them, under its serial. The first call of a lane
 /// that fails is its last, and the others go on; then `Device` is refused, and any bytes may stand in the lanes.
 /// `Memory` is refused where none was had for the ticket or for the list of savers; then no job began, and no
 /// lane was called (docs/IMAGE.md, "The ticket").
@@ -43,30 +41,14 @@ pub fn save<C: Crew, L: Lane + Send + Drop>(
     alloc: Global,
     crew: &C,
     lanes: Vec<L>,
-    shape: &Shape,
-    ram: &Ram,
-    serial: u64,
+    snapshot: &Snapshot,
 ) -> (Vec<L>, Result<SavedPages, Refusal>)
-    requires many { length lanes.items ≡ shape.now.lanes }
-    requires room { (i : ℕ) → i < length lanes.items
-        → length (lane_at (map L.lane_facts lanes.items) i).content ≡ lane_sectors shape.now }
-    requires ram { length ram.now ≡ ram_bytes_of shape.now }
-    requires fresh { lane_failures (map L.lane_facts lanes.items) ≡ 0 }
+    requires fresh { AreFresh snapshot.now.shape.now (map L.lane_facts lanes.items) }
     ensures places { SamePlaces (map L.lane_facts lanes.items) (map L.lane_facts result.0.items) }
-    ensures drawn { IfOk result.1 (λ saved. DrawnPages shape.now ram.now serial (numbers_of saved.drawn) saved.counts
+    ensures saved { IfOk result.1 (λ saved. HasSaved snapshot.now.shape.now snapshot.now.ram.now snapshot.now.serial
+        (numbers_of saved.drawn) saved.counts (map L.lane_facts lanes.items) (map L.lane_facts result.0.items)) }
+    ensures refused { IfErr result.1 (λ e. SaveRefused snapshot.now.shape.now (map L.lane_facts lanes.items) e
         (map L.lane_facts result.0.items)) }
-    ensures saved { IfOk result.1 (λ saved. LanesHold shape.now ram.now serial saved.counts
-        (map L.lane_facts result.0.items)) }
-    ensures calls { IfOk result.1 (λ saved. (i : ℕ) → i < length lanes.items
-        → (lane_at (map L.lane_facts result.0.items) i).calls
-        ≡ (lane_at (map L.lane_facts lanes.items) i).calls ++ filling_calls (slice_index saved.counts i)) }
-    ensures ended { IfErr result.1 (λ e. e ≡ Refusal.Device → (i : ℕ) → i < length lanes.items
-        → (filled : ℕ) × IsFilledBy shape.now filled (lane_at (map L.lane_facts lanes.items) i)
-        (lane_at (map L.lane_facts result.0.items) i)) }
-    ensures untouched { IfErr result.1 (λ e. e ≡ Refusal.Memory
-        → map L.lane_facts result.0.items ≡ map L.lane_facts lanes.items) }
-    ensures failures { OnOk result.1 (lane_failures (map L.lane_facts result.0.items) ≡ 0) }
-    ensures refused { IfErr result.1 (λ e. SaveRefused e (lane_failures (map L.lane_facts result.0.items))) }
 {
     let Ok((ticket, seat)) = Ticket::new(alloc) else {
         return (lanes, Err(Refusal::Memory));
@@ -74,7 +56,7 @@ pub fn save<C: Crew, L: Lane + Send + Drop>(
     let Ok(savers) = Vec::with_capacity(alloc, lanes.len()) else {
         return (lanes, Err(Refusal::Memory));
     };
-    let (lanes, saved) = save_by(crew, ticket, seat, savers, lanes, shape, ram, serial);
+    let (lanes, saved) = save_by(crew, ticket, seat, savers, lanes, snapshot);
     if !none_failed(lanes.as_slice()) {
         return (lanes, Err(Refusal::Device));
     }
@@ -89,35 +71,25 @@ fn save_by<C: Crew, L: Lane + Send + Drop>(
     seat: TicketSeat,
     savers: Vec<Saver<L>>,
     lanes: Vec<L>,
-    shape: &Shape,
-    ram: &Ram,
-    serial: u64,
+    snapshot: &Snapshot,
 ) -> (Vec<L>, SavedPages)
     requires seat { IsSeatOf ticket seat }
     requires unused { ticket_view_of seat ≡ unused_view }
     requires none { savers.items ≡ [] }
     requires space { length lanes.items ≤ vec_capacity savers }
-    requires many { length lanes.items ≡ shape.now.lanes }
-    requires room { (i : ℕ) → i < length lanes.items
-        → length (lane_at (map L.lane_facts lanes.items) i).content ≡ lane_sectors shape.now }
-    requires ram { length ram.now ≡ ram_bytes_of shape.now }
-    requires fresh { lane_failures (map L.lane_facts lanes.items) ≡ 0 }
+    requires fresh { AreFresh snapshot.now.shape.now (map L.lane_facts lanes.items) }
     ensures places { SamePlaces (map L.lane_facts lanes.items) (map L.lane_facts result.0.items) }
-    ensures drawn { lane_failures (map L.lane_facts result.0.items) ≡ 0
-        → DrawnPages shape.now ram.now serial (numbers_of result.1.drawn) result.1.counts
-        (map L.lane_facts result.0.items) }
     ensures saved { lane_failures (map L.lane_facts result.0.items) ≡ 0
-        → LanesHold shape.now ram.now serial result.1.counts (map L.lane_facts result.0.items) }
-    ensures calls { (i : ℕ) → i < length lanes.items
-        → IsFilledBy shape.now (slice_index result.1.counts i) (lane_at (map L.lane_facts lanes.items) i)
-        (lane_at (map L.lane_facts result.0.items) i) }
+        → HasSaved snapshot.now.shape.now snapshot.now.ram.now snapshot.now.serial (numbers_of result.1.drawn)
+        result.1.counts (map L.lane_facts lanes.items) (map L.lane_facts result.0.items) }
+    ensures ended { AreEnded snapshot.now.shape.now (map L.lane_facts lanes.items) (map L.lane_facts result.0.items) }
 {
     let mut seat = seat;
     let mut lanes = lanes;
     let mut savers = savers;
-    let _lanes = shape.lanes();
+    let _lanes = snapshot.shape.lanes();
     hand_out(&ticket, &mut seat, &mut lanes, &mut savers);
-    run_jobs(crew, &ticket, &mut savers, shape, ram, serial);
+    run_jobs(crew, &ticket, &mut savers, snapshot);
     let counts = take_back(&ticket, &mut seat, &mut lanes, savers);
     let drawn = ticket.end(seat);
     (lanes, SavedPages { counts, drawn })
@@ -128,21 +100,19 @@ fn run_jobs<C: Crew, L: Lane + Send>(
     crew: &C,
     ticket: &Ticket,
     savers: &mut Vec<Saver<L>>,
-    shape: &Shape,
-    ram: &Ram,
-    serial: u64,
+    snapshot: &Snapshot,
 )
     requires few { length savers.old.items ≤ 4 }
     requires ready { All (IsReady ticket.now) savers.old.items }
-    requires room { All (λ s. length (lane_of L.lane_facts s).content ≡ lane_sectors shape.now) savers.old.items }
-    requires ram { length ram.now ≡ ram_bytes_of shape.now }
+    requires room { All (λ s. length (lane_of L.lane_facts s).content ≡ lane_sectors snapshot.now.shape.now)
+        savers.old.items }
     ensures as_many { length savers.new.items ≡ length savers.old.items }
     ensures seated { All (IsSeated ticket.now) savers.new.items }
     ensures each { (i : ℕ) (d : _) → i < length savers.old.items
-        → JobDone L.lane_facts ticket.now shape.now ram.now serial (slice_index_or savers.old.items i d)
-        (slice_index_or savers.new.items i d) }
+        → JobDone L.lane_facts ticket.now snapshot.now.shape.now snapshot.now.ram.now snapshot.now.serial
+        (slice_index_or savers.old.items i d) (slice_index_or savers.new.items i d) }
 {
-    run_each(crew, ticket, savers, shape, ram, serial);
+    run_each(crew, ticket, savers, snapshot);
 }
 
 /// The same, over a slice.
@@ -150,28 +120,27 @@ fn run_each<C: Crew, L: Lane + Send>(
     crew: &C,
     ticket: &Ticket,
     savers: &mut [Saver<L>],
-    shape: &Shape,
-    ram: &Ram,
-    serial: u64,
+    snapshot: &Snapshot,
 )
     requires few { length savers.old ≤ 4 }
     requires ready { All (IsReady ticket.now) savers.old }
-    requires room { All (λ s. length (lane_of L.lane_facts s).content ≡ lane_sectors shape.now) savers.old }
-    requires ram { length ram.now ≡ ram_bytes_of shape.now }
+    requires room { All (λ s. length (lane_of L.lane_facts s).content ≡ lane_sectors snapshot.now.shape.now)
+        savers.old }
     ensures as_many { length savers.new ≡ length savers.old }
     ensures seated { All (IsSeated ticket.now) savers.new }
     ensures each { (i : ℕ) (d : _) → i < length savers.old
-        → JobDone L.lane_facts ticket.now shape.now ram.now serial (slice_index_or savers.old i d)
-        (slice_index_or savers.new i d) }
+        → JobDone L.lane_facts ticket.now snapshot.now.shape.now snapshot.now.ram.now snapshot.now.serial
+        (slice_index_or savers.old i d) (slice_index_or savers.new i d) }
 {
     crew.each(
         savers,
         &|_i: usize, saver: &mut Saver<L>|
-            requires { IsReady ticket.now saver.old × (length ram.now ≡ ram_bytes_of shape.now)
-                × (length (lane_of L.lane_facts saver.old).content ≡ lane_sectors shape.now) }
-            ensures { JobDone L.lane_facts ticket.entry.now shape.entry.now ram.entry.now serial saver.old saver.new }
+            requires { IsReady ticket.now saver.old
+                × (length (lane_of L.lane_facts saver.old).content ≡ lane_sectors snapshot.now.shape.now) }
+            ensures { JobDone L.lane_facts ticket.entry.now snapshot.entry.now.shape.now snapshot.entry.now.ram.now
+                snapshot.entry.now.serial saver.old saver.new }
         {
-            let _ = fill(saver, ticket, shape, ram, serial);
+            let _ = fill(saver, ticket, snapshot);
         },
     );
 }

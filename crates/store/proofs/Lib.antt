@@ -18,3 +18,4 @@ pub mod Armed
 pub mod Kept
 pub mod Inspecting
 pub mod Taken
+pub mod Called

@@ -1,5 +1,5 @@
 -- A commit of the same state leaves it, at each moment; and what an open leaves.
-use Rattle.std.proofs.Common.{◌≡◌, ◌∙◌, ◌⊎◌, inl, inr, ℕ, ◌+◌, ◌-◌, ◌≤◌, ◌<◌, ◌==◌, ◌^◌, Option, Some, None, length, refl, sym, ap, subst, ⊎_elim, Bool, true, false, if◌then◌else◌, arith}
+use Rattle.std.proofs.Common.{◌≡◌, ◌∙◌, ◌⊎◌, inl, inr, ℕ, ◌+◌, ◌-◌, ◌≤◌, ◌==◌, Option, length, refl, sym, ap, subst, ⊎_elim, Bool, true, false, if◌then◌else◌, arith}
 use Rattle.board_model.specs.Durable.{DurableState}
 use Rattle.board_model.specs.Shapes.{Size, sectors_of}
 use Rattle.board_model.specs.declared.durable.Trial.{Trial}
@@ -13,7 +13,7 @@ use Rattle.layout.specs.declared.records.Version.{Version}
 use Rattle.layout.specs.declared.records.Version.TheVariants.{One, Two}
 use Rattle.layout.proofs.SpelledRecords.{version_in}
 use Rattle.store.specs.Commits.{SelectsEither, IsUp}
-use Rattle.store.specs.Leaves.{IsIdle, SameLength, ReadsAlone, IsRenewed, LeftAsBefore, IsSettled, LeavesVersionTwo}
+use Rattle.store.specs.Leaves.{SameLength, ReadsAlone, IsRenewed, LeftAsBefore, IsSettled, LeavesVersionTwo}
 use Rattle.store.specs.Opens.{open_calls, OpenRefused, FindCalls, OpenCalls}
 use Rattle.store.specs.Standing.{live_sector, version_at, state_of, Selects, StandsFor}
 use Rattle.store.proofs.Found.{stands_here}
@@ -25,9 +25,6 @@ module _ (size : Size) (side : ℕ) (r next : Record) (same : (c : Content) → 
 
   pub renewed_moment : (a b : Facts) → LeavesSince a b (SelectsEither size side r next a.content) → LeavesSince a b (λ c. StandsFor c size (state_of size r a.content))
   renewed_moment a b any = leaves_weaker a b (SelectsEither size side r next a.content) (λ c. StandsFor c size (state_of size r a.content)) any (one a.content)
-
-  pub renewed_content : (a b : Facts) → b.may_leave b.content → LeavesSince a b (SelectsEither size side r next a.content) → StandsFor b.content size (state_of size r a.content)
-  renewed_content a b keep any = one a.content b.content (any.now b.content keep)
 
 -- ---- the version
 -- that of the record which the gate selects
@@ -92,11 +89,11 @@ module _ (a b : Facts) (reads : ReadsAlone a b) where
   }
 
 -- a record of version 1 that is renewed, or was to be
-pub renewed_settled : (a b : Facts) (size : Size) (side : ℕ) (r : Record) → IsUp a size side r → a.may_leave a.content → r.version ≡ One
-    → StandsFor b.content size (state_of size r a.content) → LeavesSince a b (λ c. StandsFor c size (state_of size r a.content))
+pub renewed_settled : (a b : Facts) (size : Size) (side : ℕ) (r : Record) → IsUp a size side r → a.may_leave a.content → b.may_leave b.content → r.version ≡ One
+    → LeavesSince a b (λ c. StandsFor c size (state_of size r a.content))
     → SameLength a b → b.lent.lanes ≡ 0 → a.failures ≤ b.failures → IsSettled a b
-renewed_settled a b size side r up may_keep one_is stands any long idle fewer = record {
-  content = inr (is b.content stands);
+renewed_settled a b size side r up may_keep keeps one_is any long idle fewer = record {
+  content = inr (is b.content (any.now b.content keeps));
   any_moment = leaves_weaker a b (λ c. StandsFor c size (state_of size r a.content)) (LeftAsBefore a) any (λ c there. inr (a.content, may_keep, is c there));
   as_long = long;
   none_out = idle;

@@ -11,3 +11,5 @@ pub mod Views
 pub mod Asked
 pub mod Follows
 pub mod Formats
+pub mod Renewals
+pub mod Frees

@@ -1,12 +1,10 @@
 //! The store: one life of the durable state.
-ghost use Rattle.std.specs.Prelude.{◌≡◌, ◌≤◌, ◌≢◌, ◌<◌, ◌+◌, ◌-◌, ◌*◌, ◌^◌, ◌⊎◌, ◌↔◌, IsTrue, ℕ, List, get_or, false, true, length, map, vec_len, vec_capacity, Some, None, Err, IfSome, IfOk, IfErr, OnOk, OnErr, IsErrOf, MatchResult, MatchOption};
+ghost use Rattle.std.specs.Prelude.{◌≡◌, ◌≤◌, ◌<◌, ◌+◌, ◌-◌, ◌*◌, ◌^◌, ◌⊎◌, ◌↔◌, IsTrue, ℕ, List, get_or, false, true, length, map, vec_len, vec_capacity, Some, None, Err, IfSome, IfOk, IfErr, OnOk, IsErrOf, MatchResult, MatchOption};
 ghost use Rattle.board_model.specs.Durable.{DurableState, Change, Suspend, after, fold, ends_life, refusal_of};
 ghost use Rattle.board_model.specs.Views.{change_of, change_in, number_of_refusal};
-ghost use Rattle.board_model.specs.Shapes.{Size, IsSize, ram_bytes_of};
-ghost use Rattle.layout.specs.Records.{AreCounts};
+ghost use Rattle.board_model.specs.Shapes.{Size, ram_bytes_of};
 ghost use Rattle.layout.specs.declared.records.Saved.{Saved};
-ghost use Rattle.image.specs.Images.{area_of, memory_of};
-ghost use Rattle.image.specs.Refusals.{WriteRefused, StopsWithin};
+ghost use Rattle.image.specs.Refusals.{StopsWithin};
 ghost use Rattle.disk.specs.Facts.{Failed, Content};
 ghost use Rattle.store.specs.Standing.{state_of, memory_in};
 ghost use Rattle.store.specs.Entries.{are_plain, drop_image};
@@ -26,7 +24,7 @@ use disk::{ArmedFault, Disk};
 use image::{read_area, write_area};
 use layout::{Record, Saved, Side, Version};
 use ram::Ram;
-use savers::LaneCounts;
+use savers::{LaneCounts, Snapshot};
 use std::alloc::Global;
 
 /// An open store: one life of the durable state, over a disk that nobody else writes.
@@ -64,14 +62,15 @@ pub struct Store<D: Disk + Drop> {
 
 impl<D: Disk + Drop> Store<D> {
     ghost use Rattle.board_model.specs.Views.{durable_of};
-    ghost use Rattle.store.specs.Leaves.{IsIdle, SameLength, LeavesOnly, LeavesEither, ReadsAlone, IsSettled, LeavesVersionTwo};
+    ghost use Rattle.store.specs.Leaves.{IsIdle, LeavesOnly, LeavesEither, ReadsAlone, IsSettled, LeavesVersionTwo};
     ghost use Rattle.store.specs.Opens.{ReadsAs, OpenRefused, open_calls, OpenCalls, CausedRefusal};
-    ghost use Rattle.store.specs.Lives.{Reaches, TakesNone, Refused, Applied, IsReseen, SuspendRefused, Suspended, IsLoaded, LoadRefused};
+    ghost use Rattle.store.specs.Lives.{Reaches, TakesNone, Refused, Applied, SuspendRefused, Suspended, IsLoaded, LoadRefused};
     ghost use Rattle.store.specs.Answers.{Opened, Answered, StaysOpen};
     ghost use Rattle.store.specs.Asked.{Asked};
-    ghost use Rattle.disk.specs.Facts.{LeavesSince, Unchanged, Passes, Stays, counted};
+    ghost use Rattle.store.specs.Frees.{HoldsMemory, WritesFree};
+    ghost use Rattle.disk.specs.Facts.{Unchanged, counted};
     ghost use Rattle.disk.specs.FaultState.{armed_by};
-    ghost use Rattle.store.specs.Standing.{StandsFor, selected, live_sector};
+    ghost use Rattle.store.specs.Standing.{StandsFor};
     ghost use Rattle.store.specs.Views.{device_of, disk_of, fault_state_of, arms_of, size_of_store, life_of, found_state, journal_of, now_state, receipts, doubt_of, failures_at_open, view_of, Stands, Doubts};
 
     /// Opens a disk, and so begins a life. What the last life left in doubt is settled by a sync, and where
@@ -285,32 +284,20 @@ impl<D: Disk + Drop> Store<D> {
         requires up { self.old.doubt ≡ None }
         requires going { self.old.over ≡ false }
         requires ram { length ram.now ≡ ram_bytes_of self.old.shape }
-        ensures area { IfOk result (λ saved. saved.0 < 2) }
-        ensures first { IfOk result (λ saved. self.old.current.image ≡ None → saved.0 ≡ 0) }
-        ensures counts { IfOk result (λ saved. AreCounts self.old.shape saved.1) }
-        ensures reads { IfOk result (λ saved. memory_of self.old.shape self.old.current.next saved.1
-            (area_of self.old.shape saved.0 (disk_of self.new).content) ≡ ram.now) }
-        ensures size { OnOk result (IsSize self.old.shape) }
-        ensures life { life_of self.new ≡ record (life_of self.old) { found = found_state self.new } }
-        ensures reseen { IsReseen (life_of self.old) (found_state self.new) }
-        ensures any_moment { LeavesSince (disk_of self.old) (disk_of self.new) (λ c. StandsFor c
-            (size_of_store self.old) (now_state self.old)) }
-        ensures refused { IfErr result (λ e. WriteRefused (disk_of self.old) (fault_state_of self.old) e
-            (disk_of self.new) (fault_state_of self.new)) }
-        ensures no_failure { OnOk result ((disk_of self.new).failures ≡ (disk_of self.old).failures) }
-        ensures unmoved { OnOk result (fault_state_of self.new ≡ fault_state_of self.old) }
-        ensures calls { OnOk result ((disk_of self.new).calls ≡ counted (disk_of self.old).calls 1) }
+        ensures holds { IfOk result (λ saved. HoldsMemory self.old.shape self.old.current ram.now
+            (disk_of self.new).content saved.0 saved.1) }
+        ensures writes { WritesFree (view_of self.old) result (view_of self.new) }
         ensures same { (self.new.doubt ≡ self.old.doubt) × (self.new.over ≡ self.old.over)
             × (self.new.current ≡ self.old.current) × (self.new.shape ≡ self.old.shape)
             × (self.new.journal ≡ self.old.journal) × (self.new.failures_at_open ≡ self.old.failures_at_open) }
-        ensures selected { selected (disk_of self.new).content ≡ selected (disk_of self.old).content }
-        ensures live { live_sector (disk_of self.new).content ≡ live_sector (disk_of self.old).content }
-        ensures length { SameLength (disk_of self.old) (disk_of self.new) }
-        ensures none_out { IsIdle (disk_of self.new) }
     {
         let area = free_area(&self.current);
-        let serial = self.current.next;
-        let counts = write_area(alloc, &mut self.disk, crew, &self.shape, area, ram, serial)?;
+        let snapshot = Snapshot {
+            shape: &self.shape,
+            ram,
+            serial: self.current.next,
+        };
+        let counts = write_area(alloc, &mut self.disk, crew, area, &snapshot)?;
         Ok((area, counts))
     }
 

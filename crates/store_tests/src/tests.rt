@@ -35,16 +35,22 @@ fn empty_open(alloc: Global) -> Result<(Refusal, bool), Fail> {
     Ok((refusal, disk.sync().is_err()))
 }
 
-/// A disk of a sector too few: the format is refused before any call, so the failure strikes behind it.
+/// What a format of a disk of a sector too few answers, and whether a failure of the next call is still to strike.
+fn small_format(alloc: Global) -> Result<(Option<Refusal>, bool), Fail> {
+    let mut disk = SimDisk::blank(alloc, 25)?;
+    disk.fail_at(1);
+    let answer = format_smallest(&mut disk).err();
+    Ok((answer, disk.sync().is_err()))
+}
+
+/// What is refused before any call leaves the failure to the call behind it.
 #[test]
 fn disks_that_are_too_small(rt: HostRuntime) -> Result<(), Fail> {
-    let mut disk = SimDisk::blank(rt.alloc(), 25)?;
-    disk.fail_at(1);
-    same(&rt, format_smallest(&mut disk), Err(Refusal::BadShape));
-    same(&rt, disk.sync().is_err(), true);
-    let (_, refusal) = unopened(rt.alloc(), disk)?;
-    same(&rt, refusal, Refusal::NotFormatted);
+    let formatted = small_format(rt.alloc())?;
+    same(&rt, formatted, (Some(Refusal::BadShape), true));
     same(&rt, empty_open(rt.alloc())?, (Refusal::BadShape, true));
+    let (_, refusal) = unopened(rt.alloc(), SimDisk::blank(rt.alloc(), 25)?)?;
+    same(&rt, refusal, Refusal::NotFormatted);
     Ok(())
 }
 

@@ -1,4 +1,4 @@
-use Rattle.std.proofs.Common.{◌≡◌, ◌∙◌, length, map, slice_index, sym, ap, subst, arith, List}
+use Rattle.std.proofs.Common.{◌≡◌, ◌∙◌, ◌<◌, ℕ, length, map, slice_index, sym, ap, subst, arith, List}
 use Rattle.std.proofs.lemmas.List.{length-map}
 use Rattle.disk.specs.Facts.{LaneFacts, lane_at, lane_failures}
 use Rattle.layout.specs.Sizes.{lane_sectors}
@@ -6,17 +6,26 @@ use Rattle.savers.specs.Saved.{SamePlaces}
 use Rattle.savers.specs.Pages.{DrawnPages}
 use Rattle.savers.specs.Calls.{IsFilledBy}
 use Rattle.savers.specs.Jobs.{lane_of}
+use Rattle.savers.proofs.Calls.{all_filled}
 use Rattle.savers.proofs.Drawn.{lanes_hold}
-use Rattle.savers.proofs.Jobs.{all_of_lanes, same_places, drawn_by_all, filled_by_all}
+use Rattle.savers.proofs.Jobs.{all_of_lanes, same_places, drawn_by_all, filled_by_all, failures_at}
 use Rattle.tickets.specs.Ended.{numbers_of}
+use Rattle.savers.proofs.saving.save_by.Given.{Over}
+use Rattle.savers.proofs.saving.save_by.Goals.{After-end-drawn}
 use Rattle.savers.proofs.saving.save_by.Goals as goal
+
+pub hand_out-requires-clause-few : goal.hand_out-requires-clause-few
+hand_out-requires-clause-few g c = omega (arith, c.lanes-lanes.ensures.range.1, c.lanes-lanes.ensures.value, length-map c.args.lanes.items g.L.Lane.lane_facts, c.requires.fresh.many)
+
+pub run_jobs-requires-clause-few : goal.run_jobs-requires-clause-few
+run_jobs-requires-clause-few g c κs within =
+    omega (arith, c.lanes-lanes.ensures.range.1, c.lanes-lanes.ensures.value, length-map c.args.lanes.items g.L.Lane.lane_facts, c.requires.fresh.many, c.hand_out.ensures.many)
 
 pub run_jobs-requires-clause-room : goal.run_jobs-requires-clause-room
 run_jobs-requires-clause-room g c κs within =
     let facts = g.L.Lane.lane_facts in
-    let lanes = c.args.lanes.items in
-    all_of_lanes (lane_of facts) (λ (l : LaneFacts). length l.content ≡ lane_sectors c.args.shape.now) c.hand_out.new.savers.items (map facts lanes) c.hand_out.ensures.lanes
-    (λ i lt. c.requires.room i (omega (arith, lt, length-map lanes facts)))
+    all_of_lanes (lane_of facts) (λ (l : LaneFacts). length l.content ≡ lane_sectors c.args.snapshot.now.shape.now) c.hand_out.new.savers.items (map facts c.args.lanes.items) c.hand_out.ensures.lanes
+    c.requires.fresh.room
 
 pub returns-clause-places : goal.returns-clause-places
 returns-clause-places g c =
@@ -28,41 +37,62 @@ returns-clause-places g c =
     subst (λ (l : List LaneFacts). SamePlaces l (map facts c.take_back-counts.new.lanes.items)) c.hand_out.ensures.lanes
     (subst (λ (l : List LaneFacts). SamePlaces (map (lane_of facts) before) l) (sym c.take_back-counts.ensures.lanes) same)
 
-pub returns-clause-drawn : goal.returns-clause-drawn
-returns-clause-drawn g c none =
+-- the lanes that are given back are those that the board has
+many_given : (g : Over) (c : After-end-drawn g) → length c.hand_out.new.savers.items ≡ c.args.snapshot.now.shape.now.lanes
+many_given g c = c.hand_out.ensures.many ∙ (sym (length-map c.args.lanes.items g.L.Lane.lane_facts) ∙ c.requires.fresh.many)
+
+-- no call of a lane had failed
+fresh_savers : (g : Over) (c : After-end-drawn g) → lane_failures (map (lane_of g.L.Lane.lane_facts) c.hand_out.new.savers.items) ≡ 0
+fresh_savers g c = ap lane_failures c.hand_out.ensures.lanes ∙ c.requires.fresh.no_failure
+
+filled_by : (g : Over) (c : After-end-drawn g) (i : ℕ) → i < length (map g.L.Lane.lane_facts c.args.lanes.items)
+    → IsFilledBy c.args.snapshot.now.shape.now (slice_index c.take_back-counts.result i) (lane_at (map g.L.Lane.lane_facts c.args.lanes.items) i) (lane_at (map g.L.Lane.lane_facts c.take_back-counts.new.lanes.items) i)
+filled_by g c i lt =
     let facts = g.L.Lane.lane_facts in
-    let size = c.args.shape.now in
-    let memory = c.args.ram.now in
+    let size = c.args.snapshot.now.shape.now in
+    let counts = c.take_back-counts.result in
+    let before = c.hand_out.new.savers.items in
+    let back = c.take_back-counts.ensures in
+    let filled = filled_by_all facts c.args.ticket size c.args.snapshot.now.ram.now c.args.snapshot.now.serial counts before c.run_jobs.new.savers.items c.run_jobs.ensures.as_many c.run_jobs.ensures.each (fresh_savers g c) back.counts i (omega (arith, lt, length-map c.args.lanes.items facts, c.hand_out.ensures.many)) in
+    subst (λ (l : List LaneFacts). IsFilledBy size (slice_index counts i) (lane_at l i) (lane_at (map facts c.take_back-counts.new.lanes.items) i)) c.hand_out.ensures.lanes
+    (subst (λ (l : List LaneFacts). IsFilledBy size (slice_index counts i) (lane_at (map (lane_of facts) before) i) (lane_at l i)) (sym back.lanes) filled)
+
+pub returns-clause-ended : goal.returns-clause-ended
+returns-clause-ended g c i lt = (slice_index c.take_back-counts.result i, filled_by g (goal.at.returns-clause-ended g c).After-end-drawn i lt)
+
+drawn_pages : (g : Over) (c : After-end-drawn g) → lane_failures (map g.L.Lane.lane_facts c.take_back-counts.new.lanes.items) ≡ 0
+    → DrawnPages c.args.snapshot.now.shape.now c.args.snapshot.now.ram.now c.args.snapshot.now.serial (numbers_of c.end-drawn.result) c.take_back-counts.result (map g.L.Lane.lane_facts c.take_back-counts.new.lanes.items)
+drawn_pages g c none =
+    let facts = g.L.Lane.lane_facts in
+    let size = c.args.snapshot.now.shape.now in
+    let memory = c.args.snapshot.now.ram.now in
+    let serial = c.args.snapshot.now.serial in
     let before = c.hand_out.new.savers.items in
     let after = c.run_jobs.new.savers.items in
     let back = c.take_back-counts.ensures in
     let some = c.lanes-lanes.ensures.range.0 in
     let lanes = c.lanes-lanes.ensures.value in
-    let was : lane_failures (map (lane_of facts) before) ≡ 0 = ap lane_failures c.hand_out.ensures.lanes ∙ c.requires.fresh in
     let is : lane_failures (map (lane_of facts) after) ≡ 0 = ap lane_failures (sym back.lanes) ∙ none in
-    subst (λ (l : List LaneFacts). DrawnPages size memory c.args.serial (numbers_of c.end-drawn.result) c.take_back-counts.result l) (sym back.lanes)
-    (drawn_by_all facts c.args.ticket size memory c.args.serial c.take_back-counts.result before after (omega (arith, some, lanes)) (c.hand_out.ensures.many ∙ c.requires.many) c.run_jobs.ensures.as_many c.run_jobs.ensures.each was is back.four back.counts back.others (numbers_of c.end-drawn.result) (sym back.drawn ∙ sym c.end-drawn.ensures.all) c.end-drawn.ensures.once)
+    subst (λ (l : List LaneFacts). DrawnPages size memory serial (numbers_of c.end-drawn.result) c.take_back-counts.result l) (sym back.lanes)
+    (drawn_by_all facts c.args.ticket size memory serial c.take_back-counts.result before after (omega (arith, some, lanes)) (many_given g c) c.run_jobs.ensures.as_many c.run_jobs.ensures.each (fresh_savers g c) is back.four back.counts back.others (numbers_of c.end-drawn.result) (sym back.drawn ∙ sym c.end-drawn.ensures.all) c.end-drawn.ensures.once)
 
 pub returns-clause-saved : goal.returns-clause-saved
 returns-clause-saved g c none =
+    let at = (goal.at.returns-clause-saved g c).After-end-drawn in
     let facts = g.L.Lane.lane_facts in
-    let size = c.args.shape.now in
+    let size = c.args.snapshot.now.shape.now in
+    let counts = c.take_back-counts.result in
+    let numbers = numbers_of c.end-drawn.result in
     let lanes = map facts c.take_back-counts.new.lanes.items in
-    let before = c.hand_out.new.savers.items in
     let range = c.lanes-lanes.ensures.range in
     let value = c.lanes-lanes.ensures.value in
-    let many : length lanes ≡ size.lanes = ap (λ (l : List LaneFacts). length l) c.take_back-counts.ensures.lanes ∙ (length-map c.run_jobs.new.savers.items (lane_of facts) ∙ (c.run_jobs.ensures.as_many ∙ (c.hand_out.ensures.many ∙ c.requires.many))) in
-    lanes_hold size c.args.ram.now c.args.serial (numbers_of c.end-drawn.result) c.take_back-counts.result lanes (omega (arith, range.0, value)) (omega (arith, range.1, value)) many (returns-clause-drawn g c none)
-
-pub returns-clause-calls : goal.returns-clause-calls
-returns-clause-calls g c i lt =
-    let facts = g.L.Lane.lane_facts in
-    let size = c.args.shape.now in
-    let counts = c.take_back-counts.result in
-    let before = c.hand_out.new.savers.items in
-    let after = c.run_jobs.new.savers.items in
-    let back = c.take_back-counts.ensures in
-    let was : lane_failures (map (lane_of facts) before) ≡ 0 = ap lane_failures c.hand_out.ensures.lanes ∙ c.requires.fresh in
-    let filled = filled_by_all facts c.args.ticket size c.args.ram.now c.args.serial counts before after c.run_jobs.ensures.as_many c.run_jobs.ensures.each was back.counts i (omega (arith, lt, c.hand_out.ensures.many)) in
-    subst (λ (l : List LaneFacts). IsFilledBy size (slice_index counts i) (lane_at l i) (lane_at (map facts c.take_back-counts.new.lanes.items) i)) c.hand_out.ensures.lanes
-    (subst (λ (l : List LaneFacts). IsFilledBy size (slice_index counts i) (lane_at (map (lane_of facts) before) i) (lane_at l i)) (sym back.lanes) filled)
+    let many : length lanes ≡ size.lanes = ap (λ (l : List LaneFacts). length l) c.take_back-counts.ensures.lanes ∙ (length-map c.run_jobs.new.savers.items (lane_of facts) ∙ (c.run_jobs.ensures.as_many ∙ many_given g at)) in
+    let drawn = drawn_pages g at none in
+    record {
+      drawn = drawn;
+      hold = lanes_hold size c.args.snapshot.now.ram.now c.args.snapshot.now.serial numbers counts lanes (omega (arith, range.0, value)) (omega (arith, range.1, value)) many drawn;
+      calls = λ i lt.
+          let low = failures_at lanes i in
+          all_filled size (slice_index counts i) (lane_at (map facts c.args.lanes.items) i) (lane_at lanes i) (filled_by g at i lt) (omega (arith, low, none));
+      no_failure = none;
+    }

@@ -1,17 +1,12 @@
-use Rattle.std.proofs.Common.{◌∙◌, ℕ, refl, sym, ap, subst}
+use Rattle.std.proofs.Common.{◌∙◌, ℕ, refl, sym, ap, subst, rules}
 use Rattle.std.proofs.lemmas.Result.{err_from_is_err_and}
-use Rattle.disk.specs.Facts.{counted}
+use Rattle.disk.specs.Facts.{Lent, counted}
 use Rattle.layout.specs.Records.{IsInRange}
 use Rattle.layout.specs.declared.records.Record.{Record}
 use Rattle.layout.specs.declared.records.Version.TheVariants.{One, Two}
 use Rattle.store.specs.Standing.{state_of}
-use Rattle.store.proofs.Renewing.{in_range_two, still_settled, renewed_settled, renewed_state, four_sectors, calls_of, calls_on, calls_stop}
+use Rattle.store.proofs.Renewing.{in_range_two, still_settled, renewed_settled, renewed_state, calls_of, calls_on, calls_stop}
 use Rattle.store.proofs.renews.migrated.Goals as goal
-
-pub renewed-requires-clause-enough : goal.renewed-requires-clause-enough
-renewed-requires-clause-enough g c _ _ =
-    let f = c.args.found in
-    four_sectors (g.D.Disk.facts c.args.disk.now) f.shape f.side f.record (c.requires.keeps.up refl) (g.met.D.Disk.may_keep _)
 
 pub renewed-requires-clause-in_range : goal.renewed-requires-clause-in_range
 renewed-requires-clause-in_range g c _ _ =
@@ -31,30 +26,39 @@ returns-in-Two-clause-calls g c start made =
     made ∙ ap (λ (k : ℕ). counted start k) (sym (calls_of f.shape f.side f.record Two _ (c.requires.keeps.up refl _ (g.met.D.Disk.may_keep _)).selects c.in-Two.is))
 
 -- of version 1, and written anew
-pub returns-in_ok-kept-in-One-clause-state : goal.returns-in_ok-kept-in-One-clause-state
-returns-in_ok-kept-in-One-clause-state g c =
+pub returns-in_ok-kept-in-One-clause-kept : goal.returns-in_ok-kept-in-One-clause-kept
+returns-in_ok-kept-in-One-clause-kept g c =
+    let f = c.args.found in
     let kept = c.in_ok-kept-in-One.kept in
-    renewed_state (g.D.Disk.facts c.renewed.new.disk) kept.shape c.args.found.shape kept.side kept.record _ (c.in_ok-kept-in-One.ensures.keeps.0.up refl) (g.met.D.Disk.may_keep _) c.renewed.ensures.content
+    let did = c.in_ok-kept-in-One.ensures.keeps in
+    let b = g.D.Disk.facts c.renewed.new.disk in
+    let stands = c.renewed.ensures.any_moment.now b.content (g.met.D.Disk.may_keep _) in
+    record {
+      keeps = did.0;
+      shape = did.1;
+      version = search rules;
+      state = renewed_state b kept.shape f.shape kept.side kept.record _ (did.0.up refl) (g.met.D.Disk.may_keep _) stands;
+    }
 
 pub returns-in_ok-kept-in-One-clause-settles : goal.returns-in_ok-kept-in-One-clause-settles
 returns-in_ok-kept-in-One-clause-settles g c =
     let f = c.args.found in
     let did = c.renewed.ensures in
-    renewed_settled (g.D.Disk.facts c.args.disk.now) (g.D.Disk.facts c.renewed.new.disk) f.shape f.side f.record (c.requires.keeps.up refl) (g.met.D.Disk.may_keep _) c.in-One.is did.content did.any_moment did.length did.none_out did.no_fewer
+    renewed_settled (g.D.Disk.facts c.args.disk.now) (g.D.Disk.facts c.renewed.new.disk) f.shape f.side f.record (c.requires.keeps.up refl) (g.met.D.Disk.may_keep _) (g.met.D.Disk.may_keep _) c.in-One.is did.any_moment did.called.content.as_long (ap (λ (l : Lent). l.lanes) did.called.lent ∙ c.requires.keeps.none_out) did.no_fewer
 
 pub returns-in_ok-kept-in-One-clause-calls : goal.returns-in_ok-kept-in-One-clause-calls
 returns-in_ok-kept-in-One-clause-calls g c start made =
     let f = c.args.found in
-    calls_on start _ _ _ made c.in_ok-kept-in-One.ensures.calls (calls_of f.shape f.side f.record One _ (c.requires.keeps.up refl _ (g.met.D.Disk.may_keep _)).selects c.in-One.is)
+    calls_on start _ _ _ made c.in_ok-kept-in-One.ensures.called.calls.ok (calls_of f.shape f.side f.record One _ (c.requires.keeps.up refl _ (g.met.D.Disk.may_keep _)).selects c.in-One.is)
 
 pub returns-in_err-kept-in-One-clause-settles : goal.returns-in_err-kept-in-One-clause-settles
 returns-in_err-kept-in-One-clause-settles g c =
     let f = c.args.found in
     let did = c.renewed.ensures in
-    renewed_settled (g.D.Disk.facts c.args.disk.now) (g.D.Disk.facts c.renewed.new.disk) f.shape f.side f.record (c.requires.keeps.up refl) (g.met.D.Disk.may_keep _) c.in-One.is did.content did.any_moment did.length did.none_out did.no_fewer
+    renewed_settled (g.D.Disk.facts c.args.disk.now) (g.D.Disk.facts c.renewed.new.disk) f.shape f.side f.record (c.requires.keeps.up refl) (g.met.D.Disk.may_keep _) (g.met.D.Disk.may_keep _) c.in-One.is did.any_moment did.called.content.as_long (ap (λ (l : Lent). l.lanes) did.called.lent ∙ c.requires.keeps.none_out) did.no_fewer
 
 pub returns-in_err-kept-in-One-clause-calls : goal.returns-in_err-kept-in-One-clause-calls
 returns-in_err-kept-in-One-clause-calls g c start made =
     let p = err_from_is_err_and c.from_residual.result c.from_residual.ensures.1 in
     let f = c.args.found in
-    rw p.1 (calls_stop start _ _ _ made c.in_err-kept-in-One.ensures.stops (calls_of f.shape f.side f.record One _ (c.requires.keeps.up refl _ (g.met.D.Disk.may_keep _)).selects c.in-One.is))
+    rw p.1 (calls_stop start _ _ _ made c.in_err-kept-in-One.ensures.called.calls.err (calls_of f.shape f.side f.record One _ (c.requires.keeps.up refl _ (g.met.D.Disk.may_keep _)).selects c.in-One.is))

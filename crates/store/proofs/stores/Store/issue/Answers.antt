@@ -3,6 +3,7 @@ use Rattle.std.proofs.lemmas.List.{length-map}
 use Rattle.board_model.specs.Durable.{Change}
 use Rattle.board_model.specs.Views.{change_in}
 use Rattle.board_model.specs.declared.durable.Entry.{Entry}
+use Rattle.disk.specs.Facts.{Lent}
 use Rattle.store.specs.Commits.{IsUp}
 use Rattle.store.specs.Entries.{drop_image}
 use Rattle.store.specs.Standing.{memory_in}
@@ -22,8 +23,8 @@ issued g c =
     let next = c.args.next in
     let up = s.kept.up c.requires.up in
     let range = c.requires.follows.in_range (up _ (g.met.D.Disk.may_keep _)).selects.is.0 in
-    issues (g.D.Disk.facts s.disk) (g.D.Disk.facts c.commit.new.disk) s.shape s.side s.opened s.current next s.journal.items c.args.entry c.requires.follows c.commit.ensures.areas s.folded
-    up range (c.commit.ensures.any_moment s.shape s.current up range)
+    issues (g.D.Disk.facts s.disk) (g.D.Disk.facts c.commit.new.disk) s.shape s.side s.opened s.current next s.journal.items c.args.entry c.requires.follows c.commit.ensures.called.content s.folded
+    up range (c.commit.ensures.commits.any_moment s.shape s.current up range)
 
 -- ---- committed
 pub invariant_of-self : goal.invariant_of-self
@@ -34,8 +35,8 @@ invariant_of-self g c =
     let none = c.requires.up in
     let plain = s.plain c.requires.reaches.0 in
     record {
-      kept = keeps_up b s.shape c.other-self.result c.args.next s.doubt c.commit.ensures.none_out c.other-self.ensures.range none
-          (subst (λ (k : ℕ). IsUp b s.shape k c.args.next) (sym c.other-self.ensures.value) (c.in-Ok.ensures.done s.shape s.current did.up did.range));
+      kept = keeps_up b s.shape c.other-self.result c.args.next s.doubt (ap (λ (l : Lent). l.lanes) c.commit.ensures.called.lent ∙ s.kept.none_out) c.other-self.ensures.range none
+          (subst (λ (k : ℕ). IsUp b s.shape k c.args.next) (sym c.other-self.ensures.value) (c.in-Ok.ensures.commits.done s.shape s.current did.up did.range));
       folded = rw c.push_reserved.ensures.items (did.folded_with plain);
       doubted = of_no_doubt _ s.doubt none;
       plain = λ goes. rw c.push_reserved.ensures.items (going_plain s.journal.items c.args.entry plain (sym (c.ends_life-ends.ensures []) ∙ goes));
@@ -60,10 +61,10 @@ returns-in-Ok-clause-answered g c =
     let place : c.new.result ≡ length (told (memory_in s.shape s.current a.content) s.journal.items) + 1 = (let same = length-map s.journal.items (λ e. change_in e (memory_in s.shape s.current a.content)) in search rules) in
     record {
       life = (c.requires.reaches, place, life_is _ _ _ _ _ _ _ _ did.found journal (none_maps Doubt _ _ s.doubt c.requires.up) (c.ends_life-ends.ensures _));
-      leaves = goes_to _ _ _ _ _ _ did.any_moment (did.done (c.in-Ok.ensures.done s.shape s.current did.up did.range));
-      written = wrote a b s.shape s.side next s.kept.known (did.up a.content (g.met.D.Disk.may_keep _)).selects.gate did.range c.requires.follows.version c.in-Ok.ensures.written;
-      cause = c.in-Ok.ensures.cause.ok;
-      counts = c.in-Ok.ensures.no_failure;
+      leaves = goes_to _ _ _ _ _ _ did.any_moment (did.done (c.in-Ok.ensures.commits.done s.shape s.current did.up did.range));
+      written = wrote a b s.shape s.side next s.kept.known (did.up a.content (g.met.D.Disk.may_keep _)).selects.gate did.range c.requires.follows.version c.in-Ok.ensures.commits.written;
+      cause = c.in-Ok.ensures.called.cause.ok;
+      counts = c.in-Ok.ensures.called.failures.ok;
     }
 
 -- ---- not committed: the journal stays, and what was kept of the store is kept
@@ -71,7 +72,7 @@ pub invariant_of-self-in-Err-Unchanged-clause-kept : goal.invariant_of-self-in-E
 invariant_of-self-in-Err-Unchanged-clause-kept g c =
     let did = issued g (goal.at.invariant_of-self-in-Err-Unchanged-clause-kept g c).After-commit in
     let s = c.args.self.now in
-    keeps_up _ s.shape s.side s.current s.doubt c.commit.ensures.none_out s.kept.known c.requires.up (c.commit.ensures.same (c.in-Err-Unchanged.is ∙ ap Err c.in-Err-Unchanged.field-0-is) s.shape s.current did.up)
+    keeps_up _ s.shape s.side s.current s.doubt (ap (λ (l : Lent). l.lanes) c.commit.ensures.called.lent ∙ s.kept.none_out) s.kept.known c.requires.up (c.commit.ensures.commits.same (c.in-Err-Unchanged.is ∙ ap Err c.in-Err-Unchanged.field-0-is) s.shape s.current did.up)
 
 pub invariant_of-self-in-Err-Unchanged-clause-folded : goal.invariant_of-self-in-Err-Unchanged-clause-folded
 invariant_of-self-in-Err-Unchanged-clause-folded g c = (issued g (goal.at.invariant_of-self-in-Err-Unchanged-clause-folded g c).After-commit).folded
@@ -83,7 +84,7 @@ pub invariant_of-self-in-Err-InDoubt-clause-kept : goal.invariant_of-self-in-Err
 invariant_of-self-in-Err-InDoubt-clause-kept g c =
     let did = issued g (goal.at.invariant_of-self-in-Err-InDoubt-clause-kept g c).After-commit in
     let s = c.args.self.now in
-    keeps_doubt _ s.shape s.side s.current _ c.commit.ensures.none_out s.kept.known (c.commit.ensures.doubt (c.in-Err-InDoubt.is ∙ ap Err c.in-Err-InDoubt.field-0-is) s.shape s.current did.up did.range)
+    keeps_doubt _ s.shape s.side s.current _ (ap (λ (l : Lent). l.lanes) c.commit.ensures.called.lent ∙ s.kept.none_out) s.kept.known (c.commit.ensures.commits.doubt (c.in-Err-InDoubt.is ∙ ap Err c.in-Err-InDoubt.field-0-is) s.shape s.current did.up did.range)
 
 pub invariant_of-self-in-Err-InDoubt-clause-folded : goal.invariant_of-self-in-Err-InDoubt-clause-folded
 invariant_of-self-in-Err-InDoubt-clause-folded g c = (issued g (goal.at.invariant_of-self-in-Err-InDoubt-clause-folded g c).After-commit).folded
@@ -102,11 +103,11 @@ returns-in-Err-Unchanged-clause-answered g c =
     let did = issued g (goal.at.returns-in-Err-Unchanged-clause-answered g c).After-commit in
     let s = c.args.self.now in
     refused_so _ _ _ _ (inl (refl, c.requires.reaches, life_is _ _ _ _ _ _ _ _ did.found did.journal_still (none_maps Doubt _ _ s.doubt c.requires.up) refl)) did.any_moment
-    (did.undone (c.commit.ensures.same (c.in-Err-Unchanged.is ∙ ap Err c.in-Err-Unchanged.field-0-is) s.shape s.current did.up)) c.in-Err-Unchanged.ensures.cause.err c.in-Err-Unchanged.ensures.failed
+    (did.undone (c.commit.ensures.commits.same (c.in-Err-Unchanged.is ∙ ap Err c.in-Err-Unchanged.field-0-is) s.shape s.current did.up)) c.in-Err-Unchanged.ensures.called.cause.err (omega (arith, c.in-Err-Unchanged.ensures.called.failures.err))
 
 pub returns-in-Err-InDoubt-clause-answered : goal.returns-in-Err-InDoubt-clause-answered
 returns-in-Err-InDoubt-clause-answered g c =
     let did = issued g (goal.at.returns-in-Err-InDoubt-clause-answered g c).After-commit in
     let s = c.args.self.now in
     refused_so _ _ _ _ (inr (inl (refl, c.requires.reaches, life_is _ _ _ _ _ _ _ _ did.found did.journal_still (ap (λ (x : Change). Some x) did.change) refl))) did.any_moment
-    (did.either s.kept.known (c.commit.ensures.doubt (c.in-Err-InDoubt.is ∙ ap Err c.in-Err-InDoubt.field-0-is) s.shape s.current did.up did.range)) c.in-Err-InDoubt.ensures.cause.err c.in-Err-InDoubt.ensures.failed
+    (did.either s.kept.known (c.commit.ensures.commits.doubt (c.in-Err-InDoubt.is ∙ ap Err c.in-Err-InDoubt.field-0-is) s.shape s.current did.up did.range)) c.in-Err-InDoubt.ensures.called.cause.err (omega (arith, c.in-Err-InDoubt.ensures.called.failures.err))

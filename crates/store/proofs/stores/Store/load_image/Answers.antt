@@ -1,4 +1,4 @@
-use Rattle.std.proofs.Common.{◌≡◌, ◌∙◌, ◌≤◌, Some, None, length, map, true, sym, subst, arith, rules}
+use Rattle.std.proofs.Common.{◌≡◌, ◌∙◌, ◌≤◌, Err, Some, None, length, map, true, sym, ap, subst, arith, rules}
 use Rattle.std.proofs.lemmas.Result.{err_from_is_err_and}
 use Rattle.board_model.specs.Durable.{refusal_of, after, fold}
 use Rattle.board_model.specs.Shapes.{ram_bytes_of}
@@ -26,10 +26,10 @@ invariant_of-self g c =
     let s = c.args.self.now in
     let a = g.D.Disk.facts s.disk in
     let b = g.D.Disk.facts c.read_area.new.disk in
-    let same = c.read_area.ensures.content in
-    let more : a.failures ≤ b.failures = c.read_area.ensures.no_fewer in
+    let same = c.read_area.ensures.read.content in
+    let more : a.failures ≤ b.failures = c.read_area.ensures.read.no_fewer in
     record {
-      kept = stays_keeps a b c.read_area.ensures.crash same c.read_area.ensures.none_out s.shape s.side s.current s.doubt s.kept;
+      kept = stays_keeps a b c.read_area.ensures.read.crash same c.read_area.ensures.read.none_out s.shape s.side s.current s.doubt s.kept;
       folded = subst (λ (d : Content). fold (state_of s.shape s.opened d) (map (λ e. change_in e (memory_in s.shape s.current d)) s.journal.items) ≡ state_of s.shape s.current d) (sym same) s.folded;
       doubted = λ x is. subst (λ (d : Content). state_of s.shape x.next d ≡ after (state_of s.shape s.current d) (change_in x.entry (memory_in s.shape x.next d))) (sym same) (s.doubted x is);
       plain = s.plain;
@@ -51,7 +51,8 @@ returns-in_err-read_area-clause-refused g c =
     let fits : length c.args.ram.now ≡ ram_bytes_of s.shape = search (rules, arith) in
     rw (p.1, p.2)
     (load_refused s.shape (now_state s) c.args.ram.now (saved_memory s.shape c.in-Some.saved a.content) a (g.D.Disk.fault_state s.disk) c.in_err-read_area.field-0.0 (g.D.Disk.facts c.read_area.new.disk) (g.D.Disk.fault_state c.read_area.new.disk) fits
-    (image_now s.shape s.current a.content (now_state s) c.in-Some.saved s.folded there) c.in_err-read_area.ensures.refused)
+    (image_now s.shape s.current a.content (now_state s) c.in-Some.saved s.folded there) c.in_err-read_area.ensures.read.refused
+    (λ is. c.read_area.ensures.spoilt (c.in_err-read_area.was ∙ ap Err is)))
 
 pub returns-clause-loads : goal.returns-clause-loads
 returns-clause-loads g c =
@@ -70,12 +71,12 @@ returns-in_default-clause-reads_alone g c = none_read _ (g.met.D.Disk.only_now _
 
 -- and where it is
 pub returns-in_err-read_area-clause-reads_alone : goal.returns-in_err-read_area-clause-reads_alone
-returns-in_err-read_area-clause-reads_alone g c = let did = c.read_area.ensures in read_alone _ _ (g.met.D.Disk.only_now _) did.content did.crash did.none_out did.no_fewer
+returns-in_err-read_area-clause-reads_alone g c = let did = c.read_area.ensures.read in read_alone _ _ (g.met.D.Disk.only_now _) did.content did.crash did.none_out did.no_fewer
 
 pub returns-clause-reads_alone : goal.returns-clause-reads_alone
-returns-clause-reads_alone g c = let did = c.read_area.ensures in read_alone _ _ (g.met.D.Disk.only_now _) did.content did.crash did.none_out did.no_fewer
+returns-clause-reads_alone g c = let did = c.read_area.ensures.read in read_alone _ _ (g.met.D.Disk.only_now _) did.content did.crash did.none_out did.no_fewer
 
 pub returns-in_err-read_area-clause-stops : goal.returns-in_err-read_area-clause-stops
 returns-in_err-read_area-clause-stops g c =
     let p = err_from_is_err_and c.from_residual.result c.from_residual.ensures.1 in
-    rw (p.1, p.2) c.in_err-read_area.ensures.stops
+    rw (p.1, p.2) c.in_err-read_area.ensures.read.stops

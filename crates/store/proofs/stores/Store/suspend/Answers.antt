@@ -39,13 +39,13 @@ returns-in_err-area-clause-asked g c =
     let did = c.write_free.ensures in
     let same = did.same in
     let ok = c.in_ok-durable.ensures.ok in
-    let now : now_state s ≡ state_of m.shape m.current b.content = sym (now_still (life_of s) (life_of m) (found_state m) did.life did.reseen) ∙ m.folded in
+    let now : now_state s ≡ state_of m.shape m.current b.content = sym (now_still (life_of s) (life_of m) (found_state m) did.writes.life did.writes.reseen) ∙ m.folded in
     let only : LeavesOnly b s.shape (now_state s) = subst (λ (z : Size). LeavesOnly b z (now_state s)) same.3 (subst (LeavesOnly b m.shape) (sym now) (up_leaves b m.shape m.side m.current (m.kept.up (same.0 ∙ ok.0)))) in
     record {
       answered = λ none.
           rw (p.1, p.2)
-          (unwritten (FitsBoard s.shape c.args.ram.now c.args.hart c.args.address) (view_of s) (view_of m) (Suspend c.args.hart c.args.address c.args.opaque c.args.ram.now) _ (search rules) did.life did.reseen
-          (search rules) (search rules) (search rules) only did.any_moment c.in_err-area.ensures.refused);
+          (unwritten (FitsBoard s.shape c.args.ram.now c.args.hart c.args.address) (view_of s) (view_of m) (Suspend c.args.hart c.args.address c.args.opaque c.args.ram.now) _ (search rules) did.writes.life did.writes.reseen
+          (search rules) (search rules) (search rules) only did.writes.any_moment c.in_err-area.ensures.writes.refused);
       down = search rules;
       untouched = search rules;
       life = search rules;
@@ -59,8 +59,8 @@ returns-clause-asked g c =
     let did = c.write_free.ensures in
     record {
       answered = λ none.
-          then_issued (FitsBoard s.shape c.args.ram.now c.args.hart c.args.address) (view_of s) (view_of m) (view_of c.issue.new.self) (Suspend c.args.hart c.args.address c.args.opaque c.args.ram.now) _ (search rules) did.life did.reseen
-          did.same.3 c.in_ok-area.ensures.unmoved c.in_ok-area.ensures.no_failure did.selected did.live did.any_moment (search rules);
+          then_issued (FitsBoard s.shape c.args.ram.now c.args.hart c.args.address) (view_of s) (view_of m) (view_of c.issue.new.self) (Suspend c.args.hart c.args.address c.args.opaque c.args.ram.now) _ (search rules) did.writes.life did.writes.reseen
+          did.same.3 c.in_ok-area.ensures.writes.unmoved c.in_ok-area.ensures.writes.no_failure did.writes.selected_still did.writes.live_still did.writes.any_moment (search rules);
       down = search rules;
       untouched = search rules;
       life = search rules;
