@@ -161,7 +161,13 @@ impl<D: Disk + Drop> Board<D> {
     }
 
     /// What comes of what a hart did: where it stands at a durable call, that call is made with the store.
-    fn settle<C: Crew>(&mut self, alloc: Global, crew: &C, hart: HartId, turned: Turned) -> Word
+    fn finish_turn<C: Crew>(
+        &mut self,
+        alloc: Global,
+        crew: &C,
+        hart: HartId,
+        turned: Turned,
+    ) -> Word
         requires hart { hart < length (machine_of self.old).harts }
         requires asks { turned ≡ turns.Durable → StandsAtCall hart (machine_of self.old) }
         ensures comes { Comes turned hart (machine_of self.old) (machine_of self.new) (store_of self.old)
@@ -187,7 +193,7 @@ impl<D: Disk + Drop> Board<D> {
         ensures harts { length (machine_of self.new).harts ≡ length (machine_of self.old).harts }
     {
         let turned = self.machine.turn(hart);
-        self.settle(alloc, crew, hart, turned)
+        self.finish_turn(alloc, crew, hart, turned)
     }
 
     /// The durable state that the open found.
@@ -245,7 +251,7 @@ impl<D: Disk + Drop> Board<D> {
         ensures harts { length (machine_of self.new).harts ≡ length (machine_of self.old).harts }
     {
         let (made, turned) = self.machine.turns_by_one_look(hart, most);
-        let word = self.settle(alloc, crew, hart, turned);
+        let word = self.finish_turn(alloc, crew, hart, turned);
         (made, word)
     }
 
@@ -295,7 +301,7 @@ impl<D: Disk + Drop> Board<D> {
     {
         match self.machine.call(hart, words) {
             None => None,
-            Some(turned) => Some(self.settle(alloc, crew, hart, turned)),
+            Some(turned) => Some(self.finish_turn(alloc, crew, hart, turned)),
         }
     }
 

@@ -20,11 +20,11 @@ use Rattle.susp.specs.declared.buses.Bus.{Bus}
 use Rattle.board_console.specs.Wakes.{Wakes, MayWake}
 use Rattle.board_console.specs.declared.words.Said.{Said}
 use Rattle.board_console.specs.declared.words.Said.TheVariants as saids
-use Rattle.board_console.specs.declared.answer.Answer.{Answer}
-use Rattle.board_console.specs.declared.answer.Answer.TheVariants as answers
+use Rattle.board_console.specs.declared.reply.Reply.{Reply}
+use Rattle.board_console.specs.declared.reply.Reply.TheVariants as answers
 
 -- the answer to a command: the receipt of one that was acknowledged, the number of one that was refused
-abbrev pub command_answer : ConsoleCommand → Result ℕ Refusal → Answer
+abbrev pub command_answer : ConsoleCommand → Result ℕ Refusal → Reply
 command_answer command (Ok n) = answers.Acknowledged command n
 command_answer command (Err e) = answers.Refused command e
 
@@ -34,11 +34,11 @@ told_by entry (Ok n) told = (n, entry) ∷ told
 told_by entry (Err e) told = told
 
 -- what `wake` may be answered: what a call of the wake-up device came to
-abbrev pub IsWakeAnswer : Answer → Type 0
+abbrev pub IsWakeAnswer : Reply → Type 0
 IsWakeAnswer answer = (r : Result (Unit {0}) Refusal) × MayWake r × (answer ≡ answers.Wake r)
 
 -- What a line with a command may be answered, and which receipts were told before it and then.
-abbrev pub IsCommandAnswer : DurableState → ConsoleCommand → Answer → List (ℕ × Entry) → List (ℕ × Entry) → Type 0
+abbrev pub IsCommandAnswer : DurableState → ConsoleCommand → Reply → List (ℕ × Entry) → List (ℕ × Entry) → Type 0
 IsCommandAnswer found command answer old new =
     (r : Result ℕ Refusal) × MayAnswer found (console_change command) r × (answer ≡ command_answer command r)
     × (new ≡ told_by (entries.Command (command_of command)) r old)
@@ -46,7 +46,7 @@ IsCommandAnswer found command answer old new =
 -- What a line may be answered in a life that began in that state: as some commands explain it that the table
 -- takes, one after another from there. The receipts that were told before it, and those that were told then: a
 -- receipt is answered where it is told, with just that command, and none else is told.
-abbrev pub IsAnswerTo : DurableState → Said → Answer → List (ℕ × Entry) → List (ℕ × Entry) → Type 0
+abbrev pub IsAnswerTo : DurableState → Said → Reply → List (ℕ × Entry) → List (ℕ × Entry) → Type 0
 IsAnswerTo found (saids.Command command) answer old new = IsCommandAnswer found command answer old new
 IsAnswerTo found saids.State answer old new =
     (d : Durable) × MayShow found d × (answer ≡ answers.State d) × (new ≡ old)
@@ -55,7 +55,7 @@ IsAnswerTo found saids.Quit answer old new = (answer ≡ answers.Quit) × (new �
 IsAnswerTo found saids.Other answer old new = (answer ≡ answers.Unknown) × (new ≡ old)
 
 -- the line `wake` calls the wake-up device once
-abbrev pub AnswersWake : Bus → Bus → Answer → Type 0
+abbrev pub AnswersWake : Bus → Bus → Reply → Type 0
 AnswersWake old new answer = (r : Result (Unit {0}) Refusal) × Wakes old new r × (answer ≡ answers.Wake r)
 
 -- the line asks the store; `wake` asks the bus, and the others ask nothing
@@ -68,13 +68,13 @@ asks_store saids.Other = false
 
 module _ {D L : Type 0} {g : Ghosts D L} {l : Lanes L} where
   -- a command is asked of the store once, and answered by its word
-  abbrev pub AnswersCommand : ConsoleCommand → Store D L g l → Store D L g l → Answer → Type 0
+  abbrev pub AnswersCommand : ConsoleCommand → Store D L g l → Store D L g l → Reply → Type 0
   AnswersCommand command old new answer =
       (r : Result ℕ Refusal) × Asked Applied old (console_change command) r new × (answer ≡ command_answer command r)
 
   -- A line with a command asks the store once; `state` is the state now, without a command in doubt. No other
   -- line asks the store.
-  abbrev pub AnswersSaid : Said → Store D L g l → Store D L g l → Answer → Type 0
+  abbrev pub AnswersSaid : Said → Store D L g l → Store D L g l → Reply → Type 0
   AnswersSaid (saids.Command command) old new answer = AnswersCommand command old new answer
   AnswersSaid saids.State old new answer = (new ≡ old) × (answer ≡ answers.State (durable_of (now_state old)))
   AnswersSaid said old new answer = ⊥

@@ -4,7 +4,7 @@ ghost use Rattle.std.specs.Prelude.{◌≡◌, true};
 ghost use Rattle.shared_store.specs.Views.{store_in};
 ghost use Rattle.board_console.specs.Commands.{AnswersCommand, AnswersSaid, AnswersWake, IsCommandAnswer, IsAnswerTo, IsWakeAnswer, asks_store};
 
-use crate::answer::Answer;
+use crate::reply::Reply;
 use crate::waking::Waking;
 use crate::words::Said;
 use board_model::ConsoleCommand;
@@ -17,14 +17,14 @@ fn issue<D: Disk + Drop, J: Journal>(
     store: &mut SharedStore<D, J>,
     part: Part<J>,
     command: ConsoleCommand,
-) -> (Part<J>, Answer)
+) -> (Part<J>, Reply)
     ensures asks { AnswersCommand command (store_in store.old) (store_in store.new) result.1 }
     ensures fits { IsCommandAnswer J.found command result.1 part.told result.0.told }
 {
     let (part, answered) = store.apply(part, command.command());
     match answered {
-        Ok(told) => (part, Answer::Acknowledged(command, told.number())),
-        Err(refusal) => (part, Answer::Refused(command, refusal)),
+        Ok(told) => (part, Reply::Acknowledged(command, told.number())),
+        Err(refusal) => (part, Reply::Refused(command, refusal)),
     }
 }
 
@@ -36,23 +36,23 @@ pub fn obey<D: Disk + Drop, J: Journal>(
     store: &mut SharedStore<D, J>,
     part: Part<J>,
     said: Said,
-) -> (Part<J>, Answer)
+) -> (Part<J>, Reply)
     requires { asks_store said ≡ true }
     ensures asks { AnswersSaid said (store_in store.old) (store_in store.new) result.1 }
     ensures fits { IsAnswerTo J.found said result.1 part.told result.0.told }
 {
     match said {
         Said::Command(command) => issue(store, part, command),
-        Said::State => (part, Answer::State(store.now())),
+        Said::State => (part, Reply::State(store.now())),
         Said::Wake | Said::Quit | Said::Other => unreachable!(),
     }
 }
 
 /// Does what the line `wake` says, with the bus that it is lent for this one moment: on a board of threads, under
 /// the bus's lock. It calls the wake-up device once.
-pub fn rouse(bus: &mut Bus) -> Answer
+pub fn rouse(bus: &mut Bus) -> Reply
     ensures wakes { AnswersWake bus.old bus.new result }
     ensures fits { IsWakeAnswer result }
 {
-    Answer::Wake(Waking::call(bus))
+    Reply::Wake(Waking::call(bus))
 }

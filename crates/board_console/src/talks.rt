@@ -7,9 +7,9 @@ ghost use Rattle.board_console.specs.Commands.{IsAnswerTo};
 ghost use Rattle.board_console.specs.Dialogues.{Talks, dialogue_ends, is_quit};
 ghost use Rattle.board_console.specs.Texts.{reply_text};
 
-use crate::answer::Answer;
 use crate::commands::{obey, rouse};
 use crate::lines::next_line;
+use crate::reply::Reply;
 use crate::words::{Said, line_said};
 use arrayvec::ArrayVec;
 use board_model::Refusal;
@@ -40,7 +40,7 @@ fn is_quit(said: Said) -> bool
 }
 
 /// Writes an answer as a line, so that it is seen at once.
-fn write_answer<W: Write>(out: &mut W, answer: Answer) -> Result<(), Refusal>
+fn write_answer<W: Write>(out: &mut W, answer: Reply) -> Result<(), Refusal>
     ensures written { OnOk result (Appends (W.contents out.old) (W.contents out.new) (reply_text answer ++ 10 ∷ [])) }
     ensures refused { IfErr result (λ e. e ≡ Output) }
 {
@@ -56,14 +56,14 @@ fn answer_to<R: Wait, D: Disk + Drop, J: Journal>(
     store: &Mutex<SharedStore<D, J>>,
     part: Part<J>,
     said: Said,
-) -> (Part<J>, Answer)
+) -> (Part<J>, Reply)
     ensures { IsAnswerTo J.found said result.1 part.told result.0.told }
 {
     match said {
         Said::Command(_) | Said::State => obey(&mut store.lock(rt), part, said),
         Said::Wake => (part, rouse(&mut bus.lock(rt))),
-        Said::Quit => (part, Answer::Quit),
-        Said::Other => (part, Answer::Unknown),
+        Said::Quit => (part, Reply::Quit),
+        Said::Other => (part, Reply::Unknown),
     }
 }
 

@@ -1,6 +1,6 @@
 //! How answers print.
 
-use board_console::Answer;
+use board_console::Reply;
 use board_model::{Boots, ConsoleCommand, Durable, Reason, Refusal, Slot, Trial};
 use std::alloc::Global;
 use std::process::Abort;
@@ -25,7 +25,7 @@ fn trial(fallback: u32, left: u32) -> Result<Trial, Fail> {
 }
 
 /// The answer prints so.
-fn prints(rt: &impl Abort, alloc: Global, answer: Answer, text: &str) -> Result<(), Fail> {
+fn prints(rt: &impl Abort, alloc: Global, answer: Reply, text: &str) -> Result<(), Fail> {
     let printed = format!(in alloc; "{answer}")?;
     assert_eq!(rt; printed.as_str(), text);
     Ok(())
@@ -34,16 +34,16 @@ fn prints(rt: &impl Abort, alloc: Global, answer: Answer, text: &str) -> Result<
 #[test]
 fn a_state_ends_with_its_trial(rt: HostRuntime) -> Result<(), Fail> {
     let alloc = rt.alloc();
-    let plain = Answer::State(state(1, None)?);
+    let plain = Reply::State(state(1, None)?);
     prints(&rt, alloc, plain, "state slot 1 reason 0 image none next 0")?;
-    let begun = Answer::State(state(2, Some(trial(3, 7)?))?);
+    let begun = Reply::State(state(2, Some(trial(3, 7)?))?);
     prints(
         &rt,
         alloc,
         begun,
         "state slot 2 reason 0 image none next 0 trial 3 7",
     )?;
-    let last = Answer::State(state(3, Some(trial(0, 0)?))?);
+    let last = Reply::State(state(3, Some(trial(0, 0)?))?);
     prints(
         &rt,
         alloc,
@@ -55,18 +55,18 @@ fn a_state_ends_with_its_trial(rt: HostRuntime) -> Result<(), Fail> {
 #[test]
 fn commands_are_answered_by_their_words(rt: HostRuntime) -> Result<(), Fail> {
     let alloc = rt.alloc();
-    let told = Answer::Acknowledged(ConsoleCommand::Tries(2, 1), 1);
+    let told = Reply::Acknowledged(ConsoleCommand::Tries(2, 1), 1);
     prints(&rt, alloc, told, "tries ok 1")?;
-    let told = Answer::Acknowledged(ConsoleCommand::Good, 4096);
+    let told = Reply::Acknowledged(ConsoleCommand::Good, 4096);
     prints(&rt, alloc, told, "good ok 4096")?;
-    let told = Answer::Refused(ConsoleCommand::Tries(2, 1), Refusal::BadSlot);
+    let told = Reply::Refused(ConsoleCommand::Tries(2, 1), Refusal::BadSlot);
     prints(&rt, alloc, told, "tries refused 9")?;
-    let told = Answer::Refused(ConsoleCommand::Tries(2, 1), Refusal::BadTries);
+    let told = Reply::Refused(ConsoleCommand::Tries(2, 1), Refusal::BadTries);
     prints(&rt, alloc, told, "tries refused 19")?;
-    let told = Answer::Refused(ConsoleCommand::Good, Refusal::NoTrial);
+    let told = Reply::Refused(ConsoleCommand::Good, Refusal::NoTrial);
     prints(&rt, alloc, told, "good refused 20")?;
-    let told = Answer::Acknowledged(ConsoleCommand::Slot(1), 1);
+    let told = Reply::Acknowledged(ConsoleCommand::Slot(1), 1);
     prints(&rt, alloc, told, "slot ok 1")?;
-    let told = Answer::Refused(ConsoleCommand::Discard, Refusal::NoImage);
+    let told = Reply::Refused(ConsoleCommand::Discard, Refusal::NoImage);
     prints(&rt, alloc, told, "discard refused 8")
 }

@@ -33,7 +33,7 @@ use Rattle.sbi.specs.Words.{word_of_sleep}
 use Rattle.sbi.specs.Helds.{Refuses, EndsReset, EndsSleep, MakesReset, SleepsIn, HeldIn, HeldAlone}
 use Rattle.turns.specs.Turns.{Rests, RestsAt}
 use Rattle.machine.specs.declared.machine.Machine.TheInside.{Inside}
-use Rattle.machine.specs.Held.{table_of, shown_by, stage_settled, RestsBy}
+use Rattle.machine.specs.Held.{table_of, shown_by, stage_left, RestsBy}
 use Rattle.machine.specs.Durables.{StandsAtCall, HeldOf, bus_at}
 use Rattle.machine.proofs.Owners.{its_own, none_beside}
 use Rattle.machine.proofs.Holding.{Finds, shown_as, seats_found, low_number, doze_found, seat_rests, others_rest, DoneAlone}
@@ -68,14 +68,14 @@ started_acts {a} {s} {i} {id} {x} found is =
 abbrev pub LeavesBus : ℕ → ℕ → (ℕ → HartState) → Bus → Bus → Word → Type 0
 LeavesBus harts by states bus bus' word =
     ((word ≡ word_of_sleep ToRam) × AreStopped harts by states × (d : Doze) × (d.hart ≡ by) × (d.woken ≡ false) × (bus' ≡ record bus { doze = Some d }))
-    ⊎ ((stage_settled word ≡ Running) × (bus' ≡ bus))
+    ⊎ ((stage_left word ≡ Running) × (bus' ≡ bus))
 
 module _ (harts by : ℕ) (states : ℕ → HartState) (bus bus' : Bus) where
   refused_bus : (e : SbiError) (s t : ArchState) (word : Word) → Refuses e s t word → bus' ≡ bus → LeavesBus harts by states bus bus' word
-  refused_bus e s t word p same = inr (ap stage_settled p.1, same)
+  refused_bus e s t word p same = inr (ap stage_left p.1, same)
 
   asleep_bus : (s t : ArchState) (word : Word) → EndsSleep (Ok ToDisk) s t word → bus' ≡ bus → LeavesBus harts by states bus bus' word
-  asleep_bus s t word p same = inr (ap stage_settled p.1, same)
+  asleep_bus s t word p same = inr (ap stage_left p.1, same)
 
   -- as it fell asleep
   fell_bus : (fell want : Result Sleep SbiError) (s t : ArchState) (word : Word) → fell ≡ want → EndsSleep fell s t word → EndsSleep want s t word
@@ -87,7 +87,7 @@ module _ (harts by : ℕ) (states : ℕ → HartState) (bus bus' : Bus) where
   reset_bus (Ok reset) s t old new word (r, asked, ends) same = ended r ends
     where
       ended : (r : Result ℕ Refusal) → EndsReset reset.0 r s t word → LeavesBus harts by states bus bus' word
-      ended (Ok n) q = inr (ap stage_settled q.1, same)
+      ended (Ok n) q = inr (ap stage_left q.1, same)
       ended (Err e) q = refused_bus Failed s t word q same
 
   answers_bus : (r : Result ℕ Refusal) (fell : Result Sleep SbiError) (s t : ArchState) (word : Word) → Answers r fell → EndsSleep fell s t word → bus' ≡ bus → LeavesBus harts by states bus bus' word
@@ -141,13 +141,13 @@ rests_unless None h s r never = r
 rests_unless (Some d) h s r never = absurd (never r)
 
 module _ {a : Inside} {s s' : Seats} {i id : ℕ} {x : ArchState} (found : Finds a s i id x) (is : StandsAtCall id (shown_as a)) (bus' : Bus) (word : Word)
-    (left : LeavesBus a.shape.harts x.id (listed (shown_by a.shape.harts s).states) a.bus bus' word) (gives : GivesBack a.tables x.id s s') (acts : Acts x.id (stage_settled word) s') where
+    (left : LeavesBus a.shape.harts x.id (listed (shown_by a.shape.harts s).states) a.bus bus' word) (gives : GivesBack a.tables x.id s s') (acts : Acts x.id (stage_left word) s') where
   -- the hart of the call rests, or is quiet in its doze
   pub own_then : RestsBy (doze_of x.id bus'.doze) x.id s'
   own_then =
       elim left [
         | inl p ↦ (
-            let quiet : Acts x.id Quiet s' = subst (λ (h : Word). Acts x.id (stage_settled h) s') p.0 acts in
+            let quiet : Acts x.id Quiet s' = subst (λ (h : Word). Acts x.id (stage_left h) s') p.0 acts in
             let e : doze_of x.id bus'.doze ≡ Some p.2 = ap (λ (b : Bus). doze_of x.id b.doze) p.5 ∙ its_own x.id p.2 p.3 in
             subst (λ (o : Option Doze). RestsBy o x.id s') (sym e) quiet)
         | inr p ↦ (

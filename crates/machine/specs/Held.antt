@@ -26,9 +26,9 @@ table_of harts (Some s) = shown_by harts s
 
 -- where a hart stands once a durable call of it was made: a doze is quiet, and after a suspension to disk the
 -- quiet is ended
-abbrev pub stage_settled : Word → Stage
-stage_settled (Goes did) = stage_of did
-stage_settled (Over end) = Running
+abbrev pub stage_left : Word → Stage
+stage_left (Goes did) = stage_of did
+stage_left (Over end) = Running
 
 -- between two turns a hart in whose doze the board is is quiet, and any other rests
 abbrev pub RestsBy : Option Doze → ℕ → Seats → Type 0

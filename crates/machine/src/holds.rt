@@ -6,7 +6,7 @@ ghost use Rattle.sbi_abi.specs.Calls.{call_of};
 ghost use Rattle.sbi_calls.specs.Both.{TableState, IsTable, AreTablesOf, AreSeatsOfBoth, GivesBack, Acts, harts_of_both};
 ghost use Rattle.sbi.specs.Helds.{HeldAlone};
 ghost use Rattle.sbi.specs.Words.{stage_told};
-ghost use Rattle.machine.specs.Held.{stage_settled};
+ghost use Rattle.machine.specs.Held.{stage_left};
 
 use board_model::{HartId, Shape};
 use crew::Crew;
@@ -20,11 +20,11 @@ use susp::Bus;
 
 /// Ends the quiet of a hart whose board sleeps to its disk, so that each hart of the seats is at rest. That
 /// life is over, and none of them acts any more. The quiet of a hart that dozes lasts until it is resumed.
-fn settle(seats: Seats, tables: &Tables, by: HartId, word: Word) -> Seats
+fn end_quiet(seats: Seats, tables: &Tables, by: HartId, word: Word) -> Seats
     requires seats { AreSeatsOfBoth tables.now seats }
     requires acts { Acts by (stage_told word) seats }
     ensures gives { GivesBack tables.entry.now by seats result }
-    ensures acts { Acts by (stage_settled word) result }
+    ensures acts { Acts by (stage_left word) result }
     ensures alone { (x : TableState) → IsTable (harts_of_both tables.entry.now) seats x
         → IsTable (harts_of_both tables.entry.now) result x }
 {
@@ -55,12 +55,12 @@ pub fn make_held<D: Disk + Drop, C: Crew>(
     requires hart { hart.old.id < shape.now.harts }
     requires acts { Acts hart.old.id Running seats }
     ensures gives { GivesBack tables.entry.now hart.old.id seats result.0 }
-    ensures acts { Acts hart.old.id (stage_settled result.1) result.0 }
+    ensures acts { Acts hart.old.id (stage_left result.1) result.0 }
     ensures id { hart.new.id ≡ hart.old.id }
     ensures alone { HeldAlone shape.now.harts (call_of hart.old) hart.old hart.new seats result.0 bus.old bus.new
         store.old store.new result.1 }
 {
     let by = hart.id();
     let (seats, word) = dispatch_held(alloc, hart, seats, tables, bus, store, crew);
-    (settle(seats, tables, by, word), word)
+    (end_quiet(seats, tables, by, word), word)
 }

@@ -6,15 +6,15 @@ use Rattle.turns.proofs.Begun.{gives_then}
 use Rattle.machine.proofs.Commands.{held_then}
 use Rattle.machine.proofs.holds.make_held.Goals as goal
 
-pub settle-requires-clause-acts : goal.settle-requires-clause-acts
-settle-requires-clause-acts g c = subst (λ (h : ℕ). Acts h (stage_told c.dispatch_held-seats.result.1) c.dispatch_held-seats.result.0) (sym c.id-by.ensures) c.dispatch_held-seats.ensures.acts
+pub end_quiet-requires-clause-acts : goal.end_quiet-requires-clause-acts
+end_quiet-requires-clause-acts g c = subst (λ (h : ℕ). Acts h (stage_told c.dispatch_held-seats.result.1) c.dispatch_held-seats.result.0) (sym c.id-by.ensures) c.dispatch_held-seats.ensures.acts
 
 pub returns-clause-gives : goal.returns-clause-gives
 returns-clause-gives g c =
-    gives_then c.args.tables.now c.args.hart.now.id c.args.seats c.dispatch_held-seats.result.0 c.settle.result c.dispatch_held-seats.ensures.gives
-    (subst (λ (h : ℕ). GivesBack c.args.tables.now h c.dispatch_held-seats.result.0 c.settle.result) c.id-by.ensures c.settle.ensures.gives)
+    gives_then c.args.tables.now c.args.hart.now.id c.args.seats c.dispatch_held-seats.result.0 c.end_quiet.result c.dispatch_held-seats.ensures.gives
+    (subst (λ (h : ℕ). GivesBack c.args.tables.now h c.dispatch_held-seats.result.0 c.end_quiet.result) c.id-by.ensures c.end_quiet.ensures.gives)
 
 pub returns-clause-alone : goal.returns-clause-alone
 returns-clause-alone g c =
-    held_then (harts_of_both c.args.tables.now) c.args.shape.now.harts (call_of c.args.hart.now) c.args.hart.now c.dispatch_held-seats.new.hart c.args.seats c.dispatch_held-seats.result.0 c.settle.result
-    c.args.bus.now c.dispatch_held-seats.new.bus c.args.store.now c.dispatch_held-seats.new.store c.dispatch_held-seats.result.1 c.requires.tables c.dispatch_held-seats.ensures.alone c.settle.ensures.alone
+    held_then (harts_of_both c.args.tables.now) c.args.shape.now.harts (call_of c.args.hart.now) c.args.hart.now c.dispatch_held-seats.new.hart c.args.seats c.dispatch_held-seats.result.0 c.end_quiet.result
+    c.args.bus.now c.dispatch_held-seats.new.bus c.args.store.now c.dispatch_held-seats.new.store c.dispatch_held-seats.result.1 c.requires.tables c.dispatch_held-seats.ensures.alone c.end_quiet.ensures.alone

@@ -4,7 +4,7 @@ use Rattle.hsm.specs.Views.{listed}
 use Rattle.sbi_abi.specs.Calls.{call_of}
 use Rattle.machine.specs.Machine.{Machine}
 use Rattle.hsm_rule.specs.declared.view.Stage.TheVariants.{Running, Quiet}
-use Rattle.machine.specs.Held.{shown_by, stage_settled}
+use Rattle.machine.specs.Held.{shown_by, stage_left}
 use Rattle.machine.specs.Durables.{StandsAtCall, HeldOf, MakesCall}
 use Rattle.machine.proofs.Holding.{Action, shown_as, Finds, Left, finds, seats_found, one_shown, left}
 use Rattle.machine.proofs.Fallen.{stands_still}
@@ -61,7 +61,7 @@ returns-clause-dozes g c is =
       | inl p ↦ (
           stands_still i.shape.harts new x.id p.2 (ap (λ (b : Bus). b.doze) p.5) p.3 p.4 l.held.numbered l.held.seats.shows.0.0
           (subst (λ (t : TableState). AreStopped i.shape.harts x.id (listed t.states)) (sym same) p.1))
-      | inr p ↦ absurd (let z : Running ≡ Quiet = sym p.0 ∙ ap stage_settled is in let n : ⊥ = cc in n)
+      | inr p ↦ absurd (let z : Running ≡ Quiet = sym p.0 ∙ ap stage_left is in let n : ⊥ = cc in n)
     ]
 
 pub make_held-seats-requires-clause-acts : goal.make_held-seats-requires-clause-acts
