@@ -2,7 +2,7 @@
 use Rattle.board_model.specs.declared.call_words.CallWords.{CallWords}
 use Rattle.std.proofs.Common.{◌≡◌, ◌⊎◌, ℕ, zero, suc, ◌-◌, ◌^◌, ◌==◌, inl, inr, List, [], ◌∷◌, Option, None, Some, Result, Ok, Err, refl, sym, ◌∙◌, ap, subst, arith, Bool, true, false, MatchBool}
 use Rattle.std.specs.Bool.{⊤}
-use Rattle.board_model.specs.Durable.{DurableState, Change, Slot, Discard, Tries, Good, formatted, refusal_of}
+use Rattle.board_model.specs.Durable.{DurableState, Change, Discard, formatted, refusal_of}
 use Rattle.board_model.specs.Kept.{Kept, found_of, MayFind, TakesIn}
 use Rattle.board_model.specs.Shapes.{Size}
 use Rattle.board_model.specs.declared.boot_mode.BootMode.{BootMode}

@@ -1,7 +1,7 @@
 -- The plain report is one, of a run in which memory was never refused and no failure was answered.
 use Rattle.std.proofs.Common.{◌≡◌, ℕ, ◌+◌, ◌<◌, ◌≤◌, inl, inr, List, [], ◌∷◌, ◌++◌, Option, None, Some, Result, Ok, Err, refl, sym, subst, arith, Bool, true, false, ◌==◌, cond, eqb→eq, T, is_some, if◌then◌else◌, ap, ◌∙◌}
 use Rattle.std.specs.Bool.{⊤}
-use Rattle.board_model.specs.Durable.{DurableState, Image, Change, Slot, Discard, Tries, Good, formatted, refusal_of, after, fold}
+use Rattle.board_model.specs.Durable.{DurableState, Image, Change, Discard, formatted, refusal_of, after, fold}
 use Rattle.board_model.specs.declared.durable.Trial.{Trial}
 use Rattle.board_model.proofs.Attempts.{attempt_image}
 use Rattle.board_model.specs.Kept.{found_of}
@@ -21,7 +21,6 @@ use Rattle.bench_report.specs.Bench.{DiskState, Blank, Unknown, Formatted, Bench
 use Rattle.bench_report.specs.Happens.{says, on_with, settled, acknowledged, life_with, all_acknowledged}
 use Rattle.bench_report.specs.Commands.{Writes, Issued, IssuedBy, IssuesAll}
 use Rattle.bench_report.specs.PowerOns.{life_begun, ShowsFound, FormatsOn, BootsFrom, Boots, Begins, Opens, IsOpenRefusal, PowersOn}
-use Rattle.susp.specs.Dozes.{can_wake}
 use Rattle.bench_report.specs.Steps.{FormatStep, OnStep, ConsoleStep, Step, Moves, Run}
 use Rattle.bench_report.specs.Reports.{IsByFirmware, AreByFirmware, board_answer, IsReport}
 use Rattle.bench_report.specs.Plain.{plain_written, plain_issued, plain_console, plain_format, plain_slot, plain_boot, plain_on, plain_inspect, plain_at, plain, plain_answers, plain_report, IsPlain, ArePlain}
