@@ -21,7 +21,6 @@ use Rattle.bench_report.specs.Bench.{DiskState, Blank, Unknown, Formatted, Bench
 use Rattle.bench_report.specs.Happens.{says, on_with, settled, acknowledged, life_with, all_acknowledged}
 use Rattle.bench_report.specs.Commands.{Writes, Issued, IssuedBy, IssuesAll}
 use Rattle.bench_report.specs.PowerOns.{life_begun, ShowsFound, FormatsOn, BootsFrom, Boots, Begins, Opens, IsOpenRefusal, PowersOn}
-use Rattle.susp.specs.Dozes.{can_wake}
 use Rattle.bench_report.specs.Steps.{FormatStep, OnStep, ConsoleStep, Step, Moves, Run}
 use Rattle.bench_report.specs.Reports.{IsByFirmware, AreByFirmware, board_answer, IsReport}
 use Rattle.bench_report.specs.Plain.{plain_written, plain_issued, plain_console, plain_format, plain_slot, plain_boot, plain_on, plain_inspect, plain_at, plain, plain_answers, plain_report, IsPlain, ArePlain}

@@ -34,7 +34,6 @@ use Rattle.bench_report.specs.Happens.{says, shows, out_of_memory, failed, on_wi
 use Rattle.bench_report.specs.PowerOns.{life_begun, commands_of, IsBooted, BootsFrom, Resumes, Begins, Boots, Opens, ShowsFound, IsOpenRefusal, PowersOn, FormatsOn}
 use Rattle.bench_report.specs.Examined.{Tells, InspectStep}
 use Rattle.disk.specs.Facts.{Content}
-use Rattle.susp.specs.Dozes.{can_wake}
 use Rattle.bench_report.specs.Steps.{console_reported, FormatStep, OnStep, ConsoleStep, CallReported, GuestCall, TurnStep, CallStep, ReadStep, Step, Moves, Run}
 use Rattle.bench_report.specs.Reports.{IsByFirmware, AreByFirmware, IsReport}
 use Rattle.bench_report.specs.Prefix.{AskedLine, Boot, Command, Guest, Nothing, Keeps, Hides, TellsTurns, TellsLine, asked_by, RefusedChange, Lost, LineImplies, ShowsIts, IsPrefixed, resumes, RisesFrom, AreLoaded, is_format_ok, IsFoundByPrefix, KeepsPrefixLaw}

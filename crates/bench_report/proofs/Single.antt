@@ -1,7 +1,6 @@
 -- One report: the lines, and the one induction over them.
 use Rattle.board_model.specs.declared.call_words.CallWords.{CallWords}
 use Rattle.std.proofs.Common.{◌≡◌, ◌⊎◌, ℕ, inl, inr, List, [], ◌∷◌, Option, None, Some, refl, sym, ◌∙◌, ap, subst, arith, Bool, true, false}
-use Rattle.board_model.specs.Durable.{Change}
 use Rattle.board_model.specs.Shapes.{Size}
 use Rattle.board_model.specs.declared.boot_mode.BootMode.{BootMode}
 use Rattle.machine.specs.Machine.{Machine, hart_at}
@@ -10,7 +9,6 @@ use Rattle.machine_lines.specs.declared.line.MachineLine.{MachineLine}
 use Rattle.machine_lines.specs.declared.line.MachineLine.TheVariants as shown_lines
 use Rattle.machine_lines.specs.Shows.{CsrLine}
 use Rattle.machine.specs.Turns.{MakesOneCall}
-use Rattle.susp.specs.Dozes.{can_wake}
 use Rattle.sbi.specs.declared.words.Word.{Word}
 use Rattle.sbi.specs.declared.words.Word.TheVariants as words
 use Rattle.sbi_calls.specs.declared.words.Turned.{Turned}
@@ -21,7 +19,7 @@ use Rattle.board_model.specs.declared.console_command.ConsoleCommand.{ConsoleCom
 use Rattle.board_model.specs.ConsoleCommands.{console_change}
 use Rattle.bench_report.specs.declared.printed.Answer.{Answer}
 use Rattle.bench_report.specs.Bench.{BenchLife, Bench, IsFailureFree, blank_bench}
-use Rattle.bench_report.specs.Happens.{shows, unpowered, written_past, armed_with, on_with, has_machine}
+use Rattle.bench_report.specs.Happens.{shows, unpowered, on_with, has_machine}
 use Rattle.bench_report.specs.Examined.{InspectStep}
 use Rattle.bench_report.specs.Steps.{console_reported, FormatStep, OnStep, ConsoleStep, CallReported, GuestCall, TurnStep, CallStep, ReadStep, Step, Moves, Run}
 use Rattle.bench_report.specs.Reports.{IsByFirmware, AreByFirmware, IsReport}

@@ -1,7 +1,7 @@
 -- Each image that stands has the memory of its board, through whole runs: a suspension carries that memory,
 -- and no other command makes an image. So no power-on is refused 13.
 use Rattle.board_model.specs.declared.call_words.CallWords.{CallWords}
-use Rattle.std.proofs.Common.{◌≡◌, ◌≢◌, ◌+◌, ℕ, zero, suc, inl, inr, List, [], ◌∷◌, ◌++◌, Bool, true, false, Option, None, Some, Result, Ok, Err, refl, sym, ◌∙◌, ap, subst, arith, IfSome, length}
+use Rattle.std.proofs.Common.{◌≡◌, ◌≢◌, ◌+◌, ℕ, zero, suc, inl, inr, List, [], ◌∷◌, ◌++◌, Option, None, Some, Result, Ok, Err, refl, sym, ◌∙◌, ap, subst, arith, IfSome, length}
 use Rattle.std.specs.Bool.{⊤}
 use Rattle.board_model.specs.Durable.{DurableState, Image, Change, Reset, Suspend, formatted, refusal_of, after, IsWhole, CarriesWhole}
 use Rattle.board_model.proofs.Steps.{whole_after}
@@ -41,7 +41,7 @@ use Rattle.bench_report.specs.Happens.{out_of_memory, failed, off, on_with, unpo
 use Rattle.bench_report.specs.Commands.{Writes, IssuedBy, Issued, IssuesAll}
 use Rattle.susp.specs.declared.sleeps.Sleep.{Sleep}
 use Rattle.susp.specs.declared.sleeps.Sleep.TheVariants.{ToRam, ToDisk}
-use Rattle.susp.specs.Dozes.{doze_of, can_wake}
+use Rattle.susp.specs.Dozes.{doze_of}
 use Rattle.machine.specs.Turns.{calling}
 use Rattle.bench_report.proofs.Dozed.{turn_size, call_size}
 use Rattle.bench_report.specs.Turns.{refused, AnswersError, HartCommand, Resets, SuspendIssued, dozes, BenchFallsAsleep, BenchSleeps, BenchSleepsBy, BenchMakesCall, ComesTo, GuestTurn, GuestTurns}

@@ -45,27 +45,7 @@ formats (Some life) b a new is x = other a printed.Busy x.0 is (λ e. let no : �
 
 fresh_by : (size : Size) (line : Line) (b : Bench) (a : Answer) (new : Bench) → Formats line a → Step size line b a new → Fresh new
 fresh_by size lines.Format b a new is x = formats b.power b a new is x
-fresh_by size (lines.Payload slot bytes) b a new is x = absurd is
-fresh_by size (lines.On mode) b a new is x = absurd is
-fresh_by size (lines.Slot n) b a new is x = absurd is
-fresh_by size lines.Discard b a new is x = absurd is
-fresh_by size (lines.Tries n boots) b a new is x = absurd is
-fresh_by size lines.Good b a new is x = absurd is
-fresh_by size (lines.Turn h n) b a new is x = absurd is
-fresh_by size (lines.Call h e f u v w) b a new is x = absurd is
-fresh_by size (lines.Reg h r) b a new is x = absurd is
-fresh_by size (lines.Pc h) b a new is x = absurd is
-fresh_by size (lines.Csr h n) b a new is x = absurd is
-fresh_by size lines.Pending b a new is x = absurd is
-fresh_by size (lines.Mem address n) b a new is x = absurd is
-fresh_by size (lines.CutAt n fill) b a new is x = absurd is
-fresh_by size (lines.CutLane i n fill) b a new is x = absurd is
-fresh_by size (lines.FailAt n) b a new is x = absurd is
-fresh_by size (lines.FailLane i n) b a new is x = absurd is
-fresh_by size (lines.Cut fill) b a new is x = absurd is
-fresh_by size (lines.Poke k n bytes) b a new is x = absurd is
-fresh_by size lines.Inspect b a new is x = absurd is
-fresh_by size lines.Wake b a new is x = absurd is
+fresh_by size line b a new is x = absurd is
 
 pub begun_by : (size : Size) (line : Line) (b : Bench) (a : Answer) (new : Bench) (power : Power) → Formats line a → Step size line b a new → Agrees size new power → Begun size power
 begun_by size line b a new power is x agrees = let f = fresh_by size line b a new is x in record { bench = new; agrees = agrees; formatted = f.0; kept = f.1 }

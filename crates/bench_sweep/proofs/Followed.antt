@@ -33,6 +33,9 @@ use Rattle.bench_judge.specs.Ledgers.{Tells, more_kept, in_doubt, settled, doubt
 use Rattle.bench_judge.proofs.Known.{found_more}
 use Rattle.bench_sweep.specs.Runs.{TellsWhole, Follows, HartMoves}
 use Rattle.bench_sweep.specs.Told.{IssuedTold, CommandTold, IsOfHart, HartTold}
+use Rattle.board_model.specs.declared.console_command.ConsoleCommand.{ConsoleCommand}
+use Rattle.board_model.specs.ConsoleCommands.{console_change}
+use Rattle.board_model.proofs.Console.{CarriesWhole-console}
 
 whole_after : (size : Size) (s : DurableState) (c : Change) → IsWhole size s → CarriesWhole size c → IsWhole size (after s c)
 whole_after size s (Slot n) whole carries = whole
@@ -273,16 +276,6 @@ no_resume (Err f) l m e why other = tt
 no_resume (Ok u) l m e (inl memory) other = absurd (other memory)
 no_resume (Ok u) l m e (inr none) other = λ size old new was told. no_image (found_of old.changes) l.state was.tells.state none.1 told.1
 
--- a command of the console, by what it says
-abbrev pub CommandKept : Ledger → Ledger → Printed → Change → Type 0
-CommandKept l m line c = (size : Size) (old new : Kept) → TellsWhole size l old → CarriesWhole size c → CommandTold line c old new → TellsWhole size m new
-
-pub commands_kept : {E : Type 0} (r : Result (Unit {0}) E) (l m : Ledger) (line x : Printed) (said : Option ℕ) (c : Change) → line ≡ x → ((old new : Kept) → CommandTold x c old new → IssuedTold said c old new) → OnOk r (IssuedKept l m said c)
-    → OnOk r (CommandKept l m line c)
-commands_kept (Err f) l m line x said c is tells kept = tt
-commands_kept (Ok u) l m line x said c is tells kept = λ size old new was carries told.
-    (let P : Printed → Type 0 = λ y. CommandTold y c old new in kept size old new was carries (tells old new (subst P is told)))
-
 -- a hart goes on, and a command is in doubt
 pub doubted_kept : {E : Type 0} (r : Result (Unit {0}) E) (l m : Ledger) (board : SimBoard) (e : Entry) (bytes : List ℕ) → store_doubt (store_in board) ≡ Some (change_in e bytes)
     → OnOk r (Already l m (Some 6)) → OnOk r (IssuedKept l m (Some 6) (change_in e (machine_in board).memory))
@@ -347,6 +340,9 @@ pub issued_told : {E : Type 0} (r : Result (Unit {0}) E) (l m : Ledger) (said : 
 issued_told (Err f) l m said c carries kept = tt
 issued_told (Ok u) l m said c carries kept = λ size old new was told. kept size old new was (carries size) told
 
-pub command_told : {E : Type 0} (r : Result (Unit {0}) E) (l m : Ledger) (line : Printed) (c : Change) → ((size : Size) → CarriesWhole size c) → OnOk r (CommandKept l m line c) → OnOk r (TakesKept l m (CommandTold line c))
-command_told (Err f) l m line c carries kept = tt
-command_told (Ok u) l m line c carries kept = λ size old new was told. kept size old new was (carries size) told
+-- a command of the console, by what it says
+pub commands_kept : {E : Type 0} (r : Result (Unit {0}) E) (l m : Ledger) (line x : Printed) (said : Option ℕ) (c : ConsoleCommand) → line ≡ x → ((old new : Kept) → CommandTold x (console_change c) old new → IssuedTold said (console_change c) old new)
+    → OnOk r (IssuedKept l m said (console_change c)) → OnOk r (TakesKept l m (CommandTold line (console_change c)))
+commands_kept (Err f) l m line x said c is tells kept = tt
+commands_kept (Ok u) l m line x said c is tells kept = λ size old new was told.
+    (let P : Printed → Type 0 = λ y. CommandTold y (console_change c) old new in kept size old new was (CarriesWhole-console c size) (tells old new (subst P is told)))

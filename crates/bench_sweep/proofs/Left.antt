@@ -1,12 +1,12 @@
 -- What a run leaves, and what a power-on that keeps its image finds of it.
-use Rattle.std.proofs.Common.{◌≡◌, ◌≤◌, ◌⊎◌, ℕ, inl, inr, Bool, true, false, List, [], ◌∷◌, Option, None, Some, Result, Ok, Err, MatchResult, OnOk, IfOk, refl, sym, ◌∙◌, ap, subst, arith}
+use Rattle.std.proofs.Common.{◌≡◌, ◌≤◌, ◌⊎◌, ℕ, inl, inr, Bool, true, false, List, [], ◌∷◌, Option, None, Some, Result, Ok, Err, OnOk, refl, sym, ◌∙◌, ap, subst, arith}
 use Rattle.std.specs.Prelude.{IfSome, is_some, if◌then◌else◌, length}
 use Rattle.board_model.proofs.Attempts.{attempt_image}
-use Rattle.board_model.specs.Durable.{DurableState, Image, Change, Attempt, IsWhole, CarriesWhole, after, refusal_of}
-use Rattle.board_model.specs.Kept.{Kept, MayKeep, MayFind, found_of}
-use Rattle.board_model.specs.Plains.{HasMemory, image_in, state_in, IsPlainOf}
+use Rattle.board_model.specs.Durable.{DurableState, Image, Change, Attempt, IsWhole, after, refusal_of}
+use Rattle.board_model.specs.Kept.{Kept, MayKeep, found_of}
+use Rattle.board_model.specs.Plains.{HasMemory, state_in, IsPlainOf}
 use Rattle.board_model.specs.Shapes.{Size, IsSize, ram_bytes_of}
-use Rattle.board_model.specs.Views.{head_of, durable_of, change_of}
+use Rattle.board_model.specs.Views.{head_of, durable_of}
 use Rattle.board_model.specs.declared.boot_mode.BootMode.{BootMode}
 use Rattle.board_model.specs.declared.boot_mode.BootMode.TheVariants as modes
 use Rattle.board_model.specs.declared.durable.Durable.{Durable}
@@ -16,9 +16,8 @@ use Rattle.board_model.specs.declared.plain.Plain.{Plain}
 use Rattle.disk.specs.Facts.{IsLeft}
 use Rattle.disk.specs.FaultState.{Armed, Unarmed, FaultArmed, CutArmed, FaultState, Cause, fault_state_left}
 use Rattle.simdisk.specs.declared.SimDisk.{SimDisk}
-use Rattle.board.specs.Boots.{boot_refusal, IsConsoleCommand}
-use Rattle.board_console.specs.declared.command_words.ConsoleWord.{ConsoleWord}
-use Rattle.board_model.specs.declared.durable.Command.{Command}
+use Rattle.board_model.specs.declared.console_command.ConsoleCommand.{ConsoleCommand}
+use Rattle.board_model.specs.ConsoleCommands.{console_change}
 use Rattle.board_model.specs.declared.durable.Command.TheVariants as commands
 use Rattle.board.specs.Moments.{attempts_of}
 use Rattle.bench_report.specs.declared.power.Power.{Power}
@@ -26,13 +25,13 @@ use Rattle.bench_report.specs.declared.power.Power.TheVariants.{Off, On}
 use Rattle.bench_report.specs.declared.printed.Answer.{Answer}
 use Rattle.bench_report.specs.declared.printed.Printed.{Printed}
 use Rattle.bench_report.specs.declared.printed.Printed.TheVariants as printed
-use Rattle.bench_report.specs.Views.{SimStore, SimBoard, store_in, facts, fault_state, store_size, store_now, store_fault_state}
+use Rattle.bench_report.specs.Views.{SimBoard, store_in, facts, fault_state, store_now}
 use Rattle.bench_report.specs.Bench.{DiskState, Formatted, BenchLife, Bench}
-use Rattle.bench_report.specs.Happens.{says, out_of_memory, FailsByFault, failed, acknowledged, in_doubt, off, on_with, settled, unpowered, has_machine}
+use Rattle.bench_report.specs.Happens.{FailsByFault, acknowledged, in_doubt, off, on_with, settled, unpowered, has_machine}
 use Rattle.bench_report.specs.Commands.{Writes, Issued, IssuesAll}
 use Rattle.bench_report.specs.Steps.{ArmStep, ConsoleStep, Step}
-use Rattle.bench_report.specs.PowerOns.{life_begun, IsBooted, BootsFrom, Boots, Opens, ShowsFound, IsOpenRefusal, PowersOn, TellsNow}
-use Rattle.bench_report.specs.Agree.{DiskIs, DeviceIs, BoardIs, OffIs, OnIs, Agrees, StepsTo}
+use Rattle.bench_report.specs.PowerOns.{life_begun, IsBooted, Boots, Opens, ShowsFound, IsOpenRefusal, PowersOn, TellsNow}
+use Rattle.bench_report.specs.Agree.{BoardIs, OffIs, OnIs, Agrees, StepsTo}
 use Rattle.bench_report.proofs.Ended.{left_on, cut_leaves}
 use Rattle.bench_report.proofs.KeptDisks.{GoesOn as KeepsOn, less}
 use Rattle.bench_report.proofs.Sides.{sides_stay}
@@ -40,7 +39,7 @@ use Rattle.bench_report.proofs.Issues.{GoesOn, IsSound}
 use Rattle.script_lang.specs.declared.line.Line.{Line}
 use Rattle.bench_judge.specs.declared.ledgers.Ledger.{Ledger}
 use Rattle.bench_judge.specs.Ledgers.{Tells}
-use Rattle.bench_sweep.specs.Runs.{TellsWhole, Follows, Runs, RunsCalm, LeftOff, IsSpoilt, FindsState, Finds, PowerFinds}
+use Rattle.bench_sweep.specs.Runs.{TellsWhole, Runs, RunsCalm, LeftOff, IsSpoilt, FindsState, Finds, PowerFinds}
 use Rattle.bench_sweep.specs.Swept.{IsPlainLine}
 use Rattle.bench_sweep.specs.Told.{moves_harts, powers_on, CommandTold, PowerTold, LineTold}
 use Rattle.bench_sweep.proofs.Followed.{whole_found}
@@ -127,24 +126,14 @@ power_runs size mode old new disk payloads answer now was ledger is r powers_it 
     record { bench = did.0; agrees = did.2; follows = record { formatted = told.1 ∙ r.follows.formatted; kept = follows size r.bench.kept did.0.kept r.follows.kept told.0 } }
 
 -- a line of the console
-pub command_runs : {E : Type 0} (r : Result (Unit {0}) E) (size : Size) (word : ConsoleWord) (c : Change) (old new : Power) (answer : Answer) (was ledger : Ledger) → ((z : Size) → CarriesWhole z c) → RunsCalm size old was
-    → ((z : Size) (b : Bench) → Agrees z b old → StepsTo z b new (ConsoleStep word c b.power b answer))
-    → OnOk r ((z : Size) (k n : Kept) → TellsWhole z was k → CarriesWhole z c → CommandTold answer.line c k n → TellsWhole z ledger n) → OnOk r (Runs size new ledger)
-command_runs (Err e) size word c old new answer was ledger carries r issues follows = tt
-command_runs (Ok u) size word c old new answer was ledger carries r issues follows =
+pub command_runs : {E : Type 0} (r : Result (Unit {0}) E) (size : Size) (c : ConsoleCommand) (old new : Power) (answer : Answer) (was ledger : Ledger) → RunsCalm size old was
+    → ((z : Size) (b : Bench) → Agrees z b old → StepsTo z b new (ConsoleStep c b.power b answer))
+    → OnOk r ((z : Size) (k n : Kept) → TellsWhole z was k → CommandTold answer.line (console_change c) k n → TellsWhole z ledger n) → OnOk r (Runs size new ledger)
+command_runs (Err e) size c old new answer was ledger r issues follows = tt
+command_runs (Ok u) size c old new answer was ledger r issues follows =
     let did = issues size r.bench r.agrees in
-    let told = console word c r.bench.power r.bench answer did.0 refl (sound_of size r.bench old r.follows.formatted r.agrees).1 did.1 in
-    record { bench = did.0; agrees = did.2; follows = record { formatted = told.1 ∙ r.follows.formatted; kept = follows size r.bench.kept did.0.kept r.follows.kept (carries size) told.0 } }
-
--- a command of the console carries no memory
-pub carries_none : (command : Command) → IsConsoleCommand command → (size : Size) → CarriesWhole size (change_of command)
-carries_none (commands.Slot n) is size = tt
-carries_none (commands.Reset r) is size = tt
-carries_none commands.Consume is size = tt
-carries_none commands.Discard is size = tt
-carries_none (commands.Tries n boots) is size = tt
-carries_none commands.Good is size = tt
-carries_none commands.Attempt is size = tt
+    let told = console c r.bench.power r.bench answer did.0 refl (sound_of size r.bench old r.follows.formatted r.agrees).1 did.1 in
+    record { bench = did.0; agrees = did.2; follows = record { formatted = told.1 ∙ r.follows.formatted; kept = follows size r.bench.kept did.0.kept r.follows.kept told.0 } }
 
 -- and one that was on
 pub busy_runs : (size : Size) (old : Power) (board : SimBoard) (ledger : Ledger) → old ≡ On board → RunsCalm size old ledger → Runs size (On board) ledger

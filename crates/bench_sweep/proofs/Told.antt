@@ -1,8 +1,8 @@
 -- What a line's answer tells of the commands kept, by what the line may make of the bench.
-use Rattle.std.proofs.Common.{◌≡◌, ◌≢◌, ◌⊎◌, ℕ, inl, inr, Bool, true, false, List, [], ◌∷◌, ◌++◌, Option, None, Some, Result, Ok, Err, refl, sym, ◌∙◌, ap, subst, arith}
+use Rattle.std.proofs.Common.{◌≡◌, ◌≢◌, ◌⊎◌, ℕ, inl, inr, true, false, List, [], ◌∷◌, ◌++◌, Option, None, Some, Result, Ok, Err, refl, sym, ◌∙◌, ap, subst, arith}
 use Rattle.std.specs.Bool.{⊤}
-use Rattle.board_model.specs.Durable.{DurableState, Change, Slot, Discard, Tries, Good, refusal_of}
-use Rattle.board_model.specs.Kept.{Kept, MayKeep, found_of}
+use Rattle.board_model.specs.Durable.{DurableState, Change, Discard, refusal_of}
+use Rattle.board_model.specs.Kept.{MayKeep, found_of}
 use Rattle.board_model.specs.Shapes.{Size}
 use Rattle.board_model.specs.Views.{durable_of}
 use Rattle.board_model.specs.declared.boot_mode.BootMode.{BootMode}
@@ -14,23 +14,24 @@ use Rattle.machine.specs.Machine.{Machine}
 use Rattle.machine_lines.specs.declared.line.MachineLine.{MachineLine}
 use Rattle.script_lang.specs.declared.line.Line.{Line}
 use Rattle.script_lang.specs.declared.line.Line.TheVariants as lines
-use Rattle.board_console.specs.declared.command_words.ConsoleWord.{ConsoleWord}
-use Rattle.board_console.specs.declared.command_words.ConsoleWord.TheVariants as names
+use Rattle.board_model.specs.declared.console_command.ConsoleCommand.{ConsoleCommand}
+use Rattle.board_model.specs.ConsoleCommands.{console_change}
 use Rattle.bench_report.specs.declared.printed.Printed.{Printed}
 use Rattle.bench_report.specs.declared.printed.Printed.TheVariants as printed
 use Rattle.bench_report.specs.declared.printed.Answer.{Answer}
 use Rattle.bench_report.specs.Bench.{DiskState, Formatted, BenchLife, Bench}
-use Rattle.bench_report.specs.Happens.{says, shows, out_of_memory, failed, FailsByFault, off, on_with, settled, has_machine, acknowledged, in_doubt}
+use Rattle.bench_report.specs.Happens.{says, out_of_memory, failed, off, on_with, settled, acknowledged, in_doubt}
 use Rattle.bench_report.specs.Commands.{Writes, IssuedBy, Issued, IssuesAll}
 use Rattle.bench_report.specs.PowerOns.{FormatsOn, life_begun, IsBooted, BootsFrom, Begins, Boots, Opens, ShowsFound, IsOpenRefusal, PowersOn, TellsNow}
 use Rattle.bench_report.specs.Examined.{InspectStep}
-use Rattle.bench_report.specs.Steps.{console_reported, FormatStep, ConsoleStep, PayloadStep, ReadStep, Wakes, WakeStep, Step}
-use Rattle.susp.specs.Dozes.{can_wake}
+use Rattle.bench_report.specs.Steps.{console_reported, FormatStep, ConsoleStep, ReadStep, Step}
 use Rattle.bench_report.proofs.Issues.{GoesOn, IsSound, issued_back}
 use Rattle.bench_report.proofs.Table.{table_not_six, of_modes}
-use Rattle.bench_judge.specs.Ledgers.{more_kept}
 use Rattle.bench_sweep.specs.Swept.{IsPlainLine}
 use Rattle.bench_sweep.specs.Told.{moves_harts, powers_on, IssuedTold, CommandTold, AllTold, BootSaid, PowerTold, LineTold, commands_told}
+use Rattle.bench_report.specs.Reports.{IsByFirmware}
+use Rattle.bench_report.specs.Asides.{Effect, Stays, SetsPayloads, Arms, CutsPower, WakesBoard, WritesPast, aside, affected}
+use Rattle.bench_report.proofs.Beside.{OfFirmware, is_aside}
 
 -- the number with which a command was refused
 abbrev pub number_in : Result ℕ ℕ → Option ℕ
@@ -75,13 +76,13 @@ Said c b a new = CommandTold a.line c b.kept new.kept × (new.disk_state ≡ b.d
 said_by : (c : Change) (b : Bench) (a x : Answer) (new : Bench) → a ≡ x → Said c b x new → Said c b a new
 said_by c b a x new e h = let P : Answer → Type 0 = λ y. Said c b y new in subst P (sym e) h
 
-pub console : (word : ConsoleWord) (c : Change) (p : Option BenchLife) (b : Bench) (a : Answer) (new : Bench) → b.power ≡ p → GoesOn b.kept b.power → ConsoleStep word c p b a new → Said c b a new
-console word c None b a new on sound x = said_by c b a (says printed.Off) new x.0 (ap (λ (y : Bench). y.kept) x.1, ap (λ (y : Bench). y.disk_state) x.1)
-console word c (Some life) b a new on sound (o, issued, e) = by o issued e
+pub console : (c : ConsoleCommand) (p : Option BenchLife) (b : Bench) (a : Answer) (new : Bench) → b.power ≡ p → GoesOn b.kept b.power → ConsoleStep c p b a new → Said (console_change c) b a new
+console c None b a new on sound x = said_by (console_change c) b a (says printed.Off) new x.0 (ap (λ (y : Bench). y.kept) x.1, ap (λ (y : Bench). y.disk_state) x.1)
+console c (Some life) b a new on sound (o, issued, e) = by o issued e
   where
-    by : (o : Result ℕ ℕ) → Issued c life b o new → a ≡ console_reported word o → Said c b a new
-    by (Ok n) i f = let t = issued_tells c life b (Ok n) new sound on i in said_by c b a (says (printed.Acknowledged word n)) new f t
-    by (Err n) i f = let t = issued_tells c life b (Err n) new sound on i in said_by c b a (says (printed.CommandRefused word n)) new f t
+    by : (o : Result ℕ ℕ) → Issued (console_change c) life b o new → a ≡ console_reported c o → Said (console_change c) b a new
+    by (Ok n) i f = let t = issued_tells (console_change c) life b (Ok n) new sound on i in said_by (console_change c) b a (says (printed.Acknowledged c n)) new f t
+    by (Err n) i f = let t = issued_tells (console_change c) life b (Err n) new sound on i in said_by (console_change c) b a (says (printed.CommandRefused c n)) new f t
 
 -- ---- commands of a boot
 -- commands in a row
@@ -207,10 +208,6 @@ format_line None b a new formatted x = let P : DiskState → Type 0 = λ m. Form
     go (inl y) = same_as b new b y.1 (refl, refl)
     go (inr y) = same_as b new (failed y.1.0 b) y.1.2 (refl, refl)
 
-payload_line : (p : Option BenchLife) (slot : ℕ) (bytes : List ℕ) (b : Bench) (a : Answer) (new : Bench) → PayloadStep p slot bytes b a new → Same b new
-payload_line None slot bytes b a new x = same_as b new _ x.1 (refl, refl)
-payload_line (Some life) slot bytes b a new x = same_as b new b x.1 (refl, refl)
-
 read_line : (p : Option BenchLife) (says_so : Machine → MachineLine → Type 0) (b : Bench) (a : Answer) (new : Bench) → ReadStep p says_so b a new → Same b new
 read_line None says_so b a new x = same_as b new b x.1 (refl, refl)
 read_line (Some life) says_so b a new x = same_as b new b x.3 (refl, refl)
@@ -221,39 +218,30 @@ inspect_line size None b a new (inl (c, reads, inr x)) = same_as b new (out_of_m
 inspect_line size None b a new (inr x) = same_as b new (failed x.1.0 b) x.1.2 (refl, refl)
 inspect_line size (Some life) b a new x = same_as b new b x.1 (refl, refl)
 
--- a board that is woken
-wakes : (can : Bool) (life : BenchLife) (b : Bench) (a : Answer) (new : Bench) → Wakes can life b a new → Same b new
-wakes true life b a new x = same_as b new _ x.1 (refl, refl)
-wakes false life b a new x = same_as b new b x.1 (refl, refl)
+-- a line that asks nothing of the disk and of no hart
+aside_line : (e : Effect) (b : Bench) (new : Bench) → OfFirmware e → new ≡ affected e b → Same b new
+aside_line Stays b new by x = same_as b new b x (refl, refl)
+aside_line (SetsPayloads payloads) b new by x = same_as b new _ x (refl, refl)
+aside_line (Arms armed) b new by x = same_as b new _ x (refl, refl)
+aside_line CutsPower b new by x = same_as b new _ x (refl, refl)
+aside_line (WakesBoard life) b new by x = same_as b new _ x (refl, refl)
+aside_line WritesPast b new by x = absurd by
 
-wake_line : (p : Option BenchLife) (b : Bench) (a : Answer) (new : Bench) → WakeStep p b a new → Same b new
-wake_line None b a new x = same_as b new b x.1 (refl, refl)
-wake_line (Some life) b a new x = wakes (can_wake life.machine.doze) life b a new x
+by_firmware : (line : Line) → IsPlainLine line → IsByFirmware line
+by_firmware (lines.Poke k n bytes) plain = absurd plain
+by_firmware line plain = tt
 
 never : {A : Type 0} → true ≡ false → A
 never e = absurd (let no : ⊥ = cc in no)
 
 -- what a plain line tells that moves no hart
 pub line_tells : (size : Size) (line : Line) (b : Bench) (a : Answer) (new : Bench) → IsPlainLine line → moves_harts line ≡ false → powers_on line ≡ false → IsSound b → Step size line b a new → LineTells line b a new
-line_tells size (lines.Payload slot bytes) b a new plain none unasked sound x = payload_line b.power slot bytes b a new x
 line_tells size lines.Format b a new plain none unasked sound x = format_line b.power b a new sound.0 x
 line_tells size (lines.On mode) b a new plain none unasked sound x = never unasked
-line_tells size (lines.Slot n) b a new plain none unasked sound x = console names.Slot (Slot n) b.power b a new refl sound.1 x
-line_tells size lines.Discard b a new plain none unasked sound x = console names.Discard Discard b.power b a new refl sound.1 x
-line_tells size (lines.Tries n boots) b a new plain none unasked sound x = console names.Tries (Tries n boots) b.power b a new refl sound.1 x
-line_tells size lines.Good b a new plain none unasked sound x = console names.Good Good b.power b a new refl sound.1 x
+line_tells size (lines.Command c) b a new plain none unasked sound x = console c b.power b a new refl sound.1 x
 line_tells size (lines.Turn h n) b a new plain none unasked sound x = never none
-line_tells size (lines.Call h e f u v w) b a new plain none unasked sound x = never none
-line_tells size (lines.Reg h r) b a new plain none unasked sound x = read_line b.power _ b a new x
-line_tells size (lines.Pc h) b a new plain none unasked sound x = read_line b.power _ b a new x
-line_tells size (lines.Csr h n) b a new plain none unasked sound x = read_line b.power _ b a new x
-line_tells size lines.Pending b a new plain none unasked sound x = read_line b.power _ b a new x
-line_tells size (lines.Mem address n) b a new plain none unasked sound x = read_line b.power _ b a new x
-line_tells size (lines.CutAt n fill) b a new plain none unasked sound x = absurd plain
-line_tells size (lines.CutLane i n fill) b a new plain none unasked sound x = absurd plain
-line_tells size (lines.FailAt n) b a new plain none unasked sound x = absurd plain
-line_tells size (lines.FailLane i n) b a new plain none unasked sound x = absurd plain
-line_tells size (lines.Cut fill) b a new plain none unasked sound x = absurd plain
-line_tells size (lines.Poke k n bytes) b a new plain none unasked sound x = absurd plain
+line_tells size (lines.Call h asked) b a new plain none unasked sound x = never none
+line_tells size (lines.Show look) b a new plain none unasked sound x = read_line b.power _ b a new x
 line_tells size lines.Inspect b a new plain none unasked sound x = inspect_line size b.power b a new x
-line_tells size lines.Wake b a new plain none unasked sound x = wake_line b.power b a new x
+line_tells size line b a new plain none unasked sound x =
+    aside_line (aside line b.power b.payloads).1 b new ((is_aside line b.power b.payloads).firmware (by_firmware line plain)) x.1

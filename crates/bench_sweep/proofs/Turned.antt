@@ -1,4 +1,5 @@
 -- What a turn of a hart, or its call, tells of the commands kept.
+use Rattle.board_model.specs.declared.call_words.CallWords.{CallWords}
 use Rattle.std.proofs.Common.{◌≡◌, ◌≢◌, ◌⊎◌, ◌-◌, ◌<◌, ◌≤◌, ℕ, suc, inl, inr, true, false, List, Option, None, Some, Result, Ok, Err, length, refl, sym, ◌∙◌, ap, subst, arith}
 use Rattle.board_model.specs.Durable.{Change, Reset, Suspend}
 use Rattle.board_model.specs.Kept.{Kept, found_of}
@@ -191,23 +192,23 @@ module _ (size : Size) (b : Bench) (old new : SimBoard) (h : ℕ) (formatted : b
           (x.0, x.1, (life, on, (mid, did, subst M is.1 turned, x.2)))
 
   -- a call with these registers, of a hart that the board has
-  module _ (e f x y z : ℕ) (has : HasHart (machine_in old) h) where
+  module _ (asked : CallWords) (has : HasHart (machine_in old) h) where
     abbrev pub Does : Bench → Type 0
-    Does n = (a : Answer) × CallStep b.power h e f x y z b a n
+    Does n = (a : Answer) × CallStep b.power h asked b a n
 
     abbrev pub CallMoves : Option Word → Type 0
     CallMoves None = (n : Bench) × OnIs size n new × (n.kept ≡ b.kept) × (n.disk_state ≡ b.disk_state) × Does n
     CallMoves (Some word) = (n : Bench) × HartMoves size b word n new × Does n
 
-    does : (life : BenchLife) (mid : Machine) (by : Option Turned) (a : Answer) (n : Bench) → b.power ≡ Some life → machine_in old ≡ life.machine → MakesOneCall h e f x y z life.machine mid by
+    does : (life : BenchLife) (mid : Machine) (by : Option Turned) (a : Answer) (n : Bench) → b.power ≡ Some life → machine_in old ≡ life.machine → MakesOneCall h asked life.machine mid by
         → GuestCall by h (has_machine mid life) (on_with (has_machine mid life) b) a n → Does n
     does life mid by a n on same makes_it did =
         let H : Machine → Type 0 = λ m. HasHart m h in
-        let P : Option BenchLife → Type 0 = λ p. CallStep p h e f x y z b a n in
+        let P : Option BenchLife → Type 0 = λ p. CallStep p h asked b a n in
         (a, subst P (sym on) (inl (subst H same has, mid, by, makes_it, did)))
 
     called : (life : BenchLife) (mid : Machine) (by : Option Turned) (said : Option Word) → b.power ≡ Some life → BoardIs size b.disk_state b.kept (Some life) old → DeviceIs size b (store_fault_state (store_in old)) (store_facts (store_in old)) → mid.size ≡ life.machine.size
-        → MakesOneCall h e f x y z life.machine mid by → boards.ComesOf by h mid (machine_in new) (store_in old) (store_in new) said → CallMoves said
+        → MakesOneCall h asked life.machine mid by → boards.ComesOf by h mid (machine_in new) (store_in old) (store_in new) said → CallMoves said
     called life mid None said on is device same makes_it (machine, still, none) =
         let n : Bench = on_with (has_machine mid life) b in
         let Q : SimStore → Type 0 = λ store. StoreIs size b.disk_state b.kept (has_machine mid life) store in
@@ -221,13 +222,13 @@ module _ (size : Size) (b : Bench) (old new : SimBoard) (h : ℕ) (formatted : b
         let r = reports size h word m.0 new m.1.after in
         subst C (sym some) (m.0, m.1, does life mid (Some did) r.0 m.0 on is.1 makes_it (word, m.2, r.1))
 
-    pub call_moves : (said : Option Word) → OnIs size b old → boards.CallsHeld h e f x y z (machine_in old) (machine_in new) (store_in old) (store_in new) said → CallMoves said
+    pub call_moves : (said : Option Word) → OnIs size b old → boards.CallsHeld h asked (machine_in old) (machine_in new) (store_in old) (store_in new) said → CallMoves said
     call_moves said was (mid, by, makes_it, came) = by_life size b old (CallMoves said) was calls_by
       where
         calls_by : (life : BenchLife) → b.power ≡ Some life → BoardIs size b.disk_state b.kept (Some life) old → CallMoves said
         calls_by life on is =
-            let M : Machine → Type 0 = λ m. MakesOneCall h e f x y z m mid by in
-            let sized = call_size (doze_of h (machine_in old).doze) h (calling (hart_at (machine_in old) h) e f x y z) (machine_in old) mid by makes_it ∙ ap (λ (k : Machine). k.size) is.1 in
+            let M : Machine → Type 0 = λ m. MakesOneCall h asked m mid by in
+            let sized = call_size (doze_of h (machine_in old).doze) h (calling (hart_at (machine_in old) h) asked) (machine_in old) mid by makes_it ∙ ap (λ (k : Machine). k.size) is.1 in
             called life mid by said on is was.1 sized (subst M is.1 makes_it) came
 
 -- ---- the ledger follows
@@ -239,19 +240,19 @@ turn_goes size b old new h word l m was told turned followed =
     record { bench = did.0; does = did.2; after = did.1.after; follows = followed did.0 told did.1 }
 
 -- a call that was not made
-module _ (size : Size) (b : Bench) (old new : SimBoard) (h e f x y z : ℕ) (l : Ledger) (has : HasHart (machine_in old) h) (was : OnIs size b old) (told : Follows size b l) where
+module _ (size : Size) (b : Bench) (old new : SimBoard) (h : ℕ) (asked : CallWords) (l : Ledger) (has : HasHart (machine_in old) h) (was : OnIs size b old) (told : Follows size b l) where
   abbrev Calls : Option Word → Type 0
-  Calls said = boards.CallsHeld h e f x y z (machine_in old) (machine_in new) (store_in old) (store_in new) said
+  Calls said = boards.CallsHeld h asked (machine_in old) (machine_in new) (store_in old) (store_in new) said
 
-  pub call_unmade : Calls None → LineGoes size (λ n. (a : Answer) × CallStep b.power h e f x y z b a n) None new l
+  pub call_unmade : Calls None → LineGoes size (λ n. (a : Answer) × CallStep b.power h asked b a n) None new l
   call_unmade held =
-      let did = call_moves size b old new h told.formatted e f x y z has None was held in
+      let did = call_moves size b old new h told.formatted asked has None was held in
       (did.0, did.4, did.1, follows_same size b did.0 l told did.2 did.3)
 
   -- and one that was
-  pub call_made : (word : Word) (m : Ledger) → Calls (Some word) → ((n : Bench) → Follows size b l → HartMoves size b word n new → Follows size n m) → HartGoes size (λ n. (a : Answer) × CallStep b.power h e f x y z b a n) word new m
+  pub call_made : (word : Word) (m : Ledger) → Calls (Some word) → ((n : Bench) → Follows size b l → HartMoves size b word n new → Follows size n m) → HartGoes size (λ n. (a : Answer) × CallStep b.power h asked b a n) word new m
   call_made word m held followed =
-      let did = call_moves size b old new h told.formatted e f x y z has (Some word) was held in
+      let did = call_moves size b old new h told.formatted asked has (Some word) was held in
       record { bench = did.0; does = did.2; after = did.1.after; follows = followed did.0 told did.1 }
 
 -- ---- turns in a line
@@ -341,9 +342,9 @@ pub turn_lacks : (size : Size) (b : Bench) (line : Line) (board : SimBoard) (h c
 turn_lacks size b line board h count l is lacks was told = off_line size b line (lines.Turn h count) is board h l lacks was told (λ life on not.
     (let P : Option BenchLife → Type 0 = λ p. TurnStep p h count b (shows shown.Off) b in (shows shown.Off, subst P (sym on) (inr (not, refl, refl)))))
 
-pub call_lacks : (size : Size) (b : Bench) (line : Line) (board : SimBoard) (h e f x y z : ℕ) (l : Ledger) → line ≡ lines.Call h e f x y z → (HasHart (machine_in board) h → ⊥) → OnIs size b board → Follows size b l → LineGoes size (DoesLine size line b) None board l
-call_lacks size b line board h e f x y z l is lacks was told = off_line size b line (lines.Call h e f x y z) is board h l lacks was told (λ life on not.
-    (let P : Option BenchLife → Type 0 = λ p. CallStep p h e f x y z b (shows shown.Off) b in (shows shown.Off, subst P (sym on) (inr (not, refl, refl)))))
+pub call_lacks : (size : Size) (b : Bench) (line : Line) (board : SimBoard) (h : ℕ) (asked : CallWords) (l : Ledger) → line ≡ lines.Call h asked → (HasHart (machine_in board) h → ⊥) → OnIs size b board → Follows size b l → LineGoes size (DoesLine size line b) None board l
+call_lacks size b line board h asked l is lacks was told = off_line size b line (lines.Call h asked) is board h l lacks was told (λ life on not.
+    (let P : Option BenchLife → Type 0 = λ p. CallStep p h asked b (shows shown.Off) b in (shows shown.Off, subst P (sym on) (inr (not, refl, refl)))))
 
 -- ---- the board after it
 abbrev pub LeavesBy : Size → Option Word → SimBoard → Power → Type 0
@@ -365,7 +366,7 @@ line_on size line b power now old new said is_said l m is e leaves goes was told
 -- on one that is off nothing is done
 off_does : (size : Size) (line : Line) (b : Bench) → moves_harts line ≡ true → b.power ≡ None → DoesLine size line b b
 off_does size (lines.Turn h n) b of_harts off = let P : Option BenchLife → Type 0 = λ p. TurnStep p h n b (shows shown.Off) b in (shows shown.Off, subst P (sym off) (refl, refl))
-off_does size (lines.Call h e f x y z) b of_harts off = let P : Option BenchLife → Type 0 = λ p. CallStep p h e f x y z b (shows shown.Off) b in (shows shown.Off, subst P (sym off) (refl, refl))
+off_does size (lines.Call h asked) b of_harts off = let P : Option BenchLife → Type 0 = λ p. CallStep p h asked b (shows shown.Off) b in (shows shown.Off, subst P (sym off) (refl, refl))
 off_does size line b of_harts off = absurd (let no : ⊥ = cc in no)
 
 pub line_off : (size : Size) (line : Line) (b : Bench) (power : Power) (disk : SimDisk) (l : Ledger) → moves_harts line ≡ true → power ≡ Off disk → Agrees size b power → Follows size b l → LineMoves size line b (Off disk) l

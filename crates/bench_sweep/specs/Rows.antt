@@ -3,7 +3,7 @@ use Rattle.std.specs.Prelude.{ℕ, List, [], ◌∷◌, ◌++◌, Option, Some, 
 use Rattle.std.specs.Fmt.{decimal}
 use Rattle.board_model.specs.declared.durable.Durable.{Durable}
 use Rattle.simdisk.specs.declared.fill.Fill.{Fill}
-use Rattle.script_lang.specs.Spellings.{fill_text}
+use Rattle.script_lang.specs.Words.{fill_text}
 use Rattle.board_console.specs.Texts.{state_text}
 use Rattle.bench_report.specs.Texts.{line_text}
 use Rattle.bench_report.specs.declared.printed.Answer.{Answer}

@@ -6,7 +6,7 @@ use Rattle.disk.specs.Facts.{counted}
 use Rattle.simdisk.specs.declared.fill.Fill.{Fill}
 use Rattle.simdisk.specs.declared.fill.Fill.TheVariants.{Byte, Alternating, Old, New}
 use Rattle.board_model.specs.Shapes.{Size}
-use Rattle.script_lang.specs.Ranges.{IsLineInRange}
+use Rattle.script_lang.specs.Lines.{IsLineInRange}
 use Rattle.script_lang.specs.declared.line.Line.{Line}
 use Rattle.script_lang.specs.declared.line.Line.TheVariants as lines
 use Rattle.bench_judge.specs.declared.judges.Sweep.{Sweep}
@@ -19,10 +19,7 @@ use Rattle.bench_sweep.specs.Rows.{row_text, sweep_text}
 
 -- a line of a script that a bench runs: it cuts nothing, lets nothing fail, and leaves the disk to the firmware
 abbrev pub IsPlainLine : Line → Type 0
-IsPlainLine (lines.CutAt n fill) = ⊥
-IsPlainLine (lines.CutLane i n fill) = ⊥
-IsPlainLine (lines.FailAt n) = ⊥
-IsPlainLine (lines.FailLane i n) = ⊥
+IsPlainLine (lines.Arm arming) = ⊥
 IsPlainLine (lines.Cut fill) = ⊥
 IsPlainLine (lines.Poke k n bytes) = ⊥
 IsPlainLine line = ⊤

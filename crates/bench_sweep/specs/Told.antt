@@ -1,6 +1,6 @@
 -- What a line's answer tells of the commands that a disk keeps. Source: docs/DURABLE.md, "What an open finds".
 use Rattle.std.specs.Prelude.{◌≡◌, ◌≢◌, ◌⊎◌, ℕ, Bool, true, false, List, [], ◌∷◌, Option, None, Some, length}
-use Rattle.board_model.specs.Durable.{Change, Slot, Reset, Suspend, Consume, Discard, Tries, Good, refusal_of}
+use Rattle.board_model.specs.Durable.{Change, Reset, Suspend, Consume, Discard, refusal_of}
 use Rattle.board_model.specs.Kept.{Kept, MayKeep, found_of}
 use Rattle.board_model.specs.Shapes.{Size, ram_bytes_of}
 use Rattle.board_model.specs.Views.{durable_of}
@@ -10,8 +10,7 @@ use Rattle.board_model.specs.declared.durable.Durable.{Durable}
 use Rattle.board_model.specs.declared.durable.Reason.{Reason}
 use Rattle.board_model.specs.declared.durable.Trial.{Trial}
 use Rattle.board.specs.Moments.{attempts_of}
-use Rattle.board_console.specs.declared.command_words.ConsoleWord.{ConsoleWord}
-use Rattle.board_console.specs.declared.command_words.ConsoleWord.TheVariants as names
+use Rattle.board_model.specs.ConsoleCommands.{console_change}
 use Rattle.script_lang.specs.declared.line.Line.{Line}
 use Rattle.script_lang.specs.declared.line.Line.TheVariants as lines
 use Rattle.sbi.specs.declared.words.Word.{Word}
@@ -26,7 +25,7 @@ use Rattle.bench_judge.specs.Ledgers.{more_kept, in_doubt, settled}
 -- a line that harts move
 abbrev pub moves_harts : Line → Bool
 moves_harts (lines.Turn h n) = true
-moves_harts (lines.Call h e f x y z) = true
+moves_harts (lines.Call h asked) = true
 moves_harts line = false
 
 -- A command was answered, by its receipt (none) or by the number that refused it. By 6 it is in doubt, or another
@@ -93,20 +92,9 @@ abbrev pub powers_on : Line → Bool
 powers_on (lines.On mode) = true
 powers_on line = false
 
--- the command of a line of the console, by the word that names it
-abbrev pub asked_by : Line → Option (ConsoleWord × Change)
-asked_by (lines.Slot n) = Some (names.Slot, Slot n)
-asked_by lines.Discard = Some (names.Discard, Discard)
-asked_by (lines.Tries n boots) = Some (names.Tries, Tries n boots)
-asked_by lines.Good = Some (names.Good, Good)
-asked_by line = None
-
 -- what a line says that moves no hart, and powers no board on
 abbrev pub LineTold : Line → Answer → Kept → Kept → Type 0
-LineTold (lines.Slot n) a old new = CommandTold a.line (Slot n) old new
-LineTold lines.Discard a old new = CommandTold a.line Discard old new
-LineTold (lines.Tries n boots) a old new = CommandTold a.line (Tries n boots) old new
-LineTold lines.Good a old new = CommandTold a.line Good old new
+LineTold (lines.Command c) a old new = CommandTold a.line (console_change c) old new
 LineTold line a old new = new ≡ old
 
 -- a command that a hart makes, where that is the memory

@@ -2,7 +2,7 @@
 
 ghost use Rattle.std.specs.Prelude.{◌≡◌, ◌≤◌, ◌⊎◌, false, true, length, All, IfOk, IfErr, ◌↔◌, IsTrue};
 ghost use Rattle.board_model.specs.declared.refusal.Refusal.TheVariants.{Memory, NotPlain};
-ghost use Rattle.script_lang.specs.Ranges.{IsLineInRange};
+ghost use Rattle.script_lang.specs.Lines.{IsLineInRange};
 ghost use Rattle.store.specs.Leaves.{IsIdle};
 ghost use Rattle.bench_report.specs.declared.power.Power.TheVariants.{Off};
 ghost use Rattle.bench_report.specs.Agree.{AreShort, OffIs, IsResting, IsUnstruck};
@@ -13,7 +13,7 @@ ghost use Rattle.bench_sweep.specs.Swept.{IsPlainLine};
 
 use crate::sites::Site;
 use bench_judge::Ledger;
-use bench_report::{Answer, Power, Printed, disk_left, step, struck};
+use bench_report::{Answer, Power, Printed, Setting, disk_left, line_alone, struck};
 use board::Payloads;
 use board_model::{Refusal, Shape};
 use crew::Crew;
@@ -52,7 +52,7 @@ fn tries<C: Crew>(
     ensures begun { IfOk result (λ did. did.1 ≡ true → Begun shape.now did.0) }
     ensures refused { IfErr result (λ e. e ≡ Memory) }
 {
-    let (power, answer) = step(alloc, crew, shape, line, power, payloads);
+    let (power, answer) = line_alone(&Setting { alloc, crew, shape }, line, power, payloads);
     match answer {
         Err(refusal) => Err(refusal),
         Ok(answer) => {

@@ -20,9 +20,8 @@ ghost use Rattle.bench_report.specs.Views.{facts, fault_state, store_in, store_s
 ghost use Rattle.bench_sweep.specs.Runs.{LeftOff, Finds, FindsState, IsSpoilt, PowerFinds};
 
 use crate::follows::is_of_memory;
-use crate::runner::Setting;
 use bench_judge::{Ledger, Sweep};
-use bench_report::{Answer, Power, Printed, step};
+use bench_report::{Answer, Power, Printed, Setting, line_alone};
 use board::{Board, Parts, Payloads};
 use board_model::{BootMode, Durable, Plain, Refusal, Shape};
 use crew::Crew;
@@ -133,12 +132,11 @@ fn keeps<C: Crew>(
     ensures finds { IfOk result (λ found. (ledger : Ledger) → LeftOff setting.now.shape.now disk ledger → Finds ledger found.plain) }
     ensures refused { IfErr result (λ e. e ≡ Memory) }
 {
-    let Setting { alloc, crew, shape } = *setting;
-    sizes(shape);
+    sizes(setting.shape);
     let keep = Line::On(BootMode::Keep);
-    let (power, answer) = step(alloc, crew, shape, &keep, Power::Off(disk), payloads);
+    let (power, answer) = line_alone(setting, &keep, Power::Off(disk), payloads);
     let left = answer?;
-    let plain = found_by(alloc, power, left.found, left.line)?;
+    let plain = found_by(setting.alloc, power, left.found, left.line)?;
     Ok(Found { plain, left })
 }
 

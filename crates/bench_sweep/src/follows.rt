@@ -4,7 +4,8 @@ ghost use Rattle.std.specs.Prelude.{◌≡◌, ◌↔◌, ℕ, List, ◌∷◌, 
 ghost use Rattle.board_model.specs.Durable.{Change, Suspend, Consume, Discard, CarriesWhole};
 ghost use Rattle.board_model.specs.Kept.{Kept, found_of};
 ghost use Rattle.board_model.specs.Shapes.{Size};
-ghost use Rattle.board_model.specs.Views.{change_in, change_of, durable_of};
+ghost use Rattle.board_model.specs.ConsoleCommands.{console_change};
+ghost use Rattle.board_model.specs.Views.{change_in, durable_of};
 ghost use Rattle.board_model.specs.declared.durable.ImageHead.{ImageHead};
 ghost use Rattle.board_model.specs.declared.refusal.Refusal.TheVariants.{Memory};
 ghost use Rattle.board.specs.Moments.{attempts_of};
@@ -21,7 +22,7 @@ ghost use Rattle.bench_sweep.specs.Told.{IssuedTold, CommandTold, BootTold, Boot
 use bench_judge::Ledger;
 use bench_report::{Answer, Printed};
 use board::Board;
-use board_model::{BootMode, Command, Durable, Entry, Refusal, Trial};
+use board_model::{BootMode, Command, ConsoleCommand, Durable, Entry, Refusal, Trial};
 use machine::{LifeEnd, Word};
 use script_lang::Line;
 use simdisk::SimDisk;
@@ -269,22 +270,21 @@ pub fn follows_boot(
 pub fn commands(
     ledger: &mut Ledger,
     alloc: Global,
-    command: Command,
+    command: ConsoleCommand,
     said: Printed,
 ) -> Result<(), Refusal>
     ensures kept { OnOk result ((size : Size) (old new : Kept) → TellsWhole size ledger.old old
-        → CarriesWhole size (change_of command) → CommandTold said (change_of command) old new
-        → TellsWhole size ledger.new new) }
+        → CommandTold said (console_change command) old new → TellsWhole size ledger.new new) }
     ensures resumed { ledger.new.resumed ≡ ledger.old.resumed }
     ensures memory { IfErr result (λ e. e ≡ Memory) }
 {
     match said {
         Printed::Acknowledged(_, _) => {
-            let entry = Entry::Command(command);
+            let entry = Entry::Command(command.command());
             issued(ledger, alloc, entry, &[], None)
         }
         Printed::CommandRefused(_, number) => {
-            let entry = Entry::Command(command);
+            let entry = Entry::Command(command.command());
             issued(ledger, alloc, entry, &[], Some(number))
         }
         _ => Ok(()),
@@ -305,12 +305,7 @@ pub fn follows(
     ensures memory { IfErr result (λ e. e ≡ Memory) }
 {
     match line {
-        Line::Slot(number) => commands(ledger, alloc, Command::Slot(*number), answer.line),
-        Line::Discard => commands(ledger, alloc, Command::Discard, answer.line),
-        Line::Tries(slot, boots) => {
-            commands(ledger, alloc, Command::Tries(*slot, *boots), answer.line)
-        }
-        Line::Good => commands(ledger, alloc, Command::Good, answer.line),
+        Line::Command(command) => commands(ledger, alloc, *command, answer.line),
         _ => Ok(()),
     }
 }

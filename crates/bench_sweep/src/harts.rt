@@ -3,7 +3,7 @@
 ghost use Rattle.std.specs.Prelude.{◌≡◌, ◌≤◌, ◌<◌, false, true, Some, None, length, IfOk, IfErr, OnOk};
 ghost use Rattle.board_model.specs.Shapes.{Size};
 ghost use Rattle.board_model.specs.declared.refusal.Refusal.TheVariants.{Memory};
-ghost use Rattle.script_lang.specs.Ranges.{IsLineInRange};
+ghost use Rattle.script_lang.specs.Lines.{IsLineInRange};
 ghost use Rattle.script_lang.specs.declared.line.Line.TheVariants as lines;
 ghost use Rattle.bench_report.specs.Views.{machine_in};
 ghost use Rattle.bench_report.specs.Bench.{Bench};
@@ -16,7 +16,7 @@ use crate::follows::follows_hart;
 use bench_judge::Ledger;
 use bench_report::{Power, after};
 use board::Board;
-use board_model::{HartId, Refusal, Shape};
+use board_model::{CallWords, HartId, Refusal, Shape};
 use crew::Crew;
 use machine::Word;
 use script_lang::Line;
@@ -74,20 +74,16 @@ fn called<C: Crew>(
     crew: &C,
     board: &mut Board<SimDisk>,
     hart: HartId,
-    eid: u64,
-    fid: u64,
-    a0: u64,
-    a1: u64,
-    a2: u64,
+    words: CallWords,
     ledger: &mut Ledger,
 ) -> Result<Option<Word>, Refusal>
     requires hart { hart < length (machine_in board.old).harts }
     ensures goes { IfOk result (λ said. (size : Size) (b : Bench) → OnIs size b board.old → Follows size b ledger.old
-        → LineGoes size (DoesLine size (lines.Call hart eid fid a0 a1 a2) b) said board.new ledger.new) }
+        → LineGoes size (DoesLine size (lines.Call hart words) b) said board.new ledger.new) }
     ensures resumed { ledger.new.resumed ≡ ledger.old.resumed }
     ensures memory { IfErr result (λ e. e ≡ Memory) }
 {
-    match board.call(alloc, crew, hart, eid, fid, a0, a1, a2) {
+    match board.call(alloc, crew, hart, words) {
         None => Ok(None),
         Some(word) => {
             follows_hart(ledger, alloc, board, word)?;
@@ -121,9 +117,9 @@ fn moved<C: Crew>(
                 Ok(None)
             }
         }
-        Line::Call(hart, eid, fid, a0, a1, a2) => {
+        Line::Call(hart, words) => {
             if board.machine().has(*hart) {
-                called(alloc, crew, board, *hart, *eid, *fid, *a0, *a1, *a2, ledger)
+                called(alloc, crew, board, *hart, *words, ledger)
             } else {
                 Ok(None)
             }
@@ -168,7 +164,7 @@ pub fn is_of_harts(line: &Line) -> bool
     ensures { result ≡ moves_harts line.now }
 {
     match line {
-        Line::Turn(_, _) | Line::Call(_, _, _, _, _, _) => true,
+        Line::Turn(_, _) | Line::Call(_, _) => true,
         _ => false,
     }
 }

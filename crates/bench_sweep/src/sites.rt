@@ -1,11 +1,9 @@
 //! A bench between two lines of its script, and how it goes on.
 
 ghost use Rattle.std.specs.Prelude.{◌≡◌, ◌≤◌, ◌<◌, ◌⊎◌, Some, None, false, length, All, IfOk, IfErr, OnOk, MatchOption};
-ghost use Rattle.board.specs.Boots.{IsConsoleCommand};
 ghost use Rattle.board_model.specs.Shapes.{Size};
-ghost use Rattle.board_model.specs.Views.{change_of};
 ghost use Rattle.board_model.specs.declared.refusal.Refusal.TheVariants.{Memory};
-ghost use Rattle.script_lang.specs.Ranges.{IsLineInRange};
+ghost use Rattle.script_lang.specs.Lines.{IsLineInRange};
 ghost use Rattle.script_lang.specs.declared.line.Line.TheVariants as lines;
 ghost use Rattle.store.specs.Leaves.{IsIdle};
 ghost use Rattle.bench_report.specs.declared.power.Power.TheVariants.{Off};
@@ -15,15 +13,14 @@ ghost use Rattle.bench_report.specs.Happens.{unpowered};
 ghost use Rattle.bench_report.specs.Views.{facts};
 ghost use Rattle.bench_sweep.specs.Runs.{Runs, RunsCalm, LeftOff};
 ghost use Rattle.bench_sweep.specs.Swept.{IsPlainLine};
-ghost use Rattle.bench_sweep.specs.Told.{asked_by, moves_harts, powers_on};
+ghost use Rattle.bench_sweep.specs.Told.{moves_harts, powers_on};
 
 use crate::follows::{commands, follows, follows_boot};
 use crate::harts::{is_of_harts, moves};
 use bench_judge::Ledger;
-use bench_report::{Power, arm, console, disk_left, power_on, step, struck};
+use bench_report::{Power, Setting, arm, console, disk_left, line_alone, power_on, struck};
 use board::Payloads;
-use board_console::ConsoleWord;
-use board_model::{BootMode, Command, Refusal, Shape, Slot};
+use board_model::{BootMode, ConsoleCommand, Refusal, Shape, Slot};
 use crew::Crew;
 use disk::ArmedFault;
 use script_lang::Line;
@@ -217,7 +214,7 @@ fn answers<C: Crew>(
     ensures runs { RunsCalm shape.now power ledger.old → IfOk result (λ now. Runs shape.now now ledger.new) }
     ensures refused { IfErr result (λ e. e ≡ Memory) }
 {
-    let (power, answer) = step(alloc, crew, shape, line, power, payloads);
+    let (power, answer) = line_alone(&Setting { alloc, crew, shape }, line, power, payloads);
     match answer {
         Err(refusal) => Err(refusal),
         Ok(answer) => {
@@ -301,35 +298,15 @@ fn goes<C: Crew>(
     })
 }
 
-/// The command of a line of the console, and the word by which the line names it.
-fn command_of(line: &Line) -> Option<(ConsoleWord, Command)>
-    ensures { MatchOption result (asked_by line.now ≡ None)
-        (λ d. IsConsoleCommand d.1 × (asked_by line.now ≡ Some (d.0, change_of d.1))) }
-{
-    match line {
-        Line::Slot(number) => Some((ConsoleWord::Slot, Command::Slot(*number))),
-        Line::Discard => Some((ConsoleWord::Discard, Command::Discard)),
-        Line::Tries(slot, boots) => Some((ConsoleWord::Tries, Command::Tries(*slot, *boots))),
-        Line::Good => Some((ConsoleWord::Good, Command::Good)),
-        _ => None,
-    }
-}
-
 /// Runs a line of the console, and the ledger follows it. The board stays where it is: a run of many commands would
 /// pay for moving it more than for the commands.
-fn issues(
-    alloc: Global,
-    word: ConsoleWord,
-    command: Command,
-    going: &mut Going,
-) -> Result<(), Refusal>
-    requires command { IsConsoleCommand command }
+fn issues(alloc: Global, command: ConsoleCommand, going: &mut Going) -> Result<(), Refusal>
     ensures resting { IsResting going.old.power → IsResting going.new.power }
     ensures runs { (size : Size) → RunsCalm size going.old.power going.old.ledger
         → OnOk result (Runs size going.new.power going.new.ledger) }
     ensures refused { IfErr result (λ e. e ≡ Memory) }
 {
-    let answer = console(word, command, &mut going.power);
+    let answer = console(command, &mut going.power);
     commands(&mut going.ledger, alloc, command, answer.line)
 }
 
@@ -365,9 +342,9 @@ pub fn goes_on<C: Crew>(
     let mut going = going;
     let mut count = 0;
     for line in lines {
-        match command_of(line) {
-            Some((word, command)) => issues(alloc, word, command, &mut going)?,
-            None => going = goes(alloc, crew, shape, line, going)?,
+        match line {
+            Line::Command(command) => issues(alloc, *command, &mut going)?,
+            _ => going = goes(alloc, crew, shape, line, going)?,
         }
         count += 1;
         if going.is_struck() {

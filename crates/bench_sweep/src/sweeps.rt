@@ -4,7 +4,7 @@ ghost use Rattle.std.specs.Prelude.{◌≡◌, ◌⊎◌, ◌↔◌, ◌≤◌, 
 ghost use Rattle.board_model.specs.declared.refusal.Refusal.{Refusal};
 ghost use Rattle.board_model.specs.declared.refusal.Refusal.TheVariants.{Memory, Output, NotPlain};
 ghost use Rattle.disk.specs.Facts.{counted};
-ghost use Rattle.script_lang.specs.Ranges.{IsLineInRange};
+ghost use Rattle.script_lang.specs.Lines.{IsLineInRange};
 ghost use Rattle.script_lang.specs.Scripts.{script_of, Script as Said};
 ghost use Rattle.bench_report.specs.declared.power.Power.TheVariants.{Off};
 ghost use Rattle.bench_report.specs.Agree.{IsResting};
@@ -16,9 +16,10 @@ use crate::begins::formats;
 use crate::finds::counts;
 use crate::points::{Bench, CALLERS, Caller, FILLS, Point};
 use crate::rows::{Row, write_row, write_sweep};
-use crate::runner::{Runner, Setting};
+use crate::runner::Runner;
 use crate::sites::{Going, Site, Went, cut_by, goes_on};
 use bench_judge::Sweep;
+use bench_report::Setting;
 use board_model::{Refusal, Shape};
 use crew::{Crew, Sequential};
 use script_lang::{Line, Script, parse_script};
@@ -312,12 +313,7 @@ fn is_plain(line: &Line) -> bool
     ensures { IsTrue result ↔ IsPlainLine line.now }
 {
     match line {
-        Line::Cut(_)
-        | Line::CutAt(_, _)
-        | Line::CutLane(_, _, _)
-        | Line::FailAt(_)
-        | Line::FailLane(_, _)
-        | Line::Poke(_, _, _) => false,
+        Line::Cut(_) | Line::Arm(_) | Line::Poke(_, _, _) => false,
         _ => true,
     }
 }

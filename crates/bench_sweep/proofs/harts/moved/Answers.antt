@@ -27,4 +27,4 @@ pub returns-else-has-2-clause-goes : goal.returns-else-has-2-clause-goes
 returns-else-has-2-clause-goes g c = λ size b was told.
     let k = c.in-Call in
     let H : Machine → Type 0 = λ m. HasHart m k.hart in
-    call_lacks size b c.args.line.now c.args.board.now k.hart k.eid k.fid k.a0 k.a1 k.a2 c.args.ledger.now k.is (λ has. (let e : false ≡ true = c.if-has-2.ensures.1 (subst H (sym c.machine-in-Call.ensures) has) in let no : ⊥ = cc in no)) was told
+    call_lacks size b c.args.line.now c.args.board.now k.hart k.words c.args.ledger.now k.is (λ has. (let e : false ≡ true = c.if-has-2.ensures.1 (subst H (sym c.machine-in-Call.ensures) has) in let no : ⊥ = cc in no)) was told

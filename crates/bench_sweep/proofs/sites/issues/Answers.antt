@@ -1,7 +1,6 @@
-use Rattle.board_model.specs.Views.{change_of}
-use Rattle.bench_sweep.proofs.Left.{command_runs, carries_none}
+use Rattle.bench_sweep.proofs.Left.{command_runs}
 use Rattle.bench_sweep.proofs.sites.issues.Goals as goal
 
 pub returns-clause-runs : goal.returns-clause-runs
 returns-clause-runs c = λ size r.
-    command_runs c.commands.result size c.args.word (change_of c.args.command) c.args.going.now.power c.console-answer.new.power c.console-answer.result c.args.going.now.ledger c.commands.new.ledger (carries_none c.args.command c.requires.command) r c.console-answer.ensures.reported c.commands.ensures.kept
+    command_runs c.commands.result size c.args.command c.args.going.now.power c.console-answer.new.power c.console-answer.result c.args.going.now.ledger c.commands.new.ledger r c.console-answer.ensures.reported c.commands.ensures.kept
