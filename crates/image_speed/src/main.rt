@@ -11,7 +11,7 @@ ghost use Rattle.board_model.specs.Shapes.{ram_bytes_of, sectors_of};
 
 use crate::work::{copies, loans, new_copies, reads, writes};
 use board_model::{Addr, HartId, ImageHead, Refusal, Shape};
-use crew::{Crew, Threads, Sequential};
+use crew::{Crew, Sequential, Threads};
 use layout::{Saved, Side};
 use ram::Ram;
 use savers::{LaneCounts, Snapshot};

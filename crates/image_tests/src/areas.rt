@@ -4,7 +4,7 @@ ghost use Rattle.std.specs.Prelude.{◌≤◌};
 
 use crate::fixtures::{Site, same};
 use board_model::Refusal;
-use crew::{Crew, Threads, Sequential};
+use crew::{Crew, Sequential, Threads};
 use disk::ArmedFault;
 use layout::Side;
 use savers::LaneCounts;

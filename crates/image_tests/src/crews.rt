@@ -3,7 +3,7 @@ ghost use Rattle.std.specs.Prelude.{◌≤◌, length};
 
 use crate::fixtures::{Site, same};
 use board_model::Refusal;
-use crew::{Crew, Plan, Threads, Sequential};
+use crew::{Crew, Plan, Sequential, Threads};
 use layout::Side;
 use std::alloc::Global;
 use std::sync::atomic::{AtomicBool, AtomicU64, Ordering};
