@@ -4,8 +4,8 @@ use Rattle.std.specs.Fmt.{decimal}
 use Rattle.board_model.specs.Views.{number_of_refusal}
 use Rattle.board_model.specs.declared.refusal.Refusal.{Refusal}
 use Rattle.board_model.specs.declared.refusal.Refusal.TheVariants.{BadScript}
-use Rattle.bench_program.specs.declared.fault.Fault.{Fault}
-use Rattle.bench_program.specs.declared.fault.Fault.TheVariants.{Usage, Input, Refused, Closed, Wrong}
+use Rattle.bench_program.specs.declared.fault.BenchFault.{BenchFault}
+use Rattle.bench_program.specs.declared.fault.BenchFault.TheVariants.{Usage, Input, Refused, Closed, Wrong}
 use lib.Chars.{codes}
 
 -- the number of a refusal, and of a malformed script the line too
@@ -13,7 +13,7 @@ abbrev pub refusal_text : Refusal → List ℕ
 refusal_text (BadScript line) = decimal (number_of_refusal (BadScript line)) ++ codes " line " ++ decimal line
 refusal_text e = decimal (number_of_refusal e)
 
-abbrev pub fault_text : Fault → List ℕ
+abbrev pub fault_text : BenchFault → List ℕ
 fault_text Input = codes "sbibench: input\n"
 fault_text (Refused e) = codes "sbibench: refusal " ++ refusal_text e ++ codes "\n"
 fault_text Usage = []
@@ -21,7 +21,7 @@ fault_text Closed = []
 fault_text Wrong = []
 
 -- the status with which the program ends
-abbrev pub status_after : {A : Type 0} → Result A Fault → ℕ
+abbrev pub status_after : {A : Type 0} → Result A BenchFault → ℕ
 status_after (Ok done) = 0
 status_after (Err Usage) = 2
 status_after (Err Input) = 1

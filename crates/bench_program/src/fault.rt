@@ -8,7 +8,7 @@ use std::fmt;
 
 /// Why the program ends without a whole report. It prints as a whole line, or as nothing.
 #[derive(Clone, Copy, Debug, Drop)]
-pub enum Fault {
+pub enum BenchFault {
     /// The command line has a fault, which was told by the command line's own text.
     Usage,
     /// The standard input failed.
@@ -37,30 +37,30 @@ impl fmt::Display for RefusalText {
     }
 }
 
-impl fmt::Display for Fault {
+impl fmt::Display for BenchFault {
     ghost output = { λ fault. Some (fault_text fault) };
 
     fn fmt<W: fmt::Write>(&self, f: &mut fmt::Formatter<W>) -> fmt::Result {
         match *self {
-            Fault::Input => f.write_str("sbibench: input\n"),
-            Fault::Refused(refusal) => {
+            BenchFault::Input => f.write_str("sbibench: input\n"),
+            BenchFault::Refused(refusal) => {
                 let text = RefusalText(refusal);
                 writeln!(f, "sbibench: refusal {text}")
             }
-            Fault::Usage | Fault::Closed | Fault::Wrong => Ok(()),
+            BenchFault::Usage | BenchFault::Closed | BenchFault::Wrong => Ok(()),
         }
     }
 }
 
 /// The program's status (README.md, "The program"): 0 where it did what it was asked, 2 for a fault of the
 /// command line, 3 where a bench found something wrong, and 1 for any other.
-pub fn status_of(done: &Result<(), Fault>) -> u8
+pub fn status_of(done: &Result<(), BenchFault>) -> u8
     ensures { result ≡ status_after done.now }
 {
     match done {
         Ok(()) => 0,
-        Err(Fault::Usage) => 2,
-        Err(Fault::Wrong) => 3,
+        Err(BenchFault::Usage) => 2,
+        Err(BenchFault::Wrong) => 3,
         Err(_) => 1,
     }
 }

@@ -13,8 +13,8 @@ ghost use Rattle.board_model.specs.declared.refusal.Refusal.{Refusal};
 ghost use Rattle.board_model.specs.declared.refusal.Refusal.TheVariants.{Memory};
 ghost use Rattle.std.specs.Process.{exit_status};
 ghost use Rattle.bench_program.specs.Faults.{status_after};
-ghost use Rattle.bench_program.specs.declared.fault.Fault.{Fault};
-ghost use Rattle.bench_program.specs.declared.fault.Fault.TheVariants.{Input, Refused};
+ghost use Rattle.bench_program.specs.declared.fault.BenchFault.{BenchFault};
+ghost use Rattle.bench_program.specs.declared.fault.BenchFault.TheVariants.{Input, Refused};
 ghost use Rattle.script_lang.specs.Scripts.{script_of, Script as Said};
 ghost use Rattle.bench_report.specs.Bench.{Bench as ModelBench};
 ghost use Rattle.bench_report.specs.Prefix.{KeepsPrefixLaw};
@@ -23,7 +23,7 @@ ghost use Rattle.bench_report.specs.declared.printed.Answer.{Answer};
 ghost use Rattle.bench_sweep.specs.Swept.{WroteAll};
 ghost use Rattle.bench_program.specs.Benches.{judged};
 
-pub use crate::fault::Fault;
+pub use crate::fault::BenchFault;
 use crate::fault::status_of;
 use crate::pipe::Pipe;
 use crate::usage::asked;
@@ -50,7 +50,7 @@ const READ_AT_MOST: u64 = (MAX_SCRIPT_LINES * (MAX_LINE_BYTES + 1) + 1) as u64;
 
 /// The script: the input to its end, or as much of it as tells its first fault. Answers `Input` where the
 /// input failed, and the refusal `Memory` where memory was refused.
-pub fn read_script<R: Read + Drop>(alloc: Global, input: R) -> Result<Vec<u8>, Fault>
+pub fn read_script<R: Read + Drop>(alloc: Global, input: R) -> Result<Vec<u8>, BenchFault>
     // It says what the whole input says, where its bytes are known: the script, or its first fault.
     ensures said { IfOk result (λ script. IfSome (R.remaining input) (λ bytes. script_of script.items
         ≡ script_of bytes)) }
@@ -61,8 +61,8 @@ pub fn read_script<R: Read + Drop>(alloc: Global, input: R) -> Result<Vec<u8>, F
     let mut script = Vec::new(alloc);
     match input.take(READ_AT_MOST).read_to_end(&mut script) {
         Ok(_) => Ok(script),
-        Err(e) if e.kind() == ErrorKind::OutOfMemory => Err(Fault::Refused(Refusal::Memory)),
-        Err(_) => Err(Fault::Input),
+        Err(e) if e.kind() == ErrorKind::OutOfMemory => Err(BenchFault::Refused(Refusal::Memory)),
+        Err(_) => Err(BenchFault::Input),
     }
 }
 
@@ -97,15 +97,15 @@ pub fn write_report<C: Crew, W: Write + Drop>(
 /// The script on the standard input. The buffer that it is read through is freed before anything runs: the C
 /// library's allocator then keeps freed memory of that size for the next board, and does not give it back to the
 /// system at each power-off.
-fn input_script(rt: &HostRuntime) -> Result<Vec<u8>, Fault> {
+fn input_script(rt: &HostRuntime) -> Result<Vec<u8>, BenchFault> {
     match BufReader::with_capacity(rt.alloc(), READ_AT_ONCE, rt.reader()) {
         Ok(input) => read_script(rt.alloc(), input),
-        Err(_) => Err(Fault::Refused(Refusal::Memory)),
+        Err(_) => Err(BenchFault::Refused(Refusal::Memory)),
     }
 }
 
 /// Writes the report of the script to the standard output, with that crew.
-fn print_report_with<C: Crew>(rt: &HostRuntime, script: &[u8], crew: &C) -> Result<(), Fault> {
+fn print_report_with<C: Crew>(rt: &HostRuntime, script: &[u8], crew: &C) -> Result<(), BenchFault> {
     let at_once = if rt.stdout().is_terminal() {
         0
     } else {
@@ -113,12 +113,12 @@ fn print_report_with<C: Crew>(rt: &HostRuntime, script: &[u8], crew: &C) -> Resu
     };
     let pipe = Pipe::new(io::writer(rt));
     let Ok(mut out) = BufWriter::with_capacity(rt.alloc(), at_once, pipe) else {
-        return Err(Fault::Refused(Refusal::Memory));
+        return Err(BenchFault::Refused(Refusal::Memory));
     };
     match write_report(rt.alloc(), script, crew, &mut out) {
         Ok(()) => Ok(()),
-        Err(_) if out.get_ref().is_closed() => Err(Fault::Closed),
-        Err(e) => Err(Fault::Refused(e)),
+        Err(_) if out.get_ref().is_closed() => Err(BenchFault::Closed),
+        Err(e) => Err(BenchFault::Refused(e)),
     }
 }
 
@@ -127,12 +127,12 @@ fn print_report<R: Threads + Sync>(
     rt: &HostRuntime,
     threads: &R,
     savers: Savers,
-) -> Result<(), Fault> {
+) -> Result<(), BenchFault> {
     let script = input_script(rt)?;
     match savers {
         Savers::Threads => print_report_with(rt, &script, &crew::Threads::new(threads)),
         Savers::Turns => {
-            let crew = Sequential::<R>::new([0, 1, 2, 3]).map_err(Fault::Refused)?;
+            let crew = Sequential::<R>::new([0, 1, 2, 3]).map_err(BenchFault::Refused)?;
             print_report_with(rt, &script, &crew)
         }
     }
@@ -188,28 +188,28 @@ pub fn write_bench<R: Threads + Sync, W: Write + Drop>(
 
 /// Reads the script from the standard input, and runs a bench over it, whose lines go to the standard output. Each of
 /// them is handed on as it is made.
-fn print_bench<R: Threads + Sync>(rt: &HostRuntime, bench: Bench) -> Result<(), Fault> {
+fn print_bench<R: Threads + Sync>(rt: &HostRuntime, bench: Bench) -> Result<(), BenchFault> {
     let script = input_script(rt)?;
     let pipe = Pipe::new(io::writer(rt));
     let Ok(mut out) = BufWriter::with_capacity(rt.alloc(), WRITTEN_AT_ONCE, pipe) else {
-        return Err(Fault::Refused(Refusal::Memory));
+        return Err(BenchFault::Refused(Refusal::Memory));
     };
     match write_bench::<R, Pipe<_>>(rt.alloc(), &script, bench, &mut out) {
         Ok(sweep) if sweep.wrong == 0 => Ok(()),
-        Ok(_) => Err(Fault::Wrong),
-        Err(_) if out.get_ref().is_closed() => Err(Fault::Closed),
-        Err(e) => Err(Fault::Refused(e)),
+        Ok(_) => Err(BenchFault::Wrong),
+        Err(_) if out.get_ref().is_closed() => Err(BenchFault::Closed),
+        Err(e) => Err(BenchFault::Refused(e)),
     }
 }
 
 /// Does what the command line asks for.
-fn run_program<R: Threads + Sync>(rt: &HostRuntime, threads: &R) -> Result<(), Fault> {
+fn run_program<R: Threads + Sync>(rt: &HostRuntime, threads: &R) -> Result<(), BenchFault> {
     match asked(rt) {
         Ok(Work::Report(savers)) => print_report(rt, threads, savers),
         Ok(Work::Judge(bench)) => print_bench::<R>(rt, bench),
         Err(NoWork::Shown) => Ok(()),
-        Err(NoWork::Usage) => Err(Fault::Usage),
-        Err(NoWork::Memory) => Err(Fault::Refused(Refusal::Memory)),
+        Err(NoWork::Usage) => Err(BenchFault::Usage),
+        Err(NoWork::Memory) => Err(BenchFault::Refused(Refusal::Memory)),
     }
 }
 
@@ -218,7 +218,7 @@ fn run_program<R: Threads + Sync>(rt: &HostRuntime, threads: &R) -> Result<(), F
 /// has. The second handle makes the threads of lanes, where the command line asks for these.
 pub fn bench<R: Threads + Sync>(rt: &HostRuntime, threads: &R) -> ExitCode
     // The status is the one of what was done.
-    ensures status { (done : Result (Unit {0}) Fault) × (exit_status result ≡ status_after done) }
+    ensures status { (done : Result (Unit {0}) BenchFault) × (exit_status result ≡ status_after done) }
 {
     let done = run_program(rt, threads);
     if let Err(fault) = &done {

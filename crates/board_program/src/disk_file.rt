@@ -6,7 +6,7 @@ ghost use Rattle.store.specs.Leaves.{IsIdle};
 use crate::held::Held;
 use board_model::{Refusal, Shape};
 use board_options::Options;
-use command_line::{Fault, file_fault, memory_fault};
+use command_line::{ProgramFault, file_fault, memory_fault};
 use disk::{Disk, Sector};
 use layout::parse_superblock;
 use simdisk::SimDisk;
@@ -30,24 +30,28 @@ fn tell_shape(rt: &HostRuntime, options: &Options, found: &Shape) {
 
 /// The disk in a file of whole sectors. No more than the first is read of a file whose first sector is not that of
 /// a disk of its size.
-fn read_disk(rt: &HostRuntime, options: &Options, file: &mut File) -> Result<SimDisk, Fault>
+fn read_disk(rt: &HostRuntime, options: &Options, file: &mut File) -> Result<SimDisk, ProgramFault>
     ensures none_out { IfOk result (λ d. IsIdle (⟦<SimDisk as Disk>⟧.facts d)) }
 {
     let bytes = file.metadata().map_err(file_fault)?.len();
     if bytes == 0 || bytes % 512 != 0 {
-        return Err(Fault::Refused(Refusal::BadShape));
+        return Err(ProgramFault::Refused(Refusal::BadShape));
     }
     let mut first: Sector = [0; 512];
     file.read_exact_at(&mut first, 0).map_err(file_fault)?;
-    let found = parse_superblock(&first, (bytes / 512) as usize).map_err(Fault::Refused)?;
+    let found = parse_superblock(&first, (bytes / 512) as usize).map_err(ProgramFault::Refused)?;
     tell_shape(rt, options, &found);
     let mut content = Vec::new(rt.alloc());
     let _count = file.read_to_end(&mut content).map_err(file_fault)?;
-    SimDisk::new(rt.alloc(), &content).map_err(Fault::Refused)
+    SimDisk::new(rt.alloc(), &content).map_err(ProgramFault::Refused)
 }
 
 /// The disk that a session begins with: a blank one of the shape, or the file's.
-pub fn disk_of(rt: &HostRuntime, options: &Options, held: &mut Held) -> Result<SimDisk, Fault>
+pub fn disk_of(
+    rt: &HostRuntime,
+    options: &Options,
+    held: &mut Held,
+) -> Result<SimDisk, ProgramFault>
     ensures none_out { IfOk result (λ d. IsIdle (⟦<SimDisk as Disk>⟧.facts d)) }
 {
     if options.new {
@@ -55,6 +59,6 @@ pub fn disk_of(rt: &HostRuntime, options: &Options, held: &mut Held) -> Result<S
     }
     match &mut held.file {
         Some(file) => read_disk(rt, options, file),
-        None => Err(Fault::File),
+        None => Err(ProgramFault::File),
     }
 }

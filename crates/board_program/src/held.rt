@@ -1,7 +1,7 @@
 //! The disk's file, which one session has at a time.
 
 use board_options::Options;
-use command_line::{Fault, file_fault, memory_fault};
+use command_line::{ProgramFault, file_fault, memory_fault};
 use std::fs::{self, File, OpenOptions, TryLockError};
 use std::io::{self, ErrorKind};
 use std::os::unix::fs::MetadataExt;
@@ -16,7 +16,7 @@ pub struct Held {
 }
 
 /// The path to which symbolic links lead, or the path as it is where nothing stands there.
-fn real_path(rt: &HostRuntime, path: &str) -> Result<String, Fault> {
+fn real_path(rt: &HostRuntime, path: &str) -> Result<String, ProgramFault> {
     match fs::canonicalize(rt, path) {
         Ok(found) => Ok(found.into_string()),
         Err(_) => path.to_string(rt.alloc()).map_err(memory_fault),
@@ -26,16 +26,16 @@ fn real_path(rt: &HostRuntime, path: &str) -> Result<String, Fault> {
 /// The file as this session's: a fault where another session has it, or has just put another one in its place, and
 /// where it is no regular file. The lock goes with the process, so that of a session that was killed locks nobody
 /// out. Where a file system has no locks there is none.
-pub fn locked(rt: &HostRuntime, path: &str, file: File) -> Result<File, Fault> {
+pub fn locked(rt: &HostRuntime, path: &str, file: File) -> Result<File, ProgramFault> {
     if let Err(TryLockError::WouldBlock) = file.try_lock() {
-        return Err(Fault::File);
+        return Err(ProgramFault::File);
     }
     let here = file.metadata().map_err(file_fault)?;
     let there = fs::metadata(rt, path).map_err(file_fault)?;
     if here.is_file() && here.dev() == there.dev() && here.ino() == there.ino() {
         Ok(file)
     } else {
-        Err(Fault::File)
+        Err(ProgramFault::File)
     }
 }
 
@@ -53,11 +53,11 @@ fn opened(rt: &HostRuntime, path: &str, options: &Options) -> io::Result<File> {
 
 /// Takes the disk's file for this session. What is there and no regular file, as a device or a folder, is a
 /// fault, and so is a file that another session has.
-pub fn hold(rt: &HostRuntime, options: &Options) -> Result<Held, Fault> {
+pub fn hold(rt: &HostRuntime, options: &Options) -> Result<Held, ProgramFault> {
     let path = real_path(rt, &options.disk)?;
     if let Ok(found) = fs::metadata(rt, path.as_str()) {
         if !found.is_file() {
-            return Err(Fault::File);
+            return Err(ProgramFault::File);
         }
     }
     let file = match opened(rt, &path, options) {

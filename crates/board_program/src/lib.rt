@@ -21,7 +21,7 @@ use board_model::Refusal;
 use board_options::{Options, USAGE, options};
 use board_session::session;
 use command_line::{
-    Fault, NoWork, ToldBy, first_fault, memory_fault, show, status_of, without_work, words,
+    NoWork, ProgramFault, ToldBy, first_fault, memory_fault, show, status_of, without_work, words,
 };
 use disk::Disk;
 use file_disk::FileDisk;
@@ -39,15 +39,15 @@ fn session_over<R: Threads + Wait + Sync, D: Disk + Drop + Send>(
     options: &Options,
     disk: D,
     payloads: &Payloads,
-) -> (D, Result<(), Fault>)
+) -> (D, Result<(), ProgramFault>)
     requires { IsIdle (D.facts disk) }
 {
     let Ok(input) = BufReader::new(rt.alloc(), rt.reader()) else {
-        return (disk, Err(Fault::Refused(Refusal::Memory)));
+        return (disk, Err(ProgramFault::Refused(Refusal::Memory)));
     };
     let out = Hints::new(rt, io::writer(rt), options.sync);
     let ended = session(threads, rt.alloc(), options, disk, payloads, input, out);
-    let ran = ended.ran.map_err(Fault::Refused);
+    let ran = ended.ran.map_err(ProgramFault::Refused);
     (ended.disk, ran)
 }
 
@@ -57,11 +57,11 @@ fn kept_file(
     options: &Options,
     held: Held,
     sectors: usize,
-) -> Result<File, Fault> {
+) -> Result<File, ProgramFault> {
     if options.new {
         return blank_file(rt, &held, sectors);
     }
-    held.file.ok_or(Fault::File)
+    held.file.ok_or(ProgramFault::File)
 }
 
 /// The session over the disk in memory, kept in its file: each sync of the disk waits for the file.
@@ -72,7 +72,7 @@ fn session_in_file<R: Threads + Wait + Sync>(
     held: Held,
     memory: SimDisk,
     payloads: &Payloads,
-) -> Result<(), Fault>
+) -> Result<(), ProgramFault>
     requires { IsIdle (⟦<SimDisk as Disk>⟧.facts memory) }
 {
     let file = kept_file(rt, options, held, memory.sectors())?;
@@ -88,7 +88,7 @@ fn run_session<R: Threads + Wait + Sync>(
     rt: &HostRuntime,
     threads: &R,
     options: &Options,
-) -> Result<(), Fault> {
+) -> Result<(), ProgramFault> {
     let payloads = payloads_of(rt, options)?;
     let mut held = hold(rt, options)?;
     let disk = disk_of(rt, options, &mut held)?;
@@ -106,7 +106,10 @@ fn asked(rt: &HostRuntime) -> Result<Options, NoWork> {
 }
 
 /// Does what the command line asks for.
-fn run_program<R: Threads + Wait + Sync>(rt: &HostRuntime, threads: &R) -> Result<(), Fault> {
+fn run_program<R: Threads + Wait + Sync>(
+    rt: &HostRuntime,
+    threads: &R,
+) -> Result<(), ProgramFault> {
     match asked(rt) {
         Ok(options) => run_session(rt, threads, &options),
         Err(why) => without_work(why),

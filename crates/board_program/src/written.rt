@@ -1,7 +1,7 @@
 //! The disk's file, written beside and renamed.
 
 use crate::held::{Held, locked};
-use command_line::{Fault, file_fault, memory_fault};
+use command_line::{ProgramFault, file_fault, memory_fault};
 use disk::Sector;
 use simdisk::SimDisk;
 use std::fs::{self, File};
@@ -62,13 +62,13 @@ fn sync_folder(rt: &HostRuntime, path: &str) -> io::Result<()> {
 }
 
 /// Puts the file beside into the place of the disk's, and makes that durable.
-fn replace(rt: &HostRuntime, held: &Held, beside: &str) -> Result<(), Fault> {
+fn replace(rt: &HostRuntime, held: &Held, beside: &str) -> Result<(), ProgramFault> {
     fs::rename(rt, beside, held.path.as_str()).map_err(file_fault)?;
     sync_folder(rt, &held.path).map_err(file_fault)
 }
 
 /// The path of the file beside.
-fn path_beside(rt: &HostRuntime, held: &Held) -> Result<String, Fault> {
+fn path_beside(rt: &HostRuntime, held: &Held) -> Result<String, ProgramFault> {
     let path = &held.path;
     format!(in rt.alloc(); "{path}.new").map_err(memory_fault)
 }
@@ -76,7 +76,7 @@ fn path_beside(rt: &HostRuntime, held: &Held) -> Result<String, Fault> {
 /// Writes the disk's file, where it doesn't hold just the disk: into a file beside it, named `.new`, which is then
 /// renamed over it. So a host that crashes meanwhile leaves the file as it was or as it is written, and perhaps
 /// the other one. Where the other one cannot be written whole it is removed.
-pub fn write_disk(rt: &HostRuntime, held: &Held, disk: &SimDisk) -> Result<(), Fault> {
+pub fn write_disk(rt: &HostRuntime, held: &Held, disk: &SimDisk) -> Result<(), ProgramFault> {
     if let Some(file) = &held.file {
         if let Ok(true) = holds(file, disk.content()) {
             return Ok(());
@@ -93,7 +93,7 @@ pub fn write_disk(rt: &HostRuntime, held: &Held, disk: &SimDisk) -> Result<(), F
 
 /// Puts a blank file of so many sectors into the place of the disk's, and gives it. It is this session's before it
 /// stands there.
-pub fn blank_file(rt: &HostRuntime, held: &Held, sectors: usize) -> Result<File, Fault> {
+pub fn blank_file(rt: &HostRuntime, held: &Held, sectors: usize) -> Result<File, ProgramFault> {
     let beside = path_beside(rt, held)?;
     let made = make_beside(rt, held, &beside).map_err(file_fault)?;
     let file = locked(rt, &beside, made)?;

@@ -6,30 +6,30 @@ use Rattle.board_model.specs.Views.{number_of_refusal}
 use Rattle.board_model.specs.declared.refusal.Refusal.TheVariants as refusals
 use Rattle.command_line.specs.declared.NoWork.{NoWork}
 use Rattle.command_line.specs.declared.NoWork.TheVariants as words
-use Rattle.command_line.specs.declared.fault.Fault.{Fault}
-use Rattle.command_line.specs.declared.fault.Fault.TheVariants.{Usage, Refused, File}
+use Rattle.command_line.specs.declared.fault.ProgramFault.{ProgramFault}
+use Rattle.command_line.specs.declared.fault.ProgramFault.TheVariants.{Usage, Refused, File}
 use lib.Chars.{codes}
 
 -- the line of a program with this name
-abbrev pub fault_text : List ℕ → Fault → List ℕ
+abbrev pub fault_text : List ℕ → ProgramFault → List ℕ
 fault_text program Usage = []
 fault_text program (Refused e) = program ++ codes ": refusal " ++ decimal (number_of_refusal e) ++ codes "\n"
 fault_text program File = program ++ codes ": file\n"
 
 -- the status with which the program ends
-abbrev pub status_after : {A : Type 0} → Result A Fault → ℕ
+abbrev pub status_after : {A : Type 0} → Result A ProgramFault → ℕ
 status_after (Ok done) = 0
 status_after (Err Usage) = 2
 status_after (Err (Refused e)) = 1
 status_after (Err File) = 1
 
 -- what follows where a command line asks for no work
-abbrev pub without_work : NoWork → Result (Unit {0}) Fault
+abbrev pub without_work : NoWork → Result (Unit {0}) ProgramFault
 without_work words.Shown = Ok tt
 without_work words.Usage = Err Usage
 without_work words.Memory = Err (Refused refusals.Memory)
 
 -- of two faults the first is told
-abbrev pub first_fault : {A : Type 0} → Result A Fault → Result A Fault → Result A Fault
+abbrev pub first_fault : {A : Type 0} → Result A ProgramFault → Result A ProgramFault → Result A ProgramFault
 first_fault (Err fault) later = Err fault
 first_fault (Ok done) later = later

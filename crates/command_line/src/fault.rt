@@ -11,7 +11,7 @@ use std::io::{self, ErrorKind};
 
 /// Why the program ends with a fault.
 #[derive(Clone, Copy, Debug, Drop)]
-pub enum Fault {
+pub enum ProgramFault {
     /// The command line has a fault, which was told by the command line's own text.
     Usage,
     /// A refusal of the disk, of a boot, of a thread, of memory or of the output.
@@ -22,7 +22,7 @@ pub enum Fault {
 
 /// A fault as the program of that name tells it: a whole line, or nothing where it was told before.
 #[derive(Clone, Copy, Debug, Drop)]
-pub struct ToldBy(pub &'static str, pub Fault);
+pub struct ToldBy(pub &'static str, pub ProgramFault);
 
 impl fmt::Display for ToldBy {
     ghost output = { λ told. Some (fault_text told.0.now told.1) };
@@ -30,42 +30,45 @@ impl fmt::Display for ToldBy {
     fn fmt<W: fmt::Write>(&self, f: &mut fmt::Formatter<W>) -> fmt::Result {
         let program = self.0;
         match self.1 {
-            Fault::Usage => Ok(()),
-            Fault::Refused(refusal) => {
+            ProgramFault::Usage => Ok(()),
+            ProgramFault::Refused(refusal) => {
                 let code = refusal.code();
                 writeln!(f, "{program}: refusal {code}")
             }
-            Fault::File => writeln!(f, "{program}: file"),
+            ProgramFault::File => writeln!(f, "{program}: file"),
         }
     }
 }
 
 /// The program's status: 0 where it did what it was asked, 2 for a fault of the command line, and 1 for any
 /// other.
-pub fn status_of(done: &Result<(), Fault>) -> u8
+pub fn status_of(done: &Result<(), ProgramFault>) -> u8
     ensures status { result ≡ status_after done.now }
     ensures range { result ≤ 2 }
 {
     match done {
         Ok(()) => 0,
-        Err(Fault::Usage) => 2,
+        Err(ProgramFault::Usage) => 2,
         Err(_) => 1,
     }
 }
 
 /// What a program does that was asked for no work: nothing more where what it was asked for was shown.
-pub fn without_work(why: NoWork) -> Result<(), Fault>
+pub fn without_work(why: NoWork) -> Result<(), ProgramFault>
     ensures { result ≡ without_work why }
 {
     match why {
         NoWork::Shown => Ok(()),
-        NoWork::Usage => Err(Fault::Usage),
-        NoWork::Memory => Err(Fault::Refused(Refusal::Memory)),
+        NoWork::Usage => Err(ProgramFault::Usage),
+        NoWork::Memory => Err(ProgramFault::Refused(Refusal::Memory)),
     }
 }
 
 /// The first fault of two.
-pub fn first_fault(ran: Result<(), Fault>, written: Result<(), Fault>) -> Result<(), Fault>
+pub fn first_fault(
+    ran: Result<(), ProgramFault>,
+    written: Result<(), ProgramFault>,
+) -> Result<(), ProgramFault>
     ensures { result ≡ first_fault ran written }
 {
     match ran {
@@ -75,15 +78,15 @@ pub fn first_fault(ran: Result<(), Fault>, written: Result<(), Fault>) -> Result
 }
 
 /// The fault of a file that could not be read or written: a refusal where it was memory that was refused.
-pub fn file_fault(e: io::Error) -> Fault {
+pub fn file_fault(e: io::Error) -> ProgramFault {
     if e.kind() == ErrorKind::OutOfMemory {
-        Fault::Refused(Refusal::Memory)
+        ProgramFault::Refused(Refusal::Memory)
     } else {
-        Fault::File
+        ProgramFault::File
     }
 }
 
 /// The fault where memory was refused.
-pub fn memory_fault(_refused: AllocError) -> Fault {
-    Fault::Refused(Refusal::Memory)
+pub fn memory_fault(_refused: AllocError) -> ProgramFault {
+    ProgramFault::Refused(Refusal::Memory)
 }

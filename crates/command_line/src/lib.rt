@@ -10,7 +10,7 @@ ghost use Rattle.clap.specs.Values.{kind_of};
 ghost use Rattle.command_line.specs.Kinds.{no_work};
 
 pub use crate::fault::{
-    Fault, ToldBy, file_fault, first_fault, memory_fault, status_of, without_work,
+    ProgramFault, ToldBy, file_fault, first_fault, memory_fault, status_of, without_work,
 };
 pub use crate::flags::flag;
 use clap::Error;

@@ -15,30 +15,30 @@ pub use crate::sees::{Found, Seen, see_disk};
 pub use crate::shows::write_seen;
 use crate::usage::{USAGE, path_of};
 use board_model::Refusal;
-use command_line::{Fault, ToldBy, show, status_of, without_work, words};
+use command_line::{ProgramFault, ToldBy, show, status_of, without_work, words};
 use std::io::{self, BufWriter};
 use std::process::ExitCode;
 
 /// Says what stands in the file.
-fn look(rt: &HostRuntime, path: &str) -> Result<(), Fault> {
+fn look(rt: &HostRuntime, path: &str) -> Result<(), ProgramFault> {
     let disk = disk_of(rt, path)?;
     let (_disk, seen) = see_disk(rt.alloc(), disk);
-    let seen = seen.map_err(Fault::Refused)?;
+    let seen = seen.map_err(ProgramFault::Refused)?;
     let Ok(mut out) = BufWriter::new(rt.alloc(), io::writer(rt)) else {
-        return Err(Fault::Refused(Refusal::Memory));
+        return Err(ProgramFault::Refused(Refusal::Memory));
     };
-    write_seen(&seen, &mut out).map_err(Fault::Refused)
+    write_seen(&seen, &mut out).map_err(ProgramFault::Refused)
 }
 
 /// Does what the command line asks for.
-fn looked(rt: &HostRuntime) -> Result<(), Fault> {
+fn looked(rt: &HostRuntime) -> Result<(), ProgramFault> {
     let words = match words(rt, USAGE) {
         Ok(words) => words,
         Err(why) => return without_work(why),
     };
     match path_of(rt.alloc(), words.as_slice()) {
         Ok(Some(path)) => look(rt, path),
-        Ok(None) => Err(Fault::Usage),
+        Ok(None) => Err(ProgramFault::Usage),
         Err(text) => without_work(show(rt, &text)),
     }
 }

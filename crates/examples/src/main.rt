@@ -11,7 +11,7 @@ mod left;
 mod reported;
 
 use crate::left::tell;
-use crate::reported::{AsReported, Fault, compare_report};
+use crate::reported::{AsReported, ExampleFault, compare_report};
 use crew::{Crew, Sequential, Threads};
 use std::path::Path;
 use std::process::ExitCode;
@@ -57,9 +57,9 @@ fn compare<'a, A: Crew, B: Crew>(
     threads: &B,
     folder: &str,
     name: &'a str,
-) -> Result<AsReported<'a>, Fault> {
-    let script = file_of(rt, folder, name, SCRIPT).map_err(Fault::Unread)?;
-    let report = file_of(rt, folder, name, REPORT).map_err(Fault::Unread)?;
+) -> Result<AsReported<'a>, ExampleFault> {
+    let script = file_of(rt, folder, name, SCRIPT).map_err(ExampleFault::Unread)?;
+    let report = file_of(rt, folder, name, REPORT).map_err(ExampleFault::Unread)?;
     compare_report(rt.alloc(), name, &script, turns, &report)?;
     compare_report(rt.alloc(), name, &script, threads, &report)
 }

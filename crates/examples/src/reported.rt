@@ -28,7 +28,7 @@ impl fmt::Display for AsReported<'_> {
 
 /// Why a script is not as reported.
 #[derive(Debug, Drop, Error)]
-pub enum Fault {
+pub enum ExampleFault {
     #[error("a file was not read: {0}")]
     Unread(io::Error),
     #[error("refused: {0}")]
@@ -46,14 +46,14 @@ pub fn compare_report<'a, C: Crew>(
     script: &[u8],
     crew: &C,
     report: &[u8],
-) -> Result<AsReported<'a>, Fault>
+) -> Result<AsReported<'a>, ExampleFault>
     ensures { OnOk result ((said : Said) × (answers : List Answer) × (end : Bench) × (script_of script.now ≡ Ok said)
         × IsReport said answers end × (report.now ≡ report_text answers)) }
 {
     let mut out = Vec::new(alloc);
-    run(alloc, script, crew, &mut out).map_err(Fault::Refused)?;
+    run(alloc, script, crew, &mut out).map_err(ExampleFault::Refused)?;
     if out.as_slice() != report {
-        return Err(Fault::Differs(first_line_apart(out.as_slice(), report)));
+        return Err(ExampleFault::Differs(first_line_apart(out.as_slice(), report)));
     }
     Ok(AsReported { name })
 }
