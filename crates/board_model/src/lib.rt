@@ -3,6 +3,7 @@
 #![tactic(auto)]
 
 mod boot_mode;
+mod bytes;
 mod call_words;
 mod console_command;
 mod durable;
@@ -14,6 +15,7 @@ mod refusal;
 mod shape;
 
 pub use boot_mode::BootMode;
+pub use bytes::Bytes;
 pub use call_words::CallWords;
 pub use console_command::ConsoleCommand;
 pub use durable::{Command, Durable, Entry, ImageHead, Reason, Trial};
@@ -26,6 +28,6 @@ pub use limits::{
     PAGE_BYTES, RAM_BASE, SECTOR_BYTES, SLOTS,
 };
 pub use numbers::{Addr, Boots, HartId, PageNo, Slot};
-pub use plain::{ImageMemory, Plain, PlainImage};
+pub use plain::{Plain, PlainImage};
 pub use refusal::Refusal;
 pub use shape::Shape;

@@ -1,70 +1,20 @@
 //! The durable state with the memory of its image: what the benches compare with what an open finds.
 
-ghost use Rattle.std.specs.Prelude.{◌≡◌, ◌↔◌, ℕ, List, IfOk, IsTrue};
-ghost use Rattle.std.specs.Str.{bytes_eq};
-ghost use Rattle.std.specs.Cmp.{partial_equiv_from_equiv};
-ghost use Rattle.std.specs.Cmp.Lexicographic.{nat_list_eq_equiv};
+ghost use Rattle.std.specs.Prelude.{◌≡◌, IfOk};
 ghost use Rattle.board_model.specs.Views.{change_in};
 
+use crate::bytes::Bytes;
 use crate::durable::{Command, Durable, Entry, ImageHead, Reason, Trial};
 use crate::numbers::{Addr, HartId, Slot};
 use crate::refusal::Refusal;
 use std::alloc::{AllocError, Global};
-use std::marker::Model;
-
-/// The memory of an image, the byte at address 0x80000000 first; contracts see the list of its bytes.
-#[derive(Debug, Drop)]
-pub struct ImageMemory {
-    bytes: Vec<u8>,
-}
-
-impl Model for ImageMemory {
-    ghost Value = { List ℕ };
-
-    ghost view = { λ m. m.bytes.items };
-}
-
-impl ImageMemory {
-    /// The memory of these bytes.
-    pub fn new(bytes: Vec<u8>) -> ImageMemory
-        ensures { result ≡ bytes.items }
-    {
-        ImageMemory { bytes }
-    }
-
-    /// The bytes.
-    pub fn as_slice(&self) -> &[u8]
-        ensures { result.now ≡ self.now }
-    {
-        &self.bytes
-    }
-
-    fn copy(&self, alloc: Global) -> Result<ImageMemory, AllocError>
-        ensures { IfOk result (λ copy. copy ≡ self.now) }
-    {
-        Ok(ImageMemory::new(Vec::from_slice(alloc, self.as_slice())?))
-    }
-}
-
-impl PartialEq for ImageMemory {
-    ghost eq = { λ a b. bytes_eq a b };
-
-    ghost laws = { partial_equiv_from_equiv nat_list_eq_equiv };
-
-    fn eq(&self, other: &ImageMemory) -> bool {
-        self.as_slice() == other.as_slice()
-    }
-}
-
-impl Eq for ImageMemory {
-    ghost laws = { nat_list_eq_equiv };
-}
 
 /// An image with its memory.
 #[derive(Debug, PartialEq, Eq, Drop)]
 pub struct PlainImage {
     pub head: ImageHead,
-    pub memory: ImageMemory,
+    /// The byte at address 0x80000000 first.
+    pub memory: Bytes,
 }
 
 /// The durable state with the memory of its image.
@@ -154,7 +104,7 @@ impl Plain {
     {
         let serial = self.next;
         let next = serial.checked_add(1).ok_or(Refusal::SerialsSpent)?;
-        let memory = ImageMemory::new(Vec::from_slice(alloc, memory)?);
+        let memory = Bytes::new(Vec::from_slice(alloc, memory)?);
         let head = ImageHead {
             serial,
             hart,
@@ -213,7 +163,7 @@ impl Plain {
         let image = match durable.image {
             None => None,
             Some(head) => {
-                let memory = ImageMemory::new(Vec::from_slice(alloc, memory)?);
+                let memory = Bytes::new(Vec::from_slice(alloc, memory)?);
                 Some(PlainImage { head, memory })
             }
         };

@@ -2,7 +2,6 @@
 #![tactic(auto)]
 
 mod armings;
-mod bytes;
 mod commands;
 mod laws;
 mod line;
@@ -12,7 +11,6 @@ mod scripts;
 mod words;
 
 pub use armings::Arming;
-pub use bytes::Bytes;
 pub use laws::{lines_read_as_spelled, lines_read_in_order, scripts_read_as_written};
 pub use line::Line;
 pub use looks::Look;

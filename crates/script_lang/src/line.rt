@@ -4,12 +4,11 @@ ghost use Rattle.std.specs.Prelude.{◌≡◌, map, IfOk, IfSome};
 ghost use Rattle.script_lang.specs.Lines.{other_said, line_of, IsLineInRange};
 
 use crate::armings::{Arming, arming_said};
-use crate::bytes::Bytes;
 use crate::commands::command_said;
 use crate::looks::{Look, look_said};
 use crate::rows;
 use crate::words::alone;
-use board_model::{BootMode, CallWords, ConsoleCommand, HartId, Shape, Slot};
+use board_model::{BootMode, Bytes, CallWords, ConsoleCommand, HartId, Shape, Slot};
 use simdisk::Fill;
 use std::alloc::{AllocError, Global};
 

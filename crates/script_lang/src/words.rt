@@ -4,8 +4,7 @@ ghost use Rattle.std.specs.Prelude.{◌≡◌, ◌≤◌, ◌*◌, ◌^◌, ◌<
 ghost use Rattle.std.specs.Option.{option_map};
 ghost use Rattle.script_lang.specs.Words.{digits_after, numeral_of, number_of, ranged, fill_of, hex_of, alone, none_of, IsCount, one_of, two_of, three_of};
 
-use crate::bytes::Bytes;
-use board_model::{HartId, Shape};
+use board_model::{Bytes, HartId, Shape};
 use hex::FromHexError;
 use simdisk::Fill;
 use std::alloc::{AllocError, Global};

@@ -1,8 +1,8 @@
 //! Each kind of line, and both ends of each range.
 
 use crate::read::{malformed, says};
-use board_model::{BootMode, CallWords, ConsoleCommand, HartId, Slot};
-use script_lang::{Arming, Bytes, Line, Look};
+use board_model::{BootMode, Bytes, CallWords, ConsoleCommand, HartId, Slot};
+use script_lang::{Arming, Line, Look};
 use simdisk::Fill;
 use std::alloc::{AllocError, Global};
 use std::process::Abort;

@@ -1,13 +1,14 @@
-//! The bytes that a line carries.
+//! Bytes: the memory of an image, or what a line of a script carries.
 
-ghost use Rattle.std.specs.Prelude.{◌≡◌, ◌↔◌, ℕ, List, length, IsTrue};
+ghost use Rattle.std.specs.Prelude.{◌≡◌, ◌↔◌, ℕ, List, length, IfOk, IsTrue};
 ghost use Rattle.std.specs.Str.{bytes_eq};
-ghost use Rattle.std.specs.Cmp.{on_equiv, on_per, partial_equiv_from_equiv};
+ghost use Rattle.std.specs.Cmp.{partial_equiv_from_equiv};
 ghost use Rattle.std.specs.Cmp.Lexicographic.{nat_list_eq_equiv};
 
+use std::alloc::{AllocError, Global};
 use std::marker::Model;
 
-/// Bytes that a line carries, written there as hexadecimal digits; contracts see the list of them.
+/// Bytes in their order; contracts see the list of them.
 #[derive(Debug, Drop)]
 pub struct Bytes {
     items: Vec<u8>,
@@ -34,18 +35,25 @@ impl Bytes {
         self.items.len()
     }
 
-    /// Whether there are none; a line never carries none.
+    /// Whether there are none.
     pub fn is_empty(&self) -> bool
         ensures { IsTrue result ↔ (length self.now ≡ 0) }
     {
         self.items.is_empty()
     }
 
-    /// The bytes, in the order in which the line has them.
+    /// The bytes.
     pub fn as_slice(&self) -> &[u8]
         ensures { result.now ≡ self.now }
     {
         &self.items
+    }
+
+    /// The same bytes again.
+    pub(crate) fn copy(&self, alloc: Global) -> Result<Bytes, AllocError>
+        ensures { IfOk result (λ copy. copy ≡ self.now) }
+    {
+        Ok(Bytes::new(Vec::from_slice(alloc, self.as_slice())?))
     }
 }
 
