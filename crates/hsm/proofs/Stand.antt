@@ -6,7 +6,7 @@ use Rattle.hsm_rule.specs.declared.view.Stage.{Stage}
 use Rattle.hsm_rule.specs.declared.view.Stage.TheVariants.{Out, Running, Suspended, Quiet}
 use Rattle.hsm_rule.specs.declared.view.Action.{Action}
 use Rattle.hsm_rule.specs.Words.{HartView, HartSeatView}
-use Rattle.hsm_rule.specs.States.{IsSettled}
+use Rattle.hsm_rule.specs.States.{IsBetweenCalls}
 use Rattle.hsm_rule.specs.Rule.{stands}
 use Rattle.hsm.specs.declared.state.State.{State}
 use Rattle.hsm.specs.declared.state.State.TheVariants as codes
@@ -51,8 +51,8 @@ stands_stage h st (v ∷ vs) s =
 pub stands_own : (h : ℕ) (st : Stage) (vs : List HartView) → stands h st vs → stands h (stage_of h vs) vs
 stands_own h st vs s = subst (λ (x : Stage). stands h x vs) (sym (stands_stage h st vs s)) s
 
--- where a settled hart stands, by its status
-pub stands_by : (x : State) (h : ℕ) (vs vs' : List HartView) → IsOwnStatus h vs x → KeepsAll vs vs' → IsSettled h vs → StandsBy x h vs'
+-- where a hart between calls stands, by its status
+pub stands_by : (x : State) (h : ℕ) (vs vs' : List HartView) → IsOwnStatus h vs x → KeepsAll vs vs' → IsBetweenCalls h vs → StandsBy x h vs'
 stands_by x h vs vs' own keeps settled =
     let by : (y : State) → x ≡ y → StandsBy y h vs' → StandsBy x h vs' = λ y e s. subst (λ (z : State). StandsBy z h vs') (sym e) s in
     ⊎_elim

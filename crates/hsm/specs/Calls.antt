@@ -58,7 +58,7 @@ pub record IsOwnStatus (h : ℕ) (vs : List HartView) (x : State) : Type 0 where
   pub suspended : stands h Suspended vs → x ≡ codes.Suspended
   pub outside : stands h Out vs → (x ≡ codes.Stopped) ⊎ (x ≡ codes.StartPending)
 
--- where a settled hart stands, by its status
+-- where a hart between calls stands, by its status
 abbrev pub StandsBy : State → ℕ → List HartView → Type 0
 StandsBy codes.Started h vs = IsStarted h vs
 StandsBy codes.Suspended h vs = stands h Suspended vs

@@ -3,7 +3,7 @@
 ghost use Rattle.std.specs.Prelude.{◌≡◌, ◌≢◌, ℕ, ◌+◌, ◌*◌, ◌<◌, ◌↔◌, true, false, IsTrue, MatchBool, MatchOption};
 ghost use Rattle.std.specs.Int.{bit_at};
 ghost use Rattle.hsm_rule.specs.Rule.{stands};
-ghost use Rattle.hsm_rule.specs.States.{IsStarted, IsSettled, is_stopped, stopped, started, suspended, change_at, grant, entry, begin};
+ghost use Rattle.hsm_rule.specs.States.{IsStarted, IsBetweenCalls, is_stopped, stopped, started, suspended, change_at, grant, entry, begin};
 ghost use Rattle.hsm_steps.specs.Outcomes.{after_quiet};
 ghost use Rattle.hsm_steps.specs.Seating.{IsSeatOf, harts_of, hart_view_of_seat, harts_in};
 ghost use Rattle.hsm_rule.specs.declared.view.Stage.TheVariants.{Out, Running, Suspended, Quiet};
@@ -111,7 +111,7 @@ pub fn status(table: &HartTable, seat: HartSeat, by: HartId, hart: HartId) -> (H
     ensures steps { (found : ℕ) × (result.1 ≡ state_in_word hart found)
         × HasNoted by (stage_of by (harts_in seat)) (Looked found) (harts_in seat) (harts_in result.0) }
     ensures fresh { IsOwnStatus hart (harts_in seat) result.1 }
-    ensures own { IsSettled hart (harts_in seat) → StandsBy result.1 hart (harts_in result.0) }
+    ensures own { IsBetweenCalls hart (harts_in seat) → StandsBy result.1 hart (harts_in result.0) }
     ensures alone { ActsAlone (harts_of table.entry.now) (hart_view_of_seat seat) (hart_view_of_seat result.0)
         (λ states. result.1 ≡ named (states hart)) (λ states. states) }
 {

@@ -8,7 +8,7 @@ use Rattle.hsm_rule.specs.declared.view.Stage.TheVariants.{Out, Ready, Addressed
 use Rattle.hsm_rule.specs.declared.view.Action.TheVariants.{Claimed, Wrote, Armed, Looked, Read, Entered, Stopped, Suspended as DidSuspend, Woke, Quieted, Unquieted}
 use Rattle.hsm_rule.specs.Words.{HartView, HartSeatView}
 use Rattle.hsm_rule.specs.Rule.{IsSite, stands}
-use Rattle.hsm_rule.specs.States.{HartState, stopped, start_pending, started, IsStarted, IsSettled, Shows, Tells}
+use Rattle.hsm_rule.specs.States.{HartState, stopped, start_pending, started, IsStarted, IsBetweenCalls, Shows, Tells}
 
 -- ---- what each step tells
 -- where a hart stands after a claim
@@ -85,12 +85,12 @@ Quiets harts h st m found m' = Notes h (after_quiet harts h found) (Quieted foun
 abbrev pub Unquiets : ℕ → Step (Unit {0}) → SeatState HartSeatView → ℕ → SeatState HartSeatView → Type 0
 Unquiets h st m found m' = Notes h Running (Unquieted found) m m'
 
--- a look that a seat does not note: it stays as it was, and where it is of all harts and each is settled, it
+-- a look that a seat does not note: it stays as it was, and where it is of all harts and each is between calls, it
 -- shows some states
 abbrev pub Sees : ℕ → Step (Unit {0}) → SeatState HartSeatView → ℕ → SeatState HartSeatView → Type 0
 Sees harts st m found m' =
     (m'.0 ≡ m.0) × (m'.1 ≡ m.1)
-    × (((h : ℕ) → h < harts → IsSettled h m.0.harts) → (states : ℕ → HartState) × Shows harts m.0 states)
+    × (((h : ℕ) → h < harts → IsBetweenCalls h m.0.harts) → (states : ℕ → HartState) × Shows harts m.0 states)
 
 -- ---- the table at the start
 -- one hart runs, and no other has entered

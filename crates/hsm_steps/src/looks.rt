@@ -2,7 +2,7 @@
 
 ghost use Rattle.std.specs.Prelude.{◌≡◌, ℕ, ◌<◌};
 ghost use Rattle.hsm_rule.specs.Rule.{stands};
-ghost use Rattle.hsm_rule.specs.States.{HartState, IsSettled, Shows, Tells};
+ghost use Rattle.hsm_rule.specs.States.{HartState, IsBetweenCalls, Shows, Tells};
 ghost use Rattle.hsm_steps.specs.Outcomes.{IsUpToDate, Looks, Sees};
 ghost use Rattle.hsm_steps.specs.Seating.{IsSeatOf, harts_of, hart_view_of_seat, harts_in};
 ghost use Rattle.hsm_rule.specs.declared.view.Action.TheVariants.{Looked};
@@ -30,14 +30,14 @@ impl<J: Acting> Play<(), HartSeatView> for LookStep<J> {
     ghost then = { Looks J.harts J.by J.stage };
 }
 
-/// A look that is not noted, by which a seat of all harts that are settled is known to show the table's
+/// A look that is not noted, by which a seat of all harts, each between calls, is known to show the table's
 /// states.
 pub(crate) fn see<J: Acting>(table: &HartTable, seat: &mut HartSeat)
     requires named { J.harts ≡ harts_of table.now }
     requires seat { IsSeatOf table.now seat.old }
     ensures seat { IsSeatOf table.now seat.new }
     ensures same { hart_view_of_seat seat.new ≡ hart_view_of_seat seat.old }
-    ensures shows { ((h : ℕ) → h < harts_of table.now → IsSettled h (harts_in seat.old))
+    ensures shows { ((h : ℕ) → h < harts_of table.now → IsBetweenCalls h (harts_in seat.old))
         → (states : ℕ → HartState) × Shows (harts_of table.now) (hart_view_of_seat seat.old) states }
 {
     table.table.shared.load::<SeeStep<J>>(seat, 0);

@@ -2,7 +2,7 @@
 
 ghost use Rattle.std.specs.Prelude.{◌≡◌, ◌≢◌, ℕ, ◌<◌, ◌≤◌, ◌==◌, if◌then◌else◌, [], length, IfOk, IfErr};
 ghost use Rattle.hsm_rule.specs.Rule.{stands};
-ghost use Rattle.hsm_rule.specs.States.{HartState, IsSettled, Shows};
+ghost use Rattle.hsm_rule.specs.States.{HartState, IsBetweenCalls, Shows};
 ghost use Rattle.hsm_rule.specs.declared.view.Stage.TheVariants.{Out, Running};
 ghost use Rattle.tallies.specs.Notes.{first_hart, other_harts, together};
 ghost use Rattle.hsm_steps.specs.Outcomes.{opening_states, opening_view};
@@ -109,7 +109,7 @@ impl HartTable {
         ensures harts { harts_in result ≡ all_harts seats.items }
         ensures all { AreInOrder seats.items → array_vec_len seats ≡ harts_of self.now → IsOfAll self.now result }
         ensures stands { AreInOrder seats.items → StandTogether seats.items (harts_in result) }
-        ensures shows { ((h : ℕ) → h < harts_of self.now → IsSettled h (harts_in result))
+        ensures shows { ((h : ℕ) → h < harts_of self.now → IsBetweenCalls h (harts_in result))
             → (states : ℕ → HartState) × Shows (harts_of self.now) (hart_view_of_seat result) states }
     {
         let mut whole = tallies::join(self, seats);

@@ -1,5 +1,5 @@
 use Rattle.std.proofs.Common.{ℕ, ◌<◌, subst, arith}
-use Rattle.hsm_rule.specs.States.{HartState, IsSettled, Shows}
+use Rattle.hsm_rule.specs.States.{HartState, IsBetweenCalls, Shows}
 use Rattle.hsm_steps.specs.Seating.{hart_view_of_seat, harts_in}
 use Rattle.hsm_steps.proofs.Later.{sees_as}
 use Rattle.hsm_steps.proofs.looks.see.Goals as goal
@@ -13,4 +13,4 @@ load-requires g c =
 
 pub returns-clause-shows : goal.returns-clause-shows
 returns-clause-shows g c =
-    subst (λ (n : ℕ). ((h : ℕ) → h < n → IsSettled h (harts_in c.args.seat.now)) → (states : ℕ → HartState) × Shows n (hart_view_of_seat c.args.seat.now) states) c.requires.named c.load.ensures.2.2
+    subst (λ (n : ℕ). ((h : ℕ) → h < n → IsBetweenCalls h (harts_in c.args.seat.now)) → (states : ℕ → HartState) × Shows n (hart_view_of_seat c.args.seat.now) states) c.requires.named c.load.ensures.2.2

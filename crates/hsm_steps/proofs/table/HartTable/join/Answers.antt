@@ -3,7 +3,7 @@ use Rattle.tallies.specs.Notes.{numbers}
 use Rattle.hsm_rule.specs.Words.{HartView, HartSeatView}
 use Rattle.hsm_steps.specs.Seating.{harts_of}
 use Rattle.hsm_rule.specs.Rule.{stands}
-use Rattle.hsm_rule.specs.States.{IsSettled, Shows}
+use Rattle.hsm_rule.specs.States.{IsBetweenCalls, Shows}
 use Rattle.hsm_steps.proofs.Lists.{stand_together}
 use Rattle.hsm_steps.proofs.table.HartTable.join.Goals as goal
 
@@ -20,5 +20,5 @@ returns-clause-stands c = λ order i s st at stood.
 pub returns-clause-shows : goal.returns-clause-shows
 returns-clause-shows c = λ settled.
     let same = c.see.ensures.same in
-    let r = c.see.ensures.shows (λ h lt. subst (λ (d : HartSeatView). IsSettled h d.harts) same (settled h lt)) in
+    let r = c.see.ensures.shows (λ h lt. subst (λ (d : HartSeatView). IsBetweenCalls h d.harts) same (settled h lt)) in
     (r.0, subst (λ (d : HartSeatView). Shows (harts_of c.args.self.now) d r.0) (sym same) r.1)
