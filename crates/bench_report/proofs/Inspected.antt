@@ -5,7 +5,7 @@ use Rattle.board_model.specs.Kept.{Kept, found_of}
 use Rattle.board_model.specs.Shapes.{Size}
 use Rattle.disk.specs.Facts.{Content}
 use Rattle.layout.specs.declared.records.Record.{Record}
-use Rattle.layout.specs.declared.records.Saved.{Saved}
+use Rattle.layout.specs.declared.saved.Saved.{Saved}
 use Rattle.store.specs.Formats.{HeadInOrder}
 use Rattle.store.specs.Inspects.{KeepsImage, IsImageSeen, IsInspected}
 use Rattle.store.specs.Leaves.{IsMarked}

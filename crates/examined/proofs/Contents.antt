@@ -7,7 +7,7 @@ use Rattle.board_model.specs.declared.refusal.Refusal.TheVariants.{NotFormatted,
 use Rattle.disk.specs.Facts.{Content, sector}
 use Rattle.layout.specs.Superblocks.{magic, HasMagic}
 use Rattle.layout.specs.Records.{IsRecord}
-use Rattle.layout.specs.declared.records.Saved.{Saved}
+use Rattle.layout.specs.declared.saved.Saved.{Saved}
 use Rattle.layout.specs.declared.records.Record.{Record}
 use Rattle.store.specs.Opens.{IsBoard, ReadsAs}
 use Rattle.store.specs.Standing.{selected, live_sector, other_sector, saved_memory, state_of, StandsFor}

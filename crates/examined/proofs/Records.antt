@@ -11,7 +11,7 @@ use Rattle.disk.specs.Facts.{Content, sector}
 use Rattle.layout.specs.Fields.{Field, FitAll}
 use Rattle.layout.specs.Superblocks.{superblock_of}
 use Rattle.layout.specs.Records.{saved_fields, head_fields, record_of, most_places, AreCounts, IsSaved, AreSaved, IsTrialIn, IsInRange, IsRecord}
-use Rattle.layout.specs.declared.records.Saved.{Saved}
+use Rattle.layout.specs.declared.saved.Saved.{Saved}
 use Rattle.layout.specs.declared.records.Record.{Record}
 use Rattle.layout.specs.declared.records.Version.{Version}
 use Rattle.layout.specs.declared.records.Version.TheVariants.{One, Two}

@@ -9,7 +9,7 @@ use Rattle.layout.specs.declared.records.Version.{Version}
 use Rattle.layout.specs.declared.records.Version.TheVariants.{One, Two}
 use Rattle.board_model.specs.declared.durable.Trial.{Trial}
 use Rattle.layout.specs.Read.{StandsIn}
-use Rattle.layout.specs.declared.records.Saved.{Saved}
+use Rattle.layout.specs.declared.saved.Saved.{Saved}
 use Rattle.layout.specs.declared.records.Record.{Record}
 use Rattle.layout.proofs.SpelledRecords.{version_in, slot_in, reason_in, presence_in, next_in, image_in, record_is, no_trial, some_trial}
 

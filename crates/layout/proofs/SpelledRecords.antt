@@ -6,7 +6,7 @@ use Rattle.board_model.specs.declared.durable.Reason.{Reason}
 use Rattle.layout.specs.Fields.{Field, FitAll, number_bytes, fields_bytes, width_of, sector_of, number_at}
 use Rattle.layout.specs.Records.{selected_by, gate_of, version_number, head_fields, saved_fields, no_saved_fields, image_fields, trial_fields, presence_of, record_of, IsSaved, IsRecord}
 use Rattle.layout.specs.Read.{StandsIn}
-use Rattle.layout.specs.declared.records.Saved.{Saved}
+use Rattle.layout.specs.declared.saved.Saved.{Saved}
 use Rattle.layout.specs.declared.records.Record.{Record}
 use Rattle.layout.specs.declared.records.Version.{Version}
 use Rattle.layout.specs.declared.records.Version.TheVariants.{Two}

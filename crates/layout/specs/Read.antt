@@ -1,7 +1,7 @@
 -- The numbers of a sector that keep an image.
 use Rattle.std.specs.Prelude.{◌≡◌, ℕ, List, slice_index}
 use Rattle.layout.specs.Fields.{number_at}
-use Rattle.layout.specs.declared.records.Saved.{Saved}
+use Rattle.layout.specs.declared.saved.Saved.{Saved}
 
 pub record StandsIn (sector : List ℕ) (saved : Saved) : Type 0 where
   pub serial : number_at 8 24 sector ≡ saved.head.serial

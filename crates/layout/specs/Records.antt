@@ -8,7 +8,7 @@ use Rattle.board_model.specs.declared.durable.ImageHead.{ImageHead}
 use Rattle.board_model.specs.declared.durable.Durable.{Durable}
 use Rattle.board_model.specs.declared.durable.Trial.{Trial}
 use Rattle.layout.specs.Fields.{Field, FitAll, fields_bytes, sector_of}
-use Rattle.layout.specs.declared.records.Saved.{Saved}
+use Rattle.layout.specs.declared.saved.Saved.{Saved}
 use Rattle.layout.specs.declared.records.Record.{Record}
 use Rattle.layout.specs.declared.records.Version.{Version}
 use Rattle.layout.specs.declared.records.Version.TheVariants.{One, Two}

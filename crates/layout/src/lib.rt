@@ -6,16 +6,21 @@
 #![tactic(auto)]
 
 mod fields;
+mod gates;
 mod laws;
 mod places;
 mod records;
+mod saved;
 mod side;
 mod sizes;
 mod superblocks;
+mod trials;
 
+pub use gates::{gate_bytes, selected};
 pub use laws::{one_place_head, one_record, one_superblock};
 pub use places::{PlaceHead, parse_place_head, place_head_bytes};
-pub use records::{Record, Saved, Version, gate_bytes, parse_record, record_bytes, selected};
+pub use records::{Record, Version, parse_record, record_bytes};
+pub use saved::Saved;
 pub use side::Side;
 pub use sizes::{area_start, lane_start, place_start};
 pub use superblocks::{has_magic, parse_superblock, superblock_bytes};

@@ -18,7 +18,7 @@ use Rattle.board_model.specs.declared.durable.Reason.{Reason}
 use Rattle.board_model.specs.declared.durable.Reason.TheVariants.{NoReason, SystemFailure}
 use Rattle.disk.specs.Facts.{Content}
 use Rattle.layout.specs.Records.{durable_in, head_in, AreCounts, IsSaved, IsInRange, IsTrialIn}
-use Rattle.layout.specs.declared.records.Saved.{Saved}
+use Rattle.layout.specs.declared.saved.Saved.{Saved}
 use Rattle.layout.specs.declared.records.Record.{Record}
 use Rattle.layout.specs.declared.records.Version.TheVariants.{Two}
 use Rattle.store.specs.Standing.{image_of, state_of}

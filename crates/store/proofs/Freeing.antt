@@ -11,7 +11,7 @@ use Rattle.disk.specs.Moments.{leaves_none, leaves_more}
 use Rattle.layout.specs.Superblocks.{IsSuperblock}
 use Rattle.layout.specs.Records.{selected_by, IsRecord}
 use Rattle.layout.specs.Sizes.{area_start}
-use Rattle.layout.specs.declared.records.Saved.{Saved}
+use Rattle.layout.specs.declared.saved.Saved.{Saved}
 use Rattle.layout.specs.declared.records.Record.{Record}
 use Rattle.store.specs.Entries.{is_change, drop_image}
 use Rattle.store.specs.Taken.{are_taken}

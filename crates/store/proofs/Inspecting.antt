@@ -7,7 +7,7 @@ use Rattle.board_model.specs.declared.refusal.Refusal.TheVariants.{NotFormatted,
 use Rattle.board_model.specs.Shapes.{Size}
 use Rattle.layout.specs.Records.{IsRecord}
 use Rattle.layout.specs.declared.records.Record.{Record}
-use Rattle.layout.specs.declared.records.Saved.{Saved}
+use Rattle.layout.specs.declared.saved.Saved.{Saved}
 use Rattle.layout.proofs.Spellings.{one_size, superblock_has_magic}
 use Rattle.layout.proofs.OneSpelling.{one_record}
 use Rattle.disk.specs.Facts.{Content, Facts, sector, counted}

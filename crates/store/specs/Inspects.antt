@@ -7,7 +7,7 @@ use Rattle.board_model.specs.declared.refusal.Refusal.TheVariants.{NotFormatted,
 use Rattle.disk.specs.Facts.{Content, Facts, Failed, counted}
 use Rattle.layout.specs.Records.{IsRecord}
 use Rattle.layout.specs.declared.records.Record.{Record}
-use Rattle.layout.specs.declared.records.Saved.{Saved}
+use Rattle.layout.specs.declared.saved.Saved.{Saved}
 use Rattle.store.specs.Opens.{IsBoard, ReadsAs}
 use Rattle.store.specs.Standing.{selected, saved_memory, live_sector, other_sector}
 use Rattle.store.specs.declared.inspects.ImageSeen.{ImageSeen}

@@ -3,7 +3,7 @@ ghost use Rattle.std.specs.Prelude.{◌≡◌, ◌≤◌, ◌<◌, ◌+◌, ◌-
 ghost use Rattle.board_model.specs.Durable.{DurableState, Change, Suspend, after, fold, ends_life, refusal_of};
 ghost use Rattle.board_model.specs.Views.{change_of, change_in, number_of_refusal};
 ghost use Rattle.board_model.specs.Shapes.{Size, ram_bytes_of};
-ghost use Rattle.layout.specs.declared.records.Saved.{Saved};
+ghost use Rattle.layout.specs.declared.saved.Saved.{Saved};
 ghost use Rattle.image.specs.Refusals.{StopsWithin};
 ghost use Rattle.disk.specs.Facts.{Failed, Content};
 ghost use Rattle.store.specs.Standing.{state_of, memory_in};

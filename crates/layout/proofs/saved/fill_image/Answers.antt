@@ -1,9 +1,9 @@
 use Rattle.std.proofs.Common.{◌∙◌, ◌++◌, ℕ, List, Option, sym, ap}
 use Rattle.layout.specs.Fields.{fields_bytes}
 use Rattle.layout.specs.Records.{image_fields}
-use Rattle.layout.specs.declared.records.Saved.{Saved}
+use Rattle.layout.specs.declared.saved.Saved.{Saved}
 use Rattle.layout.proofs.SpelledRecords.{filled_no_image}
-use Rattle.layout.proofs.records.fill_image.Goals as goal
+use Rattle.layout.proofs.saved.fill_image.Goals as goal
 
 pub returns-in-None-clause-value : goal.returns-in-None-clause-value
 returns-in-None-clause-value c =

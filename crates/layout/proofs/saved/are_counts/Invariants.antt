@@ -1,6 +1,6 @@
 use Rattle.std.proofs.Common.{◌≡◌, ◌≤◌, ◌<◌, ◌*◌, ℕ, slice_index, take, sum}
 use Rattle.layout.specs.Records.{most_places}
-use Rattle.layout.proofs.records.are_counts.Given as goal
+use Rattle.layout.proofs.saved.are_counts.Given as goal
 
 abbrev pub invariant-loop-lane : goal.invariant-loop-lane
 invariant-loop-lane l = record {

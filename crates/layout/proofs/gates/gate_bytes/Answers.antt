@@ -1,6 +1,6 @@
 use Rattle.std.proofs.Common.{◌<◌, arith}
 use Rattle.layout.proofs.SpelledRecords.{selected_by-gate_of}
-use Rattle.layout.proofs.records.gate_bytes.Goals as goal
+use Rattle.layout.proofs.gates.gate_bytes.Goals as goal
 
 pub returns-clause-selects : goal.returns-clause-selects
 returns-clause-selects c =

@@ -1,5 +1,5 @@
 use Rattle.layout.proofs.SpelledRecords.{filled_trial, filled_no_trial}
-use Rattle.layout.proofs.records.fill_trial.Goals as goal
+use Rattle.layout.proofs.trials.fill_trial.Goals as goal
 
 pub returns-in-None : goal.returns-in-None
 returns-in-None c = let filled = filled_no_trial in cc

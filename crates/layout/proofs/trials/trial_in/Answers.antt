@@ -1,7 +1,7 @@
 use Rattle.std.proofs.Common.{◌≡◌, ◌∙◌, ◌<◌, ◌≤◌, ℕ, Option, None, Some, refl, sym, ap, arith}
 use Rattle.board_model.specs.declared.durable.Trial.{Trial}
 use Rattle.layout.proofs.SpelledRecords.{some_trial, reads_none, reads_some, reads_few, trial_of_two}
-use Rattle.layout.proofs.records.trial_in.Goals as goal
+use Rattle.layout.proofs.trials.trial_in.Goals as goal
 
 pub returns-in-0-clause-exact : goal.returns-in-0-clause-exact
 returns-in-0-clause-exact c r size is version =
