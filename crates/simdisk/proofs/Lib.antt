@@ -1,7 +1,9 @@
+pub mod AfterPoke
 pub mod Crossing
 pub mod Epochs
 pub mod Notes
-pub mod Parts
+pub mod Parted
+pub mod PartedLaid
 pub mod Pieces
 pub mod Ranges
 pub mod Replaced

@@ -1,5 +1,5 @@
 use Rattle.simdisk.specs.Views.{pieces}
-use Rattle.simdisk.proofs.Parts.{parts_more}
+use Rattle.simdisk.proofs.Parted.{parts_more}
 use Rattle.simdisk.proofs.poked.parts_of.Goals as goal
 
 pub loop-patch-preserved : goal.loop-patch-preserved

@@ -3,7 +3,7 @@ use Rattle.std.specs.List.{flat_map}
 use Rattle.simdisk.specs.Pokes.{parted}
 use Rattle.simdisk.specs.WriteLog.{Piece, synced_after}
 use Rattle.simdisk.specs.Views.{pieces}
-use Rattle.simdisk.proofs.Parts.{fits_parted}
+use Rattle.simdisk.proofs.Parted.{fits_parted}
 use Rattle.simdisk.proofs.history.History.set_sector.Goals as goal
 
 pub invariant_of-self : goal.invariant_of-self

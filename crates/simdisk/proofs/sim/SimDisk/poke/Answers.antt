@@ -7,7 +7,7 @@ use Rattle.simdisk.specs.Latest.{latest_of}
 use Rattle.simdisk.specs.Pokes.{bytes_put, poked, poked_log}
 use Rattle.simdisk.specs.WriteLog.{laid_over, synced}
 use Rattle.simdisk.proofs.Epochs.{fits_synced}
-use Rattle.simdisk.proofs.Parts.{fills_poked, agrees_poked, crash_poked}
+use Rattle.simdisk.proofs.AfterPoke.{fills_poked, agrees_poked, crash_poked}
 use Rattle.simdisk.proofs.sim.SimDisk.poke.Goals as goal
 
 -- what the sector holds, which was read from the content
