@@ -12,7 +12,7 @@ use Rattle.board_model.specs.declared.refusal.Refusal.{Refusal}
 use Rattle.board_model.specs.declared.refusal.Refusal.TheVariants.{Device, Down, BadShape, NoImage, BadImage}
 use Rattle.store.specs.Answers.{StoreView, Answered, StaysOpen, CountedRefusal}
 use Rattle.store.specs.Leaves.{Leaves, LeavesOnly, IsKept, StandsForEither, WroteACommand}
-use Rattle.store.specs.Lives.{Life, begun, now_of, Applied, Refused, LoadRefused}
+use Rattle.store.specs.Lives.{Life, now_of, Applied, Refused, LoadRefused}
 use Rattle.store.specs.Opens.{CausedRefusal}
 use Rattle.store.specs.Standing.{StandsFor}
 use Rattle.board.specs.Begins.{Issues}
@@ -247,12 +247,6 @@ module _ (c : Change) (old new : StoreView) (takes : TakesCommands old) (stays :
       (disk_refused old.life new.life c e takes.going takes.few free did.life)
 
 -- ---- the commands of a mode
-drops_few : (mode : BootMode) → length (drops_by mode) ≤ 1
-drops_few modes.Fresh = omega arith
-drops_few modes.Keep = omega arith
-drops_few modes.Discard = omega arith
-drops_few modes.Resume = omega arith
-
 -- the image that is dropped leaves the trial
 boots_by : (mode : BootMode) (s : DurableState) → mode ≢ modes.Resume → drops_by mode ++ attempts_of (fold s (drops_by mode)).trial ≡ commands_by mode s
 boots_by modes.Fresh s boots = refl
@@ -365,17 +359,6 @@ attempt_taken s is = ap (λ (b : Bool). if b then None else Some 20) is
 module _ (mode : BootMode) (old mid new : StoreView) (opened : IsOpen old) (dropped : AreIssued (drops_by mode) old mid) where
   abbrev counted : List Change
   counted = attempts_of (now_of mid.life).trial
-
-  pub takes_attempt : TakesCommands mid
-  takes_attempt =
-      let life : mid.life ≡ record (begun old.life.found) { journal = drops_by mode } = dropped.life ∙ ap (λ (l : Life). record l { journal = l.journal ++ drops_by mode }) opened.begins in
-      record {
-        sure = ap (λ (l : Life). l.doubt) life;
-        going = ap (λ (l : Life). l.over) life;
-        few = let same : length mid.life.journal ≡ length (drops_by mode) = ap (λ (l : Life). length l.journal) life in omega (arith, same, drops_few mode);
-        only = dropped.only;
-        none_out = dropped.none_out;
-      }
 
   commands_are : mode ≢ modes.Resume → drops_by mode ++ counted ≡ commands_by mode old.life.found
   commands_are boots =

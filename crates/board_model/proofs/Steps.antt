@@ -50,11 +50,6 @@ whole_by size s c (Left leaves) whole carries = subst (λ (i : Option Image). If
 pub whole_after : (size : Size) (s : DurableState) (c : Change) → IsWhole size s → CarriesWhole size c → IsWhole size (after s c)
 whole_after size s c whole carries = whole_by size s c (by_image c) whole carries
 
--- a command that carries no memory carries none of another size
-pub carries_none : (size : Size) (c : Command) → CarriesWhole size (change_of c)
-carries_none size (commands.Slot n) = tt
-carries_none size c = tt
-
 -- a command that spares the trial
 spared : (c : Change) → trial_step c ≡ SparesTrial → (s : DurableState) → ((after s c).slot ≡ s.slot) × ((after s c).trial ≡ s.trial)
 spared Attempt is s = cc

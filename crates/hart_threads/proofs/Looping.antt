@@ -1,15 +1,13 @@
 -- Turns one after another.
-use Rattle.std.proofs.Common.{◌≡◌, ◌+◌, ℕ, suc, Bool, List, [], ◌∷◌, Option, Some, None, is_some, ap, true, false, arith, refl, sym, ◌∙◌, subst, inl, inr}
+use Rattle.std.proofs.Common.{◌≡◌, ◌+◌, ℕ, suc, Bool, List, [], ◌∷◌, Option, Some, None, ap, true, false, arith, refl, sym, ◌∙◌, subst, inl, inr}
 use Rattle.board_model.specs.Shapes.{Size}
 use Rattle.board_model.specs.declared.durable.Entry.{Entry}
 use Rattle.sbi_abi.specs.declared.call.Call.{Call}
-use Rattle.shared_store.specs.Called.{AsksFor, IsToldBy}
+use Rattle.shared_store.specs.Called.{IsToldBy}
 use Rattle.shared_store.specs.Noted.{part_after}
 use Rattle.receipts.specs.declared.views.PartView.{PartView}
-use Rattle.std.specs.Option.{option_to_list}
 use Rattle.sbi_abi.specs.Calls.{call_of}
 use Rattle.sbi.specs.Words.{stage_told, word_of_sleep}
-use Rattle.sbi.specs.declared.words.LifeEnd.{LifeEnd}
 use Rattle.sbi.specs.declared.words.LifeEnd.TheVariants as ends
 use Rattle.sbi.specs.declared.words.Word.{Word}
 use Rattle.sbi.specs.declared.words.Word.TheVariants.{Goes, Over}
@@ -28,7 +26,7 @@ use Rattle.hart.specs.State.{ArchState}
 use Rattle.sbi_calls.specs.Both.{Known}
 use Rattle.hart_threads.specs.Looks.{Looked}
 use Rattle.hart_threads.specs.Seated.{StandsAfterTurn, StandsAfter}
-use Rattle.hart_threads.specs.Threads.{Seated, seated, HeldOnce, IsDozeBy, ComesOnce, OwnOnce, DozeOnce, TurnOnceBy, TurnOnce, TurnsOn, LoopOnce, is_end, ends_life, loop_goes_on}
+use Rattle.hart_threads.specs.Threads.{Seated, seated, HeldOnce, IsDozeBy, ComesOnce, OwnOnce, DozeOnce, TurnOnceBy, TurnOnce, TurnsOn, LoopOnce, loop_goes_on}
 use Rattle.hart_threads.specs.declared.loops.Why.TheVariants as whys
 
 -- ---- nothing was done yet
@@ -97,35 +95,12 @@ comes_none : (size : Size) (turned : Turned) (a b : Seated) (word : Word) (told 
 comes_none size (Made did) a b word told p on = p.2
 comes_none size Durable a b word told p on = held_none size (call_of a.hart) a.hart.id word told p.1 on
 
--- a turn in a doze ends no life
-dozing_on : (woken : Bool) (d : Doze) (a b : Seated) (word : Word) → DozeOnce woken d a b word → loop_goes_on word ≡ true
-dozing_on false d a b word p = ap loop_goes_on p.1
-dozing_on true d a b word p = ap loop_goes_on p.4
-
 none_by : (doze : Option Doze) (size : Size) (a b : Seated) (word : Word) (told : Option (ℕ × Entry)) → TurnOnceBy doze size a b word told → loop_goes_on word ≡ true → told ≡ None
 none_by None size a b word told p on = comes_none size p.2 p.3 b word told p.5 on
 none_by (Some d) size a b word told p on = p.2
 
 turn_none : (size : Size) (a b : Seated) (word : Word) (told : Option (ℕ × Entry)) → TurnOnce size a b word told → loop_goes_on word ≡ true → told ≡ None
 turn_none size a b word told p on = none_by a.doze size a b word told p on
-
-held_some : (size : Size) (call : Call) (by : ℕ) (word : Word) (told : Option (ℕ × Entry)) → IsToldBy size call by word told → loop_goes_on word ≡ false → is_some told ≡ true
-held_some size call by (Goes did) told is off = let n : ⊥ = cc in absurd n
-held_some size call by (Over end) told is off = ap (λ (o : Option (ℕ × Entry)). is_some o) is.1
-
-own_some : (did : Did) (word : Word) (told : Option (ℕ × Entry)) → word ≡ Goes did → loop_goes_on word ≡ false → is_some told ≡ true
-own_some did word told e off = let f = subst (λ (w : Word). loop_goes_on w ≡ false) e off in let n : ⊥ = cc in absurd n
-
-comes_some : (size : Size) (turned : Turned) (a b : Seated) (word : Word) (told : Option (ℕ × Entry)) → ComesOnce size turned a b word told → loop_goes_on word ≡ false → is_some told ≡ true
-comes_some size (Made did) a b word told p off = own_some did word told p.1 off
-comes_some size Durable a b word told p off = held_some size (call_of a.hart) a.hart.id word told p.1 off
-
-some_by : (doze : Option Doze) (size : Size) (a b : Seated) (word : Word) (told : Option (ℕ × Entry)) → TurnOnceBy doze size a b word told → loop_goes_on word ≡ false → is_some told ≡ true
-some_by None size a b word told p off = comes_some size p.2 p.3 b word told p.5 off
-some_by (Some d) size a b word told p off = let no : ◌≡◌ {A = Bool} true false = sym (dozing_on p.0 d a b word p.1) ∙ off in let n : ⊥ = cc in absurd n
-
-pub turn_some : (size : Size) (a b : Seated) (word : Word) (told : Option (ℕ × Entry)) → TurnOnce size a b word told → loop_goes_on word ≡ false → is_some told ≡ true
-turn_some size a b word told p off = some_by a.doze size a b word told p off
 
 -- ---- one turn more
 pub one_more : (size : Size) (answers : ℕ → Bool → Type 0) (hears : ℕ → Type 0) (n : ℕ) (a mid b : Seated) (word : Word) (told : Option (ℕ × Entry)) → TurnsOn size answers hears n a mid → TurnOnce size mid b word told → loop_goes_on word ≡ true
@@ -140,32 +115,8 @@ pub ended_life : (size : Size) (answers : ℕ → Bool → Type 0) (hears : ℕ 
     → answers n true → hears n → LoopOnce size answers hears turns (n + 1) a b whys.Life told
 ended_life size answers hears turns n a mid b word told many once off said heard = let e : n + 1 ≡ suc n = omega arith in (n, mid, word, e, many, once, off, said, heard)
 
--- ---- what a receipt is of
-asked_ends : (size : Size) (call : Call) (by : ℕ) (end : LifeEnd) (entry : Entry) → AsksFor size call by end entry → is_end entry ≡ true
-asked_ends size call by (ends.Reset kind) entry p = ap is_end p.2
-asked_ends size call by ends.Asleep entry p = ap is_end p.3
-
-told_ends : (size : Size) (call : Call) (by : ℕ) (word : Word) (told : Option (ℕ × Entry)) → IsToldBy size call by word told → ends_life told ≡ true
-told_ends size call by (Goes did) told is = ap ends_life is
-told_ends size call by (Over end) told is = ap ends_life is.1 ∙ asked_ends size call by end is.0.1 is.2
-
-comes_ends : (size : Size) (turned : Turned) (a b : Seated) (word : Word) (told : Option (ℕ × Entry)) → ComesOnce size turned a b word told → ends_life told ≡ true
-comes_ends size (Made did) a b word told p = ap ends_life p.2
-comes_ends size Durable a b word told p = told_ends size (call_of a.hart) a.hart.id word told p.1
-
-ends_by : (doze : Option Doze) (size : Size) (a b : Seated) (word : Word) (told : Option (ℕ × Entry)) → TurnOnceBy doze size a b word told → ends_life told ≡ true
-ends_by None size a b word told p = comes_ends size p.2 p.3 b word told p.5
-ends_by (Some d) size a b word told p = ap ends_life p.2
-
-pub turn_ends : (size : Size) (a b : Seated) (word : Word) (told : Option (ℕ × Entry)) → TurnOnce size a b word told → ends_life told ≡ true
-turn_ends size a b word told p = ends_by a.doze size a b word told p
-
 -- ---- a part that a turn was told nothing for
 pub kept_part : (size : Size) (a b : Seated) (word : Word) (told : Option (ℕ × Entry)) (first now next : PartView) → TurnOnce size a b word told → loop_goes_on word ≡ true → now ≡ first → next ≡ part_after told now → next ≡ first
 kept_part size a b word told first now next once on same is =
     let none = turn_none size a b word told once on in
     is ∙ (ap (λ (o : Option (ℕ × Entry)). part_after o now) none ∙ same)
-
-pub noted_fresh : (told : Option (ℕ × Entry)) (first part : PartView) → first.told ≡ [] → part ≡ part_after told first → part.told ≡ option_to_list told
-noted_fresh None first part fresh is = ap (λ (d : PartView). d.told) is ∙ fresh
-noted_fresh (Some t) first part fresh is = ap (λ (d : PartView). d.told) is ∙ ap (λ (ts : List (ℕ × Entry)). t ∷ ts) fresh

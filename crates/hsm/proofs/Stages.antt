@@ -33,9 +33,6 @@ at_running st st' p q r (start_pending a o) at = absurd (true≢false (sym at �
 at_running st st' p q r started at = r
 at_running st st' p q r suspended at = absurd (true≢false (sym at ∙ q))
 
-stopped_outside : (st : Stage) → IsAt stopped st → is_outside st ≡ true
-stopped_outside st at = at
-
 -- ---- what the word says
 pub stopped_of : (found h : ℕ) (x : HartState) → Says found h x → bit_at found h ≡ 0 → x ≡ stopped
 stopped_of found h stopped says z = refl

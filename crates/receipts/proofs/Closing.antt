@@ -1,5 +1,5 @@
 -- Where all parts are back, what they were told is the journal.
-use Rattle.std.proofs.Common.{◌≡◌, ℕ, zero, suc, ◌+◌, ◌<◌, List, [], ◌∷◌, ◌++◌, length, map, Some, refl, sym, ap, ◌∙◌, subst, arith, eq-eqb, ne_eqb, length-append}
+use Rattle.std.proofs.Common.{◌≡◌, ℕ, zero, suc, ◌+◌, ◌<◌, List, [], ◌∷◌, ◌++◌, length, Some, refl, sym, ap, ◌∙◌, subst, arith, eq-eqb, ne_eqb, length-append}
 use Rattle.std.specs.Prelude.{slice_get}
 use mathlib.Core.Logic.{dite}
 use native.Mathlib.Decide.{ℕ_discrete}
@@ -46,11 +46,6 @@ module _ {A : Type 0} where
       further : Where ys x k p → Where (y ∷ ys) x (suc k) p
       further (there t) = there t
       further (last n is) = last (ap suc n) is
-
-  get_map : {B : Type 0} (f : A → B) (xs : List A) (k : ℕ) (y : B) → slice_get (map f xs) k ≡ Some y → (x : A) × (slice_get xs k ≡ Some x) × (f x ≡ y)
-  get_map f [] k y e = absurd (cc)
-  get_map f (x ∷ xs) zero y e = (x, refl, ap (some_or (f x)) e)
-  get_map f (x ∷ xs) (suc k) y e = get_map f xs k y e
 
 stands_on : (j : List Entry) (entry : Entry) (ts : List (ℕ × Entry)) → Each (StandsIn j) ts → Each (StandsIn (j ++ entry ∷ [])) ts
 stands_on j entry [] all = tt

@@ -42,9 +42,6 @@ last_last rs r i is = record {
   apart = λ j more lt. absurd (omega (arith, is, more, lt, length-append rs (r ∷ [])));
 }
 
-pub last_alone : (x r : ℕ × ℕ) → x ≡ r → IsLatest (x ∷ []) 0 r
-last_alone x r is = record { noted = (omega arith, is); apart = λ j more lt. absurd (omega (arith, more, lt)) }
-
 -- what may be written while sectors are lent
 pub apart_lent : (l : Lent) (first n : ℕ) → 0 < l.lanes → Apart first n l → (first + n ≤ l.first) ⊎ (l.first + l.lanes * l.each ≤ first)
 apart_lent l first n some (inl none) = absurd (omega (arith, some, none))

@@ -28,14 +28,6 @@ synced_append (x ∷ xs) ys c = synced_append xs ys (replay x c)
 synced_parts : (t : ℕ) (past : List (List Piece)) (c : Content) → synced_after (drop t past) (synced_after (take t past) c) ≡ synced_after past c
 synced_parts t past c = sym (synced_append (take t past) (drop t past) c) ∙ ap (λ (es : List (List Piece)). synced_after es c) (take-append-drop t past)
 
--- nothing is written
-pub passes_same : (now new stood stood' : Content) (r r' : WriteLog) (f g i j : ℕ) (l m : Lent) → r' ≡ r → stood' ≡ stood → Passes (sim_facts now stood r f i l) (sim_facts new stood' r' g j m) Stays
-passes_same now new stood stood' r r' f g i j l m same is =
-    subst (λ (s : Content). Passes (sim_facts now stood r f i l) (sim_facts new s r' g j m) Stays) (sym is) (subst (λ (q : WriteLog). Passes (sim_facts now stood r f i l) (sim_facts new stood q g j m) Stays) (sym same) stays)
-  where
-    stays : Passes (sim_facts now stood r f i l) (sim_facts new stood r g j m) Stays
-    stays = record { later = omega arith; now = λ c a. (c, a, refl); nothing_else = λ t c le left. inl left; keeps = λ t c le left. left }
-
 -- the bytes of what is written change, and no range of it
 pub passes_ranges : (now new stood stood' : Content) (r r' : WriteLog) (f g i j : ℕ) (l m : Lent) → ranges r'.written ≡ ranges r.written → r'.past ≡ r.past → r'.began ≡ r.began → stood' ≡ stood
     → Passes (sim_facts now stood r f i l) (sim_facts new stood' r' g j m) Stays

@@ -95,10 +95,6 @@ range_at rs i = get_or rs i (0, 0)
 abbrev pub AreWithin : ℕ → List (ℕ × ℕ) → Type 0
 AreWithin n rs = (i : ℕ) → i < length rs → (range_at rs i).0 + (range_at rs i).1 ≤ n
 
--- so does each of these syncs
-abbrev pub AreAllWithin : ℕ → List (List Piece) → Type 0
-AreAllWithin n past = (i : ℕ) → i < length past → AreWithin n (ranges (get_or past i []))
-
 -- a crash before one of these syncs might have left it, where that content stood when they began
 abbrev pub Had : Content → List (List Piece) → Content → Type 0
 Had stood [] c = ⊥

@@ -1,15 +1,14 @@
 -- The record that a command makes stands for the state after the command.
-use Rattle.std.proofs.Common.{◌≡◌, ◌∙◌, ◌==◌, ◌||◌, zero, suc, ℕ, ◌+◌, ◌≤◌, ◌<◌, ◌^◌, List, [], ◌∷◌, slice_index, sum, Option, Some, None, is_some, nat_lt, if◌then◌else◌, true, false, Bool, refl, sym, ap, subst, arith}
+use Rattle.std.proofs.Common.{◌≡◌, ◌∙◌, ◌==◌, ◌||◌, zero, suc, ℕ, ◌+◌, ◌≤◌, ◌<◌, ◌^◌, List, [], ◌∷◌, slice_index, sum, Option, Some, None, is_some, if◌then◌else◌, refl, sym, ap, subst, arith}
 use Rattle.board_model.specs.Durable.{DurableState, HasValidNumbers, refusal_of, after}
 use Rattle.board_model.proofs.Steps.{ByCommand, Drops, Keeps, by_command}
 use Rattle.board_model.proofs.Table.{stays_valid}
 use Rattle.std.specs.Prelude.{IfSome}
 use Rattle.store.specs.Entries.{is_change}
 use Rattle.board_model.specs.declared.durable.Entry.TheVariants as entries
-use Rattle.std.proofs.lemmas.Bool.Decides.{nat_tests}
 use Rattle.std.proofs.lemmas.List.Sums.{sum_by-cons}
 use Rattle.board_model.specs.declared.durable.ImageHead.{ImageHead}
-use Rattle.board_model.specs.Shapes.{Size, IsSize, IsValidAddress}
+use Rattle.board_model.specs.Shapes.{Size}
 use Rattle.board_model.specs.Views.{change_of, durable_of, head_of, reason_number}
 use Rattle.board_model.specs.declared.durable.Command.{Command}
 use Rattle.board_model.specs.declared.durable.Durable.{Durable}
@@ -17,12 +16,12 @@ use Rattle.board_model.specs.declared.durable.Trial.{Trial}
 use Rattle.board_model.specs.declared.durable.Reason.{Reason}
 use Rattle.board_model.specs.declared.durable.Reason.TheVariants.{NoReason, SystemFailure}
 use Rattle.disk.specs.Facts.{Content}
-use Rattle.layout.specs.Records.{durable_in, head_in, AreCounts, IsSaved, IsInRange, IsTrialIn}
+use Rattle.layout.specs.Records.{durable_in, head_in, IsInRange, IsTrialIn}
 use Rattle.layout.specs.declared.saved.Saved.{Saved}
 use Rattle.layout.specs.declared.records.Record.{Record}
 use Rattle.layout.specs.declared.records.Version.TheVariants.{Two}
 use Rattle.store.specs.Standing.{image_of, state_of}
-use Rattle.store.specs.Follows.{next_of, durable_after, suspended, Follows}
+use Rattle.store.specs.Follows.{next_of, Follows}
 use Rattle.store.proofs.Renewing.{trial_in_two}
 
 -- the record's durable state is that of its state
@@ -127,39 +126,3 @@ at_most : (xs : List ℕ) (i : ℕ) → slice_index xs i ≤ sum xs
 at_most [] i = omega arith
 at_most (x ∷ xs) zero = let all : sum (x ∷ xs) ≡ x + sum xs = sum_by-cons (λ y. y) x xs in omega (arith, all)
 at_most (x ∷ xs) (suc i) = let all : sum (x ∷ xs) ≡ x + sum xs = sum_by-cons (λ y. y) x xs in let rest = at_most xs i in omega (arith, all, rest)
-
-abbrev image_saved : ℕ → ℕ → ℕ → ℕ → ℕ → List ℕ → Saved
-image_saved serial hart address opaque area counts = record { head = record { serial = serial; hart = hart; address = address; opaque = opaque }; area = area; counts = counts }
-
--- a suspension's record
-pub suspend_follows : (size : Size) (r : Record) (hart address opaque area : ℕ) (counts : List ℕ) → IsSize size → r.next + 1 < 2 ^ 64 → hart < size.harts → IsValidAddress size address
-    → opaque < 2 ^ 64 → area < 2 → AreCounts size counts
-    → Follows size r (entries.Suspend hart address opaque)
-    (suspended (durable_after r hart address opaque) area counts)
-suspend_follows size r hart address opaque area counts is room small valid wide two are = record {
-  state = λ content. refl;
-  in_range = λ range. record {
-    slot = range.slot;
-    image = λ saved there. subst (IsSaved size (r.next + 1)) (same saved there) kept;
-    trial = trial_in_two r.version r.trial range.trial;
-    fit = (omega arith, (range.fit.1.0, (range.fit.1.1.0, (omega arith, (omega (arith, room), tt)))));
-  };
-  version = refl;
-  image = λ keeps. cc;
-}
-  where
-    same : (saved : Saved) → Some (image_saved r.next hart address opaque area counts) ≡ Some saved → image_saved r.next hart address opaque area counts ≡ saved
-    same saved there = cc
-
-    count : (i : ℕ) → slice_index counts i < 256 ^ 4
-    count i = let most = at_most counts i in omega (arith, most, are.all, is.3)
-
-    kept : IsSaved size (r.next + 1) (image_saved r.next hart address opaque area counts)
-    kept = record {
-      serial = omega arith;
-      area = two;
-      hart = small;
-      address = valid;
-      counts = are;
-      fit = (omega (arith, room), (omega (arith, two), (omega (arith, small, is.1), (omega (arith, valid.1, is.3), (omega (arith, wide), (count 0, (count 1, (count 2, (count 3, tt)))))))));
-    }
