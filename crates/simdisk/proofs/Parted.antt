@@ -64,7 +64,7 @@ module _ (k : ℕ) (p : Piece) where
     pub own_before : Outside k (part_before k p)
     own_before = inr (omega (arith, long_before, le))
 
-    own_behind : Outside k (part_behind k p)
+    pub own_behind : Outside k (part_behind k p)
     own_behind = inl (omega arith)
 
 -- another sector is touched by the parts where it is by the pieces

@@ -7,7 +7,7 @@ use Rattle.disk.specs.Facts.{Content, sector}
 use Rattle.simdisk.specs.WriteLog.{Piece, laid_over, replay, ranges, AreWithin}
 use Rattle.simdisk.specs.Pokes.{part_before, part_behind, parted}
 use Rattle.simdisk.proofs.Pieces.{length-put, put_low, put_mid, put_high, fits_here, fits_rest}
-use Rattle.simdisk.proofs.Parted.{Outside, where_is, parted_by, long_before, long_behind, out_before, out_behind, own_before}
+use Rattle.simdisk.proofs.Parted.{Outside, where_is, parted_by, long_before, long_behind, out_before, out_behind, own_before, own_behind}
 
 put_out : (p : Piece) (c : Content) (j : ℕ) → p.0 + length p.1 ≤ length c → Outside j p → sector (laid_over p c) j ≡ sector c j
 put_out p c j within (inl low) = put_low p.0 p.1 c within j low
