@@ -7,9 +7,13 @@ use Rattle.clap.specs.declared.builder.value_parser.ValueParser.TheVariants.{Non
 use Rattle.command_line.specs.Flags.{flag_rule}
 use lib.Chars.{codes}
 
--- an option with one value
+-- an option with one value, whatever it is
+abbrev pub option_rule : Text → Rule
+option_rule id = record (new_rule id) { long = Some id; action = Some Set; value_names = 1 }
+
+-- an option with one value that this parser takes
 abbrev pub value_rule : Text → ValueParser → Rule
-value_rule id parser = record (new_rule id) { long = Some id; action = Some Set; value_names = 1; parser = Some parser }
+value_rule id parser = record (option_rule id) { parser = Some parser }
 
 abbrev pub path_rule : Text → Rule
 path_rule id = value_rule id NonEmptyString

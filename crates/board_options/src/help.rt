@@ -3,7 +3,7 @@
 ghost use Rattle.std.specs.Prelude.{◌≡◌, false, IfOk};
 ghost use Rattle.clap.specs.Words.{app_of, rule_of};
 ghost use Rattle.clap.specs.declared.builder.value_parser.ValueParser.{ValueParser as Parser};
-ghost use Rattle.board_options.specs.Lines.{path_rule, number_rule, board_line, sbiboard};
+ghost use Rattle.board_options.specs.Lines.{option_rule, path_rule, number_rule, board_line, sbiboard};
 
 use board_model::refusal_lines;
 use clap::builder::ValueParser;
@@ -105,18 +105,26 @@ pub const PAYLOADS: [&str; 4] = ["p0", "p1", "p2", "p3"];
 /// The most turns of a hart.
 pub const MOST_TURNS: u64 = 1_000_000_000;
 
+/// An option with one value, which help calls so.
+fn option<'a>(alloc: Global, id: &'a str, value: &'a str, help: &'a str) -> Arg<'a>
+    ensures rule { rule_of result ≡ option_rule id.entry.now }
+    ensures local { result.global ≡ false }
+{
+    Arg::new(alloc, id)
+        .long(id)
+        .value_name(value)
+        .action(ArgAction::Set)
+        .help(help)
+}
+
 /// An option with a number from 1 to `most`.
 fn number<'a>(alloc: Global, id: &'a str, most: u64, default: &'a str, help: &'a str) -> Arg<'a>
     ensures rule { rule_of result ≡ number_rule id.entry.now most default.entry.now }
     ensures local { result.global ≡ false }
 {
-    Arg::new(alloc, id)
-        .long(id)
-        .value_name("N")
+    option(alloc, id, "N", help)
         .value_parser(ValueParser::unsigned(1, most))
         .default_value(default)
-        .action(ArgAction::Set)
-        .help(help)
 }
 
 /// An option with a path.
@@ -124,25 +132,16 @@ fn path<'a>(alloc: Global, id: &'a str, help: &'a str) -> Arg<'a>
     ensures rule { rule_of result ≡ path_rule id.entry.now }
     ensures local { result.global ≡ false }
 {
-    Arg::new(alloc, id)
-        .long(id)
-        .value_name("PATH")
-        .value_parser(ValueParser::NonEmptyString)
-        .action(ArgAction::Set)
-        .help(help)
+    option(alloc, id, "PATH", help).value_parser(ValueParser::NonEmptyString)
 }
 
 /// The command without its payload files.
 fn board<'a>(alloc: Global) -> Result<Command<'a>, AllocError>
     ensures { IfOk result (λ c. (modes : Parser) × (app_of c ≡ board_line modes)) }
 {
-    let mode = Arg::new(alloc, MODE)
-        .long(MODE)
-        .value_name("MODE")
+    let mode = option(alloc, MODE, "MODE", "How the board is powered on")
         .value_parser(["fresh", "keep", "discard", "resume"].as_slice())
-        .required(true)
-        .action(ArgAction::Set)
-        .help("How the board is powered on");
+        .required(true);
     Command::new(alloc, "sbiboard")
         .version(VERSION)
         .override_usage(USAGE)

@@ -30,10 +30,14 @@ fn path(alloc: Global, matches: &ArgMatches<'_>, id: &str) -> Result<Option<Stri
     ensures named { IfOk result (λ path. option_map string_bytes path
         ≡ path_named (first_value (found_of matches.now) id.now)) }
 {
-    match matches.get_str(id) {
-        Some(text) if !text.is_empty() => Ok(Some(text.to_string(alloc)?)),
-        _ => Ok(None),
+    let Some(text) = matches.get_str(id) else {
+        return Ok(None);
+    };
+    if text.is_empty() {
+        return Ok(None);
     }
+    let path = text.to_string(alloc)?;
+    Ok(Some(path))
 }
 
 /// The payload files, by slot.

@@ -17,21 +17,16 @@ is_global a = a.global
 pub returns : goal.returns
 returns c =
     let modes = c.value_parser.ensures.given.0 in
-    let m1 : rule_of c.long.result ≡ record (new_rule (codes "mode")) { long = Some (codes "mode") } =
-    ap rule_of c.long.ensures ∙ ap (λ (r : Rule). record r { long = Some (codes "mode") }) c.new.ensures.rule in
-    let m2 = ap rule_of c.value_name.ensures ∙ ap (λ (r : Rule). record r { value_names = 1 }) m1 in
-    let m3 = ap rule_of c.value_parser.ensures.others ∙ ap₂ (λ (r : Rule) (p : Option ValueParser). record r { parser = p }) m2 c.value_parser.ensures.given.1 in
-    let m4 = ap rule_of c.required.ensures ∙ ap (λ (r : Rule). record r { required = true }) m3 in
-    let m5 = ap rule_of c.action.ensures ∙ ap (λ (r : Rule). record r { action = Some Set }) m4 in
-    let mode_is : rule_of c.help-mode.result ≡ required (value_rule (codes "mode") modes) = ap rule_of c.help-mode.ensures ∙ m5 in
-    let disk_is : rule_of c.required-2.result ≡ required (path_rule (codes "disk")) = ap rule_of c.required-2.ensures ∙ ap required c.path.ensures.rule in
-    let a1 : app_of c.version.result ≡ named_app = ap app_of_fields c.version.ensures ∙ ap with_version c.new-2.ensures.app in
+    let m1 : rule_of c.value_parser.result ≡ value_rule (codes "mode") modes =
+    ap rule_of c.value_parser.ensures.others ∙ ap₂ (λ (r : Rule) (p : Option ValueParser). record r { parser = p }) c.option.ensures.rule c.value_parser.ensures.given.1 in
+    let mode_is : rule_of c.required-mode.result ≡ required (value_rule (codes "mode") modes) = ap rule_of c.required-mode.ensures ∙ ap required m1 in
+    let disk_is : rule_of c.required.result ≡ required (path_rule (codes "disk")) = ap rule_of c.required.ensures ∙ ap required c.path.ensures.rule in
+    let a1 : app_of c.version.result ≡ named_app = ap app_of_fields c.version.ensures ∙ ap with_version c.new.ensures.app in
     let a2 : app_of c.override_usage.result ≡ named_app = ap app_of_fields c.override_usage.ensures ∙ a1 in
     let a3 : app_of c.about.result ≡ named_app = ap app_of_fields c.about.ensures ∙ a2 in
     let named_is : app_of c.after_help.result ≡ named_app = ap app_of_fields c.after_help.ensures ∙ a3 in
-    let mode_local : c.help-mode.result.global ≡ false =
-    ap is_global c.help-mode.ensures ∙ ap is_global c.action.ensures ∙ ap is_global c.required.ensures ∙ ap is_global c.value_parser.ensures.others ∙ ap is_global c.value_name.ensures ∙ ap is_global c.long.ensures ∙ c.new.ensures.optional.1 in
-    let disk_local : c.required-2.result.global ≡ false = ap is_global c.required-2.ensures ∙ c.path.ensures.local in
+    let mode_local : c.required-mode.result.global ≡ false = ap is_global c.required-mode.ensures ∙ ap is_global c.value_parser.ensures.others ∙ c.option.ensures.local in
+    let disk_local : c.required.result.global ≡ false = ap is_global c.required.ensures ∙ c.path.ensures.local in
     let one = c.in_ok-arg.ensures.shape disk_local ∙ ap₂ with_rule named_is disk_is in
     let two = c.in_ok-arg-2.ensures.shape mode_local ∙ ap₂ with_rule one mode_is in
     let three = c.in_ok-arg-3.ensures.shape c.flag.ensures.local ∙ ap₂ with_rule two c.flag.ensures.rule in
