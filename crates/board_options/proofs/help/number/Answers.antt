@@ -1,8 +1,8 @@
-use Rattle.std.proofs.Common.{◌≡◌, ◌∙◌, Bool, Some, [], ◌∷◌, false, ap, ap₂, Option}
+use Rattle.std.proofs.Common.{◌≡◌, ◌∙◌, Bool, [], ◌∷◌, ap, ap₂, Option}
 use Rattle.clap.specs.Words.{Rule, rule_of}
 use Rattle.clap.specs.declared.builder.arg.Arg.{Arg}
 use Rattle.clap.specs.declared.builder.value_parser.ValueParser.{ValueParser}
-use Rattle.board_options.specs.Lines.{option_rule, value_rule}
+use Rattle.board_options.specs.Lines.{value_rule}
 use Rattle.board_options.proofs.help.number.Goals as goal
 
 abbrev is_global : Arg → Bool
