@@ -3,7 +3,7 @@
 ghost use Rattle.std.specs.Prelude.{◌≡◌, false, IfOk};
 ghost use Rattle.clap.specs.Words.{app_of, rule_of};
 ghost use Rattle.clap.specs.declared.builder.value_parser.ValueParser.{ValueParser as Parser};
-ghost use Rattle.board_options.specs.Lines.{path_rule, number_rule, board_line, sbiboard};
+ghost use Rattle.board_options.specs.Lines.{option_rule, path_rule, number_rule, mode_rule, named_app, board_line, with_shape, with_payloads, sbiboard};
 
 use board_model::refusal_lines;
 use clap::builder::ValueParser;
@@ -105,18 +105,26 @@ pub const PAYLOADS: [&str; 4] = ["p0", "p1", "p2", "p3"];
 /// The most turns of a hart.
 pub const MOST_TURNS: u64 = 1_000_000_000;
 
+/// An option with one value, which help calls so.
+fn option<'a>(alloc: Global, id: &'a str, value: &'a str, help: &'a str) -> Arg<'a>
+    ensures rule { rule_of result ≡ option_rule id.entry.now }
+    ensures local { result.global ≡ false }
+{
+    Arg::new(alloc, id)
+        .long(id)
+        .value_name(value)
+        .action(ArgAction::Set)
+        .help(help)
+}
+
 /// An option with a number from 1 to `most`.
 fn number<'a>(alloc: Global, id: &'a str, most: u64, default: &'a str, help: &'a str) -> Arg<'a>
     ensures rule { rule_of result ≡ number_rule id.entry.now most default.entry.now }
     ensures local { result.global ≡ false }
 {
-    Arg::new(alloc, id)
-        .long(id)
-        .value_name("N")
+    option(alloc, id, "N", help)
         .value_parser(ValueParser::unsigned(1, most))
         .default_value(default)
-        .action(ArgAction::Set)
-        .help(help)
 }
 
 /// An option with a path.
@@ -124,32 +132,37 @@ fn path<'a>(alloc: Global, id: &'a str, help: &'a str) -> Arg<'a>
     ensures rule { rule_of result ≡ path_rule id.entry.now }
     ensures local { result.global ≡ false }
 {
-    Arg::new(alloc, id)
-        .long(id)
-        .value_name("PATH")
-        .value_parser(ValueParser::NonEmptyString)
-        .action(ArgAction::Set)
-        .help(help)
+    option(alloc, id, "PATH", help).value_parser(ValueParser::NonEmptyString)
 }
 
-/// The command without its payload files.
-fn board<'a>(alloc: Global) -> Result<Command<'a>, AllocError>
-    ensures { IfOk result (λ c. (modes : Parser) × (app_of c ≡ board_line modes)) }
+/// How the board is powered on.
+fn mode<'a>(alloc: Global) -> Arg<'a>
+    ensures rule { (modes : Parser) × (rule_of result ≡ mode_rule modes) }
+    ensures local { result.global ≡ false }
 {
-    let mode = Arg::new(alloc, MODE)
-        .long(MODE)
-        .value_name("MODE")
+    option(alloc, MODE, "MODE", "How the board is powered on")
         .value_parser(["fresh", "keep", "discard", "resume"].as_slice())
         .required(true)
-        .action(ArgAction::Set)
-        .help("How the board is powered on");
+}
+
+/// The command without an option.
+fn named<'a>(alloc: Global) -> Command<'a>
+    ensures { app_of result ≡ named_app }
+{
     Command::new(alloc, "sbiboard")
         .version(VERSION)
         .override_usage(USAGE)
         .about(ABOUT)
         .after_help(NUMBERS)
+}
+
+/// The command with the disk's options.
+fn board<'a>(alloc: Global) -> Result<Command<'a>, AllocError>
+    ensures { IfOk result (λ c. (modes : Parser) × (app_of c ≡ board_line modes)) }
+{
+    named(alloc)
         .arg(path(alloc, DISK, "The disk's file").required(true))?
-        .arg(mode)?
+        .arg(mode(alloc))?
         .arg(flag(
             alloc,
             NEW,
@@ -162,23 +175,38 @@ fn board<'a>(alloc: Global) -> Result<Command<'a>, AllocError>
         ))
 }
 
+/// The command with the shape of a new disk.
+fn shaped<'a>(alloc: Global, command: Command<'a>) -> Result<Command<'a>, AllocError>
+    ensures { IfOk result (λ c. app_of c ≡ with_shape (app_of command.entry)) }
+{
+    command
+        .arg(number(alloc, HARTS, 8, "1", "Harts of a new disk's board, 1 to 8"))?
+        .arg(number(alloc, PAGES, 256, "1", "Its pages of RAM, 1 to 256"))?
+        .arg(number(alloc, LANES, 4, "1", "Its saver lanes, 1 to 4"))
+}
+
+/// The command with the files of the payloads.
+fn booted<'a>(alloc: Global, command: Command<'a>) -> Result<Command<'a>, AllocError>
+    ensures { IfOk result (λ c. app_of c ≡ with_payloads (app_of command.entry)) }
+{
+    command
+        .arg(path(alloc, PAYLOADS[0], "What boot slot 0 boots"))?
+        .arg(path(alloc, PAYLOADS[1], "What boot slot 1 boots"))?
+        .arg(path(alloc, PAYLOADS[2], "What boot slot 2 boots"))?
+        .arg(path(alloc, PAYLOADS[3], "What boot slot 3 boots"))
+}
+
 /// The command.
 pub fn command<'a>(alloc: Global) -> Result<Command<'a>, AllocError>
     ensures { IfOk result (λ c. (modes : Parser) × (app_of c ≡ sbiboard modes)) }
 {
-    board(alloc)?
-        .arg(number(alloc, HARTS, 8, "1", "Harts of a new disk's board, 1 to 8"))?
-        .arg(number(alloc, PAGES, 256, "1", "Its pages of RAM, 1 to 256"))?
-        .arg(number(alloc, LANES, 4, "1", "Its saver lanes, 1 to 4"))?
-        .arg(path(alloc, PAYLOADS[0], "What boot slot 0 boots"))?
-        .arg(path(alloc, PAYLOADS[1], "What boot slot 1 boots"))?
-        .arg(path(alloc, PAYLOADS[2], "What boot slot 2 boots"))?
-        .arg(path(alloc, PAYLOADS[3], "What boot slot 3 boots"))?
-        .arg(number(
-            alloc,
-            TURNS,
-            MOST_TURNS,
-            "1000000",
-            "Turns that each hart makes at most, 1 to 1000000000",
-        ))
+    let board = board(alloc)?;
+    let shaped = shaped(alloc, board)?;
+    booted(alloc, shaped)?.arg(number(
+        alloc,
+        TURNS,
+        MOST_TURNS,
+        "1000000",
+        "Turns that each hart makes at most, 1 to 1000000000",
+    ))
 }

@@ -30,10 +30,14 @@ fn path(alloc: Global, matches: &ArgMatches<'_>, id: &str) -> Result<Option<Stri
     ensures named { IfOk result (λ path. option_map string_bytes path
         ≡ path_named (first_value (found_of matches.now) id.now)) }
 {
-    match matches.get_str(id) {
-        Some(text) if !text.is_empty() => Ok(Some(text.to_string(alloc)?)),
-        _ => Ok(None),
+    let Some(text) = matches.get_str(id) else {
+        return Ok(None);
+    };
+    if text.is_empty() {
+        return Ok(None);
     }
+    let path = text.to_string(alloc)?;
+    Ok(Some(path))
 }
 
 /// The payload files, by slot.
@@ -144,6 +148,12 @@ fn options_of(alloc: Global, matches: &ArgMatches<'_>) -> Result<Option<Options>
     }))
 }
 
+/// The fault of a value that no check of the command's own refused.
+fn out_of_range(alloc: Global) -> Result<Error, AllocError> {
+    let mut again = command(alloc)?;
+    again.error(ErrorKind::ValueValidation, "a value is out of its range")
+}
+
 /// Reads a command line, the program's name first. Where it answers `Ok` there is a path, one of the four
 /// boot modes, and each number is within its limit. The error is the command line's own text, which is the
 /// help or the version too, or says that memory was refused.
@@ -156,10 +166,6 @@ pub fn read_options<'a, S: AsStr>(alloc: Global, words: &'a [S]) -> Result<Optio
     let matches = command(alloc)?.try_get_matches_from(words)?;
     match options_of(alloc, &matches)? {
         Some(options) => Ok(options),
-        None => {
-            let text = "a value is out of its range";
-            let mut again = command(alloc)?;
-            Err(again.error(ErrorKind::ValueValidation, text)?)
-        }
+        None => Err(out_of_range(alloc)?),
     }
 }
