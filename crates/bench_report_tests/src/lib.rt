@@ -1,21 +1,14 @@
-//! Runs that no script of `crates/examples` shows: a cut and a failure at each call, large scripts, scripts with a fault, and
-//! what a run answers beside its report (docs/SCRIPT.md). A script with its report is cheaper there: its proof costs nothing.
+//! Runs that no script of `crates/examples` shows: scripts with a fault, boards of many sizes, a large report, what depends on
+//! the savers' turns, and what a run answers beside its report (docs/SCRIPT.md). A script with its report is cheaper there: its
+//! proof costs nothing.
 #![tactic(auto)]
 
-#[cfg(test)]
-mod cuts;
 #[cfg(test)]
 mod faults;
 #[cfg(test)]
 mod found;
 #[cfg(test)]
-mod lanes;
-#[cfg(test)]
 mod large;
-#[cfg(test)]
-mod pokes;
-#[cfg(test)]
-mod resume;
 #[cfg(test)]
 mod sizes;
 #[cfg(test)]
@@ -23,4 +16,4 @@ mod stopped;
 #[cfg(test)]
 mod told;
 #[cfg(test)]
-mod trials;
+mod turns;

@@ -1,8 +1,8 @@
-//! Boards of every number of harts and lanes with pages across their range, and many images in a row: memory
-//! is ample and nothing fails, so none of them may say otherwise.
+//! Boards of every number of harts and lanes with pages across their range: memory is ample and nothing fails, so none of
+//! them may say otherwise.
 
-use crate::cuts::told;
 use crate::told::reports;
+use std::alloc::{AllocError, Global};
 use std::test::*;
 
 /// A board line, and what it shows: the disk has eight sectors, and nine for each page of both places of an
@@ -151,30 +151,19 @@ const SLEEPS: &[u8] =
 const SLEPT: &[u8] =
     b"\nformat ok\nfound slot 0 reason 0 image none next 0\non fresh\ncall 0 asleep\nfound slot 0 reason 0 image 0 next 1\non resume\npc 0 0x0000000080000000\n";
 
-#[test]
-fn boards_of_all_harts_and_lanes_sleep_and_go_on(rt: HostRuntime) -> Result<(), Fail> {
-    for size in &SIZES {
-        told(&rt, rt.alloc(), &[size.said, SLEEPS], &[size.shown, SLEPT])?;
-    }
-    Ok(())
+/// The bytes of both.
+fn joined(alloc: Global, first: &[u8], second: &[u8]) -> Result<Vec<u8>, AllocError> {
+    let mut all = first.to_vec(alloc)?;
+    all.extend_from_slice(second)?;
+    Ok(all)
 }
 
 #[test]
-fn two_hundred_images_in_a_row(rt: HostRuntime) -> Result<(), Fail> {
-    let alloc = rt.alloc();
-    let mut script = Vec::new(alloc);
-    script.extend_from_slice(b"board 1 1 1\nformat\non fresh\n")?;
-    let mut text = Vec::new(alloc);
-    text.extend_from_slice(
-        b"board 1/1/1 sectors 26\nformat ok\nfound slot 0 reason 0 image none next 0\non fresh\n",
-    )?;
-    for serial in 0..200u32 {
-        script.extend_from_slice(b"call 0 susp 0 0x80000001 0x80000000 7\non resume\n")?;
-        let next = serial + 1;
-        let found = format!(in alloc;
-            "call 0 asleep\nfound slot 0 reason 0 image {serial} next {next}\non resume\n"
-        )?;
-        text.extend_from_slice(found.as_bytes())?;
+fn boards_of_all_harts_and_lanes_sleep_and_go_on(rt: HostRuntime) -> Result<(), Fail> {
+    for size in &SIZES {
+        let script = joined(rt.alloc(), size.said, SLEEPS)?;
+        let report = joined(rt.alloc(), size.shown, SLEPT)?;
+        reports(&rt, rt.alloc(), &script, &report)?;
     }
-    reports(&rt, alloc, &script, &text)
+    Ok(())
 }

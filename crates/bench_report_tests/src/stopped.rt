@@ -53,3 +53,22 @@ fn the_disk_of_a_run_out_of_memory_powers_on(rt: HostRuntime) -> Result<(), Fail
     }
     Ok(())
 }
+
+/// By hand: with `rt try --test --fail-alloc N` for each N this fails where the open itself is refused its journal, and at no
+/// other N, since a board that is refused memory after a good open tells what the open found.
+#[test]
+fn memory_refused_after_the_open_tells_what_it_found(rt: HostRuntime) -> Result<(), Fail> {
+    let alloc = rt.alloc();
+    let crew = in_turn(&rt)?;
+    let mut out = Short { room: 1000 };
+    let Ok((_report, disk)) = run_left(alloc, b"board 8 1 1\nformat\n", &crew, &mut out) else {
+        return Ok(());
+    };
+    let payloads = Payloads::new(alloc);
+    if let Err(left) = Board::power_on(alloc, disk, BootMode::Fresh, &payloads) {
+        assert_eq!(rt; left.refusal, Refusal::Memory);
+        assert!(rt; left.found.is_some());
+        assert_eq!(rt; left.now, left.found);
+    }
+    Ok(())
+}

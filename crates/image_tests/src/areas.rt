@@ -1,5 +1,4 @@
-//! Areas written and read back (docs/IMAGE.md): through one to four lanes, in turn and on threads; a lane or
-//! the sync that fails; what a cut leaves.
+//! Areas written and read back (docs/IMAGE.md): through one to four lanes, in turn and on threads; a lane that fails.
 ghost use Rattle.std.specs.Prelude.{◌≤◌};
 
 use crate::fixtures::{Site, same};
@@ -104,42 +103,6 @@ fn fixed_stripes_read_as_the_memory(rt: HostRuntime) -> Result<(), Fail> {
     Ok(())
 }
 
-/// Two pages in two lanes, written under that fault; then, where it was refused, once more. What the first
-/// write answered, whether the fault is still to strike, and whether the memory stands in the end.
-fn written_under<C: Crew>(
-    alloc: Global,
-    crew: &C,
-    fault: ArmedFault,
-) -> Result<(Option<Refusal>, bool, bool), Refusal> {
-    let mut site = Site::new(alloc, 2, 2)?;
-    site.arm(fault);
-    let refusal = site.write(alloc, crew, Side::first(), 9, 7).err();
-    let left = site.fails();
-    site.arm(ArmedFault::FailAt(0));
-    let counts = site.write(alloc, crew, Side::first(), 9, 7)?;
-    let holds = site.holds(alloc, Side::first(), 9, 7, counts)?;
-    Ok((refusal, left, holds))
-}
-
-/// Of the disk, a write makes one call, the sync; of each lane two calls for each of its pages.
-#[test]
-fn a_failure_is_refused_and_the_next_write_stands(rt: HostRuntime) -> Result<(), Fail> {
-    let turns: Sequential<HostRuntime> = Sequential::new([2, 0, 3, 1])?;
-    for fault in [
-        ArmedFault::FailAt(1),
-        ArmedFault::FailLane(0, 1),
-        ArmedFault::FailLane(0, 2),
-        ArmedFault::FailLane(1, 1),
-        ArmedFault::FailLane(1, 2),
-    ] {
-        let answer = written_under(rt.alloc(), &turns, fault)?;
-        same(&rt, answer, (Some(Refusal::Device), false, true));
-    }
-    let answer = written_under(rt.alloc(), &turns, ArmedFault::FailAt(2))?;
-    same(&rt, answer, (None, true, true));
-    Ok(())
-}
-
 /// What a write of 5 pages through four lanes answers under that fault, and how many calls it made of each lane.
 fn calls_under<C: Crew>(
     alloc: Global,
@@ -164,41 +127,6 @@ fn a_lane_ends_at_its_failure_and_the_others_go_on(rt: HostRuntime) -> Result<()
     ] {
         let answer = calls_under(rt.alloc(), &turns, fault)?;
         same(&rt, answer, (Some(Refusal::Device), calls));
-    }
-    Ok(())
-}
-
-/// An image in one area, and a second one into the other, whose lane is cut at that call. What the write
-/// answered, what a read of its area answers after the cut, and whether the first image stands.
-fn cut_beside<C: Crew>(
-    alloc: Global,
-    crew: &C,
-    call: u64,
-    fill: Fill,
-) -> Result<(Option<Refusal>, Option<Refusal>, bool), Refusal> {
-    let mut site = Site::new(alloc, 2, 2)?;
-    let counts = site.write(alloc, crew, Side::first(), 9, 7)?;
-    site.arm(ArmedFault::CutLane(0, call));
-    let other = Side::first().other();
-    let refusal = site.write(alloc, crew, other, 100, 8).err();
-    let mut site = site.after_cut(fill)?;
-    let read = site.holds(alloc, other, 100, 8, counts).err();
-    let holds = site.holds(alloc, Side::first(), 9, 7, counts)?;
-    Ok((refusal, read, holds))
-}
-
-#[test]
-fn a_cut_leaves_the_other_area(rt: HostRuntime) -> Result<(), Fail> {
-    let turns: Sequential<HostRuntime> = Sequential::new([0, 1, 2, 3])?;
-    for call in 1..3 {
-        for fill in [Fill::Byte(0), Fill::Byte(0xff), Fill::Old] {
-            let answer = cut_beside(rt.alloc(), &turns, call, fill)?;
-            same(
-                &rt,
-                answer,
-                (Some(Refusal::Device), Some(Refusal::BadImage), true),
-            );
-        }
     }
     Ok(())
 }
@@ -238,16 +166,4 @@ fn each_number_of_pages_to_128(rt: HostRuntime) -> Result<(), Fail> {
 #[test]
 fn each_number_of_pages_to_256(rt: HostRuntime) -> Result<(), Fail> {
     are_written(&rt, rt.alloc(), 129)
-}
-
-#[test]
-fn each_number_of_lanes(rt: HostRuntime) -> Result<(), Fail> {
-    let turns: Sequential<HostRuntime> = Sequential::new([1, 3, 0, 2])?;
-    for pages in [1, 2, 3, 4, 5, 64, 65, 256] {
-        for lanes in 1..5 {
-            let places = places_in_use(rt.alloc(), &turns, pages, lanes)?;
-            same(&rt, places, pages);
-        }
-    }
-    Ok(())
 }

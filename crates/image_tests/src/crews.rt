@@ -141,16 +141,3 @@ fn one_list_of_two_jobs(rt: HostRuntime) -> Result<(), Fail> {
     same(&rt, asked(rt.alloc(), Threads::new(&rt))?, (1, 2, 1));
     Ok(())
 }
-
-/// What an order is refused.
-fn refused<R: thread::Threads + Sync>(_rt: &R, order: [usize; 4]) -> Option<Refusal> {
-    Sequential::<R>::new(order).err()
-}
-
-#[test]
-fn orders_have_each_job_once(rt: HostRuntime) {
-    same(&rt, refused(&rt, [2, 0, 3, 1]), None);
-    for order in [[0, 1, 2, 2], [0, 1, 2, 4], [1, 2, 3, 4], [0, 0, 0, 0]] {
-        same(&rt, refused(&rt, order), Some(Refusal::BadShape));
-    }
-}

@@ -5,7 +5,7 @@ ghost use Rattle.layout.specs.Records.{AreCounts};
 
 use board_model::{Addr, HartId, ImageHead, Reason, Refusal, Shape, Slot};
 use crew::Crew;
-use disk::{ArmedFault, Disk, read_sector};
+use disk::{ArmedFault, Disk};
 use image::{read_area, write_area};
 use layout::{
     PlaceHead, Record, Saved, Side, Version, area_start, parse_record, place_head_bytes,
@@ -169,20 +169,6 @@ impl Site {
         Ok(ram.bytes() == written.bytes())
     }
 
-    /// Changes a byte of a sector, as a read gives it.
-    pub fn poke(&mut self, sector: usize, offset: usize, byte: u8) -> Result<u8, Refusal> {
-        if self.disk.sectors() <= sector || 512 <= offset {
-            return Err(Refusal::BadShape);
-        }
-        let mut bytes = read_sector(&mut self.disk, sector).map_err(|_| Refusal::Device)?;
-        let old = bytes[offset];
-        bytes[offset] = byte;
-        self.disk
-            .write(sector, &[bytes])
-            .map_err(|_| Refusal::Device)?;
-        Ok(old)
-    }
-
     /// Arms a fault.
     pub fn arm(&mut self, fault: ArmedFault) {
         self.disk.arm(fault);
@@ -196,11 +182,6 @@ impl Site {
             self.disk.lane_calls(2),
             self.disk.lane_calls(3),
         ]
-    }
-
-    /// Whether the disk's next call fails.
-    pub fn fails(&mut self) -> bool {
-        self.disk.sync().is_err()
     }
 }
 

@@ -7,5 +7,3 @@ mod areas;
 mod crews;
 #[cfg(test)]
 mod fixtures;
-#[cfg(test)]
-mod hostile;

@@ -1,14 +1,9 @@
-//! The disk in memory: what each fill leaves, where armed faults strike, and that
-//! memory is not refused where there is some.
+//! The disk in memory: what it is made of, and that memory is not refused where there is some.
 #![tactic(auto)]
 
 #[cfg(test)]
-mod cuts;
-#[cfg(test)]
 mod fixtures;
-#[cfg(test)]
-mod lanes;
 #[cfg(test)]
 mod largest;
 #[cfg(test)]
-mod pokes;
+mod made;

@@ -2,8 +2,6 @@
 #![tactic(auto)]
 
 #[cfg(test)]
-mod alone;
-#[cfg(test)]
 mod crowd;
 #[cfg(test)]
 mod first_use;
@@ -11,7 +9,5 @@ mod first_use;
 mod known;
 #[cfg(test)]
 mod race;
-#[cfg(test)]
-mod sizes;
 #[cfg(test)]
 mod tests;

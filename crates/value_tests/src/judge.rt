@@ -1,5 +1,4 @@
-//! States with their memory, the judge of a bench, and its ledger: each call once, with memory enough.
+//! The judge of a bench, and the states with their memory that it is asked of.
 
 mod judged;
-mod ledgers;
 mod states;

@@ -1,6 +1,6 @@
-//! Tests of the crates that hold values alone: instructions and their words (`rv_decode`), numbers, commands and refusals
-//! (`board_model`), the sectors of the store (`layout`), SBI calls (`sbi_abi`, `sbi_calls`) and the judge of a bench
-//! (`bench_judge`). Each value is compared with the standard, docs/ or an outside assembler.
+//! Tests of crates that hold values alone: instructions and their words (`rv_decode`), refusals (`board_model`), the sectors of the
+//! store (`layout`), SBI calls by their registers (`sbi_abi`) and the judge of a bench (`bench_judge`). Each value is compared
+//! with the standard, docs/ or an outside assembler.
 #![tactic(auto)]
 
 #[cfg(test)]

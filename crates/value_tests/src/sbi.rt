@@ -1,5 +1,3 @@
 //! SBI calls, against the tables of the SBI specification 2.0 and docs/SBI.md.
 
-mod masks;
 mod registers;
-mod requests;

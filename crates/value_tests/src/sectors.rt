@@ -43,20 +43,6 @@ fn a_superblock_byte_by_byte(rt: HostRuntime) -> Result<(), Fail> {
     Ok(())
 }
 
-#[test]
-fn other_superblocks_are_refused(rt: HostRuntime) -> Result<(), Fail> {
-    let good = superblock_bytes(&Shape::new(1, 1, 1)?);
-    for (sector, refusal) in [
-        ([0; 512], Refusal::NotFormatted),
-        (with_byte(good, 8, 9), Refusal::BadShape),
-        (with_byte(good, 511, 1), Refusal::BadShape),
-        (with_byte(good, 7, b'2'), Refusal::NotFormatted),
-    ] {
-        same(&rt, parse_superblock(&sector, 26), Err(refusal));
-    }
-    Ok(())
-}
-
 /// A record with an image, and with a trial of 5 boots that falls back to slot 2.
 fn a_record() -> Option<Record> {
     let head = ImageHead {
@@ -154,67 +140,6 @@ fn an_image_byte_by_byte(rt: HostRuntime) -> Result<(), Fail> {
     holds(&rt, &sector, 48, &[8, 7, 6, 5, 4, 3, 2, 1]);
     let counts = [2, 0, 0, 0, 2, 0, 0, 0, 1, 0, 0, 0, 0, 0, 0, 0];
     holds(&rt, &sector, 56, &counts);
-    Ok(())
-}
-
-/// Whether the record with another byte is refused, on a board of 2 harts, 5 pages and 3 lanes.
-fn is_refused(record: Option<Record>, place: usize, byte: u8) -> Result<bool, Fail> {
-    let record = record.ok_or("record")?;
-    let sector = with_byte(record_bytes(&record), place, byte);
-    let shape = Shape::new(2, 5, 3)?;
-    Ok(matches!(parse_record(&sector, &shape), Err(Refusal::BadRecord)))
-}
-
-#[test]
-fn other_records_are_refused(rt: HostRuntime) -> Result<(), Fail> {
-    for (place, byte, refused) in [
-        (0, 0, true),
-        (0, 1, true),
-        (0, 3, true),
-        (0, 9, true),
-        (1, 1, true),
-        (4, 4, true),
-        (8, 2, true),
-        (12, 0, true),
-        (12, 2, true),
-        (16, 6, true),
-        (24, 7, true),
-        (32, 2, true),
-        (36, 2, true),
-        (40, 2, true),
-        (41, 0x50, true),
-        (43, 0, true),
-        (56, 3, true),
-        (64, 2, true),
-        (68, 1, true),
-        (72, 0, true),
-        (72, 2, true),
-        (76, 4, true),
-        (77, 1, true),
-        (80, 8, true),
-        (84, 1, true),
-        (511, 1, true),
-        (48, 9, false),
-        (76, 3, false),
-        (80, 0, false),
-        (80, 7, false),
-    ] {
-        let found = is_refused(a_record(), place, byte)?;
-        assert_eq!(rt; found, refused, "byte {place} as {byte}");
-    }
-    Ok(())
-}
-
-/// A record of version 1 has zeros from byte 72 on; one of version 2 without a trial has them too.
-#[test]
-fn nothing_stands_where_no_trial_does(rt: HostRuntime) -> Result<(), Fail> {
-    for version in [Version::One, Version::Two] {
-        for (place, byte) in [(72, 1), (76, 1), (80, 1), (83, 1), (84, 1), (511, 1)] {
-            let found = is_refused(without_trial(version), place, byte)?;
-            let standing = version == Version::Two && place == 72;
-            assert_eq!(rt; found, !standing, "byte {place} as {byte}");
-        }
-    }
     Ok(())
 }
 

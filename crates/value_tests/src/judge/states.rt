@@ -1,9 +1,7 @@
 //! The commands of docs/DURABLE.md over states with their memory.
-use crate::fixtures::same;
 use board_model::{Addr, Command, Entry, HartId, Plain, Refusal};
 use std::alloc::Global;
 use std::process::Abort;
-use std::test::Fail;
 
 /// A formatted disk's state with that slot.
 pub fn with_slot(alloc: Global, number: u32) -> Result<Plain, Refusal> {
@@ -20,18 +18,4 @@ pub fn suspension(rt: &impl Abort) -> Entry {
 /// A formatted disk's state after a suspension that carried the bytes 1 and 2.
 pub fn with_image(rt: &impl Abort, alloc: Global) -> Result<Plain, Refusal> {
     Plain::formatted().after(alloc, suspension(rt), &[1, 2])
-}
-
-#[test]
-fn a_suspension_carries_its_memory(rt: HostRuntime) -> Result<(), Fail> {
-    let alloc = rt.alloc();
-    let state = with_image(&rt, alloc)?;
-    let read = Plain::of(alloc, &state.durable(), &[1, 2])?;
-    same(&rt, read == state, true);
-    let other = Plain::of(alloc, &state.durable(), &[1, 3])?;
-    same(&rt, other == state, false);
-    let dropped = state.after(alloc, Entry::Command(Command::Discard), &[])?;
-    same(&rt, dropped.next, 1);
-    same(&rt, dropped.image.is_none(), true);
-    Ok(())
 }
