@@ -335,9 +335,9 @@ run_found : (size : Size) (ls : List Line) (b : Bench) (answers : List Answer) (
 run_found size [] b [] end by sound calm well run = tt
 run_found size (l ∷ ls) b (a ∷ answers) end by sound calm well (new, inr (would, mid, x, struck, e, is), run) =
     let P : Bench → Type 0 = DiskHasFailed in
-    absurd (well ((run_fair size ls new answers end by.1 run).2 (subst P (sym is) (struck_fails size l b would mid by.0 calm x struck))))
+    absurd (well ((run_fair size ls new answers end by.1 run).2 (subst P (sym is) (struck_fails size (deed_of l) b would mid by.0 calm x struck))))
 run_found size (l ∷ ls) b (a ∷ answers) end by sound calm well (new, inl (x, unstruck), run) =
-    by_calm ((moves_fair size l b a new by.0 (inl (x, unstruck))).1 calm) (λ sound c. run_found size ls new answers end by.1 sound c well run)
+    by_calm ((moves_fair size (deed_of l) b a new by.0 (inl (x, unstruck))).1 calm) (λ sound c. run_found size ls new answers end by.1 sound c well run)
   where
     well_now : IsWell new
     well_now s = well ((run_fair size ls new answers end by.1 run).2 s)
@@ -362,7 +362,7 @@ anew_found size ls b answers end by (disk_state, kept, on) calm well run =
 from_format : (size : Size) (ls : List Line) (b : Bench) (answers : List Answer) (end : Bench) → AreByFirmware ls → IsCalm b → IsWell end → Run size b ls answers end → FindAll ls answers
 from_format size [] b answers end by calm well run = tt
 from_format size (l ∷ ls) b [] end by calm well run = absurd run
-from_format size (l ∷ ls) b (a ∷ answers) end by calm well run = by_calm ((moves_fair size l b a run.0 by.0 run.1).1 calm) (λ c. from_format size ls run.0 answers end by.1 c well run.2)
+from_format size (l ∷ ls) b (a ∷ answers) end by calm well run = by_calm ((moves_fair size (deed_of l) b a run.0 by.0 run.1).1 calm) (λ c. from_format size ls run.0 answers end by.1 c well run.2)
   where
     by_calm : DiskHasFailed run.0 ⊎ IsCalm run.0 → (IsCalm run.0 → FindAll ls answers) → FindAll (l ∷ ls) (a ∷ answers)
     by_calm (inl s) more = absurd (well ((run_fair size ls run.0 answers end by.1 run.2).2 s))

@@ -13,7 +13,6 @@ use Rattle.board_model.specs.declared.boot_mode.BootMode.{BootMode}
 use Rattle.board_model.specs.declared.boot_mode.BootMode.TheVariants as modes
 use Rattle.script_lang.specs.Scripts.{Script}
 use Rattle.script_lang.specs.declared.line.Line.{Line}
-use Rattle.script_lang.specs.declared.line.Line.TheVariants as lines
 use Rattle.board_model.specs.declared.console_command.ConsoleCommand.{ConsoleCommand}
 use Rattle.board_model.specs.ConsoleCommands.{console_change}
 use Rattle.bench_report.specs.declared.printed.Answer.{Answer}
@@ -23,9 +22,9 @@ use Rattle.bench_report.specs.Deeds.{OfBoard, OfDisk, Aside, WritePast, Deed, de
 use Rattle.bench_report.specs.Happens.{says, on_with, settled, acknowledged, life_with, all_acknowledged}
 use Rattle.bench_report.specs.Commands.{Writes, Issued, IssuedBy, IssuesAll}
 use Rattle.bench_report.specs.PowerOns.{life_begun, ShowsFound, FormatsOn, BootsFrom, Boots, Begins, Opens, IsOpenRefusal, PowersOn}
-use Rattle.bench_report.specs.Steps.{FormatStep, OnStep, ConsoleStep, DeedStep, Moves, Run}
+use Rattle.bench_report.specs.Steps.{FormatStep, OnStep, ConsoleStep, DeedStep, DeedMoves, Run}
 use Rattle.bench_report.specs.Reports.{AreByFirmware, board_answer, IsReport}
-use Rattle.bench_report.specs.Plain.{plain_written, plain_issued, plain_console, plain_format, plain_slot, plain_boot, plain_on, plain_inspect, plain_at, plain, plain_answers, plain_report, IsPlainDeed, IsPlain, ArePlain}
+use Rattle.bench_report.specs.Plain.{plain_written, plain_issued, plain_console, plain_format, plain_slot, plain_boot, plain_on, plain_inspect, plain_at, plain, plain_answers, plain_report, IsPlainDeed, ArePlain}
 use Rattle.bench_report.proofs.Adapted.{grows}
 use Rattle.bench_report.proofs.Determined.{CalmDisk, IsCalm, HasFailed, Agree}
 use Rattle.bench_report.proofs.FailureFree.{AsMany}
@@ -222,32 +221,32 @@ plain_by_power : (size : Size) (p : Option BenchLife) (b : Bench) → ((plain_at
 plain_by_power size None b = plain_said b.disk_state b
 plain_by_power size (Some life) b = (refl, refl)
 
--- a line of a good bench that is not spoilt after it is the plain one
+-- a deed of a good bench that is not spoilt after it is the plain one
 module _ (laws : ContentLaws) (turns : IsOneTurn) (call : IsOneCall) (csr : IsOneCsr) (size : Size) (b : Bench) (a : Answer) (new : Bench) (never : HasFailed new → ⊥) (good : IsGood b) (calm : IsCalm b) where
   abbrev IsPlainly : Answer × Bench → Type 0
   IsPlainly reported = (a ≡ reported.0) × (new ≡ reported.1) × IsGood new
 
-  blind_is : (line : Line) → IsPlain line → IsNoExaminer (deed_of line) → Moves size line b a new → IsPlainly (plain size line b)
-  blind_is line is blind moved =
-      let one = steps size (deed_of line) b is blind good in
-      by one (moves laws turns call csr size line b a (plain size line b).0 new (plain size line b).1 calm moved (inl (one.0, one.1.2)))
+  blind_is : (deed : Deed) → IsPlainDeed deed → IsNoExaminer deed → DeedMoves size deed b a new → IsPlainly (plain_at size b.power deed b)
+  blind_is deed is blind moved =
+      let one = steps size deed b is blind good in
+      by one (moves laws turns call csr size deed b a (plain_at size b.power deed b).0 new (plain_at size b.power deed b).1 calm moved (inl (one.0, one.1.2)))
     where
-      failed : AsMany b (plain size line b).1 → HasFailed (plain size line b).1 → HasFailed b
+      failed : AsMany b (plain_at size b.power deed b).1 → HasFailed (plain_at size b.power deed b).1 → HasFailed b
       failed many (inl s) = inl (omega (arith, many.0, s))
       failed many (inr s) = inr (omega (arith, many.1, s))
 
-      by : Well b (DeedStep size (deed_of line) b) (plain size line b) → Agree a (plain size line b).0 new (plain size line b).1 → IsPlainly (plain size line b)
+      by : Well b (DeedStep size deed b) (plain_at size b.power deed b) → Agree a (plain_at size b.power deed b).0 new (plain_at size b.power deed b).1 → IsPlainly (plain_at size b.power deed b)
       by one (inl s) = absurd (never s)
-      by one (inr (inl s)) = absurd (never ((moves_fair size line b a new (plain_by (deed_of line) is) moved).0 (failed one.2 s)))
+      by one (inr (inl s)) = absurd (never ((moves_fair size deed b a new (plain_by deed is) moved).0 (failed one.2 s)))
       by one (inr (inr e)) = let P : Bench → Type 0 = IsGood in (e.0, e.1, subst P (sym e.1) one.1)
 
-  line_is : (line : Line) → IsPlain line → Moves size line b a new → IsPlainly (plain size line b)
-  line_is lines.Inspect is moved =
+  deed_is : (deed : Deed) → IsPlainDeed deed → DeedMoves size deed b a new → IsPlainly (plain_at size b.power deed b)
+  deed_is (deeds.Ask OfDisk) is moved =
       let it = said laws size b a new never calm moved in
       let at = plain_by_power size b.power b in
       let P : Bench → Type 0 = IsGood in
       (it.0 ∙ sym at.0, it.1 ∙ sym at.1, subst P (sym it.1) good)
-  line_is line is moved = blind_is line is tt moved
+  deed_is deed is moved = blind_is deed is tt moved
 
 -- a run of plain lines
 plain_run : ContentLaws → IsOneTurn → IsOneCall → IsOneCsr → (size : Size) (ls : List Line) (b : Bench) (answers : List Answer) (end : Bench) → ArePlain ls → IsGood b → IsCalm b → IsFailureFree end → Run size b ls answers end
@@ -257,8 +256,8 @@ plain_run laws turns call csr size [] b (a ∷ answers) end are good calm free r
 plain_run laws turns call csr size (l ∷ ls) b [] end are good calm free run = absurd run
 plain_run laws turns call csr size (l ∷ ls) b (a ∷ answers) end are good calm free (mid, moved, rest) =
     let never : HasFailed mid → ⊥ = λ failed. clean end free (run_spoilt size ls mid answers end (are_by ls are.1) rest failed) in
-    let it = line_is laws turns call csr size b a mid never good calm l are.0 moved in
-    let calm_mid : IsCalm mid = elim ((moves_fair size l b a mid (plain_by (deed_of l) are.0) moved).1 calm) [ inl failed ↦ absurd (never (inr failed)) | inr calm ↦ calm ] in
+    let it = deed_is laws turns call csr size b a mid never good calm (deed_of l) are.0 moved in
+    let calm_mid : IsCalm mid = elim ((moves_fair size (deed_of l) b a mid (plain_by (deed_of l) are.0) moved).1 calm) [ inl failed ↦ absurd (never (inr failed)) | inr calm ↦ calm ] in
     let more = plain_run laws turns call csr size ls mid answers end are.1 it.2 calm_mid free rest in
     ap (λ q. q ∷ answers) it.0 ∙ ap (λ qs. (plain size l b).0 ∷ qs) (more ∙ ap (λ (x : Bench). plain_answers size ls x) it.1)
 

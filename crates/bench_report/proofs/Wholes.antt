@@ -17,7 +17,6 @@ use Rattle.machine.specs.Machine.{Machine, hart_at}
 use Rattle.sbi.specs.declared.words.Word.{Word}
 use Rattle.sbi.specs.declared.words.LifeEnd.{LifeEnd}
 use Rattle.script_lang.specs.declared.line.Line.{Line}
-use Rattle.script_lang.specs.declared.line.Line.TheVariants as lines
 use Rattle.sbi.specs.declared.resets.ResetType.{ResetType}
 use Rattle.sbi.specs.Resets.{reset_of}
 use Rattle.sbi_abi.specs.Calls.{call_of}
@@ -36,7 +35,7 @@ use Rattle.bench_report.specs.declared.printed.Printed.TheVariants as printed
 use Rattle.bench_report.specs.Bench.{DiskState, Blank, Unknown, Formatted, BenchLife, Bench}
 use Rattle.bench_report.specs.Deeds as deeds
 use Rattle.bench_report.specs.Deeds.{Deed, deed_of, IsByFirmwareAlone}
-use Rattle.bench_report.specs.Prefix.{LoadsWhole, AreLoaded}
+use Rattle.bench_report.specs.Prefix.{asked_of, LoadsWhole, AreLoaded}
 use Rattle.bench_report.specs.Reports.{IsByFirmware, AreByFirmware}
 use Rattle.bench_report.specs.Happens.{out_of_memory, failed, off, on_with, unpowered, armed_with, settled, has_machine, acknowledged, in_doubt}
 use Rattle.bench_report.specs.Commands.{Writes, IssuedBy, Issued, IssuesAll}
@@ -47,7 +46,7 @@ use Rattle.machine.specs.Turns.{calling}
 use Rattle.bench_report.proofs.Dozed.{turn_size, call_size}
 use Rattle.bench_report.specs.Turns.{refused, AnswersError, HartCommand, Resets, SuspendIssued, dozes, BenchFallsAsleep, BenchSleeps, BenchSleepsBy, BenchMakesCall, ComesTo, GuestTurn, GuestTurns}
 use Rattle.bench_report.specs.PowerOns.{life_begun, FormatsOn, IsBooted, BootsFrom, Begins, Boots, Opens, IsOpenRefusal, PowersOn}
-use Rattle.bench_report.specs.Steps.{FormatStep, OnStep, ConsoleStep, GuestCall, TurnStep, CallStep, DeedStep, Moves, Run}
+use Rattle.bench_report.specs.Steps.{FormatStep, OnStep, ConsoleStep, GuestCall, TurnStep, CallStep, DeedStep, DeedMoves, Moves, Run}
 use Rattle.bench_report.proofs.Adapted.{grows}
 use Rattle.bench_report.proofs.Determined.{begun_size}
 use Rattle.bench_report.proofs.Table.{table_not_thirteen, mode_not_thirteen}
@@ -340,16 +339,16 @@ module _ (size : Size) where
   on_not None mode b a new none k x = powers_not mode b a new none k x
   on_not (Some life) mode b a new on k x = answered a printed.Busy x.0 (λ f. (let no : ⊥ = cc in no))
 
-  pub loaded_on : (mode : BootMode) (b : Bench) (a : Answer) (new : Bench) → IsKeptWhole size b → Moves size (lines.On mode) b a new → NotThirteen a.line
+  pub loaded_on : (mode : BootMode) (b : Bench) (a : Answer) (new : Bench) → IsKeptWhole size b → DeedMoves size (deeds.PowerOn mode) b a new → NotThirteen a.line
   loaded_on mode b a new k (inl h) = on_not b.power mode b a new refl k h.0
   loaded_on mode b a new k (inr (would, mid, h, struck, e, is)) = answered a printed.PowerLost e (λ f. (let no : ⊥ = cc in no))
 
-  loaded : (line : Line) (b : Bench) (a : Answer) (new : Bench) → IsKeptWhole size b → Moves size line b a new → LoadsWhole line a
-  loaded (lines.On mode) b a new k h = loaded_on mode b a new k h
-  loaded line b a new k h = tt
+  loaded : (deed : Deed) (b : Bench) (a : Answer) (new : Bench) → IsKeptWhole size b → DeedMoves size deed b a new → LoadsWhole (asked_of deed) a
+  loaded (deeds.PowerOn mode) b a new k h = loaded_on mode b a new k h
+  loaded deed b a new k h = tt
 
   pub all_loaded : (ls : List Line) (b : Bench) (answers : List Answer) (end : Bench) → AreByFirmware ls → IsKeptWhole size b → Run size b ls answers end → AreLoaded ls answers
   all_loaded [] b [] end by k run = tt
-  all_loaded (l ∷ ls) b (a ∷ answers) end by k run = (loaded l b a run.0 k run.1, all_loaded ls run.0 answers end by.1 (moves l b a run.0 by.0 k run.1) run.2)
+  all_loaded (l ∷ ls) b (a ∷ answers) end by k run = (loaded (deed_of l) b a run.0 k run.1, all_loaded ls run.0 answers end by.1 (moves l b a run.0 by.0 k run.1) run.2)
   all_loaded [] b (a ∷ answers) end by k run = absurd run
   all_loaded (l ∷ ls) b [] end by k run = absurd run

@@ -23,7 +23,6 @@ use Rattle.sbi.specs.declared.words.LifeEnd.TheVariants as life_ends
 use Rattle.machine_lines.specs.declared.line.MachineLine.{MachineLine}
 use Rattle.machine_lines.specs.declared.line.MachineLine.TheVariants as shown
 use Rattle.script_lang.specs.declared.line.Line.{Line}
-use Rattle.script_lang.specs.declared.line.Line.TheVariants as lines
 use Rattle.bench_report.specs.Deeds as deeds
 use Rattle.bench_report.specs.Deeds.{Deed, deed_of}
 use Rattle.bench_report.specs.declared.printed.Answer.{Answer}
@@ -167,13 +166,13 @@ RisesFrom n [] = ⊤
 RisesFrom n (x ∷ xs) = (n ≤ x) × RisesFrom (x + 1) xs
 
 -- a power-on was not refused 13: each image that stands has the memory of its board
-abbrev pub LoadsWhole : Line → Answer → Type 0
-LoadsWhole (lines.On mode) a = a.line ≢ printed.OnRefused 13
-LoadsWhole line a = ⊤
+abbrev pub LoadsWhole : AskedLine → Answer → Type 0
+LoadsWhole (Boot mode) a = a.line ≢ printed.OnRefused 13
+LoadsWhole asked a = ⊤
 
 abbrev pub AreLoaded : List Line → List Answer → Type 0
 AreLoaded [] [] = ⊤
-AreLoaded (line ∷ more) (a ∷ answers) = LoadsWhole line a × AreLoaded more answers
+AreLoaded (line ∷ more) (a ∷ answers) = LoadsWhole (asked_by line) a × AreLoaded more answers
 AreLoaded [] (a ∷ answers) = ⊥
 AreLoaded (line ∷ more) [] = ⊥
 

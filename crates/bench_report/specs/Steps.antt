@@ -88,6 +88,7 @@ abbrev pub QuestionStep : Size → Question → Option BenchLife → Bench → A
 QuestionStep size (OfBoard look) p b answer new = ReadStep p (IsShown look) b answer new
 QuestionStep size OfDisk p b answer new = InspectStep size p b answer new
 
+-- what may be answered, and what the bench then is, as far as no armed cut strikes
 abbrev pub DeedStep : Size → Deed → Bench → Answer → Bench → Type 0
 DeedStep size deeds.Format b answer new = FormatStep b.power b answer new
 DeedStep size (deeds.PowerOn mode) b answer new = OnStep size b.power mode b answer new
@@ -97,16 +98,19 @@ DeedStep size (deeds.Call h asked) b answer new = CallStep b.power h asked b ans
 DeedStep size (deeds.Ask question) b answer new = QuestionStep size question b.power b answer new
 DeedStep size (deeds.Beside act) b answer new = AsideStep act b.power b answer new
 
--- what a line may answer on a bench, and what the bench then is, as far as no armed cut strikes
+-- the same, where an armed cut that struck within it makes the whole report `power lost`
+abbrev pub DeedMoves : Size → Deed → Bench → Answer → Bench → Type 0
+DeedMoves size deed b answer new =
+    (DeedStep size deed b answer new × (new.fault_state.struck ≡ false))
+    ⊎ ((would : Answer) × (mid : Bench) × DeedStep size deed b would mid × (mid.fault_state.struck ≡ true)
+    × (answer ≡ says printed.PowerLost) × (new ≡ unpowered mid))
+
+-- what a line may answer on a bench, and what the bench then is: as far as no armed cut strikes, and in a run
 abbrev pub Step : Size → Line → Bench → Answer → Bench → Type 0
 Step size line b answer new = DeedStep size (deed_of line) b answer new
 
--- the same, where an armed cut that struck within the line makes its whole report `power lost`
 abbrev pub Moves : Size → Line → Bench → Answer → Bench → Type 0
-Moves size line b answer new =
-    (Step size line b answer new × (new.fault_state.struck ≡ false))
-    ⊎ ((would : Answer) × (mid : Bench) × Step size line b would mid × (mid.fault_state.struck ≡ true)
-    × (answer ≡ says printed.PowerLost) × (new ≡ unpowered mid))
+Moves size line b answer new = DeedMoves size (deed_of line) b answer new
 
 -- lines that may answer so, one after another
 abbrev pub Run : Size → Bench → List Line → List Answer → Bench → Type 0

@@ -101,10 +101,7 @@ fn begun(alloc: Global, shape: &Shape, power: Power, payloads: Payloads) -> Resu
 
 /// Runs a script up to the first format that answers Ok: how many lines that were, and the board then. Refused
 /// `NotPlain` where no format does, and `Memory`.
-pub fn formats<C: Crew>(
-    setting: &Setting<'_, C>,
-    lines: &[Line],
-) -> Result<(usize, Site), Refusal>
+pub fn formats<C: Crew>(setting: &Setting<'_, C>, lines: &[Line]) -> Result<(usize, Site), Refusal>
     requires { All (IsLineInRange setting.now.shape.now) lines.now }
     ensures few { IfOk result (λ did. did.0 ≤ length lines.now) }
     ensures runs { IfOk result (λ did. Runs setting.now.shape.now (Off did.1.disk) did.1.ledger) }
