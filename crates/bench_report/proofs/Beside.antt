@@ -1,15 +1,13 @@
--- What is known of a line that asks nothing of the disk and of no hart, by what it says and does.
+-- What is known of a deed that asks nothing of the disk and of no hart, by what is said of it and what it does.
 use Rattle.std.specs.Prelude.{⊤}
 use Rattle.std.proofs.Common.{◌≡◌, Bool, true, false, List, ℕ, Option, Some, None, refl}
 use Rattle.board_model.specs.Durable.{DurableState}
 use Rattle.susp.specs.Dozes.{can_wake}
-use Rattle.script_lang.specs.declared.line.Line.{Line}
-use Rattle.script_lang.specs.declared.line.Line.TheVariants as lines
 use Rattle.bench_report.specs.declared.printed.Printed.{Printed}
 use Rattle.bench_report.specs.declared.printed.Printed.TheVariants as printed
 use Rattle.bench_report.specs.Bench.{BenchLife}
 use Rattle.bench_report.specs.Prefix.{Nothing, LineImplies, is_format_ok}
-use Rattle.bench_report.specs.Reports.{IsByFirmware}
+use Rattle.bench_report.specs.Deeds.{Aside, CutPower, CallWake, WritePast, Beside, IsByFirmwareAlone}
 use Rattle.bench_report.specs.Asides.{Effect, Stays, CutsPower, WakesBoard, WritesPast, wakes, aside}
 
 -- it leaves the disk to the firmware
@@ -22,24 +20,24 @@ abbrev pub FitsPower : Option BenchLife → Effect → Type 0
 FitsPower p (WakesBoard life) = p ≡ Some life
 FitsPower p e = ⊤
 
--- the line tells of no command
+-- what is said tells of no command
 abbrev pub TellsNothing : Printed → Effect → Type 0
 TellsNothing said CutsPower = said ≡ printed.Cut
 TellsNothing said e = (s t : DurableState) (up : Bool) → t ≡ s → LineImplies Nothing said s up t up
 
-pub record IsAside (line : Line) (p : Option BenchLife) (did : Printed × Effect) : Type 0 where
-  pub firmware : IsByFirmware line → OfFirmware did.1
+pub record IsAside (act : Aside) (p : Option BenchLife) (did : Printed × Effect) : Type 0 where
+  pub firmware : IsByFirmwareAlone (Beside act) → OfFirmware did.1
   pub fits : FitsPower p did.1
   pub tells : TellsNothing did.0 did.1
   pub no_format : is_format_ok did.0 ≡ false
 
-waking : (can : Bool) (life : BenchLife) → IsAside lines.Wake (Some life) (wakes can life)
+waking : (can : Bool) (life : BenchLife) → IsAside CallWake (Some life) (wakes can life)
 waking true life = record { firmware = λ by. tt; fits = refl; tells = λ s t up e. (e, refl); no_format = refl }
 waking false life = record { firmware = λ by. tt; fits = tt; tells = λ s t up e. (e, refl); no_format = refl }
 
-pub is_aside : (line : Line) (p : Option BenchLife) (payloads : List (List ℕ)) → IsAside line p (aside line p payloads)
-is_aside lines.Wake (Some life) payloads = waking (can_wake life.machine.doze) life
-is_aside (lines.Poke sector offset bytes) None payloads = record { firmware = λ by. by; fits = tt; tells = λ s t up e. (e, refl); no_format = refl }
-is_aside (lines.Cut fill) p payloads = record { firmware = λ by. tt; fits = tt; tells = refl; no_format = refl }
-is_aside line None payloads = record { firmware = λ by. tt; fits = tt; tells = λ s t up e. (e, refl); no_format = refl }
-is_aside line (Some life) payloads = record { firmware = λ by. tt; fits = tt; tells = λ s t up e. (e, refl); no_format = refl }
+pub is_aside : (act : Aside) (p : Option BenchLife) (payloads : List (List ℕ)) → IsAside act p (aside act p payloads)
+is_aside CallWake (Some life) payloads = waking (can_wake life.machine.doze) life
+is_aside WritePast None payloads = record { firmware = λ by. by; fits = tt; tells = λ s t up e. (e, refl); no_format = refl }
+is_aside CutPower p payloads = record { firmware = λ by. tt; fits = tt; tells = refl; no_format = refl }
+is_aside act None payloads = record { firmware = λ by. tt; fits = tt; tells = λ s t up e. (e, refl); no_format = refl }
+is_aside act (Some life) payloads = record { firmware = λ by. tt; fits = tt; tells = λ s t up e. (e, refl); no_format = refl }

@@ -1,15 +1,16 @@
--- What `inspect` says at any point of a run in which nothing failed.
+-- What a question of the disk is answered at any point of a run in which nothing failed.
 use Rattle.std.proofs.Common.{◌≡◌, inl, inr, List, [], ◌∷◌, Option, None, Some, refl, sym, ◌∙◌, ap, subst}
 use Rattle.board_model.specs.Kept.{Kept}
 use Rattle.board_model.specs.Shapes.{Size}
 use Rattle.script_lang.specs.Scripts.{Script}
-use Rattle.script_lang.specs.declared.line.Line.TheVariants as lines
 use Rattle.bench_report.specs.declared.printed.Answer.{Answer}
 use Rattle.bench_report.specs.declared.printed.Printed.TheVariants as printed
 use Rattle.bench_report.specs.Bench.{DiskState, BenchLife, Bench, IsFailureFree, IsClean, blank_bench}
+use Rattle.bench_report.specs.Deeds as deeds
+use Rattle.bench_report.specs.Deeds.{OfDisk}
 use Rattle.bench_report.specs.Happens.{says}
 use Rattle.bench_report.specs.Examined.{InspectsOn, InspectStep}
-use Rattle.bench_report.specs.Steps.{Moves}
+use Rattle.bench_report.specs.Steps.{DeedMoves}
 use Rattle.bench_report.specs.Reports.{AreByFirmware, IsReport}
 use Rattle.bench_report.proofs.Determined.{HasFailed, IsCalm, starves, hinders}
 use Rattle.bench_report.proofs.Inspected.{ContentLaws, said_of, clean_or, clean_tells}
@@ -20,10 +21,10 @@ abbrev pub said_by : Option BenchLife → DiskState → Kept → Answer
 said_by None disk_state kept = says (said_of disk_state kept)
 said_by (Some life) disk_state kept = says printed.Busy
 
--- a line of a calm bench that is not spoilt after it
-module _ (laws : ContentLaws) (size : Size) (b : Bench) (a : Answer) (new : Bench) (never : HasFailed new → ⊥) (calm : IsCalm b) (moved : Moves size lines.Inspect b a new) where
+-- on a calm bench that is not spoilt after it
+module _ (laws : ContentLaws) (size : Size) (b : Bench) (a : Answer) (new : Bench) (never : HasFailed new → ⊥) (calm : IsCalm b) (moved : DeedMoves size (deeds.Ask OfDisk) b a new) where
   is_clean : IsClean b
-  is_clean = elim (clean_or b b.growths b.failures refl refl calm.2) [ inl failed ↦ absurd (never ((moves_fair size lines.Inspect b a new tt moved).0 failed)) | inr clean ↦ clean ]
+  is_clean = elim (clean_or b b.growths b.failures refl refl calm.2) [ inl failed ↦ absurd (never ((moves_fair size (deeds.Ask OfDisk) b a new tt moved).0 failed)) | inr clean ↦ clean ]
 
   abbrev Said : Answer → Type 0
   Said answer = (a ≡ answer) × (new ≡ b)
@@ -37,21 +38,21 @@ module _ (laws : ContentLaws) (size : Size) (b : Bench) (a : Answer) (new : Benc
   at_power None x = of_disk x
   at_power (Some life) x = x
 
-  by_move : Moves size lines.Inspect b a new → Said (said_by b.power b.disk_state b.kept)
+  by_move : DeedMoves size (deeds.Ask OfDisk) b a new → Said (said_by b.power b.disk_state b.kept)
   by_move (inl x) = at_power b.power x.0
   by_move (inr (would, mid, x, struck, e, is)) =
       let P : Bench → Type 0 = HasFailed in
-      absurd (never (subst P (sym is) (inr (struck_fails size lines.Inspect b would mid tt calm x struck))))
+      absurd (never (subst P (sym is) (inr (struck_fails size (deeds.Ask OfDisk) b would mid tt calm x struck))))
 
   pub said : Said (said_by b.power b.disk_state b.kept)
   said = by_move moved
 
-pub said_so : ContentLaws → (script : Script) (answers : List Answer) (b : Bench) → AreByFirmware script.lines → IsReport script answers b → b.power ≡ None → (a : Answer) (new : Bench) → Moves script.size lines.Inspect b a new → IsFailureFree new
+pub said_so : ContentLaws → (script : Script) (answers : List Answer) (b : Bench) → AreByFirmware script.lines → IsReport script answers b → b.power ≡ None → (a : Answer) (new : Bench) → DeedMoves script.size (deeds.Ask OfDisk) b a new → IsFailureFree new
     → (a ≡ says (said_of b.disk_state b.kept)) × (new ≡ b)
 said_so laws script [] b by h off a new moved free = absurd h
 said_so laws script (board ∷ answers) b by h off a new moved free =
     let P : Option BenchLife → Type 0 = λ p. (a ≡ said_by p b.disk_state b.kept) × (new ≡ b) in
     elim ((run_fair script.size script.lines blank_bench answers b by h.1).1 (tt, refl, refl)) [
-      | inl spoilt ↦ clean new free ((moves_fair script.size lines.Inspect b a new tt moved).0 (inr spoilt))
+      | inl spoilt ↦ clean new free ((moves_fair script.size (deeds.Ask OfDisk) b a new tt moved).0 (inr spoilt))
       | inr calm ↦ subst P off (said laws script.size b a new (λ failed. clean new free failed) calm moved)
     ]

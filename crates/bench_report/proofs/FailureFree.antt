@@ -8,8 +8,6 @@ use Rattle.board.specs.Boots.{boot_refusal}
 use Rattle.board.specs.Moments.{commands_by}
 use Rattle.board_model.specs.declared.boot_mode.BootMode.{BootMode}
 use Rattle.board_model.specs.declared.boot_mode.BootMode.TheVariants as modes
-use Rattle.machine.specs.Machine.{Machine}
-use Rattle.machine_lines.specs.declared.line.MachineLine.{MachineLine}
 use Rattle.machine_lines.specs.declared.line.MachineLine.TheVariants as shown
 use Rattle.machine.specs.Machine.{hart_at}
 use Rattle.sbi.specs.declared.words.Word.{Word}
@@ -29,25 +27,26 @@ use Rattle.sbi.specs.Resets.{reset_of}
 use Rattle.board_model.specs.declared.durable.Reason.{Reason}
 use Rattle.script_lang.specs.Scripts.{Script}
 use Rattle.script_lang.specs.declared.line.Line.{Line}
-use Rattle.script_lang.specs.declared.line.Line.TheVariants as lines
 use Rattle.board_model.specs.declared.console_command.ConsoleCommand.{ConsoleCommand}
 use Rattle.board_model.specs.ConsoleCommands.{console_change}
 use Rattle.bench_report.specs.declared.printed.Printed.{Printed}
 use Rattle.bench_report.specs.declared.printed.Printed.TheVariants as printed
 use Rattle.bench_report.specs.declared.printed.Answer.{Answer}
 use Rattle.bench_report.specs.Bench.{DiskState, Blank, Unknown, Formatted, BenchLife, Bench, IsFailureFree, blank_bench}
+use Rattle.bench_report.specs.Deeds as deeds
+use Rattle.bench_report.specs.Deeds.{Deed, deed_of}
 use Rattle.bench_report.specs.Happens.{says, off, on_with, formatted_anew, settled, has_machine, acknowledged}
 use Rattle.bench_report.specs.Commands.{Writes, IssuedBy, IssuesAll, Issued}
 use Rattle.susp.specs.declared.sleeps.Sleep.{Sleep}
 use Rattle.susp.specs.declared.sleeps.Sleep.TheVariants.{ToRam, ToDisk}
 use Rattle.bench_report.specs.Turns.{AnswersError, HartCommand, Resets, SuspendIssued, dozes, BenchFallsAsleep, BenchSleepsBy, BenchMakesCall, ComesTo, GuestTurn, GuestTurns}
 use Rattle.bench_report.specs.PowerOns.{life_begun, FormatsOn, IsBooted, BootsFrom, Resumes, Begins, Boots, Opens, PowersOn}
-use Rattle.bench_report.specs.Examined.{InspectStep}
-use Rattle.bench_report.specs.Steps.{console_reported, FormatStep, OnStep, ConsoleStep, ReadStep, TurnStep, CallReported, GuestCall, CallStep, Step, Moves, Run}
+use Rattle.bench_report.specs.Steps.{console_reported, FormatStep, OnStep, ConsoleStep, TurnStep, CallReported, GuestCall, CallStep, DeedStep, Moves, Run}
 use Rattle.bench_report.specs.Reports.{IsReport}
 use Rattle.bench_report.proofs.Unsaid.{none_made}
 use Rattle.bench_report.specs.Plain.{ShowsNoFailure, ShowNoFailure}
 use Rattle.bench_report.specs.Asides.{Effect, Stays, SetsPayloads, Arms, CutsPower, WakesBoard, WritesPast, aside, affected}
+use Rattle.bench_report.proofs.Questions.{IsAsked, is_asked}
 
 -- as many growths were refused and failures answered as before
 abbrev pub AsMany : Bench → Bench → Type 0
@@ -158,10 +157,6 @@ console_at : (c : ConsoleCommand) (p : Option BenchLife) (b : Bench) (a : Answer
 console_at c None b a new h failure_free = as_many b b new refl refl h.1
 console_at c (Some life) b a new h failure_free = issued_failure_free life.doubt (console_change c) life b h.0 new h.1 (reported_failure_free c h.0 a h.2 failure_free)
 
-read_at : (p : Option BenchLife) (says_so : Machine → MachineLine → Type 0) (b : Bench) (a : Answer) (new : Bench) → ReadStep p says_so b a new → AsMany b new
-read_at None says_so b a new x = as_many b b new refl refl x.1
-read_at (Some life) says_so b a new x = as_many b b new refl refl x.3
-
 -- ---- turns and calls
 -- a word that shows that no command was refused
 abbrev IsFree : Word → Type 0
@@ -247,11 +242,10 @@ call_at (Some life) h asked b a new (inl (has, m, called, did, g)) failure_free 
     let rest = called_at called h (has_machine m life) (on_with (has_machine m life) b) a new g failure_free in (rest.0, rest.1)
 call_at (Some life) h asked b a new (inr g) failure_free = as_many b b new refl refl g.2
 
-inspect_at : (size : Size) (p : Option BenchLife) (b : Bench) (a : Answer) (new : Bench) → InspectStep size p b a new → ShowsNoFailure a.line → AsMany b new
-inspect_at size None b a new (inl (c, reads, inl (line, tells, e, is))) failure_free = as_many b b new refl refl is
-inspect_at size None b a new (inl (c, reads, inr x)) failure_free = absurd ((of_answer a (printed.InspectRefused 11) x.1 failure_free).1 refl)
-inspect_at size None b a new (inr x) failure_free = absurd ((of_answer a (printed.InspectRefused 5) x.0 failure_free).0 refl)
-inspect_at size (Some life) b a new x failure_free = as_many b b new refl refl x.1
+asked_at : (b : Bench) (a : Answer) (new : Bench) → IsAsked b a new → ShowsNoFailure a.line → AsMany b new
+asked_at b a new (inl (said, none, e, is)) failure_free = as_many b b new refl refl is
+asked_at b a new (inr (inl x)) failure_free = absurd ((of_answer a (printed.InspectRefused 11) x.0 failure_free).1 refl)
+asked_at b a new (inr (inr x)) failure_free = absurd ((of_answer a (printed.InspectRefused 5) x.0 failure_free).0 refl)
 
 aside_many : (e : Effect) (b new : Bench) → new ≡ affected e b → AsMany b new
 aside_many Stays b new x = as_many b b new refl refl x
@@ -261,19 +255,18 @@ aside_many CutsPower b new x = as_many b _ new refl refl x
 aside_many (WakesBoard life) b new x = as_many b _ new refl refl x
 aside_many WritesPast b new x = as_many b _ new refl refl x
 
-step_failure_free : (size : Size) (line : Line) (b : Bench) (a : Answer) (new : Bench) → Step size line b a new → ShowsNoFailure a.line → AsMany b new
-step_failure_free size lines.Format b a new h failure_free = format_at b.power b a new h failure_free
-step_failure_free size (lines.On mode) b a new h failure_free = on_at size b.power mode b a new h failure_free
-step_failure_free size (lines.Command c) b a new h failure_free = console_at c b.power b a new h failure_free
-step_failure_free size (lines.Turn x y) b a new h failure_free = turn_at b.power x y b a new h failure_free
-step_failure_free size (lines.Call i asked) b a new h failure_free = call_at b.power i asked b a new h failure_free
-step_failure_free size (lines.Show look) b a new h failure_free = read_at b.power _ b a new h
-step_failure_free size lines.Inspect b a new h failure_free = inspect_at size b.power b a new h failure_free
-step_failure_free size line b a new h failure_free = aside_many (aside line b.power b.payloads).1 b new h.1
+step_failure_free : (size : Size) (deed : Deed) (b : Bench) (a : Answer) (new : Bench) → DeedStep size deed b a new → ShowsNoFailure a.line → AsMany b new
+step_failure_free size deeds.Format b a new h failure_free = format_at b.power b a new h failure_free
+step_failure_free size (deeds.PowerOn mode) b a new h failure_free = on_at size b.power mode b a new h failure_free
+step_failure_free size (deeds.Issue c) b a new h failure_free = console_at c b.power b a new h failure_free
+step_failure_free size (deeds.Turns x y) b a new h failure_free = turn_at b.power x y b a new h failure_free
+step_failure_free size (deeds.Call i asked) b a new h failure_free = call_at b.power i asked b a new h failure_free
+step_failure_free size (deeds.Ask question) b a new h failure_free = asked_at b a new (is_asked size question b.power b a new h) failure_free
+step_failure_free size (deeds.Beside act) b a new h failure_free = aside_many (aside act b.power b.payloads).1 b new h.1
 
 -- within a failure-free line no cut struck
 moves_failure_free : (size : Size) (line : Line) (b : Bench) (a : Answer) (new : Bench) → Moves size line b a new → ShowsNoFailure a.line → AsMany b new
-moves_failure_free size line b a new (inl h) failure_free = step_failure_free size line b a new h.0 failure_free
+moves_failure_free size line b a new (inl h) failure_free = step_failure_free size (deed_of line) b a new h.0 failure_free
 moves_failure_free size line b a new (inr h) failure_free = absurd (of_answer a printed.PowerLost h.4 failure_free)
 
 run_failure_free : (size : Size) (ls : List Line) (b : Bench) (answers : List Answer) (end : Bench) → Run size b ls answers end → ShowNoFailure answers → AsMany b end

@@ -12,7 +12,6 @@ use Rattle.board.specs.Boots.{boot_refusal}
 use Rattle.board.specs.Moments.{commands_by}
 use Rattle.script_lang.specs.Scripts.{Script}
 use Rattle.script_lang.specs.declared.line.Line.{Line}
-use Rattle.script_lang.specs.declared.line.Line.TheVariants as lines
 use Rattle.machine.specs.Machine.{hart_at}
 use Rattle.hart.specs.State.{ArchState}
 use Rattle.machine_lines.specs.Shows.{own_line, own_line_by}
@@ -39,15 +38,17 @@ use Rattle.bench_report.specs.declared.printed.Printed.{Printed}
 use Rattle.bench_report.specs.declared.printed.Printed.TheVariants as printed
 use Rattle.bench_report.specs.declared.printed.Answer.{Answer}
 use Rattle.bench_report.specs.Bench.{DiskState, Blank, Unknown, Formatted, BenchLife, Bench, blank_bench}
+use Rattle.bench_report.specs.Deeds as deeds
+use Rattle.bench_report.specs.Deeds.{Deed, deed_of}
 use Rattle.bench_report.specs.Happens.{says, shows, out_of_memory, failed, on_with, settled, has_machine, acknowledged, in_doubt}
 use Rattle.bench_report.specs.Commands.{Writes, IssuedBy, IssuesAll}
 use Rattle.susp.specs.declared.sleeps.Sleep.{Sleep}
 use Rattle.susp.specs.declared.sleeps.Sleep.TheVariants.{ToRam, ToDisk}
 use Rattle.bench_report.specs.Turns.{refused, AnswersError, HartCommand, Resets, dozes, BenchFallsAsleep, BenchSleepsBy, BenchMakesCall, ComesTo, GuestTurns}
 use Rattle.bench_report.specs.PowerOns.{life_begun, IsBooted, BootsFrom, Begins, Boots, Opens, IsOpenRefusal}
-use Rattle.bench_report.specs.Steps.{console_reported, CallReported, GuestCall, OnStep, ConsoleStep, TurnStep, CallStep, Step, Run}
+use Rattle.bench_report.specs.Steps.{console_reported, CallReported, GuestCall, OnStep, ConsoleStep, TurnStep, CallStep, DeedStep, Run}
 use Rattle.bench_report.specs.Reports.{AreByFirmware, IsReport}
-use Rattle.bench_report.specs.Prefix.{AskedLine, Boot, Command, Guest, Nothing, Keeps, Hides, TellsLine, may_hide, asked_by, LineImplies, ShowsIts, is_format_ok}
+use Rattle.bench_report.specs.Prefix.{AskedLine, Boot, Command, Guest, Nothing, Keeps, Hides, TellsLine, may_hide, asked_of, asked_by, LineImplies, ShowsIts, is_format_ok}
 use Rattle.bench_report.specs.AllFound.{LineMakes, ShownMakes, AreAllFound, FindAll, FindsAll}
 use Rattle.bench_report.proofs.Issues.{is_up, takes_more, GoesOn, IsSound}
 use Rattle.bench_report.proofs.Rows.{commands_taken, few_commands, all_or_failed}
@@ -174,9 +175,9 @@ on_still size None mode b a new calm well (inr (inl (n, is, e, same))) refused =
 on_still size None mode b a new calm well (inr (inr (inl h))) refused = still b new (out_of_memory b) h.2 refl
 on_still size None mode b a new calm well (inr (inr (inr h))) refused = absurd (well (fails b new h.1))
 
-step_still : (size : Size) (line : Line) (b : Bench) (a : Answer) (new : Bench) → IsCalm b → (DiskHasFailed new → ⊥) → Step size line b a new → IsRefusedBoot (asked_by line) a.line → IsStill b new
-step_still size (lines.On mode) b a new calm well h refused = on_still size b.power mode b a new calm well h refused
-step_still size line b a new calm well h refused = absurd refused
+step_still : (size : Size) (deed : Deed) (b : Bench) (a : Answer) (new : Bench) → IsCalm b → (DiskHasFailed new → ⊥) → DeedStep size deed b a new → IsRefusedBoot (asked_of deed) a.line → IsStill b new
+step_still size (deeds.PowerOn mode) b a new calm well h refused = on_still size b.power mode b a new calm well h refused
+step_still size deed b a new calm well h refused = absurd refused
 
 -- ---- what is known of a line beside what it says: a line that goes on leaves a board that takes commands
 abbrev IsQuiet : AskedLine → Printed → Bool → Type 0
@@ -258,12 +259,12 @@ nothing_quiet : (x : Printed) (now : Bool) → IsQuiet Nothing x now
 nothing_quiet printed.PowerLost now = tt
 nothing_quiet x now = tt
 
-step_quiet : (size : Size) (line : Line) (b : Bench) (a : Answer) (new : Bench) → IsSound b → (IsPowered new.power → is_up new.power ≡ true) → Step size line b a new → IsQuiet (asked_by line) a.line (is_up new.power)
-step_quiet size (lines.On mode) b a new sound up h = on_quiet (is_up new.power) size b.power mode b a new sound h
-step_quiet size (lines.Command c) b a new sound up h = console_quiet (is_up new.power) c b.power b a new refl up h
-step_quiet size (lines.Turn x y) b a new sound up h = turn_quiet (is_up new.power) b.power x y b a new up h
-step_quiet size (lines.Call i asked) b a new sound up h = call_quiet (is_up new.power) b.power i asked b a new up h
-step_quiet size line b a new sound up h = nothing_quiet a.line (is_up new.power)
+step_quiet : (size : Size) (deed : Deed) (b : Bench) (a : Answer) (new : Bench) → IsSound b → (IsPowered new.power → is_up new.power ≡ true) → DeedStep size deed b a new → IsQuiet (asked_of deed) a.line (is_up new.power)
+step_quiet size (deeds.PowerOn mode) b a new sound up h = on_quiet (is_up new.power) size b.power mode b a new sound h
+step_quiet size (deeds.Issue c) b a new sound up h = console_quiet (is_up new.power) c b.power b a new refl up h
+step_quiet size (deeds.Turns x y) b a new sound up h = turn_quiet (is_up new.power) b.power x y b a new up h
+step_quiet size (deeds.Call i asked) b a new sound up h = call_quiet (is_up new.power) b.power i asked b a new up h
+step_quiet size deed b a new sound up h = nothing_quiet a.line (is_up new.power)
 
 -- ---- so a line makes just what it says
 not_now : {A : Type 0} (now : Bool) → now ≡ true → now ≡ false → A
@@ -334,9 +335,9 @@ run_found : (size : Size) (ls : List Line) (b : Bench) (answers : List Answer) (
 run_found size [] b [] end by sound calm well run = tt
 run_found size (l ∷ ls) b (a ∷ answers) end by sound calm well (new, inr (would, mid, x, struck, e, is), run) =
     let P : Bench → Type 0 = DiskHasFailed in
-    absurd (well ((run_fair size ls new answers end by.1 run).2 (subst P (sym is) (struck_fails size l b would mid by.0 calm x struck))))
+    absurd (well ((run_fair size ls new answers end by.1 run).2 (subst P (sym is) (struck_fails size (deed_of l) b would mid by.0 calm x struck))))
 run_found size (l ∷ ls) b (a ∷ answers) end by sound calm well (new, inl (x, unstruck), run) =
-    by_calm ((moves_fair size l b a new by.0 (inl (x, unstruck))).1 calm) (λ sound c. run_found size ls new answers end by.1 sound c well run)
+    by_calm ((moves_fair size (deed_of l) b a new by.0 (inl (x, unstruck))).1 calm) (λ sound c. run_found size ls new answers end by.1 sound c well run)
   where
     well_now : IsWell new
     well_now s = well ((run_fair size ls new answers end by.1 run).2 s)
@@ -344,11 +345,11 @@ run_found size (l ∷ ls) b (a ∷ answers) end by sound calm well (new, inl (x,
     by_calm : DiskHasFailed new ⊎ IsCalm new → (IsSound new → IsCalm new → AreAllFound (found_of new.kept.changes) ls answers) → AreAllFound (found_of b.kept.changes) (l ∷ ls) (a ∷ answers)
     by_calm (inl s) more = absurd (well_now s)
     by_calm (inr c) more =
-        let tell : Tell (asked_by l) b a new = steps size l b a new by.0 sound x in
+        let tell : Tell (asked_by l) b a new = steps size (deed_of l) b a new by.0 sound x in
         let now_calm : new.kept.doubt ≡ None = subst (λ m. CalmDisk m new.kept.doubt) tell.0.0 c.0 in
         let was_calm : b.kept.doubt ≡ None = subst (λ m. CalmDisk m b.kept.doubt) sound.0 calm.0 in
-        let q = step_quiet size l b a new sound (λ on. up_now new.kept new.power tell.0.1 now_calm on) x in
-        let one = line_found (asked_by l) b a new was_calm tell q (λ refused. step_still size l b a new calm well_now x refused) in
+        let q = step_quiet size (deed_of l) b a new sound (λ on. up_now new.kept new.power tell.0.1 now_calm on) x in
+        let one = line_found (asked_by l) b a new was_calm tell q (λ refused. step_still size (deed_of l) b a new calm well_now x refused) in
         (one.0, found_of new.kept.changes, one.1, more tell.0 c)
 run_found size [] b (a ∷ answers) end by sound calm well run = absurd run
 run_found size (l ∷ ls) b [] end by sound calm well run = absurd run
@@ -361,7 +362,7 @@ anew_found size ls b answers end by (disk_state, kept, on) calm well run =
 from_format : (size : Size) (ls : List Line) (b : Bench) (answers : List Answer) (end : Bench) → AreByFirmware ls → IsCalm b → IsWell end → Run size b ls answers end → FindAll ls answers
 from_format size [] b answers end by calm well run = tt
 from_format size (l ∷ ls) b [] end by calm well run = absurd run
-from_format size (l ∷ ls) b (a ∷ answers) end by calm well run = by_calm ((moves_fair size l b a run.0 by.0 run.1).1 calm) (λ c. from_format size ls run.0 answers end by.1 c well run.2)
+from_format size (l ∷ ls) b (a ∷ answers) end by calm well run = by_calm ((moves_fair size (deed_of l) b a run.0 by.0 run.1).1 calm) (λ c. from_format size ls run.0 answers end by.1 c well run.2)
   where
     by_calm : DiskHasFailed run.0 ⊎ IsCalm run.0 → (IsCalm run.0 → FindAll ls answers) → FindAll (l ∷ ls) (a ∷ answers)
     by_calm (inl s) more = absurd (well ((run_fair size ls run.0 answers end by.1 run.2).2 s))

@@ -16,6 +16,7 @@ pub mod Told
 pub mod Determined
 pub mod Rows
 pub mod Beside
+pub mod Questions
 pub mod FailureFree
 pub mod Inspected
 pub mod Guests

@@ -32,7 +32,7 @@ use Rattle.bench_report.proofs.Dozed.{call_size}
 use Rattle.bench_report.proofs.Came.{Stands, has_other, comes, turns}
 use Rattle.bench_report.specs.Agree.{StoreIs, BoardIs, DeviceIs, OffIs, OnIs, BoardAfter, Agrees, IsBench, Matches, StepsTo}
 use Rattle.bench_report.specs.Asides.{AsideStep, affected, wakes}
-use Rattle.script_lang.specs.declared.line.Line.TheVariants as lines
+use Rattle.bench_report.specs.Deeds.{SetSlot, CallWake}
 
 -- a board that is off
 pub off_formats : (size : Size) (b : Bench) (a : Answer) (after : Power) → b.power ≡ None → StepsTo size b after (FormatsOn b.disk_state b a) → StepsTo size b after (FormatStep b.power b a)
@@ -151,7 +151,7 @@ on_looks size b old new says_so line was so still same = (b, on_reads size b old
 module _ (size : Size) (b : Bench) (life : BenchLife) (old new : SimBoard) (on : b.power ≡ Some life) (was : OnIs size b old) (still : store_in new ≡ store_in old) where
   -- it answers so, and the board is on
   abbrev pub Woke : Answer → Type 0
-  Woke answer = (x : Bench) × AsideStep lines.Wake (Some life) b answer x × OnIs size x new × (x.payloads ≡ b.payloads)
+  Woke answer = (x : Bench) × AsideStep CallWake (Some life) b answer x × OnIs size x new × (x.payloads ≡ b.payloads)
 
   here : BoardIs size b.disk_state b.kept (Some life) old
   here = let P : Option BenchLife → Type 0 = λ p. BoardIs size b.disk_state b.kept p old in subst P on was.0
@@ -179,13 +179,13 @@ module _ (size : Size) (b : Bench) (life : BenchLife) (old new : SimBoard) (on :
 
 -- a payload
 abbrev pub Keeps : Size → Bench → Power → ℕ → List ℕ → MachineLine → List (List ℕ) → Type 0
-Keeps size b power slot bytes line payloads = (new : Bench) × AsideStep (lines.Payload slot bytes) b.power b (shows line) new × Matches size new power payloads
+Keeps size b power slot bytes line payloads = (new : Bench) × AsideStep (SetSlot slot bytes) b.power b (shows line) new × Matches size new power payloads
 
 pub keeps_off : (size : Size) (b : Bench) (power : Power) (disk : SimDisk) (slot : ℕ) (bytes : List ℕ) (old new : List (List ℕ)) → power ≡ Off disk → IsBench size b power old → new ≡ slice_set old slot bytes
     → Keeps size b power slot bytes (shown.Payload slot (length bytes)) new
 keeps_off size b power disk slot bytes old new at was set =
     let next : Bench = record b { payloads = slice_set b.payloads slot bytes } in
-    let P : Option BenchLife → Type 0 = λ p. AsideStep (lines.Payload slot bytes) p b (shows (shown.Payload slot (length bytes))) next in
+    let P : Option BenchLife → Type 0 = λ p. AsideStep (SetSlot slot bytes) p b (shows (shown.Payload slot (length bytes))) next in
     let Q : Power → Type 0 = λ p. Agrees size b p in
     let R : Power → Type 0 = λ p. Agrees size next p in
     let off : OffIs size b disk = subst Q at was.0 in
@@ -193,7 +193,7 @@ keeps_off size b power disk slot bytes old new at was set =
     (next, subst P (sym off.0) (refl, refl), (subst R (sym at) next_off, set ∙ ap (λ ps. slice_set ps slot bytes) was.1))
 
 busy_on : (size : Size) (b : Bench) (power : Power) (board : SimBoard) (p : Option BenchLife) (slot : ℕ) (bytes : List ℕ) (old : List (List ℕ)) → BoardIs size b.disk_state b.kept p board → IsBench size b power old
-    → (new : Bench) × AsideStep (lines.Payload slot bytes) p b (shows shown.Busy) new × Matches size new power old
+    → (new : Bench) × AsideStep (SetSlot slot bytes) p b (shows shown.Busy) new × Matches size new power old
 busy_on size b power board None slot bytes old is was = absurd is
 busy_on size b power board (Some life) slot bytes old is was = (b, (refl, refl), (was.0, was.1))
 

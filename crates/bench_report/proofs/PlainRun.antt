@@ -13,17 +13,18 @@ use Rattle.board_model.specs.declared.boot_mode.BootMode.{BootMode}
 use Rattle.board_model.specs.declared.boot_mode.BootMode.TheVariants as modes
 use Rattle.script_lang.specs.Scripts.{Script}
 use Rattle.script_lang.specs.declared.line.Line.{Line}
-use Rattle.script_lang.specs.declared.line.Line.TheVariants as lines
 use Rattle.board_model.specs.declared.console_command.ConsoleCommand.{ConsoleCommand}
 use Rattle.board_model.specs.ConsoleCommands.{console_change}
 use Rattle.bench_report.specs.declared.printed.Answer.{Answer}
 use Rattle.bench_report.specs.Bench.{DiskState, Blank, Unknown, Formatted, BenchLife, Bench, IsFailureFree, blank_bench}
+use Rattle.bench_report.specs.Deeds as deeds
+use Rattle.bench_report.specs.Deeds.{OfBoard, OfDisk, Aside, WritePast, Deed, deed_of, Beside, IsByFirmwareAlone}
 use Rattle.bench_report.specs.Happens.{says, on_with, settled, acknowledged, life_with, all_acknowledged}
 use Rattle.bench_report.specs.Commands.{Writes, Issued, IssuedBy, IssuesAll}
 use Rattle.bench_report.specs.PowerOns.{life_begun, ShowsFound, FormatsOn, BootsFrom, Boots, Begins, Opens, IsOpenRefusal, PowersOn}
-use Rattle.bench_report.specs.Steps.{FormatStep, OnStep, ConsoleStep, Step, Moves, Run}
-use Rattle.bench_report.specs.Reports.{IsByFirmware, AreByFirmware, board_answer, IsReport}
-use Rattle.bench_report.specs.Plain.{plain_written, plain_issued, plain_console, plain_format, plain_slot, plain_boot, plain_on, plain_inspect, plain_at, plain, plain_answers, plain_report, IsPlain, ArePlain}
+use Rattle.bench_report.specs.Steps.{FormatStep, OnStep, ConsoleStep, DeedStep, DeedMoves, Run}
+use Rattle.bench_report.specs.Reports.{AreByFirmware, board_answer, IsReport}
+use Rattle.bench_report.specs.Plain.{plain_written, plain_issued, plain_console, plain_format, plain_slot, plain_boot, plain_on, plain_inspect, plain_at, plain, plain_answers, plain_report, IsPlainDeed, ArePlain}
 use Rattle.bench_report.proofs.Adapted.{grows}
 use Rattle.bench_report.proofs.Determined.{CalmDisk, IsCalm, HasFailed, Agree}
 use Rattle.bench_report.proofs.FailureFree.{AsMany}
@@ -98,7 +99,7 @@ formats Blank b calm good = (inl (refl, refl), (refl, good.1, good.2, refl), (re
 formats Unknown b calm good = absurd calm
 formats Formatted b calm good = (inl (refl, refl), good, (refl, refl))
 
-format_at : (size : Size) (p : Option BenchLife) (b : Bench) → IsGood b → Well b (FormatStep p b) (plain_at size p lines.Format b)
+format_at : (size : Size) (p : Option BenchLife) (b : Bench) → IsGood b → Well b (FormatStep p b) (plain_at size p deeds.Format b)
 format_at size None b good = formats b.disk_state b good.0 good
 format_at size (Some life) b good = ((refl, refl), good, (refl, refl))
 
@@ -156,11 +157,11 @@ powers size Formatted mode b at calm good =
     let did = boots (boot_refusal s mode) mode size s mid good.3 refl refl (subst Q (sym at) refl, good.1, good.2, good.3) in
     (inl (s, size, mid, subst P (sym at) (b.kept.changes, inl refl, refl, refl, refl), found_line (boot_refusal s mode) mode size s mid, did.0), did.1, did.2)
 
-on_at : (size : Size) (p : Option BenchLife) (mode : BootMode) (b : Bench) → IsGood b → Well b (OnStep size p mode b) (plain_at size p (lines.On mode) b)
+on_at : (size : Size) (p : Option BenchLife) (mode : BootMode) (b : Bench) → IsGood b → Well b (OnStep size p mode b) (plain_at size p (deeds.PowerOn mode) b)
 on_at size None mode b good = powers size b.disk_state mode b refl good.0 good
 on_at size (Some life) mode b good = ((refl, refl), good, (refl, refl))
 
--- a line that asks nothing of the disk and of no hart
+-- a deed that asks nothing of the disk and of no hart
 aside_good : (e : Effect) (b : Bench) → OfFirmware e → FitsPower b.power e → IsGood b → IsGood (affected e b) × AsMany b (affected e b)
 aside_good Stays b by fits good = (good, (refl, refl))
 aside_good (SetsPayloads payloads) b by fits good = (good, (refl, refl))
@@ -169,11 +170,11 @@ aside_good CutsPower b by fits good = ((good.0, tt, refl, good.3), (refl, refl))
 aside_good (WakesBoard life) b by fits good = let P : Option BenchLife → Type 0 = CalmPower in ((good.0, subst P fits good.1, good.2, good.3), (refl, refl))
 aside_good WritesPast b by fits good = absurd by
 
-aside_at : (line : Line) (p : Option BenchLife) (b : Bench) → b.power ≡ p → IsByFirmware line → IsGood b → Well b (AsideStep line p b) (says (aside line p b.payloads).0, affected (aside line p b.payloads).1 b)
-aside_at line p b on by good =
-    let is = is_aside line p b.payloads in
-    let F : Option BenchLife → Type 0 = λ q. FitsPower q (aside line p b.payloads).1 in
-    let rest = aside_good (aside line p b.payloads).1 b (is.firmware by) (subst F (sym on) is.fits) good in
+aside_at : (act : Aside) (p : Option BenchLife) (b : Bench) → b.power ≡ p → IsByFirmwareAlone (Beside act) → IsGood b → Well b (AsideStep act p b) (says (aside act p b.payloads).0, affected (aside act p b.payloads).1 b)
+aside_at act p b on by good =
+    let is = is_aside act p b.payloads in
+    let F : Option BenchLife → Type 0 = λ q. FitsPower q (aside act p b.payloads).1 in
+    let rest = aside_good (aside act p b.payloads).1 b (is.firmware by) (subst F (sym on) is.fits) good in
     ((refl, refl), rest.0, rest.1)
 
 -- ---- lines
@@ -181,33 +182,34 @@ by_power : (p : Option BenchLife) (P : Option BenchLife → Type 0) → P None �
 by_power None P x y = x
 by_power (Some life) P x y = y life
 
--- a line that does not examine the disk
-abbrev IsNoExaminer : Line → Type 0
-IsNoExaminer lines.Inspect = ⊥
-IsNoExaminer line = ⊤
+-- a deed that does not examine the disk
+abbrev IsNoExaminer : Deed → Type 0
+IsNoExaminer (deeds.Ask OfDisk) = ⊥
+IsNoExaminer deed = ⊤
 
--- a plain line writes no disk past the firmware
-plain_by : (line : Line) → IsPlain line → IsByFirmware line
-plain_by (lines.Poke x y z) plain = absurd plain
-plain_by line plain = tt
+-- a plain deed writes no disk past the firmware
+plain_by : (deed : Deed) → IsPlainDeed deed → IsByFirmwareAlone deed
+plain_by (Beside WritePast) plain = absurd plain
+plain_by deed plain = tt
 
-steps : (size : Size) (line : Line) (b : Bench) → IsPlain line → IsNoExaminer line → IsGood b → Well b (Step size line b) (plain size line b)
-steps size lines.Format b plain blind good = format_at size b.power b good
-steps size (lines.On mode) b plain blind good = on_at size b.power mode b good
-steps size (lines.Command c) b plain blind good =
-    by_power b.power (λ p. CalmPower p → Well b (ConsoleStep c p b) (plain_at size p (lines.Command c) b))
+steps : (size : Size) (deed : Deed) (b : Bench) → IsPlainDeed deed → IsNoExaminer deed → IsGood b → Well b (DeedStep size deed b) (plain_at size b.power deed b)
+steps size deeds.Format b plain blind good = format_at size b.power b good
+steps size (deeds.PowerOn mode) b plain blind good = on_at size b.power mode b good
+steps size (deeds.Issue c) b plain blind good =
+    by_power b.power (λ p. CalmPower p → Well b (ConsoleStep c p b) (plain_at size p (deeds.Issue c) b))
     (λ calm. console_at c None b calm good) (λ life calm. console_at c (Some life) b calm good) good.1
-steps size lines.Inspect b plain blind good = absurd blind
-steps size (lines.Turn x y) b plain blind good = absurd plain
-steps size (lines.Call h asked) b plain blind good = absurd plain
-steps size (lines.Show look) b plain blind good = absurd plain
-steps size line b plain blind good =
-    by_power b.power (λ p. b.power ≡ p → Well b (AsideStep line p b) (plain_at size p line b))
-    (λ on. aside_at line None b on (plain_by line plain) good) (λ life on. aside_at line (Some life) b on (plain_by line plain) good) refl
+steps size (deeds.Turns x y) b plain blind good = absurd plain
+steps size (deeds.Call h asked) b plain blind good = absurd plain
+steps size (deeds.Ask (OfBoard look)) b plain blind good = absurd plain
+steps size (deeds.Ask OfDisk) b plain blind good = absurd blind
+steps size (Beside act) b plain blind good =
+    let by = plain_by (Beside act) plain in
+    by_power b.power (λ p. b.power ≡ p → Well b (AsideStep act p b) (plain_at size p (Beside act) b))
+    (λ on. aside_at act None b on by good) (λ life on. aside_at act (Some life) b on by good) refl
 
 are_by : (ls : List Line) → ArePlain ls → AreByFirmware ls
 are_by [] are = tt
-are_by (l ∷ ls) are = (plain_by l are.0, are_by ls are.1)
+are_by (l ∷ ls) are = (plain_by (deed_of l) are.0, are_by ls are.1)
 
 -- what is said of a disk that is examined
 plain_said : (m : DiskState) (b : Bench) → ((plain_inspect m b).0 ≡ says (said_of m b.kept)) × ((plain_inspect m b).1 ≡ b)
@@ -215,36 +217,36 @@ plain_said Blank b = (refl, refl)
 plain_said Unknown b = (refl, refl)
 plain_said Formatted b = (refl, refl)
 
-plain_by_power : (size : Size) (p : Option BenchLife) (b : Bench) → ((plain_at size p lines.Inspect b).0 ≡ said_by p b.disk_state b.kept) × ((plain_at size p lines.Inspect b).1 ≡ b)
+plain_by_power : (size : Size) (p : Option BenchLife) (b : Bench) → ((plain_at size p (deeds.Ask OfDisk) b).0 ≡ said_by p b.disk_state b.kept) × ((plain_at size p (deeds.Ask OfDisk) b).1 ≡ b)
 plain_by_power size None b = plain_said b.disk_state b
 plain_by_power size (Some life) b = (refl, refl)
 
--- a line of a good bench that is not spoilt after it is the plain one
+-- a deed of a good bench that is not spoilt after it is the plain one
 module _ (laws : ContentLaws) (turns : IsOneTurn) (call : IsOneCall) (csr : IsOneCsr) (size : Size) (b : Bench) (a : Answer) (new : Bench) (never : HasFailed new → ⊥) (good : IsGood b) (calm : IsCalm b) where
   abbrev IsPlainly : Answer × Bench → Type 0
   IsPlainly reported = (a ≡ reported.0) × (new ≡ reported.1) × IsGood new
 
-  blind_is : (line : Line) → IsPlain line → IsNoExaminer line → Moves size line b a new → IsPlainly (plain size line b)
-  blind_is line is blind moved =
-      let one = steps size line b is blind good in
-      by one (moves laws turns call csr size line b a (plain size line b).0 new (plain size line b).1 calm moved (inl (one.0, one.1.2)))
+  blind_is : (deed : Deed) → IsPlainDeed deed → IsNoExaminer deed → DeedMoves size deed b a new → IsPlainly (plain_at size b.power deed b)
+  blind_is deed is blind moved =
+      let one = steps size deed b is blind good in
+      by one (moves laws turns call csr size deed b a (plain_at size b.power deed b).0 new (plain_at size b.power deed b).1 calm moved (inl (one.0, one.1.2)))
     where
-      failed : AsMany b (plain size line b).1 → HasFailed (plain size line b).1 → HasFailed b
+      failed : AsMany b (plain_at size b.power deed b).1 → HasFailed (plain_at size b.power deed b).1 → HasFailed b
       failed many (inl s) = inl (omega (arith, many.0, s))
       failed many (inr s) = inr (omega (arith, many.1, s))
 
-      by : Well b (Step size line b) (plain size line b) → Agree a (plain size line b).0 new (plain size line b).1 → IsPlainly (plain size line b)
+      by : Well b (DeedStep size deed b) (plain_at size b.power deed b) → Agree a (plain_at size b.power deed b).0 new (plain_at size b.power deed b).1 → IsPlainly (plain_at size b.power deed b)
       by one (inl s) = absurd (never s)
-      by one (inr (inl s)) = absurd (never ((moves_fair size line b a new (plain_by line is) moved).0 (failed one.2 s)))
+      by one (inr (inl s)) = absurd (never ((moves_fair size deed b a new (plain_by deed is) moved).0 (failed one.2 s)))
       by one (inr (inr e)) = let P : Bench → Type 0 = IsGood in (e.0, e.1, subst P (sym e.1) one.1)
 
-  line_is : (line : Line) → IsPlain line → Moves size line b a new → IsPlainly (plain size line b)
-  line_is lines.Inspect is moved =
+  deed_is : (deed : Deed) → IsPlainDeed deed → DeedMoves size deed b a new → IsPlainly (plain_at size b.power deed b)
+  deed_is (deeds.Ask OfDisk) is moved =
       let it = said laws size b a new never calm moved in
       let at = plain_by_power size b.power b in
       let P : Bench → Type 0 = IsGood in
       (it.0 ∙ sym at.0, it.1 ∙ sym at.1, subst P (sym it.1) good)
-  line_is line is moved = blind_is line is tt moved
+  deed_is deed is moved = blind_is deed is tt moved
 
 -- a run of plain lines
 plain_run : ContentLaws → IsOneTurn → IsOneCall → IsOneCsr → (size : Size) (ls : List Line) (b : Bench) (answers : List Answer) (end : Bench) → ArePlain ls → IsGood b → IsCalm b → IsFailureFree end → Run size b ls answers end
@@ -254,8 +256,8 @@ plain_run laws turns call csr size [] b (a ∷ answers) end are good calm free r
 plain_run laws turns call csr size (l ∷ ls) b [] end are good calm free run = absurd run
 plain_run laws turns call csr size (l ∷ ls) b (a ∷ answers) end are good calm free (mid, moved, rest) =
     let never : HasFailed mid → ⊥ = λ failed. clean end free (run_spoilt size ls mid answers end (are_by ls are.1) rest failed) in
-    let it = line_is laws turns call csr size b a mid never good calm l are.0 moved in
-    let calm_mid : IsCalm mid = elim ((moves_fair size l b a mid (plain_by l are.0) moved).1 calm) [ inl failed ↦ absurd (never (inr failed)) | inr calm ↦ calm ] in
+    let it = deed_is laws turns call csr size b a mid never good calm (deed_of l) are.0 moved in
+    let calm_mid : IsCalm mid = elim ((moves_fair size (deed_of l) b a mid (plain_by (deed_of l) are.0) moved).1 calm) [ inl failed ↦ absurd (never (inr failed)) | inr calm ↦ calm ] in
     let more = plain_run laws turns call csr size ls mid answers end are.1 it.2 calm_mid free rest in
     ap (λ q. q ∷ answers) it.0 ∙ ap (λ qs. (plain size l b).0 ∷ qs) (more ∙ ap (λ (x : Bench). plain_answers size ls x) it.1)
 

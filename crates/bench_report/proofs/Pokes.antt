@@ -15,7 +15,7 @@ use Rattle.bench_report.specs.Views.{facts, fault_state}
 use Rattle.bench_report.specs.Bench.{BenchLife, Bench}
 use Rattle.bench_report.specs.Happens.{says, written_past}
 use Rattle.bench_report.specs.Asides.{AsideStep}
-use Rattle.script_lang.specs.declared.line.Line.TheVariants as lines
+use Rattle.bench_report.specs.Deeds.{WritePast}
 use Rattle.bench_report.specs.Agree.{DeviceIs, OffIs, Agrees, Matches, StepsTo}
 use Rattle.bench_report.specs.Sides.{SidesAre}
 use Rattle.bench_report.proofs.Devices.{stays_as}
@@ -31,11 +31,11 @@ device size b x old new was fault failures sides same long = stays_as size b x (
 past_firmware : (size : Size) (b : Bench) (disk : Facts) → SidesAre size (written_past b) disk
 past_firmware size b disk clean c may = absurd (let no : true ≡ false = clean.1 in let never : ⊥ = cc in never)
 
-pub poked_off : (k n : ℕ) (bytes : List ℕ) (size : Size) (b : Bench) (old new : SimDisk) (a : Answer) → OffIs size b old → NoCall (facts old) (facts new) (fault_state old) (fault_state new) → SameLength (facts old) (facts new)
-    → a ≡ says printed.Poked → StepsTo size b (Off new) (AsideStep (lines.Poke k n bytes) b.power b a)
-poked_off k n bytes size b old new a was same long e =
+pub poked_off : (size : Size) (b : Bench) (old new : SimDisk) (a : Answer) → OffIs size b old → NoCall (facts old) (facts new) (fault_state old) (fault_state new) → SameLength (facts old) (facts new)
+    → a ≡ says printed.Poked → StepsTo size b (Off new) (AsideStep WritePast b.power b a)
+poked_off size b old new a was same long e =
     let x : Bench = written_past b in
-    let P : Option BenchLife → Type 0 = λ p. AsideStep (lines.Poke k n bytes) p b a x in
+    let P : Option BenchLife → Type 0 = λ p. AsideStep WritePast p b a x in
     (x, subst P (sym was.0) (e, refl), (was.0, tt, device size b x old new was.2 refl refl (past_firmware size b (facts new)) same long), refl)
 
 -- a poke that was refused memory
@@ -46,8 +46,8 @@ not_poked goes_on size b old new was same long still =
     (was.0, left_on goes_on size b.disk_state b.kept old new was.1 (less old new fewer), device size b b old new was.2 refl refl (sides_stay size b (facts old) (facts new) fewer was.2.3) same long)
 
 -- with the payloads, which a poke keeps
-pub poke_matches : (k n : ℕ) (bytes : List ℕ) (size : Size) (b : Bench) (r : Result Answer Refusal) (after : Power) (payloads : List (List ℕ)) → payloads ≡ b.payloads
-    → MatchResult r (λ answer. StepsTo size b after (AsideStep (lines.Poke k n bytes) b.power b answer)) (λ e. (e ≡ Memory) × Agrees size b after)
-    → MatchResult r (λ answer. (new : Bench) × AsideStep (lines.Poke k n bytes) b.power b answer new × Matches size new after payloads) (λ e. (e ≡ Memory) × Matches size b after payloads)
-poke_matches k n bytes size b (Ok a) after payloads same did = (did.0, did.1, (did.2, same ∙ sym did.3))
-poke_matches k n bytes size b (Err e) after payloads same did = (did.0, (did.1, same))
+pub poke_matches : (size : Size) (b : Bench) (r : Result Answer Refusal) (after : Power) (payloads : List (List ℕ)) → payloads ≡ b.payloads
+    → MatchResult r (λ answer. StepsTo size b after (AsideStep WritePast b.power b answer)) (λ e. (e ≡ Memory) × Agrees size b after)
+    → MatchResult r (λ answer. (new : Bench) × AsideStep WritePast b.power b answer new × Matches size new after payloads) (λ e. (e ≡ Memory) × Matches size b after payloads)
+poke_matches size b (Ok a) after payloads same did = (did.0, did.1, (did.2, same ∙ sym did.3))
+poke_matches size b (Err e) after payloads same did = (did.0, (did.1, same))

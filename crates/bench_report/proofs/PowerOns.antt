@@ -15,6 +15,7 @@ use Rattle.bench_report.specs.declared.printed.Answer.{Answer}
 use Rattle.bench_report.specs.declared.printed.Printed.{Printed}
 use Rattle.bench_report.specs.declared.printed.Printed.TheVariants as printed
 use Rattle.bench_report.specs.Bench.{DiskState, Blank, Unknown, Formatted, BenchLife, Bench, IsFailureFree, blank_bench}
+use Rattle.bench_report.specs.Deeds as deeds
 use Rattle.bench_report.specs.Happens.{says, on_with, settled, has_machine, acknowledged}
 use Rattle.bench_report.specs.Commands.{Writes, Issued, IssuesAll}
 use Rattle.bench_report.specs.PowerOns.{life_begun, ShowsFound, IsBooted, BootsFrom, Resumes, Boots, Opens, IsOpenRefusal, PowersOn}
@@ -180,7 +181,7 @@ finds_all script answers b mode a new by h disk_state none (inl move) lost failu
     let P : Option BenchLife → Type 0 = λ p. OnStep script.size p mode b a new in
     elim (spoilt_before b) [
       | inl was ↦ powers_sure script.size mode b a new disk_state (sure script answers b by h was disk_state) failure_free_bench (subst P none move.0)
-      | inr spoilt ↦ clean new failure_free_bench ((moves_fair script.size (lines.On mode) b a new tt (inl move)).0 spoilt)
+      | inr spoilt ↦ clean new failure_free_bench ((moves_fair script.size (deeds.PowerOn mode) b a new tt (inl move)).0 spoilt)
     ]
 finds_all script answers b mode a new by h disk_state none (inr (would, mid, step, struck, e, is)) lost failure_free_bench = absurd (lost (ap (λ (x : Answer). x.line) e))
 

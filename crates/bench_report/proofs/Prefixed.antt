@@ -13,7 +13,6 @@ use Rattle.board.specs.Boots.{boot_refusal}
 use Rattle.board.specs.Moments.{commands_by}
 use Rattle.script_lang.specs.Scripts.{Script}
 use Rattle.script_lang.specs.declared.line.Line.{Line}
-use Rattle.script_lang.specs.declared.line.Line.TheVariants as lines
 use Rattle.machine.specs.Machine.{Machine, hart_at}
 use Rattle.machine_lines.specs.Shows.{own_line, own_line_by}
 use Rattle.sbi_calls.specs.Words.{is_answered}
@@ -30,13 +29,13 @@ use Rattle.bench_report.specs.declared.printed.Printed.{Printed}
 use Rattle.bench_report.specs.declared.printed.Printed.TheVariants as printed
 use Rattle.bench_report.specs.declared.printed.Answer.{Answer}
 use Rattle.bench_report.specs.Bench.{DiskState, Blank, Unknown, Formatted, BenchLife, Bench, blank_bench}
+use Rattle.bench_report.specs.Deeds as deeds
+use Rattle.bench_report.specs.Deeds.{Deed, deed_of, IsByFirmwareAlone}
 use Rattle.bench_report.specs.Happens.{says, shows, out_of_memory, failed, on_with, unpowered, armed_with, formatted_anew, settled, has_machine}
 use Rattle.bench_report.specs.PowerOns.{life_begun, commands_of, IsBooted, BootsFrom, Resumes, Begins, Boots, Opens, ShowsFound, IsOpenRefusal, PowersOn, FormatsOn}
-use Rattle.bench_report.specs.Examined.{Tells, InspectStep}
-use Rattle.disk.specs.Facts.{Content}
-use Rattle.bench_report.specs.Steps.{console_reported, FormatStep, OnStep, ConsoleStep, CallReported, GuestCall, TurnStep, CallStep, ReadStep, Step, Moves, Run}
+use Rattle.bench_report.specs.Steps.{console_reported, FormatStep, OnStep, ConsoleStep, CallReported, GuestCall, TurnStep, CallStep, DeedStep, Moves, Run}
 use Rattle.bench_report.specs.Reports.{IsByFirmware, AreByFirmware, IsReport}
-use Rattle.bench_report.specs.Prefix.{AskedLine, Boot, Command, Guest, Nothing, Keeps, Hides, TellsTurns, TellsLine, asked_by, RefusedChange, Lost, LineImplies, ShowsIts, IsPrefixed, resumes, RisesFrom, AreLoaded, is_format_ok, IsFoundByPrefix, KeepsPrefixLaw}
+use Rattle.bench_report.specs.Prefix.{AskedLine, Boot, Command, Guest, Nothing, Keeps, Hides, TellsTurns, TellsLine, asked_of, asked_by, RefusedChange, Lost, LineImplies, ShowsIts, IsPrefixed, resumes, RisesFrom, AreLoaded, is_format_ok, IsFoundByPrefix, KeepsPrefixLaw}
 use Rattle.bench_report.proofs.Refused.{WasRefused, one_life}
 use Rattle.bench_report.proofs.Unsaid.{Hidden, TellsDid, TellsOne, GoesBy, TurnsGoBy, comes_back, turns_back}
 use Rattle.bench_report.proofs.Lost.{lost}
@@ -46,6 +45,7 @@ use Rattle.bench_report.proofs.Allowed.{all_issued}
 use Rattle.bench_report.proofs.Issues.{takes_more, is_up, GoesOn, IsSound, Back, joined, said, Went, Does, issued_back, AllWent, all_back}
 use Rattle.bench_report.specs.Asides.{Effect, Stays, SetsPayloads, Arms, CutsPower, WakesBoard, WritesPast, aside, affected}
 use Rattle.bench_report.proofs.Beside.{OfFirmware, FitsPower, TellsNothing, is_aside}
+use Rattle.bench_report.proofs.Questions.{IsAsked, is_asked}
 
 -- ---- a line that leaves what the disk stands for
 abbrev pub LineReports : AskedLine → Answer → Bool → Bool → DurableState → DurableState → Type 0
@@ -213,9 +213,6 @@ on_at : (size : Size) (p : Option BenchLife) (mode : BootMode) (b : Bench) (a : 
 on_at size None mode b a new sound on h = powers size mode b a new sound on h
 on_at size (Some life) mode b a new sound on h = stays (Boot mode) b a printed.Busy new h.0 h.1 sound (λ s t e. (e, refl))
 
-shows_on : (line : MachineLine) (b : Bench) (a : Answer) (new : Bench) → IsSound b → a ≡ shows line → new ≡ b → Tell Nothing b a new
-shows_on line b a new sound e f = stays Nothing b a (printed.Shown line) new e f sound (λ s t e. (e, refl))
-
 -- turns and calls
 turn_says : (word : Word) (h made : ℕ) (b : Bench) (a : Answer) (new : Bench) → TurnsGoBy made word b new → a ≡ shows (shown_lines.Turn h made word) → Tell Guest b a new
 turn_says word h made b a new back e =
@@ -266,22 +263,13 @@ call_at None h asked b a new sound on g = stays_off b a new sound g.0 g.1
 call_at (Some life) h asked b a new sound on (inl (has, m, called, did, g)) = called_at called h m life b a new sound on g
 call_at (Some life) h asked b a new sound on (inr g) = stays_off b a new sound g.1 g.2
 
-read_at : (p : Option BenchLife) (says_so : Machine → MachineLine → Type 0) (b : Bench) (a : Answer) (new : Bench) → IsSound b → ReadStep p says_so b a new → Tell Nothing b a new
-read_at None says_so b a new sound x = shows_on _ b a new sound x.0 x.1
-read_at (Some life) says_so b a new sound x = shows_on x.0 b a new sound x.2 x.3
+-- a question
+asked_at : (b : Bench) (a : Answer) (new : Bench) → IsSound b → IsAsked b a new → Tell Nothing b a new
+asked_at b a new sound (inl (said, none, e, is)) = stays Nothing b a said new e is sound (λ s t e. none.tells s t (is_up b.power) e)
+asked_at b a new sound (inr (inl x)) = same Nothing b a (printed.InspectRefused 11) new (out_of_memory b) x.0 x.1 refl refl refl sound.1 sound (λ s t e. (e, refl))
+asked_at b a new sound (inr (inr x)) = same Nothing b a (printed.InspectRefused 5) new (failed x.1.0 b) x.0 x.1.2 refl refl refl sound.1 sound (λ s t e. (e, refl))
 
-told_at : (c : Content) (line : Printed) (b : Bench) (a : Answer) (new : Bench) → IsSound b → Tells c line → a ≡ says line → new ≡ b → Tell Nothing b a new
-told_at c (printed.Inspected i) b a new sound tells e is = stays Nothing b a (printed.Inspected i) new e is sound (λ s t e. (e, refl))
-told_at c (printed.InspectRefused n) b a new sound tells e is = stays Nothing b a (printed.InspectRefused n) new e is sound (λ s t e. (e, refl))
-told_at c line b a new sound tells e is = absurd tells
-
-inspect_at : (size : Size) (p : Option BenchLife) (b : Bench) (a : Answer) (new : Bench) → IsSound b → InspectStep size p b a new → Tell Nothing b a new
-inspect_at size None b a new sound (inl (c, reads, inl (line, tells, e, is))) = told_at c line b a new sound tells e is
-inspect_at size None b a new sound (inl (c, reads, inr x)) = same Nothing b a (printed.InspectRefused 11) new (out_of_memory b) x.1 x.2 refl refl refl sound.1 sound (λ s t e. (e, refl))
-inspect_at size None b a new sound (inr x) = same Nothing b a (printed.InspectRefused 5) new (failed x.1.0 b) x.0 x.1.2 refl refl refl sound.1 sound (λ s t e. (e, refl))
-inspect_at size (Some life) b a new sound x = stays Nothing b a printed.Busy new x.0 x.1 sound (λ s t e. (e, refl))
-
--- a line that asks nothing of the disk and of no hart
+-- a deed that asks nothing of the disk and of no hart
 aside_at : (said : Printed) (e : Effect) (b : Bench) (a : Answer) (new : Bench) → OfFirmware e → FitsPower b.power e → TellsNothing said e → IsSound b → a ≡ says said → new ≡ affected e b → Tell Nothing b a new
 aside_at said Stays b a new by fits tells sound h x = stays Nothing b a said new h x sound (λ s t e. tells s t (is_up b.power) e)
 aside_at said (SetsPayloads payloads) b a new by fits tells sound h x = same Nothing b a said new _ h x refl refl refl sound.1 sound (λ s t e. tells s t (is_up b.power) e)
@@ -293,17 +281,16 @@ aside_at said (WakesBoard life) b a new by fits tells sound h x =
     same Nothing b a said new _ h x refl refl (sym (ap is_up fits)) (subst F fits sound.1) sound (λ s t e. tells s t (is_up b.power) e)
 aside_at said WritesPast b a new by fits tells sound h x = absurd by
 
-pub steps : (size : Size) (line : Line) (b : Bench) (a : Answer) (new : Bench) → IsByFirmware line → IsSound b → Step size line b a new → Tell (asked_by line) b a new
-steps size lines.Format b a new by sound h = format_at b.power b a new sound h
-steps size (lines.On mode) b a new by sound h = on_at size b.power mode b a new sound refl h
-steps size (lines.Command c) b a new by sound h = consoles c b.power b a new sound refl h
-steps size (lines.Turn x y) b a new by sound h = turn_at b.power x y b a new sound h
-steps size (lines.Call i asked) b a new by sound h = call_at b.power i asked b a new sound refl h
-steps size (lines.Show look) b a new by sound h = read_at b.power _ b a new sound h
-steps size lines.Inspect b a new by sound h = inspect_at size b.power b a new sound h
-steps size line b a new by sound h =
-    let is = is_aside line b.power b.payloads in
-    let did = aside line b.power b.payloads in
+pub steps : (size : Size) (deed : Deed) (b : Bench) (a : Answer) (new : Bench) → IsByFirmwareAlone deed → IsSound b → DeedStep size deed b a new → Tell (asked_of deed) b a new
+steps size deeds.Format b a new by sound h = format_at b.power b a new sound h
+steps size (deeds.PowerOn mode) b a new by sound h = on_at size b.power mode b a new sound refl h
+steps size (deeds.Issue c) b a new by sound h = consoles c b.power b a new sound refl h
+steps size (deeds.Turns x y) b a new by sound h = turn_at b.power x y b a new sound h
+steps size (deeds.Call i asked) b a new by sound h = call_at b.power i asked b a new sound refl h
+steps size (deeds.Ask question) b a new by sound h = asked_at b a new sound (is_asked size question b.power b a new h)
+steps size (deeds.Beside act) b a new by sound h =
+    let is = is_aside act b.power b.payloads in
+    let did = aside act b.power b.payloads in
     aside_at did.0 did.1 b a new (is.firmware by) is.fits is.tells sound h.0 h.1
 
 lost_tells : (asked : AskedLine) (s t : DurableState) (up : Bool) → Lost asked s up t → LineImplies asked printed.PowerLost s up t false
@@ -313,9 +300,9 @@ lost_tells Guest s t up h = (h, refl)
 lost_tells Nothing s t up h = (h, refl)
 
 moves : (size : Size) (line : Line) (b : Bench) (a : Answer) (new : Bench) → IsByFirmware line → IsSound b → Moves size line b a new → Tell (asked_by line) b a new
-moves size line b a new by sound (inl h) = steps size line b a new by sound h.0
+moves size line b a new by sound (inl h) = steps size (deed_of line) b a new by sound h.0
 moves size line b a new by sound (inr (would, mid, step, struck, e, is)) =
-    let reported : Tell (asked_by line) b would mid = steps size line b would mid by sound step in
+    let reported : Tell (asked_by line) b would mid = steps size (deed_of line) b would mid by sound step in
     by_eqs (asked_by line) b a _ new (unpowered mid) e is
     ((reported.0.0, tt), λ t f. (let s = reported.1 t f in (s.0, s.1, (tt, lost_tells (asked_by line) s.0 t (is_up b.power) (lost (asked_by line) would.line s.0 t (is_up b.power) (is_up mid.power) s.2.1)))))
 
@@ -412,33 +399,22 @@ call_no None h asked b a new g ok = other a _ g.0 refl ok
 call_no (Some life) h asked b a new (inl (has, m, called, did, g)) ok = called_no called h (has_machine m life) (on_with (has_machine m life) b) a new g ok
 call_no (Some life) h asked b a new (inr g) ok = other a _ g.1 refl ok
 
-read_no : {T : Type 0} (p : Option BenchLife) (says_so : Machine → MachineLine → Type 0) (b : Bench) (a : Answer) (new : Bench) → ReadStep p says_so b a new → is_format_ok a.line ≡ true → T
-read_no None says_so b a new x ok = other a _ x.0 refl ok
-read_no (Some life) says_so b a new x ok = other a _ x.2 refl ok
+asked_no : {T : Type 0} (b : Bench) (a : Answer) (new : Bench) → IsAsked b a new → is_format_ok a.line ≡ true → T
+asked_no b a new (inl (said, none, e, is)) ok = other a said e none.no_format ok
+asked_no b a new (inr (inl x)) ok = other a _ x.0 refl ok
+asked_no b a new (inr (inr x)) ok = other a _ x.0 refl ok
 
-told_no : {T : Type 0} (c : Content) (line : Printed) (a : Answer) → Tells c line → a ≡ says line → is_format_ok a.line ≡ true → T
-told_no c (printed.Inspected i) a tells e ok = other a _ e refl ok
-told_no c (printed.InspectRefused n) a tells e ok = other a _ e refl ok
-told_no c line a tells e ok = absurd tells
-
-inspect_no : {T : Type 0} (size : Size) (p : Option BenchLife) (b : Bench) (a : Answer) (new : Bench) → InspectStep size p b a new → is_format_ok a.line ≡ true → T
-inspect_no size None b a new (inl (c, reads, inl (line, tells, e, is))) ok = told_no c line a tells e ok
-inspect_no size None b a new (inl (c, reads, inr x)) ok = other a _ x.1 refl ok
-inspect_no size None b a new (inr x) ok = other a _ x.0 refl ok
-inspect_no size (Some life) b a new x ok = other a _ x.0 refl ok
-
-step_formats : (size : Size) (line : Line) (b : Bench) (a : Answer) (new : Bench) → Step size line b a new → is_format_ok a.line ≡ true → IsFresh new
-step_formats size lines.Format b a new h ok = formatted_at b.power b a new refl h ok
-step_formats size (lines.On mode) b a new h ok = powers_no size b.power mode b a new h ok
-step_formats size (lines.Command c) b a new h ok = console_no c b.power b a new h ok
-step_formats size (lines.Turn x y) b a new h ok = turn_no b.power x y b a new h ok
-step_formats size (lines.Call i asked) b a new h ok = call_no b.power i asked b a new h ok
-step_formats size (lines.Show look) b a new h ok = read_no b.power _ b a new h ok
-step_formats size lines.Inspect b a new h ok = inspect_no size b.power b a new h ok
-step_formats size line b a new h ok = other a _ h.0 (is_aside line b.power b.payloads).no_format ok
+step_formats : (size : Size) (deed : Deed) (b : Bench) (a : Answer) (new : Bench) → DeedStep size deed b a new → is_format_ok a.line ≡ true → IsFresh new
+step_formats size deeds.Format b a new h ok = formatted_at b.power b a new refl h ok
+step_formats size (deeds.PowerOn mode) b a new h ok = powers_no size b.power mode b a new h ok
+step_formats size (deeds.Issue c) b a new h ok = console_no c b.power b a new h ok
+step_formats size (deeds.Turns x y) b a new h ok = turn_no b.power x y b a new h ok
+step_formats size (deeds.Call i asked) b a new h ok = call_no b.power i asked b a new h ok
+step_formats size (deeds.Ask question) b a new h ok = asked_no b a new (is_asked size question b.power b a new h) ok
+step_formats size (deeds.Beside act) b a new h ok = other a _ h.0 (is_aside act b.power b.payloads).no_format ok
 
 pub moves_format : (size : Size) (line : Line) (b : Bench) (a : Answer) (new : Bench) → Moves size line b a new → is_format_ok a.line ≡ true → IsFresh new
-moves_format size line b a new (inl h) ok = step_formats size line b a new h.0 ok
+moves_format size line b a new (inl h) ok = step_formats size (deed_of line) b a new h.0 ok
 moves_format size line b a new (inr h) ok = other a _ h.4 refl ok
 
 -- what is found on a disk that was just formatted

@@ -14,15 +14,15 @@ use Rattle.sbi.specs.declared.words.Word.TheVariants as words
 use Rattle.sbi_calls.specs.declared.words.Turned.{Turned}
 use Rattle.script_lang.specs.Scripts.{Script}
 use Rattle.script_lang.specs.declared.line.Line.{Line}
-use Rattle.script_lang.specs.declared.line.Line.TheVariants as lines
 use Rattle.board_model.specs.declared.console_command.ConsoleCommand.{ConsoleCommand}
 use Rattle.board_model.specs.ConsoleCommands.{console_change}
 use Rattle.bench_report.specs.declared.printed.Answer.{Answer}
 use Rattle.bench_report.specs.Bench.{BenchLife, Bench, IsFailureFree, blank_bench}
+use Rattle.bench_report.specs.Deeds as deeds
+use Rattle.bench_report.specs.Deeds.{Question, OfBoard, OfDisk, Deed, deed_of, IsByFirmwareAlone}
 use Rattle.bench_report.specs.Happens.{shows, unpowered, on_with, has_machine}
-use Rattle.bench_report.specs.Examined.{InspectStep}
-use Rattle.bench_report.specs.Steps.{console_reported, FormatStep, OnStep, ConsoleStep, CallReported, GuestCall, TurnStep, CallStep, ReadStep, Step, Moves, Run}
-use Rattle.bench_report.specs.Reports.{IsByFirmware, AreByFirmware, IsReport}
+use Rattle.bench_report.specs.Steps.{console_reported, FormatStep, OnStep, ConsoleStep, CallReported, GuestCall, TurnStep, CallStep, ReadStep, QuestionStep, DeedStep, DeedMoves, Run}
+use Rattle.bench_report.specs.Reports.{AreByFirmware, IsReport}
 use Rattle.bench_report.proofs.Inspected.{ContentLaws, inspect_at}
 use Rattle.bench_report.proofs.Guests.{IsOneTurn, Row, row, comes_fair, comes_one, turns_fair, turns_one}
 use Rattle.bench_report.proofs.Determined.{some_inj, HasFailed, DiskHasFailed, IsCalm, Fair, fair_to, fair_then, unmoved, spoils, fails, starved, issued_fair, Agree, same, issued, formats_fair, formats, powers_fair, powers}
@@ -31,6 +31,7 @@ use Rattle.script_lang.specs.declared.looks.Look.TheVariants as looks
 use Rattle.bench_report.specs.Looks.{IsShown}
 use Rattle.bench_report.specs.Asides.{Effect, Stays, SetsPayloads, Arms, CutsPower, WakesBoard, WritesPast, aside, affected}
 use Rattle.bench_report.proofs.Beside.{OfFirmware, is_aside}
+use Rattle.bench_report.proofs.Questions.{IsAsked, is_asked}
 
 -- what the lines leave nothing open of
 abbrev pub IsOneCall : Type 0
@@ -67,15 +68,10 @@ call_fair (Some life) h asked b a new (inl (has, m, called, did, g)) =
     let rest = called_fair called h (has_machine m life) (on_with (has_machine m life) b) a new g in (λ s. rest.0 s, λ c. rest.1 c, λ s. rest.2 s)
 call_fair (Some life) h asked b a new (inr g) = unmoved b new g.2
 
-read_fair : (p : Option BenchLife) (says_so : Machine → MachineLine → Type 0) (b : Bench) (a : Answer) (new : Bench) → ReadStep p says_so b a new → Fair b new
-read_fair None says_so b a new x = unmoved b new x.1
-read_fair (Some life) says_so b a new x = unmoved b new x.3
-
-inspect_fair : (size : Size) (p : Option BenchLife) (b : Bench) (a : Answer) (new : Bench) → InspectStep size p b a new → Fair b new
-inspect_fair size None b a new (inl (c, reads, inl (line, tells, e, is))) = unmoved b new is
-inspect_fair size None b a new (inl (c, reads, inr x)) = starved b new x.2
-inspect_fair size None b a new (inr x) = spoils b new (fails b new x.1)
-inspect_fair size (Some life) b a new x = unmoved b new x.1
+asked_fair : (b : Bench) (a : Answer) (new : Bench) → IsAsked b a new → Fair b new
+asked_fair b a new (inl (said, none, e, is)) = unmoved b new is
+asked_fair b a new (inr (inl x)) = starved b new x.1
+asked_fair b a new (inr (inr x)) = spoils b new (fails b new x.1)
 
 aside_fair : (e : Effect) (b new : Bench) → OfFirmware e → new ≡ affected e b → Fair b new
 aside_fair Stays b new by x = unmoved b new x
@@ -85,27 +81,26 @@ aside_fair CutsPower b new by x = fair_to b new (unpowered b) x (λ s. s, λ c. 
 aside_fair (WakesBoard life) b new by x = fair_to b new _ x (λ s. s, λ c. inr c, λ s. s)
 aside_fair WritesPast b new by x = absurd by
 
-step_fair : (size : Size) (line : Line) (b : Bench) (a : Answer) (new : Bench) → IsByFirmware line → Step size line b a new → Fair b new
-step_fair size lines.Format b a new by h = format_fair b.power b a new h
-step_fair size (lines.On mode) b a new by h = on_fair size b.power mode b a new h
-step_fair size (lines.Command c) b a new by h = console_fair c b.power b a new h
-step_fair size (lines.Turn x y) b a new by h = turn_fair b.power x y b a new h
-step_fair size (lines.Call i asked) b a new by h = call_fair b.power i asked b a new h
-step_fair size (lines.Show look) b a new by h = read_fair b.power _ b a new h
-step_fair size lines.Inspect b a new by h = inspect_fair size b.power b a new h
-step_fair size line b a new by h = aside_fair (aside line b.power b.payloads).1 b new ((is_aside line b.power b.payloads).firmware by) h.1
+step_fair : (size : Size) (deed : Deed) (b : Bench) (a : Answer) (new : Bench) → IsByFirmwareAlone deed → DeedStep size deed b a new → Fair b new
+step_fair size deeds.Format b a new by h = format_fair b.power b a new h
+step_fair size (deeds.PowerOn mode) b a new by h = on_fair size b.power mode b a new h
+step_fair size (deeds.Issue c) b a new by h = console_fair c b.power b a new h
+step_fair size (deeds.Turns x y) b a new by h = turn_fair b.power x y b a new h
+step_fair size (deeds.Call i asked) b a new by h = call_fair b.power i asked b a new h
+step_fair size (deeds.Ask question) b a new by h = asked_fair b a new (is_asked size question b.power b a new h)
+step_fair size (deeds.Beside act) b a new by h = aside_fair (aside act b.power b.payloads).1 b new ((is_aside act b.power b.payloads).firmware by) h.1
 
-pub moves_fair : (size : Size) (line : Line) (b : Bench) (a : Answer) (new : Bench) → IsByFirmware line → Moves size line b a new → Fair b new
-moves_fair size line b a new by (inl x) = step_fair size line b a new by x.0
-moves_fair size line b a new by (inr (would, mid, x, struck, e, is)) = let one = step_fair size line b would mid by x in fair_to b new (unpowered mid) is (λ s. one.0 s, λ c. cut_off (one.1 c), λ s. one.2 s)
+pub moves_fair : (size : Size) (deed : Deed) (b : Bench) (a : Answer) (new : Bench) → IsByFirmwareAlone deed → DeedMoves size deed b a new → Fair b new
+moves_fair size deed b a new by (inl x) = step_fair size deed b a new by x.0
+moves_fair size deed b a new by (inr (would, mid, x, struck, e, is)) = let one = step_fair size deed b would mid by x in fair_to b new (unpowered mid) is (λ s. one.0 s, λ c. cut_off (one.1 c), λ s. one.2 s)
   where
     cut_off : DiskHasFailed mid ⊎ IsCalm mid → DiskHasFailed mid ⊎ IsCalm (unpowered mid)
     cut_off (inl s) = inl s
     cut_off (inr c) = inr (c.0, refl, c.2)
 
 -- a cut that struck had the disk fail
-pub struck_fails : (size : Size) (line : Line) (b : Bench) (would : Answer) (mid : Bench) → IsByFirmware line → IsCalm b → Step size line b would mid → mid.fault_state.struck ≡ true → DiskHasFailed mid
-struck_fails size line b would mid by calm x struck = by_calm ((step_fair size line b would mid by x).1 calm)
+pub struck_fails : (size : Size) (deed : Deed) (b : Bench) (would : Answer) (mid : Bench) → IsByFirmwareAlone deed → IsCalm b → DeedStep size deed b would mid → mid.fault_state.struck ≡ true → DiskHasFailed mid
+struck_fails size deed b would mid by calm x struck = by_calm ((step_fair size deed b would mid by x).1 calm)
   where
     by_calm : DiskHasFailed mid ⊎ IsCalm mid → DiskHasFailed mid
     by_calm (inl s) = s
@@ -116,7 +111,7 @@ spoilt_as x y e s = let P : Bench → Type 0 = HasFailed in subst P (sym e) s
 
 pub run_fair : (size : Size) (ls : List Line) (b : Bench) (answers : List Answer) (end : Bench) → AreByFirmware ls → Run size b ls answers end → Fair b end
 run_fair size [] b [] end by run = unmoved b end run
-run_fair size (l ∷ ls) b (a ∷ answers) end by run = fair_then b run.0 end (moves_fair size l b a run.0 by.0 run.1) (run_fair size ls run.0 answers end by.1 run.2)
+run_fair size (l ∷ ls) b (a ∷ answers) end by run = fair_then b run.0 end (moves_fair size (deed_of l) b a run.0 by.0 run.1) (run_fair size ls run.0 answers end by.1 run.2)
 run_fair size [] b (a ∷ answers) end by run = absurd run
 run_fair size (l ∷ ls) b [] end by run = absurd run
 
@@ -191,35 +186,38 @@ one_look csr (looks.Csr h n) m line also p q = csr h n m line also p q
 one_look csr looks.Pending m line also p q = p ∙ sym q
 one_look csr (looks.Mem i n) m line also p q = p ∙ sym q
 
-steps : ContentLaws → IsOneTurn → IsOneCall → IsOneCsr → (size : Size) (line : Line) (b : Bench) (a z : Answer) (new last : Bench) → IsCalm b → Step size line b a new → Step size line b z last → Agree a z new last
-steps laws turns call csr size lines.Format b a z new last calm x y = format_at b.power b a z new last calm x y
-steps laws turns call csr size (lines.On mode) b a z new last calm x y = on_at size b.power mode b a z new last calm x y
-steps laws turns call csr size (lines.Command c) b a z new last calm x y = console_at c b.power b a z new last x y
-steps laws turns call csr size (lines.Turn h n) b a z new last calm x y = turn_at turns b.power h n b a z new last x y
-steps laws turns call csr size (lines.Call h asked) b a z new last calm x y = call_at call b.power h asked b a z new last x y
-steps laws turns call csr size (lines.Show look) b a z new last calm x y = read_at (IsShown look) (one_look csr look) b.power b a z new last x y
-steps laws turns call csr size lines.Inspect b a z new last calm x y = inspect_at laws size b.power b a z new last calm x y
-steps laws turns call csr size line b a z new last calm x y = same a z _ new last _ x.0 y.0 x.1 y.1
+question_at : ContentLaws → IsOneCsr → (size : Size) (question : Question) (p : Option BenchLife) (b : Bench) (a z : Answer) (new last : Bench) → IsCalm b → QuestionStep size question p b a new → QuestionStep size question p b z last → Agree a z new last
+question_at laws csr size (OfBoard look) p b a z new last calm x y = read_at (IsShown look) (one_look csr look) p b a z new last x y
+question_at laws csr size OfDisk p b a z new last calm x y = inspect_at laws size p b a z new last calm x y
+
+steps : ContentLaws → IsOneTurn → IsOneCall → IsOneCsr → (size : Size) (deed : Deed) (b : Bench) (a z : Answer) (new last : Bench) → IsCalm b → DeedStep size deed b a new → DeedStep size deed b z last → Agree a z new last
+steps laws turns call csr size deeds.Format b a z new last calm x y = format_at b.power b a z new last calm x y
+steps laws turns call csr size (deeds.PowerOn mode) b a z new last calm x y = on_at size b.power mode b a z new last calm x y
+steps laws turns call csr size (deeds.Issue c) b a z new last calm x y = console_at c b.power b a z new last x y
+steps laws turns call csr size (deeds.Turns h n) b a z new last calm x y = turn_at turns b.power h n b a z new last x y
+steps laws turns call csr size (deeds.Call h asked) b a z new last calm x y = call_at call b.power h asked b a z new last x y
+steps laws turns call csr size (deeds.Ask question) b a z new last calm x y = question_at laws csr size question b.power b a z new last calm x y
+steps laws turns call csr size (deeds.Beside act) b a z new last calm x y = same a z _ new last _ x.0 y.0 x.1 y.1
 
 true_false : {A : Type 0} (x y : Bool) → x ≡ y → x ≡ true → y ≡ false → A
 true_false x y e f g = let h : y ≡ true = sym e ∙ f in absurd (let no : ⊥ = cc in no)
 
 -- an armed cut that struck in one of them alone would have been answered there
-pub moves : ContentLaws → IsOneTurn → IsOneCall → IsOneCsr → (size : Size) (line : Line) (b : Bench) (a z : Answer) (new last : Bench) → IsCalm b → Moves size line b a new → Moves size line b z last → Agree a z new last
-moves laws turns call csr size line b a z new last calm (inl x) (inl y) = steps laws turns call csr size line b a z new last calm x.0 y.0
-moves laws turns call csr size line b a z new last calm (inl x) (inr (would, mid, y, struck, e, is)) = apart (steps laws turns call csr size line b a would new mid calm x.0 y)
+pub moves : ContentLaws → IsOneTurn → IsOneCall → IsOneCsr → (size : Size) (deed : Deed) (b : Bench) (a z : Answer) (new last : Bench) → IsCalm b → DeedMoves size deed b a new → DeedMoves size deed b z last → Agree a z new last
+moves laws turns call csr size deed b a z new last calm (inl x) (inl y) = steps laws turns call csr size deed b a z new last calm x.0 y.0
+moves laws turns call csr size deed b a z new last calm (inl x) (inr (would, mid, y, struck, e, is)) = apart (steps laws turns call csr size deed b a would new mid calm x.0 y)
   where
     apart : Agree a would new mid → Agree a z new last
     apart (inl s) = inl s
     apart (inr (inl s)) = inr (inl (spoilt_as last (unpowered mid) is s))
     apart (inr (inr h)) = true_false mid.fault_state.struck new.fault_state.struck (ap (λ (b : Bench). b.fault_state.struck) (sym h.1)) struck x.1
-moves laws turns call csr size line b a z new last calm (inr (would, mid, x, struck, e, is)) (inl y) = apart (steps laws turns call csr size line b would z mid last calm x y.0)
+moves laws turns call csr size deed b a z new last calm (inr (would, mid, x, struck, e, is)) (inl y) = apart (steps laws turns call csr size deed b would z mid last calm x y.0)
   where
     apart : Agree would z mid last → Agree a z new last
     apart (inl s) = inl (spoilt_as new (unpowered mid) is s)
     apart (inr (inl s)) = inr (inl s)
     apart (inr (inr h)) = true_false mid.fault_state.struck last.fault_state.struck (ap (λ (b : Bench). b.fault_state.struck) h.1) struck y.1
-moves laws turns call csr size line b a z new last calm (inr (would, mid, x, struck, e, is)) (inr (would2, mid2, y, struck2, e2, is2)) = apart (steps laws turns call csr size line b would would2 mid mid2 calm x y)
+moves laws turns call csr size deed b a z new last calm (inr (would, mid, x, struck, e, is)) (inr (would2, mid2, y, struck2, e2, is2)) = apart (steps laws turns call csr size deed b would would2 mid mid2 calm x y)
   where
     apart : Agree would would2 mid mid2 → Agree a z new last
     apart (inl s) = inl (spoilt_as new (unpowered mid) is s)
@@ -234,7 +232,7 @@ runs : ContentLaws → IsOneTurn → IsOneCall → IsOneCsr → (size : Size) (l
     → (answers ≡ others) × (end ≡ last)
 runs laws turns call csr size [] b [] [] end last by calm u v x y = (refl, x ∙ sym y)
 runs laws turns call csr size (l ∷ ls) b (a ∷ answers) (z ∷ others) end last by calm u v x y =
-    go (moves laws turns call csr size l b a z x.0 y.0 calm x.1 y.1) ((moves_fair size l b a x.0 by.0 x.1).1 calm)
+    go (moves laws turns call csr size (deed_of l) b a z x.0 y.0 calm x.1 y.1) ((moves_fair size (deed_of l) b a x.0 by.0 x.1).1 calm)
     (λ calm e. (let M : Bench → Type 0 = λ m. Run size m ls others last in runs laws turns call csr size ls x.0 answers others end last by.1 calm u v x.2 (subst M (sym e) y.2)))
   where
     go : Agree a z x.0 y.0 → DiskHasFailed x.0 ⊎ IsCalm x.0 → (IsCalm x.0 → x.0 ≡ y.0 → (answers ≡ others) × (end ≡ last)) → ((a ∷ answers) ≡ (z ∷ others)) × (end ≡ last)

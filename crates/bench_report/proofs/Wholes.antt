@@ -16,9 +16,7 @@ use Rattle.board.specs.Moments.{attempts_of, commands_by}
 use Rattle.machine.specs.Machine.{Machine, hart_at}
 use Rattle.sbi.specs.declared.words.Word.{Word}
 use Rattle.sbi.specs.declared.words.LifeEnd.{LifeEnd}
-use Rattle.machine_lines.specs.declared.line.MachineLine.{MachineLine}
 use Rattle.script_lang.specs.declared.line.Line.{Line}
-use Rattle.script_lang.specs.declared.line.Line.TheVariants as lines
 use Rattle.sbi.specs.declared.resets.ResetType.{ResetType}
 use Rattle.sbi.specs.Resets.{reset_of}
 use Rattle.sbi_abi.specs.Calls.{call_of}
@@ -35,7 +33,9 @@ use Rattle.board_model.specs.ConsoleCommands.{console_change}
 use Rattle.bench_report.specs.declared.printed.Printed.{Printed}
 use Rattle.bench_report.specs.declared.printed.Printed.TheVariants as printed
 use Rattle.bench_report.specs.Bench.{DiskState, Blank, Unknown, Formatted, BenchLife, Bench}
-use Rattle.bench_report.specs.Prefix.{LoadsWhole, AreLoaded}
+use Rattle.bench_report.specs.Deeds as deeds
+use Rattle.bench_report.specs.Deeds.{Deed, deed_of, IsByFirmwareAlone}
+use Rattle.bench_report.specs.Prefix.{asked_of, LoadsWhole, AreLoaded}
 use Rattle.bench_report.specs.Reports.{IsByFirmware, AreByFirmware}
 use Rattle.bench_report.specs.Happens.{out_of_memory, failed, off, on_with, unpowered, armed_with, settled, has_machine, acknowledged, in_doubt}
 use Rattle.bench_report.specs.Commands.{Writes, IssuedBy, Issued, IssuesAll}
@@ -46,14 +46,14 @@ use Rattle.machine.specs.Turns.{calling}
 use Rattle.bench_report.proofs.Dozed.{turn_size, call_size}
 use Rattle.bench_report.specs.Turns.{refused, AnswersError, HartCommand, Resets, SuspendIssued, dozes, BenchFallsAsleep, BenchSleeps, BenchSleepsBy, BenchMakesCall, ComesTo, GuestTurn, GuestTurns}
 use Rattle.bench_report.specs.PowerOns.{life_begun, FormatsOn, IsBooted, BootsFrom, Begins, Boots, Opens, IsOpenRefusal, PowersOn}
-use Rattle.bench_report.specs.Examined.{InspectStep}
-use Rattle.bench_report.specs.Steps.{FormatStep, OnStep, ConsoleStep, GuestCall, TurnStep, CallStep, ReadStep, Step, Moves, Run}
+use Rattle.bench_report.specs.Steps.{FormatStep, OnStep, ConsoleStep, GuestCall, TurnStep, CallStep, DeedStep, DeedMoves, Moves, Run}
 use Rattle.bench_report.proofs.Adapted.{grows}
 use Rattle.bench_report.proofs.Determined.{begun_size}
 use Rattle.bench_report.proofs.Table.{table_not_thirteen, mode_not_thirteen}
 use Rattle.board_model.proofs.Console.{CarriesWhole-console}
 use Rattle.bench_report.specs.Asides.{Effect, Stays, SetsPayloads, Arms, CutsPower, WakesBoard, WritesPast, aside, affected}
 use Rattle.bench_report.proofs.Beside.{OfFirmware, FitsPower, is_aside}
+use Rattle.bench_report.proofs.Questions.{IsAsked, is_asked}
 
 -- ---- the states that an open may find
 abbrev DoubtWhole : Size → Option Change → Type 0
@@ -248,15 +248,10 @@ module _ (size : Size) where
   console c None b a new on k x = same_as b new x.1 k
   console c (Some life) b a new on k (o, i, e) = issued (console_change c) life b o new (CarriesWhole-console c size) on k i
 
-  reads : (p : Option BenchLife) (says_so : Machine → MachineLine → Type 0) (b : Bench) (a : Answer) (new : Bench) → IsKeptWhole size b → ReadStep p says_so b a new → IsKeptWhole size new
-  reads None says_so b a new k x = same_as b new x.1 k
-  reads (Some life) says_so b a new k x = same_as b new x.3 k
-
-  inspects : (p : Option BenchLife) (b : Bench) (a : Answer) (new : Bench) → IsKeptWhole size b → InspectStep size p b a new → IsKeptWhole size new
-  inspects None b a new k (inl (c, reads, inl (line, tells, e, is))) = same_as b new is k
-  inspects None b a new k (inl (c, reads, inr x)) = same_as (out_of_memory b) new x.2 k
-  inspects None b a new k (inr x) = same_as (failed x.1.0 b) new x.1.2 k
-  inspects (Some life) b a new k x = same_as b new x.1 k
+  asked_line : (b : Bench) (a : Answer) (new : Bench) → IsKeptWhole size b → IsAsked b a new → IsKeptWhole size new
+  asked_line b a new k (inl (said, none, e, is)) = same_as b new is k
+  asked_line b a new k (inr (inl x)) = same_as (out_of_memory b) new x.1 k
+  asked_line b a new k (inr (inr x)) = same_as (failed x.1.0 b) new x.1.2 k
 
   aside_line : (e : Effect) (b new : Bench) → OfFirmware e → FitsPower b.power e → IsKeptWhole size b → new ≡ affected e b → IsKeptWhole size new
   aside_line Stays b new by fits k x = same_as b new x k
@@ -266,19 +261,18 @@ module _ (size : Size) where
   aside_line (WakesBoard life) b new by fits k x = same_as _ new x (k.0, k.1, k.2, sized life b fits k)
   aside_line WritesPast b new by fits k x = absurd by
 
-  step : (line : Line) (b : Bench) (a : Answer) (new : Bench) → IsByFirmware line → IsKeptWhole size b → Step size line b a new → IsKeptWhole size new
-  step lines.Format b a new by k h = format_line b.power b a new k h
-  step (lines.On mode) b a new by k h = on_line b.power mode b a new refl k h
-  step (lines.Command c) b a new by k h = console c b.power b a new refl k h
-  step (lines.Turn x y) b a new by k h = turn_line b.power x y b a new k h
-  step (lines.Call i asked) b a new by k h = call_line b.power i asked b a new refl k h
-  step (lines.Show look) b a new by k h = reads b.power _ b a new k h
-  step lines.Inspect b a new by k h = inspects b.power b a new k h
-  step line b a new by k h = let is = is_aside line b.power b.payloads in aside_line (aside line b.power b.payloads).1 b new (is.firmware by) is.fits k h.1
+  step : (deed : Deed) (b : Bench) (a : Answer) (new : Bench) → IsByFirmwareAlone deed → IsKeptWhole size b → DeedStep size deed b a new → IsKeptWhole size new
+  step deeds.Format b a new by k h = format_line b.power b a new k h
+  step (deeds.PowerOn mode) b a new by k h = on_line b.power mode b a new refl k h
+  step (deeds.Issue c) b a new by k h = console c b.power b a new refl k h
+  step (deeds.Turns x y) b a new by k h = turn_line b.power x y b a new k h
+  step (deeds.Call i asked) b a new by k h = call_line b.power i asked b a new refl k h
+  step (deeds.Ask question) b a new by k h = asked_line b a new k (is_asked size question b.power b a new h)
+  step (deeds.Beside act) b a new by k h = let is = is_aside act b.power b.payloads in aside_line (aside act b.power b.payloads).1 b new (is.firmware by) is.fits k h.1
 
   moves : (line : Line) (b : Bench) (a : Answer) (new : Bench) → IsByFirmware line → IsKeptWhole size b → Moves size line b a new → IsKeptWhole size new
-  moves line b a new by k (inl h) = step line b a new by k h.0
-  moves line b a new by k (inr (would, mid, h, struck, e, is)) = let at = step line b would mid by k h in same_as (unpowered mid) new is (at.0, at.1, at.2, tt)
+  moves line b a new by k (inl h) = step (deed_of line) b a new by k h.0
+  moves line b a new by k (inr (would, mid, h, struck, e, is)) = let at = step (deed_of line) b would mid by k h in same_as (unpowered mid) new is (at.0, at.1, at.2, tt)
 
   -- ---- no power-on is refused 13
   abbrev NotThirteen : Printed → Type 0
@@ -345,16 +339,16 @@ module _ (size : Size) where
   on_not None mode b a new none k x = powers_not mode b a new none k x
   on_not (Some life) mode b a new on k x = answered a printed.Busy x.0 (λ f. (let no : ⊥ = cc in no))
 
-  pub loaded_on : (mode : BootMode) (b : Bench) (a : Answer) (new : Bench) → IsKeptWhole size b → Moves size (lines.On mode) b a new → NotThirteen a.line
+  pub loaded_on : (mode : BootMode) (b : Bench) (a : Answer) (new : Bench) → IsKeptWhole size b → DeedMoves size (deeds.PowerOn mode) b a new → NotThirteen a.line
   loaded_on mode b a new k (inl h) = on_not b.power mode b a new refl k h.0
   loaded_on mode b a new k (inr (would, mid, h, struck, e, is)) = answered a printed.PowerLost e (λ f. (let no : ⊥ = cc in no))
 
-  loaded : (line : Line) (b : Bench) (a : Answer) (new : Bench) → IsKeptWhole size b → Moves size line b a new → LoadsWhole line a
-  loaded (lines.On mode) b a new k h = loaded_on mode b a new k h
-  loaded line b a new k h = tt
+  loaded : (deed : Deed) (b : Bench) (a : Answer) (new : Bench) → IsKeptWhole size b → DeedMoves size deed b a new → LoadsWhole (asked_of deed) a
+  loaded (deeds.PowerOn mode) b a new k h = loaded_on mode b a new k h
+  loaded deed b a new k h = tt
 
   pub all_loaded : (ls : List Line) (b : Bench) (answers : List Answer) (end : Bench) → AreByFirmware ls → IsKeptWhole size b → Run size b ls answers end → AreLoaded ls answers
   all_loaded [] b [] end by k run = tt
-  all_loaded (l ∷ ls) b (a ∷ answers) end by k run = (loaded l b a run.0 k run.1, all_loaded ls run.0 answers end by.1 (moves l b a run.0 by.0 k run.1) run.2)
+  all_loaded (l ∷ ls) b (a ∷ answers) end by k run = (loaded (deed_of l) b a run.0 k run.1, all_loaded ls run.0 answers end by.1 (moves l b a run.0 by.0 k run.1) run.2)
   all_loaded [] b (a ∷ answers) end by k run = absurd run
   all_loaded (l ∷ ls) b [] end by k run = absurd run

@@ -1,14 +1,13 @@
--- Lines that ask nothing of the disk and of no hart: what each says, and what it does to the bench.
+-- Deeds that ask nothing of the disk and of no hart: what is said of each, and what it does to the bench.
 use Rattle.std.specs.Prelude.{◌≡◌, Bool, true, false, List, ℕ, Option, Some, None, length, slice_set}
 use Rattle.disk.specs.FaultState.{Armed, armed_by}
 use Rattle.susp.specs.Dozes.{can_wake, after_wake}
-use Rattle.script_lang.specs.declared.line.Line.{Line}
-use Rattle.script_lang.specs.declared.line.Line.TheVariants as lines
 use Rattle.machine_lines.specs.declared.line.MachineLine.TheVariants as shown
 use Rattle.bench_report.specs.declared.printed.Printed.{Printed}
 use Rattle.bench_report.specs.declared.printed.Printed.TheVariants as printed
 use Rattle.bench_report.specs.declared.printed.Answer.{Answer}
 use Rattle.bench_report.specs.Bench.{BenchLife, Bench}
+use Rattle.bench_report.specs.Deeds.{Aside, SetSlot, ArmFault, CutPower, CallWake, WritePast}
 use Rattle.bench_report.specs.Happens.{says, on_with, unpowered, armed_with, written_past, has_machine}
 use Rattle.bench_report.specs.Armings.{fault_of}
 
@@ -38,18 +37,17 @@ wakes true life = (printed.Woken, WakesBoard life)
 wakes false life = (printed.WakeRefused 18, Stays)
 
 -- by the board, where it is on, and by what the slots boot
-abbrev pub aside : Line → Option BenchLife → List (List ℕ) → Printed × Effect
-aside (lines.Payload slot bytes) None payloads =
+abbrev pub aside : Aside → Option BenchLife → List (List ℕ) → Printed × Effect
+aside (SetSlot slot bytes) None payloads =
     (printed.Shown (shown.Payload slot (length bytes)), SetsPayloads (slice_set payloads slot bytes))
-aside (lines.Payload slot bytes) (Some life) payloads = (printed.Shown shown.Busy, Stays)
-aside (lines.Arm arming) p payloads = (printed.Armed, Arms (armed_by (fault_of arming)))
-aside (lines.Cut fill) p payloads = (printed.Cut, CutsPower)
-aside (lines.Poke sector offset bytes) None payloads = (printed.Poked, WritesPast)
-aside (lines.Poke sector offset bytes) (Some life) payloads = (printed.Busy, Stays)
-aside lines.Wake None payloads = (printed.Off, Stays)
-aside lines.Wake (Some life) payloads = wakes (can_wake life.machine.doze) life
-aside line p payloads = (printed.Off, Stays)
+aside (SetSlot slot bytes) (Some life) payloads = (printed.Shown shown.Busy, Stays)
+aside (ArmFault arming) p payloads = (printed.Armed, Arms (armed_by (fault_of arming)))
+aside CutPower p payloads = (printed.Cut, CutsPower)
+aside CallWake None payloads = (printed.Off, Stays)
+aside CallWake (Some life) payloads = wakes (can_wake life.machine.doze) life
+aside WritePast None payloads = (printed.Poked, WritesPast)
+aside WritePast (Some life) payloads = (printed.Busy, Stays)
 
-abbrev pub AsideStep : Line → Option BenchLife → Bench → Answer → Bench → Type 0
-AsideStep line p b answer new =
-    (answer ≡ says (aside line p b.payloads).0) × (new ≡ affected (aside line p b.payloads).1 b)
+abbrev pub AsideStep : Aside → Option BenchLife → Bench → Answer → Bench → Type 0
+AsideStep act p b answer new =
+    (answer ≡ says (aside act p b.payloads).0) × (new ≡ affected (aside act p b.payloads).1 b)

@@ -1,6 +1,8 @@
 -- In reading order.
 -- The bench as a model: disk, board, payloads, fault state.
 pub mod Bench
+-- What a line has the bench do.
+pub mod Deeds
 -- What a line says, and the bench after one thing that happened.
 pub mod Happens
 -- A durable command: its receipt, or the number with which it is refused.
@@ -12,7 +14,7 @@ pub mod PowerOns
 -- What a line shows of memory and harts, and what it arms.
 pub mod Looks
 pub mod Armings
--- Lines that ask nothing of the disk and of no hart.
+-- Deeds that ask nothing of the disk and of no hart.
 pub mod Asides
 -- Gate and records of its disk, by the commands that it keeps.
 pub mod Sides

@@ -11,7 +11,6 @@ use Rattle.board.specs.Boots.{boot_refusal, booted}
 use Rattle.board.specs.Moments.{commands_by}
 use Rattle.board_model.specs.declared.boot_mode.BootMode.{BootMode}
 use Rattle.script_lang.specs.declared.line.Line.{Line}
-use Rattle.script_lang.specs.declared.line.Line.TheVariants as lines
 use Rattle.sbi.specs.declared.words.Word.TheVariants as words
 use Rattle.sbi_calls.specs.declared.words.Did.TheVariants.{Next}
 use Rattle.machine_lines.specs.declared.line.MachineLine.{MachineLine}
@@ -22,6 +21,8 @@ use Rattle.board_model.specs.ConsoleCommands.{console_change}
 use Rattle.bench_report.specs.declared.printed.Printed.{Printed}
 use Rattle.bench_report.specs.declared.printed.Printed.TheVariants as printed
 use Rattle.bench_report.specs.Bench.{DiskState, Blank, Unknown, Formatted, BenchLife, Bench, blank_bench}
+use Rattle.bench_report.specs.Deeds as deeds
+use Rattle.bench_report.specs.Deeds.{OfBoard, OfDisk, WritePast, Deed, deed_of}
 use Rattle.bench_report.specs.Happens.{says, shows, on_with, unpowered, armed_with, formatted_anew, settled, has_machine, acknowledged, all_acknowledged}
 use Rattle.bench_report.specs.PowerOns.{life_begun}
 use Rattle.bench_report.specs.Examined.{inspection_of}
@@ -79,19 +80,21 @@ plain_inspect Blank b = (says (printed.InspectRefused 1), b)
 plain_inspect Unknown b = (says (printed.InspectRefused 1), b)
 plain_inspect Formatted b = (says (printed.Inspected (inspection_of b.kept.changes)), b)
 
-abbrev pub plain_at : Size → Option BenchLife → Line → Bench → Answer × Bench
-plain_at size None lines.Format b = plain_format b.disk_state b
-plain_at size (Some life) lines.Format b = (says printed.Busy, b)
-plain_at size None (lines.On mode) b = plain_on size b.disk_state mode b
-plain_at size (Some life) (lines.On mode) b = (says printed.Busy, b)
-plain_at size p (lines.Command c) b = plain_console c p b
-plain_at size None lines.Inspect b = plain_inspect b.disk_state b
-plain_at size (Some life) lines.Inspect b = (says printed.Busy, b)
-plain_at size p line b = (says (aside line p b.payloads).0, affected (aside line p b.payloads).1 b)
+-- of a deed that is not plain nothing is told
+abbrev pub plain_at : Size → Option BenchLife → Deed → Bench → Answer × Bench
+plain_at size None deeds.Format b = plain_format b.disk_state b
+plain_at size (Some life) deeds.Format b = (says printed.Busy, b)
+plain_at size None (deeds.PowerOn mode) b = plain_on size b.disk_state mode b
+plain_at size (Some life) (deeds.PowerOn mode) b = (says printed.Busy, b)
+plain_at size p (deeds.Issue c) b = plain_console c p b
+plain_at size None (deeds.Ask OfDisk) b = plain_inspect b.disk_state b
+plain_at size (Some life) (deeds.Ask OfDisk) b = (says printed.Busy, b)
+plain_at size p (deeds.Beside act) b = (says (aside act p b.payloads).0, affected (aside act p b.payloads).1 b)
+plain_at size p deed b = (says printed.Off, b)
 
 -- what a line answers, and the bench after it
 abbrev pub plain : Size → Line → Bench → Answer × Bench
-plain size line b = plain_at size b.power line b
+plain size line b = plain_at size b.power (deed_of line) b
 
 abbrev pub plain_answers : Size → List Line → Bench → List Answer
 plain_answers size [] b = []
@@ -100,13 +103,16 @@ plain_answers size (line ∷ more) b = (plain size line b).0 ∷ plain_answers s
 abbrev pub plain_report : Script → List Answer
 plain_report script = board_answer script.size ∷ plain_answers script.size script.lines blank_bench
 
--- a line that neither moves a hart, nor shows memory or harts, nor writes the disk past the firmware
+-- it neither moves a hart, nor shows memory or harts, nor writes the disk past the firmware
+abbrev pub IsPlainDeed : Deed → Type 0
+IsPlainDeed (deeds.Turns h n) = ⊥
+IsPlainDeed (deeds.Call h asked) = ⊥
+IsPlainDeed (deeds.Ask (OfBoard look)) = ⊥
+IsPlainDeed (deeds.Beside WritePast) = ⊥
+IsPlainDeed deed = ⊤
+
 abbrev pub IsPlain : Line → Type 0
-IsPlain (lines.Turn h n) = ⊥
-IsPlain (lines.Call h asked) = ⊥
-IsPlain (lines.Show look) = ⊥
-IsPlain (lines.Poke k n bytes) = ⊥
-IsPlain line = ⊤
+IsPlain line = IsPlainDeed (deed_of line)
 
 abbrev pub ArePlain : List Line → Type 0
 ArePlain [] = ⊤

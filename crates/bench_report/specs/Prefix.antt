@@ -23,7 +23,8 @@ use Rattle.sbi.specs.declared.words.LifeEnd.TheVariants as life_ends
 use Rattle.machine_lines.specs.declared.line.MachineLine.{MachineLine}
 use Rattle.machine_lines.specs.declared.line.MachineLine.TheVariants as shown
 use Rattle.script_lang.specs.declared.line.Line.{Line}
-use Rattle.script_lang.specs.declared.line.Line.TheVariants as lines
+use Rattle.bench_report.specs.Deeds as deeds
+use Rattle.bench_report.specs.Deeds.{Deed, deed_of}
 use Rattle.bench_report.specs.declared.printed.Answer.{Answer}
 use Rattle.bench_report.specs.declared.printed.Printed.{Printed}
 use Rattle.bench_report.specs.declared.printed.Printed.TheVariants as printed
@@ -37,12 +38,15 @@ pub data AskedLine : Type 0 where
   Guest : AskedLine
   Nothing : AskedLine
 
+abbrev pub asked_of : Deed → AskedLine
+asked_of (deeds.PowerOn mode) = Boot mode
+asked_of (deeds.Issue c) = Command (console_change c)
+asked_of (deeds.Turns h n) = Guest
+asked_of (deeds.Call h asked) = Guest
+asked_of deed = Nothing
+
 abbrev pub asked_by : Line → AskedLine
-asked_by (lines.On mode) = Boot mode
-asked_by (lines.Command c) = Command (console_change c)
-asked_by (lines.Turn h n) = Guest
-asked_by (lines.Call h asked) = Guest
-asked_by line = Nothing
+asked_by line = asked_of (deed_of line)
 
 -- A command was refused: by 6 it may have taken effect, and the life takes no more (up: whether it took
 -- commands before; now: whether it does after); by another number it did not.
@@ -162,13 +166,13 @@ RisesFrom n [] = ⊤
 RisesFrom n (x ∷ xs) = (n ≤ x) × RisesFrom (x + 1) xs
 
 -- a power-on was not refused 13: each image that stands has the memory of its board
-abbrev pub LoadsWhole : Line → Answer → Type 0
-LoadsWhole (lines.On mode) a = a.line ≢ printed.OnRefused 13
-LoadsWhole line a = ⊤
+abbrev pub LoadsWhole : AskedLine → Answer → Type 0
+LoadsWhole (Boot mode) a = a.line ≢ printed.OnRefused 13
+LoadsWhole asked a = ⊤
 
 abbrev pub AreLoaded : List Line → List Answer → Type 0
 AreLoaded [] [] = ⊤
-AreLoaded (line ∷ more) (a ∷ answers) = LoadsWhole line a × AreLoaded more answers
+AreLoaded (line ∷ more) (a ∷ answers) = LoadsWhole (asked_by line) a × AreLoaded more answers
 AreLoaded [] (a ∷ answers) = ⊥
 AreLoaded (line ∷ more) [] = ⊥
 

@@ -5,11 +5,11 @@ use Rattle.board_model.specs.Shapes.{Size, sectors_of}
 use Rattle.board_model.specs.declared.durable.Durable.{Durable}
 use Rattle.script_lang.specs.Scripts.{Script}
 use Rattle.script_lang.specs.declared.line.Line.{Line}
-use Rattle.script_lang.specs.declared.line.Line.TheVariants as lines
 use Rattle.bench_report.specs.declared.printed.Printed.TheVariants as printed
 use Rattle.bench_report.specs.declared.printed.Answer.{Answer}
 use Rattle.bench_report.specs.Texts.{found_line, line_text, found_count}
 use Rattle.bench_report.specs.Bench.{Bench, blank_bench}
+use Rattle.bench_report.specs.Deeds.{deed_of, IsByFirmwareAlone}
 use Rattle.bench_report.specs.Happens.{says}
 use Rattle.bench_report.specs.Steps.{Run}
 
@@ -33,8 +33,7 @@ board_answer size = says (printed.Board size.harts size.pages size.lanes (sector
 
 -- a line that does not write the disk past the firmware
 abbrev pub IsByFirmware : Line → Type 0
-IsByFirmware (lines.Poke k n bytes) = ⊥
-IsByFirmware line = ⊤
+IsByFirmware line = IsByFirmwareAlone (deed_of line)
 
 -- nobody but the firmware writes the disk
 abbrev pub AreByFirmware : List Line → Type 0

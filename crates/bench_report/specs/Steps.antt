@@ -5,7 +5,6 @@ use Rattle.disk.specs.FaultState.{Armed}
 use Rattle.board_model.specs.declared.boot_mode.BootMode.{BootMode}
 use Rattle.machine.specs.Machine.{Machine, hart_at}
 use Rattle.script_lang.specs.declared.line.Line.{Line}
-use Rattle.script_lang.specs.declared.line.Line.TheVariants as lines
 use Rattle.machine_lines.specs.Shows.{HasHart, own_line}
 use Rattle.machine.specs.Turns.{MakesOneCall}
 use Rattle.sbi.specs.declared.words.Word.{Word}
@@ -19,7 +18,9 @@ use Rattle.board_model.specs.ConsoleCommands.{console_change}
 use Rattle.bench_report.specs.declared.printed.Printed.TheVariants as printed
 use Rattle.bench_report.specs.declared.printed.Answer.{Answer}
 use Rattle.bench_report.specs.Bench.{BenchLife, Bench}
-use Rattle.bench_report.specs.Happens.{says, shows, on_with, unpowered, armed_with, written_past, has_machine}
+use Rattle.bench_report.specs.Deeds as deeds
+use Rattle.bench_report.specs.Deeds.{Question, OfBoard, OfDisk, Deed, deed_of}
+use Rattle.bench_report.specs.Happens.{says, shows, on_with, unpowered, armed_with, has_machine}
 use Rattle.bench_report.specs.Looks.{IsShown}
 use Rattle.bench_report.specs.Asides.{AsideStep}
 use Rattle.bench_report.specs.Commands.{Issued}
@@ -82,23 +83,34 @@ ReadStep (Some life) says_so b answer new =
 abbrev pub ArmStep : Armed → Bench → Answer → Bench → Type 0
 ArmStep armed b answer new = (answer ≡ says printed.Armed) × (new ≡ armed_with armed b)
 
--- what a line may answer on a bench, and what the bench then is, as far as no armed cut strikes
-abbrev pub Step : Size → Line → Bench → Answer → Bench → Type 0
-Step size lines.Format b answer new = FormatStep b.power b answer new
-Step size (lines.On mode) b answer new = OnStep size b.power mode b answer new
-Step size (lines.Command c) b answer new = ConsoleStep c b.power b answer new
-Step size (lines.Turn h n) b answer new = TurnStep b.power h n b answer new
-Step size (lines.Call h asked) b answer new = CallStep b.power h asked b answer new
-Step size (lines.Show look) b answer new = ReadStep b.power (IsShown look) b answer new
-Step size lines.Inspect b answer new = InspectStep size b.power b answer new
-Step size line b answer new = AsideStep line b.power b answer new
+-- a question
+abbrev pub QuestionStep : Size → Question → Option BenchLife → Bench → Answer → Bench → Type 0
+QuestionStep size (OfBoard look) p b answer new = ReadStep p (IsShown look) b answer new
+QuestionStep size OfDisk p b answer new = InspectStep size p b answer new
 
--- the same, where an armed cut that struck within the line makes its whole report `power lost`
-abbrev pub Moves : Size → Line → Bench → Answer → Bench → Type 0
-Moves size line b answer new =
-    (Step size line b answer new × (new.fault_state.struck ≡ false))
-    ⊎ ((would : Answer) × (mid : Bench) × Step size line b would mid × (mid.fault_state.struck ≡ true)
+-- what may be answered, and what the bench then is, as far as no armed cut strikes
+abbrev pub DeedStep : Size → Deed → Bench → Answer → Bench → Type 0
+DeedStep size deeds.Format b answer new = FormatStep b.power b answer new
+DeedStep size (deeds.PowerOn mode) b answer new = OnStep size b.power mode b answer new
+DeedStep size (deeds.Issue c) b answer new = ConsoleStep c b.power b answer new
+DeedStep size (deeds.Turns h n) b answer new = TurnStep b.power h n b answer new
+DeedStep size (deeds.Call h asked) b answer new = CallStep b.power h asked b answer new
+DeedStep size (deeds.Ask question) b answer new = QuestionStep size question b.power b answer new
+DeedStep size (deeds.Beside act) b answer new = AsideStep act b.power b answer new
+
+-- the same, where an armed cut that struck within it makes the whole report `power lost`
+abbrev pub DeedMoves : Size → Deed → Bench → Answer → Bench → Type 0
+DeedMoves size deed b answer new =
+    (DeedStep size deed b answer new × (new.fault_state.struck ≡ false))
+    ⊎ ((would : Answer) × (mid : Bench) × DeedStep size deed b would mid × (mid.fault_state.struck ≡ true)
     × (answer ≡ says printed.PowerLost) × (new ≡ unpowered mid))
+
+-- what a line may answer on a bench, and what the bench then is: as far as no armed cut strikes, and in a run
+abbrev pub Step : Size → Line → Bench → Answer → Bench → Type 0
+Step size line b answer new = DeedStep size (deed_of line) b answer new
+
+abbrev pub Moves : Size → Line → Bench → Answer → Bench → Type 0
+Moves size line b answer new = DeedMoves size (deed_of line) b answer new
 
 -- lines that may answer so, one after another
 abbrev pub Run : Size → Bench → List Line → List Answer → Bench → Type 0

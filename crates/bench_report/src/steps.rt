@@ -10,7 +10,7 @@ ghost use Rattle.bench_report.specs.Happens.{off, unpowered, says, shows};
 ghost use Rattle.bench_report.specs.PowerOns.{FormatsOn, PowersOn, TellsNow};
 ghost use Rattle.bench_report.specs.Examined.{InspectsOn, InspectStep, AnswersOf};
 ghost use Rattle.bench_report.specs.Asides.{AsideStep};
-ghost use Rattle.script_lang.specs.declared.line.Line.TheVariants as lines;
+ghost use Rattle.bench_report.specs.Deeds.{SetSlot, CallWake, WritePast};
 ghost use Rattle.bench_report.specs.Steps.{FormatStep, OnStep, ConsoleStep, TurnStep, CallStep, ArmStep, Step, Moves};
 ghost use Rattle.disk.specs.FaultState.{armed_by};
 ghost use Rattle.simdisk.specs.declared.SimDisk.{SimDisk};
@@ -121,7 +121,7 @@ fn issue(board: &mut Board<SimDisk>, command: ConsoleCommand) -> Answer
 /// Calls the wake-up device of a board that is on.
 fn wake(board: &mut Board<SimDisk>) -> Answer
     ensures { (size : Size) (b : Bench) (life : BenchLife) → b.power ≡ Some life → OnIs size b board.old
-        → (new : Bench) × AsideStep lines.Wake (Some life) b result new × OnIs size new board.new
+        → (new : Bench) × AsideStep CallWake (Some life) b result new × OnIs size new board.new
         × (new.payloads ≡ b.payloads) }
 {
     match board.wake() {
@@ -265,7 +265,7 @@ fn console_line(command: ConsoleCommand, power: Power) -> (Power, Answer)
 fn wake_line(power: Power) -> (Power, Answer)
     requires { IsResting power }
     ensures reported { (size : Size) (b : Bench) → Agrees size b power
-        → StepsTo size b result.0 (AsideStep lines.Wake b.power b result.1) }
+        → StepsTo size b result.0 (AsideStep CallWake b.power b result.1) }
     ensures resting { IsResting result.0 }
 {
     match power {
@@ -288,7 +288,7 @@ fn payload_line(
     requires bytes { length bytes.now ≤ 1024 }
     requires short { AreShort payloads.old }
     ensures reported { IfOk result (λ line. (size : Size) (b : Bench) → IsBench size b power.now payloads.old
-        → (new : Bench) × AsideStep (lines.Payload slot bytes.now) b.power b (shows line) new
+        → (new : Bench) × AsideStep (SetSlot slot bytes.now) b.power b (shows line) new
         × Matches size new power.now payloads.new) }
     ensures short { OnOk result (AreShort payloads.new) }
     ensures refused { OnErr result ((result ≡ Err Memory) × (payloads.new ≡ payloads.old)) }
@@ -409,7 +409,7 @@ fn poke_line(
 ) -> (Power, Result<Answer, Refusal>)
     requires { IsResting power }
     ensures reported { (size : Size) (b : Bench) → Agrees size b power → MatchResult result.1
-        (λ answer. StepsTo size b result.0 (AsideStep (lines.Poke sector offset bytes.now) b.power b answer)) (λ e. (e ≡ Memory) × Agrees size b result.0) }
+        (λ answer. StepsTo size b result.0 (AsideStep WritePast b.power b answer)) (λ e. (e ≡ Memory) × Agrees size b result.0) }
     ensures pokes { OnOk result.1 (Pokes sector offset bytes.now power result.0) }
     ensures resting { IsResting result.0 }
     ensures refused { OnErr result.1 (result.1 ≡ Err Memory) }

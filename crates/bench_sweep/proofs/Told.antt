@@ -10,28 +10,27 @@ use Rattle.board_model.specs.declared.boot_mode.BootMode.TheVariants as modes
 use Rattle.board_model.specs.declared.durable.Durable.{Durable}
 use Rattle.board.specs.Boots.{boot_refusal}
 use Rattle.board.specs.Moments.{commands_by}
-use Rattle.machine.specs.Machine.{Machine}
-use Rattle.machine_lines.specs.declared.line.MachineLine.{MachineLine}
 use Rattle.script_lang.specs.declared.line.Line.{Line}
-use Rattle.script_lang.specs.declared.line.Line.TheVariants as lines
 use Rattle.board_model.specs.declared.console_command.ConsoleCommand.{ConsoleCommand}
 use Rattle.board_model.specs.ConsoleCommands.{console_change}
 use Rattle.bench_report.specs.declared.printed.Printed.{Printed}
 use Rattle.bench_report.specs.declared.printed.Printed.TheVariants as printed
 use Rattle.bench_report.specs.declared.printed.Answer.{Answer}
 use Rattle.bench_report.specs.Bench.{DiskState, Formatted, BenchLife, Bench}
+use Rattle.bench_report.specs.Deeds as deeds
+use Rattle.bench_report.specs.Deeds.{WritePast, Deed, Beside, IsByFirmwareAlone, deed_of}
 use Rattle.bench_report.specs.Happens.{says, out_of_memory, failed, off, on_with, settled, acknowledged, in_doubt}
 use Rattle.bench_report.specs.Commands.{Writes, IssuedBy, Issued, IssuesAll}
 use Rattle.bench_report.specs.PowerOns.{FormatsOn, life_begun, IsBooted, BootsFrom, Begins, Boots, Opens, ShowsFound, IsOpenRefusal, PowersOn, TellsNow}
-use Rattle.bench_report.specs.Examined.{InspectStep}
-use Rattle.bench_report.specs.Steps.{console_reported, FormatStep, ConsoleStep, ReadStep, Step}
+use Rattle.bench_report.specs.Prefix.{asked_of}
+use Rattle.bench_report.specs.Steps.{console_reported, FormatStep, ConsoleStep, DeedStep, Step}
 use Rattle.bench_report.proofs.Issues.{GoesOn, IsSound, issued_back}
 use Rattle.bench_report.proofs.Table.{table_not_six, of_modes}
-use Rattle.bench_sweep.specs.Swept.{IsPlainLine}
-use Rattle.bench_sweep.specs.Told.{moves_harts, powers_on, IssuedTold, CommandTold, AllTold, BootSaid, PowerTold, LineTold, commands_told}
-use Rattle.bench_report.specs.Reports.{IsByFirmware}
+use Rattle.bench_sweep.specs.Swept.{IsSweptDeed, IsPlainLine}
+use Rattle.bench_sweep.specs.Told.{is_guest, moves_harts, is_boot, powers_on, IssuedTold, CommandTold, AllTold, BootSaid, PowerTold, AskedTold, LineTold, commands_told}
 use Rattle.bench_report.specs.Asides.{Effect, Stays, SetsPayloads, Arms, CutsPower, WakesBoard, WritesPast, aside, affected}
 use Rattle.bench_report.proofs.Beside.{OfFirmware, is_aside}
+use Rattle.bench_report.proofs.Questions.{IsAsked, is_asked}
 
 -- the number with which a command was refused
 abbrev pub number_in : Result ℕ ℕ → Option ℕ
@@ -190,9 +189,6 @@ powers size mode b a now new formatted (inr (inr (inl x))) tells = unopened mode
 powers size mode b a now new formatted (inr (inr (inr x))) tells = unopened mode b a (printed.OnRefused 5) now new (failed x.1.0 b) x.0 x.1.2 refl refl
 
 -- ---- lines
-abbrev pub LineTells : Line → Bench → Answer → Bench → Type 0
-LineTells line b a new = LineTold line a b.kept new.kept × (new.disk_state ≡ b.disk_state)
-
 -- nothing of the disk changed
 abbrev Same : Bench → Bench → Type 0
 Same b new = (new.kept ≡ b.kept) × (new.disk_state ≡ b.disk_state)
@@ -208,17 +204,13 @@ format_line None b a new formatted x = let P : DiskState → Type 0 = λ m. Form
     go (inl y) = same_as b new b y.1 (refl, refl)
     go (inr y) = same_as b new (failed y.1.0 b) y.1.2 (refl, refl)
 
-read_line : (p : Option BenchLife) (says_so : Machine → MachineLine → Type 0) (b : Bench) (a : Answer) (new : Bench) → ReadStep p says_so b a new → Same b new
-read_line None says_so b a new x = same_as b new b x.1 (refl, refl)
-read_line (Some life) says_so b a new x = same_as b new b x.3 (refl, refl)
+-- a question
+asked_line : (b : Bench) (a : Answer) (new : Bench) → IsAsked b a new → Same b new
+asked_line b a new (inl (said, none, e, is)) = same_as b new b is (refl, refl)
+asked_line b a new (inr (inl x)) = same_as b new (out_of_memory b) x.1 (refl, refl)
+asked_line b a new (inr (inr x)) = same_as b new (failed x.1.0 b) x.1.2 (refl, refl)
 
-inspect_line : (size : Size) (p : Option BenchLife) (b : Bench) (a : Answer) (new : Bench) → InspectStep size p b a new → Same b new
-inspect_line size None b a new (inl (c, reads, inl (line, tells, e, is))) = same_as b new b is (refl, refl)
-inspect_line size None b a new (inl (c, reads, inr x)) = same_as b new (out_of_memory b) x.2 (refl, refl)
-inspect_line size None b a new (inr x) = same_as b new (failed x.1.0 b) x.1.2 (refl, refl)
-inspect_line size (Some life) b a new x = same_as b new b x.1 (refl, refl)
-
--- a line that asks nothing of the disk and of no hart
+-- a deed that asks nothing of the disk and of no hart
 aside_line : (e : Effect) (b : Bench) (new : Bench) → OfFirmware e → new ≡ affected e b → Same b new
 aside_line Stays b new by x = same_as b new b x (refl, refl)
 aside_line (SetsPayloads payloads) b new by x = same_as b new _ x (refl, refl)
@@ -227,21 +219,27 @@ aside_line CutsPower b new by x = same_as b new _ x (refl, refl)
 aside_line (WakesBoard life) b new by x = same_as b new _ x (refl, refl)
 aside_line WritesPast b new by x = absurd by
 
-by_firmware : (line : Line) → IsPlainLine line → IsByFirmware line
-by_firmware (lines.Poke k n bytes) plain = absurd plain
-by_firmware line plain = tt
+by_firmware : (deed : Deed) → IsSweptDeed deed → IsByFirmwareAlone deed
+by_firmware (Beside WritePast) plain = absurd plain
+by_firmware deed plain = tt
 
 never : {A : Type 0} → true ≡ false → A
 never e = absurd (let no : ⊥ = cc in no)
 
+deed_tells : (size : Size) (deed : Deed) (b : Bench) (a : Answer) (new : Bench) → IsSweptDeed deed → is_guest (asked_of deed) ≡ false → is_boot (asked_of deed) ≡ false → IsSound b → DeedStep size deed b a new
+    → AskedTold (asked_of deed) a b.kept new.kept × (new.disk_state ≡ b.disk_state)
+deed_tells size deeds.Format b a new plain none unasked sound x = format_line b.power b a new sound.0 x
+deed_tells size (deeds.PowerOn mode) b a new plain none unasked sound x = never unasked
+deed_tells size (deeds.Issue c) b a new plain none unasked sound x = console c b.power b a new refl sound.1 x
+deed_tells size (deeds.Turns h n) b a new plain none unasked sound x = never none
+deed_tells size (deeds.Call h asked) b a new plain none unasked sound x = never none
+deed_tells size (deeds.Ask question) b a new plain none unasked sound x = asked_line b a new (is_asked size question b.power b a new x)
+deed_tells size (Beside act) b a new plain none unasked sound x =
+    aside_line (aside act b.power b.payloads).1 b new ((is_aside act b.power b.payloads).firmware (by_firmware (Beside act) plain)) x.1
+
 -- what a plain line tells that moves no hart
+abbrev pub LineTells : Line → Bench → Answer → Bench → Type 0
+LineTells line b a new = LineTold line a b.kept new.kept × (new.disk_state ≡ b.disk_state)
+
 pub line_tells : (size : Size) (line : Line) (b : Bench) (a : Answer) (new : Bench) → IsPlainLine line → moves_harts line ≡ false → powers_on line ≡ false → IsSound b → Step size line b a new → LineTells line b a new
-line_tells size lines.Format b a new plain none unasked sound x = format_line b.power b a new sound.0 x
-line_tells size (lines.On mode) b a new plain none unasked sound x = never unasked
-line_tells size (lines.Command c) b a new plain none unasked sound x = console c b.power b a new refl sound.1 x
-line_tells size (lines.Turn h n) b a new plain none unasked sound x = never none
-line_tells size (lines.Call h asked) b a new plain none unasked sound x = never none
-line_tells size (lines.Show look) b a new plain none unasked sound x = read_line b.power _ b a new x
-line_tells size lines.Inspect b a new plain none unasked sound x = inspect_line size b.power b a new x
-line_tells size line b a new plain none unasked sound x =
-    aside_line (aside line b.power b.payloads).1 b new ((is_aside line b.power b.payloads).firmware (by_firmware line plain)) x.1
+line_tells size line b a new plain none unasked sound x = deed_tells size (deed_of line) b a new plain none unasked sound x

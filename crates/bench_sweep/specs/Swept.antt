@@ -8,7 +8,7 @@ use Rattle.simdisk.specs.declared.fill.Fill.TheVariants.{Byte, Alternating, Old,
 use Rattle.board_model.specs.Shapes.{Size}
 use Rattle.script_lang.specs.Lines.{IsLineInRange}
 use Rattle.script_lang.specs.declared.line.Line.{Line}
-use Rattle.script_lang.specs.declared.line.Line.TheVariants as lines
+use Rattle.bench_report.specs.Deeds.{ArmFault, CutPower, WritePast, Deed, Beside, deed_of}
 use Rattle.bench_judge.specs.declared.judges.Sweep.{Sweep}
 use Rattle.bench_sweep.specs.declared.points.Bench.{Bench}
 use Rattle.bench_sweep.specs.declared.points.Bench.TheVariants.{Cuts, Fails}
@@ -17,12 +17,16 @@ use Rattle.bench_sweep.specs.declared.points.Caller.TheVariants.{Disk, Lane}
 use Rattle.bench_sweep.specs.declared.rows.Row.{Row}
 use Rattle.bench_sweep.specs.Rows.{row_text, sweep_text}
 
--- a line of a script that a bench runs: it cuts nothing, lets nothing fail, and leaves the disk to the firmware
+-- a deed that a bench has done: it cuts nothing, lets nothing fail, and leaves the disk to the firmware
+abbrev pub IsSweptDeed : Deed → Type 0
+IsSweptDeed (Beside (ArmFault arming)) = ⊥
+IsSweptDeed (Beside CutPower) = ⊥
+IsSweptDeed (Beside WritePast) = ⊥
+IsSweptDeed deed = ⊤
+
+-- a line of a script that a bench runs
 abbrev pub IsPlainLine : Line → Type 0
-IsPlainLine (lines.Arm arming) = ⊥
-IsPlainLine (lines.Cut fill) = ⊥
-IsPlainLine (lines.Poke k n bytes) = ⊥
-IsPlainLine line = ⊤
+IsPlainLine line = IsSweptDeed (deed_of line)
 
 -- lines that a bench runs, for a board of that size
 pub record AreSwept (size : Size) (lines : List Line) : Type 0 where

@@ -10,23 +10,24 @@ use Rattle.board_model.specs.declared.durable.Durable.{Durable}
 use Rattle.board_model.specs.declared.durable.Reason.{Reason}
 use Rattle.board_model.specs.declared.durable.Trial.{Trial}
 use Rattle.board.specs.Moments.{attempts_of}
-use Rattle.board_model.specs.ConsoleCommands.{console_change}
 use Rattle.script_lang.specs.declared.line.Line.{Line}
-use Rattle.script_lang.specs.declared.line.Line.TheVariants as lines
 use Rattle.sbi.specs.declared.words.Word.{Word}
 use Rattle.sbi.specs.declared.words.Word.TheVariants as words
 use Rattle.sbi.specs.declared.words.LifeEnd.TheVariants as life_ends
 use Rattle.sbi_calls.specs.Words.{is_answered}
+use Rattle.bench_report.specs.Prefix.{AskedLine, Boot, Command, Guest, asked_by}
 use Rattle.bench_report.specs.declared.printed.Printed.{Printed}
 use Rattle.bench_report.specs.declared.printed.Printed.TheVariants as printed
 use Rattle.bench_report.specs.declared.printed.Answer.{Answer}
 use Rattle.bench_judge.specs.Ledgers.{more_kept, in_doubt, settled}
 
 -- a line that harts move
+abbrev pub is_guest : AskedLine → Bool
+is_guest Guest = true
+is_guest asked = false
+
 abbrev pub moves_harts : Line → Bool
-moves_harts (lines.Turn h n) = true
-moves_harts (lines.Call h asked) = true
-moves_harts line = false
+moves_harts line = is_guest (asked_by line)
 
 -- A command was answered, by its receipt (none) or by the number that refused it. By 6 it is in doubt, or another
 -- is.
@@ -88,14 +89,20 @@ PowerTold mode (Some d) said now old new =
     (mid : Kept) × SettledTold d old mid × BootSaid said (commands_told mode d.trial) mid new × NowTold now new
 
 -- a line that powers a board on
+abbrev pub is_boot : AskedLine → Bool
+is_boot (Boot mode) = true
+is_boot asked = false
+
 abbrev pub powers_on : Line → Bool
-powers_on (lines.On mode) = true
-powers_on line = false
+powers_on line = is_boot (asked_by line)
 
 -- what a line says that moves no hart, and powers no board on
+abbrev pub AskedTold : AskedLine → Answer → Kept → Kept → Type 0
+AskedTold (Command c) a old new = CommandTold a.line c old new
+AskedTold asked a old new = new ≡ old
+
 abbrev pub LineTold : Line → Answer → Kept → Kept → Type 0
-LineTold (lines.Command c) a old new = CommandTold a.line (console_change c) old new
-LineTold line a old new = new ≡ old
+LineTold line a old new = AskedTold (asked_by line) a old new
 
 -- a command that a hart makes, where that is the memory
 abbrev pub IsOfHart : Size → List ℕ → Change → Type 0

@@ -34,25 +34,23 @@ fn is_formatted(line: &Line, answer: &Answer) -> bool
 
 /// Runs a line before the disk is formatted, and answers whether it was by that. Refused `Memory` alone.
 fn tries<C: Crew>(
-    alloc: Global,
-    crew: &C,
-    shape: &Shape,
+    setting: &Setting<'_, C>,
     line: &Line,
     power: Power,
     payloads: &mut Payloads,
 ) -> Result<(Power, bool), Refusal>
-    requires range { IsLineInRange shape.now line.now }
+    requires range { IsLineInRange setting.now.shape.now line.now }
     requires calm { IsUnstruck power }
     requires resting { IsResting power }
     requires short { AreShort payloads.old }
-    requires begins { BeginsCalm shape.now power }
+    requires begins { BeginsCalm setting.now.shape.now power }
     ensures resting { IfOk result (λ did. IsResting did.0) }
     ensures short { AreShort payloads.new }
-    ensures begins { IfOk result (λ did. Begins shape.now did.0) }
-    ensures begun { IfOk result (λ did. did.1 ≡ true → Begun shape.now did.0) }
+    ensures begins { IfOk result (λ did. Begins setting.now.shape.now did.0) }
+    ensures begun { IfOk result (λ did. did.1 ≡ true → Begun setting.now.shape.now did.0) }
     ensures refused { IfErr result (λ e. e ≡ Memory) }
 {
-    let (power, answer) = line_alone(&Setting { alloc, crew, shape }, line, power, payloads);
+    let (power, answer) = line_alone(setting, line, power, payloads);
     match answer {
         Err(refusal) => Err(refusal),
         Ok(answer) => {
@@ -103,22 +101,19 @@ fn begun(alloc: Global, shape: &Shape, power: Power, payloads: Payloads) -> Resu
 
 /// Runs a script up to the first format that answers Ok: how many lines that were, and the board then. Refused
 /// `NotPlain` where no format does, and `Memory`.
-pub fn formats<C: Crew>(
-    alloc: Global,
-    crew: &C,
-    shape: &Shape,
-    lines: &[Line],
-) -> Result<(usize, Site), Refusal>
-    requires { All (IsLineInRange shape.now) lines.now }
+pub fn formats<C: Crew>(setting: &Setting<'_, C>, lines: &[Line]) -> Result<(usize, Site), Refusal>
+    requires { All (IsLineInRange setting.now.shape.now) lines.now }
     ensures few { IfOk result (λ did. did.0 ≤ length lines.now) }
-    ensures runs { IfOk result (λ did. Runs shape.now (Off did.1.disk) did.1.ledger) }
+    ensures runs { IfOk result (λ did. Runs setting.now.shape.now (Off did.1.disk) did.1.ledger) }
     ensures refused { IfErr result (λ e. (e ≡ Memory) ⊎ (e ≡ NotPlain)) }
 {
+    let alloc = setting.alloc;
+    let shape = setting.shape;
     let mut power = blank(alloc, shape)?;
     let mut payloads = Payloads::new(alloc);
     let mut count = 0;
     for line in lines {
-        let (after, formatted) = tries(alloc, crew, shape, line, power, &mut payloads)?;
+        let (after, formatted) = tries(setting, line, power, &mut payloads)?;
         count += 1;
         if formatted {
             let site = begun(alloc, shape, after, payloads)?;

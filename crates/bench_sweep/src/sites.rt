@@ -194,15 +194,13 @@ fn powers(
 
 /// Runs a line that moves no hart and powers no board on, and the ledger follows it.
 fn answers<C: Crew>(
-    alloc: Global,
-    crew: &C,
-    shape: &Shape,
+    setting: &Setting<'_, C>,
     line: &Line,
     power: Power,
     payloads: &mut Payloads,
     ledger: &mut Ledger,
 ) -> Result<Power, Refusal>
-    requires range { IsLineInRange shape.now line.now }
+    requires range { IsLineInRange setting.now.shape.now line.now }
     requires plain { IsPlainLine line.now }
     requires of_none { moves_harts line.now ≡ false }
     requires no_boot { powers_on line.now ≡ false }
@@ -211,14 +209,15 @@ fn answers<C: Crew>(
     requires short { AreShort payloads.old }
     ensures resting { IfOk result (λ power. IsResting power) }
     ensures short { AreShort payloads.new }
-    ensures runs { RunsCalm shape.now power ledger.old → IfOk result (λ now. Runs shape.now now ledger.new) }
+    ensures runs { RunsCalm setting.now.shape.now power ledger.old
+        → IfOk result (λ now. Runs setting.now.shape.now now ledger.new) }
     ensures refused { IfErr result (λ e. e ≡ Memory) }
 {
-    let (power, answer) = line_alone(&Setting { alloc, crew, shape }, line, power, payloads);
+    let (power, answer) = line_alone(setting, line, power, payloads);
     match answer {
         Err(refusal) => Err(refusal),
         Ok(answer) => {
-            follows(ledger, alloc, line, &answer)?;
+            follows(ledger, setting.alloc, line, &answer)?;
             Ok(power)
         }
     }
@@ -236,31 +235,31 @@ fn boot_of(line: &Line) -> Option<BootMode>
 
 /// Runs a line, and the ledger follows it.
 fn does<C: Crew>(
-    alloc: Global,
-    crew: &C,
-    shape: &Shape,
+    setting: &Setting<'_, C>,
     line: &Line,
     power: Power,
     payloads: &mut Payloads,
     ledger: &mut Ledger,
 ) -> Result<Power, Refusal>
-    requires range { IsLineInRange shape.now line.now }
+    requires range { IsLineInRange setting.now.shape.now line.now }
     requires plain { IsPlainLine line.now }
     requires calm { IsUnstruck power }
     requires resting { IsResting power }
     requires short { AreShort payloads.old }
     ensures resting { IfOk result (λ power. IsResting power) }
     ensures short { AreShort payloads.new }
-    ensures runs { RunsCalm shape.now power ledger.old → IfOk result (λ now. Runs shape.now now ledger.new) }
+    ensures runs { RunsCalm setting.now.shape.now power ledger.old
+        → IfOk result (λ now. Runs setting.now.shape.now now ledger.new) }
     ensures refused { IfErr result (λ e. e ≡ Memory) }
 {
+    let Setting { alloc, crew, shape } = *setting;
     match boot_of(line) {
         Some(mode) => powers(alloc, shape, mode, power, payloads, ledger),
         None => {
             if is_of_harts(line) {
                 moves(alloc, crew, shape, line, power, ledger)
             } else {
-                answers(alloc, crew, shape, line, power, payloads, ledger)
+                answers(setting, line, power, payloads, ledger)
             }
         }
     }
@@ -269,20 +268,14 @@ fn does<C: Crew>(
 /// Runs one line, and the ledger follows it. An armed cut that struck within it is not made yet.
 ///
 /// Refused `Memory` where the line was, or the ledger.
-fn goes<C: Crew>(
-    alloc: Global,
-    crew: &C,
-    shape: &Shape,
-    line: &Line,
-    going: Going,
-) -> Result<Going, Refusal>
-    requires range { IsLineInRange shape.now line.now }
+fn goes<C: Crew>(setting: &Setting<'_, C>, line: &Line, going: Going) -> Result<Going, Refusal>
+    requires range { IsLineInRange setting.now.shape.now line.now }
     requires plain { IsPlainLine line.now }
     requires calm { IsUnstruck going.power }
     requires resting { IsResting going.power }
-    requires runs { RunsCalm shape.now going.power going.ledger }
+    requires runs { RunsCalm setting.now.shape.now going.power going.ledger }
     ensures resting { IfOk result (λ going. IsResting going.power) }
-    ensures runs { IfOk result (λ going. Runs shape.now going.power going.ledger) }
+    ensures runs { IfOk result (λ going. Runs setting.now.shape.now going.power going.ledger) }
     ensures refused { IfErr result (λ e. e ≡ Memory) }
 {
     let Going {
@@ -290,7 +283,7 @@ fn goes<C: Crew>(
         mut payloads,
         mut ledger,
     } = going;
-    let power = does(alloc, crew, shape, line, power, &mut payloads, &mut ledger)?;
+    let power = does(setting, line, power, &mut payloads, &mut ledger)?;
     Ok(Going {
         power,
         payloads,
@@ -321,20 +314,18 @@ pub struct Went {
 /// Runs these lines, no further than to the one in which an armed cut strikes, or where so asked to the first after
 /// which the board is off. Refused `Memory` alone.
 pub fn goes_on<C: Crew>(
-    alloc: Global,
-    crew: &C,
-    shape: &Shape,
+    setting: &Setting<'_, C>,
     lines: &[Line],
     until_off: bool,
     going: Going,
 ) -> Result<Went, Refusal>
-    requires ranges { All (IsLineInRange shape.now) lines.now }
+    requires ranges { All (IsLineInRange setting.now.shape.now) lines.now }
     requires plain { All IsPlainLine lines.now }
     requires calm { IsUnstruck going.power }
     requires resting { IsResting going.power }
-    requires runs { RunsCalm shape.now going.power going.ledger }
+    requires runs { RunsCalm setting.now.shape.now going.power going.ledger }
     ensures resting { IfOk result (λ went. IsResting went.going.power) }
-    ensures runs { IfOk result (λ went. Runs shape.now went.going.power went.going.ledger) }
+    ensures runs { IfOk result (λ went. Runs setting.now.shape.now went.going.power went.going.ledger) }
     ensures few { IfOk result (λ went. went.count ≤ length lines.now) }
     ensures some { IfOk result (λ went. 0 < length lines.now → 0 < went.count) }
     ensures refused { IfErr result (λ e. e ≡ Memory) }
@@ -343,8 +334,8 @@ pub fn goes_on<C: Crew>(
     let mut count = 0;
     for line in lines {
         match line {
-            Line::Command(command) => issues(alloc, *command, &mut going)?,
-            _ => going = goes(alloc, crew, shape, line, going)?,
+            Line::Command(command) => issues(setting.alloc, *command, &mut going)?,
+            _ => going = goes(setting, line, going)?,
         }
         count += 1;
         if going.is_struck() {

@@ -100,9 +100,8 @@ fn run_to_cut<C: Crew, W: Write>(
         (runs_of Bench.Cuts point.caller point.number) 0) }
     ensures refused { IfErr result (λ e. (e ≡ Memory) ⊎ (e ≡ Output)) }
 {
-    let Setting { alloc, crew, shape } = runner.setting;
     let armed = Going::armed(site, point.caller.cut_at(point.call));
-    let going = goes_on(alloc, crew, shape, runner.lines, false, armed)?.going;
+    let going = goes_on(&runner.setting, runner.lines, false, armed)?.going;
     // The plain run made the call. Only one that was refused memory can have missed it.
     if !going.is_struck() {
         return Err(Refusal::Memory);
@@ -123,10 +122,9 @@ fn run_past_failure<C: Crew, W: Write>(
         (runs_of Bench.Fails point.caller point.number) 0) }
     ensures refused { IfErr result (λ e. (e ≡ Memory) ⊎ (e ≡ Output)) }
 {
-    let Setting { alloc, crew, shape } = runner.setting;
     let armed = Going::armed(site, point.caller.fail_at(point.call));
-    let going = goes_on(alloc, crew, shape, runner.lines, false, armed)?.going;
-    let mut left = turn_off(shape, going)?;
+    let going = goes_on(&runner.setting, runner.lines, false, armed)?.going;
+    let mut left = turn_off(runner.setting.shape, going)?;
     judge_run(&runner.setting, &mut left, point, None, report)
 }
 
@@ -238,10 +236,9 @@ fn sweep_stretch<C: Crew, W: Write>(
         (runs_from runner.now.bench caller (counted made 1) did.calls) 0) }
     ensures refused { IfErr result (λ e. (e ≡ Memory) ⊎ (e ≡ Output)) }
 {
-    let Setting { alloc, crew, shape } = runner.setting;
-    let plain = Going::from(site.copy(alloc)?);
-    let Went { count, going } = goes_on(alloc, crew, shape, runner.lines, true, plain)?;
-    let next = turn_off(shape, going)?;
+    let plain = Going::from(site.copy(runner.setting.alloc)?);
+    let Went { count, going } = goes_on(&runner.setting, runner.lines, true, plain)?;
+    let next = turn_off(runner.setting.shape, going)?;
     let calls = Calls {
         caller,
         first: made.saturating_add(1),
@@ -339,8 +336,8 @@ fn sweep_lines<'a, C: Crew, W: Write>(
     ensures refused { IfErr result (λ e. (e ≡ Memory) ⊎ (e ≡ Output)
         ⊎ ((e ≡ NotPlain) × (W.contents out.new ≡ W.contents out.old))) }
 {
-    let (count, site) = formats(alloc, crew, shape, lines)?;
     let setting = Setting { alloc, crew, shape };
+    let (count, site) = formats(&setting, lines)?;
     let runner = Runner {
         setting,
         bench,

@@ -40,7 +40,7 @@ returns-in-Arm-clause-reported g c = λ b h.
 
 pub returns-in-Poke-clause-reported : goal.returns-in-Poke-clause-reported
 returns-in-Poke-clause-reported g c = λ b h.
-    rw c.in-Poke.is (poke_matches c.in-Poke.sector c.in-Poke.offset c.in-Poke.bytes c.args.setting.now.shape.now b c.poke_line.result.1 c.poke_line.result.0 _ h.1 (c.poke_line.ensures.reported c.args.setting.now.shape.now b h.0))
+    rw c.in-Poke.is (poke_matches c.args.setting.now.shape.now b c.poke_line.result.1 c.poke_line.result.0 _ h.1 (c.poke_line.ensures.reported c.args.setting.now.shape.now b h.0))
 
 pub returns-in-Inspect-clause-reported : goal.returns-in-Inspect-clause-reported
 returns-in-Inspect-clause-reported g c = λ b h.

@@ -8,7 +8,7 @@ pub returns-in-Ok-clause-reported : goal.returns-in-Ok-clause-reported
 returns-in-Ok-clause-reported c = λ size b h.
     let P : Power → Type 0 = λ p. Agrees size b p in
     let did = c.in-Ok.ensures in
-    poked_off c.args.sector c.args.offset c.args.bytes.now size b c.in-Off.disk c.poke.new.self c.says-in-Ok.result (subst P c.in-Off.is h) did.no_call did.as_long c.says-in-Ok.ensures
+    poked_off size b c.in-Off.disk c.poke.new.self c.says-in-Ok.result (subst P c.in-Off.is h) did.no_call did.as_long c.says-in-Ok.ensures
 
 pub returns-in-Err-clause-reported : goal.returns-in-Err-clause-reported
 returns-in-Err-clause-reported c = λ size b h.

@@ -1,7 +1,7 @@
 use Rattle.std.proofs.Common.{Option, sym, subst}
 use Rattle.bench_report.specs.declared.power.Power.{Power}
 use Rattle.bench_report.specs.Bench.{BenchLife}
-use Rattle.script_lang.specs.declared.line.Line.TheVariants as lines
+use Rattle.bench_report.specs.Deeds.{CallWake}
 use Rattle.bench_report.specs.Asides.{AsideStep}
 use Rattle.bench_report.specs.Agree.{Agrees}
 use Rattle.bench_report.proofs.Lines.{on_life}
@@ -13,6 +13,6 @@ returns-in-On-clause-reported c = λ size b h.
     let was = subst P c.in-On.is h in
     on_life size b c.in-On.board was (λ life on. (
     let did = c.wake-answer.ensures size b life on was in
-    let Q : Option BenchLife → Type 0 = λ p. AsideStep lines.Wake p b c.wake-answer.result did.0 in
+    let Q : Option BenchLife → Type 0 = λ p. AsideStep CallWake p b c.wake-answer.result did.0 in
     (did.0, subst Q (sym on) did.1, did.2, did.3)
     ))

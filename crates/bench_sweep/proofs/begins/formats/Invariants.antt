@@ -8,6 +8,6 @@ invariant-loop-line g l = record {
   calm : IsUnstruck l.power;
   resting : IsResting l.power;
   short : AreShort l.payloads;
-  begins : BeginsCalm l.shape l.power;
+  begins : BeginsCalm l.setting.shape.now l.power;
   count : l.count ≡ l.line-index;
 }

@@ -13,10 +13,10 @@ loop-line-preserved g c =
           search rules
       | in_default+in_ok-going-in_default w ↦ search rules
     ] in
-    let runs : Runs c.args.shape.now c.match-line.going.power c.match-line.going.ledger =
+    let runs : Runs c.args.setting.now.shape.now c.match-line.going.power c.match-line.going.ledger =
     elim c.match-line.branch [
       | in-Command+in_ok-issues-in-Command w ↦
-          let did = w.issues.ensures.runs c.args.shape.now c.loop-line.invariant.runs in
+          let did = w.issues.ensures.runs c.args.setting.now.shape.now c.loop-line.invariant.runs in
           let was = w.in_ok-issues-in-Command.was in
           search rules
       | in_default+in_ok-going-in_default w ↦ search rules

@@ -7,6 +7,6 @@ abbrev pub invariant-loop-line : goal.invariant-loop-line
 invariant-loop-line g l = record {
   calm : IsUnstruck l.going.power;
   resting : IsResting l.going.power;
-  runs : RunsCalm l.shape l.going.power l.going.ledger;
+  runs : RunsCalm l.setting.shape.now l.going.power l.going.ledger;
   count : l.count ≡ l.line-index;
 }
