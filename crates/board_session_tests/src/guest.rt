@@ -1,10 +1,8 @@
 //! A guest in C on two harts (crates/examples/data/counters.c), from its boot to the image that it leaves, which
 //! stands until the console drops it.
 
-use crate::runs::ran;
-use board::Payloads;
-use board_model::{Shape, Slot};
-use simdisk::SimDisk;
+use crate::runs::disk_of;
+use crate::said::{Said, booting, says};
 use std::test::*;
 
 const COUNTERS: &str = "\
@@ -20,63 +18,63 @@ b500375548009b06d534375573001b07950413034006130830001306000093880600130500009305
 1700e39867fa375548009b08d534130810001306000013050000930500007300000067800000000800800000000010080080\
 00000000";
 
-const BOOTED: [&str; 10] = [
-    "sbiboard",
-    "--disk",
-    "D",
-    "--mode",
-    "fresh",
-    "--new",
-    "--harts",
-    "2",
-    "--turns",
-    "1000000000",
-];
+const BOOTED: Said = Said {
+    words: &[
+        "sbiboard",
+        "--disk",
+        "D",
+        "--mode",
+        "fresh",
+        "--new",
+        "--harts",
+        "2",
+        "--turns",
+        "1000000000",
+    ],
+    lines: b"",
+    told: b"",
+};
 
-const RESUMED: [&str; 7] = [
-    "sbiboard",
-    "--disk",
-    "D",
-    "--mode",
-    "resume",
-    "--turns",
-    "1000000000",
-];
+const RESUMED: Said = Said {
+    words: &[
+        "sbiboard",
+        "--disk",
+        "D",
+        "--mode",
+        "resume",
+        "--turns",
+        "1000000000",
+    ],
+    lines: b"",
+    told: b"",
+};
 
 /// A shutdown for a failure of the system: a0 and a6 are set to 0, a1 to 1, a7 to 0x53525354 by LUI and ADDI,
 /// then ECALL, the sixth instruction.
 const FAILS: &str = "130500009305100013080000b75852539388483573000000";
 
-const FAILED: [&str; 7] = ["sbiboard", "--disk", "D", "--mode", "keep", "--turns", "6"];
+const FAILED: Said = Said {
+    words: &["sbiboard", "--disk", "D", "--mode", "keep", "--turns", "6"],
+    lines: b"",
+    told: b"",
+};
 
-const KEPT: [&str; 7] = ["sbiboard", "--disk", "D", "--mode", "keep", "--turns", "1"];
+const KEPT: Said = Said {
+    words: &["sbiboard", "--disk", "D", "--mode", "keep", "--turns", "1"],
+    lines: b"state\ndiscard\nstate\n",
+    told: b"state slot 0 reason 1 image 1 next 2\ndiscard ok 1\nstate slot 0 reason 1 image none next 2\n",
+};
 
 #[test]
 fn a_guest_is_suspended_and_resumed_and_its_image_outlives_a_reset(
     rt: HostRuntime,
 ) -> Result<(), Fail> {
     let alloc = rt.alloc();
-    let mut payloads = Payloads::new(alloc);
-    let counters = hex::decode(alloc, COUNTERS).ok().ok_or("the guest")?;
-    payloads.set(Slot::new(0).ok_or("the slot")?, counters);
-    let disk = SimDisk::blank(alloc, Shape::new(2, 1, 1)?.sectors())?;
-    let (out, ended, disk) = ran(&rt, alloc, BOOTED.as_slice(), disk, &payloads, b"")?;
-    assert!(&rt; out.is_empty());
-    assert_eq!(&rt; ended, Ok(()));
-    let (out, ended, disk) = ran(&rt, alloc, RESUMED.as_slice(), disk, &payloads, b"")?;
-    assert!(&rt; out.is_empty());
-    assert_eq!(&rt; ended, Ok(()));
-    let mut failing = Payloads::new(alloc);
-    let fails = hex::decode(alloc, FAILS).ok().ok_or("the reset")?;
-    failing.set(Slot::new(0).ok_or("the slot")?, fails);
-    let (out, ended, disk) = ran(&rt, alloc, FAILED.as_slice(), disk, &failing, b"")?;
-    assert!(&rt; out.is_empty());
-    assert_eq!(&rt; ended, Ok(()));
-    let lines = b"state\ndiscard\nstate\n";
-    let (out, ended, _disk) = ran(&rt, alloc, KEPT.as_slice(), disk, &payloads, lines)?;
-    let told =
-        b"state slot 0 reason 1 image 1 next 2\ndiscard ok 1\nstate slot 0 reason 1 image none next 2\n";
-    assert_eq!(&rt; out.as_slice(), told.as_slice());
-    assert_eq!(&rt; ended, Ok(()));
+    let counters = booting(alloc, COUNTERS)?;
+    let fails = booting(alloc, FAILS)?;
+    let disk = says(&rt, alloc, disk_of(alloc)?, &counters, &BOOTED)?;
+    let disk = says(&rt, alloc, disk, &counters, &RESUMED)?;
+    let disk = says(&rt, alloc, disk, &fails, &FAILED)?;
+    says(&rt, alloc, disk, &counters, &KEPT)?;
     Ok(())
 }

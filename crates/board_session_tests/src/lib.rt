@@ -6,6 +6,8 @@ mod guest;
 #[cfg(test)]
 mod runs;
 #[cfg(test)]
+mod said;
+#[cfg(test)]
 mod streams;
 #[cfg(test)]
 mod trials;

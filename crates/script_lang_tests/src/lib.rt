@@ -6,6 +6,4 @@ mod faults;
 #[cfg(test)]
 mod limits;
 #[cfg(test)]
-mod lines;
-#[cfg(test)]
 mod read;

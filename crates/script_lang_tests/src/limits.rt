@@ -7,92 +7,170 @@ use std::process::Abort;
 use std::test::*;
 
 /// A byte so many times between two texts.
-fn filled(
-    alloc: Global,
-    start: &[u8],
+#[derive(Clone, Copy)]
+struct Filled {
+    start: &'static [u8],
     byte: u8,
     count: usize,
-    end: &[u8],
-) -> Result<Vec<u8>, AllocError> {
-    let mut text = start.to_vec(alloc)?;
-    for _ in 0..count {
-        text.push(byte)?;
+    end: &'static [u8],
+}
+
+fn written(alloc: Global, filled: &Filled) -> Result<Vec<u8>, AllocError> {
+    let mut text = filled.start.to_vec(alloc)?;
+    for _ in 0..filled.count {
+        text.push(filled.byte)?;
     }
-    text.extend_from_slice(end)?;
+    text.extend_from_slice(filled.end)?;
     Ok(text)
 }
 
-/// A board line, a comment that has so many bytes after its sign, and this text are so many lines.
-fn comment_holds(
-    rt: &impl Abort,
-    alloc: Global,
-    count: usize,
-    end: &[u8],
-    lines: usize,
-) -> Result<(), Fail> {
-    let script = filled(alloc, b"board 1 1 1\n#", b'x', count, end)?;
+/// A board line, so many bytes, and this text are so many lines.
+fn filled_holds(rt: &impl Abort, alloc: Global, filled: &Filled, lines: usize) -> Result<(), Fail> {
+    let script = written(alloc, filled)?;
     holds(rt, alloc, &script, Shape::new(1, 1, 1)?, lines)
 }
 
-/// A byte so many times between two texts is refused with that line.
-fn filled_refused(
-    rt: &impl Abort,
-    alloc: Global,
-    start: &[u8],
-    byte: u8,
-    count: usize,
-    end: &[u8],
-    line: u64,
-) -> Result<(), Fail> {
-    let script = filled(alloc, start, byte, count, end)?;
+/// Such a text is refused with that line.
+fn filled_refused(rt: &impl Abort, alloc: Global, filled: &Filled, line: u64) -> Result<(), Fail> {
+    let script = written(alloc, filled)?;
     refused(rt, alloc, &script, Refusal::BadScript(line))
 }
 
+/// A board line and the start of a comment, which goes on.
+const COMMENT: Filled = Filled {
+    start: b"board 1 1 1\n#",
+    byte: b'x',
+    count: 4095,
+    end: b"",
+};
+
+/// The comment has 4,096 bytes, then one more.
 #[test]
 fn long_lines(rt: HostRuntime) -> Result<(), Fail> {
     let alloc = rt.alloc();
-    // The comment has 4,096 bytes, then one more.
-    comment_holds(&rt, alloc, 4095, b"", 0)?;
-    comment_holds(&rt, alloc, 4095, b"\nformat\n", 1)?;
-    let board = b"board 1 1 1\n#";
-    filled_refused(&rt, alloc, board, b'x', 4096, b"", 2)?;
-    filled_refused(&rt, alloc, board, b'x', 4096, b"\nformat\n", 2)?;
-    // A fault before it comes first.
-    let fault = b"board 1 1 1\nslot\n#";
-    filled_refused(&rt, alloc, fault, b'x', 4096, b"", 2)?;
-    // Before the board line too.
-    filled_refused(&rt, alloc, b"\n#", b'x', 4096, b"\nboard 1 1 1\n", 2)?;
-    // Without a line feed at all.
-    filled_refused(&rt, alloc, b"", b' ', 100_000, b"", 1)
-}
-
-/// A board line, 65,535 line feeds and this text are one line.
-fn feeds_hold(rt: &impl Abort, alloc: Global, end: &[u8]) -> Result<(), Fail> {
-    let script = filled(alloc, b"board 1 1 1", b'\n', 65_535, end)?;
-    holds(rt, alloc, &script, Shape::new(1, 1, 1)?, 1)
-}
-
-#[test]
-fn many_lines(rt: HostRuntime) -> Result<(), Fail> {
-    let alloc = rt.alloc();
-    // The board line and 65,534 empty lines, then a last one.
-    feeds_hold(&rt, alloc, b"format")?;
-    feeds_hold(&rt, alloc, b"format\n")?;
-    // Line 65,537 is a fault even if it is empty.
-    let board = b"board 1 1 1";
-    filled_refused(&rt, alloc, board, b'\n', 65_535, b"format\n\n", 65_537)?;
+    let format = b"\nformat\n";
+    filled_holds(&rt, alloc, &COMMENT, 0)?;
+    filled_holds(
+        &rt,
+        alloc,
+        &Filled {
+            end: format,
+            ..COMMENT
+        },
+        1,
+    )?;
+    let long = Filled {
+        count: 4096,
+        ..COMMENT
+    };
+    filled_refused(&rt, alloc, &long, 2)?;
     filled_refused(
         &rt,
         alloc,
-        board,
-        b'\n',
-        65_535,
-        b"format\n\nslot\n",
+        &Filled {
+            end: format,
+            ..long
+        },
+        2,
+    )?;
+    // a fault before it comes first, and it is one before the board line too
+    filled_refused(
+        &rt,
+        alloc,
+        &Filled {
+            start: b"board 1 1 1\nslot\n#",
+            ..long
+        },
+        2,
+    )?;
+    filled_refused(
+        &rt,
+        alloc,
+        &Filled {
+            start: b"\n#",
+            end: b"\nboard 1 1 1\n",
+            ..long
+        },
+        2,
+    )?;
+    // without a line feed at all
+    filled_refused(
+        &rt,
+        alloc,
+        &Filled {
+            start: b"",
+            byte: b' ',
+            count: 100_000,
+            end: b"",
+        },
+        1,
+    )
+}
+
+/// A board line and 65,534 empty lines.
+const FEEDS: Filled = Filled {
+    start: b"board 1 1 1",
+    byte: b'\n',
+    count: 65_535,
+    end: b"format",
+};
+
+/// A last line, with a line feed and without one; line 65,537 is a fault even if it is empty.
+#[test]
+fn many_lines(rt: HostRuntime) -> Result<(), Fail> {
+    let alloc = rt.alloc();
+    filled_holds(&rt, alloc, &FEEDS, 1)?;
+    filled_holds(
+        &rt,
+        alloc,
+        &Filled {
+            end: b"format\n",
+            ..FEEDS
+        },
+        1,
+    )?;
+    filled_refused(
+        &rt,
+        alloc,
+        &Filled {
+            end: b"format\n\n",
+            ..FEEDS
+        },
         65_537,
     )?;
-    // A script of line feeds alone has no board line.
-    filled_refused(&rt, alloc, b"", b'\n', 65_536, b"", 1)?;
-    filled_refused(&rt, alloc, b"", b'\n', 65_537, b"", 65_537)
+    filled_refused(
+        &rt,
+        alloc,
+        &Filled {
+            end: b"format\n\nslot\n",
+            ..FEEDS
+        },
+        65_537,
+    )?;
+    // a script of line feeds alone has no board line
+    let empty = Filled {
+        start: b"",
+        end: b"",
+        ..FEEDS
+    };
+    filled_refused(
+        &rt,
+        alloc,
+        &Filled {
+            count: 65_536,
+            ..empty
+        },
+        1,
+    )?;
+    filled_refused(
+        &rt,
+        alloc,
+        &Filled {
+            count: 65_537,
+            ..empty
+        },
+        65_537,
+    )
 }
 
 #[test]

@@ -2,7 +2,7 @@
 //! shows as such and not as a wrong answer.
 
 use board_model::{Refusal, Shape};
-use script_lang::{Line, Script, parse_script};
+use script_lang::{Script, parse_script};
 use std::alloc::{AllocError, Global};
 use std::process::Abort;
 use std::test::Fail;
@@ -21,28 +21,6 @@ pub fn after_board(alloc: Global, board: &[u8], text: &[u8]) -> Result<Vec<u8>, 
     script.extend_from_slice(b"\n")?;
     script.extend_from_slice(text)?;
     Ok(script)
-}
-
-/// The script has just this line.
-fn has_line(rt: &impl Abort, script: &Script, text: &[u8], line: &Line) {
-    let is = script.lines.len() == 1 && script.lines[0] == *line;
-    assert!(rt; is, "lines of {text:?}");
-}
-
-/// The text after that board line says just this line.
-pub fn says(
-    rt: &impl Abort,
-    alloc: Global,
-    board: &[u8],
-    text: &[u8],
-    line: &Line,
-) -> Result<(), Fail> {
-    let script = after_board(alloc, board, text)?;
-    match parsed(alloc, &script)? {
-        Ok(script) => has_line(rt, &script, text, line),
-        Err(refusal) => assert!(rt; false, "{text:?} is refused {refusal:?}"),
-    }
-    Ok(())
 }
 
 /// The script is refused so.

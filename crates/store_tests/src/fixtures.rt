@@ -3,27 +3,19 @@ ghost use Rattle.std.specs.Prelude.{◌≡◌, IfOk};
 
 use board_model::{Command, Durable, Reason, Refusal, Shape};
 use disk::{ArmedFault, Disk};
-use simdisk::{Fill, SimDisk};
+use simdisk::SimDisk;
 use std::alloc::Global;
 use std::fmt::Debug;
 use std::process::Abort;
 use std::test::Fail;
 use store::{Store, format};
 
-/// Formats a disk for the smallest board.
-pub fn format_smallest(disk: &mut SimDisk) -> Result<(), Refusal>
-    requires { (⟦<SimDisk as Disk>⟧.facts disk.old).lent.lanes ≡ 0 }
-    ensures { (⟦<SimDisk as Disk>⟧.facts disk.new).lent.lanes ≡ 0 }
-{
-    format(disk, &Shape::new(1, 1, 1)?)
-}
-
 /// A disk for the smallest board, formatted: 26 sectors.
 pub fn formatted(alloc: Global) -> Result<SimDisk, Fail>
     ensures { IfOk result (λ disk. (⟦<SimDisk as Disk>⟧.facts disk).lent.lanes ≡ 0) }
 {
     let mut disk = SimDisk::blank(alloc, 26)?;
-    format_smallest(&mut disk)?;
+    format(&mut disk, &Shape::new(1, 1, 1)?)?;
     Ok(disk)
 }
 
@@ -34,17 +26,6 @@ pub fn open(alloc: Global, disk: SimDisk) -> Result<Store<SimDisk>, Refusal>
     match Store::open(alloc, disk) {
         Ok(store) => Ok(store),
         Err((_, refusal)) => Err(refusal),
-    }
-}
-
-/// An open that has to be refused, and the disk after it.
-pub fn unopened(alloc: Global, disk: SimDisk) -> Result<(SimDisk, Refusal), Fail>
-    requires { (⟦<SimDisk as Disk>⟧.facts disk).lent.lanes ≡ 0 }
-    ensures { IfOk result (λ e. (⟦<SimDisk as Disk>⟧.facts e.0).lent.lanes ≡ 0) }
-{
-    match Store::open(alloc, disk) {
-        Ok(_) => Err(Fail::new("the open did not fail")),
-        Err(refused) => Ok(refused),
     }
 }
 
@@ -85,15 +66,6 @@ pub fn answers(
     for (command, answer) in cases {
         assert_eq!(rt; apply(store, *command), *answer, "{command:?}");
     }
-}
-
-/// The next open after power was cut.
-pub fn after_cut(
-    alloc: Global,
-    store: Store<SimDisk>,
-    fill: Fill,
-) -> Result<Store<SimDisk>, Refusal> {
-    open(alloc, store.into_disk().after_cut(fill))
 }
 
 /// The next open of the same disk.
