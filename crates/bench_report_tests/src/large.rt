@@ -1,7 +1,7 @@
 //! A large report: memory is ample, so no line may say that it is not.
 
 use crate::told::reports;
-use std::alloc::{AllocError, Global};
+use std::alloc::AllocError;
 use std::test::*;
 
 /// Adds these bytes, so many times.
