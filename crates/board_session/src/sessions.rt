@@ -36,7 +36,7 @@ use std::io::{Read, Write};
 use std::marker::Brand;
 use std::sync::{Mutex, Wait};
 use std::thread::Threads;
-use store::{format, kept_disks};
+use store::{Saving, format, kept_disks};
 use susp::Bus;
 
 /// What a session gives back.
@@ -167,12 +167,11 @@ fn run_board<
     let crew = crew::Threads::new(rt);
     let (rung, shared, shut) = (&bus, &store, &gate);
     let board = SharedBoard {
-        alloc,
+        saving: Saving { alloc, crew: &crew },
         tables: &tables,
         shape,
         bus: &bus,
         store: &store,
-        crew: &crew,
     };
     let driven = drive(
         rt,

@@ -13,6 +13,7 @@ use Rattle.board_model.specs.Shapes.{Size, IsSize, IsValidAddress}
 use Rattle.board_model.specs.Views.{change_of, durable_of, head_of, reason_number}
 use Rattle.board_model.specs.declared.durable.Command.{Command}
 use Rattle.board_model.specs.declared.durable.Durable.{Durable}
+use Rattle.store.specs.declared.saving.Resumption.{Resumption}
 use Rattle.board_model.specs.declared.durable.Trial.{Trial}
 use Rattle.board_model.specs.declared.durable.Reason.{Reason}
 use Rattle.board_model.specs.declared.durable.Reason.TheVariants.{NoReason, SystemFailure}
@@ -128,15 +129,15 @@ at_most [] i = omega arith
 at_most (x ∷ xs) zero = let all : sum (x ∷ xs) ≡ x + sum xs = sum_by-cons (λ y. y) x xs in omega (arith, all)
 at_most (x ∷ xs) (suc i) = let all : sum (x ∷ xs) ≡ x + sum xs = sum_by-cons (λ y. y) x xs in let rest = at_most xs i in omega (arith, all, rest)
 
-abbrev image_saved : ℕ → ℕ → ℕ → ℕ → ℕ → List ℕ → Saved
-image_saved serial hart address opaque area counts = record { head = record { serial = serial; hart = hart; address = address; opaque = opaque }; area = area; counts = counts }
+abbrev image_saved : ℕ → Resumption → ℕ → List ℕ → Saved
+image_saved serial at area counts = record { head = record { serial = serial; hart = at.hart; address = at.address; opaque = at.opaque }; area = area; counts = counts }
 
 -- a suspension's record
-pub suspend_follows : (size : Size) (r : Record) (hart address opaque area : ℕ) (counts : List ℕ) → IsSize size → r.next + 1 < 2 ^ 64 → hart < size.harts → IsValidAddress size address
-    → opaque < 2 ^ 64 → area < 2 → AreCounts size counts
-    → Follows size r (entries.Suspend hart address opaque)
-    (suspended (durable_after r hart address opaque) area counts)
-suspend_follows size r hart address opaque area counts is room small valid wide two are = record {
+pub suspend_follows : (size : Size) (r : Record) (at : Resumption) (area : ℕ) (counts : List ℕ) → IsSize size → r.next + 1 < 2 ^ 64 → at.hart < size.harts → IsValidAddress size at.address
+    → at.opaque < 2 ^ 64 → area < 2 → AreCounts size counts
+    → Follows size r (entries.Suspend at.hart at.address at.opaque)
+    (suspended (durable_after r at) area counts)
+suspend_follows size r at area counts is room small valid wide two are = record {
   state = λ content. refl;
   in_range = λ range. record {
     slot = range.slot;
@@ -148,13 +149,13 @@ suspend_follows size r hart address opaque area counts is room small valid wide 
   image = λ keeps. cc;
 }
   where
-    same : (saved : Saved) → Some (image_saved r.next hart address opaque area counts) ≡ Some saved → image_saved r.next hart address opaque area counts ≡ saved
+    same : (saved : Saved) → Some (image_saved r.next at area counts) ≡ Some saved → image_saved r.next at area counts ≡ saved
     same saved there = cc
 
     count : (i : ℕ) → slice_index counts i < 256 ^ 4
     count i = let most = at_most counts i in omega (arith, most, are.all, is.3)
 
-    kept : IsSaved size (r.next + 1) (image_saved r.next hart address opaque area counts)
+    kept : IsSaved size (r.next + 1) (image_saved r.next at area counts)
     kept = record {
       serial = omega arith;
       area = two;

@@ -10,7 +10,7 @@ use simdisk::SimDisk;
 use std::alloc::Global;
 use std::test::Fail;
 use std::thread;
-use store::{Store, format};
+use store::{Resumption, Saving, Store, format};
 
 /// Fills that page with a byte, where the memory has it.
 fn fill(ram: &mut Ram, number: u64, byte: u8) {
@@ -64,7 +64,12 @@ pub fn suspend_by<C: Crew>(
 ) -> Result<u32, Refusal> {
     let hart = HartId::new(hart).ok_or(Refusal::BadShape)?;
     let address = Addr::new(address).ok_or(Refusal::BadShape)?;
-    let receipt = store.suspend(alloc, ram, crew, hart, address, 77)?;
+    let at = Resumption {
+        hart,
+        address,
+        opaque: 77,
+    };
+    let receipt = store.suspend(Saving { alloc, crew }, ram, at)?;
     Ok(receipt.number())
 }
 
