@@ -19,7 +19,7 @@ use crate::written::{blank_file, write_disk};
 use board::Payloads;
 use board_model::Refusal;
 use board_options::{Options, USAGE, options};
-use board_session::session;
+use board_session::{Streams, session};
 use command_line::{
     NoWork, ProgramFault, ToldBy, first_fault, memory_fault, show, status_of, without_work, words,
 };
@@ -46,7 +46,14 @@ fn session_over<R: Threads + Wait + Sync, D: Disk + Drop + Send>(
         return (disk, Err(ProgramFault::Refused(Refusal::Memory)));
     };
     let out = Hints::new(rt, io::writer(rt), options.sync);
-    let ended = session(threads, rt.alloc(), options, disk, payloads, input, out);
+    let ended = session(
+        threads,
+        rt.alloc(),
+        options,
+        disk,
+        payloads,
+        Streams { input, out },
+    );
     let ran = ended.ran.map_err(ProgramFault::Refused);
     (ended.disk, ran)
 }

@@ -36,8 +36,15 @@ use std::io::{Read, Write};
 use std::marker::Brand;
 use std::sync::{Mutex, Wait};
 use std::thread::Threads;
-use store::{format, kept_disks};
+use store::{Saving, format, kept_disks};
 use susp::Bus;
+
+/// What a console reads its lines from, and what it writes its answers to.
+#[derive(Drop)]
+pub struct Streams<I: Read + Drop, W: Write + Drop> {
+    pub input: I,
+    pub out: W,
+}
 
 /// What a session gives back.
 #[derive(Drop)]
@@ -46,19 +53,24 @@ pub struct SessionEnd<D: Disk + Drop, I: Read + Drop, W: Write + Drop> {
     pub disk: D,
     /// Why it was refused, if it was.
     pub ran: Result<(), Refusal>,
-    /// What the console left of its input.
-    pub input: I,
-    /// What it wrote its answers to.
-    pub out: W,
+    /// What the console left of its input, and its output.
+    pub streams: Streams<I, W>,
     /// Why the console left; `None` where it was not begun.
     pub left: Option<Left>,
 }
 
-/// The input and the output of a console, and its part of the receipts.
+/// A board that is on, its shape, and the book of its receipts.
+#[derive(Drop)]
+struct BootedBoard<D: Disk + Drop> {
+    parts: Parts<D>,
+    shape: Shape,
+    book: NewBook,
+}
+
+/// The streams of a console, and its part of the receipts.
 #[derive(Drop)]
 struct Ends<J: Journal, I: Read + Drop, W: Write + Drop> {
-    input: I,
-    out: W,
+    streams: Streams<I, W>,
     part: Part<J>,
 }
 
@@ -79,21 +91,22 @@ fn attend<R: Wait, D: Disk + Drop, J: Journal, I: Read + Drop, W: Write + Drop>(
     ends: Ends<J, I, W>,
 ) -> Talked<J, I, W>
     ensures { Talks J.found result.left
-        (dialogue_ends (I.remaining ends.input) (W.contents ends.out) ends.part.told)
-        (dialogue_ends (I.remaining result.ends.input) (W.contents result.ends.out) result.ends.part.told) }
+        (dialogue_ends (I.remaining ends.streams.input) (W.contents ends.streams.out) ends.part.told)
+        (dialogue_ends (I.remaining result.ends.streams.input) (W.contents result.ends.streams.out)
+        result.ends.part.told) }
 {
-    let Ends {
-        mut input,
-        mut out,
-        part,
-    } = ends;
+    let Ends { streams, part } = ends;
+    let Streams { mut input, mut out } = streams;
     let (part, left) = console(rt, bus, store, part, &mut input, &mut out);
     match left {
         Left::Quit | Left::Unwritten => gate.shut(),
         Left::EndOfInput => {}
     }
     Talked {
-        ends: Ends { input, out, part },
+        ends: Ends {
+            streams: Streams { input, out },
+            part,
+        },
         left,
     }
 }
@@ -122,31 +135,27 @@ fn run_board<
 >(
     rt: &R,
     alloc: Global,
-    parts: Parts<D>,
-    book: NewBook,
-    shape: &Shape,
+    booted: BootedBoard<D>,
     turns: u64,
-    input: I,
-    out: W,
+    streams: Streams<I, W>,
 ) -> SessionEnd<D, I, W>
-    requires held { IsHeld shape.now parts.harts.items parts.tables (Some parts.seats) parts.bus.doze }
-    requires shape { shape.now ≡ J.size }
-    requires board { size_of_store parts.store ≡ J.size }
-    requires found { found_state parts.store ≡ J.found }
-    requires issued { journal_of parts.store ≡ J.issued }
-    requires taken { are_taken J.found J.issued ≡ true }
-    requires few { length J.issued ≤ 2 }
-    requires book { id_of book ≡ J.book }
-    requires count { parts_of book ≡ J.parts }
-    requires all { J.parts ≡ J.size.harts + 2 }
-    requires harts { vec_len parts.harts ≡ J.size.harts }
+    requires held { IsHeld booted.shape booted.parts.harts.items booted.parts.tables (Some booted.parts.seats)
+        booted.parts.bus.doze }
+    requires harts { vec_len booted.parts.harts ≡ J.size.harts }
+    requires shape { booted.shape ≡ J.size }
+    requires store { (size_of_store booted.parts.store ≡ J.size) × (found_state booted.parts.store ≡ J.found)
+        × (journal_of booted.parts.store ≡ J.issued) }
+    requires taken { (are_taken J.found J.issued ≡ true) × (length J.issued ≤ 2) }
+    requires book { (id_of booted.book ≡ J.book) × (parts_of booted.book ≡ J.parts)
+        × (J.parts ≡ J.size.harts + 2) }
     ensures none_out { IsIdle (D.facts result.disk) }
     ensures left { (console : List (ℕ × Entry)) × IsOfLife J.size J.found J.issued console (D.facts result.disk)
-        × TalksIf J.found result.left (dialogue_ends (I.remaining input) (W.contents out) [])
-        (dialogue_ends (I.remaining result.input) (W.contents result.out) console) }
+        × TalksIf J.found result.left (dialogue_ends (I.remaining streams.input) (W.contents streams.out) [])
+        (dialogue_ends (I.remaining result.streams.input) (W.contents result.streams.out) console) }
     ensures ran { result.ran ≡ outcome_of result.left }
-    ensures unheard { result.left ≡ None → (result.input ≡ input) × (result.out ≡ out) }
+    ensures unheard { result.left ≡ None → result.streams ≡ streams }
 {
+    let BootedBoard { parts, shape, book } = booted;
     let Parts {
         harts,
         seats,
@@ -156,7 +165,7 @@ fn run_board<
     } = parts;
     let (mut whole, boot) = Unshared::<D, J>::new(store, book);
     let part = whole.hand_out();
-    let ends = Ends { input, out, part };
+    let ends = Ends { streams, part };
     let Ok(given) = whole.hand_out_all(alloc, harts.len()) else {
         return over(whole, Vec::new(alloc), Vec::new(alloc), ends, boot, None);
     };
@@ -167,12 +176,11 @@ fn run_board<
     let crew = crew::Threads::new(rt);
     let (rung, shared, shut) = (&bus, &store, &gate);
     let board = SharedBoard {
-        alloc,
+        saving: Saving { alloc, crew: &crew },
         tables: &tables,
-        shape,
+        shape: &shape,
         bus: &bus,
         store: &store,
-        crew: &crew,
     };
     let driven = drive(
         rt,
@@ -186,8 +194,9 @@ fn run_board<
         ends,
         move |ends: Ends<J, I, W>| -> Talked<J, I, W>
             ensures { Talks J.found result.left
-                (dialogue_ends (I.remaining ends.input) (W.contents ends.out) ends.part.told)
-                (dialogue_ends (I.remaining result.ends.input) (W.contents result.ends.out) result.ends.part.told) }
+                (dialogue_ends (I.remaining ends.streams.input) (W.contents ends.streams.out) ends.part.told)
+                (dialogue_ends (I.remaining result.ends.streams.input) (W.contents result.ends.streams.out)
+                result.ends.part.told) }
         { attend(rt, rung, shared, shut, ends) },
     );
     let whole = store.into_inner().unshare();
@@ -225,17 +234,16 @@ fn over<D: Disk + Drop, J: Journal, I: Read + Drop, W: Write + Drop>(
     requires all { J.parts ≡ J.size.harts + 2 }
     ensures none_out { IsIdle (D.facts result.disk) }
     ensures life { IsOfLife J.size J.found J.issued ends.part.told (D.facts result.disk) }
-    ensures ends { (result.input ≡ ends.input) × (result.out ≡ ends.out) }
+    ensures streams { result.streams ≡ ends.streams }
     ensures left { result.left ≡ left }
     ensures ran { result.ran ≡ outcome_of left }
 {
-    let Ends { input, out, part } = ends;
+    let Ends { streams, part } = ends;
     let disk = disk_of(whole, loops, parts, part, boot);
     SessionEnd {
         disk,
         ran: outcome(left),
-        input,
-        out,
+        streams,
         left,
     }
 }
@@ -280,8 +288,8 @@ fn powered<D: Disk + Drop>(
         (size_of_store (store_of b)) (found_state (store_of b))) }
     ensures issued { IfOk result (λ b. journal_of (store_of b)
         ≡ commands_by options.now.mode (found_state (store_of b))) }
-    ensures few { IfOk result (λ b. length (journal_of (store_of b)) ≤ 2) }
-    ensures taken { IfOk result (λ b. are_taken (found_state (store_of b)) (journal_of (store_of b)) ≡ true) }
+    ensures taken { IfOk result (λ b. (are_taken (found_state (store_of b)) (journal_of (store_of b)) ≡ true)
+        × (length (journal_of (store_of b)) ≤ 2)) }
     ensures refused { IfErr result (λ e. RefusesDisk options.now.new options.now.shape options.now.mode payloads.now
         (D.facts disk) e.1 (D.facts e.0)) }
     ensures kept { IfErr result (λ e. (size : Size) → IsKept (D.facts disk) size → (z : Size) × IsKept (D.facts e.0) z) }
@@ -312,8 +320,7 @@ pub fn session<R: Threads + Wait + Sync, D: Disk + Drop + Send, I: Read + Drop, 
     options: &Options,
     disk: D,
     payloads: &Payloads,
-    input: I,
-    out: W,
+    streams: Streams<I, W>,
 ) -> SessionEnd<D, I, W>
     requires { IsIdle (D.facts disk) }
     ensures none_out { IsIdle (D.facts result.disk) }
@@ -324,9 +331,10 @@ pub fn session<R: Threads + Wait + Sync, D: Disk + Drop + Send, I: Read + Drop, 
     ensures ended { (RefusesSession options.now.new options.now.shape options.now.mode payloads.now (D.facts disk)
         result.ran (D.facts result.disk) × (result.left ≡ None))
         ⊎ (RanOver options.now.new options.now.shape options.now.mode payloads.now (D.facts disk) (D.facts result.disk)
-        result.left (dialogue_ends (I.remaining input) (W.contents out) []) (I.remaining result.input)
-        (W.contents result.out) × (result.ran ≡ outcome_of result.left)) }
-    ensures unheard { result.left ≡ None → (result.input ≡ input) × (result.out ≡ out) }
+        result.left (dialogue_ends (I.remaining streams.input) (W.contents streams.out) [])
+        (I.remaining result.streams.input) (W.contents result.streams.out)
+        × (result.ran ≡ outcome_of result.left)) }
+    ensures unheard { result.left ≡ None → result.streams ≡ streams }
     // Whatever it answers, a disk of which each crash leaves a state is given back as one.
     ensures kept { (size : Size) → IsKept (D.facts disk) size → (z : Size) × IsKept (D.facts result.disk) z }
 {
@@ -334,24 +342,17 @@ pub fn session<R: Threads + Wait + Sync, D: Disk + Drop + Send, I: Read + Drop, 
         Err((disk, refusal)) => SessionEnd {
             disk,
             ran: Err(refusal),
-            input,
-            out,
+            streams,
             left: None,
         },
         Ok(board) => {
             let shape = board.shape();
             let parts = board.into_parts();
             match NewBook::new(alloc, shape.harts() + 2) {
-                Ok(book) => run_board::<D, Brand, R, I, W>(
-                    rt,
-                    alloc,
-                    parts,
-                    book,
-                    &shape,
-                    options.turns,
-                    input,
-                    out,
-                ),
+                Ok(book) => {
+                    let booted = BootedBoard { parts, shape, book };
+                    run_board::<D, Brand, R, I, W>(rt, alloc, booted, options.turns, streams)
+                }
                 Err(_) => {
                     let Parts {
                         harts: _,
@@ -363,8 +364,7 @@ pub fn session<R: Threads + Wait + Sync, D: Disk + Drop + Send, I: Read + Drop, 
                     SessionEnd {
                         disk: disk_at_once(store),
                         ran: Err(Refusal::Memory),
-                        input,
-                        out,
+                        streams,
                         left: None,
                     }
                 }

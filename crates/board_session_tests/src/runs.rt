@@ -7,7 +7,7 @@ use board::Payloads;
 use board_console::Left;
 use board_model::{Refusal, Shape};
 use board_options::options;
-use board_session::session;
+use board_session::{Streams, session};
 use disk::Disk;
 use simdisk::SimDisk;
 use std::alloc::Global;
@@ -44,9 +44,12 @@ pub fn ran<R: Threads + Wait + Sync>(
     let given = options(alloc, words)
         .ok()
         .ok_or("the command line has a fault")?;
-    let out = Vec::new(alloc);
-    let ended = session(rt, alloc, &given, disk, payloads, lines, out);
-    Ok((ended.out, ended.ran, ended.disk))
+    let streams = Streams {
+        input: lines,
+        out: Vec::new(alloc),
+    };
+    let ended = session(rt, alloc, &given, disk, payloads, streams);
+    Ok((ended.streams.out, ended.ran, ended.disk))
 }
 
 #[test]
@@ -105,10 +108,13 @@ fn an_answer_that_is_not_written_ends_the_session(rt: HostRuntime) -> Result<(),
         .ok()
         .ok_or("the command line has a fault")?;
     let payloads = Payloads::new(alloc);
-    let input = b"slot 1\nslot 2\n".as_slice();
-    let ended = session(&rt, alloc, &given, disk, &payloads, input, Full);
+    let streams = Streams {
+        input: b"slot 1\nslot 2\n".as_slice(),
+        out: Full,
+    };
+    let ended = session(&rt, alloc, &given, disk, &payloads, streams);
     assert_eq!(&rt; ended.ran, Err(Refusal::Output));
     assert_eq!(&rt; ended.left, Some(Left::Unwritten));
-    assert_eq!(&rt; ended.input, b"slot 2\n".as_slice());
+    assert_eq!(&rt; ended.streams.input, b"slot 2\n".as_slice());
     Ok(())
 }

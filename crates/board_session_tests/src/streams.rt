@@ -5,7 +5,7 @@ use crate::runs::{NEW, disk_of};
 use board::Payloads;
 use board_console::Left;
 use board_options::options;
-use board_session::session;
+use board_session::{Streams, session};
 use std::io::{self, ErrorKind, Read, Write};
 use std::test::*;
 
@@ -77,11 +77,12 @@ fn an_interrupted_read_goes_on_and_a_failed_one_ends_the_input(
     let none = Payloads::new(alloc);
     let input = Faltering::new(b"slot 1\nstate\n");
     let out = Vec::new(alloc);
-    let ended = session(&rt, alloc, &given, disk_of(alloc)?, &none, input, out);
+    let streams = Streams { input, out };
+    let ended = session(&rt, alloc, &given, disk_of(alloc)?, &none, streams);
     assert_eq!(&rt; ended.ran, Ok(()));
     assert_eq!(&rt; ended.left, Some(Left::EndOfInput));
     let told = b"slot ok 1\nstate slot 1 reason 0 image none next 0\n";
-    assert_eq!(&rt; ended.out.as_slice(), told.as_slice());
+    assert_eq!(&rt; ended.streams.out.as_slice(), told.as_slice());
     Ok(())
 }
 
@@ -97,9 +98,10 @@ fn each_answer_is_seen_at_once(rt: HostRuntime) -> Result<(), Fail> {
         waiting: 0,
         seen: 0,
     };
-    let ended = session(&rt, alloc, &given, disk_of(alloc)?, &none, input, out);
+    let streams = Streams { input, out };
+    let ended = session(&rt, alloc, &given, disk_of(alloc)?, &none, streams);
     assert_eq!(&rt; ended.ran, Ok(()));
-    assert_eq!(&rt; ended.out.seen, 3);
+    assert_eq!(&rt; ended.streams.out.seen, 3);
     Ok(())
 }
 
@@ -126,7 +128,8 @@ fn quit_ends_all_harts(rt: HostRuntime) -> Result<(), Fail> {
     let none = Payloads::new(alloc);
     let input = b"quit\n".as_slice();
     let out = Vec::new(alloc);
-    let ended = session(&rt, alloc, &given, disk_of(alloc)?, &none, input, out);
+    let streams = Streams { input, out };
+    let ended = session(&rt, alloc, &given, disk_of(alloc)?, &none, streams);
     assert_eq!(&rt; ended.ran, Ok(()));
     assert_eq!(&rt; ended.left, Some(Left::Quit));
     Ok(())

@@ -8,7 +8,7 @@ use ram::Ram;
 use simdisk::SimDisk;
 use std::alloc::Global;
 use std::test::*;
-use store::Store;
+use store::{Resumption, Saving, Store};
 
 /// A memory of that board in which page k is k + 1 throughout.
 fn memory(alloc: Global, shape: Shape) -> Result<Ram, Fail> {
@@ -34,7 +34,12 @@ fn suspended<C: Crew>(
     let mut store = opened(alloc, file, left, Fate::Killed)?;
     let hart = HartId::new(0).ok_or(Refusal::BadShape)?;
     let address = Addr::new(0x8000_0008).ok_or(Refusal::BadShape)?;
-    let _told = store.suspend(alloc, ram, crew, hart, address, 77)?;
+    let at = Resumption {
+        hart,
+        address,
+        opaque: 77,
+    };
+    let _told = store.suspend(Saving { alloc, crew }, ram, at)?;
     Ok(file_of(store).sectors)
 }
 

@@ -22,7 +22,7 @@ pub idle_left : (woken : Bool) (found : Option Doze) → false ≡ woken → fou
 idle_left woken found asleep = subst (λ (w : Bool). found ≡ doze_left w found) asleep refl
 
 -- it was
-pub woken_once : (woken : Bool) (d : Doze) (s t : ArchState) (k k' : Known) (old new : Looked) → true ≡ woken → t ≡ fresh s.id d.address d.opaque → ResumesOwn s.id k k' → new ≡ after_look true old
+pub woken_once : (woken : Bool) (d : Doze) (s t : ArchState) (k k' : Known) (old new : Looked) → true ≡ woken → t ≡ fresh s.id d.at.address d.at.opaque → ResumesOwn s.id k k' → new ≡ after_look true old
     → DozeOnce woken d (seated s k (Some d) old) (seated t k' None new) (Goes Resumed)
 woken_once woken d s t k k' old new called begins own is =
     subst (λ (w : Bool). DozeOnce w d (seated s k (Some d) old) (seated t k' None new) (Goes Resumed)) called (begins, own, refl, is, refl)

@@ -124,7 +124,7 @@ OwnOnce size a b word told =
 abbrev pub DozeOnce : Bool → Doze → Seated → Seated → Word → Type 0
 DozeOnce false d a b word = (b ≡ record a { looks = after_look false a.looks }) × (word ≡ Goes Idle)
 DozeOnce true d a b word =
-    (b.hart ≡ fresh a.hart.id d.address d.opaque) × ResumesOwn a.hart.id a.known b.known × (b.doze ≡ None)
+    (b.hart ≡ fresh a.hart.id d.at.address d.at.opaque) × ResumesOwn a.hart.id a.known b.known × (b.doze ≡ None)
     × (b.looks ≡ after_look true a.looks) × (word ≡ Goes Resumed)
 
 -- one turn of the hart, by its copy of its doze: no receipt comes of a turn in a doze

@@ -115,7 +115,9 @@ pub(crate) fn doze_turn(
     if !looks.look(bus, hart.id()) {
         return (seats, Word::Goes(Did::Idle), Some(doze));
     }
-    let seats = resume(hart, seats, tables, doze.address, doze.opaque);
+    let address = doze.at.address;
+    let opaque = doze.at.opaque;
+    let seats = resume(hart, seats, tables, address, opaque);
     bus.doze = None;
     (seats, Word::Goes(Did::Resumed), None)
 }

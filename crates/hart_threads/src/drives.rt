@@ -95,9 +95,9 @@ pub fn drive<
     ensures back { IfErr result (λ e. vec_len e.loops + vec_len e.parts ≡ vec_len harts) }
     ensures fresh { IfErr result (λ e. All (λ p. p.told ≡ []) e.parts.items) }
 {
-    match seat_harts(board.alloc, harts, seats, doze, board.tables) {
+    match seat_harts(board.saving.alloc, harts, seats, doze, board.tables) {
         Ok(all) => run_all(rt, gate, board, all, turns, parts, ends, console),
-        Err(refusal) => Err(unbegun(board.alloc, refusal, parts, ends)),
+        Err(refusal) => Err(unbegun(board.saving.alloc, refusal, parts, ends)),
     }
 }
 
@@ -144,8 +144,8 @@ fn run_all<
                 × IfErr result (λ e. (e.ends ≡ ends) × (e.refusal ≡ Memory)
                 × (vec_len e.loops + vec_len e.parts ≡ vec_len all) × All (λ p. p.told ≡ []) e.parts.items) }
         {
-            let Ok((mut handles, mut loops)) = rooms::<J>(board.alloc, all.len()) else {
-                return Err(unbegun(board.alloc, Refusal::Memory, parts, ends));
+            let Ok((mut handles, mut loops)) = rooms::<J>(board.saving.alloc, all.len()) else {
+                return Err(unbegun(board.saving.alloc, Refusal::Memory, parts, ends));
             };
             let mut parts = parts;
             let mut unstarted = false;

@@ -67,15 +67,7 @@ pub(crate) fn call_locked<R: Wait, D: Disk + Drop, J: Journal, C: Crew>(
     let mut guard = board.bus.lock(rt);
     let bus = &mut *guard;
     let mut store = board.store.lock(rt);
-    let (seats, word, told, part) = store.call(
-        board.alloc,
-        hart,
-        seats,
-        board.tables,
-        bus,
-        board.crew,
-        part,
-    );
+    let (seats, word, told, part) = store.call(board.saving, hart, seats, board.tables, bus, part);
     let doze = doze_by(word, bus.doze);
     (HartLocal { seats, doze, part }, word, told)
 }

@@ -4,19 +4,19 @@ use board_model::Shape;
 use disk::Disk;
 use sbi_calls::{Seats, Tables};
 use shared_store::{Journal, Part, SharedStore};
-use std::alloc::{AllocError, Global};
+use std::alloc::AllocError;
 use std::sync::Mutex;
+use store::Saving;
 use susp::{Bus, Doze};
 
 /// A board as the threads of its harts share it: the two tables, whose words change in single steps, the bus and the
-/// store, each behind its lock, and the crew and the memory with which an image is written.
+/// store, each behind its lock, and what an image is written with.
 pub struct SharedBoard<'a, D: Disk + Drop, J: Journal, C> {
-    pub alloc: Global,
+    pub saving: Saving<'a, C>,
     pub tables: &'a Tables,
     pub shape: &'a Shape,
     pub bus: &'a Mutex<Bus>,
     pub store: &'a Mutex<SharedStore<D, J>>,
-    pub crew: &'a C,
 }
 
 impl<'a, D: Disk + Drop, J: Journal, C> Copy for SharedBoard<'a, D, J, C> {}

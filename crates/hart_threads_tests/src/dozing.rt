@@ -26,6 +26,7 @@ use std::sync::{Mutex, Wait};
 use std::test::*;
 use std::thread::{self, Threads};
 use std::time::{Clock, Duration};
+use store::Saving;
 
 /// Two jumps to themselves.
 const WAITER: [u8; 8] = [0x6f, 0x00, 0x00, 0x00, 0x6f, 0x00, 0x00, 0x00];
@@ -251,12 +252,11 @@ fn driven_as<J: Journal + Send + Sync, R: Threads + Wait + Clock + Sync>(
     let gate = UntilWoken::new();
     let (rung, shared, waits) = (&bus, &store, &gate);
     let board = SharedBoard {
-        alloc,
+        saving: Saving { alloc, crew: &crew },
         tables: &tables,
         shape,
         bus: &bus,
         store: &store,
-        crew: &crew,
     };
     let done = drive(
         rt,

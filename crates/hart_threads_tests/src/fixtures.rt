@@ -19,7 +19,7 @@ use std::marker::Brand;
 use std::sync::{Mutex, Wait};
 use std::test::Fail;
 use std::thread::Threads;
-use store::{Store, format};
+use store::{Saving, Store, format};
 
 /// It lets every turn begin.
 #[derive(Drop)]
@@ -160,12 +160,11 @@ fn driven_as<J: Journal + Send + Sync, R: Threads + Wait + Sync>(
     let store = Mutex::new(whole.share());
     let crew = crew::Threads::new(rt);
     let board = SharedBoard {
-        alloc,
+        saving: Saving { alloc, crew: &crew },
         tables: &tables,
         shape,
         bus: &bus,
         store: &store,
-        crew: &crew,
     };
     let done = drive(
         rt,

@@ -17,6 +17,7 @@ use std::marker::Brand;
 use std::sync::{Mutex, Wait};
 use std::test::*;
 use std::thread::Threads;
+use store::Saving;
 
 /// It ends a loop before that turn.
 #[derive(Drop)]
@@ -96,12 +97,11 @@ fn looped_as<J: Journal + Send + Sync, R: Threads + Wait + Sync, G: Gate>(
     let store = Mutex::new(shared);
     let crew = crew::Threads::new(rt);
     let board = SharedBoard {
-        alloc,
+        saving: Saving { alloc, crew: &crew },
         tables: &tables,
         shape,
         bus: &bus,
         store: &store,
-        crew: &crew,
     };
     let mut ends = Vec::new(alloc);
     for acting in seat_harts(alloc, harts, seats, doze, &tables)? {

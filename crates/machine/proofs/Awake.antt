@@ -19,7 +19,7 @@ rests_alike false d x h s p = p
 
 rests_awake : (o : Option Doze) (h : ℕ) (s : Seats) → RestsBy (doze_of h o) h s → RestsBy (doze_of h (after_wake o)) h s
 rests_awake None h s p = p
-rests_awake (Some d) h s p = rests_alike (d.hart == h) d (record d { woken = true }) h s p
+rests_awake (Some d) h s p = rests_alike (d.at.hart == h) d (record d { woken = true }) h s p
 
 all_awake : (harts : ℕ) (t : Tables) (os : Option Seats) (o : Option Doze) → AreAllSeats harts t os o → AreAllSeats harts t os (after_wake o)
 all_awake harts t None o p = p

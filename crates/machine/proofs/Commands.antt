@@ -67,7 +67,7 @@ started_acts {a} {s} {i} {id} {x} found is =
 -- a doze began that was not woken, with every other hart STOPPED, or the bus is as it was and the hart STARTED
 abbrev pub LeavesBus : ℕ → ℕ → (ℕ → HartState) → Bus → Bus → Word → Type 0
 LeavesBus harts by states bus bus' word =
-    ((word ≡ word_of_sleep ToRam) × AreStopped harts by states × (d : Doze) × (d.hart ≡ by) × (d.woken ≡ false) × (bus' ≡ record bus { doze = Some d }))
+    ((word ≡ word_of_sleep ToRam) × AreStopped harts by states × (d : Doze) × (d.at.hart ≡ by) × (d.woken ≡ false) × (bus' ≡ record bus { doze = Some d }))
     ⊎ ((stage_left word ≡ Running) × (bus' ≡ bus))
 
 module _ (harts by : ℕ) (states : ℕ → HartState) (bus bus' : Bus) where

@@ -27,7 +27,7 @@ stopped_at n states by h long are ne = elim (dec_le (suc h) n) [
   | no past ↦ get_or_past states h stopped (omega (arith, past, long))
 ]
 
-pub stands_still : (n : ℕ) (m : Machine) (by : ℕ) (d : Doze) → m.doze ≡ Some d → d.hart ≡ by → d.woken ≡ false → AreNumbered m.harts → length m.table.states ≡ n → AreStopped n by (listed m.table.states) → Dozes m
+pub stands_still : (n : ℕ) (m : Machine) (by : ℕ) (d : Doze) → m.doze ≡ Some d → d.at.hart ≡ by → d.woken ≡ false → AreNumbered m.harts → length m.table.states ≡ n → AreStopped n by (listed m.table.states) → Dozes m
 stands_still n m by d is at fresh numbered long are = record {
   doze = d;
   stands = is;

@@ -13,23 +13,23 @@ use Rattle.susp.specs.declared.buses.Doze.{Doze}
 use Rattle.machine.specs.Held.{RestsBy}
 
 -- a doze of another hart is none of this one
-other_none : (k : ℕ) (x : Doze) → x.hart ≢ k → doze_of k (Some x) ≡ None
-other_none k x ne = rw (ne_eqb x.hart k ne) refl
+other_none : (k : ℕ) (x : Doze) → x.at.hart ≢ k → doze_of k (Some x) ≡ None
+other_none k x ne = rw (ne_eqb x.at.hart k ne) refl
 
 -- and one of this hart is
-pub its_own : (h : ℕ) (d : Doze) → d.hart ≡ h → doze_of h (Some d) ≡ Some d
-its_own h d at = rw (eq-eqb d.hart h at) refl
+pub its_own : (h : ℕ) (d : Doze) → d.at.hart ≡ h → doze_of h (Some d) ≡ Some d
+its_own h d at = rw (eq-eqb d.at.hart h at) refl
 
 -- the doze of a hart is that of the board
 pub doze_is : (h : ℕ) (o : Option Doze) (d x : Doze) → o ≡ Some d → doze_of h o ≡ Some x → x ≡ d
 doze_is h o d x e f =
     let g : doze_of h (Some d) ≡ Some x = subst (λ (y : Option Doze). doze_of h y ≡ Some x) e f in
-    dite (ℕ_discrete d.hart h)
+    dite (ℕ_discrete d.at.hart h)
     (λ hit. let z : ◌≡◌ {A = Option Doze} (Some x) (Some d) = sym g ∙ its_own h d hit in let n : x ≡ d = cc in n)
     (λ miss. absurd (let z : ◌≡◌ {A = Option Doze} None (Some x) = sym (other_none h d miss) ∙ g in let n : ⊥ = cc in n))
 
 -- a hart that has none of a board that dozes is another than its own
-pub is_other : (h : ℕ) (o : Option Doze) (d : Doze) → o ≡ Some d → doze_of h o ≡ None → h ≢ d.hart
+pub is_other : (h : ℕ) (o : Option Doze) (d : Doze) → o ≡ Some d → doze_of h o ≡ None → h ≢ d.at.hart
 is_other h o d e f at =
     let g : doze_of h (Some d) ≡ None = subst (λ (y : Option Doze). doze_of h y ≡ None) e f in
     let z : ◌≡◌ {A = Option Doze} (Some d) None = sym (its_own h d (sym at)) ∙ g in
@@ -39,12 +39,12 @@ is_other h o d e f at =
 pub of_no_other : (h k : ℕ) (o : Option Doze) (d : Doze) → doze_of h o ≡ Some d → k ≢ h → doze_of k o ≡ None
 of_no_other h k None d e ne = refl
 of_no_other h k (Some x) d e ne =
-    dite (ℕ_discrete x.hart h)
+    dite (ℕ_discrete x.at.hart h)
     (λ hit. other_none k x (λ at. ne (sym at ∙ hit)))
     (λ miss. absurd (let z : ◌≡◌ {A = Option Doze} None (Some d) = sym (other_none h x miss) ∙ e in let n : ⊥ = cc in n))
 
 -- the doze of a hart that has just fallen asleep
-pub none_beside : (h k : ℕ) (d : Doze) → d.hart ≡ h → k ≢ h → doze_of k (Some d) ≡ None
+pub none_beside : (h k : ℕ) (d : Doze) → d.at.hart ≡ h → k ≢ h → doze_of k (Some d) ≡ None
 none_beside h k d at ne = other_none k d (λ e. ne (sym e ∙ at))
 
 -- steps that keep where a hart stands keep it at rest

@@ -56,7 +56,7 @@ doze_row d h old new word is p = inl (refl, turn_by (Some d) h old new word is p
 -- ---- as many harts
 doze_as_many : (woken : Bool) (d : Doze) (h : ℕ) (old new : Machine) (word : Turned) → DozeTurn woken d h old new word → length new.harts ≡ length old.harts
 doze_as_many false d h old new word p = ap (λ (m : Machine). length m.harts) p.0
-doze_as_many true d h old new word p = ap (λ (m : Machine). length m.harts) p.0 ∙ length-set old.harts h (fresh (hart_at old h).id d.address d.opaque)
+doze_as_many true d h old new word p = ap (λ (m : Machine). length m.harts) p.0 ∙ length-set old.harts h (fresh (hart_at old h).id d.at.address d.at.opaque)
 
 turns_as_many_by : (o : Option Doze) (h : ℕ) (old new : Machine) (word : Turned) → TurnBy o h old new word → length new.harts ≡ length old.harts
 turns_as_many_by None h old new word p = ap (λ (m : Machine). length m.harts) p.2 ∙ length-set old.harts h p.0.hart

@@ -39,7 +39,7 @@ resumed d h m =
       size = m.size;
       memory = m.memory;
       doze = None;
-      harts = slice_set m.harts h (fresh (hart_at m h).id d.address d.opaque);
+      harts = slice_set m.harts h (fresh (hart_at m h).id d.at.address d.at.opaque);
       table = after_take m.table (hart_at m h).id;
     }
 

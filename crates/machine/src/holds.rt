@@ -3,19 +3,18 @@
 ghost use Rattle.std.specs.Prelude.{◌≡◌, ◌<◌, ℕ};
 ghost use Rattle.hsm_rule.specs.declared.view.Stage.TheVariants.{Running};
 ghost use Rattle.sbi_abi.specs.Calls.{call_of};
-ghost use Rattle.sbi_calls.specs.Both.{TableState, IsTable, AreTablesOf, AreSeatsOfBoth, GivesBack, Acts, harts_of_both};
+ghost use Rattle.sbi_calls.specs.Both.{TableState, IsTable, AreSeatsOfBoth, GivesBack, Acts, harts_of_both};
 ghost use Rattle.sbi.specs.Helds.{HeldAlone};
 ghost use Rattle.sbi.specs.Words.{stage_told};
 ghost use Rattle.machine.specs.Held.{stage_left};
 
-use board_model::{HartId, Shape};
+use board_model::HartId;
 use crew::Crew;
 use disk::Disk;
 use hart::Hart;
 use sbi::{LifeEnd, Word, dispatch_held};
 use sbi_calls::{Seats, Tables};
-use std::alloc::Global;
-use store::Store;
+use store::{Saving, Store};
 use susp::Bus;
 
 /// Ends the quiet of a hart whose board sleeps to its disk, so that each hart of the seats is at rest. That
@@ -41,26 +40,23 @@ fn end_quiet(seats: Seats, tables: &Tables, by: HartId, word: Word) -> Seats
 /// Makes the durable call at which a STARTED hart stands. Whatever comes of it, the seats are at rest after
 /// it, but for the hart of a doze, which is quiet.
 pub fn make_held<D: Disk + Drop, C: Crew>(
-    alloc: Global,
+    saving: Saving<'_, C>,
     hart: &mut Hart,
     seats: Seats,
     tables: &Tables,
-    shape: &Shape,
     bus: &mut Bus,
     store: &mut Store<D>,
-    crew: &C,
 ) -> (Seats, Word)
-    requires tables { AreTablesOf shape.now tables.now }
     requires seats { AreSeatsOfBoth tables.now seats }
-    requires hart { hart.old.id < shape.now.harts }
+    requires hart { hart.old.id < harts_of_both tables.now }
     requires acts { Acts hart.old.id Running seats }
     ensures gives { GivesBack tables.entry.now hart.old.id seats result.0 }
     ensures acts { Acts hart.old.id (stage_left result.1) result.0 }
     ensures id { hart.new.id ≡ hart.old.id }
-    ensures alone { HeldAlone shape.now.harts (call_of hart.old) hart.old hart.new seats result.0 bus.old bus.new
-        store.old store.new result.1 }
+    ensures alone { HeldAlone (harts_of_both tables.entry.now) (call_of hart.old) hart.old hart.new seats
+        result.0 bus.old bus.new store.old store.new result.1 }
 {
     let by = hart.id();
-    let (seats, word) = dispatch_held(alloc, hart, seats, tables, bus, store, crew);
+    let (seats, word) = dispatch_held(saving, hart, seats, tables, bus, store);
     (end_quiet(seats, tables, by, word), word)
 }

@@ -33,7 +33,7 @@ use sbi::Word;
 use sbi_calls::{Did, Seats, Tables, Turned};
 use std::alloc::Global;
 use std::marker::Model;
-use store::Store;
+use store::{Saving, Store};
 use susp::{Bus, Doze, doze_of, wake_image};
 
 /// A board's memory, harts and tables, which contracts see as the record `Machine` of specs/. The seats are
@@ -184,6 +184,8 @@ impl Machine {
         requires dozes { doze_of id self.old.doze ≡ Some doze }
         ensures { DozeTurn doze.woken doze id self.old self.new result }
     {
+        let address = doze.at.address;
+        let opaque = doze.at.opaque;
         if !doze.woken {
             return Turned::Made(Did::Idle);
         }
@@ -192,8 +194,8 @@ impl Machine {
             &mut self.harts[id.index()],
             seats,
             &self.tables,
-            doze.address,
-            doze.opaque,
+            address,
+            opaque,
         );
         hsm::one_table();
         ipi::one_set();
@@ -330,14 +332,12 @@ impl Machine {
     {
         let seats = self.seats.take().unwrap();
         let (seats, word) = make_held(
-            alloc,
+            Saving { alloc, crew },
             &mut self.harts[id.index()],
             seats,
             &self.tables,
-            &self.shape,
             &mut self.bus,
             store,
-            crew,
         );
         hsm::one_table();
         ipi::one_set();

@@ -16,9 +16,8 @@ use disk::Disk;
 use hart::Hart;
 use sbi_abi::{Call, SbiError, put};
 use sbi_calls::{Did, Seats, Tables};
-use std::alloc::Global;
-use store::Store;
-use susp::{Bus, Sleep};
+use store::{Saving, Store};
+use susp::{Bus, Sleep, SuspendWords};
 
 /// Answers the call with an error.
 fn refuse(hart: &mut Hart, error: SbiError) -> Word
@@ -54,41 +53,27 @@ fn told_of_sleep(hart: &mut Hart, slept: Result<Sleep, SbiError>) -> Word
 
 /// `system_suspend`: the board sleeps, or the hart finds the error.
 fn sleep<D: Disk + Drop, C: Crew>(
-    alloc: Global,
+    saving: Saving<'_, C>,
     hart: &mut Hart,
     seats: Seats,
     tables: &Tables,
     bus: &mut Bus,
     store: &mut Store<D>,
-    crew: &C,
-    kind: u32,
-    address: u64,
-    opaque: u64,
+    asked: SuspendWords,
 ) -> (Seats, Word)
     requires seats { AreSeatsOfBoth tables.now seats }
     requires acts { Acts hart.old.id Running seats }
     requires hart { hart.old.id < harts_of_both tables.now }
     ensures gives { GivesBack tables.entry.now hart.old.id seats result.0 }
     ensures acts { Acts hart.old.id (stage_told result.1) result.0 }
-    ensures makes { MakesSleep (harts_of_both tables.entry.now) kind address opaque hart.old hart.new
-        (known seats) (known result.0) bus.old bus.new store.old store.new result.1 }
-    ensures alone { SleptAlone (harts_of_both tables.entry.now) kind address opaque hart.old hart.new seats
-        result.0 bus.old bus.new store.old store.new result.1 }
+    ensures makes { MakesSleep (harts_of_both tables.entry.now) asked.kind asked.address asked.opaque hart.old
+        hart.new (known seats) (known result.0) bus.old bus.new store.old store.new result.1 }
+    ensures alone { SleptAlone (harts_of_both tables.entry.now) asked.kind asked.address asked.opaque hart.old
+        hart.new seats result.0 bus.old bus.new store.old store.new result.1 }
 {
     let Seats { harts, pending } = seats;
     let by = hart.id();
-    let (harts, slept) = susp::suspend(
-        alloc,
-        harts,
-        by,
-        &tables.harts,
-        bus,
-        store,
-        crew,
-        kind,
-        address,
-        opaque,
-    );
+    let (harts, slept) = susp::suspend(saving, harts, by, &tables.harts, bus, store, asked);
     let word = told_of_sleep(hart, slept);
     (Seats { harts, pending }, word)
 }
@@ -100,13 +85,12 @@ fn sleep<D: Disk + Drop, C: Crew>(
 /// A reset and a suspend are told only after their command was acknowledged. Where the store refuses, the
 /// hart finds -1, and goes on. The bus stays as it was, but for the doze of a board that sleeps to RAM.
 pub fn dispatch_held<D: Disk + Drop, C: Crew>(
-    alloc: Global,
+    saving: Saving<'_, C>,
     hart: &mut Hart,
     seats: Seats,
     tables: &Tables,
     bus: &mut Bus,
     store: &mut Store<D>,
-    crew: &C,
 ) -> (Seats, Word)
     requires seats { AreSeatsOfBoth tables.now seats }
     requires acts { Acts hart.old.id Running seats }
@@ -125,9 +109,14 @@ pub fn dispatch_held<D: Disk + Drop, C: Crew>(
             kind,
             address,
             opaque,
-        } => sleep(
-            alloc, hart, seats, tables, bus, store, crew, kind, address, opaque,
-        ),
+        } => {
+            let asked = SuspendWords {
+                kind,
+                address,
+                opaque,
+            };
+            sleep(saving, hart, seats, tables, bus, store, asked)
+        }
         _ => (seats, refuse(hart, SbiError::NotSupported)),
     }
 }

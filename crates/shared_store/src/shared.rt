@@ -26,8 +26,7 @@ use hart::Hart;
 use receipts::{Book, Journal, Keeper, Part};
 use sbi::{Word, dispatch_held};
 use sbi_calls::{Seats, Tables};
-use std::alloc::Global;
-use store::Store;
+use store::{Saving, Store};
 use susp::Bus;
 
 /// A store whose journal is J's: its open found what J says, its board has that size, its journal begins with
@@ -100,12 +99,11 @@ impl<D: Disk + Drop, J: Journal> SharedStore<D, J> {
     /// acknowledged: then the life is over. A doze adds no command, and has no receipt.
     pub fn call<C: Crew>(
         &mut self,
-        alloc: Global,
+        saving: Saving<'_, C>,
         hart: &mut Hart,
         seats: Seats,
         tables: &Tables,
         bus: &mut Bus,
-        crew: &C,
         part: Part<J>,
     ) -> (Seats, Word, Option<Told<J>>, Part<J>)
         requires seats { AreSeatsOfBoth tables.now seats }
@@ -120,7 +118,7 @@ impl<D: Disk + Drop, J: Journal> SharedStore<D, J> {
         ensures told { IsToldBy J.size (call_of hart.old) hart.old.id result.1 result.2 }
         ensures noted { result.3 ≡ part_after result.2 part }
     {
-        let (seats, word) = dispatch_held(alloc, hart, seats, tables, bus, &mut self.store, crew);
+        let (seats, word) = dispatch_held(saving, hart, seats, tables, bus, &mut self.store);
         match word {
             Word::Goes(_) => (seats, word, None, part),
             Word::Over(_) => {

@@ -12,6 +12,7 @@ use Rattle.board_model.specs.Shapes.{Size}
 use Rattle.board_model.specs.Views.{change_of, durable_of, head_of, reason_number}
 use Rattle.board_model.specs.declared.durable.Command.{Command}
 use Rattle.board_model.specs.declared.durable.Durable.{Durable}
+use Rattle.store.specs.declared.saving.Resumption.{Resumption}
 use Rattle.board_model.specs.declared.durable.Trial.{Trial}
 use Rattle.board_model.specs.declared.durable.Reason.{Reason}
 use Rattle.board_model.specs.declared.durable.Reason.TheVariants.{NoReason, SystemFailure}

@@ -3,6 +3,7 @@ use Rattle.std.specs.Prelude.{◌≡◌, ℕ, ◌+◌, ◌<◌, List, length, So
 use Rattle.board_model.specs.Durable.{after}
 use Rattle.board_model.specs.Shapes.{Size, IsValidAddress, ram_bytes_of}
 use Rattle.board_model.specs.declared.durable.Durable.{Durable}
+use Rattle.store.specs.declared.saving.Resumption.{Resumption}
 use Rattle.disk.specs.Facts.{Content}
 use Rattle.layout.specs.Records.{IsInRange}
 use Rattle.layout.specs.declared.records.Record.{Record}
@@ -25,10 +26,10 @@ next_of r d =
     }
 
 -- the durable state after a suspension, whatever the memory
-abbrev pub durable_after : Record → ℕ → ℕ → ℕ → Durable
-durable_after r hart address opaque =
+abbrev pub durable_after : Record → Resumption → Durable
+durable_after r at =
     record {
-      image = Some (record { serial = r.next; hart = hart; address = address; opaque = opaque });
+      image = Some (record { serial = r.next; hart = at.hart; address = at.address; opaque = at.opaque });
       slot = r.slot;
       reason = r.reason;
       next = r.next + 1;

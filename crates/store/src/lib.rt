@@ -9,6 +9,7 @@ mod laws;
 mod opens;
 mod receipts;
 mod renews;
+mod saving;
 mod stores;
 
 pub use formats::format;
@@ -17,4 +18,5 @@ pub use laws::{
     blank_disks, formats_in_order, kept_disks, one_inspection, one_standing, whole_images_load,
 };
 pub use receipts::Receipt;
+pub use saving::{Resumption, Saving};
 pub use stores::Store;

@@ -18,6 +18,7 @@ use crate::doubts::Doubt;
 use crate::opens::find;
 use crate::receipts::Receipt;
 use crate::renews::migrated;
+use crate::saving::{Resumption, Saving};
 use board_model::{Addr, Command, Durable, Entry, HartId, MAX_COMMANDS, Refusal, Shape};
 use crew::Crew;
 use disk::{ArmedFault, Disk};
@@ -209,21 +210,19 @@ impl<D: Disk + Drop> Store<D> {
     /// also one that is then in the way of nothing but a later suspension.
     pub fn suspend<C: Crew>(
         &mut self,
-        alloc: Global,
+        saving: Saving<'_, C>,
         ram: &Ram,
-        crew: &C,
-        hart: HartId,
-        address: Addr,
-        opaque: u64,
+        at: Resumption,
     ) -> Result<Receipt, Refusal>
-        ensures asked { Asked (Suspended (FitsBoard (size_of_store self.old) ram.now hart address)) self.old
-            (Suspend hart address opaque ram.now) result self.new }
+        ensures asked { Asked (Suspended (FitsBoard (size_of_store self.old) ram.now at.hart at.address)) self.old
+            (Suspend at.hart at.address at.opaque ram.now) result self.new }
         ensures calls { OnOk result ((disk_of self.new).calls ≡ counted (disk_of self.old).calls 5) }
     {
-        let durable = self.may_suspend(ram, hart, address, opaque)?;
-        let (area, counts) = self.write_free(alloc, ram, crew)?;
+        let entry = Entry::Suspend(at.hart, at.address, at.opaque);
+        let durable = self.may_suspend(ram, at)?;
+        let (area, counts) = self.write_free(saving, ram)?;
         let next = suspended(&durable, area, counts);
-        self.issue(Entry::Suspend(hart, address, opaque), next)
+        self.issue(entry, next)
     }
 
     /// What each command is asked first: refused `Down` where one is in doubt, `Over` in a life that has
@@ -248,38 +247,31 @@ impl<D: Disk + Drop> Store<D> {
     }
 
     /// The durable state after a suspension that may go to the disk.
-    fn may_suspend(
-        &self,
-        ram: &Ram,
-        hart: HartId,
-        address: Addr,
-        opaque: u64,
-    ) -> Result<Durable, Refusal>
+    fn may_suspend(&self, ram: &Ram, at: Resumption) -> Result<Durable, Refusal>
         ensures ok { OnOk result
             ((self.now.doubt ≡ None) × (self.now.over ≡ false) × (receipts self.now < 4096)
-            × FitsBoard self.now.shape ram.now hart address × (self.now.current.next + 1 < 2 ^ 64)) }
-        ensures after { IfOk result (λ durable. durable ≡ durable_after self.now.current hart address opaque) }
+            × FitsBoard self.now.shape ram.now at.hart at.address × (self.now.current.next + 1 < 2 ^ 64)) }
+        ensures after { IfOk result (λ durable. durable ≡ durable_after self.now.current at) }
         ensures refused { IfErr result (λ e. doubt_of self.now ≡ None
-            → SuspendRefused (FitsBoard self.now.shape ram.now hart address) (life_of self.now)
-            (Suspend hart address opaque ram.now) e (life_of self.now)) }
+            → SuspendRefused (FitsBoard self.now.shape ram.now at.hart at.address) (life_of self.now)
+            (Suspend at.hart at.address at.opaque ram.now) e (life_of self.now)) }
         ensures up { IfErr result (λ e. doubt_of self.now ≡ None → e ≡ Refusal.Down → ⊥) }
         ensures not_device { IsErrOf result Refusal.Device → ⊥ }
         ensures down { (c : Change) → doubt_of self.now ≡ Some c → result ≡ Err Refusal.Down }
     {
         self.takes()?;
-        if !fits_board(&self.shape, ram, hart, address) {
+        if !fits_board(&self.shape, ram, at.hart, at.address) {
             return Err(Refusal::BadShape);
         }
-        suspended_state(&self.current, hart, address, opaque)
+        suspended_state(&self.current, at)
     }
 
     /// Writes the memory into the area that the live image does not use, area 0 where no image stands. The state
     /// stays, with all bytes of its image.
     fn write_free<C: Crew>(
         &mut self,
-        alloc: Global,
+        saving: Saving<'_, C>,
         ram: &Ram,
-        crew: &C,
     ) -> Result<(Side, LaneCounts), Refusal>
         requires up { self.old.doubt ≡ None }
         requires going { self.old.over ≡ false }
@@ -297,7 +289,7 @@ impl<D: Disk + Drop> Store<D> {
             ram,
             serial: self.current.next,
         };
-        let counts = write_area(alloc, &mut self.disk, crew, area, &snapshot)?;
+        let counts = write_area(saving.alloc, &mut self.disk, saving.crew, area, &snapshot)?;
         Ok((area, counts))
     }
 
@@ -493,18 +485,13 @@ fn free_area(r: &Record) -> Side
 }
 
 /// The durable state that a suspension makes of a record's. Refused `SerialsSpent` by the table of commands.
-fn suspended_state(
-    old: &Record,
-    hart: HartId,
-    address: Addr,
-    opaque: u64,
-) -> Result<Durable, Refusal>
+fn suspended_state(old: &Record, at: Resumption) -> Result<Durable, Refusal>
     ensures ok { OnOk result (old.now.next + 1 < 2 ^ 64) }
-    ensures after { IfOk result (λ durable. durable ≡ durable_after old.now hart address opaque) }
+    ensures after { IfOk result (λ durable. durable ≡ durable_after old.now at) }
     ensures refused { IfErr result (λ e. (e ≡ Refusal.SerialsSpent) × (old.now.next ≡ 2 ^ 64 - 1)) }
 {
     let _serial = old.next;
-    old.durable().after_suspend(hart, address, opaque)
+    old.durable().after_suspend(at.hart, at.address, at.opaque)
 }
 
 /// The record of that durable state, where the memory of its image stands in that area.

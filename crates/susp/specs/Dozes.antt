@@ -4,12 +4,13 @@ use Rattle.susp.specs.declared.buses.Doze.{Doze}
 
 -- a hart's doze that begins
 abbrev pub dozing : ℕ → ℕ → ℕ → Doze
-dozing hart address opaque = record { hart = hart; address = address; opaque = opaque; woken = false }
+dozing hart address opaque =
+    record { at = record { hart = hart; address = address; opaque = opaque }; woken = false }
 
 -- the doze, where it is that hart's
 abbrev pub doze_of : ℕ → Option Doze → Option Doze
 doze_of h None = None
-doze_of h (Some d) = if d.hart == h then Some d else None
+doze_of h (Some d) = if d.at.hart == h then Some d else None
 
 -- the wake-up device finds a board that dozes and was not woken, and wakes it
 abbrev pub can_wake : Option Doze → Bool

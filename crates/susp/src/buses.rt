@@ -4,8 +4,9 @@ ghost use Rattle.std.specs.Prelude.{◌≡◌, ◌↔◌, true, IsOk, OnOk, IfEr
 ghost use Rattle.board_model.specs.declared.refusal.Refusal.{Refusal};
 ghost use Rattle.susp.specs.Dozes.{doze_of, can_wake, after_wake};
 
-use board_model::{Addr, HartId, Refusal};
+use board_model::{HartId, Refusal};
 use ram::Ram;
+use store::Resumption;
 
 /// The memory of a board, and its doze where it sleeps to RAM: on a board of threads, the value of the bus
 /// lock.
@@ -20,12 +21,8 @@ pub struct Bus {
 /// A board that sleeps to RAM (SBI specification 2.0, `sbi_system_suspend`, type 0).
 #[derive(Clone, Copy, Debug, PartialEq, Eq, Drop)]
 pub struct Doze {
-    /// The hart that put the board to sleep. Every other hart is STOPPED.
-    pub hart: HartId,
-    /// Where it begins again.
-    pub address: Addr,
-    /// The value that it then finds in a1.
-    pub opaque: u64,
+    /// Where it goes on: by the hart that put it to sleep. Every other hart is STOPPED.
+    pub at: Resumption,
     /// Whether the wake-up device has called.
     pub woken: bool,
 }
@@ -35,7 +32,7 @@ pub fn doze_of(doze: &Option<Doze>, by: HartId) -> Option<Doze>
     ensures { result ≡ doze_of by doze.now }
 {
     let own = (*doze)?;
-    if own.hart == by { Some(own) } else { None }
+    if own.at.hart == by { Some(own) } else { None }
 }
 
 /// Calls the wake-up device: a board that dozes is woken, once. Refused `NotDozing` where none dozes or it was

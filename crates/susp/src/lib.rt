@@ -7,5 +7,5 @@ mod sleeps;
 mod wakes;
 
 pub use buses::{Bus, Doze, doze_of, wake};
-pub use sleeps::{Sleep, suspend};
+pub use sleeps::{Sleep, SuspendWords, suspend};
 pub use wakes::wake_image;

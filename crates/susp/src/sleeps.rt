@@ -14,8 +14,7 @@ use crew::Crew;
 use disk::Disk;
 use hsm::{HartSeat, HartTable};
 use sbi_abi::SbiError;
-use std::alloc::Global;
-use store::Store;
+use store::{Resumption, Saving, Store};
 
 /// The two ways to sleep.
 #[derive(Clone, Copy, Debug, PartialEq, Eq, Drop)]
@@ -24,6 +23,17 @@ pub enum Sleep {
     ToRam,
     /// Its image is durable, and its life is over.
     ToDisk,
+}
+
+/// The arguments of a system suspend as the registers hold them: not checked yet.
+#[derive(Clone, Copy, Debug, PartialEq, Eq, Drop)]
+pub struct SuspendWords {
+    /// The type of the sleep.
+    pub kind: u32,
+    /// The address at which the hart begins again.
+    pub address: u64,
+    /// The value that it then finds in a1.
+    pub opaque: u64,
 }
 
 /// Suspend to disk (SBI specification 2.0, `sbi_system_suspend`: a platform-specific type).
@@ -48,48 +58,41 @@ fn asked_sleep(shape: &Shape, kind: u32, address: u64) -> Result<(Sleep, Addr), 
 /// Has the board sleep for a hart that is quiet: to RAM it dozes, and nothing is asked of the store; to disk
 /// -1 where the store refuses, and then the quiet ends.
 fn fall_asleep<D: Disk + Drop, C: Crew>(
-    alloc: Global,
+    saving: Saving<'_, C>,
     seat: HartSeat,
-    by: HartId,
     table: &HartTable,
     bus: &mut Bus,
     store: &mut Store<D>,
-    crew: &C,
     sleep: Sleep,
-    site: Addr,
-    opaque: u64,
+    at: Resumption,
 ) -> (HartSeat, Result<Sleep, SbiError>)
     requires seat { IsSeatOf table.now seat }
-    requires quiet { stands by Quiet (harts_in seat) }
+    requires quiet { stands at.hart Quiet (harts_in seat) }
     ensures seat { IsSeatOf table.entry.now result.0 }
-    ensures stands { stands by (stage_after result.1) (harts_in result.0) }
-    ensures others { KeepsOthers by (harts_in seat) (harts_in result.0) }
-    ensures falls { FallsAsleep sleep by site opaque (harts_in seat) bus.old store.old result.1
+    ensures stands { stands at.hart (stage_after result.1) (harts_in result.0) }
+    ensures others { KeepsOthers at.hart (harts_in seat) (harts_in result.0) }
+    ensures falls { FallsAsleep sleep at.hart at.address at.opaque (harts_in seat) bus.old store.old result.1
         (harts_in result.0) bus.new store.new }
     ensures alone { ActsAlone (harts_of table.entry.now) (hart_view_of_seat seat)
         (hart_view_of_seat result.0)
-        (λ states. FallsAsleepBy sleep by site opaque bus.old store.old result.1 bus.new store.new)
+        (λ states. FallsAsleepBy sleep at.hart at.address at.opaque bus.old store.old result.1 bus.new store.new)
         (λ states. states) }
 {
+    let by = at.hart;
     match sleep {
         Sleep::ToRam => {
-            bus.doze = Some(Doze {
-                hart: by,
-                address: site,
-                opaque,
-                woken: false,
-            });
+            bus.doze = Some(Doze { at, woken: false });
             (seat, Ok(sleep))
         }
-        Sleep::ToDisk => match store.suspend(alloc, &bus.ram, crew, by, site, opaque) {
+        Sleep::ToDisk => match store.suspend(saving, &bus.ram, at) {
             Ok(_) => (seat, Ok(sleep)),
             Err(_) => (hsm::unquiet(table, seat, by), Err(SbiError::Failed)),
         },
     }
 }
 
-/// Has the board sleep for a hart of it: `sbi_system_suspend` of that type, with the address at which the hart
-/// begins again and its opaque value. The hart is STARTED and not quiet, and is one of the seat.
+/// Has the board sleep for a hart of it: `sbi_system_suspend` by these words. The hart is STARTED and not
+/// quiet, and is one of the seat.
 ///
 /// Its arguments are checked first, -3 and -5; then one look at the hart table, -4 where another hart is not
 /// STOPPED. To RAM (type 0) the board then dozes: neither the store is asked nor the memory changed. To disk
@@ -97,16 +100,13 @@ fn fall_asleep<D: Disk + Drop, C: Crew>(
 /// suspension was acknowledged: the image has the memory of the bus that was lent, and the hart, address and
 /// opaque value. The seat is given back; while it is quiet no other hart leaves STOPPED.
 pub fn suspend<D: Disk + Drop, C: Crew>(
-    alloc: Global,
+    saving: Saving<'_, C>,
     seat: HartSeat,
     by: HartId,
     table: &HartTable,
     bus: &mut Bus,
     store: &mut Store<D>,
-    crew: &C,
-    kind: u32,
-    address: u64,
-    opaque: u64,
+    asked: SuspendWords,
 ) -> (HartSeat, Result<Sleep, SbiError>)
     requires seat { IsSeatOf table.now seat }
     requires acts { stands by Running (harts_in seat) }
@@ -114,22 +114,25 @@ pub fn suspend<D: Disk + Drop, C: Crew>(
     ensures seat { IsSeatOf table.entry.now result.0 }
     ensures stands { stands by (stage_after result.1) (harts_in result.0) }
     ensures others { KeepsOthers by (harts_in seat) (harts_in result.0) }
-    ensures sleeps { Sleeps (harts_of table.entry.now) by kind address opaque (harts_in seat) bus.old store.old
-        result.1 (harts_in result.0) bus.new store.new }
+    ensures sleeps { Sleeps (harts_of table.entry.now) by asked.kind asked.address asked.opaque (harts_in seat)
+        bus.old store.old result.1 (harts_in result.0) bus.new store.new }
     ensures alone { ActsAlone (harts_of table.entry.now) (hart_view_of_seat seat)
         (hart_view_of_seat result.0)
-        (λ states. SleepsAlone (harts_of table.entry.now) by kind address opaque states bus.old store.old
-        result.1 bus.new store.new) (λ states. states) }
+        (λ states. SleepsAlone (harts_of table.entry.now) by asked.kind asked.address asked.opaque states bus.old
+        store.old result.1 bus.new store.new) (λ states. states) }
 {
-    let (sleep, site) = match asked_sleep(&store.shape(), kind, address) {
-        Ok(asked) => asked,
+    let (sleep, address) = match asked_sleep(&store.shape(), asked.kind, asked.address) {
+        Ok(checked) => checked,
         Err(error) => return (seat, Err(error)),
     };
     let (seat, quiet) = hsm::quiet(table, seat, by);
     if !quiet {
         return (seat, Err(SbiError::Denied));
     }
-    fall_asleep(
-        alloc, seat, by, table, bus, store, crew, sleep, site, opaque,
-    )
+    let at = Resumption {
+        hart: by,
+        address,
+        opaque: asked.opaque,
+    };
+    fall_asleep(saving, seat, table, bus, store, sleep, at)
 }

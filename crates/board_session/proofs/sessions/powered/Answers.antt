@@ -55,12 +55,10 @@ returns-in-Ok-power_on-clause-found g c =
 
 pub returns-in-Ok-power_on-clause-taken : goal.returns-in-Ok-power_on-clause-taken
 returns-in-Ok-power_on-clause-taken g c =
-    let on = c.in-Ok-power_on.ensures.on in life_taken c.args.options.now.mode (life_of (store_of c.in-Ok-power_on.board)) on.life on.allowed
+    let on = c.in-Ok-power_on.ensures.on in
+    let life = life_of (store_of c.in-Ok-power_on.board) in
+    (life_taken c.args.options.now.mode life on.life on.allowed, life_few c.args.options.now.mode life on.life)
 
 pub returns-in-Ok-power_on-clause-issued : goal.returns-in-Ok-power_on-clause-issued
 returns-in-Ok-power_on-clause-issued g c =
     life_issued c.args.options.now.mode (life_of (store_of c.in-Ok-power_on.board)) c.in-Ok-power_on.ensures.on.life
-
-pub returns-in-Ok-power_on-clause-few : goal.returns-in-Ok-power_on-clause-few
-returns-in-Ok-power_on-clause-few g c =
-    life_few c.args.options.now.mode (life_of (store_of c.in-Ok-power_on.board)) c.in-Ok-power_on.ensures.on.life

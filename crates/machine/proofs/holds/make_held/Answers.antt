@@ -1,4 +1,4 @@
-use Rattle.std.proofs.Common.{ℕ, sym, subst}
+use Rattle.std.proofs.Common.{ℕ, refl, sym, subst}
 use Rattle.sbi_abi.specs.Calls.{call_of}
 use Rattle.sbi_calls.specs.Both.{GivesBack, Acts, harts_of_both}
 use Rattle.sbi.specs.Words.{stage_told}
@@ -16,5 +16,5 @@ returns-clause-gives g c =
 
 pub returns-clause-alone : goal.returns-clause-alone
 returns-clause-alone g c =
-    held_then (harts_of_both c.args.tables.now) c.args.shape.now.harts (call_of c.args.hart.now) c.args.hart.now c.dispatch_held-seats.new.hart c.args.seats c.dispatch_held-seats.result.0 c.end_quiet.result
-    c.args.bus.now c.dispatch_held-seats.new.bus c.args.store.now c.dispatch_held-seats.new.store c.dispatch_held-seats.result.1 c.requires.tables c.dispatch_held-seats.ensures.alone c.end_quiet.ensures.alone
+    held_then (harts_of_both c.args.tables.now) (harts_of_both c.args.tables.now) (call_of c.args.hart.now) c.args.hart.now c.dispatch_held-seats.new.hart c.args.seats c.dispatch_held-seats.result.0 c.end_quiet.result
+    c.args.bus.now c.dispatch_held-seats.new.bus c.args.store.now c.dispatch_held-seats.new.store c.dispatch_held-seats.result.1 refl c.dispatch_held-seats.ensures.alone c.end_quiet.ensures.alone

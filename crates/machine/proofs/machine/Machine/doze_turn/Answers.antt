@@ -25,13 +25,13 @@ dozes : (c : After-index_mut) → doze_of c.args.id c.self.inside.bus.doze ≡ S
 dozes c = subst (λ (m : Machine). doze_of c.args.id m.doze ≡ Some c.args.doze) (sym c.self.view_is) c.requires.dozes
 
 did : (c : After-one_set) → Finds c.self.inside c.unwrap-seats.result c.index.result c.args.id c.index_mut.result.now → doze_of c.args.id c.self.inside.bus.doze ≡ Some c.args.doze
-    → Left (begins_again c.args.doze.address c.args.doze.opaque) c.self.inside c.resume-seats.result c.index.result c.args.id c.resume-seats.new.hart c.self.inside.bus.ram None
+    → Left (begins_again c.args.doze.at.address c.args.doze.at.opaque) c.self.inside c.resume-seats.result c.index.result c.args.id c.resume-seats.new.hart c.self.inside.bus.ram None
 did c it is =
     let e = c.resume-seats.ensures in
     let x = c.index_mut.result.now in
     let alone : TakesAlone c.self.inside.shape.harts x.id c.unwrap-seats.result c.resume-seats.result = subst (λ (n : ℕ). TakesAlone n x.id c.unwrap-seats.result c.resume-seats.result) it.held.tables e.alone in
     let rests : Rests x.id c.resume-seats.result = (inr (inl e.acts.0), e.acts.1) in
-    left it (begins_again c.args.doze.address c.args.doze.opaque) None c.one_table.ensures.list c.one_set.ensures.list
+    left it (begins_again c.args.doze.at.address c.args.doze.at.opaque) None c.one_table.ensures.list c.one_set.ensures.list
     (λ t are. (after_take t x.id, ap (λ (y : ArchState). moment (after_take t x.id) y c.self.inside.bus.ram) e.hart, alone t are))
     (ap (λ (y : ArchState). y.id) e.hart) e.gives rests
     (λ k below ne.

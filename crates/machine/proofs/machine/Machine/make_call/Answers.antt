@@ -1,4 +1,4 @@
-use Rattle.std.proofs.Common.{◌≡◌, sym, ap, ◌∙◌, subst, inl, inr}
+use Rattle.std.proofs.Common.{◌≡◌, ◌<◌, ℕ, sym, ap, ◌∙◌, subst, inl, inr}
 use Rattle.std.specs.Prelude.{slice_set}
 use Rattle.hsm.specs.Views.{listed}
 use Rattle.sbi_abi.specs.Calls.{call_of}
@@ -6,12 +6,13 @@ use Rattle.machine.specs.Machine.{Machine}
 use Rattle.hsm_rule.specs.declared.view.Stage.TheVariants.{Running, Quiet}
 use Rattle.machine.specs.Held.{shown_by, stage_left}
 use Rattle.machine.specs.Durables.{StandsAtCall, HeldOf, MakesCall}
-use Rattle.machine.proofs.Holding.{Action, shown_as, Finds, Left, finds, seats_found, one_shown, left}
+use Rattle.machine.proofs.Holding.{Action, shown_as, Finds, Left, finds, seats_found, low_number, one_shown, left}
 use Rattle.machine.proofs.Fallen.{stands_still}
 use Rattle.sbi_calls.specs.Both.{TableState}
+use Rattle.sbi.specs.Helds.{HeldAlone}
 use Rattle.susp.specs.Sleeps.{AreStopped}
 use Rattle.susp.specs.declared.buses.Bus.{Bus}
-use Rattle.machine.proofs.Commands.{started_acts, held_action, LeavesBus, leaves_bus, own_then, others_then}
+use Rattle.machine.proofs.Commands.{started_acts, held_action, LeavesBus, leaves_bus, held_then, own_then, others_then}
 use Rattle.machine.proofs.machine.Machine.make_call.Given.{Over}
 use Rattle.machine.proofs.machine.Machine.make_call.Goals.{After-index_mut, After-one_set}
 use Rattle.machine.proofs.machine.Machine.make_call.Goals as goal
@@ -21,6 +22,14 @@ found g c = finds c.self.view_is c.self.invariant (sym c.take.ensures.value ∙ 
 
 stands : (g : Over) (c : After-index_mut g) → StandsAtCall c.args.id (shown_as c.self.inside)
 stands g c = subst (λ (m : Machine). StandsAtCall c.args.id m) (sym c.self.view_is) c.requires.stands
+
+-- the call by the harts of the board's shape, as many as the tables have
+alone : (g : Over) (c : After-one_set g) → Finds c.self.inside c.unwrap-seats.result c.index.result c.args.id c.index_mut.result.now
+    → HeldAlone c.self.inside.shape.harts (call_of c.index_mut.result.now) c.index_mut.result.now c.make_held-seats.new.hart c.unwrap-seats.result c.make_held-seats.result.0
+    c.self.inside.bus c.make_held-seats.new.bus c.args.store.now c.make_held-seats.new.store c.make_held-seats.result.1
+alone g c it =
+    held_then _ c.self.inside.shape.harts (call_of c.index_mut.result.now) c.index_mut.result.now c.make_held-seats.new.hart c.unwrap-seats.result c.make_held-seats.result.0 c.make_held-seats.result.0
+    c.self.inside.bus c.make_held-seats.new.bus c.args.store.now c.make_held-seats.new.store c.make_held-seats.result.1 it.held.tables c.make_held-seats.ensures.alone (λ x are. are)
 
 abbrev makes : (g : Over) (c : After-one_set g) → Action
 makes g c size a b = HeldOf size c.self.inside.bus.doze c.make_held-seats.new.bus.doze a b c.args.store.now c.make_held-seats.new.store c.make_held-seats.result.1
@@ -34,11 +43,11 @@ did g c it is =
     let s = c.unwrap-seats.result in
     let bus = c.make_held-seats.new.bus in
     let word = c.make_held-seats.result.1 in
-    let made = e.alone (shown_by i.shape.harts s) (seats_found it).shows in
+    let made = alone g c it (shown_by i.shape.harts s) (seats_found it).shows in
     let leaves : LeavesBus i.shape.harts x.id (listed (shown_by i.shape.harts s).states) i.bus bus word =
     leaves_bus i.shape.harts (call_of x) x c.make_held-seats.new.hart (shown_by i.shape.harts s) i.bus bus c.args.store.now c.make_held-seats.new.store word made.0 in
     left it (makes g c) bus.doze c.one_table.ensures.list c.one_set.ensures.list
-    (held_action i.shape x c.make_held-seats.new.hart s c.make_held-seats.result.0 i.bus bus c.args.store.now c.make_held-seats.new.store word e.alone)
+    (held_action i.shape x c.make_held-seats.new.hart s c.make_held-seats.result.0 i.bus bus c.args.store.now c.make_held-seats.new.store word (alone g c it))
     e.id e.gives (own_then it is bus word leaves e.gives e.acts) (others_then it is bus word leaves e.gives e.acts)
 
 pub returns-clause-dozes : goal.returns-clause-dozes
@@ -52,7 +61,7 @@ returns-clause-dozes g c is =
     let s' = c.make_held-seats.result.0 in
     let bus = c.make_held-seats.new.bus in
     let word = c.make_held-seats.result.1 in
-    let made = c.make_held-seats.ensures.alone (shown_by i.shape.harts s) (seats_found it).shows in
+    let made = alone g at.After-one_set it (shown_by i.shape.harts s) (seats_found it).shows in
     let leaves : LeavesBus i.shape.harts x.id (listed (shown_by i.shape.harts s).states) i.bus bus word =
     leaves_bus i.shape.harts (call_of x) x c.make_held-seats.new.hart (shown_by i.shape.harts s) i.bus bus c.args.store.now c.make_held-seats.new.store word made.0 in
     let same : shown_by i.shape.harts s' ≡ shown_by i.shape.harts s = one_shown c.one_table.ensures.list c.one_set.ensures.list i.shape.harts s' (shown_by i.shape.harts s) made.1 in
@@ -63,6 +72,11 @@ returns-clause-dozes g c is =
           (subst (λ (t : TableState). AreStopped i.shape.harts x.id (listed t.states)) (sym same) p.1))
       | inr p ↦ absurd (let z : Running ≡ Quiet = sym p.0 ∙ ap stage_left is in let n : ⊥ = cc in n)
     ]
+
+pub make_held-seats-requires-clause-hart : goal.make_held-seats-requires-clause-hart
+make_held-seats-requires-clause-hart g c κs within =
+    let it = found g (goal.at.make_held-seats-requires-clause-hart g c).After-index_mut in
+    subst (λ (n : ℕ). c.index_mut.result.now.id < n) (sym it.held.tables) (low_number it)
 
 pub make_held-seats-requires-clause-acts : goal.make_held-seats-requires-clause-acts
 make_held-seats-requires-clause-acts g c κs within =

@@ -21,7 +21,7 @@ returns-in_err-durable-clause-asked g c =
     record {
       answered = λ none.
           rw (p.1, p.2)
-          (refused_up (Suspended (FitsBoard s.shape c.args.ram.now c.args.hart c.args.address)) (view_of s) s.side s.current _ _ (g.met.D.Disk.only_now _) (s.kept.up (none_in_doubt _ s.doubt none)) s.folded
+          (refused_up (Suspended (FitsBoard s.shape c.args.ram.now c.args.at.hart c.args.at.address)) (view_of s) s.side s.current _ _ (g.met.D.Disk.only_now _) (s.kept.up (none_in_doubt _ s.doubt none)) s.folded
           (record { reseen = record { heads = refl; now = refl }; told = e.refused none })
           (λ is. c.may_suspend.ensures.not_device (c.in_err-durable.was ∙ ap Err is)) (e.up none));
       down = search rules;
@@ -44,7 +44,7 @@ returns-in_err-area-clause-asked g c =
     record {
       answered = λ none.
           rw (p.1, p.2)
-          (unwritten (FitsBoard s.shape c.args.ram.now c.args.hart c.args.address) (view_of s) (view_of m) (Suspend c.args.hart c.args.address c.args.opaque c.args.ram.now) _ (search rules) did.writes.life did.writes.reseen
+          (unwritten (FitsBoard s.shape c.args.ram.now c.args.at.hart c.args.at.address) (view_of s) (view_of m) (Suspend c.args.at.hart c.args.at.address c.args.at.opaque c.args.ram.now) _ (search rules) did.writes.life did.writes.reseen
           (search rules) (search rules) (search rules) only did.writes.any_moment c.in_err-area.ensures.writes.refused);
       down = search rules;
       untouched = search rules;
@@ -59,7 +59,7 @@ returns-clause-asked g c =
     let did = c.write_free.ensures in
     record {
       answered = λ none.
-          then_issued (FitsBoard s.shape c.args.ram.now c.args.hart c.args.address) (view_of s) (view_of m) (view_of c.issue.new.self) (Suspend c.args.hart c.args.address c.args.opaque c.args.ram.now) _ (search rules) did.writes.life did.writes.reseen
+          then_issued (FitsBoard s.shape c.args.ram.now c.args.at.hart c.args.at.address) (view_of s) (view_of m) (view_of c.issue.new.self) (Suspend c.args.at.hart c.args.at.address c.args.at.opaque c.args.ram.now) _ (search rules) did.writes.life did.writes.reseen
           did.same.3 c.in_ok-area.ensures.writes.unmoved c.in_ok-area.ensures.writes.no_failure did.writes.selected_still did.writes.live_still did.writes.any_moment (search rules);
       down = search rules;
       untouched = search rules;
