@@ -1,9 +1,0 @@
-use Rattle.std.proofs.Common.{◌≡◌, length}
-use Rattle.image_speed.proofs.work.reads.Given as goal
-
-abbrev pub invariant-loop : goal.invariant-loop
-invariant-loop g l = record {
-  none_out : (g.D.Disk.facts l.disk).lent.lanes ≡ 0;
-  as_long : length (g.D.Disk.facts l.disk).content ≡ length (g.D.Disk.facts l.initial.disk).content;
-  ram : length l.ram ≡ length l.initial.ram;
-}
