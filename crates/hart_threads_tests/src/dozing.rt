@@ -251,10 +251,11 @@ fn driven_as<J: Journal + Send + Sync, R: Threads + Wait + Clock + Sync>(
     let crew = crew::Threads::new(rt);
     let gate = UntilWoken::new();
     let (rung, shared, waits) = (&bus, &store, &gate);
+    let size = *shape;
     let board = SharedBoard {
         saving: Saving { alloc, crew: &crew },
         tables: &tables,
-        shape,
+        shape: &size,
         bus: &bus,
         store: &store,
     };

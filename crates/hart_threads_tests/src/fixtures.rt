@@ -159,10 +159,11 @@ fn driven_as<J: Journal + Send + Sync, R: Threads + Wait + Sync>(
     let bus = Mutex::new(bus);
     let store = Mutex::new(whole.share());
     let crew = crew::Threads::new(rt);
+    let size = *shape;
     let board = SharedBoard {
         saving: Saving { alloc, crew: &crew },
         tables: &tables,
-        shape,
+        shape: &size,
         bus: &bus,
         store: &store,
     };

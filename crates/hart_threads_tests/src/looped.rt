@@ -96,10 +96,11 @@ fn looped_as<J: Journal + Send + Sync, R: Threads + Wait + Sync, G: Gate>(
     issue(&mut shared, boot, commands);
     let store = Mutex::new(shared);
     let crew = crew::Threads::new(rt);
+    let size = *shape;
     let board = SharedBoard {
         saving: Saving { alloc, crew: &crew },
         tables: &tables,
-        shape,
+        shape: &size,
         bus: &bus,
         store: &store,
     };
