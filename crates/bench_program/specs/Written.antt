@@ -7,7 +7,7 @@ use Rattle.bench_report.specs.Prefix.{KeepsPrefixLaw}
 use Rattle.bench_report.specs.Reports.{AreByFirmware, IsReport, report_text}
 use Rattle.bench_report.specs.declared.printed.Answer.{Answer}
 use Rattle.bench_sweep.specs.Swept.{WroteAll}
-use Rattle.bench_sweep.specs.declared.points.Sweep.{Sweep as Counts}
+use Rattle.bench_judge.specs.declared.judges.Sweep.{Sweep as Counts}
 use Rattle.bench_program.specs.Benches.{judged}
 use Rattle.bench_program.specs.Usage.{IsNamedBy}
 use Rattle.bench_program.specs.declared.usage.Work.{Work}
