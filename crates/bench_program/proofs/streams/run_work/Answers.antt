@@ -3,6 +3,3 @@ use Rattle.bench_program.proofs.streams.run_work.Goals as goal
 
 pub returns-in-Report : goal.returns-in-Report
 returns-in-Report g c = on_ok_weaker c.report.result _ _ (λ done. (c.in_ok-script.script.items, c.in_ok-script.ensures, done)) c.report.ensures
-
-pub returns-in-Judge : goal.returns-in-Judge
-returns-in-Judge g c = on_ok_weaker c.judge.result _ _ (λ done. (c.in_ok-script.script.items, c.in_ok-script.ensures, done)) c.judge.ensures
