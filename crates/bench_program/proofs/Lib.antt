@@ -1,2 +1,3 @@
 pub mod Bounded
+pub mod Ends
 pub mod Simple

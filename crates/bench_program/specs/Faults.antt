@@ -3,9 +3,11 @@ use Rattle.std.specs.Prelude.{ℕ, List, [], ◌++◌, Result, Ok, Err}
 use Rattle.std.specs.Fmt.{decimal}
 use Rattle.board_model.specs.Views.{number_of_refusal}
 use Rattle.board_model.specs.declared.refusal.Refusal.{Refusal}
-use Rattle.board_model.specs.declared.refusal.Refusal.TheVariants.{BadScript}
+use Rattle.board_model.specs.declared.refusal.Refusal.TheVariants.{BadScript, Memory}
 use Rattle.bench_program.specs.declared.fault.BenchFault.{BenchFault}
 use Rattle.bench_program.specs.declared.fault.BenchFault.TheVariants.{Usage, Input, Refused, Closed, Wrong}
+use Rattle.command_line.specs.declared.NoWork.{NoWork}
+use Rattle.command_line.specs.declared.NoWork.TheVariants as why
 use lib.Chars.{codes}
 
 -- the number of a refusal, and of a malformed script the line too
@@ -28,3 +30,9 @@ status_after (Err Input) = 1
 status_after (Err (Refused e)) = 1
 status_after (Err Closed) = 1
 status_after (Err Wrong) = 3
+
+-- what a program does that was asked for no work: nothing more where what it was asked for was shown
+abbrev pub without_work : NoWork → Result (Unit {0}) BenchFault
+without_work why.Shown = Ok tt
+without_work why.Usage = Err Usage
+without_work why.Memory = Err (Refused Memory)

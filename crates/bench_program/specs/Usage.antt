@@ -1,6 +1,6 @@
 -- The command as its parser reads it, and what its words ask for. Source: README.md, "The program".
 use Rattle.std.specs.Prelude.{◌≡◌, ℕ, Bool, true, false, List, [], ◌∷◌, Option, Some, None, ◌==◌, if◌then◌else◌, bytes_eq}
-use Rattle.clap.specs.Words.{App, Rule, Text, new_app, new_rule, one_text, with_rule}
+use Rattle.clap.specs.Words.{App, Rule, Text, first_value, matches_of, new_app, new_rule, one_text, rows_of, takes, with_rule}
 use Rattle.clap.specs.declared.builder.action.ArgAction.TheVariants.{Set}
 use Rattle.clap.specs.declared.parser.matches.Found.{Found}
 use Rattle.clap.specs.declared.builder.value_parser.ValueParser.{ValueParser}
@@ -48,3 +48,14 @@ work_named true true savers = None
 work_named true false savers = Some (Judge Sweep)
 work_named false true savers = Some (Judge Faults)
 work_named false false savers = Some (Report savers)
+
+-- what the words of a command line name, as the command's parser reads them, and not both benches
+abbrev pub IsNamedBy : List (List ℕ) → Work → Type 0
+IsNamedBy words work = (crews : ValueParser) × (f : Found) × (sweep faults : Bool)
+    × (rows_of f ≡ matches_of (sbibench crews) words)
+    × IsFlag f (codes "sweep") sweep × IsFlag f (codes "faults") faults
+    × (work_named sweep faults (savers_named (first_value f (codes "crew"))) ≡ Some work)
+
+-- the words name no work: the command's parser does not take them, as it does not where they ask for the help
+abbrev pub NamesNoWork : List (List ℕ) → Type 0
+NamesNoWork words = (crews : ValueParser) × (takes (sbibench crews) words ≡ false)

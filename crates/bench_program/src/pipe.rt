@@ -1,9 +1,9 @@
 //! A writer that knows whether its reader is gone.
 
-ghost use Rattle.std.specs.Prelude.{◌≡◌, ◌⊎◌, ◌↔◌, IsTrue, IfErr, OnOk, false};
+ghost use Rattle.std.specs.Prelude.{◌≡◌, IfErr, OnOk, false};
 ghost use Rattle.std.specs.Io.KnownBytes.{Keeps, WriteAppends};
 ghost use Rattle.std.specs.Io.{WritesAtMost};
-ghost use Rattle.std.specs.IoError.{error_kind};
+ghost use Rattle.bench_program.specs.Pipes.{is_closed_pipe, pipe_contents, pipe_inner, ClosesBy};
 
 use std::io::{self, ErrorKind, Write};
 
@@ -16,8 +16,8 @@ pub struct Pipe<W: Write + Drop> {
 
 impl<W: Write + Drop> Pipe<W> {
     pub fn new(inner: W) -> Pipe<W>
-        ensures inner { result.inner ≡ inner }
-        ensures open { result.closed ≡ false }
+        ensures inner { pipe_inner result ≡ inner }
+        ensures open { is_closed_pipe result ≡ false }
     {
         Pipe {
             inner,
@@ -25,17 +25,24 @@ impl<W: Write + Drop> Pipe<W> {
         }
     }
 
+    /// What it writes to.
+    pub fn get_ref(&self) -> &W
+        ensures { result.now ≡ pipe_inner self.now }
+    {
+        &self.inner
+    }
+
     /// Whether a write failed since the reader is gone.
     pub fn is_closed(&self) -> bool
-        ensures { result ≡ self.now.closed }
+        ensures { result ≡ is_closed_pipe self.now }
     {
         self.closed
     }
 
     fn note(&mut self, e: io::Error) -> io::Error
         ensures error { result ≡ e }
-        ensures inner { self.new.inner ≡ self.old.inner }
-        ensures closed { IsTrue self.new.closed ↔ (IsTrue self.old.closed ⊎ (error_kind e ≡ ErrorKind.BrokenPipe)) }
+        ensures inner { pipe_inner self.new ≡ pipe_inner self.old }
+        ensures closed { ClosesBy e self.old self.new }
     {
         if e.kind() == ErrorKind::BrokenPipe {
             self.closed = true;
@@ -45,14 +52,13 @@ impl<W: Write + Drop> Pipe<W> {
 }
 
 impl<W: Write + Drop> Write for Pipe<W> {
-    ghost contents = { λ p. W.contents p.inner };
+    ghost contents = { pipe_contents W.contents };
 
     fn write(&mut self, buf: &[u8]) -> io::Result<usize>
         ensures bound { WritesAtMost result buf.now }
-        ensures bytes { WriteAppends (W.contents self.old.inner) (W.contents self.new.inner) result buf.now }
-        ensures open { OnOk result (self.new.closed ≡ self.old.closed) }
-        ensures closed { IfErr result (λ e. IsTrue self.new.closed
-            ↔ (IsTrue self.old.closed ⊎ (error_kind e ≡ ErrorKind.BrokenPipe))) }
+        ensures bytes { WriteAppends (pipe_contents W.contents self.old) (pipe_contents W.contents self.new) result buf.now }
+        ensures open { OnOk result (is_closed_pipe self.new ≡ is_closed_pipe self.old) }
+        ensures closed { IfErr result (λ e. ClosesBy e self.old self.new) }
     {
         match self.inner.write(buf) {
             Ok(n) => Ok(n),
@@ -61,10 +67,9 @@ impl<W: Write + Drop> Write for Pipe<W> {
     }
 
     fn flush(&mut self) -> io::Result<()>
-        ensures bytes { Keeps (W.contents self.old.inner) (W.contents self.new.inner) }
-        ensures open { OnOk result (self.new.closed ≡ self.old.closed) }
-        ensures closed { IfErr result (λ e. IsTrue self.new.closed
-            ↔ (IsTrue self.old.closed ⊎ (error_kind e ≡ ErrorKind.BrokenPipe))) }
+        ensures bytes { Keeps (pipe_contents W.contents self.old) (pipe_contents W.contents self.new) }
+        ensures open { OnOk result (is_closed_pipe self.new ≡ is_closed_pipe self.old) }
+        ensures closed { IfErr result (λ e. ClosesBy e self.old self.new) }
     {
         match self.inner.flush() {
             Ok(()) => Ok(()),

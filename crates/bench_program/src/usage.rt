@@ -1,22 +1,22 @@
 //! The command line, and what `--help` says.
 
-ghost use Rattle.std.specs.Prelude.{◌≡◌, false, Bool, map, Some, string_bytes, codes, IfOk};
-ghost use Rattle.clap.specs.Words.{app_of, first_value, found_of, matches_of, rows_of, rule_of};
+ghost use Rattle.std.specs.Prelude.{◌≡◌, ◌⊎◌, false, Bool, map, codes, IfOk, IfErr};
+ghost use Rattle.clap.specs.Words.{app_of, first_value, found_of, kind_of, matches_of, rows_of, rule_of};
 ghost use Rattle.clap.specs.declared.builder.value_parser.ValueParser.{ValueParser};
-ghost use Rattle.clap.specs.declared.parser.matches.Found.{Found};
-ghost use Rattle.bench_program.specs.Usage.{crew_rule, sbibench, savers_named, work_named, IsFlag};
+ghost use Rattle.bench_program.specs.Usage.{crew_rule, sbibench, savers_named, work_named, IsFlag, IsNamedBy, NamesNoWork};
 
 use board_model::refusal_lines;
 use clap::error::ErrorKind;
 use clap::{Arg, ArgAction, ArgMatches, Command, Error};
-use command_line::{NoWork, flag, show, words};
+use command_line::flag;
 use std::alloc::{AllocError, Global};
 use std::convert::AsStr;
 
 /// The version of the firmware.
 const VERSION: &str = "1";
 
-const USAGE: &str = "sbibench [--crew CREW] [--sweep | --faults] < SCRIPT";
+/// How the program is called.
+pub const USAGE: &str = "sbibench [--crew CREW] [--sweep | --faults] < SCRIPT";
 
 const ABOUT: &str = "\
 Runs a script of programs, commands and power cuts on a modelled RISC-V board.
@@ -169,16 +169,27 @@ fn work_in(matches: &ArgMatches<'_>) -> Option<Work>
     work_by(sweep, faults, savers)
 }
 
+/// The words as the command's parser reads them, the program's name first.
+fn parsed<'a, S: AsStr>(alloc: Global, words: &'a [S]) -> Result<ArgMatches<'a>, Error>
+    ensures matches { IfOk result (λ m. (crews : ValueParser)
+        × (rows_of (found_of m) ≡ matches_of (sbibench crews) (map S.text words.entry.now))) }
+    // It fails for memory, or since the words name no work.
+    ensures refused { IfErr result (λ e. (kind_of e ≡ ErrorKind.OutOfMemory)
+        ⊎ (kind_of e ≡ ErrorKind.ArgumentConflict) ⊎ NamesNoWork (map S.text words.entry.now)) }
+{
+    command(alloc)?.try_get_matches_from(words)
+}
+
 /// What the words of a command line ask for, the program's name first. Both benches are a fault. The error is
 /// the command line's own text, which is the help or the version too, or says that memory was refused.
 pub fn work_of<'a, S: AsStr>(alloc: Global, words: &'a [S]) -> Result<Work, Error>
     // It is what the words name, as the command line's parser reads them, and not both benches.
-    ensures { IfOk result (λ work. (crews : ValueParser) × (f : Found) × (sweep faults : Bool)
-        × (rows_of f ≡ matches_of (sbibench crews) (map S.text words.now))
-        × IsFlag f (codes "sweep") sweep × IsFlag f (codes "faults") faults
-        × (work_named sweep faults (savers_named (first_value f (codes "crew"))) ≡ Some work)) }
+    ensures named { IfOk result (λ work. IsNamedBy (map S.text words.now) work) }
+    // Else memory was refused, or the words name both benches, or no work.
+    ensures refused { IfErr result (λ e. (kind_of e ≡ ErrorKind.OutOfMemory)
+        ⊎ (kind_of e ≡ ErrorKind.ArgumentConflict) ⊎ NamesNoWork (map S.text words.now)) }
 {
-    let matches = command(alloc)?.try_get_matches_from(words)?;
+    let matches = parsed(alloc, words)?;
     match work_in(&matches) {
         Some(work) => Ok(work),
         None => {
@@ -187,10 +198,4 @@ pub fn work_of<'a, S: AsStr>(alloc: Global, words: &'a [S]) -> Result<Work, Erro
             Err(again.error(ErrorKind::ArgumentConflict, text)?)
         }
     }
-}
-
-/// Reads the command line, and shows what it asks to be shown, or its fault.
-pub fn asked(rt: &HostRuntime) -> Result<Work, NoWork> {
-    let words = words(rt, USAGE)?;
-    work_of(rt.alloc(), words.as_slice()).map_err(|text| show(rt, &text))
 }

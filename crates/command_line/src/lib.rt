@@ -15,6 +15,7 @@ pub use crate::fault::{
 pub use crate::flags::flag;
 use clap::Error;
 use clap::error::ErrorKind;
+use std::io::Write;
 use std::{env, io};
 
 /// Why a command line asks for no work.
@@ -52,16 +53,35 @@ fn words_in(rt: &HostRuntime) -> io::Result<Vec<String>> {
 }
 
 /// Shows what the command line's own text says: the help and the version on standard output, a fault on
-/// standard error. Where nobody reads it, nothing is said of that: the status tells. Where memory was refused
-/// nothing is shown.
+/// standard error, as [`show_on`] does.
 pub fn show(rt: &HostRuntime, text: &Error) -> NoWork
     ensures { result ≡ no_work (kind_of text.now) }
 {
+    show_on(&mut io::writer(rt), &mut rt.stderr(), text)
+}
+
+/// Shows what the command line's own text says: the help and the version on the first writer, a fault on the
+/// second. Where nobody reads it, nothing is said of that: the status tells. Where memory was refused nothing
+/// is shown.
+pub fn show_on<O: Write, F: Write>(out: &mut O, faults: &mut F, text: &Error) -> NoWork
+    ensures { result ≡ no_work (kind_of text.now) }
+{
     let kind = text.kind();
-    if kind != ErrorKind::OutOfMemory {
-        let _shown = text.print(rt);
+    if kind == ErrorKind::OutOfMemory {
+        return no_work(kind);
     }
+    let _shown = if text.use_stderr() {
+        write_whole(faults, text)
+    } else {
+        write_whole(out, text)
+    };
     no_work(kind)
+}
+
+/// Writes the text, and what the writer held back of it.
+fn write_whole<W: Write>(out: &mut W, text: &Error) -> io::Result<()> {
+    write!(out, "{text}")?;
+    out.flush()
 }
 
 /// Why a command line with an error of this kind asks for no work.

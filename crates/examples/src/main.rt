@@ -1,7 +1,7 @@
-//! `examples`: runs each script of a folder, once with each crew, and compares what it writes with the report
-//! beside it (README.md). Status 0 where each is as reported; else 1, and standard error names the first that
-//! is not. The folder is the word on the command line; without one it takes the folder that the program runs in, and
-//! the folder `cases` there.
+//! `examples`: runs each script of a folder and of `cases` there, once with each crew, and compares what it
+//! writes with the report beside it; and makes the runs of `runs` there, and compares what each comes to
+//! (README.md). Status 0 where all is so; else 1, and standard error names the first that is not. The folder is the
+//! word on the command line, or the one that the program runs in.
 //!
 //! With the word `--left` it runs the script of standard input alone, and writes how that ended, what a power-on
 //! over the disk that is left finds, and the report, as far as it was written (tools/refuse-memory).
@@ -9,13 +9,16 @@
 
 mod left;
 mod reported;
+mod runs;
+mod streams;
 
 use crate::left::tell;
 use crate::reported::{AsReported, ExampleFault, compare_report};
+use crate::runs::{AsTold, RunFault, compare_run};
 use crew::{Crew, Sequential, Threads};
 use std::path::Path;
 use std::process::ExitCode;
-use std::{env, fs, io};
+use std::{env, fs, io, thread};
 
 /// The word that asks for what a script leaves.
 const LEFT: &str = "--left";
@@ -23,18 +26,24 @@ const LEFT: &str = "--left";
 /// The folder of the short scripts, beside the examples.
 const CASES: &str = "cases";
 
+/// The folder of the runs, beside the examples.
+const RUNS: &str = "runs";
+
+/// How a run's name ends.
+const RUN: &str = ".run";
+
 /// How a script's name ends.
 const SCRIPT: &str = ".sbi";
 
 /// How the name of its report ends.
 const REPORT: &str = ".report";
 
-/// The names of the folder's scripts without their endings, in order.
-fn names_in(rt: &HostRuntime, folder: &str) -> io::Result<Vec<String>> {
+/// The names of the folder's files with that ending, without it, in order.
+fn names_in(rt: &HostRuntime, folder: &str, ending: &str) -> io::Result<Vec<String>> {
     let mut names = Vec::new(rt.alloc());
     for entry in fs::read_dir(rt, folder)? {
         let entry = entry?;
-        if let Some(name) = entry.file_name().strip_suffix(SCRIPT) {
+        if let Some(name) = entry.file_name().strip_suffix(ending) {
             names.push(String::from_str(rt.alloc(), name)?)?;
         }
     }
@@ -76,7 +85,7 @@ fn compare_all<A: Crew, B: Crew>(
     threads: &B,
     folder: &str,
 ) -> io::Result<bool> {
-    let names = names_in(rt, folder)?;
+    let names = names_in(rt, folder, SCRIPT)?;
     if names.is_empty() {
         eprintln!(rt; "examples: no script in {folder}")?;
         return Ok(false);
@@ -93,19 +102,66 @@ fn compare_all<A: Crew, B: Crew>(
     Ok(true)
 }
 
+/// The run of the folder's file of that name.
+fn compare_file<'a, R: thread::Threads + Sync>(
+    rt: &HostRuntime,
+    threads: &R,
+    folder: &str,
+    name: &'a str,
+) -> Result<AsTold<'a>, RunFault> {
+    let file = file_of(rt, folder, name, RUN).map_err(RunFault::Unread)?;
+    let text = str::from_utf8(&file).map_err(|_| RunFault::Form)?;
+    compare_run(rt.alloc(), threads, name, text)
+}
+
+/// Makes all runs of the folder, up to the first that does not come to what its file says. Answers whether
+/// all do.
+fn compare_runs<R: thread::Threads + Sync>(
+    rt: &HostRuntime,
+    threads: &R,
+    folder: &str,
+) -> io::Result<bool> {
+    let names = names_in(rt, folder, RUN)?;
+    if names.is_empty() {
+        eprintln!(rt; "examples: no run in {folder}")?;
+        return Ok(false);
+    }
+    for name in &names {
+        match compare_file(rt, threads, folder, name.as_str()) {
+            Ok(told) => println!(rt; "{told}")?,
+            Err(fault) => {
+                eprintln!(rt; "examples: {name}{RUN}: {fault}")?;
+                return Ok(false);
+            }
+        }
+    }
+    Ok(true)
+}
+
+/// Compares the scripts of the folder and of its `cases`, and makes its `runs`. Answers whether all is well.
+fn compare_folder<R: thread::Threads + Sync>(
+    rt: &HostRuntime,
+    threads: &R,
+    folder: &str,
+) -> anyhow::Result<bool> {
+    let crews = (Sequential::<R>::new([0, 1, 2, 3])?, Threads::new(threads));
+    let cases = format!(in rt.alloc(); "{folder}/{CASES}")?;
+    let runs = format!(in rt.alloc(); "{folder}/{RUNS}")?;
+    let is_well = compare_all(rt, &crews.0, &crews.1, folder)?
+        && compare_all(rt, &crews.0, &crews.1, &cases)?
+        && compare_runs(rt, threads, &runs)?;
+    Ok(is_well)
+}
+
 fn main(rt: HostRuntime) -> anyhow::Result<ExitCode> {
     let words: Vec<String> = env::args(&rt)?.collect(rt.alloc())?;
-    let turns = Sequential::<HostRuntime>::new([0, 1, 2, 3])?;
-    let threads = Threads::new(&rt);
     let is_well = match words.get(1).map(String::as_str) {
         Some(word) if word == LEFT => {
-            tell(&rt, &turns)?;
+            tell(&rt, &Sequential::<HostRuntime>::new([0, 1, 2, 3])?)?;
             true
         }
-        Some(folder) => compare_all(&rt, &turns, &threads, folder)?,
-        None => {
-            compare_all(&rt, &turns, &threads, ".")? && compare_all(&rt, &turns, &threads, CASES)?
-        }
+        Some(folder) => compare_folder(&rt, &rt, folder)?,
+        None => compare_folder(&rt, &rt, ".")?,
     };
     Ok(if is_well {
         ExitCode::SUCCESS

@@ -59,7 +59,7 @@ pub fn compare_report<'a, C: Crew>(
 }
 
 /// The first line, from 1, in which the one differs from the other.
-fn first_line_apart(one: &[u8], other: &[u8]) -> usize {
+pub fn first_line_apart(one: &[u8], other: &[u8]) -> usize {
     let same = one.iter().zip(other).take_while(|(a, b)| *a == *b);
     let ends = same.filter(|(a, _)| **a == b'\n').count();
     ends.saturating_add(1)

@@ -1,0 +1,189 @@
+//! Runs of `sbibench` by the words of a command line, over streams in memory (README.md, "Runs").
+
+use crate::reported::first_line_apart;
+use crate::streams::{Input, Output, Room};
+use bench_program::{Pipe, run_on};
+use std::alloc::Global;
+use std::fmt;
+use std::io::{self, BufWriter, ErrorKind};
+use std::thread::Threads;
+use thiserror::Error;
+
+/// A run that came to just what its file says. Only [`compare_run`] makes one.
+#[derive(Drop)]
+pub struct AsTold<'a> {
+    name: &'a str,
+}
+
+impl fmt::Display for AsTold<'_> {
+    fn fmt<W: fmt::Write>(&self, f: &mut fmt::Formatter<W>) -> fmt::Result {
+        let name = self.name;
+        write!(f, "{name}.run as told")
+    }
+}
+
+/// Why a run is not as its file says.
+#[derive(Debug, Drop, Error)]
+pub enum RunFault {
+    #[error("it was not read: {0}")]
+    Unread(io::Error),
+    #[error("it is in no form of a run")]
+    Form,
+    #[error("memory was refused")]
+    Memory,
+    #[error("its status is {0}")]
+    Status(u8),
+    #[error("standard output differs from line {0} on")]
+    Output(usize),
+    #[error("standard error differs from line {0} on")]
+    Faults(usize),
+}
+
+/// The streams of a run.
+#[derive(Clone, Copy, Drop)]
+struct Streams {
+    input_fails: bool,
+    output: Room,
+    faults: Room,
+}
+
+/// A stream that takes all.
+const ALL: Room = Room {
+    bytes: usize::MAX,
+    fault: ErrorKind::StorageFull,
+};
+
+/// A stream of which the reader is gone.
+const CLOSED: Room = Room {
+    bytes: 0,
+    fault: ErrorKind::BrokenPipe,
+};
+
+/// Streams of which none fails.
+const WHOLE: Streams = Streams {
+    input_fails: false,
+    output: ALL,
+    faults: ALL,
+};
+
+/// What a file says of a run, and what has to come of it.
+#[derive(Drop)]
+struct Run<'a> {
+    words: &'a str,
+    status: u8,
+    streams: Streams,
+    input: &'a str,
+    output: &'a str,
+    faults: &'a str,
+}
+
+/// The streams by their name in a file.
+fn streams_of(text: &str) -> Option<Streams> {
+    if text == "whole" {
+        return Some(WHOLE);
+    }
+    if text == "input fails" {
+        return Some(Streams {
+            input_fails: true,
+            ..WHOLE
+        });
+    }
+    if text == "error closed" {
+        return Some(Streams {
+            faults: CLOSED,
+            ..WHOLE
+        });
+    }
+    Some(Streams {
+        output: output_of(text)?,
+        ..WHOLE
+    })
+}
+
+/// The room of an output that fails.
+fn output_of(text: &str) -> Option<Room> {
+    if let Some(bytes) = text.strip_prefix("output closed after ") {
+        let bytes = bytes.parse().ok()?;
+        return Some(Room { bytes, ..CLOSED });
+    }
+    let bytes = text.strip_prefix("output full after ")?.parse().ok()?;
+    Some(Room { bytes, ..ALL })
+}
+
+/// The run that a file asks for: its words, its status and its streams, a line each; then what is said of it
+/// up to the input, and the input, the output and the faults, each behind a line of its name.
+fn run_of(text: &str) -> Option<Run<'_>> {
+    let (words, text) = text.split_once('\n')?;
+    let (status, text) = text.split_once('\n')?;
+    let (streams, text) = text.split_once('\n')?;
+    let (_said, text) = text.split_once("--- input\n")?;
+    let (input, text) = text.split_once("--- output\n")?;
+    let (output, faults) = text.split_once("--- error\n")?;
+    Some(Run {
+        words,
+        status: status.strip_prefix("status ")?.parse().ok()?,
+        streams: streams_of(streams)?,
+        input,
+        output,
+        faults,
+    })
+}
+
+/// Nothing where the bytes are those of the text, else the first line in which they differ.
+fn differs(bytes: &[u8], text: &str) -> Option<usize> {
+    if bytes == text.as_bytes() {
+        return None;
+    }
+    Some(first_line_apart(bytes, text.as_bytes()))
+}
+
+/// Makes the run with an output that holds back so many bytes, and compares what comes of it.
+fn compare_held<R: Threads + Sync>(
+    alloc: Global,
+    threads: &R,
+    run: &Run<'_>,
+    held_back: usize,
+) -> Result<(), RunFault> {
+    let words: Vec<&str> = match run.words.split(' ').collect(alloc) {
+        Ok(words) => words,
+        Err(_) => return Err(RunFault::Memory),
+    };
+    let input = Input::new(run.input.as_bytes(), run.streams.input_fails);
+    let output = Output::new(alloc, run.streams.output);
+    let mut faults = Output::new(alloc, run.streams.faults);
+    let Ok(mut out) = BufWriter::with_capacity(alloc, held_back, Pipe::new(output)) else {
+        return Err(RunFault::Memory);
+    };
+    let status = run_on(
+        alloc,
+        threads,
+        words.as_slice(),
+        input,
+        &mut out,
+        &mut faults,
+    );
+    if status != run.status {
+        return Err(RunFault::Status(status));
+    }
+    if let Some(line) = differs(out.get_ref().get_ref().taken(), run.output) {
+        return Err(RunFault::Output(line));
+    }
+    if let Some(line) = differs(faults.taken(), run.faults) {
+        return Err(RunFault::Faults(line));
+    }
+    Ok(())
+}
+
+/// Makes the run that the text asks for, with an output as a terminal is and as a pipe is. `Ok` where each
+/// time the status and both outputs are those of the text.
+pub fn compare_run<'a, R: Threads + Sync>(
+    alloc: Global,
+    threads: &R,
+    name: &'a str,
+    text: &str,
+) -> Result<AsTold<'a>, RunFault> {
+    let run = run_of(text).ok_or(RunFault::Form)?;
+    compare_held(alloc, threads, &run, 0)?;
+    compare_held(alloc, threads, &run, 65_536)?;
+    Ok(AsTold { name })
+}
