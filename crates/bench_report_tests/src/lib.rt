@@ -10,10 +10,10 @@ mod found;
 #[cfg(test)]
 mod large;
 #[cfg(test)]
+mod saver_turns;
+#[cfg(test)]
 mod sizes;
 #[cfg(test)]
 mod stopped;
 #[cfg(test)]
 mod told;
-#[cfg(test)]
-mod turns;
