@@ -7,7 +7,7 @@ use board_model::Refusal;
 use std::fmt;
 
 /// Why the program ends without a whole report. It prints as a whole line, or as nothing.
-#[derive(Clone, Copy, Debug, Drop)]
+#[derive(Clone, Copy, Drop)]
 pub enum BenchFault {
     /// The command line has a fault, which was told by the command line's own text.
     Usage,

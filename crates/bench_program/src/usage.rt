@@ -80,7 +80,7 @@ const SWEEP: &str = "sweep";
 const FAULTS: &str = "faults";
 
 /// What the command line asks for.
-#[derive(Clone, Copy, Debug, Drop)]
+#[derive(Clone, Copy, Drop)]
 pub enum Work {
     /// The report of the script.
     Report(Savers),
@@ -89,7 +89,7 @@ pub enum Work {
 }
 
 /// A bench.
-#[derive(Clone, Copy, Debug, Drop)]
+#[derive(Clone, Copy, Drop)]
 pub enum Bench {
     /// Power is cut at each call.
     Sweep,
@@ -98,7 +98,7 @@ pub enum Bench {
 }
 
 /// Who writes the lanes of an image. The report is the same.
-#[derive(Clone, Copy, Debug, Drop)]
+#[derive(Clone, Copy, Drop)]
 pub enum Savers {
     /// One thread, one lane after another in rising order.
     Turns,

@@ -11,7 +11,7 @@ use std::fmt;
 use store::Inspection;
 
 /// The last line that a line of a script makes, or the line of its board.
-#[derive(Clone, Copy, Debug, PartialEq, Eq)]
+#[derive(Clone, Copy, PartialEq, Eq)]
 pub enum Printed {
     /// `board H/P/L sectors N`
     Board(u32, u32, u32, usize),
@@ -52,7 +52,7 @@ pub enum Printed {
 }
 
 /// All lines that a line of a script makes.
-#[derive(Clone, Copy, Debug, PartialEq, Eq)]
+#[derive(Clone, Copy, PartialEq, Eq)]
 pub struct Answer {
     /// What an open found, which is a line of its own before the other.
     pub found: Option<Durable>,

@@ -20,7 +20,7 @@ use std::sync::{Mutex, Wait};
 use susp::Bus;
 
 /// Why the console left.
-#[derive(Clone, Copy, Debug, PartialEq, Eq, Drop)]
+#[derive(Clone, Copy, PartialEq, Eq, Drop)]
 pub enum Left {
     /// A line said so.
     Quit,

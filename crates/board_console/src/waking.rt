@@ -9,7 +9,7 @@ use std::marker::Model;
 use susp::{Bus, wake};
 
 /// What a call of the wake-up device came to. Nothing but a call makes one, so the console answers `wake` only after one.
-#[derive(Debug, PartialEq, Eq, Drop)]
+#[derive(PartialEq, Eq, Drop)]
 pub struct Waking {
     answered: Result<(), Refusal>,
 }

@@ -1,7 +1,7 @@
 //! The ways to power on.
 
 /// The four ways to power on a board (docs/BOARD.md).
-#[derive(Clone, Copy, Debug, PartialEq, Eq, Drop)]
+#[derive(Clone, Copy, PartialEq, Eq, Drop)]
 pub enum BootMode {
     /// Boots the slot; refused where an image stands.
     Fresh,

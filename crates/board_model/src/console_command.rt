@@ -7,7 +7,7 @@ use crate::durable::Command;
 
 /// A durable command that the operator's console may issue, and that a script's line asks of it: the others are
 /// the guest's and the boot's. `Slot` and `Tries` may name any number, as [`Command`] has them.
-#[derive(Clone, Copy, Debug, PartialEq, Eq, Drop)]
+#[derive(Clone, Copy, PartialEq, Eq, Drop)]
 pub enum ConsoleCommand {
     /// `slot S`: the boot slot.
     Slot(u32),

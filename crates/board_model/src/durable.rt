@@ -8,7 +8,7 @@ use crate::numbers::{Addr, Boots, HartId, Slot};
 use crate::refusal::Refusal;
 
 /// Why the board was reset (SBI specification 2.0, chapter SRST).
-#[derive(Clone, Copy, Debug, PartialEq, Eq, Drop)]
+#[derive(Clone, Copy, PartialEq, Eq, Drop)]
 pub enum Reason {
     NoReason,
     SystemFailure,
@@ -28,7 +28,7 @@ impl Reason {
 
 /// A durable command that carries no memory. `Slot` and `Tries` may name any number: a slot is refused above 3,
 /// and a trial has 1 to 7 boots.
-#[derive(Clone, Copy, Debug, PartialEq, Eq, Drop)]
+#[derive(Clone, Copy, PartialEq, Eq, Drop)]
 pub enum Command {
     Slot(u32),
     Reset(Reason),
@@ -44,7 +44,7 @@ pub enum Command {
 
 /// A durable command as a journal keeps it. A suspension stands there without its memory, which the image
 /// reads as.
-#[derive(Clone, Copy, Debug, PartialEq, Eq, Drop)]
+#[derive(Clone, Copy, PartialEq, Eq, Drop)]
 pub enum Entry {
     Command(Command),
     /// The hart that suspended the board, the address at which it is resumed, and the value that it is given
@@ -66,7 +66,7 @@ impl Entry {
 }
 
 /// What stands of an image beside its memory.
-#[derive(Clone, Copy, Debug, PartialEq, Eq, Drop)]
+#[derive(Clone, Copy, PartialEq, Eq, Drop)]
 pub struct ImageHead {
     /// The serial that its suspension took.
     pub serial: u64,
@@ -79,7 +79,7 @@ pub struct ImageHead {
 }
 
 /// The trial of a boot slot.
-#[derive(Clone, Copy, Debug, PartialEq, Eq, Drop)]
+#[derive(Clone, Copy, PartialEq, Eq, Drop)]
 pub struct Trial {
     /// The slot to fall back to.
     pub fallback: Slot,
@@ -88,7 +88,7 @@ pub struct Trial {
 }
 
 /// The durable state without the image's memory.
-#[derive(Clone, Copy, Debug, PartialEq, Eq, Drop)]
+#[derive(Clone, Copy, PartialEq, Eq, Drop)]
 pub struct Durable {
     pub image: Option<ImageHead>,
     pub slot: Slot,

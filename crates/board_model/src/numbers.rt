@@ -8,7 +8,7 @@ use std::marker::Model;
 
 /// The number of a hart, 0 to 7 (SBI specification 2.0, chapter HSM). `Shape::hart` tells whether a board has
 /// it.
-#[derive(Clone, Copy, Debug, PartialEq, Eq, Drop)]
+#[derive(Clone, Copy, PartialEq, Eq, Drop)]
 pub struct HartId {
     number: u32,
 }
@@ -56,7 +56,7 @@ impl HartId {
 }
 
 /// The number of a page of RAM, 0 to 255. `Shape::page` tells whether a board has it.
-#[derive(Clone, Copy, Debug, PartialEq, Eq, Drop)]
+#[derive(Clone, Copy, PartialEq, Eq, Drop)]
 pub struct PageNo {
     number: u32,
 }
@@ -104,7 +104,7 @@ impl PageNo {
 }
 
 /// The number of a boot slot, 0 to 3.
-#[derive(Clone, Copy, Debug, PartialEq, Eq, Drop)]
+#[derive(Clone, Copy, PartialEq, Eq, Drop)]
 pub struct Slot {
     number: u32,
 }
@@ -150,7 +150,7 @@ impl Slot {
 }
 
 /// How many boots are left to a trial, 0 to 7.
-#[derive(Clone, Copy, Debug, PartialEq, Eq, Drop)]
+#[derive(Clone, Copy, PartialEq, Eq, Drop)]
 pub struct Boots {
     number: u32,
 }
@@ -202,7 +202,7 @@ impl Boots {
 
 /// An address of an instruction in the RAM of the largest board: from 0x80000000 on, a multiple of 4.
 /// `Shape::address` tells whether it lies in the RAM of a board.
-#[derive(Clone, Copy, Debug, PartialEq, Eq, Drop)]
+#[derive(Clone, Copy, PartialEq, Eq, Drop)]
 pub struct Addr {
     address: u64,
 }

@@ -10,7 +10,7 @@ use crate::refusal::Refusal;
 use std::alloc::{AllocError, Global};
 
 /// An image with its memory.
-#[derive(Debug, PartialEq, Eq, Drop)]
+#[derive(PartialEq, Eq, Drop)]
 pub struct PlainImage {
     pub head: ImageHead,
     /// The byte at address 0x80000000 first.
@@ -18,7 +18,7 @@ pub struct PlainImage {
 }
 
 /// The durable state with the memory of its image.
-#[derive(Debug, PartialEq, Eq, Drop)]
+#[derive(PartialEq, Eq, Drop)]
 pub struct Plain {
     pub slot: Slot,
     pub reason: Reason,

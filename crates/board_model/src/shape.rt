@@ -10,7 +10,7 @@ use crate::refusal::Refusal;
 use std::marker::Model;
 
 /// How large a board is: 1 to 8 harts, 1 to 256 pages of RAM, 1 to 4 saver lanes.
-#[derive(Clone, Copy, Debug, PartialEq, Eq, Drop)]
+#[derive(Clone, Copy, PartialEq, Eq, Drop)]
 pub struct Shape {
     harts: u32,
     pages: u32,

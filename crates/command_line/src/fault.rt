@@ -10,7 +10,7 @@ use std::fmt;
 use std::io::{self, ErrorKind};
 
 /// Why the program ends with a fault.
-#[derive(Clone, Copy, Debug, Drop)]
+#[derive(Clone, Copy, Drop)]
 pub enum ProgramFault {
     /// The command line has a fault, which was told by the command line's own text.
     Usage,
@@ -21,7 +21,7 @@ pub enum ProgramFault {
 }
 
 /// A fault as the program of that name tells it: a whole line, or nothing where it was told before.
-#[derive(Clone, Copy, Debug, Drop)]
+#[derive(Clone, Copy, Drop)]
 pub struct ToldBy(pub &'static str, pub ProgramFault);
 
 impl fmt::Display for ToldBy {

@@ -19,7 +19,7 @@ use std::io::Write;
 use std::{env, io};
 
 /// Why a command line asks for no work.
-#[derive(Clone, Copy, Debug, Drop)]
+#[derive(Clone, Copy, Drop)]
 pub enum NoWork {
     /// The help or the version was asked for, and was shown.
     Shown,

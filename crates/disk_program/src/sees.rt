@@ -12,7 +12,7 @@ use std::alloc::Global;
 use store::{Inspection, Store, inspect};
 
 /// The durable state that an open finds, and how many pages its board has.
-#[derive(Clone, Copy, Debug, Drop)]
+#[derive(Clone, Copy, Drop)]
 pub struct Found {
     /// The state.
     pub state: Durable,
@@ -21,7 +21,7 @@ pub struct Found {
 }
 
 /// What stands on a disk.
-#[derive(Clone, Copy, Debug, Drop)]
+#[derive(Clone, Copy, Drop)]
 pub struct Seen {
     /// What an examiner says of it.
     pub inspection: Inspection,

@@ -7,7 +7,7 @@ use std::fmt;
 use store::{ImageSeen, Inspection};
 
 /// Whether a record is in its form.
-#[derive(Clone, Copy, Debug, PartialEq, Eq, Drop)]
+#[derive(Clone, Copy, PartialEq, Eq, Drop)]
 struct StandingText(bool);
 
 impl fmt::Display for StandingText {
@@ -23,7 +23,7 @@ impl fmt::Display for StandingText {
 }
 
 /// What is said of the image.
-#[derive(Clone, Copy, Debug, PartialEq, Eq, Drop)]
+#[derive(Clone, Copy, PartialEq, Eq, Drop)]
 struct ImageText(ImageSeen);
 
 impl fmt::Display for ImageText {
@@ -40,7 +40,7 @@ impl fmt::Display for ImageText {
 
 /// `gate G live Y other Z image I`: G 0 or 1, Y and Z `ok` or `bad`, and I `none`, `whole` or `bad`
 /// (docs/SCRIPT.md, "The report").
-#[derive(Clone, Copy, Debug, PartialEq, Eq, Drop)]
+#[derive(Clone, Copy, PartialEq, Eq, Drop)]
 pub struct InspectionText(pub Inspection);
 
 impl fmt::Display for InspectionText {

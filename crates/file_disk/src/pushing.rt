@@ -5,7 +5,7 @@ use disk::Sector;
 use std::io;
 
 /// So many sectors in a row, from the first on.
-#[derive(Clone, Copy, Debug)]
+#[derive(Clone, Copy)]
 pub struct Stretch {
     pub first: usize,
     pub count: usize,

@@ -23,7 +23,7 @@ use std::sync::Wait;
 use turns::turn_by_bus;
 
 /// Why a loop ended.
-#[derive(Clone, Copy, Debug, PartialEq, Eq, Drop)]
+#[derive(Clone, Copy, PartialEq, Eq, Drop)]
 pub enum Why {
     /// This hart's reset or suspension was acknowledged, and the life is over.
     Life,

@@ -5,7 +5,7 @@ ghost use Rattle.hsm.specs.Calls.{code_of, state_in_word};
 
 /// The state of a hart (SBI specification 2.0, chapter HSM). The standard's STOP_PENDING, SUSPEND_PENDING and
 /// RESUME_PENDING are never answered, since those changes are one step each.
-#[derive(Clone, Copy, Debug, PartialEq, Eq)]
+#[derive(Clone, Copy, PartialEq, Eq)]
 pub enum State {
     Started,
     Stopped,

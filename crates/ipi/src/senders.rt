@@ -9,7 +9,7 @@ use std::marker::Model;
 
 /// The harts whose interrupts one `take` took. Contracts see it as a number whose bit `s` tells whether the
 /// hart `s` is in it (`HasSender`).
-#[derive(Clone, Copy, Debug, PartialEq, Eq, Drop)]
+#[derive(Clone, Copy, PartialEq, Eq, Drop)]
 pub struct SenderSet {
     bits: u64,
 }

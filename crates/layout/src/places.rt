@@ -8,7 +8,7 @@ use crate::fields::{Filling, is_same, u32_at, u64_at};
 use board_model::{PageNo, Refusal, Shape};
 
 /// The header of a place: which page stands there, and for the image of which serial.
-#[derive(Clone, Copy, Debug, PartialEq, Eq, Drop)]
+#[derive(Clone, Copy, PartialEq, Eq, Drop)]
 pub struct PlaceHead {
     pub page: PageNo,
     pub serial: u64,

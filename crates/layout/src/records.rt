@@ -12,7 +12,7 @@ use crate::trials::{fill_trial, trial_in};
 use board_model::{Durable, Reason, Refusal, Shape, Slot, Trial};
 
 /// The form of a record.
-#[derive(Clone, Copy, Debug, PartialEq, Eq, Drop)]
+#[derive(Clone, Copy, PartialEq, Eq, Drop)]
 pub enum Version {
     /// Without a trial. It is read, and never written.
     One,
@@ -33,7 +33,7 @@ impl Version {
 }
 
 /// A record: the durable state, and where its image stands.
-#[derive(Clone, Copy, Debug, PartialEq, Eq, Drop)]
+#[derive(Clone, Copy, PartialEq, Eq, Drop)]
 pub struct Record {
     pub version: Version,
     pub slot: Slot,

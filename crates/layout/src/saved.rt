@@ -10,7 +10,7 @@ use crate::side::Side;
 use board_model::{ImageHead, Shape};
 
 /// What a record keeps of an image.
-#[derive(Clone, Copy, Debug, PartialEq, Eq, Drop)]
+#[derive(Clone, Copy, PartialEq, Eq, Drop)]
 pub struct Saved {
     pub head: ImageHead,
     /// The area that its memory stands in.

@@ -8,7 +8,7 @@ use machine::{Did, LifeEnd, ResetType, Word};
 use std::fmt;
 
 /// Up to 64 bytes of memory.
-#[derive(Clone, Copy, Debug, PartialEq, Eq)]
+#[derive(Clone, Copy, PartialEq, Eq)]
 pub struct MemBytes {
     /// The bytes, with zeros behind them.
     pub bytes: [u8; 64],
@@ -17,7 +17,7 @@ pub struct MemBytes {
 }
 
 /// What a line that shows memory or harts says.
-#[derive(Clone, Copy, Debug, PartialEq, Eq)]
+#[derive(Clone, Copy, PartialEq, Eq)]
 pub enum MachineLine {
     /// `turn H K WORD`: K turns were made, and what is said of the last one.
     Turn(HartId, u32, Word),

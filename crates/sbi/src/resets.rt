@@ -7,7 +7,7 @@ use board_model::Reason;
 use sbi_abi::SbiError;
 
 /// Which reset (SBI specification 2.0, `sbi_system_reset`). Both end the life.
-#[derive(Clone, Copy, Debug, PartialEq, Eq, Drop)]
+#[derive(Clone, Copy, PartialEq, Eq, Drop)]
 pub enum ResetType {
     /// 0.
     Shutdown,

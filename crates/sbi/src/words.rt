@@ -7,7 +7,7 @@ use crate::resets::ResetType;
 use sbi_calls::Did;
 
 /// How a call of a hart ended the life, once its command was acknowledged.
-#[derive(Clone, Copy, Debug, PartialEq, Eq, Drop)]
+#[derive(Clone, Copy, PartialEq, Eq, Drop)]
 pub enum LifeEnd {
     /// The board sleeps, and its image is durable.
     Asleep,
@@ -16,7 +16,7 @@ pub enum LifeEnd {
 }
 
 /// What is said of a turn or a call of a hart, where the store is at hand (docs/BOARD.md).
-#[derive(Clone, Copy, Debug, PartialEq, Eq, Drop)]
+#[derive(Clone, Copy, PartialEq, Eq, Drop)]
 pub enum Word {
     /// What the hart did. The life goes on.
     Goes(Did),

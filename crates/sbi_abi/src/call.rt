@@ -7,7 +7,7 @@ use hart::Hart;
 use rv_decode::Reg;
 
 /// An extension of which this table has calls (SBI specification 2.0).
-#[derive(Clone, Copy, Debug, PartialEq, Eq, Drop)]
+#[derive(Clone, Copy, PartialEq, Eq, Drop)]
 pub enum Extension {
     /// Chapter 4, 0x10.
     Base,
@@ -23,7 +23,7 @@ pub enum Extension {
 
 /// A call with its arguments as the registers hold them, not checked yet. What the standard declares 32 bits
 /// wide is the low half of its register.
-#[derive(Clone, Copy, Debug, PartialEq, Eq, Drop)]
+#[derive(Clone, Copy, PartialEq, Eq, Drop)]
 pub enum Call {
     /// `sbi_get_spec_version`.
     SpecVersion,

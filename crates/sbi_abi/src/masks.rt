@@ -10,7 +10,7 @@ use board_model::HartId;
 use std::marker::Model;
 
 /// A set of harts. Contracts see it as a number whose bit `h` tells whether the hart `h` is in it (`Has`).
-#[derive(Clone, Copy, Debug, PartialEq, Eq, Drop)]
+#[derive(Clone, Copy, PartialEq, Eq, Drop)]
 pub struct HartSet {
     bits: u64,
 }

@@ -7,7 +7,7 @@ ghost use Rattle.sbi_abi.specs.Answers.{error_number, error_of, value_of};
 use hart::Hart;
 
 /// Why a call was not done (SBI specification 2.0, chapter 3, the table of standard errors).
-#[derive(Clone, Copy, Debug, PartialEq, Eq, Drop)]
+#[derive(Clone, Copy, PartialEq, Eq, Drop)]
 pub enum SbiError {
     /// -1.
     Failed,

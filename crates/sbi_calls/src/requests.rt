@@ -9,7 +9,7 @@ use board_model::{Addr, HartId, Shape};
 use sbi_abi::{Call, Extension, HartSet, SbiError, targets};
 
 /// What a call asks of the board.
-#[derive(Clone, Copy, Debug, PartialEq, Eq, Drop)]
+#[derive(Clone, Copy, PartialEq, Eq, Drop)]
 pub enum Request {
     /// This value for an answer, and nothing else.
     Value(u64),

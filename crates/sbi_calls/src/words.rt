@@ -4,7 +4,7 @@ ghost use Rattle.std.specs.Prelude.{◌≡◌};
 ghost use Rattle.sbi_calls.specs.Words.{is_answered, is_doze, ends_row};
 
 /// What a hart did in a turn (docs/BOARD.md, "A turn of a hart"). The life goes on.
-#[derive(Clone, Copy, Debug, PartialEq, Eq, Drop)]
+#[derive(Clone, Copy, PartialEq, Eq, Drop)]
 pub enum Did {
     /// Nothing.
     Idle,
@@ -70,7 +70,7 @@ impl Did {
 }
 
 /// What a turn comes to where no store is at hand.
-#[derive(Clone, Copy, Debug, PartialEq, Eq, Drop)]
+#[derive(Clone, Copy, PartialEq, Eq, Drop)]
 pub enum Turned {
     /// It was made, and the hart did this.
     Made(Did),

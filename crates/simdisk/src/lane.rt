@@ -55,7 +55,7 @@ impl Last {
 }
 
 /// Which bytes of a lane are meant.
-#[derive(Clone, Copy, Debug, PartialEq, Eq)]
+#[derive(Clone, Copy, PartialEq, Eq)]
 pub(crate) enum Bytes {
     /// What a read gives.
     Read,

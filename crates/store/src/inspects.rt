@@ -20,7 +20,7 @@ use ram::Ram;
 use std::alloc::Global;
 
 /// What an examiner says of the live image.
-#[derive(Clone, Copy, Debug, PartialEq, Eq, Drop)]
+#[derive(Clone, Copy, PartialEq, Eq, Drop)]
 pub enum ImageSeen {
     /// The selected record is not in its form, or has no image.
     Absent,
@@ -31,7 +31,7 @@ pub enum ImageSeen {
 }
 
 /// What an examiner says of the disk of a board.
-#[derive(Clone, Copy, Debug, PartialEq, Eq, Drop)]
+#[derive(Clone, Copy, PartialEq, Eq, Drop)]
 pub struct Inspection {
     /// Which record the gate selects: 0 or 1.
     pub gate: u32,

@@ -20,7 +20,7 @@ impl<'a, C> Clone for Saving<'a, C> {
 impl<'a, C> Copy for Saving<'a, C> {}
 
 /// Where a suspended board goes on.
-#[derive(Clone, Copy, Debug, PartialEq, Eq, Drop)]
+#[derive(Clone, Copy, PartialEq, Eq, Drop)]
 pub struct Resumption {
     /// The hart that suspended the board, and that goes on.
     pub hart: HartId,

@@ -19,7 +19,7 @@ pub struct Bus {
 }
 
 /// A board that sleeps to RAM (SBI specification 2.0, `sbi_system_suspend`, type 0).
-#[derive(Clone, Copy, Debug, PartialEq, Eq, Drop)]
+#[derive(Clone, Copy, PartialEq, Eq, Drop)]
 pub struct Doze {
     /// Where it goes on: by the hart that put it to sleep. Every other hart is STOPPED.
     pub at: Resumption,
