@@ -36,8 +36,13 @@ def rt():
     return sys.modules["rt_main"]
 
 
+def crates():
+    """The crates of the repository, at whose top this runs, lowest first."""
+    return rt().rtlib.crates_below(os.getcwd())
+
+
 def crate_named(name):
-    found = [it for it in rt().rtlib.crates_below(os.getcwd()) if it.name == name]
+    found = [it for it in crates() if it.name == name]
     if not found:
         sys.exit(f"{name} is no crate below this folder: run this at the top of the repository")
     return found[0]
