@@ -1,8 +1,8 @@
 //! docs/TABLES.md, "A first use": between the lines of dashes the code stands there as it stands here.
 
 ghost use Rattle.std.specs.Prelude.{◌≡◌, ◌<◌};
-ghost use Rattle.hsm_rule.specs.Rule.{stands};
-ghost use Rattle.hsm_rule.specs.declared.view.Stage.TheVariants.{Out, Running};
+ghost use Rattle.hsm_steps.specs.Rule.{stands};
+ghost use Rattle.hsm_steps.specs.declared.view.Stage.TheVariants.{Out, Running};
 ghost use Rattle.hsm_steps.specs.Seating.{IsSeatOf, harts_of, hart_view_of_seat, harts_in};
 ghost use Rattle.hsm_steps.specs.Outcomes.{opening_view};
 ghost use Rattle.ipi.specs.Ledger.{opening_pending_view as opening_pairs};

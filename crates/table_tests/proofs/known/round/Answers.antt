@@ -1,4 +1,4 @@
-use Rattle.hsm_rule.specs.declared.view.Stage.TheVariants.{Out, Running}
+use Rattle.hsm_steps.specs.declared.view.Stage.TheVariants.{Out, Running}
 use Rattle.table_tests.proofs.known.round.Goals as goal
 
 pub try_enter-seat-requires-clause-acts : goal.try_enter-seat-requires-clause-acts

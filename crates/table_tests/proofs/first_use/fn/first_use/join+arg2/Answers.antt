@@ -1,4 +1,4 @@
-use Rattle.hsm_rule.specs.declared.view.Stage.TheVariants.{Running}
+use Rattle.hsm_steps.specs.declared.view.Stage.TheVariants.{Running}
 use Rattle.table_tests.proofs.first_use.fn.first_use.join+arg2.Goals as goal
 
 pub status-requires : goal.status-requires

@@ -9,11 +9,11 @@ use Rattle.tallies.specs.Logs.{Reading}
 pub use Rattle.tallies.specs.Notes.{HasNoted}
 use Rattle.tallies.specs.Rules.{Everywhere, IsLogged}
 use Rattle.board_model.specs.Shapes.{IsAddressIn}
-use Rattle.hsm_rule.specs.Words.{HartView, HartSeatView, WordBits, word_bits}
-use Rattle.hsm_rule.specs.declared.view.Stage.{Stage}
-use Rattle.hsm_rule.specs.declared.view.Stage.TheVariants.{Out, Ready, Addressed, Loaded, Running, Claiming, Half, Stored, Suspended, Quiet}
-use Rattle.hsm_rule.specs.declared.view.Action.{Action}
-use Rattle.hsm_rule.specs.declared.view.Action.TheVariants.{Claimed, Wrote, Armed, Looked, Read, Entered, Stopped, Suspended as DidSuspend, Woke, Quieted, Unquieted}
+use Rattle.hsm_steps.specs.Words.{HartView, HartSeatView, WordBits, word_bits}
+use Rattle.hsm_steps.specs.declared.view.Stage.{Stage}
+use Rattle.hsm_steps.specs.declared.view.Stage.TheVariants.{Out, Ready, Addressed, Loaded, Running, Claiming, Half, Stored, Suspended, Quiet}
+use Rattle.hsm_steps.specs.declared.view.Action.{Action}
+use Rattle.hsm_steps.specs.declared.view.Action.TheVariants.{Claimed, Wrote, Armed, Looked, Read, Entered, Stopped, Suspended as DidSuspend, Woke, Quieted, Unquieted}
 
 -- an address at which a hart can be started
 abbrev pub IsSite : ℕ → Type 0

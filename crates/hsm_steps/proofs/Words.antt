@@ -5,7 +5,7 @@ use Rattle.std.specs.Int.{bit_at, bit_not}
 use Rattle.std.proofs.lemmas.Nat.Bits.{bit_at_set_same, bit_at_set_other, bit_at_clear_same, bit_at_clear_other, bit_at-lt, bit_at-zero, bit_at_or, bit_at_and, bit_at_not}
 use mathlib.Core.Logic.{dite}
 use native.Mathlib.Decide.{ℕ_discrete}
-use Rattle.hsm_rule.specs.Words.{WordBits, word_bits, Same}
+use Rattle.hsm_steps.specs.Words.{WordBits, word_bits, Same}
 
 abbrev pub mask : ℕ → ℕ
 mask i = 1 * 2 ^ i % 2 ^ 64

@@ -1,7 +1,7 @@
 -- Every step that a hart of the hart table noted is true, and nothing changes that none noted.
 use Rattle.std.specs.Prelude.{ℕ, ◌+◌, ◌*◌}
 use Rattle.tallies.specs.Rules as laws
-use Rattle.hsm_rule.specs.Rule.{HartInvariant, reading}
+use Rattle.hsm_steps.specs.Rule.{HartInvariant, reading}
 
 abbrev pub StepsAreTrue : Type 0
 StepsAreTrue =
