@@ -1,4 +1,4 @@
-//! A guest in C on two harts (crates/examples/data/counters.c), from its boot to the image that it leaves, which
+//! A guest in C on two harts (crates/examples/data/guest/counters.c), from its boot to the image that it leaves, which
 //! stands until the console drops it.
 
 use crate::runs::disk_of;
