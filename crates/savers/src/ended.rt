@@ -1,6 +1,6 @@
 //! What was drawn from a ticket that has ended.
 
-ghost use Rattle.tickets.specs.Draws.{AreEachOnce};
+ghost use Rattle.savers.specs.Draws.{AreEachOnce};
 
 use crate::ticket::TicketSeat;
 use std::snapshot::Snapshot;

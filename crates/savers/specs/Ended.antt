@@ -1,6 +1,6 @@
 -- A ticket that has ended.
 use Rattle.std.specs.Prelude.{ℕ, List}
-use Rattle.tickets.specs.declared.drawn.Drawn.{Drawn}
+use Rattle.savers.specs.declared.ended.Drawn.{Drawn}
 
 -- All that was drawn from it, in the order in which its seats were joined.
 abbrev pub numbers_of : Drawn → List ℕ

@@ -1,11 +1,11 @@
-//! The calls.
+//! The calls of a ticket.
 
 ghost use Rattle.std.specs.Prelude.{◌≡◌, ◌<◌, ◌≤◌, ◌-◌, ◌++◌, ◌∷◌, [], IfOk};
-ghost use Rattle.tickets.specs.Draws.{ticket_view, unused_view, draws_each, together, AreEachOnce};
-ghost use Rattle.tickets.specs.Seats.{IsSeatOf, ticket_view_of, IsWhole};
-ghost use Rattle.tickets.specs.Ended.{numbers_of};
+ghost use Rattle.savers.specs.Draws.{ticket_view, unused_view, draws_each, together, AreEachOnce};
+ghost use Rattle.savers.specs.Seats.{IsSeatOf, ticket_view_of, IsWhole};
+ghost use Rattle.savers.specs.Ended.{numbers_of};
 
-use crate::drawn::Drawn;
+use crate::ended::Drawn;
 use crate::ticket::{ByDraws, Draw, Ticket, TicketSeat};
 use atomic_table::Table;
 use std::alloc::{AllocError, Global};

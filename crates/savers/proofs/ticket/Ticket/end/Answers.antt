@@ -1,9 +1,9 @@
 use Rattle.std.proofs.Common.{arith, subst, sym}
 use Rattle.atomic_table.specs.declared.shared.Seat.{Seat}
-use Rattle.tickets.proofs.Steps.{ended}
-use Rattle.tickets.specs.Draws.{AreEachOnce}
-use Rattle.tickets.specs.declared.view.TicketView.{TicketView}
-use Rattle.tickets.proofs.ticket.Ticket.end.Goals as goal
+use Rattle.savers.proofs.Steps.{ended}
+use Rattle.savers.specs.Draws.{AreEachOnce}
+use Rattle.savers.specs.declared.view.TicketView.{TicketView}
+use Rattle.savers.proofs.ticket.Ticket.end.Goals as goal
 
 pub free-requires : goal.free-requires
 free-requires c k lt =

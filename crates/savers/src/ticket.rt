@@ -1,7 +1,7 @@
-//! The word, its rule, its one kind of step, and how seats are parted and joined.
+//! A ticket: its word, its rule, its one kind of step, and how seats are parted and joined.
 
 ghost use Rattle.std.specs.Prelude.{◌≡◌};
-ghost use Rattle.tickets.specs.Draws.{AreDrawnOnce, DrawsNext, unused_view, without_part, new_part, together, spent_view};
+ghost use Rattle.savers.specs.Draws.{AreDrawnOnce, DrawsNext, unused_view, without_part, new_part, together, spent_view};
 
 use crate::view::TicketView;
 use atomic_table::{Join, Play, Seat, Split, Table, TableRule};

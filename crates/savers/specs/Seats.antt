@@ -1,9 +1,9 @@
 -- Seats of a ticket.
 use Rattle.std.specs.Prelude.{◌≡◌, []}
 use Rattle.atomic_table.specs.declared.shared.Seat.{Seat}
-use Rattle.tickets.specs.Draws.{share_of, all_draws}
-use Rattle.tickets.specs.declared.view.TicketView.{TicketView}
-use Rattle.tickets.specs.declared.ticket.Ticket.{Ticket}
+use Rattle.savers.specs.Draws.{share_of, all_draws}
+use Rattle.savers.specs.declared.view.TicketView.{TicketView}
+use Rattle.savers.specs.declared.ticket.Ticket.{Ticket}
 
 -- The seat is one of this ticket, and holds nothing else.
 abbrev pub IsSeatOf : Ticket → Seat (Unit {0}) TicketView → Type 0

@@ -11,8 +11,8 @@ use Rattle.disk.specs.Facts.{LaneFacts, lane_at}
 use Rattle.layout.specs.Records.{AreCounts, most_places}
 use Rattle.savers.specs.Saved.{LanesHold}
 use Rattle.savers.specs.Pages.{Fills, DrawnPages, drawn_in}
-use Rattle.tickets.specs.Draws.{times, once_below}
-use Rattle.tickets.proofs.Steps.{times-append}
+use Rattle.savers.specs.Draws.{times, once_below}
+use Rattle.savers.proofs.Steps.{times-append}
 
 -- ---- where a number stands in a list
 times_here : (x : ℕ) (ys : List ℕ) → times x (x ∷ ys) ≡ 1 + times x ys

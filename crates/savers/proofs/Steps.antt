@@ -7,8 +7,8 @@ use mathlib.Core.Option.{some, none}
 use lib.ListN.{get_elem?}
 use Rattle.atomic_table.specs.Table.{State, Me, step, keeps, Allows, Splits, Joins}
 use Rattle.tallies.proofs.Totals.{total-set, at_most_total, two_at_most_total, total_alone, total_split, total_join}
-use Rattle.tickets.specs.declared.view.TicketView.{TicketView}
-use Rattle.tickets.specs.Draws.{times, once_below, ticket_view, all_draws, share_of, draws_each, AreDrawnOnce, DrawsNext, without_part, new_part, together, spent_view}
+use Rattle.savers.specs.declared.view.TicketView.{TicketView}
+use Rattle.savers.specs.Draws.{times, once_below, ticket_view, all_draws, share_of, draws_each, AreDrawnOnce, DrawsNext, without_part, new_part, together, spent_view}
 
 pub times-append : (x : ℕ) (xs ys : List ℕ) → times x (xs ++ ys) ≡ times x xs + times x ys
 times-append x [] ys = omega arith

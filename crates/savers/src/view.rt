@@ -1,4 +1,4 @@
-//! What a seat knows.
+//! What a seat of a ticket knows.
 
 use std::collections::LinkedList;
 

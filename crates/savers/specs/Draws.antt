@@ -2,7 +2,7 @@
 use Rattle.std.specs.Prelude.{◌≡◌, ℕ, ◌+◌, ◌-◌, List, [], ◌∷◌, ◌++◌, ◌==◌, length, slice_index, nat_lt, if◌then◌else◌}
 use Rattle.atomic_table.specs.Table.{State, Me, Step}
 use Rattle.tallies.specs.Sums.{total}
-use Rattle.tickets.specs.declared.view.TicketView.{TicketView}
+use Rattle.savers.specs.declared.view.TicketView.{TicketView}
 
 -- how often x stands in the list
 abbrev pub times : ℕ → List ℕ → ℕ
