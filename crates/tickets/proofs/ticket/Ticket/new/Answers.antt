@@ -1,5 +1,0 @@
-use Rattle.std.proofs.Common.{rules}
-use Rattle.tickets.proofs.ticket.Ticket.new.Goals as goal
-
-pub of_words-requires : goal.of_words-requires
-of_words-requires c = search rules
