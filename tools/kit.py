@@ -83,8 +83,9 @@ def proved(crate):
     return f"{crate.folder}/out/incremental"
 
 
-def check(crate, texts, kept):
-    """A check of the crate with these texts in the place of its own, by one job, over a folder of kept work, as `rt ci` makes it of an edit."""
+def check(crate, texts, kept, is_again=False):
+    """A check of the crate with these texts in the place of its own, by one job, over a folder of kept work, as `rt ci` makes it of an edit. One that
+    was killed is made once more."""
     rtlib = rt().rtlib
     with tempfile.TemporaryDirectory(prefix="kit-check-") as room:
         for part in rtlib.PARTS:
@@ -101,7 +102,9 @@ def check(crate, texts, kept):
         ran.returncode = os.waitstatus_to_exitcode(status)
         lines = (rtlib.text_of(f"{room}/stages") or "").split("\n")
         stages = {it[1]: float(it[2]) for it in map(str.split, lines) if it[:1] == ["stage"]}
-        return Checked(ran.returncode, said, spent.ru_utime + spent.ru_stime, stages)
+    if ran.returncode < 0 and not is_again:
+        return check(crate, texts, kept, True)
+    return Checked(ran.returncode, said, spent.ru_utime + spent.ru_stime, stages)
 
 
 def is_refused(tried):
