@@ -1,8 +1,8 @@
 use Rattle.std.proofs.Common.{rules}
-use Rattle.disk_program.specs.Sights.{SeeRefused}
+use Rattle.examined.specs.Sights.{SeeRefused}
 use Rattle.store.proofs.Renewing.{read_settled, settled_after}
-use Rattle.disk_program.proofs.Seeing.{refused_later}
-use Rattle.disk_program.proofs.sees.see_disk.Goals as goal
+use Rattle.examined.proofs.Seeing.{refused_later}
+use Rattle.examined.proofs.sees.see_disk.Goals as goal
 
 pub returns-in-Ok-found-clause-settles : goal.returns-in-Ok-found-clause-settles
 returns-in-Ok-found-clause-settles g c =
