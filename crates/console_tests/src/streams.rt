@@ -87,6 +87,7 @@ impl Write for Full {
 }
 
 /// A session over a blank disk: how it ended, why its console left, and its streams.
+#[derive(Drop)]
 struct Ended<I: Read + Drop, W: Write + Drop> {
     ran: Result<(), Refusal>,
     left: Option<Left>,
