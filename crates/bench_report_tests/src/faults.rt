@@ -1,6 +1,6 @@
 //! What a new user types, and a writer that fails.
 
-use crate::told::{START, Short, in_turn, refused};
+use crate::told::{START, Short, in_turn, refused, same};
 use bench_report::run;
 use board_model::Refusal;
 use std::test::*;
@@ -93,7 +93,7 @@ fn a_writer_that_fails_is_answered(rt: HostRuntime) -> Result<(), Fail> {
         let mut out = Short { room };
         match run(rt.alloc(), START, &crew, &mut out) {
             Ok(_) => assert!(rt; false, "the report has more bytes"),
-            Err(e) => assert_eq!(rt; e, Refusal::Output),
+            Err(e) => same(&rt, e, Refusal::Output),
         }
     }
     Ok(())

@@ -1,6 +1,6 @@
 //! What a run answers beside its report.
 
-use crate::told::{in_turn, with_slot};
+use crate::told::{in_turn, same, with_slot};
 use bench_report::run;
 use std::test::*;
 
@@ -14,7 +14,7 @@ fn the_report_has_the_states_found(rt: HostRuntime) -> Result<(), Fail> {
         .ok()
         .ok_or("the script runs")?;
     let found = [with_slot(0)?, with_slot(0)?, with_slot(2)?];
-    assert_eq!(rt; report.found.as_slice(), found.as_slice());
-    assert_eq!(rt; report.lines, 11);
+    same(&rt, report.found.as_slice(), found.as_slice());
+    same(&rt, report.lines, 11);
     Ok(())
 }

@@ -1,6 +1,6 @@
 //! Runs that stop before the end of their script, and the disk that they give back.
 
-use crate::told::{START, Short, in_turn};
+use crate::told::{START, Short, in_turn, same};
 use bench_report::run_left;
 use board::{Board, Payloads};
 use board_model::{BootMode, Refusal};
@@ -19,10 +19,10 @@ fn the_disk_of_a_writer_that_failed_powers_on(rt: HostRuntime) -> Result<(), Fai
     match run_left(alloc, &script, &crew, &mut out) {
         Ok(_) => assert!(rt; false, "the report has more bytes"),
         Err(stopped) => {
-            assert_eq!(rt; stopped.refusal, Refusal::Output);
+            same(&rt, stopped.refusal, Refusal::Output);
             let disk = stopped.disk.ok_or("the run gives its disk back")?;
             match Board::power_on(alloc, disk, BootMode::Keep, &payloads) {
-                Ok(board) => assert_eq!(rt; board.found().slot.number(), 2),
+                Ok(board) => same(&rt, board.found().slot.number(), 2),
                 Err(_) => assert!(rt; false, "the disk was formatted"),
             }
         }
@@ -39,15 +39,15 @@ fn the_disk_of_a_run_out_of_memory_powers_on(rt: HostRuntime) -> Result<(), Fail
     let mut out = Short { room: 1000 };
     let payloads = Payloads::new(alloc);
     match run_left(alloc, START, &crew, &mut out) {
-        Ok((report, _disk)) => assert_eq!(rt; report.lines, 4),
+        Ok((report, _disk)) => same(&rt, report.lines, 4),
         Err(stopped) => {
-            assert_eq!(rt; stopped.refusal, Refusal::Memory);
+            same(&rt, stopped.refusal, Refusal::Memory);
             let Some(disk) = stopped.disk else {
                 return Ok(());
             };
             match Board::power_on(alloc, disk, BootMode::Keep, &payloads) {
-                Ok(board) => assert_eq!(rt; board.found().slot.number(), 0),
-                Err(unpowered) => assert_eq!(rt; unpowered.refusal, Refusal::NotFormatted),
+                Ok(board) => same(&rt, board.found().slot.number(), 0),
+                Err(unpowered) => same(&rt, unpowered.refusal, Refusal::NotFormatted),
             }
         }
     }
@@ -66,9 +66,9 @@ fn memory_refused_after_the_open_tells_what_it_found(rt: HostRuntime) -> Result<
     };
     let payloads = Payloads::new(alloc);
     if let Err(left) = Board::power_on(alloc, disk, BootMode::Fresh, &payloads) {
-        assert_eq!(rt; left.refusal, Refusal::Memory);
+        same(&rt, left.refusal, Refusal::Memory);
         assert!(rt; left.found.is_some());
-        assert_eq!(rt; left.now, left.found);
+        same(&rt, left.now, left.found);
     }
     Ok(())
 }

@@ -15,6 +15,11 @@ pub const START: &[u8] = b"board 1 1 1\nformat\non fresh\n";
 pub const STARTED: &[u8] =
     b"board 1/1/1 sectors 26\nformat ok\nfound slot 0 reason 0 image none next 0\non fresh\n";
 
+/// These two have to be equal.
+pub fn same<T: PartialEq + Drop>(rt: &impl Abort, found: T, wanted: T) {
+    assert!(rt; found == wanted);
+}
+
 /// One lane after another.
 pub fn in_turn<R: Threads + Sync>(_rt: &R) -> Result<Sequential<R>, Fail> {
     let crew = Sequential::new([0, 1, 2, 3])
@@ -36,10 +41,10 @@ pub fn reports<R: Abort + Threads + Sync>(
     let (report, disk) = run_left(alloc, script, &crew, &mut out)
         .ok()
         .ok_or("the script runs")?;
-    assert_eq!(rt; out.as_slice(), text);
+    same(rt, out.as_slice(), text);
     let count = text.iter().filter(|b| **b == b'\n').count();
-    assert_eq!(rt; report.lines, count as u64);
-    assert_eq!(rt; disk.refused(), 0);
+    same(rt, report.lines, count as u64);
+    same(rt, disk.refused(), 0);
     Ok(())
 }
 
@@ -54,7 +59,7 @@ pub fn refused<R: Abort + Threads + Sync>(
     let mut out = Vec::new(alloc);
     match run(alloc, script, &crew, &mut out) {
         Ok(_) => assert!(rt; false, "the script has a fault"),
-        Err(e) => assert_eq!(rt; e, want),
+        Err(e) => same(rt, e, want),
     }
     assert!(rt; out.is_empty());
     Ok(())

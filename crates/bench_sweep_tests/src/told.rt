@@ -6,6 +6,11 @@ use std::process::Abort;
 use std::test::Fail;
 use std::thread::Threads;
 
+/// These two have to be equal.
+pub fn same<T: PartialEq + Drop>(rt: &impl Abort, found: T, wanted: T) {
+    assert!(rt; found == wanted);
+}
+
 /// What the power-cut bench writes for a script. It counts so many runs, of which none is wrong.
 pub fn swept<R: Abort + Threads + Sync>(
     rt: &R,
@@ -17,8 +22,8 @@ pub fn swept<R: Abort + Threads + Sync>(
     let done = sweep::<R, Vec<u8>>(alloc, script, &mut out)
         .ok()
         .ok_or("the script is swept")?;
-    assert_eq!(rt; done.runs, runs);
-    assert_eq!(rt; done.wrong, 0);
+    same(rt, done.runs, runs);
+    same(rt, done.wrong, 0);
     Ok(out)
 }
 
@@ -33,8 +38,8 @@ pub fn faulted<R: Abort + Threads + Sync>(
     let done = faults::<R, Vec<u8>>(alloc, script, &mut out)
         .ok()
         .ok_or("each call fails once")?;
-    assert_eq!(rt; done.runs, runs);
-    assert_eq!(rt; done.wrong, 0);
+    same(rt, done.runs, runs);
+    same(rt, done.wrong, 0);
     Ok(out)
 }
 
@@ -51,14 +56,16 @@ pub fn refused<R: Abort + Threads + Sync>(
     want: Refusal,
 ) -> Result<(), Fail> {
     let mut out = Vec::new(alloc);
-    assert_eq!(rt;
+    same(
+        rt,
         sweep::<R, Vec<u8>>(alloc, script, &mut out).err(),
-        Some(want)
+        Some(want),
     );
-    assert_eq!(rt;
+    same(
+        rt,
         faults::<R, Vec<u8>>(alloc, script, &mut out).err(),
-        Some(want)
+        Some(want),
     );
-    assert_eq!(rt; out.len(), 0);
+    same(rt, out.len(), 0);
     Ok(())
 }

@@ -1,5 +1,5 @@
 //! Worked scripts of the benches, with what they write.
-use crate::told::{ends, faulted, refused, swept};
+use crate::told::{ends, faulted, refused, same, swept};
 use board_model::Refusal;
 use std::test::Fail;
 
@@ -65,7 +65,7 @@ points 8 runs 8 wrong 0\n";
 #[test]
 fn a_slot_is_swept(rt: HostRuntime) -> Result<(), Fail> {
     let text = swept(&rt, rt.alloc(), SLOT, 40)?;
-    assert_eq!(rt; text.as_slice(), SWEPT);
+    same(&rt, text.as_slice(), SWEPT);
     Ok(())
 }
 
@@ -107,7 +107,7 @@ fn each_call_of_boots_on_trial_fails_once(rt: HostRuntime) -> Result<(), Fail> {
 #[test]
 fn each_call_of_a_slot_fails_once(rt: HostRuntime) -> Result<(), Fail> {
     let text = faulted(&rt, rt.alloc(), SLOT, 8)?;
-    assert_eq!(rt; text.as_slice(), FAULTED);
+    same(&rt, text.as_slice(), FAULTED);
     Ok(())
 }
 

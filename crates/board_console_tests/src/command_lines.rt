@@ -1,5 +1,6 @@
 //! Command lines, and the faults that they have.
 
+use crate::fixtures::same;
 use board_model::{BootMode, Shape};
 use board_options::options;
 use std::alloc::Global;
@@ -70,14 +71,16 @@ fn is_fault(alloc: Global, words: &'static [&'static str]) -> bool {
 #[test]
 fn what_is_not_given_has_its_default(rt: HostRuntime) -> Result<(), Fail> {
     let given = options(rt.alloc(), PLAIN.as_slice()).ok().ok_or("options")?;
-    assert_eq!(&rt; given.disk.as_str(), "D");
-    assert_eq!(&rt;
+    same(&rt, given.disk.as_str(), "D");
+    same(
+        &rt,
         (given.mode, given.new, given.sync),
-        (BootMode::Resume, false, false)
+        (BootMode::Resume, false, false),
     );
-    assert_eq!(&rt;
+    same(
+        &rt,
         (given.shape, given.turns),
-        (Shape::new(1, 1, 1)?, 1_000_000)
+        (Shape::new(1, 1, 1)?, 1_000_000),
     );
     assert!(&rt; given.payloads.iter().all(|path| path.is_none()));
     Ok(())
@@ -86,17 +89,19 @@ fn what_is_not_given_has_its_default(rt: HostRuntime) -> Result<(), Fail> {
 #[test]
 fn what_is_given_stands(rt: HostRuntime) -> Result<(), Fail> {
     let given = options(rt.alloc(), WHOLE.as_slice()).ok().ok_or("options")?;
-    assert_eq!(&rt;
+    same(
+        &rt,
         (given.mode, given.new, given.sync),
-        (BootMode::Keep, true, false)
+        (BootMode::Keep, true, false),
     );
-    assert_eq!(&rt;
+    same(
+        &rt,
         (given.shape, given.turns),
-        (Shape::new(8, 256, 4)?, 1_000_000_000)
+        (Shape::new(8, 256, 4)?, 1_000_000_000),
     );
     let told = [true, false, false, true];
     for slot in 0..4 {
-        assert_eq!(&rt; given.payloads[slot].is_some(), told[slot]);
+        same(&rt, given.payloads[slot].is_some(), told[slot]);
     }
     Ok(())
 }
@@ -106,14 +111,16 @@ fn a_number_that_is_given_is_told_from_its_default(rt: HostRuntime) -> Result<()
     let read = options(rt.alloc(), SYNCED.as_slice())
         .ok()
         .ok_or("options")?;
-    assert_eq!(&rt;
+    same(
+        &rt,
         (read.new, read.sync, read.shape),
-        (false, true, Shape::new(1, 1, 1)?)
+        (false, true, Shape::new(1, 1, 1)?),
     );
     let given = read.given;
-    assert_eq!(&rt;
+    same(
+        &rt,
         (given.harts, given.pages, given.lanes),
-        (false, true, false)
+        (false, true, false),
     );
     Ok(())
 }

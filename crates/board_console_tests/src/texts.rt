@@ -1,5 +1,6 @@
 //! How answers print.
 
+use crate::fixtures::same;
 use board_console::Reply;
 use board_model::{Boots, ConsoleCommand, Durable, Reason, Refusal, Slot, Trial};
 use std::alloc::Global;
@@ -27,7 +28,7 @@ fn trial(fallback: u32, left: u32) -> Result<Trial, Fail> {
 /// The answer prints so.
 fn prints(rt: &impl Abort, alloc: Global, answer: Reply, text: &str) -> Result<(), Fail> {
     let printed = format!(in alloc; "{answer}")?;
-    assert_eq!(rt; printed.as_str(), text);
+    same(rt, printed.as_str(), text);
     Ok(())
 }
 

@@ -3,6 +3,7 @@
 ghost use Rattle.std.specs.Prelude.{◌≡◌, IfOk};
 ghost use Rattle.store.specs.Leaves.{IsIdle};
 
+use crate::said::same;
 use board::Payloads;
 use board_console::Left;
 use board_model::{Refusal, Shape};
@@ -61,12 +62,12 @@ fn the_console_answers_and_the_disk_keeps(rt: HostRuntime) -> Result<(), Fail> {
     let (out, ended, disk) = ran(&rt, alloc, NEW.as_slice(), disk, &none, lines)?;
     let told =
         b"slot ok 1\nstate slot 1 reason 0 image none next 0\nslot refused 9\ndiscard refused 8\n?\nquit\n";
-    assert_eq!(&rt; out.as_slice(), told.as_slice());
-    assert_eq!(&rt; ended, Ok(()));
+    same(&rt, out.as_slice(), told.as_slice());
+    same(&rt, ended, Ok(()));
     let (out, ended, _disk) = ran(&rt, alloc, OLD.as_slice(), disk, &none, b"state")?;
     let told = b"state slot 1 reason 0 image none next 0\n";
-    assert_eq!(&rt; out.as_slice(), told.as_slice());
-    assert_eq!(&rt; ended, Ok(()));
+    same(&rt, out.as_slice(), told.as_slice());
+    same(&rt, ended, Ok(()));
     Ok(())
 }
 
@@ -77,12 +78,12 @@ fn refusals_come_before_the_console(rt: HostRuntime) -> Result<(), Fail> {
     let disk = SimDisk::blank(alloc, 26)?;
     let (out, ended, disk) = ran(&rt, alloc, OLD.as_slice(), disk, &none, b"state\n")?;
     assert!(&rt; out.is_empty());
-    assert_eq!(&rt; ended, Err(Refusal::NotFormatted));
+    same(&rt, ended, Err(Refusal::NotFormatted));
     let (_out, ended, disk) = ran(&rt, alloc, NEW.as_slice(), disk, &none, b"quit\n")?;
-    assert_eq!(&rt; ended, Ok(()));
+    same(&rt, ended, Ok(()));
     let (out, ended, _disk) = ran(&rt, alloc, NEW.as_slice(), disk, &none, b"quit\n")?;
     assert!(&rt; out.is_empty());
-    assert_eq!(&rt; ended, Err(Refusal::AlreadyFormatted));
+    same(&rt, ended, Err(Refusal::AlreadyFormatted));
     Ok(())
 }
 
@@ -113,8 +114,8 @@ fn an_answer_that_is_not_written_ends_the_session(rt: HostRuntime) -> Result<(),
         out: Full,
     };
     let ended = session(&rt, alloc, &given, disk, &payloads, streams);
-    assert_eq!(&rt; ended.ran, Err(Refusal::Output));
-    assert_eq!(&rt; ended.left, Some(Left::Unwritten));
-    assert_eq!(&rt; ended.streams.input, b"slot 2\n".as_slice());
+    same(&rt, ended.ran, Err(Refusal::Output));
+    same(&rt, ended.left, Some(Left::Unwritten));
+    same(&rt, ended.streams.input, b"slot 2\n".as_slice());
     Ok(())
 }

@@ -14,6 +14,11 @@ use std::sync::Wait;
 use std::test::*;
 use std::thread::Threads;
 
+/// These two have to be equal.
+pub fn same<T: PartialEq + Drop>(rt: &impl Abort, found: T, wanted: T) {
+    assert!(rt; found == wanted);
+}
+
 /// A session: its command line, the lines of its console, and what it writes.
 pub struct Said {
     pub words: &'static [&'static str],
@@ -41,7 +46,7 @@ pub fn says<R: Abort + Threads + Wait + Sync>(
     ensures { IfOk result (λ disk. IsIdle (⟦<SimDisk as Disk>⟧.facts disk)) }
 {
     let (out, ended, disk) = ran(rt, alloc, said.words, disk, payloads, said.lines)?;
-    assert_eq!(rt; out.as_slice(), said.told);
-    assert_eq!(rt; ended, Ok(()));
+    same(rt, out.as_slice(), said.told);
+    same(rt, ended, Ok(()));
     Ok(disk)
 }

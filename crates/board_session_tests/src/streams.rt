@@ -2,6 +2,7 @@
 //! answers that are seen at once.
 
 use crate::runs::{NEW, disk_of};
+use crate::said::same;
 use board::Payloads;
 use board_console::Left;
 use board_options::options;
@@ -79,10 +80,10 @@ fn an_interrupted_read_goes_on_and_a_failed_one_ends_the_input(
     let out = Vec::new(alloc);
     let streams = Streams { input, out };
     let ended = session(&rt, alloc, &given, disk_of(alloc)?, &none, streams);
-    assert_eq!(&rt; ended.ran, Ok(()));
-    assert_eq!(&rt; ended.left, Some(Left::EndOfInput));
+    same(&rt, ended.ran, Ok(()));
+    same(&rt, ended.left, Some(Left::EndOfInput));
     let told = b"slot ok 1\nstate slot 1 reason 0 image none next 0\n";
-    assert_eq!(&rt; ended.streams.out.as_slice(), told.as_slice());
+    same(&rt, ended.streams.out.as_slice(), told.as_slice());
     Ok(())
 }
 
@@ -100,8 +101,8 @@ fn each_answer_is_seen_at_once(rt: HostRuntime) -> Result<(), Fail> {
     };
     let streams = Streams { input, out };
     let ended = session(&rt, alloc, &given, disk_of(alloc)?, &none, streams);
-    assert_eq!(&rt; ended.ran, Ok(()));
-    assert_eq!(&rt; ended.streams.out.seen, 3);
+    same(&rt, ended.ran, Ok(()));
+    same(&rt, ended.streams.out.seen, 3);
     Ok(())
 }
 
@@ -130,7 +131,7 @@ fn quit_ends_all_harts(rt: HostRuntime) -> Result<(), Fail> {
     let out = Vec::new(alloc);
     let streams = Streams { input, out };
     let ended = session(&rt, alloc, &given, disk_of(alloc)?, &none, streams);
-    assert_eq!(&rt; ended.ran, Ok(()));
-    assert_eq!(&rt; ended.left, Some(Left::Quit));
+    same(&rt, ended.ran, Ok(()));
+    same(&rt, ended.left, Some(Left::Quit));
     Ok(())
 }

@@ -6,14 +6,13 @@ use disk::{Disk, Sector};
 use file_disk::{FileDisk, SectorFile};
 use simdisk::SimDisk;
 use std::alloc::Global;
-use std::fmt::Debug;
 use std::io::{self, ErrorKind};
 use std::process::Abort;
 use std::test::Fail;
 use store::{Store, format};
 
 /// What becomes of a file's call and of those after it.
-#[derive(Clone, Copy, Debug, Drop, PartialEq, Eq)]
+#[derive(Clone, Copy, Drop, PartialEq, Eq)]
 pub enum Fate {
     /// That call fails, and the later ones don't.
     Fails,
@@ -62,8 +61,8 @@ impl SectorFile for Kept {
 }
 
 /// These two have to be equal.
-pub fn same<T: PartialEq + Debug + Drop>(rt: &impl Abort, found: T, wanted: T) {
-    assert_eq!(rt; found, wanted);
+pub fn same<T: PartialEq + Drop>(rt: &impl Abort, found: T, wanted: T) {
+    assert!(rt; found == wanted);
 }
 
 /// A blank disk for that board, with a blank file.

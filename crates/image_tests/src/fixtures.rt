@@ -15,7 +15,6 @@ use ram::Ram;
 use savers::{LaneCounts, Snapshot};
 use simdisk::{Fill, SimDisk};
 use std::alloc::Global;
-use std::fmt::Debug;
 use std::process::Abort;
 
 /// A disk for a board of that shape.
@@ -186,6 +185,6 @@ impl Site {
 }
 
 /// These two have to be equal.
-pub fn same<T: PartialEq + Debug + Drop>(rt: &impl Abort, found: T, wanted: T) {
-    assert_eq!(rt; found, wanted);
+pub fn same<T: PartialEq + Drop>(rt: &impl Abort, found: T, wanted: T) {
+    assert!(rt; found == wanted);
 }

@@ -6,8 +6,14 @@ use board_model::{Command, Refusal, Shape};
 use disk::{ArmedFault, Disk};
 use simdisk::SimDisk;
 use std::alloc::Global;
+use std::process::Abort;
 use std::test::*;
 use store::{Receipt, Store, format};
+
+/// These two have to be equal.
+fn same<T: PartialEq + Drop>(rt: &impl Abort, found: T, wanted: T) {
+    assert!(rt; found == wanted);
+}
 
 /// A disk for the smallest board, formatted: 26 sectors.
 fn formatted(alloc: Global) -> Result<Mine<SimDisk>, Fail>
@@ -36,9 +42,9 @@ fn number(receipt: Result<Receipt, Refusal>) -> Result<u32, Refusal> {
 #[test]
 fn an_acknowledged_command_is_found(rt: HostRuntime) -> Result<(), Fail> {
     let mut store = open(rt.alloc(), formatted(rt.alloc())?)?;
-    assert_eq!(&rt; number(store.apply(Command::Slot(2))), Ok(1));
+    same(&rt, number(store.apply(Command::Slot(2))), Ok(1));
     let store = open(rt.alloc(), store.into_disk())?;
-    assert_eq!(&rt; store.found().slot.number(), 2);
+    same(&rt, store.found().slot.number(), 2);
     Ok(())
 }
 
@@ -46,11 +52,15 @@ fn an_acknowledged_command_is_found(rt: HostRuntime) -> Result<(), Fail> {
 fn a_failure_of_the_device_is_counted_and_refused(rt: HostRuntime) -> Result<(), Fail> {
     let mut store = open(rt.alloc(), formatted(rt.alloc())?)?;
     store.arm(ArmedFault::FailAt(1));
-    assert_eq!(&rt; number(store.apply(Command::Slot(2))), Err(Refusal::Device));
-    assert_eq!(&rt; number(store.apply(Command::Slot(3))), Ok(1));
+    same(
+        &rt,
+        number(store.apply(Command::Slot(2))),
+        Err(Refusal::Device),
+    );
+    same(&rt, number(store.apply(Command::Slot(3))), Ok(1));
     let disk = store.into_disk();
-    assert_eq!(&rt; disk.failures(), 1);
+    same(&rt, disk.failures(), 1);
     let store = open(rt.alloc(), disk)?;
-    assert_eq!(&rt; store.found().slot.number(), 3);
+    same(&rt, store.found().slot.number(), 3);
     Ok(())
 }

@@ -7,6 +7,11 @@ use std::alloc::{AllocError, Global};
 use std::process::Abort;
 use std::test::Fail;
 
+/// These two have to be equal.
+pub fn same<T: PartialEq + Drop>(rt: &impl Abort, found: T, wanted: T) {
+    assert!(rt; found == wanted);
+}
+
 /// What parsing answers, if memory does not run out.
 pub fn parsed(alloc: Global, script: &[u8]) -> Result<Result<Script, Refusal>, AllocError> {
     match parse_script(alloc, script) {
@@ -32,7 +37,7 @@ pub fn refused(
 ) -> Result<(), Fail> {
     match parsed(alloc, script)? {
         Ok(_) => assert!(rt; false, "{script:?} has a fault"),
-        Err(found) => assert_eq!(rt; found, refusal, "of {script:?}"),
+        Err(found) => assert!(rt; found == refusal, "of {script:?}"),
     }
     Ok(())
 }
@@ -46,7 +51,7 @@ pub fn malformed(rt: &impl Abort, alloc: Global, board: &[u8], text: &[u8]) -> R
 /// What was read has this shape and so many lines.
 fn has(rt: &impl Abort, script: &Script, shape: Shape, lines: usize) {
     assert!(rt; script.shape == shape);
-    assert_eq!(rt; script.lines.len(), lines);
+    same(rt, script.lines.len(), lines);
 }
 
 /// The script has this shape and so many lines.

@@ -3,12 +3,11 @@ ghost use Rattle.std.specs.Prelude.{◌≡◌};
 
 use disk::{Disk, Fault};
 use simdisk::SimDisk;
-use std::fmt::Debug;
 use std::process::Abort;
 
 /// These two have to be equal.
-pub fn same<T: PartialEq + Debug + Drop>(rt: &impl Abort, found: T, wanted: T) {
-    assert_eq!(rt; found, wanted);
+pub fn same<T: PartialEq + Drop>(rt: &impl Abort, found: T, wanted: T) {
+    assert!(rt; found == wanted);
 }
 
 /// Writes one sector full of a byte.
@@ -23,7 +22,7 @@ pub fn write_byte(rt: &impl Abort, disk: &mut SimDisk, at: usize, byte: u8) -> R
 /// The last byte of each of 4 sectors.
 pub fn contents(rt: &impl Abort, disk: &SimDisk) -> [u8; 4] {
     let content = disk.content();
-    assert_eq!(rt; content.len(), 4);
+    same(rt, content.len(), 4);
     [
         content[0][511],
         content[1][511],

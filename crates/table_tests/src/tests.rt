@@ -7,7 +7,13 @@ use crate::race::{Plan, ready_racers, rounds};
 use board_model::{Addr, HartId, Shape};
 use hsm::{HartTable, SeatTable, State};
 use ipi::PendingTable;
+use std::process::Abort;
 use std::test::Fail;
+
+/// These two have to be equal.
+fn same<T: PartialEq + Drop>(rt: &impl Abort, found: T, wanted: T) {
+    assert!(rt; found == wanted);
+}
 
 #[test]
 fn one_start_in_each_round(rt: HostRuntime) -> Result<(), Fail> {
@@ -27,7 +33,7 @@ fn one_start_in_each_round(rt: HostRuntime) -> Result<(), Fail> {
     );
     let made = ready_racers(rt.alloc(), plans)?;
     match made {
-        Some((table, seats)) => assert_eq!(&rt; rounds(&rt, &table, seats, 10_000), 10_000),
+        Some((table, seats)) => same(&rt, rounds(&rt, &table, seats, 10_000), 10_000),
         None => assert!(&rt; false),
     }
     Ok(())
@@ -40,7 +46,7 @@ fn eight_harts_raise_and_take(rt: HostRuntime) -> Result<(), Fail> {
     let (whole, sums) = all_harts(&rt, &table, whole, 0, 8, 100_000);
     let (_whole, left) = take_all(&table, whole);
     assert!(&rt; 0 < sums.raised);
-    assert_eq!(&rt; sums.raised, sums.taken.wrapping_add(left));
+    same(&rt, sums.raised, sums.taken.wrapping_add(left));
     Ok(())
 }
 
@@ -48,7 +54,7 @@ fn eight_harts_raise_and_take(rt: HostRuntime) -> Result<(), Fail> {
 fn no_interrupt_is_lost(rt: HostRuntime) -> Result<(), Fail> {
     let shape = Shape::new(3, 1, 1)?;
     let (table, whole) = PendingTable::new(rt.alloc(), shape)?;
-    assert_eq!(&rt; lost(&rt, &table, whole, 100_000), 0);
+    same(&rt, lost(&rt, &table, whole, 100_000), 0);
     Ok(())
 }
 
@@ -58,7 +64,7 @@ fn no_start_is_refused(rt: HostRuntime) -> Result<(), Fail> {
     let one = HartId::new(1).unwrap();
     let address = Addr::new(0x8000_0000).unwrap();
     let (table, whole) = HartTable::new(rt.alloc(), shape, one)?;
-    assert_eq!(&rt; refused(&rt, &table, whole, address, 100_000), Some(0));
+    same(&rt, refused(&rt, &table, whole, address, 100_000), Some(0));
     Ok(())
 }
 
@@ -71,7 +77,7 @@ fn a_first_use(rt: HostRuntime) -> Result<(), Fail> {
     let (pending, pairs) = PendingTable::new(rt.alloc(), shape)?;
     let (state, (entry, senders)) = first_use(&rt, &harts, whole, &pending, pairs);
     assert!(&rt; state != State::Stopped);
-    assert_eq!(&rt; entry, Some((address, 7)));
+    same(&rt, entry, Some((address, 7)));
     assert!(&rt; senders.contains(zero));
     Ok(())
 }
