@@ -32,6 +32,8 @@ case $CC in
         # clang has Zicsr in rv64i up to version 16
         [ "$("$CC" -dumpversion | cut -d. -f1)" -ge 17 ] || march=rv64i
         target=--target=riscv64
+        # ld.lld of LLVM 14 makes no linker relaxation
+        [ $binutils != llvm ] || target="$target -mno-relax"
         ;;
     *) binutils=${CC%gcc*} target= ;;
 esac
