@@ -1,8 +1,8 @@
 use Rattle.std.proofs.Common.{rules}
-use Rattle.disk_program.specs.Sights.{SeeRefused}
+use Rattle.examined.specs.Sights.{SeeRefused}
 use Rattle.store.proofs.Renewing.{read_settled, settled_after}
-use Rattle.disk_program.proofs.Seeing.{refused_later}
-use Rattle.disk_program.proofs.sees.see_disk.Goals as goal
+use Rattle.examined.proofs.Seeing.{refused_later}
+use Rattle.examined.proofs.sees.see_disk.Goals as goal
 
 pub returns-in-Ok-found-clause-settles : goal.returns-in-Ok-found-clause-settles
 returns-in-Ok-found-clause-settles g c =
@@ -21,3 +21,6 @@ returns-in-Err-found-clause-settles g c =
 
 pub returns-in-Err-clause-settles : goal.returns-in-Err-clause-settles
 returns-in-Err-clause-settles g c = read_settled (g.D.Disk.facts c.args.disk) (g.D.Disk.facts c.inspect.new.disk) c.in-Err.ensures.reads_alone
+
+pub returns-in-Ok-found-clause-seen : goal.returns-in-Ok-found-clause-seen
+returns-in-Ok-found-clause-seen g c = search rules

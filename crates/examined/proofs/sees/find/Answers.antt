@@ -1,5 +1,5 @@
-use Rattle.disk_program.proofs.Seeing.{open_refused}
-use Rattle.disk_program.proofs.sees.find.Goals as goal
+use Rattle.examined.proofs.Seeing.{open_refused}
+use Rattle.examined.proofs.sees.find.Goals as goal
 
 pub returns-in-Err-clause-refused : goal.returns-in-Err-clause-refused
 returns-in-Err-clause-refused g c =

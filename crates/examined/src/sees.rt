@@ -4,7 +4,7 @@ ghost use Rattle.std.specs.Prelude.{◌≡◌, ◌⊎◌, IfOk, IfErr, MatchResu
 ghost use Rattle.board_model.specs.Shapes.{Size};
 ghost use Rattle.store.specs.Leaves.{IsIdle, IsSettled};
 ghost use Rattle.store.specs.Opens.{IsBoard, ReadsAs};
-ghost use Rattle.disk_program.specs.Sights.{Finds, IsSeen, SeeRefused, unrecorded};
+ghost use Rattle.examined.specs.Sights.{Finds, IsSeen, SeeRefused, unrecorded};
 
 use board_model::{Durable, Refusal};
 use disk::Disk;

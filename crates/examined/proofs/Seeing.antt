@@ -8,7 +8,7 @@ use Rattle.disk.specs.Facts.{Content, Facts}
 use Rattle.store.specs.Leaves.{ReadsAlone}
 use Rattle.store.specs.Opens.{IsBoard, ReadsAs, OpenRefused}
 use Rattle.store.specs.Standing.{StandsFor}
-use Rattle.disk_program.specs.Sights.{SeeRefused, unrecorded}
+use Rattle.examined.specs.Sights.{SeeRefused, unrecorded}
 
 stands_board : (c : Content) (size : Size) → ((s : _) × StandsFor c size s) → IsBoard size c
 unfolding StandsFor

@@ -1,21 +1,14 @@
-//! What the program `sbidisk` does: it says what stands in a disk's file (docs/CONSOLE.md, "The program
-//! `sbidisk`").
-#![tactic(auto)]
-
-mod disk_file;
-mod sees;
-mod shows;
-mod usage;
+//! What the program does: it says what stands in a disk's file (docs/CONSOLE.md, "The program `sbidisk`").
 
 ghost use Rattle.std.specs.Prelude.{◌≤◌};
 ghost use Rattle.std.specs.Process.{exit_status};
 
 use crate::disk_file::disk_of;
-pub use crate::sees::{Found, Seen, see_disk};
-pub use crate::shows::write_seen;
+use crate::shows::write_seen;
 use crate::usage::{USAGE, path_of};
 use board_model::Refusal;
 use command_line::{ProgramFault, ToldBy, show, status_of, without_work, words};
+use examined::see_disk;
 use std::io::{self, BufWriter};
 use std::process::ExitCode;
 

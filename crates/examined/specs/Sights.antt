@@ -9,8 +9,8 @@ use Rattle.disk.specs.Facts.{Content, Facts, Failed}
 use Rattle.store.specs.Inspects.{IsInspected}
 use Rattle.store.specs.Opens.{IsBoard, ReadsAs}
 use Rattle.store.specs.Standing.{StandsFor}
-use Rattle.disk_program.specs.declared.sees.Found.{Found}
-use Rattle.disk_program.specs.declared.sees.Seen.{Seen}
+use Rattle.examined.specs.declared.sees.Found.{Found}
+use Rattle.examined.specs.declared.sees.Seen.{Seen}
 
 -- that state stands on it, of a board of so many pages; or the selected record is in no form
 abbrev pub Finds : Content → Option Found → Type 0

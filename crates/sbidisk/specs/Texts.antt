@@ -5,8 +5,8 @@ use Rattle.board_console.specs.Texts.{state_text}
 use Rattle.board_model.specs.declared.durable.ImageHead.{ImageHead}
 use Rattle.examined.specs.Texts.{inspection_text}
 use Rattle.machine_lines.specs.Texts.{hex_text}
-use Rattle.disk_program.specs.declared.sees.Found.{Found}
-use Rattle.disk_program.specs.declared.sees.Seen.{Seen}
+use Rattle.examined.specs.declared.sees.Found.{Found}
+use Rattle.examined.specs.declared.sees.Seen.{Seen}
 use lib.Chars.{codes}
 
 -- what stands of an image beside its memory, but for the serial, which the line `found` has

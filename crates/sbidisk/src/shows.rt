@@ -3,12 +3,12 @@
 ghost use Rattle.std.specs.Prelude.{◌≡◌, [], Some, OnOk, IfErr};
 ghost use Rattle.std.specs.Io.Buffered.{writer_buffer, writer_contents};
 ghost use Rattle.std.specs.Io.KnownBytes.{Appends};
-ghost use Rattle.disk_program.specs.Texts.{head_text, image_text, found_text, seen_text};
+ghost use Rattle.sbidisk.specs.Texts.{head_text, image_text, found_text, seen_text};
 
-use crate::sees::{Found, Seen};
 use board_console::StateText;
 use board_model::{ImageHead, Refusal};
-use examined::InspectionText;
+use command_line::write_to_end;
+use examined::{Found, InspectionText, Seen};
 use machine_lines::Value;
 use std::fmt;
 use std::io::{BufWriter, Write};
@@ -66,12 +66,16 @@ impl fmt::Display for FoundText {
     }
 }
 
-impl fmt::Display for Seen {
-    ghost output = { λ s. Some (seen_text s) };
+/// What stands on a disk.
+#[derive(Drop)]
+struct SeenText(Seen);
+
+impl fmt::Display for SeenText {
+    ghost output = { λ t. Some (seen_text t.0) };
 
     fn fmt<W: fmt::Write>(&self, f: &mut fmt::Formatter<W>) -> fmt::Result {
-        let inspection = InspectionText(self.inspection);
-        let found = FoundText(self.found);
+        let inspection = InspectionText(self.0.inspection);
+        let found = FoundText(self.0.found);
         write!(f, "inspect {inspection}\n{found}")
     }
 }
@@ -87,6 +91,6 @@ pub fn write_seen<W: Write + Drop>(seen: &Seen, out: &mut BufWriter<W>) -> Resul
     ensures flushed { OnOk result (writer_buffer out.new ≡ []) }
     ensures refused { IfErr result (λ e. e ≡ Refusal.Output) }
 {
-    write!(out, "{seen}").map_err(|_| Refusal::Output)?;
-    out.flush().map_err(|_| Refusal::Output)
+    let text = SeenText(*seen);
+    write_to_end(&text, out)
 }
