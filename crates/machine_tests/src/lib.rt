@@ -9,6 +9,8 @@ mod first_use;
 #[cfg(test)]
 mod fixtures;
 #[cfg(test)]
+mod kept;
+#[cfg(test)]
 mod memory;
 #[cfg(test)]
 mod steps;
