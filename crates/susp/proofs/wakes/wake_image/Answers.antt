@@ -18,11 +18,14 @@ returns-in_err-apply-clause-refused g c =
     let first : LeavesSince (g.D.Disk.facts old.disk) (g.D.Disk.facts mid.disk) (g.D.Disk.facts old.disk).may_leave =
     e.reads_alone.any_moment in
     rw (p.1, p.2)
-    (inr (e.loads, record {
-      answered = λ none. answered_on (view_of old) (view_of mid) (view_of c.apply.new.self) Consume _ e.life e.stays.board e.no_failure.1 e.no_failure.0 e.reads_alone.content first
-          (c.stands.ensures.up _ (none, refl)) (a.answered (ap (λ (x : Life). x.doubt) e.life ∙ none));
-      down = λ d is. let b = a.down d (ap (λ (x : Life). x.doubt) e.life ∙ is) in (b.0, subst (λ s. StoreIsLeft old s) (sym b.1) (record { life = e.life; crash = e.reads_alone.crash }));
-    }))
+    (inr (
+      e.loads,
+      record {
+        answered = λ none. answered_on (view_of old) (view_of mid) (view_of c.apply.new.self) Consume _ e.life e.stays.board e.no_failure.1 e.no_failure.0 e.reads_alone.content first
+            (c.stands.ensures.up _ (none, refl)) (a.answered (ap (λ (x : Life). x.doubt) e.life ∙ none));
+        down = λ d is. let b = a.down d (ap (λ (x : Life). x.doubt) e.life ∙ is) in (b.0, subst (λ s. StoreIsLeft old s) (sym b.1) (record { life = e.life; crash = e.reads_alone.crash }));
+      },
+    ))
 
 pub returns-clause-consumed : goal.returns-clause-consumed
 returns-clause-consumed g c =
