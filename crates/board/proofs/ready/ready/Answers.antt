@@ -21,3 +21,15 @@ pub returns-in-Some-clause-calls : goal.returns-in-Some-clause-calls
 returns-in-Some-clause-calls g c =
     let refuses : RefusesMode (boot_refusal (found_state c.args.store.now) c.args.mode) (Some c.in-Some.refusal) = search rules in
     by_mode (boot_refusal (found_state c.args.store.now) c.args.mode) (size_of_store c.args.store.now) c.in-Some.refusal _ refuses
+
+pub begin-requires-clause-allowed : goal.begin-requires-clause-allowed
+begin-requires-clause-allowed g c κs within = search rules
+
+pub returns-in_err-begin-clause-unissued : goal.returns-in_err-begin-clause-unissued
+returns-in_err-begin-clause-unissued g c = search rules
+
+pub returns-clause-issued : goal.returns-clause-issued
+returns-clause-issued g c = search rules
+
+pub returns-clause-begun : goal.returns-clause-begun
+returns-clause-begun g c = search rules
