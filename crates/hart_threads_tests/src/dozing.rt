@@ -6,7 +6,7 @@ ghost use Rattle.machine.specs.Held.{IsHeld};
 ghost use Rattle.receipts.specs.Views.{id_of, parts_of};
 ghost use Rattle.hart_threads_tests.specs.Begun.{IsBegun};
 
-use crate::fixtures::{Open, booted, parts_of};
+use crate::fixtures::{Open, booted, parts_of, same};
 use crate::looped::looped;
 use board::{Board, Parts};
 use board_console::console;
@@ -290,10 +290,10 @@ fn a_board_that_sleeps_in_its_ram_is_woken_by_its_console(rt: HostRuntime) -> Re
     let (parts, shape) = dozing_parts(&rt)?;
     let (out, ended) = driven(&rt, rt.alloc(), parts, &shape)?;
     let told = b"wake ok\nwake refused 18\nslot ok 1\nquit\n";
-    assert_eq!(&rt; out.as_slice(), told.as_slice());
+    same(&rt, out.as_slice(), told.as_slice());
     let (a0, a1, pc, why, looked, woken) = ended.ok_or("the sleeper")?;
-    assert_eq!(&rt; (a0, a1, pc), (SLEEPER, 9, SITE));
-    assert_eq!(&rt; (why, woken), (Why::Gate, 1));
+    same(&rt, (a0, a1, pc), (SLEEPER, 9, SITE));
+    same(&rt, (why, woken), (Why::Gate, 1));
     assert!(&rt; IDLE < looked);
     Ok(())
 }
@@ -340,7 +340,7 @@ fn dozes_after<R: AllocGlobal + Threads + Wait + Abort + Sync>(
     requires begun { IsBegun shape.now parts.store }
 {
     let mut made = looped(rt, rt.alloc(), &Open, parts, shape, commands, 10)?;
-    assert_eq!(rt; made.pop(), Some((10, Why::Turns, ASKS, None, 3)));
+    same(rt, made.pop(), Some((10, Why::Turns, ASKS, None, 3)));
     Ok(())
 }
 

@@ -6,7 +6,7 @@ ghost use Rattle.machine.specs.Held.{IsHeld};
 ghost use Rattle.receipts.specs.Views.{id_of, parts_of};
 ghost use Rattle.hart_threads_tests.specs.Begun.{IsBegun};
 
-use crate::fixtures::{Open, next_part, parts_of};
+use crate::fixtures::{Open, next_part, parts_of, same};
 use board::Parts;
 use board_model::{Command, HartId, Shape};
 use hart_threads::{Acting, Gate, HartLocal, SharedBoard, Why, hart_loop, seat_harts};
@@ -132,12 +132,16 @@ fn a_loop_ends_as_it_is_told(rt: HostRuntime) -> Result<(), Fail> {
     let alloc = rt.alloc();
     let (parts, shape) = parts_of(alloc, &Shape::new(1, 1, 1)?, &STOPPER)?;
     let mut made = looped(&rt, alloc, &Open, parts, &shape, &[], 3)?;
-    assert_eq!(&rt; made.pop(), Some((3, Why::Turns, 0x8000_000c, None, 0)));
+    same(&rt, made.pop(), Some((3, Why::Turns, 0x8000_000c, None, 0)));
     let (parts, shape) = parts_of(alloc, &Shape::new(1, 1, 1)?, &STOPPER)?;
     let mut made = looped(&rt, alloc, &ShutAt(2), parts, &shape, &[], 100)?;
-    assert_eq!(&rt; made.pop(), Some((2, Why::Gate, 0x8000_0008, None, 0)));
+    same(&rt, made.pop(), Some((2, Why::Gate, 0x8000_0008, None, 0)));
     let (parts, shape) = parts_of(alloc, &Shape::new(1, 1, 1)?, &STOPPER)?;
     let mut made = looped(&rt, alloc, &Open, parts, &shape, &[], 100)?;
-    assert_eq!(&rt; made.pop(), Some((6, Why::Life, 0x8000_0014, Some(1), 0)));
+    same(
+        &rt,
+        made.pop(),
+        Some((6, Why::Life, 0x8000_0014, Some(1), 0)),
+    );
     Ok(())
 }

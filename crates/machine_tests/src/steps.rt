@@ -50,7 +50,7 @@ fn result(ram: &Ram, results: u64, number: usize) -> u64 {
 fn all_results(rt: &impl Abort, ram: &Ram, results: u64, first: usize, wants: &[u64]) {
     for (i, want) in wants.iter().enumerate() {
         let number = first.wrapping_add(i);
-        assert_eq!(rt; result(ram, results, number), *want, "result {number}");
+        assert!(rt; result(ram, results, number) == *want, "result {number}");
     }
 }
 

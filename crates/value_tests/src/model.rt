@@ -15,7 +15,7 @@ fn reads(
 ) -> Result<(), Fail> {
     same(rt, refusal.code(), code);
     let written = format!(in alloc; "{refusal}")?;
-    assert_eq!(rt; written.as_str(), text);
+    same(rt, written.as_str(), text);
     Ok(())
 }
 
