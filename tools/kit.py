@@ -75,17 +75,24 @@ def linked(folder, to):
     return to
 
 
+def rt_check(crate):
+    """`rt check` in the crate's folder, by one job: its status, and what it said."""
+    how = {"stdin": subprocess.DEVNULL, "stdout": subprocess.PIPE, "stderr": subprocess.STDOUT, "text": True, "errors": "replace"}
+    ran = subprocess.run(["rt", "check", "--jobs", "1"], cwd=crate.folder, **how)
+    return ran.returncode, ran.stdout
+
+
 def proved(crate):
     """Checks the crate by one job, over what was kept, with the libraries below it, and gives the folder of its kept work."""
-    ran = subprocess.run(["rt", "check", "--jobs", "1"], cwd=crate.folder, stdin=subprocess.DEVNULL, capture_output=True, text=True, errors="replace")
-    if ran.returncode:
-        sys.exit(f"{ran.stdout[-2000:]}{ran.stderr[-2000:]}\n{crate.name} is not proved")
+    status, said = rt_check(crate)
+    if status:
+        sys.exit(f"{said[-2000:]}\n{crate.name} is not proved")
     return f"{crate.folder}/out/incremental"
 
 
 def check(crate, texts, kept, is_again=False):
-    """A check of the crate with these texts in the place of its own, by one job, over a folder of kept work, as `rt ci` makes it of an edit. One that
-    was killed is made once more."""
+    """A check of the crate with these texts in the place of its own, by one job, over a folder of kept work, as `rt ci` makes it
+    of an edit. One that was killed is made once more."""
     rtlib = rt().rtlib
     with tempfile.TemporaryDirectory(prefix="kit-check-") as room:
         for part in rtlib.PARTS:
@@ -94,7 +101,8 @@ def check(crate, texts, kept, is_again=False):
         for path, text in texts.items():
             with open(f"{room}/{path}", "w", encoding="utf-8") as it:
                 it.write(text)
-        words = [rtlib.RATTLE, "check", *crate.words(["--jobs", "1"], keeps=False), "--incremental", kept, "--stage-times", f"{room}/stages"]
+        words = [rtlib.RATTLE, "check", *crate.words(["--jobs", "1"], keeps=False)]
+        words += ["--incremental", kept, "--stage-times", f"{room}/stages"]
         how = {"stdin": subprocess.DEVNULL, "stdout": subprocess.PIPE, "stderr": subprocess.STDOUT, "errors": "replace"}
         ran = subprocess.Popen([*rtlib.guarded(), *words], cwd=room, **how)
         said = ran.stdout.read()

@@ -25,7 +25,7 @@ fn slot_found(alloc: Global, disk: SimDisk) -> Result<u32, Refusal>
 
 /// How a run ended: how many lines its report has, or why it stopped; and, of a disk that it gave back, the slot
 /// that a power-on finds.
-type Ended = (Result<u64, Refusal>, Option<Result<u32, Refusal>>);
+type RunEnd = (Result<u64, Refusal>, Option<Result<u32, Refusal>>);
 
 /// How a run ends whose writer takes so many bytes.
 fn ended<R: Threads + Sync>(
@@ -33,7 +33,7 @@ fn ended<R: Threads + Sync>(
     alloc: Global,
     script: &[u8],
     room: usize,
-) -> Result<Ended, Fail> {
+) -> Result<RunEnd, Fail> {
     let crew = in_turn(rt)?;
     let mut out = Short { room };
     match run_left(alloc, script, &crew, &mut out) {

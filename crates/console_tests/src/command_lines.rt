@@ -92,7 +92,7 @@ type Asked = (
 );
 
 /// What these words ask for, of the disk `D`.
-fn asked(alloc: Global, words: &'static [&'static str]) -> Result<Asked, Fail> {
+fn asked_by(alloc: Global, words: &'static [&'static str]) -> Result<Asked, Fail> {
     let options = options(alloc, words).ok().ok_or("options")?;
     if options.disk.as_str() != "D" {
         return Err("another disk".into());
@@ -120,7 +120,7 @@ fn what_is_not_given_has_its_default(rt: HostRuntime) -> Result<(), Fail> {
         [false; 4],
         (false, false, false),
     );
-    same(&rt, asked(rt.alloc(), &PLAIN)?, wanted);
+    same(&rt, asked_by(rt.alloc(), &PLAIN)?, wanted);
     Ok(())
 }
 
@@ -132,7 +132,7 @@ fn what_is_given_stands(rt: HostRuntime) -> Result<(), Fail> {
         [true, false, false, true],
         (true, true, true),
     );
-    same(&rt, asked(rt.alloc(), &WHOLE)?, wanted);
+    same(&rt, asked_by(rt.alloc(), &WHOLE)?, wanted);
     Ok(())
 }
 
@@ -144,7 +144,7 @@ fn a_number_that_is_given_is_told_from_its_default(rt: HostRuntime) -> Result<()
         [false; 4],
         (false, true, false),
     );
-    same(&rt, asked(rt.alloc(), &SYNCED)?, wanted);
+    same(&rt, asked_by(rt.alloc(), &SYNCED)?, wanted);
     Ok(())
 }
 

@@ -87,13 +87,14 @@ impl Write for Full {
 }
 
 /// A session over a blank disk: how it ended, why its console left, and its streams.
+#[derive(Drop)]
 struct Ended<I: Read + Drop, W: Write + Drop> {
     ran: Result<(), Refusal>,
     left: Option<Left>,
     streams: Streams<I, W>,
 }
 
-fn ended<R: Threads + Wait + Sync, I: Read + Drop, W: Write + Drop>(
+fn over_a_blank_disk<R: Threads + Wait + Sync, I: Read + Drop, W: Write + Drop>(
     rt: &R,
     alloc: Global,
     words: &'static [&'static str],
@@ -117,7 +118,7 @@ fn an_interrupted_read_goes_on_and_a_failed_one_ends_the_input(
         input: Faltering::new(b"slot 1\nstate\n"),
         out: Vec::new(rt.alloc()),
     };
-    let ended = ended(&rt, rt.alloc(), &NEW, streams)?;
+    let ended = over_a_blank_disk(&rt, rt.alloc(), &NEW, streams)?;
     same(
         &rt,
         (ended.ran, ended.left),
@@ -137,7 +138,7 @@ fn each_answer_is_seen_at_once(rt: HostRuntime) -> Result<(), Fail> {
             seen: 0,
         },
     };
-    let ended = ended(&rt, rt.alloc(), &NEW, streams)?;
+    let ended = over_a_blank_disk(&rt, rt.alloc(), &NEW, streams)?;
     same(&rt, (ended.ran, ended.streams.out.seen), (Ok(()), 3));
     Ok(())
 }
@@ -148,7 +149,7 @@ fn an_answer_that_is_not_written_ends_the_session(rt: HostRuntime) -> Result<(),
         input: b"slot 1\nslot 2\n".as_slice(),
         out: Full,
     };
-    let ended = ended(&rt, rt.alloc(), &NEW, streams)?;
+    let ended = over_a_blank_disk(&rt, rt.alloc(), &NEW, streams)?;
     let refused = Err(Refusal::Output);
     same(
         &rt,
@@ -179,7 +180,7 @@ fn quit_ends_all_harts(rt: HostRuntime) -> Result<(), Fail> {
         input: b"quit\n".as_slice(),
         out: Vec::new(rt.alloc()),
     };
-    let ended = ended(&rt, rt.alloc(), &THREE, streams)?;
+    let ended = over_a_blank_disk(&rt, rt.alloc(), &THREE, streams)?;
     same(&rt, (ended.ran, ended.left), (Ok(()), Some(Left::Quit)));
     Ok(())
 }

@@ -329,32 +329,27 @@ fn armed(parts: Parts<SimDisk>, shape: &Shape, fault: ArmedFault) -> Parts<SimDi
     parts
 }
 
-/// After these commands, whatever they were answered, the board dozes, and no receipt is told.
+/// After these commands, whatever they were answered under that fault, the board dozes, and no receipt is told.
 fn dozes_after<R: AllocGlobal + Threads + Wait + Abort + Sync>(
     rt: &R,
-    parts: Parts<SimDisk>,
-    shape: &Shape,
     commands: &[Command],
-) -> Result<(), Fail>
-    requires held { IsHeld shape.now parts.harts.items parts.tables (Some parts.seats) parts.bus.doze }
-    requires begun { IsBegun shape.now parts.store }
-{
-    let mut made = looped(rt, rt.alloc(), &Open, parts, shape, commands, 10)?;
+    fault: ArmedFault,
+) -> Result<(), Fail> {
+    let (parts, shape) = dozer(rt.alloc())?;
+    let parts = armed(parts, &shape, fault);
+    let mut made = looped(rt, rt.alloc(), &Open, parts, &shape, commands, 10)?;
     same(rt, made.pop(), Some((10, Why::Turns, ASKS, None, 3)));
     Ok(())
 }
 
+/// A call that no store here comes to.
+const NEVER: ArmedFault = ArmedFault::FailAt(1_000_000);
+
 /// A store that is over, full or down, and so refuses every command.
 #[test]
 fn a_board_dozes_whatever_its_store_would_refuse(rt: HostRuntime) -> Result<(), Fail> {
-    let alloc = rt.alloc();
-    let (parts, shape) = dozer(alloc)?;
-    dozes_after(&rt, parts, &shape, &[])?;
-    let (parts, shape) = dozer(alloc)?;
-    dozes_after(&rt, parts, &shape, &[Command::Reset(Reason::NoReason)])?;
-    let (parts, shape) = dozer(alloc)?;
-    dozes_after(&rt, parts, &shape, &[Command::Slot(1); 4096])?;
-    let (parts, shape) = dozer(alloc)?;
-    let parts = armed(parts, &shape, ArmedFault::FailAt(3));
-    dozes_after(&rt, parts, &shape, &[Command::Slot(1)])
+    dozes_after(&rt, &[], NEVER)?;
+    dozes_after(&rt, &[Command::Reset(Reason::NoReason)], NEVER)?;
+    dozes_after(&rt, &[Command::Slot(1); 4096], NEVER)?;
+    dozes_after(&rt, &[Command::Slot(1)], ArmedFault::FailAt(3))
 }
