@@ -4,7 +4,7 @@
 //! makes of it (board_model). `StandsFor c size s`: these bytes, as the content of a disk, are the state s, with
 //! the memory of its image (store). Of the facts of a disk, `may_leave` has each content that may be there where
 //! power fails now, and `since` each that might have been there where it failed at a moment since (disk).
-ghost use Rattle.std.specs.Prelude.{◌≡◌, ◌⊎◌, ◌∷◌, [], ℕ, List, Some, None, Ok, Err, IfOk, IfErr, OnOk, IsErrOf, IsErr};
+ghost use Rattle.std.specs.Prelude.{◌+◌, ◌≡◌, ◌⊎◌, ◌∷◌, [], ℕ, List, Some, None, Ok, Err, IfOk, IfErr, OnOk, IsErrOf, IsErr};
 ghost use Rattle.std.specs.Io.KnownBytes.{Appends};
 ghost use Rattle.board_model.specs.Durable.{DurableState, Image, Change, Suspend, Consume, formatted, after, fold};
 ghost use Rattle.board_model.specs.Kept.{MayFind, found_of};
@@ -15,7 +15,9 @@ ghost use Rattle.board_model.specs.declared.boot_mode.BootMode.TheVariants as mo
 ghost use Rattle.board_model.specs.declared.refusal.Refusal.{Refusal};
 ghost use Rattle.board_model.specs.declared.refusal.Refusal.TheVariants.{Down};
 ghost use Rattle.disk.specs.Facts.{Content, LeavesSince};
+ghost use Rattle.store.specs.Asked.{Asked};
 ghost use Rattle.store.specs.Leaves.{IsIdle, Leaves, LeavesOnly, LeavesEither, StandsForEither};
+ghost use Rattle.store.specs.Lives.{Applied};
 ghost use Rattle.store.specs.Standing.{StandsFor};
 ghost use Rattle.store.specs.Views.{disk_of, size_of_store, found_state, now_state, doubt_of};
 ghost use Rattle.board.specs.Views.{store_of, machine_of};
@@ -27,6 +29,7 @@ ghost use Rattle.bench_report.specs.Prefix.{KeepsPrefixLaw};
 ghost use Rattle.bench_report.specs.AllFound.{FindsAll};
 ghost use Rattle.bench_report.specs.Bench.{Bench};
 ghost use Rattle.bench_report.specs.declared.printed.Answer.{Answer};
+ghost use Rattle.theorem.specs.Prefixes.{IsAfterFirst};
 
 use bench_report::{Report, Stopped, prefix_law, run_left};
 use board::{Board, Payloads, Unpowered};
@@ -39,6 +42,60 @@ use simdisk::{Fill, SimDisk};
 use std::alloc::Global;
 use std::io::Write;
 use store::{Receipt, Resumption, Saving, Store, format, one_standing};
+
+/// *Wherever power fails, a cold boot finds the durable state after a prefix of the commands that holds every
+/// acknowledged one.* Of one command, as a run of a disk in memory: a cut or a failure is armed for any call of the
+/// disk or of a lane, the command is made, power fails, and the next cold boot finds the state before the command or
+/// the one after it; and the one after it, where it was acknowledged.
+pub fn power_lost_in_a_command(
+    alloc: Global,
+    mut store: Store<SimDisk>,
+    fault: ArmedFault,
+    command: Command,
+    fill: Fill,
+) -> (Result<Receipt, Refusal>, Result<Store<SimDisk>, (SimDisk, Refusal)>)
+    requires up { doubt_of store ≡ None }
+    ensures finds { IfOk result.1 (λ next. (found_state next ≡ now_state store)
+        ⊎ (found_state next ≡ after (now_state store) (change_of command))) }
+    ensures acknowledged { OnOk result.0 (IfOk result.1 (λ next.
+        found_state next ≡ after (now_state store) (change_of command))) }
+{
+    one_standing();
+    store.arm(fault);
+    let answer = store.apply(command);
+    let left = store.into_disk().after_cut(fill);
+    (answer, Store::open(alloc, left))
+}
+
+/// Issues a command.
+fn issue<D: Disk + Drop>(store: &mut Store<D>, command: &Command) -> Result<Receipt, Refusal>
+    ensures { Asked Applied store.old (change_of command.now) result store.new }
+{
+    store.apply(*command)
+}
+
+/// The same of a row of commands of one life, up to the
+/// first that is not acknowledged: a crash at any moment of it leaves what could have been left at its start, or
+/// what some first of the commands make of the state before it; a crash at its end leaves what the acknowledged
+/// ones make, or these and the next one. Answers how many were acknowledged.
+pub fn commands_in_a_row<D: Disk + Drop>(store: &mut Store<D>, commands: &[Command]) -> usize
+    requires up { doubt_of store.old ≡ None }
+    ensures wherever_power_fails { (c : Content) → (disk_of store.new).since (disk_of store.old).moment c
+        → (disk_of store.old).since (disk_of store.old).moment c
+        ⊎ IsAfterFirst (size_of_store store.old) (now_state store.old) commands.now 0 (result + 1) c }
+    ensures holds_every_acknowledged_one { (c : Content) → (disk_of store.new).may_leave c
+        → IsAfterFirst (size_of_store store.old) (now_state store.old) commands.now result (result + 1) c }
+{
+    store.stands();
+    let mut acknowledged = 0;
+    for command in commands {
+        match issue(store, command) {
+            Ok(_) => acknowledged += 1,
+            Err(_) => return acknowledged,
+        }
+    }
+    acknowledged
+}
 
 /// *The durable state.* These bytes stand for one state of one board, or for none.
 pub fn crashes_leave_contents()
@@ -56,7 +113,7 @@ pub fn a_format<D: Disk>(disk: &mut D, shape: &Shape) -> Result<(), Refusal>
     format(disk, shape)
 }
 
-/// *Wherever power fails, .. a prefix of the commands that holds every acknowledged one.* Of one command: at each
+/// The same of any disk, at each moment. Of one command: at each
 /// moment since its start, within a call of the disk too, a crash leaves the state before it or the state after
 /// it; once it was acknowledged the one after it alone, and after a refusal that leaves no doubt (any but 6) the
 /// one before it alone.
@@ -102,29 +159,6 @@ pub fn a_cold_boot_finds_what_stands<D: Disk + Drop>(alloc: Global, disk: D) -> 
 {
     one_standing();
     Store::open(alloc, disk)
-}
-
-/// The two as one run of a disk in memory: a cut is armed for any call of the disk or of a lane, a command is
-/// made, power fails, and the next cold boot finds the state before the command or the one after it; and the one
-/// after it, where it was acknowledged.
-pub fn power_lost_in_a_command(
-    alloc: Global,
-    mut store: Store<SimDisk>,
-    fault: ArmedFault,
-    command: Command,
-    fill: Fill,
-) -> (Result<Receipt, Refusal>, Result<Store<SimDisk>, (SimDisk, Refusal)>)
-    requires up { doubt_of store ≡ None }
-    ensures finds { IfOk result.1 (λ next. (found_state next ≡ now_state store)
-        ⊎ (found_state next ≡ after (now_state store) (change_of command))) }
-    ensures acknowledged { OnOk result.0 (IfOk result.1 (λ next.
-        found_state next ≡ after (now_state store) (change_of command))) }
-{
-    one_standing();
-    store.arm(fault);
-    let answer = store.apply(command);
-    let left = store.into_disk().after_cut(fill);
-    (answer, Store::open(alloc, left))
 }
 
 /// *Its suspension's memory byte for byte, with every hart stopped but one, which is resumed at its address with
