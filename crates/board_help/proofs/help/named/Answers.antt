@@ -1,8 +1,8 @@
 use Rattle.std.proofs.Common.{◌≡◌, ◌∙◌, true, ap}
 use Rattle.clap.specs.Simple.{app_of_fields}
 use Rattle.clap.specs.Words.{App, app_of}
-use Rattle.board_options.specs.Lines.{named_app}
-use Rattle.board_options.proofs.help.named.Goals as goal
+use Rattle.board_help.specs.Lines.{named_app}
+use Rattle.board_help.proofs.help.named.Goals as goal
 
 abbrev with_version : App → App
 with_version a = record a { top = record a.top { has_version = true } }

@@ -3,7 +3,7 @@
 ghost use Rattle.std.specs.Prelude.{◌≡◌, false, IfOk};
 ghost use Rattle.clap.specs.Words.{app_of, rule_of};
 ghost use Rattle.clap.specs.declared.builder.value_parser.ValueParser.{ValueParser as Parser};
-ghost use Rattle.board_options.specs.Lines.{option_rule, path_rule, number_rule, mode_rule, named_app, board_line, with_shape, with_payloads, sbiboard};
+ghost use Rattle.board_help.specs.Lines.{option_rule, path_rule, number_rule, mode_rule, named_app, board_line, with_shape, with_payloads, sbiboard};
 
 use board_model::refusal_lines;
 use clap::builder::ValueParser;

@@ -1,11 +1,4 @@
-//! What the program `sbiboard` does: its command line, its files, and its status (docs/CONSOLE.md).
-#![tactic(auto)]
-
-mod disk_file;
-mod held;
-mod hints;
-mod payload_files;
-mod written;
+//! What the program does: its command line, its files, and its status (docs/CONSOLE.md).
 
 ghost use Rattle.std.specs.Prelude.{◌≤◌};
 ghost use Rattle.std.specs.Process.{exit_status};
@@ -13,12 +6,11 @@ ghost use Rattle.store.specs.Leaves.{IsIdle};
 
 use crate::disk_file::disk_of;
 use crate::held::{Held, hold};
-use crate::hints::Hints;
 use crate::payload_files::payloads_of;
 use crate::written::{blank_file, write_disk};
 use board::Payloads;
 use board_model::Refusal;
-use board_options::{Options, USAGE, options};
+use board_options::{Hints, Options, USAGE, options};
 use board_session::{Streams, session};
 use command_line::{
     NoWork, ProgramFault, ToldBy, first_fault, memory_fault, show, status_of, without_work, words,

@@ -2,8 +2,8 @@ use Rattle.std.proofs.Common.{◌≡◌, ◌∙◌, Bool, [], ◌∷◌, ap, ap�
 use Rattle.clap.specs.Words.{Rule, rule_of}
 use Rattle.clap.specs.declared.builder.arg.Arg.{Arg}
 use Rattle.clap.specs.declared.builder.value_parser.ValueParser.{ValueParser}
-use Rattle.board_options.specs.Lines.{value_rule}
-use Rattle.board_options.proofs.help.number.Goals as goal
+use Rattle.board_help.specs.Lines.{value_rule}
+use Rattle.board_help.proofs.help.number.Goals as goal
 
 abbrev is_global : Arg → Bool
 is_global a = a.global

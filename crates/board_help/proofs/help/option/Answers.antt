@@ -2,7 +2,7 @@ use Rattle.std.proofs.Common.{◌≡◌, ◌∙◌, Bool, Some, ap}
 use Rattle.clap.specs.Words.{Rule, new_rule, rule_of}
 use Rattle.clap.specs.declared.builder.action.ArgAction.TheVariants.{Set}
 use Rattle.clap.specs.declared.builder.arg.Arg.{Arg}
-use Rattle.board_options.proofs.help.option.Goals as goal
+use Rattle.board_help.proofs.help.option.Goals as goal
 
 abbrev is_global : Arg → Bool
 is_global a = a.global
