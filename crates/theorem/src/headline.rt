@@ -53,7 +53,10 @@ pub fn power_lost_in_a_command(
     fault: ArmedFault,
     command: Command,
     fill: Fill,
-) -> (Result<Receipt, Refusal>, Result<Store<SimDisk>, (SimDisk, Refusal)>)
+) -> (
+    Result<Receipt, Refusal>,
+    Result<Store<SimDisk>, (SimDisk, Refusal)>,
+)
     requires up { doubt_of store ≡ None }
     ensures finds { IfOk result.1 (λ next. (found_state next ≡ now_state store)
         ⊎ (found_state next ≡ after (now_state store) (change_of command))) }
@@ -150,7 +153,10 @@ pub fn a_suspension<D: Disk + Drop, C: Crew>(
 
 /// *A cold boot finds.* An open that answers Ok finds the state that the bytes of the disk stand for, and one that
 /// a crash just before it could have left; and from then on a crash leaves no other.
-pub fn a_cold_boot_finds_what_stands<D: Disk + Drop>(alloc: Global, disk: D) -> Result<Store<D>, (D, Refusal)>
+pub fn a_cold_boot_finds_what_stands<D: Disk + Drop>(
+    alloc: Global,
+    disk: D,
+) -> Result<Store<D>, (D, Refusal)>
     requires { IsIdle (D.facts disk) }
     ensures finds { (size : Size) (s : DurableState) → StandsFor (D.facts disk).content size s
         → IfOk result (λ store. (size_of_store store ≡ size) × (found_state store ≡ s)) }
