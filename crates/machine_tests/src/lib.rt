@@ -11,6 +11,8 @@ mod first_use;
 #[cfg(test)]
 mod fixtures;
 #[cfg(test)]
+mod kept;
+#[cfg(test)]
 mod known;
 #[cfg(test)]
 mod memory;

@@ -51,6 +51,13 @@ fn threads_run_two_jobs_at_once(rt: HostRuntime) {
 }
 
 #[test]
+fn threads_run_three_jobs_at_once(rt: HostRuntime) {
+    let mut jobs = [0; 3];
+    same(&rt, all_begin(&rt, &Threads::new(&rt), &mut jobs), true);
+    same(&rt, jobs, [1, 2, 3]);
+}
+
+#[test]
 fn threads_run_four_jobs_at_once(rt: HostRuntime) {
     let mut jobs = [0; 4];
     same(&rt, all_begin(&rt, &Threads::new(&rt), &mut jobs), true);

@@ -1,7 +1,6 @@
 //! A write of one sector, and what a disk holds.
 ghost use Rattle.std.specs.Prelude.{◌≡◌};
 
-use crate::fixtures::same;
 use disk::{Disk, Fault};
 use simdisk::SimDisk;
 use std::process::Abort;
@@ -18,7 +17,7 @@ pub fn write_byte(rt: &impl Abort, disk: &mut SimDisk, at: usize, byte: u8) -> R
 /// The last byte of each of 4 sectors.
 pub fn contents(rt: &impl Abort, disk: &SimDisk) -> [u8; 4] {
     let content = disk.content();
-    same(rt, content.len(), 4);
+    assert!(rt; content.len() == 4);
     [
         content[0][511],
         content[1][511],

@@ -10,6 +10,8 @@ mod fixtures;
 #[cfg(test)]
 mod model;
 #[cfg(test)]
+mod plains;
+#[cfg(test)]
 mod sbi;
 #[cfg(test)]
 mod script_faults;
