@@ -1,0 +1,239 @@
+//! The promises, in order.
+//!
+//! Five words carry them all. `DurableState` is what a board keeps without power, and `after` is what a command
+//! makes of it (board_model). `StandsFor c size s`: these bytes, as the content of a disk, are the state s, with
+//! the memory of its image (store). Of the facts of a disk, `may_leave` has each content that may be there where
+//! power fails now, and `since` each that might have been there where it failed at a moment since (disk).
+ghost use Rattle.std.specs.Prelude.{◌+◌, ◌≡◌, ◌⊎◌, ◌∷◌, [], ℕ, List, Some, None, Ok, Err, IfOk, IfErr, OnOk, IsErrOf, IsErr};
+ghost use Rattle.std.specs.Io.KnownBytes.{Appends};
+ghost use Rattle.board_model.specs.Durable.{DurableState, Image, Change, Suspend, Consume, formatted, after, fold};
+ghost use Rattle.board_model.specs.Kept.{MayFind, found_of};
+ghost use Rattle.board_model.specs.Shapes.{Size};
+ghost use Rattle.board_model.specs.Views.{change_of};
+ghost use Rattle.board_model.specs.declared.boot_mode.BootMode.{BootMode};
+ghost use Rattle.board_model.specs.declared.boot_mode.BootMode.TheVariants as modes;
+ghost use Rattle.board_model.specs.declared.refusal.Refusal.{Refusal};
+ghost use Rattle.board_model.specs.declared.refusal.Refusal.TheVariants.{Down};
+ghost use Rattle.disk.specs.Facts.{Content, LeavesSince};
+ghost use Rattle.store.specs.Asked.{Asked};
+ghost use Rattle.store.specs.Leaves.{IsIdle, Leaves, LeavesOnly, LeavesEither, StandsForEither};
+ghost use Rattle.store.specs.Lives.{Applied};
+ghost use Rattle.store.specs.Standing.{StandsFor};
+ghost use Rattle.store.specs.Views.{disk_of, size_of_store, found_state, now_state, doubt_of};
+ghost use Rattle.board.specs.Views.{store_of, machine_of};
+ghost use Rattle.machine.specs.Machine.{woken};
+ghost use Rattle.lives.specs.Events.{Event, World, new_world, Runs, Rises};
+ghost use Rattle.script_lang.specs.Scripts.{script_of, Script as Said};
+ghost use Rattle.bench_report.specs.Reports.{report_text, AreByFirmware, IsReport};
+ghost use Rattle.bench_report.specs.Prefix.{KeepsPrefixLaw};
+ghost use Rattle.bench_report.specs.AllFound.{FindsAll};
+ghost use Rattle.bench_report.specs.Bench.{Bench};
+ghost use Rattle.bench_report.specs.declared.printed.Answer.{Answer};
+ghost use Rattle.theorem.specs.Prefixes.{IsAfterFirst};
+
+use bench_report::{Report, Stopped, prefix_law, run_left};
+use board::{Board, Payloads, Unpowered};
+use board_model::{BootMode, Command, Refusal, Shape};
+use crew::Crew;
+use disk::{ArmedFault, Disk};
+use lives::lives;
+use ram::Ram;
+use simdisk::{Fill, SimDisk};
+use std::alloc::Global;
+use std::io::Write;
+use store::{Receipt, Resumption, Saving, Store, format, one_standing};
+
+/// *Wherever power fails, a cold boot finds the durable state after a prefix of the commands that holds every
+/// acknowledged one.* Of one command, as a run of a disk in memory: a cut or a failure is armed for any call of the
+/// disk or of a lane, the command is made, power fails, and the next cold boot finds the state before the command or
+/// the one after it; and the one after it, where it was acknowledged.
+pub fn power_lost_in_a_command(
+    alloc: Global,
+    mut store: Store<SimDisk>,
+    fault: ArmedFault,
+    command: Command,
+    fill: Fill,
+) -> (
+    Result<Receipt, Refusal>,
+    Result<Store<SimDisk>, (SimDisk, Refusal)>,
+)
+    requires up { doubt_of store ≡ None }
+    ensures finds { IfOk result.1 (λ next. (found_state next ≡ now_state store)
+        ⊎ (found_state next ≡ after (now_state store) (change_of command))) }
+    ensures acknowledged { OnOk result.0 (IfOk result.1 (λ next.
+        found_state next ≡ after (now_state store) (change_of command))) }
+{
+    one_standing();
+    store.arm(fault);
+    let answer = store.apply(command);
+    let left = store.into_disk().after_cut(fill);
+    (answer, Store::open(alloc, left))
+}
+
+/// Issues a command.
+fn issue<D: Disk + Drop>(store: &mut Store<D>, command: &Command) -> Result<Receipt, Refusal>
+    ensures { Asked Applied store.old (change_of command.now) result store.new }
+{
+    store.apply(*command)
+}
+
+/// The same of a row of commands of one life, up to the
+/// first that is not acknowledged: a crash at any moment of it leaves what could have been left at its start, or
+/// what some first of the commands make of the state before it; a crash at its end leaves what the acknowledged
+/// ones make, or these and the next one. Answers how many were acknowledged.
+pub fn commands_in_a_row<D: Disk + Drop>(store: &mut Store<D>, commands: &[Command]) -> usize
+    requires up { doubt_of store.old ≡ None }
+    ensures wherever_power_fails { (c : Content) → (disk_of store.new).since (disk_of store.old).moment c
+        → (disk_of store.old).since (disk_of store.old).moment c
+        ⊎ IsAfterFirst (size_of_store store.old) (now_state store.old) commands.now 0 (result + 1) c }
+    ensures holds_every_acknowledged_one { (c : Content) → (disk_of store.new).may_leave c
+        → IsAfterFirst (size_of_store store.old) (now_state store.old) commands.now result (result + 1) c }
+{
+    store.stands();
+    let mut acknowledged = 0;
+    for command in commands {
+        match issue(store, command) {
+            Ok(_) => acknowledged += 1,
+            Err(_) => return acknowledged,
+        }
+    }
+    acknowledged
+}
+
+/// *The durable state.* These bytes stand for one state of one board, or for none.
+pub fn crashes_leave_contents()
+    ensures { (c : Content) (y z : Size) (s t : DurableState) → StandsFor c y s → StandsFor c z t → (y ≡ z) × (s ≡ t) }
+{
+    one_standing();
+}
+
+/// *From the format on.* Once a format answered Ok, whenever power fails the state is the formatted one: slot 0,
+/// no reason, serial 0, no image.
+pub fn a_format<D: Disk>(disk: &mut D, shape: &Shape) -> Result<(), Refusal>
+    requires { IsIdle (D.facts disk.old) }
+    ensures { OnOk result (LeavesOnly (D.facts disk.new) shape.now formatted) }
+{
+    format(disk, shape)
+}
+
+/// The same of any disk, at each moment. Of one command: at each
+/// moment since its start, within a call of the disk too, a crash leaves the state before it or the state after
+/// it; once it was acknowledged the one after it alone, and after a refusal that leaves no doubt (any but 6) the
+/// one before it alone.
+pub fn a_command<D: Disk + Drop>(store: &mut Store<D>, command: Command) -> Result<Receipt, Refusal>
+    requires up { doubt_of store.old ≡ None }
+    ensures wherever_power_fails { LeavesSince (disk_of store.old) (disk_of store.new)
+        (StandsForEither (size_of_store store.old) (now_state store.old) (after (now_state store.old) (change_of command))) }
+    ensures acknowledged { OnOk result (LeavesOnly (disk_of store.new) (size_of_store store.old)
+        (after (now_state store.old) (change_of command))) }
+    ensures refused { IfErr result (λ e. (e ≡ Refusal.Down → ⊥)
+        → LeavesOnly (disk_of store.new) (size_of_store store.old) (now_state store.old)) }
+{
+    store.apply(command)
+}
+
+/// The same of a suspension, whose image has this memory, byte for byte, and this hart, address and opaque value.
+pub fn a_suspension<D: Disk + Drop, C: Crew>(
+    store: &mut Store<D>,
+    saving: Saving<'_, C>,
+    ram: &Ram,
+    at: Resumption,
+) -> Result<Receipt, Refusal>
+    requires up { doubt_of store.old ≡ None }
+    ensures wherever_power_fails { LeavesSince (disk_of store.old) (disk_of store.new)
+        (StandsForEither (size_of_store store.old) (now_state store.old)
+        (after (now_state store.old) (Suspend at.hart at.address at.opaque ram.now))) }
+    ensures acknowledged { OnOk result (LeavesOnly (disk_of store.new) (size_of_store store.old)
+        (after (now_state store.old) (Suspend at.hart at.address at.opaque ram.now))) }
+    ensures refused { IfErr result (λ e. (e ≡ Refusal.Down → ⊥)
+        → LeavesOnly (disk_of store.new) (size_of_store store.old) (now_state store.old)) }
+{
+    store.suspend(saving, ram, at)
+}
+
+/// *A cold boot finds.* An open that answers Ok finds the state that the bytes of the disk stand for, and one that
+/// a crash just before it could have left; and from then on a crash leaves no other.
+pub fn a_cold_boot_finds_what_stands<D: Disk + Drop>(
+    alloc: Global,
+    disk: D,
+) -> Result<Store<D>, (D, Refusal)>
+    requires { IsIdle (D.facts disk) }
+    ensures finds { (size : Size) (s : DurableState) → StandsFor (D.facts disk).content size s
+        → IfOk result (λ store. (size_of_store store ≡ size) × (found_state store ≡ s)) }
+    ensures left { IfOk result (λ store. Leaves (D.facts disk) (size_of_store store) (found_state store)) }
+    ensures settled { IfOk result (λ store. LeavesOnly (disk_of store) (size_of_store store) (found_state store)) }
+{
+    one_standing();
+    Store::open(alloc, disk)
+}
+
+/// *Its suspension's memory byte for byte, with every hart stopped but one, which is resumed at its address with
+/// its number and opaque value.* A board that is powered on to resume, and is on, goes on with the image of the
+/// state that its open found: it is `woken` from it, and only once the image is consumed: from then on no crash
+/// leaves it.
+pub fn a_board_is_resumed<D: Disk + Drop>(
+    alloc: Global,
+    disk: D,
+    payloads: &Payloads,
+) -> Result<Board<D>, Unpowered<D>>
+    requires { IsIdle (D.facts disk) }
+    ensures resumed { IfOk result (λ board. (i : Image) × ((found_state (store_of board)).image ≡ Some i)
+        × (machine_of board ≡ woken i (size_of_store (store_of board)))) }
+    ensures found { IfOk result (λ board. Leaves (D.facts disk) (size_of_store (store_of board))
+        (found_state (store_of board))) }
+    ensures consumed { IfOk result (λ board. LeavesOnly (disk_of (store_of board)) (size_of_store (store_of board))
+        (after (found_state (store_of board)) Consume)) }
+{
+    Board::power_on(alloc, disk, BootMode::Resume, payloads)
+}
+
+/// *An image whose consumption was acknowledged is never resumed again.* The two as one run of a disk in memory,
+/// whatever fault it is armed with: a board is resumed, power fails, and no next power-on resumes a board.
+pub fn never_resumed_again(
+    alloc: Global,
+    disk: SimDisk,
+    payloads: &Payloads,
+    fill: Fill,
+) -> Result<Result<Board<SimDisk>, Unpowered<SimDisk>>, Unpowered<SimDisk>>
+    requires { IsIdle (⟦<SimDisk as Disk>⟧.facts disk) }
+    ensures { IfOk result (λ again. IsErr again) }
+{
+    one_standing();
+    let first = Board::power_on(alloc, disk, BootMode::Resume, payloads)?;
+    let left = first.into_disk().after_cut(fill);
+    Ok(Board::power_on(alloc, left, BootMode::Resume, payloads))
+}
+
+/// *After a prefix of the commands, .. never resumed again.* Over all lives of a disk, whatever happens to it: the
+/// state is what the kept commands make of the formatted one, and the serials of the images that were resumed rise
+/// strictly.
+pub fn many_lives()
+    ensures prefix { (events : List Event) (w : World) → Runs new_world events w → w.state ≡ fold formatted w.kept }
+    ensures never_again { (events : List Event) (w : World) → Runs new_world events w → Rises w.resumed }
+{
+    lives();
+}
+
+/// *From the bytes of a script to those of its report.* What was written is the text of answers that keep the
+/// prefix law, where no line writes the disk past the firmware; and where the disk counted no failure, each
+/// power-on finds what all acknowledged commands make.
+pub fn a_script<C: Crew, W: Write>(
+    alloc: Global,
+    script: &[u8],
+    crew: &C,
+    out: &mut W,
+) -> Result<(Report, SimDisk), Stopped>
+    ensures { IfOk result (λ left. (said : Said) × (answers : List Answer) × (script_of script.now ≡ Ok said)
+        × Appends (W.contents out.old) (W.contents out.new) (report_text answers)
+        × (AreByFirmware said.lines → KeepsPrefixLaw said.lines answers)) }
+{
+    run_left(alloc, script, crew, out)
+}
+
+/// The same of each report that a script may have.
+pub fn reports_of_scripts()
+    ensures { (said : Said) (answers : List Answer) (end : Bench) → AreByFirmware said.lines
+        → IsReport said answers end → KeepsPrefixLaw said.lines answers }
+{
+    prefix_law();
+}
