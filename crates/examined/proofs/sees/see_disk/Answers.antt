@@ -21,3 +21,6 @@ returns-in-Err-found-clause-settles g c =
 
 pub returns-in-Err-clause-settles : goal.returns-in-Err-clause-settles
 returns-in-Err-clause-settles g c = read_settled (g.D.Disk.facts c.args.disk) (g.D.Disk.facts c.inspect.new.disk) c.in-Err.ensures.reads_alone
+
+pub returns-in-Ok-found-clause-seen : goal.returns-in-Ok-found-clause-seen
+returns-in-Ok-found-clause-seen g c = search rules
