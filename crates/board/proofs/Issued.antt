@@ -335,13 +335,13 @@ pub free_now : (store : StoreView) → IsOpen store → (c : Change) → refusal
 free_now store opened c free = subst (λ (t : DurableState). refusal_of t c ≡ None) (sym (ap now_of opened.begins)) free
 
 -- a mode that drops no image
+pub drops_none : (mode : BootMode) → (mode ≡ modes.Fresh) ⊎ (mode ≡ modes.Keep) ⊎ (mode ≡ modes.Resume) → drops_by mode ≡ []
+drops_none mode (inl fresh) = ap drops_by fresh
+drops_none mode (inr (inl keep)) = ap drops_by keep
+drops_none mode (inr (inr resume)) = ap drops_by resume
+
 pub none_dropped : (mode : BootMode) (store : StoreView) → IsNow store.disk → IsOpen store → (mode ≡ modes.Fresh) ⊎ (mode ≡ modes.Keep) ⊎ (mode ≡ modes.Resume) → AreIssued (drops_by mode) store store
-none_dropped mode store now opened is = subst (λ (cs : List Change). AreIssued cs store store) (sym (drops_none is)) (none_to_issue store now (takes_commands mode store store opened))
-  where
-    drops_none : (mode ≡ modes.Fresh) ⊎ (mode ≡ modes.Keep) ⊎ (mode ≡ modes.Resume) → drops_by mode ≡ []
-    drops_none (inl fresh) = ap drops_by fresh
-    drops_none (inr (inl keep)) = ap drops_by keep
-    drops_none (inr (inr resume)) = ap drops_by resume
+none_dropped mode store now opened is = subst (λ (cs : List Change). AreIssued cs store store) (sym (drops_none mode is)) (none_to_issue store now (takes_commands mode store store opened))
 
 -- a boot is counted where a trial stands
 pub counts_boot : (trial : Option Trial) → is_some trial ≡ true → attempts_of trial ≡ Attempt ∷ []
@@ -360,7 +360,7 @@ module _ (mode : BootMode) (old mid new : StoreView) (opened : IsOpen old) (drop
   abbrev counted : List Change
   counted = attempts_of (now_of mid.life).trial
 
-  commands_are : mode ≢ modes.Resume → drops_by mode ++ counted ≡ commands_by mode old.life.found
+  pub commands_are : mode ≢ modes.Resume → drops_by mode ++ counted ≡ commands_by mode old.life.found
   commands_are boots =
       let only = (takes_commands mode old mid opened).only in
       ap (λ (t : DurableState). drops_by mode ++ attempts_of t.trial) (now_then (drops_by mode) counted old mid new only dropped ∙ ap (λ (t : DurableState). fold t (drops_by mode)) (ap now_of opened.begins)) ∙ boots_by mode old.life.found boots

@@ -8,4 +8,5 @@ mod On
 pub mod Rows
 mod Opened
 pub mod Issued
+mod CallsMade
 pub mod Few

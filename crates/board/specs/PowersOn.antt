@@ -7,17 +7,18 @@ use Rattle.board_model.specs.Views.{durable_of}
 use Rattle.board_model.specs.declared.durable.Durable.{Durable}
 use Rattle.board_model.specs.declared.boot_mode.BootMode.{BootMode}
 use Rattle.board_model.specs.declared.refusal.Refusal.{Refusal}
-use Rattle.disk.specs.Facts.{Content, Facts, LeavesSince}
+use Rattle.disk.specs.Facts.{Content, Facts, LeavesSince, counted}
 use Rattle.disk.specs.FaultState.{FaultState}
 use Rattle.store.specs.Leaves.{IsIdle, SameLength, Leaves, LeftAsBefore, LeavesOnly}
 use Rattle.store.specs.Lives.{Life, now_of}
-use Rattle.store.specs.Opens.{OpenRefused, CausedRefusal}
+use Rattle.store.specs.Opens.{IsBoard, OpenRefused, CausedRefusal, open_calls, OpenCalls}
 use Rattle.store.specs.Standing.{StandsFor}
 use Rattle.store.specs.Answers.{StoreView}
 use Rattle.machine.specs.Machine.{Machine}
 use Rattle.board.specs.Boots.{PayloadsFit, boot_refusal, life_after}
 use Rattle.board.specs.Begins.{IsBegun, RefusesBoot}
 use Rattle.board.specs.Moments.{commands_by, gone_before, MayLeave, AreWritten, LeavesFrom}
+use Rattle.board.specs.Readies.{UnbootedCalls}
 use Rattle.board.specs.Unbooted.{IsLifeLeft, LeavesLife, CountsRefusal}
 
 -- The board is on. Its life begins in the state that the disk stands for, which a crash just before could
@@ -88,3 +89,11 @@ pub record GivesDisk (old : Facts) (m : FaultState) (e : Refusal) (new : Facts) 
   pub cause : CausedRefusal m e n
   pub counts : CountsRefusal old.failures e new.failures
   pub no_fewer : old.failures ≤ new.failures
+
+-- How many calls of the disk a power-on made that left the board off, of a disk that has sectors: those of the
+-- open, which tells no state where it was refused itself, and behind one that succeeded those of the boot. So a
+-- board that is refused memory has read nothing of its image.
+abbrev pub OffCalls : Content → Option Durable → Refusal → ℕ → ℕ → Type 0
+OffCalls c None e old new = OpenCalls c e old new
+OffCalls c (Some found) e old new =
+    (size : Size) × IsBoard size c × UnbootedCalls size e (counted old (open_calls c)) new

@@ -50,16 +50,16 @@ pub struct Parts<D: Disk + Drop> {
 
 impl<D: Disk + Drop> Board<D> {
     ghost use Rattle.susp.specs.Dozes.{can_wake, after_wake};
-    ghost use Rattle.std.specs.Prelude.{◌≡◌, ◌↔◌, ◌⊎◌, ◌<◌, ◌≤◌, ℕ, List, true, false, length, Some, None, Err, IfSome, IsOk, OnOk, IfOk, IfErr, IsErrOf, MatchResult, MatchOption};
+    ghost use Rattle.std.specs.Prelude.{◌≡◌, ◌↔◌, ◌⊎◌, ◌<◌, ◌≤◌, ◌+◌, ℕ, List, true, false, length, Some, None, Err, IfSome, IsOk, OnOk, IfOk, IfErr, IsErrOf, MatchResult, MatchOption};
     ghost use Rattle.board_model.specs.Durable.{DurableState, Change, refusal_of};
     ghost use Rattle.board_model.specs.Shapes.{Size};
     ghost use Rattle.board_model.specs.Views.{durable_of, change_of, change_in};
     ghost use Rattle.board_model.specs.declared.refusal.Refusal.{Refusal};
-    ghost use Rattle.disk.specs.Facts.{LeavesSince, Failed, Unchanged};
+    ghost use Rattle.disk.specs.Facts.{LeavesSince, Failed, Unchanged, counted};
     ghost use Rattle.disk.specs.FaultState.{armed_by};
     ghost use Rattle.store.specs.Standing.{StandsFor};
     ghost use Rattle.store.specs.Leaves.{IsIdle, SameLength, Leaves, LeavesOnly, LeavesEither};
-    ghost use Rattle.store.specs.Opens.{ReadsAs, OpenRefused, CausedRefusal};
+    ghost use Rattle.store.specs.Opens.{ReadsAs, OpenRefused, CausedRefusal, open_calls};
     ghost use Rattle.store.specs.Lives.{Applied};
     ghost use Rattle.store.specs.Asked.{Asked};
     ghost use Rattle.store.specs.Views.{device_of, disk_of, fault_state_of, arms_of, size_of_store, life_of, found_state, now_state, doubt_of, failures_at_open, view_of, Stands, Doubts};
@@ -71,7 +71,8 @@ impl<D: Disk + Drop> Board<D> {
     ghost use Rattle.board_model.specs.ConsoleCommands.{console_change};
     ghost use Rattle.board.specs.Views.{store_of, machine_of};
     ghost use Rattle.board.specs.Turns.{Comes, TurnsHeld, RowHeld, TurnsManyHeld, CallsHeld};
-    ghost use Rattle.board.specs.PowersOn.{IsOn, IsUnpowered, KeepsDisk, GivesDisk};
+    ghost use Rattle.board.specs.PowersOn.{IsOn, IsUnpowered, OffCalls, KeepsDisk, GivesDisk};
+    ghost use Rattle.board.specs.Readies.{boot_calls};
 
     /// Powers a board on: opens the disk, and begins by the mode (docs/BOARD.md, "Power on"). Fresh, keep and
     /// discard boot the slot, discard once the image is dropped, and each once the boot is counted where a trial
@@ -104,6 +105,13 @@ impl<D: Disk + Drop> Board<D> {
         ensures no_sectors { length (D.facts disk).content ≡ 0
             → MatchResult result (λ board. ⊥) (λ f. (f.refusal ≡ Refusal.BadShape) × (f.found ≡ None)
             × (f.disk ≡ disk)) }
+
+        // Of a disk that has sectors.
+        ensures calls { 0 < length (D.facts disk).content
+            → MatchResult result (λ board. (disk_of (store_of board)).calls
+            ≡ counted (D.facts disk).calls (open_calls (D.facts disk).content
+            + boot_calls mode (size_of_store (store_of board)) (found_state (store_of board))))
+            (λ e. OffCalls (D.facts disk).content e.found e.refusal (D.facts disk).calls (D.facts e.disk).calls) }
 
         ensures keeps { MatchResult result (λ board. KeepsDisk (D.facts disk) (D.fault_state disk)
             (disk_of (store_of board)) (fault_state_of (store_of board)))

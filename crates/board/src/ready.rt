@@ -1,18 +1,19 @@
 //! From an opened store to a board that stands at its first instruction, or goes on with its image.
 
-ghost use Rattle.std.specs.Prelude.{◌≡◌, ◌≢◌, ◌⊎◌, ◌≤◌, ◌<◌, ℕ, OnOk, IfOk, IfErr, None};
+ghost use Rattle.std.specs.Prelude.{◌≡◌, ◌≢◌, ◌⊎◌, ◌≤◌, ◌<◌, ◌*◌, ℕ, length, OnOk, IfOk, IfErr, MatchResult, None};
+ghost use Rattle.disk.specs.Facts.{counted};
 ghost use Rattle.board_model.specs.Durable.{DurableState};
 ghost use Rattle.board_model.specs.Shapes.{ram_bytes_of};
 ghost use Rattle.board_model.specs.Views.{durable_of};
 ghost use Rattle.board_model.specs.declared.boot_mode.BootMode.{BootMode};
 ghost use Rattle.board_model.specs.declared.refusal.Refusal.{Refusal};
-ghost use Rattle.store.specs.Views.{size_of_store, found_state, now_state, view_of};
+ghost use Rattle.store.specs.Views.{disk_of, size_of_store, found_state, now_state, view_of};
 ghost use Rattle.machine.specs.Machine.{resting};
 ghost use Rattle.board.specs.Begins.{HasItsHart, boot_hart, IsBegun, IsLateRefusal, Issues, RefusesBoot};
 ghost use Rattle.board.specs.Boots.{boot_refusal, PayloadsFit, booted};
 ghost use Rattle.board.specs.Issues.{TakesCommands, AreIssued, AreStopped, drops_by};
 ghost use Rattle.board.specs.Moments.{attempts_of};
-ghost use Rattle.board.specs.Readies.{IsOpen, IsIssued, IsUnissued};
+ghost use Rattle.board.specs.Readies.{IsOpen, IsIssued, IsUnissued, boot_calls, UnbootedCalls};
 ghost use Rattle.board.specs.Unbooted.{IsStartRefusal, RefusesMode};
 
 use crate::payloads::Payloads;
@@ -92,6 +93,8 @@ fn drop_image<D: Disk + Drop>(store: &mut Store<D>, mode: BootMode) -> Result<()
     requires allowed { boot_refusal (found_state store.old) mode ≡ None }
     ensures issued { OnOk result (AreIssued (drops_by mode) (view_of store.old) (view_of store.new)) }
     ensures stopped { IfErr result (λ e. AreStopped (drops_by mode) (view_of store.old) e (view_of store.new)) }
+    ensures calls { OnOk result
+        ((disk_of store.new).calls ≡ counted (disk_of store.old).calls (4 * length (drops_by mode))) }
 {
     match mode {
         BootMode::Discard => {
@@ -109,6 +112,8 @@ fn count_boot<D: Disk + Drop>(store: &mut Store<D>) -> Result<(), Refusal>
         (AreIssued (attempts_of (now_state store.old).trial) (view_of store.old) (view_of store.new)) }
     ensures stopped { IfErr result
         (λ e. AreStopped (attempts_of (now_state store.old).trial) (view_of store.old) e (view_of store.new)) }
+    ensures calls { OnOk result ((disk_of store.new).calls
+        ≡ counted (disk_of store.old).calls (4 * length (attempts_of (now_state store.old).trial))) }
 {
     if store.now().trial.is_some() {
         store.apply(Command::Attempt)?;
@@ -126,6 +131,8 @@ fn issue_boot<D: Disk + Drop>(store: &mut Store<D>, mode: BootMode) -> Result<()
     ensures refused { IfErr result (λ e. ((e ≡ Refusal.Device) ⊎ (e ≡ Refusal.Down))
         × Issues mode (found_state store.old)) }
     ensures unissued { IfErr result (λ e. IsUnissued mode (view_of store.old) e (view_of store.new)) }
+    ensures calls { OnOk result ((disk_of store.new).calls
+        ≡ counted (disk_of store.old).calls (boot_calls mode (size_of_store store.old) (found_state store.old))) }
 {
     drop_image(store, mode)?;
     count_boot(store)
@@ -150,6 +157,9 @@ fn begin<D: Disk + Drop>(
     ensures refused { IfErr result (λ e. IsLateRefusal mode (size_of_store store.old) payloads.now
         (found_state store.old) e) }
     ensures unissued { IfErr result (λ e. IsUnissued mode (view_of store.old) e (view_of store.new)) }
+    ensures calls { MatchResult result (λ _. (disk_of store.new).calls
+        ≡ counted (disk_of store.old).calls (boot_calls mode (size_of_store store.old) (found_state store.old)))
+        (λ e. UnbootedCalls (size_of_store store.old) e (disk_of store.old).calls (disk_of store.new).calls) }
 {
     match mode {
         BootMode::Fresh | BootMode::Keep | BootMode::Discard => {
@@ -177,6 +187,9 @@ pub fn ready<D: Disk + Drop>(
     ensures refused { IfErr result (λ e. RefusesBoot mode (size_of_store store.old) payloads.now (found_state store.old)
         e) }
     ensures unissued { IfErr result (λ e. IsUnissued mode (view_of store.old) e (view_of store.new)) }
+    ensures calls { MatchResult result (λ _. (disk_of store.new).calls
+        ≡ counted (disk_of store.old).calls (boot_calls mode (size_of_store store.old) (found_state store.old)))
+        (λ e. UnbootedCalls (size_of_store store.old) e (disk_of store.old).calls (disk_of store.new).calls) }
 {
     if let Some(refusal) = mode_refusal(mode, &store.found()) {
         return Err(refusal);

@@ -5,6 +5,7 @@ ghost use Rattle.bench_report.specs.Bench.{Bench};
 ghost use Rattle.bench_report.specs.Reports.{IsReport, report_text};
 ghost use Rattle.bench_report.specs.declared.printed.Answer.{Answer};
 
+use bench_judge::line_apart;
 use bench_report::run;
 use board_model::Refusal;
 use crew::Crew;
@@ -52,15 +53,8 @@ pub fn compare_report<'a, C: Crew>(
 {
     let mut out = Vec::new(alloc);
     run(alloc, script, crew, &mut out).map_err(ExampleFault::Refused)?;
-    if out.as_slice() != report {
-        return Err(ExampleFault::Differs(first_line_apart(out.as_slice(), report)));
+    match line_apart(out.as_slice(), report) {
+        None => Ok(AsReported { name }),
+        Some(line) => Err(ExampleFault::Differs(line)),
     }
-    Ok(AsReported { name })
-}
-
-/// The first line, from 1, in which the one differs from the other.
-pub fn first_line_apart(one: &[u8], other: &[u8]) -> usize {
-    let same = one.iter().zip(other).take_while(|(a, b)| *a == *b);
-    let ends = same.filter(|(a, _)| **a == b'\n').count();
-    ends.saturating_add(1)
 }

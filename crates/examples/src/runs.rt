@@ -1,7 +1,7 @@
 //! Runs of `sbibench` by the words of a command line, over streams in memory (README.md, "Runs").
 
-use crate::reported::first_line_apart;
 use crate::streams::{Input, Output, Room};
+use bench_judge::line_apart;
 use bench_program::{Pipe, run_on};
 use std::alloc::Global;
 use std::fmt;
@@ -129,14 +129,6 @@ fn run_of(text: &str) -> Option<Run<'_>> {
     })
 }
 
-/// Nothing where the bytes are those of the text, else the first line in which they differ.
-fn differs(bytes: &[u8], text: &str) -> Option<usize> {
-    if bytes == text.as_bytes() {
-        return None;
-    }
-    Some(first_line_apart(bytes, text.as_bytes()))
-}
-
 /// Makes the run with an output that holds back so many bytes, and compares what comes of it.
 fn compare_held<R: Threads + Sync>(
     alloc: Global,
@@ -165,10 +157,10 @@ fn compare_held<R: Threads + Sync>(
     if status != run.status {
         return Err(RunFault::Status(status));
     }
-    if let Some(line) = differs(out.get_ref().get_ref().taken(), run.output) {
+    if let Some(line) = line_apart(out.get_ref().get_ref().taken(), run.output.as_bytes()) {
         return Err(RunFault::Output(line));
     }
-    if let Some(line) = differs(faults.taken(), run.faults) {
+    if let Some(line) = line_apart(faults.taken(), run.faults.as_bytes()) {
         return Err(RunFault::Faults(line));
     }
     Ok(())

@@ -1,6 +1,6 @@
 //! Boards of three harts and of eight: each hart makes its turns, and the life of all ends with one's.
 
-use crate::fixtures::{driven, parts_of};
+use crate::fixtures::{driven, parts_of, same};
 use crate::looped::STOPPER;
 use board_model::{HartId, Shape};
 use hart_threads::Gate;
@@ -59,7 +59,7 @@ fn each_of_eight_harts_makes_its_turns(rt: HostRuntime) -> Result<(), Fail> {
     let (all, _disk) = driven(&rt, rt.alloc(), &gate, parts, &shape, 20);
     assert!(&rt; all);
     for hart in 0..8 {
-        assert_eq!(&rt; gate.made_by(hart), 20);
+        same(&rt, gate.made_by(hart), 20);
     }
     Ok(())
 }
@@ -70,6 +70,6 @@ fn the_life_of_all_harts_ends_with_a_reset_of_one(rt: HostRuntime) -> Result<(),
     let gate = Counting::new();
     let (all, _disk) = driven(&rt, rt.alloc(), &gate, parts, &shape, ENDLESS);
     assert!(&rt; all);
-    assert_eq!(&rt; gate.made_by(0), 6);
+    same(&rt, gate.made_by(0), 6);
     Ok(())
 }

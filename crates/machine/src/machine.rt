@@ -1,15 +1,17 @@
 //! The memory, the harts, and both tables with the one seat of all harts.
 
-ghost use Rattle.std.specs.Prelude.{◌≡◌, ◌⊎◌, ◌≤◌, ◌<◌, ℕ, length, IfOk, IfErr, IsOk, OnOk, OnErr, true, Ok, Err, Some, None, IsTrue, ◌↔◌};
+ghost use Rattle.std.specs.Prelude.{◌≡◌, ◌⊎◌, ◌≤◌, ◌<◌, ◌+◌, ◌*◌, ℕ, length, IfOk, IfErr, IsOk, IsErrOf, OnOk, OnErr, true, Ok, Err, Some, None, IsTrue, ◌↔◌};
 ghost use Rattle.board_model.specs.Durable.{Image};
 ghost use Rattle.board_model.specs.Shapes.{ram_bytes_of};
 ghost use Rattle.board_model.specs.declared.refusal.Refusal.TheVariants.{Memory, NotDozing};
 ghost use Rattle.turns.specs.Turns.{has_pending, TurnOf};
 ghost use Rattle.susp.specs.Dozes.{doze_of, can_wake, after_wake};
 ghost use Rattle.sbi_calls.specs.declared.words.Turned.TheVariants.{Durable};
-ghost use Rattle.store.specs.Views.{size_of_store, now_state, view_of};
+ghost use Rattle.disk.specs.Facts.{Failed, counted};
+ghost use Rattle.store.specs.Lives.{IsLoaded};
+ghost use Rattle.store.specs.Views.{disk_of, size_of_store, now_state, failures_at_open, view_of};
 ghost use Rattle.store.specs.Answers.{StaysOpen};
-ghost use Rattle.susp.specs.Wakes.{IsUnloaded, IsConsumed};
+ghost use Rattle.susp.specs.Wakes.{IsUnloaded, IsConsumed, WakeStops};
 ghost use Rattle.machine.specs.Machine.{hart_at, stopped_harts, resting, machine_begun, woken};
 ghost use Rattle.turns.specs.Many.{RowOf};
 ghost use Rattle.machine.specs.Turns.{MakesTurn, MakesRow, MakesOneCall, DoneBy, DozeTurn, CallOf, calling};
@@ -125,8 +127,16 @@ impl Machine {
             × (length i.memory ≡ length self.old.memory)) }
         ensures consumed { OnOk result ((n : ℕ) × IsConsumed store.old (Ok n) store.new) }
         ensures refused { IfErr result (λ e. IsUnloaded store.old self.old.memory e store.new
-            ⊎ IsConsumed store.old (Err e) store.new) }
+            ⊎ (IsLoaded (now_state store.old) self.new.memory × IsConsumed store.old (Err e) store.new)) }
+        ensures untouched { IfErr result (λ e. (e ≡ Refusal.BadShape) ⊎ (e ≡ Refusal.NoImage)
+            → (self.new ≡ self.old) × (store.new ≡ store.old)) }
+        ensures life { IsErrOf result Refusal.Down
+            → Failed (failures_at_open store.new) (disk_of store.new).failures }
         ensures stays { StaysOpen (view_of store.old) (view_of store.new) }
+        ensures calls { OnOk result ((disk_of store.new).calls
+            ≡ counted (disk_of store.old).calls (2 * (size_of_store store.old).pages + 4)) }
+        ensures stops { IfErr result (λ e. WakeStops (size_of_store store.old).pages e (disk_of store.old).calls
+            (disk_of store.new).calls) }
     {
         let hart = wake_image(store, &mut self.bus.ram)?;
         let place = hart.id().index();

@@ -1,7 +1,6 @@
 -- Whether a sector is a record, by what the parser answers; and that a content is inspected in one way.
 use Rattle.std.proofs.Common.{◌≡◌, ◌∙◌, ◌↔◌, ⊎_elim, ℕ, ◌<◌, List, length, Bool, true, false, IsTrue, Some, Result, Ok, Err, refl, sym, ap, subst, arith}
-use Rattle.std.specs.Prelude.{IfOk, IfErr, is_ok}
-use Rattle.std.specs.Result.{MatchResult}
+use Rattle.std.specs.Prelude.{◌≤◌, ◌+◌, ◌*◌, IfOk, IfErr, is_ok}
 use Rattle.board_model.specs.declared.refusal.Refusal.{Refusal}
 use Rattle.board_model.specs.declared.refusal.Refusal.TheVariants.{NotFormatted, BadShape, Memory}
 use Rattle.board_model.specs.Shapes.{Size}
@@ -13,7 +12,7 @@ use Rattle.layout.proofs.OneSpelling.{one_record}
 use Rattle.disk.specs.Facts.{Content, Facts, sector, counted}
 use Rattle.store.specs.Opens.{IsBoard}
 use Rattle.store.specs.Standing.{live_sector, saved_memory}
-use Rattle.store.specs.Inspects.{HasRecord, KeepsImage, IsImageSeen, IsInspected, InspectRefused, SeenCalls, InspectCalls}
+use Rattle.store.specs.Inspects.{HasRecord, KeepsImage, IsImageSeen, IsInspected, InspectRefused, SeenCalls, ExaminedCalls, FailedCalls, InspectCalls}
 use Rattle.store.specs.declared.inspects.ImageSeen.{ImageSeen}
 use Rattle.store.specs.declared.inspects.ImageSeen.TheVariants.{Absent, Whole, Bad}
 use Rattle.store.specs.declared.inspects.Inspection.{Inspection}
@@ -33,19 +32,22 @@ four n = omega arith
 sized : (y z : Size) (c : Content) (seen : ImageSeen) (old new : ℕ) → IsBoard y c → IsBoard z c → SeenCalls y (Ok seen) old new → SeenCalls z (Ok seen) old new
 sized y z c seen old new first second calls = subst (λ (s : Size). SeenCalls s (Ok seen) old new) (one_size y z (sector c 0) first.0 second.0) calls
 
+failed_calls : (z : Size) (c : Content) (old mid new : ℕ) → IsBoard z c → mid ≡ counted old 1 → (counted mid 1 ≤ new) × (new ≤ counted mid (3 + 2 * z.pages)) → FailedCalls c old new
+failed_calls z c old mid new board first within = record {
+  some = omega (arith, first, within.0);
+  few = λ size also. subst (λ (s : Size). new ≤ counted old (4 + 2 * s.pages)) (one_size z size (sector c 0) board.0 also.0) (omega (arith, first, within.1));
+  first = λ none. absurd (none z board);
+}
+
 pub inspect_calls : (a b : Facts) (z : Size) (old mid new : ℕ) (result : Result Inspection Refusal) → IsBoard z a.content → mid ≡ counted old 1 → 0 < length a.content
     → IfErr result (λ e. InspectRefused a e b)
-    → MatchResult result (λ i. SeenCalls z (Ok i.image) (counted mid 3) new) (λ e. e ≡ Memory → new ≡ counted mid 3)
-    → InspectCalls a.content result old new
-inspect_calls a b z old mid new result board first some refused calls =
-    by result refused (subst (λ (n : ℕ). MatchResult result (λ i. SeenCalls z (Ok i.image) n new) (λ e. e ≡ Memory → new ≡ n)) (ap (λ (n : ℕ). counted n 3) first ∙ four old) calls)
-  where
-    by : (r : Result Inspection Refusal) → IfErr r (λ e. InspectRefused a e b) → MatchResult r (λ i. SeenCalls z (Ok i.image) (counted old 4) new) (λ e. e ≡ Memory → new ≡ counted old 4) → InspectCalls a.content r old new
-    by (Ok i) never calls = λ size also. sized z size a.content i.image (counted old 4) new board also calls
-    by (Err NotFormatted) never calls = absurd (never.1 (superblock_has_magic z (sector a.content 0) board.0))
-    by (Err BadShape) never calls = absurd (⊎_elim (λ none. omega (arith, none, some)) (λ bad. bad.1 z board) never)
-    by (Err Memory) never calls = calls refl
-    by (Err e) never calls = tt
+    → ExaminedCalls z result mid new → InspectCalls a.content result old new
+inspect_calls a b z old mid new (Ok i) board first some refused calls =
+    λ size also. sized z size a.content i.image (counted old 4) new board also (subst (λ (n : ℕ). SeenCalls z (Ok i.image) n new) (ap (λ (n : ℕ). counted n 3) first ∙ four old) calls)
+inspect_calls a b z old mid new (Err NotFormatted) board first some refused calls = absurd (refused.1 (superblock_has_magic z (sector a.content 0) board.0))
+inspect_calls a b z old mid new (Err BadShape) board first some refused calls = absurd (⊎_elim (λ none. omega (arith, none, some)) (λ bad. bad.1 z board) refused)
+inspect_calls a b z old mid new (Err Memory) board first some refused calls = calls ∙ ap (λ (n : ℕ). counted n 3) first ∙ four old
+inspect_calls a b z old mid new (Err e) board first some refused calls = failed_calls z a.content old mid new board first calls
 
 -- ---- one inspection of a content
 same_told : (a b : Bool) (P : Type 0) → IsTrue a ↔ P → IsTrue b ↔ P → a ≡ b

@@ -1,6 +1,6 @@
 -- What an examiner says of a disk, by its content alone.
 -- Source: docs/STORE.md, "Examining".
-use Rattle.std.specs.Prelude.{◌≡◌, ◌≢◌, ◌↔◌, ⊤, ℕ, ◌*◌, IsTrue, List, [], Some, Result, Ok, Err}
+use Rattle.std.specs.Prelude.{◌≡◌, ◌≢◌, ◌↔◌, ◌≤◌, ◌<◌, ◌+◌, ℕ, ◌*◌, IsTrue, List, [], Some, Result, Ok, Err}
 use Rattle.board_model.specs.Shapes.{Size}
 use Rattle.board_model.specs.declared.refusal.Refusal.{Refusal}
 use Rattle.board_model.specs.declared.refusal.Refusal.TheVariants.{NotFormatted, BadShape, BadImage, Device, Memory}
@@ -52,19 +52,32 @@ InspectRefused disk Memory new =
     (size : Size) × IsBoard size disk.content × ((saved : Saved) × KeepsImage size disk.content saved)
 InspectRefused disk e new = ⊥
 
--- How many calls of the disk were made for the image: none where none is read, and two a page where it is
--- whole.
+-- How many calls of the disk were made for the image: none where none is read, two a page where it is whole,
+-- where it is not those up to the header of the place that shows it, and for 5 up to the one that failed.
 abbrev pub SeenCalls : Size → Result ImageSeen Refusal → ℕ → ℕ → Type 0
 SeenCalls size (Ok Absent) old new = new ≡ old
 SeenCalls size (Ok Whole) old new = new ≡ counted old (2 * size.pages)
+SeenCalls size (Ok Bad) old new = (k : ℕ) × (k < size.pages) × (new ≡ counted old (2 * k + 1))
 SeenCalls size (Err Memory) old new = new ≡ old
-SeenCalls size seen old new = ⊤
+SeenCalls size (Err e) old new = (counted old 1 ≤ new) × (new ≤ counted old (2 * size.pages))
+
+-- and with those of gate and records before it
+abbrev pub ExaminedCalls : Size → Result Inspection Refusal → ℕ → ℕ → Type 0
+ExaminedCalls size (Ok i) old new = SeenCalls size (Ok i.image) (counted old 3) new
+ExaminedCalls size (Err Memory) old new = new ≡ counted old 3
+ExaminedCalls size (Err e) old new = (counted old 1 ≤ new) × (new ≤ counted old (3 + 2 * size.pages))
+
+-- 5 comes at sector 0 alone of a disk that is no board's, and else at the image's last page at the latest
+pub record FailedCalls (c : Content) (old new : ℕ) : Type 0 where
+  pub some : counted old 1 ≤ new
+  pub few : (size : Size) → IsBoard size c → new ≤ counted old (4 + 2 * size.pages)
+  pub first : ((size : Size) → IsBoard size c → ⊥) → new ≡ counted old 1
 
 -- And by an inspection of a disk that has sectors: that of sector 0 for 1 and 3; those of gate and records too
--- where no image is read; and two more for each page where it is whole.
+-- where no image is read; those for the image where one is; and for 5 up to the one that failed.
 abbrev pub InspectCalls : Content → Result Inspection Refusal → ℕ → ℕ → Type 0
 InspectCalls c (Ok i) old new = (size : Size) → IsBoard size c → SeenCalls size (Ok i.image) (counted old 4) new
 InspectCalls c (Err NotFormatted) old new = new ≡ counted old 1
 InspectCalls c (Err BadShape) old new = new ≡ counted old 1
 InspectCalls c (Err Memory) old new = new ≡ counted old 4
-InspectCalls c (Err e) old new = ⊤
+InspectCalls c (Err e) old new = FailedCalls c old new

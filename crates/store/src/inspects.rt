@@ -1,15 +1,15 @@
 //! An examiner: what stands on a disk, whatever bytes it holds.
-ghost use Rattle.std.specs.Prelude.{◌≡◌, ◌≤◌, ◌<◌, length, Err, IfOk, IfErr, OnOk, MatchResult, ◌⊎◌, Ok};
+ghost use Rattle.std.specs.Prelude.{◌≡◌, ◌≤◌, ◌<◌, length, Err, IfOk, IfErr, OnOk, MatchResult, ◌⊎◌};
 ghost use Rattle.board_model.specs.Shapes.{Size};
 ghost use Rattle.board_model.specs.declared.refusal.Refusal.{Refusal};
-ghost use Rattle.disk.specs.Facts.{Stays, counted};
+ghost use Rattle.disk.specs.Facts.{Stays};
 ghost use Rattle.disk.specs.Calls.{MakesCalls};
 ghost use Rattle.layout.specs.Records.{IsRecord};
 ghost use Rattle.layout.specs.declared.records.Record.{Record};
 ghost use Rattle.store.specs.Leaves.{IsIdle, ReadsAlone};
 ghost use Rattle.store.specs.Opens.{IsBoard, ReadsAs, CausedRefusal, FailsForCause};
 ghost use Rattle.store.specs.Standing.{selected, live_sector, other_sector};
-ghost use Rattle.store.specs.Inspects.{IsImageSeen, seen_by, IsInspected, InspectRefused, SeenCalls, InspectCalls};
+ghost use Rattle.store.specs.Inspects.{IsImageSeen, seen_by, IsInspected, InspectRefused, SeenCalls, ExaminedCalls, InspectCalls};
 
 use crate::commits::{GATE, RECORDS};
 use board_model::{Refusal, Shape};
@@ -127,9 +127,7 @@ fn examine<D: Disk>(alloc: Global, disk: &mut D, shape: &Shape) -> Result<Inspec
     ensures reads_alone { ReadsAlone (D.facts disk.old) (D.facts disk.new) }
     ensures cause { FailsForCause (D.facts disk.old) (D.fault_state disk.old) result (D.facts disk.new)
         (D.fault_state disk.new) }
-    ensures calls { MatchResult result (λ i. SeenCalls shape.now (Ok i.image) (counted (D.facts disk.old).calls 3)
-        (D.facts disk.new).calls) (λ e. e ≡ Refusal.Memory
-        → (D.facts disk.new).calls ≡ counted (D.facts disk.old).calls 3) }
+    ensures calls { ExaminedCalls shape.now result (D.facts disk.old).calls (D.facts disk.new).calls }
 {
     let records = read_records(disk).map_err(|_| Refusal::Device)?;
     let live = parse_record(&records.live, shape);

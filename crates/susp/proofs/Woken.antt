@@ -1,18 +1,25 @@
 -- An image was loaded, and then its consumption asked: together, from the state before the load.
-use Rattle.std.proofs.Common.{◌≡◌, ◌⊎◌, ◌-◌, ℕ, List, Ok, Err, Result, OnOk, Some, None, ap, ◌∙◌, subst, inl, inr, arith}
+use Rattle.std.proofs.Common.{◌≡◌, ◌⊎◌, ◌-◌, ℕ, List, Ok, Err, Result, OnOk, Option, Some, None, refl, sym, ap, ◌∙◌, subst, inl, inr, arith}
 use Rattle.std.specs.Result.{MatchResult}
-use Rattle.board_model.specs.Durable.{DurableState, Change, Consume, after, refusal_of}
+use Rattle.board_model.specs.Durable.{DurableState, Change, Image, Consume, after, refusal_of}
 use Rattle.board_model.specs.Shapes.{Size}
 use Rattle.board_model.specs.declared.refusal.Refusal.{Refusal}
-use Rattle.board_model.specs.declared.refusal.Refusal.TheVariants.{Device, Down, NoImage}
+use Rattle.board_model.specs.declared.refusal.Refusal.TheVariants.{Device, Down, Over, JournalFull, BadShape, NoImage, BadImage}
+use Rattle.disk.specs.declared.device.Disk.{Ghosts}
+use Rattle.disk.specs.declared.device.Lane.{Ghosts as Lanes}
 use Rattle.disk.specs.Facts.{Content, Facts, LeavesSince, Failed}
 use Rattle.disk.specs.FaultState.{FaultState}
 use Rattle.disk.specs.Moments.{leaves_then, leaves_weaker}
+use Rattle.image.specs.Refusals.{StopsWithin}
 use Rattle.store.specs.Leaves.{Leaves, IsKept, LeavesOnly, StandsForEither, WroteACommand}
 use Rattle.store.specs.Lives.{Life, now_of, Applied, Reaches, Refused, LoadRefused}
 use Rattle.store.specs.Opens.{CausedRefusal}
 use Rattle.store.specs.Standing.{selected, live_sector, StandsFor}
 use Rattle.store.specs.Answers.{StoreView, GoesTo, CountedRefusal, Answered}
+use Rattle.store.specs.Asked.{Asked}
+use Rattle.store.specs.Views.{life_of, now_state, doubt_of}
+use Rattle.store.specs.declared.stores.Store.{Store}
+use Rattle.susp.specs.Wakes.{WakeStops}
 
 -- each content that a crash may leave stands for that state
 stands_so : (disk : Facts) (size : Size) (s : DurableState) → LeavesOnly disk size s → (c : Content) → disk.may_leave c → StandsFor c size s
@@ -90,3 +97,42 @@ refused_by old e new a b reaches (inr (inr (inr (inr table)))) counts =
 
 pub unconsumed : (old new : StoreView) (e : Refusal) → Reaches old.life Consume → Answered Applied old Consume (Err e) new → ((e ≡ Device) ⊎ (e ≡ Down)) × Failed old.disk.failures new.disk.failures
 unconsumed old new e reaches did = refused_by old.life e new.life old.disk.failures new.disk.failures reaches did.life did.counts
+
+-- ---- the refusals of a load are none of a Consume behind it
+abbrev pub IsOfStore : Refusal → Type 0
+IsOfStore e = (e ≡ BadShape → ⊥) × (e ≡ NoImage → ⊥) × (e ≡ BadImage → ⊥)
+
+pub unloaded_same : {P : Type 0} {e : Refusal} → ((e ≡ Device → ⊥) → (e ≡ BadImage → ⊥) → P) → (e ≡ BadShape) ⊎ (e ≡ NoImage) → P
+unloaded_same same (inl shape) = same (λ is. cc) (λ is. cc)
+unloaded_same same (inr none) = same (λ is. cc) (λ is. cc)
+
+pub stops_at_load : (pages a b : ℕ) (e : Refusal) → ((e ≡ BadShape) ⊎ (e ≡ NoImage) → b ≡ a) → StopsWithin pages e a b → WakeStops pages e a b
+stops_at_load pages a b BadShape same stops = same (inl refl)
+stops_at_load pages a b NoImage same stops = same (inr refl)
+stops_at_load pages a b BadImage same stops = stops
+stops_at_load pages a b e same stops = tt
+
+pub stops_later : (pages a b : ℕ) (e : Refusal) → IsOfStore e → WakeStops pages e a b
+stops_later pages a b BadShape other = absurd (other.0 refl)
+stops_later pages a b NoImage other = absurd (other.1 refl)
+stops_later pages a b BadImage other = absurd (other.2 refl)
+stops_later pages a b e other = tt
+
+is_one : (e f : Refusal) → IsOfStore f → e ≡ f → IsOfStore e
+is_one e f is same = subst IsOfStore (sym same) is
+
+by_store : (old : Life) (i : Image) (e : Refusal) (new : Life) → (now_of old).image ≡ Some i → Refused old Consume e new → IsOfStore e
+by_store old i e new stands (inl device) = is_one e Device (λ is. cc, λ is. cc, λ is. cc) device.0
+by_store old i e new stands (inr (inl down)) = is_one e Down (λ is. cc, λ is. cc, λ is. cc) down.0
+by_store old i e new stands (inr (inr (inl over))) = is_one e Over (λ is. cc, λ is. cc, λ is. cc) over.0
+by_store old i e new stands (inr (inr (inr (inl full)))) = is_one e JournalFull (λ is. cc, λ is. cc, λ is. cc) full.0
+by_store old i e new stands (inr (inr (inr (inr table)))) =
+    absurd (let taken : refusal_of (now_of old) Consume ≡ None = rw stands refl in let refused = table.0 in let n : ⊥ = cc in n)
+
+module _ {D L : Type 0} {g : Ghosts D L} {l : Lanes L} (old mid new : Store D L g l) (i : Image) (e : Refusal) where
+  pub unlike_a_load : (now_state old).image ≡ Some i → life_of mid ≡ life_of old → Asked Applied mid Consume (Err e) new → IsOfStore e
+  unlike_a_load stands life asked = by (doubt_of mid) refl
+    where
+      by : (d : Option Change) → doubt_of mid ≡ d → IsOfStore e
+      by None none = by_store (life_of mid) i e (life_of new) (ap (λ (x : Life). (now_of x).image) life ∙ stands) (asked.answered none).life
+      by (Some d) is = is_one e Down (λ is. cc, λ is. cc, λ is. cc) (let r = (asked.down d is).0 in cc)

@@ -3,11 +3,12 @@ use Rattle.std.specs.Prelude.{◌≡◌, ◌⊎◌, ℕ, List, Result, Err, Some
 use Rattle.board_model.specs.Durable.{DurableState, Image, Change, Consume, IsWhole}
 use Rattle.board_model.specs.Shapes.{ram_bytes_of}
 use Rattle.board_model.specs.declared.refusal.Refusal.{Refusal}
-use Rattle.board_model.specs.declared.refusal.Refusal.TheVariants.{Device, Down}
+use Rattle.board_model.specs.declared.refusal.Refusal.TheVariants.{Device, Down, BadShape, NoImage, BadImage}
 use Rattle.disk.specs.declared.device.Disk.{Ghosts}
 use Rattle.disk.specs.declared.device.Lane.{Ghosts as Lanes}
 use Rattle.disk.specs.Facts.{Passes, Stays, Failed}
 use Rattle.hart.specs.State.{ArchState as HartState, started}
+use Rattle.image.specs.Refusals.{StopsWithin}
 use Rattle.store.specs.Lives.{Applied, Reaches, LoadRefused}
 use Rattle.store.specs.Answers.{Answered}
 use Rattle.store.specs.Views.{disk_of, fault_state_of, size_of_store, life_of, now_state, doubt_of, view_of}
@@ -18,6 +19,15 @@ use Rattle.store.specs.declared.stores.Store.{Store}
 abbrev pub IsWoken : DurableState → List ℕ → HartState → Type 0
 IsWoken s memory hart =
     (i : Image) × (s.image ≡ Some i) × (memory ≡ i.memory) × (hart ≡ started i.hart i.address i.opaque)
+
+-- How many calls of the disk a wake made that was refused so, of an image of so many pages: none for a memory of
+-- another size and without an image, and where the image is bad those of the load, which ends at the place that
+-- shows it.
+abbrev pub WakeStops : ℕ → Refusal → ℕ → ℕ → Type 0
+WakeStops pages BadShape old new = new ≡ old
+WakeStops pages NoImage old new = new ≡ old
+WakeStops pages BadImage old new = StopsWithin pages BadImage old new
+WakeStops pages e old new = Unit {0}
 
 module _ {D L : Type 0} {g : Ghosts D L} {l : Lanes L} where
   -- the life went on as it was, and a crash leaves what it might have left before

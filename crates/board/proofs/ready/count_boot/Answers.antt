@@ -1,9 +1,11 @@
-use Rattle.std.proofs.Common.{rules, ◌≡◌, true, false, is_some, List, refl, sym, subst}
+use Rattle.std.proofs.Common.{rules, ◌≡◌, ◌*◌, true, false, is_some, List, length, refl, sym, subst}
 use Rattle.std.proofs.lemmas.Result.{err_from_is_err_and}
 use Rattle.board_model.specs.Durable.{Change, Attempt}
+use Rattle.disk.specs.Facts.{counted}
 use Rattle.store.specs.Views.{view_of, now_state}
 use Rattle.board.specs.Issues.{AreIssued, AreStopped}
 use Rattle.board.proofs.Issued.{none_to_issue, one_issued, one_stopped, counts_boot, counts_none, attempt_taken}
+use Rattle.board.proofs.CallsMade.{no_call}
 use Rattle.board.proofs.ready.count_boot.Goals as goal
 
 -- the boot was counted
@@ -34,3 +36,16 @@ returns-else-is_some-clause-issued g c =
     let old = view_of c.args.store.now in
     let tried : is_some (now_state c.args.store.now).trial ≡ false = search rules in
     subst (λ (cs : List Change). AreIssued cs old old) (sym (counts_none (now_state c.args.store.now).trial tried)) (none_to_issue old (g.met.D.Disk.only_now _) c.requires)
+
+pub returns-in_ok-apply-clause-calls : goal.returns-in_ok-apply-clause-calls
+returns-in_ok-apply-clause-calls g c =
+    let a = (view_of c.args.store.now).disk.calls in
+    let b = (view_of c.apply.new.self).disk.calls in
+    let tried : is_some (now_state c.args.store.now).trial ≡ true = search rules in
+    subst (λ (cs : List Change). b ≡ counted a (4 * length cs)) (sym (counts_boot (now_state c.args.store.now).trial tried)) c.in_ok-apply.ensures.calls
+
+pub returns-else-is_some-clause-calls : goal.returns-else-is_some-clause-calls
+returns-else-is_some-clause-calls g c =
+    let a = (view_of c.args.store.now).disk.calls in
+    let tried : is_some (now_state c.args.store.now).trial ≡ false = search rules in
+    subst (λ (cs : List Change). a ≡ counted a (4 * length cs)) (sym (counts_none (now_state c.args.store.now).trial tried)) (no_call a (g.met.D.Disk.bounded_calls _))

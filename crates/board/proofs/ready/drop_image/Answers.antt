@@ -1,11 +1,13 @@
-use Rattle.std.proofs.Common.{◌≡◌, None, refl, sym, subst}
+use Rattle.std.proofs.Common.{◌≡◌, ◌*◌, length, None, refl, sym, subst}
 use Rattle.std.proofs.lemmas.Result.{err_from_is_err_and}
 use Rattle.board_model.specs.Durable.{Discard}
 use Rattle.board_model.specs.declared.boot_mode.BootMode.{BootMode}
+use Rattle.disk.specs.Facts.{counted}
 use Rattle.store.specs.Views.{view_of, found_state}
 use Rattle.board.specs.Boots.{boot_refusal}
 use Rattle.board.specs.Issues.{AreIssued, AreStopped, drops_by}
 use Rattle.board.proofs.Issued.{takes_commands, one_issued, one_stopped, free_now, none_dropped}
+use Rattle.board.proofs.CallsMade.{none_dropped_calls}
 use Rattle.board.proofs.ready.drop_image.Goals as goal
 
 -- the image was dropped
@@ -29,8 +31,15 @@ returns-in_err-apply-in-Discard-clause-stopped g c =
     let e = c.in_err-apply-in-Discard.field-0.0 in
     rw (p.1, p.2) (subst (λ (m : BootMode). AreStopped (drops_by m) old e new) (sym c.in-Discard.is) (one_stopped Discard old new takes asked.stays e (free_now old c.requires.opened Discard free) (asked.answered takes.sure)))
 
+pub returns-in_ok-apply-in-Discard-clause-calls : goal.returns-in_ok-apply-in-Discard-clause-calls
+returns-in_ok-apply-in-Discard-clause-calls g c =
+    let a = (view_of c.args.store.now).disk.calls in
+    let b = (view_of c.apply.new.self).disk.calls in
+    subst (λ (m : BootMode). b ≡ counted a (4 * length (drops_by m))) (sym c.in-Discard.is) c.in_ok-apply-in-Discard.ensures.calls
+
 pub returns-in-Fresh : goal.returns-in-Fresh
 returns-in-Fresh g c = record {
   issued = none_dropped c.args.mode (view_of c.args.store.now) (g.met.D.Disk.only_now _) c.requires.opened c.in-Fresh.is;
   stopped = tt;
+  calls = none_dropped_calls c.args.mode _ (g.met.D.Disk.bounded_calls _) c.in-Fresh.is;
 }

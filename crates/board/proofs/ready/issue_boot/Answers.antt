@@ -1,6 +1,7 @@
 use Rattle.std.proofs.lemmas.Result.{err_from_is_err_and}
 use Rattle.store.specs.Views.{view_of}
 use Rattle.board.proofs.Issued.{boot_acknowledged, boot_refused, boot_unissued, drop_stopped, is_unissued, issues}
+use Rattle.board.proofs.CallsMade.{boot_made}
 use Rattle.board.proofs.ready.issue_boot.Goals as goal
 
 -- the image was not dropped
@@ -31,3 +32,7 @@ returns-clause-refused g c =
 pub returns-clause-unissued : goal.returns-clause-unissued
 returns-clause-unissued g c =
     boot_unissued c.args.mode (view_of c.args.store.now) (view_of c.drop_image.new.store) (view_of c.count_boot.new.store) c.requires.opened c.in_ok-drop_image.ensures.issued c.requires.boots c.count_boot.result c.count_boot.ensures.stopped
+
+pub returns-clause-calls : goal.returns-clause-calls
+returns-clause-calls g c =
+    boot_made c.args.mode (view_of c.args.store.now) (view_of c.drop_image.new.store) (view_of c.count_boot.new.store) c.requires.opened c.in_ok-drop_image.ensures.issued c.requires.boots c.count_boot.result _ _ _ c.in_ok-drop_image.ensures.calls c.count_boot.ensures.calls

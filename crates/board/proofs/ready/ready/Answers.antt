@@ -1,9 +1,10 @@
 use Rattle.std.proofs.Common.{rules, Some}
-use Rattle.store.specs.Views.{found_state, view_of}
+use Rattle.store.specs.Views.{size_of_store, found_state, view_of}
 use Rattle.board.specs.Boots.{boot_refusal}
 use Rattle.board.specs.Unbooted.{RefusesMode}
 use Rattle.board.proofs.Unmoved.{unmoved}
 use Rattle.board.proofs.Refused.{comes_first, refusal_is_quiet}
+use Rattle.board.proofs.CallsMade.{by_mode}
 use Rattle.board.proofs.ready.ready.Goals as goal
 
 pub returns-in-Some-clause-unissued : goal.returns-in-Some-clause-unissued
@@ -15,3 +16,20 @@ pub returns-in-Some-clause-refused : goal.returns-in-Some-clause-refused
 returns-in-Some-clause-refused g c =
     let refuses : RefusesMode (boot_refusal (found_state c.args.store.now) c.args.mode) (Some c.in-Some.refusal) = search rules in
     comes_first (boot_refusal (found_state c.args.store.now) c.args.mode) c.args.mode _ _ (found_state c.args.store.now) c.in-Some.refusal refuses
+
+pub returns-in-Some-clause-calls : goal.returns-in-Some-clause-calls
+returns-in-Some-clause-calls g c =
+    let refuses : RefusesMode (boot_refusal (found_state c.args.store.now) c.args.mode) (Some c.in-Some.refusal) = search rules in
+    by_mode (boot_refusal (found_state c.args.store.now) c.args.mode) (size_of_store c.args.store.now) c.in-Some.refusal _ refuses
+
+pub begin-requires-clause-allowed : goal.begin-requires-clause-allowed
+begin-requires-clause-allowed g c κs within = search rules
+
+pub returns-in_err-begin-clause-unissued : goal.returns-in_err-begin-clause-unissued
+returns-in_err-begin-clause-unissued g c = search rules
+
+pub returns-clause-issued : goal.returns-clause-issued
+returns-clause-issued g c = search rules
+
+pub returns-clause-begun : goal.returns-clause-begun
+returns-clause-begun g c = search rules

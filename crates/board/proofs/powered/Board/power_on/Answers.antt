@@ -1,5 +1,6 @@
 use Rattle.std.proofs.Common.{refl}
-use Rattle.store.specs.Views.{now_state, view_of}
+use Rattle.store.specs.Views.{found_state, now_state, view_of}
+use Rattle.board.proofs.CallsMade.{off_calls, on_calls}
 use Rattle.board.proofs.Doubted.{leaves_life}
 use Rattle.board.proofs.Off.{is_off}
 use Rattle.board.proofs.On.{is_on}
@@ -27,3 +28,16 @@ returns-in-Ok-ready-clause-on g c =
     let o = c.in-Ok.ensures in
     let r = c.in-Ok-ready.ensures in
     is_on c.args.mode c.args.payloads.now (g.D.Disk.facts c.args.disk) (view_of c.in-Ok.store) (view_of c.ready.new.store) c.in-Ok-ready.machine o.opened o.settles.any_moment r.allowed r.fits r.begun r.issued
+
+-- how many calls of the disk were made
+pub returns-in-Err-ready-clause-calls : goal.returns-in-Err-ready-clause-calls
+returns-in-Err-ready-clause-calls g c some =
+    let o = c.in-Ok.ensures in
+    let r = c.in-Err-ready.ensures in
+    off_calls (g.D.Disk.facts c.args.disk).content _ (found_state c.in-Ok.store) _ (g.D.Disk.facts c.args.disk).calls _ _ _ o.opened.reads (o.calls some) r.calls c.into_disk.ensures.facts.calls
+
+pub returns-in-Ok-ready-clause-calls : goal.returns-in-Ok-ready-clause-calls
+returns-in-Ok-ready-clause-calls g c some =
+    let o = c.in-Ok.ensures in
+    let r = c.in-Ok-ready.ensures in
+    on_calls c.args.mode (g.D.Disk.facts c.args.disk).content (view_of c.in-Ok.store) (view_of c.ready.new.store) (g.D.Disk.facts c.args.disk).calls r.issued (o.calls some) r.calls

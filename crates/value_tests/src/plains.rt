@@ -1,0 +1,33 @@
+//! The state of the largest board with its image: memory is ample, so none is refused.
+use crate::fixtures::same;
+use board_model::{Addr, Command, Entry, HartId, Plain, Refusal};
+use std::alloc::Global;
+use std::process::Abort;
+use std::test::Fail;
+
+/// The bytes of 256 pages.
+const MOST: usize = 1_048_576;
+
+/// A suspension by hart 0 with address 0x80000004 and opaque value 7.
+fn suspension(rt: &impl Abort) -> Entry {
+    let hart = HartId::new(0).expect(rt, "hart 0");
+    let address = Addr::new(0x8000_0004).expect(rt, "an address in RAM");
+    Entry::Suspend(hart, address, 7)
+}
+
+/// How many bytes the image of a formatted disk's state has after a suspension of that memory.
+fn bytes_kept(rt: &impl Abort, alloc: Global, memory: &[u8]) -> Result<usize, Refusal> {
+    let asleep = Plain::formatted().after(alloc, suspension(rt), memory)?;
+    let again = asleep.copy(alloc)?;
+    let moved = again.after(alloc, Entry::Command(Command::Slot(2)), &[])?;
+    let made = Plain::of(alloc, &moved.durable(), memory)?;
+    same(rt, made == moved, true);
+    Ok(made.image.map_or(0, |image| image.memory.len()))
+}
+
+#[test]
+fn no_memory_is_refused_for_the_largest_image(rt: HostRuntime) -> Result<(), Fail> {
+    let memory = vec![in rt.alloc(); 7u8; 1_048_576]?;
+    same(&rt, bytes_kept(&rt, rt.alloc(), &memory)?, MOST);
+    Ok(())
+}
