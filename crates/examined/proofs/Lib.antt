@@ -5,3 +5,5 @@ pub mod Records
 pub mod Contents
 -- Why a disk is not seen, and that it was read alone.
 pub mod Seeing
+-- Why the memory of an image is not read, and what reading it does to the disk.
+pub mod Recalling

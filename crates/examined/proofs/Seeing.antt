@@ -10,7 +10,7 @@ use Rattle.store.specs.Opens.{IsBoard, ReadsAs, OpenRefused}
 use Rattle.store.specs.Standing.{StandsFor}
 use Rattle.examined.specs.Sights.{SeeRefused, unrecorded}
 
-stands_board : (c : Content) (size : Size) → ((s : _) × StandsFor c size s) → IsBoard size c
+pub stands_board : (c : Content) (size : Size) → ((s : _) × StandsFor c size s) → IsBoard size c
 unfolding StandsFor
 stands_board c size (s, stands) = (stands.2.board, stands.2.enough)
 

@@ -5,3 +5,5 @@ pub mod Texts
 pub mod Contents
 -- What stands on a disk: what an examiner says, and what an open finds.
 pub mod Sights
+-- The memory of the image that stands on a disk.
+pub mod Memories

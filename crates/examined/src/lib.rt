@@ -1,11 +1,13 @@
-//! What an examiner tells of a disk: its line, what stands there with what an open finds, and that whatever bytes a
-//! disk holds are answered (docs/STORE.md, "Examining").
+//! What an examiner tells of a disk: its line, what stands there with what an open finds, the memory of its image,
+//! and that whatever bytes a disk holds are answered (docs/STORE.md, "Examining").
 #![tactic(auto)]
 
 mod laws;
 mod line;
+mod memory;
 mod sees;
 
 pub use laws::every_content;
 pub use line::InspectionText;
+pub use memory::{image_memory, write_memory};
 pub use sees::{Found, Seen, see_disk};

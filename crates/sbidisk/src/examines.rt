@@ -5,10 +5,10 @@ ghost use Rattle.std.specs.Process.{exit_status};
 
 use crate::disk_file::disk_of;
 use crate::shows::write_seen;
-use crate::usage::{USAGE, path_of};
+use crate::usage::{USAGE, Work, work_of};
 use board_model::Refusal;
 use command_line::{ProgramFault, ToldBy, show, status_of, without_work, words};
-use examined::see_disk;
+use examined::{image_memory, see_disk, write_memory};
 use std::io::{self, BufWriter};
 use std::process::ExitCode;
 
@@ -23,21 +23,33 @@ fn look(rt: &HostRuntime, path: &str) -> Result<(), ProgramFault> {
     write_seen(&seen, &mut out).map_err(ProgramFault::Refused)
 }
 
+/// Writes the memory of the image that stands in the file.
+fn recall(rt: &HostRuntime, path: &str) -> Result<(), ProgramFault> {
+    let disk = disk_of(rt, path)?;
+    let (_disk, memory) = image_memory(rt.alloc(), disk);
+    let memory = memory.map_err(ProgramFault::Refused)?;
+    let Ok(mut out) = BufWriter::new(rt.alloc(), io::writer(rt)) else {
+        return Err(ProgramFault::Refused(Refusal::Memory));
+    };
+    write_memory(&memory, &mut out).map_err(ProgramFault::Refused)
+}
+
 /// Does what the command line asks for.
 fn looked(rt: &HostRuntime) -> Result<(), ProgramFault> {
     let words = match words(rt, USAGE) {
         Ok(words) => words,
         Err(why) => return without_work(why),
     };
-    match path_of(rt.alloc(), words.as_slice()) {
-        Ok(Some(path)) => look(rt, path),
+    match work_of(rt.alloc(), words.as_slice()) {
+        Ok(Some(Work::Lines(path))) => look(rt, path),
+        Ok(Some(Work::Memory(path))) => recall(rt, path),
         Ok(None) => Err(ProgramFault::Usage),
         Err(text) => without_work(show(rt, &text)),
     }
 }
 
 /// The whole program: says on standard output what stands in the disk's file that the command line names, or
-/// on standard error why not. It boots nothing, and the file is never written. Answers the status that
+/// writes the memory of its image there, or says on standard error why not. It boots nothing, and the file is never written. Answers the status that
 /// docs/CONSOLE.md, "The program `sbidisk`", has.
 pub fn examine(rt: &HostRuntime) -> ExitCode
     ensures { exit_status result ≤ 2 }

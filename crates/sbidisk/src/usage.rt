@@ -1,6 +1,7 @@
 //! The command line, and what `--help` says.
 
 use clap::{Arg, ArgAction, Command, Error};
+use command_line::flag;
 use std::alloc::{AllocError, Global};
 use std::convert::AsStr;
 
@@ -8,11 +9,13 @@ use std::convert::AsStr;
 const VERSION: &str = "1";
 
 /// How the program is called.
-pub const USAGE: &str = "sbidisk PATH";
+pub const USAGE: &str = "sbidisk [--memory] PATH";
 
 const ABOUT: &str = "\
 Says what stands in the file of a modelled RISC-V board's disk, whatever bytes it
-holds. Nothing is booted, and the file is not written.";
+holds. Nothing is booted, and the file is not written.
+With --memory the memory of the image that stands is written to standard output,
+byte for byte, in the place of the lines.";
 
 const LINES: &str = "\
 Lines:
@@ -27,7 +30,7 @@ Lines:
       the image of that state, where there is one
 
 Status:
-  0  the lines were written
+  0  the lines or the bytes were written
   1  standard error has 'sbidisk: refusal N', or 'sbidisk: file' where the file
      could not be read
   2  a fault of the command line
@@ -36,13 +39,28 @@ Refusals:
    1  the disk is not formatted
    3  the file is not whole sectors of 512 bytes, holds none, or is too small for
       its board, or the shape in it is no board's
+   4  with --memory: the selected record is not in its form
+   8  with --memory: no image stands
   11  memory was refused
-  16  a line could not be written
+  13  with --memory: the image is not whole
+  16  the output could not be written
 
 docs/STORE.md of the source has the format.";
 
 /// The disk's file.
 const PATH: &str = "PATH";
+
+/// The flag that asks for the memory.
+const MEMORY: &str = "memory";
+
+/// What the command line asks for.
+#[derive(Clone, Copy, Drop)]
+pub enum Work<'a> {
+    /// What stands in the file of that path.
+    Lines(&'a str),
+    /// The memory of the image that stands there.
+    Memory(&'a str),
+}
 
 fn command<'a>(alloc: Global) -> Result<Command<'a>, AllocError> {
     let path = Arg::new(alloc, PATH)
@@ -54,12 +72,24 @@ fn command<'a>(alloc: Global) -> Result<Command<'a>, AllocError> {
         .override_usage(USAGE)
         .about(ABOUT)
         .after_help(LINES)
-        .arg(path)
+        .arg(path)?
+        .arg(flag(
+            alloc,
+            MEMORY,
+            "Writes the memory of the image that stands, and nothing else",
+        ))
 }
 
-/// The path that the words of a command line name, the program's name first. The error is the command line's
-/// own text, which is the help or the version too, or says that memory was refused.
-pub fn path_of<'a, S: AsStr>(alloc: Global, words: &'a [S]) -> Result<Option<&'a str>, Error> {
+/// What the words of a command line ask for, the program's name first; none where they name no path. The error is
+/// the command line's own text, which is the help or the version too, or says that memory was refused.
+pub fn work_of<'a, S: AsStr>(alloc: Global, words: &'a [S]) -> Result<Option<Work<'a>>, Error> {
     let matches = command(alloc)?.try_get_matches_from(words)?;
-    Ok(matches.get_str(PATH))
+    let Some(path) = matches.get_str(PATH) else {
+        return Ok(None);
+    };
+    Ok(Some(if matches.get_flag(MEMORY) {
+        Work::Memory(path)
+    } else {
+        Work::Lines(path)
+    }))
 }
