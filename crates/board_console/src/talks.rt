@@ -4,7 +4,8 @@ ghost use Rattle.std.specs.Prelude.{◌≡◌, ◌++◌, ◌∷◌, [], OnOk, If
 ghost use Rattle.std.specs.Io.KnownBytes.{Appends};
 ghost use Rattle.board_model.specs.declared.refusal.Refusal.TheVariants.{Output};
 ghost use Rattle.board_console.specs.Commands.{IsAnswerTo, party};
-ghost use Rattle.board_console.specs.Dialogues.{Talks, dialogue_ends, left_after, left_before, left_behind};
+ghost use Rattle.board_console.specs.Dialogues.{Talks, dialogue_ends, left_after, left_before, left_behind, left_without};
+ghost use Rattle.board_console.specs.Lines.{is_line};
 ghost use Rattle.board_console.specs.Texts.{reply_text};
 
 use crate::commands::{obey, rouse};
@@ -32,15 +33,35 @@ pub enum Left {
     Unwritten,
 }
 
-/// Why the console leaves where it is given no line, if it does so: one that is not begun at the end of input, or where
-/// that fails.
-fn left_before(ended: LineEnd, line: &[u8]) -> Option<Left>
-    ensures { result ≡ left_before ended line.now }
+/// Whether what was kept is a line: it is where its line feed came, and else where there are bytes.
+fn is_line(ended: LineEnd, kept: &[u8]) -> bool
+    ensures { result ≡ is_line ended kept.now }
 {
     match ended {
-        LineEnd::EndOfInput if line.is_empty() => Some(Left::EndOfInput),
-        LineEnd::Failure if line.is_empty() => Some(Left::InputFailed),
-        LineEnd::Feed | LineEnd::EndOfInput | LineEnd::Failure => None,
+        LineEnd::Feed => true,
+        LineEnd::EndOfInput | LineEnd::Failure => !kept.is_empty(),
+    }
+}
+
+/// Why the console leaves where no line came.
+fn left_without(ended: LineEnd) -> Option<Left>
+    ensures { result ≡ left_without ended }
+{
+    match ended {
+        LineEnd::Feed => None,
+        LineEnd::EndOfInput => Some(Left::EndOfInput),
+        LineEnd::Failure => Some(Left::InputFailed),
+    }
+}
+
+/// Why the console leaves before it answers, if it does so: no line came.
+fn left_before(ended: LineEnd, kept: &[u8]) -> Option<Left>
+    ensures { result ≡ left_before ended kept.now }
+{
+    if is_line(ended, kept) {
+        None
+    } else {
+        left_without(ended)
     }
 }
 
@@ -114,10 +135,11 @@ pub fn console<R: Wait, D: Disk + Drop, J: Journal, I: Read, W: Write>(
     let mut part = part;
     for _ in rt.forever() {
         let ended = next_line(input, &mut line);
-        if let Some(left) = left_before(ended, line.as_slice()) {
+        let kept = line.as_slice();
+        if let Some(left) = left_before(ended, kept) {
             return (part, left);
         }
-        let said = line_said(line.as_slice());
+        let said = line_said(kept);
         let (told, answer) = answer_to(rt, bus, store, part, heard, said);
         part = told;
         let Ok(()) = write_answer(out, answer) else {

@@ -1,7 +1,7 @@
 //! Lines of the console, and what they say.
 
 use arrayvec::ArrayVec;
-use board_console::{Said, line_said, next_line};
+use board_console::{LineEnd, Said, line_said, next_line};
 use board_model::ConsoleCommand;
 use std::test::*;
 
@@ -9,13 +9,14 @@ use std::test::*;
 fn a_line_ends_at_its_feed_or_with_the_input(rt: HostRuntime) -> Result<(), Fail> {
     let mut input = b"slot 1\n\nstate".as_slice();
     let mut line = ArrayVec::new();
-    assert!(&rt; next_line(&mut input, &mut line));
+    assert!(&rt; next_line(&mut input, &mut line) == LineEnd::Feed);
     assert_eq!(&rt; line.as_slice(), b"slot 1".as_slice());
-    assert!(&rt; next_line(&mut input, &mut line));
+    assert!(&rt; next_line(&mut input, &mut line) == LineEnd::Feed);
     assert!(&rt; line.is_empty());
-    assert!(&rt; next_line(&mut input, &mut line));
+    assert!(&rt; next_line(&mut input, &mut line) == LineEnd::EndOfInput);
     assert_eq!(&rt; line.as_slice(), b"state".as_slice());
-    assert!(&rt; !next_line(&mut input, &mut line));
+    assert!(&rt; next_line(&mut input, &mut line) == LineEnd::EndOfInput);
+    assert!(&rt; line.is_empty());
     Ok(())
 }
 
@@ -25,11 +26,11 @@ fn a_line_of_the_console_has_256_bytes_at_most(rt: HostRuntime) -> Result<(), Fa
     bytes[256] = b'\n';
     let mut line = ArrayVec::new();
     let mut input = bytes.as_slice();
-    assert!(&rt; next_line(&mut input, &mut line));
+    assert!(&rt; next_line(&mut input, &mut line) == LineEnd::Feed);
     assert_eq!(&rt; line.len(), 256);
     bytes[256] = b'0';
     let mut input = bytes.as_slice();
-    assert!(&rt; next_line(&mut input, &mut line));
+    assert!(&rt; next_line(&mut input, &mut line) == LineEnd::EndOfInput);
     assert_eq!(&rt; line.len(), 257);
     assert!(&rt; input.is_empty());
     Ok(())

@@ -1,12 +1,13 @@
 //! A board from its power-on to the end of its threads.
 
-ghost use Rattle.std.specs.Prelude.{◌≡◌, ◌⊎◌, ◌≤◌, ◌+◌, ℕ, List, [], All, length, Some, None, true, false, OnOk, IfOk, IfErr, MatchResult, vec_len};
+ghost use Rattle.std.specs.Prelude.{◌≡◌, ◌⊎◌, ◌≤◌, ◌+◌, ℕ, List, [], All, length, Some, None, true, false, OnOk, IfOk, IfErr, IfSome, MatchResult, vec_len, vec_capacity};
 ghost use Rattle.std.specs.Option.{option_to_list};
 ghost use Rattle.board_model.specs.Durable.{formatted};
 ghost use Rattle.board_model.specs.Shapes.{Size};
 ghost use Rattle.board_model.specs.declared.durable.Entry.{Entry};
 ghost use Rattle.board_model.specs.declared.refusal.Refusal.TheVariants.{Memory};
 ghost use Rattle.receipts.specs.Views.{id_of, parts_of};
+ghost use Rattle.shared_store.specs.Heard.{heard_nothing};
 ghost use Rattle.shared_store.specs.Noted.{boot_told};
 ghost use Rattle.shared_store.specs.Views.{parts_with};
 ghost use Rattle.store.specs.Formats.{WritesHead};
@@ -18,19 +19,21 @@ ghost use Rattle.board.specs.Begins.{IsBegun};
 ghost use Rattle.board.specs.Moments.{commands_by};
 ghost use Rattle.board.specs.Views.{store_of, machine_of};
 ghost use Rattle.store.specs.Taken.{are_taken};
+ghost use Rattle.board_console.specs.Commands.{party};
 ghost use Rattle.board_console.specs.Dialogues.{Talks, dialogue_ends};
+ghost use Rattle.hart_threads.specs.Ends.{IsWhole};
 ghost use Rattle.board_session.specs.Backs.{AreBack};
 ghost use Rattle.board_session.specs.Sessions.{TakesFormat, RunsOver, RefusesDisk, RefusesSession, Begins, IsOfLife, RanOver, TalksIf, outcome_of};
 
-use crate::ends::{disk_at_once, disk_of};
+use crate::ends::{disk_at_once, disk_of, ends_of};
 use crate::gate::UntilQuit;
 use board::{Board, Parts, Payloads};
 use board_console::{Left, console};
 use board_model::{Refusal, Shape};
 use board_options::Options;
 use disk::Disk;
-use hart_threads::{Ended, SharedBoard, Undriven, drive};
-use shared_store::{Journal, NewBook, Part, SharedStore, Unshared};
+use hart_threads::{Ended, LoopEnd, SharedBoard, Undriven, drive};
+use shared_store::{Heard, Journal, NewBook, Part, SharedStore, Unshared};
 use std::alloc::Global;
 use std::io::{Read, Write};
 use std::marker::Brand;
@@ -57,6 +60,10 @@ pub struct SessionEnd<D: Disk + Drop, I: Read + Drop, W: Write + Drop> {
     pub streams: Streams<I, W>,
     /// Why the console left; `None` where it was not begun.
     pub left: Option<Left>,
+    /// What the console heard of the store beside its receipts.
+    pub heard: Heard,
+    /// How each hart's loop ended; none where the harts were not begun.
+    pub loops: Vec<LoopEnd>,
 }
 
 /// A board that is on, its shape, and the book of its receipts.
@@ -67,11 +74,12 @@ struct BootedBoard<D: Disk + Drop> {
     book: NewBook,
 }
 
-/// The streams of a console, and its part of the receipts.
+/// The streams of a console, its part of the receipts, and what it heard beside them.
 #[derive(Drop)]
 struct Ends<J: Journal, I: Read + Drop, W: Write + Drop> {
     streams: Streams<I, W>,
     part: Part<J>,
+    heard: Heard,
 }
 
 /// A console that has left.
@@ -81,8 +89,8 @@ struct Talked<J: Journal, I: Read + Drop, W: Write + Drop> {
     left: Left,
 }
 
-/// The console beside the harts. The gate is shut after `quit`, and where an answer could not be written; at
-/// the end of input the harts run out their turns.
+/// The console beside the harts. The gate is shut after `quit`, and where an answer could not be written; where the
+/// input ends or fails the harts run out their turns.
 fn attend<R: Wait, D: Disk + Drop, J: Journal, I: Read + Drop, W: Write + Drop>(
     rt: &R,
     bus: &Mutex<Bus>,
@@ -90,22 +98,28 @@ fn attend<R: Wait, D: Disk + Drop, J: Journal, I: Read + Drop, W: Write + Drop>(
     gate: &UntilQuit,
     ends: Ends<J, I, W>,
 ) -> Talked<J, I, W>
-    ensures { Talks J.found result.left
-        (dialogue_ends (I.remaining ends.streams.input) (W.contents ends.streams.out) ends.part.told)
+    ensures { Talks J.found J.issued result.left
+        (dialogue_ends (I.remaining ends.streams.input) (W.contents ends.streams.out) (party ends.part.told ends.heard))
         (dialogue_ends (I.remaining result.ends.streams.input) (W.contents result.ends.streams.out)
-        result.ends.part.told) }
+        (party result.ends.part.told result.ends.heard)) }
 {
-    let Ends { streams, part } = ends;
+    let Ends {
+        streams,
+        part,
+        heard,
+    } = ends;
     let Streams { mut input, mut out } = streams;
-    let (part, left) = console(rt, bus, store, part, &mut input, &mut out);
+    let mut heard = heard;
+    let (part, left) = console(rt, bus, store, part, &mut heard, &mut input, &mut out);
     match left {
         Left::Quit | Left::Unwritten => gate.shut(),
-        Left::EndOfInput => {}
+        Left::EndOfInput | Left::InputFailed => {}
     }
     Talked {
         ends: Ends {
             streams: Streams { input, out },
             part,
+            heard,
         },
         left,
     }
@@ -117,7 +131,7 @@ fn outcome(left: Option<Left>) -> Result<(), Refusal>
     ensures { result ≡ outcome_of left }
 {
     match left {
-        Some(Left::Quit | Left::EndOfInput) => Ok(()),
+        Some(Left::Quit | Left::EndOfInput | Left::InputFailed) => Ok(()),
         Some(Left::Unwritten) => Err(Refusal::Output),
         None => Err(Refusal::Memory),
     }
@@ -146,14 +160,18 @@ fn run_board<
     requires store { (size_of_store booted.parts.store ≡ J.size) × (found_state booted.parts.store ≡ J.found)
         × (journal_of booted.parts.store ≡ J.issued) }
     requires taken { (are_taken J.found J.issued ≡ true) × (length J.issued ≤ 2) }
+    requires turns { turns ≡ J.turns }
     requires book { (id_of booted.book ≡ J.book) × (parts_of booted.book ≡ J.parts)
         × (J.parts ≡ J.size.harts + 2) }
     ensures none_out { IsIdle (D.facts result.disk) }
     ensures left { (console : List (ℕ × Entry)) × IsOfLife J.size J.found J.issued console (D.facts result.disk)
-        × TalksIf J.found result.left (dialogue_ends (I.remaining streams.input) (W.contents streams.out) [])
-        (dialogue_ends (I.remaining result.streams.input) (W.contents result.streams.out) console) }
+        × TalksIf J.found J.issued result.left
+        (dialogue_ends (I.remaining streams.input) (W.contents streams.out) (party [] heard_nothing))
+        (dialogue_ends (I.remaining result.streams.input) (W.contents result.streams.out) (party console result.heard)) }
     ensures ran { result.ran ≡ outcome_of result.left }
-    ensures unheard { result.left ≡ None → result.streams ≡ streams }
+    ensures unheard { result.left ≡ None → (result.streams ≡ streams) × (result.heard ≡ heard_nothing) }
+    ensures whole { All (IsWhole J.turns) result.loops.items }
+    ensures loops { IfSome result.left (λ left. vec_len result.loops ≡ J.size.harts) }
 {
     let BootedBoard { parts, shape, book } = booted;
     let Parts {
@@ -165,9 +183,33 @@ fn run_board<
     } = parts;
     let (mut whole, boot) = Unshared::<D, J>::new(store, book);
     let part = whole.hand_out();
-    let ends = Ends { streams, part };
+    let ends = Ends {
+        streams,
+        part,
+        heard: Heard::nothing(),
+    };
+    let Ok(ended) = Vec::with_capacity(alloc, harts.len()) else {
+        let none = Vec::new(alloc);
+        return over(
+            whole,
+            Vec::new(alloc),
+            none,
+            Vec::new(alloc),
+            ends,
+            boot,
+            None,
+        );
+    };
     let Ok(given) = whole.hand_out_all(alloc, harts.len()) else {
-        return over(whole, Vec::new(alloc), Vec::new(alloc), ends, boot, None);
+        return over(
+            whole,
+            Vec::new(alloc),
+            ended,
+            Vec::new(alloc),
+            ends,
+            boot,
+            None,
+        );
     };
     let doze = bus.doze;
     let bus = Mutex::new(bus);
@@ -193,10 +235,11 @@ fn run_board<
         given,
         ends,
         move |ends: Ends<J, I, W>| -> Talked<J, I, W>
-            ensures { Talks J.found result.left
-                (dialogue_ends (I.remaining ends.streams.input) (W.contents ends.streams.out) ends.part.told)
+            ensures { Talks J.found J.issued result.left
+                (dialogue_ends (I.remaining ends.streams.input) (W.contents ends.streams.out)
+                (party ends.part.told ends.heard))
                 (dialogue_ends (I.remaining result.ends.streams.input) (W.contents result.ends.streams.out)
-                result.ends.part.told) }
+                (party result.ends.part.told result.ends.heard)) }
         { attend(rt, rung, shared, shut, ends) },
     );
     let whole = store.into_inner().unshare();
@@ -204,7 +247,7 @@ fn run_board<
         Ok(done) => {
             let (loops, talked) = done;
             let Talked { ends, left } = talked;
-            over(whole, loops, Vec::new(alloc), ends, boot, Some(left))
+            over(whole, loops, ended, Vec::new(alloc), ends, boot, Some(left))
         }
         Err(undriven) => {
             let Undriven {
@@ -213,7 +256,7 @@ fn run_board<
                 loops,
                 parts,
             } = undriven;
-            over(whole, loops, parts, ends, boot, None)
+            over(whole, loops, ended, parts, ends, boot, None)
         }
     }
 }
@@ -222,6 +265,7 @@ fn run_board<
 fn over<D: Disk + Drop, J: Journal, I: Read + Drop, W: Write + Drop>(
     whole: Unshared<D, J>,
     loops: Vec<Ended<J>>,
+    ended: Vec<LoopEnd>,
     parts: Vec<Part<J>>,
     ends: Ends<J, I, W>,
     boot: Part<J>,
@@ -232,19 +276,31 @@ fn over<D: Disk + Drop, J: Journal, I: Read + Drop, W: Write + Drop>(
     requires harts { length (parts_with whole) + vec_len loops + vec_len parts ≡ J.size.harts }
     requires boot { boot.told ≡ boot_told J.issued }
     requires all { J.parts ≡ J.size.harts + 2 }
+    requires empty { vec_len ended ≡ 0 }
+    requires room { vec_len loops ≤ vec_capacity ended }
     ensures none_out { IsIdle (D.facts result.disk) }
     ensures life { IsOfLife J.size J.found J.issued ends.part.told (D.facts result.disk) }
     ensures streams { result.streams ≡ ends.streams }
+    ensures heard { result.heard ≡ ends.heard }
     ensures left { result.left ≡ left }
     ensures ran { result.ran ≡ outcome_of left }
+    ensures whole { All (IsWhole J.turns) result.loops.items }
+    ensures loops { vec_len result.loops ≡ vec_len loops }
 {
-    let Ends { streams, part } = ends;
+    let ended = ends_of(loops.as_slice(), ended);
+    let Ends {
+        streams,
+        part,
+        heard,
+    } = ends;
     let disk = disk_of(whole, loops, parts, part, boot);
     SessionEnd {
         disk,
         ran: outcome(left),
         streams,
         left,
+        heard,
+        loops: ended,
     }
 }
 
@@ -331,10 +387,12 @@ pub fn session<R: Threads + Wait + Sync, D: Disk + Drop + Send, I: Read + Drop, 
     ensures ended { (RefusesSession options.now.new options.now.shape options.now.mode payloads.now (D.facts disk)
         result.ran (D.facts result.disk) × (result.left ≡ None))
         ⊎ (RanOver options.now.new options.now.shape options.now.mode payloads.now (D.facts disk) (D.facts result.disk)
-        result.left (dialogue_ends (I.remaining streams.input) (W.contents streams.out) [])
-        (I.remaining result.streams.input) (W.contents result.streams.out)
+        result.left (dialogue_ends (I.remaining streams.input) (W.contents streams.out) (party [] heard_nothing))
+        (I.remaining result.streams.input) (W.contents result.streams.out) result.heard (vec_len result.loops)
         × (result.ran ≡ outcome_of result.left)) }
-    ensures unheard { result.left ≡ None → result.streams ≡ streams }
+    ensures unheard { result.left ≡ None → (result.streams ≡ streams) × (result.heard ≡ heard_nothing) }
+    // Once the console was begun each hart of the board had a loop, and one that ended with its turns made all.
+    ensures whole { All (IsWhole options.now.turns) result.loops.items }
     // Whatever it answers, a disk of which each crash leaves a state is given back as one.
     ensures kept { (size : Size) → IsKept (D.facts disk) size → (z : Size) × IsKept (D.facts result.disk) z }
 {
@@ -344,6 +402,8 @@ pub fn session<R: Threads + Wait + Sync, D: Disk + Drop + Send, I: Read + Drop, 
             ran: Err(refusal),
             streams,
             left: None,
+            heard: Heard::nothing(),
+            loops: Vec::new(alloc),
         },
         Ok(board) => {
             let shape = board.shape();
@@ -366,6 +426,8 @@ pub fn session<R: Threads + Wait + Sync, D: Disk + Drop + Send, I: Read + Drop, 
                         ran: Err(Refusal::Memory),
                         streams,
                         left: None,
+                        heard: Heard::nothing(),
+                        loops: Vec::new(alloc),
                     }
                 }
             }

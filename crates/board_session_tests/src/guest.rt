@@ -27,7 +27,9 @@ const BOOTED: Said = Said {
         "fresh",
         "--new",
         "--harts",
-        "2",
+        "5",
+        "--pages",
+        "20",
         "--turns",
         "1000000000",
     ],
@@ -49,12 +51,14 @@ const RESUMED: Said = Said {
     told: b"",
 };
 
-/// A shutdown for a failure of the system: a0 and a6 are set to 0, a1 to 1, a7 to 0x53525354 by LUI and ADDI,
-/// then ECALL, the sixth instruction.
-const FAILS: &str = "130500009305100013080000b75852539388483573000000";
+/// A count from 0x100000 down to 0, by LUI, ADDI and BNE: 2,097,153 turns. Then a shutdown for a failure of the system:
+/// a0 and a6 are set to 0, a1 to 1, a7 to 0x53525354 by LUI and ADDI, and ECALL, the sixth instruction from there.
+const FAILS: &str = "b70210009382f2ffe39e02fe130500009305100013080000b75852539388483573000000";
 
 const FAILED: Said = Said {
-    words: &["sbiboard", "--disk", "D", "--mode", "keep", "--turns", "6"],
+    words: &[
+        "sbiboard", "--disk", "D", "--mode", "keep", "--turns", "2097159",
+    ],
     lines: b"",
     told: b"",
 };

@@ -6,11 +6,15 @@ use board::Payloads;
 use board_console::Left;
 use board_options::options;
 use board_session::{Streams, session};
+use std::alloc::Global;
 use std::io::{self, ErrorKind, Read, Write};
+use std::sync::Wait;
 use std::test::*;
+use std::thread::{self, Threads};
+use std::time::{Clock, Duration};
 
 /// An input of these bytes, one for each read. Each second read is interrupted first, and after the last byte
-/// it fails.
+/// it fails once, and then has a line more.
 #[derive(Drop)]
 struct Faltering {
     bytes: &'static [u8],
@@ -38,7 +42,10 @@ impl Read for Faltering {
                 self.bytes = rest;
                 Ok(1)
             }
-            _ => Err(io::Error::from(ErrorKind::ConnectionReset)),
+            _ => {
+                self.bytes = b"slot 2\n";
+                Err(io::Error::from(ErrorKind::ConnectionReset))
+            }
         }
     }
 }
@@ -66,23 +73,36 @@ impl Write for Flushed {
     }
 }
 
+/// What a session answers to these bytes and a failure behind them.
+fn falters<R: Threads + Wait + Sync>(
+    rt: &R,
+    alloc: Global,
+    bytes: &'static [u8],
+) -> Result<(Vec<u8>, Option<Left>), Fail> {
+    let given = options(alloc, NEW.as_slice())
+        .ok()
+        .ok_or("the command line has a fault")?;
+    let none = Payloads::new(alloc);
+    let input = Faltering::new(bytes);
+    let out = Vec::new(alloc);
+    let streams = Streams { input, out };
+    let ended = session(rt, alloc, &given, disk_of(alloc)?, &none, streams);
+    ended.ran?;
+    Ok((ended.streams.out, ended.left))
+}
+
 #[test]
 fn an_interrupted_read_goes_on_and_a_failed_one_ends_the_input(
     rt: HostRuntime,
 ) -> Result<(), Fail> {
     let alloc = rt.alloc();
-    let given = options(alloc, NEW.as_slice())
-        .ok()
-        .ok_or("the command line has a fault")?;
-    let none = Payloads::new(alloc);
-    let input = Faltering::new(b"slot 1\nstate\n");
-    let out = Vec::new(alloc);
-    let streams = Streams { input, out };
-    let ended = session(&rt, alloc, &given, disk_of(alloc)?, &none, streams);
-    assert_eq!(&rt; ended.ran, Ok(()));
-    assert_eq!(&rt; ended.left, Some(Left::EndOfInput));
     let told = b"slot ok 1\nstate slot 1 reason 0 image none next 0\n";
-    assert_eq!(&rt; ended.streams.out.as_slice(), told.as_slice());
+    let (out, left) = falters(&rt, alloc, b"slot 1\nstate\n")?;
+    assert!(&rt; out.as_slice() == told.as_slice());
+    assert!(&rt; left == Some(Left::InputFailed));
+    let (out, left) = falters(&rt, alloc, b"slot 1\nstate")?;
+    assert!(&rt; out.as_slice() == told.as_slice());
+    assert!(&rt; left == Some(Left::InputFailed));
     Ok(())
 }
 
@@ -106,7 +126,7 @@ fn each_answer_is_seen_at_once(rt: HostRuntime) -> Result<(), Fail> {
 }
 
 /// Turns for longer than a test may take.
-const THREE: [&str; 10] = [
+pub const THREE: [&str; 10] = [
     "sbiboard",
     "--disk",
     "D",
@@ -119,6 +139,29 @@ const THREE: [&str; 10] = [
     "1000000000",
 ];
 
+/// An input that waits for a second, and then says `quit`.
+#[derive(Drop)]
+struct Late<'a, R> {
+    clock: &'a R,
+    bytes: &'static [u8],
+}
+
+impl<'a, R: Clock> Read for Late<'a, R> {
+    fn read(&mut self, buf: &mut [u8]) -> io::Result<usize> {
+        if self.bytes.len() == 5 {
+            thread::sleep(self.clock, Duration::from_millis(1000));
+        }
+        match (self.bytes.split_first(), buf.first_mut()) {
+            (Some((byte, rest)), Some(place)) => {
+                *place = *byte;
+                self.bytes = rest;
+                Ok(1)
+            }
+            _ => Ok(0),
+        }
+    }
+}
+
 #[test]
 fn quit_ends_all_harts(rt: HostRuntime) -> Result<(), Fail> {
     let alloc = rt.alloc();
@@ -126,11 +169,14 @@ fn quit_ends_all_harts(rt: HostRuntime) -> Result<(), Fail> {
         .ok()
         .ok_or("the command line has a fault")?;
     let none = Payloads::new(alloc);
-    let input = b"quit\n".as_slice();
+    let input = Late {
+        clock: &rt,
+        bytes: b"quit\n",
+    };
     let out = Vec::new(alloc);
     let streams = Streams { input, out };
     let ended = session(&rt, alloc, &given, disk_of(alloc)?, &none, streams);
     assert_eq!(&rt; ended.ran, Ok(()));
-    assert_eq!(&rt; ended.left, Some(Left::Quit));
+    assert!(&rt; ended.left == Some(Left::Quit));
     Ok(())
 }
