@@ -1,32 +1,57 @@
 //! Runs that stop before the end of their script, and the disk that they give back.
 
-use crate::told::{START, Short, in_turn};
-use bench_report::run_left;
+ghost use Rattle.store.specs.Leaves.{IsIdle};
+
+use crate::told::{START, Short, in_turn, same};
+use bench_report::{run, run_left};
 use board::{Board, Payloads};
 use board_model::{BootMode, Refusal};
+use disk::Disk;
+use simdisk::SimDisk;
+use std::alloc::Global;
 use std::test::*;
+use std::thread::Threads;
+
+/// The slot that a power-on over that disk finds, or by what it is refused.
+fn slot_found(alloc: Global, disk: SimDisk) -> Result<u32, Refusal>
+    requires { IsIdle (⟦<SimDisk as Disk>⟧.facts disk) }
+{
+    let payloads = Payloads::new(alloc);
+    match Board::power_on(alloc, disk, BootMode::Keep, &payloads) {
+        Ok(board) => Ok(board.found().slot.number()),
+        Err(unpowered) => Err(unpowered.refusal),
+    }
+}
+
+/// How a run ended: how many lines its report has, or why it stopped; and, of a disk that it gave back, the slot
+/// that a power-on finds.
+type RunEnd = (Result<u64, Refusal>, Option<Result<u32, Refusal>>);
+
+/// How a run ends whose writer takes so many bytes.
+fn ended<R: Threads + Sync>(
+    rt: &R,
+    alloc: Global,
+    script: &[u8],
+    room: usize,
+) -> Result<RunEnd, Fail> {
+    let crew = in_turn(rt)?;
+    let mut out = Short { room };
+    match run_left(alloc, script, &crew, &mut out) {
+        Ok((report, disk)) => Ok((Ok(report.lines), Some(slot_found(alloc, disk)))),
+        Err(stopped) => match stopped.disk {
+            Some(disk) => Ok((Err(stopped.refusal), Some(slot_found(alloc, disk)))),
+            None => Ok((Err(stopped.refusal), None)),
+        },
+    }
+}
 
 /// The writer has room for the report up to `slot ok 1`, and not for all of `cut`, which is made.
+const CUT: &[u8] = b"board 1 1 1\nformat\non fresh\nslot 2\ncut new\non fresh\nslot 3\n";
+
 #[test]
 fn the_disk_of_a_writer_that_failed_powers_on(rt: HostRuntime) -> Result<(), Fail> {
-    let alloc = rt.alloc();
-    let mut script = Vec::new(alloc);
-    script.extend_from_slice(START)?;
-    script.extend_from_slice(b"slot 2\ncut new\non fresh\nslot 3\n")?;
-    let crew = in_turn(&rt)?;
-    let mut out = Short { room: 95 };
-    let payloads = Payloads::new(alloc);
-    match run_left(alloc, &script, &crew, &mut out) {
-        Ok(_) => assert!(rt; false, "the report has more bytes"),
-        Err(stopped) => {
-            assert_eq!(rt; stopped.refusal, Refusal::Output);
-            let disk = stopped.disk.ok_or("the run gives its disk back")?;
-            match Board::power_on(alloc, disk, BootMode::Keep, &payloads) {
-                Ok(board) => assert_eq!(rt; board.found().slot.number(), 2),
-                Err(_) => assert!(rt; false, "the disk was formatted"),
-            }
-        }
-    }
+    let left = ended(&rt, rt.alloc(), CUT, 95)?;
+    same(&rt, left, (Err(Refusal::Output), Some(Ok(2))));
     Ok(())
 }
 
@@ -34,22 +59,28 @@ fn the_disk_of_a_writer_that_failed_powers_on(rt: HostRuntime) -> Result<(), Fai
 /// yet.
 #[test]
 fn the_disk_of_a_run_out_of_memory_powers_on(rt: HostRuntime) -> Result<(), Fail> {
-    let alloc = rt.alloc();
-    let crew = in_turn(&rt)?;
-    let mut out = Short { room: 1000 };
-    let payloads = Payloads::new(alloc);
-    match run_left(alloc, START, &crew, &mut out) {
-        Ok((report, _disk)) => assert_eq!(rt; report.lines, 4),
-        Err(stopped) => {
-            assert_eq!(rt; stopped.refusal, Refusal::Memory);
-            let Some(disk) = stopped.disk else {
-                return Ok(());
-            };
-            match Board::power_on(alloc, disk, BootMode::Keep, &payloads) {
-                Ok(board) => assert_eq!(rt; board.found().slot.number(), 0),
-                Err(unpowered) => assert_eq!(rt; unpowered.refusal, Refusal::NotFormatted),
-            }
+    match ended(&rt, rt.alloc(), START, 1000)? {
+        (Ok(lines), _) => same(&rt, lines, 4),
+        (Err(refusal), None) => same(&rt, refusal, Refusal::Memory),
+        (Err(refusal), Some(found)) => {
+            same(&rt, refusal, Refusal::Memory);
+            assert!(rt; found == Ok(0) || found == Err(Refusal::NotFormatted));
         }
+    }
+    Ok(())
+}
+
+/// Whether a run whose writer takes so many bytes is refused for that.
+fn is_unwritten<R: Threads + Sync>(rt: &R, alloc: Global, room: usize) -> Result<bool, Fail> {
+    let crew = in_turn(rt)?;
+    let mut out = Short { room };
+    Ok(run(alloc, START, &crew, &mut out).err() == Some(Refusal::Output))
+}
+
+#[test]
+fn a_writer_that_fails_is_answered(rt: HostRuntime) -> Result<(), Fail> {
+    for room in 0..80 {
+        same(&rt, is_unwritten(&rt, rt.alloc(), room)?, true);
     }
     Ok(())
 }
@@ -66,9 +97,9 @@ fn memory_refused_after_the_open_tells_what_it_found(rt: HostRuntime) -> Result<
     };
     let payloads = Payloads::new(alloc);
     if let Err(left) = Board::power_on(alloc, disk, BootMode::Fresh, &payloads) {
-        assert_eq!(rt; left.refusal, Refusal::Memory);
+        same(&rt, left.refusal, Refusal::Memory);
         assert!(rt; left.found.is_some());
-        assert_eq!(rt; left.now, left.found);
+        same(&rt, left.now, left.found);
     }
     Ok(())
 }

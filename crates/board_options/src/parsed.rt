@@ -8,12 +8,12 @@ ghost use Rattle.clap.specs.Words.{first_value, found_of, rows_of, matches_of};
 ghost use Rattle.clap.specs.declared.builder.value_parser.ValueParser.{ValueParser};
 ghost use Rattle.clap.specs.declared.parser.matches.Found.{Found};
 ghost use Rattle.board_options.specs.Limits.{AreTurns};
-ghost use Rattle.board_options.specs.Lines.{sbiboard};
+ghost use Rattle.board_help.specs.Lines.{sbiboard};
 ghost use Rattle.board_options.specs.Modes.{mode_named};
 ghost use Rattle.board_options.specs.Reads.{ReadsOptions, path_named, number_named};
 
 use crate::given::{Options, ShapeGiven};
-use crate::help::{
+use board_help::{
     DISK, HARTS, LANES, MODE, MOST_TURNS, NEW, PAGES, PAYLOADS, SYNC, TURNS, command,
 };
 use board_model::{BootMode, Shape};

@@ -4,6 +4,7 @@
 
 mod fault;
 mod flags;
+mod written;
 
 ghost use Rattle.std.specs.Prelude.{◌≡◌};
 ghost use Rattle.clap.specs.Values.{kind_of};
@@ -13,6 +14,7 @@ pub use crate::fault::{
     ProgramFault, ToldBy, file_fault, first_fault, memory_fault, status_of, without_work,
 };
 pub use crate::flags::flag;
+pub use crate::written::write_to_end;
 use clap::Error;
 use clap::error::ErrorKind;
 use std::io::Write;

@@ -3,3 +3,5 @@ pub mod Searches
 -- Whether a sector is a record, or a content a board's.
 pub mod Records
 pub mod Contents
+-- Why a disk is not seen, and that it was read alone.
+pub mod Seeing

@@ -6,9 +6,9 @@ use Rattle.board_model.specs.Shapes.{Size}
 use Rattle.board_model.specs.declared.durable.Reason.{Reason}
 use Rattle.board_model.specs.declared.refusal.Refusal.{Refusal}
 use Rattle.hart.specs.State.{ArchState}
-use Rattle.hsm_rule.specs.Words.{HartView}
-use Rattle.hsm_rule.specs.declared.view.Action.TheVariants.{Quieted}
-use Rattle.hsm_rule.specs.Rule.{HasNoted}
+use Rattle.hsm_steps.specs.Words.{HartView}
+use Rattle.hsm_steps.specs.declared.view.Action.TheVariants.{Quieted}
+use Rattle.hsm_steps.specs.Rule.{HasNoted}
 use Rattle.hsm_steps.specs.Outcomes.{after_quiet}
 use Rattle.store.specs.Views.{size_of_store}
 use Rattle.store.specs.declared.stores.Store.{Store}

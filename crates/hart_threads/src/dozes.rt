@@ -1,7 +1,7 @@
 //! A hart in whose doze its board is: it looks at the bus, and begins again once the board was woken.
 
 ghost use Rattle.std.specs.Prelude.{◌≡◌, ◌+◌, ◌≤◌, ◌<◌, ◌-◌, ◌^◌, Some};
-ghost use Rattle.hsm_rule.specs.declared.view.Stage.TheVariants.{Quiet};
+ghost use Rattle.hsm_steps.specs.declared.view.Stage.TheVariants.{Quiet};
 ghost use Rattle.sbi_calls.specs.Both.{AreSeatsOfBoth, GivesBack, Acts, harts_of_both, known};
 ghost use Rattle.hart_threads.specs.Looks.{Looked, no_looks, after_look, is_woken, doze_left, doze_by};
 ghost use Rattle.hart_threads.specs.Seated.{StandsAfterTurn};

@@ -6,7 +6,7 @@ ghost use Rattle.machine.specs.Held.{IsHeld};
 ghost use Rattle.receipts.specs.Views.{id_of, parts_of};
 ghost use Rattle.hart_threads_tests.specs.Begun.{IsBegun};
 
-use crate::fixtures::{Open, booted, parts_of};
+use crate::fixtures::{Open, booted, parts_of, same};
 use crate::looped::looped;
 use board::{Board, Parts};
 use board_console::console;
@@ -292,10 +292,10 @@ fn a_board_that_sleeps_in_its_ram_is_woken_by_its_console(rt: HostRuntime) -> Re
     let (parts, shape) = dozing_parts(&rt)?;
     let (out, ended) = driven(&rt, rt.alloc(), parts, &shape)?;
     let told = b"wake ok\nwake refused 18\nslot ok 1\nquit\n";
-    assert_eq!(&rt; out.as_slice(), told.as_slice());
+    same(&rt, out.as_slice(), told.as_slice());
     let (a0, a1, pc, why, looked, woken) = ended.ok_or("the sleeper")?;
-    assert_eq!(&rt; (a0, a1, pc), (SLEEPER, 9, SITE));
-    assert_eq!(&rt; (why, woken), (Why::Gate, 1));
+    same(&rt, (a0, a1, pc), (SLEEPER, 9, SITE));
+    same(&rt, (why, woken), (Why::Gate, 1));
     assert!(&rt; IDLE < looked);
     Ok(())
 }
@@ -331,32 +331,27 @@ fn armed(parts: Parts<SimDisk>, shape: &Shape, fault: ArmedFault) -> Parts<SimDi
     parts
 }
 
-/// After these commands, whatever they were answered, the board dozes, and no receipt is told.
+/// After these commands, whatever they were answered under that fault, the board dozes, and no receipt is told.
 fn dozes_after<R: AllocGlobal + Threads + Wait + Abort + Sync>(
     rt: &R,
-    parts: Parts<SimDisk>,
-    shape: &Shape,
     commands: &[Command],
-) -> Result<(), Fail>
-    requires held { IsHeld shape.now parts.harts.items parts.tables (Some parts.seats) parts.bus.doze }
-    requires begun { IsBegun shape.now parts.store }
-{
-    let mut made = looped(rt, rt.alloc(), &Open, parts, shape, commands, 10)?;
-    assert_eq!(rt; made.pop(), Some((10, Why::Turns, ASKS, None, 3)));
+    fault: ArmedFault,
+) -> Result<(), Fail> {
+    let (parts, shape) = dozer(rt.alloc())?;
+    let parts = armed(parts, &shape, fault);
+    let mut made = looped(rt, rt.alloc(), &Open, parts, &shape, commands, 10)?;
+    same(rt, made.pop(), Some((10, Why::Turns, ASKS, None, 3)));
     Ok(())
 }
+
+/// A call that no store here comes to.
+const NEVER: ArmedFault = ArmedFault::FailAt(1_000_000);
 
 /// A store that is over, full or down, and so refuses every command.
 #[test]
 fn a_board_dozes_whatever_its_store_would_refuse(rt: HostRuntime) -> Result<(), Fail> {
-    let alloc = rt.alloc();
-    let (parts, shape) = dozer(alloc)?;
-    dozes_after(&rt, parts, &shape, &[])?;
-    let (parts, shape) = dozer(alloc)?;
-    dozes_after(&rt, parts, &shape, &[Command::Reset(Reason::NoReason)])?;
-    let (parts, shape) = dozer(alloc)?;
-    dozes_after(&rt, parts, &shape, &[Command::Slot(1); 4096])?;
-    let (parts, shape) = dozer(alloc)?;
-    let parts = armed(parts, &shape, ArmedFault::FailAt(3));
-    dozes_after(&rt, parts, &shape, &[Command::Slot(1)])
+    dozes_after(&rt, &[], NEVER)?;
+    dozes_after(&rt, &[Command::Reset(Reason::NoReason)], NEVER)?;
+    dozes_after(&rt, &[Command::Slot(1); 4096], NEVER)?;
+    dozes_after(&rt, &[Command::Slot(1)], ArmedFault::FailAt(3))
 }

@@ -2,7 +2,7 @@
 
 ghost use Rattle.store.specs.Leaves.{IsIdle};
 
-use crate::fixtures::{Open, driven, parts_of};
+use crate::fixtures::{Open, driven, parts_of, same};
 use board_model::Shape;
 use disk::Disk;
 use ram::Ram;
@@ -41,8 +41,8 @@ fn a_guest_suspends_its_board(rt: HostRuntime) -> Result<(), Fail> {
     assert!(&rt; all);
     let mut store = opened(alloc, disk)?;
     let found = store.found();
-    assert_eq!(&rt; (found.slot.number(), found.next), (0, 1));
-    assert_eq!(&rt; found.image.map(|image| image.serial), Some(0));
+    same(&rt, (found.slot.number(), found.next), (0, 1));
+    same(&rt, found.image.map(|image| image.serial), Some(0));
     let mut ram = Ram::new(alloc, shape)?;
     assert!(&rt; store.load_image(&mut ram).is_ok());
     let mut whole = true;

@@ -16,10 +16,16 @@ use shared_store::{Journal, NewBook, Part, Unshared};
 use simdisk::SimDisk;
 use std::alloc::Global;
 use std::marker::Brand;
+use std::process::Abort;
 use std::sync::{Mutex, Wait};
 use std::test::Fail;
 use std::thread::Threads;
 use store::{Saving, Store, format};
+
+/// These two have to be equal.
+pub fn same<T: PartialEq + Drop>(rt: &impl Abort, found: T, wanted: T) {
+    assert!(rt; found == wanted);
+}
 
 /// It lets every turn begin.
 #[derive(Drop)]

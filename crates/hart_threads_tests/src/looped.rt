@@ -6,7 +6,7 @@ ghost use Rattle.machine.specs.Held.{IsHeld};
 ghost use Rattle.receipts.specs.Views.{id_of, parts_of};
 ghost use Rattle.hart_threads_tests.specs.Begun.{IsBegun};
 
-use crate::fixtures::{Open, next_part, parts_of};
+use crate::fixtures::{Open, next_part, parts_of, same};
 use board::Parts;
 use board_model::{Command, HartId, Shape};
 use hart_threads::{Acting, Gate, HartLocal, SharedBoard, Why, hart_loop, seat_harts};
@@ -129,17 +129,27 @@ pub const STOPPER: [u8; 28] = [
     0x93, 0x88, 0x48, 0x35, 0x73, 0x00, 0x00, 0x00, 0x6f, 0x00, 0x00, 0x00,
 ];
 
+/// How the loop of a board's one hart ended, which runs that.
+fn stopper<R: Threads + Wait + Sync, G: Gate>(
+    rt: &R,
+    alloc: Global,
+    gate: &G,
+    turns: u64,
+) -> Result<Option<End>, Fail> {
+    let (parts, shape) = parts_of(alloc, &Shape::new(1, 1, 1)?, &STOPPER)?;
+    Ok(looped(rt, alloc, gate, parts, &shape, &[], turns)?.pop())
+}
+
 #[test]
 fn a_loop_ends_as_it_is_told(rt: HostRuntime) -> Result<(), Fail> {
     let alloc = rt.alloc();
-    let (parts, shape) = parts_of(alloc, &Shape::new(1, 1, 1)?, &STOPPER)?;
-    let mut made = looped(&rt, alloc, &Open, parts, &shape, &[], 3)?;
-    assert_eq!(&rt; made.pop(), Some((3, Why::Turns, 0x8000_000c, None, 0)));
-    let (parts, shape) = parts_of(alloc, &Shape::new(1, 1, 1)?, &STOPPER)?;
-    let mut made = looped(&rt, alloc, &ShutAt(2), parts, &shape, &[], 100)?;
-    assert_eq!(&rt; made.pop(), Some((2, Why::Gate, 0x8000_0008, None, 0)));
-    let (parts, shape) = parts_of(alloc, &Shape::new(1, 1, 1)?, &STOPPER)?;
-    let mut made = looped(&rt, alloc, &Open, parts, &shape, &[], 100)?;
-    assert_eq!(&rt; made.pop(), Some((6, Why::Life, 0x8000_0014, Some(1), 0)));
+    let (turns, gate) = (
+        stopper(&rt, alloc, &Open, 3)?,
+        stopper(&rt, alloc, &ShutAt(2), 100)?,
+    );
+    same(&rt, turns, Some((3, Why::Turns, 0x8000_000c, None, 0)));
+    same(&rt, gate, Some((2, Why::Gate, 0x8000_0008, None, 0)));
+    let life = stopper(&rt, alloc, &Open, 100)?;
+    same(&rt, life, Some((6, Why::Life, 0x8000_0014, Some(1), 0)));
     Ok(())
 }

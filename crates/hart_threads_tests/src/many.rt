@@ -1,6 +1,6 @@
 //! Boards of three harts and of eight: each hart makes its turns, and the life of all ends with one's.
 
-use crate::fixtures::{driven, parts_of};
+use crate::fixtures::{driven, parts_of, same};
 use crate::looped::STOPPER;
 use board_model::{HartId, Shape};
 use hart_threads::Gate;
@@ -65,7 +65,7 @@ fn each_of_eight_harts_makes_its_turns_but_one_that_the_gate_ends(
     assert!(&rt; all);
     for hart in 0..8 {
         let turns = if hart == 3 { 5 } else { 20 };
-        assert!(&rt; gate.made_by(hart) == turns);
+        same(&rt, gate.made_by(hart), turns);
     }
     Ok(())
 }
@@ -76,7 +76,7 @@ fn the_gate_is_asked_past_a_million_turns(rt: HostRuntime) -> Result<(), Fail> {
     let gate = Counting::new(Some((0, 1_048_600)));
     let (all, _disk) = driven(&rt, rt.alloc(), &gate, parts, &shape, ENDLESS);
     assert!(&rt; all);
-    assert!(&rt; gate.made_by(0) == 1_048_600);
+    same(&rt, gate.made_by(0), 1_048_600);
     Ok(())
 }
 
@@ -86,6 +86,6 @@ fn the_life_of_all_harts_ends_with_a_reset_of_one(rt: HostRuntime) -> Result<(),
     let gate = Counting::new(None);
     let (all, _disk) = driven(&rt, rt.alloc(), &gate, parts, &shape, ENDLESS);
     assert!(&rt; all);
-    assert_eq!(&rt; gate.made_by(0), 6);
+    same(&rt, gate.made_by(0), 6);
     Ok(())
 }

@@ -1,6 +1,6 @@
 //! Two harts' turns overlap: at their gate each waits for the other, before and after every turn.
 
-use crate::fixtures::{driven, parts_of};
+use crate::fixtures::{driven, parts_of, same};
 use board_model::{HartId, Shape};
 use hart_threads::Gate;
 use std::sync::atomic::{AtomicBool, AtomicU64, Ordering};
@@ -76,7 +76,7 @@ fn two_harts_meet_before_and_after_every_turn(rt: HostRuntime) -> Result<(), Fai
     let (all, _disk) = driven(&rt, rt.alloc(), &gate, parts, &shape, 100);
     assert!(&rt; all);
     assert!(&rt; !gate.was_missed());
-    assert_eq!(&rt; calls_of(&gate.after, 0), 100);
-    assert_eq!(&rt; calls_of(&gate.after, 1), 100);
+    same(&rt, calls_of(&gate.after, 0), 100);
+    same(&rt, calls_of(&gate.after, 1), 100);
     Ok(())
 }

@@ -1,6 +1,6 @@
 //! Two threads issue commands to one store, each in a hold of its lock: the receipts agree with the journal.
 
-use crate::fixtures::formatted;
+use crate::fixtures::{formatted, same};
 use board_model::{Command, Entry, Shape};
 use disk::Disk;
 use simdisk::SimDisk;
@@ -51,7 +51,11 @@ fn receipts_of_two_threads_agree_with_the_journal(rt: HostRuntime) -> Result<(),
     let store = Mutex::new(opened.ok().ok_or("the disk is not opened")?);
     let (ones, twos) = issue_both(&rt, &store);
     for number in 1..201 {
-        assert_eq!(&rt; times(&ones, number).wrapping_add(times(&twos, number)), 1);
+        same(
+            &rt,
+            times(&ones, number).wrapping_add(times(&twos, number)),
+            1,
+        );
     }
     let store = store.into_inner();
     assert!(&rt; are_of(&store, &ones, 1));

@@ -6,7 +6,7 @@ ghost use Rattle.store.specs.Views.{found_state};
 ghost use Rattle.receipts.specs.Views.{id_of, parts_of};
 ghost use Rattle.hart_threads_tests.specs.Begun.{IsBegun};
 
-use crate::fixtures::parts_of;
+use crate::fixtures::{parts_of, same};
 use board::Parts;
 use board_console::console;
 use board_model::{Addr, HartId, Shape};
@@ -85,7 +85,7 @@ fn no_lock_is_held_while_an_answer_is_written(rt: HostRuntime) -> Result<(), Fai
         store,
     } = parts;
     let (lines, held) = talked::<Brand, HostRuntime>(&rt, bus, store, book);
-    assert_eq!(&rt; (lines, held), (6, 0));
+    same(&rt, (lines, held), (6, 0));
     Ok(())
 }
 

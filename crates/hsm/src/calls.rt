@@ -2,12 +2,12 @@
 
 ghost use Rattle.std.specs.Prelude.{◌≡◌, ◌≢◌, ℕ, ◌+◌, ◌*◌, ◌<◌, ◌↔◌, true, false, IsTrue, MatchBool, MatchOption};
 ghost use Rattle.std.specs.Int.{bit_at};
-ghost use Rattle.hsm_rule.specs.Rule.{stands};
-ghost use Rattle.hsm_rule.specs.States.{IsStarted, IsBetweenCalls, is_stopped, stopped, started, suspended, change_at, grant, entry, begin};
+ghost use Rattle.hsm_steps.specs.Rule.{stands};
+ghost use Rattle.hsm_steps.specs.States.{IsStarted, IsBetweenCalls, is_stopped, stopped, started, suspended, change_at, grant, entry, begin};
 ghost use Rattle.hsm_steps.specs.Outcomes.{after_quiet};
 ghost use Rattle.hsm_steps.specs.Seating.{IsSeatOf, harts_of, hart_view_of_seat, harts_in};
-ghost use Rattle.hsm_rule.specs.declared.view.Stage.TheVariants.{Out, Running, Suspended, Quiet};
-ghost use Rattle.hsm_rule.specs.declared.view.Action.TheVariants.{Looked, Stopped as DidStop, Suspended as DidSuspend, Woke, Quieted, Unquieted};
+ghost use Rattle.hsm_steps.specs.declared.view.Stage.TheVariants.{Out, Running, Suspended, Quiet};
+ghost use Rattle.hsm_steps.specs.declared.view.Action.TheVariants.{Looked, Stopped as DidStop, Suspended as DidSuspend, Woke, Quieted, Unquieted};
 ghost use Rattle.hsm.specs.Calls.{stage_of, Sits, KeepsAll, KeepsOthers, IsOwnStatus, StandsBy, state_in_word, named, Starts, EntersAs, FindsNone, ActsAlone};
 ghost use Rattle.tallies.specs.Notes.{HasNoted};
 

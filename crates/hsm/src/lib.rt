@@ -9,7 +9,6 @@ mod seen;
 mod state;
 
 pub use calls::{quiet, start, status, stop, suspend, try_enter, unquiet, wake};
-pub use hsm_rule::laws;
-pub use hsm_steps::{HartSeat, HartTable, SeatTable, Seats};
+pub use hsm_steps::{HartSeat, HartTable, SeatTable, Seats, laws};
 pub use seen::one_table;
 pub use state::State;

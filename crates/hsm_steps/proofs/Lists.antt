@@ -4,9 +4,9 @@ use Rattle.atomic_table.specs.declared.shared.Seat.{Seat}
 use Rattle.tallies.specs.Seats.{numbers_from, views_at}
 use Rattle.tallies.proofs.Seatings.{head_or, tail_of, some_or}
 use Rattle.tallies.specs.Notes.{numbers}
-use Rattle.hsm_rule.specs.Rule.{stands}
-use Rattle.hsm_rule.specs.declared.view.Stage.{Stage}
-use Rattle.hsm_rule.specs.Words.{HartView, HartSeatView}
+use Rattle.hsm_steps.specs.Rule.{stands}
+use Rattle.hsm_steps.specs.declared.view.Stage.{Stage}
+use Rattle.hsm_steps.specs.Words.{HartView, HartSeatView}
 use Rattle.hsm_steps.specs.Seating.{StandAsIn, StandTogether, AreInOrder, harts_in, harts_by_seat, all_harts, one_by_one}
 
 stands_from : (ss : List (Option (Seat (Unit {0}) HartSeatView))) (vs : List HartView) (first n : ℕ) → harts_by_seat ss ≡ one_by_one vs → numbers vs ≡ numbers_from first n

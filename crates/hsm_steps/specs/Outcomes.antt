@@ -3,12 +3,12 @@ use Rattle.std.specs.Prelude.{◌≡◌, ◌≢◌, ◌↔◌, ℕ, ◌+◌, ◌
 use Rattle.std.specs.Int.{bit_at}
 use Rattle.atomic_table.specs.Table.{Step}
 use Rattle.tallies.specs.Notes.{SeatState, seat_notes, Notes, opening_from}
-use Rattle.hsm_rule.specs.declared.view.Stage.{Stage}
-use Rattle.hsm_rule.specs.declared.view.Stage.TheVariants.{Out, Ready, Addressed, Loaded, Running, Claiming, Half, Stored, Suspended, Quiet}
-use Rattle.hsm_rule.specs.declared.view.Action.TheVariants.{Claimed, Wrote, Armed, Looked, Read, Entered, Stopped, Suspended as DidSuspend, Woke, Quieted, Unquieted}
-use Rattle.hsm_rule.specs.Words.{HartView, HartSeatView}
-use Rattle.hsm_rule.specs.Rule.{IsSite, stands}
-use Rattle.hsm_rule.specs.States.{HartState, stopped, start_pending, started, IsStarted, IsBetweenCalls, Shows, Tells}
+use Rattle.hsm_steps.specs.declared.view.Stage.{Stage}
+use Rattle.hsm_steps.specs.declared.view.Stage.TheVariants.{Out, Ready, Addressed, Loaded, Running, Claiming, Half, Stored, Suspended, Quiet}
+use Rattle.hsm_steps.specs.declared.view.Action.TheVariants.{Claimed, Wrote, Armed, Looked, Read, Entered, Stopped, Suspended as DidSuspend, Woke, Quieted, Unquieted}
+use Rattle.hsm_steps.specs.Words.{HartView, HartSeatView}
+use Rattle.hsm_steps.specs.Rule.{IsSite, stands}
+use Rattle.hsm_steps.specs.States.{HartState, stopped, start_pending, started, IsStarted, IsBetweenCalls, Shows, Tells}
 
 -- ---- what each step tells
 -- where a hart stands after a claim

@@ -2,9 +2,9 @@
 use Rattle.std.specs.Prelude.{◌≡◌, ℕ, List, Option, Some, slice_get}
 use Rattle.atomic_table.specs.declared.shared.Seat.{Seat}
 use Rattle.tallies.specs.Seats.{AreSeats, IsSeatIn, HasHarts}
-use Rattle.hsm_rule.specs.Words.{HartView, HartSeatView}
-use Rattle.hsm_rule.specs.declared.view.Stage.{Stage}
-use Rattle.hsm_rule.specs.Rule.{stands}
+use Rattle.hsm_steps.specs.Words.{HartView, HartSeatView}
+use Rattle.hsm_steps.specs.declared.view.Stage.{Stage}
+use Rattle.hsm_steps.specs.Rule.{stands}
 use Rattle.hsm_steps.specs.declared.table.HartTable.{HartTable}
 pub use Rattle.tallies.specs.Seats.{one_by_one, view_of_seat as hart_view_of_seat, harts_in, AreInOrder, harts_by_seat, all_harts}
 

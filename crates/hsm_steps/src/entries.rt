@@ -1,18 +1,18 @@
 //! The steps by which a hart that was started enters.
 
 ghost use Rattle.std.specs.Prelude.{◌≡◌, ◌+◌, ◌*◌, ◌<◌};
-ghost use Rattle.hsm_rule.specs.Rule.{IsSite, stands};
-ghost use Rattle.hsm_rule.specs.States.{Tells};
+ghost use Rattle.hsm_steps.specs.Rule.{IsSite, stands};
+ghost use Rattle.hsm_steps.specs.States.{Tells};
 ghost use Rattle.hsm_steps.specs.Outcomes.{after_look, PollsOutside, ReadsAddress, ReadsOpaque, IsOpenStart, Enters};
 ghost use Rattle.hsm_steps.specs.Seating.{IsSeatOf, harts_of, hart_view_of_seat, harts_in};
-ghost use Rattle.hsm_rule.specs.declared.view.Stage.TheVariants.{Out, Ready, Addressed, Loaded, Running};
-ghost use Rattle.hsm_rule.specs.declared.view.Action.TheVariants.{Looked, Read, Entered};
+ghost use Rattle.hsm_steps.specs.declared.view.Stage.TheVariants.{Out, Ready, Addressed, Loaded, Running};
+ghost use Rattle.hsm_steps.specs.declared.view.Action.TheVariants.{Looked, Read, Entered};
 ghost use Rattle.tallies.specs.Notes.{HasNoted};
 
 use crate::table::{Acting, HartSeat, HartTable};
+use crate::view::HartSeatView;
 use atomic_table::Play;
 use board_model::HartId;
-use hsm_rule::HartSeatView;
 use std::marker::PhantomData;
 
 struct LookOutStep<J> {

@@ -1,17 +1,17 @@
 //! Looks at the first word that change nothing.
 
 ghost use Rattle.std.specs.Prelude.{◌≡◌, ℕ, ◌<◌};
-ghost use Rattle.hsm_rule.specs.Rule.{stands};
-ghost use Rattle.hsm_rule.specs.States.{HartState, IsBetweenCalls, Shows, Tells};
+ghost use Rattle.hsm_steps.specs.Rule.{stands};
+ghost use Rattle.hsm_steps.specs.States.{HartState, IsBetweenCalls, Shows, Tells};
 ghost use Rattle.hsm_steps.specs.Outcomes.{IsUpToDate, Looks, Sees};
 ghost use Rattle.hsm_steps.specs.Seating.{IsSeatOf, harts_of, hart_view_of_seat, harts_in};
-ghost use Rattle.hsm_rule.specs.declared.view.Action.TheVariants.{Looked};
+ghost use Rattle.hsm_steps.specs.declared.view.Action.TheVariants.{Looked};
 ghost use Rattle.tallies.specs.Notes.{HasNoted};
 
 use crate::table::{Acting, HartSeat, HartTable};
+use crate::view::HartSeatView;
 use atomic_table::Play;
 use board_model::HartId;
-use hsm_rule::HartSeatView;
 use std::marker::PhantomData;
 
 struct SeeStep<J> {

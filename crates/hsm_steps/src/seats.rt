@@ -1,9 +1,9 @@
 //! A table is made with one seat of all harts, which is parted and joined again.
 
 ghost use Rattle.std.specs.Prelude.{◌≡◌, ◌≢◌, ℕ, ◌<◌, ◌≤◌, ◌==◌, if◌then◌else◌, [], length, IfOk, IfErr};
-ghost use Rattle.hsm_rule.specs.Rule.{stands};
-ghost use Rattle.hsm_rule.specs.States.{HartState, IsBetweenCalls, Shows};
-ghost use Rattle.hsm_rule.specs.declared.view.Stage.TheVariants.{Out, Running};
+ghost use Rattle.hsm_steps.specs.Rule.{stands};
+ghost use Rattle.hsm_steps.specs.States.{HartState, IsBetweenCalls, Shows};
+ghost use Rattle.hsm_steps.specs.declared.view.Stage.TheVariants.{Out, Running};
 ghost use Rattle.tallies.specs.Notes.{first_hart, other_harts, together};
 ghost use Rattle.hsm_steps.specs.Outcomes.{opening_states, opening_view};
 ghost use Rattle.hsm_steps.specs.Seating.{IsSeatOf, harts_of, hart_view_of_seat, harts_in, IsOfAll, AreInOrder, StandAsIn, StandTogether, AreSeatsOf, harts_by_seat, all_harts, one_by_one};
@@ -12,9 +12,9 @@ ghost use Rattle.board_model.specs.declared.refusal.Refusal.TheVariants.{Memory}
 
 use crate::looks::see;
 use crate::table::{HartSeat, HartTable, Seats, Setup};
+use crate::view::{Action, Stage};
 use atomic_table::Table;
 use board_model::{HartId, Refusal, Shape};
-use hsm_rule::{Action, Stage};
 use std::alloc::Global;
 use std::marker::Brand;
 use tallies::{ByHart, SeatTable};

@@ -1,18 +1,18 @@
 //! The steps by which a hart starts another.
 
 ghost use Rattle.std.specs.Prelude.{◌≡◌, ◌+◌, ◌*◌, ◌<◌};
-ghost use Rattle.hsm_rule.specs.Rule.{IsSite, stands};
-ghost use Rattle.hsm_rule.specs.States.{Tells};
+ghost use Rattle.hsm_steps.specs.Rule.{IsSite, stands};
+ghost use Rattle.hsm_steps.specs.States.{Tells};
 ghost use Rattle.hsm_steps.specs.Outcomes.{after_claim, Claims, PutsAddress, PutsOpaque, Arms};
 ghost use Rattle.hsm_steps.specs.Seating.{IsSeatOf, harts_of, hart_view_of_seat, harts_in};
-ghost use Rattle.hsm_rule.specs.declared.view.Stage.TheVariants.{Running, Claiming, Half, Stored};
-ghost use Rattle.hsm_rule.specs.declared.view.Action.TheVariants.{Claimed, Wrote, Armed};
+ghost use Rattle.hsm_steps.specs.declared.view.Stage.TheVariants.{Running, Claiming, Half, Stored};
+ghost use Rattle.hsm_steps.specs.declared.view.Action.TheVariants.{Claimed, Wrote, Armed};
 ghost use Rattle.tallies.specs.Notes.{HasNoted};
 
 use crate::table::{Acting, HartSeat, HartTable};
+use crate::view::HartSeatView;
 use atomic_table::Play;
 use board_model::HartId;
-use hsm_rule::HartSeatView;
 use std::marker::PhantomData;
 
 struct ClaimStep<J> {

@@ -2,18 +2,18 @@
 
 ghost use Rattle.std.specs.Prelude.{◌≡◌, ◌≢◌, ℕ, ◌+◌, ◌<◌, ◌↔◌, true, IsTrue};
 ghost use Rattle.std.specs.Int.{bit_at};
-ghost use Rattle.hsm_rule.specs.Rule.{stands};
-ghost use Rattle.hsm_rule.specs.States.{IsStarted, Tells};
+ghost use Rattle.hsm_steps.specs.Rule.{stands};
+ghost use Rattle.hsm_steps.specs.States.{IsStarted, Tells};
 ghost use Rattle.hsm_steps.specs.Outcomes.{Stops, Suspends, Wakes, Quiets, Unquiets, is_alone, after_quiet};
 ghost use Rattle.hsm_steps.specs.Seating.{IsSeatOf, harts_of, hart_view_of_seat, harts_in};
-ghost use Rattle.hsm_rule.specs.declared.view.Stage.TheVariants.{Out, Running, Suspended, Quiet};
-ghost use Rattle.hsm_rule.specs.declared.view.Action.TheVariants.{Stopped, Suspended as DidSuspend, Woke, Quieted, Unquieted};
+ghost use Rattle.hsm_steps.specs.declared.view.Stage.TheVariants.{Out, Running, Suspended, Quiet};
+ghost use Rattle.hsm_steps.specs.declared.view.Action.TheVariants.{Stopped, Suspended as DidSuspend, Woke, Quieted, Unquieted};
 ghost use Rattle.tallies.specs.Notes.{HasNoted};
 
 use crate::table::{Acting, HartSeat, HartTable};
+use crate::view::HartSeatView;
 use atomic_table::Play;
 use board_model::HartId;
-use hsm_rule::HartSeatView;
 use std::marker::PhantomData;
 
 struct StopStep<J> {

@@ -5,9 +5,9 @@ use Rattle.board_model.specs.Shapes.{Size}
 use Rattle.hart.specs.State.{ArchState}
 use Rattle.hart.specs.declared.Outcome.TheVariants.{Ecall}
 use Rattle.hsm_steps.specs.Seating as seating
-use Rattle.hsm_rule.specs.Words.{HartSeatView, HartView}
-use Rattle.hsm_rule.specs.declared.view.Stage.TheVariants.{Out, Running, Suspended}
-use Rattle.hsm_rule.specs.Rule.{stands}
+use Rattle.hsm_steps.specs.Words.{HartSeatView, HartView}
+use Rattle.hsm_steps.specs.declared.view.Stage.TheVariants.{Out, Running, Suspended}
+use Rattle.hsm_steps.specs.Rule.{stands}
 use Rattle.hsm.specs.Calls.{ActsAlone, KeepsAll, KeepsOthers, named}
 use Rattle.hsm.specs.Views.{listed}
 use Rattle.hsm.specs.declared.state.State.{State as Code}

@@ -5,7 +5,7 @@ use Rattle.std.specs.Prelude.{◌≡◌, ◌⊎◌, ℕ, zero, suc, Bool, true, 
 use Rattle.board_model.specs.Shapes.{Size}
 use Rattle.hart.specs.State.{ArchState, put, started as fresh}
 use Rattle.hart.specs.declared.Outcome.TheVariants.{Ecall}
-use Rattle.hsm_rule.specs.States.{started}
+use Rattle.hsm_steps.specs.States.{started}
 use Rattle.hsm.specs.Views.{listed}
 use Rattle.sbi_calls.specs.declared.tables.Seats.{Seats}
 use Rattle.sbi_calls.specs.Both.{TableState, IsTable}

@@ -18,11 +18,7 @@ fn memory(rt: &HostRuntime, pages: u64) -> Result<Ram, Fail> {
 fn only_kept(rt: &impl Abort, ram: &Ram, pages: &[u8]) {
     for page in 0..10 {
         if let Some(number) = PageNo::new(page) {
-            assert_eq!(rt;
-                ram.kept(number),
-                pages.contains(&(page as u8)),
-                "page {page}"
-            );
+            same(rt, ram.kept(number), pages.contains(&(page as u8)));
         }
     }
 }

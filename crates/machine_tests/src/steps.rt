@@ -1,5 +1,6 @@
 //! The programs of data/, step by step.
 
+use crate::fixtures::same;
 use crate::{edges, traps};
 use board_model::{HartId, Shape};
 use hart::{Hart, Outcome};
@@ -50,7 +51,7 @@ fn result(ram: &Ram, results: u64, number: usize) -> u64 {
 fn all_results(rt: &impl Abort, ram: &Ram, results: u64, first: usize, wants: &[u64]) {
     for (i, want) in wants.iter().enumerate() {
         let number = first.wrapping_add(i);
-        assert_eq!(rt; result(ram, results, number), *want, "result {number}");
+        same(rt, result(ram, results, number), *want);
     }
 }
 

@@ -5,9 +5,9 @@ use Rattle.disk.specs.Facts.{LaneFacts}
 use Rattle.savers.specs.Calls.{IsFilledBy}
 use Rattle.savers.specs.Pages.{Fills}
 use Rattle.savers.specs.declared.saver.Saver.{Saver}
-use Rattle.tickets.specs.Draws.{ticket_view, share_of, draws_each}
-use Rattle.tickets.specs.Seats.{IsSeatOf, ticket_view_of}
-use Rattle.tickets.specs.declared.ticket.Ticket.{Ticket}
+use Rattle.savers.specs.Draws.{ticket_view, share_of, draws_each}
+use Rattle.savers.specs.Seats.{IsSeatOf, ticket_view_of}
+use Rattle.savers.specs.declared.ticket.Ticket.{Ticket}
 
 module _ {L : Type 0} where
   -- what a saver drew, in order

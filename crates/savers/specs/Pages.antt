@@ -4,7 +4,7 @@ use Rattle.std.specs.List.{concat}
 use Rattle.board_model.specs.Shapes.{Size, places_of}
 use Rattle.disk.specs.Facts.{Content, LaneFacts, lane_at}
 use Rattle.savers.specs.Saved.{PageStands}
-use Rattle.tickets.specs.Draws.{times}
+use Rattle.savers.specs.Draws.{times}
 
 -- The first numbers that were drawn are pages of the board, and each stands in the next place of a lane.
 abbrev pub AreFilled : Size → List ℕ → ℕ → List ℕ → ℕ → Content → Type 0

@@ -1,6 +1,6 @@
 //! A saver: who fills a lane.
 
-use tickets::TicketSeat;
+use crate::ticket::TicketSeat;
 
 /// A saver: its lane, its seat at the ticket, and how many places of the lane it has filled.
 #[derive(Drop)]

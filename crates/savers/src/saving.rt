@@ -5,19 +5,20 @@ ghost use Rattle.layout.specs.Sizes.{lane_sectors};
 ghost use Rattle.savers.specs.Saved.{SamePlaces};
 ghost use Rattle.savers.specs.Saves.{AreFresh, HasSaved, AreEnded, SaveRefused};
 ghost use Rattle.savers.specs.Jobs.{IsReady, IsSeated, JobDone, lane_of};
-ghost use Rattle.tickets.specs.Draws.{unused_view};
-ghost use Rattle.tickets.specs.Ended.{numbers_of};
-ghost use Rattle.tickets.specs.Seats.{IsSeatOf, ticket_view_of};
+ghost use Rattle.savers.specs.Draws.{unused_view};
+ghost use Rattle.savers.specs.Ended.{numbers_of};
+ghost use Rattle.savers.specs.Seats.{IsSeatOf, ticket_view_of};
 
+use crate::ended::Drawn;
 use crate::fill::fill;
 use crate::saver::Saver;
 use crate::seating::{hand_out, take_back};
 use crate::snapshot::Snapshot;
+use crate::ticket::{Ticket, TicketSeat};
 use board_model::Refusal;
 use crew::Crew;
 use disk::Lane;
 use std::alloc::Global;
-use tickets::{Drawn, Ticket, TicketSeat};
 
 /// How many places of lanes 0 to 3 hold pages.
 pub type LaneCounts = [u32; 4];

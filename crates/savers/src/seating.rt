@@ -1,12 +1,12 @@
 //! Savers are made of lanes and seats, and taken apart again. Neither takes memory.
 ghost use Rattle.std.specs.Prelude.{◌≡◌, ◌<◌, ◌≤◌, ◌+◌, ◌*◌, ℕ, [], All, length, map, flat_map, vec_capacity, slice_index, slice_index_or};
 ghost use Rattle.savers.specs.Jobs.{IsReady, IsSeated, drawn_by, lane_of};
-ghost use Rattle.tickets.specs.Draws.{unused_view, all_draws, draws_each};
-ghost use Rattle.tickets.specs.Seats.{IsSeatOf, ticket_view_of, IsWhole};
+ghost use Rattle.savers.specs.Draws.{unused_view, all_draws, draws_each};
+ghost use Rattle.savers.specs.Seats.{IsSeatOf, ticket_view_of, IsWhole};
 
 use crate::saver::Saver;
+use crate::ticket::{Ticket, TicketSeat};
 use disk::Lane;
-use tickets::{Ticket, TicketSeat};
 
 /// Makes a saver of each lane, in their order, with a seat of its own that is parted off from this one. The
 /// list of savers has room for them.

@@ -2,10 +2,10 @@
 use Rattle.std.specs.Prelude.{◌≡◌, ℕ, Bool, List}
 use Rattle.board_model.specs.Shapes.{Size}
 use Rattle.hsm_steps.specs.Seating as harts
-use Rattle.hsm_rule.specs.declared.view.Stage.{Stage}
-use Rattle.hsm_rule.specs.Words.{HartSeatView, HartView}
-use Rattle.hsm_rule.specs.Rule.{stands}
-use Rattle.hsm_rule.specs.States.{HartState}
+use Rattle.hsm_steps.specs.declared.view.Stage.{Stage}
+use Rattle.hsm_steps.specs.Words.{HartSeatView, HartView}
+use Rattle.hsm_steps.specs.Rule.{stands}
+use Rattle.hsm_steps.specs.States.{HartState}
 use Rattle.hsm.specs.Calls.{KeepsOthers}
 use Rattle.hsm.specs.Views.{AreStates}
 use Rattle.ipi.specs.Seating as pairs

@@ -3,7 +3,13 @@
 //! the command line.
 #![tactic(auto)]
 
-use board_program::operate;
+mod disk_file;
+mod held;
+mod operates;
+mod payload_files;
+mod written;
+
+use crate::operates::operate;
 use std::process::ExitCode;
 
 fn main(rt: HostRuntime) -> ExitCode {

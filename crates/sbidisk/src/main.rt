@@ -2,7 +2,12 @@
 //! that could not be read; 2 for a fault of the command line.
 #![tactic(auto)]
 
-use disk_program::examine;
+mod disk_file;
+mod examines;
+mod shows;
+mod usage;
+
+use crate::examines::examine;
 use std::process::ExitCode;
 
 fn main(rt: HostRuntime) -> ExitCode {

@@ -7,7 +7,7 @@ ghost use Rattle.board_model.specs.Views.{change_of, durable_of};
 ghost use Rattle.store.specs.Lives.{Applied};
 ghost use Rattle.store.specs.Views.{size_of_store, found_state, journal_of, now_state, receipts};
 ghost use Rattle.store.specs.Asked.{Asked};
-ghost use Rattle.hsm_rule.specs.declared.view.Stage.TheVariants.{Running};
+ghost use Rattle.hsm_steps.specs.declared.view.Stage.TheVariants.{Running};
 ghost use Rattle.sbi_abi.specs.Calls.{call_of};
 ghost use Rattle.sbi_calls.specs.Both.{AreSeatsOfBoth, GivesBack, Acts, harts_of_both, known};
 ghost use Rattle.sbi.specs.Helds.{MakesHeld};

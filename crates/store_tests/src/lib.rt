@@ -1,9 +1,32 @@
-//! The store over the disk in memory, by calls that no script of `crates/examples` makes.
+//! The store and what it stands on: the disk in memory, a disk of one's own (docs/PORTING.md), a disk that is kept in a file, crews
+//! and images; by calls that no script of `crates/examples` makes, and what the contracts of all of them say together, run once.
 #![tactic(auto)]
 
+#[cfg(test)]
+mod areas;
+#[cfg(test)]
+mod commands;
+#[cfg(test)]
+mod crews;
+#[cfg(test)]
+mod files;
 #[cfg(test)]
 mod first_use;
 #[cfg(test)]
 mod fixtures;
+#[cfg(test)]
+mod largest;
+#[cfg(test)]
+mod made;
+#[cfg(test)]
+mod mine;
+#[cfg(test)]
+mod porting;
+#[cfg(test)]
+mod sectors;
+#[cfg(test)]
+mod sites;
+#[cfg(test)]
+mod suspensions;
 #[cfg(test)]
 mod tests;

@@ -3,10 +3,10 @@ use Rattle.std.proofs.Common.{◌≡◌, ◌↔◌, ◌∙◌, ℕ, Bool, true, 
 use Rattle.disk.specs.declared.device.Disk.{Ghosts}
 use Rattle.disk.specs.declared.device.Lane.{Ghosts as Lanes}
 use Rattle.hsm.specs.Calls.{KeepsOthers, ActsAlone}
-use Rattle.hsm_rule.specs.Words.{HartSeatView, HartView}
-use Rattle.hsm_rule.specs.declared.view.Action.TheVariants.{Quieted}
-use Rattle.hsm_rule.specs.Rule.{HasNoted}
-use Rattle.hsm_rule.specs.States.{HartState, Shows}
+use Rattle.hsm_steps.specs.Words.{HartSeatView, HartView}
+use Rattle.hsm_steps.specs.declared.view.Action.TheVariants.{Quieted}
+use Rattle.hsm_steps.specs.Rule.{HasNoted}
+use Rattle.hsm_steps.specs.States.{HartState, Shows}
 use Rattle.hsm_steps.specs.Outcomes.{after_quiet}
 use Rattle.sbi_abi.specs.declared.ret.SbiError.TheVariants.{Denied}
 use Rattle.store.specs.Views.{size_of_store}

@@ -1,8 +1,8 @@
 //! A board is suspended.
 
 ghost use Rattle.std.specs.Prelude.{◌≡◌, ◌<◌, ℕ};
-ghost use Rattle.hsm_rule.specs.declared.view.Stage.TheVariants.{Running, Quiet};
-ghost use Rattle.hsm_rule.specs.Rule.{stands};
+ghost use Rattle.hsm_steps.specs.declared.view.Stage.TheVariants.{Running, Quiet};
+ghost use Rattle.hsm_steps.specs.Rule.{stands};
 ghost use Rattle.hsm.specs.Calls.{KeepsOthers, ActsAlone};
 ghost use Rattle.hsm_steps.specs.Seating.{IsSeatOf, harts_of, hart_view_of_seat, harts_in};
 ghost use Rattle.susp.specs.Checks.{IsChecked};

@@ -13,7 +13,7 @@ use std::test::Fail;
 /// The bytes of a sector from that place on.
 fn holds(rt: &impl Abort, sector: &[u8; 512], from: usize, bytes: &[u8]) {
     assert!(rt; from <= 512 && bytes.len() <= 512 - from);
-    assert_eq!(rt; &sector[from..from + bytes.len()], bytes);
+    same(rt, &sector[from..from + bytes.len()], bytes);
 }
 
 /// Zeros from that place of a sector to its end.

@@ -24,74 +24,73 @@ fn asking(rt: &impl Abort, extension: u64, function: u64) -> Hart {
     hart
 }
 
-fn asked(rt: &impl Abort, extension: u64, function: u64) -> Call {
-    Call::of(&asking(rt, extension, function))
-}
+/// Which call the registers ask for, by the numbers of the extension and of the function in it.
+const CALLS: [(u64, u64, Call); 27] = [
+    (0x10, 0, Call::SpecVersion),
+    (0x10, 1, Call::ImplementationId),
+    (0x10, 2, Call::ImplementationVersion),
+    (0x10, 3, Call::Probe { extension: A0 }),
+    (0x10, 4, Call::VendorId),
+    (0x10, 5, Call::ArchitectureId),
+    (0x10, 6, Call::MachineId),
+    (0x10, 7, Call::Unknown),
+    (0x10, 0x1_0000_0000, Call::Unknown),
+    (
+        0x48534d,
+        0,
+        Call::HartStart {
+            hart: A0,
+            address: A1,
+            opaque: A2,
+        },
+    ),
+    (0x48534d, 1, Call::HartStop),
+    (0x48534d, 2, Call::HartStatus { hart: A0 }),
+    (
+        0x48534d,
+        3,
+        Call::HartSuspend {
+            kind: 0x8000_0001,
+            address: A1,
+            opaque: A2,
+        },
+    ),
+    (0x48534d, 4, Call::Unknown),
+    (0x48534d, u64::MAX, Call::Unknown),
+    (0x735049, 0, Call::SendIpi { mask: A0, base: A1 }),
+    (0x735049, 1, Call::Unknown),
+    (
+        0x53525354,
+        0,
+        Call::SystemReset {
+            kind: 0x8000_0001,
+            reason: 3,
+        },
+    ),
+    (0x53525354, 1, Call::Unknown),
+    (
+        0x53555350,
+        0,
+        Call::SystemSuspend {
+            kind: 0x8000_0001,
+            address: A1,
+            opaque: A2,
+        },
+    ),
+    (0x53555350, 1, Call::Unknown),
+    // other extensions, and two of these numbers plus 2^32
+    (0, 0, Call::Unknown),
+    (1, 0, Call::Unknown),
+    (0x54494d45, 0, Call::Unknown),
+    (0x1_0000_0010, 0, Call::Unknown),
+    (0x1_0048_534d, 0, Call::Unknown),
+    (u64::MAX, 0, Call::Unknown),
+];
 
 #[test]
-fn base_is_extension_0x10(rt: HostRuntime) {
-    for (function, call) in [
-        (0, Call::SpecVersion),
-        (1, Call::ImplementationId),
-        (2, Call::ImplementationVersion),
-        (3, Call::Probe { extension: A0 }),
-        (4, Call::VendorId),
-        (5, Call::ArchitectureId),
-        (6, Call::MachineId),
-        (7, Call::Unknown),
-        (0x1_0000_0000, Call::Unknown),
-    ] {
-        same(&rt, asked(&rt, 0x10, function), call);
-    }
-}
-
-#[test]
-fn harts_are_managed_by_extension_0x48534d(rt: HostRuntime) {
-    let start = Call::HartStart {
-        hart: A0,
-        address: A1,
-        opaque: A2,
-    };
-    let suspend = Call::HartSuspend {
-        kind: 0x8000_0001,
-        address: A1,
-        opaque: A2,
-    };
-    for (function, call) in [
-        (0, start),
-        (1, Call::HartStop),
-        (2, Call::HartStatus { hart: A0 }),
-        (3, suspend),
-        (4, Call::Unknown),
-        (u64::MAX, Call::Unknown),
-    ] {
-        same(&rt, asked(&rt, 0x48534d, function), call);
-    }
-}
-
-#[test]
-fn the_others_have_one_call_each(rt: HostRuntime) {
-    let reset = Call::SystemReset {
-        kind: 0x8000_0001,
-        reason: 3,
-    };
-    let suspend = Call::SystemSuspend {
-        kind: 0x8000_0001,
-        address: A1,
-        opaque: A2,
-    };
-    let send = Call::SendIpi { mask: A0, base: A1 };
-    for (extension, call) in [(0x735049, send), (0x53525354, reset), (0x53555350, suspend)] {
-        same(&rt, asked(&rt, extension, 0), call);
-        same(&rt, asked(&rt, extension, 1), Call::Unknown);
-    }
-}
-
-/// Of other extensions, and of these numbers plus 2^32.
-#[test]
-fn all_64_bits_of_an_extension_count(rt: HostRuntime) {
-    for extension in [0, 1, 0x54494d45, 0x1_0000_0010, 0x1_0048_534d, u64::MAX] {
-        same(&rt, asked(&rt, extension, 0), Call::Unknown);
+fn calls_have_the_numbers_of_the_standard(rt: HostRuntime) {
+    for (extension, function, call) in CALLS {
+        same(&rt, Call::of(&asking(&rt, extension, function)), call);
     }
 }
 

@@ -15,3 +15,15 @@ pub returns-in-Some-clause-refused : goal.returns-in-Some-clause-refused
 returns-in-Some-clause-refused g c =
     let refuses : RefusesMode (boot_refusal (found_state c.args.store.now) c.args.mode) (Some c.in-Some.refusal) = search rules in
     comes_first (boot_refusal (found_state c.args.store.now) c.args.mode) c.args.mode _ _ (found_state c.args.store.now) c.in-Some.refusal refuses
+
+pub begin-requires-clause-allowed : goal.begin-requires-clause-allowed
+begin-requires-clause-allowed g c κs within = search rules
+
+pub returns-in_err-begin-clause-unissued : goal.returns-in_err-begin-clause-unissued
+returns-in_err-begin-clause-unissued g c = search rules
+
+pub returns-clause-issued : goal.returns-clause-issued
+returns-clause-issued g c = search rules
+
+pub returns-clause-begun : goal.returns-clause-begun
+returns-clause-begun g c = search rules

@@ -1,7 +1,7 @@
 use Rattle.std.proofs.Common.{◌≡◌, ◌∙◌, map, true, ap}
 use Rattle.clap.specs.Words.{App, app_of, found_of, is_simple, matches_of}
-use Rattle.board_options.specs.Lines.{sbiboard}
-use Rattle.board_options.proofs.Simple.{sbiboard_simple}
+use Rattle.board_help.specs.Lines.{sbiboard}
+use Rattle.board_help.proofs.Simple.{sbiboard_simple}
 use Rattle.board_options.proofs.parsed.read_options.Goals as goal
 
 pub returns-in-Some-clause-reads : goal.returns-in-Some-clause-reads

@@ -1,5 +1,5 @@
 use Rattle.std.proofs.Common.{ℕ, ◌<◌, Option, sym, ◌∙◌, subst}
-use Rattle.hsm_rule.specs.declared.view.Stage.TheVariants.{Running}
+use Rattle.hsm_steps.specs.declared.view.Stage.TheVariants.{Running}
 use Rattle.sbi_calls.specs.Both.{GivesBack, Acts, known}
 use Rattle.sbi.specs.Words.{stage_told}
 use Rattle.machine.specs.Held.{RestsBy}

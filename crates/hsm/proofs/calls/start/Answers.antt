@@ -1,8 +1,8 @@
 use Rattle.std.proofs.Common.{◌≡◌, ◌≢◌, ◌+◌, ◌*◌, sym, ap, ◌∙◌, eq-eqb, ne_eqb}
 use Rattle.std.specs.Int.{bit_at}
 use Rattle.std.proofs.lemmas.Nat.Bits.{shr_and_one}
-use Rattle.hsm_rule.specs.declared.view.Stage.TheVariants.{Claiming, Half, Stored, Running}
-use Rattle.hsm_rule.specs.declared.view.Action.TheVariants.{Claimed, Wrote, Armed}
+use Rattle.hsm_steps.specs.declared.view.Stage.TheVariants.{Claiming, Half, Stored, Running}
+use Rattle.hsm_steps.specs.declared.view.Action.TheVariants.{Claimed, Wrote, Armed}
 use Rattle.tallies.specs.Notes.{HasNoted}
 use Rattle.hsm.proofs.Alone.{Goes, goes, goes_on}
 use Rattle.hsm.proofs.Starting.{stays_running, claims_it, start_refused, start_granted}

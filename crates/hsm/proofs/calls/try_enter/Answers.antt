@@ -1,10 +1,10 @@
 use Rattle.std.proofs.Common.{◌≡◌, ℕ, ◌+◌, ◌*◌, false, None, sym, ap, ◌∙◌}
 use Rattle.std.specs.Int.{bit_at}
 use Rattle.std.proofs.lemmas.Nat.Bits.{shr_and_one}
-use Rattle.hsm_rule.specs.declared.view.Stage.TheVariants.{Out, Ready, Addressed, Loaded, Running}
-use Rattle.hsm_rule.specs.declared.view.Action.TheVariants.{Looked, Read, Entered}
+use Rattle.hsm_steps.specs.declared.view.Stage.TheVariants.{Out, Ready, Addressed, Loaded, Running}
+use Rattle.hsm_steps.specs.declared.view.Action.TheVariants.{Looked, Read, Entered}
 use Rattle.tallies.specs.Notes.{HasNoted}
-use Rattle.hsm_rule.specs.States.{HartState, Shows, change_at, entry, begin}
+use Rattle.hsm_steps.specs.States.{HartState, Shows, change_at, entry, begin}
 use Rattle.hsm.specs.Calls.{is_ready}
 use Rattle.hsm.proofs.Alone.{Goes, goes, goes_on}
 use Rattle.hsm.proofs.Entering.{unarmed, gone_in, stays_out, gets_ready, enters_none, enters_some}

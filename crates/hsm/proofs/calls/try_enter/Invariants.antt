@@ -1,4 +1,4 @@
-use Rattle.hsm_rule.specs.declared.view.Stage.TheVariants.{Running}
+use Rattle.hsm_steps.specs.declared.view.Stage.TheVariants.{Running}
 use Rattle.hsm.proofs.calls.try_enter.Given as goal
 
 abbrev pub ghosts-poll : goal.ghosts-poll

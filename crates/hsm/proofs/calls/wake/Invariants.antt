@@ -1,4 +1,4 @@
-use Rattle.hsm_rule.specs.declared.view.Stage.TheVariants.{Running}
+use Rattle.hsm_steps.specs.declared.view.Stage.TheVariants.{Running}
 use Rattle.hsm.proofs.calls.wake.Given as goal
 
 abbrev pub ghosts-wake : goal.ghosts-wake

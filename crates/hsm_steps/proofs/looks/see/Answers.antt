@@ -1,5 +1,5 @@
 use Rattle.std.proofs.Common.{ℕ, ◌<◌, subst, arith}
-use Rattle.hsm_rule.specs.States.{HartState, IsBetweenCalls, Shows}
+use Rattle.hsm_steps.specs.States.{HartState, IsBetweenCalls, Shows}
 use Rattle.hsm_steps.specs.Seating.{hart_view_of_seat, harts_in}
 use Rattle.hsm_steps.proofs.Later.{sees_as}
 use Rattle.hsm_steps.proofs.looks.see.Goals as goal

@@ -7,9 +7,9 @@ use Rattle.savers.specs.Pages.{DrawnPages}
 use Rattle.savers.specs.Calls.{IsFilledBy}
 use Rattle.savers.specs.Jobs.{lane_of}
 use Rattle.savers.proofs.Calls.{all_filled}
-use Rattle.savers.proofs.Drawn.{lanes_hold}
+use Rattle.savers.proofs.EachOnce.{lanes_hold}
 use Rattle.savers.proofs.Jobs.{all_of_lanes, same_places, drawn_by_all, filled_by_all, failures_at}
-use Rattle.tickets.specs.Ended.{numbers_of}
+use Rattle.savers.specs.Ended.{numbers_of}
 use Rattle.savers.proofs.saving.save_by.Given.{Over}
 use Rattle.savers.proofs.saving.save_by.Goals.{After-end-drawn}
 use Rattle.savers.proofs.saving.save_by.Goals as goal

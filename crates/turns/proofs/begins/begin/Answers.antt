@@ -1,8 +1,8 @@
 use Rattle.std.proofs.Common.{◌≡◌, Bool, List, refl, sym, ap, ◌∙◌, subst, ⊎_elim}
-use Rattle.hsm_rule.specs.Words.{HartView}
-use Rattle.hsm_rule.specs.declared.view.Stage.TheVariants.{Running}
-use Rattle.hsm_rule.specs.Rule.{stands}
-use Rattle.hsm_rule.specs.States.{HartState}
+use Rattle.hsm_steps.specs.Words.{HartView}
+use Rattle.hsm_steps.specs.declared.view.Stage.TheVariants.{Running}
+use Rattle.hsm_steps.specs.Rule.{stands}
+use Rattle.hsm_steps.specs.States.{HartState}
 use Rattle.hsm_steps.specs.Seating.{harts_in}
 use Rattle.hsm.specs.Calls.{state_in_word}
 use Rattle.hsm.specs.Views.{listed}

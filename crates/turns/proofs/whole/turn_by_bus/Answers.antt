@@ -1,5 +1,5 @@
 use Rattle.std.proofs.Common.{sym, ◌∙◌, subst, ◌<◌, ℕ}
-use Rattle.hsm_rule.specs.declared.view.Stage.TheVariants.{Running}
+use Rattle.hsm_steps.specs.declared.view.Stage.TheVariants.{Running}
 use Rattle.sbi_calls.specs.Both.{GivesBack, Acts}
 use Rattle.turns.specs.declared.readies.Ready.TheVariants as readies
 use Rattle.turns.specs.Turns.{Rests}

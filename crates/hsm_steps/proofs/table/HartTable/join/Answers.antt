@@ -1,9 +1,9 @@
 use Rattle.std.proofs.Common.{List, sym, ap, subst, ◌∙◌}
 use Rattle.tallies.specs.Notes.{numbers}
-use Rattle.hsm_rule.specs.Words.{HartView, HartSeatView}
+use Rattle.hsm_steps.specs.Words.{HartView, HartSeatView}
 use Rattle.hsm_steps.specs.Seating.{harts_of}
-use Rattle.hsm_rule.specs.Rule.{stands}
-use Rattle.hsm_rule.specs.States.{IsBetweenCalls, Shows}
+use Rattle.hsm_steps.specs.Rule.{stands}
+use Rattle.hsm_steps.specs.States.{IsBetweenCalls, Shows}
 use Rattle.hsm_steps.proofs.Lists.{stand_together}
 use Rattle.hsm_steps.proofs.table.HartTable.join.Goals as goal
 

@@ -1,4 +1,4 @@
-use Rattle.hsm_rule.specs.declared.view.Stage.TheVariants.{Running}
+use Rattle.hsm_steps.specs.declared.view.Stage.TheVariants.{Running}
 use Rattle.hsm_steps.proofs.table.HartTable.join.Given as goal
 
 abbrev pub ghosts-see : goal.ghosts-see

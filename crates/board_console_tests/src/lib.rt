@@ -1,9 +1,0 @@
-//! The console's lines and the command line (docs/CONSOLE.md).
-#![tactic(auto)]
-
-#[cfg(test)]
-mod command_lines;
-#[cfg(test)]
-mod inputs;
-#[cfg(test)]
-mod texts;

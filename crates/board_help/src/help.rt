@@ -1,0 +1,212 @@
+//! The command, its options, and what `--help` says.
+
+ghost use Rattle.std.specs.Prelude.{◌≡◌, false, IfOk};
+ghost use Rattle.clap.specs.Words.{app_of, rule_of};
+ghost use Rattle.clap.specs.declared.builder.value_parser.ValueParser.{ValueParser as Parser};
+ghost use Rattle.board_help.specs.Lines.{option_rule, path_rule, number_rule, mode_rule, named_app, board_line, with_shape, with_payloads, sbiboard};
+
+use board_model::refusal_lines;
+use clap::builder::ValueParser;
+use clap::{Arg, ArgAction, Command};
+use command_line::flag;
+use std::alloc::{AllocError, Global};
+
+/// The version of the firmware.
+const VERSION: &str = "1";
+
+/// How the program is called.
+pub const USAGE: &str = "sbiboard --disk PATH --mode MODE [--new] [--sync] [OPTIONS]";
+
+const ABOUT: &str = "\
+Runs a modelled RISC-V board, each hart on a thread of its own, and takes the
+operator's commands from standard input.
+
+The disk is a file: it is read at the start, or made with --new, and written at
+the end. So leave by 'quit' or the end of input: a session that is killed
+(Ctrl-C) LOSES all that it acknowledged. With --sync it loses nothing of it.";
+
+/// The console's lines, the statuses, the refusals, and a first session. This program has words of its own for what it
+/// is refused beside a disk, and never answers what a script is refused.
+macro_rules! numbers {
+    ([$($line:literal)*]) => {
+        concat!(
+            "\
+Console, a line each:
+  slot S     sets the boot slot: 'slot ok K' or 'slot refused K'
+  discard    drops the image: 'discard ok K' or 'discard refused K'
+  tries S N  sets the boot slot on trial for N boots, 1 to 7, after which it falls
+             back to the slot before: 'tries ok K' or 'tries refused K'
+  good       keeps the slot on trial: 'good ok K' or 'good refused K'
+  state      'state slot S reason R image X next N', and where the slot is on
+             trial ' trial F L': the slot to fall back to, and the boots left
+  wake       wakes a board that sleeps in its RAM: 'wake ok' or 'wake refused 18'
+  quit       ends the harts after their turn, and the program
+Anything else answers '?'. At the end of input the harts run out their turns.
+After 'refused 7' the guest has ended its life by a reset or a suspension.
+
+Status:
+  0  the board was run, and the disk's file holds the disk
+  1  standard error has 'sbiboard: refusal N', or 'sbiboard: file' where a file
+     could not be read or written: a payload's, or the disk's, which is not
+     there, no regular file, or another session's, or PATH.new beside it
+  2  a fault of the command line
+
+Refusals:
+",
+            $($line,)*
+            "
+A first session:
+  printf 'slot 1\\nstate\\nquit\\n' | sbiboard --disk board.disk --mode fresh --new --sync
+
+docs/CONSOLE.md of the source has the rest.",
+        )
+    };
+    ([$($line:literal)*] [BadShape $next:literal] $($rest:tt)*) => {
+        numbers!([$($line)* "   3  the disk's file is not whole sectors or too small for its board, or a\n      payload is longer than RAM\n"] $($rest)*)
+    };
+    ([$($line:literal)*] [Memory $next:literal] $($rest:tt)*) => {
+        numbers!([$($line)* "  11  memory was refused, or a thread\n"] $($rest)*)
+    };
+    ([$($line:literal)*] [BadScript $next:literal] $($rest:tt)*) => {
+        numbers!([$($line)*] $($rest)*)
+    };
+    ([$($line:literal)*] [Output $next:literal] $($rest:tt)*) => {
+        numbers!([$($line)* "  16  an answer could not be written\n"] $($rest)*)
+    };
+    ([$($line:literal)*] [NotPlain $next:literal] $($rest:tt)*) => {
+        numbers!([$($line)*] $($rest)*)
+    };
+    ([$($line:literal)*] [$name:ident $next:literal] $($rest:tt)*) => {
+        numbers!([$($line)* $next] $($rest)*)
+    };
+}
+
+const NUMBERS: &str = refusal_lines!(numbers);
+
+pub const DISK: &str = "disk";
+
+pub const MODE: &str = "mode";
+
+pub const NEW: &str = "new";
+
+pub const SYNC: &str = "sync";
+
+pub const HARTS: &str = "harts";
+
+pub const PAGES: &str = "pages";
+
+pub const LANES: &str = "lanes";
+
+pub const TURNS: &str = "turns";
+
+/// The options of the payload files, by slot.
+pub const PAYLOADS: [&str; 4] = ["p0", "p1", "p2", "p3"];
+
+/// The most turns of a hart.
+pub const MOST_TURNS: u64 = 1_000_000_000;
+
+/// An option with one value, which help calls so.
+fn option<'a>(alloc: Global, id: &'a str, value: &'a str, help: &'a str) -> Arg<'a>
+    ensures rule { rule_of result ≡ option_rule id.entry.now }
+    ensures local { result.global ≡ false }
+{
+    Arg::new(alloc, id)
+        .long(id)
+        .value_name(value)
+        .action(ArgAction::Set)
+        .help(help)
+}
+
+/// An option with a number from 1 to `most`.
+fn number<'a>(alloc: Global, id: &'a str, most: u64, default: &'a str, help: &'a str) -> Arg<'a>
+    ensures rule { rule_of result ≡ number_rule id.entry.now most default.entry.now }
+    ensures local { result.global ≡ false }
+{
+    option(alloc, id, "N", help)
+        .value_parser(ValueParser::unsigned(1, most))
+        .default_value(default)
+}
+
+/// An option with a path.
+fn path<'a>(alloc: Global, id: &'a str, help: &'a str) -> Arg<'a>
+    ensures rule { rule_of result ≡ path_rule id.entry.now }
+    ensures local { result.global ≡ false }
+{
+    option(alloc, id, "PATH", help).value_parser(ValueParser::NonEmptyString)
+}
+
+/// How the board is powered on.
+fn mode<'a>(alloc: Global) -> Arg<'a>
+    ensures rule { (modes : Parser) × (rule_of result ≡ mode_rule modes) }
+    ensures local { result.global ≡ false }
+{
+    option(alloc, MODE, "MODE", "How the board is powered on")
+        .value_parser(["fresh", "keep", "discard", "resume"].as_slice())
+        .required(true)
+}
+
+/// The command without an option.
+fn named<'a>(alloc: Global) -> Command<'a>
+    ensures { app_of result ≡ named_app }
+{
+    Command::new(alloc, "sbiboard")
+        .version(VERSION)
+        .override_usage(USAGE)
+        .about(ABOUT)
+        .after_help(NUMBERS)
+}
+
+/// The command with the disk's options.
+fn board<'a>(alloc: Global) -> Result<Command<'a>, AllocError>
+    ensures { IfOk result (λ c. (modes : Parser) × (app_of c ≡ board_line modes)) }
+{
+    named(alloc)
+        .arg(path(alloc, DISK, "The disk's file").required(true))?
+        .arg(mode(alloc))?
+        .arg(flag(
+            alloc,
+            NEW,
+            "Makes and formats a blank disk of the shape below: REPLACES a disk that is there",
+        ))?
+        .arg(flag(
+            alloc,
+            SYNC,
+            "Each sync of the disk waits for its file: a killed session loses nothing acknowledged",
+        ))
+}
+
+/// The command with the shape of a new disk.
+fn shaped<'a>(alloc: Global, command: Command<'a>) -> Result<Command<'a>, AllocError>
+    ensures { IfOk result (λ c. app_of c ≡ with_shape (app_of command.entry)) }
+{
+    command
+        .arg(number(alloc, HARTS, 8, "1", "Harts of a new disk's board, 1 to 8"))?
+        .arg(number(alloc, PAGES, 256, "1", "Its pages of RAM, 1 to 256"))?
+        .arg(number(alloc, LANES, 4, "1", "Its saver lanes, 1 to 4"))
+}
+
+/// The command with the files of the payloads.
+fn booted<'a>(alloc: Global, command: Command<'a>) -> Result<Command<'a>, AllocError>
+    ensures { IfOk result (λ c. app_of c ≡ with_payloads (app_of command.entry)) }
+{
+    command
+        .arg(path(alloc, PAYLOADS[0], "What boot slot 0 boots"))?
+        .arg(path(alloc, PAYLOADS[1], "What boot slot 1 boots"))?
+        .arg(path(alloc, PAYLOADS[2], "What boot slot 2 boots"))?
+        .arg(path(alloc, PAYLOADS[3], "What boot slot 3 boots"))
+}
+
+/// The command.
+pub fn command<'a>(alloc: Global) -> Result<Command<'a>, AllocError>
+    ensures { IfOk result (λ c. (modes : Parser) × (app_of c ≡ sbiboard modes)) }
+{
+    let board = board(alloc)?;
+    let shaped = shaped(alloc, board)?;
+    booted(alloc, shaped)?.arg(number(
+        alloc,
+        TURNS,
+        MOST_TURNS,
+        "1000000",
+        "Turns that each hart makes at most, 1 to 1000000000",
+    ))
+}

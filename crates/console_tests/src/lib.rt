@@ -1,0 +1,21 @@
+//! The console: its lines, the command line, and whole sessions over memory (docs/CONSOLE.md).
+#![tactic(auto)]
+
+#[cfg(test)]
+mod command_lines;
+#[cfg(test)]
+mod fixtures;
+#[cfg(test)]
+mod guest;
+#[cfg(test)]
+mod inputs;
+#[cfg(test)]
+mod runs;
+#[cfg(test)]
+mod said;
+#[cfg(test)]
+mod streams;
+#[cfg(test)]
+mod texts;
+#[cfg(test)]
+mod trials;

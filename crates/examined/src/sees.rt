@@ -1,0 +1,91 @@
+//! What stands on a disk: what an examiner says of it, and the state that an open finds.
+
+ghost use Rattle.std.specs.Prelude.{◌≡◌, ◌⊎◌, IfOk, IfErr, MatchResult};
+ghost use Rattle.board_model.specs.Shapes.{Size};
+ghost use Rattle.store.specs.Leaves.{IsIdle, IsSettled};
+ghost use Rattle.store.specs.Opens.{IsBoard, ReadsAs};
+ghost use Rattle.examined.specs.Sights.{Finds, IsSeen, SeeRefused, unrecorded};
+
+use board_model::{Durable, Refusal};
+use disk::Disk;
+use std::alloc::Global;
+use store::{Inspection, Store, inspect};
+
+/// The durable state that an open finds, and how many pages its board has.
+#[derive(Clone, Copy, Drop)]
+pub struct Found {
+    /// The state.
+    pub state: Durable,
+    /// The pages of the board, and so of the state's image, 1 to 256.
+    pub pages: u32,
+}
+
+/// What stands on a disk.
+#[derive(Clone, Copy, Drop)]
+pub struct Seen {
+    /// What an examiner says of it.
+    pub inspection: Inspection,
+    /// What an open finds; none where the selected record is in no form, which an open refuses 4.
+    pub found: Option<Found>,
+}
+
+/// What a refusal of an open tells: that of the record is none, since there is nothing to find.
+fn unrecorded(refusal: Refusal) -> Result<Option<Found>, Refusal>
+    ensures { result ≡ unrecorded refusal }
+{
+    match refusal {
+        Refusal::BadRecord => Ok(None),
+        _ => Err(refusal),
+    }
+}
+
+/// What an open of the disk finds, or none where the selected record is in no form. The disk is given back, as
+/// the open leaves it.
+fn find<D: Disk + Drop>(alloc: Global, disk: D) -> (D, Result<Option<Found>, Refusal>)
+    requires none_out { IsIdle (D.facts disk) }
+    ensures found { IfOk result.1 (Finds (D.facts disk).content) }
+    ensures refused { IfErr result.1 (λ e. SeeRefused (D.facts disk) e (D.facts result.0)) }
+    ensures settles { IsSettled (D.facts disk) (D.facts result.0) }
+{
+    match Store::open(alloc, disk) {
+        Ok(store) => {
+            let state = store.found();
+            let pages = store.shape().pages();
+            (store.into_disk(), Ok(Some(Found { state, pages })))
+        }
+        Err((disk, refusal)) => (disk, unrecorded(refusal)),
+    }
+}
+
+/// Says what stands on a disk, whatever bytes it holds: what `store::inspect` says of it, and what an open finds.
+/// The disk is given back as the open leaves it: where its record is of version 1, with the same state in
+/// version 2 (docs/STORE.md, "Migration"), else with nothing written.
+///
+/// Refused `NotFormatted` and `BadShape` by what the disk reads as, `Device` where it failed in this call, and
+/// `Memory` where there is no room for the memory of an image or for the journal of the open.
+pub fn see_disk<D: Disk + Drop>(alloc: Global, mut disk: D) -> (D, Result<Seen, Refusal>)
+    requires none_out { IsIdle (D.facts disk) }
+    ensures seen { IfOk result.1 (IsSeen (D.facts disk).content) }
+    ensures refused { IfErr result.1 (λ e. SeeRefused (D.facts disk) e (D.facts result.0)) }
+
+    // And the other way: a disk that reads as 1 or 3 is refused so, or by 5; one of a board is seen, but for
+    // 5 and 11.
+    ensures unformatted { ReadsAs (D.facts disk).content Refusal.NotFormatted
+        → MatchResult result.1 (λ seen. ⊥) (λ e. (e ≡ Refusal.NotFormatted) ⊎ (e ≡ Refusal.Device)) }
+    ensures bad_shape { ReadsAs (D.facts disk).content Refusal.BadShape
+        → MatchResult result.1 (λ seen. ⊥) (λ e. (e ≡ Refusal.BadShape) ⊎ (e ≡ Refusal.Device)) }
+    ensures board { (size : Size) → IsBoard size (D.facts disk).content
+        → IfErr result.1 (λ e. (e ≡ Refusal.Device) ⊎ (e ≡ Refusal.Memory)) }
+
+    ensures settles { IsSettled (D.facts disk) (D.facts result.0) }
+{
+    let inspection = match inspect(alloc, &mut disk) {
+        Ok(inspection) => inspection,
+        Err(refusal) => return (disk, Err(refusal)),
+    };
+    let (disk, found) = find(alloc, disk);
+    match found {
+        Ok(found) => (disk, Ok(Seen { inspection, found })),
+        Err(refusal) => (disk, Err(refusal)),
+    }
+}

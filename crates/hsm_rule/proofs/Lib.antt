@@ -1,4 +1,0 @@
-pub mod Words
-pub mod Next
-pub mod Steps
-pub mod Whole

@@ -1,0 +1,2 @@
+-- The lines that are written of a disk.
+pub mod Texts

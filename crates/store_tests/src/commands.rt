@@ -1,0 +1,80 @@
+//! Commands of the console over a file.
+
+use crate::files::{Fate, Kept, file_of, formatted, found, opened};
+use crate::fixtures::same;
+use board_model::{Command, Refusal, Shape};
+use disk::Sector;
+use file_disk::FileDisk;
+use std::alloc::Global;
+use std::test::*;
+use store::Store;
+
+/// Sets the boot slot; the receipt's number.
+fn applied(store: &mut Store<FileDisk<Kept>>, slot: u32) -> Result<u32, Refusal> {
+    Ok(store.apply(Command::Slot(slot))?.number())
+}
+
+/// What a command answered over a file to which that happens after so many calls, and the slot that the next
+/// process then finds.
+fn commanded(
+    alloc: Global,
+    file: &[Sector],
+    slot: u32,
+    left: u64,
+    fate: Fate,
+) -> Result<(Result<u32, Refusal>, u32), Fail> {
+    let mut store = opened(alloc, file, left, fate)?;
+    let answer = applied(&mut store, slot);
+    let store = found(alloc, &file_of(store).sectors)?;
+    Ok((answer, store.found().slot.number()))
+}
+
+/// A command over a file: the slot that it sets, after how many calls of the file what happens to it, what the command answers
+/// where its process lives, and the slot that the next process finds.
+type Row = (u32, u64, Fate, Option<Result<u32, Refusal>>, u32);
+
+/// The four calls of the disk are four of the file: the record's sector and its sync, the gate's sector and its sync. Before
+/// the gate is written the state is the old one; a failure of its write or its sync leaves the command in doubt, and the next
+/// process finds what the file then holds. A process that is killed leaves the state before the command until the gate was
+/// written, and then the one after it.
+const ROWS: [Row; 10] = [
+    (2, 4, Fate::Killed, Some(Ok(1)), 2),
+    (3, 4, Fate::Fails, Some(Ok(1)), 3),
+    (2, 0, Fate::Fails, Some(Err(Refusal::Device)), 0),
+    (2, 1, Fate::Fails, Some(Err(Refusal::Device)), 0),
+    (2, 2, Fate::Fails, Some(Err(Refusal::Down)), 0),
+    (2, 3, Fate::Fails, Some(Err(Refusal::Down)), 2),
+    (2, 0, Fate::Killed, None, 0),
+    (2, 1, Fate::Killed, None, 0),
+    (2, 2, Fate::Killed, None, 0),
+    (2, 3, Fate::Killed, None, 2),
+];
+
+#[test]
+fn a_command_over_a_file_that_fails_or_whose_process_is_killed(
+    rt: HostRuntime,
+) -> Result<(), Fail> {
+    let file = formatted(rt.alloc(), Shape::new(1, 1, 1)?)?;
+    for (slot, left, fate, answer, stands) in ROWS {
+        let (answered, found) = commanded(rt.alloc(), &file, slot, left, fate)?;
+        same(&rt, found, stands);
+        same(&rt, answered, answer.unwrap_or(answered));
+    }
+    Ok(())
+}
+
+/// What a failed sync left out of the file is written by the next one.
+#[test]
+fn the_next_command_writes_what_a_failed_one_left_out(rt: HostRuntime) -> Result<(), Fail> {
+    let alloc = rt.alloc();
+    let file = formatted(alloc, Shape::new(1, 1, 1)?)?;
+    let mut store = opened(alloc, &file, 0, Fate::Fails)?;
+    same(&rt, applied(&mut store, 2), Err(Refusal::Device));
+    same(&rt, applied(&mut store, 3), Ok(1));
+    same(
+        &rt,
+        found(alloc, &file_of(store).sectors)?.found().slot.number(),
+        3,
+    );
+    Ok(())
+}

@@ -1,0 +1,144 @@
+//! Crews at work: jobs that meet, turns in their order, and how often a crew is asked.
+ghost use Rattle.std.specs.Prelude.{◌≤◌, length};
+
+use crate::fixtures::same;
+use crate::sites::Site;
+use board_model::Refusal;
+use crew::{Crew, Plan, Sequential, Threads};
+use layout::Side;
+use std::alloc::Global;
+use std::sync::atomic::{AtomicBool, AtomicU64, Ordering};
+use std::test::Fail;
+use std::thread;
+use std::time::{Clock, Duration};
+
+const MOST_SLEEPS: u32 = 10_000;
+
+/// Says that one more has begun, and waits until so many have, a millisecond at a time.
+fn begin<R: Clock>(clock: &R, begun: &AtomicU64, all: u64, missed: &AtomicBool) {
+    begun.fetch_add(1, Ordering::SeqCst);
+    for _ in 0..MOST_SLEEPS {
+        if begun.load(Ordering::SeqCst) >= all {
+            return;
+        }
+        thread::sleep(clock, Duration::from_millis(1));
+    }
+    missed.store(true, Ordering::SeqCst);
+}
+
+/// Whether each of these jobs, at most 4, saw all others begin. A job's number plus one is left in it.
+fn all_begin<R: Clock + Sync, C: Crew>(clock: &R, crew: &C, jobs: &mut [u8]) -> bool
+    requires { length jobs.old ≤ 4 }
+{
+    let all = jobs.len() as u64;
+    let begun = AtomicU64::new(0);
+    let missed = AtomicBool::new(false);
+    crew.each(
+        jobs,
+        &|i: usize, job: &mut u8| {
+            begin(clock, &begun, all, &missed);
+            *job = (i % 4) as u8 + 1;
+        },
+    );
+    !missed.load(Ordering::SeqCst)
+}
+
+#[test]
+fn threads_run_two_jobs_at_once(rt: HostRuntime) {
+    let mut jobs = [0; 2];
+    same(&rt, all_begin(&rt, &Threads::new(&rt), &mut jobs), true);
+    same(&rt, jobs, [1, 2]);
+}
+
+#[test]
+fn threads_run_four_jobs_at_once(rt: HostRuntime) {
+    let mut jobs = [0; 4];
+    same(&rt, all_begin(&rt, &Threads::new(&rt), &mut jobs), true);
+    same(&rt, jobs, [1, 2, 3, 4]);
+}
+
+/// The turn, from 0, in which that crew calls each of four jobs.
+fn turns_of<C: Crew>(crew: &C) -> [u64; 4] {
+    let next = AtomicU64::new(0);
+    let mut jobs = [9; 4];
+    crew.each(
+        &mut jobs,
+        &|_i: usize, job: &mut u64| {
+            *job = next.fetch_add(1, Ordering::SeqCst);
+        },
+    );
+    jobs
+}
+
+#[test]
+fn turns_go_in_the_order_given(rt: HostRuntime) -> Result<(), Fail> {
+    for (order, turns) in [
+        ([0, 1, 2, 3], [0, 1, 2, 3]),
+        ([3, 2, 1, 0], [3, 2, 1, 0]),
+        ([2, 0, 3, 1], [1, 3, 0, 2]),
+        ([1, 2, 3, 0], [3, 0, 1, 2]),
+    ] {
+        let crew: Sequential<HostRuntime> = Sequential::new(order)?;
+        same(&rt, turns_of(&crew), turns);
+    }
+    Ok(())
+}
+
+/// Goes to work as the crew in it, and counts the lists of jobs, the jobs, and the lists that went to
+/// threads.
+#[derive(Drop)]
+struct Counting<C> {
+    crew: C,
+    lists: AtomicU64,
+    jobs: AtomicU64,
+    on_threads: AtomicU64,
+}
+
+impl<C> Counting<C> {
+    fn new(crew: C) -> Counting<C> {
+        Counting {
+            crew,
+            lists: AtomicU64::new(0),
+            jobs: AtomicU64::new(0),
+            on_threads: AtomicU64::new(0),
+        }
+    }
+
+    fn counts(&self) -> (u64, u64, u64) {
+        (
+            self.lists.load(Ordering::SeqCst),
+            self.jobs.load(Ordering::SeqCst),
+            self.on_threads.load(Ordering::SeqCst),
+        )
+    }
+}
+
+impl<C: Crew> Crew for Counting<C> {
+    type Handle = C::Handle;
+
+    fn plan(&self, jobs: usize) -> Plan<'_, C::Handle> {
+        self.lists.fetch_add(1, Ordering::SeqCst);
+        self.jobs.fetch_add(jobs as u64, Ordering::SeqCst);
+        let plan = self.crew.plan(jobs);
+        if let Plan::OnThreads(_) = &plan {
+            self.on_threads.fetch_add(1, Ordering::SeqCst);
+        }
+        plan
+    }
+}
+
+/// What a write of an area in two lanes asks of its crew.
+fn asked<C: Crew + Drop>(alloc: Global, crew: C) -> Result<(u64, u64, u64), Refusal> {
+    let crew = Counting::new(crew);
+    let mut site = Site::new(alloc, 2, 2)?;
+    site.write(alloc, &crew, Side::first(), 1, 7)?;
+    Ok(crew.counts())
+}
+
+#[test]
+fn one_list_of_two_jobs(rt: HostRuntime) -> Result<(), Fail> {
+    let turns: Sequential<HostRuntime> = Sequential::new([3, 2, 1, 0])?;
+    same(&rt, asked(rt.alloc(), turns)?, (1, 2, 0));
+    same(&rt, asked(rt.alloc(), Threads::new(&rt))?, (1, 2, 1));
+    Ok(())
+}

@@ -1,7 +1,0 @@
--- A ticket that has ended.
-use Rattle.std.specs.Prelude.{ℕ, List}
-use Rattle.tickets.specs.declared.drawn.Drawn.{Drawn}
-
--- All that was drawn from it, in the order in which its seats were joined.
-abbrev pub numbers_of : Drawn → List ℕ
-numbers_of d = d.last.value.me.0.drawn

@@ -1,3 +1,0 @@
-pub mod Draws
-pub mod Seats
-pub mod Ended
