@@ -151,7 +151,9 @@ fn each_answer_is_seen_at_once(rt: HostRuntime) -> Result<(), Fail> {
 }
 
 #[test]
-fn an_answer_that_is_not_written_ends_the_session_and_all_harts(rt: HostRuntime) -> Result<(), Fail> {
+fn an_answer_that_is_not_written_ends_the_session_and_all_harts(
+    rt: HostRuntime,
+) -> Result<(), Fail> {
     let streams = Streams {
         input: b"slot 1\nslot 2\n".as_slice(),
         out: Full,
