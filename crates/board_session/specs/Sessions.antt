@@ -116,16 +116,10 @@ outcome_of (Some lefts.EndOfInput) = Ok tt
 outcome_of (Some lefts.InputFailed) = Ok tt
 outcome_of (Some lefts.Unwritten) = Err Output
 
--- where the console was begun, each hart had a loop
-abbrev pub AreDriven : ℕ → Option Left → ℕ → Type 0
-AreDriven harts None loops = Unit {0}
-AreDriven harts (Some left) loops = loops ≡ harts
-
 -- The board was on, over a disk that allows it. The disk given back is that of the life that it then began, and what
 -- was read and answered is of that life, with its receipts, and with the refusals and states that the console heard.
 pub record RanOver (new : Bool) (shape : Size) (mode : BootMode) (payloads : List (List ℕ)) (old disk : Facts)
-    (left : Option Left) (a : DialogueEnds) (input output : Option (List ℕ)) (heard : Hearing) (loops : ℕ)
-    : Type 0 where
+    (left : Option Left) (a : DialogueEnds) (input output : Option (List ℕ)) (heard : Hearing) : Type 0 where
   pub allowed : RunsOver new shape mode payloads old.content
   pub size : Size
   pub found : DurableState
@@ -133,4 +127,3 @@ pub record RanOver (new : Bool) (shape : Size) (mode : BootMode) (payloads : Lis
   pub console : List (ℕ × Entry)
   pub life : IsOfLife size found (commands_by mode found) console disk
   pub talks : TalksIf found (commands_by mode found) left a (dialogue_ends input output (party console heard))
-  pub driven : AreDriven size.harts left loops

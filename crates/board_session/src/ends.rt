@@ -1,33 +1,18 @@
 //! The end of a life: the receipts that were told, and the disk.
 
-ghost use Rattle.std.specs.Prelude.{◌≡◌, ◌≤◌, ◌+◌, [], ◌∷◌, true, All, length, vec_len, vec_capacity};
+ghost use Rattle.std.specs.Prelude.{◌≡◌, ◌≤◌, ◌+◌, [], ◌∷◌, true, All, length, vec_len};
 ghost use Rattle.store.specs.Leaves.{IsIdle};
 ghost use Rattle.store.specs.Taken.{are_taken};
 ghost use Rattle.store.specs.Views.{size_of_store, found_state, journal_of};
 ghost use Rattle.shared_store.specs.Noted.{boot_told};
 ghost use Rattle.shared_store.specs.Views.{inside, parts_with};
-ghost use Rattle.hart_threads.specs.Ends.{IsWhole};
 ghost use Rattle.board_session.specs.Backs.{AreBack};
 ghost use Rattle.board_session.specs.Sessions.{IsOfLife};
 
 use disk::Disk;
-use hart_threads::{Ended, HartLocal, LoopEnd};
+use hart_threads::{Ended, HartLocal};
 use shared_store::{Journal, Part, Unshared};
 use store::Store;
-
-/// How those loops ended, in their order.
-pub(crate) fn ends_of<J: Journal>(loops: &[Ended<J>], ends: Vec<LoopEnd>) -> Vec<LoopEnd>
-    requires empty { vec_len ends ≡ 0 }
-    requires room { length loops.now ≤ vec_capacity ends }
-    ensures many { vec_len result ≡ length loops.entry.now }
-    ensures whole { All (IsWhole J.turns) result.items }
-{
-    let mut ends = ends;
-    for ended in loops {
-        ends.push_reserved(ended.end());
-    }
-    ends
-}
 
 /// The parts of loops that ended come back to the store.
 fn gather_loops<D: Disk + Drop, J: Journal>(whole: &mut Unshared<D, J>, loops: Vec<Ended<J>>)

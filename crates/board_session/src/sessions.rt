@@ -1,6 +1,6 @@
 //! A board from its power-on to the end of its threads.
 
-ghost use Rattle.std.specs.Prelude.{◌≡◌, ◌⊎◌, ◌≤◌, ◌+◌, ℕ, List, [], All, length, Some, None, true, false, OnOk, IfOk, IfErr, IfSome, MatchResult, vec_len, vec_capacity};
+ghost use Rattle.std.specs.Prelude.{◌≡◌, ◌⊎◌, ◌≤◌, ◌+◌, ℕ, List, [], All, length, Some, None, true, false, OnOk, IfOk, IfErr, MatchResult, vec_len};
 ghost use Rattle.std.specs.Option.{option_to_list};
 ghost use Rattle.board_model.specs.Durable.{formatted};
 ghost use Rattle.board_model.specs.Shapes.{Size};
@@ -21,18 +21,17 @@ ghost use Rattle.board.specs.Views.{store_of, machine_of};
 ghost use Rattle.store.specs.Taken.{are_taken};
 ghost use Rattle.board_console.specs.Commands.{party};
 ghost use Rattle.board_console.specs.Dialogues.{Talks, dialogue_ends};
-ghost use Rattle.hart_threads.specs.Ends.{IsWhole};
 ghost use Rattle.board_session.specs.Backs.{AreBack};
 ghost use Rattle.board_session.specs.Sessions.{TakesFormat, RunsOver, RefusesDisk, RefusesSession, Begins, IsOfLife, RanOver, TalksIf, outcome_of};
 
-use crate::ends::{disk_at_once, disk_of, ends_of};
+use crate::ends::{disk_at_once, disk_of};
 use crate::gate::UntilQuit;
 use board::{Board, Parts, Payloads};
 use board_console::{Left, console};
 use board_model::{Refusal, Shape};
 use board_options::Options;
 use disk::Disk;
-use hart_threads::{Ended, LoopEnd, SharedBoard, Undriven, drive};
+use hart_threads::{Ended, SharedBoard, Undriven, drive};
 use shared_store::{Heard, Journal, NewBook, Part, SharedStore, Unshared};
 use std::alloc::Global;
 use std::io::{Read, Write};
@@ -62,8 +61,6 @@ pub struct SessionEnd<D: Disk + Drop, I: Read + Drop, W: Write + Drop> {
     pub left: Option<Left>,
     /// What the console heard of the store beside its receipts.
     pub heard: Heard,
-    /// How each hart's loop ended; none where the harts were not begun.
-    pub loops: Vec<LoopEnd>,
 }
 
 /// A board that is on, its shape, and the book of its receipts.
@@ -160,7 +157,6 @@ fn run_board<
     requires store { (size_of_store booted.parts.store ≡ J.size) × (found_state booted.parts.store ≡ J.found)
         × (journal_of booted.parts.store ≡ J.issued) }
     requires taken { (are_taken J.found J.issued ≡ true) × (length J.issued ≤ 2) }
-    requires turns { turns ≡ J.turns }
     requires book { (id_of booted.book ≡ J.book) × (parts_of booted.book ≡ J.parts)
         × (J.parts ≡ J.size.harts + 2) }
     ensures none_out { IsIdle (D.facts result.disk) }
@@ -170,8 +166,6 @@ fn run_board<
         (dialogue_ends (I.remaining result.streams.input) (W.contents result.streams.out) (party console result.heard)) }
     ensures ran { result.ran ≡ outcome_of result.left }
     ensures unheard { result.left ≡ None → (result.streams ≡ streams) × (result.heard ≡ heard_nothing) }
-    ensures whole { All (IsWhole J.turns) result.loops.items }
-    ensures loops { IfSome result.left (λ left. vec_len result.loops ≡ J.size.harts) }
 {
     let BootedBoard { parts, shape, book } = booted;
     let Parts {
@@ -188,28 +182,8 @@ fn run_board<
         part,
         heard: Heard::nothing(),
     };
-    let Ok(ended) = Vec::with_capacity(alloc, harts.len()) else {
-        let none = Vec::new(alloc);
-        return over(
-            whole,
-            Vec::new(alloc),
-            none,
-            Vec::new(alloc),
-            ends,
-            boot,
-            None,
-        );
-    };
     let Ok(given) = whole.hand_out_all(alloc, harts.len()) else {
-        return over(
-            whole,
-            Vec::new(alloc),
-            ended,
-            Vec::new(alloc),
-            ends,
-            boot,
-            None,
-        );
+        return over(whole, Vec::new(alloc), Vec::new(alloc), ends, boot, None);
     };
     let doze = bus.doze;
     let bus = Mutex::new(bus);
@@ -247,7 +221,7 @@ fn run_board<
         Ok(done) => {
             let (loops, talked) = done;
             let Talked { ends, left } = talked;
-            over(whole, loops, ended, Vec::new(alloc), ends, boot, Some(left))
+            over(whole, loops, Vec::new(alloc), ends, boot, Some(left))
         }
         Err(undriven) => {
             let Undriven {
@@ -256,7 +230,7 @@ fn run_board<
                 loops,
                 parts,
             } = undriven;
-            over(whole, loops, ended, parts, ends, boot, None)
+            over(whole, loops, parts, ends, boot, None)
         }
     }
 }
@@ -265,7 +239,6 @@ fn run_board<
 fn over<D: Disk + Drop, J: Journal, I: Read + Drop, W: Write + Drop>(
     whole: Unshared<D, J>,
     loops: Vec<Ended<J>>,
-    ended: Vec<LoopEnd>,
     parts: Vec<Part<J>>,
     ends: Ends<J, I, W>,
     boot: Part<J>,
@@ -276,18 +249,13 @@ fn over<D: Disk + Drop, J: Journal, I: Read + Drop, W: Write + Drop>(
     requires harts { length (parts_with whole) + vec_len loops + vec_len parts ≡ J.size.harts }
     requires boot { boot.told ≡ boot_told J.issued }
     requires all { J.parts ≡ J.size.harts + 2 }
-    requires empty { vec_len ended ≡ 0 }
-    requires room { vec_len loops ≤ vec_capacity ended }
     ensures none_out { IsIdle (D.facts result.disk) }
     ensures life { IsOfLife J.size J.found J.issued ends.part.told (D.facts result.disk) }
     ensures streams { result.streams ≡ ends.streams }
     ensures heard { result.heard ≡ ends.heard }
     ensures left { result.left ≡ left }
     ensures ran { result.ran ≡ outcome_of left }
-    ensures whole { All (IsWhole J.turns) result.loops.items }
-    ensures loops { vec_len result.loops ≡ vec_len loops }
 {
-    let ended = ends_of(loops.as_slice(), ended);
     let Ends {
         streams,
         part,
@@ -300,7 +268,6 @@ fn over<D: Disk + Drop, J: Journal, I: Read + Drop, W: Write + Drop>(
         streams,
         left,
         heard,
-        loops: ended,
     }
 }
 
@@ -388,11 +355,9 @@ pub fn session<R: Threads + Wait + Sync, D: Disk + Drop + Send, I: Read + Drop, 
         result.ran (D.facts result.disk) × (result.left ≡ None))
         ⊎ (RanOver options.now.new options.now.shape options.now.mode payloads.now (D.facts disk) (D.facts result.disk)
         result.left (dialogue_ends (I.remaining streams.input) (W.contents streams.out) (party [] heard_nothing))
-        (I.remaining result.streams.input) (W.contents result.streams.out) result.heard (vec_len result.loops)
+        (I.remaining result.streams.input) (W.contents result.streams.out) result.heard
         × (result.ran ≡ outcome_of result.left)) }
     ensures unheard { result.left ≡ None → (result.streams ≡ streams) × (result.heard ≡ heard_nothing) }
-    // Once the console was begun each hart of the board had a loop, and one that ended with its turns made all.
-    ensures whole { All (IsWhole options.now.turns) result.loops.items }
     // Whatever it answers, a disk of which each crash leaves a state is given back as one.
     ensures kept { (size : Size) → IsKept (D.facts disk) size → (z : Size) × IsKept (D.facts result.disk) z }
 {
@@ -403,7 +368,6 @@ pub fn session<R: Threads + Wait + Sync, D: Disk + Drop + Send, I: Read + Drop, 
             streams,
             left: None,
             heard: Heard::nothing(),
-            loops: Vec::new(alloc),
         },
         Ok(board) => {
             let shape = board.shape();
@@ -427,7 +391,6 @@ pub fn session<R: Threads + Wait + Sync, D: Disk + Drop + Send, I: Read + Drop, 
                         streams,
                         left: None,
                         heard: Heard::nothing(),
-                        loops: Vec::new(alloc),
                     }
                 }
             }

@@ -5,7 +5,6 @@ ghost use Rattle.board_model.specs.declared.refusal.Refusal.TheVariants.{Memory}
 ghost use Rattle.sbi_calls.specs.Both.{AreTablesOf};
 ghost use Rattle.machine.specs.Held.{IsHeld};
 ghost use Rattle.hart_threads.specs.Seated.{IsSeated};
-ghost use Rattle.hart_threads.specs.declared.loops.Why.TheVariants.{Turns};
 
 use crate::gates::{Gate, UntilOver};
 use crate::loops::{Ended, Why, hart_loop};
@@ -62,8 +61,6 @@ fn unbegun<J: Journal, E: Drop>(
 /// gate that the other loops see is shut: each ends before its next turn. The console goes on until it
 /// returns by itself, and where it returns first the harts run out their turns, as far as the gate lets them.
 ///
-/// A loop that ended with its turns made all that the life gives each hart: they are as many as `turns`.
-///
 /// The console is given `ends`, as its input and its output, and what it gives back comes back with the loops
 /// that ended, one for each hart. Each has one of `parts`, which were told nothing yet. Refused `Memory` where
 /// there is no room for the harts' seats, or where a thread could not be started: the loops of all harts have
@@ -89,13 +86,11 @@ pub fn drive<
 ) -> Result<(Vec<Ended<J>>, T), Undriven<J, E>>
     requires console { K.IsAlwaysCallable console }
     requires board { board.shape.now ≡ J.size }
-    requires turns { turns ≡ J.turns }
     requires parts { vec_len parts ≡ vec_len harts }
     requires fresh { All (λ p. p.told ≡ []) parts.items }
     requires held { IsHeld board.shape.now harts.items board.tables.now (Some seats) doze }
     ensures said { IfOk result (λ r. K.post console ends r.1) }
     ensures loops { IfOk result (λ r. vec_len r.0 ≡ vec_len harts) }
-    ensures whole { IfOk result (λ r. All (λ e. e.why ≡ Turns → e.made ≡ J.turns) r.0.items) }
     ensures refused { IfErr result (λ e. (e.ends ≡ ends) × (e.refusal ≡ Memory)) }
     ensures back { IfErr result (λ e. vec_len e.loops + vec_len e.parts ≡ vec_len harts) }
     ensures fresh { IfErr result (λ e. All (λ p. p.told ≡ []) e.parts.items) }
@@ -126,14 +121,12 @@ fn run_all<
 ) -> Result<(Vec<Ended<J>>, T), Undriven<J, E>>
     requires console { K.IsAlwaysCallable console }
     requires board { board.shape.now ≡ J.size }
-    requires turns { turns ≡ J.turns }
     requires parts { vec_len parts ≡ vec_len all }
     requires fresh { All (λ p. p.told ≡ []) parts.items }
     requires tables { AreTablesOf board.shape.now board.tables.now }
     requires seated { All (λ a. IsSeated board.tables.now a.hart.id a.seats a.doze) all.items }
     ensures said { IfOk result (λ r. K.post console ends r.1) }
     ensures loops { IfOk result (λ r. vec_len r.0 ≡ vec_len all) }
-    ensures whole { IfOk result (λ r. All (λ e. e.why ≡ Turns → e.made ≡ J.turns) r.0.items) }
     ensures refused { IfErr result (λ e. (e.ends ≡ ends) × (e.refusal ≡ Memory)) }
     ensures back { IfErr result (λ e. vec_len e.loops + vec_len e.parts ≡ vec_len all) }
     ensures fresh { IfErr result (λ e. All (λ p. p.told ≡ []) e.parts.items) }
@@ -146,9 +139,8 @@ fn run_all<
         move |scope| -> Result<(Vec<Ended<J>>, T), Undriven<J, E>>
             requires { K.IsAlwaysCallable console × (board.shape.now ≡ J.size) × AreTablesOf board.shape.now board.tables.now
                 × All (λ a. IsSeated board.tables.now a.hart.id a.seats a.doze) all.items
-                × (vec_len parts ≡ vec_len all) × All (λ p. p.told ≡ []) parts.items × (turns ≡ J.turns) }
-            ensures { IfOk result (λ r. K.post console ends r.1 × (vec_len r.0 ≡ vec_len all)
-                × All (λ e. e.why ≡ Turns → e.made ≡ J.turns) r.0.items)
+                × (vec_len parts ≡ vec_len all) × All (λ p. p.told ≡ []) parts.items }
+            ensures { IfOk result (λ r. K.post console ends r.1 × (vec_len r.0 ≡ vec_len all))
                 × IfErr result (λ e. (e.ends ≡ ends) × (e.refusal ≡ Memory)
                 × (vec_len e.loops + vec_len e.parts ≡ vec_len all) × All (λ p. p.told ≡ []) e.parts.items) }
         {
@@ -163,8 +155,7 @@ fn run_all<
                 let started = scope.spawn(
                     move || -> Ended<J>
                         requires { (board.shape.now ≡ J.size) × AreTablesOf board.shape.now board.tables.now
-                            × IsSeated board.tables.now acting.hart.id acting.seats acting.doze × (part.told ≡ [])
-                            × (turns ≡ J.turns) }
+                            × IsSeated board.tables.now acting.hart.id acting.seats acting.doze × (part.told ≡ []) }
                     {
                         let (hart, local) = taken(acting, part, board.tables);
                         let gate = UntilOver { gate, over };
@@ -257,15 +248,12 @@ fn joined<R: Threads + Wait, J: Journal + Send + Sync>(
     handles: Handles<J>,
     loops: Vec<Ended<J>>,
 ) -> Vec<Ended<J>>
-    requires room { vec_len loops + vec_len handles ≤ vec_capacity loops }
-    requires whole { All (λ e. e.why ≡ Turns → e.made ≡ J.turns) loops.items }
-    ensures count { vec_len result ≡ vec_len loops + vec_len handles }
-    ensures whole { All (λ e. e.why ≡ Turns → e.made ≡ J.turns) result.items }
+    requires { vec_len loops + vec_len handles ≤ vec_capacity loops }
+    ensures { vec_len result ≡ vec_len loops + vec_len handles }
 {
     let mut loops = loops;
     for handle in handles {
-        let ended = handle.join(rt);
-        loops.push_reserved(ended);
+        loops.push_reserved(handle.join(rt));
     }
     loops
 }

@@ -4,8 +4,7 @@ ghost use Rattle.std.specs.Prelude.{◌≡◌, ◌≤◌, ◌<◌, ◌+◌, ◌-
 ghost use Rattle.std.specs.Option.{option_to_list};
 ghost use Rattle.sbi_calls.specs.Both.{AreTablesOf, GivesBack, known};
 ghost use Rattle.shared_store.specs.Noted.{part_after};
-ghost use Rattle.hart_threads.specs.declared.loops.Why.TheVariants.{Life, Turns};
-ghost use Rattle.hart_threads.specs.Ends.{Ending, IsWhole, ending};
+ghost use Rattle.hart_threads.specs.declared.loops.Why.TheVariants.{Life};
 ghost use Rattle.hart_threads.specs.Looks.{no_looks};
 ghost use Rattle.hart_threads.specs.Seated.{IsSeated, StandsAfterTurn, StandsAfter};
 ghost use Rattle.hart_threads.specs.Threads.{seated, loop_goes_on, ends_life, TurnOnce, LoopOnce};
@@ -20,7 +19,6 @@ use hart::Hart;
 use sbi::Word;
 use sbi_calls::Turned;
 use shared_store::{Journal, Told};
-use std::marker::Model;
 use std::sync::Wait;
 use turns::turn_by_bus;
 
@@ -35,7 +33,7 @@ pub enum Why {
     Turns,
 }
 
-/// A loop that ended. One that ended with its turns made all that each hart is given (`Journal`).
+/// A loop that ended.
 #[derive(Drop)]
 pub struct Ended<J: Journal> {
     /// The hart, as its last turn left it.
@@ -52,49 +50,6 @@ pub struct Ended<J: Journal> {
     pub ghost receipt: { (why ≡ Life → IsTrue (is_some told)) },
     pub ghost noted: { local.part.told ≡ option_to_list told },
     pub ghost asked: { ends_life told ≡ true },
-    pub ghost whole: { (why ≡ Turns → made ≡ J.turns) },
-}
-
-/// How a loop ended, without its life. Only a loop that did makes one.
-#[derive(Drop)]
-pub struct LoopEnd {
-    made: u64,
-    why: Why,
-}
-
-impl Model for LoopEnd {
-    ghost Value = { Ending };
-
-    ghost view = { λ l. record { made = l.made; why = l.why } };
-}
-
-impl LoopEnd {
-    /// How many turns it made.
-    pub fn made(&self) -> u64
-        ensures { result ≡ self.now.made }
-    {
-        self.made
-    }
-
-    /// Why it ended.
-    pub fn why(&self) -> Why
-        ensures { result ≡ self.now.why }
-    {
-        self.why
-    }
-}
-
-impl<J: Journal> Ended<J> {
-    /// How it ended: with its turns only once it made all that the life gives each hart.
-    pub fn end(&self) -> LoopEnd
-        ensures end { result ≡ ending self.now.made self.now.why }
-        ensures whole { IsWhole J.turns result }
-    {
-        LoopEnd {
-            made: self.made,
-            why: self.why,
-        }
-    }
 }
 
 /// Whether the life goes on after a turn of which that is said.
@@ -157,7 +112,7 @@ fn whole_turn<R: Wait, D: Disk + Drop, J: Journal, C: Crew>(
 /// A turn of a hart that dozes is one hold of the bus, which tells only whether the board was woken: until then it is
 /// idle; then the hart begins again at the address of its own copy of the doze, with that opaque value.
 ///
-/// The turns are as many as the life gives each hart. The part was told nothing yet; it comes back with the receipt of the command that ended the life, where this loop
+/// The part was told nothing yet; it comes back with the receipt of the command that ended the life, where this loop
 /// ended with it.
 pub fn hart_loop<R: Wait, G: Gate, D: Disk + Drop, J: Journal, C: Crew>(
     rt: &R,
@@ -171,7 +126,6 @@ pub fn hart_loop<R: Wait, G: Gate, D: Disk + Drop, J: Journal, C: Crew>(
     requires board { board.shape.now ≡ J.size }
     requires seated { IsSeated board.tables.now hart.id local.seats local.doze }
     requires fresh { local.part.told ≡ [] }
-    requires turns { turns ≡ J.turns }
     ensures gives { GivesBack board.entry.tables.now hart.id local.seats result.local.seats }
     ensures stands { StandsAfter result.why result.local.doze hart.id result.local.seats }
     ensures id { result.hart.id ≡ hart.id }
