@@ -1,10 +1,11 @@
 -- What the console makes of a line, with the store at hand, or the bus. Source: docs/CONSOLE.md, "The console";
 -- docs/DURABLE.md.
 use Rattle.std.specs.Prelude.{◌≡◌, ℕ, Bool, true, false, List, ◌∷◌, Result, Ok, Err}
-use Rattle.board_model.specs.Durable.{DurableState}
+use Rattle.board_model.specs.Durable.{Change, DurableState}
 use Rattle.board_model.specs.Views.{durable_of}
 use Rattle.board_model.specs.ConsoleCommands.{command_of, console_change}
 use Rattle.board_model.specs.declared.console_command.ConsoleCommand.{ConsoleCommand}
+use Rattle.board_model.specs.declared.durable.Command.{Command}
 use Rattle.board_model.specs.declared.durable.Durable.{Durable}
 use Rattle.board_model.specs.declared.durable.Entry.{Entry}
 use Rattle.board_model.specs.declared.durable.Entry.TheVariants as entries
@@ -15,6 +16,7 @@ use Rattle.store.specs.Lives.{Applied}
 use Rattle.store.specs.Views.{now_state}
 use Rattle.store.specs.declared.stores.Store.{Store}
 use Rattle.store.specs.Asked.{Asked}
+use Rattle.shared_store.specs.Heard.{Hearing, after_look, after_refusal}
 use Rattle.shared_store.specs.Legal.{MayAnswer, MayShow}
 use Rattle.susp.specs.declared.buses.Bus.{Bus}
 use Rattle.board_console.specs.Wakes.{Wakes, MayWake}
@@ -28,31 +30,41 @@ abbrev pub command_answer : ConsoleCommand → Result ℕ Refusal → Reply
 command_answer command (Ok n) = answers.Acknowledged command n
 command_answer command (Err e) = answers.Refused command e
 
--- the receipts, the newest first, once a command was answered
-abbrev pub told_by : Entry → Result ℕ Refusal → List (ℕ × Entry) → List (ℕ × Entry)
-told_by entry (Ok n) told = (n, entry) ∷ told
-told_by entry (Err e) told = told
+-- what the console was told: receipts, the newest first; and what it heard beside them
+pub record Party : Type 0 where
+  pub told : List (ℕ × Entry)
+  pub heard : Hearing
+
+abbrev pub party : List (ℕ × Entry) → Hearing → Party
+party told heard = record { told = told; heard = heard }
+
+-- the same once a command was answered: it has its receipt, or it was refused
+abbrev pub party_after : Command → Result ℕ Refusal → Party → Party
+party_after command (Ok n) p = record { told = (n, entries.Command command) ∷ p.told; heard = p.heard }
+party_after command (Err e) p = record { told = p.told; heard = after_refusal command e p.heard }
 
 -- what `wake` may be answered: what a call of the wake-up device came to
 abbrev pub IsWakeAnswer : Reply → Type 0
 IsWakeAnswer answer = (r : Result (Unit {0}) Refusal) × MayWake r × (answer ≡ answers.Wake r)
 
--- What a line with a command may be answered, and which receipts were told before it and then.
-abbrev pub IsCommandAnswer : DurableState → ConsoleCommand → Reply → List (ℕ × Entry) → List (ℕ × Entry) → Type 0
+-- What a line with a command may be answered, and what the console was told before it and then.
+abbrev pub IsCommandAnswer : DurableState → ConsoleCommand → Reply → Party → Party → Type 0
 IsCommandAnswer found command answer old new =
     (r : Result ℕ Refusal) × MayAnswer found (console_change command) r × (answer ≡ command_answer command r)
-    × (new ≡ told_by (entries.Command (command_of command)) r old)
+    × (new ≡ party_after (command_of command) r old)
 
--- What a line may be answered in a life that began in that state: as some commands explain it that the table
--- takes, one after another from there. The receipts that were told before it, and those that were told then: a
--- receipt is answered where it is told, with just that command, and none else is told.
-abbrev pub IsAnswerTo : DurableState → Said → Reply → List (ℕ × Entry) → List (ℕ × Entry) → Type 0
-IsAnswerTo found (saids.Command command) answer old new = IsCommandAnswer found command answer old new
-IsAnswerTo found saids.State answer old new =
-    (d : Durable) × MayShow found d × (answer ≡ answers.State d) × (new ≡ old)
-IsAnswerTo found saids.Wake answer old new = IsWakeAnswer answer × (new ≡ old)
-IsAnswerTo found saids.Quit answer old new = (answer ≡ answers.Quit) × (new ≡ old)
-IsAnswerTo found saids.Other answer old new = (answer ≡ answers.Unknown) × (new ≡ old)
+-- What a line may be answered in a life that began in that state and of which the boot issued those commands: as some
+-- commands explain it that the table takes, one after another from there. What the console was told before it, and then:
+-- a receipt is answered where it is told, with just that command, and a refusal or a state where it is heard; nothing else
+-- is told.
+abbrev pub IsAnswerTo : DurableState → List Change → Said → Reply → Party → Party → Type 0
+IsAnswerTo found issued (saids.Command command) answer old new = IsCommandAnswer found command answer old new
+IsAnswerTo found issued saids.State answer old new =
+    (d : Durable) × MayShow found issued old.told d × (answer ≡ answers.State d)
+    × (new ≡ party old.told (after_look d old.heard))
+IsAnswerTo found issued saids.Wake answer old new = IsWakeAnswer answer × (new ≡ old)
+IsAnswerTo found issued saids.Quit answer old new = (answer ≡ answers.Quit) × (new ≡ old)
+IsAnswerTo found issued saids.Other answer old new = (answer ≡ answers.Unknown) × (new ≡ old)
 
 -- the line `wake` calls the wake-up device once
 abbrev pub AnswersWake : Bus → Bus → Reply → Type 0

@@ -2,26 +2,28 @@
 
 ghost use Rattle.std.specs.Prelude.{◌≡◌, true};
 ghost use Rattle.shared_store.specs.Views.{store_in};
-ghost use Rattle.board_console.specs.Commands.{AnswersCommand, AnswersSaid, AnswersWake, IsCommandAnswer, IsAnswerTo, IsWakeAnswer, asks_store};
+ghost use Rattle.board_console.specs.Commands.{AnswersCommand, AnswersSaid, AnswersWake, IsCommandAnswer, IsAnswerTo, IsWakeAnswer, asks_store, party};
 
 use crate::reply::Reply;
 use crate::waking::Waking;
 use crate::words::Said;
 use board_model::ConsoleCommand;
 use disk::Disk;
-use shared_store::{Journal, Part, SharedStore};
+use shared_store::{Heard, Journal, Part, SharedStore};
 use susp::Bus;
 
 /// Issues a command, which is answered by its word.
 fn issue<D: Disk + Drop, J: Journal>(
     store: &mut SharedStore<D, J>,
     part: Part<J>,
+    heard: &mut Heard,
     command: ConsoleCommand,
 ) -> (Part<J>, Reply)
     ensures asks { AnswersCommand command (store_in store.old) (store_in store.new) result.1 }
-    ensures fits { IsCommandAnswer J.found command result.1 part.told result.0.told }
+    ensures fits { IsCommandAnswer J.found command result.1 (party part.told heard.old)
+        (party result.0.told heard.new) }
 {
-    let (part, answered) = store.apply(part, command.command());
+    let (part, answered) = store.apply(part, heard, command.command());
     match answered {
         Ok(told) => (part, Reply::Acknowledged(command, told.number())),
         Err(refusal) => (part, Reply::Refused(command, refusal)),
@@ -30,20 +32,25 @@ fn issue<D: Disk + Drop, J: Journal>(
 
 /// Does what a line says, with the store that it is lent for this one moment: on a board of threads, under
 /// the store's lock. A command that was acknowledged is durable, and its receipt is its place in the journal
-/// of this life (`Store::entry` has it there from then on), which the console's part is told; after a refusal
-/// what stands is what `Store::apply` says. `wake` asks the bus (`rouse`), and the other lines ask nothing.
+/// of this life (`Store::entry` has it there from then on), which the console's part is told; of a refusal and of
+/// the state that it is shown the console has heard, and after a refusal what stands is what `Store::apply` says. `wake` asks the bus (`rouse`), and the other lines ask nothing.
 pub fn obey<D: Disk + Drop, J: Journal>(
     store: &mut SharedStore<D, J>,
     part: Part<J>,
+    heard: &mut Heard,
     said: Said,
 ) -> (Part<J>, Reply)
     requires { asks_store said ≡ true }
     ensures asks { AnswersSaid said (store_in store.old) (store_in store.new) result.1 }
-    ensures fits { IsAnswerTo J.found said result.1 part.told result.0.told }
+    ensures fits { IsAnswerTo J.found J.issued said result.1 (party part.told heard.old)
+        (party result.0.told heard.new) }
 {
     match said {
-        Said::Command(command) => issue(store, part, command),
-        Said::State => (part, Reply::State(store.now())),
+        Said::Command(command) => issue(store, part, heard, command),
+        Said::State => {
+            let (part, state) = store.now(part, heard);
+            (part, Reply::State(state))
+        }
         Said::Wake | Said::Quit | Said::Other => unreachable!(),
     }
 }

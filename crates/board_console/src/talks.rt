@@ -3,18 +3,19 @@
 ghost use Rattle.std.specs.Prelude.{◌≡◌, ◌++◌, ◌∷◌, [], OnOk, IfErr};
 ghost use Rattle.std.specs.Io.KnownBytes.{Appends};
 ghost use Rattle.board_model.specs.declared.refusal.Refusal.TheVariants.{Output};
-ghost use Rattle.board_console.specs.Commands.{IsAnswerTo};
-ghost use Rattle.board_console.specs.Dialogues.{Talks, dialogue_ends, is_quit};
+ghost use Rattle.board_console.specs.Commands.{IsAnswerTo, party};
+ghost use Rattle.board_console.specs.Dialogues.{Talks, dialogue_ends, left_after, left_before, left_behind, left_without};
+ghost use Rattle.board_console.specs.Lines.{is_line};
 ghost use Rattle.board_console.specs.Texts.{reply_text};
 
 use crate::commands::{obey, rouse};
-use crate::lines::next_line;
+use crate::lines::{LineEnd, next_line};
 use crate::reply::Reply;
 use crate::words::{Said, line_said};
 use arrayvec::ArrayVec;
 use board_model::Refusal;
 use disk::Disk;
-use shared_store::{Journal, Part, SharedStore};
+use shared_store::{Heard, Journal, Part, SharedStore};
 use std::io::{Read, Write};
 use std::sync::{Mutex, Wait};
 use susp::Bus;
@@ -24,18 +25,63 @@ use susp::Bus;
 pub enum Left {
     /// A line said so.
     Quit,
-    /// No line was left, or the input failed.
+    /// No line was left.
     EndOfInput,
+    /// The input failed.
+    InputFailed,
     /// An answer could not be written.
     Unwritten,
 }
 
-fn is_quit(said: Said) -> bool
-    ensures { result ≡ is_quit said }
+/// Whether what was kept is a line: it is where its line feed came, and else where there are bytes.
+fn is_line(ended: LineEnd, kept: &[u8]) -> bool
+    ensures { result ≡ is_line ended kept.now }
+{
+    match ended {
+        LineEnd::Feed => true,
+        LineEnd::EndOfInput | LineEnd::Failure => !kept.is_empty(),
+    }
+}
+
+/// Why the console leaves where no line came.
+fn left_without(ended: LineEnd) -> Option<Left>
+    ensures { result ≡ left_without ended }
+{
+    match ended {
+        LineEnd::Feed => None,
+        LineEnd::EndOfInput => Some(Left::EndOfInput),
+        LineEnd::Failure => Some(Left::InputFailed),
+    }
+}
+
+/// Why the console leaves before it answers, if it does so: no line came.
+fn left_before(ended: LineEnd, kept: &[u8]) -> Option<Left>
+    ensures { result ≡ left_before ended kept.now }
+{
+    if is_line(ended, kept) {
+        None
+    } else {
+        left_without(ended)
+    }
+}
+
+/// Why the console leaves once it has answered a line, if it does so.
+fn left_after(ended: LineEnd, said: Said) -> Option<Left>
+    ensures { result ≡ left_after ended said }
 {
     match said {
-        Said::Quit => true,
-        Said::Command(_) | Said::State | Said::Wake | Said::Other => false,
+        Said::Quit => Some(Left::Quit),
+        Said::Command(_) | Said::State | Said::Wake | Said::Other => left_behind(ended),
+    }
+}
+
+/// The same of a line that does not say so.
+fn left_behind(ended: LineEnd) -> Option<Left>
+    ensures { result ≡ left_behind ended }
+{
+    match ended {
+        LineEnd::Feed | LineEnd::EndOfInput => None,
+        LineEnd::Failure => Some(Left::InputFailed),
     }
 }
 
@@ -55,12 +101,13 @@ fn answer_to<R: Wait, D: Disk + Drop, J: Journal>(
     bus: &Mutex<Bus>,
     store: &Mutex<SharedStore<D, J>>,
     part: Part<J>,
+    heard: &mut Heard,
     said: Said,
 ) -> (Part<J>, Reply)
-    ensures { IsAnswerTo J.found said result.1 part.told result.0.told }
+    ensures { IsAnswerTo J.found J.issued said result.1 (party part.told heard.old) (party result.0.told heard.new) }
 {
     match said {
-        Said::Command(_) | Said::State => obey(&mut store.lock(rt), part, said),
+        Said::Command(_) | Said::State => obey(&mut store.lock(rt), part, heard, said),
         Said::Wake => (part, rouse(&mut bus.lock(rt))),
         Said::Quit => (part, Reply::Quit),
         Said::Other => (part, Reply::Unknown),
@@ -68,33 +115,38 @@ fn answer_to<R: Wait, D: Disk + Drop, J: Journal>(
 }
 
 /// Takes one line after another from the input, obeys each in one hold of the store or of the bus at the most, and
-/// writes its answer with no lock held. It leaves after `quit`, at the end of input, and where an answer could not be
-/// written. Its part of the journal's receipts is told those that it answers.
+/// writes its answer with no lock held. It leaves after `quit`, at the end of input, where the input fails, and where an
+/// answer could not be written. Its part of the journal's receipts is told those that it answers, and it has heard of
+/// each refusal and each state that it answers.
 pub fn console<R: Wait, D: Disk + Drop, J: Journal, I: Read, W: Write>(
     rt: &R,
     bus: &Mutex<Bus>,
     store: &Mutex<SharedStore<D, J>>,
     part: Part<J>,
+    heard: &mut Heard,
     input: &mut I,
     out: &mut W,
 ) -> (Part<J>, Left)
-    ensures { Talks J.found result.1 (dialogue_ends (I.remaining input.old) (W.contents out.old) part.told)
-        (dialogue_ends (I.remaining input.new) (W.contents out.new) result.0.told) }
+    ensures { Talks J.found J.issued result.1
+        (dialogue_ends (I.remaining input.old) (W.contents out.old) (party part.told heard.old))
+        (dialogue_ends (I.remaining input.new) (W.contents out.new) (party result.0.told heard.new)) }
 {
     let mut line = ArrayVec::new();
     let mut part = part;
     for _ in rt.forever() {
-        if !next_line(input, &mut line) {
-            return (part, Left::EndOfInput);
+        let ended = next_line(input, &mut line);
+        let kept = line.as_slice();
+        if let Some(left) = left_before(ended, kept) {
+            return (part, left);
         }
-        let said = line_said(line.as_slice());
-        let (told, answer) = answer_to(rt, bus, store, part, said);
+        let said = line_said(kept);
+        let (told, answer) = answer_to(rt, bus, store, part, heard, said);
         part = told;
         let Ok(()) = write_answer(out, answer) else {
             return (part, Left::Unwritten);
         };
-        if is_quit(said) {
-            return (part, Left::Quit);
+        if let Some(left) = left_after(ended, said) {
+            return (part, left);
         }
     }
     unreachable!()

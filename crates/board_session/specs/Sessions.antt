@@ -23,6 +23,8 @@ use Rattle.board.specs.Unbooted.{LeavesLife}
 use Rattle.receipts.specs.Closed.{AreReceiptsOf}
 use Rattle.shared_store.specs.Noted.{boot_told, entries_in}
 use Rattle.hart_threads.specs.Threads.{ends_life}
+use Rattle.shared_store.specs.Heard.{Hearing}
+use Rattle.board_console.specs.Commands.{party}
 use Rattle.board_console.specs.Dialogues.{DialogueEnds, Talks, dialogue_ends}
 use Rattle.board_console.specs.declared.talks.Left.{Left}
 use Rattle.board_console.specs.declared.talks.Left.TheVariants as lefts
@@ -102,25 +104,26 @@ pub record IsOfLife (size : Size) (found : DurableState) (issued : List Change) 
 
 -- what was read and answered in a life that began in that state, by why the console left: nothing where it was not
 -- begun
-abbrev pub TalksIf : DurableState → Option Left → DialogueEnds → DialogueEnds → Type 0
-TalksIf found None a b = b ≡ a
-TalksIf found (Some left) a b = Talks found left a b
+abbrev pub TalksIf : DurableState → List Change → Option Left → DialogueEnds → DialogueEnds → Type 0
+TalksIf found issued None a b = b ≡ a
+TalksIf found issued (Some left) a b = Talks found issued left a b
 
 -- whether the session was refused: where no thread could be started, and where an answer could not be written
 abbrev pub outcome_of : Option Left → Result (Unit {0}) Refusal
 outcome_of None = Err Memory
 outcome_of (Some lefts.Quit) = Ok tt
 outcome_of (Some lefts.EndOfInput) = Ok tt
+outcome_of (Some lefts.InputFailed) = Ok tt
 outcome_of (Some lefts.Unwritten) = Err Output
 
 -- The board was on, over a disk that allows it. The disk given back is that of the life that it then began, and what
--- was read and answered is of that life, with its receipts.
+-- was read and answered is of that life, with its receipts, and with the refusals and states that the console heard.
 pub record RanOver (new : Bool) (shape : Size) (mode : BootMode) (payloads : List (List ℕ)) (old disk : Facts)
-    (left : Option Left) (a : DialogueEnds) (input output : Option (List ℕ)) : Type 0 where
+    (left : Option Left) (a : DialogueEnds) (input output : Option (List ℕ)) (heard : Hearing) : Type 0 where
   pub allowed : RunsOver new shape mode payloads old.content
   pub size : Size
   pub found : DurableState
   pub begins : Begins new shape old.content size found
   pub console : List (ℕ × Entry)
   pub life : IsOfLife size found (commands_by mode found) console disk
-  pub talks : TalksIf found left a (dialogue_ends input output console)
+  pub talks : TalksIf found (commands_by mode found) left a (dialogue_ends input output (party console heard))

@@ -7,6 +7,7 @@ ghost use Rattle.board_model.specs.Shapes.{Size};
 ghost use Rattle.board_model.specs.declared.durable.Entry.{Entry};
 ghost use Rattle.board_model.specs.declared.refusal.Refusal.TheVariants.{Memory};
 ghost use Rattle.receipts.specs.Views.{id_of, parts_of};
+ghost use Rattle.shared_store.specs.Heard.{heard_nothing};
 ghost use Rattle.shared_store.specs.Noted.{boot_told};
 ghost use Rattle.shared_store.specs.Views.{parts_with};
 ghost use Rattle.store.specs.Formats.{WritesHead};
@@ -18,6 +19,7 @@ ghost use Rattle.board.specs.Begins.{IsBegun};
 ghost use Rattle.board.specs.Moments.{commands_by};
 ghost use Rattle.board.specs.Views.{store_of, machine_of};
 ghost use Rattle.store.specs.Taken.{are_taken};
+ghost use Rattle.board_console.specs.Commands.{party};
 ghost use Rattle.board_console.specs.Dialogues.{Talks, dialogue_ends};
 ghost use Rattle.board_session.specs.Backs.{AreBack};
 ghost use Rattle.board_session.specs.Sessions.{TakesFormat, RunsOver, RefusesDisk, RefusesSession, Begins, IsOfLife, RanOver, TalksIf, outcome_of};
@@ -30,7 +32,7 @@ use board_model::{Refusal, Shape};
 use board_options::Options;
 use disk::Disk;
 use hart_threads::{Ended, SharedBoard, Undriven, drive};
-use shared_store::{Journal, NewBook, Part, SharedStore, Unshared};
+use shared_store::{Heard, Journal, NewBook, Part, SharedStore, Unshared};
 use std::alloc::Global;
 use std::io::{Read, Write};
 use std::marker::Brand;
@@ -57,6 +59,8 @@ pub struct SessionEnd<D: Disk + Drop, I: Read + Drop, W: Write + Drop> {
     pub streams: Streams<I, W>,
     /// Why the console left; `None` where it was not begun.
     pub left: Option<Left>,
+    /// What the console heard of the store beside its receipts.
+    pub heard: Heard,
 }
 
 /// A board that is on, its shape, and the book of its receipts.
@@ -67,11 +71,12 @@ struct BootedBoard<D: Disk + Drop> {
     book: NewBook,
 }
 
-/// The streams of a console, and its part of the receipts.
+/// The streams of a console, its part of the receipts, and what it heard beside them.
 #[derive(Drop)]
 struct Ends<J: Journal, I: Read + Drop, W: Write + Drop> {
     streams: Streams<I, W>,
     part: Part<J>,
+    heard: Heard,
 }
 
 /// A console that has left.
@@ -81,8 +86,8 @@ struct Talked<J: Journal, I: Read + Drop, W: Write + Drop> {
     left: Left,
 }
 
-/// The console beside the harts. The gate is shut after `quit`, and where an answer could not be written; at
-/// the end of input the harts run out their turns.
+/// The console beside the harts. The gate is shut after `quit`, and where an answer could not be written; where the
+/// input ends or fails the harts run out their turns.
 fn attend<R: Wait, D: Disk + Drop, J: Journal, I: Read + Drop, W: Write + Drop>(
     rt: &R,
     bus: &Mutex<Bus>,
@@ -90,22 +95,28 @@ fn attend<R: Wait, D: Disk + Drop, J: Journal, I: Read + Drop, W: Write + Drop>(
     gate: &UntilQuit,
     ends: Ends<J, I, W>,
 ) -> Talked<J, I, W>
-    ensures { Talks J.found result.left
-        (dialogue_ends (I.remaining ends.streams.input) (W.contents ends.streams.out) ends.part.told)
+    ensures { Talks J.found J.issued result.left
+        (dialogue_ends (I.remaining ends.streams.input) (W.contents ends.streams.out) (party ends.part.told ends.heard))
         (dialogue_ends (I.remaining result.ends.streams.input) (W.contents result.ends.streams.out)
-        result.ends.part.told) }
+        (party result.ends.part.told result.ends.heard)) }
 {
-    let Ends { streams, part } = ends;
+    let Ends {
+        streams,
+        part,
+        heard,
+    } = ends;
     let Streams { mut input, mut out } = streams;
-    let (part, left) = console(rt, bus, store, part, &mut input, &mut out);
+    let mut heard = heard;
+    let (part, left) = console(rt, bus, store, part, &mut heard, &mut input, &mut out);
     match left {
         Left::Quit | Left::Unwritten => gate.shut(),
-        Left::EndOfInput => {}
+        Left::EndOfInput | Left::InputFailed => {}
     }
     Talked {
         ends: Ends {
             streams: Streams { input, out },
             part,
+            heard,
         },
         left,
     }
@@ -117,7 +128,7 @@ fn outcome(left: Option<Left>) -> Result<(), Refusal>
     ensures { result ≡ outcome_of left }
 {
     match left {
-        Some(Left::Quit | Left::EndOfInput) => Ok(()),
+        Some(Left::Quit | Left::EndOfInput | Left::InputFailed) => Ok(()),
         Some(Left::Unwritten) => Err(Refusal::Output),
         None => Err(Refusal::Memory),
     }
@@ -150,10 +161,11 @@ fn run_board<
         × (J.parts ≡ J.size.harts + 2) }
     ensures none_out { IsIdle (D.facts result.disk) }
     ensures left { (console : List (ℕ × Entry)) × IsOfLife J.size J.found J.issued console (D.facts result.disk)
-        × TalksIf J.found result.left (dialogue_ends (I.remaining streams.input) (W.contents streams.out) [])
-        (dialogue_ends (I.remaining result.streams.input) (W.contents result.streams.out) console) }
+        × TalksIf J.found J.issued result.left
+        (dialogue_ends (I.remaining streams.input) (W.contents streams.out) (party [] heard_nothing))
+        (dialogue_ends (I.remaining result.streams.input) (W.contents result.streams.out) (party console result.heard)) }
     ensures ran { result.ran ≡ outcome_of result.left }
-    ensures unheard { result.left ≡ None → result.streams ≡ streams }
+    ensures unheard { result.left ≡ None → (result.streams ≡ streams) × (result.heard ≡ heard_nothing) }
 {
     let BootedBoard { parts, shape, book } = booted;
     let Parts {
@@ -165,7 +177,11 @@ fn run_board<
     } = parts;
     let (mut whole, boot) = Unshared::<D, J>::new(store, book);
     let part = whole.hand_out();
-    let ends = Ends { streams, part };
+    let ends = Ends {
+        streams,
+        part,
+        heard: Heard::nothing(),
+    };
     let Ok(given) = whole.hand_out_all(alloc, harts.len()) else {
         return over(whole, Vec::new(alloc), Vec::new(alloc), ends, boot, None);
     };
@@ -193,10 +209,11 @@ fn run_board<
         given,
         ends,
         move |ends: Ends<J, I, W>| -> Talked<J, I, W>
-            ensures { Talks J.found result.left
-                (dialogue_ends (I.remaining ends.streams.input) (W.contents ends.streams.out) ends.part.told)
+            ensures { Talks J.found J.issued result.left
+                (dialogue_ends (I.remaining ends.streams.input) (W.contents ends.streams.out)
+                (party ends.part.told ends.heard))
                 (dialogue_ends (I.remaining result.ends.streams.input) (W.contents result.ends.streams.out)
-                result.ends.part.told) }
+                (party result.ends.part.told result.ends.heard)) }
         { attend(rt, rung, shared, shut, ends) },
     );
     let whole = store.into_inner().unshare();
@@ -235,16 +252,22 @@ fn over<D: Disk + Drop, J: Journal, I: Read + Drop, W: Write + Drop>(
     ensures none_out { IsIdle (D.facts result.disk) }
     ensures life { IsOfLife J.size J.found J.issued ends.part.told (D.facts result.disk) }
     ensures streams { result.streams ≡ ends.streams }
+    ensures heard { result.heard ≡ ends.heard }
     ensures left { result.left ≡ left }
     ensures ran { result.ran ≡ outcome_of left }
 {
-    let Ends { streams, part } = ends;
+    let Ends {
+        streams,
+        part,
+        heard,
+    } = ends;
     let disk = disk_of(whole, loops, parts, part, boot);
     SessionEnd {
         disk,
         ran: outcome(left),
         streams,
         left,
+        heard,
     }
 }
 
@@ -331,10 +354,10 @@ pub fn session<R: Threads + Wait + Sync, D: Disk + Drop + Send, I: Read + Drop, 
     ensures ended { (RefusesSession options.now.new options.now.shape options.now.mode payloads.now (D.facts disk)
         result.ran (D.facts result.disk) × (result.left ≡ None))
         ⊎ (RanOver options.now.new options.now.shape options.now.mode payloads.now (D.facts disk) (D.facts result.disk)
-        result.left (dialogue_ends (I.remaining streams.input) (W.contents streams.out) [])
-        (I.remaining result.streams.input) (W.contents result.streams.out)
+        result.left (dialogue_ends (I.remaining streams.input) (W.contents streams.out) (party [] heard_nothing))
+        (I.remaining result.streams.input) (W.contents result.streams.out) result.heard
         × (result.ran ≡ outcome_of result.left)) }
-    ensures unheard { result.left ≡ None → result.streams ≡ streams }
+    ensures unheard { result.left ≡ None → (result.streams ≡ streams) × (result.heard ≡ heard_nothing) }
     // Whatever it answers, a disk of which each crash leaves a state is given back as one.
     ensures kept { (size : Size) → IsKept (D.facts disk) size → (z : Size) × IsKept (D.facts result.disk) z }
 {
@@ -344,6 +367,7 @@ pub fn session<R: Threads + Wait + Sync, D: Disk + Drop + Send, I: Read + Drop, 
             ran: Err(refusal),
             streams,
             left: None,
+            heard: Heard::nothing(),
         },
         Ok(board) => {
             let shape = board.shape();
@@ -366,6 +390,7 @@ pub fn session<R: Threads + Wait + Sync, D: Disk + Drop + Send, I: Read + Drop, 
                         ran: Err(Refusal::Memory),
                         streams,
                         left: None,
+                        heard: Heard::nothing(),
                     }
                 }
             }

@@ -26,11 +26,11 @@ pub struct Said {
     pub ran: Result<(), Refusal>,
 }
 
-/// A blank disk, large enough for three harts with a page.
+/// A blank disk, large enough for five harts with twenty pages.
 pub fn disk_of(alloc: Global) -> Result<SimDisk, Fail>
     ensures { IfOk result (λ disk. IsIdle (⟦<SimDisk as Disk>⟧.facts disk)) }
 {
-    Ok(SimDisk::blank(alloc, Shape::new(3, 1, 1)?.sectors())?)
+    Ok(SimDisk::blank(alloc, Shape::new(5, 20, 1)?.sectors())?)
 }
 
 /// Payloads of which slot 0 boots that guest.

@@ -13,10 +13,11 @@ use std::alloc::Global;
 use std::io::{self, ErrorKind, Read, Write};
 use std::sync::Wait;
 use std::test::*;
-use std::thread::Threads;
+use std::thread::{self, Threads};
+use std::time::{Clock, Duration};
 
 /// An input of these bytes, one for each read. Each second read is interrupted first, and after the last byte
-/// it fails.
+/// it fails once, and then has a line more.
 #[derive(Drop)]
 struct Faltering {
     bytes: &'static [u8],
@@ -44,7 +45,10 @@ impl Read for Faltering {
                 self.bytes = rest;
                 Ok(1)
             }
-            _ => Err(io::Error::from(ErrorKind::ConnectionReset)),
+            _ => {
+                self.bytes = b"slot 2\n";
+                Err(io::Error::from(ErrorKind::ConnectionReset))
+            }
         }
     }
 }
@@ -114,18 +118,21 @@ fn over_a_blank_disk<R: Threads + Wait + Sync, I: Read + Drop, W: Write + Drop>(
 fn an_interrupted_read_goes_on_and_a_failed_one_ends_the_input(
     rt: HostRuntime,
 ) -> Result<(), Fail> {
-    let streams = Streams {
-        input: Faltering::new(b"slot 1\nstate\n"),
-        out: Vec::new(rt.alloc()),
-    };
-    let ended = over_a_blank_disk(&rt, rt.alloc(), &NEW, streams)?;
-    same(
-        &rt,
-        (ended.ran, ended.left),
-        (Ok(()), Some(Left::EndOfInput)),
-    );
     let told = b"slot ok 1\nstate slot 1 reason 0 image none next 0\n";
-    same(&rt, ended.streams.out.as_slice(), told.as_slice());
+    let inputs: [&[u8]; 2] = [b"slot 1\nstate\n", b"slot 1\nstate"];
+    for bytes in inputs {
+        let streams = Streams {
+            input: Faltering::new(bytes),
+            out: Vec::new(rt.alloc()),
+        };
+        let ended = over_a_blank_disk(&rt, rt.alloc(), &NEW, streams)?;
+        same(
+            &rt,
+            (ended.ran, ended.left),
+            (Ok(()), Some(Left::InputFailed)),
+        );
+        same(&rt, ended.streams.out.as_slice(), told.as_slice());
+    }
     Ok(())
 }
 
@@ -144,12 +151,14 @@ fn each_answer_is_seen_at_once(rt: HostRuntime) -> Result<(), Fail> {
 }
 
 #[test]
-fn an_answer_that_is_not_written_ends_the_session(rt: HostRuntime) -> Result<(), Fail> {
+fn an_answer_that_is_not_written_ends_the_session_and_all_harts(
+    rt: HostRuntime,
+) -> Result<(), Fail> {
     let streams = Streams {
         input: b"slot 1\nslot 2\n".as_slice(),
         out: Full,
     };
-    let ended = over_a_blank_disk(&rt, rt.alloc(), &NEW, streams)?;
+    let ended = over_a_blank_disk(&rt, rt.alloc(), &THREE, streams)?;
     let refused = Err(Refusal::Output);
     same(
         &rt,
@@ -174,10 +183,36 @@ const THREE: [&str; 10] = [
     "1000000000",
 ];
 
+/// An input that waits for a second, and then says `quit`.
+#[derive(Drop)]
+struct Late<'a, R> {
+    clock: &'a R,
+    bytes: &'static [u8],
+}
+
+impl<'a, R: Clock> Read for Late<'a, R> {
+    fn read(&mut self, buf: &mut [u8]) -> io::Result<usize> {
+        if self.bytes.len() == 5 {
+            thread::sleep(self.clock, Duration::from_millis(1000));
+        }
+        match (self.bytes.split_first(), buf.first_mut()) {
+            (Some((byte, rest)), Some(place)) => {
+                *place = *byte;
+                self.bytes = rest;
+                Ok(1)
+            }
+            _ => Ok(0),
+        }
+    }
+}
+
 #[test]
 fn quit_ends_all_harts(rt: HostRuntime) -> Result<(), Fail> {
     let streams = Streams {
-        input: b"quit\n".as_slice(),
+        input: Late {
+            clock: &rt,
+            bytes: b"quit\n",
+        },
         out: Vec::new(rt.alloc()),
     };
     let ended = over_a_blank_disk(&rt, rt.alloc(), &THREE, streams)?;

@@ -16,7 +16,7 @@ use disk::ArmedFault;
 use hart_threads::{Ended, Gate, SharedBoard, Why, drive};
 use machine::{Did, Word};
 use rv_decode::Reg;
-use shared_store::{Journal, NewBook, Unshared};
+use shared_store::{Heard, Journal, NewBook, Unshared};
 use simdisk::SimDisk;
 use std::alloc::Global;
 use std::marker::Brand;
@@ -234,6 +234,7 @@ fn driven_as<J: Journal + Send + Sync, R: Threads + Wait + Clock + Sync>(
     requires begun { IsBegun shape.now parts.store }
     requires named { (J.size ≡ shape.now) × (J.found ≡ found_state parts.store) × (J.issued ≡ []) }
     requires book { (id_of book ≡ J.book) × (parts_of book ≡ J.parts) × (J.parts ≡ shape.now.harts + 2) }
+    requires turns { J.turns ≡ 1000000000000 }
 {
     let Parts {
         harts,
@@ -273,7 +274,8 @@ fn driven_as<J: Journal + Send + Sync, R: Threads + Wait + Clock + Sync>(
             let (part, mut out) = ends;
             let mut input = b"wake\nwake\nslot 2\nquit\n".as_slice();
             waits.wait(rt);
-            let (_part, _left) = console(rt, rung, shared, part, &mut input, &mut out);
+            let mut heard = Heard::nothing();
+            let (_part, _left) = console(rt, rung, shared, part, &mut heard, &mut input, &mut out);
             waits.woken.store(true, Ordering::SeqCst);
             out
         },

@@ -36,7 +36,7 @@ fn is_code(bytes: &[u8], code: &[u8]) -> bool {
 #[test]
 fn a_guest_suspends_its_board(rt: HostRuntime) -> Result<(), Fail> {
     let alloc = rt.alloc();
-    let (parts, shape) = parts_of(alloc, &Shape::new(2, 4, 2)?, &SLEEPER)?;
+    let (parts, shape) = parts_of(alloc, &Shape::new(2, 20, 2)?, &SLEEPER)?;
     let (all, disk) = driven(&rt, alloc, &Open, parts, &shape, 9);
     assert!(&rt; all);
     let mut store = opened(alloc, disk)?;
@@ -46,7 +46,7 @@ fn a_guest_suspends_its_board(rt: HostRuntime) -> Result<(), Fail> {
     let mut ram = Ram::new(alloc, shape)?;
     assert!(&rt; store.load_image(&mut ram).is_ok());
     let mut whole = true;
-    for number in 0..4 {
+    for number in 0..20 {
         let code = if number == 0 { SLEEPER.as_slice() } else { &[] };
         let page = shape.page(number).ok_or("a page")?;
         whole = whole && is_code(ram.page(page), code);

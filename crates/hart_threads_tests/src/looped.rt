@@ -10,7 +10,7 @@ use crate::fixtures::{Open, next_part, parts_of, same};
 use board::Parts;
 use board_model::{Command, HartId, Shape};
 use hart_threads::{Acting, Gate, HartLocal, SharedBoard, Why, hart_loop, seat_harts};
-use shared_store::{Journal, NewBook, Part, SharedStore, Unshared};
+use shared_store::{Heard, Journal, NewBook, Part, SharedStore, Unshared};
 use simdisk::SimDisk;
 use std::alloc::Global;
 use std::marker::Brand;
@@ -59,8 +59,9 @@ pub fn looped<R: Threads + Wait + Sync, G: Gate>(
 /// Issues these commands, whatever they are answered.
 fn issue<J: Journal>(store: &mut SharedStore<SimDisk, J>, part: Part<J>, commands: &[Command]) {
     let mut part = part;
+    let mut heard = Heard::nothing();
     for command in commands {
-        let (told, _answered) = store.apply(part, *command);
+        let (told, _answered) = store.apply(part, &mut heard, *command);
         part = told;
     }
 }
@@ -80,6 +81,7 @@ fn looped_as<J: Journal + Send + Sync, R: Threads + Wait + Sync, G: Gate>(
     requires begun { IsBegun shape.now parts.store }
     requires named { (J.size ≡ shape.now) × (J.found ≡ found_state parts.store) × (J.issued ≡ []) }
     requires book { (id_of book ≡ J.book) × (parts_of book ≡ J.parts) × (J.parts ≡ shape.now.harts + 1) }
+    requires turns { turns ≡ J.turns }
 {
     let Parts {
         harts,

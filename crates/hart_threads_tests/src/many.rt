@@ -10,15 +10,17 @@ use std::test::*;
 /// More turns than a test has time for.
 const ENDLESS: u64 = 1_000_000_000_000;
 
-/// It lets every turn begin, and counts the turns of each hart.
+/// It lets every turn begin, but of one hart so many alone, and counts the turns of each hart.
 #[derive(Drop)]
 struct Counting {
+    short: Option<(usize, u64)>,
     made: [AtomicU64; 8],
 }
 
 impl Counting {
-    fn new() -> Counting {
+    fn new(short: Option<(usize, u64)>) -> Counting {
         Counting {
+            short,
             made: [
                 AtomicU64::new(0),
                 AtomicU64::new(0),
@@ -43,8 +45,9 @@ impl Gate for Counting {
 
     ghost hears = { λ gate hart turn. Unit {0} };
 
-    fn before(&self, _hart: HartId, _turn: u64) -> bool {
-        true
+    fn before(&self, hart: HartId, turn: u64) -> bool {
+        self.short
+            .is_none_or(|(short, turns)| hart.index() != short || turn < turns)
     }
 
     fn after(&self, hart: HartId, _turn: u64) {
@@ -53,21 +56,34 @@ impl Gate for Counting {
 }
 
 #[test]
-fn each_of_eight_harts_makes_its_turns(rt: HostRuntime) -> Result<(), Fail> {
+fn each_of_eight_harts_makes_its_turns_but_one_that_the_gate_ends(
+    rt: HostRuntime,
+) -> Result<(), Fail> {
     let (parts, shape) = parts_of(rt.alloc(), &Shape::new(8, 1, 1)?, &[])?;
-    let gate = Counting::new();
+    let gate = Counting::new(Some((3, 5)));
     let (all, _disk) = driven(&rt, rt.alloc(), &gate, parts, &shape, 20);
     assert!(&rt; all);
     for hart in 0..8 {
-        same(&rt, gate.made_by(hart), 20);
+        let turns = if hart == 3 { 5 } else { 20 };
+        same(&rt, gate.made_by(hart), turns);
     }
+    Ok(())
+}
+
+#[test]
+fn the_gate_is_asked_past_a_million_turns(rt: HostRuntime) -> Result<(), Fail> {
+    let (parts, shape) = parts_of(rt.alloc(), &Shape::new(1, 1, 1)?, &[])?;
+    let gate = Counting::new(Some((0, 1_048_600)));
+    let (all, _disk) = driven(&rt, rt.alloc(), &gate, parts, &shape, ENDLESS);
+    assert!(&rt; all);
+    same(&rt, gate.made_by(0), 1_048_600);
     Ok(())
 }
 
 #[test]
 fn the_life_of_all_harts_ends_with_a_reset_of_one(rt: HostRuntime) -> Result<(), Fail> {
     let (parts, shape) = parts_of(rt.alloc(), &Shape::new(3, 1, 1)?, &STOPPER)?;
-    let gate = Counting::new();
+    let gate = Counting::new(None);
     let (all, _disk) = driven(&rt, rt.alloc(), &gate, parts, &shape, ENDLESS);
     assert!(&rt; all);
     same(&rt, gate.made_by(0), 6);

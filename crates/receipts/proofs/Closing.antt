@@ -62,10 +62,13 @@ each_both : {A : Type 0} (P : A → Type 0) (xs ys : List A) → Each P xs → E
 each_both P [] ys all more = more
 each_both P (x ∷ xs) ys all more = (all.0, each_both P xs ys all.1 more)
 
+pub part_stands : (l : Log Entry) (d : PartView) → IsPart l d → AreStanding (entries_of l) d.told
+part_stands l d is = subst (Each (StandsIn (entries_of l))) (sym is) (stands d.who l)
+
 pub are_standing : (l : Log Entry) (ds : List PartView) → Each (IsPart l) ds → AreStanding (entries_of l) (told_in ds)
 are_standing l [] all = tt
 are_standing l (d ∷ ds) all =
-    each_both (StandsIn (entries_of l)) d.told (told_in ds) (subst (Each (StandsIn (entries_of l))) (sym all.0) (stands d.who l)) (are_standing l ds all.1)
+    each_both (StandsIn (entries_of l)) d.told (told_in ds) (part_stands l d all.0) (are_standing l ds all.1)
 
 -- an entry was told to whom it was added by
 abbrev ToldBy : ℕ → Log Entry → ℕ × Entry → Type 0

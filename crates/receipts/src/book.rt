@@ -232,6 +232,18 @@ impl<J: Journal> Book<J> {
         self.table.shared.load::<Looks>(&mut keeper.seat, 0);
     }
 
+    /// What a part was told stands in the journal, each entry at the place of its receipt. The part is with the keeper
+    /// for one look, and goes off again.
+    pub fn recall(&self, keeper: &mut Keeper<J>, part: Part<J>) -> Part<J>
+        ensures keeper { keeper.new ≡ keeper_view J.parts keeper.old.log keeper.old.parts }
+        ensures part { result ≡ part }
+        ensures stands { AreStanding (entries_of keeper.old.log) part.told }
+    {
+        self.gather(keeper, part);
+        self.look(keeper);
+        self.hand_out(keeper)
+    }
+
     /// Ends the book: the receipts of its keeper's parts stand in the journal, and where they are all parts that
     /// there are, their receipts are those of the journal's entries, one for each.
     pub fn close(&self, keeper: Keeper<J>)

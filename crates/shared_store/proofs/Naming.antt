@@ -3,6 +3,7 @@ use Rattle.std.proofs.Common.{◌≡◌, ◌∙◌, ◌&&◌, ℕ, zero, suc, �
 use Rattle.board_model.specs.Durable.{DurableState, Change, after, fold, refusal_of}
 use Rattle.board_model.specs.Shapes.{Size}
 use Rattle.board_model.specs.Views.{durable_of, number_of_refusal}
+use Rattle.board_model.specs.declared.durable.Durable.{Durable}
 use Rattle.board_model.specs.declared.refusal.Refusal.{Refusal}
 use Rattle.board_model.specs.declared.refusal.Refusal.TheVariants.{Down}
 use Rattle.disk.specs.declared.device.Disk.{Ghosts}
@@ -28,6 +29,10 @@ taken_more s [] c taken free = ap (λ (o : Option ℕ). is_none o && true) free
 taken_more s (d ∷ cs) c taken free =
     let both = and_true (is_none (refusal_of s d)) (are_taken (after s d) cs) taken in
     subst (λ (b : Bool). b && are_taken (after s d) (cs ++ c ∷ []) ≡ true) (sym both.0) (taken_more (after s d) cs c both.1 free)
+
+-- what is shown, by a state that is the same
+pub shown_as : (d : Durable) (s t : DurableState) → d ≡ durable_of s → s ≡ t → d ≡ durable_of t
+shown_as d s t is same = is ∙ ap (λ (x : DurableState). durable_of x) same
 
 -- ---- lives
 pub applied_keeps : (found : DurableState) (old new : Life) (c : Change) (n : ℕ) → IsLifeOf found old → Applied old c (Ok n) new → IsLifeOf found new

@@ -10,10 +10,12 @@ use Rattle.board_model.specs.declared.refusal.Refusal.{Refusal}
 use Rattle.board_model.specs.declared.refusal.Refusal.TheVariants.{Device, Down, Over, JournalFull}
 use Rattle.disk.specs.declared.device.Disk.{Ghosts}
 use Rattle.disk.specs.declared.device.Lane.{Ghosts as Lanes}
+use Rattle.receipts.specs.Closed.{AreStanding}
 use Rattle.store.specs.Lives.{Life, now_of}
 use Rattle.store.specs.Taken.{are_taken}
 use Rattle.store.specs.Views.{size_of_store, life_of}
 use Rattle.store.specs.declared.stores.Store.{Store}
+use Rattle.shared_store.specs.Noted.{entries_in}
 
 -- a journal begins with those commands
 abbrev pub BeginsWith : List Change → List Change → Type 0
@@ -35,9 +37,13 @@ MayAnswer found c (Err e) =
     ⊎ ((earlier : List Change) × (are_taken found earlier ≡ true)
     × (refusal_of (fold found earlier) c ≡ Some (number_of_refusal e)))
 
--- what the state now may be shown as
-abbrev pub MayShow : DurableState → Durable → Type 0
-MayShow found d = (earlier : List Change) × (are_taken found earlier ≡ true) × (d ≡ durable_of (fold found earlier))
+-- What the state now may be shown as, where the boot issued those commands, to a holder that was told those receipts:
+-- what some commands make that the table takes, the boot's before any other, in which each command of a receipt stands
+-- at its place.
+abbrev pub MayShow : DurableState → List Change → List (ℕ × Entry) → Durable → Type 0
+MayShow found issued told d =
+    (earlier : List Change) × (are_taken found earlier ≡ true) × BeginsWith issued earlier
+    × AreStanding (entries_in earlier) told × (d ≡ durable_of (fold found earlier))
 
 abbrev pub number_told : Result (ℕ × Entry) Refusal → Result ℕ Refusal
 number_told (Ok t) = Ok t.0

@@ -3,10 +3,12 @@
 //! the part of its holder notes. docs/THREADS.md has it in plain words.
 #![tactic(auto)]
 
+mod heard;
 mod shared;
 mod told;
 mod unshared;
 
+pub use heard::Heard;
 pub use receipts::{Journal, NewBook, Part};
 pub use shared::SharedStore;
 pub use told::Told;

@@ -14,9 +14,11 @@ ghost use Rattle.sbi.specs.Helds.{MakesHeld};
 ghost use Rattle.sbi.specs.Words.{stage_told};
 ghost use Rattle.receipts.specs.Books.{entries_of};
 ghost use Rattle.shared_store.specs.Noted.{entries_in, part_after, part_by};
+ghost use Rattle.shared_store.specs.Heard.{after_look, heard_by};
 ghost use Rattle.shared_store.specs.Called.{IsToldBy, IsLastOf};
 ghost use Rattle.shared_store.specs.Legal.{BeginsWith, IsNamed, MayAnswer, MayShow, number_told};
 
+use crate::heard::Heard;
 use crate::told::Told;
 use crate::unshared::Unshared;
 use board_model::{Command, Durable, Entry, Refusal, Shape};
@@ -65,21 +67,34 @@ impl<D: Disk + Drop, J: Journal> SharedStore<D, J> {
         self.store.shape()
     }
 
-    /// The durable state now.
-    pub fn now(&self) -> Durable
-        ensures now { result ≡ durable_of (now_state (store_in self.now)) }
-        ensures may { MayShow J.found result }
+    /// The durable state now, for the holder of that part, which hears of it: the part's own receipts stand in the
+    /// journal that made it.
+    pub fn now(&mut self, part: Part<J>, heard: &mut Heard) -> (Part<J>, Durable)
+        ensures now { result.1 ≡ durable_of (now_state (store_in self.old)) }
+        ensures same { store_in self.new ≡ store_in self.old }
+        ensures part { result.0 ≡ part }
+        ensures may { MayShow J.found J.issued part.told result.1 }
+        ensures heard { heard.new ≡ after_look result.1 heard.old }
     {
-        self.store.now()
+        let part = self.book.recall(&mut self.keeper, part);
+        heard.show(self.store.now());
+        (part, self.store.now())
     }
 
-    /// Issues a command, as `Store::apply`, for the holder of that part, which is told its receipt.
-    pub fn apply(&mut self, part: Part<J>, command: Command) -> (Part<J>, Result<Told<J>, Refusal>)
+    /// Issues a command, as `Store::apply`, for the holder of that part, which is told its receipt, or hears of its
+    /// refusal.
+    pub fn apply(
+        &mut self,
+        part: Part<J>,
+        heard: &mut Heard,
+        command: Command,
+    ) -> (Part<J>, Result<Told<J>, Refusal>)
         ensures asked { Asked Applied (store_in self.old) (change_of command) (number_told result.1)
             (store_in self.new) }
         ensures may { MayAnswer J.found (change_of command) (number_told result.1) }
         ensures told { IfOk result.1 (λ t. t.1 ≡ Entry.Command command) }
         ensures noted { result.0 ≡ part_by result.1 part }
+        ensures heard { heard.new ≡ heard_by command result.1 heard.old }
     {
         match self.store.apply(command) {
             Ok(receipt) => {
@@ -91,7 +106,10 @@ impl<D: Disk + Drop, J: Journal> SharedStore<D, J> {
                     Ok(Told::new(receipt.number(), Entry::Command(command))),
                 )
             }
-            Err(refusal) => (part, Err(refusal)),
+            Err(refusal) => {
+                heard.refuse(command, refusal);
+                (part, Err(refusal))
+            }
         }
     }
 

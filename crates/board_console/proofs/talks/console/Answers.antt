@@ -1,36 +1,47 @@
-use Rattle.std.proofs.Common.{◌≡◌, true, false, refl}
-use Rattle.board_console.specs.Dialogues.{dialogue_ends, is_quit}
-use Rattle.board_console.proofs.Talking.{obeyed, goes_on, quits, unwritten}
+use Rattle.std.proofs.Common.{◌≡◌, ◌∙◌, ℕ, List, None, sym, ap}
+use Rattle.board_console.specs.Commands.{party}
+use Rattle.board_console.specs.Dialogues.{dialogue_ends, left_before}
+use Rattle.board_console.proofs.Talking.{obeyed, goes_on, leaves_after, unwritten}
 use Rattle.board_console.proofs.talks.console.Goals as goal
 
-pub returns-in_default : goal.returns-in_default
-returns-in_default g c =
-    let first = dialogue_ends (g.I.Read.remaining c.args.input.now) (g.W.Write.contents c.args.out.now) c.args.part.told in
-    let mid = dialogue_ends (g.I.Read.remaining c.loop.input) (g.W.Write.contents c.loop.out) c.loop.part.told in
-    let last = dialogue_ends (g.I.Read.remaining c.next_line.new.input) (g.W.Write.contents c.write_answer.new.out) c.answer_to-told.result.0.told in
+pub returns-in_default-write_answer : goal.returns-in_default-write_answer
+returns-in_default-write_answer g c =
+    let first = dialogue_ends (g.I.Read.remaining c.args.input.now) (g.W.Write.contents c.args.out.now) (party c.args.part.told c.args.heard.now) in
+    let mid = dialogue_ends (g.I.Read.remaining c.loop.input) (g.W.Write.contents c.loop.out) (party c.loop.part.told c.loop.heard) in
+    let last = dialogue_ends (g.I.Read.remaining c.next_line-ended.new.input) (g.W.Write.contents c.write_answer.new.out) (party c.answer_to-told.result.0.told c.answer_to-told.new.heard) in
+    let ended = c.next_line-ended.result in
+    let kept = c.next_line-ended.new.line.items in
     let said = c.line_said-said.result in
     let answer = c.answer_to-told.result.1 in
-    let heard = obeyed g.J.Journal.found mid last c.next_line.new.line.items c.as_slice.result.now true said answer c.if-not-next_line.ensures refl c.as_slice.ensures.value c.line_said-said.ensures c.answer_to-told.ensures in
-    unwritten g.J.Journal.found first mid last said answer c.loop.invariant heard
+    let same = c.as_slice-kept.ensures.value in
+    let came : left_before ended kept ≡ None = ap (λ (xs : List ℕ). left_before ended xs) (sym same) ∙ (sym c.left_before.ensures ∙ c.in_default.is) in
+    let heard = obeyed g.J.Journal.found g.J.Journal.issued mid last kept c.as_slice-kept.result.now ended said answer c.next_line-ended.ensures came same c.line_said-said.ensures c.answer_to-told.ensures in
+    unwritten g.J.Journal.found g.J.Journal.issued first mid last ended said answer c.loop.invariant heard
 
-pub returns-then-is_quit : goal.returns-then-is_quit
-returns-then-is_quit g c =
-    let first = dialogue_ends (g.I.Read.remaining c.args.input.now) (g.W.Write.contents c.args.out.now) c.args.part.told in
-    let mid = dialogue_ends (g.I.Read.remaining c.loop.input) (g.W.Write.contents c.loop.out) c.loop.part.told in
-    let last = dialogue_ends (g.I.Read.remaining c.next_line.new.input) (g.W.Write.contents c.write_answer.new.out) c.answer_to-told.result.0.told in
+pub returns-in-Some-left_after : goal.returns-in-Some-left_after
+returns-in-Some-left_after g c =
+    let first = dialogue_ends (g.I.Read.remaining c.args.input.now) (g.W.Write.contents c.args.out.now) (party c.args.part.told c.args.heard.now) in
+    let mid = dialogue_ends (g.I.Read.remaining c.loop.input) (g.W.Write.contents c.loop.out) (party c.loop.part.told c.loop.heard) in
+    let last = dialogue_ends (g.I.Read.remaining c.next_line-ended.new.input) (g.W.Write.contents c.write_answer.new.out) (party c.answer_to-told.result.0.told c.answer_to-told.new.heard) in
+    let ended = c.next_line-ended.result in
+    let kept = c.next_line-ended.new.line.items in
     let said = c.line_said-said.result in
     let answer = c.answer_to-told.result.1 in
-    let heard = obeyed g.J.Journal.found mid last c.next_line.new.line.items c.as_slice.result.now true said answer c.if-not-next_line.ensures refl c.as_slice.ensures.value c.line_said-said.ensures c.answer_to-told.ensures in
-    let quit : is_quit said ≡ true = cc in
-    quits g.J.Journal.found first mid last said c.loop.invariant (answer, heard, c.in-Ok.ensures.written) quit
+    let same = c.as_slice-kept.ensures.value in
+    let came : left_before ended kept ≡ None = ap (λ (xs : List ℕ). left_before ended xs) (sym same) ∙ (sym c.left_before.ensures ∙ c.in_default.is) in
+    let heard = obeyed g.J.Journal.found g.J.Journal.issued mid last kept c.as_slice-kept.result.now ended said answer c.next_line-ended.ensures came same c.line_said-said.ensures c.answer_to-told.ensures in
+    leaves_after g.J.Journal.found g.J.Journal.issued first mid last ended said c.in-Some-left_after.left c.loop.invariant (answer, heard, c.in-Ok.ensures.written) (sym c.left_after.ensures ∙ c.in-Some-left_after.is)
 
 pub loop-preserved : goal.loop-preserved
 loop-preserved g c =
-    let first = dialogue_ends (g.I.Read.remaining c.args.input.now) (g.W.Write.contents c.args.out.now) c.args.part.told in
-    let mid = dialogue_ends (g.I.Read.remaining c.loop.input) (g.W.Write.contents c.loop.out) c.loop.part.told in
-    let last = dialogue_ends (g.I.Read.remaining c.next_line.new.input) (g.W.Write.contents c.write_answer.new.out) c.answer_to-told.result.0.told in
+    let first = dialogue_ends (g.I.Read.remaining c.args.input.now) (g.W.Write.contents c.args.out.now) (party c.args.part.told c.args.heard.now) in
+    let mid = dialogue_ends (g.I.Read.remaining c.loop.input) (g.W.Write.contents c.loop.out) (party c.loop.part.told c.loop.heard) in
+    let last = dialogue_ends (g.I.Read.remaining c.next_line-ended.new.input) (g.W.Write.contents c.write_answer.new.out) (party c.answer_to-told.result.0.told c.answer_to-told.new.heard) in
+    let ended = c.next_line-ended.result in
+    let kept = c.next_line-ended.new.line.items in
     let said = c.line_said-said.result in
     let answer = c.answer_to-told.result.1 in
-    let heard = obeyed g.J.Journal.found mid last c.next_line.new.line.items c.as_slice.result.now true said answer c.if-not-next_line.ensures refl c.as_slice.ensures.value c.line_said-said.ensures c.answer_to-told.ensures in
-    let on : is_quit said ≡ false = cc in
-    goes_on g.J.Journal.found first mid last said c.loop.invariant (answer, heard, c.in-Ok.ensures.written) on
+    let same = c.as_slice-kept.ensures.value in
+    let came : left_before ended kept ≡ None = ap (λ (xs : List ℕ). left_before ended xs) (sym same) ∙ (sym c.left_before.ensures ∙ c.in_default.is) in
+    let heard = obeyed g.J.Journal.found g.J.Journal.issued mid last kept c.as_slice-kept.result.now ended said answer c.next_line-ended.ensures came same c.line_said-said.ensures c.answer_to-told.ensures in
+    goes_on g.J.Journal.found g.J.Journal.issued first mid last ended said c.loop.invariant (answer, heard, c.in-Ok.ensures.written) (sym c.left_after.ensures ∙ c.in_default-left_after.is)

@@ -1,10 +1,17 @@
-use Rattle.std.proofs.Common.{◌∙◌, ap}
-use Rattle.board_model.specs.Durable.{DurableState}
-use Rattle.board_model.specs.Views.{durable_of}
-use Rattle.store.specs.Views.{journal_of}
+use Rattle.std.proofs.Common.{List, rules, sym, subst}
+use Rattle.board_model.specs.declared.durable.Entry.{Entry}
+use Rattle.receipts.specs.Closed.{AreStanding}
+use Rattle.store.specs.Views.{journal_of, now_state}
+use Rattle.shared_store.proofs.Naming.{shown_as}
 use Rattle.shared_store.proofs.shared.SharedStore.now.Goals as goal
 
 pub returns-clause-may : goal.returns-clause-may
 returns-clause-may g c =
-    let life = c.args.self.now.named.life in
-    (journal_of c.args.self.now.store, life.taken, c.now.ensures ∙ ap (λ (s : DurableState). durable_of s) life.now)
+    let old = c.args.self.now in
+    let life = old.named.life in (
+      journal_of old.store,
+      life.taken,
+      old.issued,
+      subst (λ (es : List Entry). AreStanding es c.args.part.told) (sym old.tied) c.recall-part.ensures.stands,
+      shown_as _ (now_state old.store) _ (search rules) life.now,
+    )
