@@ -234,7 +234,6 @@ fn driven_as<J: Journal + Send + Sync, R: Threads + Wait + Clock + Sync>(
     requires begun { IsBegun shape.now parts.store }
     requires named { (J.size ≡ shape.now) × (J.found ≡ found_state parts.store) × (J.issued ≡ []) }
     requires book { (id_of book ≡ J.book) × (parts_of book ≡ J.parts) × (J.parts ≡ shape.now.harts + 2) }
-    requires turns { J.turns ≡ 1000000000000 }
 {
     let Parts {
         harts,

@@ -148,7 +148,6 @@ fn driven_as<J: Journal + Send + Sync, R: Threads + Wait + Sync>(
     requires begun { IsBegun shape.now parts.store }
     requires named { (J.size ≡ shape.now) × (J.found ≡ found_state parts.store) × (J.issued ≡ []) }
     requires book { (id_of book ≡ J.book) × (parts_of book ≡ J.parts) × (J.parts ≡ shape.now.harts + 1) }
-    requires turns { turns ≡ J.turns }
     ensures { IsIdle (⟦<SimDisk as Disk>⟧.facts result.1) }
 {
     let Parts {

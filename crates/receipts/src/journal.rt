@@ -9,7 +9,7 @@ ghost use Rattle.receipts.specs.Books.{no_book, one_page};
 use std::marker::Brand;
 
 /// The name of the journal of one life: what the store's open found, the board's size, the commands that the
-/// boot issued, the book of its receipts, how many parts that has, and how many turns each hart is given. A type that has it stands for that life
+/// boot issued, the book of its receipts, and how many parts that has. A type that has it stands for that life
 /// alone; the call that begins to share a store picks it.
 pub trait Journal {
     ghost found: { DurableState };
@@ -21,8 +21,6 @@ pub trait Journal {
     ghost book: { TableId };
 
     ghost parts: { ℕ };
-
-    ghost turns: { ℕ };
 }
 
 impl Journal for Brand {
@@ -35,6 +33,4 @@ impl Journal for Brand {
     ghost book = { no_book };
 
     ghost parts = { 0 };
-
-    ghost turns = { 0 };
 }

@@ -4,4 +4,4 @@ use Rattle.board_session.proofs.sessions.session.Given as goal
 
 -- the life that the board has just begun
 abbrev pub ghosts-run_board : goal.ghosts-run_board
-ghosts-run_board g a = record { found = found_state a.booted.parts.store; size = size_of_store a.booted.parts.store; issued = journal_of a.booted.parts.store; book = id_of a.booted.book; parts = parts_of a.booted.book; turns = a.turns }
+ghosts-run_board g a = record { found = found_state a.booted.parts.store; size = size_of_store a.booted.parts.store; issued = journal_of a.booted.parts.store; book = id_of a.booted.book; parts = parts_of a.booted.book }

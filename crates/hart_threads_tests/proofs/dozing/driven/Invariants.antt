@@ -5,4 +5,4 @@ use Rattle.hart_threads_tests.proofs.dozing.driven.Given as goal
 
 -- the life that the board has begun
 abbrev pub ghosts-driven_as : goal.ghosts-driven_as
-ghosts-driven_as g a = record { found = found_state a.parts.store; size = a.shape.now; issued = []; book = id_of a.book; parts = parts_of a.book; turns = 1000000000000 }
+ghosts-driven_as g a = record { found = found_state a.parts.store; size = a.shape.now; issued = []; book = id_of a.book; parts = parts_of a.book }
