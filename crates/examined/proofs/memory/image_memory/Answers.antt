@@ -14,6 +14,9 @@ returns-in-Err-new-clause-refused g c =
     let is : c.in-Err-new.refusal ≡ Memory = search rules in
     no_room (g.D.Disk.facts c.args.disk) (view_of c.in-Ok.store) (g.D.Disk.facts c.into_disk.result) c.in-Err-new.refusal c.in-Ok.ensures.opened is
 
+pub returns-in-Ok-load_image-clause-memory : goal.returns-in-Ok-load_image-clause-memory
+returns-in-Ok-load_image-clause-memory g c = search rules
+
 pub returns-in-Ok-load_image-clause-settles : goal.returns-in-Ok-load_image-clause-settles
 returns-in-Ok-load_image-clause-settles g c =
     let old = g.D.Disk.facts c.args.disk in
