@@ -1,5 +1,5 @@
 -- Why the memory of an image is not read, and what reading it does to the disk.
-use Rattle.std.proofs.Common.{◌≡◌, ◌∙◌, ◌⊎◌, inl, inr, ℕ, ◌≤◌, List, length, sym, ap, subst, arith}
+use Rattle.std.proofs.Common.{◌≡◌, ◌∙◌, ◌⊎◌, inl, inr, ℕ, ◌≤◌, length, sym, ap, subst, arith}
 use Rattle.board_model.specs.declared.refusal.Refusal.{Refusal}
 use Rattle.board_model.specs.declared.refusal.Refusal.TheVariants.{NotFormatted, BadShape, BadRecord, Device, Memory}
 use Rattle.disk.specs.Facts.{Content, Facts, Failed}
