@@ -1,5 +1,5 @@
 -- A bench on whose disk a cut or a failure is armed.
-use Rattle.std.proofs.Common.{◌≡◌, ◌≤◌, ℕ, Option, None, Some, sym, ◌∙◌, ap, subst, length}
+use Rattle.std.proofs.Common.{◌≡◌, ◌≤◌, true, false, ℕ, Option, None, Some, sym, ◌∙◌, ap, subst, length}
 use Rattle.board_model.specs.Shapes.{Size}
 use Rattle.disk.specs.Facts.{Facts, Unchanged}
 use Rattle.disk.specs.FaultState.{Armed, FaultState}
@@ -9,7 +9,12 @@ use Rattle.store.specs.Views.{life_of}
 use Rattle.bench_report.specs.Views.{SimBoard, store_in, machine_in, facts, fault_state, store_size, store_facts, store_fault_state, IsLife}
 use Rattle.bench_report.specs.Bench.{BenchLife, Bench}
 use Rattle.bench_report.specs.Happens.{armed_with}
-use Rattle.bench_report.specs.Agree.{LifeIs, BoardIs, DeviceIs, OffIs, OnIs}
+use Rattle.bench_report.specs.Agree.{LifeIs, BoardIs, DeviceIs, OffIs, OnIs, ArmsIts}
+use Rattle.bench_report.specs.Steps.{Step}
+use Rattle.bench_report.specs.declared.power.Power.{Power}
+use Rattle.bench_report.specs.declared.printed.Answer.{Answer}
+use Rattle.script_lang.specs.declared.line.Line.{Line}
+use Rattle.script_lang.specs.declared.line.Line.TheVariants as lines
 use Rattle.bench_report.proofs.Ended.{left_on}
 use Rattle.bench_report.proofs.KeptDisks.{GoesOn, less}
 use Rattle.bench_report.proofs.Sides.{sides_stay}
@@ -36,3 +41,9 @@ armed_on size b a old new was machine life board same is =
         let P : Size → Type 0 = λ z. LifeIs size b.disk_state b.kept l z in
         let Q : StoreLife → Type 0 = λ x. IsLife x l.now l.receipts l.doubt in
         ((subst P (sym board) on.0.0, subst Q (sym life) on.0.1), machine ∙ on.1)
+
+-- a line that arms a fault makes no call, at which a cut could strike
+pub unstruck_arming : (size : Size) (line : Line) (b : Bench) (a : Answer) (new : Bench) (power : Power) → Step size line b a new → b.fault_state.struck ≡ false → new.fault_state.struck ≡ true → ArmsIts line power
+unstruck_arming size (lines.Arm arming) b a new power step calm hit =
+    absurd (let no : true ≡ false = sym hit ∙ ap (λ (x : Bench). x.fault_state.struck) step.1 ∙ calm in let never : ⊥ = cc in never)
+unstruck_arming size line b a new power step calm hit = tt

@@ -13,7 +13,7 @@ ghost use Rattle.bench_report.specs.Counts.{Adds, Reported};
 ghost use Rattle.bench_report.specs.Prefix.{KeepsPrefixLaw};
 ghost use Rattle.bench_report.specs.Bench.{Bench, blank_bench};
 ghost use Rattle.bench_report.specs.Views.{facts};
-ghost use Rattle.bench_report.specs.Agree.{fill_after, fills_after, EndsBy, Agrees, IsResting, OffIs, AreShort, IsBench, IsUnstruck};
+ghost use Rattle.bench_report.specs.Agree.{ArmsIts, fill_after, fills_after, EndsBy, Agrees, IsResting, OffIs, AreShort, IsBench, IsUnstruck};
 ghost use Rattle.bench_report.specs.Laws.{KeepsLaws};
 ghost use Rattle.bench_report.specs.declared.printed.Answer.{Answer};
 ghost use Rattle.board_model.specs.declared.refusal.Refusal.{Refusal};
@@ -151,6 +151,8 @@ fn run_line<C: Crew, W: Write>(
         → (answer : Answer) × (new : Bench) × Moves setting.now.shape.now line.now b answer new
         × EndsBy setting.now.shape.now line.now fill.new b answer result.0 × IsBench setting.now.shape.now new result.0 payloads.new
         × Adds (W.contents out.old) (W.contents out.new) report.old report.new answer) }
+    ensures arms { OnOk result.1 ((b : Bench) → IsBench setting.now.shape.now b power payloads.old
+        → ArmsIts line.now result.0) }
     ensures fill { fill.new ≡ fill_after line.now fill.old }
     ensures few { OnOk result.1 (report.new.lines ≤ report.old.lines + 2) }
     ensures calm { OnOk result.1 (IsUnstruck result.0) }

@@ -291,6 +291,7 @@ fn payload_line(
         → (new : Bench) × AsideStep (SetSlot slot bytes.now) b.power b (shows line) new
         × Matches size new power.now payloads.new) }
     ensures short { OnOk result (AreShort payloads.new) }
+    ensures slots { length payloads.new ≡ length payloads.old }
     ensures refused { OnErr result ((result ≡ Err Memory) × (payloads.new ≡ payloads.old)) }
 {
     match power {
@@ -465,6 +466,7 @@ pub fn line_alone<C: Crew>(
     ensures inspects { InspectsIts line.now power result.1 }
     ensures resting { IsResting result.0 }
     ensures short { AreShort payloads.new }
+    ensures slots { length payloads.new ≡ length payloads.old }
     ensures refused { OnErr result.1 (result.1 ≡ Err Memory) }
 {
     let Setting { alloc, crew, shape } = *setting;
@@ -509,6 +511,8 @@ pub fn line_with_cuts<C: Crew>(
     ensures fill { fill.new ≡ fill_after line.now fill.old }
     ensures exact { (b : Bench) → IsBench setting.now.shape.now b power payloads.old
         → IfOk result.1 (λ answer. EndsBy setting.now.shape.now line.now fill.new b answer result.0) }
+    ensures arms { (b : Bench) → IsBench setting.now.shape.now b power payloads.old
+        → OnOk result.1 (ArmsIts line.now result.0) }
     ensures resting { IsResting result.0 }
     ensures calm { OnOk result.1 (IsUnstruck result.0) }
     ensures short { AreShort payloads.new }

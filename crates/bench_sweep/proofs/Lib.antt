@@ -9,3 +9,4 @@ pub mod Serials
 pub mod Boots
 pub mod Spelled
 pub mod Reported
+pub mod Copied

@@ -1,4 +1,5 @@
 pub mod Rows
+pub mod Points
 pub mod Swept
 pub mod Told
 pub mod Runs

@@ -99,6 +99,18 @@ fn begun(alloc: Global, shape: &Shape, power: Power, payloads: Payloads) -> Resu
     })
 }
 
+/// Why no line formatted the disk: the disk's record found no memory, or the script formats none.
+fn unformatted(power: Power) -> Refusal
+    requires { IsResting power }
+    ensures { (result ≡ Memory) ⊎ (result ≡ NotPlain) }
+{
+    if disk_left(power).refused() == 0 {
+        Refusal::NotPlain
+    } else {
+        Refusal::Memory
+    }
+}
+
 /// Runs a script up to the first format that answers Ok: how many lines that were, and the board then. Refused
 /// `NotPlain` where no format does, and `Memory`.
 pub fn formats<C: Crew>(setting: &Setting<'_, C>, lines: &[Line]) -> Result<(usize, Site), Refusal>
@@ -124,5 +136,5 @@ pub fn formats<C: Crew>(setting: &Setting<'_, C>, lines: &[Line]) -> Result<(usi
         }
         power = after;
     }
-    Err(Refusal::NotPlain)
+    Err(unformatted(power))
 }

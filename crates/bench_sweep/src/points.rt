@@ -1,5 +1,8 @@
 //! Places at which power is cut, or a call fails, and what the cuts leave.
 
+ghost use Rattle.std.specs.Prelude.{◌≡◌};
+ghost use Rattle.bench_sweep.specs.Points.{calls_of, cut_of, failure_of, fault_at};
+
 use disk::ArmedFault;
 use simdisk::{Fill, SimDisk};
 
@@ -12,7 +15,9 @@ pub enum Caller {
 
 impl Caller {
     /// How many calls of it that disk has counted.
-    pub fn calls(self, disk: &SimDisk) -> u64 {
+    pub fn calls(self, disk: &SimDisk) -> u64
+        ensures { result ≡ calls_of self disk.now }
+    {
         match self {
             Caller::Disk => disk.calls(),
             Caller::Lane(lane) => disk.lane_calls(lane),
@@ -20,7 +25,9 @@ impl Caller {
     }
 
     /// Power is cut within its call of that number from now on.
-    pub fn cut_at(self, call: u64) -> ArmedFault {
+    fn cut_at(self, call: u64) -> ArmedFault
+        ensures { result ≡ cut_of self call }
+    {
         match self {
             Caller::Disk => ArmedFault::CutAt(call),
             Caller::Lane(lane) => ArmedFault::CutLane(lane, call),
@@ -28,7 +35,9 @@ impl Caller {
     }
 
     /// Its call of that number from now on fails.
-    pub fn fail_at(self, call: u64) -> ArmedFault {
+    fn fail_at(self, call: u64) -> ArmedFault
+        ensures { result ≡ failure_of self call }
+    {
         match self {
             Caller::Disk => ArmedFault::FailAt(call),
             Caller::Lane(lane) => ArmedFault::FailLane(lane, call),
@@ -43,6 +52,18 @@ pub enum Bench {
     Cuts,
     /// The call fails, and power stays.
     Fails,
+}
+
+impl Bench {
+    /// What the bench does at the caller's call of that number from now on.
+    pub fn fault_at(self, caller: Caller, call: u64) -> ArmedFault
+        ensures { result ≡ fault_at self caller call }
+    {
+        match self {
+            Bench::Cuts => caller.cut_at(call),
+            Bench::Fails => caller.fail_at(call),
+        }
+    }
 }
 
 /// A call at which power is cut, or which fails.

@@ -1,6 +1,7 @@
 //! A bench between two lines of its script, and how it goes on.
 
-ghost use Rattle.std.specs.Prelude.{◌≡◌, ◌≤◌, ◌<◌, ◌⊎◌, Some, None, false, length, All, IfOk, IfErr, OnOk, MatchOption};
+ghost use Rattle.std.specs.Prelude.{◌≡◌, ◌≤◌, ◌<◌, ◌⊎◌, Some, None, false, ℕ, length, slice_set, All, IfOk, IfErr, OnOk, MatchOption};
+ghost use Rattle.board.specs.Boots.{payload_at};
 ghost use Rattle.board_model.specs.Shapes.{Size};
 ghost use Rattle.board_model.specs.declared.refusal.Refusal.TheVariants.{Memory};
 ghost use Rattle.script_lang.specs.Lines.{IsLineInRange};
@@ -55,6 +56,7 @@ fn copy_slot(alloc: Global, from: &Payloads, to: &mut Payloads, number: u32) -> 
     requires number { number < 4 }
     requires short { AreShort from.now × AreShort to.old }
     ensures short { AreShort to.new }
+    ensures copied { OnOk result (to.new ≡ slice_set to.old number (payload_at from.now number)) }
     ensures refused { IfErr result (λ e. e ≡ Memory) }
 {
     let slot = Slot::new(number).unwrap();
@@ -65,6 +67,7 @@ fn copy_slot(alloc: Global, from: &Payloads, to: &mut Payloads, number: u32) -> 
 fn copy_payloads(alloc: Global, from: &Payloads) -> Result<Payloads, Refusal>
     requires { AreShort from.now }
     ensures short { IfOk result (λ to. AreShort to) }
+    ensures copied { IfOk result (λ to. (slot : ℕ) → slot < 4 → payload_at to slot ≡ payload_at from.now slot) }
     ensures refused { IfErr result (λ e. e ≡ Memory) }
 {
     let mut to = Payloads::new(alloc);

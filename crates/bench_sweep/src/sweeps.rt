@@ -100,7 +100,7 @@ fn run_to_cut<C: Crew, W: Write>(
         (runs_of Bench.Cuts point.caller point.number) 0) }
     ensures refused { IfErr result (λ e. (e ≡ Memory) ⊎ (e ≡ Output)) }
 {
-    let armed = Going::armed(site, point.caller.cut_at(point.call));
+    let armed = Going::armed(site, Bench::Cuts.fault_at(point.caller, point.call));
     let going = goes_on(&runner.setting, runner.lines, false, armed)?.going;
     // The plain run made the call. Only one that was refused memory can have missed it.
     if !going.is_struck() {
@@ -122,7 +122,7 @@ fn run_past_failure<C: Crew, W: Write>(
         (runs_of Bench.Fails point.caller point.number) 0) }
     ensures refused { IfErr result (λ e. (e ≡ Memory) ⊎ (e ≡ Output)) }
 {
-    let armed = Going::armed(site, point.caller.fail_at(point.call));
+    let armed = Going::armed(site, Bench::Fails.fault_at(point.caller, point.call));
     let going = goes_on(&runner.setting, runner.lines, false, armed)?.going;
     let mut left = turn_off(runner.setting.shape, going)?;
     judge_run(&runner.setting, &mut left, point, None, report)

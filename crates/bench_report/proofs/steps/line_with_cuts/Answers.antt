@@ -1,5 +1,6 @@
 use Rattle.std.proofs.Common.{refl, sym, ◌∙◌, inl, inr}
 use Rattle.bench_report.specs.Happens.{unpowered}
+use Rattle.bench_report.proofs.Armed.{unstruck_arming}
 use Rattle.bench_report.proofs.steps.line_with_cuts.Goals as goal
 
 pub returns-in_default-clause-reported : goal.returns-in_default-clause-reported
@@ -27,3 +28,10 @@ pub returns-else-struck-clause-exact : goal.returns-else-struck-clause-exact
 returns-else-struck-clause-exact g c = λ b h.
     let did = rw c.in-Ok.is at (c.line_alone-after.ensures.reported b h) in
     inl (did.0, did.1, sym (c.struck.ensures.reported c.args.setting.now.shape.now did.0 did.2.0) ∙ c.if-struck.false)
+
+-- no cut strikes within a line that arms one
+pub returns-then-struck-clause-arms : goal.returns-then-struck-clause-arms
+returns-then-struck-clause-arms g c = λ b h.
+    let did = rw c.in-Ok.is at (c.line_alone-after.ensures.reported b h) in
+    let hit = sym (c.struck.ensures.reported c.args.setting.now.shape.now did.0 did.2.0) ∙ c.if-struck.true in
+    unstruck_arming c.args.setting.now.shape.now c.args.line.now b c.in-Ok.answer did.0 _ did.1 h.2 hit

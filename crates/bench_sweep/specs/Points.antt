@@ -1,0 +1,30 @@
+-- The calls at which a bench cuts power, or lets one fail. Source: docs/SCRIPT.md, "The benches".
+use Rattle.std.specs.Prelude.{ℕ, List, get_or}
+use Rattle.disk.specs.declared.device.ArmedFault.{ArmedFault}
+use Rattle.disk.specs.declared.device.ArmedFault.TheVariants.{FailAt, CutAt, FailLane, CutLane}
+use Rattle.simdisk.specs.contracts.write_log.SimDiskLogged.TheImpl as sim_logged
+use Rattle.simdisk.specs.declared.SimDisk.{SimDisk}
+use Rattle.bench_report.specs.Views.{facts}
+use Rattle.bench_sweep.specs.declared.points.Bench.{Bench}
+use Rattle.bench_sweep.specs.declared.points.Bench.TheVariants.{Cuts, Fails}
+use Rattle.bench_sweep.specs.declared.points.Caller.{Caller}
+use Rattle.bench_sweep.specs.declared.points.Caller.TheVariants.{Disk, Lane}
+
+-- how many calls of a caller a disk has counted
+abbrev pub calls_of : Caller → SimDisk → ℕ
+calls_of Disk disk = (facts disk).calls
+calls_of (Lane i) disk = get_or (sim_logged.ghosts.lane_calls disk) i 0
+
+-- power is cut within its call of that number from now on
+abbrev pub cut_of : Caller → ℕ → ArmedFault
+cut_of Disk n = CutAt n
+cut_of (Lane i) n = CutLane i n
+
+-- its call of that number from now on fails
+abbrev pub failure_of : Caller → ℕ → ArmedFault
+failure_of Disk n = FailAt n
+failure_of (Lane i) n = FailLane i n
+
+abbrev pub fault_at : Bench → Caller → ℕ → ArmedFault
+fault_at Cuts caller n = cut_of caller n
+fault_at Fails caller n = failure_of caller n
