@@ -3,7 +3,7 @@
 ghost use Rattle.store.specs.Leaves.{IsIdle};
 
 use crate::told::{START, Short, in_turn, same};
-use bench_report::{run, run_left};
+use bench_report::{Stopped, run, run_left};
 use board::{Board, Payloads};
 use board_model::{BootMode, Refusal};
 use disk::Disk;
@@ -38,10 +38,13 @@ fn ended<R: Threads + Sync>(
     let mut out = Short { room };
     match run_left(alloc, script, &crew, &mut out) {
         Ok((report, disk)) => Ok((Ok(report.lines), Some(slot_found(alloc, disk)))),
-        Err(stopped) => match stopped.disk {
-            Some(disk) => Ok((Err(stopped.refusal), Some(slot_found(alloc, disk)))),
-            None => Ok((Err(stopped.refusal), None)),
-        },
+        Err(stopped) => {
+            let Stopped { refusal, disk } = stopped;
+            match disk {
+                Some(disk) => Ok((Err(refusal), Some(slot_found(alloc, disk)))),
+                None => Ok((Err(refusal), None)),
+            }
+        }
     }
 }
 
