@@ -1,0 +1,39 @@
+-- Turns that are counted line by line.
+use Rattle.std.proofs.Common.{◌≡◌, ◌≢◌, ◌∙◌, ℕ, ◌+◌, ◌<◌, ◌≤◌, ◌==◌, Bool, true, false, List, length, take, get_or, slice_set, All, if◌then◌else◌, refl, sym, ap, subst, arith}
+use Rattle.std.proofs.lemmas.List.{take_more, get_or-set_same, get_or-set_other}
+use Rattle.std.proofs.lemmas.Bool.Decides.{nat_tests}
+use Rattle.script_lang.specs.declared.line.Line.{Line}
+use Rattle.script_lang.specs.declared.line.Line.TheVariants as lines
+use Rattle.bench_orders.specs.Orders.{IsTurn, turns_in, named, left_of}
+use Rattle.bench_orders.proofs.Deals.{named_push, turns_push}
+
+pub turns_more : (row : List Line) (i : ℕ) (line : Line) → i < length row → line ≡ get_or row i line → All IsTurn (take i row) → IsTurn line → All IsTurn (take (i + 1) row)
+turns_more row i line less e are is =
+    subst (All IsTurn) (sym (take_more row i line less)) (turns_push (take i row) (get_or row i line) are (subst IsTurn e is))
+
+pub turn_at : (row : List Line) (i : ℕ) (line : Line) → i < length row → line ≡ get_or row i line → All IsTurn row → IsTurn line
+turn_at row i line less e are = subst IsTurn (sym e) (are i line less)
+
+pub counted_more : (h : ℕ) (row : List Line) (i : ℕ) (line : Line) → i < length row → line ≡ get_or row i line → named h (take (i + 1) row) ≡ named h (take i row) + turns_in h line
+counted_more h row i line less e =
+    ap (named h) (take_more row i line less) ∙ named_push h (take i row) (get_or row i line) ∙ ap (λ l. named h (take i row) + turns_in h l) (sym e)
+
+pub turns_at_most : (h : ℕ) (line : Line) → IsTurn line → turns_in h line ≤ 1000000
+turns_at_most h (lines.Turn by n) is = by_case (by == h)
+  where
+    by_case : (b : Bool) → (if b then n else 0) ≤ 1000000
+    by_case true = omega (arith, is)
+    by_case false = omega arith
+turns_at_most h line is = absurd is
+
+pub counted : (left : List ℕ) (by n h : ℕ) → by < length left → left_of h (slice_set left by (left_of by left + n)) ≡ left_of h left + turns_in h (lines.Turn by n)
+counted left by n h within = by_case (by == h) refl
+  where
+    by_case : (b : Bool) → (by == h) ≡ b → left_of h (slice_set left by (left_of by left + n)) ≡ left_of h left + (if b then n else 0)
+    by_case true is =
+        let e : by ≡ h = grind (arith, nat_tests, is) in
+        let P : ℕ → Type 0 = λ k. left_of k (slice_set left by (left_of by left + n)) ≡ left_of k left + n in
+        subst P e (get_or-set_same left by (left_of by left + n) 0 within)
+    by_case false is =
+        let e : h ≢ by = grind (arith, nat_tests, is) in
+        omega (arith, get_or-set_other left by h (left_of by left + n) 0 e)

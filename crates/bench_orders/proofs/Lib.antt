@@ -1,0 +1,4 @@
+pub mod Counts
+pub mod Deals
+pub mod Parts
+pub mod SeenRows

@@ -1,0 +1,18 @@
+use Rattle.std.proofs.Common.{◌≡◌, ◌-◌, ◌≤◌, ℕ, slice_set, slice_index_or, refl, subst, arith}
+use Rattle.bench_orders.specs.declared.deal.Deal.{Deal}
+use Rattle.bench_orders.proofs.Deals.{gives}
+use Rattle.bench_orders.proofs.deal.Deal.give.Goals as goal
+
+pub returns-clause-goes_on : goal.returns-clause-goes_on
+returns-clause-goes_on c =
+    let old : Deal = c.args.self.now in
+    let now = c.min-now.result in
+    let new : Deal = record {
+      left = slice_set old.left c.index-place.result (slice_index_or old.left c.index-place.result 0 - now);
+      lines = c.add_turns.new.made;
+    } in
+    let P : ℕ → Type 0 = λ by. new.left ≡ slice_set old.left by (slice_index_or old.left by 0 - now) in
+    let Q : ℕ → Type 0 = λ by. now ≤ slice_index_or old.left by 0 in
+    let few : now ≤ slice_index_or old.left c.index-place.result 0 = omega arith in
+    gives old new c.args.hart now (omega arith) (subst Q c.index-place.ensures.value few) (subst P c.index-place.ensures.value refl)
+    c.in_ok-add_turns.ensures.named c.in_ok-add_turns.ensures.turns
